@@ -1,0 +1,10 @@
+pub mod Ascending
+pub mod FrameLists
+pub mod FrameSets
+pub mod FreeSlots
+pub mod PageBytes
+pub mod Pieces
+pub mod SlotRuns
+pub mod ZoneBlocks
+pub mod ZoneNumbers
+pub mod TableEntries

@@ -1,0 +1,12 @@
+pub mod Bytes
+pub mod Disk
+pub mod FrameSets
+pub mod InfoPage
+pub mod Lists
+pub mod NumberPages
+pub mod Slots
+pub mod Streams
+pub mod SwapHeader
+pub mod SwapMap
+pub mod Tables
+pub mod Zones

@@ -1,0 +1,72 @@
+-- The tables in page frames. Memory is a list of pages, the content of each page frame by its number.
+use Rattle.std.specs.Prelude.{◌≡◌, ◌≢◌, ◌≤◌, ◌<◌, ◌⊎◌, ℕ, ◌+◌, ◌*◌, ◌/◌, ◌%◌, ◌==◌, ◌&&◌, ◌||◌, Bool, not, IsTrue, List, [], ◌∷◌, ◌++◌, length, take, drop, slice_index_or, slice_set, bit_and}
+use Rattle.definitions.specs.Bytes.{number_at, with_number}
+
+-- the content of page frame p
+abbrev pub frame : List (List ℕ) → ℕ → List ℕ
+frame frames p = slice_index_or frames p []
+
+-- the frames with this page in page frame p
+abbrev pub with_frame : List (List ℕ) → ℕ → List ℕ → List (List ℕ)
+with_frame frames p page = slice_set frames p page
+
+-- the contents of n page frames in a row from p on
+abbrev pub run_at : ℕ → List (List ℕ) → ℕ → List (List ℕ)
+run_at n frames p = take n (drop p frames)
+
+-- the frames with these pages in the page frames from p on
+unfoldable pub with_run : List (List ℕ) → ℕ → List (List ℕ) → List (List ℕ)
+with_run frames p pages = take p frames ++ pages ++ drop (p + length pages) frames
+
+-- Entry k of the table of 4-byte numbers whose first page frame is `table`: 1024 of them in each frame.
+unfoldable pub entry_at : List (List ℕ) → ℕ → ℕ → ℕ
+entry_at frames table k = number_at 4 (frame frames (table + k / 1024)) (4 * (k % 1024))
+
+-- A table of n entries takes so many page frames in a row.
+abbrev pub table_frames : ℕ → ℕ
+table_frames n = (n + 1023) / 1024
+
+-- memory has the page frames of that table
+abbrev pub HasTable : List (List ℕ) → ℕ → ℕ → Type 0
+HasTable frames table n = table + table_frames n ≤ length frames
+
+-- memory with that entry set to v
+unfoldable pub with_entry : List (List ℕ) → ℕ → ℕ → ℕ → List (List ℕ)
+with_entry frames table k v =
+    with_frame frames (table + k / 1024) (with_number 4 (frame frames (table + k / 1024)) (4 * (k % 1024)) v)
+
+-- memory with each of these entries set to v
+unfoldable pub with_entries : List (List ℕ) → ℕ → List ℕ → ℕ → List (List ℕ)
+with_entries frames table [] v = frames
+with_entries frames table (k ∷ ks) v = with_entries (with_entry frames table k v) table ks v
+
+-- An entry of the frame table: flags in the low 16 bits (struct page's flags, as far as kernel/power/snapshot.c asks for
+-- them), the owner in the high 16: 0, or a task from 1 to 64.
+abbrev pub flags_of : ℕ → ℕ
+flags_of entry = entry % 65536
+
+abbrev pub owner_of : ℕ → ℕ
+owner_of entry = entry / 65536
+
+-- whether some flag of a mask is set
+abbrev pub has_flag : ℕ → ℕ → Bool
+has_flag flags mask = not (bit_and flags mask == 0)
+
+-- FREE 1: the page frame is free (swsusp_page_is_free).
+abbrev pub is_free : ℕ → Bool
+is_free flags = has_flag flags 1
+
+-- A page frame is saveable (saveable_page) unless it is free, offline (4) or a guard page (8), or is reserved (2) and
+-- either not mapped by the kernel (16) or in the kernel's nosave section (32, pfn_is_nosave).
+abbrev pub is_saveable : ℕ → Bool
+is_saveable flags =
+    not (is_free flags) && not (has_flag flags 4) && not (has_flag flags 8)
+    && not (has_flag flags 2 && (has_flag flags 16 || has_flag flags 32))
+
+-- No flag above CACHE (64), the owner is at most 64, a free page frame has no other flag and no owner, and one with an
+-- owner has no flag but CACHE.
+pub record IsWellFormed (entry : ℕ) : Type 0 where
+  pub flags : flags_of entry < 128
+  pub owner : owner_of entry ≤ 64
+  pub free : IsTrue (is_free (flags_of entry)) → entry ≡ 1
+  pub owned : owner_of entry ≢ 0 → (flags_of entry ≡ 0) ⊎ (flags_of entry ≡ 64)

@@ -1,0 +1,31 @@
+/// What an image is tied to: the kernel's version code and the names of `struct new_utsname` (include/uapi/linux/utsname.h),
+/// in the order of the info page: sysname, nodename, release, version, machine, domainname.
+#[derive(Clone, Copy, Debug, PartialEq, Eq)]
+pub struct Ident {
+    /// LINUX_VERSION_CODE.
+    pub version_code: u32,
+    /// Each filled with zero bytes.
+    pub names: [[u8; 65]; 6],
+}
+
+/// The first page of an image (`struct swsusp_info`, kernel/power/power.h).
+#[derive(Clone, Copy, Debug, PartialEq, Eq)]
+pub struct Info {
+    pub ident: Ident,
+    /// How many page frames the machine has (`num_physpages`).
+    pub physpages: u64,
+    /// How many page frames were saved (`image_pages`).
+    pub image_pages: u64,
+    /// How many pages the stream has, this one among them (`pages`).
+    pub pages: u64,
+}
+
+/// A field of the identity that an image and the machine are compared by.
+#[derive(Clone, Copy, Debug, PartialEq, Eq)]
+pub enum Field {
+    VersionCode,
+    Sysname,
+    Release,
+    Version,
+    Machine,
+}

@@ -1,0 +1,12 @@
+//! Where the program's bytes come from and go to: sources and sinks.
+#![tactic(auto)]
+
+mod memory;
+mod sink;
+mod source;
+mod streams;
+
+pub use memory::{MemSink, MemSource};
+pub use sink::Sink;
+pub use source::Source;
+pub use streams::{StdSink, StdSource};

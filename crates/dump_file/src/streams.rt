@@ -1,0 +1,78 @@
+ghost use Rattle.std.specs.Prelude.{◌≤◌, None, ℕ};
+ghost use Rattle.definitions.specs.Disk.{HasRisen};
+
+use crate::sink::Sink;
+use crate::source::Source;
+use page_core::Failed;
+use std::io::{Read, Write};
+
+/// A reader of the system, such as standard input. Of its bytes nothing is told.
+#[derive(Drop)]
+pub struct StdSource<R: Read + Drop> {
+    reader: R,
+    faults: u64,
+}
+
+impl<R: Read + Drop> StdSource<R> {
+    pub fn new(reader: R) -> StdSource<R> {
+        StdSource { reader, faults: 0 }
+    }
+}
+
+impl<R: Read + Drop> Source for StdSource<R> {
+    ghost remaining = { λ _. None };
+
+    ghost faults = { λ s. s.faults };
+
+    fn read(&mut self, into: &mut [u8]) -> Result<usize, Failed> {
+        match self.reader.read(into) {
+            Ok(count) => Ok(count),
+            Err(_) => {
+                self.faults = self.faults.saturating_add(1);
+                Err(Failed)
+            }
+        }
+    }
+}
+
+/// A writer of the system, such as standard output. Of the bytes that it takes nothing is told.
+#[derive(Drop)]
+pub struct StdSink<W: Write + Drop> {
+    writer: W,
+    faults: u64,
+}
+
+impl<W: Write + Drop> StdSink<W> {
+    pub fn new(writer: W) -> StdSink<W> {
+        StdSink { writer, faults: 0 }
+    }
+
+    fn fail(&mut self) -> Failed
+        ensures counted { self.old.faults ≤ self.new.faults }
+        ensures risen { HasRisen self.old.faults self.new.faults }
+    {
+        self.faults = self.faults.saturating_add(1);
+        Failed
+    }
+}
+
+impl<W: Write + Drop> Sink for StdSink<W> {
+    ghost taken = { λ _. None };
+
+    ghost faults = { λ s. s.faults };
+
+    /// A write that takes nothing of a piece that isn't empty is a fault.
+    fn write(&mut self, from: &[u8]) -> Result<usize, Failed> {
+        match self.writer.write(from) {
+            Ok(count) if count > 0 || from.is_empty() => Ok(count),
+            _ => Err(self.fail()),
+        }
+    }
+
+    fn flush(&mut self) -> Result<(), Failed> {
+        match self.writer.flush() {
+            Ok(()) => Ok(()),
+            Err(_) => Err(self.fail()),
+        }
+    }
+}

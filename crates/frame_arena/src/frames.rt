@@ -1,0 +1,178 @@
+ghost use Rattle.std.specs.Prelude.{◌≡◌, ℕ, ◌+◌, ◌*◌, ◌<◌, ◌≤◌, List, length, replicate, IfOk, All};
+ghost use Rattle.definitions.specs.Bytes.{IsPage, word, with_word, number_at, with_number, zero_page, filled_page};
+ghost use Rattle.definitions.specs.Tables.{frame, with_frame, run_at, with_run};
+
+use byteorder::{ByteOrder, LittleEndian};
+use page_core::{NoMemory, Page};
+use std::alloc::Global;
+use std::marker::Model;
+
+/// The page frames of a machine, by their numbers from 0 on: one block of memory, taken once and freed once.
+#[derive(Drop)]
+pub struct Frames {
+    pages: Vec<[u8; 4096]>,
+}
+
+impl Model for Frames {
+    ghost use Rattle.std.specs.Prelude.{List, ℕ, ◌<◌, ◌^◌, length};
+
+    ghost Value = { List (List ℕ) };
+
+    ghost view = { λ f. f.pages.items };
+
+    ghost invariant = { λ f. length f.pages.items < 2 ^ 32 };
+}
+
+#[tactic(auto, unfolding(definitions::specs::Bytes::zero_page, definitions::specs::Bytes::filled_page, definitions::specs::Bytes::with_bytes, definitions::specs::Bytes::number_at, definitions::specs::Bytes::with_number))]
+impl Frames {
+    /// `n` page frames of zeros.
+    pub fn create(alloc: Global, n: u32) -> Result<Frames, NoMemory>
+        ensures { IfOk result (λ frames. frames ≡ replicate n zero_page) }
+    {
+        match Vec::from_elem(alloc, [0; 4096], n as usize) {
+            Ok(pages) => Ok(Frames { pages }),
+            Err(_) => Err(NoMemory),
+        }
+    }
+
+    /// The number of page frames.
+    pub fn len(&self) -> u32
+        ensures len { result ≡ length self.now }
+        ensures pages { All IsPage self.now }
+    {
+        count_of(&self.pages) as u32
+    }
+
+    /// The content of page frame `p`.
+    pub fn page(&self, p: u32) -> &[u8; 4096]
+        requires { p < length self.now }
+        ensures content { result.now ≡ frame self.now p }
+        ensures page { IsPage result.now }
+    {
+        whole(&self.pages[p as usize])
+    }
+
+    /// Copies a page into page frame `p`.
+    pub fn write(&mut self, p: u32, page: &Page)
+        requires { p < length self.old }
+        ensures { self.new ≡ with_frame self.old p page.now }
+    {
+        self.pages[p as usize] = *page.as_bytes();
+    }
+
+    /// Copies page frame `from` into page frame `to`.
+    pub fn copy(&mut self, from: u32, to: u32)
+        requires from_in_range { from < length self.old }
+        requires to_in_range { to < length self.old }
+        ensures { self.new ≡ with_frame self.old to (frame self.old from) }
+    {
+        let page = self.pages[from as usize];
+        self.pages[to as usize] = page;
+    }
+
+    /// Copies the `n` page frames from `from` on into those from `to` on. The two runs may overlap.
+    pub fn copy_run(&mut self, from: u32, to: u32, n: u32)
+        requires from_in_range { from + n ≤ length self.old }
+        requires to_in_range { to + n ≤ length self.old }
+        ensures copied { self.new ≡ with_run self.old to (run_at n self.old from) }
+        ensures len { length self.new ≡ length self.old }
+    {
+        let pages = self.pages.as_mut_slice();
+        let (from, to, n) = (from as usize, to as usize, n as usize);
+        if to < from {
+            copy_forward(pages, from, to, n);
+        } else {
+            copy_backward(pages, from, to, n);
+        }
+    }
+
+    /// The 8-byte number at 8i of page frame `p`.
+    pub fn word(&self, p: u32, i: usize) -> u64
+        requires frame_in_range { p < length self.now }
+        requires word_in_range { i < 512 }
+        ensures { result ≡ word (frame self.now p) i }
+    {
+        LittleEndian::read_u64(&self.pages[p as usize][8 * i..])
+    }
+
+    /// Sets the 8-byte number at 8i of page frame `p`, and leaves the rest.
+    pub fn set_word(&mut self, p: u32, i: usize, v: u64)
+        requires frame_in_range { p < length self.old }
+        requires word_in_range { i < 512 }
+        ensures { self.new ≡ with_frame self.old p (with_word (frame self.old p) i v) }
+    {
+        LittleEndian::write_u64(&mut self.pages[p as usize][8 * i..8 * i + 8], v);
+    }
+
+    /// The 4-byte number at offset k of page frame `p`.
+    pub fn u32_at(&self, p: u32, k: usize) -> u32
+        requires frame_in_range { p < length self.now }
+        requires number_in_range { k ≤ 4092 }
+        ensures { result ≡ number_at 4 (frame self.now p) k }
+    {
+        LittleEndian::read_u32(&self.pages[p as usize][k..])
+    }
+
+    /// Sets the 4-byte number at offset k of page frame `p`, and leaves the rest.
+    pub fn put_u32(&mut self, p: u32, k: usize, v: u32)
+        requires frame_in_range { p < length self.old }
+        requires number_in_range { k ≤ 4092 }
+        ensures { self.new ≡ with_frame self.old p (with_number 4 (frame self.old p) k v) }
+    {
+        LittleEndian::write_u32(&mut self.pages[p as usize][k..k + 4], v);
+    }
+
+    /// Sets each byte of page frame `p` to zero.
+    pub fn zero(&mut self, p: u32)
+        requires { p < length self.old }
+        ensures { self.new ≡ with_frame self.old p zero_page }
+    {
+        self.pages[p as usize] = [0; 4096];
+    }
+
+    /// Sets each byte of page frame `p` to `byte`.
+    pub fn fill(&mut self, p: u32, byte: u8)
+        requires { p < length self.old }
+        ensures { self.new ≡ with_frame self.old p (filled_page byte) }
+    {
+        self.pages[p as usize] = [byte; 4096];
+    }
+}
+
+// How many pages there are. Each has 4096 bytes by its type.
+fn count_of(pages: &[[u8; 4096]]) -> usize
+    ensures count { result ≡ length pages.now }
+    ensures pages { All IsPage pages.now }
+{
+    pages.len()
+}
+
+// A page has 4096 bytes by its type.
+fn whole(page: &[u8; 4096]) -> &[u8; 4096]
+    ensures content { result.now ≡ page.now }
+    ensures page { IsPage page.now }
+{
+    page
+}
+
+// From the first page of the run to its last, so that no source is written before it is read.
+fn copy_forward(pages: &mut [[u8; 4096]], from: usize, to: usize, n: usize)
+    requires from_in_range { from + n ≤ length pages.old }
+    requires downwards { to < from }
+    ensures { pages.new ≡ with_run pages.old to (run_at n pages.old from) }
+{
+    for i in 0..n {
+        pages[to + i] = pages[from + i];
+    }
+}
+
+// From the last page of the run to its first.
+fn copy_backward(pages: &mut [[u8; 4096]], from: usize, to: usize, n: usize)
+    requires to_in_range { to + n ≤ length pages.old }
+    requires upwards { from ≤ to }
+    ensures { pages.new ≡ with_run pages.old to (run_at n pages.old from) }
+{
+    for i in (0..n).rev() {
+        pages[to + i] = pages[from + i];
+    }
+}

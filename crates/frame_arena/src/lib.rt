@@ -1,0 +1,8 @@
+//! The memory of the simulated machine: page frames of 4096 bytes each.
+#![tactic(auto)]
+
+mod frames;
+#[cfg(test)]
+mod tests;
+
+pub use frames::Frames;

@@ -1,0 +1,43 @@
+use crate::Frames;
+use page_core::Page;
+use std::test::Fail;
+
+#[test]
+fn runs_that_overlap(rt: HostRuntime) -> Result<(), Fail> {
+    let mut frames = Frames::create(rt.alloc(), 4)?;
+    frames.set_word(1, 511, 11);
+    frames.set_word(2, 511, 12);
+    frames.copy_run(1, 2, 2);
+    let up = [
+        frames.word(1, 511),
+        frames.word(2, 511),
+        frames.word(3, 511),
+    ];
+    assert_eq!(rt; up, [11, 11, 12]);
+    frames.copy_run(2, 1, 2);
+    let down = [
+        frames.word(1, 511),
+        frames.word(2, 511),
+        frames.word(3, 511),
+    ];
+    assert_eq!(rt; down, [11, 12, 12]);
+    Ok(())
+}
+
+#[test]
+fn one_frame_at_a_time(rt: HostRuntime) -> Result<(), Fail> {
+    let mut frames = Frames::create(rt.alloc(), 3)?;
+    let mut page = Page::zero();
+    page.set_word(0, 0x0102030405060708);
+    frames.write(0, &page);
+    frames.fill(1, 165);
+    frames.copy(0, 2);
+    frames.put_u32(2, 4, 9);
+    frames.zero(0);
+    assert_eq!(rt; frames.len(), 3);
+    assert_eq!(rt; frames.word(0, 0), 0);
+    assert_eq!(rt; frames.page(1)[4095], 165);
+    assert_eq!(rt; frames.u32_at(2, 0), 0x05060708);
+    assert_eq!(rt; frames.word(2, 0), 0x0000000905060708);
+    Ok(())
+}

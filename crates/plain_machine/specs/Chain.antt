@@ -1,0 +1,85 @@
+-- The chain of an image: its map pages and what they point to, in any disk.
+use Rattle.std.specs.Prelude.{◌≡◌, ◌≢◌, ℕ, ◌+◌, ◌*◌, ◌/◌, ◌%◌, ◌==◌, ◌&&◌, ◌||◌, List, [], ◌∷◌, ◌++◌, Bool, not, nat_lt, length, map, Option, Some, None, Result, Ok, Err, if◌then◌else◌, IsTrue, ◌↔◌, ◌<◌, Contains, bit_and, zero, suc}
+use Rattle.std.specs.List.{list_any, range_with_len}
+use Rattle.page_core.specs.declared.format.Format.TheVariants.{Plain, SkipZeros}
+use Rattle.definitions.specs.Bytes.{zero_page, word}
+use Rattle.definitions.specs.Disk as disk
+use Rattle.definitions.specs.SwapHeader.{IsMarked, image_of, flags_of, last_page_of}
+use Rattle.definitions.specs.SwapMap.{map_entry, map_link}
+use Rattle.plain_machine.specs.Machine.{Hardware, block_of_slot}
+use Rattle.plain_machine.specs.Image.{Image, pages_of, stream_of}
+use Rattle.plain_machine.specs.declared.reply.Reply.{Reply}
+use Rattle.plain_machine.specs.declared.reply.Reply.TheVariants.{NoChain, BadBlock, ChainEnds}
+
+-- how many blocks a disk has that reads so
+abbrev pub blocks_of : disk.Image → ℕ
+blocks_of v = length v / 8
+
+-- block(0); where it isn't below the disk's blocks it counts as zeros
+abbrev pub header_of : Hardware → disk.Image → List ℕ
+header_of h v = if nat_lt (block_of_slot h 0) (blocks_of v) then disk.block v (block_of_slot h 0) else zero_page
+
+-- the disk carries the signature of an image
+abbrev pub Marked : Hardware → disk.Image → Type 0
+Marked h v = IsMarked (header_of h v)
+
+-- whether block x is at fault in a chain: it is the header's, or no block of a slot from 1 to last_page that the disk has
+abbrev pub is_at_fault : Hardware → disk.Image → ℕ → Bool
+is_at_fault h v x =
+    (x == block_of_slot h 0)
+    || not (nat_lt x (blocks_of v) && list_any (λ s. block_of_slot h s == x) (range_with_len 1 (last_page_of (header_of h v))))
+
+-- the block of map j, from 0: the first one's is b, and each next one's is the link of the one before
+abbrev pub map_block : disk.Image → ℕ → ℕ → ℕ
+map_block v b zero = b
+map_block v b (suc j) = map_link (disk.block v (map_block v b j))
+
+-- entry k of the chain, from 0
+abbrev pub entry_block : disk.Image → ℕ → ℕ → ℕ
+entry_block v b k = map_entry (disk.block v (map_block v b (k / 511))) (k % 511)
+
+abbrev pub block_fault : Hardware → disk.Image → ℕ → Option Reply
+block_fault h v x = if is_at_fault h v x then Some (BadBlock x) else None
+
+-- what is wrong with map j, when it is wanted
+abbrev pub map_fault : Hardware → disk.Image → ℕ → ℕ → Option Reply
+map_fault h v b zero = if b == 0 then Some NoChain else block_fault h v b
+map_fault h v b (suc j) = if map_block v b (suc j) == 0 then Some (ChainEnds (suc j)) else block_fault h v (map_block v b (suc j))
+
+-- what is wrong with entry k, when it is wanted
+abbrev pub entry_fault : Hardware → disk.Image → ℕ → ℕ → Option Reply
+entry_fault h v b k = block_fault h v (entry_block v b k)
+
+-- the first of two, and of a list
+abbrev pub or_else : {A : Type 0} → Option A → Option A → Option A
+or_else None b = b
+or_else (Some x) b = Some x
+
+abbrev pub first_some : {A : Type 0} → List (Option A) → Option A
+first_some [] = None
+first_some (x ∷ xs) = or_else x (first_some xs)
+
+-- in reading order: before entry k its map, where it is that map's first
+abbrev pub place_fault : Hardware → disk.Image → ℕ → ℕ → Option Reply
+place_fault h v b k =
+    if k % 511 == 0 then or_else (map_fault h v b (k / 511)) (entry_fault h v b k) else entry_fault h v b k
+
+abbrev pub ok_unless : {A E : Type 0} → Option E → A → Result A E
+ok_unless None x = Ok x
+ok_unless (Some e) x = Err e
+
+-- [chain]: the first p entries, or the first cause in reading order
+unfoldable pub chain : Hardware → disk.Image → ℕ → ℕ → Result (List ℕ) Reply
+chain h v b p =
+    ok_unless (first_some (map (place_fault h v b) (range_with_len 0 p))) (map (entry_block v b) (range_with_len 0 p))
+
+-- [holds]: the disk is marked, and its chain is the image's stream, apart from the blocks of the tasks' slots, which
+-- have their pages
+pub record Holds (h : Hardware) (v : disk.Image) (i : Image) : Type 0 where
+  pub marked : Marked h v
+  pub uncompressed : bit_and (flags_of (header_of h v)) 2 ≢ 0
+  pub format : (bit_and (flags_of (header_of h v)) 256 ≢ 0) ↔ (i.format ≡ SkipZeros)
+  pub whole : (blocks : List ℕ) × (chain h v (image_of (header_of h v)) (pages_of i) ≡ Ok blocks) × (map (disk.block v) blocks ≡ stream_of i)
+  pub slots : (s : ℕ) (page : List ℕ) → i.slots s ≡ Some page → disk.block v (block_of_slot h s) ≡ page
+  pub maps_apart : (s j : ℕ) (page : List ℕ) → i.slots s ≡ Some page → 511 * j < pages_of i → map_block v (image_of (header_of h v)) j ≢ block_of_slot h s
+  pub pages_apart : (s k : ℕ) (page : List ℕ) → i.slots s ≡ Some page → k < pages_of i → entry_block v (image_of (header_of h v)) k ≢ block_of_slot h s

@@ -1,0 +1,11 @@
+pub mod Area
+pub mod Chain
+pub mod Image
+pub mod Loader
+pub mod Machine
+pub mod Refusals
+pub mod State
+pub mod Step
+pub mod Texts
+pub mod Trace
+pub mod UsableArea

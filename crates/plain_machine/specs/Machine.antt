@@ -1,0 +1,116 @@
+-- The machine: its hardware and its memory.
+use Rattle.std.specs.Prelude.{◌≡◌, ◌≤◌, ◌<◌, ◌⊎◌, ℕ, ◌+◌, ◌*◌, ◌/◌, ◌-◌, ◌==◌, ◌&&◌, ◌||◌, Bool, true, false, not, nat_lt, nat_le, List, [], ◌∷◌, ◌++◌, length, map, filter, take_while, replicate, Option, Some, None, if◌then◌else◌, slice_index_or, Contains}
+use Rattle.std.specs.List.{list_any, range_with_len, find}
+use Rattle.definitions.specs.Bytes.{zero_page}
+use Rattle.definitions.specs.Zones.{numbers, top}
+use Rattle.definitions.specs.Tables.{frame, entry_at, flags_of, owner_of, is_free, is_saveable}
+use Rattle.definitions.specs.Slots.{block_of}
+use Rattle.definitions.specs.Lists.{saveable_frames, free_frames, free_slots}
+use Rattle.definitions.specs.declared.info.Ident.{Ident}
+
+-- What a machine has and keeps: zones (start, count), the number of slots (last_page + 1), the first page frames of the frame
+-- table and of the slot table, regions (start, count, flags), its identity and hardware signature (0 where there is none),
+-- and the extents of its swap area (start page, length, start block).
+pub record Hardware : Type 0 where
+  pub zones : List (ℕ × ℕ)
+  pub slots : ℕ
+  pub frame_table : ℕ
+  pub slot_table : ℕ
+  pub regions : List (ℕ × ℕ × ℕ)
+  pub ident : Ident
+  pub hw_sig : ℕ
+  pub extents : List (ℕ × ℕ × ℕ)
+
+-- The content of each page frame, by its number. What a free page frame holds is no part of a memory (`IsSameMemory`).
+abbrev pub Memory : Type 0
+Memory = List (List ℕ)
+
+-- block(s)
+abbrev pub block_of_slot : Hardware → ℕ → ℕ
+block_of_slot h s = block_of h.extents s
+
+-- how many page frames the machine has (get_num_physpages)
+abbrev pub valid_count : Hardware → ℕ
+valid_count h = length (numbers h.zones)
+
+-- whether a page frame number is valid
+abbrev pub is_valid : Hardware → ℕ → Bool
+is_valid h p = list_any (λ q. q == p) (numbers h.zones)
+
+-- the entry of page frame p in the frame table, and of slot s in the slot table as it stands
+abbrev pub frame_entry : Hardware → Memory → ℕ → ℕ
+frame_entry h m p = entry_at m h.frame_table p
+
+abbrev pub raw_slot_entry : Hardware → Memory → ℕ → ℕ
+raw_slot_entry h m s = entry_at m h.slot_table s
+
+-- slot entries: free, of a task from 1 to 64, of the image, bad
+abbrev pub image_slot : ℕ
+image_slot = 65536
+
+abbrev pub bad_slot : ℕ
+bad_slot = 131072
+
+-- the entry of slot s as it is seen: a slot of the image counts as free
+abbrev pub slot_entry : Hardware → Memory → ℕ → ℕ
+slot_entry h m s = if raw_slot_entry h m s == image_slot then 0 else raw_slot_entry h m s
+
+-- whether slot s is task t's
+abbrev pub is_slot_of : Hardware → Memory → ℕ → ℕ → Bool
+is_slot_of h m t s = nat_lt s h.slots && (slot_entry h m s == t)
+
+-- Saveable(M), FreeFrames(M), FreeSlots(M)
+abbrev pub saveable : Hardware → Memory → List ℕ
+saveable h m = saveable_frames h.zones h.frame_table m
+
+abbrev pub unused : Hardware → Memory → List ℕ
+unused h m = free_frames h.zones h.frame_table m
+
+abbrev pub unused_slots : Hardware → Memory → List ℕ
+unused_slots h m = filter (λ s. slot_entry h m s == 0) (range_with_len 0 h.slots)
+
+-- page frames of the two tables, ascending
+abbrev pub table_len : ℕ → ℕ
+table_len entries = (entries + 1023) / 1024
+
+abbrev pub frame_table_frames : Hardware → List ℕ
+frame_table_frames h = range_with_len h.frame_table (table_len (top h.zones))
+
+abbrev pub slot_table_frames : Hardware → List ℕ
+slot_table_frames h = range_with_len h.slot_table (table_len h.slots)
+
+abbrev pub table_frames : Hardware → List ℕ
+table_frames h =
+    if nat_lt h.frame_table h.slot_table then frame_table_frames h ++ slot_table_frames h
+    else slot_table_frames h ++ frame_table_frames h
+
+-- [fits]: whether an entry of the frame table is well formed (Rattle.definitions.specs.Tables.IsWellFormed, as a test)
+abbrev pub is_well_formed : ℕ → Bool
+is_well_formed entry =
+    nat_lt (flags_of entry) 128 && nat_le (owner_of entry) 64 && (not (is_free (flags_of entry)) || (entry == 1))
+    && ((owner_of entry == 0) || (flags_of entry == 0) || (flags_of entry == 64))
+
+-- whether slot s may have this entry: free, a task's or bad, and slot 0 is bad
+abbrev pub is_slot_entry : ℕ → ℕ → Bool
+is_slot_entry s entry = (entry == bad_slot) || (not (s == 0) && nat_le entry 64)
+
+-- whether something is wrong in table frame f: an entry in it, or its own entry, since a table frame is saveable and
+-- has no owner
+abbrev pub is_table_at_fault : Hardware → Memory → ℕ → Bool
+is_table_at_fault h m f =
+    not (is_saveable (flags_of (frame_entry h m f))) || not (owner_of (frame_entry h m f) == 0)
+    || list_any (λ p. (h.frame_table + p / 1024 == f) && not (is_well_formed (frame_entry h m p))) (numbers h.zones)
+    || list_any (λ s. (h.slot_table + s / 1024 == f) && not (is_slot_entry s (raw_slot_entry h m s))) (range_with_len 0 h.slots)
+
+-- the first table frame at fault
+abbrev pub tables_fault : Hardware → Memory → Option ℕ
+tables_fault h m = find (is_table_at_fault h m) (table_frames h)
+
+-- the tables are well formed
+abbrev pub Fits : Hardware → Memory → Type 0
+Fits h m = tables_fault h m ≡ None
+
+-- Two memories are the same: the same page frames are free, and the others have the same pages.
+pub record IsSameMemory (h : Hardware) (m n : Memory) : Type 0 where
+  pub free : unused h n ≡ unused h m
+  pub used : (p : ℕ) → Contains (numbers h.zones) p → (Contains (unused h m) p → ⊥) → frame n p ≡ frame m p

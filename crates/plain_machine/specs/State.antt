@@ -1,0 +1,103 @@
+-- The states of the plain machine. It has no bitmap, copy frame, map page, safe frame or write order.
+use Rattle.std.specs.Prelude.{ℕ, ◌+◌, ◌-◌, ◌==◌, ◌&&◌, ◌||◌, Bool, true, false, nat_lt, nat_le, List, Option, Some, None, if◌then◌else◌}
+use Rattle.definitions.specs.Disk as disk
+use Rattle.plain_machine.specs.Machine.{Hardware, Memory}
+use Rattle.plain_machine.specs.Image.{Image, SlotPages, hibernate_steps}
+use Rattle.plain_machine.specs.declared.no_swap.NoSwap.{NoSwap}
+use Rattle.plain_machine.specs.declared.event.BootFrom.{BootFrom}
+use Rattle.plain_machine.specs.declared.event.Loader.{Loader}
+use Rattle.plain_machine.specs.declared.event.IdentCheck.{IdentCheck}
+use Rattle.plain_machine.specs.declared.reply.UndoCall.{UndoCall}
+
+-- An operation of a task that isn't finished: page frame p goes out to slot s, or slot s is read into it.
+pub data Flight : Type 0 where
+  goes_out : ℕ → ℕ → Flight
+  comes_in : ℕ → ℕ → Flight
+
+-- An image on the disk: one that the machine made, or a mark that the disk had before the program began.
+pub data Saved : Type 0 where
+  own : Image → Saved
+  other : Saved
+
+-- Whether an image is on the disk: none, surely this one, or perhaps.
+pub data Held : Type 0 where
+  nothing : Held
+  sure : Saved → Held
+  maybe : Saved → Held
+
+abbrev pub perhaps : Held → Held
+perhaps nothing = nothing
+perhaps (sure x) = maybe x
+perhaps (maybe x) = maybe x
+
+-- A machine that runs: its memory, the pages in the tasks' slots (but the targets of unfinished outs), the tasks'
+-- unfinished operations, why its area can't be used, and whether an image is held.
+pub record Running : Type 0 where
+  pub memory : Memory
+  pub slots : SlotPages
+  pub flights : ℕ → Option Flight
+  pub unusable : Option NoSwap
+  pub held : Held
+
+-- A resume under way: what the disk held at its begin, the image that its second step found (another's as the disk v
+-- that the step read), the loader with the dump's memory, and the check.
+pub data Found : Type 0 where
+  not_yet : Found
+  found_own : Image → Found
+  found_other : disk.Image → Found
+
+pub record Load : Type 0 where
+  pub held : Held
+  pub found : Found
+  pub loader : Loader
+  pub dump : Memory
+  pub check : IdentCheck
+
+-- The states; the number of an operation's state is how many steps it has made. `kept` is a dump's memory, until a boot
+-- or a resume is accepted. `hibernating` says whether it is of a suspend, and it, `undoing`, `settling`, `waking` and
+-- `asleep` keep the running state from before.
+pub data State : Type 0 where
+  off : Held → Option Memory → State
+  on : Running → State
+  booting : BootFrom → Memory → Held → ℕ → State
+  hibernating : Bool → Image → Running → ℕ → State
+  undoing : Image → UndoCall → Running → ℕ → State
+  settling : Running → ℕ → State
+  waking : Image → Held → Running → ℕ → State
+  loading : Load → ℕ → State
+  asleep : Image → Held → Running → State
+
+abbrev pub saved_found : Found → Held → Held
+saved_found not_yet held = held
+saved_found (found_own i) held = sure (own i)
+saved_found (found_other v) held = sure other
+
+-- what is on the disk while a resume has made k steps
+abbrev pub held_while_loading : Load → ℕ → Held
+held_while_loading load k =
+    if nat_lt k 2 then load.held
+    else (if k == 2 then saved_found load.found load.held
+    else (if k == 3 then perhaps (saved_found load.found load.held) else nothing))
+
+-- what is on the disk in a state
+abbrev pub held_in : State → Held
+held_in (off held kept) = held
+held_in (on a) = a.held
+held_in (booting from dump held k) = held
+held_in (hibernating suspends i a k) = if nat_lt k (hibernate_steps i - 1) then nothing else maybe (own i)
+held_in (undoing i call a k) = maybe (own i)
+held_in (settling a k) = if nat_lt k 2 then a.held else perhaps a.held
+held_in (waking i held a k) = if nat_lt k 2 then held else perhaps held
+held_in (loading load k) = held_while_loading load k
+held_in (asleep i held a) = held
+
+abbrev pub kept_in : State → Option Memory
+kept_in (off held kept) = kept
+kept_in (on a) = None
+kept_in (booting from dump held k) = None
+kept_in (hibernating suspends i a k) = None
+kept_in (undoing i call a k) = None
+kept_in (settling a k) = None
+kept_in (waking i held a k) = None
+kept_in (loading load k) = None
+kept_in (asleep i held a) = None

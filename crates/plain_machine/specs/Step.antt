@@ -1,0 +1,362 @@
+-- [step]: what the machine may answer, and the state after it. A pair that isn't among the outcomes can't come.
+use Rattle.std.specs.Prelude.{◌≡◌, ℕ, ◌+◌, ◌-◌, ◌*◌, ◌==◌, ◌&&◌, ◌||◌, Bool, true, false, not, nat_lt, nat_le, List, [], ◌∷◌, ◌++◌, length, filter, take, replicate, Option, Some, None, if◌then◌else◌, is_none, is_some, unwrap_or, slice_get, slice_set, slice_index_or, Contains}
+use Rattle.std.specs.List.{range_with_len, find}
+use Rattle.page_core.specs.declared.format.Format.{Format}
+use Rattle.definitions.specs.Bytes.{zero_page, word, with_word, with_number}
+use Rattle.definitions.specs.Disk as disk
+use Rattle.definitions.specs.Zones.{numbers, top}
+use Rattle.definitions.specs.Tables.{frame, with_entry, flags_of}
+use Rattle.definitions.specs.NumberPages.{meta_of, page_of_words}
+use Rattle.sig_header.specs.AreaKind.{area_kind}
+use Rattle.plain_machine.specs.Machine.{Hardware, Memory, is_valid, frame_entry, slot_entry, table_frames, saveable, bad_slot}
+use Rattle.plain_machine.specs.Image.{Image, SlotPages, image_of_memory, n_of, d_of, pages_of, maps_of, maps_read, hibernate_steps, resume_steps}
+use Rattle.plain_machine.specs.Loader.{has, left_free, need, restored}
+use Rattle.plain_machine.specs.Trace.{trace, restored_in, slots_in}
+use Rattle.plain_machine.specs.UsableArea.{area_fault, dump_area_fault, area_block, bad_slots_in}
+use Rattle.plain_machine.specs.State.{State, off, on, booting, hibernating, undoing, settling, waking, loading, asleep, Running, Held, nothing, sure, maybe, perhaps, Saved, own, other, Flight, goes_out, comes_in, Load, Found, not_yet, found_own, found_other, held_in, kept_in, held_while_loading}
+use Rattle.plain_machine.specs.Refusals.{refusal, free_slots_of}
+use Rattle.plain_machine.specs.declared.event.Event.{Event}
+use Rattle.plain_machine.specs.declared.event.Event.TheVariants as event
+use Rattle.plain_machine.specs.declared.event.TaskOp.{TaskOp}
+use Rattle.plain_machine.specs.declared.event.TaskOp.TheVariants as op
+use Rattle.plain_machine.specs.declared.event.Actor.{Actor}
+use Rattle.plain_machine.specs.declared.event.Actor.TheVariants as actor
+use Rattle.plain_machine.specs.declared.event.BootFrom.{BootFrom}
+use Rattle.plain_machine.specs.declared.event.BootFrom.TheVariants.{Fresh, Kept}
+use Rattle.plain_machine.specs.declared.event.Loader.{Loader}
+use Rattle.plain_machine.specs.declared.event.Loader.TheVariants as loader
+use Rattle.plain_machine.specs.declared.event.IdentCheck.{IdentCheck}
+use Rattle.plain_machine.specs.declared.no_swap.NoSwap.{NoSwap}
+use Rattle.plain_machine.specs.declared.reply.Reply.{Reply}
+use Rattle.plain_machine.specs.declared.reply.Reply.TheVariants as reply
+use Rattle.plain_machine.specs.declared.reply.Left.{Left}
+use Rattle.plain_machine.specs.declared.reply.Left.TheVariants.{Same, Gone, Unsure}
+use Rattle.plain_machine.specs.declared.reply.UndoCall.{UndoCall}
+use Rattle.plain_machine.specs.declared.reply.UndoCall.TheVariants as undo
+
+-- a reply, and the state after it
+abbrev pub Outcome : Type 0
+Outcome = Reply × State
+
+-- one outcome alone
+abbrev pub only : Reply → State → List Outcome
+only r b = (r, b) ∷ []
+
+-- what a device call answers: it was done, or it failed
+abbrev pub done_or : Reply → State → Reply → State → List Outcome
+done_or r b fault c = (r, b) ∷ (fault, c) ∷ []
+
+-- Memory and slots after a task's operation.
+
+abbrev pub with_frame : Memory → ℕ → List ℕ → Memory
+with_frame m p page = slice_set m p page
+
+abbrev pub with_frame_entry : Hardware → Memory → ℕ → ℕ → Memory
+with_frame_entry h m p entry = with_entry m h.frame_table p entry
+
+abbrev pub with_slot_entry : Hardware → Memory → ℕ → ℕ → Memory
+with_slot_entry h m s entry = with_entry m h.slot_table s entry
+
+-- an entry of a task's page frame: the owner in the high 16 bits
+abbrev pub owned_by : ℕ → ℕ
+owned_by t = 65536 * t
+
+abbrev pub with_flight : (ℕ → Option Flight) → ℕ → Option Flight → ℕ → Option Flight
+with_flight flights t flight = λ u. if u == t then flight else flights u
+
+abbrev pub with_slot : SlotPages → ℕ → Option (List ℕ) → SlotPages
+with_slot slots s page = λ q. if q == s then page else slots q
+
+-- what a task's request makes of a running machine that doesn't refuse it
+abbrev pub requested : Hardware → Running → ℕ → TaskOp → List Outcome
+requested h a t (op.Claim p) =
+    only reply.Done (on (record a { memory = with_frame (with_frame_entry h a.memory p (owned_by t)) p zero_page }))
+requested h a t (op.Release p) = only reply.Done (on (record a { memory = with_frame_entry h a.memory p 1 }))
+requested h a t (op.Store p k v) = only reply.Done (on (record a { memory = with_frame a.memory p (with_word (frame a.memory p) k v) }))
+requested h a t (op.Show p k) = only (reply.Word (word (frame a.memory p) k)) (on a)
+requested h a t (op.Cache p) = only reply.Done (on (record a { memory = with_frame_entry h a.memory p (owned_by t + 64) }))
+requested h a t (op.Out p) =
+    let s = unwrap_or (free_slots_of h a) 0 in
+    only (reply.Slot s) (on (record a { memory = with_slot_entry h a.memory s t; flights = with_flight a.flights t (Some (goes_out s p)) }))
+requested h a t (op.TakeIn s p) =
+    only (reply.Reading s) (on (record a { flights = with_flight a.flights t (Some (comes_in s p)) }))
+
+-- the step that ends a task's operation
+abbrev pub finished : Hardware → Running → ℕ → Flight → List Outcome
+finished h a t (goes_out s p) =
+    let landed = record a { flights = with_flight a.flights t None } in
+    done_or (reply.Written s) (on (record landed { slots = with_slot a.slots s (Some (frame a.memory p)) }))
+    (reply.WriteFault Same) (on (record landed { memory = with_slot_entry h a.memory s 0 }))
+finished h a t (comes_in s p) =
+    let landed = record a { flights = with_flight a.flights t None } in
+    done_or (reply.Fetched s)
+    (on (record landed {
+      memory = with_frame (with_slot_entry h a.memory s 0) p (unwrap_or (a.slots s) (frame a.memory p));
+      slots = with_slot a.slots s None;
+    }))
+    (reply.ReadFault Same) (on landed)
+
+abbrev pub task_step : Hardware → Running → ℕ → Option Flight → List Outcome
+task_step h a t None = []
+task_step h a t (Some flight) = finished h a t flight
+
+-- Booting.
+
+-- the frame table of fresh memory: table frames 0, region frames their flags, all others free; slots free but the bad ones
+abbrev pub fresh_entry : Hardware → ℕ → ℕ
+fresh_entry h p =
+    if has (table_frames h) p then 0
+    else unwrap_region (find (λ r. nat_le r.0 p && nat_lt p (r.0 + r.1)) h.regions) where
+      unwrap_region : Option (ℕ × ℕ × ℕ) → ℕ
+      unwrap_region None = 1
+      unwrap_region (Some r) = r.2
+
+abbrev pub with_entries : (ℕ → ℕ) → List ℕ → ℕ → Memory → Memory
+with_entries entry [] table m = m
+with_entries entry (k ∷ ks) table m = with_entries entry ks table (with_entry m table k (entry k))
+
+-- [tables]: all page frames zero but the tables, with these slots bad
+unfoldable pub fresh_memory : Hardware → (ℕ → ℕ) → Memory
+fresh_memory h slots =
+    with_entries slots (range_with_len 0 h.slots) h.slot_table
+    (with_entries (fresh_entry h) (numbers h.zones) h.frame_table (replicate (top h.zones) zero_page))
+
+abbrev pub fresh_slot : Hardware → disk.Image → ℕ → ℕ
+fresh_slot h v s =
+    if is_some (area_fault h v) || has (bad_slots_in (area_kind (area_block h v))) s then bad_slot else 0
+
+abbrev pub no_slots : SlotPages
+no_slots s = None
+
+abbrev pub no_flights : ℕ → Option Flight
+no_flights t = None
+
+abbrev pub booted : Hardware → disk.Image → BootFrom → Memory → Held → Running
+booted h v Fresh dump held = record {
+  memory = fresh_memory h (fresh_slot h v);
+  slots = no_slots;
+  flights = no_flights;
+  unusable = area_fault h v;
+  held = held;
+}
+booted h v Kept dump held = record {
+  memory = dump;
+  slots = slots_in h v dump;
+  flights = no_flights;
+  unusable = dump_area_fault h v dump;
+  held = held;
+}
+
+-- whether an image is there: what is held says it, and a perhaps is settled by the disk
+abbrev pub boot_outcomes : Hardware → disk.Image → BootFrom → Memory → Held → List Outcome
+boot_outcomes h v from dump nothing = only (reply.Booted false) (on (booted h v from dump nothing))
+boot_outcomes h v from dump (sure x) = only (reply.Booted true) (on (booted h v from dump (sure x)))
+boot_outcomes h v from dump (maybe x) =
+    (reply.Booted false, on (booted h v from dump nothing)) ∷ (reply.Booted true, on (booted h v from dump (sure x))) ∷ []
+
+abbrev pub boot_step : Hardware → disk.Image → BootFrom → Memory → Held → ℕ → List Outcome
+boot_step h v from dump held k =
+    if k == 0 then done_or (reply.More 1 2) (booting from dump held 1) (reply.SyncFault Same) (off held None)
+    else boot_outcomes h v from dump held ++ only (reply.ReadFault Same) (off held None)
+
+-- Hibernating: the page and map writes, a sync, a read of block(0), the write of the mark, a sync.
+
+abbrev pub hibernated : Bool → Image → Running → Outcome
+hibernated false i a = (reply.Hibernated (n_of i), off (sure (own i)) None)
+hibernated true i a = (reply.Asleep (n_of i), asleep i (sure (own i)) a)
+
+-- step k + 1 of N
+abbrev pub hibernate_step : Bool → Image → Running → ℕ → List Outcome
+hibernate_step suspends i a k =
+    let last = hibernate_steps i in
+    let next : Outcome = (reply.More (k + 1) last, hibernating suspends i a (k + 1)) in
+    if nat_lt (k + 1) (last - 3) then next ∷ (reply.WriteFault Same, on a) ∷ []
+    else (if k + 1 == last - 3 then next ∷ (reply.SyncFault Same, on a) ∷ []
+    else (if k + 1 == last - 2 then next ∷ (reply.ReadFault Same, on a) ∷ []
+    else (if k + 1 == last - 1 then next ∷ (reply.Undo undo.Write 0, undoing i undo.Write a 0) ∷ []
+    else hibernated suspends i a ∷ (reply.Undo undo.Sync 0, undoing i undo.Sync a 0) ∷ [])))
+
+abbrev pub undone_fault : UndoCall → Left → Reply
+undone_fault undo.Write left = reply.WriteFault left
+undone_fault undo.Sync left = reply.SyncFault left
+
+abbrev pub undo_step : Image → UndoCall → Running → ℕ → List Outcome
+undo_step i call a k =
+    let failed : Outcome = (undone_fault call Unsure, on (record a { held = maybe (own i) })) in
+    if k == 0 then (reply.Undo call 1, undoing i call a 1) ∷ failed ∷ []
+    else (undone_fault call Gone, on (record a { held = nothing })) ∷ failed ∷ []
+
+-- Settling and waking: a read of block(0), its write taken back, a sync.
+
+abbrev pub settle_step : Running → ℕ → List Outcome
+settle_step a k =
+    let uncertain = on (record a { held = perhaps a.held }) in
+    if k == 0 then done_or (reply.More 1 3) (settling a 1) (reply.ReadFault Same) (on a)
+    else (if k == 1 then done_or (reply.More 2 3) (settling a 2) (reply.WriteFault Unsure) uncertain
+    else done_or reply.Settled (on (record a { held = nothing })) (reply.SyncFault Unsure) uncertain)
+
+abbrev pub wake_step : Image → Held → Running → ℕ → List Outcome
+wake_step i held a k =
+    let uncertain = asleep i (perhaps held) a in
+    if k == 0 then done_or (reply.More 1 3) (waking i held a 1) (reply.ReadFault Same) (asleep i held a)
+    else (if k == 1 then done_or (reply.More 2 3) (waking i held a 2) (reply.WriteFault Unsure) uncertain
+    else done_or reply.Woken (on (record a { held = nothing })) (reply.SyncFault Unsure) uncertain)
+
+-- Resuming.
+
+-- the machine after a resume: with a scripted loader it runs, after a dump's loader it is off
+abbrev pub resumed : Memory → SlotPages → Loader → State
+resumed m slots (loader.Ranges ranges) =
+    on (record { memory = m; slots = slots; flights = no_flights; unusable = None; held = nothing })
+resumed m slots loader.Table = off nothing None
+
+-- the fault of the device call of step k + 1 of a resume
+abbrev pub load_fault : Load → ℕ → Outcome
+load_fault load k =
+    if k == 0 then (reply.SyncFault Same, off load.held None)
+    else (if k == 1 then (reply.ReadFault Same, off load.held None)
+    else (if k == 2 then (reply.WriteFault Unsure, off (perhaps (held_while_loading load 2)) None)
+    else (if k == 3 then (reply.SyncFault Unsure, off (perhaps (held_while_loading load 2)) None)
+    else (reply.ReadFault Gone, off nothing None))))
+
+abbrev pub has_room : Hardware → Load → ℕ → Bool
+has_room h load d = nat_le (need d) (length (left_free h load.dump load.loader))
+
+abbrev pub too_few : Hardware → Load → ℕ → Outcome
+too_few h load d =
+    (reply.TooFewLoaderFrames (length (left_free h load.dump load.loader)) (need d), off nothing None)
+
+-- step k + 1 over an own image
+abbrev pub own_step : Hardware → Load → Image → ℕ → Outcome
+own_step h load i k =
+    if (k + 1 == 6 + meta_of (n_of i)) && not (has_room h load (d_of i)) then too_few h load (d_of i)
+    else (if k + 1 == resume_steps i then (reply.Resumed (n_of i), resumed (restored h load.dump load.loader i) i.slots load.loader)
+    else (reply.Loading (k + 1), loading load (k + 1)))
+
+-- step k + 1 over another's image: the replies are those of the trace over the disk that step 2 read
+abbrev pub other_state : Hardware → Load → disk.Image → ℕ → Reply → State
+other_state h load v k (reply.Loading j) = loading load j
+other_state h load v k (reply.Resumed n) =
+    let m = restored_in h load.dump v load.loader in resumed m (slots_in h v m) load.loader
+other_state h load v k (reply.Compressed flags) = off (sure other) None
+other_state h load v k r = off nothing None
+
+abbrev pub other_step : Hardware → Load → disk.Image → ℕ → List Outcome
+other_step h load v k = outcome (slice_get (trace h load.dump v load.loader load.check) k) where
+  outcome : Option Reply → List Outcome
+  outcome None = []
+  outcome (Some r) = only r (other_state h load v k r)
+
+-- step 2: what is found
+abbrev pub no_image : List Outcome
+no_image = only reply.NoImage (off nothing None)
+
+abbrev pub find_step : Hardware → disk.Image → Load → Held → List Outcome
+find_step h v load nothing = no_image
+find_step h v load (sure (own i)) = only (reply.Loading 2) (loading (record load { found = found_own i }) 2)
+find_step h v load (maybe (own i)) = (reply.Loading 2, loading (record load { found = found_own i }) 2) ∷ no_image
+find_step h v load (sure other) = other_step h (record load { found = found_other v }) v 1
+find_step h v load (maybe other) = other_step h (record load { found = found_other v }) v 1
+
+abbrev pub loaded_step : Hardware → Load → Found → ℕ → List Outcome
+loaded_step h load not_yet k = []
+loaded_step h load (found_own i) k = own_step h load i k ∷ []
+loaded_step h load (found_other v) k = other_step h load v k
+
+abbrev pub load_step : Hardware → disk.Image → Load → ℕ → List Outcome
+load_step h v load k =
+    load_fault load k
+    ∷ (if k == 0 then only (reply.Loading 1) (loading load 1)
+    else (if k == 1 then find_step h v load load.held else loaded_step h load load.found k))
+
+-- Shrinking: [drop]. The first page frames whose flags are CACHE alone, until so many saveable ones are left.
+abbrev pub droppable : Hardware → Memory → List ℕ
+droppable h m = filter (λ p. (frame_flags p == 64) && not (has (table_frames h) p)) (numbers h.zones) where
+  frame_flags : ℕ → ℕ
+  frame_flags p = flags_of (frame_entry h m p)
+
+abbrev pub dropped_by : Hardware → Memory → ℕ → List ℕ
+dropped_by h m want = take (length (saveable h m) - want) (droppable h m)
+
+abbrev pub drop_memory : Hardware → Memory → ℕ → Memory
+drop_memory h m want = with_entries (λ p. 1) (dropped_by h m want) h.frame_table m
+
+-- What may come of each event that isn't refused.
+
+abbrev pub core_step : Hardware → disk.Image → State → List Outcome
+core_step h v (off held kept) = []
+core_step h v (on a) = []
+core_step h v (booting from dump held k) = boot_step h v from dump held k
+core_step h v (hibernating suspends i a k) = hibernate_step suspends i a k
+core_step h v (undoing i call a k) = undo_step i call a k
+core_step h v (settling a k) = settle_step a k
+core_step h v (waking i held a k) = wake_step i held a k
+core_step h v (loading load k) = load_step h v load k
+core_step h v (asleep i held a) = []
+
+-- of a running machine
+abbrev pub if_running : State → (Running → List Outcome) → List Outcome
+if_running (on a) f = f a
+if_running (off held kept) f = []
+if_running (booting from dump held k) f = []
+if_running (hibernating suspends i a k) f = []
+if_running (undoing i call a k) f = []
+if_running (settling a k) f = []
+if_running (waking i held a k) f = []
+if_running (loading load k) f = []
+if_running (asleep i held a) f = []
+
+abbrev pub begun : Hardware → Bool → Format → Running → List Outcome
+begun h suspends f a =
+    let i = image_of_memory h a.memory a.slots f in
+    only (reply.More 0 (hibernate_steps i)) (hibernating suspends i a 0)
+
+abbrev pub woken : State → List Outcome
+woken (asleep i held a) = only (reply.More 0 3) (waking i held a 0)
+woken (off held kept) = []
+woken (on a) = []
+woken (booting from dump held k) = []
+woken (hibernating suspends i a k) = []
+woken (undoing i call a k) = []
+woken (settling a k) = []
+woken (waking i held a k) = []
+woken (loading load k) = []
+
+abbrev pub accepted : Hardware → disk.Image → State → Event → List Outcome
+accepted h v a (event.Boot from) = only (reply.More 0 2) (booting from (unwrap_or (kept_in a) []) (held_in a) 0)
+accepted h v a (event.Resume l check) =
+    only (reply.Loading 0)
+    (loading (record { held = held_in a; found = not_yet; loader = l; dump = unwrap_or (kept_in a) []; check = check }) 0)
+accepted h v a (event.Hibernate f) = if_running a (begun h false f)
+accepted h v a (event.Suspend f) = if_running a (begun h true f)
+accepted h v a event.Settle = if_running a (λ r. only (reply.More 0 3) (settling r 0))
+accepted h v a (event.Shrink want) =
+    if_running a (λ r. only
+    (reply.Shrunk (length (dropped_by h r.memory want)) (length (saveable h r.memory) - length (dropped_by h r.memory want)))
+    (on (record r { memory = drop_memory h r.memory want })))
+accepted h v a event.Wake = woken a
+accepted h v a (event.Task t o) = if_running a (λ r. requested h r t o)
+accepted h v a (event.Step actor.Core) = core_step h v a
+accepted h v a (event.Step (actor.Task t)) = if_running a (λ r. task_step h r t (r.flights t))
+accepted h v a (event.Cut pick) = only reply.WasCut (off (held_in a) (kept_in a))
+accepted h v a (event.Arm first count pick) = only reply.Done a
+
+abbrev pub refused_or : State → Option Reply → List Outcome → List Outcome
+refused_or a (Some r) outcomes = only r a
+refused_or a None outcomes = outcomes
+
+-- the outcomes of an event, over the disk v as it reads at the event
+unfoldable pub outcomes : Hardware → disk.Image → State → Event → List Outcome
+outcomes h v a e = refused_or a (refusal h a e) (accepted h v a e)
+
+-- the machine may give this reply to the event and go on to b
+abbrev pub Step : Hardware → disk.Image → State → Event → Reply → State → Type 0
+Step h v a e r b = Contains (outcomes h v a e) (r, b)
+
+-- The machine may give these replies to these events, one after another. Over a formatted area, where no image is
+-- another's, no step looks at the disk but for the area's own block: v is a disk that reads as the formatted area.
+abbrev pub Run : Hardware → disk.Image → State → List Event → List Reply → State → Type 0
+Run h v a [] [] b = b ≡ a
+Run h v a [] (r ∷ replies) b = ⊥
+Run h v a (e ∷ events) [] b = ⊥
+Run h v a (e ∷ events) (r ∷ replies) b = (mid : State) × Step h v a e r mid × Run h v mid events replies b

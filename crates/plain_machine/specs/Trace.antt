@@ -1,0 +1,213 @@
+-- [trace]: the replies of a resume without device faults, over any disk. It reads a whole disk by place.
+use Rattle.std.specs.Prelude.{ℕ, ◌+◌, ◌*◌, ◌/◌, ◌%◌, ◌-◌, ◌==◌, ◌&&◌, ◌||◌, List, [], ◌∷◌, ◌++◌, Bool, false, not, nat_lt, nat_le, length, map, filter, min, max, Option, Some, None, if◌then◌else◌, bit_and, flat_map, unwrap_or, is_none, nat_eq, zero, suc}
+use Rattle.std.specs.List.{list_any, range_with_len}
+use Rattle.std.specs.Cmp.Lexicographic.{pointwise}
+use Rattle.page_core.specs.declared.format.Format.{Format}
+use Rattle.page_core.specs.declared.format.Format.TheVariants.{Plain, SkipZeros}
+use Rattle.definitions.specs.Bytes.{zero_page, word}
+use Rattle.definitions.specs.Disk as disk
+use Rattle.definitions.specs.SwapHeader.{image_of, flags_of, hw_sig_of, sig_of, image_signature}
+use Rattle.definitions.specs.InfoPage.{info_of, mismatch}
+use Rattle.definitions.specs.NumberPages.{meta_of, number_of_word, zero_bit, end_value}
+use Rattle.definitions.specs.declared.info.Field.{Field}
+use Rattle.definitions.specs.declared.info.Info.{Info}
+use Rattle.plain_machine.specs.Machine.{Hardware, Memory, block_of_slot, is_valid, valid_count, tables_fault, is_slot_of, slot_entry}
+use Rattle.plain_machine.specs.Image.{Image, SlotPages, is_zeros}
+use Rattle.plain_machine.specs.Chain.{header_of, map_fault, entry_fault, entry_block, or_else, first_some}
+use Rattle.plain_machine.specs.Loader.{left_free, need, restored}
+use Rattle.plain_machine.specs.UsableArea.{dump_area_fault}
+use Rattle.plain_machine.specs.declared.event.Loader.{Loader}
+use Rattle.plain_machine.specs.declared.event.Loader.TheVariants as loaders
+use Rattle.plain_machine.specs.declared.event.IdentCheck.{IdentCheck}
+use Rattle.plain_machine.specs.declared.event.IdentCheck.TheVariants.{Compare, Skip}
+use Rattle.plain_machine.specs.declared.reply.Reply.{Reply}
+use Rattle.plain_machine.specs.declared.reply.Reply.TheVariants as reply
+
+-- a number's bit
+abbrev pub is_set : ℕ → ℕ → Bool
+is_set flags bit = not (bit_and flags bit == 0)
+
+-- What the disk v says of its image, untested.
+
+abbrev pub first_map : Hardware → disk.Image → ℕ
+first_map h v = image_of (header_of h v)
+
+-- page k of the stream, from 0
+abbrev pub stream_page : Hardware → disk.Image → ℕ → List ℕ
+stream_page h v k = disk.block v (entry_block v (first_map h v) k)
+
+abbrev pub info_in : Hardware → disk.Image → Info
+info_in h v = info_of (stream_page h v 0)
+
+abbrev pub format_in : Hardware → disk.Image → Format
+format_in h v = if is_set (flags_of (header_of h v)) 256 then SkipZeros else Plain
+
+abbrev pub meta_in : Hardware → disk.Image → ℕ
+meta_in h v = meta_of (info_in h v).image_pages
+
+-- word j of the number pages
+abbrev pub number_word : Hardware → disk.Image → ℕ → ℕ
+number_word h v j = word (stream_page h v (1 + j / 512)) (j % 512)
+
+-- the page frame number of word j, and whether the page has no data page, by the format
+abbrev pub number_by : Format → ℕ → ℕ
+number_by Plain w = w
+number_by SkipZeros w = number_of_word w
+
+abbrev pub is_marked_by : Format → ℕ → Bool
+is_marked_by Plain w = false
+is_marked_by SkipZeros w = nat_le zero_bit w
+
+abbrev pub number_in : Hardware → disk.Image → ℕ → ℕ
+number_in h v j = number_by (format_in h v) (number_word h v j)
+
+abbrev pub words_in : Hardware → disk.Image → List ℕ
+words_in h v = map (number_word h v) (range_with_len 0 (info_in h v).image_pages)
+
+-- how many pages have data
+abbrev pub d_in : Hardware → disk.Image → ℕ
+d_in h v = length (filter (λ w. not (is_marked_by (format_in h v) w)) (words_in h v))
+
+-- the saved pages: page frame numbers with their pages, those with data taken from the stream in order
+abbrev pub saved_from : Hardware → disk.Image → ℕ → List ℕ → List (ℕ × List ℕ)
+saved_from h v k [] = []
+saved_from h v k (w ∷ words) =
+    if is_marked_by (format_in h v) w then (number_by (format_in h v) w, zero_page) ∷ saved_from h v k words
+    else (number_by (format_in h v) w, stream_page h v k) ∷ saved_from h v (k + 1) words
+
+-- the image that the disk decodes to; its tasks' slots are those of the restored memory (`slots_in`)
+abbrev pub image_in : Hardware → disk.Image → SlotPages → Image
+image_in h v slots = record {
+  frames = saved_from h v (1 + meta_in h v) (words_in h v);
+  slots = slots;
+  ident = (info_in h v).ident;
+  physpages = (info_in h v).physpages;
+  format = format_in h v;
+}
+
+-- The causes.
+
+abbrev pub identity_cause : Hardware → disk.Image → IdentCheck → Option Reply
+identity_cause h v Compare = mismatch_reply (mismatch (info_in h v).ident h.ident) where
+  mismatch_reply : Option Field → Option Reply
+  mismatch_reply None = None
+  mismatch_reply (Some field) = Some (reply.Mismatch field)
+identity_cause h v Skip = None
+
+abbrev pub memory_cause : Hardware → disk.Image → Option Reply
+memory_cause h v =
+    if (info_in h v).physpages == valid_count h then None
+    else Some (reply.MemorySize (info_in h v).physpages (valid_count h))
+
+abbrev pub are_bad_counts : Format → ℕ → ℕ → ℕ → Bool
+are_bad_counts Plain valid n pages = (n == 0) || nat_lt valid n || not (pages == n + meta_of n + 1)
+are_bad_counts SkipZeros valid n pages = (n == 0) || nat_lt valid n || nat_lt pages (meta_of n + 1) || nat_lt (n + meta_of n + 1) pages
+
+abbrev pub counts_cause : Hardware → disk.Image → Option Reply
+counts_cause h v =
+    if are_bad_counts (format_in h v) (valid_count h) (info_in h v).image_pages (info_in h v).pages
+    then Some (reply.BadCounts (info_in h v).image_pages (info_in h v).pages) else None
+
+abbrev pub info_cause : Hardware → disk.Image → IdentCheck → Option Reply
+info_cause h v check = or_else (identity_cause h v check) (or_else (memory_cause h v) (counts_cause h v))
+
+-- number j: not a valid page frame, or not above the one before
+abbrev pub number_cause : Hardware → disk.Image → ℕ → Option Reply
+number_cause h v j =
+    if not (is_valid h (number_in h v j)) then Some (reply.BadPfn (number_in h v j))
+    else (if nat_lt 0 j && nat_le (number_in h v j) (number_in h v (j - 1)) then Some (reply.PfnOrder (number_in h v (j - 1)) (number_in h v j))
+    else None)
+
+-- the word after the last number, where the last page isn't full
+abbrev pub end_cause : Hardware → disk.Image → ℕ → Option Reply
+end_cause h v n =
+    if (n % 512 == 0) || (number_word h v n == end_value) then None else Some (reply.PfnEnd (number_word h v n))
+
+-- after the last number page: the data pages are as many as pages says, and the loader has room for them
+abbrev pub room_cause : Hardware → Memory → disk.Image → Loader → Option Reply
+room_cause h dump v loader =
+    if not ((info_in h v).pages == d_in h v + meta_in h v + 1) then Some (reply.BadCounts (info_in h v).image_pages (info_in h v).pages)
+    else (if nat_lt (length (left_free h dump loader)) (need (d_in h v)) then Some (reply.TooFewLoaderFrames (length (left_free h dump loader)) (need (d_in h v)))
+    else None)
+
+-- number page q, from 0, of n numbers
+abbrev pub numbers_cause : Hardware → Memory → disk.Image → Loader → ℕ → Option Reply
+numbers_cause h dump v loader q =
+    let n = (info_in h v).image_pages in
+    let own = first_some (map (number_cause h v) (range_with_len (512 * q) (min 512 (n - 512 * q)))) in
+    if q + 1 == meta_of n then or_else own (or_else (end_cause h v n) (room_cause h dump v loader)) else own
+
+-- What is read, in order: before each 511 pages of the stream their map, and the pages.
+pub data Place : Type 0 where
+  map_at : ℕ → Place
+  page_at : ℕ → Place
+
+abbrev pub places_of : ℕ → List Place
+places_of k = if k % 511 == 0 then map_at (k / 511) ∷ page_at k ∷ [] else page_at k ∷ []
+
+-- the places of so many pages; the info page is read before its counts are known
+abbrev pub places : ℕ → List Place
+places pages = flat_map places_of (range_with_len 0 (max pages 1))
+
+-- what is wrong with the block of a place, when it is wanted
+abbrev pub place_cause : Hardware → disk.Image → Place → Option Reply
+place_cause h v (map_at j) = map_fault h v (first_map h v) j
+place_cause h v (page_at k) = entry_fault h v (first_map h v) k
+
+-- what is wrong with what was read there
+abbrev pub content_cause : Hardware → Memory → disk.Image → Loader → IdentCheck → Place → Option Reply
+content_cause h dump v loader check (map_at j) = None
+content_cause h dump v loader check (page_at zero) = info_cause h v check
+content_cause h dump v loader check (page_at (suc q)) = if nat_lt q (meta_in h v) then numbers_cause h dump v loader q else None
+
+-- The slots of the tasks in the restored memory, with their pages as the disk reads.
+abbrev pub slots_in : Hardware → disk.Image → Memory → SlotPages
+slots_in h v m = λ s. if nat_lt s h.slots && nat_lt 0 (slot_entry h m s) && nat_le (slot_entry h m s) 64 then Some (disk.block v (block_of_slot h s)) else None
+
+-- At the last step: the restored tables don't fit, or not the area; not tested after a dump's loader.
+abbrev pub tables_cause : Hardware → disk.Image → Memory → Option Reply
+tables_cause h v m = frame_reply (or_else (tables_fault h m) (if is_none (dump_area_fault h v m) then None else Some h.slot_table)) where
+  frame_reply : Option ℕ → Option Reply
+  frame_reply None = None
+  frame_reply (Some f) = Some (reply.BadTables f)
+
+abbrev pub restored_in : Hardware → Memory → disk.Image → Loader → Memory
+restored_in h dump v loader = restored h dump loader (image_in h v (λ s. None))
+
+abbrev pub last_reply : Hardware → Memory → disk.Image → Loader → Reply
+last_reply h dump v (loaders.Ranges ranges) =
+    unwrap_or (tables_cause h v (restored_in h dump v (loaders.Ranges ranges))) (reply.Resumed (info_in h v).image_pages)
+last_reply h dump v loaders.Table = reply.Resumed (info_in h v).image_pages
+
+-- a cause ends the list; without one step k answers Loading, and the others follow
+abbrev pub stop_or_go : Option Reply → ℕ → List Reply → List Reply
+stop_or_go None k replies = reply.Loading k ∷ replies
+stop_or_go (Some cause) k replies = cause ∷ []
+
+-- The replies of step k, which reads the first of these places, and of the steps after it. The block that the next
+-- step would read is tested at the end of the step before it.
+abbrev pub replies_from : Hardware → Memory → disk.Image → Loader → IdentCheck → ℕ → List Place → List Reply
+replies_from h dump v loader check k [] = []
+replies_from h dump v loader check k (place ∷ []) =
+    unwrap_or (content_cause h dump v loader check place) (last_reply h dump v loader) ∷ []
+replies_from h dump v loader check k (place ∷ next ∷ rest) =
+    stop_or_go (or_else (content_cause h dump v loader check place) (place_cause h v next)) k (replies_from h dump v loader check (k + 1) (next ∷ rest))
+
+-- at the end of step 4, once the block is taken back
+abbrev pub taken_back_cause : Hardware → disk.Image → Option Reply
+taken_back_cause h v =
+    if is_set (flags_of (header_of h v)) 8 && not (hw_sig_of (header_of h v) == h.hw_sig) then Some (reply.HwMismatch (hw_sig_of (header_of h v)) h.hw_sig)
+    else map_fault h v (first_map h v) 0
+
+-- at the end of step 2
+abbrev pub header_cause : Hardware → disk.Image → Option Reply
+header_cause h v =
+    if not (pointwise nat_eq (sig_of (header_of h v)) image_signature) then Some reply.NoImage
+    else (if not (is_set (flags_of (header_of h v)) 2) then Some (reply.Compressed (flags_of (header_of h v))) else None)
+
+-- Loading{1}, Loading{2} and so on, up to Resumed{n} or the first cause
+unfoldable pub trace : Hardware → Memory → disk.Image → Loader → IdentCheck → List Reply
+trace h dump v loader check =
+    reply.Loading 1 ∷ stop_or_go (header_cause h v) 2
+    (reply.Loading 3 ∷ stop_or_go (taken_back_cause h v) 4
+    (replies_from h dump v loader check 5 (places (info_in h v).pages)))

@@ -1,0 +1,77 @@
+-- Which swap areas a machine can use.
+use Rattle.std.specs.Prelude.{ℕ, ◌+◌, ◌==◌, ◌&&◌, ◌||◌, List, [], ◌∷◌, Bool, not, nat_eq, nat_lt, Option, Some, None, if◌then◌else◌, take}
+use Rattle.std.specs.List.{list_any, list_all, range_with_len}
+use Rattle.std.specs.Cmp.Lexicographic.{pointwise}
+use Rattle.definitions.specs.Disk as disk
+use Rattle.definitions.specs.SwapHeader.{image_signature, sig_of, taken_back}
+use Rattle.sig_header.specs.declared.area.Area.{Area}
+use Rattle.sig_header.specs.declared.area.AreaKind.{AreaKind}
+use Rattle.sig_header.specs.declared.area.AreaKind.TheVariants.{Image, Old, Other, BadArea, Swap}
+use Rattle.sig_header.specs.AreaKind.{area_kind}
+use Rattle.plain_machine.specs.Area.{no_swap_at}
+use Rattle.plain_machine.specs.Machine.{Hardware, Memory, block_of_slot, raw_slot_entry, bad_slot}
+use Rattle.plain_machine.specs.Chain.{header_of, blocks_of}
+use Rattle.plain_machine.specs.Loader.{has}
+use Rattle.plain_machine.specs.declared.no_swap.NoSwap.{NoSwap}
+use Rattle.plain_machine.specs.declared.no_swap.NoSwap.TheVariants as no_swap
+
+-- block(0), taken back where it is marked
+abbrev pub area_block : Hardware → disk.Image → List ℕ
+area_block h v =
+    if pointwise nat_eq (sig_of (header_of h v)) image_signature then taken_back (header_of h v) else header_of h v
+
+-- why the kind is no version 1 area
+abbrev pub kind_fault : AreaKind → Option NoSwap
+kind_fault (Image mark) = Some no_swap.Image
+kind_fault Old = Some no_swap.Old
+kind_fault (Other sig) = Some (no_swap.Signature sig)
+kind_fault (BadArea why) = Some (no_swap_at why)
+kind_fault (Swap area) = None
+
+-- why the machine can't use a version 1 area: a slot lies on no block of the disk, or the slots are of another number
+abbrev pub fit_fault : Hardware → ℕ → Area → Option NoSwap
+fit_fault h blocks area =
+    if list_any (λ s. not (nat_lt (block_of_slot h s) blocks)) (range_with_len 0 (area.last + 1)) then Some (no_swap.Short area.last blocks)
+    else (if area.last + 1 == h.slots then None else Some (no_swap.Misfit area.last h.slots))
+
+-- the bad slots of an area: the header's, and its bad pages
+abbrev pub bad_slots_of : Area → List ℕ
+bad_slots_of area = 0 ∷ take area.count area.bad
+
+-- whether just the area's bad slots are bad in a slot table
+abbrev pub has_bad_slots_of : Hardware → Memory → Area → Bool
+has_bad_slots_of h m area =
+    list_all (λ s. if raw_slot_entry h m s == bad_slot then has (bad_slots_of area) s else not (has (bad_slots_of area) s)) (range_with_len 0 h.slots)
+
+abbrev pub kind_or_fit_fault : Hardware → ℕ → AreaKind → Option NoSwap
+kind_or_fit_fault h blocks (Swap area) = fit_fault h blocks area
+kind_or_fit_fault h blocks (Image mark) = kind_fault (Image mark)
+kind_or_fit_fault h blocks Old = kind_fault Old
+kind_or_fit_fault h blocks (Other sig) = kind_fault (Other sig)
+kind_or_fit_fault h blocks (BadArea why) = kind_fault (BadArea why)
+
+-- Why the area of the disk can't be used by a machine with fresh memory, and by one with a dump's memory.
+unfoldable pub area_fault : Hardware → disk.Image → Option NoSwap
+area_fault h v = kind_or_fit_fault h (blocks_of v) (area_kind (area_block h v))
+
+abbrev pub bad_set_fault : Hardware → Memory → AreaKind → Option NoSwap
+bad_set_fault h m (Swap area) = if has_bad_slots_of h m area then None else Some no_swap.BadSet
+bad_set_fault h m (Image mark) = None
+bad_set_fault h m Old = None
+bad_set_fault h m (Other sig) = None
+bad_set_fault h m (BadArea why) = None
+
+abbrev pub first_fault : Option NoSwap → Option NoSwap → Option NoSwap
+first_fault None b = b
+first_fault (Some why) b = Some why
+
+unfoldable pub dump_area_fault : Hardware → disk.Image → Memory → Option NoSwap
+dump_area_fault h v m = first_fault (area_fault h v) (bad_set_fault h m (area_kind (area_block h v)))
+
+-- the area's bad slots, of the area that the disk has
+abbrev pub bad_slots_in : AreaKind → List ℕ
+bad_slots_in (Swap area) = bad_slots_of area
+bad_slots_in (Image mark) = []
+bad_slots_in Old = []
+bad_slots_in (Other sig) = []
+bad_slots_in (BadArea why) = []

@@ -1,0 +1,10 @@
+//! The plain machine: what a simulated machine may do and answer, with no word of how.
+#![tactic(auto)]
+
+mod event;
+mod no_swap;
+mod reply;
+
+pub use event::{Actor, BootFrom, Event, IdentCheck, Loader, Ranges, TaskOp};
+pub use no_swap::NoSwap;
+pub use reply::{Left, Reply, UndoCall};

@@ -1,0 +1,2 @@
+pub mod SectorLaws
+pub mod Contents

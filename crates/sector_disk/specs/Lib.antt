@@ -1,0 +1,5 @@
+pub mod Sectors
+pub mod ContentLaws
+pub mod Calls
+pub mod MemDisk
+pub mod FileDisk

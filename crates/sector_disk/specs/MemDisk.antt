@@ -1,0 +1,76 @@
+-- What contracts say of a disk in memory, beside what it tells as a disk.
+use Rattle.std.specs.Prelude.{◌≡◌, ℕ, ◌+◌, ◌*◌, ◌<◌, ◌≤◌, ◌↔◌, replicate, Result, IsErr, OnOk, OnErr}
+use Rattle.definitions.specs.Disk.{Content, Image, raised}
+use Rattle.sector_disk.specs.Calls.{IsDue}
+use Rattle.sector_disk.specs.Sectors.{content_of}
+use Rattle.sector_disk.specs.declared.mem_disk.MemDisk.{MemDisk}
+
+-- how many blocks it has
+abbrev pub block_count : MemDisk → ℕ
+block_count d = d.blocks
+
+-- how many calls failed
+abbrev pub fault_count : MemDisk → ℕ
+fault_count d = d.calls.faults
+
+-- how many reads, writes and syncs there were
+abbrev pub call_count : MemDisk → ℕ
+call_count d = d.calls.made
+
+-- how many restarts and arms there were
+abbrev pub order_count : MemDisk → ℕ
+order_count d = d.orders
+
+-- the sectors as the last sync or restart left them
+abbrev pub durable_sectors : MemDisk → Image
+durable_sectors d = d.durable.items
+
+-- the sectors as a read gives them
+abbrev pub live_sectors : MemDisk → Image
+live_sectors d = d.live.items
+
+-- what it tells of its content
+abbrev pub content : MemDisk → Content
+content d = content_of (durable_sectors d) (live_sectors d)
+
+-- the call number k from now is to fail; the next one has number 1
+abbrev pub IsArmed : MemDisk → ℕ → Type 0
+IsArmed d k = IsDue d.calls k
+
+-- the pick of the sectors that a write takes where it fails
+abbrev pub armed_pick : MemDisk → ℕ
+armed_pick d = d.calls.pick
+
+-- A read, a write or a sync: it fails exactly where it is armed, and the armed calls are one nearer.
+pub record IsCalled {T E : Type 0} (old new : MemDisk) (result : Result T E) : Type 0 where
+  pub fails : IsErr result ↔ IsArmed old 1
+  pub later : (k : ℕ) → 0 < k → IsArmed new k ↔ IsArmed old (k + 1)
+  pub pick : armed_pick new ≡ armed_pick old
+  pub faults : fault_count old ≤ fault_count new
+  pub fault : OnErr result (fault_count new ≡ raised (fault_count old))
+  pub no_fault : OnOk result (fault_count new ≡ fault_count old)
+  pub calls : call_count new ≡ raised (call_count old)
+  pub orders : order_count new ≡ order_count old
+  pub blocks : block_count new ≡ block_count old
+
+-- the same calls stay armed, with the same pick
+pub record KeepsArmed (old new : MemDisk) : Type 0 where
+  pub calls : (k : ℕ) → IsArmed new k ↔ IsArmed old k
+  pub pick : armed_pick new ≡ armed_pick old
+
+-- a restart or an arm: it alone is counted
+pub record IsOrdered (old new : MemDisk) : Type 0 where
+  pub orders : order_count new ≡ raised (order_count old)
+  pub calls : call_count new ≡ call_count old
+  pub faults : fault_count new ≡ fault_count old
+  pub blocks : block_count new ≡ block_count old
+
+-- a disk as it is made: zeros, nothing counted and nothing armed
+pub record IsNew (blocks : ℕ) (d : MemDisk) : Type 0 where
+  pub blocks_are : block_count d ≡ blocks
+  pub durable : durable_sectors d ≡ replicate (8 * blocks) (replicate 512 0)
+  pub live : live_sectors d ≡ replicate (8 * blocks) (replicate 512 0)
+  pub calls : call_count d ≡ 0
+  pub faults : fault_count d ≡ 0
+  pub orders : order_count d ≡ 0
+  pub unarmed : (k : ℕ) → IsArmed d k → ⊥

@@ -1,0 +1,160 @@
+ghost use Rattle.std.specs.Prelude.{◌*◌, ◌≤◌, IfOk};
+ghost use Rattle.sector_disk.specs.Sectors.{AreSectors, SameOutsideRange};
+
+use crate::Disk;
+use crate::calls::Calls;
+use crate::sectors::{
+    SECTORS_IN_BLOCK, Sector, joined, restart_sectors, sync_sectors, write_block, write_picked,
+    zero_sectors,
+};
+use page_core::{Failed, NoMemory, Page};
+use std::alloc::Global;
+
+/// A disk in memory. It keeps for each sector the durable bytes, which the last sync left, and the live ones.
+/// A restart takes of each sector the one or the other, as its pick says.
+///
+/// It tells its content and no moments.
+#[derive(Drop)]
+pub struct MemDisk {
+    blocks: u32,
+    durable: Vec<Sector>,
+    live: Vec<Sector>,
+    // The sectors that may differ: the first that was written since the last sync, and the end of the last.
+    low: usize,
+    high: usize,
+    calls: Calls,
+    orders: u64,
+    ghost durable_whole: { AreSectors (8 * blocks) durable.items },
+    ghost live_whole: { AreSectors (8 * blocks) live.items },
+    ghost synced: { SameOutsideRange low high durable.items live.items },
+    ghost ends: { high ≤ 8 * blocks },
+}
+
+impl MemDisk {
+    ghost use Rattle.sector_disk.specs.MemDisk.{IsNew};
+
+    /// A disk of zeros.
+    pub fn create(alloc: Global, blocks: u32) -> Result<MemDisk, NoMemory>
+        ensures { IfOk result (IsNew blocks) }
+    {
+        let count = SECTORS_IN_BLOCK * blocks as usize;
+        let durable = zero_sectors(alloc, count)?;
+        let live = zero_sectors(alloc, count)?;
+        Ok(MemDisk {
+            blocks,
+            durable,
+            live,
+            low: count,
+            high: 0,
+            calls: Calls::none(),
+            orders: 0,
+        })
+    }
+}
+
+impl Disk for MemDisk {
+    ghost use Rattle.std.specs.Prelude.{◌≡◌, ℕ, ◌+◌, ◌<◌, ◌≤◌, ◌↔◌, Some, OnOk, OnErr, false};
+    ghost use Rattle.definitions.specs.Disk.{as_it_reads, block, Writes, FailsToWrite, Syncs, Restarts};
+    ghost use Rattle.sector_disk.specs.MemDisk.{block_count, content, durable_sectors, live_sectors, IsArmed, armed_pick, KeepsArmed, IsCalled, IsOrdered};
+    ghost use Rattle.std.proofs.lemmas.Bool.{false≢true};
+    ghost use Rattle.sector_disk.specs.Sectors.{content_of, IsPicked, TakesPicked};
+    ghost use Rattle.sector_disk.specs.ContentLaws.{content_of-is};
+
+    ghost block_count = { λ d. d.blocks };
+
+    ghost faults = { λ d. d.calls.faults };
+
+    ghost calls = { λ d. d.calls.made };
+
+    ghost orders = { λ d. d.orders };
+
+    ghost content = { λ d. Some (content_of d.durable.items d.live.items) };
+
+    ghost tells_moments = { λ _. false };
+
+    ghost moment = { λ _. 0 };
+
+    ghost left_since = { λ _ _ _. ⊥ };
+
+    ghost well_formed = { λ d. content_of-is d.blocks d.durable.items d.live.items d.durable_whole d.live_whole };
+
+    ghost tells_content = { λ d tells. absurd (false≢true tells) };
+
+    ghost counts_now = { λ d t v tells. absurd (false≢true tells) };
+
+    ghost only_now = { λ d v tells. absurd (false≢true tells) };
+
+    fn blocks(&self) -> u32 {
+        self.blocks
+    }
+
+    fn read(&mut self, b: u32, into: &mut Page) -> Result<(), Failed>
+        requires { b < block_count self.old }
+        ensures bytes { OnOk result (into.new ≡ block (as_it_reads (content self.old)) b) }
+        ensures durable { durable_sectors self.new ≡ durable_sectors self.old }
+        ensures live { live_sectors self.new ≡ live_sectors self.old }
+        ensures called { IsCalled self.old self.new result }
+    {
+        self.calls.take_turn()?;
+        let first = SECTORS_IN_BLOCK * b as usize;
+        *into = joined(&self.live[first..first + SECTORS_IN_BLOCK]);
+        Ok(())
+    }
+
+    fn write(&mut self, b: u32, from: &Page) -> Result<(), Failed>
+        requires { b < block_count self.old }
+        ensures written { OnOk result (Writes b from.now (content self.old) (content self.new)) }
+        ensures failed { OnErr result (FailsToWrite b from.now (content self.old) (content self.new)) }
+        ensures picked { OnErr result (TakesPicked (armed_pick self.old) b from.now (live_sectors self.old) (live_sectors self.new)) }
+        ensures durable { durable_sectors self.new ≡ durable_sectors self.old }
+        ensures called { IsCalled self.old self.new result }
+    {
+        let b = b as usize;
+        self.low = self.low.min(SECTORS_IN_BLOCK * b);
+        self.high = self.high.max(SECTORS_IN_BLOCK * b + SECTORS_IN_BLOCK);
+        let answer = self.calls.take_turn();
+        match answer {
+            Ok(()) => write_block(&mut self.live, b, from),
+            Err(Failed) => write_picked(&mut self.live, b, from, self.calls.pick),
+        }
+        answer
+    }
+
+    fn sync(&mut self) -> Result<(), Failed>
+        ensures synced { OnOk result (Syncs (content self.old) (content self.new)) }
+        ensures durable { OnOk result (durable_sectors self.new ≡ live_sectors self.old) }
+        ensures failed { OnErr result (durable_sectors self.new ≡ durable_sectors self.old) }
+        ensures live { live_sectors self.new ≡ live_sectors self.old }
+        ensures called { IsCalled self.old self.new result }
+    {
+        self.calls.take_turn()?;
+        sync_sectors(&mut self.durable, &self.live, self.low, self.high);
+        self.low = self.live.len();
+        self.high = 0;
+        Ok(())
+    }
+
+    fn restart(&mut self, pick: u64)
+        ensures restarted { Restarts (content self.old) (content self.new) }
+        ensures picked { IsPicked pick (durable_sectors self.old) (live_sectors self.old) (live_sectors self.new) }
+        ensures durable { durable_sectors self.new ≡ live_sectors self.new }
+        ensures armed { KeepsArmed self.old self.new }
+        ensures ordered { IsOrdered self.old self.new }
+    {
+        restart_sectors(&mut self.durable, &mut self.live, self.low, self.high, pick);
+        self.low = self.live.len();
+        self.high = 0;
+        self.orders = self.orders.saturating_add(1);
+    }
+
+    fn arm(&mut self, first: u32, count: u32, pick: u64)
+        ensures armed { (k : ℕ) → 0 < k → (IsArmed self.new k ↔ ((first ≤ k) × (k < first + count))) }
+        ensures pick { armed_pick self.new ≡ pick }
+        ensures durable { durable_sectors self.new ≡ durable_sectors self.old }
+        ensures live { live_sectors self.new ≡ live_sectors self.old }
+        ensures ordered { IsOrdered self.old self.new }
+    {
+        self.calls.arm(first, count, pick);
+        self.orders = self.orders.saturating_add(1);
+    }
+}

@@ -1,0 +1,118 @@
+//! The sectors of a disk in memory.
+ghost use Rattle.std.specs.Prelude.{◌≡◌, ◌+◌, ◌*◌, ◌^◌, ◌<◌, ◌≤◌, length, replicate, IfOk, All};
+ghost use Rattle.std.specs.List.{concat};
+ghost use Rattle.std.specs.Simd.{first_chunks};
+ghost use Rattle.sector_disk.specs.Sectors.{IsPicked, IsPickedFrom, TakesPicked, TakesPage, SameOutsideBlock, SameOutsideRange};
+
+use page_core::{NoMemory, Page};
+use std::alloc::Global;
+
+pub type Sector = [u8; SECTOR_SIZE];
+
+pub const SECTOR_SIZE: usize = 512;
+
+pub const SECTORS_IN_BLOCK: usize = 8;
+
+/// So many sectors of zeros.
+pub fn zero_sectors(alloc: Global, count: usize) -> Result<Vec<Sector>, NoMemory>
+    ensures { IfOk result (λ sectors. sectors.items ≡ replicate count (replicate 512 0)) }
+{
+    let mut sectors = Vec::new(alloc);
+    match sectors.resize(count, [0; SECTOR_SIZE]) {
+        Ok(()) => Ok(sectors),
+        Err(_) => Err(NoMemory),
+    }
+}
+
+/// The page that the sectors of a block make.
+pub fn joined(sectors: &[Sector]) -> Page
+    requires { length sectors.now ≡ 8 }
+    ensures { result ≡ concat sectors.now }
+{
+    let mut bytes = [0; 4096];
+    bytes.copy_from_slice(sectors.as_flattened());
+    Page::from_bytes(&bytes)
+}
+
+/// The sectors of a page.
+pub fn sectors_of(page: &Page) -> &[Sector]
+    ensures sectors { result.now ≡ first_chunks 512 8 page.now }
+    ensures whole { All (λ bytes. length bytes ≡ 512) result.now }
+{
+    page.as_bytes().as_chunks::<SECTOR_SIZE>().0
+}
+
+/// Copies the sectors that are picked. `first` is the number of the first one.
+pub fn copy_picked(from: &[Sector], into: &mut [Sector], first: usize, pick: u64)
+    requires same_length { length from.now ≡ length into.old }
+    requires in_range { first + length from.now < 2 ^ 64 }
+    ensures picked { IsPickedFrom first pick into.old from.now into.new }
+    ensures whole { All (λ bytes. length bytes ≡ 512) into.new }
+{
+    for (s, sector) in from.iter().enumerate() {
+        if (pick >> ((first + s) % 64)) & 1 == 1 {
+            into[s] = *sector;
+        }
+    }
+}
+
+/// Writes a page into the sectors of block `b`.
+pub fn write_block(sectors: &mut [Sector], b: usize, page: &Page)
+    requires { 8 * b + 8 ≤ length sectors.old }
+    ensures others { SameOutsideBlock b sectors.old sectors.new }
+    ensures within { TakesPage b page.now sectors.new }
+    ensures whole { All (λ bytes. length bytes ≡ 512) sectors.new }
+{
+    let first = SECTORS_IN_BLOCK * b;
+    sectors[first..first + SECTORS_IN_BLOCK].copy_from_slice(sectors_of(page));
+}
+
+/// Writes a page into the sectors of block `b` that are picked.
+pub fn write_picked(sectors: &mut [Sector], b: usize, page: &Page, pick: u64)
+    requires { 8 * b + 8 ≤ length sectors.old }
+    ensures others { SameOutsideBlock b sectors.old sectors.new }
+    ensures within { TakesPicked pick b page.now sectors.old sectors.new }
+    ensures whole { All (λ bytes. length bytes ≡ 512) sectors.new }
+{
+    let first = SECTORS_IN_BLOCK * b;
+    copy_picked(
+        sectors_of(page),
+        &mut sectors[first..first + SECTORS_IN_BLOCK],
+        first,
+        pick,
+    );
+}
+
+/// Makes the durable sectors the live ones. Outside the range they are.
+pub fn sync_sectors(durable: &mut [Sector], live: &[Sector], low: usize, high: usize)
+    requires same_length { length durable.old ≡ length live.now }
+    requires in_range { high ≤ length live.now }
+    requires outside { SameOutsideRange low high durable.old live.now }
+    ensures { durable.new ≡ live.now }
+{
+    if low < high {
+        durable[low..high].copy_from_slice(&live[low..high]);
+    }
+}
+
+/// Takes the live sectors that are picked, and of the others the durable ones, and makes both so. Outside the
+/// range they are the same.
+pub fn restart_sectors(
+    durable: &mut [Sector],
+    live: &mut [Sector],
+    low: usize,
+    high: usize,
+    pick: u64,
+)
+    requires same_length { length durable.old ≡ length live.old }
+    requires in_range { high ≤ length live.old }
+    requires outside { SameOutsideRange low high durable.old live.old }
+    ensures picked { IsPicked pick durable.old live.old live.new }
+    ensures durable { durable.new ≡ live.new }
+    ensures whole { All (λ bytes. length bytes ≡ 512) live.new }
+{
+    if low < high {
+        copy_picked(&live[low..high], &mut durable[low..high], low, pick);
+        live[low..high].copy_from_slice(&durable[low..high]);
+    }
+}

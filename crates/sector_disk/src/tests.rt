@@ -1,0 +1,82 @@
+ghost use Rattle.std.specs.Prelude.{◌≡◌, ◌<◌};
+
+use crate::{Disk, FileDisk, MemDisk};
+use page_core::{Failed, Page};
+use std::fs;
+use std::fs::File;
+use std::test::Fail;
+
+const FOLDER: &str = "sector_disk_test";
+
+const PATH: &str = "sector_disk_test/disk";
+
+// The first bytes of the sectors of block 0, as the disk reads.
+fn first_bytes<D: Disk>(disk: &mut D) -> Result<[u8; 8], Failed>
+    requires { 0 < D.block_count disk.old }
+    ensures { D.block_count disk.new ≡ D.block_count disk.old }
+{
+    let mut page = Page::zero();
+    disk.read(0, &mut page)?;
+    let mut firsts = [0; 8];
+    for j in 0..8 {
+        firsts[j] = page.as_bytes()[512 * j];
+    }
+    Ok(firsts)
+}
+
+#[test]
+fn a_restart_takes_the_picked_sectors(rt: HostRuntime) -> Result<(), Fail> {
+    for (pick, want) in [
+        (0, [0; 8]),
+        (128, [0, 0, 0, 0, 0, 0, 0, 7]),
+        (u64::MAX, [7; 8]),
+    ] {
+        let mut disk = MemDisk::create(rt.alloc(), 2)?;
+        assert_eq!(rt; disk.blocks(), 2);
+        disk.write(0, &Page::from_bytes(&[7; 4096]))?;
+        disk.restart(pick);
+        assert_eq!(rt; first_bytes(&mut disk)?, want);
+        disk.restart(0);
+        assert_eq!(rt; first_bytes(&mut disk)?, want, "after pick {pick}");
+    }
+    Ok(())
+}
+
+#[test]
+fn an_armed_write_takes_the_picked_sectors(rt: HostRuntime) -> Result<(), Fail> {
+    let mut disk = MemDisk::create(rt.alloc(), 1)?;
+    assert_eq!(rt; disk.blocks(), 1);
+    disk.arm(2, 1, 3);
+    disk.sync()?;
+    disk.restart(0);
+    assert_eq!(rt; disk.write(0, &Page::from_bytes(&[7; 4096])), Err(Failed));
+    assert_eq!(rt; first_bytes(&mut disk)?, [7, 7, 0, 0, 0, 0, 0, 0]);
+    Ok(())
+}
+
+#[test]
+fn a_file_keeps_its_blocks(rt: HostRuntime) -> Result<(), Fail> {
+    let _ = fs::remove_dir_all(&rt, FOLDER);
+    fs::create_dir(&rt, FOLDER)?;
+    fs::File::create(&rt, PATH)?.set_len(3001 * 4096 + 5)?;
+
+    let mut disk = FileDisk::<File>::open(&rt, PATH)?;
+    assert_eq!(rt; disk.blocks(), 3001);
+    disk.write(0, &Page::from_bytes(&[7; 4096]))?;
+    disk.write(3000, &Page::from_bytes(&[9; 4096]))?;
+    disk.sync()?;
+    drop(disk);
+
+    let mut disk = FileDisk::<File>::open_read_only(&rt, PATH)?;
+    assert_eq!(rt; disk.blocks(), 3001);
+    assert_eq!(rt; first_bytes(&mut disk)?, [7; 8]);
+    let mut page = Page::zero();
+    disk.read(3000, &mut page)?;
+    assert_eq!(rt; *page.as_bytes(), [9; 4096]);
+    assert_eq!(rt; disk.write(0, &page), Err(Failed));
+    drop(disk);
+
+    assert!(rt; FileDisk::<File>::open(&rt, "sector_disk_test/none").is_err());
+    fs::remove_dir_all(&rt, FOLDER)?;
+    Ok(())
+}

@@ -1,0 +1,33 @@
+ghost use Rattle.std.specs.Prelude.{◌≡◌};
+ghost use Rattle.definitions.specs.SwapHeader.{marked, taken_back};
+
+use crate::signatures::{IMAGE, original_signature, signature, with_signature};
+use page_core::Page;
+
+/// The header's `hw_sig` counts (kernel/power/power.h).
+const SF_HW_SIG: u32 = 8;
+
+/// The block with the mark of an image (`mark_swapfiles`, kernel/power/swap.c): the signature moves to `orig_sig` and the
+/// image's takes its place, `image` is the block of the first map, and where the machine has a hardware signature,
+/// which `hw` other than 0 is, it is set and SF_HW_SIG is added to the flags. All other bytes stay.
+#[tactic(auto, unfolding(definitions::specs::SwapHeader::marked))]
+pub fn mark(page: &Page, first: u64, flags: u32, hw: u32) -> Page
+    ensures { result ≡ marked page.now first flags hw }
+{
+    let original = signature(page);
+    let mut marked = with_signature(&with_signature(page, 4076, original), 4086, IMAGE);
+    marked.set_word(508, first);
+    marked.put_u32(4072, if hw == 0 { flags } else { flags | SF_HW_SIG });
+    if hw != 0 {
+        marked.put_u32(4056, hw);
+    }
+    marked
+}
+
+/// The block taken back (`swsusp_check`, kernel/power/swap.c): `orig_sig` is the signature again. All other bytes stay.
+#[tactic(auto, unfolding(definitions::specs::SwapHeader::taken_back))]
+pub fn take_back(page: &Page) -> Page
+    ensures { result ≡ taken_back page.now }
+{
+    with_signature(page, 4086, original_signature(page))
+}

@@ -1,0 +1,22 @@
+-- What a run ends with.
+use Rattle.std.specs.Prelude.{ℕ, List, [], ◌∷◌, ◌++◌, codes}
+use Rattle.swsusp_cli.specs.declared.status.Status.{Status}
+use Rattle.swsusp_cli.specs.declared.status.Status.TheVariants.{Words, Device}
+
+-- a status, the text on out and the text on note
+pub record Told : Type 0 where
+  pub status : Status
+  pub out : List ℕ
+  pub note : List ℕ
+
+-- a text and the end of its line
+abbrev pub line : List ℕ → List ℕ
+line text = text ++ 10 ∷ []
+
+-- the words don't parse
+abbrev pub unparsed : Told
+unparsed = record { status = Words; out = []; note = line (codes "words") }
+
+-- the header couldn't be read
+abbrev pub unread : Told
+unread = record { status = Device; out = []; note = line (codes "read fault same") }

@@ -1,0 +1,7 @@
+pub mod Answer
+pub mod AnswerOf
+pub mod Choice
+pub mod Inspect
+pub mod Run
+pub mod Told
+pub mod Words

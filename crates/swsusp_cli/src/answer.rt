@@ -1,0 +1,54 @@
+ghost use Rattle.std.specs.Prelude.{◌≡◌, ◌≢◌, ◌⊎◌, ◌≤◌, length, OnOk, OnErr};
+ghost use Rattle.definitions.specs.Disk.{HasRisen};
+ghost use Rattle.definitions.specs.Streams.{TakesAll, TakesFront};
+
+use crate::status::Status;
+use dump_file::Sink;
+use page_core::Failed;
+use script::Line;
+
+/// What a run ends with: a status, the text on out and the text on note.
+#[derive(Drop)]
+pub struct Answer {
+    pub status: Status,
+    pub out: Line,
+    pub note: Line,
+}
+
+impl Answer {
+    ghost use Rattle.swsusp_cli.specs.AnswerOf.{told_by};
+    ghost use Rattle.swsusp_cli.specs.Told.{IsTold};
+
+    /// Prints both texts. Where a sink fails the status is `Stream`, and `sink fault` is tried as a note.
+    pub fn tell<O: Sink, N: Sink>(&self, out: &mut O, note: &mut N) -> Status
+        requires { self.now.status ≢ Status.Stream }
+        ensures told { IsTold (told_by self.now) result (O.taken out.old) (O.taken out.new) (N.taken note.old) (N.taken note.new) }
+        ensures stream { result ≡ Status.Stream →
+            HasRisen (O.faults out.old) (O.faults out.new) ⊎ HasRisen (N.faults note.old) (N.faults note.new) }
+        ensures status { result ≢ Status.Stream → result ≡ self.now.status }
+    {
+        if print(out, self.out.as_bytes()).is_err() {
+            let _ = print(note, b"sink fault\n");
+            return Status::Stream;
+        }
+        if print(note, self.note.as_bytes()).is_err() {
+            return Status::Stream;
+        }
+        self.status
+    }
+}
+
+/// Writes a text to its end, and flushes.
+pub fn print<S: Sink>(sink: &mut S, text: &[u8]) -> Result<(), Failed>
+    ensures whole { OnOk result (TakesAll text.now (S.taken sink.old) (S.taken sink.new)) }
+    ensures front { TakesFront text.now (S.taken sink.old) (S.taken sink.new) }
+    ensures counted { S.faults sink.old ≤ S.faults sink.new }
+    ensures cause { OnErr result (HasRisen (S.faults sink.old) (S.faults sink.new)) }
+{
+    let mut at = 0;
+    while at < text.len() {
+        let count = sink.write(&text[at..])?;
+        at += count;
+    }
+    sink.flush()
+}

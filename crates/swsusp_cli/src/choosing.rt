@@ -1,0 +1,28 @@
+ghost use Rattle.std.specs.Prelude.{IfOk, map, string_bytes};
+ghost use Rattle.swsusp_cli.specs.Choice.{IsChoice};
+
+use crate::words::Command;
+use page_core::NoMemory;
+use std::alloc::Global;
+
+/// Which disk a run works on.
+#[derive(Drop)]
+pub enum Choice {
+    /// A swap file or a block device.
+    File(String),
+    /// A disk in memory, of so many blocks.
+    Memory(u32),
+}
+
+/// The disk that a list of words asks for. Where the words don't parse it is one block in memory.
+pub fn swap_name(alloc: Global, words: &[String]) -> Result<Choice, NoMemory>
+    ensures { IfOk result (IsChoice (map string_bytes words.now)) }
+{
+    match Command::parse(words) {
+        None => Ok(Choice::Memory(1)),
+        Some(Command::Inspect) => match String::from_str(alloc, words[2].as_str()) {
+            Ok(path) => Ok(Choice::File(path)),
+            Err(_) => Err(NoMemory),
+        },
+    }
+}

@@ -1,0 +1,59 @@
+//! `swsusp`: hibernation images in swap areas.
+#![tactic(auto)]
+
+mod answer;
+mod choosing;
+mod inspection;
+mod status;
+#[cfg(test)]
+mod tests;
+mod top;
+mod words;
+
+use crate::answer::print;
+use crate::choosing::{Choice, swap_name};
+use crate::status::Status;
+use crate::top::run;
+use dump_file::{StdSink, StdSource};
+use page_core::NoMemory;
+use sector_disk::{Disk, FileDisk, MemDisk};
+use std::env;
+use std::process::ExitCode;
+
+/// The status of a file that can't be opened, which no run answers.
+const NOT_OPENED: u8 = 7;
+
+fn main(rt: HostRuntime) -> ExitCode {
+    let Ok(words) = env::args(&rt) else {
+        return ended(&rt, b"words\n", Status::Words.code());
+    };
+    let Ok(words) = words.collect::<Vec<String>>(rt.alloc()) else {
+        return ended(&rt, b"no memory\n", Status::Memory.code());
+    };
+    match swap_name(rt.alloc(), &words) {
+        Err(NoMemory) => ended(&rt, b"no memory\n", Status::Memory.code()),
+        Ok(Choice::File(path)) => match FileDisk::open_read_only(&rt, path.as_str()) {
+            Err(_) => ended(&rt, b"open fault\n", NOT_OPENED),
+            Ok(mut disk) => run_over(&rt, &words, &mut disk),
+        },
+        Ok(Choice::Memory(blocks)) => match MemDisk::create(rt.alloc(), blocks) {
+            Err(NoMemory) => ended(&rt, b"no memory\n", Status::Memory.code()),
+            Ok(mut disk) => run_over(&rt, &words, &mut disk),
+        },
+    }
+}
+
+/// Runs over a disk, with the standard streams.
+fn run_over<D: Disk>(rt: &HostRuntime, words: &[String], disk: &mut D) -> ExitCode {
+    let mut input = StdSource::new(rt.stdin());
+    let mut out = StdSink::new(rt.stdout());
+    let mut note = StdSink::new(rt.stderr());
+    let status = run(rt.alloc(), words, &mut input, &mut out, &mut note, disk);
+    ExitCode::from(status.code())
+}
+
+/// Ends before a run, with a note.
+fn ended(rt: &HostRuntime, text: &[u8], code: u8) -> ExitCode {
+    let _ = print(&mut StdSink::new(rt.stderr()), text);
+    ExitCode::from(code)
+}

@@ -1,0 +1,207 @@
+use crate::choosing::{Choice, swap_name};
+use crate::status::Status;
+use crate::top::run;
+use dump_file::{MemSink, MemSource};
+use page_core::Page;
+use sector_disk::{Disk, MemDisk};
+use sig_header::{area_page, mark};
+use std::alloc::Global;
+use std::test::Fail;
+
+/// A run's status and what it printed on out and on note.
+type Printed = (Status, Vec<u8>, Vec<u8>);
+
+fn words(alloc: Global, list: &[&str]) -> Result<Vec<String>, Fail> {
+    let mut words = Vec::new(alloc);
+    for word in list {
+        words.push(String::from_str(alloc, word)?)?;
+    }
+    Ok(words)
+}
+
+/// Runs over a disk, with sinks whose listed calls fail.
+fn printed<D: Disk>(
+    alloc: Global,
+    list: &[&str],
+    disk: &mut D,
+    failing: &[u64],
+) -> Result<Printed, Fail> {
+    let words = words(alloc, list)?;
+    let mut input = MemSource::new(Vec::new(alloc), Vec::new(alloc));
+    let mut out = MemSink::new(
+        Vec::with_capacity(alloc, 4096)?,
+        Vec::from_slice(alloc, failing)?,
+    );
+    let mut note = MemSink::new(Vec::with_capacity(alloc, 4096)?, Vec::new(alloc));
+    let status = run(alloc, &words, &mut input, &mut out, &mut note, disk);
+    let text = Vec::from_slice(alloc, out.as_bytes())?;
+    let noted = Vec::from_slice(alloc, note.as_bytes())?;
+    Ok((status, text, noted))
+}
+
+/// A disk of one block that reads as this page.
+fn disk_of(alloc: Global, page: &Page) -> Result<MemDisk, Fail> {
+    let mut disk = MemDisk::create(alloc, 1).ok().ok_or("memory")?;
+    disk.write(0, page).ok().ok_or("a write failed")?;
+    Ok(disk)
+}
+
+fn with_signature(page: &Page, sig: [u8; 10]) -> Page {
+    let mut bytes = *page.as_bytes();
+    bytes[4086..4096].copy_from_slice(&sig);
+    Page::from_bytes(&bytes)
+}
+
+fn with_bad_count(count: u32) -> Page {
+    let mut page = area_page(3000, &[]);
+    page.put_u32(1032, count);
+    page
+}
+
+/// An area whose bad pages are 1 to 630.
+fn with_all_bad_pages() -> Page {
+    let mut bad = [0; 630];
+    for i in 0..630u32 {
+        bad[i as usize] = i + 1;
+    }
+    area_page(3000, &bad)
+}
+
+#[test]
+fn what_inspect_says(rt: HostRuntime) -> Result<(), Fail> {
+    let empty = area_page(3000, &[]);
+    let table: [(Page, Status, &str, &str); 8] = [
+        (
+            area_page(3000, &[]),
+            Status::Done,
+            "area last 3000 bad 0 image none\n",
+            "",
+        ),
+        (
+            with_signature(&empty, *b"S1SUSPEND\x01"),
+            Status::Refused,
+            "",
+            "no swap: signature 533153555350454e4401\n",
+        ),
+        (
+            with_bad_count(631),
+            Status::Refused,
+            "",
+            "no swap: bad count 631\n",
+        ),
+        (
+            with_all_bad_pages(),
+            Status::Done,
+            "area last 3000 bad 630 image none\n",
+            "",
+        ),
+        (
+            with_signature(&empty, *b"SWAP-SPACE"),
+            Status::Refused,
+            "",
+            "no swap: old\n",
+        ),
+        (
+            mark(&empty, 1, 2, 0),
+            Status::Done,
+            "area last 3000 bad 0 image 1 flags 2 hw -\n",
+            "",
+        ),
+        (
+            mark(&empty, 1, 2, 7),
+            Status::Done,
+            "area last 3000 bad 0 image 1 flags 10 hw 7\n",
+            "",
+        ),
+        (
+            Page::zero(),
+            Status::Refused,
+            "",
+            "no swap: signature 00000000000000000000\n",
+        ),
+    ];
+    for (page, status, out, note) in &table {
+        let mut disk = disk_of(rt.alloc(), page)?;
+        let got = printed(rt.alloc(), &["swsusp", "inspect", "s"], &mut disk, &[])?;
+        assert_eq!(rt; got.0, *status, "for {out}{note}");
+        assert_eq!(rt; got.1.as_slice(), out.as_bytes());
+        assert_eq!(rt; got.2.as_slice(), note.as_bytes());
+    }
+    Ok(())
+}
+
+#[test]
+fn a_disk_without_blocks(rt: HostRuntime) -> Result<(), Fail> {
+    let mut disk = MemDisk::create(rt.alloc(), 0).ok().ok_or("memory")?;
+    let (status, out, note) = printed(rt.alloc(), &["swsusp", "inspect", "s"], &mut disk, &[])?;
+    assert_eq!(rt; status, Status::Refused);
+    assert_eq!(rt; out.as_slice(), b"".as_slice());
+    assert_eq!(rt;
+        note.as_slice(),
+        b"no swap: signature 00000000000000000000\n".as_slice()
+    );
+    Ok(())
+}
+
+#[test]
+fn a_read_that_fails(rt: HostRuntime) -> Result<(), Fail> {
+    let mut disk = disk_of(rt.alloc(), &area_page(3000, &[]))?;
+    disk.arm(1, 1, 0);
+    let (status, out, note) = printed(rt.alloc(), &["swsusp", "inspect", "s"], &mut disk, &[])?;
+    assert_eq!(rt; status, Status::Device);
+    assert_eq!(rt; out.as_slice(), b"".as_slice());
+    assert_eq!(rt; note.as_slice(), b"read fault same\n".as_slice());
+    Ok(())
+}
+
+#[test]
+fn a_sink_that_fails(rt: HostRuntime) -> Result<(), Fail> {
+    for failing in [0, 1] {
+        let mut disk = disk_of(rt.alloc(), &area_page(3000, &[]))?;
+        let (status, _, note) = printed(
+            rt.alloc(),
+            &["swsusp", "inspect", "s"],
+            &mut disk,
+            &[failing],
+        )?;
+        assert_eq!(rt; status, Status::Stream);
+        assert_eq!(rt; note.as_slice(), b"sink fault\n".as_slice());
+    }
+    Ok(())
+}
+
+#[test]
+fn words_that_do_not_parse(rt: HostRuntime) -> Result<(), Fail> {
+    let lists: [&[&str]; 7] = [
+        &["swsusp"],
+        &["swsusp", "inspect"],
+        &["swsusp", "inspect", ""],
+        &["swsusp", "inspect", "-"],
+        &["swsusp", "inspect", "--", "s"],
+        &["swsusp", "inspect", "a", "b"],
+        &["swsusp", "drill", "0"],
+    ];
+    for list in lists {
+        let mut disk = disk_of(rt.alloc(), &area_page(3000, &[]))?;
+        let (status, out, note) = printed(rt.alloc(), list, &mut disk, &[])?;
+        assert_eq!(rt; status, Status::Words);
+        assert_eq!(rt; out.as_slice(), b"".as_slice());
+        assert_eq!(rt; note.as_slice(), b"words\n".as_slice());
+    }
+    Ok(())
+}
+
+#[test]
+fn the_disk_that_words_ask_for(rt: HostRuntime) -> Result<(), Fail> {
+    let list = words(rt.alloc(), &["swsusp", "inspect", "swap.img"])?;
+    match swap_name(rt.alloc(), &list).ok().ok_or("memory")? {
+        Choice::File(path) => assert_eq!(rt; path.as_str(), "swap.img"),
+        Choice::Memory(_) => panic!(rt; "no file"),
+    }
+    let list = words(rt.alloc(), &["swsusp", "inspect"])?;
+    match swap_name(rt.alloc(), &list).ok().ok_or("memory")? {
+        Choice::File(_) => panic!(rt; "a file"),
+        Choice::Memory(blocks) => assert_eq!(rt; blocks, 1),
+    }
+    Ok(())
+}
