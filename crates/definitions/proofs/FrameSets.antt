@@ -157,3 +157,24 @@ inserted-removed xs p up in' =
 pub length-removed : (xs : List ℕ) (p : ℕ) → IsStrictlyIncreasing xs → Contains xs p → length (removed xs p) + 1 ≡ length xs
 length-removed xs p up in' =
     sym (length-inserted (removed xs p) p (λ h. (Contains-from_removed xs p p h).1 refl)) ∙ ap length (inserted-removed xs p up in')
+
+-- A number above all members goes to the end.
+
+filter_all : (test : ℕ → Bool) (xs : List ℕ) → ((x : ℕ) → Contains xs x → test x ≡ true) → filter test xs ≡ xs
+filter_all test [] pass = refl
+filter_all test (x ∷ xs) pass =
+    cond-true (test x) (x ∷ filter test xs) (filter test xs) (pass x (Contains-head x xs))
+    ∙ ap (λ t. x ∷ t) (filter_all test xs (λ y in'. pass y (Contains-tail x xs y in')))
+
+filter_none : (test : ℕ → Bool) (xs : List ℕ) → ((x : ℕ) → Contains xs x → test x ≡ false) → filter test xs ≡ []
+filter_none test [] fail = refl
+filter_none test (x ∷ xs) fail =
+    cond-false (test x) (x ∷ filter test xs) (filter test xs) (fail x (Contains-head x xs))
+    ∙ filter_none test xs (λ y in'. fail y (Contains-tail x xs y in'))
+
+pub inserted_above : (xs : List ℕ) (p : ℕ) → ((x : ℕ) → Contains xs x → x < p) → inserted xs p ≡ xs ++ p ∷ []
+unfolding inserted
+inserted_above xs p below =
+    ap₂ (λ low high. low ++ p ∷ high)
+    (filter_all (λ r. ltb r p) xs (λ x in'. lt-ltb x p (below x in')))
+    (filter_none (λ r. ltb p r) xs (λ x in'. le-ltb p x (let h = below x in' in omega arith)))

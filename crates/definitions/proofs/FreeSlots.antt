@@ -1,6 +1,8 @@
 -- Laws of the slots whose entry says that they are free, or the image's.
-use Rattle.std.proofs.Common.{◌≡◌, ℕ, ◌+◌, ◌/◌, ◌^◌, ◌<◌, ◌≤◌, ◌⊎◌, List, Bool, true, eqb, length, filter, refl, sym, ap, ◌∙◌, subst, inl, inr, arith}
-use Rattle.std.proofs.lemmas.Bool.{cases_eq, eq-eqb, eqb-true}
+use Rattle.std.proofs.Common.{◌≡◌, ℕ, ◌+◌, ◌/◌, ◌^◌, ◌<◌, ◌≤◌, ◌⊎◌, List, [], ◌∷◌, ◌++◌, Bool, true, cond, eqb, length, filter, refl, sym, ap, ◌∙◌, subst, inl, inr, ⊎_elim, arith, append-nil}
+use Rattle.std.proofs.lemmas.Bool.{cases_eq, cond-true, cond-false, eq-eqb, ne_eqb, eqb-true}
+use Rattle.std.proofs.lemmas.List.{map-id}
+use Rattle.std.proofs.lemmas.List.FromFn.{filter_of_map_range_with_len_more}
 use Rattle.std.proofs.lemmas.List.Kept.{IsStrictlyIncreasing-filter}
 use Rattle.std.specs.List.{All, Contains, range_with_len}
 use Rattle.std.specs.List.Sorted.{IsStrictlyIncreasing}
@@ -89,3 +91,72 @@ free_slots-given slots table frames s h =
             Contains-free_slots slots table given k free.0 (entry_other slots table frames s 0 k h ne ∙ free.1)
       ]
     ])
+
+-- One slot more.
+
+pub free_slots-none : (table : ℕ) (frames : List (List ℕ)) → free_slots 0 table frames ≡ []
+unfolding free_slots
+free_slots-none table frames = refl
+
+pub free_slots-more_free : (slots table : ℕ) (frames : List (List ℕ)) → entry_at frames table slots ≡ 0 → free_slots (slots + 1) table frames ≡ inserted (free_slots slots table frames) slots
+free_slots-more_free slots table frames e =
+    let old = free_slots slots table frames in
+    let new = free_slots (slots + 1) table frames in
+    same_members new (inserted old slots) (IsStrictlyIncreasing-free_slots (slots + 1) table frames) (IsStrictlyIncreasing-inserted old slots (IsStrictlyIncreasing-free_slots slots table frames))
+    (λ k in'.
+    let free = free_slot (slots + 1) table frames k in' in
+    elim (cases_eq k slots) [
+      | inl here ↦ subst (λ (x : ℕ). Contains (inserted old slots) x) (sym here) (Contains-inserted_itself old slots)
+      | inr ne ↦ Contains-inserted old slots k (Contains-free_slots slots table frames k (let lt = free.0 in omega arith) free.1)
+    ])
+    (λ k in'. ⊎_elim
+    (λ here. Contains-free_slots (slots + 1) table frames k (omega arith) (ap (entry_at frames table) here ∙ e))
+    (λ was. let free = free_slot slots table frames k was in Contains-free_slots (slots + 1) table frames k (let lt = free.0 in omega arith) free.1)
+    (Contains-from_inserted old slots k in'))
+
+pub free_slots-more_taken : (slots table : ℕ) (frames : List (List ℕ)) → (entry_at frames table slots ≡ 0 → ⊥) → free_slots (slots + 1) table frames ≡ free_slots slots table frames
+free_slots-more_taken slots table frames ne =
+    same_members (free_slots (slots + 1) table frames) (free_slots slots table frames)
+    (IsStrictlyIncreasing-free_slots (slots + 1) table frames) (IsStrictlyIncreasing-free_slots slots table frames)
+    (λ k in'.
+    let free = free_slot (slots + 1) table frames k in' in
+    let apart : k ≡ slots → ⊥ = λ here. ne (ap (entry_at frames table) (sym here) ∙ free.1) in
+    Contains-free_slots slots table frames k (let lt = free.0 in omega arith) free.1)
+    (λ k in'. let free = free_slot slots table frames k in' in Contains-free_slots (slots + 1) table frames k (let lt = free.0 in omega arith) free.1)
+
+-- The slots of the image.
+
+pub Contains-image_slots : (slots table : ℕ) (frames : List (List ℕ)) (s : ℕ) → s < slots → entry_at frames table s ≡ 65536 → Contains (image_slots slots table frames) s
+unfolding image_slots
+Contains-image_slots slots table frames s lt e =
+    Contains-filter (λ k. eqb (entry_at frames table k) 65536) (range_with_len 0 slots) s (Contains-range 0 slots s (omega arith) (omega arith)) (eq-eqb (entry_at frames table s) 65536 e)
+
+pub image_slot : (slots table : ℕ) (frames : List (List ℕ)) (s : ℕ) → Contains (image_slots slots table frames) s → (s < slots) × (entry_at frames table s ≡ 65536)
+unfolding image_slots
+image_slot slots table frames s in' =
+    let kept = Contains-from_filter (λ k. eqb (entry_at frames table k) 65536) (range_with_len 0 slots) s in' in
+    let bounds = range-bounds 0 slots s kept.0 in
+    (omega arith, eqb-true (entry_at frames table s) 65536 kept.1)
+
+pub image_slots-none : (table : ℕ) (frames : List (List ℕ)) → image_slots 0 table frames ≡ []
+unfolding image_slots
+image_slots-none table frames = refl
+
+image_slots-more : (slots table : ℕ) (frames : List (List ℕ)) → image_slots (slots + 1) table frames ≡ image_slots slots table frames ++ cond (eqb (entry_at frames table slots) 65536) (slots ∷ []) []
+unfolding image_slots
+image_slots-more slots table frames =
+    let test : ℕ → Bool = λ k. eqb (entry_at frames table k) 65536 in
+    ap (filter test) (sym (map-id (range_with_len 0 (slots + 1))))
+    ∙ filter_of_map_range_with_len_more test (λ (k : ℕ). k) 0 slots slots (omega arith)
+    ∙ ap (λ (xs : List ℕ). filter test xs ++ cond (test slots) (slots ∷ []) []) (map-id (range_with_len 0 slots))
+
+pub image_slots-more_image : (slots table : ℕ) (frames : List (List ℕ)) → entry_at frames table slots ≡ 65536 → image_slots (slots + 1) table frames ≡ image_slots slots table frames ++ slots ∷ []
+image_slots-more_image slots table frames e =
+    image_slots-more slots table frames
+    ∙ ap (λ (xs : List ℕ). image_slots slots table frames ++ xs) (cond-true (eqb (entry_at frames table slots) 65536) (slots ∷ []) [] (eq-eqb (entry_at frames table slots) 65536 e))
+
+pub image_slots-more_other : (slots table : ℕ) (frames : List (List ℕ)) → (entry_at frames table slots ≡ 65536 → ⊥) → image_slots (slots + 1) table frames ≡ image_slots slots table frames
+image_slots-more_other slots table frames ne =
+    image_slots-more slots table frames
+    ∙ ap (λ (xs : List ℕ). image_slots slots table frames ++ xs) (cond-false (eqb (entry_at frames table slots) 65536) (slots ∷ []) [] (ne_eqb (entry_at frames table slots) 65536 ne))
+    ∙ append-nil (image_slots slots table frames)

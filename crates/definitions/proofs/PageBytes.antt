@@ -157,3 +157,20 @@ with_bytes-append page k xs ys h =
 pub with_number-append : (n : ℕ) (page : List ℕ) (k v : ℕ) (xs : List ℕ) → k ≤ length page → with_number n (with_bytes page k xs) (k + length xs) v ≡ with_bytes page k (xs ++ little_bytes n v)
 unfolding with_number
 with_number-append n page k v xs h = with_bytes-append page k xs (little_bytes n v) h
+
+-- bytes that lie apart from a number that was written stay
+pub bytes_at-with_number_apart : (m n : ℕ) (page : List ℕ) (k v j : ℕ) → k + n ≤ length page → (j + m ≤ k) ⊎ (k + n ≤ j) → bytes_at m (with_number n page k v) j ≡ bytes_at m page j
+unfolding with_number
+bytes_at-with_number_apart m n page k v j h apart =
+    let size = length-bytes_low_first 0 n v in
+    let further : (j + m ≤ k) ⊎ (k + length (little_bytes n v) ≤ j) =
+    ⊎_elim (λ below. inl below) (λ above. inr (omega arith)) apart in
+    bytes_at-with_bytes_apart m page k (little_bytes n v) j (omega arith) further
+
+-- a byte outside a number that was written stays
+pub get_or-with_number_apart : (n : ℕ) (page : List ℕ) (k v i : ℕ) → k + n ≤ length page → (i < k) ⊎ (k + n ≤ i) → get_or (with_number n page k v) i 0 ≡ get_or page i 0
+unfolding with_number
+get_or-with_number_apart n page k v i h (inl below) =
+    get_or-with_bytes_below page k (little_bytes n v) i 0 (omega (arith, length-bytes_low_first 0 n v)) below
+get_or-with_number_apart n page k v i h (inr above) =
+    get_or-with_bytes_above page k (little_bytes n v) i 0 (omega (arith, length-bytes_low_first 0 n v)) (omega (arith, length-bytes_low_first 0 n v))

@@ -1,7 +1,7 @@
 -- Laws of the page frame numbers of zones.
 use Rattle.std.proofs.Common.{◌≡◌, ℕ, ◌+◌, ◌-◌, ◌<◌, ◌≤◌, zero, suc, List, [], ◌∷◌, ◌++◌, length, get_or, take, drop, refl, sym, ap, ◌∙◌, subst, inl, inr, arith, append_assoc, add-one, length-append}
-use Rattle.std.proofs.lemmas.Bool.{cases_lt}
-use Rattle.std.proofs.lemmas.List.{take_more, take-append-drop, append-nil}
+use Rattle.std.proofs.lemmas.Bool.{cases_eq, cases_lt}
+use Rattle.std.proofs.lemmas.List.{append-nil, get_or-take, length-take-le, take-append-drop, take_more}
 use Rattle.std.proofs.lemmas.List.Elements.{Contains-append_left, Contains-append_right, Contains-append_cases}
 use Rattle.std.proofs.lemmas.List.FromFn.{length-range_with_len, get_or-range_with_len}
 use Rattle.std.specs.List.{All, Contains, range_with_len}
@@ -146,3 +146,22 @@ length-numbers_front zones j h =
     let all = count_at_most zones h in
     let high = top_at_most zones h in
     omega arith
+
+-- The zones before a zone, and the top above each.
+
+pub numbers-take_below : (zones : List (ℕ × ℕ)) (j p : ℕ) → AreApart zones → j < length zones → Contains (numbers (take j zones)) p → p < (zone_at zones j).0
+numbers-take_below zones j p apart l in' =
+    let at = zone_of (take j zones) p in' in
+    let within = at.1.within in
+    let len = length-take-le j zones (omega arith) in
+    let lower : at.0 < j = omega arith in
+    let below : p < zone_end (zone_at zones at.0) = subst (λ (z : ℕ × ℕ). p < zone_end z) (get_or-take j zones at.0 (0, 0) lower) at.1.below in
+    let over = zones_apart zones apart at.0 j lower l in
+    omega arith
+
+pub zone_end_at_most_top : (zones : List (ℕ × ℕ)) (j : ℕ) → AreApart zones → j < length zones → zone_end (zone_at zones j) ≤ top zones
+zone_end_at_most_top zones j apart l =
+    elim (cases_eq j (length zones - 1)) [
+      | inl e ↦ let same = ap (λ i. zone_end (zone_at zones i)) e in omega arith
+      | inr ne ↦ let over = zones_apart zones apart j (length zones - 1) (omega arith) (omega arith) in omega arith
+    ]

@@ -1,6 +1,6 @@
 -- Bytes of a block. A block of the device and the content of a page frame are both a page: a list of 4096 bytes.
 -- Numbers lie in it little-endian (a 64-bit little-endian kernel's structures, as it writes them).
-use Rattle.std.specs.Prelude.{◌≡◌, ℕ, ◌+◌, ◌*◌, ◌<◌, List, ◌++◌, length, take, drop, slice_index, replicate}
+use Rattle.std.specs.Prelude.{◌≡◌, ℕ, ◌+◌, ◌*◌, ◌<◌, ◌≤◌, List, ◌++◌, length, take, drop, slice_index, replicate}
 use Rattle.byteorder.specs.Endian.{little_number, little_bytes}
 
 -- each is a byte
@@ -42,3 +42,9 @@ word page i = number_at 8 page (8 * i)
 -- the page with word i set to v
 abbrev pub with_word : List ℕ → ℕ → ℕ → List ℕ
 with_word page i v = with_number 8 page (8 * i) v
+
+-- two pages agree, but for bytes from `start` up to before `end`
+pub record AgreeBut (start end : ℕ) (xs ys : List ℕ) : Type 0 where
+  pub size : length xs ≡ length ys
+  pub before : (i : ℕ) → i < start → slice_index xs i ≡ slice_index ys i
+  pub after : (i : ℕ) → end ≤ i → slice_index xs i ≡ slice_index ys i

@@ -1,5 +1,5 @@
 -- The first page of an image (struct swsusp_info with the generic header, kernel/power/power.h and snapshot.c).
-use Rattle.std.specs.Prelude.{ℕ, ◌*◌, ◌==◌, Bool, List, [], map, not, nat_eq, if◌then◌else◌, Option, Some, None, take_while, slice_index_or}
+use Rattle.std.specs.Prelude.{◌≡◌, ℕ, ◌*◌, ◌^◌, ◌<◌, ◌==◌, Bool, List, [], All, length, map, not, nat_eq, if◌then◌else◌, Option, Some, None, take_while, slice_index_or}
 use Rattle.std.specs.List.{concat, range_with_len}
 use Rattle.std.specs.Cmp.Lexicographic.{pointwise}
 use Rattle.definitions.specs.Bytes.{zero_page, bytes_at, with_bytes, number_at, with_number}
@@ -44,3 +44,12 @@ mismatch image own =
     else (if not (same_name 2 image own) then Some Release
     else (if not (same_name 3 image own) then Some Version
     else (if not (same_name 4 image own) then Some Machine else None))))
+
+-- its names have 65 bytes each, and its numbers fit their fields
+pub record IsInfo (info : Info) : Type 0 where
+  pub version_code : info.ident.version_code < 2 ^ 32
+  pub names : length info.ident.names ≡ 6
+  pub each_name : All (λ name. length name ≡ 65) info.ident.names
+  pub physpages : info.physpages < 2 ^ 64
+  pub image_pages : info.image_pages < 2 ^ 64
+  pub pages : info.pages < 2 ^ 64

@@ -3,6 +3,7 @@ pub mod Disk
 pub mod FrameSets
 pub mod InfoPage
 pub mod Lists
+pub mod Moves
 pub mod NumberPages
 pub mod Slots
 pub mod Streams

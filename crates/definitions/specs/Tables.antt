@@ -48,6 +48,10 @@ flags_of entry = entry % 65536
 abbrev pub owner_of : ℕ → ℕ
 owner_of entry = entry / 65536
 
+-- the entry with these flags and this owner
+abbrev pub entry_of : ℕ → ℕ → ℕ
+entry_of flags owner = flags + 65536 * owner
+
 -- whether some flag of a mask is set
 abbrev pub has_flag : ℕ → ℕ → Bool
 has_flag flags mask = not (bit_and flags mask == 0)

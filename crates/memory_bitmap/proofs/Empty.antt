@@ -1,5 +1,5 @@
 -- A bitmap whose bits are all 0.
-use Rattle.std.proofs.Common.{◌≡◌, ℕ, ◌-◌, ◌/◌, ◌%◌, ◌<◌, ◌≤◌, List, [], ◌∷◌, length, get_or, refl, sym, ap, ◌∙◌, inl, inr, arith}
+use Rattle.std.proofs.Common.{◌≡◌, ℕ, ◌-◌, ◌%◌, List, [], ◌∷◌, length, get_or, refl, sym, ap, ◌∙◌, inl, inr, arith}
 use Rattle.std.proofs.lemmas.Bool.{cases_lt}
 use Rattle.std.proofs.lemmas.List.{get_or_past}
 use Rattle.std.proofs.lemmas.Nat.Bits.{bit_at-zero}
@@ -7,7 +7,6 @@ use Rattle.std.specs.List.{All, Contains}
 use Rattle.definitions.specs.Zones.{AreZones, AreApart}
 use Rattle.definitions.specs.FrameSets.{blocks}
 use Rattle.definitions.proofs.Ascending.{Contains-head}
-use Rattle.definitions.proofs.ZoneBlocks.{AreApart-blocks}
 use Rattle.memory_bitmap.specs.declared.Bitmap.TheInside.{Inside}
 use Rattle.memory_bitmap.specs.Bits.{bit_of, IsEmptyBlock}
 use Rattle.memory_bitmap.specs.Kept.{bits_at, members_of, IsKept}

@@ -1,10 +1,9 @@
 -- What a bitmap keeps: its blocks are those of its zones.
-use Rattle.std.proofs.Common.{◌≡◌, ℕ, ◌+◌, ◌-◌, ◌<◌, ◌≤◌, ◌↔◌, List, [], get_or, length, sym, ap, ap₂, ◌∙◌, subst, arith}
+use Rattle.std.proofs.Common.{◌≡◌, ℕ, ◌<◌, ◌≤◌, ◌↔◌, List, [], get_or, length, sym, ap, ap₂, ◌∙◌, subst, arith}
 use Rattle.std.proofs.lemmas.List.Elements.{Contains-get_or}
 use Rattle.std.proofs.lemmas.List.{get_or_read}
 use Rattle.std.specs.List.{All, Contains}
-use Rattle.definitions.specs.Zones.{numbers, zone_at, AreApart}
-use Rattle.definitions.specs.FrameSets.{blocks}
+use Rattle.definitions.specs.Zones.{numbers, AreApart}
 use Rattle.definitions.proofs.Ascending.{length-between}
 use Rattle.definitions.proofs.ZoneNumbers.{below_top, top_at_most}
 use Rattle.definitions.proofs.ZoneBlocks.{IsBlock, All-blocks, AreApart-blocks, numbers-blocks}

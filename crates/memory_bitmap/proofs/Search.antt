@@ -1,8 +1,7 @@
 -- The least member at or above a number, block by block.
-use Rattle.std.proofs.Common.{◌≡◌, ℕ, ◌+◌, ◌-◌, ◌<◌, ◌≤◌, ◌⊎◌, List, [], length, get_or, Option, Some, None, refl, sym, ap, ap₂, ◌∙◌, subst, inl, inr, arith}
+use Rattle.std.proofs.Common.{◌≡◌, ℕ, ◌+◌, ◌-◌, ◌<◌, ◌≤◌, List, [], length, get_or, Some, None, sym, ap, ap₂, ◌∙◌, subst, inl, inr, arith}
 use Rattle.std.proofs.lemmas.Bool.{cases_lt, cases_eq}
 use Rattle.std.proofs.lemmas.List.{get_or_read}
-use Rattle.std.specs.List.{Contains}
 use Rattle.definitions.specs.Zones.{zone_at, zone_end, first_from, InZone}
 use Rattle.definitions.proofs.Ascending.{first_from-some, first_from-none}
 use Rattle.definitions.proofs.ZoneNumbers.{zones_apart}

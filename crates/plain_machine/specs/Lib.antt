@@ -3,7 +3,10 @@ pub mod Chain
 pub mod Image
 pub mod Loader
 pub mod Machine
+pub mod Premises
 pub mod Refusals
+pub mod Replies
+pub mod Stands
 pub mod State
 pub mod Step
 pub mod Texts

@@ -1,5 +1,6 @@
 ghost use Rattle.std.specs.Prelude.{◌≡◌};
-ghost use Rattle.definitions.specs.SwapHeader.{marked, taken_back};
+ghost use Rattle.definitions.specs.Bytes.{AgreeBut};
+ghost use Rattle.definitions.specs.SwapHeader.{marked, sig_of, taken_back};
 
 use crate::signatures::{IMAGE, original_signature, signature, with_signature};
 use page_core::Page;
@@ -10,11 +11,20 @@ const SF_HW_SIG: u32 = 8;
 /// The block with the mark of an image (`mark_swapfiles`, kernel/power/swap.c): the signature moves to `orig_sig` and the
 /// image's takes its place, `image` is the block of the first map, and where the machine has a hardware signature,
 /// which `hw` other than 0 is, it is set and SF_HW_SIG is added to the flags. All other bytes stay.
-#[tactic(auto, unfolding(definitions::specs::SwapHeader::marked))]
 pub fn mark(page: &Page, first: u64, flags: u32, hw: u32) -> Page
-    ensures { result ≡ marked page.now first flags hw }
+    ensures marked { result ≡ marked page.now first flags hw }
+    // Taken back, it is the block from before but for the mark's numbers and orig_sig.
+    ensures undone { AgreeBut 4056 4086 (taken_back result) page.now }
 {
     let original = signature(page);
+    mark_over(page, original, first, flags, hw)
+}
+
+#[tactic(auto, unfolding(definitions::specs::SwapHeader::marked))]
+fn mark_over(page: &Page, original: [u8; 10], first: u64, flags: u32, hw: u32) -> Page
+    requires { original ≡ sig_of page.now }
+    ensures { result ≡ marked page.now first flags hw }
+{
     let mut marked = with_signature(&with_signature(page, 4076, original), 4086, IMAGE);
     marked.set_word(508, first);
     marked.put_u32(4072, if hw == 0 { flags } else { flags | SF_HW_SIG });

@@ -1,5 +1,5 @@
 ghost use Rattle.std.specs.Prelude.{◌≡◌, ◌≤◌};
-ghost use Rattle.definitions.specs.Bytes.{with_bytes};
+ghost use Rattle.definitions.specs.Bytes.{IsPage, with_bytes};
 ghost use Rattle.definitions.specs.SwapHeader.{sig_of, orig_sig_of};
 
 use page_core::Page;
@@ -14,7 +14,8 @@ pub(crate) const OLD: [u8; 10] = *b"SWAP-SPACE";
 pub(crate) const AREA: [u8; 10] = *b"SWAPSPACE2";
 
 pub(crate) fn signature(page: &Page) -> [u8; 10]
-    ensures { result ≡ sig_of page.now }
+    ensures sig { result ≡ sig_of page.now }
+    ensures page { IsPage page.now }
 {
     let mut sig = [0; 10];
     sig.copy_from_slice(&page.as_bytes()[4086..4096]);

@@ -17,8 +17,13 @@ pub enum Status {
 }
 
 impl Status {
+    ghost use Rattle.std.specs.Prelude.{◌≡◌};
+    ghost use Rattle.swsusp_cli.specs.ExitStatus.{exit_status};
+
     /// The exit status, 0 to 6.
-    pub fn code(self) -> u8 {
+    pub fn code(self) -> u8
+        ensures { result ≡ exit_status self }
+    {
         self as u8
     }
 }

@@ -1,4 +1,4 @@
-use Rattle.std.proofs.Common.{◌≡◌, ℕ, List, [], refl, sym, ap, ◌∙◌, subst, arith}
+use Rattle.std.proofs.Common.{ℕ, List, refl, sym, ap, subst, arith}
 use Rattle.definitions.specs.Zones.{AreApart}
 use Rattle.definitions.proofs.ZoneBlocks.{AreApart-blocks}
 use Rattle.memory_bitmap.specs.FrameSet.{FrameSet}

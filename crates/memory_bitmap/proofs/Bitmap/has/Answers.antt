@@ -1,4 +1,4 @@
-use Rattle.std.proofs.Common.{◌≡◌, ℕ, ◌<◌, ◌↔◌, IsTrue, Bool, true, false, List, subst, ap, sym, arith}
+use Rattle.std.proofs.Common.{ℕ, List, subst, sym}
 use Rattle.std.specs.List.{Contains}
 use Rattle.definitions.specs.Zones.{numbers}
 use Rattle.memory_bitmap.specs.FrameSet.{FrameSet}

@@ -1,4 +1,4 @@
-use Rattle.std.proofs.Common.{◌≡◌, ℕ, ◌+◌, ap, ◌∙◌, arith}
+use Rattle.std.proofs.Common.{◌+◌, ap, ◌∙◌, arith}
 use Rattle.memory_bitmap.specs.FrameSet.{FrameSet}
 use Rattle.definitions.specs.FrameSets.{inserted}
 use Rattle.memory_bitmap.proofs.Changes.{after_bit, IsKept-after, set_after, len_after_set}

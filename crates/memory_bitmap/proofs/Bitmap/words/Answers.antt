@@ -1,12 +1,11 @@
-use Rattle.std.proofs.Common.{◌≡◌, ℕ, ◌+◌, ◌-◌, ◌*◌, ◌/◌, ◌%◌, ◌^◌, ◌<◌, ◌≤◌, ◌↔◌, List, [], length, get_or, sym, ap, ap₂, ◌∙◌, subst, inl, inr, arith, bit_and, IsBitSet}
+use Rattle.std.proofs.Common.{◌≡◌, ℕ, ◌+◌, ◌-◌, ◌<◌, List, [], length, get_or, sym, ap, ap₂, ◌∙◌, subst, arith}
 use Rattle.std.proofs.lemmas.List.{get_or_read}
-use Rattle.std.specs.List.{Contains}
-use Rattle.definitions.specs.Zones.{zone_at, zone_end, InZone}
+use Rattle.definitions.specs.Zones.{zone_at, InZone}
 use Rattle.definitions.specs.FrameSets.{blocks, HoldsBits}
 use Rattle.memory_bitmap.specs.declared.Bitmap.TheInside.{Inside}
 use Rattle.memory_bitmap.specs.Bits.{bit_of}
 use Rattle.memory_bitmap.specs.FrameSet.{FrameSet}
-use Rattle.memory_bitmap.specs.Kept.{bits_at, members_of, kept_set, IsKept}
+use Rattle.memory_bitmap.specs.Kept.{bits_at, members_of, IsKept}
 use Rattle.memory_bitmap.proofs.Keeping.{kept_apart}
 use Rattle.memory_bitmap.proofs.Members.{bit_in, Contains-members_of, bit_of_member}
 use Rattle.memory_bitmap.proofs.Words.{is_bit}

@@ -1,4 +1,3 @@
-use Rattle.std.proofs.Common.{ℕ}
 use Rattle.std.specs.List.{AllWithin}
 use Rattle.memory_bitmap.specs.Bits.{IsEmptyBlock}
 use Rattle.memory_bitmap.proofs.block.clear_blocks.Given as goal

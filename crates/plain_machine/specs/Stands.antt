@@ -1,0 +1,161 @@
+-- [stands]: when a world and a disk stand for a state of the plain machine. Each part is a definition of its own.
+use Rattle.std.specs.Prelude.{◌≡◌, ◌≢◌, ◌<◌, ◌≤◌, ◌⊎◌, ℕ, ◌+◌, ◌-◌, List, [], ◌∷◌, ◌++◌, length, map, take, Option, Some, None, IsTrue, Contains, All, bit_and, ⊤, slice_index_or, nat_lt}
+use Rattle.std.specs.List.{range_with_len}
+use Rattle.definitions.specs.Disk as disk
+use Rattle.definitions.specs.Bytes.{bytes_at}
+use Rattle.definitions.specs.SwapHeader.{IsMarked, image_of, taken_back, flags_of, hw_sig_of}
+use Rattle.definitions.specs.Tables.{frame, with_entry}
+use Rattle.sig_header.specs.AreaKind.{area_kind}
+use Rattle.plain_machine.specs.Machine.{Hardware, Memory, block_of_slot, raw_slot_entry, slot_entry, image_slot, IsSameMemory, Fits, unused_slots}
+use Rattle.plain_machine.specs.Image.{Image, SlotPages, laid, maps_of, pages_of, hibernate_steps, image_of_memory}
+use Rattle.plain_machine.specs.Chain.{Holds, Marked, header_of, blocks_of, entry_block, map_block}
+use Rattle.plain_machine.specs.Loader.{has, left_free, loader_frame}
+use Rattle.plain_machine.specs.UsableArea.{area_block, area_fault, has_bad_slots_of, bad_set_fault}
+use Rattle.plain_machine.specs.State.{State, off, on, booting, hibernating, undoing, settling, waking, loading, asleep, Running, Held, nothing, sure, maybe, Saved, own, other, Load, Found, not_yet, found_own, found_other, held_in}
+use Rattle.plain_machine.specs.Step.{with_entries}
+
+-- What a world shows of itself: the content of its page frames, the block that it keeps between two calls of the disk, the
+-- page frames of its copies, and the pages that a resume has read, by page frame.
+pub record Shown : Type 0 where
+  pub frames : Memory
+  pub header : List ℕ
+  pub copies : List ℕ
+  pub loaded : List (ℕ × List ℕ)
+
+-- every image of the disk has P
+abbrev pub EachImage : disk.Content → (disk.Image → Type 0) → Type 0
+EachImage c P = (v : disk.Image) → disk.IsImage c v → P v
+
+-- 1. Held.
+
+-- An own image is the image of a memory that fits and whose slot table fits the area, made under the machine's signature.
+pub record IsOwn (h : Hardware) (v : disk.Image) (i : Image) : Type 0 where
+  pub of_memory : (m : Memory) × Fits h m × (i ≡ image_of_memory h m i.slots i.format)
+  pub signature : Marked h v → (bit_and (flags_of (header_of h v)) 8 ≡ 0) ⊎ (hw_sig_of (header_of h v) ≡ h.hw_sig)
+
+abbrev pub IsHeld : Hardware → disk.Content → Held → Type 0
+IsHeld h c nothing = EachImage c (λ v. Marked h v → ⊥)
+IsHeld h c (sure (own i)) = EachImage c (λ v. Holds h v i × IsOwn h v i)
+IsHeld h c (maybe (own i)) = EachImage c (λ v. ((Marked h v → ⊥) ⊎ Holds h v i) × IsOwn h v i)
+IsHeld h c (sure other) = EachImage c (Marked h)
+IsHeld h c (maybe other) = ⊤
+
+-- 2. Memory: the frames, with the image's slots read as free, are the state's memory; the tasks' slots read as their pages.
+abbrev pub seen_frames : Hardware → Memory → Memory
+seen_frames h frames = with_entries (slot_entry h frames) (range_with_len 0 h.slots) h.slot_table frames
+
+pub record IsMemory (h : Hardware) (shown : Shown) (c : disk.Content) (m : Memory) (slots : SlotPages) : Type 0 where
+  pub same : IsSameMemory h m (seen_frames h shown.frames)
+  pub fits : Fits h m
+  pub slot_pages : (s : ℕ) (page : List ℕ) → slots s ≡ Some page → disk.block (disk.as_it_reads c) (block_of_slot h s) ≡ page
+
+-- the slots that the table names as the image's lie on these blocks
+abbrev pub NamesOnly : Hardware → Shown → List ℕ → Type 0
+NamesOnly h shown blocks =
+    (s : ℕ) → s < h.slots → raw_slot_entry h shown.frames s ≡ image_slot → Contains blocks (block_of_slot h s)
+
+-- the blocks of an unfinished image, and those of the chain that a disk holds
+abbrev pub laid_blocks : Hardware → Running → Image → List ℕ
+laid_blocks h a i = map (λ written. written.0) (laid h (unused_slots h a.memory) i)
+
+abbrev pub chain_blocks : Hardware → disk.Image → Image → List ℕ
+chain_blocks h v i =
+    let first = image_of (header_of h v) in
+    map (entry_block v first) (range_with_len 0 (pages_of i)) ++ map (map_block v first) (range_with_len 0 (maps_of (pages_of i)))
+
+abbrev pub NamesSaved : Hardware → Shown → disk.Content → Saved → Type 0
+NamesSaved h shown c (own i) = EachImage c (λ v. Marked h v → NamesOnly h shown (chain_blocks h v i))
+NamesSaved h shown c other = ⊤
+
+abbrev pub NamesHeld : Hardware → Shown → disk.Content → Held → Type 0
+NamesHeld h shown c nothing = NamesOnly h shown []
+NamesHeld h shown c (sure x) = NamesSaved h shown c x
+NamesHeld h shown c (maybe x) = NamesSaved h shown c x
+
+-- 3. Header: taken back where it is marked, block(0) is one block in every image, but for bytes 4056 to 4085.
+pub record AgreeOnArea (a b : List ℕ) : Type 0 where
+  pub front : take 4056 a ≡ take 4056 b
+  pub signature : bytes_at 10 a 4086 ≡ bytes_at 10 b 4086
+
+pub record IsHeader (h : Hardware) (c : disk.Content) : Type 0 where
+  pub unmarked : EachImage c (λ v. IsMarked (area_block h v) → ⊥)
+  pub one : EachImage c (λ v. AgreeOnArea (area_block h v) (area_block h (disk.as_it_reads c)))
+
+-- a running machine's area is that block's, and where it is usable its bad slots are the table's
+pub record HasArea (h : Hardware) (c : disk.Content) (a : Running) : Type 0 where
+  pub area : a.unusable ≡ None → area_fault h (disk.as_it_reads c) ≡ None
+  pub bad_slots : a.unusable ≡ None → bad_set_fault h a.memory (area_kind (area_block h (disk.as_it_reads c))) ≡ None
+
+-- 4. Hibernating: what the first steps wrote reads as laid; the copies are the image's pages; after the first sync every
+-- image of the disk has the blocks and the tasks' slots.
+abbrev pub Reads : disk.Image → ℕ × List ℕ → Type 0
+Reads v written = disk.block v written.0 ≡ written.1
+
+-- the writes of the first k steps, in the order of the steps
+pub record IsWritten (h : Hardware) (shown : Shown) (c : disk.Content) (i : Image) (a : Running) (k : ℕ) : Type 0 where
+  pub all_laid : pages_of i + maps_of (pages_of i) ≤ k → All (Reads (disk.as_it_reads c)) (laid h (unused_slots h a.memory) i)
+  pub copies : map (frame shown.frames) shown.copies ≡ map (λ saved. saved.1) i.frames
+  pub durable : pages_of i + maps_of (pages_of i) + 1 ≤ k → EachImage c (λ v. All (Reads v) (laid h (unused_slots h a.memory) i))
+  pub slots_durable : pages_of i + maps_of (pages_of i) + 1 ≤ k → (s : ℕ) (page : List ℕ) → i.slots s ≡ Some page →
+      EachImage c (λ v. disk.block v (block_of_slot h s) ≡ page)
+
+-- 5. Loading: the pages read so far are the image's, the others are the loader's; from step 4 on no image is marked.
+pub record IsLoading (h : Hardware) (shown : Shown) (c : disk.Content) (load : Load) (k : ℕ) : Type 0 where
+  pub kept : (p : ℕ) → (Contains (left_free h load.dump load.loader) p → ⊥) → frame shown.frames p ≡ loader_frame load.dump load.loader p
+  pub read : (i : Image) → load.found ≡ found_own i → (saved : ℕ × List ℕ) → Contains shown.loaded saved → Contains i.frames saved
+  pub others : (v : disk.Image) → load.found ≡ found_other v →
+      EachImage c (λ w. (b : ℕ) → b < blocks_of v → b ≢ block_of_slot h 0 → disk.block w b ≡ disk.block v b)
+  pub taken_back : 4 ≤ k → EachImage c (λ v. Marked h v → ⊥)
+
+-- 6. Between two calls: a restart or a sync has left one image, and the block that is kept is the disk's, or the marked page.
+abbrev pub HasOneImage : disk.Content → Type 0
+HasOneImage c = (v w : disk.Image) → disk.IsImage c v → disk.IsImage c w → v ≡ w
+
+abbrev pub KeepsHeader : Hardware → Shown → disk.Content → Type 0
+KeepsHeader h shown c = shown.header ≡ header_of h (disk.as_it_reads c)
+
+pub record KeepsMark (h : Hardware) (shown : Shown) (c : disk.Content) : Type 0 where
+  pub marked : IsMarked shown.header
+  pub unmarked : IsMarked (taken_back shown.header) → ⊥
+  pub area : AgreeOnArea (taken_back shown.header) (area_block h (disk.as_it_reads c))
+
+-- Stands, by the state.
+
+abbrev pub StandsOff : Hardware → disk.Content → Held → Type 0
+StandsOff h c held = IsHeld h c held × IsHeader h c
+
+pub record StandsOn (h : Hardware) (shown : Shown) (c : disk.Content) (a : Running) : Type 0 where
+  pub held : IsHeld h c a.held
+  pub memory : IsMemory h shown c a.memory a.slots
+  pub names : NamesHeld h shown c a.held
+  pub header : IsHeader h c
+  pub area : HasArea h c a
+
+-- a running state whose held is another
+pub record StandsBehind (h : Hardware) (shown : Shown) (c : disk.Content) (a : Running) (image : Held) : Type 0 where
+  pub held : IsHeld h c image
+  pub memory : IsMemory h shown c a.memory a.slots
+  pub header : IsHeader h c
+  pub area : HasArea h c a
+
+unfoldable pub Stands : Hardware → Shown → disk.Content → State → Type 0
+Stands h shown c (off held kept) = StandsOff h c held
+Stands h shown c (on a) = StandsOn h shown c a
+Stands h shown c (booting from dump held k) = StandsOff h c held × (k ≡ 1 → HasOneImage c)
+Stands h shown c (hibernating suspends i a k) =
+    StandsBehind h shown c a (held_in (hibernating suspends i a k)) × NamesOnly h shown (laid_blocks h a i) × IsWritten h shown c i a k
+    × (k ≡ hibernate_steps i - 2 → KeepsHeader h shown c)
+    × (k ≡ hibernate_steps i - 1 → KeepsMark h shown c × Holds h (disk.as_it_reads c) i)
+Stands h shown c (undoing i call a k) =
+    StandsBehind h shown c a (maybe (own i)) × NamesOnly h shown (laid_blocks h a i) × (k ≡ 0 → KeepsMark h shown c)
+    × (k ≡ 1 → Marked h (disk.as_it_reads c) → ⊥)
+Stands h shown c (settling a k) =
+    StandsBehind h shown c a (held_in (settling a k)) × NamesHeld h shown c a.held × (k ≡ 1 → KeepsHeader h shown c)
+    × (k ≡ 2 → Marked h (disk.as_it_reads c) → ⊥)
+Stands h shown c (waking i held a k) =
+    StandsBehind h shown c a (held_in (waking i held a k)) × NamesHeld h shown c held × (k ≡ 1 → KeepsHeader h shown c)
+    × (k ≡ 2 → Marked h (disk.as_it_reads c) → ⊥)
+Stands h shown c (loading load k) =
+    StandsOff h c (held_in (loading load k)) × IsLoading h shown c load k × ((k ≡ 1) ⊎ (k ≡ 2) → HasOneImage c)
+    × (k ≡ 2 → KeepsHeader h shown c) × (k ≡ 3 → Marked h (disk.as_it_reads c) → ⊥)
+Stands h shown c (asleep i held a) = StandsBehind h shown c a held × NamesHeld h shown c held

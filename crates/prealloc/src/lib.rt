@@ -1,0 +1,118 @@
+//! Whether memory suffices for an image, and the page frames that its copies go to (kernel/power/snapshot.c,
+//! enough_free_mem and swsusp_alloc).
+#![tactic(auto)]
+
+ghost use Rattle.std.specs.Prelude.{◌≡◌, ℕ, ◌+◌, ◌-◌, ◌/◌, ◌<◌, ◌≤◌, ◌↔◌, ◌++◌, IsOk, IsErr, IfErr, filter, take, List, length};
+ghost use Rattle.std.specs.List.{Contains, range_with_len};
+ghost use Rattle.definitions.specs.Zones.{numbers, top, IsZone, zone_end};
+ghost use Rattle.definitions.specs.Tables.{HasTable};
+ghost use Rattle.definitions.specs.Lists.{free_frames};
+ghost use Rattle.saveable.specs.Tests.{free_by_entry};
+
+use memory_bitmap::Bitmap;
+use page_states::{PageFlags, entry};
+use saveable::View;
+
+/// Free page frames that are left for the writing of the image (PAGES_FOR_IO).
+const PAGES_FOR_IO: u32 = 1024;
+
+/// Too few page frames are free.
+#[derive(Clone, Copy, Debug, PartialEq, Eq)]
+pub struct Short {
+    pub free: u32,
+    pub need: u32,
+}
+
+/// Whether so many free page frames suffice for an image of `n` pages.
+pub fn enough(free: u32, n: u32) -> Result<(), Short>
+    requires { n ≤ 65536 }
+    ensures enough { IsOk result ↔ (n + 1025 ≤ free) }
+    ensures short { IsErr result ↔ (free < n + 1025) }
+    ensures tells { IfErr result (λ short. short ≡ record { free = free; need = n + 1025 }) }
+{
+    let need = n + PAGES_FOR_IO + 1;
+    if free < need {
+        return Err(Short { free, need });
+    }
+    Ok(())
+}
+
+/// Makes the set that of the `n` lowest free page frames (of all of them where fewer are free).
+pub fn pick(view: &View, n: u32, set: &mut Bitmap)
+    requires table { HasTable view.now.frames.now view.now.table (top view.now.zones.now) }
+    requires zones { set.old.zones ≡ view.now.zones.now }
+    ensures { set.new ≡ record set.old { members = take n (free_frames view.now.zones.now view.now.table view.now.frames.now) } }
+{
+    set.clear_all();
+    let mut left = n;
+    let mut j = 0;
+    while let Some(zone) = view.zones.zone(j) {
+        left = pick_in_zone(view, zone, left, set);
+        j += 1;
+    }
+}
+
+/// Adds the lowest free page frames of a zone that lies above the members so far, at most so many. Answers how many are
+/// still to be added.
+fn pick_in_zone(view: &View, zone: (u32, u32), most: u32, set: &mut Bitmap) -> u32
+    requires zone { IsZone zone }
+    requires valid { (p : ℕ) → zone.0 ≤ p → p < zone_end zone → Contains (numbers set.old.zones) p }
+    requires above { (p : ℕ) → Contains set.old.members p → p < zone.0 }
+    requires table { HasTable view.now.frames.now view.now.table (zone_end zone) }
+    ensures set { set.new ≡ record set.old { members = set.old.members ++ take most (filter (free_by_entry view.now.table view.now.frames.now) (range_with_len zone.0 zone.1)) } }
+    ensures left { result ≡ most - length (filter (free_by_entry view.now.table view.now.frames.now) (range_with_len zone.0 zone.1)) }
+{
+    let (start, count) = zone;
+    let mut left = most;
+    for p in start..start + count {
+        if left == 0 {
+            return 0;
+        }
+        if entry(view.frames, view.table, p) == (PageFlags::FREE, 0) {
+            set.set(p);
+            left -= 1;
+        }
+    }
+    left
+}
+
+#[cfg(test)]
+mod tests {
+    use super::*;
+    use frame_arena::Frames;
+    use page_states::set_entry;
+    use std::test::Fail;
+    use zones::Zones;
+
+    #[test]
+    fn wants_1025_page_frames_more(rt: HostRuntime) {
+        let short = Short {
+            free: 2524,
+            need: 2525,
+        };
+        assert_eq!(rt; enough(2524, 1500), Err(short));
+        assert_eq!(rt; enough(2525, 1500), Ok(()));
+    }
+
+    #[test]
+    fn picks_the_lowest(rt: HostRuntime) -> Result<(), Fail> {
+        let zones = Zones::of(&[(0, 100)])?;
+        let mut frames = Frames::create(rt.alloc(), 100)?;
+        let mut set = Bitmap::create(rt.alloc(), &zones)?;
+        assert_eq!(rt; frames.len(), 100);
+        assert_eq!(rt; zones.top(), 100);
+        set_entry(&mut frames, 0, 4, PageFlags::FREE, 0);
+        set_entry(&mut frames, 0, 7, PageFlags::FREE, 0);
+        set_entry(&mut frames, 0, 99, PageFlags::FREE, 0);
+        let view = View {
+            frames: &frames,
+            zones: &zones,
+            table: 0,
+        };
+        pick(&view, 2, &mut set);
+        assert_eq!(rt; set.len(), 2);
+        assert_eq!(rt; set.first_from(0), Some(4));
+        assert_eq!(rt; set.first_from(5), Some(7));
+        Ok(())
+    }
+}

@@ -1,0 +1,160 @@
+//! Which page frames an image saves (kernel/power/snapshot.c, saveable_page), and which are free.
+#![tactic(auto)]
+
+ghost use Rattle.std.specs.Prelude.{◌≡◌, ℕ, ◌+◌, ◌/◌, ◌<◌, ◌≤◌, ◌↔◌, ◌++◌, IsTrue, filter, List, length};
+ghost use Rattle.std.specs.List.{Contains, range_with_len};
+ghost use Rattle.definitions.specs.Zones.{numbers, top, IsZone, zone_end};
+ghost use Rattle.definitions.specs.Tables.{HasTable, entry_at, is_saveable};
+ghost use Rattle.definitions.specs.Lists.{saveable_frames, free_frames};
+ghost use Rattle.page_states.specs.Flags.{bits_of};
+ghost use Rattle.saveable.specs.Tests.{saveable_by_entry, free_by_entry};
+
+use bitflags::Flags;
+use frame_arena::Frames;
+use memory_bitmap::Bitmap;
+use page_states::{PageFlags, entry};
+use zones::Zones;
+
+/// What the lists of page frames come from: the memory, its zones, and the first page frame of the frame table.
+#[derive(Clone, Copy)]
+pub struct View<'a> {
+    pub frames: &'a Frames,
+    pub zones: &'a Zones,
+    pub table: u32,
+}
+
+/// Whether page frame `p` is saveable. One that isn't valid is not.
+pub fn saveable(view: &View, p: u32) -> bool
+    requires { HasTable view.now.frames.now view.now.table (top view.now.zones.now) }
+    ensures { IsTrue result ↔ Contains (saveable_frames view.now.zones.now view.now.table view.now.frames.now) p }
+{
+    view.zones.valid(p) && is_saveable(entry(view.frames, view.table, p).0)
+}
+
+/// Makes the set that of the saveable page frames, and answers how many they are.
+pub fn mark_all(view: &View, set: &mut Bitmap) -> u32
+    requires table { HasTable view.now.frames.now view.now.table (top view.now.zones.now) }
+    requires zones { set.old.zones ≡ view.now.zones.now }
+    ensures set { set.new ≡ record set.old { members = saveable_frames view.now.zones.now view.now.table view.now.frames.now } }
+    ensures count { result ≡ length (saveable_frames view.now.zones.now view.now.table view.now.frames.now) }
+{
+    set.clear_all();
+    let mut j = 0;
+    while let Some(zone) = view.zones.zone(j) {
+        mark_zone(view, zone, set);
+        j += 1;
+    }
+    set.len()
+}
+
+/// How many page frames are free.
+pub fn count_free(view: &View) -> u32
+    requires { HasTable view.now.frames.now view.now.table (top view.now.zones.now) }
+    ensures { result ≡ length (free_frames view.now.zones.now view.now.table view.now.frames.now) }
+{
+    let mut count = 0;
+    let mut j = 0;
+    while let Some(zone) = view.zones.zone(j) {
+        count += free_in_zone(view, zone);
+        j += 1;
+    }
+    count
+}
+
+/// Whether these flags let a page frame be saved.
+fn is_saveable(flags: PageFlags) -> bool
+    ensures { result ≡ is_saveable (bits_of flags) }
+{
+    !flags.intersects(PageFlags::FREE)
+        && !flags.intersects(PageFlags::OFFLINE)
+        && !flags.intersects(PageFlags::GUARD)
+        && !(flags.intersects(PageFlags::RESERVED)
+            && (flags.intersects(PageFlags::UNMAPPED) || flags.intersects(PageFlags::NOSAVE)))
+}
+
+/// Adds the saveable page frames of a zone that lies above the members so far.
+fn mark_zone(view: &View, zone: (u32, u32), set: &mut Bitmap)
+    requires zone { IsZone zone }
+    requires valid { (p : ℕ) → zone.0 ≤ p → p < zone_end zone → Contains (numbers set.old.zones) p }
+    requires above { (p : ℕ) → Contains set.old.members p → p < zone.0 }
+    requires table { HasTable view.now.frames.now view.now.table (zone_end zone) }
+    ensures { set.new ≡ record set.old { members = set.old.members ++ filter (saveable_by_entry view.now.table view.now.frames.now) (range_with_len zone.0 zone.1) } }
+{
+    let (start, count) = zone;
+    for p in start..start + count {
+        if is_saveable(entry(view.frames, view.table, p).0) {
+            set.set(p);
+        }
+    }
+}
+
+/// How many page frames of a zone are free.
+fn free_in_zone(view: &View, zone: (u32, u32)) -> u32
+    requires zone { IsZone zone }
+    requires table { HasTable view.now.frames.now view.now.table (zone_end zone) }
+    ensures { result ≡ length (filter (free_by_entry view.now.table view.now.frames.now) (range_with_len zone.0 zone.1)) }
+{
+    let (start, count) = zone;
+    let mut free = 0;
+    for p in start..start + count {
+        if is_free(view, p) {
+            free += 1;
+        }
+    }
+    free
+}
+
+/// Whether the entry of page frame `p` is FREE, with no other flag and no owner.
+fn is_free(view: &View, p: u32) -> bool
+    requires { view.now.table + p / 1024 < length view.now.frames.now }
+    ensures { result ≡ free_by_entry view.now.table view.now.frames.now p }
+{
+    let (flags, owner) = entry(view.frames, view.table, p);
+    flags == PageFlags::FREE && owner == 0
+}
+
+#[cfg(test)]
+mod tests {
+    use super::*;
+    use page_states::set_entry;
+    use std::test::Fail;
+
+    /// The flags of page frames 0 to 9. The other page frames are free.
+    const FLAGS: [u16; 10] = [0, 1, 2, 4, 8, 16, 18, 32, 34, 64];
+
+    fn set_flags(frames: &mut Frames)
+        requires { length frames.old ≡ 100 }
+        ensures { length frames.new ≡ 100 }
+    {
+        for p in 0..100 {
+            set_entry(frames, 0, p, PageFlags::FREE, 0);
+        }
+        for (p, bits) in FLAGS.iter().enumerate() {
+            set_entry(frames, 0, p as u32, PageFlags::from_bits_retain(*bits), 0);
+        }
+    }
+
+    #[test]
+    fn marks_saveable_by_flags(rt: HostRuntime) -> Result<(), Fail> {
+        let zones = Zones::of(&[(0, 100)])?;
+        let mut frames = Frames::create(rt.alloc(), 100)?;
+        let mut set = Bitmap::create(rt.alloc(), &zones)?;
+        assert_eq!(rt; frames.len(), 100);
+        assert_eq!(rt; zones.top(), 100);
+        set_flags(&mut frames);
+        let view = View {
+            frames: &frames,
+            zones: &zones,
+            table: 0,
+        };
+        assert_eq!(rt; mark_all(&view, &mut set), 5);
+        assert_eq!(rt; set.first_from(0), Some(0));
+        assert_eq!(rt; set.first_from(1), Some(2));
+        assert_eq!(rt; set.first_from(3), Some(5));
+        assert_eq!(rt; set.first_from(6), Some(7));
+        assert_eq!(rt; set.first_from(8), Some(9));
+        assert_eq!(rt; count_free(&view), 91);
+        assert!(rt; saveable(&view, 2) && !saveable(&view, 4) && !saveable(&view, 100));
+        Ok(())
+    }
+}

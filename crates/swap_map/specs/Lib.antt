@@ -1,0 +1,2 @@
+pub mod MapPages
+pub mod Writer

@@ -1,0 +1,14 @@
+//! The pages of the swap map (`struct swap_map_page`, kernel/power/swap.c): 511 entries, each the block of a page of
+//! the image, and the block of the next map page.
+#![tactic(auto)]
+
+mod reader;
+#[cfg(test)]
+mod tests;
+mod writer;
+
+pub use reader::{ChainFault, MapReader};
+pub use writer::{MapWriter, Pushed};
+
+/// How many entries a map page has (MAP_PAGE_ENTRIES). The link is the word behind them.
+const ENTRIES: usize = 511;

@@ -1,0 +1,7 @@
+pub mod Changes
+pub mod FirstRun
+pub mod FreeBits
+pub mod Keeping
+pub mod Matching
+pub mod OneBit
+pub mod Ordered

@@ -1,0 +1,37 @@
+use Rattle.std.proofs.Common.{◌≡◌, ◌∙◌, sym, ap, refl}
+use Rattle.definitions.specs.Zones.{numbers}
+use Rattle.definitions.specs.Lists.{free_slots}
+use Rattle.definitions.specs.Slots.{runs_of}
+use Rattle.definitions.specs.FrameSets.{inserted}
+use Rattle.definitions.proofs.SlotRuns.{runs_of-nil, numbers-runs_of}
+use Rattle.definitions.proofs.FreeSlots.{free_slots-none, free_slots-more_free, free_slots-more_taken}
+use Rattle.swap_slots.proofs.runs.FreeRuns.rebuild.Goals as goal
+use Rattle.swap_slots.proofs.runs.FreeRuns.rebuild.Goals.{then-owner-eq-FREE, else-owner-eq-FREE}
+
+pub loop-slot-init : goal.loop-slot-init
+loop-slot-init c = record {
+  runs = ap (λ r. r.runs) c.clear.ensures ∙ sym (ap runs_of (free_slots-none c.args.table.now.first c.args.frames.now) ∙ runs_of-nil);
+  room = refl;
+}
+
+pub loop-slot-preserved : goal.loop-slot-preserved
+loop-slot-preserved c =
+    let first = c.args.table.now.first in
+    let frames = c.args.frames.now in
+    let slot = c.loop-slot.slot in
+    let h = c.loop-slot.invariant in
+    elim c.if-owner-eq-FREE.branch [
+      | then-owner-eq-FREE w ↦
+          let free = free_slots-more_free slot first frames (sym c.owner.ensures ∙ w.if-owner-eq-FREE.true) in
+          let members : numbers c.loop-slot.self.runs ≡ free_slots slot first frames = ap numbers h.runs ∙ numbers-runs_of (free_slots slot first frames) in
+          record {
+            runs = ap (λ r. r.runs) (w.self-is ∙ w.insert.ensures) ∙ ap (λ xs. runs_of (inserted xs slot)) members ∙ ap runs_of (sym free);
+            room = ap (λ r. r.room) (w.self-is ∙ w.insert.ensures) ∙ h.room;
+          }
+      | else-owner-eq-FREE w ↦
+          let taken = free_slots-more_taken slot first frames (λ e. w.if-owner-eq-FREE.false (c.owner.ensures ∙ e)) in
+          record {
+            runs = ap (λ r. r.runs) w.self-is ∙ h.runs ∙ ap runs_of (sym taken);
+            room = ap (λ r. r.room) w.self-is ∙ h.room;
+          }
+    ]

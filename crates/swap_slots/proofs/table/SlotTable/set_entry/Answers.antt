@@ -1,0 +1,11 @@
+use Rattle.std.proofs.Common.{◌∙◌, ap₂}
+use Rattle.definitions.specs.Bytes.{with_number}
+use Rattle.definitions.specs.Tables.{with_entry, with_frame, frame}
+use Rattle.swap_slots.proofs.table.SlotTable.set_entry.Goals as goal
+
+pub returns-clause-entry : goal.returns-clause-entry
+unfolding with_entry
+returns-clause-entry c =
+    let frames = c.args.frames.now in
+    c.put_u32.ensures
+    ∙ ap₂ (λ p at. with_frame frames p (with_number 4 (frame frames p) at c.args.entry)) c.place-p.ensures.frame c.place-p.ensures.offset

@@ -1,0 +1,6 @@
+pub mod Bits
+pub mod Extents
+pub mod Kept
+pub mod KeptMap
+pub mod Runs
+pub mod Table

@@ -1,0 +1,13 @@
+//! The slots of a swap area: their table in page frames, the runs of free ones, and the blocks that they lie on.
+#![tactic(auto)]
+
+mod file_map;
+mod runs;
+mod table;
+#[cfg(test)]
+mod tests;
+mod words;
+
+pub use file_map::FileMap;
+pub use runs::FreeRuns;
+pub use table::SlotTable;

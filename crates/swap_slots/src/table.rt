@@ -1,0 +1,122 @@
+ghost use Rattle.std.specs.Prelude.{◌≡◌, ℕ, ◌+◌, ◌*◌, ◌/◌, ◌%◌, ◌<◌, ◌≤◌, All, IfSome, IfNone, List, length, slice_get};
+ghost use Rattle.definitions.specs.Bytes.{IsPage};
+ghost use Rattle.definitions.specs.Tables.{entry_at, with_entry, with_entries};
+
+use crate::FreeRuns;
+use frame_arena::Frames;
+
+/// The entry of a free slot.
+pub(crate) const FREE: u32 = 0;
+
+/// The entry of a slot of the image.
+const IMAGE: u32 = 65536;
+
+/// The table of the slots of a swap area, 4 bytes for each, in page frames.
+/// An entry is 0 where the slot is free, the number of the task that has it, 65536 where the image has it, and 131072 where
+/// it is bad.
+#[derive(Clone, Copy, Debug, PartialEq, Eq)]
+pub struct SlotTable {
+    /// The first page frame.
+    pub first: u32,
+    /// How many slots there are.
+    pub slots: u32,
+}
+
+impl SlotTable {
+    ghost use Rattle.swap_slots.specs.Table.{IsOwner, LiesIn, Matches, free_in, image_in};
+
+    /// Gives the least free slot to `owner`: a task, or 65536 for the image. `None` where no slot is free.
+    pub fn take(&self, frames: &mut Frames, runs: &mut FreeRuns, owner: u32) -> Option<u32>
+        requires owner { IsOwner owner }
+        requires table { LiesIn frames.old self.now }
+        requires matches { Matches frames.old self.now runs.old }
+        ensures least { result ≡ slice_get (free_in frames.old self.now) 0 }
+        ensures taken { IfSome result (λ slot. frames.new ≡ with_entry frames.old self.now.first slot owner) }
+        ensures none { IfNone result (frames.new ≡ frames.old) }
+        ensures matches { Matches frames.new self.now runs.new }
+        ensures len { length frames.new ≡ length frames.old }
+        ensures room { runs.new.room ≡ runs.old.room }
+    {
+        let slot = runs.first()?;
+        self.set_entry(frames, slot, owner);
+        runs.remove(slot);
+        Some(slot)
+    }
+
+    /// Makes a slot free.
+    pub fn give(&self, frames: &mut Frames, runs: &mut FreeRuns, slot: u32)
+        requires slot { slot < self.now.slots }
+        requires table { LiesIn frames.old self.now }
+        requires matches { Matches frames.old self.now runs.old }
+        ensures given { frames.new ≡ with_entry frames.old self.now.first slot 0 }
+        ensures matches { Matches frames.new self.now runs.new }
+        ensures len { length frames.new ≡ length frames.old }
+        ensures room { runs.new.room ≡ runs.old.room }
+    {
+        self.set_entry(frames, slot, FREE);
+        runs.insert(slot);
+    }
+
+    /// The entry of a slot.
+    pub fn owner(&self, frames: &Frames, slot: u32) -> u32
+        requires slot { slot < self.now.slots }
+        requires table { LiesIn frames.now self.now }
+        ensures { result ≡ entry_at frames.now self.now.first slot }
+    {
+        let (p, at) = self.place(frames, slot);
+        frames.u32_at(p, at)
+    }
+
+    /// How many slots are free. A slot of the image isn't.
+    pub fn free_count(&self, frames: &Frames, runs: &FreeRuns) -> u32
+        requires table { LiesIn frames.now self.now }
+        requires matches { Matches frames.now self.now runs.now }
+        ensures { result ≡ length (free_in frames.now self.now) }
+    {
+        runs.count()
+    }
+
+    /// Makes every slot of the image free.
+    pub fn give_image(&self, frames: &mut Frames, runs: &mut FreeRuns)
+        requires table { LiesIn frames.old self.now }
+        requires matches { Matches frames.old self.now runs.old }
+        ensures given { frames.new ≡ with_entries frames.old self.now.first (image_in frames.old self.now) 0 }
+        ensures matches { Matches frames.new self.now runs.new }
+        ensures len { length frames.new ≡ length frames.old }
+        ensures room { runs.new.room ≡ runs.old.room }
+    {
+        // Each page frame has 4096 bytes, so that an entry that is set leaves the others.
+        let _ = frames.len();
+        for slot in 0..self.slots {
+            if self.owner(frames, slot) == IMAGE {
+                self.give(frames, runs, slot);
+            }
+        }
+    }
+
+    // Sets the entry of a slot.
+    fn set_entry(&self, frames: &mut Frames, slot: u32, entry: u32)
+        requires slot { slot < self.now.slots }
+        requires table { LiesIn frames.old self.now }
+        ensures entry { frames.new ≡ with_entry frames.old self.now.first slot entry }
+        ensures len { length frames.new ≡ length frames.old }
+        ensures pages { All IsPage frames.old }
+    {
+        let (p, at) = self.place(frames, slot);
+        frames.put_u32(p, at, entry);
+    }
+
+    // The page frame of a slot's entry, and the offset there.
+    fn place(&self, frames: &Frames, slot: u32) -> (u32, usize)
+        requires slot { slot < self.now.slots }
+        requires table { LiesIn frames.now self.now }
+        ensures frame { result.0 ≡ self.now.first + slot / 1024 }
+        ensures inside { result.0 < length frames.now }
+        ensures offset { result.1 ≡ 4 * (slot % 1024) }
+        ensures pages { All IsPage frames.now }
+    {
+        // The page frames of the table are below this, so their numbers fit.
+        let _ = frames.len();
+        (self.first + slot / 1024, 4 * (slot % 1024) as usize)
+    }
+}
