@@ -1,7 +1,8 @@
 -- Worked examples, computed from the definitions.
-use Rattle.std.proofs.Common.{◌≡◌, ◌+◌, refl}
+use Rattle.std.proofs.Common.{◌≡◌, ◌+◌, true, refl}
 use Rattle.definitions.specs.NumberPages.{meta_of}
 use Rattle.plain_machine.specs.Image.{maps_of, maps_read}
+use Rattle.plain_machine.specs.Laid.{page_place, map_place, is_map_write}
 use Rattle.plain_machine.specs.Loader.{need}
 
 -- 509 pages and their two others fill the first map: a second one follows, and isn't read
@@ -38,3 +39,24 @@ need_85 = refl
 
 pub need_86 : need 86 ≡ 89
 need_86 = refl
+
+-- On an empty area slot k + 1 is the free one at place k. The 511 pages of an image of 509 page frames fill the first map:
+-- it is at block 1, its entries are blocks 2 to 512, the second map is at block 513, and has no entry.
+pub first_page_place : page_place 0 + 1 ≡ 2
+first_page_place = refl
+
+pub last_page_place : page_place 510 + 1 ≡ 512
+last_page_place = refl
+
+pub second_map_place : map_place 1 + 1 ≡ 513
+second_map_place = refl
+
+pub full_map_is_written : is_map_write 511 511 ≡ true
+full_map_is_written = refl
+
+pub last_map_is_written : is_map_write 511 512 ≡ true
+last_map_is_written = refl
+
+-- with 510 page frames the second map's first entry is block 514
+pub page_past_the_map : page_place 511 + 1 ≡ 514
+page_past_the_map = refl

@@ -6,6 +6,7 @@ use Rattle.definitions.specs.Bytes.{zero_page, word}
 use Rattle.definitions.specs.Disk as disk
 use Rattle.definitions.specs.SwapHeader.{IsMarked, image_of, flags_of, last_page_of}
 use Rattle.definitions.specs.SwapMap.{map_entry, map_link}
+use Rattle.definitions.specs.Slots.{block_of}
 use Rattle.plain_machine.specs.Machine.{Hardware, block_of_slot}
 use Rattle.plain_machine.specs.Image.{Image, pages_of, stream_of}
 use Rattle.plain_machine.specs.declared.reply.Reply.{Reply}
@@ -23,11 +24,16 @@ header_of h v = if nat_lt (block_of_slot h 0) (blocks_of v) then disk.block v (b
 abbrev pub Marked : Hardware → disk.Image → Type 0
 Marked h v = IsMarked (header_of h v)
 
--- whether block x is at fault in a chain: it is the header's, or no block of a slot from 1 to last_page that the disk has
+-- Whether block x is at fault in a chain, where the slots lie so on that many blocks, up to the last slot: it is the
+-- header's, or no block of a slot from 1 to the last that the disk has. Past the last extent that one goes on.
+abbrev pub is_fault_of : List (ℕ × ℕ × ℕ) → ℕ → ℕ → ℕ → Bool
+is_fault_of extents blocks last x =
+    (x == block_of extents 0)
+    || not (nat_lt x blocks && list_any (λ s. block_of extents s == x) (range_with_len 1 last))
+
+-- over a disk: the last slot is the header's last_page
 abbrev pub is_at_fault : Hardware → disk.Image → ℕ → Bool
-is_at_fault h v x =
-    (x == block_of_slot h 0)
-    || not (nat_lt x (blocks_of v) && list_any (λ s. block_of_slot h s == x) (range_with_len 1 (last_page_of (header_of h v))))
+is_at_fault h v x = is_fault_of h.extents (blocks_of v) (last_page_of (header_of h v)) x
 
 -- the block of map j, from 0: the first one's is b, and each next one's is the link of the one before
 abbrev pub map_block : disk.Image → ℕ → ℕ → ℕ

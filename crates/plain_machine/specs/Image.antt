@@ -1,6 +1,5 @@
 -- An image: what a hibernation saves, at one moment.
-use Rattle.std.specs.Prelude.{◌≡◌, ◌≢◌, ℕ, ◌+◌, ◌*◌, ◌/◌, ◌%◌, ◌==◌, List, [], ◌∷◌, ◌++◌, Bool, true, not, nat_eq, length, map, filter, take, drop, Option, Some, None, if◌then◌else◌, slice_index_or, IsTrue}
-use Rattle.std.specs.List.{list_any, range_with_len}
+use Rattle.std.specs.Prelude.{ℕ, ◌+◌, ◌/◌, List, ◌∷◌, ◌++◌, Bool, true, not, nat_eq, length, map, filter, Option}
 use Rattle.std.specs.Cmp.Lexicographic.{pointwise}
 use Rattle.page_core.specs.declared.format.Format.{Format}
 use Rattle.page_core.specs.declared.format.Format.TheVariants.{Plain, SkipZeros}
@@ -8,10 +7,9 @@ use Rattle.definitions.specs.Bytes.{zero_page}
 use Rattle.definitions.specs.Tables.{frame}
 use Rattle.definitions.specs.InfoPage.{info_page}
 use Rattle.definitions.specs.NumberPages.{meta_of, marked_numbers, number_pages}
-use Rattle.definitions.specs.SwapMap.{map_page}
 use Rattle.definitions.specs.declared.info.Ident.{Ident}
 use Rattle.definitions.specs.declared.info.Info.{Info}
-use Rattle.plain_machine.specs.Machine.{Hardware, Memory, block_of_slot, saveable, valid_count}
+use Rattle.plain_machine.specs.Machine.{Hardware, Memory, saveable, valid_count}
 
 -- the pages in the tasks' slots, by slot
 abbrev pub SlotPages : Type 0
@@ -78,34 +76,12 @@ abbrev pub resume_steps : Image → ℕ
 resume_steps i = 4 + maps_read (pages_of i) + pages_of i
 
 -- [stream]: the info page, the number pages, and the pages with data in ascending frame order (snapshot_read_next)
+unfoldable pub stream_pages : Info → List ℕ → List (List ℕ) → List (List ℕ)
+stream_pages info numbers saved = info_page info ∷ number_pages numbers ++ saved
+
 abbrev pub info_of_image : Image → Info
 info_of_image i = record { ident = i.ident; physpages = i.physpages; image_pages = n_of i; pages = pages_of i }
 
-unfoldable pub stream_of : Image → List (List ℕ)
+abbrev pub stream_of : Image → List (List ℕ)
 stream_of i =
-    info_page (info_of_image i) ∷ number_pages (marked_numbers (numbers_of i) (without_data i)) ++ map (λ saved. saved.1) (with_data i)
-
--- Laid(i, free): where the writer puts a stream of so many pages, with the free slots in order (alloc_swapdev_block
--- called for the first map, then for each page, with the next map after each 511th page).
-
--- how many slots come before page k of the stream, and before map j, each from 0
-abbrev pub page_place : ℕ → ℕ
-page_place k = k + k / 511 + 1
-
-abbrev pub map_place : ℕ → ℕ
-map_place j = 512 * j
-
-abbrev pub laid_block : Hardware → List ℕ → ℕ → ℕ
-laid_block h free place = block_of_slot h (slice_index_or free place 0)
-
--- map j of a stream of so many pages: the blocks of its pages, and the block of the next map
-abbrev pub laid_map : Hardware → List ℕ → ℕ → ℕ → List ℕ
-laid_map h free pages j =
-    map_page (map (λ k. laid_block h free (page_place k)) (take 511 (drop (511 * j) (range_with_len 0 pages))))
-    (if j + 1 == maps_of pages then 0 else laid_block h free (map_place (j + 1)))
-
--- the blocks that are written, with what: the stream's pages, and the maps
-unfoldable pub laid : Hardware → List ℕ → Image → List (ℕ × List ℕ)
-laid h free i =
-    map (λ k. (laid_block h free (page_place k), slice_index_or (stream_of i) k [])) (range_with_len 0 (pages_of i))
-    ++ map (λ j. (laid_block h free (map_place j), laid_map h free (pages_of i) j)) (range_with_len 0 (maps_of (pages_of i)))
+    stream_pages (info_of_image i) (marked_numbers (numbers_of i) (without_data i)) (map (λ saved. saved.1) (with_data i))

@@ -1,11 +1,15 @@
 pub mod Area
 pub mod Chain
+pub mod Faults
+pub mod Fitting
 pub mod Image
+pub mod Laid
 pub mod Loader
 pub mod Machine
 pub mod Premises
 pub mod Refusals
 pub mod Replies
+pub mod Shows
 pub mod Stands
 pub mod State
 pub mod Step

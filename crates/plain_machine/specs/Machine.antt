@@ -1,10 +1,10 @@
 -- The machine: its hardware and its memory.
-use Rattle.std.specs.Prelude.{◌≡◌, ◌≤◌, ◌<◌, ◌⊎◌, ℕ, ◌+◌, ◌*◌, ◌/◌, ◌-◌, ◌==◌, ◌&&◌, ◌||◌, Bool, true, false, not, nat_lt, nat_le, List, [], ◌∷◌, ◌++◌, length, map, filter, take_while, replicate, Option, Some, None, if◌then◌else◌, slice_index_or, Contains}
+use Rattle.std.specs.Prelude.{◌≡◌, ◌≤◌, ◌<◌, ◌⊎◌, ℕ, ◌+◌, ◌*◌, ◌/◌, ◌%◌, ◌-◌, All, ◌==◌, ◌&&◌, ◌||◌, Bool, true, false, not, nat_lt, nat_le, List, [], ◌∷◌, ◌++◌, length, map, filter, take_while, replicate, Option, Some, None, if◌then◌else◌, slice_index_or, Contains}
 use Rattle.std.specs.List.{list_any, range_with_len, find}
-use Rattle.definitions.specs.Bytes.{zero_page}
-use Rattle.definitions.specs.Zones.{numbers, top}
+use Rattle.definitions.specs.Bytes.{zero_page, IsPage}
+use Rattle.definitions.specs.Zones.{numbers, top, AreZones}
 use Rattle.definitions.specs.Tables.{frame, entry_at, flags_of, owner_of, is_free, is_saveable}
-use Rattle.definitions.specs.Slots.{block_of}
+use Rattle.definitions.specs.Slots.{block_of, IsFileMap}
 use Rattle.definitions.specs.Lists.{saveable_frames, free_frames, free_slots}
 use Rattle.definitions.specs.declared.info.Ident.{Ident}
 
@@ -84,11 +84,26 @@ table_frames h =
     if nat_lt h.frame_table h.slot_table then frame_table_frames h ++ slot_table_frames h
     else slot_table_frames h ++ frame_table_frames h
 
--- [fits]: whether an entry of the frame table is well formed (Rattle.definitions.specs.Tables.IsWellFormed, as a test)
+-- page frame f is one of a table that begins at `first` and has so many entries; it is one of the two tables'
+pub record IsOfTable (first entries f : ℕ) : Type 0 where
+  pub from : first ≤ f
+  pub below : f < first + table_len entries
+
+abbrev pub IsTableFrame : Hardware → ℕ → Type 0
+IsTableFrame h f = IsOfTable h.frame_table (top h.zones) f ⊎ IsOfTable h.slot_table h.slots f
+
+-- whether page frame p is one of a table that begins at `first` and has so many entries, and whether it is one of the two
+abbrev pub is_of_table : ℕ → ℕ → ℕ → Bool
+is_of_table first entries p = nat_le first p && nat_lt p (first + table_len entries)
+
+abbrev pub is_table_frame : Hardware → ℕ → Bool
+is_table_frame h p = is_of_table h.frame_table (top h.zones) p || is_of_table h.slot_table h.slots p
+
+-- whether an entry of the frame table is well formed (Rattle.definitions.specs.Tables.IsWellFormed, as a test)
 abbrev pub is_well_formed : ℕ → Bool
 is_well_formed entry =
     nat_lt (flags_of entry) 128 && nat_le (owner_of entry) 64 && (not (is_free (flags_of entry)) || (entry == 1))
-    && ((owner_of entry == 0) || (flags_of entry == 0) || (flags_of entry == 64))
+    && ((flags_of entry == 0) || (flags_of entry == 64) || (owner_of entry == 0))
 
 -- whether slot s may have this entry: free, a task's or bad, and slot 0 is bad
 abbrev pub is_slot_entry : ℕ → ℕ → Bool
@@ -106,9 +121,25 @@ is_table_at_fault h m f =
 abbrev pub tables_fault : Hardware → Memory → Option ℕ
 tables_fault h m = find (is_table_at_fault h m) (table_frames h)
 
--- the tables are well formed
-abbrev pub Fits : Hardware → Memory → Type 0
-Fits h m = tables_fault h m ≡ None
+-- [fits]: the tables are well formed.
+pub record Fits (h : Hardware) (m : Memory) : Type 0 where
+  pub pages : All IsPage m
+  pub size : length m ≡ top h.zones
+  pub entries : (p : ℕ) → Contains (numbers h.zones) p → is_well_formed (frame_entry h m p) ≡ true
+  pub tables : (f : ℕ) → IsTableFrame h f → (is_saveable (flags_of (frame_entry h m f)) ≡ true) × (owner_of (frame_entry h m f) ≡ 0)
+  pub slots : (s : ℕ) → s < h.slots → is_slot_entry s (raw_slot_entry h m s) ≡ true
+
+-- The parts of a machine fit one another: the page frames of the tables are valid and no page frame is of both, a region has
+-- even flags below 128, and the extents of the swap area cover just its slots.
+pub record IsHardware (h : Hardware) : Type 0 where
+  pub zones : AreZones h.zones
+  pub some_slots : 2 ≤ h.slots
+  pub few_slots : h.slots ≤ 131072
+  pub frame_table : (i : ℕ) → i < table_len (top h.zones) → Contains (numbers h.zones) (h.frame_table + i)
+  pub slot_table : (i : ℕ) → i < table_len h.slots → Contains (numbers h.zones) (h.slot_table + i)
+  pub apart : (h.frame_table + table_len (top h.zones) ≤ h.slot_table) ⊎ (h.slot_table + table_len h.slots ≤ h.frame_table)
+  pub regions : (r : ℕ × ℕ × ℕ) → Contains h.regions r → (r.2 < 128) × (r.2 % 2 ≡ 0)
+  pub map : IsFileMap h.extents h.slots
 
 -- Two memories are the same: the same page frames are free, and the others have the same pages.
 pub record IsSameMemory (h : Hardware) (m n : Memory) : Type 0 where

@@ -4,23 +4,19 @@ use Rattle.std.specs.List.{range_with_len}
 use Rattle.definitions.specs.Disk as disk
 use Rattle.definitions.specs.Bytes.{bytes_at}
 use Rattle.definitions.specs.SwapHeader.{IsMarked, image_of, taken_back, flags_of, hw_sig_of}
-use Rattle.definitions.specs.Tables.{frame, with_entry}
+use Rattle.definitions.specs.Tables.{frame}
 use Rattle.sig_header.specs.AreaKind.{area_kind}
 use Rattle.plain_machine.specs.Machine.{Hardware, Memory, block_of_slot, raw_slot_entry, slot_entry, image_slot, IsSameMemory, Fits, unused_slots}
-use Rattle.plain_machine.specs.Image.{Image, SlotPages, laid, maps_of, pages_of, hibernate_steps, image_of_memory}
+use Rattle.plain_machine.specs.Image.{Image, SlotPages, maps_of, pages_of, stream_of, hibernate_steps, image_of_memory}
+use Rattle.plain_machine.specs.Laid.{laid}
 use Rattle.plain_machine.specs.Chain.{Holds, Marked, header_of, blocks_of, entry_block, map_block}
 use Rattle.plain_machine.specs.Loader.{has, left_free, loader_frame}
 use Rattle.plain_machine.specs.UsableArea.{area_block, area_fault, has_bad_slots_of, bad_set_fault}
 use Rattle.plain_machine.specs.State.{State, off, on, booting, hibernating, undoing, settling, waking, loading, asleep, Running, Held, nothing, sure, maybe, Saved, own, other, Load, Found, not_yet, found_own, found_other, held_in}
-use Rattle.plain_machine.specs.Step.{with_entries}
-
--- What a world shows of itself: the content of its page frames, the block that it keeps between two calls of the disk, the
--- page frames of its copies, and the pages that a resume has read, by page frame.
-pub record Shown : Type 0 where
-  pub frames : Memory
-  pub header : List ℕ
-  pub copies : List ℕ
-  pub loaded : List (ℕ × List ℕ)
+use Rattle.plain_machine.specs.Shows.{Shown, activity_in, seen_frames, ShowsRunning, ShowsKept}
+use Rattle.plain_machine.specs.Step.{fresh_frames}
+use Rattle.plain_machine.specs.declared.event.BootFrom.{BootFrom}
+use Rattle.plain_machine.specs.declared.event.BootFrom.TheVariants.{Fresh, Kept}
 
 -- every image of the disk has P
 abbrev pub EachImage : disk.Content → (disk.Image → Type 0) → Type 0
@@ -40,14 +36,10 @@ IsHeld h c (maybe (own i)) = EachImage c (λ v. ((Marked h v → ⊥) ⊎ Holds 
 IsHeld h c (sure other) = EachImage c (Marked h)
 IsHeld h c (maybe other) = ⊤
 
--- 2. Memory: the frames, with the image's slots read as free, are the state's memory; the tasks' slots read as their pages.
-abbrev pub seen_frames : Hardware → Memory → Memory
-seen_frames h frames = with_entries (slot_entry h frames) (range_with_len 0 h.slots) h.slot_table frames
-
-pub record IsMemory (h : Hardware) (shown : Shown) (c : disk.Content) (m : Memory) (slots : SlotPages) : Type 0 where
-  pub same : IsSameMemory h m (seen_frames h shown.frames)
-  pub fits : Fits h m
-  pub slot_pages : (s : ℕ) (page : List ℕ) → slots s ≡ Some page → disk.block (disk.as_it_reads c) (block_of_slot h s) ≡ page
+-- 2. Memory: what the world shows of it is in Shows.antt; each task's slot reads as its page.
+abbrev pub HaveSlotPages : Hardware → disk.Content → SlotPages → Type 0
+HaveSlotPages h c slots =
+    (s : ℕ) (page : List ℕ) → slots s ≡ Some page → disk.block (disk.as_it_reads c) (block_of_slot h s) ≡ page
 
 -- the slots that the table names as the image's lie on these blocks
 abbrev pub NamesOnly : Hardware → Shown → List ℕ → Type 0
@@ -56,7 +48,7 @@ NamesOnly h shown blocks =
 
 -- the blocks of an unfinished image, and those of the chain that a disk holds
 abbrev pub laid_blocks : Hardware → Running → Image → List ℕ
-laid_blocks h a i = map (λ written. written.0) (laid h (unused_slots h a.memory) i)
+laid_blocks h a i = map (λ written. written.0) (laid h.extents (unused_slots h a.memory) (stream_of i))
 
 abbrev pub chain_blocks : Hardware → disk.Image → Image → List ℕ
 chain_blocks h v i =
@@ -93,9 +85,9 @@ Reads v written = disk.block v written.0 ≡ written.1
 
 -- the writes of the first k steps, in the order of the steps
 pub record IsWritten (h : Hardware) (shown : Shown) (c : disk.Content) (i : Image) (a : Running) (k : ℕ) : Type 0 where
-  pub all_laid : pages_of i + maps_of (pages_of i) ≤ k → All (Reads (disk.as_it_reads c)) (laid h (unused_slots h a.memory) i)
+  pub all_laid : pages_of i + maps_of (pages_of i) ≤ k → All (Reads (disk.as_it_reads c)) (laid h.extents (unused_slots h a.memory) (stream_of i))
   pub copies : map (frame shown.frames) shown.copies ≡ map (λ saved. saved.1) i.frames
-  pub durable : pages_of i + maps_of (pages_of i) + 1 ≤ k → EachImage c (λ v. All (Reads v) (laid h (unused_slots h a.memory) i))
+  pub durable : pages_of i + maps_of (pages_of i) + 1 ≤ k → EachImage c (λ v. All (Reads v) (laid h.extents (unused_slots h a.memory) (stream_of i)))
   pub slots_durable : pages_of i + maps_of (pages_of i) + 1 ≤ k → (s : ℕ) (page : List ℕ) → i.slots s ≡ Some page →
       EachImage c (λ v. disk.block v (block_of_slot h s) ≡ page)
 
@@ -119,43 +111,56 @@ pub record KeepsMark (h : Hardware) (shown : Shown) (c : disk.Content) : Type 0 
   pub unmarked : IsMarked (taken_back shown.header) → ⊥
   pub area : AgreeOnArea (taken_back shown.header) (area_block h (disk.as_it_reads c))
 
--- Stands, by the state.
+-- Stands, by the state: what the world shows is the state's, and what the disk may hold is as its parts say.
 
 abbrev pub StandsOff : Hardware → disk.Content → Held → Type 0
 StandsOff h c held = IsHeld h c held × IsHeader h c
 
+-- the disk of a running state
 pub record StandsOn (h : Hardware) (shown : Shown) (c : disk.Content) (a : Running) : Type 0 where
   pub held : IsHeld h c a.held
-  pub memory : IsMemory h shown c a.memory a.slots
+  pub slot_pages : HaveSlotPages h c a.slots
   pub names : NamesHeld h shown c a.held
   pub header : IsHeader h c
   pub area : HasArea h c a
 
--- a running state whose held is another
+-- that of an operation, behind which a running state waits, and where another image is held
 pub record StandsBehind (h : Hardware) (shown : Shown) (c : disk.Content) (a : Running) (image : Held) : Type 0 where
   pub held : IsHeld h c image
-  pub memory : IsMemory h shown c a.memory a.slots
+  pub shows : ShowsRunning h shown a
+  pub slot_pages : HaveSlotPages h c a.slots
   pub header : IsHeader h c
   pub area : HasArea h c a
 
-unfoldable pub Stands : Hardware → Shown → disk.Content → State → Type 0
-Stands h shown c (off held kept) = StandsOff h c held
-Stands h shown c (on a) = StandsOn h shown c a
-Stands h shown c (booting from dump held k) = StandsOff h c held × (k ≡ 1 → HasOneImage c)
-Stands h shown c (hibernating suspends i a k) =
+-- a boot from fresh memory has its page frames from the begin on; one from a dump's memory has that
+abbrev pub ShowsBoot : Hardware → Shown → BootFrom → Memory → Type 0
+ShowsBoot h shown Fresh dump = shown.frames ≡ fresh_frames h
+ShowsBoot h shown Kept dump = IsSameMemory h dump (seen_frames h shown.frames) × Fits h dump
+
+-- the parts that a state has
+abbrev pub HasParts : Hardware → Shown → disk.Content → State → Type 0
+HasParts h shown c (off held kept) = ShowsKept h shown kept × StandsOff h c held
+HasParts h shown c (on a) = ShowsRunning h shown a × StandsOn h shown c a
+HasParts h shown c (booting from dump held k) = ShowsBoot h shown from dump × StandsOff h c held × (k ≡ 1 → HasOneImage c)
+HasParts h shown c (hibernating suspends i a k) =
     StandsBehind h shown c a (held_in (hibernating suspends i a k)) × NamesOnly h shown (laid_blocks h a i) × IsWritten h shown c i a k
     × (k ≡ hibernate_steps i - 2 → KeepsHeader h shown c)
     × (k ≡ hibernate_steps i - 1 → KeepsMark h shown c × Holds h (disk.as_it_reads c) i)
-Stands h shown c (undoing i call a k) =
+HasParts h shown c (undoing i call a k) =
     StandsBehind h shown c a (maybe (own i)) × NamesOnly h shown (laid_blocks h a i) × (k ≡ 0 → KeepsMark h shown c)
     × (k ≡ 1 → Marked h (disk.as_it_reads c) → ⊥)
-Stands h shown c (settling a k) =
+HasParts h shown c (settling a k) =
     StandsBehind h shown c a (held_in (settling a k)) × NamesHeld h shown c a.held × (k ≡ 1 → KeepsHeader h shown c)
     × (k ≡ 2 → Marked h (disk.as_it_reads c) → ⊥)
-Stands h shown c (waking i held a k) =
+HasParts h shown c (waking i held a k) =
     StandsBehind h shown c a (held_in (waking i held a k)) × NamesHeld h shown c held × (k ≡ 1 → KeepsHeader h shown c)
     × (k ≡ 2 → Marked h (disk.as_it_reads c) → ⊥)
-Stands h shown c (loading load k) =
+HasParts h shown c (loading load k) =
     StandsOff h c (held_in (loading load k)) × IsLoading h shown c load k × ((k ≡ 1) ⊎ (k ≡ 2) → HasOneImage c)
     × (k ≡ 2 → KeepsHeader h shown c) × (k ≡ 3 → Marked h (disk.as_it_reads c) → ⊥)
-Stands h shown c (asleep i held a) = StandsBehind h shown c a held × NamesHeld h shown c held
+HasParts h shown c (asleep i held a) = StandsBehind h shown c a held × NamesHeld h shown c held
+
+-- A world that shows this and a disk with this content stand for a state: it shows what the state is at, and its parts hold.
+pub record Stands (h : Hardware) (shown : Shown) (c : disk.Content) (a : State) : Type 0 where
+  pub activity : shown.activity ≡ activity_in a
+  pub parts : HasParts h shown c a

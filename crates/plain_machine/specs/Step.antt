@@ -5,10 +5,10 @@ use Rattle.page_core.specs.declared.format.Format.{Format}
 use Rattle.definitions.specs.Bytes.{zero_page, word, with_word, with_number}
 use Rattle.definitions.specs.Disk as disk
 use Rattle.definitions.specs.Zones.{numbers, top}
-use Rattle.definitions.specs.Tables.{frame, with_entry, flags_of}
+use Rattle.definitions.specs.Tables.{frame, with_entry, with_entries, flags_of}
 use Rattle.definitions.specs.NumberPages.{meta_of, page_of_words}
 use Rattle.sig_header.specs.AreaKind.{area_kind}
-use Rattle.plain_machine.specs.Machine.{Hardware, Memory, is_valid, frame_entry, slot_entry, table_frames, saveable, bad_slot}
+use Rattle.plain_machine.specs.Machine.{Hardware, Memory, is_valid, frame_entry, slot_entry, is_table_frame, saveable, bad_slot}
 use Rattle.plain_machine.specs.Image.{Image, SlotPages, image_of_memory, n_of, d_of, pages_of, maps_of, maps_read, hibernate_steps, resume_steps}
 use Rattle.plain_machine.specs.Loader.{has, left_free, need, restored}
 use Rattle.plain_machine.specs.Trace.{trace, restored_in, slots_in}
@@ -70,7 +70,7 @@ with_slot slots s page = λ q. if q == s then page else slots q
 -- what a task's request makes of a running machine that doesn't refuse it
 abbrev pub requested : Hardware → Running → ℕ → TaskOp → List Outcome
 requested h a t (op.Claim p) =
-    only reply.Done (on (record a { memory = with_frame (with_frame_entry h a.memory p (owned_by t)) p zero_page }))
+    only reply.Done (on (record a { memory = with_frame_entry h (with_frame a.memory p zero_page) p (owned_by t) }))
 requested h a t (op.Release p) = only reply.Done (on (record a { memory = with_frame_entry h a.memory p 1 }))
 requested h a t (op.Store p k v) = only reply.Done (on (record a { memory = with_frame a.memory p (with_word (frame a.memory p) k v) }))
 requested h a t (op.Show p k) = only (reply.Word (word (frame a.memory p) k)) (on a)
@@ -103,23 +103,25 @@ task_step h a t (Some flight) = finished h a t flight
 -- Booting.
 
 -- the frame table of fresh memory: table frames 0, region frames their flags, all others free; slots free but the bad ones
-abbrev pub fresh_entry : Hardware → ℕ → ℕ
+abbrev pub region_flags : Option (ℕ × ℕ × ℕ) → ℕ
+region_flags None = 1
+region_flags (Some r) = r.2
+
+unfoldable pub fresh_entry : Hardware → ℕ → ℕ
 fresh_entry h p =
-    if has (table_frames h) p then 0
-    else unwrap_region (find (λ r. nat_le r.0 p && nat_lt p (r.0 + r.1)) h.regions) where
-      unwrap_region : Option (ℕ × ℕ × ℕ) → ℕ
-      unwrap_region None = 1
-      unwrap_region (Some r) = r.2
+    if is_table_frame h p then 0 else region_flags (find (λ r. nat_le r.0 p && nat_lt p (r.0 + r.1)) h.regions)
 
-abbrev pub with_entries : (ℕ → ℕ) → List ℕ → ℕ → Memory → Memory
-with_entries entry [] table m = m
-with_entries entry (k ∷ ks) table m = with_entries entry ks table (with_entry m table k (entry k))
+-- memory with the entry of each of these numbers set by a rule
+unfoldable pub with_each_entry : (ℕ → ℕ) → List ℕ → ℕ → Memory → Memory
+with_each_entry entry [] table m = m
+with_each_entry entry (k ∷ ks) table m = with_each_entry entry ks table (with_entry m table k (entry k))
 
--- [tables]: all page frames zero but the tables, with these slots bad
+-- [tables]: all page frames zero but the frame table, and then with these slots
+unfoldable pub fresh_frames : Hardware → Memory
+fresh_frames h = with_each_entry (fresh_entry h) (numbers h.zones) h.frame_table (replicate (top h.zones) zero_page)
+
 unfoldable pub fresh_memory : Hardware → (ℕ → ℕ) → Memory
-fresh_memory h slots =
-    with_entries slots (range_with_len 0 h.slots) h.slot_table
-    (with_entries (fresh_entry h) (numbers h.zones) h.frame_table (replicate (top h.zones) zero_page))
+fresh_memory h slots = with_each_entry slots (range_with_len 0 h.slots) h.slot_table (fresh_frames h)
 
 abbrev pub fresh_slot : Hardware → disk.Image → ℕ → ℕ
 fresh_slot h v s =
@@ -271,7 +273,7 @@ load_step h v load k =
 
 -- Shrinking: [drop]. The first page frames whose flags are CACHE alone, until so many saveable ones are left.
 abbrev pub droppable : Hardware → Memory → List ℕ
-droppable h m = filter (λ p. (frame_flags p == 64) && not (has (table_frames h) p)) (numbers h.zones) where
+droppable h m = filter (λ p. (frame_flags p == 64) && not (is_table_frame h p)) (numbers h.zones) where
   frame_flags : ℕ → ℕ
   frame_flags p = flags_of (frame_entry h m p)
 
@@ -279,7 +281,7 @@ abbrev pub dropped_by : Hardware → Memory → ℕ → List ℕ
 dropped_by h m want = take (length (saveable h m) - want) (droppable h m)
 
 abbrev pub drop_memory : Hardware → Memory → ℕ → Memory
-drop_memory h m want = with_entries (λ p. 1) (dropped_by h m want) h.frame_table m
+drop_memory h m want = with_entries m h.frame_table (dropped_by h m want) 1
 
 -- What may come of each event that isn't refused.
 

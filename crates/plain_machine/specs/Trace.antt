@@ -12,7 +12,7 @@ use Rattle.definitions.specs.NumberPages.{meta_of, number_of_word, zero_bit, end
 use Rattle.definitions.specs.declared.info.Field.{Field}
 use Rattle.definitions.specs.declared.info.Info.{Info}
 use Rattle.plain_machine.specs.Machine.{Hardware, Memory, block_of_slot, is_valid, valid_count, tables_fault, is_slot_of, slot_entry}
-use Rattle.plain_machine.specs.Image.{Image, SlotPages, is_zeros}
+use Rattle.plain_machine.specs.Image.{Image, SlotPages, is_zeros, maps_read}
 use Rattle.plain_machine.specs.Chain.{header_of, map_fault, entry_fault, entry_block, or_else, first_some}
 use Rattle.plain_machine.specs.Loader.{left_free, need, restored}
 use Rattle.plain_machine.specs.UsableArea.{dump_area_fault}
@@ -123,42 +123,66 @@ abbrev pub end_cause : Hardware → disk.Image → ℕ → Option Reply
 end_cause h v n =
     if (n % 512 == 0) || (number_word h v n == end_value) then None else Some (reply.PfnEnd (number_word h v n))
 
--- after the last number page: the data pages are as many as pages says, and the loader has room for them
+-- After the last number page: the data pages are as many as pages says. (In a Plain image the info page's test says so.)
+abbrev pub listed_cause : Hardware → disk.Image → Option Reply
+listed_cause h v =
+    if (info_in h v).pages == d_in h v + meta_in h v + 1 then None
+    else Some (reply.BadCounts (info_in h v).image_pages (info_in h v).pages)
+
+-- and the loader has room for them
 abbrev pub room_cause : Hardware → Memory → disk.Image → Loader → Option Reply
 room_cause h dump v loader =
-    if not ((info_in h v).pages == d_in h v + meta_in h v + 1) then Some (reply.BadCounts (info_in h v).image_pages (info_in h v).pages)
-    else (if nat_lt (length (left_free h dump loader)) (need (d_in h v)) then Some (reply.TooFewLoaderFrames (length (left_free h dump loader)) (need (d_in h v)))
-    else None)
+    if nat_lt (length (left_free h dump loader)) (need (d_in h v)) then Some (reply.TooFewLoaderFrames (length (left_free h dump loader)) (need (d_in h v)))
+    else None
 
 -- number page q, from 0, of n numbers
-abbrev pub numbers_cause : Hardware → Memory → disk.Image → Loader → ℕ → Option Reply
-numbers_cause h dump v loader q =
+abbrev pub numbers_cause : Hardware → disk.Image → ℕ → Option Reply
+numbers_cause h v q =
     let n = (info_in h v).image_pages in
     let own = first_some (map (number_cause h v) (range_with_len (512 * q) (min 512 (n - 512 * q)))) in
-    if q + 1 == meta_of n then or_else own (or_else (end_cause h v n) (room_cause h dump v loader)) else own
+    if q + 1 == meta_of n then or_else own (or_else (end_cause h v n) (listed_cause h v)) else own
 
 -- What is read, in order: before each 511 pages of the stream their map, and the pages.
 pub data Place : Type 0 where
   map_at : ℕ → Place
   page_at : ℕ → Place
 
-abbrev pub places_of : ℕ → List Place
-places_of k = if k % 511 == 0 then map_at (k / 511) ∷ page_at k ∷ [] else page_at k ∷ []
+-- place number t, from 0: each 512th one, from the first on, is a map
+abbrev pub place : ℕ → Place
+place t = if t % 512 == 0 then map_at (t / 512) else page_at (t - t / 512 - 1)
 
--- the places of so many pages; the info page is read before its counts are known
+-- how many places so many pages have; the info page is read before its counts are known
+abbrev pub place_count : ℕ → ℕ
+place_count pages = maps_read (max pages 1) + max pages 1
+
 abbrev pub places : ℕ → List Place
-places pages = flat_map places_of (range_with_len 0 (max pages 1))
+places pages = map place (range_with_len 0 (place_count pages))
 
 -- what is wrong with the block of a place, when it is wanted
 abbrev pub place_cause : Hardware → disk.Image → Place → Option Reply
 place_cause h v (map_at j) = map_fault h v (first_map h v) j
 place_cause h v (page_at k) = entry_fault h v (first_map h v) k
 
--- what is wrong with what was read there
+-- what is wrong with what was read there, but for the loader's room
+abbrev pub read_cause : Hardware → disk.Image → IdentCheck → Place → Option Reply
+read_cause h v check (map_at j) = None
+read_cause h v check (page_at zero) = info_cause h v check
+read_cause h v check (page_at (suc q)) = if nat_lt q (meta_in h v) then numbers_cause h v q else None
+
+-- what is wrong with the loader's room, which is tested at the last number page
+abbrev pub want_cause : Hardware → Memory → disk.Image → Loader → Place → Option Reply
+want_cause h dump v loader (map_at j) = None
+want_cause h dump v loader (page_at k) = if k == meta_in h v then room_cause h dump v loader else None
+
 abbrev pub content_cause : Hardware → Memory → disk.Image → Loader → IdentCheck → Place → Option Reply
-content_cause h dump v loader check (map_at j) = None
-content_cause h dump v loader check (page_at zero) = info_cause h v check
-content_cause h dump v loader check (page_at (suc q)) = if nat_lt q (meta_in h v) then numbers_cause h dump v loader q else None
+content_cause h dump v loader check here = or_else (read_cause h v check here) (want_cause h dump v loader here)
+
+-- what is wrong at the end of the step that reads place t: with what was read, or with the block that is wanted next
+abbrev pub next_cause : Hardware → disk.Image → ℕ → Option Reply
+next_cause h v t = if nat_lt (t + 1) (place_count (info_in h v).pages) then place_cause h v (place (t + 1)) else None
+
+abbrev pub step_cause : Hardware → disk.Image → IdentCheck → ℕ → Option Reply
+step_cause h v check t = or_else (read_cause h v check (place t)) (next_cause h v t)
 
 -- The slots of the tasks in the restored memory, with their pages as the disk reads.
 abbrev pub slots_in : Hardware → disk.Image → Memory → SlotPages
@@ -188,10 +212,10 @@ stop_or_go (Some cause) k replies = cause ∷ []
 -- step would read is tested at the end of the step before it.
 abbrev pub replies_from : Hardware → Memory → disk.Image → Loader → IdentCheck → ℕ → List Place → List Reply
 replies_from h dump v loader check k [] = []
-replies_from h dump v loader check k (place ∷ []) =
-    unwrap_or (content_cause h dump v loader check place) (last_reply h dump v loader) ∷ []
-replies_from h dump v loader check k (place ∷ next ∷ rest) =
-    stop_or_go (or_else (content_cause h dump v loader check place) (place_cause h v next)) k (replies_from h dump v loader check (k + 1) (next ∷ rest))
+replies_from h dump v loader check k (here ∷ []) =
+    unwrap_or (content_cause h dump v loader check here) (last_reply h dump v loader) ∷ []
+replies_from h dump v loader check k (here ∷ next ∷ rest) =
+    stop_or_go (or_else (content_cause h dump v loader check here) (place_cause h v next)) k (replies_from h dump v loader check (k + 1) (next ∷ rest))
 
 -- at the end of step 4, once the block is taken back
 abbrev pub taken_back_cause : Hardware → disk.Image → Option Reply

@@ -2,9 +2,12 @@
 #![tactic(auto)]
 
 mod event;
+mod fitting;
+mod held;
 mod no_swap;
 mod reply;
 
 pub use event::{Actor, BootFrom, Event, IdentCheck, Loader, Ranges, TaskOp};
+pub use held::Held;
 pub use no_swap::NoSwap;
 pub use reply::{Left, Reply, UndoCall};

@@ -1,0 +1,4 @@
+pub mod Grammar
+pub mod Kinds
+pub mod Shapes
+pub mod Words

@@ -1,12 +1,18 @@
-//! The lines that the program prints.
+//! Scripts, and the lines that the program prints.
 #![tactic(auto)]
 
+mod fault;
+mod grammar;
 mod line;
+mod reading;
 mod replies;
 #[cfg(test)]
 mod tests;
 mod texts;
+mod words;
 
+pub use fault::{FaultKind, ParseStop, ScriptFault};
 pub use line::Line;
+pub use reading::{Script, parse};
 pub use replies::line_of;
 pub use texts::put_no_swap;

@@ -2,7 +2,13 @@ pub mod Answer
 pub mod AnswerOf
 pub mod Choice
 pub mod ExitStatus
+pub mod Formatting
 pub mod Inspect
+pub mod Outcome
+pub mod Playing
+pub mod Readied
+pub mod Reading
+pub mod Replay
 pub mod Run
 pub mod Told
 pub mod Words

@@ -45,10 +45,21 @@ pub fn print<S: Sink>(sink: &mut S, text: &[u8]) -> Result<(), Failed>
     ensures counted { S.faults sink.old ≤ S.faults sink.new }
     ensures cause { OnErr result (HasRisen (S.faults sink.old) (S.faults sink.new)) }
 {
+    put(sink, text)?;
+    sink.flush()
+}
+
+/// Writes a text to its end.
+pub fn put<S: Sink>(sink: &mut S, text: &[u8]) -> Result<(), Failed>
+    ensures whole { OnOk result (TakesAll text.now (S.taken sink.old) (S.taken sink.new)) }
+    ensures front { TakesFront text.now (S.taken sink.old) (S.taken sink.new) }
+    ensures counted { S.faults sink.old ≤ S.faults sink.new }
+    ensures cause { OnErr result (HasRisen (S.faults sink.old) (S.faults sink.new)) }
+{
     let mut at = 0;
     while at < text.len() {
         let count = sink.write(&text[at..])?;
         at += count;
     }
-    sink.flush()
+    Ok(())
 }

@@ -14,12 +14,16 @@ pub enum Choice {
     Memory(u32),
 }
 
+/// How many blocks the disk in memory has that a script is played over.
+const MEMORY_BLOCKS: u32 = 16384;
+
 /// The disk that a list of words asks for. Where the words don't parse it is one block in memory.
 pub fn swap_name(alloc: Global, words: &[String]) -> Result<Choice, NoMemory>
     ensures { IfOk result (IsChoice (map string_bytes words.now)) }
 {
     match Command::parse(words) {
         None => Ok(Choice::Memory(1)),
+        Some(Command::Replay) => Ok(Choice::Memory(MEMORY_BLOCKS)),
         Some(Command::Inspect) => match String::from_str(alloc, words[2].as_str()) {
             Ok(path) => Ok(Choice::File(path)),
             Err(_) => Err(NoMemory),

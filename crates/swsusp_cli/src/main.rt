@@ -3,7 +3,11 @@
 
 mod answer;
 mod choosing;
+mod formatting;
 mod inspection;
+mod playing;
+mod reading;
+mod replay;
 mod status;
 #[cfg(test)]
 mod tests;

@@ -26,8 +26,19 @@ fn printed<D: Disk>(
     disk: &mut D,
     failing: &[u64],
 ) -> Result<Printed, Fail> {
+    printed_from(alloc, list, "", disk, failing)
+}
+
+/// Runs with this input.
+fn printed_from<D: Disk>(
+    alloc: Global,
+    list: &[&str],
+    text: &str,
+    disk: &mut D,
+    failing: &[u64],
+) -> Result<Printed, Fail> {
     let words = words(alloc, list)?;
-    let mut input = MemSource::new(Vec::new(alloc), Vec::new(alloc));
+    let mut input = MemSource::new(Vec::from_slice(alloc, text.as_bytes())?, Vec::new(alloc));
     let mut out = MemSink::new(
         Vec::with_capacity(alloc, 4096)?,
         Vec::from_slice(alloc, failing)?,
@@ -203,5 +214,84 @@ fn the_disk_that_words_ask_for(rt: HostRuntime) -> Result<(), Fail> {
         Choice::File(_) => panic!(rt; "a file"),
         Choice::Memory(blocks) => assert_eq!(rt; blocks, 1),
     }
+    Ok(())
+}
+
+/// The script of a machine that has booted, and whose task 3 has stored 77 in page frame 10.
+const B: &str = "area 3000\nboot\nsteps core 2\nclaim 3 10\nstore 3 10 0 77\n";
+
+const B_TEXT: &str = "more 0 of 2\nmore 1 of 2\nbooted image no\nok\nok\n";
+
+fn replayed(alloc: Global, text: &str, blocks: u32, failing: &[u64]) -> Result<Printed, Fail> {
+    let mut disk = MemDisk::create(alloc, blocks).ok().ok_or("memory")?;
+    printed_from(alloc, &["swsusp", "replay"], text, &mut disk, failing)
+}
+
+#[test]
+fn what_replay_says(rt: HostRuntime) -> Result<(), Fail> {
+    let table: [(&str, Status, &str, &str); 9] = [
+        ("", Status::Done, "", ""),
+        ("boot", Status::Done, "more 0 of 2\n", ""),
+        (B, Status::Done, B_TEXT, ""),
+        (
+            "claim 3 10\nstep core\n",
+            Status::Done,
+            "not on\nidle\n",
+            "",
+        ),
+        ("boot\njump\n", Status::Input, "", "script line 2 Word\n"),
+        ("claim 65 1", Status::Input, "", "script line 1 Range\n"),
+        ("claim 1", Status::Input, "", "script line 1 Count\n"),
+        ("claim x 1", Status::Input, "", "script line 1 Number\n"),
+        ("boot\narea 10\n", Status::Input, "", "script line 2 Late\n"),
+    ];
+    for (text, status, out, note) in &table {
+        let got = replayed(rt.alloc(), text, 3001, &[])?;
+        assert_eq!(rt; got.0, *status, "for {text}");
+        assert_eq!(rt; got.1.as_slice(), out.as_bytes());
+        assert_eq!(rt; got.2.as_slice(), note.as_bytes());
+    }
+    Ok(())
+}
+
+#[test]
+fn a_disk_that_is_too_small(rt: HostRuntime) -> Result<(), Fail> {
+    let (status, out, note) = replayed(rt.alloc(), "boot", 100, &[])?;
+    assert_eq!(rt; status, Status::Refused);
+    assert_eq!(rt; out.as_slice(), b"".as_slice());
+    assert_eq!(rt; note.as_slice(), b"disk blocks 100 need 3001\n".as_slice());
+    Ok(())
+}
+
+// The second write to out fails.
+#[test]
+fn a_replay_that_is_cut_off(rt: HostRuntime) -> Result<(), Fail> {
+    let (status, out, note) = replayed(rt.alloc(), B, 3001, &[1])?;
+    assert_eq!(rt; status, Status::Stream);
+    assert_eq!(rt; out.as_slice(), b"more 0 of 2\n".as_slice());
+    assert_eq!(rt; note.as_slice(), b"sink fault\n".as_slice());
+    Ok(())
+}
+
+#[test]
+fn an_area_that_is_not_formatted(rt: HostRuntime) -> Result<(), Fail> {
+    for (call, text) in [(1, "write fault unsure\n"), (2, "sync fault unsure\n")] {
+        let mut disk = MemDisk::create(rt.alloc(), 3001).ok().ok_or("memory")?;
+        disk.arm(call, 1, 0);
+        let got = printed_from(rt.alloc(), &["swsusp", "replay"], "boot", &mut disk, &[])?;
+        assert_eq!(rt; got.0, Status::Device);
+        assert_eq!(rt; got.1.as_slice(), b"".as_slice());
+        assert_eq!(rt; got.2.as_slice(), text.as_bytes());
+    }
+    Ok(())
+}
+
+#[test]
+fn the_disk_of_a_replay(rt: HostRuntime) -> Result<(), Fail> {
+    let words = words(rt.alloc(), &["swsusp", "replay"])?;
+    let Ok(Choice::Memory(blocks)) = swap_name(rt.alloc(), &words) else {
+        return Err("another disk".into());
+    };
+    assert_eq!(rt; blocks, 16384);
     Ok(())
 }

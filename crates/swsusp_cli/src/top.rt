@@ -1,13 +1,16 @@
-ghost use Rattle.std.specs.Prelude.{◌≡◌, ◌≢◌, None, ◌≤◌, ◌⊎◌, map, string_bytes};
+ghost use Rattle.std.specs.Prelude.{◌≡◌, ◌≢◌, None, Some, ◌≤◌, ◌+◌, ◌⊎◌, map, string_bytes};
 ghost use Rattle.definitions.specs.Disk.{HasRisen};
 ghost use Rattle.swsusp_cli.specs.Answer.{Told, unparsed};
 ghost use Rattle.swsusp_cli.specs.AnswerOf.{told_by};
-ghost use Rattle.swsusp_cli.specs.Run.{IsAnswer, calls_after};
+ghost use Rattle.swsusp_cli.specs.Run.{IsAnswer, IsNoReplay, calls_after};
 ghost use Rattle.swsusp_cli.specs.Told.{IsTold};
+ghost use Rattle.swsusp_cli.specs.Outcome.{IsReplayed};
+ghost use Rattle.swsusp_cli.specs.declared.words.Command.TheVariants.{Replay};
 ghost use Rattle.swsusp_cli.specs.Words.{command_of};
 
 use crate::answer::Answer;
 use crate::inspection::inspect;
+use crate::replay::replay;
 use crate::status::Status;
 use crate::words::Command;
 use dump_file::{Sink, Source};
@@ -37,24 +40,39 @@ pub fn run<I: Source, O: Sink, N: Sink, D: Disk>(
     note: &mut N,
     disk: &mut D,
 ) -> Status
-    ensures answered { (told : Told)
+    ensures answered { IsNoReplay (command_of (map string_bytes words.now)) → (told : Told)
         × IsAnswer (command_of (map string_bytes words.now)) (D.block_count disk.old) (D.content disk.old) (D.faults disk.old) (D.faults disk.new) told
         × IsTold told result (O.taken out.old) (O.taken out.new) (N.taken note.old) (N.taken note.new) }
+    ensures replayed { command_of (map string_bytes words.now) ≡ Some Replay → IsReplayed (record {
+      left = I.remaining input.old;
+      left_after = I.remaining input.new;
+      blocks = D.block_count disk.old;
+      content = D.content disk.old;
+      content_after = D.content disk.new;
+      low = D.faults disk.old;
+      high = D.faults disk.new;
+      out = O.taken out.old;
+      out_after = O.taken out.new;
+      note = N.taken note.old;
+      note_after = N.taken note.new;
+    }) result }
 
     // Each answer that isn't success has its cause.
     ensures words { result ≡ Status.Words → command_of (map string_bytes words.now) ≡ None }
-    ensures stream { result ≡ Status.Stream →
-        HasRisen (O.faults out.old) (O.faults out.new) ⊎ HasRisen (N.faults note.old) (N.faults note.new) }
+    ensures stream { result ≡ Status.Stream → HasRisen (I.faults input.old) (I.faults input.new)
+        ⊎ HasRisen (O.faults out.old) (O.faults out.new) ⊎ HasRisen (N.faults note.old) (N.faults note.new) }
     ensures device { result ≡ Status.Device → HasRisen (D.faults disk.old) (D.faults disk.new) }
 
-    ensures input { I.remaining input.new ≡ I.remaining input.old }
-    ensures content { D.content disk.new ≡ D.content disk.old }
-    ensures calls { D.calls disk.new ≡ calls_after (command_of (map string_bytes words.now)) (D.block_count disk.old) (D.calls disk.old) }
+    ensures input { IsNoReplay (command_of (map string_bytes words.now)) → I.remaining input.new ≡ I.remaining input.old }
+    ensures content { IsNoReplay (command_of (map string_bytes words.now)) → D.content disk.new ≡ D.content disk.old }
+    ensures calls { IsNoReplay (command_of (map string_bytes words.now)) →
+        D.calls disk.new ≡ calls_after (command_of (map string_bytes words.now)) (D.block_count disk.old) (D.calls disk.old) }
+    ensures few_calls { D.calls disk.new ≤ D.calls disk.old + 100002 }
     ensures orders { D.orders disk.new ≡ D.orders disk.old }
 {
-    let answer = match Command::parse(words) {
-        None => unparsed(),
-        Some(Command::Inspect) => inspect(disk),
-    };
-    answer.tell(out, note)
+    match Command::parse(words) {
+        None => unparsed().tell(out, note),
+        Some(Command::Inspect) => inspect(disk).tell(out, note),
+        Some(Command::Replay) => replay(alloc, input, out, note, disk),
+    }
 }

@@ -6,6 +6,8 @@ ghost use Rattle.swsusp_cli.specs.Words.{is_path};
 pub enum Command {
     /// Tells what the header block of a swap area says.
     Inspect,
+    /// Plays a script over a disk in memory, and prints each reply.
+    Replay,
 }
 
 impl Command {
@@ -17,6 +19,7 @@ impl Command {
         ensures { result ≡ command_of (map string_bytes words.now) }
     {
         match words {
+            [_, name] if name.as_str() == "replay" => Some(Command::Replay),
             [_, name, swap] if name.as_str() == "inspect" && is_path(swap.as_bytes()) => {
                 Some(Command::Inspect)
             }

@@ -1,0 +1,5 @@
+pub mod Decoding
+pub mod ImageBlocks
+pub mod NumberWords
+pub mod Performing
+pub mod Resuming

@@ -1,0 +1,4 @@
+pub mod Decoding
+pub mod ImageBlocks
+pub mod NumberWords
+pub mod Performing

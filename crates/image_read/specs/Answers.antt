@@ -1,0 +1,59 @@
+-- What a reader answers over a disk.
+use Rattle.std.specs.Prelude.{◌≡◌, ◌<◌, ℕ, ◌+◌, List, Option, Some, None, Result, Ok, Err, is_none, if◌then◌else◌}
+use Rattle.definitions.specs.Disk as disk
+use Rattle.definitions.specs.declared.info.Ident.{Ident}
+use Rattle.plain_machine.specs.Machine.{Hardware, block_of_slot}
+use Rattle.plain_machine.specs.Chain.{blocks_of}
+use Rattle.plain_machine.specs.Trace.{place, read_cause, step_cause}
+use Rattle.plain_machine.specs.declared.event.IdentCheck.{IdentCheck}
+use Rattle.plain_machine.specs.declared.event.IdentCheck.TheVariants.{Compare, Skip}
+use Rattle.image_read.specs.Causes.{reply_of}
+use Rattle.image_read.specs.Reading.{Reading, IsOver, IsReady}
+use Rattle.image_read.specs.Stream.{IsReading, place_block, frame_at, told, pages_read}
+use Rattle.image_read.specs.declared.cause.Cause.{Cause}
+use Rattle.image_read.specs.declared.reader.ReadStep.{ReadStep}
+use Rattle.image_read.specs.declared.reader.ReadStep.TheVariants.{More, Page, Done, Fault, Refused}
+
+-- whose identity is compared: the machine's, or none
+abbrev pub Compares : Hardware → IdentCheck → Option Ident → Type 0
+Compares h Compare own = own ≡ Some h.ident
+Compares h Skip own = own ≡ None
+
+-- the disk tells that it reads like v, but for block(0)
+abbrev pub Reads : Hardware → disk.Image → Option disk.Content → Type 0
+Reads h v None = ⊥
+Reads h v (Some held) = (b : ℕ) → b < blocks_of v → (b ≡ block_of_slot h 0 → ⊥) → disk.block (disk.as_it_reads held) b ≡ disk.block v b
+
+-- n, told from the last number page on, also where the block that is wanted next is at fault
+abbrev pub told_after : Hardware → disk.Image → IdentCheck → ℕ → Option ℕ
+told_after h v check t =
+    if is_none (read_cause h v check (place t)) then told h v (pages_read (t + 1)) else told h v (pages_read t)
+
+-- what place t gives: the first cause of that place or of the next block, or else a page frame where its page is there
+abbrev pub Gives : Hardware → disk.Image → IdentCheck → ℕ → Result (Option ℕ) Cause → Reading → List ℕ → List ℕ → Type 0
+Gives h v check t (Err cause) new origs zeros =
+    (step_cause h v check t ≡ Some (reply_of cause)) × (new.listed ≡ told_after h v check t)
+Gives h v check t (Ok frame) new origs zeros =
+    (step_cause h v check t ≡ None) × IsReading h v check new (t + 1) origs zeros × (frame ≡ frame_at h v (place t))
+
+-- What the step that reads place t answers, and leaves: the first cause of that place or of the next block, or else the page
+-- of a page frame, or how many steps were made.
+abbrev pub Answers : Hardware → disk.Image → IdentCheck → ℕ → ReadStep → Reading → Reading → List ℕ → List ℕ → List ℕ → Type 0
+Answers h v check t (Refused cause) old new origs zeros page =
+    (step_cause h v check t ≡ Some (reply_of cause)) × (new.listed ≡ told_after h v check t)
+Answers h v check t (Page pfn) old new origs zeros page =
+    (step_cause h v check t ≡ None) × IsReading h v check new (t + 1) origs zeros
+    × (frame_at h v (place t) ≡ Some pfn) × (page ≡ disk.block v (place_block h v (place t)))
+Answers h v check t (More k) old new origs zeros page =
+    (step_cause h v check t ≡ None) × IsReading h v check new (t + 1) origs zeros
+    × (frame_at h v (place t) ≡ None) × (k ≡ t + 1)
+Answers h v check t Done old new origs zeros page = IsOver old × (new ≡ old)
+Answers h v check t Fault old new origs zeros page = Unit {0}
+
+-- unless it was refused or the disk failed, the reader may go on
+abbrev pub GoesOn : ReadStep → Reading → List ℕ → List ℕ → Type 0
+GoesOn (Refused cause) r origs zeros = Unit {0}
+GoesOn Fault r origs zeros = Unit {0}
+GoesOn Done r origs zeros = IsReady r origs zeros
+GoesOn (More k) r origs zeros = IsReady r origs zeros
+GoesOn (Page pfn) r origs zeros = IsReady r origs zeros

@@ -1,0 +1,27 @@
+-- Why an image can't be read, as the reply of a resume, and what the parts of an image call it.
+use Rattle.image_header.specs.declared.BadCounts.{BadCounts}
+use Rattle.pfn_pack.specs.declared.unpack.PfnFault.{PfnFault}
+use Rattle.pfn_pack.specs.declared.unpack.PfnFault.TheVariants as numbers
+use Rattle.plain_machine.specs.declared.reply.Reply.{Reply}
+use Rattle.plain_machine.specs.declared.reply.Reply.TheVariants as reply
+use Rattle.image_read.specs.declared.cause.Cause.{Cause}
+use Rattle.image_read.specs.declared.cause.Cause.TheVariants.{NoChain, BadBlock, ChainEnds, Mismatch, MemorySize, BadCounts as TheBadCounts, BadPfn, PfnOrder, PfnEnd}
+
+abbrev pub reply_of : Cause → Reply
+reply_of NoChain = reply.NoChain
+reply_of (BadBlock block) = reply.BadBlock block
+reply_of (ChainEnds map) = reply.ChainEnds map
+reply_of (Mismatch field) = reply.Mismatch field
+reply_of (MemorySize image own) = reply.MemorySize image own
+reply_of (TheBadCounts image_pages pages) = reply.BadCounts image_pages pages
+reply_of (BadPfn pfn) = reply.BadPfn pfn
+reply_of (PfnOrder a b) = reply.PfnOrder a b
+reply_of (PfnEnd found) = reply.PfnEnd found
+
+abbrev pub cause_of_numbers : PfnFault → Cause
+cause_of_numbers (numbers.BadPfn pfn) = BadPfn pfn
+cause_of_numbers (numbers.PfnOrder a b) = PfnOrder a b
+cause_of_numbers (numbers.PfnEnd found) = PfnEnd found
+
+abbrev pub cause_of_counts : BadCounts → Cause
+cause_of_counts bad = TheBadCounts bad.image_pages bad.pages

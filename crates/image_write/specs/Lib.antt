@@ -1,0 +1,4 @@
+pub mod Answers
+pub mod Copies
+pub mod Writing
+pub mod Kept

@@ -1,0 +1,12 @@
+//! Writes an image to the free slots of a swap area, a block a step (save_image and its calls, kernel/power/swap.c).
+#![tactic(auto)]
+
+mod copies;
+mod stream;
+#[cfg(test)]
+mod tests;
+mod write_step;
+mod writer;
+
+pub use write_step::WriteStep;
+pub use writer::Writer;

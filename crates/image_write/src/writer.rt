@@ -1,0 +1,390 @@
+ghost use Rattle.std.specs.Prelude.{◌≡◌, ◌⊎◌, ℕ, ◌+◌, ◌-◌, ◌*◌, ◌/◌, ◌%◌, ◌^◌, ◌<◌, ◌≤◌, List, false, true, IsTrue, All, length, take, slice_index, option_copied};
+ghost use Rattle.definitions.specs.Disk.{Changes, Elapses, raised, HasRisen};
+ghost use Rattle.definitions.specs.Bytes.{IsPage};
+ghost use Rattle.definitions.specs.Slots.{block_of};
+ghost use Rattle.image_write.specs.Answers.{after};
+ghost use Rattle.image_write.specs.Writing.{writes_of};
+ghost use Rattle.definitions.specs.NumberPages.{meta_of};
+ghost use Rattle.definitions.specs.Tables.{with_entry, with_entries};
+ghost use Rattle.swap_slots.specs.Table.{LiesIn, Matches, free_in};
+ghost use Rattle.pfn_pack.specs.Places.{members_in};
+ghost use Rattle.plain_machine.specs.Laid.{laid_block, is_map_write, page_of_write, page_place};
+
+use crate::WriteStep;
+use crate::copies::Cursor;
+use crate::stream::head_page;
+use frame_arena::Frames;
+use image_header::Info;
+use memory_bitmap::Bitmap;
+use page_core::{Failed, Page};
+use sector_disk::Disk;
+use std::marker::Model;
+use swap_map::{MapWriter, Pushed};
+use swap_slots::{FileMap, FreeRuns, SlotTable};
+
+/// The entry of a slot of the image.
+const IMAGE: u32 = 65536;
+
+/// An image that is written to free slots (`struct swap_map_handle`, kernel/power/swap.c). The first map's slot is taken at the
+/// begin, and each page takes one. With a map's last entry the slot of the next map is taken, and the full map is written.
+#[derive(Drop)]
+pub struct Writer {
+    info: Info,
+    extents: FileMap,
+    table: SlotTable,
+    /// The block of the first map.
+    first: u32,
+    /// How many writes are made.
+    written: u32,
+    /// The map that is filled, its block, and the block of the next one.
+    map: MapWriter,
+    block: u32,
+    next: u32,
+    cursor: Cursor,
+}
+
+impl Model for Writer {
+    ghost use Rattle.image_write.specs.Writing.{Writing};
+
+    ghost Value = { Writing };
+
+    ghost use Rattle.image_write.specs.Kept.{writing};
+
+    ghost view = { writing };
+}
+
+impl Writer {
+    ghost use Rattle.image_write.specs.Answers.{Succeeds, GoesOn};
+    ghost use Rattle.image_write.specs.Copies.{IsPassed};
+    ghost use Rattle.image_write.specs.Writing.{IsWriting, IsReady, BlocksBelow, IsSameImage, Makes, FailsToMake, page_next, write_next, map_next, IsSameCursor, slots_of_write, AreOfImage, IsReading, stream_of_sets};
+
+    /// Takes the slot of the first map.
+    pub fn begin(
+        frames: &mut Frames,
+        runs: &mut FreeRuns,
+        table: &SlotTable,
+        map: &FileMap,
+        info: &Info,
+    ) -> Writer
+        requires table { LiesIn frames.old table.now }
+        requires matches { Matches frames.old table.now runs.old }
+        requires room { writes_of info.now ≤ length (free_in frames.old table.now) }
+        requires blocks { BlocksBelow map.now (free_in frames.old table.now) (writes_of info.now) (2 ^ 32) }
+
+        ensures info { result.info ≡ info.now }
+        ensures extents { result.extents ≡ map.now }
+        ensures table { result.table ≡ table.now }
+        ensures written { result.written ≡ 0 }
+        ensures writing { IsWriting (free_in frames.old table.now) frames.new result }
+        ensures reading { (origs copies zeros : List ℕ) → IsReading origs copies zeros result }
+
+        ensures taken { frames.new ≡ with_entries frames.old table.now.first (take 1 (free_in frames.old table.now)) 65536 }
+        ensures len { length frames.new ≡ length frames.old }
+        ensures runs { Matches frames.new table.now runs.new }
+        ensures runs_room { runs.new.room ≡ runs.old.room }
+    {
+        // Fewer than 2^32 slots are free.
+        let _ = table.free_count(frames, runs);
+        let block = take_block(frames, runs, table, map);
+        Writer {
+            info: *info,
+            extents: *map,
+            table: *table,
+            first: block,
+            written: 0,
+            map: MapWriter::begin(),
+            block,
+            next: 0,
+            cursor: Cursor::begin(),
+        }
+    }
+
+    /// The block of the first map.
+    pub fn first(&self) -> u32
+        ensures { result ≡ self.now.first }
+    {
+        self.first
+    }
+
+    /// Makes the next write: that of a page of the image, or of a map. The pages are the info page, the number pages of `origs`,
+    /// and the copies in `copies` of those that aren't in `zeros`.
+    pub fn step<D: Disk>(
+        &mut self,
+        frames: &mut Frames,
+        runs: &mut FreeRuns,
+        disk: &mut D,
+        origs: &Bitmap,
+        copies: &Bitmap,
+        zeros: Option<&Bitmap>,
+    ) -> WriteStep
+        requires table { LiesIn frames.old self.old.table }
+        requires matches { Matches frames.old self.old.table runs.old }
+        requires writing { IsReady (D.block_count disk.old) frames.old self.old }
+        requires sets { AreOfImage self.old.info origs.now.members copies.now.members (members_in (option_copied zeros)) }
+        requires copies { All (λ p. p < length frames.old) copies.now.members }
+        requires reading { IsReading origs.now.members copies.now.members (members_in (option_copied zeros)) self.old }
+
+        ensures answer { (result ≡ WriteStep.Fault) ⊎ (result ≡ after (self.old.written + 1) (writes_of self.old.info)) }
+        ensures written { (free : List ℕ) → IsWriting free frames.old self.old → Succeeds result → let page = page_next (stream_of_sets self.old.info frames.old origs.now.members copies.now.members (members_in (option_copied zeros.entry))) self.old in
+            Changes (Makes (write_next free self.old page)) (D.content disk.old) (D.content disk.new) }
+        ensures failed { (free : List ℕ) → IsWriting free frames.old self.old → result ≡ WriteStep.Fault → let page = page_next (stream_of_sets self.old.info frames.old origs.now.members copies.now.members (members_in (option_copied zeros.entry))) self.old in
+            Changes (FailsToMake (write_next free self.old page)) (D.content disk.old) (D.content disk.new) }
+
+        ensures cause { result ≡ WriteStep.Fault → HasRisen (D.faults disk.old) (D.faults disk.new) }
+        ensures faults { D.faults disk.old ≤ D.faults disk.new }
+        ensures calls { D.calls disk.new ≡ raised (D.calls disk.old) }
+        ensures orders { D.orders disk.new ≡ D.orders disk.old }
+        ensures blocks { D.block_count disk.new ≡ D.block_count disk.old }
+        ensures telling { D.tells_moments disk.new ≡ D.tells_moments disk.old }
+        ensures time { IsTrue (D.tells_moments disk.old) → Changes (Elapses (D.moment disk.old) (D.moment disk.new)
+            (D.left_since disk.old) (D.left_since disk.new)) (D.content disk.old) (D.content disk.new) }
+
+        ensures image { IsSameImage self.old self.new }
+        ensures made { Succeeds result → self.new.written ≡ self.old.written + 1 }
+        ensures writing { (free : List ℕ) → IsWriting free frames.old self.old → GoesOn result → IsWriting free frames.new self.new }
+        ensures reading { GoesOn result → IsReading origs.now.members copies.now.members (members_in (option_copied zeros.entry)) self.new }
+
+        ensures taken { (free : List ℕ) → IsWriting free frames.old self.old →
+            frames.new ≡ with_entries frames.old self.old.table.first (slots_of_write self.old.info free self.old.written) 65536 }
+        ensures len { length frames.new ≡ length frames.old }
+        ensures runs { Matches frames.new self.old.table runs.new }
+        ensures room { runs.new.room ≡ runs.old.room }
+    {
+        if self.is_at_map() {
+            return self.write_map(disk);
+        }
+        let page = self.next_page(frames, origs, copies, zeros);
+        self.write_page(frames, runs, disk, &page)
+    }
+
+    /// Makes the next write, as `step` does, of a page that is given where it is one of a page of the image.
+    pub fn put<D: Disk>(
+        &mut self,
+        frames: &mut Frames,
+        runs: &mut FreeRuns,
+        disk: &mut D,
+        page: &Page,
+    ) -> WriteStep
+        requires table { LiesIn frames.old self.old.table }
+        requires matches { Matches frames.old self.old.table runs.old }
+        requires writing { IsReady (D.block_count disk.old) frames.old self.old }
+
+        ensures answer { (result ≡ WriteStep.Fault) ⊎ (result ≡ after (self.old.written + 1) (writes_of self.old.info)) }
+        ensures written { (free : List ℕ) → IsWriting free frames.old self.old → Succeeds result →
+            Changes (Makes (write_next free self.old page.now)) (D.content disk.old) (D.content disk.new) }
+        ensures failed { (free : List ℕ) → IsWriting free frames.old self.old → result ≡ WriteStep.Fault →
+            Changes (FailsToMake (write_next free self.old page.now)) (D.content disk.old) (D.content disk.new) }
+
+        ensures cause { result ≡ WriteStep.Fault → HasRisen (D.faults disk.old) (D.faults disk.new) }
+        ensures faults { D.faults disk.old ≤ D.faults disk.new }
+        ensures calls { D.calls disk.new ≡ raised (D.calls disk.old) }
+        ensures orders { D.orders disk.new ≡ D.orders disk.old }
+        ensures blocks { D.block_count disk.new ≡ D.block_count disk.old }
+        ensures telling { D.tells_moments disk.new ≡ D.tells_moments disk.old }
+        ensures time { IsTrue (D.tells_moments disk.old) → Changes (Elapses (D.moment disk.old) (D.moment disk.new)
+            (D.left_since disk.old) (D.left_since disk.new)) (D.content disk.old) (D.content disk.new) }
+
+        ensures image { IsSameImage self.old self.new }
+        ensures made { Succeeds result → self.new.written ≡ self.old.written + 1 }
+        ensures writing { (free : List ℕ) → IsWriting free frames.old self.old → GoesOn result → IsWriting free frames.new self.new }
+        ensures cursor { IsSameCursor self.old self.new }
+
+        ensures taken { (free : List ℕ) → IsWriting free frames.old self.old →
+            frames.new ≡ with_entries frames.old self.old.table.first (slots_of_write self.old.info free self.old.written) 65536 }
+        ensures len { length frames.new ≡ length frames.old }
+        ensures runs { Matches frames.new self.old.table runs.new }
+        ensures room { runs.new.room ≡ runs.old.room }
+    {
+        if self.is_at_map() {
+            return self.write_map(disk);
+        }
+        self.write_page(frames, runs, disk, page)
+    }
+
+    /// Writes a page of the image to the next free slot. With the last entry of the map the slot of the next map is taken.
+    fn write_page<D: Disk>(
+        &mut self,
+        frames: &mut Frames,
+        runs: &mut FreeRuns,
+        disk: &mut D,
+        page: &Page,
+    ) -> WriteStep
+        requires table { LiesIn frames.old self.old.table }
+        requires matches { Matches frames.old self.old.table runs.old }
+        requires writing { IsReady (D.block_count disk.old) frames.old self.old }
+        requires page { is_map_write self.old.info.pages self.old.written ≡ false }
+
+        ensures answer { (result ≡ WriteStep.Fault) ⊎ (result ≡ after (self.old.written + 1) (writes_of self.old.info)) }
+        ensures written { (free : List ℕ) → IsWriting free frames.old self.old → Succeeds result →
+            Changes (Makes (write_next free self.old page.now)) (D.content disk.old) (D.content disk.new) }
+        ensures failed { (free : List ℕ) → IsWriting free frames.old self.old → result ≡ WriteStep.Fault →
+            Changes (FailsToMake (write_next free self.old page.now)) (D.content disk.old) (D.content disk.new) }
+
+        ensures cause { result ≡ WriteStep.Fault → HasRisen (D.faults disk.old) (D.faults disk.new) }
+        ensures faults { D.faults disk.old ≤ D.faults disk.new }
+        ensures calls { D.calls disk.new ≡ raised (D.calls disk.old) }
+        ensures orders { D.orders disk.new ≡ D.orders disk.old }
+        ensures blocks { D.block_count disk.new ≡ D.block_count disk.old }
+        ensures telling { D.tells_moments disk.new ≡ D.tells_moments disk.old }
+        ensures time { IsTrue (D.tells_moments disk.old) → Changes (Elapses (D.moment disk.old) (D.moment disk.new)
+            (D.left_since disk.old) (D.left_since disk.new)) (D.content disk.old) (D.content disk.new) }
+
+        ensures image { IsSameImage self.old self.new }
+        ensures made { Succeeds result → self.new.written ≡ self.old.written + 1 }
+        ensures writing { (free : List ℕ) → IsWriting free frames.old self.old → GoesOn result → IsWriting free frames.new self.new }
+        ensures cursor { IsSameCursor self.old self.new }
+
+        ensures taken { (free : List ℕ) → IsWriting free frames.old self.old →
+            frames.new ≡ with_entries frames.old self.old.table.first (slots_of_write self.old.info free self.old.written) 65536 }
+        ensures len { length frames.new ≡ length frames.old }
+        ensures runs { Matches frames.new self.old.table runs.new }
+        ensures room { runs.new.room ≡ runs.old.room }
+    {
+        let writes = writes(&self.info);
+        let block = self.take_page(frames, runs);
+        match disk.write(block, page) {
+            Ok(()) => told(self.written, writes),
+            Err(Failed) => WriteStep::Fault,
+        }
+    }
+
+    /// Takes the slot of the next page of the image, and with the last entry of the map that of the next map. The answer is the
+    /// page's block.
+    fn take_page(&mut self, frames: &mut Frames, runs: &mut FreeRuns) -> u32
+        requires table { LiesIn frames.old self.old.table }
+        requires matches { Matches frames.old self.old.table runs.old }
+        requires writing { (free : List ℕ) × IsWriting free frames.old self.old }
+        requires page { is_map_write self.old.info.pages self.old.written ≡ false }
+
+        ensures block { (free : List ℕ) → IsWriting free frames.old self.old → result ≡ laid_block self.old.extents free (page_place (page_of_write self.old.written)) }
+        ensures written { self.new.written ≡ self.old.written + 1 }
+        ensures image { IsSameImage self.old self.new }
+        ensures writing { (free : List ℕ) → IsWriting free frames.old self.old → IsWriting free frames.new self.new }
+        ensures cursor { IsSameCursor self.old self.new }
+
+        ensures taken { (free : List ℕ) → IsWriting free frames.old self.old →
+            frames.new ≡ with_entries frames.old self.old.table.first (slots_of_write self.old.info free self.old.written) 65536 }
+        ensures len { length frames.new ≡ length frames.old }
+        ensures runs { Matches frames.new self.old.table runs.new }
+        ensures room { runs.new.room ≡ runs.old.room }
+    {
+        let block = take_block(frames, runs, &self.table, &self.extents);
+        self.written += 1;
+        if let Pushed::Room = self.map.push(u64::from(block)) {
+            return block;
+        }
+        self.next = take_block(frames, runs, &self.table, &self.extents);
+        self.map.link(u64::from(self.next));
+        block
+    }
+
+    /// Writes the map that is filled, and goes on with the next one.
+    fn write_map<D: Disk>(&mut self, disk: &mut D) -> WriteStep
+        requires writing { (memory : List (List ℕ)) × IsReady (D.block_count disk.old) memory self.old }
+        requires map { is_map_write self.old.info.pages self.old.written ≡ true }
+
+        ensures answer { (result ≡ WriteStep.Fault) ⊎ (result ≡ after (self.old.written + 1) (writes_of self.old.info)) }
+        ensures written { (free : List ℕ) (memory : List (List ℕ)) → IsWriting free memory self.old → Succeeds result →
+            Changes (Makes (map_next free self.old)) (D.content disk.old) (D.content disk.new) }
+        ensures failed { (free : List ℕ) (memory : List (List ℕ)) → IsWriting free memory self.old → result ≡ WriteStep.Fault →
+            Changes (FailsToMake (map_next free self.old)) (D.content disk.old) (D.content disk.new) }
+        ensures cause { result ≡ WriteStep.Fault → HasRisen (D.faults disk.old) (D.faults disk.new) }
+        ensures faults { D.faults disk.old ≤ D.faults disk.new }
+        ensures calls { D.calls disk.new ≡ raised (D.calls disk.old) }
+        ensures orders { D.orders disk.new ≡ D.orders disk.old }
+        ensures blocks { D.block_count disk.new ≡ D.block_count disk.old }
+        ensures telling { D.tells_moments disk.new ≡ D.tells_moments disk.old }
+        ensures time { IsTrue (D.tells_moments disk.old) → Changes (Elapses (D.moment disk.old) (D.moment disk.new)
+            (D.left_since disk.old) (D.left_since disk.new)) (D.content disk.old) (D.content disk.new) }
+
+        ensures image { IsSameImage self.old self.new }
+        ensures made { Succeeds result → self.new.written ≡ self.old.written + 1 }
+        ensures writing { (free : List ℕ) (memory : List (List ℕ)) → IsWriting free memory self.old → GoesOn result → IsWriting free memory self.new }
+        ensures cursor { IsSameCursor self.old self.new }
+    {
+        let writes = writes(&self.info);
+        match disk.write(self.block, self.map.page()) {
+            Ok(()) => {
+                self.written += 1;
+                self.block = self.next;
+                self.map = MapWriter::begin();
+                told(self.written, writes)
+            }
+            Err(Failed) => WriteStep::Fault,
+        }
+    }
+
+    /// The page of the image that is next.
+    fn next_page(
+        &mut self,
+        frames: &Frames,
+        origs: &Bitmap,
+        copies: &Bitmap,
+        zeros: Option<&Bitmap>,
+    ) -> Page
+        requires few { self.old.info.pages < 2 ^ 52 }
+        requires page { page_of_write self.old.written < self.old.info.pages }
+        requires sets { AreOfImage self.old.info origs.now.members copies.now.members (members_in (option_copied zeros)) }
+        requires copies { All (λ p. p < length frames.now) copies.now.members }
+        requires reading { IsReading origs.now.members copies.now.members (members_in (option_copied zeros)) self.old }
+        ensures page { result ≡ page_next (stream_of_sets self.old.info frames.now origs.now.members copies.now.members (members_in (option_copied zeros.entry))) self.old }
+        ensures same { self.new ≡ record self.old { orig = self.new.orig; copy = self.new.copy; passed = self.new.passed } }
+        ensures reading { IsPassed origs.now.members copies.now.members (members_in (option_copied zeros.entry)) self.new.orig self.new.copy self.new.passed
+            (page_of_write self.old.written + 1 - (meta_of self.old.info.image_pages + 1)) }
+    {
+        let k = self.written - self.written / 512;
+        match head_page(&self.info, origs, zeros, k) {
+            Some(page) => page,
+            None => {
+                let copy = self.cursor.next(origs, copies, zeros);
+                Page::from_bytes(frames.page(copy))
+            }
+        }
+    }
+
+    /// Whether the next write is one of a map.
+    fn is_at_map(&self) -> bool
+        requires few { writes_of self.now.info < 2 ^ 32 }
+        requires unfinished { self.now.written < writes_of self.now.info }
+        ensures { result ≡ is_map_write self.now.info.pages self.now.written }
+    {
+        self.written % 512 == 511 || self.written + 1 == writes(&self.info)
+    }
+}
+
+/// How many writes an image takes.
+fn writes(info: &Info) -> u32
+    requires { writes_of info.now < 2 ^ 32 }
+    ensures { result ≡ writes_of info.now }
+{
+    (info.pages + info.pages / 511 + 1) as u32
+}
+
+/// Gives the least free slot to the image, and answers its block.
+fn take_block(frames: &mut Frames, runs: &mut FreeRuns, table: &SlotTable, map: &FileMap) -> u32
+    requires table { LiesIn frames.old table.now }
+    requires matches { Matches frames.old table.now runs.old }
+    requires some { 0 < length (free_in frames.old table.now) }
+    requires fits { block_of map.now (slice_index (free_in frames.old table.now) 0) < 2 ^ 32 }
+    ensures block { result ≡ block_of map.now (slice_index (free_in frames.old table.now) 0) }
+    ensures taken { frames.new ≡ with_entry frames.old table.now.first (slice_index (free_in frames.old table.now) 0) 65536 }
+    ensures pages { All IsPage frames.old }
+    ensures len { length frames.new ≡ length frames.old }
+    ensures matches { Matches frames.new table.now runs.new }
+    ensures room { runs.new.room ≡ runs.old.room }
+{
+    // Each page frame has 4096 bytes, so that an entry that is set leaves the others.
+    let _ = frames.len();
+    let slot = table.take(frames, runs, IMAGE).unwrap();
+    map.block(slot) as u32
+}
+
+/// What is answered after `k` writes of so many.
+fn told(k: u32, of: u32) -> WriteStep
+    ensures { result ≡ after k of }
+{
+    if k == of {
+        return WriteStep::Done;
+    }
+    WriteStep::More { k, of }
+}

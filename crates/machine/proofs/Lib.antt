@@ -1,0 +1,4 @@
+pub mod Beyond
+pub mod Requests
+pub mod Rows
+pub mod ScriptedHardware

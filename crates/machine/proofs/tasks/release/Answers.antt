@@ -1,0 +1,35 @@
+use Rattle.std.proofs.Common.{◌≡◌, ◌+◌, ◌*◌, ◌/◌, ◌<◌, ℕ, List, length, set, sym, ap, ◌∙◌, subst, arith, refl, true, inl, inr}
+use Rattle.definitions.specs.Tables.{with_entry, entry_of}
+use Rattle.plain_machine.specs.declared.event.TaskOp.TheVariants as op
+use Rattle.plain_machine.specs.declared.reply.Reply.TheVariants as reply
+use Rattle.plain_machine.specs.Machine.{Memory, is_well_formed}
+use Rattle.machine.specs.TaskRow.{HasRow}
+use Rattle.machine.proofs.Rows.{entry_within}
+use Rattle.machine.proofs.Requests.{own_refused, own_entry_set, well_formed_by}
+use Rattle.machine.proofs.tasks.release.Goals as goal
+
+pub returns-in-Some-clause-row : goal.returns-in-Some-clause-row
+returns-in-Some-clause-row c =
+    own_refused c.args.hw.now c.args.t c.args.p (op.Release c.args.p) c.args.frames.now c.in-Some.refusal c.not_own.ensures.hardware c.requires.frames (λ a. refl) (sym c.in-Some.ensures.refusal)
+
+pub set_entry-requires : goal.set_entry-requires
+set_entry-requires c =
+    let within = entry_within c.args.hw.now c.args.frames.now c.args.p c.not_own.ensures.hardware c.requires.frames (c.in_default.ensures.valid refl) in
+    let table = c.frame_table.ensures.frame in
+    omega arith
+
+pub returns-clause-row : goal.returns-clause-row
+returns-clause-row c =
+    let h = c.args.hw.now in
+    let p = c.args.p in
+    let t = c.args.t in
+    let frames = c.args.frames.now in
+    let some = c.requires.task.some in
+    let few = c.requires.task.few in
+    let valid = c.in_default.ensures.valid refl in
+    let well : is_well_formed 1 ≡ true = refl in
+    let row = own_entry_set h t p 1 (op.Release p) frames c.not_own.ensures.hardware c.requires.task c.requires.frames valid (c.in_default.ensures.owned refl) well (omega arith)
+    (sym c.in_default.ensures.refusal) (λ a. refl) (λ a. (0, omega arith, refl)) in
+    let set_is : c.set_entry.new.frames ≡ with_entry frames h.frame_table p 1 =
+    c.set_entry.ensures.entry ∙ ap (λ (table : ℕ). with_entry frames table p 1) c.frame_table.ensures.frame in
+    subst (λ (n : Memory). HasRow h t (op.Release p) frames n reply.Done) (sym set_is) row

@@ -1,0 +1,5 @@
+pub mod FreshSlots
+pub mod KeptHardware
+pub mod Scripted
+pub mod TaskRow
+pub mod Usable

@@ -1,0 +1,142 @@
+ghost use Rattle.std.specs.Prelude.{◌≡◌, ◌==◌, ℕ, ◌+◌, ◌/◌, ◌<◌, ◌≤◌, List, [], length, replicate, take};
+ghost use Rattle.std.specs.List.{range_with_len, list_any};
+ghost use Rattle.definitions.specs.Bytes.{zero_page};
+ghost use Rattle.definitions.specs.Tables.{HasTable, with_entry};
+ghost use Rattle.definitions.specs.Zones.{top};
+ghost use Rattle.plain_machine.specs.Machine.{is_table_frame, is_of_table};
+ghost use Rattle.plain_machine.specs.Step.{fresh_frames, fresh_entry, with_each_entry};
+ghost use Rattle.machine.specs.FreshSlots.{slot_of_area};
+
+use crate::Hardware;
+use bitflags::Flags;
+use frame_arena::Frames;
+use page_states::{PageFlags, set_entry};
+use plain_machine::NoSwap;
+use sig_header::Area;
+
+/// The frame table's entry of a free page frame, and of one that has no flag.
+const FREE: u16 = 1;
+
+const IN_USE: u16 = 0;
+
+/// The slot table's entry of a free slot, and of a bad one.
+const FREE_SLOT: u32 = 0;
+
+const BAD_SLOT: u32 = 131072;
+
+/// How many entries of 4 bytes a page frame has.
+const ENTRIES: u32 = 1024;
+
+/// Makes the page frames those of fresh memory, but for the slot table's entries: zeros and the frame table, in which the
+/// tables' page frames are in use and all others free.
+pub fn set_fresh(frames: &mut Frames, hw: &Hardware)
+    requires { length frames.old ≡ top hw.now.zones }
+    ensures fresh { frames.new ≡ fresh_frames hw.now }
+    ensures len { length frames.new ≡ length frames.old }
+{
+    zero_all(frames);
+    let mut j = 0;
+    while let Some((start, count)) = hw.zones().zone(j) {
+        set_zone(frames, hw, start, count);
+        j += 1;
+    }
+}
+
+fn zero_all(frames: &mut Frames)
+    ensures { frames.new ≡ replicate (length frames.old) zero_page }
+{
+    for p in 0..frames.len() {
+        frames.zero(p);
+    }
+}
+
+/// Sets the frame table's entries of a zone.
+fn set_zone(frames: &mut Frames, hw: &Hardware, start: u32, count: u32)
+    requires number { start + count ≤ 65536 }
+    requires table { HasTable frames.old hw.now.frame_table (start + count) }
+    ensures set { frames.new ≡ with_each_entry (fresh_entry hw.now) (range_with_len start count) hw.now.frame_table frames.old }
+    ensures len { length frames.new ≡ length frames.old }
+{
+    for p in start..start + count {
+        let flags = PageFlags::from_bits_retain(fresh_flags(hw, p));
+        set_entry(frames, hw.frame_table(), p, flags, 0);
+    }
+}
+
+/// The flags of a page frame in fresh memory.
+fn fresh_flags(hw: &Hardware, p: u32) -> u16
+    requires { p < 65536 }
+    ensures { result ≡ fresh_entry hw.now p }
+{
+    if is_table_frame(hw, p) { IN_USE } else { FREE }
+}
+
+/// Whether a page frame is one of the tables'.
+pub(crate) fn is_table_frame(hw: &Hardware, p: u32) -> bool
+    requires { p < 65536 }
+    ensures test { result ≡ is_table_frame hw.now p }
+    ensures regions { hw.now.regions ≡ [] }
+{
+    is_of_table(hw.frame_table(), hw.zones().top(), p)
+        || is_of_table(hw.slot_table(), hw.slots(), p)
+}
+
+/// Whether a page frame is one of a table with so many entries.
+fn is_of_table(first: u32, entries: u32, p: u32) -> bool
+    requires first { first < 65536 }
+    requires entries { entries ≤ 131072 }
+    ensures { result ≡ is_of_table first entries p }
+{
+    first <= p && p < first + entries.div_ceil(ENTRIES)
+}
+
+/// Sets the slot table's entries in fresh memory: in an area that can be used slot 0 and the bad pages are bad and all others
+/// free, in any other every slot is bad.
+pub fn set_slots(frames: &mut Frames, hw: &Hardware, area: &Result<Area, NoSwap>)
+    requires { length frames.old ≡ top hw.now.zones }
+    ensures set { frames.new ≡ with_each_entry (slot_of_area area.now) (range_with_len 0 hw.now.slots) hw.now.slot_table frames.old }
+    ensures len { length frames.new ≡ length frames.old }
+{
+    for slot in 0..hw.slots() {
+        set_slot(frames, hw.slot_table(), slot, entry_of(area, slot));
+    }
+}
+
+#[tactic(auto, unfolding(definitions::specs::Tables::with_entry))]
+fn set_slot(frames: &mut Frames, table: u32, slot: u32, entry: u32)
+    requires { table + slot / 1024 < length frames.old }
+    ensures entry { frames.new ≡ with_entry frames.old table slot entry }
+    ensures len { length frames.new ≡ length frames.old }
+{
+    let p = table_frame(frames, table, slot);
+    frames.put_u32(p, (4 * (slot % ENTRIES)) as usize, entry);
+}
+
+/// The page frame of a slot's entry.
+fn table_frame(frames: &Frames, table: u32, slot: u32) -> u32
+    requires { table + slot / 1024 < length frames.now }
+    ensures { result ≡ table + slot / 1024 }
+{
+    let count = frames.len();
+    prove!(table < count && slot / ENTRIES < count - table);
+    table + slot / ENTRIES
+}
+
+/// The entry of a slot in a fresh slot table.
+fn entry_of(area: &Result<Area, NoSwap>, slot: u32) -> u32
+    ensures { result ≡ slot_of_area area.now slot }
+{
+    match area {
+        Ok(area) if slot != 0 && !is_bad(area, slot) => FREE_SLOT,
+        _ => BAD_SLOT,
+    }
+}
+
+fn is_bad(area: &Area, slot: u32) -> bool
+    ensures { result ≡ list_any (λ q. q == slot) (take area.now.count area.now.bad) }
+{
+    area.bad
+        .iter()
+        .take(area.count as usize)
+        .any(|&bad| bad == slot)
+}

@@ -1,0 +1,160 @@
+ghost use Rattle.std.specs.Prelude.{◌≡◌, ℕ, ◌<◌, ◌==◌, Contains, length, IsNone, IsTrue, IfSome};
+ghost use Rattle.definitions.specs.Zones.{numbers, top};
+ghost use Rattle.definitions.specs.Tables.{owner_of};
+ghost use Rattle.plain_machine.specs.Faults.{IsFault};
+ghost use Rattle.plain_machine.specs.Fitting.{IsFittingOp, IsTask};
+ghost use Rattle.plain_machine.specs.declared.event.TaskOp.TheVariants as op;
+ghost use Rattle.plain_machine.specs.Machine.{frame_entry, is_valid, IsHardware};
+ghost use Rattle.machine.specs.TaskRow.{HasRow, own_refusal};
+
+use crate::{Hardware, Machine};
+use bitflags::Flags;
+use frame_arena::Frames;
+use page_states::{PageFlags, entry, set_entry};
+use plain_machine::{Reply, TaskOp};
+
+impl Machine {
+    /// What a task asks of a machine that runs: it is done, or refused and nothing changes.
+    pub fn task(&mut self, frames: &mut Frames, t: u32, op: TaskOp) -> Reply
+        requires task { IsTask t }
+        requires op { IsFittingOp op }
+        requires frames { length frames.old ≡ top self.old.hw.zones }
+        ensures row { HasRow self.old.hw t op frames.old frames.new result }
+        ensures no_fault { IsFault result → ⊥ }
+        ensures machine { self.new ≡ self.old }
+        ensures len { length frames.new ≡ length frames.old }
+    {
+        let hw = &self.hw;
+        match op {
+            TaskOp::Claim(p) => claim(frames, hw, t, p),
+            TaskOp::Release(p) => release(frames, hw, t, p),
+            TaskOp::Store(p, k, v) => store(frames, hw, t, p, k, v),
+            TaskOp::Show(p, k) => show(frames, hw, t, p, k),
+            TaskOp::Cache(p) => cache(frames, hw, t, p),
+            TaskOp::Out(_) => unreachable!(),
+            TaskOp::TakeIn(_, _) => unreachable!(),
+        }
+    }
+}
+
+fn claim(frames: &mut Frames, hw: &Hardware, t: u32, p: u32) -> Reply
+    requires task { IsTask t }
+    requires frames { length frames.old ≡ top hw.now.zones }
+    ensures row { HasRow hw.now t (op.Claim p) frames.old frames.new result }
+    ensures no_fault { IsFault result → ⊥ }
+    ensures len { length frames.new ≡ length frames.old }
+{
+    if !is_valid(hw, p) {
+        return Reply::NoFrame;
+    }
+    if !is_free(frames, hw, p) {
+        return Reply::NotFree;
+    }
+    frames.zero(p);
+    set_entry(frames, hw.frame_table(), p, PageFlags::empty(), t as u16);
+    Reply::Done
+}
+
+fn release(frames: &mut Frames, hw: &Hardware, t: u32, p: u32) -> Reply
+    requires task { IsTask t }
+    requires frames { length frames.old ≡ top hw.now.zones }
+    ensures row { HasRow hw.now t (op.Release p) frames.old frames.new result }
+    ensures no_fault { IsFault result → ⊥ }
+    ensures len { length frames.new ≡ length frames.old }
+{
+    if let Some(refusal) = not_own(frames, hw, t, p) {
+        return refusal;
+    }
+    set_entry(frames, hw.frame_table(), p, PageFlags::FREE, 0);
+    Reply::Done
+}
+
+fn store(frames: &mut Frames, hw: &Hardware, t: u32, p: u32, k: u32, v: u64) -> Reply
+    requires task { IsTask t }
+    requires word { k < 512 }
+    requires frames { length frames.old ≡ top hw.now.zones }
+    ensures row { HasRow hw.now t (op.Store p k v) frames.old frames.new result }
+    ensures no_fault { IsFault result → ⊥ }
+    ensures len { length frames.new ≡ length frames.old }
+{
+    if let Some(refusal) = not_own(frames, hw, t, p) {
+        return refusal;
+    }
+    frames.set_word(p, k as usize, v);
+    Reply::Done
+}
+
+fn show(frames: &mut Frames, hw: &Hardware, t: u32, p: u32, k: u32) -> Reply
+    requires task { IsTask t }
+    requires word { k < 512 }
+    requires frames { length frames.old ≡ top hw.now.zones }
+    ensures row { HasRow hw.now t (op.Show p k) frames.old frames.new result }
+    ensures no_fault { IsFault result → ⊥ }
+    ensures len { length frames.new ≡ length frames.old }
+{
+    if let Some(refusal) = not_own(frames, hw, t, p) {
+        return refusal;
+    }
+    Reply::Word {
+        value: frames.word(p, k as usize),
+    }
+}
+
+fn cache(frames: &mut Frames, hw: &Hardware, t: u32, p: u32) -> Reply
+    requires task { IsTask t }
+    requires frames { length frames.old ≡ top hw.now.zones }
+    ensures row { HasRow hw.now t (op.Cache p) frames.old frames.new result }
+    ensures no_fault { IsFault result → ⊥ }
+    ensures len { length frames.new ≡ length frames.old }
+{
+    if let Some(refusal) = not_own(frames, hw, t, p) {
+        return refusal;
+    }
+    set_entry(frames, hw.frame_table(), p, PageFlags::CACHE, t as u16);
+    Reply::Done
+}
+
+/// Whether a page frame is free.
+fn is_free(frames: &Frames, hw: &Hardware, p: u32) -> bool
+    requires valid { Contains (numbers hw.now.zones) p }
+    requires frames { length frames.now ≡ top hw.now.zones }
+    ensures { result ≡ (frame_entry hw.now frames.now p == 1) }
+{
+    entry(frames, hw.frame_table(), p) == (PageFlags::FREE, 0)
+}
+
+/// Why a page frame isn't the task's, if it isn't: it isn't valid, or another's.
+fn not_own(frames: &Frames, hw: &Hardware, t: u32, p: u32) -> Option<Reply>
+    requires frames { length frames.now ≡ top hw.now.zones }
+    ensures refusal { result ≡ own_refusal hw.now frames.now t p }
+    ensures no_fault { IfSome result (λ r. IsFault r → ⊥) }
+    ensures valid { IsNone result → Contains (numbers hw.now.zones) p }
+    ensures owned { IsNone result → owner_of (frame_entry hw.now frames.now p) ≡ t }
+    ensures hardware { IsHardware hw.now }
+{
+    if !is_valid(hw, p) {
+        return Some(Reply::NoFrame);
+    }
+    if owner_of(frames, hw, p) != t {
+        return Some(Reply::NotOwner);
+    }
+    None
+}
+
+/// Whether the machine has a page frame.
+fn is_valid(hw: &Hardware, p: u32) -> bool
+    ensures test { result ≡ is_valid hw.now p }
+    ensures valid { IsTrue result → Contains (numbers hw.now.zones) p }
+    ensures hardware { IsHardware hw.now }
+{
+    hw.zones().valid(p)
+}
+
+/// The task that owns a page frame, 0 where none does.
+fn owner_of(frames: &Frames, hw: &Hardware, p: u32) -> u32
+    requires valid { Contains (numbers hw.now.zones) p }
+    requires frames { length frames.now ≡ top hw.now.zones }
+    ensures { result ≡ owner_of (frame_entry hw.now frames.now p) }
+{
+    u32::from(entry(frames, hw.frame_table(), p).1)
+}

@@ -1,0 +1,48 @@
+-- Places of members in a set of page frames, and what an image says of them.
+use Rattle.std.specs.Prelude.{◌≡◌, ◌≤◌, ◌<◌, ℕ, ◌+◌, ◌-◌, ◌*◌, ◌/◌, ◌%◌, ◌^◌, ◌==◌, Contains, List, [], length, filter, nat_lt, Option, Some, None, if◌then◌else◌}
+use Rattle.std.specs.List.{list_any}
+use Rattle.std.specs.Int.{bit_at}
+use Rattle.definitions.specs.FrameSets.{blocks}
+use Rattle.definitions.specs.Zones.{zone_at, InZone}
+use Rattle.definitions.specs.NumberPages.{zero_bit}
+use Rattle.memory_bitmap.specs.FrameSet.{FrameSet}
+
+-- how many members lie below a number
+unfoldable pub count_below : List ℕ → ℕ → ℕ
+count_below members p = length (filter (λ q. nat_lt q p) members)
+
+-- the page frames of a set, none where there is no set
+abbrev pub members_in : Option FrameSet → List ℕ
+members_in None = []
+members_in (Some set) = set.members
+
+-- the number of a page frame as an image has it: bit 63 is set where its page was all zero
+abbrev pub marked_number : List ℕ → ℕ → ℕ
+marked_number zeros p = if list_any (λ q. q == p) zeros then p + zero_bit else p
+
+-- the bits of a word that are 1 lie in so many places from bit `low` on, of which the first and the last are 1
+pub record IsSpan (word low width : ℕ) : Type 0 where
+  pub some : 0 < width
+  pub within : low + width ≤ 64
+  pub first : bit_at word low ≡ 1
+  pub last : bit_at word (low + width - 1) ≡ 1
+  pub below : (t : ℕ) → t < low → bit_at word t ≡ 0
+  pub above : (t : ℕ) → low + width ≤ t → bit_at word t ≡ 0
+
+-- the blocks of a set, and the first number of one
+abbrev pub runs : FrameSet → List (ℕ × ℕ)
+runs set = blocks set.zones
+
+abbrev pub start : FrameSet → ℕ → ℕ
+start set b = (zone_at (runs set) b).0
+
+-- which word has the bit of a number, where the words of all blocks are numbered in order
+abbrev pub word_of : FrameSet → ℕ → ℕ → ℕ
+word_of set q b = 512 * b + (q - start set b) / 64
+
+-- Word w: its bits are the members that it stands for.
+pub record IsWord (set : FrameSet) (w word : ℕ) : Type 0 where
+  pub within : w / 512 < length (runs set)
+  pub fits : word < 2 ^ 64
+  pub bit : (q b : ℕ) → Contains set.members q → InZone (runs set) q b → word_of set q b ≡ w → bit_at word ((q - start set b) % 64) ≡ 1
+  pub member : (t : ℕ) → t < 64 → bit_at word t ≡ 1 → InZone (runs set) (start set (w / 512) + 64 * (w % 512) + t) (w / 512) × Contains set.members (start set (w / 512) + 64 * (w % 512) + t)

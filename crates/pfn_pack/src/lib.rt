@@ -1,0 +1,13 @@
+//! The pages of frame numbers that follow the info page of an image (kernel/power/snapshot.c, pack_pfns and
+//! unpack_orig_pfns): 512 numbers in each, ascending, and behind the last one 2^64-1 where it doesn't fill its page.
+#![tactic(auto)]
+
+mod packing;
+#[cfg(test)]
+mod packing_tests;
+mod unpack;
+#[cfg(test)]
+mod unpack_tests;
+
+pub use packing::pack;
+pub use unpack::{PfnFault, Unpack};

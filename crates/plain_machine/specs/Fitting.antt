@@ -1,0 +1,40 @@
+-- The events that are served, with numbers in the ranges of a script's lines.
+use Rattle.std.specs.Prelude.{ℕ, ◌<◌, ◌≤◌, ⊤}
+use Rattle.plain_machine.specs.declared.event.Event.{Event}
+use Rattle.plain_machine.specs.declared.event.Event.TheVariants as event
+use Rattle.plain_machine.specs.declared.event.TaskOp.{TaskOp}
+use Rattle.plain_machine.specs.declared.event.TaskOp.TheVariants as op
+use Rattle.plain_machine.specs.declared.event.Actor.{Actor}
+use Rattle.plain_machine.specs.declared.event.Actor.TheVariants as actor
+
+-- tasks are numbered 1 to 64
+pub record IsTask (t : ℕ) : Type 0 where
+  pub some : 1 ≤ t
+  pub few : t ≤ 64
+
+-- page frame numbers are below 65536, words below 512
+abbrev pub IsFittingOp : TaskOp → Type 0
+IsFittingOp (op.Claim p) = p < 65536
+IsFittingOp (op.Release p) = p < 65536
+IsFittingOp (op.Store p k v) = (p < 65536) × (k < 512)
+IsFittingOp (op.Show p k) = (p < 65536) × (k < 512)
+IsFittingOp (op.Cache p) = p < 65536
+IsFittingOp (op.Out p) = ⊥
+IsFittingOp (op.TakeIn s p) = ⊥
+
+abbrev pub IsFittingActor : Actor → Type 0
+IsFittingActor actor.Core = ⊤
+IsFittingActor (actor.Task t) = IsTask t
+
+abbrev pub IsFitting : Event → Type 0
+IsFitting (event.Boot from) = ⊤
+IsFitting (event.Hibernate f) = ⊥
+IsFitting (event.Suspend f) = ⊥
+IsFitting event.Wake = ⊥
+IsFitting event.Settle = ⊥
+IsFitting (event.Shrink want) = ⊥
+IsFitting (event.Resume loader check) = ⊥
+IsFitting (event.Step x) = IsFittingActor x
+IsFitting (event.Task t o) = IsTask t × IsFittingOp o
+IsFitting (event.Cut pick) = ⊥
+IsFitting (event.Arm first count pick) = ⊥

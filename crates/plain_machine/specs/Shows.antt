@@ -1,0 +1,83 @@
+-- What a world shows of itself, and which running state that is. Nothing here speaks of a disk.
+use Rattle.std.specs.Prelude.{◌≡◌, ℕ, Bool, true, false, List, Option, Some, None, ⊤}
+use Rattle.definitions.specs.Tables.{with_entries}
+use Rattle.definitions.specs.Lists.{image_slots}
+use Rattle.plain_machine.specs.Machine.{Hardware, Memory, IsSameMemory, Fits}
+use Rattle.plain_machine.specs.State.{State, off, on, booting, hibernating, undoing, settling, waking, loading, asleep, Running, Held, nothing, sure, maybe, Flight}
+use Rattle.plain_machine.specs.declared.event.BootFrom.{BootFrom}
+use Rattle.plain_machine.specs.declared.reply.UndoCall.{UndoCall}
+use Rattle.plain_machine.specs.declared.held.Held.{Held as HeldFlag}
+use Rattle.plain_machine.specs.declared.held.Held.TheVariants.{No, Yes, Perhaps}
+use Rattle.plain_machine.specs.declared.no_swap.NoSwap.{NoSwap}
+
+-- What a world is at, and how many steps of it it has made. A boot says what memory it is from, a hibernation whether it is
+-- of a suspend, an undo the call that failed.
+pub data Activity : Type 0 where
+  rests : Activity
+  runs : Activity
+  boots : BootFrom → ℕ → Activity
+  hibernates : Bool → ℕ → Activity
+  undoes : UndoCall → ℕ → Activity
+  settles : ℕ → Activity
+  wakes : ℕ → Activity
+  loads : ℕ → Activity
+  sleeps : Activity
+
+abbrev pub activity_in : State → Activity
+activity_in (off held kept) = rests
+activity_in (on a) = runs
+activity_in (booting from dump held k) = boots from k
+activity_in (hibernating suspends i a k) = hibernates suspends k
+activity_in (undoing i call a k) = undoes call k
+activity_in (settling a k) = settles k
+activity_in (waking i held a k) = wakes k
+activity_in (loading load k) = loads k
+activity_in (asleep i held a) = sleeps
+
+-- What a world shows: what it is at, whether it keeps a dump's memory, whether it holds an image, why its area can't be
+-- used, the tasks' unfinished operations, the content of its page frames, the block that it keeps between two calls of the
+-- disk, the page frames of its copies, and the pages that a resume has read, by page frame.
+pub record Shown : Type 0 where
+  pub activity : Activity
+  pub keeps_dump : Bool
+  pub held : HeldFlag
+  pub unusable : Option NoSwap
+  pub flights : ℕ → Option Flight
+  pub frames : Memory
+  pub header : List ℕ
+  pub copies : List ℕ
+  pub loaded : List (ℕ × List ℕ)
+
+-- no, yes or perhaps: what is held
+abbrev pub ShowsHeld : HeldFlag → Held → Type 0
+ShowsHeld No nothing = ⊤
+ShowsHeld No (sure x) = ⊥
+ShowsHeld No (maybe x) = ⊥
+ShowsHeld Yes nothing = ⊥
+ShowsHeld Yes (sure x) = ⊤
+ShowsHeld Yes (maybe x) = ⊥
+ShowsHeld Perhaps nothing = ⊥
+ShowsHeld Perhaps (sure x) = ⊥
+ShowsHeld Perhaps (maybe x) = ⊤
+
+-- the page frames with the image's slots given back
+abbrev pub seen_frames : Hardware → Memory → Memory
+seen_frames h frames = with_entries frames h.slot_table (image_slots h.slots h.slot_table frames) 0
+
+-- A machine with this flag, reason, operations and page frames runs as the state says. The page frames, with the image's
+-- slots given back, are the state's memory, which fits.
+pub record RunsAs (h : Hardware) (flag : HeldFlag) (why : Option NoSwap) (operations : ℕ → Option Flight) (frames : Memory) (a : Running) : Type 0 where
+  pub held : ShowsHeld flag a.held
+  pub unusable : a.unusable ≡ why
+  pub flights : (t : ℕ) → a.flights t ≡ operations t
+  pub same : IsSameMemory h a.memory (seen_frames h frames)
+  pub fits : Fits h a.memory
+
+-- a world whose running state, from before an operation or now, is this one
+abbrev pub ShowsRunning : Hardware → Shown → Running → Type 0
+ShowsRunning h shown a = RunsAs h shown.held shown.unusable shown.flights shown.frames a
+
+-- A world that is off shows whether it keeps a dump's memory, and that memory.
+abbrev pub ShowsKept : Hardware → Shown → Option Memory → Type 0
+ShowsKept h shown None = shown.keeps_dump ≡ false
+ShowsKept h shown (Some m) = (shown.keeps_dump ≡ true) × IsSameMemory h m (seen_frames h shown.frames) × Fits h m

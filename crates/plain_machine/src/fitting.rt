@@ -1,0 +1,55 @@
+use crate::event::{Actor, Event, TaskOp};
+
+impl Event {
+    ghost use Rattle.std.specs.Prelude.{◌↔◌, IsTrue};
+    ghost use Rattle.plain_machine.specs.Fitting.{IsFitting};
+
+    /// Whether a machine serves the event: it is a boot, a task's claim, release, store, show or cache, or a step, and its
+    /// numbers are in the ranges of a script's lines.
+    pub fn fits(&self) -> bool
+        ensures { IsTrue result ↔ IsFitting self.now }
+    {
+        match *self {
+            Event::Boot(_) => true,
+            Event::Step(Actor::Core) => true,
+            Event::Step(Actor::Task(t)) => is_task(t),
+            Event::Task(t, op) => is_task(t) && op.fits(),
+            _ => false,
+        }
+    }
+}
+
+impl TaskOp {
+    ghost use Rattle.std.specs.Prelude.{◌↔◌, IsTrue};
+    ghost use Rattle.plain_machine.specs.Fitting.{IsFittingOp};
+
+    /// Whether the request is served, with its numbers in their ranges.
+    pub fn fits(&self) -> bool
+        ensures { IsTrue result ↔ IsFittingOp self.now }
+    {
+        match *self {
+            TaskOp::Claim(p) => is_frame(p),
+            TaskOp::Release(p) => is_frame(p),
+            TaskOp::Store(p, k, _) => is_frame(p) && k < 512,
+            TaskOp::Show(p, k) => is_frame(p) && k < 512,
+            TaskOp::Cache(p) => is_frame(p),
+            TaskOp::Out(_) => false,
+            TaskOp::TakeIn(_, _) => false,
+        }
+    }
+}
+
+ghost use Rattle.std.specs.Prelude.{◌<◌, ◌↔◌, IsTrue};
+ghost use Rattle.plain_machine.specs.Fitting.{IsTask};
+
+fn is_task(t: u32) -> bool
+    ensures { IsTrue result ↔ IsTask t }
+{
+    1 <= t && t <= 64
+}
+
+fn is_frame(p: u32) -> bool
+    ensures { IsTrue result ↔ (p < 65536) }
+{
+    p < 65536
+}

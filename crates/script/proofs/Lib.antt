@@ -1,0 +1,2 @@
+pub mod NumbersLaws
+pub mod ScriptLaws

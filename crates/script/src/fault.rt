@@ -1,0 +1,59 @@
+ghost use Rattle.std.specs.Prelude.{◌≡◌};
+ghost use Rattle.script.specs.Kinds.{kind_name};
+
+/// Where a script is at fault, and how.
+#[derive(Clone, Copy, Debug, PartialEq, Eq)]
+pub struct ScriptFault {
+    /// The line's number, from 1 on. It is 0 for a script that is too long.
+    pub line: u32,
+    pub kind: FaultKind,
+}
+
+/// How a script is at fault. In a line the first that applies is named, in this order.
+#[derive(Clone, Copy, Debug, PartialEq, Eq)]
+pub enum FaultKind {
+    /// The script has more than 1,048,576 bytes.
+    TooLong,
+    /// A byte is neither LF nor one from 32 to 126.
+    Byte,
+    /// The first word is unknown, or the word that must follow it isn't the second.
+    Word,
+    /// A setting stands after an event.
+    Late,
+    /// Too many or too few words follow the first.
+    Count,
+    /// A word isn't digits, or is above 2^64 - 1.
+    Number,
+    /// A number is outside its range.
+    Range,
+    /// The line brings the number of events above 100,000.
+    Events,
+    /// The settings before the first event describe no hardware.
+    Hardware,
+}
+
+/// Why a script wasn't read.
+#[derive(Clone, Copy, Debug, PartialEq, Eq)]
+pub enum ParseStop {
+    Fault(ScriptFault),
+    NoMemory,
+}
+
+impl FaultKind {
+    /// The name that a note prints.
+    pub fn name(self) -> &'static str
+        ensures { result.now ≡ kind_name self }
+    {
+        match self {
+            FaultKind::TooLong => "TooLong",
+            FaultKind::Byte => "Byte",
+            FaultKind::Word => "Word",
+            FaultKind::Late => "Late",
+            FaultKind::Count => "Count",
+            FaultKind::Number => "Number",
+            FaultKind::Range => "Range",
+            FaultKind::Events => "Events",
+            FaultKind::Hardware => "Hardware",
+        }
+    }
+}

@@ -1,0 +1,184 @@
+ghost use Rattle.std.specs.Prelude.{◌≡◌, ◌<◌, ◌≤◌, IfOk, IsOk, ◌↔◌, false, IfErr};
+ghost use Rattle.std.specs.List.{list_all};
+ghost use Rattle.script.specs.Words.{texts};
+ghost use Rattle.script.specs.Grammar.{Says, is_printable, line_item, words_item, IsFittingItem};
+ghost use Rattle.script.specs.Shapes.{second_word};
+
+use crate::fault::FaultKind;
+use crate::words::{Span, numbers, words_of};
+use plain_machine::{Actor, BootFrom, Event, TaskOp};
+use std::alloc::{AllocError, Global};
+
+// The numbers that may stand in the places of a line.
+const LAST: Span = Span {
+    low: 1,
+    high: 16_383,
+};
+
+const TASK: Span = Span { low: 1, high: 64 };
+
+const FRAME: Span = Span {
+    low: 0,
+    high: 65_535,
+};
+
+const WORD: Span = Span { low: 0, high: 511 };
+
+const VALUE: Span = Span {
+    low: 0,
+    high: u64::MAX,
+};
+
+const STEPS: Span = Span {
+    low: 1,
+    high: 100_000,
+};
+
+/// What a line says.
+#[derive(Clone, Copy)]
+pub enum Item {
+    /// It is empty, of spaces or a comment.
+    Nothing,
+    Sets(Setting),
+    /// So many times an event.
+    Events(u32, Event),
+}
+
+#[derive(Clone, Copy)]
+pub enum Setting {
+    /// The last page of the swap area.
+    Last(u32),
+}
+
+/// Why a line wasn't read.
+#[derive(Clone, Copy)]
+pub enum LineStop {
+    Fault(FaultKind),
+    NoMemory,
+}
+
+impl From<AllocError> for LineStop {
+    ghost use Rattle.std.specs.Prelude.{◌≡◌};
+    ghost use Rattle.script.specs.declared.grammar.LineStop.TheVariants.{NoMemory};
+
+    ghost from_gives = { λ _ stop. stop ≡ NoMemory };
+
+    fn from(_: AllocError) -> LineStop {
+        LineStop::NoMemory
+    }
+}
+
+impl From<FaultKind> for LineStop {
+    ghost use Rattle.std.specs.Prelude.{◌≡◌};
+    ghost use Rattle.script.specs.declared.grammar.LineStop.TheVariants.{Fault};
+
+    ghost from_gives = { λ kind stop. stop ≡ Fault kind };
+
+    fn from(kind: FaultKind) -> LineStop {
+        LineStop::Fault(kind)
+    }
+}
+
+/// What a line says, where `begun` tells that an event stands before it.
+#[tactic(auto, unfolding(crate::specs::Grammar::line_item))]
+pub fn item_of_line(alloc: Global, line: &[u8], begun: bool) -> Result<Item, LineStop>
+    ensures says { Says result (line_item begun line.now) }
+    ensures fits { IfOk result IsFittingItem }
+{
+    if !is_printable(line) {
+        return Err(LineStop::Fault(FaultKind::Byte));
+    }
+    if let [b'#', ..] = line {
+        return Ok(Item::Nothing);
+    }
+    let words = words_of(alloc, line)?;
+    match words.as_slice() {
+        [] => Ok(Item::Nothing),
+        [first, rest @ ..] => Ok(item_of_words(first, rest, begun)?),
+    }
+}
+
+fn is_printable(line: &[u8]) -> bool
+    ensures { result ≡ list_all is_printable line.now }
+{
+    line.iter().all(|b| (b' '..=b'~').contains(b))
+}
+
+/// That no event stands before a setting.
+fn before_events(begun: bool) -> Result<(), FaultKind>
+    ensures ok { IsOk result ↔ (begun ≡ false) }
+    ensures late { IfErr result (λ kind. kind ≡ FaultKind.Late) }
+{
+    if begun { Err(FaultKind::Late) } else { Ok(()) }
+}
+
+/// The words behind one that must stand first.
+fn behind<'a>(word: &[u8], words: &'a [&'a [u8]]) -> Result<&'a [&'a [u8]], FaultKind>
+    ensures ok { IfOk result (λ rest. second_word word.now (texts words.now) ≡ Ok (texts rest.now)) }
+    ensures err { IfErr result (λ kind. second_word word.now (texts words.now) ≡ Err kind) }
+{
+    match words {
+        [] => Err(FaultKind::Count),
+        [first, rest @ ..] => {
+            if *first == word {
+                Ok(rest)
+            } else {
+                Err(FaultKind::Word)
+            }
+        }
+    }
+}
+
+fn task(t: u32, op: TaskOp) -> Item
+    ensures { result ≡ Item.Events 1 (Event.Task t op) }
+{
+    Item::Events(1, Event::Task(t, op))
+}
+
+/// What the words of a line say, by the first of them.
+#[tactic(auto, unfolding(crate::specs::Grammar::words_item))]
+fn item_of_words(first: &[u8], rest: &[&[u8]], begun: bool) -> Result<Item, FaultKind>
+    ensures says { result ≡ words_item begun first.now (texts rest.now) }
+    ensures fits { IfOk result IsFittingItem }
+{
+    match first {
+        b"area" => {
+            before_events(begun)?;
+            let [last] = numbers(rest, [LAST])?;
+            Ok(Item::Sets(Setting::Last(last as u32)))
+        }
+        b"boot" => {
+            let [] = numbers(rest, [])?;
+            Ok(Item::Events(1, Event::Boot(BootFrom::Fresh)))
+        }
+        b"claim" => {
+            let [t, p] = numbers(rest, [TASK, FRAME])?;
+            Ok(task(t as u32, TaskOp::Claim(p as u32)))
+        }
+        b"release" => {
+            let [t, p] = numbers(rest, [TASK, FRAME])?;
+            Ok(task(t as u32, TaskOp::Release(p as u32)))
+        }
+        b"store" => {
+            let [t, p, k, v] = numbers(rest, [TASK, FRAME, WORD, VALUE])?;
+            Ok(task(t as u32, TaskOp::Store(p as u32, k as u32, v)))
+        }
+        b"show" => {
+            let [t, p, k] = numbers(rest, [TASK, FRAME, WORD])?;
+            Ok(task(t as u32, TaskOp::Show(p as u32, k as u32)))
+        }
+        b"cache" => {
+            let [t, p] = numbers(rest, [TASK, FRAME])?;
+            Ok(task(t as u32, TaskOp::Cache(p as u32)))
+        }
+        b"step" => {
+            let [] = numbers(behind(b"core", rest)?, [])?;
+            Ok(Item::Events(1, Event::Step(Actor::Core)))
+        }
+        b"steps" => {
+            let [n] = numbers(behind(b"core", rest)?, [STEPS])?;
+            Ok(Item::Events(n as u32, Event::Step(Actor::Core)))
+        }
+        _ => Err(FaultKind::Word),
+    }
+}

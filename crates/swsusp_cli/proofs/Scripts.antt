@@ -1,0 +1,45 @@
+-- A script that is read to its end, or to one byte past the largest.
+use Rattle.std.proofs.Common.{◌≡◌, ◌⊎◌, inl, inr, ◌<◌, ℕ, ◌+◌, Bool, true, false, cond, List, [], ◌++◌, length, nat_lt, Option, Some, None, Result, Ok, Err, refl, sym, ap, ◌∙◌, subst, arith, append-nil, length-append}
+use Rattle.std.proofs.lemmas.Bool.{lt-ltb, false≢true}
+use Rattle.std.proofs.lemmas.Option.{none-some}
+use Rattle.definitions.specs.Streams.{IsOver}
+use Rattle.script.specs.Grammar.{ScriptValue, script_of, value_of, lines_of}
+use Rattle.script.specs.declared.fault.FaultKind.TheVariants as kind
+use Rattle.script.specs.declared.fault.ScriptFault.{ScriptFault}
+use Rattle.swsusp_cli.specs.Reading.{IsReadAs}
+
+long_fault : (bytes : List ℕ) → 1048576 < length bytes → script_of bytes ≡ Err (record { line = 0; kind = kind.TooLong })
+unfolding script_of
+long_fault bytes long = ap (λ (b : Bool). cond b (Err (record { line = 0; kind = kind.TooLong })) (value_of (lines_of bytes))) (lt-ltb 1048576 (length bytes) long)
+
+abbrev is_ok_value : Result ScriptValue ScriptFault → Bool
+is_ok_value (Ok script) = true
+is_ok_value (Err fault) = false
+
+abbrev value_or : Option (List ℕ) → List ℕ
+value_or None = []
+value_or (Some xs) = xs
+
+-- what was left, where it is told, says what was read
+same_script : (old items new : List ℕ) → old ≡ items ++ new → (new ≡ []) ⊎ (1048576 < length items) → script_of old ≡ script_of items
+same_script old items new e (inl none) = ap script_of (e ∙ ap (λ (xs : List ℕ). items ++ xs) none ∙ append-nil items)
+same_script old items new e (inr long) =
+    let size = ap length e in
+    let sum = length-append items new in
+    long_fault old (omega arith) ∙ sym (long_fault items long)
+
+pub script_read : (before after : Option (List ℕ)) (items bytes : List ℕ) (answer : Result ScriptValue ScriptFault) → IsReadAs before items after → script_of items ≡ answer → before ≡ Some bytes → script_of bytes ≡ answer
+script_read None after items bytes answer read says e = absurd (none-some bytes e)
+script_read (Some old) None items bytes answer read says e = absurd read
+script_read (Some old) (Some new) items bytes answer read says e = ap script_of (sym (ap value_or e)) ∙ same_script old items new read.0 read.1 ∙ says
+
+-- a script that isn't too long was read to its end
+pub read_over : (before after : Option (List ℕ)) (items : List ℕ) (script : ScriptValue) → IsReadAs before items after → script_of items ≡ Ok script → IsOver after
+read_over None None items script read says = tt
+read_over None (Some new) items script read says = absurd read
+read_over (Some old) None items script read says = absurd read
+read_over (Some old) (Some new) items script read says =
+    elim read.1 [
+      | inl none ↦ none
+      | inr long ↦ absurd (false≢true (ap is_ok_value (sym (long_fault items long) ∙ says)))
+    ]

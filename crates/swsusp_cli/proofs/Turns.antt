@@ -1,0 +1,145 @@
+-- Events played one after another: what one more makes.
+use Rattle.std.proofs.Common.{◌≡◌, ◌≢◌, ◌⊎◌, inl, inr, ◌≤◌, ◌<◌, ℕ, zero, suc, ◌+◌, List, [], ◌∷◌, ◌++◌, length, take, drop, filter, cond, min, Bool, true, false, Option, Some, None, refl, sym, ap, ◌∙◌, arith, subst, ⊎_elim, append_assoc, length-append, flat_map}
+use Rattle.std.proofs.lemmas.Bool.{cases_eq}
+use Rattle.std.proofs.lemmas.List.Elements.{All-append, filter-append}
+use Rattle.std.proofs.lemmas.Grind.{flat_map-append}
+use Rattle.std.proofs.Math.Nat.{min-le_left}
+use Rattle.std.proofs.Math.Seq.{take-append-add}
+use Rattle.std.proofs.lemmas.List.{take_all, append-nil, take-append-drop}
+use Rattle.std.specs.List.{All}
+use Rattle.definitions.specs.Disk as disk
+use Rattle.definitions.specs.Streams.{Takes, TakesAll, TakesFront}
+use Rattle.definitions.proofs.Pieces.{Takes-none, Takes-more}
+use Rattle.plain_machine.specs.Faults.{IsFault}
+use Rattle.plain_machine.specs.Machine.{Hardware}
+use Rattle.plain_machine.specs.Replies.{text_of, line_of}
+use Rattle.plain_machine.specs.State.{State}
+use Rattle.plain_machine.specs.Step.{Step, Run}
+use Rattle.plain_machine.specs.declared.event.Event.{Event}
+use Rattle.plain_machine.specs.declared.event.Event.TheVariants as event
+use Rattle.plain_machine.specs.declared.reply.Reply.{Reply}
+use Rattle.world_core.specs.Row.{HasRow, IsStep, IsCalled}
+use Rattle.world_core.specs.StandsFor.{StandsFor, hardware_of}
+use Rattle.world_core.specs.declared.world.World.{World}
+use Rattle.swsusp_cli.specs.Playing.{Played, HasPlayed}
+use Rattle.swsusp_cli.specs.Replay.{is_step, steps_of}
+
+-- a run and one step more
+pub run_more : (h : Hardware) (v : disk.Image) (a : State) (es : List Event) (rs : List Reply) (b : State) (e : Event) (r : Reply) (b' : State) → Run h v a es rs b → Step h v b e r b' → Run h v a (es ++ e ∷ []) (rs ++ r ∷ []) b'
+run_more h v a [] [] b e r b' run step = (b', subst (λ (s : State). Step h v s e r b') run step, refl)
+run_more h v a [] (q ∷ rs) b e r b' run step = absurd run
+run_more h v a (d ∷ es) [] b e r b' run step = absurd run
+run_more h v a (d ∷ es) (q ∷ rs) b e r b' run step = (run.0, run.1, run_more h v run.0 es rs b e r b' run.2 step)
+
+-- A count that has risen has risen later too, and from earlier on.
+risen_later : (low mid high : ℕ) → low ≤ mid → mid ≤ high → disk.HasRisen low mid → disk.HasRisen low high
+risen_later low mid high a b (inl lt) = inl (omega arith)
+risen_later low mid high a b (inr e) = elim (cases_eq high disk.last_count) [ inl top ↦ inr top | inr ne ↦ inl (omega arith) ]
+
+pub risen_earlier : (low mid high : ℕ) → low ≤ mid → disk.HasRisen mid high → disk.HasRisen low high
+risen_earlier low mid high a (inl lt) = inl (omega arith)
+risen_earlier low mid high a (inr e) = inr e
+
+all_one : (P : Reply → Type 0) (r : Reply) → P r → All P (r ∷ [])
+all_one P r p zero d lt = p
+all_one P r p (suc i) d lt = let never : ⊥ = omega arith in absurd never
+
+pub played_none : (w : World) (content : Option disk.Content) (count : ℕ) (taken : Option (List ℕ)) → HasPlayed w w [] content content count count (λ replies. TakesAll (text_of replies) taken taken)
+played_none w content count taken c a told stands = ([], c, a, record { told = told; reads = refl; run = refl; stands = stands; faults = λ i d lt. let never : ⊥ = omega arith in absurd never }, Takes-none [] taken)
+
+pub played_more : (old mid new : World) (es : List Event) (e : Event) (r : Reply) (before between now : Option disk.Content) (low middle high : ℕ) (P Q : List Reply → Type 0) →
+    HasPlayed old mid es before between low middle P → HasRow e mid new r between now → hardware_of mid ≡ hardware_of old → (IsFault r → disk.HasRisen middle high) → low ≤ middle → middle ≤ high →
+    ((rs : List Reply) → P rs → Q (rs ++ r ∷ [])) → HasPlayed old new (es ++ e ∷ []) before now low high Q
+played_more old mid new es e r before between now low middle high P Q played row hw fault a b more c s told stands =
+    let so_far = played c s told stands in
+    let rs = so_far.0 in
+    let was = so_far.3 in
+    let turn = row so_far.1 was.told in
+    let goes = turn.1.row so_far.2 was.stands in
+    let step : Step (hardware_of old) (disk.as_it_reads c) so_far.2 e r goes.0 =
+    subst (λ (v : disk.Image). Step (hardware_of old) v so_far.2 e r goes.0) was.reads (subst (λ (h : Hardware). Step h (disk.as_it_reads so_far.1) so_far.2 e r goes.0) hw goes.1.step) in (
+      rs ++ r ∷ [],
+      turn.0,
+      goes.0,
+      record {
+        told = turn.1.told;
+        reads = turn.1.reads ∙ was.reads;
+        run = run_more (hardware_of old) (disk.as_it_reads c) s es rs so_far.2 e r goes.0 was.run step;
+        stands = goes.1.stands;
+        faults = All-append (λ x. IsFault x → disk.HasRisen low high) rs (r ∷ [])
+            (λ i d lt f. risen_later low middle high a b (was.faults i d lt f))
+            (all_one (λ x. IsFault x → disk.HasRisen low high) r (λ f. risen_earlier low middle high a (fault f)));
+      },
+      more rs so_far.4,
+    )
+
+-- Texts.
+
+pub taken_more : (t u : List ℕ) (old mid new : Option (List ℕ)) → TakesAll t old mid → TakesAll u mid new → TakesAll (t ++ u) old new
+taken_more t u None None None p q = tt
+taken_more t u None None (Some new) p q = q
+taken_more t u None (Some mid) new p q = absurd p
+taken_more t u (Some old) None new p q = absurd p
+taken_more t u (Some old) (Some mid) None p q = q
+taken_more t u (Some old) (Some mid) (Some new) p q =
+    q ∙ ap (λ (m : List ℕ). m ++ take (length u) u) p
+    ∙ ap (λ (xs : List ℕ). old ++ xs ++ take (length u) u) (take_all (length t) t (omega arith))
+    ∙ ap (λ (xs : List ℕ). old ++ t ++ xs) (take_all (length u) u (omega arith))
+    ∙ append_assoc old t u ∙ ap (λ (xs : List ℕ). old ++ xs) (sym (take_all (length (t ++ u)) (t ++ u) (omega arith)))
+
+front_taken : (t u : List ℕ) (k : ℕ) (old mid new : Option (List ℕ)) → TakesAll t old mid → Takes k u mid new → Takes (length t + k) (t ++ u) old new
+front_taken t u k None None None p q = tt
+front_taken t u k None None (Some new) p q = q
+front_taken t u k None (Some mid) new p q = absurd p
+front_taken t u k (Some old) None new p q = absurd p
+front_taken t u k (Some old) (Some mid) None p q = q
+front_taken t u k (Some old) (Some mid) (Some new) p q =
+    q ∙ ap (λ (m : List ℕ). m ++ take k u) p
+    ∙ ap (λ (xs : List ℕ). old ++ xs ++ take k u) (take_all (length t) t (omega arith))
+    ∙ append_assoc old t (take k u) ∙ ap (λ (xs : List ℕ). old ++ xs) (sym (take-append-add t u k))
+
+-- a text that was taken whole, and a front of another
+pub front_more : (t u : List ℕ) (old mid new : Option (List ℕ)) → TakesAll t old mid → TakesFront u mid new → TakesFront (t ++ u) old new
+front_more t u old mid new p (k, le, q) = (length t + k, omega (arith, length-append t u), front_taken t u k old mid new p q)
+
+pub text_more : (rs : List Reply) (r : Reply) → text_of (rs ++ r ∷ []) ≡ text_of rs ++ line_of r
+text_more rs r = flat_map-append line_of rs (r ∷ []) ∙ ap (λ (xs : List ℕ). text_of rs ++ xs) (append-nil (line_of r))
+
+-- Steps.
+step_test : (e : Event) → IsStep e → is_step e ≡ true
+step_test (event.Step x) s = refl
+step_test (event.Boot from) s = absurd s
+step_test (event.Hibernate f) s = absurd s
+step_test (event.Suspend f) s = absurd s
+step_test event.Wake s = absurd s
+step_test event.Settle s = absurd s
+step_test (event.Shrink want) s = absurd s
+step_test (event.Resume loader check) s = absurd s
+step_test (event.Task u o) s = absurd s
+step_test (event.Cut pick) s = absurd s
+step_test (event.Arm first count pick) s = absurd s
+
+pub steps_more : (es : List Event) (e : Event) → steps_of (es ++ e ∷ []) ≡ steps_of es + cond (is_step e) 1 0
+steps_more es e = ap length (filter-append is_step es (e ∷ [])) ∙ length-append (filter is_step es) (filter is_step (e ∷ [])) ∙ ap (λ (n : ℕ). steps_of es + n) (one_test (is_step e)) where
+  one_test : (b : Bool) → length (cond b (e ∷ []) []) ≡ cond b 1 0
+  one_test true = refl
+  one_test false = refl
+
+-- a count that is raised, where there is one step more
+raised_within : (start before now n m t : ℕ) → before ≤ start + n → m ≡ n + t → t ≡ 1 → now ≡ disk.raised before → now ≤ start + m
+raised_within start before now n m t so_far more one raised = omega (arith, min-le_left (before + 1) disk.last_count)
+
+same_within : (start before now n m t : ℕ) → before ≤ start + n → m ≡ n + t → now ≡ before → now ≤ start + m
+same_within start before now n m t so_far more same = omega arith
+
+pub calls_more : (es : List Event) (e : Event) (r : Reply) (start before now : ℕ) → before ≤ start + steps_of es → IsCalled e r before now → now ≤ start + steps_of (es ++ e ∷ [])
+calls_more es e r start before now so_far (inl same) = same_within start before now (steps_of es) (steps_of (es ++ e ∷ [])) (cond (is_step e) 1 0) so_far (steps_more es e) same
+calls_more es e r start before now so_far (inr called) =
+    raised_within start before now (steps_of es) (steps_of (es ++ e ∷ [])) (cond (is_step e) 1 0) so_far (steps_more es e) (ap (λ (b : Bool). cond b 1 0) (step_test e called.0)) called.2
+
+-- the steps of first events are at most those of all
+pub steps_front : (k : ℕ) (es : List Event) → steps_of (take k es) ≤ steps_of es
+steps_front k es =
+    let all : steps_of es ≡ steps_of (take k es) + steps_of (drop k es) =
+    ap steps_of (sym (take-append-drop k es)) ∙ ap length (filter-append is_step (take k es) (drop k es)) ∙ length-append (filter is_step (take k es)) (filter is_step (drop k es)) in
+    omega arith

@@ -1,0 +1,176 @@
+ghost use Rattle.std.specs.Prelude.{◌≡◌, ◌≢◌, ◌⊎◌, ◌≤◌, ◌+◌, ◌<◌, ◌^◌, Some, Ok, Err, IfOk, List, ℕ, All, length};
+ghost use Rattle.definitions.specs.Disk.{HasRisen};
+ghost use Rattle.definitions.specs.Streams.{IsOver};
+ghost use Rattle.script.specs.Grammar.{ScriptValue, IsLastPage};
+ghost use Rattle.plain_machine.specs.Fitting.{IsFitting};
+ghost use Rattle.swsusp_cli.specs.AnswerOf.{told_by};
+ghost use Rattle.swsusp_cli.specs.Outcome.{IsReplayed, small_told, fault_told, unformatted_told, memory_told};
+ghost use Rattle.swsusp_cli.specs.Readied.{IsReadied};
+
+use crate::answer::{Answer, print};
+use crate::formatting::{Unformatted, format};
+use crate::playing::play;
+use crate::reading::{ReadStop, read_script};
+use crate::status::Status;
+use dump_file::{Sink, Source};
+use machine::Hardware;
+use page_core::NoMemory;
+use script::{Line, ParseStop, Script, ScriptFault, parse};
+use sector_disk::Disk;
+use std::alloc::Global;
+use world_core::World;
+
+/// Why a replay doesn't begin.
+#[derive(Clone, Copy, Debug, PartialEq, Eq)]
+pub enum Stop {
+    Source,
+    Memory,
+    Script(ScriptFault),
+}
+
+/// Reads a script, formats the area that it names at block 0, and plays its events.
+pub fn replay<I: Source, O: Sink, N: Sink, D: Disk>(
+    alloc: Global,
+    input: &mut I,
+    out: &mut O,
+    note: &mut N,
+    disk: &mut D,
+) -> Status
+    ensures outcome { IsReplayed (record {
+      left = I.remaining input.old;
+      left_after = I.remaining input.new;
+      blocks = D.block_count disk.old;
+      content = D.content disk.old;
+      content_after = D.content disk.new;
+      low = D.faults disk.old;
+      high = D.faults disk.new;
+      out = O.taken out.old;
+      out_after = O.taken out.new;
+      note = N.taken note.old;
+      note_after = N.taken note.new;
+    }) result }
+    ensures stream { result ≡ Status.Stream → HasRisen (I.faults input.old) (I.faults input.new)
+        ⊎ HasRisen (O.faults out.old) (O.faults out.new) ⊎ HasRisen (N.faults note.old) (N.faults note.new) }
+    ensures device { result ≡ Status.Device → HasRisen (D.faults disk.old) (D.faults disk.new) }
+    ensures words { result ≢ Status.Words }
+    ensures orders { D.orders disk.new ≡ D.orders disk.old }
+    ensures calls { D.calls disk.new ≤ D.calls disk.old + 100002 }
+{
+    let script = match ready(alloc, input) {
+        Ok(script) => script,
+        Err(Stop::Source) => return unread(note),
+        Err(Stop::Memory) => return no_memory().tell(out, note),
+        Err(Stop::Script(fault)) => return no_script(fault).tell(out, note),
+    };
+    let mut world = match World::create(alloc, Hardware::scripted(script.last())) {
+        Ok(world) => world,
+        Err(NoMemory) => return no_memory().tell(out, note),
+    };
+    let blocks = disk.blocks();
+    if blocks <= script.last() {
+        return too_small(blocks, script.last() + 1).tell(out, note);
+    }
+    match format(disk, script.last()) {
+        Ok(()) => {}
+        Err(call) => return unformatted(call).tell(out, note),
+    }
+    match play(&mut world, disk, out, script.events()) {
+        Ok(()) => Status::Done,
+        Err(_) => {
+            let _ = print(note, b"sink fault\n");
+            Status::Stream
+        }
+    }
+}
+
+/// Reads and parses a script.
+fn ready<I: Source>(alloc: Global, input: &mut I) -> Result<Script, Stop>
+    ensures ready { IsReadied (I.remaining input.old) (I.remaining input.new) result }
+    ensures area { IfOk result (λ script. IsLastPage script.last) }
+    ensures fits { IfOk result (λ script. All IsFitting script.events) }
+    ensures few { IfOk result (λ script. length script.events ≤ 100000) }
+    ensures stream { result ≡ Err Stop.Source → HasRisen (I.faults input.old) (I.faults input.new) }
+    ensures counted { I.faults input.old ≤ I.faults input.new }
+{
+    let bytes = match read_script(alloc, input) {
+        Ok(bytes) => bytes,
+        Err(ReadStop::Fault) => return Err(Stop::Source),
+        Err(ReadStop::NoMemory) => return Err(Stop::Memory),
+    };
+    match parse(alloc, bytes.as_slice()) {
+        Ok(script) => Ok(script),
+        Err(ParseStop::Fault(fault)) => Err(Stop::Script(fault)),
+        Err(ParseStop::NoMemory) => Err(Stop::Memory),
+    }
+}
+
+/// The source failed: that is noted, once.
+fn unread<N: Sink>(note: &mut N) -> Status
+    ensures { result ≡ Status.Stream }
+{
+    let _ = print(note, b"source fault\n");
+    Status::Stream
+}
+
+fn no_memory() -> Answer
+    ensures told { told_by result ≡ memory_told }
+    ensures status { result.status ≡ Status.Memory }
+{
+    let mut note = Line::new();
+    note.put(b"no memory\n");
+    Answer {
+        status: Status::Memory,
+        out: Line::new(),
+        note,
+    }
+}
+
+fn no_script(fault: ScriptFault) -> Answer
+    ensures told { told_by result ≡ fault_told fault }
+    ensures status { result.status ≡ Status.Input }
+{
+    let mut note = Line::new();
+    note.put(b"script line ");
+    note.put_number(u64::from(fault.line));
+    note.put(b" ");
+    note.put(fault.kind.name().as_bytes());
+    note.put(b"\n");
+    Answer {
+        status: Status::Input,
+        out: Line::new(),
+        note,
+    }
+}
+
+fn too_small(blocks: u32, need: u32) -> Answer
+    ensures told { told_by result ≡ small_told blocks need }
+    ensures status { result.status ≡ Status.Refused }
+{
+    let mut note = Line::new();
+    note.put(b"disk blocks ");
+    note.put_number(u64::from(blocks));
+    note.put(b" need ");
+    note.put_number(u64::from(need));
+    note.put(b"\n");
+    Answer {
+        status: Status::Refused,
+        out: Line::new(),
+        note,
+    }
+}
+
+fn unformatted(call: Unformatted) -> Answer
+    ensures told { told_by result ≡ unformatted_told call }
+    ensures status { result.status ≡ Status.Device }
+{
+    let mut note = Line::new();
+    note.put(match call {
+        Unformatted::Write => b"write fault unsure\n",
+        Unformatted::Sync => b"sync fault unsure\n",
+    });
+    Answer {
+        status: Status::Device,
+        out: Line::new(),
+        note,
+    }
+}

@@ -1,0 +1,224 @@
+-- The row of a boot's end.
+use Rattle.std.proofs.Common.{◌≡◌, ◌≢◌, ◌⊎◌, inl, inr, ℕ, ◌+◌, ◌<◌, ◌≤◌, ◌^◌, Bool, true, false, cond, not, ◌||◌, ◌&&◌, List, [], ◌∷◌, ◌++◌, length, Option, Some, None, Result, Ok, Err, refl, sym, ap, ◌∙◌, arith, subst, eqb, ⊎_elim}
+use Rattle.std.proofs.lemmas.Bool.{cases_eq, eqb-true, false≢true}
+use Rattle.std.proofs.lemmas.Option.{none-some}
+use Rattle.std.specs.List.{Contains, range_with_len, list_all}
+use Rattle.definitions.specs.Disk as disk
+use Rattle.definitions.proofs.Ascending.{Contains-head, Contains-tail}
+use Rattle.definitions.proofs.DiskLaws.{IsImage-as_it_reads}
+use Rattle.definitions.proofs.ZoneNumbers.{range-bounds}
+use Rattle.sig_header.specs.AreaKind.{area_kind}
+use Rattle.sig_header.specs.declared.area.Area.{Area}
+use Rattle.sig_header.specs.declared.area.AreaKind.{AreaKind}
+use Rattle.sig_header.specs.declared.area.AreaKind.TheVariants.{Swap}
+use Rattle.plain_machine.specs.Machine.{Hardware, Memory, IsHardware, IsSameMemory, is_slot_entry, raw_slot_entry, bad_slot, image_slot}
+use Rattle.plain_machine.specs.Chain.{header_of, Marked, Holds}
+use Rattle.plain_machine.specs.Loader.{has}
+use Rattle.plain_machine.specs.UsableArea.{area_block, area_fault, bad_set_fault, bad_slots_of, bad_slots_in, has_bad_slots_of}
+use Rattle.plain_machine.specs.State.{State, off, on, booting, Running, Held, nothing, sure, maybe, Saved, own, other}
+use Rattle.plain_machine.specs.Stands.{Stands, EachImage, IsHeld, IsHeader, HasOneImage, NamesOnly, NamesHeld, HasArea, StandsOn}
+use Rattle.plain_machine.specs.Step.{Outcome, fresh_frames, fresh_memory, fresh_slot, with_each_entry, booted, boot_outcomes, boot_step}
+use Rattle.plain_machine.specs.Refusals.{refusal}
+use Rattle.plain_machine.specs.Shows.{Shown, seen_frames, ShowsHeld, ShowsRunning}
+use Rattle.plain_machine.specs.declared.event.BootFrom.TheVariants.{Fresh}
+use Rattle.plain_machine.specs.declared.event.Event.TheVariants as event
+use Rattle.plain_machine.specs.declared.event.Actor.TheVariants as actor
+use Rattle.plain_machine.specs.declared.held.Held.{Held as HeldFlag}
+use Rattle.plain_machine.specs.declared.held.Held.TheVariants.{No, Yes}
+use Rattle.plain_machine.specs.declared.no_swap.NoSwap.{NoSwap}
+use Rattle.plain_machine.specs.declared.no_swap.NoSwap.TheVariants as no_swap
+use Rattle.plain_machine.specs.declared.reply.Left.TheVariants.{Same}
+use Rattle.plain_machine.specs.declared.reply.Reply.{Reply}
+use Rattle.plain_machine.specs.declared.reply.Reply.TheVariants as reply
+use Rattle.plain_machine.proofs.EachEntry.{each-same}
+use Rattle.plain_machine.proofs.Fresh.{slot_entry-fresh_memory, fits-fresh_memory, seen-plain}
+use Rattle.plain_machine.proofs.SameMemory.{same_refl}
+use Rattle.machine.specs.FreshSlots.{slot_of_area}
+use Rattle.world_core.specs.declared.world.Core.TheVariants.{Off, Running as Runs, BootBegun, BootSynced}
+use Rattle.world_core.specs.declared.world.World.{World}
+use Rattle.world_core.specs.StandsFor.{StandsFor, activity_of, hardware_of, shown, reason_of}
+use Rattle.world_core.specs.Row.{GoesOn, IsRow}
+use Rattle.world_core.proofs.Rows.{accepted_step, row_at_boot}
+use Rattle.world_core.proofs.Booting.{accepts_step, failed_stands}
+use Rattle.world_core.proofs.Headers.{IsAreaOf, reason_read, slot_read}
+
+-- The slots of fresh memory.
+
+one_of_two : (b : Bool) (x y : ℕ) → (cond b x y ≡ x) ⊎ (cond b x y ≡ y)
+one_of_two true x y = inl refl
+one_of_two false x y = inr refl
+
+slot_value : (area : Result Area NoSwap) (s : ℕ) → (slot_of_area area s ≡ bad_slot) ⊎ (slot_of_area area s ≡ 0)
+slot_value (Ok area) s = one_of_two (has (bad_slots_of area) s) bad_slot 0
+slot_value (Err why) s = inl refl
+
+slot_zero : (area : Result Area NoSwap) → slot_of_area area 0 ≡ bad_slot
+slot_zero (Ok area) = refl
+slot_zero (Err why) = refl
+
+slot_well : (area : Result Area NoSwap) (s : ℕ) → is_slot_entry s (slot_of_area area s) ≡ true
+slot_well area s =
+    elim (cases_eq s 0) [
+      | inl e ↦ ap (λ (k : ℕ). is_slot_entry k (slot_of_area area k)) e ∙ ap (is_slot_entry 0) (slot_zero area)
+      | inr ne ↦ ⊎_elim (λ e. ap (is_slot_entry s) e) (λ e. ap (is_slot_entry s) e ∙ ap (λ (b : Bool). not b && true) (not_true (eqb s 0) (λ t. ne (eqb-true s 0 t)))) (slot_value area s)
+    ] where
+      not_true : (b : Bool) → (b ≡ true → ⊥) → b ≡ false
+      not_true true never = absurd (never refl)
+      not_true false never = refl
+
+all_true : (test : ℕ → Bool) (xs : List ℕ) → ((x : ℕ) → Contains xs x → test x ≡ true) → list_all test xs ≡ true
+all_true test [] each = refl
+all_true test (x ∷ xs) each = ap (λ (b : Bool). b && list_all test xs) (each x (Contains-head x xs)) ∙ all_true test xs (λ y in'. each y (Contains-tail x xs y in'))
+
+-- What is held after a boot.
+
+abbrev pub SettlesHeld : Hardware → disk.Content → Memory → Held → Bool → Type 0
+SettlesHeld h c dump held image =
+    (now : Held) × Contains (boot_outcomes h (disk.as_it_reads c) Fresh dump held ++ (reply.ReadFault Same, off held None) ∷ []) (reply.Booted image, on (booted h (disk.as_it_reads c) Fresh dump now))
+    × ShowsHeld (cond image Yes No) now × IsHeld h c now
+
+settles_held : (h : Hardware) (c : disk.Content) (dump : Memory) (held : Held) (image : Bool) → disk.IsImage c (disk.as_it_reads c) → HasOneImage c → IsHeld h c held →
+    (image ≡ true → Marked h (disk.as_it_reads c)) → (image ≡ false → Marked h (disk.as_it_reads c) → ⊥) → SettlesHeld h c dump held image
+settles_held h c dump nothing true here one is marked unmarked = absurd (is (disk.as_it_reads c) here (marked refl))
+settles_held h c dump nothing false here one is marked unmarked = (nothing, (0, omega arith, refl), tt, is)
+settles_held h c dump (sure (own i)) true here one is marked unmarked = (sure (own i), (0, omega arith, refl), tt, is)
+settles_held h c dump (sure (own i)) false here one is marked unmarked = absurd (unmarked refl (is (disk.as_it_reads c) here).0.marked)
+settles_held h c dump (sure other) true here one is marked unmarked = (sure other, (0, omega arith, refl), tt, is)
+settles_held h c dump (sure other) false here one is marked unmarked = absurd (unmarked refl (is (disk.as_it_reads c) here))
+settles_held h c dump (maybe (own i)) true here one is marked unmarked = (
+  sure (own i),
+  (1, omega arith, refl),
+  tt,
+  λ w in'. (elim (is w in').0 [ inl never ↦ absurd (never (subst (Marked h) (one (disk.as_it_reads c) w here in') (marked refl))) | inr holds ↦ holds ], (is w in').1),
+)
+settles_held h c dump (maybe (own i)) false here one is marked unmarked =
+    (nothing, (0, omega arith, refl), tt, λ w in' m. unmarked refl (subst (Marked h) (one w (disk.as_it_reads c) in' here) m))
+settles_held h c dump (maybe other) true here one is marked unmarked =
+    (sure other, (1, omega arith, refl), tt, λ w in'. subst (Marked h) (one (disk.as_it_reads c) w here in') (marked refl))
+settles_held h c dump (maybe other) false here one is marked unmarked =
+    (nothing, (0, omega arith, refl), tt, λ w in' m. unmarked refl (subst (Marked h) (one w (disk.as_it_reads c) in' here) m))
+
+-- What has come about at the end of a boot, over a disk that reads v.
+pub record Ends (old new : World) (v : disk.Image) (image : Bool) : Type 0 where
+  pub core : new.core ≡ Runs
+  pub hardware : hardware_of new ≡ hardware_of old
+  pub area : IsAreaOf (hardware_of old) v new.machine.area
+  pub frames : new.frames ≡ with_each_entry (slot_of_area new.machine.area) (range_with_len 0 (hardware_of old).slots) (hardware_of old).slot_table old.frames
+  pub held : new.machine.held ≡ cond image Yes No
+  pub marked : image ≡ true → Marked (hardware_of old) v
+  pub unmarked : image ≡ false → Marked (hardware_of old) v → ⊥
+
+frames_fresh : (old new : World) (v : disk.Image) (image : Bool) → Ends old new v image → old.frames ≡ fresh_frames (hardware_of old) → new.frames ≡ fresh_memory (hardware_of old) (fresh_slot (hardware_of old) v)
+unfolding fresh_memory
+frames_fresh old new v image ends fresh =
+    let h = hardware_of old in
+    ends.frames ∙ ap (with_each_entry (slot_of_area new.machine.area) (range_with_len 0 h.slots) h.slot_table) fresh
+    ∙ each-same (slot_of_area new.machine.area) (fresh_slot h v) (range_with_len 0 h.slots) h.slot_table (fresh_frames h) (λ s. slot_read h v new.machine.area s ends.area)
+
+-- no slot of fresh memory is an image's
+fresh_value : (h : Hardware) (v : disk.Image) (area : Result Area NoSwap) (s : ℕ) → IsAreaOf h v area → (fresh_slot h v s ≡ bad_slot) ⊎ (fresh_slot h v s ≡ 0)
+fresh_value h v area s is = let e = slot_read h v area s is in ⊎_elim (λ bad. inl (sym e ∙ bad)) (λ free. inr (sym e ∙ free)) (slot_value area s)
+
+fresh_small : (h : Hardware) (v : disk.Image) (area : Result Area NoSwap) (s : ℕ) → IsAreaOf h v area → fresh_slot h v s < 2 ^ 32
+fresh_small h v area s is =
+    ⊎_elim (λ (e : fresh_slot h v s ≡ bad_slot). let r : fresh_slot h v s < 2 ^ 32 = omega arith in r) (λ (e : fresh_slot h v s ≡ 0). let r : fresh_slot h v s < 2 ^ 32 = omega arith in r) (fresh_value h v area s is)
+
+fresh_plain : (h : Hardware) (v : disk.Image) (area : Result Area NoSwap) (s : ℕ) → IsHardware h → IsAreaOf h v area → s < h.slots → raw_slot_entry h (fresh_memory h (fresh_slot h v)) s ≡ image_slot → ⊥
+fresh_plain h v area s hw is lt e =
+    let at = slot_entry-fresh_memory h (fresh_slot h v) s hw (λ k. fresh_small h v area k is) lt in
+    ⊎_elim (λ (b : fresh_slot h v s ≡ bad_slot). let r : ⊥ = omega arith in r) (λ (f : fresh_slot h v s ≡ 0). let r : ⊥ = omega arith in r) (fresh_value h v area s is)
+
+shows_running : (old new : World) (v : disk.Image) (image : Bool) (dump : Memory) (now : Held) → Ends old new v image → IsHardware (hardware_of old) → (hardware_of old).regions ≡ [] → old.frames ≡ fresh_frames (hardware_of old) → ShowsHeld new.machine.held now →
+    ShowsRunning (hardware_of old) (shown new) (booted (hardware_of old) v Fresh dump now)
+shows_running old new v image dump now ends hw none fresh flag =
+    let h = hardware_of old in
+    let m = fresh_memory h (fresh_slot h v) in
+    let seen : seen_frames h new.frames ≡ m = ap (seen_frames h) (frames_fresh old new v image ends fresh) ∙ seen-plain h m (λ s lt. fresh_plain h v new.machine.area s hw ends.area lt) in
+    record {
+      held = flag;
+      unusable = reason_read h v new.machine.area ends.area;
+      flights = λ t. refl;
+      same = subst (IsSameMemory h m) (sym seen) (same_refl h m);
+      fits = fits-fresh_memory h (fresh_slot h v) hw none (λ s. fresh_small h v new.machine.area s ends.area)
+          (λ s. ap (is_slot_entry s) (sym (slot_read h v new.machine.area s ends.area)) ∙ slot_well new.machine.area s);
+    }
+
+names_none : (h : Hardware) (s : Shown) (c : disk.Content) (held : Held) → ((k : ℕ) → k < h.slots → raw_slot_entry h s.frames k ≡ image_slot → ⊥) → NamesHeld h s c held
+names_none h s c nothing plain = λ k lt e. absurd (plain k lt e)
+names_none h s c (sure (own i)) plain = λ v in' marked k lt e. absurd (plain k lt e)
+names_none h s c (sure other) plain = tt
+names_none h s c (maybe (own i)) plain = λ v in' marked k lt e. absurd (plain k lt e)
+names_none h s c (maybe other) plain = tt
+
+-- the bad slots of the table are the area's
+bad_slots_are : (h : Hardware) (v : disk.Image) (area : Result Area NoSwap) → IsHardware h → IsAreaOf h v area → area_fault h v ≡ None → bad_set_fault h (fresh_memory h (fresh_slot h v)) (area_kind (area_block h v)) ≡ None
+bad_slots_are h v (Err why) hw is none = absurd (none-some why (sym none ∙ is))
+bad_slots_are h v (Ok area) hw is none =
+    let m = fresh_memory h (fresh_slot h v) in
+    let test : ℕ → Bool = λ s. cond (eqb (raw_slot_entry h m s) bad_slot) (has (bad_slots_of area) s) (not (has (bad_slots_of area) s)) in
+    let each : (s : ℕ) → Contains (range_with_len 0 h.slots) s → test s ≡ true = λ s in'.
+    let bounds = range-bounds 0 h.slots s in' in
+    let below = bounds.1 in
+    let at : raw_slot_entry h m s ≡ cond (has (bad_slots_of area) s) bad_slot 0 = slot_entry-fresh_memory h (fresh_slot h v) s hw (λ k. fresh_small h v (Ok area) k is) (omega arith) ∙ sym (slot_read h v (Ok area) s is) in
+    ap (λ (entry : ℕ). cond (eqb entry bad_slot) (has (bad_slots_of area) s) (not (has (bad_slots_of area) s))) at ∙ agree (has (bad_slots_of area) s) in
+    ap (bad_set_fault h m) is.0 ∙ ap (λ (b : Bool). cond b None (Some no_swap.BadSet)) (all_true test (range_with_len 0 h.slots) each) where
+      agree : (b : Bool) → cond (eqb (cond b bad_slot 0) bad_slot) b (not b) ≡ true
+      agree true = refl
+      agree false = refl
+
+stands_on : (old new : World) (c : disk.Content) (image : Bool) (dump : Memory) (now : Held) → Ends old new (disk.as_it_reads c) image → IsHardware (hardware_of old) → (hardware_of old).regions ≡ [] → old.frames ≡ fresh_frames (hardware_of old) →
+    ShowsHeld new.machine.held now → IsHeld (hardware_of old) c now → IsHeader (hardware_of old) c → StandsFor new c (on (booted (hardware_of old) (disk.as_it_reads c) Fresh dump now))
+unfolding StandsFor
+stands_on old new c image dump now ends hw none fresh flag held header =
+    let h = hardware_of old in
+    let v = disk.as_it_reads c in
+    let frames = frames_fresh old new v image ends fresh in
+    subst (λ (g : Hardware). Stands g (shown new) c (on (booted h v Fresh dump now))) (sym ends.hardware)
+    (record {
+      activity = ap activity_of ends.core;
+      parts = (
+        shows_running old new v image dump now ends hw none fresh flag,
+        record {
+          held = held;
+          slot_pages = λ s page e. absurd (none-some page e);
+          names = names_none h (shown new) c now (λ s lt e. fresh_plain h v new.machine.area s hw ends.area lt (ap (λ (n : Memory). raw_slot_entry h n s) (sym frames) ∙ e));
+          header = header;
+          area = record { area = λ e. e; bad_slots = λ e. bad_slots_are h v new.machine.area hw ends.area e };
+        },
+      );
+    })
+
+booting_parts : (w : World) (c : disk.Content) (dump : Memory) (held : Held) → StandsFor w c (booting Fresh dump held 1) → (w.frames ≡ fresh_frames (hardware_of w)) × IsHeld (hardware_of w) c held × IsHeader (hardware_of w) c × HasOneImage c
+unfolding StandsFor
+booting_parts w c dump held stands = (stands.parts.0, stands.parts.1.0, stands.parts.1.1, stands.parts.2 refl)
+
+pub boot_ends : (old new : World) (blocks : ℕ) (c : disk.Content) (image : Bool) → disk.IsContent blocks c → old.core ≡ BootSynced → Ends old new (disk.as_it_reads c) image → IsHardware (hardware_of old) → (hardware_of old).regions ≡ [] → IsRow (event.Step actor.Core) old new (reply.Booted image) c c
+boot_ends old new blocks c image whole core ends hw none =
+    row_at_boot (event.Step actor.Core) old new (reply.Booted image) c c 1 (ap activity_of core)
+    (λ dump held stands.
+    let h = hardware_of old in
+    let v = disk.as_it_reads c in
+    let parts = booting_parts old c dump held stands in
+    let settled = settles_held h c dump held image (IsImage-as_it_reads blocks c whole) parts.3 parts.1 ends.marked ends.unmarked in (
+      on (booted h v Fresh dump settled.0),
+      record {
+        step = accepted_step h v (booting Fresh dump held 1) (event.Step actor.Core) (reply.Booted image) (on (booted h v Fresh dump settled.0)) (accepts_step h dump held 1) settled.1;
+        stands = stands_on old new c image dump settled.0 ends hw none parts.0 (subst (λ (f : HeldFlag). ShowsHeld f settled.0) (sym ends.held) settled.2) settled.3 parts.2;
+      },
+    ))
+
+read_fault_in : (h : Hardware) (v : disk.Image) (dump : Memory) (held : Held) → Contains (boot_outcomes h v Fresh dump held ++ (reply.ReadFault Same, off held None) ∷ []) (reply.ReadFault Same, off held None)
+read_fault_in h v dump nothing = (1, omega arith, refl)
+read_fault_in h v dump (sure x) = (1, omega arith, refl)
+read_fault_in h v dump (maybe x) = (2, omega arith, refl)
+
+pub boot_read_fails : (old new : World) (c : disk.Content) → old.core ≡ BootSynced → new.core ≡ Off → hardware_of new ≡ hardware_of old → IsRow (event.Step actor.Core) old new (reply.ReadFault Same) c c
+boot_read_fails old new c core core' hw =
+    row_at_boot (event.Step actor.Core) old new (reply.ReadFault Same) c c 1 (ap activity_of core)
+    (λ dump held stands. (
+      off held None,
+      record {
+        step = accepted_step (hardware_of old) (disk.as_it_reads c) (booting Fresh dump held 1) (event.Step actor.Core) (reply.ReadFault Same) (off held None) (accepts_step (hardware_of old) dump held 1) (read_fault_in (hardware_of old) (disk.as_it_reads c) dump held);
+        stands = failed_stands old new c dump held 1 core' hw stands;
+      },
+    ))

@@ -1,0 +1,94 @@
+-- The row of a task's request, and of a new world.
+use Rattle.std.proofs.Common.{◌≡◌, ◌<◌, ℕ, Bool, true, false, cond, not, ◌&&◌, List, [], ◌∷◌, Option, Some, None, refl, sym, ap, ap₂, ◌∙◌, arith, subst, eqb}
+use Rattle.std.specs.List.{Contains, range_with_len, list_all}
+use Rattle.definitions.specs.Disk as disk
+use Rattle.definitions.proofs.Ascending.{Contains-head, Contains-tail}
+use Rattle.definitions.proofs.ZoneNumbers.{range-bounds}
+use Rattle.definitions.proofs.DiskLaws.{IsImage-settled, as_it_reads-settled}
+use Rattle.sig_header.specs.AreaKind.{area_kind}
+use Rattle.sig_header.specs.declared.area.Area.{Area}
+use Rattle.sig_header.specs.declared.area.AreaKind.{AreaKind}
+use Rattle.sig_header.specs.declared.area.AreaKind.TheVariants.{Image, Old, Other, BadArea, Swap}
+use Rattle.plain_machine.specs.Machine.{Hardware, Memory, raw_slot_entry, bad_slot, image_slot}
+use Rattle.plain_machine.specs.Chain.{Marked}
+use Rattle.plain_machine.specs.Loader.{has}
+use Rattle.plain_machine.specs.UsableArea.{area_block, area_fault, bad_set_fault, bad_slots_of, has_bad_slots_of}
+use Rattle.plain_machine.specs.State.{State, off, on, Running, Held, nothing, sure, maybe, Saved, own, other}
+use Rattle.plain_machine.specs.Stands.{Stands, IsHeld, NamesHeld, HaveSlotPages, HasArea, StandsOn}
+use Rattle.plain_machine.specs.Shows.{Shown, RunsAs, ShowsRunning}
+use Rattle.plain_machine.specs.Step.{no_flights}
+use Rattle.machine.specs.declared.machine.Machine.{Machine}
+use Rattle.plain_machine.specs.declared.event.Event.TheVariants as event
+use Rattle.plain_machine.specs.declared.event.TaskOp.{TaskOp}
+use Rattle.plain_machine.specs.declared.no_swap.NoSwap.{NoSwap}
+use Rattle.plain_machine.specs.declared.no_swap.NoSwap.TheVariants as no_swap
+use Rattle.plain_machine.specs.declared.reply.Reply.{Reply}
+use Rattle.machine.specs.TaskRow.{HasRow, GoesOn as TaskGoesOn}
+use Rattle.world_core.specs.declared.world.Core.TheVariants.{Running as Runs}
+use Rattle.world_core.specs.declared.world.World.{World}
+use Rattle.world_core.specs.StandsFor.{StandsFor, activity_of, hardware_of, shown, reason_of}
+use Rattle.world_core.specs.Row.{GoesOn, IsRow}
+use Rattle.world_core.proofs.Rows.{row_at_run}
+
+-- page frames with the same slot entries name the same slots
+names_same : (h : Hardware) (s s' : Shown) (c : disk.Content) (held : Held) → ((k : ℕ) → k < h.slots → raw_slot_entry h s'.frames k ≡ raw_slot_entry h s.frames k) → NamesHeld h s c held → NamesHeld h s' c held
+names_same h s s' c nothing same names = λ k lt e. names k lt (sym (same k lt) ∙ e)
+names_same h s s' c (sure (own i)) same names = λ v in' marked k lt e. names v in' marked k lt (sym (same k lt) ∙ e)
+names_same h s s' c (sure other) same names = tt
+names_same h s s' c (maybe (own i)) same names = λ v in' marked k lt e. names v in' marked k lt (sym (same k lt) ∙ e)
+names_same h s s' c (maybe other) same names = tt
+
+list_all-same : (p q : ℕ → Bool) (xs : List ℕ) → ((x : ℕ) → Contains xs x → p x ≡ q x) → list_all p xs ≡ list_all q xs
+list_all-same p q [] same = refl
+list_all-same p q (x ∷ xs) same = ap₂ (λ (a b : Bool). a && b) (same x (Contains-head x xs)) (list_all-same p q xs (λ y in'. same y (Contains-tail x xs y in')))
+
+-- memories with the same slot entries have the same bad slots
+bad_set_same : (h : Hardware) (m n : Memory) (kind : AreaKind) → ((k : ℕ) → k < h.slots → raw_slot_entry h n k ≡ raw_slot_entry h m k) → bad_set_fault h n kind ≡ bad_set_fault h m kind
+bad_set_same h m n (Image mark) same = refl
+bad_set_same h m n Old same = refl
+bad_set_same h m n (Other sig) same = refl
+bad_set_same h m n (BadArea why) same = refl
+bad_set_same h m n (Swap area) same =
+    ap (λ (b : Bool). cond b None (Some no_swap.BadSet))
+    (list_all-same (λ s. cond (eqb (raw_slot_entry h n s) bad_slot) (has (bad_slots_of area) s) (not (has (bad_slots_of area) s)))
+    (λ s. cond (eqb (raw_slot_entry h m s) bad_slot) (has (bad_slots_of area) s) (not (has (bad_slots_of area) s))) (range_with_len 0 h.slots)
+    (λ s in'. let bounds = range-bounds 0 h.slots s in' in let below = bounds.1 in ap (λ (entry : ℕ). cond (eqb entry bad_slot) (has (bad_slots_of area) s) (not (has (bad_slots_of area) s))) (same s (omega arith))))
+
+on_parts : (w : World) (c : disk.Content) (a : Running) → StandsFor w c (on a) → ShowsRunning (hardware_of w) (shown w) a × StandsOn (hardware_of w) (shown w) c a
+unfolding StandsFor
+on_parts w c a stands = stands.parts
+
+stands_after : (old new : World) (c : disk.Content) (t : ℕ) (o : TaskOp) (r : Reply) (a b : Running) → new.core ≡ Runs → new.machine ≡ old.machine → StandsFor old c (on a) →
+    TaskGoesOn (hardware_of old) t o old.machine.held (reason_of old.machine.area) old.frames new.frames r a b → StandsFor new c (on b)
+unfolding StandsFor
+stands_after old new c t o r a b core machine stands goes =
+    let h = hardware_of old in
+    let before = stands.parts.1 in
+    let hw : hardware_of new ≡ h = ap (λ (m : Machine). m.hw) machine in
+    let runs : ShowsRunning h (shown new) b =
+    subst (λ (m : Machine). RunsAs h m.held (reason_of m.area) no_flights new.frames b) (sym machine) goes.runs in
+    subst (λ (g : Hardware). Stands g (shown new) c (on b)) (sym hw)
+    (record {
+      activity = ap activity_of core;
+      parts = (
+        runs,
+        record {
+          held = subst (IsHeld h c) (sym goes.held) before.held;
+          slot_pages = subst (HaveSlotPages h c) (sym goes.slots) before.slot_pages;
+          names = subst (NamesHeld h (shown new) c) (sym goes.held) (names_same h (shown old) (shown new) c a.held goes.shown_entries before.names);
+          header = before.header;
+          area = record {
+            area = λ e. before.area.area (sym goes.unusable ∙ e);
+            bad_slots = λ e. bad_set_same h a.memory b.memory (area_kind (area_block h (disk.as_it_reads c))) goes.slot_entries ∙ before.area.bad_slots (sym goes.unusable ∙ e);
+          };
+        },
+      );
+    })
+
+-- the row of a machine that runs
+pub row_of_task : (old new : World) (c : disk.Content) (t : ℕ) (o : TaskOp) (r : Reply) → old.core ≡ Runs → new.core ≡ Runs → new.machine ≡ old.machine → HasRow (hardware_of old) t o old.frames new.frames r → IsRow (event.Task t o) old new r c c
+row_of_task old new c t o r core core' machine row =
+    row_at_run (event.Task t o) old new r c c core
+    (λ a stands.
+    let goes = row old.machine.held (reason_of old.machine.area) a (on_parts old c a stands).0 in
+    (on goes.0, record { step = goes.1.step (disk.as_it_reads c); stands = stands_after old new c t o r a goes.0 core' machine stands goes.1 }))

@@ -1,0 +1,10 @@
+//! The simulated machine as a whole: it takes events, and acts on its page frames and its disk.
+#![tactic(auto)]
+
+mod boot;
+#[cfg(test)]
+mod tests;
+mod world;
+
+pub use machine::Hardware;
+pub use world::World;

@@ -1,0 +1,70 @@
+use crate::{Hardware, World};
+use plain_machine::{Actor, BootFrom, Event, Reply, TaskOp};
+use sector_disk::{Disk, MemDisk};
+use sig_header::area_page;
+use std::test::Fail;
+
+// A machine boots, and task 3 claims page frame 10, stores 77 in its first word and reads it back. The tables are in page
+// frames 0 to 6.
+#[test]
+fn boots_and_serves_tasks(rt: HostRuntime) -> Result<(), Fail> {
+    let mut disk = MemDisk::create(rt.alloc(), 3001).ok().ok_or("memory")?;
+    disk.write(0, &area_page(3000, &[]))
+        .ok()
+        .ok_or("a write failed")?;
+    let mut world = World::create(rt.alloc(), Hardware::scripted(3000))
+        .ok()
+        .ok_or("memory")?;
+    let script = [
+        (Event::Task(3, TaskOp::Claim(10)), Reply::NotOn),
+        (Event::Boot(BootFrom::Kept), Reply::NoDump),
+        (Event::Boot(BootFrom::Fresh), Reply::More { k: 0, of: 2 }),
+        (Event::Step(Actor::Core), Reply::More { k: 1, of: 2 }),
+        (Event::Task(3, TaskOp::Claim(10)), Reply::Frozen),
+        (Event::Step(Actor::Core), Reply::Booted { image: false }),
+        (Event::Task(3, TaskOp::Claim(6)), Reply::NotFree),
+        (Event::Task(3, TaskOp::Claim(10)), Reply::Done),
+        (Event::Task(3, TaskOp::Store(10, 0, 77)), Reply::Done),
+        (
+            Event::Task(3, TaskOp::Show(10, 0)),
+            Reply::Word { value: 77 },
+        ),
+        (Event::Task(4, TaskOp::Release(10)), Reply::NotOwner),
+        (Event::Task(3, TaskOp::Show(4096, 0)), Reply::NoFrame),
+        (Event::Step(Actor::Task(3)), Reply::Idle),
+        (Event::Boot(BootFrom::Fresh), Reply::NotOff),
+    ];
+    for (event, reply) in &script {
+        assert_eq!(rt; world.event(&mut disk, *event), *reply);
+    }
+    assert_eq!(rt; world.blocks(), 3001);
+    assert!(rt; world.frames().len() > 10);
+    assert_eq!(rt; world.frames().word(10, 0), 77);
+    Ok(())
+}
+
+// The sync of a boot fails: the machine is off, and boots again.
+#[test]
+fn a_fault_in_boot(rt: HostRuntime) -> Result<(), Fail> {
+    let mut disk = MemDisk::create(rt.alloc(), 3001).ok().ok_or("memory")?;
+    let mut world = World::create(rt.alloc(), Hardware::scripted(3000))
+        .ok()
+        .ok_or("memory")?;
+    disk.arm(1, 1, 0);
+    let script = [
+        (Event::Boot(BootFrom::Fresh), "more"),
+        (Event::Step(Actor::Core), "sync fault"),
+        (Event::Step(Actor::Core), "idle"),
+        (Event::Boot(BootFrom::Fresh), "more"),
+    ];
+    for (event, reply) in &script {
+        let got = match world.event(&mut disk, *event) {
+            Reply::More { .. } => "more",
+            Reply::SyncFault { .. } => "sync fault",
+            Reply::Idle => "idle",
+            _ => "another reply",
+        };
+        assert_eq!(rt; got, *reply);
+    }
+    Ok(())
+}

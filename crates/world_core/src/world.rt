@@ -1,0 +1,139 @@
+ghost use Rattle.std.specs.Prelude.{◌≡◌, ℕ, ◌⊎◌, ◌≤◌, length, IfOk};
+ghost use Rattle.definitions.specs.Zones.{top};
+
+use frame_arena::Frames;
+use machine::{Hardware, Machine};
+use page_core::NoMemory;
+use plain_machine::{Actor, Event, Reply, TaskOp};
+use sector_disk::Disk;
+use std::alloc::Global;
+
+/// A simulated machine: what it is at, and its page frames. It takes all its memory when it is created.
+#[derive(Drop)]
+pub struct World {
+    pub(crate) machine: Machine,
+    pub(crate) frames: Frames,
+    pub(crate) core: Core,
+    ghost size: { length frames ≡ top machine.hw.zones },
+}
+
+/// What the machine as a whole is at.
+#[derive(Clone, Copy, Debug, PartialEq, Eq)]
+pub(crate) enum Core {
+    Off,
+    Running,
+    /// A boot has begun.
+    BootBegun,
+    /// A boot has synced the disk.
+    BootSynced,
+}
+
+impl World {
+    ghost use Rattle.plain_machine.specs.Fitting.{IsFitting, IsTask, IsFittingOp};
+    ghost use Rattle.definitions.specs.Disk.{Content, HasRisen};
+    ghost use Rattle.plain_machine.specs.declared.event.Event.TheVariants as event;
+    ghost use Rattle.plain_machine.specs.declared.event.Actor.TheVariants as actor;
+    ghost use Rattle.world_core.specs.StandsFor.{hardware_of, blocks_of, IsOff, IsNew};
+    ghost use Rattle.world_core.specs.Row.{HasRow, IsRow, IsCalled};
+    ghost use Rattle.plain_machine.specs.Faults.{IsFault};
+
+    /// A machine that is off, with page frames of zeros.
+    pub fn create(alloc: Global, hw: Hardware) -> Result<World, NoMemory>
+        ensures { IfOk result (IsNew hw) }
+    {
+        let frames = Frames::create(alloc, hw.zones().top())?;
+        Ok(World {
+            machine: Machine::of(hw),
+            frames,
+            core: Core::Off,
+        })
+    }
+
+    /// The content of the page frames.
+    pub fn frames(&self) -> &Frames
+        ensures { result.now ≡ self.now.frames }
+    {
+        &self.frames
+    }
+
+    /// How many blocks the disk had at the last boot that was accepted, 0 before any.
+    pub fn blocks(&self) -> u32
+        ensures { result ≡ blocks_of self.now }
+    {
+        self.machine.blocks
+    }
+
+    /// What happens to the machine, and what it answers. It makes at most one call of the disk.
+    pub fn event<D: Disk>(&mut self, disk: &mut D, event: Event) -> Reply
+        requires fits { IsFitting event }
+        requires blocks { IsOff self.old ⊎ (D.block_count disk.old ≡ blocks_of self.old) }
+        ensures row { HasRow event self.old self.new result (D.content disk.old) (D.content disk.new) }
+        ensures cause { IsFault result → HasRisen (D.faults disk.old) (D.faults disk.new) }
+        ensures faults { D.faults disk.old ≤ D.faults disk.new }
+        ensures calls { IsCalled event result (D.calls disk.old) (D.calls disk.new) }
+        ensures orders { D.orders disk.new ≡ D.orders disk.old }
+        ensures hardware { hardware_of self.new ≡ hardware_of self.old }
+        ensures blocks { IsOff self.new ⊎ (D.block_count disk.new ≡ blocks_of self.new) }
+    {
+        match event {
+            Event::Boot(from) => self.boot(disk.blocks(), from),
+            Event::Task(t, op) => self.task(t, op),
+            Event::Step(actor) => self.step_of(disk, actor),
+            _ => unreachable!(),
+        }
+    }
+
+    fn task(&mut self, t: u32, op: TaskOp) -> Reply
+        requires task { IsTask t }
+        requires op { IsFittingOp op }
+        ensures row { (c : Content) → IsRow (event.Task t op) self.old self.new result c c }
+        ensures cause { IsFault result → ⊥ }
+        ensures hardware { hardware_of self.new ≡ hardware_of self.old }
+        ensures blocks { blocks_of self.new ≡ blocks_of self.old }
+        ensures core { self.new.core ≡ self.old.core }
+    {
+        match self.core {
+            Core::Off => Reply::NotOn,
+            Core::BootBegun | Core::BootSynced => Reply::Frozen,
+            Core::Running => self.machine.task(&mut self.frames, t, op),
+        }
+    }
+
+    /// A step of an actor. No task has an operation in flight.
+    fn step_of<D: Disk>(&mut self, disk: &mut D, actor: Actor) -> Reply
+        requires blocks { IsOff self.old ⊎ (D.block_count disk.old ≡ blocks_of self.old) }
+        ensures row { HasRow (event.Step actor) self.old self.new result (D.content disk.old) (D.content disk.new) }
+        ensures cause { IsFault result → HasRisen (D.faults disk.old) (D.faults disk.new) }
+        ensures faults { D.faults disk.old ≤ D.faults disk.new }
+        ensures calls { IsCalled (event.Step actor) result (D.calls disk.old) (D.calls disk.new) }
+        ensures orders { D.orders disk.new ≡ D.orders disk.old }
+        ensures hardware { hardware_of self.new ≡ hardware_of self.old }
+        ensures blocks { blocks_of self.new ≡ blocks_of self.old }
+        ensures disk_blocks { D.block_count disk.new ≡ D.block_count disk.old }
+        ensures off { IsOff self.old → IsOff self.new }
+    {
+        match actor {
+            Actor::Core => self.step(disk),
+            Actor::Task(_) => Reply::Idle,
+        }
+    }
+
+    fn step<D: Disk>(&mut self, disk: &mut D) -> Reply
+        requires blocks { IsOff self.old ⊎ (D.block_count disk.old ≡ blocks_of self.old) }
+        ensures row { HasRow (event.Step actor.Core) self.old self.new result (D.content disk.old) (D.content disk.new) }
+        ensures cause { IsFault result → HasRisen (D.faults disk.old) (D.faults disk.new) }
+        ensures faults { D.faults disk.old ≤ D.faults disk.new }
+        ensures calls { IsCalled (event.Step actor.Core) result (D.calls disk.old) (D.calls disk.new) }
+        ensures orders { D.orders disk.new ≡ D.orders disk.old }
+        ensures hardware { hardware_of self.new ≡ hardware_of self.old }
+        ensures blocks { blocks_of self.new ≡ blocks_of self.old }
+        ensures disk_blocks { D.block_count disk.new ≡ D.block_count disk.old }
+        ensures off { IsOff self.old → IsOff self.new }
+    {
+        match self.core {
+            Core::Off | Core::Running => Reply::Idle,
+            Core::BootBegun => self.sync_for_boot(disk),
+            Core::BootSynced => self.finish_boot(disk),
+        }
+    }
+}
