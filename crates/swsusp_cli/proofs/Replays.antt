@@ -1,27 +1,30 @@
 -- From events played over a formatted disk to a run of the plain machine.
-use Rattle.std.proofs.Common.{◌≡◌, ◌≤◌, ◌<◌, ℕ, ◌+◌, ◌-◌, ◌*◌, ◌/◌, Bool, true, cond, List, [], length, nat_lt, Option, Some, None, refl, sym, ap, ◌∙◌, subst, arith}
+use Rattle.std.proofs.Common.{◌≡◌, ◌≤◌, ◌<◌, ℕ, ◌+◌, Bool, cond, List, [], length, nat_lt, Option, Some, None, refl, sym, ap, ◌∙◌, subst, arith}
+use Rattle.std.proofs.Math.Nat.{min-le_left}
 use Rattle.std.proofs.lemmas.Bool.{lt-ltb}
 use Rattle.std.proofs.lemmas.List.Sums.{count_by-le-length, length-filter}
-use Rattle.std.specs.List.{All}
+use Rattle.std.specs.Option.{IfSome}
 use Rattle.definitions.specs.Bytes.{zero_page}
 use Rattle.definitions.specs.Disk as disk
 use Rattle.definitions.specs.SwapHeader.{IsMarked, area_page}
 use Rattle.definitions.proofs.DiskLaws.{length-as_it_reads}
-use Rattle.plain_machine.specs.Faults.{IsFault}
 use Rattle.plain_machine.specs.Machine.{Hardware, block_of_slot}
 use Rattle.plain_machine.specs.Chain.{header_of, blocks_of, Marked}
-use Rattle.plain_machine.specs.State.{State, off, nothing}
+use Rattle.plain_machine.specs.State.{off, nothing}
 use Rattle.plain_machine.specs.Step.{Run}
 use Rattle.plain_machine.specs.declared.event.Event.{Event}
 use Rattle.plain_machine.specs.declared.reply.Reply.{Reply}
 use Rattle.plain_machine.proofs.DiskBlocks.{block-written, IsPage-area_page, area_page-unmarked}
 use Rattle.machine.specs.Scripted.{scripted_hardware}
-use Rattle.world_core.specs.StandsFor.{StandsFor, IsNew, hardware_of}
+use Rattle.world_core.specs.StandsFor.{StandsFor, IsNew}
 use Rattle.world_core.specs.declared.world.World.{World}
 use Rattle.swsusp_cli.specs.Formatting.{Formats}
-use Rattle.swsusp_cli.specs.Playing.{Played, HasPlayed}
-use Rattle.swsusp_cli.specs.Replay.{IsRun, is_step, steps_of}
-use Rattle.swsusp_cli.proofs.Turns.{risen_earlier}
+use Rattle.swsusp_cli.specs.Playing.{HasPlayed}
+use Rattle.swsusp_cli.specs.Replay.{IsRun, AreReplies, is_step, steps_of}
+use Rattle.swsusp_cli.proofs.Turns.{counted_earlier}
+
+whole_of : (blocks : ℕ) (told : Option disk.Content) (c : disk.Content) → told ≡ Some c → IfSome told (disk.IsContent blocks) → disk.IsContent blocks c
+whole_of blocks told c e h = subst (λ (o : Option disk.Content). IfSome o (disk.IsContent blocks)) e h
 
 -- what a call makes of the content, where it is told
 changed : (R : disk.Content → disk.Content → Type 0) (before now : Option disk.Content) (c : disk.Content) → before ≡ Some c → disk.Changes R before now → (c' : disk.Content) × (now ≡ Some c') × R c c'
@@ -49,26 +52,38 @@ formatted_unmarked last blocks c mid whole some writes marked =
     let here : 0 < blocks_of (disk.as_it_reads mid) = omega arith in
     area_page-unmarked last (subst IsMarked (header_at_zero (scripted_hardware last) (disk.as_it_reads mid) (header_slot last) here ∙ reads) marked)
 
-pub run_of : (last blocks : ℕ) (old new : World) (events : List Event) (before between now : Option disk.Content) (low middle high : ℕ) (P : List Reply → Type 0) (c : disk.Content) → before ≡ Some c → disk.IsContent blocks c → 0 < blocks →
-    IsNew (scripted_hardware last) old → disk.Changes (Formats last) before between → low ≤ middle → HasPlayed old new events between now middle high P →
-    (replies : List Reply) × IsRun last events replies now low high × P replies
-run_of last blocks old new events before between now low middle high P c told whole some fresh formats later played =
+run_formatted : (last blocks : ℕ) (old new : World) (events : List Event) (replies : List Reply) (before between now : Option disk.Content) (low high : ℕ) (c : disk.Content) → before ≡ Some c → disk.IsContent blocks c → 0 < blocks →
+    IsNew (scripted_hardware last) old → disk.Changes (Formats last) before between → HasPlayed old new events replies between now low high → IsRun last events replies c now
+run_formatted last blocks old new events replies before between now low high c told whole some fresh formats played =
     let formatted = changed (Formats last) before between c told formats in
     let c1 = formatted.0 in
     let mid = formatted.2.0 in
     let v = disk.as_it_reads mid in
     let start : StandsFor old c1 (off nothing None) =
     subst (λ (x : disk.Content). StandsFor old x (off nothing None)) (sym formatted.2.2) (fresh.unmarked v (formatted_unmarked last blocks c mid whole some formatted.2.1)) in
-    let end = played c1 (off nothing None) formatted.1 start in
-    let was = end.3 in (
-      end.0,
-      record {
-        run = (disk.as_it_reads c1, end.2, subst (λ (h : Hardware). Run h (disk.as_it_reads c1) (off nothing None) events end.0 end.2) fresh.hardware was.run, (new, end.1, was.told, was.stands));
-        faults = λ i d lt f. risen_earlier low middle high later (was.faults i d lt f);
-      },
-      end.4,
+    let end = played.run c1 (off nothing None) formatted.1 start in
+    let was = end.2 in (
+      c1,
+      formatted.2,
+      (
+        end.1,
+        subst (λ (h : Hardware). Run h (disk.as_it_reads c1) (off nothing None) events replies end.1) fresh.hardware was.run,
+        (new, end.0, was.told, was.stands),
+      ),
     )
+
+pub replies_of : (last blocks : ℕ) (old new : World) (events : List Event) (replies : List Reply) (before between now : Option disk.Content) (low middle high : ℕ) → IfSome before (disk.IsContent blocks) → 0 < blocks →
+    IsNew (scripted_hardware last) old → disk.Changes (Formats last) before between → low ≤ middle → HasPlayed old new events replies between now middle high → AreReplies last events replies before now low high
+replies_of last blocks old new events replies before between now low middle high whole some fresh formats later played = record {
+  size = played.size;
+  faults = counted_earlier replies low middle high later played.faults;
+  run = λ c told. run_formatted last blocks old new events replies before between now middle high c told (whole_of blocks before c told whole) some fresh formats played;
+}
 
 -- there are at most as many steps as events
 pub steps_few : (events : List Event) (n : ℕ) → length events ≤ n → steps_of events ≤ n
 steps_few events n few = let count = length-filter is_step events in let part = count_by-le-length is_step events in omega arith
+
+-- a format's two calls, and at most so many more
+pub calls_within : (before between after steps : ℕ) → between ≡ disk.raised (disk.raised before) → after ≤ between + steps → after ≤ before + 2 + steps
+calls_within before between after steps two more = omega (arith, min-le_left (before + 1) disk.last_count, min-le_left (disk.raised before + 1) disk.last_count)

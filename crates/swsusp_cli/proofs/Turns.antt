@@ -1,15 +1,13 @@
 -- Events played one after another: what one more makes.
-use Rattle.std.proofs.Common.{◌≡◌, ◌≢◌, ◌⊎◌, inl, inr, ◌≤◌, ◌<◌, ℕ, zero, suc, ◌+◌, List, [], ◌∷◌, ◌++◌, length, take, drop, filter, cond, min, Bool, true, false, Option, Some, None, refl, sym, ap, ◌∙◌, arith, subst, ⊎_elim, append_assoc, length-append, flat_map}
-use Rattle.std.proofs.lemmas.Bool.{cases_eq}
-use Rattle.std.proofs.lemmas.List.Elements.{All-append, filter-append}
+use Rattle.std.proofs.Common.{◌≡◌, ◌⊎◌, inl, inr, ◌≤◌, ℕ, ◌+◌, List, [], ◌∷◌, ◌++◌, length, take, drop, filter, cond, Bool, true, false, Option, Some, None, refl, sym, ap, ◌∙◌, arith, subst, append_assoc, length-append}
+use Rattle.std.proofs.lemmas.Bool.{false≢true}
+use Rattle.std.proofs.lemmas.List.Elements.{filter-append}
 use Rattle.std.proofs.lemmas.Grind.{flat_map-append}
 use Rattle.std.proofs.Math.Nat.{min-le_left}
 use Rattle.std.proofs.Math.Seq.{take-append-add}
 use Rattle.std.proofs.lemmas.List.{take_all, append-nil, take-append-drop}
-use Rattle.std.specs.List.{All}
 use Rattle.definitions.specs.Disk as disk
 use Rattle.definitions.specs.Streams.{Takes, TakesAll, TakesFront}
-use Rattle.definitions.proofs.Pieces.{Takes-none, Takes-more}
 use Rattle.plain_machine.specs.Faults.{IsFault}
 use Rattle.plain_machine.specs.Machine.{Hardware}
 use Rattle.plain_machine.specs.Replies.{text_of, line_of}
@@ -18,11 +16,12 @@ use Rattle.plain_machine.specs.Step.{Step, Run}
 use Rattle.plain_machine.specs.declared.event.Event.{Event}
 use Rattle.plain_machine.specs.declared.event.Event.TheVariants as event
 use Rattle.plain_machine.specs.declared.reply.Reply.{Reply}
+use Rattle.plain_machine.specs.declared.reply.Reply.TheVariants as reply
 use Rattle.world_core.specs.Row.{HasRow, IsStep, IsCalled}
-use Rattle.world_core.specs.StandsFor.{StandsFor, hardware_of}
+use Rattle.world_core.specs.StandsFor.{hardware_of}
 use Rattle.world_core.specs.declared.world.World.{World}
 use Rattle.swsusp_cli.specs.Playing.{Played, HasPlayed}
-use Rattle.swsusp_cli.specs.Replay.{is_step, steps_of}
+use Rattle.swsusp_cli.specs.Replay.{is_step, steps_of, is_counted, AreCounted}
 
 -- a run and one step more
 pub run_more : (h : Hardware) (v : disk.Image) (a : State) (es : List Event) (rs : List Reply) (b : State) (e : Event) (r : Reply) (b' : State) → Run h v a es rs b → Step h v b e r b' → Run h v a (es ++ e ∷ []) (rs ++ r ∷ []) b'
@@ -31,47 +30,127 @@ run_more h v a [] (q ∷ rs) b e r b' run step = absurd run
 run_more h v a (d ∷ es) [] b e r b' run step = absurd run
 run_more h v a (d ∷ es) (q ∷ rs) b e r b' run step = (run.0, run.1, run_more h v run.0 es rs b e r b' run.2 step)
 
--- A count that has risen has risen later too, and from earlier on.
-risen_later : (low mid high : ℕ) → low ≤ mid → mid ≤ high → disk.HasRisen low mid → disk.HasRisen low high
-risen_later low mid high a b (inl lt) = inl (omega arith)
-risen_later low mid high a b (inr e) = elim (cases_eq high disk.last_count) [ inl top ↦ inr top | inr ne ↦ inl (omega arith) ]
-
 pub risen_earlier : (low mid high : ℕ) → low ≤ mid → disk.HasRisen mid high → disk.HasRisen low high
 risen_earlier low mid high a (inl lt) = inl (omega arith)
 risen_earlier low mid high a (inr e) = inr e
 
-all_one : (P : Reply → Type 0) (r : Reply) → P r → All P (r ∷ [])
-all_one P r p zero d lt = p
-all_one P r p (suc i) d lt = let never : ⊥ = omega arith in absurd never
+-- Replies that tell of a failed call, and one more.
 
-pub played_none : (w : World) (content : Option disk.Content) (count : ℕ) (taken : Option (List ℕ)) → HasPlayed w w [] content content count count (λ replies. TakesAll (text_of replies) taken taken)
-played_none w content count taken c a told stands = ([], c, a, record { told = told; reads = refl; run = refl; stands = stands; faults = λ i d lt. let never : ⊥ = omega arith in absurd never }, Takes-none [] taken)
+counted_fault : (r : Reply) → is_counted r ≡ true → IsFault r
+counted_fault (reply.ReadFault left) c = tt
+counted_fault (reply.WriteFault left) c = tt
+counted_fault (reply.SyncFault left) c = tt
+counted_fault (reply.Undo call k) c = tt
+counted_fault reply.Done c = absurd (false≢true c)
+counted_fault (reply.More k of) c = absurd (false≢true c)
+counted_fault (reply.Booted image) c = absurd (false≢true c)
+counted_fault (reply.Word value) c = absurd (false≢true c)
+counted_fault (reply.Slot slot) c = absurd (false≢true c)
+counted_fault (reply.Written slot) c = absurd (false≢true c)
+counted_fault (reply.Reading slot) c = absurd (false≢true c)
+counted_fault (reply.Fetched slot) c = absurd (false≢true c)
+counted_fault (reply.Hibernated n) c = absurd (false≢true c)
+counted_fault reply.Settled c = absurd (false≢true c)
+counted_fault (reply.Loading k) c = absurd (false≢true c)
+counted_fault (reply.Resumed n) c = absurd (false≢true c)
+counted_fault reply.WasCut c = absurd (false≢true c)
+counted_fault reply.Idle c = absurd (false≢true c)
+counted_fault reply.NotOff c = absurd (false≢true c)
+counted_fault reply.NotOn c = absurd (false≢true c)
+counted_fault reply.NoDump c = absurd (false≢true c)
+counted_fault reply.Frozen c = absurd (false≢true c)
+counted_fault reply.InFlight c = absurd (false≢true c)
+counted_fault reply.NoFrame c = absurd (false≢true c)
+counted_fault reply.NotFree c = absurd (false≢true c)
+counted_fault reply.NotOwner c = absurd (false≢true c)
+counted_fault reply.Closed c = absurd (false≢true c)
+counted_fault reply.NoSlot c = absurd (false≢true c)
+counted_fault reply.NoSlotHere c = absurd (false≢true c)
+counted_fault reply.NothingHeld c = absurd (false≢true c)
+counted_fault (reply.Busy task) c = absurd (false≢true c)
+counted_fault (reply.NoSwap why) c = absurd (false≢true c)
+counted_fault (reply.NoFrames free need) c = absurd (false≢true c)
+counted_fault (reply.NoSlots free need) c = absurd (false≢true c)
+counted_fault reply.NoImage c = absurd (false≢true c)
+counted_fault (reply.Compressed flags) c = absurd (false≢true c)
+counted_fault (reply.HwMismatch image own) c = absurd (false≢true c)
+counted_fault reply.NoChain c = absurd (false≢true c)
+counted_fault (reply.BadBlock block) c = absurd (false≢true c)
+counted_fault (reply.ChainEnds map) c = absurd (false≢true c)
+counted_fault (reply.Mismatch field) c = absurd (false≢true c)
+counted_fault (reply.MemorySize image own) c = absurd (false≢true c)
+counted_fault (reply.BadCounts image_pages pages) c = absurd (false≢true c)
+counted_fault (reply.BadPfn pfn) c = absurd (false≢true c)
+counted_fault (reply.PfnOrder x y) c = absurd (false≢true c)
+counted_fault (reply.PfnEnd found) c = absurd (false≢true c)
+counted_fault (reply.TooFewLoaderFrames have need) c = absurd (false≢true c)
+counted_fault (reply.BadTables frame) c = absurd (false≢true c)
+counted_fault reply.Sleeping c = absurd (false≢true c)
+counted_fault (reply.Asleep n) c = absurd (false≢true c)
+counted_fault reply.NotAsleep c = absurd (false≢true c)
+counted_fault reply.Woken c = absurd (false≢true c)
+counted_fault (reply.Shrunk dropped left) c = absurd (false≢true c)
 
-pub played_more : (old mid new : World) (es : List Event) (e : Event) (r : Reply) (before between now : Option disk.Content) (low middle high : ℕ) (P Q : List Reply → Type 0) →
-    HasPlayed old mid es before between low middle P → HasRow e mid new r between now → hardware_of mid ≡ hardware_of old → (IsFault r → disk.HasRisen middle high) → low ≤ middle → middle ≤ high →
-    ((rs : List Reply) → P rs → Q (rs ++ r ∷ [])) → HasPlayed old new (es ++ e ∷ []) before now low high Q
-played_more old mid new es e r before between now low middle high P Q played row hw fault a b more c s told stands =
-    let so_far = played c s told stands in
-    let rs = so_far.0 in
-    let was = so_far.3 in
-    let turn = row so_far.1 was.told in
-    let goes = turn.1.row so_far.2 was.stands in
-    let step : Step (hardware_of old) (disk.as_it_reads c) so_far.2 e r goes.0 =
-    subst (λ (v : disk.Image). Step (hardware_of old) v so_far.2 e r goes.0) was.reads (subst (λ (h : Hardware). Step h (disk.as_it_reads so_far.1) so_far.2 e r goes.0) hw goes.1.step) in (
-      rs ++ r ∷ [],
+counted_more : (rs : List Reply) (r : Reply) → length (filter is_counted (rs ++ r ∷ [])) ≡ length (filter is_counted rs) + cond (is_counted r) 1 0
+counted_more rs r =
+    ap length (filter-append is_counted rs (r ∷ [])) ∙ length-append (filter is_counted rs) (filter is_counted (r ∷ []))
+    ∙ ap (λ (n : ℕ). length (filter is_counted rs) + n) (one_test (is_counted r)) where
+      one_test : (b : Bool) → length (cond b (r ∷ []) []) ≡ cond b 1 0
+      one_test true = refl
+      one_test false = refl
+
+one_allowed : (n low mid high : ℕ) (b : Bool) → (b ≡ true → disk.HasRisen mid high) → mid ≤ high → (low + n ≤ mid) ⊎ (disk.last_count ≤ mid) → (low + (n + cond b 1 0) ≤ high) ⊎ (disk.last_count ≤ high)
+one_allowed n low mid high b risen later (inr last) = inr (omega arith)
+one_allowed n low mid high false risen later (inl so_far) = inl (omega arith)
+one_allowed n low mid high true risen later (inl so_far) =
+    elim (risen refl) [ inl lt ↦ inl (omega arith) | inr last ↦ inr (omega arith) ]
+
+counted_then : (rs : List Reply) (r : Reply) (low mid high : ℕ) → (IsFault r → disk.HasRisen mid high) → mid ≤ high → AreCounted rs low mid → AreCounted (rs ++ r ∷ []) low high
+counted_then rs r low mid high risen later so_far =
+    subst (λ (n : ℕ). (low + n ≤ high) ⊎ (disk.last_count ≤ high)) (sym (counted_more rs r))
+    (one_allowed (length (filter is_counted rs)) low mid high (is_counted r) (λ c. risen (counted_fault r c)) later so_far)
+
+-- from an earlier count on
+pub counted_earlier : (rs : List Reply) (low mid high : ℕ) → low ≤ mid → AreCounted rs mid high → AreCounted rs low high
+counted_earlier rs low mid high a (inl le) = inl (omega arith)
+counted_earlier rs low mid high a (inr last) = inr last
+
+-- Played events, and one more.
+
+pub played_none : (w : World) (content : Option disk.Content) (count : ℕ) → HasPlayed w w [] [] content content count count
+played_none w content count = record {
+  size = refl;
+  faults = inl (omega arith);
+  run = λ c a told stands. (c, a, record { told = told; reads = refl; run = refl; stands = stands });
+}
+
+run_then : (old mid new : World) (es : List Event) (rs : List Reply) (e : Event) (r : Reply) (before between now : Option disk.Content) (c : disk.Content) (a : State) →
+    ((c' : disk.Content) × (b : State) × Played old mid es between c c' a b rs) → HasRow e mid new r between now → hardware_of mid ≡ hardware_of old →
+    (c' : disk.Content) × (b : State) × Played old new (es ++ e ∷ []) now c c' a b (rs ++ r ∷ [])
+run_then old mid new es rs e r before between now c s so_far row hw =
+    let was = so_far.2 in
+    let turn = row so_far.0 was.told in
+    let goes = turn.1.row so_far.1 was.stands in
+    let step : Step (hardware_of old) (disk.as_it_reads c) so_far.1 e r goes.0 =
+    subst (λ (v : disk.Image). Step (hardware_of old) v so_far.1 e r goes.0) was.reads (subst (λ (h : Hardware). Step h (disk.as_it_reads so_far.0) so_far.1 e r goes.0) hw goes.1.step) in (
       turn.0,
       goes.0,
       record {
         told = turn.1.told;
         reads = turn.1.reads ∙ was.reads;
-        run = run_more (hardware_of old) (disk.as_it_reads c) s es rs so_far.2 e r goes.0 was.run step;
+        run = run_more (hardware_of old) (disk.as_it_reads c) s es rs so_far.1 e r goes.0 was.run step;
         stands = goes.1.stands;
-        faults = All-append (λ x. IsFault x → disk.HasRisen low high) rs (r ∷ [])
-            (λ i d lt f. risen_later low middle high a b (was.faults i d lt f))
-            (all_one (λ x. IsFault x → disk.HasRisen low high) r (λ f. risen_earlier low middle high a (fault f)));
       },
-      more rs so_far.4,
     )
+
+pub played_more : (old mid new : World) (es : List Event) (rs : List Reply) (e : Event) (r : Reply) (before between now : Option disk.Content) (low middle high : ℕ) →
+    HasPlayed old mid es rs before between low middle → HasRow e mid new r between now → hardware_of mid ≡ hardware_of old → (IsFault r → disk.HasRisen middle high) → middle ≤ high →
+    HasPlayed old new (es ++ e ∷ []) (rs ++ r ∷ []) before now low high
+played_more old mid new es rs e r before between now low middle high played row hw fault later = record {
+  size = length-append rs (r ∷ []) ∙ ap (λ (n : ℕ). n + 1) played.size ∙ sym (length-append es (e ∷ []));
+  faults = counted_then rs r low middle high fault later played.faults;
+  run = λ c a told stands. run_then old mid new es rs e r before between now c a (played.run c a told stands) row hw;
+}
 
 -- Texts.
 

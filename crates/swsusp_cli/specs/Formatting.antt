@@ -1,6 +1,6 @@
 -- The formatting of an area at block 0.
 use Rattle.std.specs.Prelude.{ℕ, []}
-use Rattle.definitions.specs.Disk.{Content, Writes, FailsToWrite, Syncs}
+use Rattle.definitions.specs.Disk.{Content, Writes, FailsToWrite, Syncs, raised}
 use Rattle.definitions.specs.SwapHeader.{area_page}
 use Rattle.swsusp_cli.specs.declared.formatting.Unformatted.{Unformatted}
 use Rattle.swsusp_cli.specs.declared.formatting.Unformatted.TheVariants.{Write, Sync}
@@ -13,3 +13,8 @@ Formats last old new = (mid : Content) × Writes 0 (area_page last []) old mid �
 abbrev pub FailsToFormat : ℕ → Unformatted → Content → Content → Type 0
 FailsToFormat last Write old new = FailsToWrite 0 (area_page last []) old new
 FailsToFormat last Sync old new = Writes 0 (area_page last []) old new
+
+-- the count of calls, up to the one that failed
+abbrev pub calls_until : Unformatted → ℕ → ℕ
+calls_until Write calls = raised calls
+calls_until Sync calls = raised (raised calls)

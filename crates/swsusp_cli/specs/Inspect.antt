@@ -1,5 +1,5 @@
 -- What `inspect` says of a header block.
-use Rattle.std.specs.Prelude.{◌≡◌, ◌⊎◌, ℕ, ◌<◌, List, [], ◌∷◌, ◌++◌, codes, decimal, nat_lt, if◌then◌else◌, ◌==◌, bit_and, Option, Some, None}
+use Rattle.std.specs.Prelude.{ℕ, List, [], ◌++◌, codes, decimal, nat_lt, if◌then◌else◌, ◌==◌, bit_and}
 use Rattle.definitions.specs.Bytes.{zero_page}
 use Rattle.definitions.specs.Disk.{Content, as_it_reads, block}
 use Rattle.sig_header.specs.declared.area.Mark.{Mark}

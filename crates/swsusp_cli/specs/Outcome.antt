@@ -1,13 +1,13 @@
 -- How a replay may end.
-use Rattle.std.specs.Prelude.{◌≡◌, ◌⊎◌, ◌≤◌, ◌<◌, ℕ, ◌+◌, List, [], Option, Some, Ok, Err}
+use Rattle.std.specs.Prelude.{◌≡◌, ◌≤◌, ◌<◌, ℕ, ◌+◌, List, [], Option, Some, Ok, Err}
 use Rattle.definitions.specs.Disk as disk
-use Rattle.definitions.specs.Streams.{TakesAll, IsOver}
+use Rattle.definitions.specs.Streams.{TakesAll, TakesFront, IsOver}
 use Rattle.script.specs.Grammar.{ScriptValue, script_of}
 use Rattle.script.specs.declared.fault.ScriptFault.{ScriptFault}
 use Rattle.swsusp_cli.specs.Answer.{Told}
-use Rattle.swsusp_cli.specs.Told.{IsTold}
-use Rattle.swsusp_cli.specs.Formatting.{FailsToFormat}
-use Rattle.swsusp_cli.specs.Replay.{Prints, PrintsFront, small_note, fault_note, write_note, sync_note, memory_note}
+use Rattle.swsusp_cli.specs.Told.{IsTold, sink_note}
+use Rattle.swsusp_cli.specs.Formatting.{FailsToFormat, calls_until}
+use Rattle.swsusp_cli.specs.Replay.{Prints, PrintsFront, steps_of, small_note, fault_note, write_note, sync_note, unread_note, memory_note}
 use Rattle.swsusp_cli.specs.declared.formatting.Unformatted.{Unformatted}
 use Rattle.swsusp_cli.specs.declared.formatting.Unformatted.TheVariants.{Write, Sync}
 use Rattle.swsusp_cli.specs.declared.status.Status.{Status}
@@ -31,7 +31,7 @@ abbrev pub memory_told : Told
 memory_told = record { status = Memory; out = []; note = memory_note }
 
 -- What a source, a disk and two sinks tell before a replay and after it: the bytes left, the number of blocks, the content,
--- the count of the disk's faults, and the bytes taken.
+-- the counts of the disk's faults and calls, and the bytes taken.
 pub record Around : Type 0 where
   pub left : Option (List ℕ)
   pub left_after : Option (List ℕ)
@@ -40,6 +40,8 @@ pub record Around : Type 0 where
   pub content_after : Option disk.Content
   pub low : ℕ
   pub high : ℕ
+  pub calls : ℕ
+  pub calls_after : ℕ
   pub out : Option (List ℕ)
   pub out_after : Option (List ℕ)
   pub note : Option (List ℕ)
@@ -65,10 +67,11 @@ pub record IsOutOfMemory (x : Around) (status : Status) : Type 0 where
   pub told : Tells x memory_told status
   pub content : x.content_after ≡ x.content
 
--- the source failed, and nothing was printed
+-- the source failed: that is noted, and nothing was printed
 pub record IsUnread (x : Around) (status : Status) : Type 0 where
   pub status_is : status ≡ Stream
   pub out : TakesAll [] x.out x.out_after
+  pub note : TakesFront unread_note x.note x.note_after
   pub content : x.content_after ≡ x.content
 
 -- the disk has too few blocks for the script's area
@@ -84,22 +87,30 @@ pub record IsUnformatted (x : Around) (status : Status) (script : ScriptValue) (
   pub roomy : script.last + 1 ≤ x.blocks
   pub told : Tells x (unformatted_told call) status
   pub risen : disk.HasRisen x.low x.high
+  pub calls : x.calls_after ≡ calls_until call x.calls
   pub content : disk.Changes (FailsToFormat script.last call) x.content x.content_after
+
+-- the area was formatted, and each step of the script's events made at most one call of the disk
+abbrev pub CallsFew : Around → ScriptValue → Type 0
+CallsFew x script = x.calls_after ≤ x.calls + 2 + steps_of script.events
 
 -- all events were played: out took the lines of a run of the plain machine
 pub record IsPlayed (x : Around) (status : Status) (script : ScriptValue) : Type 0 where
   pub script_is : IsScript x script
   pub roomy : script.last + 1 ≤ x.blocks
   pub status_is : status ≡ Done
-  pub prints : (c : disk.Content) → x.content ≡ Some c → Prints script x.content_after x.low x.high x.out x.out_after
+  pub prints : Prints script x.content x.content_after x.low x.high x.out x.out_after
   pub note : TakesAll [] x.note x.note_after
+  pub calls : CallsFew x script
 
--- out failed: it took a front of the lines of a run over first events
+-- out failed: it took a front of the lines of a run over first events, and that is noted
 pub record IsCutOff (x : Around) (status : Status) (script : ScriptValue) : Type 0 where
   pub script_is : IsScript x script
   pub roomy : script.last + 1 ≤ x.blocks
   pub status_is : status ≡ Stream
-  pub prints : (c : disk.Content) → x.content ≡ Some c → PrintsFront script x.content_after x.low x.high x.out x.out_after
+  pub prints : PrintsFront script x.content x.content_after x.low x.high x.out x.out_after
+  pub note : TakesFront sink_note x.note x.note_after
+  pub calls : CallsFew x script
 
 -- one of these
 pub data IsReplayed (x : Around) (status : Status) : Type 0 where

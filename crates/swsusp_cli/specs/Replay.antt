@@ -1,23 +1,23 @@
 -- What `replay` does: it prints a run of the plain machine.
-use Rattle.std.specs.Prelude.{◌≡◌, ◌⊎◌, ◌≤◌, ◌<◌, ℕ, ◌+◌, List, [], ◌∷◌, ◌++◌, length, map, take, filter, Bool, true, false, codes, decimal, flat_map, Option, Some, None, Result, Ok, Err, All}
+use Rattle.std.specs.Prelude.{◌≡◌, ◌⊎◌, ◌≤◌, ℕ, ◌+◌, ◌==◌, List, ◌∷◌, ◌++◌, length, take, filter, Bool, true, false, codes, decimal, Option, Some, None}
 use Rattle.definitions.specs.Disk as disk
-use Rattle.definitions.specs.Streams.{TakesAll, TakesFront, IsOver}
-use Rattle.plain_machine.specs.Faults.{IsFault}
+use Rattle.definitions.specs.Streams.{TakesAll, TakesFront}
 use Rattle.plain_machine.specs.Replies.{text_of}
 use Rattle.plain_machine.specs.State.{State, off, nothing}
 use Rattle.plain_machine.specs.Step.{Run}
 use Rattle.plain_machine.specs.declared.event.Event.{Event}
 use Rattle.plain_machine.specs.declared.event.Event.TheVariants as event
+use Rattle.plain_machine.specs.declared.reply.Left.TheVariants.{Same, Gone, Unsure}
 use Rattle.plain_machine.specs.declared.reply.Reply.{Reply}
+use Rattle.plain_machine.specs.declared.reply.Reply.TheVariants as reply
 use Rattle.machine.specs.Scripted.{scripted_hardware}
-use Rattle.script.specs.Grammar.{ScriptValue, script_of}
+use Rattle.script.specs.Grammar.{ScriptValue}
 use Rattle.script.specs.Kinds.{kind_name}
 use Rattle.script.specs.declared.fault.ScriptFault.{ScriptFault}
 use Rattle.world_core.specs.StandsFor.{StandsFor}
 use Rattle.world_core.specs.declared.world.World.{World}
 use Rattle.swsusp_cli.specs.Answer.{line}
-use Rattle.swsusp_cli.specs.declared.status.Status.{Status}
-use Rattle.swsusp_cli.specs.declared.status.Status.TheVariants.{Done, Refused, Words, Input, Stream, Device, Memory}
+use Rattle.swsusp_cli.specs.Formatting.{Formats}
 
 -- how many events are steps, each of which may call the disk once
 abbrev pub is_step : Event → Bool
@@ -27,20 +27,45 @@ is_step _ = false
 abbrev pub steps_of : List Event → ℕ
 steps_of events = length (filter is_step events)
 
--- The replies are a run of the plain machine, which begins off with nothing held, over these events. World and disk stand
--- for the state that it ends in. A reply that tells of a failed call comes only where the disk's count rose.
-pub record IsRun (last : ℕ) (events : List Event) (replies : List Reply) (content : Option disk.Content) (before after : ℕ) : Type 0 where
-  pub run : (v : disk.Image) × (b : State) × Run (scripted_hardware last) v (off nothing None) events replies b
-      × ((w : World) × (c : disk.Content) × (content ≡ Some c) × StandsFor w c b)
-  pub faults : All (λ r. IsFault r → disk.HasRisen before after) replies
+-- Whether a reply tells of a call of the disk that failed at its event. An undo's end tells of the one that the undo began with.
+abbrev pub is_counted : Reply → Bool
+is_counted (reply.ReadFault left) = true
+is_counted (reply.WriteFault Same) = true
+is_counted (reply.WriteFault Gone) = false
+is_counted (reply.WriteFault Unsure) = true
+is_counted (reply.SyncFault Same) = true
+is_counted (reply.SyncFault Gone) = false
+is_counted (reply.SyncFault Unsure) = true
+is_counted (reply.Undo call k) = k == 0
+is_counted _ = false
 
--- Out took the lines of a run over all events; it took a front of the lines of a run over some first ones.
-abbrev pub Prints : ScriptValue → Option disk.Content → ℕ → ℕ → Option (List ℕ) → Option (List ℕ) → Type 0
-Prints script content before after out out' = (replies : List Reply) × IsRun script.last script.events replies content before after × TakesAll (text_of replies) out out'
+-- such replies are at most as many as the disk's count rose by, its last value aside
+abbrev pub AreCounted : List Reply → ℕ → ℕ → Type 0
+AreCounted replies low high = (low + length (filter is_counted replies) ≤ high) ⊎ (disk.last_count ≤ high)
 
-abbrev pub PrintsFront : ScriptValue → Option disk.Content → ℕ → ℕ → Option (List ℕ) → Option (List ℕ) → Type 0
-PrintsFront script content before after out out' =
-    (k : ℕ) × (replies : List Reply) × IsRun script.last (take k script.events) replies content before after × TakesFront (text_of replies) out out'
+-- Over a disk that held c, once an area is formatted on it, the replies are a run of the plain machine, which begins off with
+-- nothing held, over these events. World and disk stand for the state that it ends in.
+abbrev pub IsRun : ℕ → List Event → List Reply → disk.Content → Option disk.Content → Type 0
+IsRun last events replies c after =
+    (formatted : disk.Content) × Formats last c formatted
+    × ((b : State) × Run (scripted_hardware last) (disk.as_it_reads formatted) (off nothing None) events replies b
+    × ((w : World) × (c' : disk.Content) × (after ≡ Some c') × StandsFor w c' b))
+
+-- Each event gave a reply, the count of the disk's faults, from `low` to `high`, allows for them, and where the disk tells its
+-- content they are a run.
+pub record AreReplies (last : ℕ) (events : List Event) (replies : List Reply) (before after : Option disk.Content) (low high : ℕ) : Type 0 where
+  pub size : length replies ≡ length events
+  pub faults : AreCounted replies low high
+  pub run : (c : disk.Content) → before ≡ Some c → IsRun last events replies c after
+
+-- Out took the lines of the replies to all events; it took a front of the lines of those to some first events.
+abbrev pub Prints : ScriptValue → Option disk.Content → Option disk.Content → ℕ → ℕ → Option (List ℕ) → Option (List ℕ) → Type 0
+Prints script before after low high out out' =
+    (replies : List Reply) × AreReplies script.last script.events replies before after low high × TakesAll (text_of replies) out out'
+
+abbrev pub PrintsFront : ScriptValue → Option disk.Content → Option disk.Content → ℕ → ℕ → Option (List ℕ) → Option (List ℕ) → Type 0
+PrintsFront script before after low high out out' =
+    (k : ℕ) × (replies : List Reply) × AreReplies script.last (take k script.events) replies before after low high × TakesFront (text_of replies) out out'
 
 -- Notes.
 
@@ -55,6 +80,10 @@ write_note = line (codes "write fault unsure")
 
 abbrev pub sync_note : List ℕ
 sync_note = line (codes "sync fault unsure")
+
+-- a source that failed
+abbrev pub unread_note : List ℕ
+unread_note = line (codes "source fault")
 
 abbrev pub memory_note : List ℕ
 memory_note = line (codes "no memory")

@@ -1,6 +1,6 @@
 ghost use Rattle.std.specs.Prelude.{◌≡◌, ◌+◌, ◌<◌, ◌≤◌, [], IsErr, IfErr, MatchResult};
 ghost use Rattle.definitions.specs.Disk.{Changes, HasRisen, raised};
-ghost use Rattle.swsusp_cli.specs.Formatting.{Formats, FailsToFormat};
+ghost use Rattle.swsusp_cli.specs.Formatting.{Formats, FailsToFormat, calls_until};
 
 use page_core::Failed;
 use sector_disk::Disk;
@@ -21,7 +21,9 @@ pub fn format<D: Disk>(disk: &mut D, last: u32) -> Result<(), Unformatted>
         (λ call. Changes (FailsToFormat last call) (D.content disk.old) (D.content disk.new)) }
     ensures cause { IsErr result → HasRisen (D.faults disk.old) (D.faults disk.new) }
     ensures faults { D.faults disk.old ≤ D.faults disk.new }
-    ensures calls { D.calls disk.new ≤ D.calls disk.old + 2 }
+    ensures calls { MatchResult result
+        (λ _. D.calls disk.new ≡ raised (raised (D.calls disk.old)))
+        (λ call. D.calls disk.new ≡ calls_until call (D.calls disk.old)) }
     ensures orders { D.orders disk.new ≡ D.orders disk.old }
     ensures blocks { D.block_count disk.new ≡ D.block_count disk.old }
 {

@@ -1,8 +1,9 @@
-ghost use Rattle.std.specs.Prelude.{◌≡◌, ◌⊎◌, ◌≤◌, ℕ, ◌+◌, All, take, OnOk, OnErr, MatchResult};
+ghost use Rattle.std.specs.Prelude.{◌≡◌, ◌⊎◌, ◌≤◌, ℕ, ◌+◌, All, List, take, OnOk, OnErr, MatchResult};
 ghost use Rattle.definitions.specs.Disk.{HasRisen};
 ghost use Rattle.definitions.specs.Streams.{TakesAll, TakesFront};
 ghost use Rattle.plain_machine.specs.Fitting.{IsFitting};
 ghost use Rattle.plain_machine.specs.Replies.{text_of, line_of};
+ghost use Rattle.plain_machine.specs.declared.reply.Reply.{Reply};
 ghost use Rattle.world_core.specs.StandsFor.{IsOff, blocks_of, hardware_of};
 ghost use Rattle.swsusp_cli.specs.Playing.{HasPlayed};
 ghost use Rattle.swsusp_cli.specs.Replay.{steps_of};
@@ -25,10 +26,10 @@ pub fn play<D: Disk, O: Sink>(
     requires fits { All IsFitting events.now }
     requires blocks { IsOff world.old ⊎ (D.block_count disk.old ≡ blocks_of world.old) }
     ensures played { MatchResult result
-        (λ _. HasPlayed world.old world.new events.now (D.content disk.old) (D.content disk.new) (D.faults disk.old) (D.faults disk.new)
-        (λ replies. TakesAll (text_of replies) (O.taken out.old) (O.taken out.new)))
-        (λ _. (k : ℕ) × HasPlayed world.old world.new (take k events.now) (D.content disk.old) (D.content disk.new) (D.faults disk.old) (D.faults disk.new)
-        (λ replies. TakesFront (text_of replies) (O.taken out.old) (O.taken out.new))) }
+        (λ _. (replies : List Reply) × HasPlayed world.old world.new events.now replies (D.content disk.old) (D.content disk.new) (D.faults disk.old) (D.faults disk.new)
+        × TakesAll (text_of replies) (O.taken out.old) (O.taken out.new))
+        (λ _. (k : ℕ) × (replies : List Reply) × HasPlayed world.old world.new (take k events.now) replies (D.content disk.old) (D.content disk.new) (D.faults disk.old) (D.faults disk.new)
+        × TakesFront (text_of replies) (O.taken out.old) (O.taken out.new)) }
     ensures stream { OnErr result (HasRisen (O.faults out.old) (O.faults out.new)) }
     ensures stream_faults { O.faults out.old ≤ O.faults out.new }
     ensures faults { D.faults disk.old ≤ D.faults disk.new }

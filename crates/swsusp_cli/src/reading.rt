@@ -1,6 +1,6 @@
 ghost use Rattle.std.specs.Prelude.{◌≡◌, ◌≤◌, Err, IfOk};
 ghost use Rattle.definitions.specs.Disk.{HasRisen};
-ghost use Rattle.swsusp_cli.specs.Reading.{IsReadAs};
+ghost use Rattle.swsusp_cli.specs.Reading.{IsReadAs, HandsOutAtMost};
 ghost use Rattle.swsusp_cli.specs.declared.reading.ReadStop.{ReadStop};
 
 use dump_file::Source;
@@ -22,6 +22,7 @@ pub enum ReadStop {
 /// Reads a script to its end, or to one byte past the largest.
 pub fn read_script<I: Source>(alloc: Global, input: &mut I) -> Result<Vec<u8>, ReadStop>
     ensures read { IfOk result (λ bytes. IsReadAs (I.remaining input.old) bytes.items (I.remaining input.new)) }
+    ensures few { HandsOutAtMost 1048577 (I.remaining input.old) (I.remaining input.new) }
     ensures stream { result ≡ Err ReadStop.Fault → HasRisen (I.faults input.old) (I.faults input.new) }
     ensures counted { I.faults input.old ≤ I.faults input.new }
 {

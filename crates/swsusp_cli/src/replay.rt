@@ -1,11 +1,13 @@
 ghost use Rattle.std.specs.Prelude.{◌≡◌, ◌≢◌, ◌⊎◌, ◌≤◌, ◌+◌, ◌<◌, ◌^◌, Some, Ok, Err, IfOk, List, ℕ, All, length};
 ghost use Rattle.definitions.specs.Disk.{HasRisen};
-ghost use Rattle.definitions.specs.Streams.{IsOver};
+ghost use Rattle.definitions.specs.Streams.{IsOver, TakesFront};
 ghost use Rattle.script.specs.Grammar.{ScriptValue, IsLastPage};
 ghost use Rattle.plain_machine.specs.Fitting.{IsFitting};
 ghost use Rattle.swsusp_cli.specs.AnswerOf.{told_by};
 ghost use Rattle.swsusp_cli.specs.Outcome.{IsReplayed, small_told, fault_told, unformatted_told, memory_told};
 ghost use Rattle.swsusp_cli.specs.Readied.{IsReadied};
+ghost use Rattle.swsusp_cli.specs.Reading.{HandsOutAtMost};
+ghost use Rattle.swsusp_cli.specs.Replay.{unread_note};
 
 use crate::answer::{Answer, print};
 use crate::formatting::{Unformatted, format};
@@ -44,6 +46,8 @@ pub fn replay<I: Source, O: Sink, N: Sink, D: Disk>(
       content_after = D.content disk.new;
       low = D.faults disk.old;
       high = D.faults disk.new;
+      calls = D.calls disk.old;
+      calls_after = D.calls disk.new;
       out = O.taken out.old;
       out_after = O.taken out.new;
       note = N.taken note.old;
@@ -53,6 +57,7 @@ pub fn replay<I: Source, O: Sink, N: Sink, D: Disk>(
         ⊎ HasRisen (O.faults out.old) (O.faults out.new) ⊎ HasRisen (N.faults note.old) (N.faults note.new) }
     ensures device { result ≡ Status.Device → HasRisen (D.faults disk.old) (D.faults disk.new) }
     ensures words { result ≢ Status.Words }
+    ensures read { HandsOutAtMost 1048577 (I.remaining input.old) (I.remaining input.new) }
     ensures orders { D.orders disk.new ≡ D.orders disk.old }
     ensures calls { D.calls disk.new ≤ D.calls disk.old + 100002 }
 {
@@ -89,6 +94,7 @@ fn ready<I: Source>(alloc: Global, input: &mut I) -> Result<Script, Stop>
     ensures area { IfOk result (λ script. IsLastPage script.last) }
     ensures fits { IfOk result (λ script. All IsFitting script.events) }
     ensures few { IfOk result (λ script. length script.events ≤ 100000) }
+    ensures read { HandsOutAtMost 1048577 (I.remaining input.old) (I.remaining input.new) }
     ensures stream { result ≡ Err Stop.Source → HasRisen (I.faults input.old) (I.faults input.new) }
     ensures counted { I.faults input.old ≤ I.faults input.new }
 {
@@ -106,7 +112,8 @@ fn ready<I: Source>(alloc: Global, input: &mut I) -> Result<Script, Stop>
 
 /// The source failed: that is noted, once.
 fn unread<N: Sink>(note: &mut N) -> Status
-    ensures { result ≡ Status.Stream }
+    ensures status { result ≡ Status.Stream }
+    ensures note { TakesFront unread_note (N.taken note.old) (N.taken note.new) }
 {
     let _ = print(note, b"source fault\n");
     Status::Stream

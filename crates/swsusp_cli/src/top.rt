@@ -4,6 +4,7 @@ ghost use Rattle.swsusp_cli.specs.Answer.{Told, unparsed};
 ghost use Rattle.swsusp_cli.specs.AnswerOf.{told_by};
 ghost use Rattle.swsusp_cli.specs.Run.{IsAnswer, IsNoReplay, calls_after};
 ghost use Rattle.swsusp_cli.specs.Told.{IsTold};
+ghost use Rattle.swsusp_cli.specs.Reading.{HandsOutAtMost};
 ghost use Rattle.swsusp_cli.specs.Outcome.{IsReplayed};
 ghost use Rattle.swsusp_cli.specs.declared.words.Command.TheVariants.{Replay};
 ghost use Rattle.swsusp_cli.specs.Words.{command_of};
@@ -51,6 +52,8 @@ pub fn run<I: Source, O: Sink, N: Sink, D: Disk>(
       content_after = D.content disk.new;
       low = D.faults disk.old;
       high = D.faults disk.new;
+      calls = D.calls disk.old;
+      calls_after = D.calls disk.new;
       out = O.taken out.old;
       out_after = O.taken out.new;
       note = N.taken note.old;
@@ -63,6 +66,7 @@ pub fn run<I: Source, O: Sink, N: Sink, D: Disk>(
         ⊎ HasRisen (O.faults out.old) (O.faults out.new) ⊎ HasRisen (N.faults note.old) (N.faults note.new) }
     ensures device { result ≡ Status.Device → HasRisen (D.faults disk.old) (D.faults disk.new) }
 
+    ensures read { HandsOutAtMost 1048577 (I.remaining input.old) (I.remaining input.new) }
     ensures input { IsNoReplay (command_of (map string_bytes words.now)) → I.remaining input.new ≡ I.remaining input.old }
     ensures content { IsNoReplay (command_of (map string_bytes words.now)) → D.content disk.new ≡ D.content disk.old }
     ensures calls { IsNoReplay (command_of (map string_bytes words.now)) →

@@ -1,4 +1,4 @@
-use Rattle.std.proofs.Common.{◌≤◌, ◌-◌, List, ℕ, arith, length, drop, take, subst}
+use Rattle.std.proofs.Common.{◌≤◌, List, ℕ, arith, length, drop, subst}
 use Rattle.std.proofs.lemmas.List.{take_rest, length-drop}
 use Rattle.definitions.specs.Streams.{Takes}
 use Rattle.definitions.proofs.Pieces.{Takes-more}

@@ -1,11 +1,11 @@
-use Rattle.std.proofs.Common.{◌≡◌, ◌≤◌, ◌<◌, ◌+◌, ◌++◌, ℕ, List, [], ◌∷◌, length, take, get_or, refl, sym, ap, ◌∙◌, subst, arith}
-use Rattle.std.proofs.lemmas.List.{take_more, take_all}
+use Rattle.std.proofs.Common.{◌≡◌, ◌≤◌, ◌<◌, ◌+◌, ◌++◌, ℕ, List, [], ◌∷◌, length, take, get_or, refl, sym, ◌∙◌, subst, arith}
+use Rattle.std.proofs.lemmas.List.{take_more}
 use Rattle.definitions.specs.Streams.{TakesAll, TakesFront}
+use Rattle.definitions.proofs.Pieces.{Takes-none}
 use Rattle.plain_machine.specs.Replies.{text_of, line_of}
 use Rattle.plain_machine.specs.declared.event.Event.{Event}
 use Rattle.plain_machine.specs.declared.event.Event.TheVariants as event
 use Rattle.plain_machine.specs.declared.event.BootFrom.TheVariants.{Fresh}
-use Rattle.plain_machine.specs.declared.reply.Reply.{Reply}
 use Rattle.swsusp_cli.specs.Playing.{HasPlayed}
 use Rattle.swsusp_cli.specs.Replay.{steps_of}
 use Rattle.swsusp_cli.proofs.Turns.{played_none, played_more, taken_more, front_more, text_more, calls_more, steps_front}
@@ -16,7 +16,7 @@ one_more events i lt = take_more events i (event.Boot Fresh) lt
 
 pub loop-event-init : goal.loop-event-init
 loop-event-init g c = record {
-  played = played_none c.args.world.now (g.D.Disk.content c.args.disk.now) (g.D.Disk.faults c.args.disk.now) (g.O.Sink.taken c.args.out.now);
+  played = ([], played_none c.args.world.now (g.D.Disk.content c.args.disk.now) (g.D.Disk.faults c.args.disk.now), Takes-none [] (g.O.Sink.taken c.args.out.now));
   blocks = c.requires.blocks;
   hardware = refl;
   faults = omega arith;
@@ -37,13 +37,15 @@ loop-event-preserved g c =
     let old_out = g.O.Sink.taken c.args.out.now in
     let mid_out = g.O.Sink.taken c.loop-event.out in
     let new_out = g.O.Sink.taken c.print_reply.new.out in
-    let P : List Reply → Type 0 = λ replies. TakesAll (text_of replies) old_out mid_out in
-    let Q : List Reply → Type 0 = λ replies. TakesAll (text_of replies) old_out new_out in
+    let rs = inv.played.0 in
     record {
-      played = subst (λ (es : List Event). HasPlayed c.args.world.now c.event-reply.new.self es (g.D.Disk.content c.args.disk.now) (g.D.Disk.content c.event-reply.new.disk) (g.D.Disk.faults c.args.disk.now) (g.D.Disk.faults c.event-reply.new.disk) Q) (sym more)
-          (played_more c.args.world.now c.loop-event.world c.event-reply.new.self (take i events) e r (g.D.Disk.content c.args.disk.now) (g.D.Disk.content c.loop-event.disk) (g.D.Disk.content c.event-reply.new.disk)
-          (g.D.Disk.faults c.args.disk.now) (g.D.Disk.faults c.loop-event.disk) (g.D.Disk.faults c.event-reply.new.disk) P Q inv.played row.row inv.hardware row.cause inv.faults row.faults
-          (λ rs p. subst (λ (t : List ℕ). TakesAll t old_out new_out) (sym (text_more rs r)) (taken_more (text_of rs) (line_of r) old_out mid_out new_out p c.in-Ok.ensures.whole)));
+      played = (
+        rs ++ r ∷ [],
+        subst (λ (es : List Event). HasPlayed c.args.world.now c.event-reply.new.self es (rs ++ r ∷ []) (g.D.Disk.content c.args.disk.now) (g.D.Disk.content c.event-reply.new.disk) (g.D.Disk.faults c.args.disk.now) (g.D.Disk.faults c.event-reply.new.disk)) (sym more)
+            (played_more c.args.world.now c.loop-event.world c.event-reply.new.self (take i events) rs e r (g.D.Disk.content c.args.disk.now) (g.D.Disk.content c.loop-event.disk) (g.D.Disk.content c.event-reply.new.disk)
+            (g.D.Disk.faults c.args.disk.now) (g.D.Disk.faults c.loop-event.disk) (g.D.Disk.faults c.event-reply.new.disk) inv.played.1 row.row inv.hardware row.cause row.faults),
+        subst (λ (t : List ℕ). TakesAll t old_out new_out) (sym (text_more rs r)) (taken_more (text_of rs) (line_of r) old_out mid_out new_out inv.played.2 c.in-Ok.ensures.whole),
+      );
       blocks = row.blocks;
       hardware = row.hardware ∙ inv.hardware;
       faults = let a = inv.faults in let b = row.faults in omega arith;
@@ -65,13 +67,13 @@ returns-in-Err-clause-played g c =
     let old_out = g.O.Sink.taken c.args.out.now in
     let mid_out = g.O.Sink.taken c.loop-event.out in
     let new_out = g.O.Sink.taken c.print_reply.new.out in
-    let P : List Reply → Type 0 = λ replies. TakesAll (text_of replies) old_out mid_out in
-    let Q : List Reply → Type 0 = λ replies. TakesFront (text_of replies) old_out new_out in (
+    let rs = inv.played.0 in (
       i + 1,
-      subst (λ (es : List Event). HasPlayed c.args.world.now c.event-reply.new.self es (g.D.Disk.content c.args.disk.now) (g.D.Disk.content c.event-reply.new.disk) (g.D.Disk.faults c.args.disk.now) (g.D.Disk.faults c.event-reply.new.disk) Q) (sym more)
-          (played_more c.args.world.now c.loop-event.world c.event-reply.new.self (take i events) e r (g.D.Disk.content c.args.disk.now) (g.D.Disk.content c.loop-event.disk) (g.D.Disk.content c.event-reply.new.disk)
-          (g.D.Disk.faults c.args.disk.now) (g.D.Disk.faults c.loop-event.disk) (g.D.Disk.faults c.event-reply.new.disk) P Q inv.played row.row inv.hardware row.cause inv.faults row.faults
-          (λ rs p. subst (λ (t : List ℕ). TakesFront t old_out new_out) (sym (text_more rs r)) (front_more (text_of rs) (line_of r) old_out mid_out new_out p c.print_reply.ensures.front))),
+      rs ++ r ∷ [],
+      subst (λ (es : List Event). HasPlayed c.args.world.now c.event-reply.new.self es (rs ++ r ∷ []) (g.D.Disk.content c.args.disk.now) (g.D.Disk.content c.event-reply.new.disk) (g.D.Disk.faults c.args.disk.now) (g.D.Disk.faults c.event-reply.new.disk)) (sym more)
+          (played_more c.args.world.now c.loop-event.world c.event-reply.new.self (take i events) rs e r (g.D.Disk.content c.args.disk.now) (g.D.Disk.content c.loop-event.disk) (g.D.Disk.content c.event-reply.new.disk)
+          (g.D.Disk.faults c.args.disk.now) (g.D.Disk.faults c.loop-event.disk) (g.D.Disk.faults c.event-reply.new.disk) inv.played.1 row.row inv.hardware row.cause row.faults),
+      subst (λ (t : List ℕ). TakesFront t old_out new_out) (sym (text_more rs r)) (front_more (text_of rs) (line_of r) old_out mid_out new_out inv.played.2 c.print_reply.ensures.front),
     )
 
 pub returns-in-Err-clause-calls : goal.returns-in-Err-clause-calls

@@ -1,6 +1,7 @@
-use Rattle.std.proofs.Common.{◌≡◌, ◌⊎◌, ◌≤◌, ◌+◌, ℕ, List, take}
+use Rattle.std.proofs.Common.{◌≡◌, ◌⊎◌, ◌≤◌, ◌+◌, List, take}
 use Rattle.definitions.specs.Streams.{TakesAll}
 use Rattle.plain_machine.specs.Replies.{text_of}
+use Rattle.plain_machine.specs.declared.reply.Reply.{Reply}
 use Rattle.world_core.specs.StandsFor.{IsOff, blocks_of, hardware_of}
 use Rattle.swsusp_cli.specs.Playing.{HasPlayed}
 use Rattle.swsusp_cli.specs.Replay.{steps_of}
@@ -8,8 +9,8 @@ use Rattle.swsusp_cli.proofs.playing.play.Given as goal
 
 abbrev pub invariant-loop-event : goal.invariant-loop-event
 invariant-loop-event g l = record {
-  played : HasPlayed l.fn.world l.world (take l.event-index l.events) (g.D.Disk.content l.fn.disk) (g.D.Disk.content l.disk) (g.D.Disk.faults l.fn.disk) (g.D.Disk.faults l.disk)
-      (λ replies. TakesAll (text_of replies) (g.O.Sink.taken l.fn.out) (g.O.Sink.taken l.out));
+  played : (replies : List Reply) × HasPlayed l.fn.world l.world (take l.event-index l.events) replies (g.D.Disk.content l.fn.disk) (g.D.Disk.content l.disk) (g.D.Disk.faults l.fn.disk) (g.D.Disk.faults l.disk)
+      × TakesAll (text_of replies) (g.O.Sink.taken l.fn.out) (g.O.Sink.taken l.out);
   blocks : IsOff l.world ⊎ (g.D.Disk.block_count l.disk ≡ blocks_of l.world);
   hardware : hardware_of l.world ≡ hardware_of l.fn.world;
   faults : g.D.Disk.faults l.fn.disk ≤ g.D.Disk.faults l.disk;

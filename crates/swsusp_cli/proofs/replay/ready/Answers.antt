@@ -1,4 +1,4 @@
-use Rattle.std.proofs.Common.{◌≡◌, ℕ, List, Ok, Err, ap, sym, ◌∙◌}
+use Rattle.std.proofs.Common.{Ok, Err, ap, sym, ◌∙◌}
 use Rattle.script.specs.Grammar.{script_of}
 use Rattle.swsusp_cli.proofs.Scripts.{script_read, read_over}
 use Rattle.swsusp_cli.proofs.replay.ready.Goals as goal

@@ -1,25 +1,19 @@
-use Rattle.std.proofs.Common.{◌≡◌, ◌≤◌, ◌+◌, ℕ, List, Option, Some, refl, sym, ap, ◌∙◌, subst, arith, take, length, []}
-use Rattle.std.specs.Option.{IfSome}
+use Rattle.std.proofs.Common.{◌≡◌, ◌≤◌, ◌+◌, ℕ, List, refl, sym, ap, ◌∙◌, subst, arith, take, length, []}
 use Rattle.definitions.specs.Disk as disk
-use Rattle.definitions.specs.Streams.{TakesAll, TakesFront}
 use Rattle.definitions.proofs.Pieces.{Takes-none}
 use Rattle.plain_machine.specs.Machine.{Hardware}
-use Rattle.plain_machine.specs.Replies.{text_of}
 use Rattle.plain_machine.specs.declared.event.Event.{Event}
-use Rattle.plain_machine.specs.declared.reply.Reply.{Reply}
 use Rattle.machine.specs.Scripted.{scripted_hardware}
 use Rattle.world_core.specs.StandsFor.{IsNew}
 use Rattle.swsusp_cli.specs.Answer.{Told}
 use Rattle.swsusp_cli.specs.AnswerOf.{told_by}
 use Rattle.swsusp_cli.specs.Formatting.{Formats, FailsToFormat}
-use Rattle.swsusp_cli.specs.Outcome.{IsReplayed, no_script, too_small, unformatted, played, cut_off, small_told, fault_told}
+use Rattle.swsusp_cli.specs.Outcome.{out_of_memory, no_script, too_small, unformatted, played, cut_off, small_told, fault_told}
 use Rattle.swsusp_cli.specs.Playing.{HasPlayed}
+use Rattle.swsusp_cli.specs.Replay.{steps_of}
 use Rattle.swsusp_cli.specs.Told.{IsTold}
-use Rattle.swsusp_cli.proofs.Replays.{run_of, steps_few}
+use Rattle.swsusp_cli.proofs.Replays.{replies_of, calls_within, steps_few}
 use Rattle.swsusp_cli.proofs.replay.replay.Goals as goal
-
-whole_of : (blocks : ℕ) (told : Option disk.Content) (c : disk.Content) → told ≡ Some c → IfSome told (disk.IsContent blocks) → disk.IsContent blocks c
-whole_of blocks told c e h = subst (λ (o : Option disk.Content). IfSome o (disk.IsContent blocks)) e h
 
 pub returns-in-Err-Script-clause-outcome : goal.returns-in-Err-Script-clause-outcome
 returns-in-Err-Script-clause-outcome g c =
@@ -62,6 +56,7 @@ returns-in-Err-format-clause-outcome g c =
       roomy = omega arith;
       told = subst (λ (t : Told). IsTold t tell.result (g.O.Sink.taken c.args.out.now) (g.O.Sink.taken tell.new.out) (g.N.Sink.taken c.args.note.now) (g.N.Sink.taken tell.new.note)) c.unformatted.ensures.told tell.ensures.told;
       risen = c.in-Err-format.ensures.cause refl;
+      calls = c.in-Err-format.ensures.calls;
       content = subst (λ (last : ℕ). disk.Changes (FailsToFormat last c.in-Err-format.call) (g.D.Disk.content c.args.disk.now) (g.D.Disk.content c.format.new.disk)) c.last-3.ensures c.in-Err-format.ensures.content;
     })
 
@@ -74,24 +69,30 @@ returns-in-Ok-play-clause-outcome g c =
     let hw : c.scripted.result ≡ scripted_hardware script.last = c.scripted.ensures ∙ ap scripted_hardware c.last.ensures in
     let fresh = subst (λ (h : Hardware). IsNew h c.in-Ok-create.world) hw c.in-Ok-create.ensures in
     let formats = subst (λ (last : ℕ). disk.Changes (Formats last) (g.D.Disk.content c.args.disk.now) (g.D.Disk.content c.format.new.disk)) c.last-3.ensures c.in-Ok-format.ensures.content in
-    let P : List Reply → Type 0 = λ replies. TakesAll (text_of replies) (g.O.Sink.taken c.args.out.now) (g.O.Sink.taken c.play.new.out) in
-    let was = subst (λ (events : List Event). HasPlayed c.in-Ok-create.world c.play.new.world events (g.D.Disk.content c.format.new.disk) (g.D.Disk.content c.play.new.disk) (g.D.Disk.faults c.format.new.disk) (g.D.Disk.faults c.play.new.disk) P) c.events.ensures c.in-Ok-play.ensures.played in
+    let before = g.D.Disk.content c.args.disk.now in
+    let between = g.D.Disk.content c.format.new.disk in
+    let after = g.D.Disk.content c.play.new.disk in
+    let rs = c.in-Ok-play.ensures.played.0 in
+    let was = subst (λ (events : List Event). HasPlayed c.in-Ok-create.world c.play.new.world events rs between after (g.D.Disk.faults c.format.new.disk) (g.D.Disk.faults c.play.new.disk)) c.events.ensures c.in-Ok-play.ensures.played.1 in
+    let steps = subst (λ (events : List Event). g.D.Disk.calls c.play.new.disk ≤ g.D.Disk.calls c.format.new.disk + steps_of events) c.events.ensures c.play.ensures.calls in
     played script (record {
       script_is = record { says = c.in-Ok.ensures.ready.0; over = c.in-Ok.ensures.ready.1 };
       roomy = omega arith;
       status_is = refl;
-      prints = λ k told. run_of script.last (g.D.Disk.block_count c.args.disk.now) c.in-Ok-create.world c.play.new.world script.events (g.D.Disk.content c.args.disk.now) (g.D.Disk.content c.format.new.disk) (g.D.Disk.content c.play.new.disk)
-          (g.D.Disk.faults c.args.disk.now) (g.D.Disk.faults c.format.new.disk) (g.D.Disk.faults c.play.new.disk) P k told
-          (whole_of (g.D.Disk.block_count c.args.disk.now) (g.D.Disk.content c.args.disk.now) k told (g.met.D.Disk.well_formed c.args.disk.now)) (omega arith) fresh formats c.format.ensures.faults was;
+      prints = (
+        rs,
+        replies_of script.last (g.D.Disk.block_count c.args.disk.now) c.in-Ok-create.world c.play.new.world script.events rs before between after (g.D.Disk.faults c.args.disk.now) (g.D.Disk.faults c.format.new.disk) (g.D.Disk.faults c.play.new.disk)
+            (g.met.D.Disk.well_formed c.args.disk.now) (omega arith) fresh formats c.format.ensures.faults was,
+        c.in-Ok-play.ensures.played.2,
+      );
       note = Takes-none [] (g.N.Sink.taken c.args.note.now);
+      calls = calls_within (g.D.Disk.calls c.args.disk.now) (g.D.Disk.calls c.format.new.disk) (g.D.Disk.calls c.play.new.disk) (steps_of script.events) c.in-Ok-format.ensures.calls steps;
     })
 
 pub returns-in-Ok-play-clause-calls : goal.returns-in-Ok-play-clause-calls
 returns-in-Ok-play-clause-calls g c =
-    let script = c.in-Ok.script in
     let few = steps_few c.events.result.now 100000 (subst (λ (events : List Event). length events ≤ 100000) (sym c.events.ensures) c.in-Ok.ensures.few) in
-    let made = c.format.ensures.calls in
-    let more = c.play.ensures.calls in
+    let made = calls_within (g.D.Disk.calls c.args.disk.now) (g.D.Disk.calls c.format.new.disk) (g.D.Disk.calls c.play.new.disk) (steps_of c.events.result.now) c.in-Ok-format.ensures.calls c.play.ensures.calls in
     omega arith
 
 pub returns-clause-outcome : goal.returns-clause-outcome
@@ -103,23 +104,38 @@ returns-clause-outcome g c =
     let hw : c.scripted.result ≡ scripted_hardware script.last = c.scripted.ensures ∙ ap scripted_hardware c.last.ensures in
     let fresh = subst (λ (h : Hardware). IsNew h c.in-Ok-create.world) hw c.in-Ok-create.ensures in
     let formats = subst (λ (last : ℕ). disk.Changes (Formats last) (g.D.Disk.content c.args.disk.now) (g.D.Disk.content c.format.new.disk)) c.last-3.ensures c.in-Ok-format.ensures.content in
-    let P : List Reply → Type 0 = λ replies. TakesFront (text_of replies) (g.O.Sink.taken c.args.out.now) (g.O.Sink.taken c.play.new.out) in
+    let before = g.D.Disk.content c.args.disk.now in
+    let between = g.D.Disk.content c.format.new.disk in
+    let after = g.D.Disk.content c.play.new.disk in
     let k = c.in-Err-play.ensures.played.0 in
-    let was = subst (λ (events : List Event). HasPlayed c.in-Ok-create.world c.play.new.world (take k events) (g.D.Disk.content c.format.new.disk) (g.D.Disk.content c.play.new.disk) (g.D.Disk.faults c.format.new.disk) (g.D.Disk.faults c.play.new.disk) P) c.events.ensures c.in-Err-play.ensures.played.1 in
+    let rs = c.in-Err-play.ensures.played.1 in
+    let was = subst (λ (events : List Event). HasPlayed c.in-Ok-create.world c.play.new.world (take k events) rs between after (g.D.Disk.faults c.format.new.disk) (g.D.Disk.faults c.play.new.disk)) c.events.ensures c.in-Err-play.ensures.played.2 in
+    let steps = subst (λ (events : List Event). g.D.Disk.calls c.play.new.disk ≤ g.D.Disk.calls c.format.new.disk + steps_of events) c.events.ensures c.play.ensures.calls in
     cut_off script (record {
       script_is = record { says = c.in-Ok.ensures.ready.0; over = c.in-Ok.ensures.ready.1 };
       roomy = omega arith;
       status_is = refl;
-      prints = λ held told.
-          let run = run_of script.last (g.D.Disk.block_count c.args.disk.now) c.in-Ok-create.world c.play.new.world (take k script.events) (g.D.Disk.content c.args.disk.now) (g.D.Disk.content c.format.new.disk) (g.D.Disk.content c.play.new.disk)
-          (g.D.Disk.faults c.args.disk.now) (g.D.Disk.faults c.format.new.disk) (g.D.Disk.faults c.play.new.disk) P held told
-          (whole_of (g.D.Disk.block_count c.args.disk.now) (g.D.Disk.content c.args.disk.now) held told (g.met.D.Disk.well_formed c.args.disk.now)) (omega arith) fresh formats c.format.ensures.faults was in
-          (k, run.0, run.1, run.2);
+      prints = (
+        k,
+        rs,
+        replies_of script.last (g.D.Disk.block_count c.args.disk.now) c.in-Ok-create.world c.play.new.world (take k script.events) rs before between after (g.D.Disk.faults c.args.disk.now) (g.D.Disk.faults c.format.new.disk) (g.D.Disk.faults c.play.new.disk)
+            (g.met.D.Disk.well_formed c.args.disk.now) (omega arith) fresh formats c.format.ensures.faults was,
+        c.in-Err-play.ensures.played.3,
+      );
+      note = c.print.ensures.front;
+      calls = calls_within (g.D.Disk.calls c.args.disk.now) (g.D.Disk.calls c.format.new.disk) (g.D.Disk.calls c.play.new.disk) (steps_of script.events) c.in-Ok-format.ensures.calls steps;
     })
 
 pub returns-clause-calls : goal.returns-clause-calls
 returns-clause-calls g c =
     let few = steps_few c.events.result.now 100000 (subst (λ (events : List Event). length events ≤ 100000) (sym c.events.ensures) c.in-Ok.ensures.few) in
-    let made = c.format.ensures.calls in
-    let more = c.play.ensures.calls in
+    let made = calls_within (g.D.Disk.calls c.args.disk.now) (g.D.Disk.calls c.format.new.disk) (g.D.Disk.calls c.play.new.disk) (steps_of c.events.result.now) c.in-Ok-format.ensures.calls c.play.ensures.calls in
     omega arith
+
+pub returns-in-Err-clause-outcome : goal.returns-in-Err-clause-outcome
+returns-in-Err-clause-outcome g c =
+    let tell = c.tell-in-Err in
+    out_of_memory (record {
+      told = subst (λ (t : Told). IsTold t tell.result (g.O.Sink.taken c.args.out.now) (g.O.Sink.taken tell.new.out) (g.N.Sink.taken c.args.note.now) (g.N.Sink.taken tell.new.note)) c.no_memory-in-Err.ensures.told tell.ensures.told;
+      content = refl;
+    })
