@@ -1,26 +1,40 @@
-ghost use Rattle.std.specs.Prelude.{◌≡◌, ℕ, ◌+◌, ◌*◌, ◌<◌, ◌≤◌, List, length, replicate, IfOk, All};
+ghost use Rattle.std.specs.Prelude.{◌≡◌, ℕ, ◌+◌, ◌*◌, ◌<◌, ◌≤◌, List, [], length, replicate, IfOk, All};
 ghost use Rattle.definitions.specs.Bytes.{IsPage, word, with_word, number_at, with_number, zero_page, filled_page};
 ghost use Rattle.definitions.specs.Tables.{frame, with_frame, run_at, with_run};
 
+use crate::block::{Block, Lease};
 use byteorder::{ByteOrder, LittleEndian};
 use page_core::{NoMemory, Page};
 use std::alloc::Global;
 use std::marker::Model;
 
 /// The page frames of a machine, by their numbers from 0 on: one block of memory, taken once and freed once.
-#[derive(Drop)]
 pub struct Frames {
-    pages: Vec<[u8; 4096]>,
+    pages: Block<[u8; 4096]>,
+    lease: Lease<[u8; 4096], Global>,
+    alloc: Global,
 }
 
 impl Model for Frames {
     ghost use Rattle.std.specs.Prelude.{List, ℕ, ◌<◌, ◌^◌, length};
+    ghost use Rattle.frame_arena.specs.Leases.{IsFull, IsLeaseOf};
 
     ghost Value = { List (List ℕ) };
 
     ghost view = { λ f. f.pages.items };
 
-    ghost invariant = { λ f. length f.pages.items < 2 ^ 32 };
+    ghost invariant = { λ f. (length f.pages.items < 2 ^ 32) × IsFull f.pages × IsLeaseOf f.lease f.pages f.alloc };
+}
+
+impl Drop for Frames {
+    fn drop(self) {
+        let Frames {
+            pages,
+            lease,
+            alloc,
+        } = self;
+        lease.give_back(&alloc, pages);
+    }
 }
 
 #[tactic(auto, unfolding(definitions::specs::Bytes::zero_page, definitions::specs::Bytes::filled_page, definitions::specs::Bytes::with_bytes, definitions::specs::Bytes::number_at, definitions::specs::Bytes::with_number))]
@@ -29,8 +43,15 @@ impl Frames {
     pub fn create(alloc: Global, n: u32) -> Result<Frames, NoMemory>
         ensures { IfOk result (λ frames. frames ≡ replicate n zero_page) }
     {
-        match Vec::from_elem(alloc, [0; 4096], n as usize) {
-            Ok(pages) => Ok(Frames { pages }),
+        match Lease::take(&alloc, n as usize) {
+            Ok((mut pages, lease)) => {
+                push_copies(&mut pages, [0; 4096], n);
+                Ok(Frames {
+                    pages,
+                    lease,
+                    alloc,
+                })
+            }
             Err(_) => Err(NoMemory),
         }
     }
@@ -40,7 +61,7 @@ impl Frames {
         ensures len { result ≡ length self.now }
         ensures pages { All IsPage self.now }
     {
-        count_of(&self.pages) as u32
+        count_of(self.pages.items()) as u32
     }
 
     /// The content of page frame `p`.
@@ -49,7 +70,7 @@ impl Frames {
         ensures content { result.now ≡ frame self.now p }
         ensures page { IsPage result.now }
     {
-        whole(&self.pages[p as usize])
+        whole(&self.pages.items()[p as usize])
     }
 
     /// Copies a page into page frame `p`.
@@ -57,7 +78,7 @@ impl Frames {
         requires { p < length self.old }
         ensures { self.new ≡ with_frame self.old p page.now }
     {
-        self.pages[p as usize] = *page.as_bytes();
+        self.pages.items_mut()[p as usize] = *page.as_bytes();
     }
 
     /// Copies page frame `from` into page frame `to`.
@@ -66,8 +87,8 @@ impl Frames {
         requires to_in_range { to < length self.old }
         ensures { self.new ≡ with_frame self.old to (frame self.old from) }
     {
-        let page = self.pages[from as usize];
-        self.pages[to as usize] = page;
+        let page = self.pages.items()[from as usize];
+        self.pages.items_mut()[to as usize] = page;
     }
 
     /// Copies the `n` page frames from `from` on into those from `to` on. The two runs may overlap.
@@ -77,7 +98,7 @@ impl Frames {
         ensures copied { self.new ≡ with_run self.old to (run_at n self.old from) }
         ensures len { length self.new ≡ length self.old }
     {
-        let pages = self.pages.as_mut_slice();
+        let pages = self.pages.items_mut();
         let (from, to, n) = (from as usize, to as usize, n as usize);
         if to < from {
             copy_forward(pages, from, to, n);
@@ -92,7 +113,7 @@ impl Frames {
         requires word_in_range { i < 512 }
         ensures { result ≡ word (frame self.now p) i }
     {
-        LittleEndian::read_u64(&self.pages[p as usize][8 * i..])
+        LittleEndian::read_u64(&self.pages.items()[p as usize][8 * i..])
     }
 
     /// Sets the 8-byte number at 8i of page frame `p`, and leaves the rest.
@@ -101,7 +122,8 @@ impl Frames {
         requires word_in_range { i < 512 }
         ensures { self.new ≡ with_frame self.old p (with_word (frame self.old p) i v) }
     {
-        LittleEndian::write_u64(&mut self.pages[p as usize][8 * i..8 * i + 8], v);
+        let page = &mut self.pages.items_mut()[p as usize];
+        LittleEndian::write_u64(&mut page[8 * i..8 * i + 8], v);
     }
 
     /// The 4-byte number at offset k of page frame `p`.
@@ -110,7 +132,7 @@ impl Frames {
         requires number_in_range { k ≤ 4092 }
         ensures { result ≡ number_at 4 (frame self.now p) k }
     {
-        LittleEndian::read_u32(&self.pages[p as usize][k..])
+        LittleEndian::read_u32(&self.pages.items()[p as usize][k..])
     }
 
     /// Sets the 4-byte number at offset k of page frame `p`, and leaves the rest.
@@ -119,7 +141,8 @@ impl Frames {
         requires number_in_range { k ≤ 4092 }
         ensures { self.new ≡ with_frame self.old p (with_number 4 (frame self.old p) k v) }
     {
-        LittleEndian::write_u32(&mut self.pages[p as usize][k..k + 4], v);
+        let page = &mut self.pages.items_mut()[p as usize];
+        LittleEndian::write_u32(&mut page[k..k + 4], v);
     }
 
     /// Sets each byte of page frame `p` to zero.
@@ -127,7 +150,7 @@ impl Frames {
         requires { p < length self.old }
         ensures { self.new ≡ with_frame self.old p zero_page }
     {
-        self.pages[p as usize] = [0; 4096];
+        self.pages.items_mut()[p as usize] = [0; 4096];
     }
 
     /// Sets each byte of page frame `p` to `byte`.
@@ -135,7 +158,20 @@ impl Frames {
         requires { p < length self.old }
         ensures { self.new ≡ with_frame self.old p (filled_page byte) }
     {
-        self.pages[p as usize] = [byte; 4096];
+        self.pages.items_mut()[p as usize] = [byte; 4096];
+    }
+}
+
+// Fills the `n` empty places of a block with copies of a page.
+fn push_copies(pages: &mut Block<[u8; 4096]>, page: [u8; 4096], n: u32)
+    requires none { pages.old.items ≡ [] }
+    requires room { pages.old.room ≡ n }
+    ensures items { pages.new.items ≡ replicate n page }
+    ensures full { pages.new.room ≡ 0 }
+    ensures in_place { pages.new.first ≡ pages.old.first }
+{
+    for _ in 0..n {
+        pages.push(page);
     }
 }
 

@@ -1,6 +1,7 @@
 //! The memory of the simulated machine: page frames of 4096 bytes each.
 #![tactic(auto)]
 
+mod block;
 mod frames;
 #[cfg(test)]
 mod tests;

@@ -41,3 +41,11 @@ fn one_frame_at_a_time(rt: HostRuntime) -> Result<(), Fail> {
     assert_eq!(rt; frames.word(2, 0), 0x0000000905060708);
     Ok(())
 }
+
+#[test]
+fn no_frames(rt: HostRuntime) -> Result<(), Fail> {
+    let mut frames = Frames::create(rt.alloc(), 0)?;
+    frames.copy_run(0, 0, 0);
+    assert_eq!(rt; frames.len(), 0);
+    Ok(())
+}

@@ -1,0 +1,4 @@
+mod Places
+mod Sharing
+mod Layouts
+mod BlockSteps
