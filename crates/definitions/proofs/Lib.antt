@@ -9,6 +9,7 @@ pub mod Marks
 pub mod MoveExamples
 pub mod PageBytes
 pub mod PageWords
+pub mod Picks
 pub mod Pieces
 pub mod SlotRuns
 pub mod SwapMaps

@@ -9,7 +9,7 @@ use Rattle.definitions.specs.FrameSets.{inserted}
 use Rattle.definitions.specs.Tables.{flags_of, owner_of}
 use Rattle.definitions.proofs.FrameSets.{inserted_above, Contains-from_filter}
 use Rattle.definitions.proofs.ZoneNumbers.{range-bounds}
-use Rattle.saveable.proofs.Picks.{picks_one, inserted_picked}
+use Rattle.definitions.proofs.Picks.{picks_one, inserted_picked}
 
 pub take-append : (n : ℕ) (xs ys : List ℕ) → take n (xs ++ ys) ≡ take n xs ++ take (n - length xs) ys
 take-append n xs ys = elim (cases_lt (length xs) n) [

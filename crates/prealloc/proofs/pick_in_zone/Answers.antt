@@ -3,7 +3,7 @@ use Rattle.std.specs.List.{Contains, range_with_len}
 use Rattle.definitions.specs.Zones.{numbers}
 use Rattle.saveable.specs.Tests.{free_by_entry}
 use Rattle.prealloc.proofs.Picks.{take-picked, length-picked, inserted_first, free-by_parts}
-use Rattle.saveable.proofs.Picks.{picks_one, picks_none}
+use Rattle.definitions.proofs.Picks.{picks_one, picks_none}
 use Rattle.definitions.specs.Tables.{entry_at}
 use Rattle.memory_bitmap.specs.FrameSet.{FrameSet}
 use Rattle.prealloc.proofs.pick_in_zone.Goals as goal

@@ -1,7 +1,7 @@
 use Rattle.std.proofs.Common.{◌-◌, [], ◌∷◌, filter, length, length-append, ap, sym, ◌∙◌, arith}
 use Rattle.std.specs.List.{range_with_len}
 use Rattle.saveable.specs.Tests.{free_by_entry}
-use Rattle.saveable.proofs.Picks.{picks_one, picks_none}
+use Rattle.definitions.proofs.Picks.{picks_one, picks_none}
 use Rattle.saveable.proofs.free_in_zone.Goals as goal
 use Rattle.saveable.proofs.free_in_zone.Goals.{then-is_free, else-is_free}
 

@@ -4,7 +4,7 @@ use Rattle.definitions.specs.Zones.{numbers}
 use Rattle.definitions.specs.Tables.{is_saveable}
 use Rattle.memory_bitmap.specs.FrameSet.{FrameSet}
 use Rattle.saveable.specs.Tests.{saveable_by_entry}
-use Rattle.saveable.proofs.Picks.{picks_none, inserted_picked}
+use Rattle.definitions.proofs.Picks.{picks_none, inserted_picked}
 use Rattle.saveable.proofs.mark_zone.Goals as goal
 use Rattle.saveable.proofs.mark_zone.Goals.{then-is_saveable, else-is_saveable}
 
