@@ -1,0 +1,15 @@
+pub mod Arranging
+pub mod Checked
+pub mod Cycles
+pub mod Emitting
+pub mod Executing
+pub mod Joining
+pub mod Loading
+pub mod Pending
+pub mod Placements
+pub mod Relocating
+pub mod Sequencing
+pub mod Taking
+pub mod Walking
+pub mod Widening
+pub mod Writing

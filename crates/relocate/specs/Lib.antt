@@ -1,0 +1,5 @@
+pub mod Joining
+pub mod Pending
+pub mod Performing
+pub mod Relocation
+pub mod Tables

@@ -1,0 +1,4 @@
+pub mod Counting
+pub mod Planning
+pub mod Reserved
+pub mod Walks

@@ -1,0 +1,4 @@
+pub mod Kept
+pub mod Placed
+pub mod Plan
+pub mod Walk
