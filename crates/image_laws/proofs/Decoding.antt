@@ -43,7 +43,7 @@ page_of s = s.1
 
 -- The pages of the stream, as the disk reads them.
 
-ok_is : {A E : Type 0} (o : Option E) (x y : A) → ok_unless o x ≡ Ok y → x ≡ y
+pub ok_is : {A E : Type 0} (o : Option E) (x y : A) → ok_unless o x ≡ Ok y → x ≡ y
 ok_is None x y e = cc
 ok_is (Some fault) x y e = absurd (cc)
 
@@ -65,7 +65,7 @@ stream_info : (info : Info) (numbers : List ℕ) (saved : List (List ℕ)) → g
 unfolding stream_pages
 stream_info info numbers saved = refl
 
-stream_behind : (info : Info) (numbers : List ℕ) (saved : List (List ℕ)) (k : ℕ) → get_or (stream_pages info numbers saved) (1 + k) [] ≡ get_or (number_pages numbers ++ saved) k []
+pub stream_behind : (info : Info) (numbers : List ℕ) (saved : List (List ℕ)) (k : ℕ) → get_or (stream_pages info numbers saved) (1 + k) [] ≡ get_or (number_pages numbers ++ saved) k []
 unfolding stream_pages
 stream_behind info numbers saved k =
     let next : 1 + k ≡ suc k = omega arith in
@@ -77,26 +77,26 @@ says_info h v i holds say =
     ap info_of (stream_page_is h v i 0 holds (omega arith) ∙ stream_info (info_of_image i) (marked_numbers (numbers_of i) (without_data i)) (map page_of (with_data i)))
     ∙ info_of-info_page (info_of_image i) say.info
 
-meta_is : (h : Hardware) (v : disk.Image) (i : Image) → Holds h v i → IsSayable i → meta_in h v ≡ meta_of (n_of i)
+pub meta_is : (h : Hardware) (v : disk.Image) (i : Image) → Holds h v i → IsSayable i → meta_in h v ≡ meta_of (n_of i)
 meta_is h v i holds say = ap (λ (info : Info). meta_of info.image_pages) (says_info h v i holds say)
 
 -- the numbers of the stream
-abbrev told : Image → List ℕ
+abbrev pub told : Image → List ℕ
 told i = marked_numbers (numbers_of i) (without_data i)
 
-number_fits : (i : Image) (j : ℕ) → IsSayable i → j < length (numbers_of i) → get_or (numbers_of i) j 0 < zero_bit
+pub number_fits : (i : Image) (j : ℕ) → IsSayable i → j < length (numbers_of i) → get_or (numbers_of i) j 0 < zero_bit
 number_fits i j say lt =
     let size = length-map i.frames number_of in
     subst (λ (n : ℕ). n < zero_bit) (sym (get_or-map number_of i.frames j none_saved 0 (omega arith))) (say.numbers j none_saved (omega arith))
 
-are_all_told : (i : Image) → IsSayable i → AreTold (numbers_of i) (without_data i)
+pub are_all_told : (i : Image) → IsSayable i → AreTold (numbers_of i) (without_data i)
 are_all_told i say = are_told (numbers_of i) (without_data i) (λ j lt. number_fits i j say lt)
 
 marked_fits : (b : Bool) (p : ℕ) → p < zero_bit → cond b (p + zero_bit) p < 2 ^ 64
 marked_fits true p lt = omega arith
 marked_fits false p lt = omega arith
 
-told_fit : (i : Image) (j : ℕ) → IsSayable i → j < length (told i) → get_or (told i) j 0 < 2 ^ 64
+pub told_fit : (i : Image) (j : ℕ) → IsSayable i → j < length (told i) → get_or (told i) j 0 < 2 ^ 64
 told_fit i j say lt =
     let size = (are_all_told i say).size in
     let inside : j < length (numbers_of i) = omega arith in
@@ -105,10 +105,10 @@ told_fit i j say lt =
     subst (λ (n : ℕ). n < 2 ^ 64) (sym (get_or-map (marked_number zeros) (numbers_of i) j 0 0 inside))
     (marked_fits (list_any (λ q. eqb q p) zeros) p (number_fits i j say inside))
 
-length-told : (i : Image) → IsSayable i → length (told i) ≡ n_of i
+pub length-told : (i : Image) → IsSayable i → length (told i) ≡ n_of i
 length-told i say = (are_all_told i say).size ∙ length-map i.frames number_of
 
-word_is : (h : Hardware) (v : disk.Image) (i : Image) (j : ℕ) → Holds h v i → IsSayable i → j < n_of i → number_word h v j ≡ get_or (told i) j 0
+pub word_is : (h : Hardware) (v : disk.Image) (i : Image) (j : ℕ) → Holds h v i → IsSayable i → j < n_of i → number_word h v j ≡ get_or (told i) j 0
 word_is h v i j holds say lt =
     let size = length-told i say in
     let within : j / 512 < length (number_pages (told i)) = omega (arith, length-map-range_with_len (number_page (told i)) 0 (meta_of (length (told i))), ap meta_of size) in
@@ -119,7 +119,7 @@ word_is h v i j holds say lt =
     ∙ get_or_append_left (number_pages (told i)) (map page_of (with_data i)) [] (j / 512) within)
     ∙ (have_words (told i) (λ k lt_k. told_fit i k say lt_k)).each j (omega arith)
 
-words_are : (h : Hardware) (v : disk.Image) (i : Image) → Holds h v i → IsSayable i → words_in h v ≡ told i
+pub words_are : (h : Hardware) (v : disk.Image) (i : Image) → Holds h v i → IsSayable i → words_in h v ≡ told i
 words_are h v i holds say =
     let count : (info_in h v).image_pages ≡ n_of i = ap (λ (info : Info). info.image_pages) (says_info h v i holds say) in
     let n = (info_in h v).image_pages in
@@ -140,7 +140,7 @@ format_by flags Plain iff =
 format_by flags SkipZeros iff =
     cond-true (not (eqb (bit_and flags 256) 0)) SkipZeros Plain (ap not (ne_eqb (bit_and flags 256) 0 (iff.1 refl)))
 
-format_is : (h : Hardware) (v : disk.Image) (i : Image) → Holds h v i → format_in h v ≡ i.format
+pub format_is : (h : Hardware) (v : disk.Image) (i : Image) → Holds h v i → format_in h v ≡ i.format
 format_is h v i holds = format_by (flags_of (header_of h v)) i.format holds.format
 
 -- Which saved pages have no data page.
@@ -202,7 +202,7 @@ same_has_data SkipZeros s t e = ap (λ (page : List ℕ). not (is_zeros page)) e
 abbrev skips : Format → Saved → Bool
 skips f s = not (has_data f s)
 
-is_skipped : (i : Image) (s : Saved) (b : Bool) → IsSayable i → Contains i.frames s → has_data i.format s ≡ b → list_any (λ q. eqb q s.0) (without_data i) ≡ not b
+pub is_skipped : (i : Image) (s : Saved) (b : Bool) → IsSayable i → Contains i.frames s → has_data i.format s ≡ b → list_any (λ q. eqb q s.0) (without_data i) ≡ not b
 is_skipped i s false say there e = kept_in (skips i.format) i.frames s there (ap not e)
 is_skipped i s true say there e = by_any (list_any (λ q. eqb q s.0) (without_data i)) refl where
   by_any : (a : Bool) → list_any (λ q. eqb q s.0) (without_data i) ≡ a → a ≡ false
@@ -219,14 +219,14 @@ is_skipped i s true say there e = by_any (list_any (λ q. eqb q s.0) (without_da
 abbrev Reads : Hardware → disk.Image → ℕ → List Saved → Type 0
 Reads h v k saved = (d : ℕ) → d < length saved → stream_page h v (k + d) ≡ (get_or saved d none_saved).1
 
-zeros_of : (f : Format) (s : Saved) → has_data f s ≡ false → (f ≡ SkipZeros) × (s.1 ≡ zero_page)
+pub zeros_of : (f : Format) (s : Saved) → has_data f s ≡ false → (f ≡ SkipZeros) × (s.1 ≡ zero_page)
 zeros_of Plain s e = absurd (false≢true (sym e))
 zeros_of SkipZeros s e = (refl, same_text s.1 zero_page (zeros (is_zeros s.1) e)) where
   zeros : (b : Bool) → not b ≡ false → true ≡ b
   zeros true none = refl
   zeros false none = absurd (false≢true (sym none))
 
-not_marked : (f : Format) (p : ℕ) → p < zero_bit → is_marked_by f p ≡ false
+pub not_marked : (f : Format) (p : ℕ) → p < zero_bit → is_marked_by f p ≡ false
 not_marked Plain p lt = refl
 not_marked SkipZeros p lt = lt-leb zero_bit p lt
 
@@ -350,7 +350,7 @@ decodes h v i holds say =
 
 -- Images of memories.
 
-few_saveable : (h : Hardware) (m : Memory) → AreZones h.zones → length (saveable h m) ≤ 65536
+pub few_saveable : (h : Hardware) (m : Memory) → AreZones h.zones → length (saveable h m) ≤ 65536
 unfolding saveable_frames
 few_saveable h m zones =
     let test : ℕ → Bool = λ p. is_saveable (flags_in (entry_at m h.frame_table p)) in
@@ -360,7 +360,7 @@ few_saveable h m zones =
     let most = top_at_most h.zones zones in
     omega arith
 
-saveable_below : (h : Hardware) (m : Memory) (p : ℕ) → AreZones h.zones → Contains (saveable h m) p → p < zero_bit
+pub saveable_below : (h : Hardware) (m : Memory) (p : ℕ) → AreZones h.zones → Contains (saveable h m) p → p < zero_bit
 saveable_below h m p zones in' =
     let valid = (Contains-from_saveable_frames h.zones h.frame_table m p in').0 in
     let below = below_top h.zones p zones.apart valid in

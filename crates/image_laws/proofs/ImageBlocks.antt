@@ -29,7 +29,7 @@ part_of_concat n (xs ∷ xss) (suc j) each lt =
     ∙ part_of_concat n xss j (λ k d below. each (suc k) d (omega arith)) (omega arith))
 
 -- a sector of 512 bytes is its part of the block
-sector_of_block : (v : Image) (b j : ℕ) → 8 * b + 8 ≤ length v → ((i : ℕ) → i < 8 → length (get_or v (8 * b + i) []) ≡ 512) → j < 8 → sector_bytes (block v b) j ≡ get_or v (8 * b + j) []
+pub sector_of_block : (v : Image) (b j : ℕ) → 8 * b + 8 ≤ length v → ((i : ℕ) → i < 8 → length (get_or v (8 * b + i) []) ≡ 512) → j < 8 → sector_bytes (block v b) j ≡ get_or v (8 * b + j) []
 unfolding block
 sector_of_block v b j within each few =
     let part = take 8 (drop (8 * b) v) in
@@ -52,7 +52,7 @@ pieces page (suc n) =
     ∙ ap (λ (k : ℕ). take k page) bytes
 
 -- a block whose sectors are a page's is that page
-block_of_sectors : (v : Image) (b : ℕ) (page : List ℕ) → IsPage page → 8 * b + 8 ≤ length v → ((j : ℕ) → j < 8 → get_or v (8 * b + j) [] ≡ sector_bytes page j) → block v b ≡ page
+pub block_of_sectors : (v : Image) (b : ℕ) (page : List ℕ) → IsPage page → 8 * b + 8 ≤ length v → ((j : ℕ) → j < 8 → get_or v (8 * b + j) [] ≡ sector_bytes page j) → block v b ≡ page
 unfolding block
 block_of_sectors v b page whole within each =
     let part = take 8 (drop (8 * b) v) in
@@ -67,7 +67,7 @@ block_of_sectors v b page whole within each =
 
 -- Candidates of a sector that every image has so.
 
-long : (blocks : ℕ) (c : Content) (v : Image) (s : ℕ) → IsContent blocks c → IsImage c v → s < length c → length (get_or v s []) ≡ 512
+pub long : (blocks : ℕ) (c : Content) (v : Image) (s : ℕ) → IsContent blocks c → IsImage c v → s < length c → length (get_or v s []) ≡ 512
 long blocks c v s whole is lt =
     All-contains (λ bytes. length bytes ≡ 512) (sector c s).candidates (get_or v s []) (whole.sectors s no_sector lt).each (is.chosen s lt)
 
@@ -85,7 +85,7 @@ changed_image c v s x is lt candidate = record {
 }
 
 -- a candidate of a sector is that sector of the block of some image
-candidate_of_image : (blocks : ℕ) (c : Content) (b j : ℕ) (x : List ℕ) → IsContent blocks c → b < blocks → j < 8 → Contains (sector c (8 * b + j)).candidates x → (v : Image) × IsImage c v × (x ≡ sector_bytes (block v b) j)
+pub candidate_of_image : (blocks : ℕ) (c : Content) (b j : ℕ) (x : List ℕ) → IsContent blocks c → b < blocks → j < 8 → Contains (sector c (8 * b + j)).candidates x → (v : Image) × IsImage c v × (x ≡ sector_bytes (block v b) j)
 candidate_of_image blocks c b j x whole lt few candidate =
     let v = as_it_reads c in
     let size = whole.size in
@@ -129,11 +129,11 @@ written_block b page whole blocks old new content lt writes =
 
 -- [torn]
 
-failed : (b : ℕ) (page : List ℕ) (old new : Content) → Tries b page old new → FailsToWrite b page old new
+pub failed : (b : ℕ) (page : List ℕ) (old new : Content) → Tries b page old new → FailsToWrite b page old new
 failed b page old new (inl writes) = record { others = writes.others; within = λ j few. inr (writes.within j few) }
 failed b page old new (inr fails) = fails
 
-earlier_or_written : (old new : Sector) (bytes x : List ℕ) → (new ≡ old) ⊎ TakesBytes bytes old new → Contains new.candidates x → Contains old.candidates x ⊎ (x ≡ bytes)
+pub earlier_or_written : (old new : Sector) (bytes x : List ℕ) → (new ≡ old) ⊎ TakesBytes bytes old new → Contains new.candidates x → Contains old.candidates x ⊎ (x ≡ bytes)
 earlier_or_written old new bytes x (inl same) candidate = inl (subst (λ (s : Sector). Contains s.candidates x) same candidate)
 earlier_or_written old new bytes x (inr takes) candidate = takes.candidates x candidate
 
@@ -149,7 +149,7 @@ written_candidate blocks b p q old new j x whole lt all fails few candidate =
       | inr written ↦ inr written
     ]
 
-same_sector : (p q : List ℕ) (k j : ℕ) → AgreeBut (512 * k) (512 * k + 512) p q → j ≢ k → sector_bytes p j ≡ sector_bytes q j
+pub same_sector : (p q : List ℕ) (k j : ℕ) → AgreeBut (512 * k) (512 * k + 512) p q → j ≢ k → sector_bytes p j ≡ sector_bytes q j
 same_sector p q k j agree apart =
     bytes_at-same 512 p q (512 * j) agree.size (λ i le lt. elim (cases_order j k) [
       | inl same ↦ absurd (apart same)
@@ -263,7 +263,7 @@ back_compared n m xs ys p q xs_is ys_is agree =
     ap (take (4096 - m)) (ap (drop m) xs_is ∙ same_back n m p q agree ∙ sym (ap (drop m) ys_is))
 
 -- the mark's fields lie in the last sector
-marked_within : (page : List ℕ) (first flags hw : ℕ) → IsPage page → AgreeBut 3584 4096 page (marked page first flags hw)
+pub marked_within : (page : List ℕ) (first flags hw : ℕ) → IsPage page → AgreeBut 3584 4096 page (marked page first flags hw)
 marked_within page first flags hw whole =
     let size = length-marked page first flags hw whole in
     record {
@@ -284,7 +284,7 @@ pub mark_stays : (page : List ℕ) (first flags hw : ℕ) → IsPage page → St
 mark_stays page first flags hw whole =
     stays_either page (marked page first flags hw) 7 whole (length-marked page first flags hw whole) (omega arith) (marked_within page first flags hw whole)
 
-length-taken_back : (page : List ℕ) → IsPage page → IsPage (taken_back page)
+pub length-taken_back : (page : List ℕ) → IsPage page → IsPage (taken_back page)
 unfolding taken_back
 length-taken_back page whole =
     let sig = length-bytes_at 10 page 4076 (omega arith) in
@@ -296,7 +296,7 @@ taken_back_before page i whole lt =
     let sig = length-bytes_at 10 page 4076 (omega arith) in
     get_or-with_bytes_below page 4086 (orig_sig_of page) i 0 (omega arith) (omega arith)
 
-taken_back_within : (page : List ℕ) → IsPage page → AgreeBut 3584 4096 page (taken_back page)
+pub taken_back_within : (page : List ℕ) → IsPage page → AgreeBut 3584 4096 page (taken_back page)
 taken_back_within page whole =
     let size = length-taken_back page whole in
     record {

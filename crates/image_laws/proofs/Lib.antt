@@ -3,3 +3,4 @@ pub mod ImageBlocks
 pub mod NumberWords
 pub mod Performing
 pub mod Resuming
+pub mod Images

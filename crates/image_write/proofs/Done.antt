@@ -79,6 +79,10 @@ places_apart pages i j m n lt within (inl (below, more, is)) (inr (kind, other_i
 places_apart pages i j m n lt within (inr (kind, is)) (inl (other_below, other_more, other_is)) e = page_and_map pages j i n m other_below other_is is (sym e)
 places_apart pages i j m n lt within (inr (kind, is)) (inr (other, other_is)) e = maps_apart pages i j lt within kind (sym is ∙ e ∙ other_is) other
 
+-- each write takes one of as many slots as there are writes
+pub place_below : (pages k : ℕ) → k < pages + maps_of pages → place_of pages k < pages + maps_of pages
+place_below pages k lt = place_within pages k (place_of pages k) lt (writes_at pages k lt)
+
 -- The slots of the writes: they are the file map's, ascending.
 pub record AreSlots (extents : List (ℕ × ℕ × ℕ)) (free : List ℕ) (count : ℕ) : Type 0 where
   pub file_map : (slots : ℕ) × IsFileMap extents slots × ((place : ℕ) → place < count → get_or free place 0 < slots)
@@ -144,7 +148,7 @@ map_is_page extents free pages k page is =
     subst (λ (w : ℕ × List ℕ). IsPage w.1) (sym same) (written_page extents free pages k zero_page length-zero_page)
 
 -- what is written is a page, where those of the stream are
-pages_written : (extents : List (ℕ × ℕ × ℕ)) (free : List ℕ) (stream : List (List ℕ)) (k : ℕ) → All IsPage stream → k < length stream + maps_of (length stream) → IsPage (write_at extents free stream k).1
+pub pages_written : (extents : List (ℕ × ℕ × ℕ)) (free : List ℕ) (stream : List (List ℕ)) (k : ℕ) → All IsPage stream → k < length stream + maps_of (length stream) → IsPage (write_at extents free stream k).1
 pages_written extents free stream k whole lt = elim (cases_Bool (is_map_write (length stream) k)) [
   | inl is ↦ map_is_page extents free (length stream) k (get_or stream (page_of_write k) []) is
   | inr isn't ↦ written_page extents free (length stream) k (get_or stream (page_of_write k) []) (whole (page_of_write k) [] (page_is_one (length stream) k (page_write (length stream) k lt isn't)))

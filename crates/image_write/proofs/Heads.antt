@@ -44,7 +44,7 @@ length-stream_pages info numbers saved = let size = length-number_pages numbers 
 
 -- Each of them is a page.
 
-length-concat : (n : ℕ) (xss : List (List ℕ)) → All (λ xs. length xs ≡ n) xss → length (concat xss) ≡ n * length xss
+pub length-concat : (n : ℕ) (xss : List (List ℕ)) → All (λ xs. length xs ≡ n) xss → length (concat xss) ≡ n * length xss
 length-concat n [] h = rw mul-zero refl
 length-concat n (xs ∷ xss) h =
     let first : length xs ≡ n = h 0 [] (omega arith) in

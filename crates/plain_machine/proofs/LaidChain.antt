@@ -61,7 +61,7 @@ pub record IsMapWrite (pages j k : ℕ) : Type 0 where
   pub map_is : k / 512 ≡ j
   pub is_map : is_map_write pages k ≡ true
 
-map_has_write : (pages j : ℕ) → j < maps_of pages → (k : ℕ) × IsMapWrite pages j k
+pub map_has_write : (pages j : ℕ) → j < maps_of pages → (k : ℕ) × IsMapWrite pages j k
 map_has_write pages j lt = elim (cases_lt (j + 1) (maps_of pages)) [
   | inl more ↦ (
     512 * j + 511,

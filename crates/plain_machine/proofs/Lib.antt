@@ -1,3 +1,4 @@
+pub mod BadSlots
 pub mod DiskBlocks
 pub mod EachEntry
 pub mod Examples

@@ -1,4 +1,5 @@
 -- Which swap areas can be used.
+-- In Linux: read_swap_header, mm/swapfile.c.
 use Rattle.sig_header.specs.declared.area.AreaFault.{AreaFault}
 use Rattle.sig_header.specs.declared.area.AreaFault.TheVariants.{Version, BadCount, LastZero, BadEntry}
 use Rattle.plain_machine.specs.declared.no_swap.NoSwap.{NoSwap}

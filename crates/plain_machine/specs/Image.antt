@@ -1,4 +1,5 @@
 -- An image: what a hibernation saves, at one moment.
+-- In Linux: swsusp_save, init_header and snapshot_read_next, kernel/power/snapshot.c.
 use Rattle.std.specs.Prelude.{ℕ, ◌+◌, ◌/◌, List, ◌∷◌, ◌++◌, Bool, true, not, nat_eq, length, map, filter, Option}
 use Rattle.std.specs.Cmp.Lexicographic.{pointwise}
 use Rattle.page_core.specs.declared.format.Format.{Format}

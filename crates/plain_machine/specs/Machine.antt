@@ -1,4 +1,6 @@
 -- The machine: its hardware and its memory.
+-- In Linux: struct zone (include/linux/mmzone.h), struct page, and struct swap_info_struct (include/linux/swap.h); saveable
+-- and free page frames are those of kernel/power/snapshot.c.
 use Rattle.std.specs.Prelude.{◌≡◌, ◌≤◌, ◌<◌, ◌⊎◌, ℕ, ◌+◌, ◌*◌, ◌/◌, ◌%◌, ◌-◌, All, ◌==◌, ◌&&◌, ◌||◌, Bool, true, false, not, nat_lt, nat_le, List, [], ◌∷◌, ◌++◌, length, map, filter, take_while, replicate, Option, Some, None, if◌then◌else◌, slice_index_or, Contains}
 use Rattle.std.specs.List.{list_any, range_with_len, find}
 use Rattle.definitions.specs.Bytes.{zero_page, IsPage}

@@ -1,5 +1,7 @@
 -- Which events are refused, and why: the first of each event's tests, in the order in which they stand here. A refused event
 -- changes nothing.
+-- In Linux: freeze_processes, kernel/power/process.c; enough_free_mem, kernel/power/snapshot.c; enough_swap, kernel/power/swap.c.
+-- The order is own.
 use Rattle.std.specs.Prelude.{ℕ, ◌+◌, ◌==◌, ◌&&◌, ◌||◌, Bool, true, false, not, nat_lt, List, length, Option, Some, None, if◌then◌else◌, is_none, is_some}
 use Rattle.std.specs.List.{range_with_len, find}
 use Rattle.page_core.specs.declared.format.Format.{Format}

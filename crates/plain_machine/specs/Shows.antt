@@ -1,4 +1,5 @@
 -- What a world shows of itself, and which running state that is. Nothing here speaks of a disk.
+-- It has no counterpart in Linux.
 use Rattle.std.specs.Prelude.{◌≡◌, ℕ, Bool, true, false, List, Option, Some, None, ⊤}
 use Rattle.definitions.specs.Tables.{with_entries}
 use Rattle.definitions.specs.Lists.{image_slots}

@@ -1,5 +1,6 @@
 -- [stands]: when a world and a disk stand for a state of the plain machine. Each part is a definition of its own.
-use Rattle.std.specs.Prelude.{◌≡◌, ◌≢◌, ◌<◌, ◌≤◌, ◌⊎◌, ℕ, ◌+◌, ◌-◌, List, [], ◌∷◌, ◌++◌, length, map, take, Option, Some, None, IsTrue, Contains, All, bit_and, ⊤, slice_index_or, nat_lt}
+-- It has no counterpart in Linux: it is what the promises are about.
+use Rattle.std.specs.Prelude.{◌≡◌, ◌≢◌, ◌<◌, ◌≤◌, ◌⊎◌, ℕ, ◌+◌, ◌-◌, ◌/◌, List, [], ◌∷◌, ◌++◌, length, map, take, Option, Some, None, IsTrue, Contains, All, bit_and, ⊤, slice_index_or, nat_lt}
 use Rattle.std.specs.List.{range_with_len}
 use Rattle.definitions.specs.Disk as disk
 use Rattle.definitions.specs.Bytes.{bytes_at}
@@ -7,8 +8,9 @@ use Rattle.definitions.specs.SwapHeader.{IsMarked, image_of, taken_back, flags_o
 use Rattle.definitions.specs.Tables.{frame}
 use Rattle.sig_header.specs.AreaKind.{area_kind}
 use Rattle.plain_machine.specs.Machine.{Hardware, Memory, block_of_slot, raw_slot_entry, slot_entry, image_slot, IsSameMemory, Fits, unused_slots}
-use Rattle.plain_machine.specs.Image.{Image, SlotPages, maps_of, pages_of, stream_of, hibernate_steps, image_of_memory}
-use Rattle.plain_machine.specs.Laid.{laid}
+use Rattle.definitions.specs.NumberPages.{meta_of}
+use Rattle.plain_machine.specs.Image.{Image, SlotPages, n_of, with_data, maps_of, pages_of, stream_of, hibernate_steps, image_of_memory}
+use Rattle.plain_machine.specs.Laid.{laid, laid_block}
 use Rattle.plain_machine.specs.Chain.{Holds, Marked, header_of, blocks_of, entry_block, map_block}
 use Rattle.plain_machine.specs.Loader.{has, left_free, loader_frame}
 use Rattle.plain_machine.specs.UsableArea.{area_block, area_fault, has_bad_slots_of, bad_set_fault}
@@ -24,9 +26,24 @@ EachImage c P = (v : disk.Image) → disk.IsImage c v → P v
 
 -- 1. Held.
 
+-- a slot that has a page is a task's by the table
+abbrev pub AreTaskSlots : Hardware → Memory → SlotPages → Type 0
+AreTaskSlots h m slots = (s : ℕ) (page : List ℕ) → slots s ≡ Some page → (s < h.slots) × (1 ≤ slot_entry h m s) × (slot_entry h m s ≤ 64)
+
+-- the area of the disk v can be used by a machine with this memory
+pub record FitsArea (h : Hardware) (v : disk.Image) (m : Memory) : Type 0 where
+  pub area : area_fault h v ≡ None
+  pub bad_slots : bad_set_fault h m (area_kind (area_block h v)) ≡ None
+
 -- An own image is the image of a memory that fits and whose slot table fits the area, made under the machine's signature.
+pub record IsImageOf (h : Hardware) (v : disk.Image) (i : Image) (m : Memory) : Type 0 where
+  pub fits : Fits h m
+  pub task_slots : AreTaskSlots h m i.slots
+  pub fits_area : FitsArea h v m
+  pub image : i ≡ image_of_memory h m i.slots i.format
+
 pub record IsOwn (h : Hardware) (v : disk.Image) (i : Image) : Type 0 where
-  pub of_memory : (m : Memory) × Fits h m × (i ≡ image_of_memory h m i.slots i.format)
+  pub of_memory : (m : Memory) × IsImageOf h v i m
   pub signature : Marked h v → (bit_and (flags_of (header_of h v)) 8 ≡ 0) ⊎ (hw_sig_of (header_of h v) ≡ h.hw_sig)
 
 abbrev pub IsHeld : Hardware → disk.Content → Held → Type 0
@@ -36,7 +53,7 @@ IsHeld h c (maybe (own i)) = EachImage c (λ v. ((Marked h v → ⊥) ⊎ Holds 
 IsHeld h c (sure other) = EachImage c (Marked h)
 IsHeld h c (maybe other) = ⊤
 
--- 2. Memory: what the world shows of it is in Shows.antt; each task's slot reads as its page.
+-- 2. Memory: what the world shows of it is in Shows.antt; a slot that has a page is a task's, and reads as that page.
 abbrev pub HaveSlotPages : Hardware → disk.Content → SlotPages → Type 0
 HaveSlotPages h c slots =
     (s : ℕ) (page : List ℕ) → slots s ≡ Some page → disk.block (disk.as_it_reads c) (block_of_slot h s) ≡ page
@@ -78,25 +95,59 @@ pub record HasArea (h : Hardware) (c : disk.Content) (a : Running) : Type 0 wher
   pub area : a.unusable ≡ None → area_fault h (disk.as_it_reads c) ≡ None
   pub bad_slots : a.unusable ≡ None → bad_set_fault h a.memory (area_kind (area_block h (disk.as_it_reads c))) ≡ None
 
--- 4. Hibernating: what the first steps wrote reads as laid; the copies are the image's pages; after the first sync every
--- image of the disk has the blocks and the tasks' slots.
+-- 4. Hibernating.
+
+-- A hibernation that was accepted: the image is that of the memory, none is held, and the area can be used and has the slots.
+pub record IsAccepted (h : Hardware) (a : Running) (i : Image) : Type 0 where
+  pub image : i ≡ image_of_memory h a.memory a.slots i.format
+  pub unheld : a.held ≡ nothing
+  pub usable : a.unusable ≡ None
+  pub room : pages_of i + maps_of (pages_of i) ≤ length (unused_slots h a.memory)
+
+-- what the hibernation writes but for the mark, in the order of its steps
+abbrev pub laid_writes : Hardware → Running → Image → List (ℕ × List ℕ)
+laid_writes h a i = laid h.extents (unused_slots h a.memory) (stream_of i)
+
 abbrev pub Reads : disk.Image → ℕ × List ℕ → Type 0
 Reads v written = disk.block v written.0 ≡ written.1
 
--- the writes of the first k steps, in the order of the steps
-pub record IsWritten (h : Hardware) (shown : Shown) (c : disk.Content) (i : Image) (a : Running) (k : ℕ) : Type 0 where
-  pub all_laid : pages_of i + maps_of (pages_of i) ≤ k → All (Reads (disk.as_it_reads c)) (laid h.extents (unused_slots h a.memory) (stream_of i))
-  pub copies : map (frame shown.frames) shown.copies ≡ map (λ saved. saved.1) i.frames
-  pub durable : pages_of i + maps_of (pages_of i) + 1 ≤ k → EachImage c (λ v. All (Reads v) (laid h.extents (unused_slots h a.memory) (stream_of i)))
-  pub slots_durable : pages_of i + maps_of (pages_of i) + 1 ≤ k → (s : ℕ) (page : List ℕ) → i.slots s ≡ Some page →
-      EachImage c (λ v. disk.block v (block_of_slot h s) ≡ page)
+-- Every image of the disk has the blocks of the hibernation and the tasks' slots. One that is marked has the chain that was laid:
+-- its first map lies in the least slot that was free.
+pub record HasLaid (h : Hardware) (c : disk.Content) (i : Image) (a : Running) : Type 0 where
+  pub blocks : EachImage c (λ v. All (Reads v) (laid_writes h a i))
+  pub slots : (s : ℕ) (page : List ℕ) → i.slots s ≡ Some page → EachImage c (λ v. disk.block v (block_of_slot h s) ≡ page)
+  pub chain : EachImage c (λ v. Marked h v → image_of (header_of h v) ≡ laid_block h.extents (unused_slots h a.memory) 0)
 
--- 5. Loading: the pages read so far are the image's, the others are the loader's; from step 4 on no image is marked.
+-- What the first k steps wrote reads as laid, and the copies are the image's pages. After the first sync every image of the
+-- disk has it.
+pub record IsWritten (h : Hardware) (shown : Shown) (c : disk.Content) (i : Image) (a : Running) (k : ℕ) : Type 0 where
+  pub laid : All (Reads (disk.as_it_reads c)) (take k (laid_writes h a i))
+  pub copies : map (frame shown.frames) shown.copies ≡ map (λ saved. saved.1) i.frames
+  pub durable : hibernate_steps i - 3 ≤ k → HasLaid h c i a
+
+-- 5. Loading.
+
+-- w is the disk v, but for block(0), which is as it was or taken back
+pub record IsTakenBack (h : Hardware) (v w : disk.Image) : Type 0 where
+  pub size : length w ≡ length v
+  pub others : (b : ℕ) → b < blocks_of v → b ≢ block_of_slot h 0 → disk.block w b ≡ disk.block v b
+  pub header : (header_of h w ≡ header_of h v) ⊎ (header_of h w ≡ taken_back (header_of h v))
+
+-- how many pages with data are read after k steps: behind the four steps at block(0) each 512th step, from the first on, reads
+-- a map, and the info page and the number pages come first
+abbrev pub pages_read : ℕ → ℕ
+pages_read k = k - 4 - (k - 4 + 511) / 512
+
+abbrev pub data_read : Image → ℕ → ℕ
+data_read i k = pages_read k - (meta_of (n_of i) + 1)
+
+-- The pages read so far are the image's first ones with data, the others are the loader's. Every image of the disk is the one
+-- that the second step found, but for block(0). From step 4 on none is marked.
 pub record IsLoading (h : Hardware) (shown : Shown) (c : disk.Content) (load : Load) (k : ℕ) : Type 0 where
   pub kept : (p : ℕ) → (Contains (left_free h load.dump load.loader) p → ⊥) → frame shown.frames p ≡ loader_frame load.dump load.loader p
-  pub read : (i : Image) → load.found ≡ found_own i → (saved : ℕ × List ℕ) → Contains shown.loaded saved → Contains i.frames saved
-  pub others : (v : disk.Image) → load.found ≡ found_other v →
-      EachImage c (λ w. (b : ℕ) → b < blocks_of v → b ≢ block_of_slot h 0 → disk.block w b ≡ disk.block v b)
+  pub read : (i : Image) → load.found ≡ found_own i → shown.loaded ≡ take (data_read i k) (with_data i)
+  pub own : (i : Image) → load.found ≡ found_own i → (v : disk.Image) × Holds h v i × IsOwn h v i × EachImage c (IsTakenBack h v)
+  pub others : (v : disk.Image) → load.found ≡ found_other v → EachImage c (IsTakenBack h v)
   pub taken_back : 4 ≤ k → EachImage c (λ v. Marked h v → ⊥)
 
 -- 6. Between two calls: a restart or a sync has left one image, and the block that is kept is the disk's, or the marked page.
@@ -119,6 +170,7 @@ StandsOff h c held = IsHeld h c held × IsHeader h c
 -- the disk of a running state
 pub record StandsOn (h : Hardware) (shown : Shown) (c : disk.Content) (a : Running) : Type 0 where
   pub held : IsHeld h c a.held
+  pub task_slots : AreTaskSlots h a.memory a.slots
   pub slot_pages : HaveSlotPages h c a.slots
   pub names : NamesHeld h shown c a.held
   pub header : IsHeader h c
@@ -128,6 +180,7 @@ pub record StandsOn (h : Hardware) (shown : Shown) (c : disk.Content) (a : Runni
 pub record StandsBehind (h : Hardware) (shown : Shown) (c : disk.Content) (a : Running) (image : Held) : Type 0 where
   pub held : IsHeld h c image
   pub shows : ShowsRunning h shown a
+  pub task_slots : AreTaskSlots h a.memory a.slots
   pub slot_pages : HaveSlotPages h c a.slots
   pub header : IsHeader h c
   pub area : HasArea h c a
@@ -143,11 +196,13 @@ HasParts h shown c (off held kept) = ShowsKept h shown kept × StandsOff h c hel
 HasParts h shown c (on a) = ShowsRunning h shown a × StandsOn h shown c a
 HasParts h shown c (booting from dump held k) = ShowsBoot h shown from dump × StandsOff h c held × (k ≡ 1 → HasOneImage c)
 HasParts h shown c (hibernating suspends i a k) =
-    StandsBehind h shown c a (held_in (hibernating suspends i a k)) × NamesOnly h shown (laid_blocks h a i) × IsWritten h shown c i a k
-    × (k ≡ hibernate_steps i - 2 → KeepsHeader h shown c)
+    StandsBehind h shown c a (held_in (hibernating suspends i a k)) × IsAccepted h a i × NamesOnly h shown (laid_blocks h a i) × IsWritten h shown c i a k
+    × (k ≡ hibernate_steps i - 3 → HasOneImage c)
+    × (k ≡ hibernate_steps i - 2 → HasOneImage c × KeepsHeader h shown c)
     × (k ≡ hibernate_steps i - 1 → KeepsMark h shown c × Holds h (disk.as_it_reads c) i)
 HasParts h shown c (undoing i call a k) =
-    StandsBehind h shown c a (maybe (own i)) × NamesOnly h shown (laid_blocks h a i) × (k ≡ 0 → KeepsMark h shown c)
+    StandsBehind h shown c a (maybe (own i)) × IsAccepted h a i × NamesOnly h shown (laid_blocks h a i) × HasLaid h c i a
+    × (k ≡ 0 → KeepsMark h shown c)
     × (k ≡ 1 → Marked h (disk.as_it_reads c) → ⊥)
 HasParts h shown c (settling a k) =
     StandsBehind h shown c a (held_in (settling a k)) × NamesHeld h shown c a.held × (k ≡ 1 → KeepsHeader h shown c)

@@ -1,4 +1,6 @@
 -- [step]: what the machine may answer, and the state after it. A pair that isn't among the outcomes can't come.
+-- In Linux: hibernation_snapshot, create_image and software_resume, kernel/power/hibernate.c; swsusp_write, mark_swapfiles,
+-- swsusp_check and swsusp_unmark, kernel/power/swap.c.
 use Rattle.std.specs.Prelude.{◌≡◌, ℕ, ◌+◌, ◌-◌, ◌*◌, ◌==◌, ◌&&◌, ◌||◌, Bool, true, false, not, nat_lt, nat_le, List, [], ◌∷◌, ◌++◌, length, filter, take, replicate, Option, Some, None, if◌then◌else◌, is_none, is_some, unwrap_or, slice_get, slice_set, slice_index_or, Contains}
 use Rattle.std.specs.List.{range_with_len, find}
 use Rattle.page_core.specs.declared.format.Format.{Format}

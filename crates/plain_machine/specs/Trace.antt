@@ -1,4 +1,6 @@
 -- [trace]: the replies of a resume without device faults, over any disk. It reads a whole disk by place.
+-- In Linux: swsusp_check and swsusp_read, kernel/power/swap.c; load_header, check_header, unpack_orig_pfns and
+-- snapshot_write_next, kernel/power/snapshot.c.
 use Rattle.std.specs.Prelude.{ℕ, ◌+◌, ◌*◌, ◌/◌, ◌%◌, ◌-◌, ◌==◌, ◌&&◌, ◌||◌, List, [], ◌∷◌, ◌++◌, Bool, false, not, nat_lt, nat_le, length, map, filter, min, max, Option, Some, None, if◌then◌else◌, bit_and, flat_map, unwrap_or, is_none, nat_eq, zero, suc}
 use Rattle.std.specs.List.{list_any, range_with_len}
 use Rattle.std.specs.Cmp.Lexicographic.{pointwise}

@@ -180,6 +180,7 @@ stands_on old new c image dump now ends hw none fresh flag held header =
         shows_running old new v image dump now ends hw none fresh flag,
         record {
           held = held;
+          task_slots = λ s page e. absurd (none-some page e);
           slot_pages = λ s page e. absurd (none-some page e);
           names = names_none h (shown new) c now (λ s lt e. fresh_plain h v new.machine.area s hw ends.area lt (ap (λ (n : Memory). raw_slot_entry h n s) (sym frames) ∙ e));
           header = header;

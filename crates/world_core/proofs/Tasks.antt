@@ -1,5 +1,5 @@
 -- The row of a task's request, and of a new world.
-use Rattle.std.proofs.Common.{◌≡◌, ◌<◌, ℕ, Bool, true, false, cond, not, ◌&&◌, List, [], ◌∷◌, Option, Some, None, refl, sym, ap, ap₂, ◌∙◌, arith, subst, eqb}
+use Rattle.std.proofs.Common.{◌≡◌, ◌<◌, ◌≤◌, ℕ, Bool, true, false, cond, not, ◌&&◌, List, [], ◌∷◌, Option, Some, None, refl, sym, ap, ap₂, ◌∙◌, arith, subst, eqb}
 use Rattle.std.specs.List.{Contains, range_with_len, list_all}
 use Rattle.definitions.specs.Disk as disk
 use Rattle.definitions.proofs.Ascending.{Contains-head, Contains-tail}
@@ -14,7 +14,9 @@ use Rattle.plain_machine.specs.Chain.{Marked}
 use Rattle.plain_machine.specs.Loader.{has}
 use Rattle.plain_machine.specs.UsableArea.{area_block, area_fault, bad_set_fault, bad_slots_of, has_bad_slots_of}
 use Rattle.plain_machine.specs.State.{State, off, on, Running, Held, nothing, sure, maybe, Saved, own, other}
-use Rattle.plain_machine.specs.Stands.{Stands, IsHeld, NamesHeld, HaveSlotPages, HasArea, StandsOn}
+use Rattle.plain_machine.specs.Stands.{Stands, IsHeld, NamesHeld, AreTaskSlots, HaveSlotPages, HasArea, StandsOn}
+use Rattle.plain_machine.specs.Image.{SlotPages}
+use Rattle.plain_machine.proofs.BadSlots.{bad_set-same, task_slots-same}
 use Rattle.plain_machine.specs.Shows.{Shown, RunsAs, ShowsRunning}
 use Rattle.plain_machine.specs.Step.{no_flights}
 use Rattle.machine.specs.declared.machine.Machine.{Machine}
@@ -38,22 +40,6 @@ names_same h s s' c (sure other) same names = tt
 names_same h s s' c (maybe (own i)) same names = λ v in' marked k lt e. names v in' marked k lt (sym (same k lt) ∙ e)
 names_same h s s' c (maybe other) same names = tt
 
-list_all-same : (p q : ℕ → Bool) (xs : List ℕ) → ((x : ℕ) → Contains xs x → p x ≡ q x) → list_all p xs ≡ list_all q xs
-list_all-same p q [] same = refl
-list_all-same p q (x ∷ xs) same = ap₂ (λ (a b : Bool). a && b) (same x (Contains-head x xs)) (list_all-same p q xs (λ y in'. same y (Contains-tail x xs y in')))
-
--- memories with the same slot entries have the same bad slots
-bad_set_same : (h : Hardware) (m n : Memory) (kind : AreaKind) → ((k : ℕ) → k < h.slots → raw_slot_entry h n k ≡ raw_slot_entry h m k) → bad_set_fault h n kind ≡ bad_set_fault h m kind
-bad_set_same h m n (Image mark) same = refl
-bad_set_same h m n Old same = refl
-bad_set_same h m n (Other sig) same = refl
-bad_set_same h m n (BadArea why) same = refl
-bad_set_same h m n (Swap area) same =
-    ap (λ (b : Bool). cond b None (Some no_swap.BadSet))
-    (list_all-same (λ s. cond (eqb (raw_slot_entry h n s) bad_slot) (has (bad_slots_of area) s) (not (has (bad_slots_of area) s)))
-    (λ s. cond (eqb (raw_slot_entry h m s) bad_slot) (has (bad_slots_of area) s) (not (has (bad_slots_of area) s))) (range_with_len 0 h.slots)
-    (λ s in'. let bounds = range-bounds 0 h.slots s in' in let below = bounds.1 in ap (λ (entry : ℕ). cond (eqb entry bad_slot) (has (bad_slots_of area) s) (not (has (bad_slots_of area) s))) (same s (omega arith))))
-
 on_parts : (w : World) (c : disk.Content) (a : Running) → StandsFor w c (on a) → ShowsRunning (hardware_of w) (shown w) a × StandsOn (hardware_of w) (shown w) c a
 unfolding StandsFor
 on_parts w c a stands = stands.parts
@@ -74,12 +60,13 @@ stands_after old new c t o r a b core machine stands goes =
         runs,
         record {
           held = subst (IsHeld h c) (sym goes.held) before.held;
+          task_slots = subst (AreTaskSlots h b.memory) (sym goes.slots) (task_slots-same h a.memory b.memory a.slots goes.slot_entries before.task_slots);
           slot_pages = subst (HaveSlotPages h c) (sym goes.slots) before.slot_pages;
           names = subst (NamesHeld h (shown new) c) (sym goes.held) (names_same h (shown old) (shown new) c a.held goes.shown_entries before.names);
           header = before.header;
           area = record {
             area = λ e. before.area.area (sym goes.unusable ∙ e);
-            bad_slots = λ e. bad_set_same h a.memory b.memory (area_kind (area_block h (disk.as_it_reads c))) goes.slot_entries ∙ before.area.bad_slots (sym goes.unusable ∙ e);
+            bad_slots = λ e. bad_set-same h a.memory b.memory (area_kind (area_block h (disk.as_it_reads c))) goes.slot_entries ∙ before.area.bad_slots (sym goes.unusable ∙ e);
           };
         },
       );
