@@ -1,0 +1,55 @@
+-- A hibernation that ends early: the machine runs again, with nothing held.
+use Rattle.std.proofs.Common.{◌≡◌, ℕ, ◌-◌, ◌<◌, Bool, true, false, ltb, List, [], Some, refl, sym, ◌∙◌, subst}
+use Rattle.std.proofs.lemmas.Bool.{lt-ltb, ltb-true, cond-true, cond-false}
+use Rattle.definitions.specs.Disk as disk
+use Rattle.plain_machine.specs.Machine.{Hardware, block_of_slot}
+use Rattle.plain_machine.specs.Image.{Image, SlotPages, hibernate_steps}
+use Rattle.plain_machine.specs.Shows.{Shown, runs, ShowsRunning}
+use Rattle.plain_machine.specs.Stands.{Stands, IsHeld, HaveSlotPages, NamesOnly, NamesHeld}
+use Rattle.plain_machine.specs.State.{on, hibernating, Running, nothing, maybe, own, held_in}
+use Rattle.protocol_laws.proofs.Same.{KeepsHeader, header_kept, area_kept, nothing_kept}
+
+-- before the mark nothing is held
+pub held_before : (suspends : Bool) (i : Image) (a : Running) (k : ℕ) → k < hibernate_steps i - 1 → held_in (hibernating suspends i a k) ≡ nothing
+held_before suspends i a k lt = cond-true (ltb k (hibernate_steps i - 1)) nothing (maybe (own i)) (lt-ltb k (hibernate_steps i - 1) lt)
+
+pub held_behind : (suspends : Bool) (i : Image) (a : Running) (k : ℕ) → (k < hibernate_steps i - 1 → ⊥) → held_in (hibernating suspends i a k) ≡ maybe (own i)
+held_behind suspends i a k past = cond-false (ltb k (hibernate_steps i - 1)) nothing (maybe (own i)) (not_below (ltb k (hibernate_steps i - 1)) refl) where
+  not_below : (b : Bool) → ltb k (hibernate_steps i - 1) ≡ b → b ≡ false
+  not_below true e = absurd (past (ltb-true k (hibernate_steps i - 1) e))
+  not_below false e = refl
+
+pub unheld : (h : Hardware) (shown : Shown) (c : disk.Content) (suspends : Bool) (i : Image) (a : Running) (k : ℕ) → k < hibernate_steps i - 1 → Stands h shown c (hibernating suspends i a k) → IsHeld h c nothing
+unheld h shown c suspends i a k lt stands = subst (IsHeld h c) (held_before suspends i a k lt) stands.parts.0.held
+
+-- each slot that has a page reads as before
+abbrev pub ReadsSlots : Hardware → disk.Content → disk.Content → SlotPages → Type 0
+ReadsSlots h c c' slots =
+    (s : ℕ) (page : List ℕ) → slots s ≡ Some page → disk.block (disk.as_it_reads c') (block_of_slot h s) ≡ disk.block (disk.as_it_reads c) (block_of_slot h s)
+
+pub slots_read : (h : Hardware) (c c' : disk.Content) (slots : SlotPages) → ReadsSlots h c c' slots → HaveSlotPages h c slots → HaveSlotPages h c' slots
+slots_read h c c' slots same have = λ s page e. same s page e ∙ have s page e
+
+pub names_nothing : (h : Hardware) (shown : Shown) (c : disk.Content) (a : Running) → a.held ≡ nothing → NamesOnly h shown [] → NamesHeld h shown c a.held
+names_nothing h shown c a none names = subst (NamesHeld h shown c) (sym none) names
+
+-- Whatever call kept the header and the slots, the machine runs as it ran.
+pub goes_back : (h : Hardware) (shown shown' : Shown) (c c' : disk.Content) (suspends : Bool) (i : Image) (a : Running) (k : ℕ) → k < hibernate_steps i - 1 → Stands h shown c (hibernating suspends i a k) →
+    KeepsHeader h c c' → ReadsSlots h c c' a.slots → shown'.activity ≡ runs → ShowsRunning h shown' a → NamesOnly h shown' [] → Stands h shown' c' (on a)
+goes_back h shown shown' c c' suspends i a k lt stands keeps reads activity shows names =
+    let behind = stands.parts.0 in
+    let accepted = stands.parts.1 in
+    record {
+      activity = activity;
+      parts = (
+        shows,
+        record {
+          held = subst (IsHeld h c') (sym accepted.unheld) (nothing_kept h c c' keeps (unheld h shown c suspends i a k lt stands));
+          task_slots = behind.task_slots;
+          slot_pages = slots_read h c c' a.slots reads behind.slot_pages;
+          names = names_nothing h shown' c' a accepted.unheld names;
+          header = header_kept h c c' keeps behind.header;
+          area = area_kept h c c' a keeps behind.area;
+        },
+      );
+    }

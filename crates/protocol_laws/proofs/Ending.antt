@@ -1,0 +1,65 @@
+-- The last sync of a hibernation: the machine is off, and every image of the disk holds the image.
+use Rattle.std.proofs.Common.{◌≡◌, ℕ, ◌+◌, Bool, false, List, None, sym, subst, arith}
+use Rattle.definitions.specs.Disk as disk
+use Rattle.definitions.proofs.DiskLaws.{IsImage-after_sync, IsImage-as_it_reads}
+use Rattle.plain_machine.specs.Machine.{Hardware}
+use Rattle.plain_machine.specs.Chain.{Holds}
+use Rattle.plain_machine.specs.Image.{Image, hibernate_steps}
+use Rattle.plain_machine.specs.Shows.{Shown, rests, undoes}
+use Rattle.plain_machine.specs.Stands.{Stands, IsHeld, IsOwn, AgreeOnArea}
+use Rattle.plain_machine.specs.State.{off, hibernating, undoing, Running, sure, maybe, own}
+use Rattle.plain_machine.specs.UsableArea.{area_block}
+use Rattle.plain_machine.specs.declared.reply.UndoCall.TheVariants as undo
+use Rattle.definitions.specs.SwapHeader.{IsMarked, taken_back}
+use Rattle.protocol_laws.specs.Steps.{IsOver, ShowsCopies}
+use Rattle.protocol_laws.proofs.Same.{header_kept, by_sync}
+use Rattle.protocol_laws.proofs.Back.{held_behind}
+
+pub held_at_end : (h : Hardware) (shown : Shown) (c : disk.Content) (suspends : Bool) (i : Image) (a : Running) (k : ℕ) → k + 1 ≡ hibernate_steps i → Stands h shown c (hibernating suspends i a k) → IsHeld h c (maybe (own i))
+held_at_end h shown c suspends i a k last stands = subst (IsHeld h c) (held_behind suspends i a k (λ lt. omega arith)) stands.parts.0.held
+
+pub ends : (h : Hardware) (shown shown' : Shown) (c c' : disk.Content) (blocks : ℕ) (suspends : Bool) (i : Image) (a : Running) (k : ℕ) → IsOver h i blocks c → Stands h shown c (hibernating suspends i a k) → k + 1 ≡ hibernate_steps i →
+    disk.Syncs c c' → shown'.activity ≡ rests → shown'.keeps_dump ≡ false → Stands h shown' c' (off (sure (own i)) None)
+ends h shown shown' c c' blocks suspends i a k over stands last syncs activity kept =
+    let here = IsImage-as_it_reads blocks c over.content in
+    let holds : Holds h (disk.as_it_reads c) i = (stands.parts.6 (omega arith)).1 in
+    let own_is : IsOwn h (disk.as_it_reads c) i = (held_at_end h shown c suspends i a k last stands (disk.as_it_reads c) here).1 in
+    record {
+      activity = activity;
+      parts = (
+        kept,
+        (
+          λ v in'. let same = sym (IsImage-after_sync c c' v syncs in') in (subst (λ (w : disk.Image). Holds h w i) same holds, subst (λ (w : disk.Image). IsOwn h w i) same own_is),
+          header_kept h c c' (by_sync h blocks c c' over.content syncs) stands.parts.0.header,
+        ),
+      );
+    }
+
+-- a sync that fails begins an undo
+pub end_fails : (h : Hardware) (shown shown' : Shown) (c : disk.Content) (suspends : Bool) (i : Image) (a : Running) (k : ℕ) → Stands h shown c (hibernating suspends i a k) → k + 1 ≡ hibernate_steps i →
+    shown'.header ≡ shown.header → shown'.activity ≡ undoes undo.Sync 0 → ShowsCopies h shown' a i → Stands h shown' c (undoing i undo.Sync a 0)
+end_fails h shown shown' c suspends i a k stands last header activity shows =
+    let behind = stands.parts.0 in
+    let mark = (stands.parts.6 (omega arith)).0 in
+    record {
+      activity = activity;
+      parts = (
+        record {
+          held = held_at_end h shown c suspends i a k last stands;
+          shows = shows.shows;
+          task_slots = behind.task_slots;
+          slot_pages = behind.slot_pages;
+          header = behind.header;
+          area = behind.area;
+        },
+        stands.parts.1,
+        shows.names,
+        stands.parts.3.durable (omega arith),
+        (λ e. record {
+          marked = subst IsMarked (sym header) mark.marked;
+          unmarked = λ m. mark.unmarked (subst (λ (p : List ℕ). IsMarked (taken_back p)) header m);
+          area = subst (λ (p : List ℕ). AgreeOnArea (taken_back p) (area_block h (disk.as_it_reads c))) (sym header) mark.area;
+        }),
+        (λ e. absurd (omega arith)),
+      );
+    }

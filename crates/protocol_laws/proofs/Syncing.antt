@@ -1,0 +1,109 @@
+-- The first sync of a hibernation, and the read of the header block behind it.
+use Rattle.std.proofs.Common.{◌≡◌, ℕ, ◌+◌, ◌<◌, ◌≤◌, Bool, [], length, All, refl, sym, ap, ◌∙◌, subst, arith}
+use Rattle.std.proofs.lemmas.List.{take_all}
+use Rattle.std.proofs.lemmas.List.Elements.{All-take}
+use Rattle.std.proofs.lemmas.List.FromFn.{length-map-range_with_len}
+use Rattle.definitions.specs.Disk as disk
+use Rattle.definitions.proofs.DiskLaws.{as_it_reads-settled, IsImage-after_sync, IsImage-as_it_reads}
+use Rattle.plain_machine.specs.Machine.{Hardware, block_of_slot, unused_slots}
+use Rattle.plain_machine.specs.Chain.{header_of}
+use Rattle.plain_machine.specs.Image.{Image, stream_of, hibernate_steps}
+use Rattle.plain_machine.specs.Laid.{laid}
+use Rattle.plain_machine.specs.Shows.{Shown, hibernates, runs, ShowsRunning}
+use Rattle.plain_machine.specs.Stands.{Stands, IsHeld, HaveSlotPages, Reads, NamesOnly, laid_writes}
+use Rattle.plain_machine.specs.State.{on, hibernating, Running, nothing}
+use Rattle.image_write.proofs.Done.{write_at}
+use Rattle.protocol_laws.specs.Steps.{IsOver, ShowsCopies}
+use Rattle.protocol_laws.proofs.Same.{header_kept, area_kept, nothing_kept, by_sync, by_nothing}
+use Rattle.protocol_laws.proofs.Laid.{count_of, count_is}
+use Rattle.protocol_laws.proofs.Back.{held_before, unheld, slots_read, goes_back}
+
+pub length-laid : (h : Hardware) (a : Running) (i : Image) → length (laid_writes h a i) ≡ count_of i
+unfolding laid
+length-laid h a i = length-map-range_with_len (write_at h.extents (unused_slots h a.memory) (stream_of i)) 0 (count_of i)
+
+-- all writes are made
+pub all_laid : (h : Hardware) (shown : Shown) (c : disk.Content) (suspends : Bool) (i : Image) (a : Running) (k : ℕ) → hibernate_steps i ≤ k + 4 → Stands h shown c (hibernating suspends i a k) → All (Reads (disk.as_it_reads c)) (laid_writes h a i)
+all_laid h shown c suspends i a k le stands =
+    let size = length-laid h a i in
+    let steps = count_is i in
+    subst (All (Reads (disk.as_it_reads c))) (take_all k (laid_writes h a i) (omega arith)) stands.parts.3.laid
+
+pub slots_of_image : (h : Hardware) (a : Running) (i : Image) (shown : Shown) (c : disk.Content) (suspends : Bool) (k : ℕ) → Stands h shown c (hibernating suspends i a k) → HaveSlotPages h c i.slots
+slots_of_image h a i shown c suspends k stands = subst (HaveSlotPages h c) (sym (ap (λ (x : Image). x.slots) stands.parts.1.image)) stands.parts.0.slot_pages
+
+pub syncs_on : (h : Hardware) (shown shown' : Shown) (c c' : disk.Content) (blocks : ℕ) (suspends : Bool) (i : Image) (a : Running) (k : ℕ) → IsOver h i blocks c → Stands h shown c (hibernating suspends i a k) → k + 4 ≡ hibernate_steps i →
+    disk.Syncs c c' → shown'.activity ≡ hibernates suspends (k + 1) → ShowsCopies h shown' a i → Stands h shown' c' (hibernating suspends i a (k + 1))
+syncs_on h shown shown' c c' blocks suspends i a k over stands last syncs activity shows =
+    let behind = stands.parts.0 in
+    let keeps = by_sync h blocks c c' over.content syncs in
+    let reads : disk.as_it_reads c' ≡ disk.as_it_reads c = ap disk.as_it_reads syncs ∙ as_it_reads-settled (disk.as_it_reads c) in
+    let all = all_laid h shown c suspends i a k (omega arith) stands in
+    let image : (v : disk.Image) → disk.IsImage c' v → disk.as_it_reads c ≡ v = λ v in'. sym (IsImage-after_sync c c' v syncs in') in
+    let slots = slots_of_image h a i shown c suspends k stands in
+    let none : IsHeld h c' nothing = nothing_kept h c c' keeps (unheld h shown c suspends i a k (omega arith) stands) in
+    record {
+      activity = activity;
+      parts = (
+        record {
+          held = subst (IsHeld h c') (sym (held_before suspends i a (k + 1) (omega arith))) none;
+          shows = shows.shows;
+          task_slots = behind.task_slots;
+          slot_pages = slots_read h c c' a.slots (λ s page e. ap (λ (v : disk.Image). disk.block v (block_of_slot h s)) reads) behind.slot_pages;
+          header = header_kept h c c' keeps behind.header;
+          area = area_kept h c c' a keeps behind.area;
+        },
+        stands.parts.1,
+        shows.names,
+        record {
+          laid = All-take (Reads (disk.as_it_reads c')) (k + 1) (laid_writes h a i) (subst (λ (v : disk.Image). All (Reads v) (laid_writes h a i)) (sym reads) all);
+          copies = shows.copies;
+          durable = λ le. record {
+            blocks = λ v in'. subst (λ (w : disk.Image). All (Reads w) (laid_writes h a i)) (image v in') all;
+            slots = λ s page e v in'. subst (λ (w : disk.Image). disk.block w (block_of_slot h s) ≡ page) (image v in') (slots s page e);
+            chain = λ v in' marked. absurd (none v in' marked);
+          };
+        },
+        (λ e v w in_v in_w. IsImage-after_sync c c' v syncs in_v ∙ sym (IsImage-after_sync c c' w syncs in_w)),
+        (λ e. absurd (omega arith)),
+        (λ e. absurd (omega arith)),
+      );
+    }
+
+-- the read changes nothing, and the block is kept
+pub reads_on : (h : Hardware) (shown shown' : Shown) (c : disk.Content) (blocks : ℕ) (suspends : Bool) (i : Image) (a : Running) (k : ℕ) → IsOver h i blocks c → Stands h shown c (hibernating suspends i a k) → k + 3 ≡ hibernate_steps i →
+    shown'.header ≡ header_of h (disk.as_it_reads c) → shown'.activity ≡ hibernates suspends (k + 1) → ShowsCopies h shown' a i → Stands h shown' c (hibernating suspends i a (k + 1))
+reads_on h shown shown' c blocks suspends i a k over stands last header activity shows =
+    let behind = stands.parts.0 in
+    let written = stands.parts.3 in
+    let v = disk.as_it_reads c in
+    let here = IsImage-as_it_reads blocks c over.content in
+    record {
+      activity = activity;
+      parts = (
+        record {
+          held = subst (IsHeld h c) (sym (held_before suspends i a (k + 1) (omega arith))) (unheld h shown c suspends i a k (omega arith) stands);
+          shows = shows.shows;
+          task_slots = behind.task_slots;
+          slot_pages = behind.slot_pages;
+          header = behind.header;
+          area = behind.area;
+        },
+        stands.parts.1,
+        shows.names,
+        record {
+          laid = All-take (Reads v) (k + 1) (laid_writes h a i) ((written.durable (omega arith)).blocks v here);
+          copies = shows.copies;
+          durable = λ le. written.durable (omega arith);
+        },
+        (λ e. absurd (omega arith)),
+        (λ e. (stands.parts.4 (omega arith), header)),
+        (λ e. absurd (omega arith)),
+      );
+    }
+
+-- a sync or a read that fails changes nothing, and the machine runs again
+pub call_fails : (h : Hardware) (shown shown' : Shown) (c : disk.Content) (suspends : Bool) (i : Image) (a : Running) (k : ℕ) → Stands h shown c (hibernating suspends i a k) → k + 1 < hibernate_steps i →
+    shown'.activity ≡ runs → ShowsRunning h shown' a → NamesOnly h shown' [] → Stands h shown' c (on a)
+call_fails h shown shown' c suspends i a k stands lt activity shows names =
+    goes_back h shown shown' c c suspends i a k (omega arith) stands (by_nothing h c) (λ s page e. refl) activity shows names

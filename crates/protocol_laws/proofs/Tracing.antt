@@ -1,0 +1,268 @@
+-- The trace over a disk that holds an own image.
+use Rattle.std.proofs.Common.{◌≡◌, ◌≢◌, ℕ, ◌+◌, ◌-◌, ◌/◌, ◌%◌, ◌<◌, ◌≤◌, ◌⊎◌, inl, inr, zero, suc, Bool, true, false, cond, eqb, ltb, not, ◌&&◌, max, List, ◌∷◌, length, map, Option, Some, None, slice_get, unwrap_or, is_none, refl, sym, ap, ap₂, ◌∙◌, arith}
+use Rattle.std.specs.List.{range_with_len}
+use Rattle.std.proofs.lemmas.Bool.{cases_eq, cases_lt, cases_Bool, eq-eqb, ne_eqb, cond-true, cond-false, leb-true, leb-false, lt-ltb, ltb-true}
+use Rattle.definitions.specs.Disk as disk
+use Rattle.definitions.specs.NumberPages.{meta_of}
+use Rattle.definitions.specs.Zones.{top}
+use Rattle.definitions.specs.declared.info.Info.{Info}
+use Rattle.definitions.proofs.ZoneNumbers.{count_at_most, top_at_most}
+use Rattle.plain_machine.specs.Machine.{Hardware, Memory, IsHardware, tables_fault}
+use Rattle.plain_machine.specs.Chain.{Holds, or_else}
+use Rattle.plain_machine.specs.Image.{Image, n_of, d_of, pages_of, maps_read, resume_steps}
+use Rattle.plain_machine.specs.Loader.{left_free, need, restored, restored_page}
+use Rattle.plain_machine.specs.Stands.{IsOwn}
+use Rattle.plain_machine.specs.State.{Load, loading}
+use Rattle.plain_machine.specs.Step.{Outcome, has_room, too_few, resumed}
+use Rattle.plain_machine.specs.Trace.{info_in, meta_in, d_in, image_in, map_at, page_at, place, place_count, place_cause, want_cause, room_cause, content_cause, tables_cause, restored_in, last_reply, header_cause, taken_back_cause, stop_or_go, replies_from, places, trace}
+use Rattle.plain_machine.specs.UsableArea.{dump_area_fault}
+use Rattle.plain_machine.specs.declared.no_swap.NoSwap.{NoSwap}
+use Rattle.plain_machine.specs.declared.event.Loader.{Loader}
+use Rattle.plain_machine.specs.declared.event.Loader.TheVariants.{Ranges, Table}
+use Rattle.plain_machine.specs.declared.event.IdentCheck.{IdentCheck}
+use Rattle.plain_machine.specs.declared.reply.Reply.{Reply}
+use Rattle.plain_machine.specs.declared.reply.Reply.TheVariants as reply
+use Rattle.image_laws.specs.Decoding.{IsSayable}
+use Rattle.image_laws.proofs.Decoding.{meta_is, decodes}
+use Rattle.image_read.proofs.TraceAt.{cause_at, reply_or, last_at, trace_at, trace_ends}
+use Rattle.protocol_laws.specs.OwnTrace.{own_reply, Comes}
+use Rattle.protocol_laws.proofs.OwnCauses.{IsOwnDisk, info_is, some_saved, few_saved, both_none}
+use Rattle.protocol_laws.proofs.OwnChain.{no_header_cause, no_taken_back_cause, no_place_cause}
+use Rattle.protocol_laws.proofs.OwnNumbers.{d_is, no_read_cause}
+use Rattle.protocol_laws.proofs.Restored.{restored_fits, fits_no_fault, restored_area}
+
+-- Sizes.
+
+abbrev meta : Image → ℕ
+meta i = meta_of (n_of i)
+
+record AreFew (i : Image) : Type 0 where
+  some : 1 ≤ n_of i
+  few : n_of i ≤ 65536
+
+are_few : (h : Hardware) (v : disk.Image) (i : Image) → IsOwnDisk h v i → AreFew i
+are_few h v i is =
+    let few = few_saved h v i is in
+    let all = count_at_most h.zones is.hardware.zones in
+    let most = top_at_most h.zones is.hardware.zones in
+    record { some = some_saved h v i is; few = omega arith }
+
+max_pages : (i : Image) → max (pages_of i) 1 ≡ pages_of i
+max_pages i = omega arith
+
+count_is : (h : Hardware) (v : disk.Image) (i : Image) → IsOwnDisk h v i → place_count (info_in h v).pages ≡ maps_read (pages_of i) + pages_of i
+count_is h v i is = ap (λ (x : Info). place_count x.pages) (info_is h v i is) ∙ ap₂ (λ (m p : ℕ). maps_read m + p) (max_pages i) (max_pages i)
+
+-- The loader's room, which is tested at the last number page.
+
+abbrev have : Hardware → Load → ℕ
+have h load = length (left_free h load.dump load.loader)
+
+abbrev few_reply : Hardware → Load → Image → Reply
+few_reply h load i = reply.TooFewLoaderFrames (have h load) (need (d_of i))
+
+room_there : (h : Hardware) (v : disk.Image) (i : Image) (load : Load) → IsOwnDisk h v i → has_room h load (d_of i) ≡ true → room_cause h load.dump v load.loader ≡ None
+room_there h v i load is room =
+    let enough = leb-true (need (d_of i)) (have h load) room in
+    let d = d_is h v i is in
+    let same = ap need d in
+    cond-false (ltb (have h load) (need (d_in h v))) (Some (reply.TooFewLoaderFrames (have h load) (need (d_in h v)))) None (not_lt (have h load) (need (d_in h v)) (omega arith)) where
+      not_lt : (a b : ℕ) → b ≤ a → ltb a b ≡ false
+      not_lt a b le = elim (cases_Bool (ltb a b)) [ inl lt ↦ (let less = ltb-true a b lt in absurd (omega arith)) | inr isn't ↦ isn't ]
+
+no_room : (h : Hardware) (v : disk.Image) (i : Image) (load : Load) → IsOwnDisk h v i → has_room h load (d_of i) ≡ false → room_cause h load.dump v load.loader ≡ Some (few_reply h load i)
+no_room h v i load is none =
+    let less = leb-false (need (d_of i)) (have h load) none in
+    let same = ap need (d_is h v i is) in
+    cond-true (ltb (have h load) (need (d_in h v))) (Some (reply.TooFewLoaderFrames (have h load) (need (d_in h v)))) None (lt-ltb (have h load) (need (d_in h v)) (omega arith))
+    ∙ ap (λ (n : ℕ). Some (reply.TooFewLoaderFrames (have h load) n)) same
+
+-- which place is the last number page
+number_place : (m : ℕ) → 1 ≤ m → m ≤ 200 → place (m + 1) ≡ page_at m
+number_place m some few =
+    let within : (m + 1) % 512 ≢ 0 = λ e. omega arith in
+    let index : m + 1 - (m + 1) / 512 - 1 ≡ m = omega arith in
+    cond-false (eqb ((m + 1) % 512) 0) (map_at ((m + 1) / 512)) (page_at (m + 1 - (m + 1) / 512 - 1)) (ne_eqb ((m + 1) % 512) 0 within) ∙ ap page_at index
+
+other_place : (m t : ℕ) → m ≤ 200 → t % 512 ≢ 0 → t ≢ m + 1 → t - t / 512 - 1 ≢ m
+other_place m t few page other e = other (omega arith)
+
+want_other : (h : Hardware) (v : disk.Image) (i : Image) (load : Load) (t : ℕ) → IsOwnDisk h v i → t ≢ meta i + 1 → want_cause h load.dump v load.loader (place t) ≡ None
+want_other h v i load t is other =
+    let sizes = are_few h v i is in
+    let some = sizes.some in
+    let few = sizes.few in
+    let m = meta_is h v i is.holds is.sayable in
+    elim (cases_eq (t % 512) 0) [
+      | inl first ↦ ap (want_cause h load.dump v load.loader) (cond-true (eqb (t % 512) 0) (map_at (t / 512)) (page_at (t - t / 512 - 1)) (eq-eqb (t % 512) 0 first))
+      | inr page ↦
+          ap (want_cause h load.dump v load.loader) (cond-false (eqb (t % 512) 0) (map_at (t / 512)) (page_at (t - t / 512 - 1)) (ne_eqb (t % 512) 0 page))
+          ∙ cond-false (eqb (t - t / 512 - 1) (meta_in h v)) (room_cause h load.dump v load.loader) None
+          (ne_eqb (t - t / 512 - 1) (meta_in h v) (λ e. other_place (meta i) t (omega arith) page other (e ∙ m)))
+    ]
+
+want_here : (h : Hardware) (v : disk.Image) (i : Image) (load : Load) (t : ℕ) → IsOwnDisk h v i → t ≡ meta i + 1 → want_cause h load.dump v load.loader (place t) ≡ room_cause h load.dump v load.loader
+want_here h v i load t is here =
+    let sizes = are_few h v i is in
+    let some = sizes.some in
+    let few = sizes.few in
+    let m = meta_is h v i is.holds is.sayable in
+    ap (λ (s : ℕ). want_cause h load.dump v load.loader (place s)) here
+    ∙ ap (want_cause h load.dump v load.loader) (number_place (meta i) (omega arith) (omega arith))
+    ∙ cond-true (eqb (meta i) (meta_in h v)) (room_cause h load.dump v load.loader) None (eq-eqb (meta i) (meta_in h v) (sym m))
+
+-- a step that isn't stopped there
+abbrev GoesOn : Hardware → Load → Image → ℕ → Type 0
+GoesOn h load i t = (t ≢ meta i + 1) ⊎ (has_room h load (d_of i) ≡ true)
+
+no_want : (h : Hardware) (v : disk.Image) (i : Image) (load : Load) (t : ℕ) → IsOwnDisk h v i → GoesOn h load i t → want_cause h load.dump v load.loader (place t) ≡ None
+no_want h v i load t is (inl other) = want_other h v i load t is other
+no_want h v i load t is (inr room) = elim (cases_eq t (meta i + 1)) [
+  | inl here ↦ want_here h v i load t is here ∙ room_there h v i load is room
+  | inr other ↦ want_other h v i load t is other
+]
+
+want_few : (h : Hardware) (v : disk.Image) (i : Image) (load : Load) (t : ℕ) → IsOwnDisk h v i → t ≡ meta i + 1 → has_room h load (d_of i) ≡ false → want_cause h load.dump v load.loader (place t) ≡ Some (few_reply h load i)
+want_few h v i load t is here none = want_here h v i load t is here ∙ no_room h v i load is none
+
+content_by_want : (h : Hardware) (v : disk.Image) (i : Image) (load : Load) (t : ℕ) → IsOwnDisk h v i → content_cause h load.dump v load.loader load.check (place t) ≡ want_cause h load.dump v load.loader (place t)
+content_by_want h v i load t is = ap (λ (o : Option Reply). or_else o (want_cause h load.dump v load.loader (place t))) (no_read_cause h v i load.check (place t) is)
+
+no_cause : (h : Hardware) (v : disk.Image) (i : Image) (load : Load) (t : ℕ) → IsOwnDisk h v i → GoesOn h load i t → t + 1 < maps_read (pages_of i) + pages_of i → cause_at h load.dump v load.loader load.check t ≡ None
+no_cause h v i load t is goes lt =
+    both_none (content_cause h load.dump v load.loader load.check (place t)) (place_cause h v (place (t + 1)))
+    (content_by_want h v i load t is ∙ no_want h v i load t is goes) (no_place_cause h v i (t + 1) is.holds lt)
+
+earlier_goes : (h : Hardware) (load : Load) (i : Image) (k t s : ℕ) → k ≡ t + 4 → s < t → Comes h load i k → GoesOn h load i s
+earlier_goes h load i k t s is lt (inl early) = inl (λ e. omega arith)
+earlier_goes h load i k t s is lt (inr room) = inr room
+
+-- What the plain machine answers.
+
+and_true_left : (b c : Bool) → c ≡ false → (b && c) ≡ false
+and_true_left true c e = e
+and_true_left false c e = refl
+
+stops : (h : Hardware) (load : Load) (i : Image) (k t : ℕ) → k ≡ t + 4 → GoesOn h load i t → (eqb (k + 1) (6 + meta i) && not (has_room h load (d_of i))) ≡ false
+stops h load i k t is (inl other) = ap (λ (b : Bool). b && not (has_room h load (d_of i))) (ne_eqb (k + 1) (6 + meta i) (λ e. other (omega arith)))
+stops h load i k t is (inr room) = and_true_left (eqb (k + 1) (6 + meta i)) (not (has_room h load (d_of i))) (ap not room)
+
+abbrev late : Hardware → Load → Image → ℕ → Outcome
+late h load i k = cond (eqb (k + 1) (resume_steps i)) (reply.Resumed (n_of i), resumed (restored h load.dump load.loader i) i.slots load.loader) (reply.Loading (k + 1), loading load (k + 1))
+
+own_late : (h : Hardware) (load : Load) (i : Image) (k t : ℕ) → k ≡ t + 4 → GoesOn h load i t → own_reply h load i k ≡ (late h load i k).0
+own_late h load i k t is goes =
+    ap (λ (o : Outcome). o.0) (cond-false (eqb (k + 1) (6 + meta i) && not (has_room h load (d_of i))) (too_few h load (d_of i)) (late h load i k) (stops h load i k t is goes))
+
+late_loading : (h : Hardware) (load : Load) (i : Image) (k : ℕ) → k + 1 ≢ resume_steps i → (late h load i k).0 ≡ reply.Loading (k + 1)
+late_loading h load i k other =
+    ap (λ (o : Outcome). o.0) (cond-false (eqb (k + 1) (resume_steps i)) (reply.Resumed (n_of i), resumed (restored h load.dump load.loader i) i.slots load.loader) (reply.Loading (k + 1), loading load (k + 1)) (ne_eqb (k + 1) (resume_steps i) other))
+
+late_resumed : (h : Hardware) (load : Load) (i : Image) (k : ℕ) → k + 1 ≡ resume_steps i → (late h load i k).0 ≡ reply.Resumed (n_of i)
+late_resumed h load i k last =
+    ap (λ (o : Outcome). o.0) (cond-true (eqb (k + 1) (resume_steps i)) (reply.Resumed (n_of i), resumed (restored h load.dump load.loader i) i.slots load.loader) (reply.Loading (k + 1), loading load (k + 1)) (eq-eqb (k + 1) (resume_steps i) last))
+
+own_few : (h : Hardware) (load : Load) (i : Image) (k : ℕ) → k + 1 ≡ 6 + meta i → has_room h load (d_of i) ≡ false → own_reply h load i k ≡ few_reply h load i
+own_few h load i k here none =
+    ap (λ (o : Outcome). o.0) (cond-true (eqb (k + 1) (6 + meta i) && not (has_room h load (d_of i))) (too_few h load (d_of i)) (late h load i k)
+    (ap₂ (λ (b c : Bool). b && not c) (eq-eqb (k + 1) (6 + meta i) here) none))
+
+-- The end.
+
+restored-frames : (h : Hardware) (dump : Memory) (loader : Loader) (i j : Image) → i.frames ≡ j.frames → restored h dump loader i ≡ restored h dump loader j
+unfolding restored
+restored-frames h dump loader i j e = ap (λ (xs : List (ℕ × List ℕ)). map (page_of xs) (range_with_len 0 (top h.zones))) e where
+  page_of : List (ℕ × List ℕ) → ℕ → List ℕ
+  page_of xs p = restored_page h dump loader (record { frames = xs; slots = i.slots; ident = i.ident; physpages = i.physpages; format = i.format }) p
+
+abbrev table_reply : Option ℕ → Option Reply
+table_reply o = elim o as (λ x. Option Reply) [ None ↦ None | Some f ↦ Some (reply.BadTables f) ]
+
+restored_is : (h : Hardware) (v : disk.Image) (i : Image) (dump : Memory) (loader : Loader) → IsOwnDisk h v i → restored_in h dump v loader ≡ restored h dump loader i
+restored_is h v i dump loader is = restored-frames h dump loader (image_in h v (λ s. None)) i (ap (λ (x : Image). x.frames) (decodes h v i is.holds is.sayable))
+
+ends_resumed : (h : Hardware) (v : disk.Image) (i : Image) (dump : Memory) (loader : Loader) → IsOwnDisk h v i → last_reply h dump v loader ≡ reply.Resumed (n_of i)
+ends_resumed h v i dump (Ranges ranges) is =
+    let m = is.own.of_memory.0 in
+    let own = is.own.of_memory.1 in
+    let new = restored h dump (Ranges ranges) i in
+    let fits = restored_fits h dump m ranges i is.hardware own.fits own.image in
+    let no_fault : or_else (tables_fault h new) (cond (is_none (dump_area_fault h v new)) None (Some h.slot_table)) ≡ None =
+    ap₂ (λ (o : Option ℕ) (p : Option NoSwap). or_else o (cond (is_none p) None (Some h.slot_table))) (fits_no_fault h new fits) (restored_area h v dump m (Ranges ranges) i is.hardware own) in
+    ap (λ (x : Memory). unwrap_or (tables_cause h v x) (reply.Resumed (info_in h v).image_pages)) (restored_is h v i dump (Ranges ranges) is)
+    ∙ ap (λ (o : Option ℕ). unwrap_or (table_reply o) (reply.Resumed (info_in h v).image_pages)) no_fault
+    ∙ ap (λ (x : Info). reply.Resumed x.image_pages) (info_is h v i is)
+ends_resumed h v i dump Table is = ap (λ (x : Info). reply.Resumed x.image_pages) (info_is h v i is)
+
+-- The trace.
+
+first_reply : (h : Hardware) (dump : Memory) (v : disk.Image) (loader : Loader) (check : IdentCheck) (k : ℕ) → header_cause h v ≡ None → taken_back_cause h v ≡ None → 1 ≤ k → k < 4 → slice_get (trace h dump v loader check) k ≡ Some (reply.Loading (k + 1))
+unfolding trace
+first_reply h dump v loader check zero header back some few = absurd (omega arith)
+first_reply h dump v loader check (suc zero) header back some few =
+    ap (λ o. slice_get (stop_or_go o 2 (reply.Loading 3 ∷ stop_or_go (taken_back_cause h v) 4 (replies_from h dump v loader check 5 (places (info_in h v).pages)))) 0) header
+first_reply h dump v loader check (suc (suc zero)) header back some few =
+    ap (λ o. slice_get (stop_or_go o 2 (reply.Loading 3 ∷ stop_or_go (taken_back_cause h v) 4 (replies_from h dump v loader check 5 (places (info_in h v).pages)))) 1) header
+first_reply h dump v loader check (suc (suc (suc zero))) header back some few =
+    ap₂ (λ o p. slice_get (stop_or_go o 2 (reply.Loading 3 ∷ stop_or_go p 4 (replies_from h dump v loader check 5 (places (info_in h v).pages)))) 2) header back
+first_reply h dump v loader check (suc (suc (suc (suc k)))) header back some few = absurd (omega arith)
+
+later_reply : (h : Hardware) (v : disk.Image) (i : Image) (load : Load) (k t : ℕ) → IsOwnDisk h v i → k ≡ t + 4 → k < resume_steps i → Comes h load i k → slice_get (trace h load.dump v load.loader load.check) (t + 4) ≡ Some (own_reply h load i k)
+later_reply h v i load k t is four lt comes =
+    let header = no_header_cause h v i is.holds in
+    let back = no_taken_back_cause h v i is.holds is.own in
+    let count = count_is h v i is in
+    let before : (s : ℕ) → s < t → cause_at h load.dump v load.loader load.check s ≡ None = λ s s_lt. no_cause h v i load s is (earlier_goes h load i k t s four s_lt comes) (omega arith) in
+    elim (cases_lt (t + 1) (maps_read (pages_of i) + pages_of i)) [
+      | inl more ↦
+          trace_at h load.dump v load.loader load.check t header back before (omega arith)
+          ∙ ap Some (elim (cases_Bool (has_room h load (d_of i))) [
+            | inl room ↦ on_way (inr room) more
+            | inr none ↦ elim (cases_eq t (meta i + 1)) [
+              | inl here ↦
+                  ap (λ (o : Option Reply). reply_or (or_else o (place_cause h v (place (t + 1)))) (t + 5)) (content_by_want h v i load t is ∙ want_few h v i load t is here none)
+                  ∙ sym (own_few h load i k (omega arith) none)
+              | inr other ↦ on_way (inl other) more
+            ]
+          ])
+      | inr last ↦
+          trace_ends h load.dump v load.loader load.check t header back before (omega arith)
+          ∙ ap Some (elim (cases_Bool (has_room h load (d_of i))) [
+            | inl room ↦ at_end (inr room) last
+            | inr none ↦ elim (cases_eq t (meta i + 1)) [
+              | inl here ↦
+                  ap (λ (o : Option Reply). unwrap_or o (last_reply h load.dump v load.loader)) (content_by_want h v i load t is ∙ want_few h v i load t is here none)
+                  ∙ sym (own_few h load i k (omega arith) none)
+              | inr other ↦ at_end (inl other) last
+            ]
+          ])
+    ] where
+      on_way : GoesOn h load i t → t + 1 < maps_read (pages_of i) + pages_of i → reply_or (cause_at h load.dump v load.loader load.check t) (t + 5) ≡ own_reply h load i k
+      on_way goes more =
+          let number : t + 5 ≡ k + 1 = omega arith in
+          ap (λ (o : Option Reply). reply_or o (t + 5)) (no_cause h v i load t is goes more) ∙ ap (λ (n : ℕ). reply.Loading n) number
+          ∙ sym (own_late h load i k t four goes ∙ late_loading h load i k (λ e. omega arith))
+
+      at_end : GoesOn h load i t → maps_read (pages_of i) + pages_of i ≤ t + 1 → last_at h load.dump v load.loader load.check t ≡ own_reply h load i k
+      at_end goes last =
+          ap (λ (o : Option Reply). unwrap_or o (last_reply h load.dump v load.loader)) (content_by_want h v i load t is ∙ no_want h v i load t is goes)
+          ∙ ends_resumed h v i load.dump load.loader is ∙ sym (own_late h load i k t four goes ∙ late_resumed h load i k (omega arith))
+
+pub traces_own : (h : Hardware) (v : disk.Image) (i : Image) (load : Load) (k : ℕ) → IsHardware h → Holds h v i → IsOwn h v i → IsSayable i → 1 ≤ k → k < resume_steps i → Comes h load i k → slice_get (trace h load.dump v load.loader load.check) k ≡ Some (own_reply h load i k)
+traces_own h v i load k hw holds own say some lt comes =
+    let is : IsOwnDisk h v i = record { hardware = hw; holds = holds; own = own; sayable = say } in
+    let sizes = are_few h v i is in
+    let n = sizes.some in
+    elim (cases_lt k 4) [
+      | inl early ↦
+          first_reply h load.dump v load.loader load.check k (no_header_cause h v i holds) (no_taken_back_cause h v i holds own) some early
+          ∙ ap Some (sym (early_reply early n))
+      | inr late_step ↦
+          let four : k - 4 + 4 ≡ k = omega arith in
+          ap (slice_get (trace h load.dump v load.loader load.check)) (sym four) ∙ later_reply h v i load k (k - 4) is (sym four) lt comes
+    ] where
+      early_reply : k < 4 → 1 ≤ n_of i → own_reply h load i k ≡ reply.Loading (k + 1)
+      early_reply early some_n =
+          ap (λ (o : Outcome). o.0) (cond-false (eqb (k + 1) (6 + meta i) && not (has_room h load (d_of i))) (too_few h load (d_of i)) (late h load i k)
+          (ap (λ (b : Bool). b && not (has_room h load (d_of i))) (ne_eqb (k + 1) (6 + meta i) (λ e. omega arith))))
+          ∙ late_loading h load i k (λ e. omega arith)

@@ -1,0 +1,9 @@
+pub mod Steps
+pub mod Hibernating
+pub mod Loads
+pub mod Resuming
+pub mod OwnTrace
+pub mod Slots
+pub mod Memory
+pub mod Writers
+pub mod Undo
