@@ -6,6 +6,7 @@
 mod tests;
 
 ghost use Rattle.std.specs.Prelude.{◌≡◌, ℕ, ◌+◌, ◌-◌, ◌<◌, ◌≤◌, ◌↔◌, [], All, Contains, IsOk, IsErr, IsSome, IfOk, IfErr, IfSome, IfNone, length, map, take};
+ghost use Rattle.definitions.specs.Bytes.{zero_page};
 ghost use Rattle.definitions.specs.Zones.{top};
 ghost use Rattle.definitions.specs.Tables.{frame, HasTable};
 ghost use Rattle.definitions.specs.Lists.{saveable_frames, free_frames};
@@ -160,20 +161,22 @@ fn mark_zeros(frames: &Frames, format: Format, origs: &Bitmap, zeros: &mut Bitma
     if format == Format::Plain {
         return;
     }
+    let zero = Page::zero();
     let mut from = 0;
     for _ in 0..origs.len() {
         let p = origs.first_from(from).unwrap();
-        if is_zero(frames, p) {
+        if is_zero(frames, p, &zero) {
             zeros.set(p);
         }
         from = p + 1;
     }
 }
 
-/// Whether each byte of page frame `p` is zero.
-fn is_zero(frames: &Frames, p: u32) -> bool
-    requires { p < length frames.now }
+/// Whether each byte of page frame `p` is zero, as each of `zero` is.
+fn is_zero(frames: &Frames, p: u32, zero: &Page) -> bool
+    requires within { p < length frames.now }
+    requires zero { zero.now ≡ zero_page }
     ensures { result ≡ is_zero_frame frames.now p }
 {
-    Page::from_bytes(frames.page(p)).is_zero()
+    frames.page(p) == zero.as_bytes()
 }

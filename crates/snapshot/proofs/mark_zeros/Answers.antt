@@ -27,7 +27,7 @@ is_zero-requires c =
     let next = next_is origs c.loop.from k c.len-end.ensures.set.ascending c.loop.invariant.cursor within in
     let p : c.unwrap-p.result ≡ get_or origs k 0 = same_Some _ _ (sym c.unwrap-p.ensures ∙ c.first_from.ensures ∙ next) in
     let below = c.requires.within k 0 within in
-    omega arith
+    record { within = omega arith; zero = c.zero-zero.ensures }
 
 pub set-requires : goal.set-requires
 set-requires c =
