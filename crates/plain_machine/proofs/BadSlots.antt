@@ -1,5 +1,5 @@
 -- Memories with the same slot entries have the same bad slots, and the same slots of tasks.
-use Rattle.std.proofs.Common.{◌≡◌, ◌<◌, ◌≤◌, ℕ, Bool, cond, not, eqb, ◌&&◌, List, [], ◌∷◌, Option, Some, None, refl, sym, ap, ap₂, ◌∙◌, arith, subst}
+use Rattle.std.proofs.Common.{◌≡◌, ◌<◌, ◌≤◌, ℕ, Bool, cond, not, eqb, ◌&&◌, List, [], ◌∷◌, Some, None, refl, sym, ap, ap₂, arith, subst}
 use Rattle.std.specs.List.{Contains, range_with_len, list_all}
 use Rattle.definitions.proofs.Ascending.{Contains-head, Contains-tail}
 use Rattle.definitions.proofs.ZoneNumbers.{range-bounds}

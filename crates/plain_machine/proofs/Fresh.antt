@@ -1,12 +1,12 @@
 -- Laws of fresh memory.
-use Rattle.std.proofs.Common.{◌≡◌, ℕ, ◌+◌, ◌-◌, ◌/◌, ◌^◌, ◌<◌, ◌≤◌, ◌⊎◌, inl, inr, Bool, true, false, cond, filter, length, replicate, List, [], ◌∷◌, Option, Some, None, refl, sym, ap, ap₂, ◌∙◌, arith, subst, nat_le, nat_lt, ◌&&◌, ◌||◌, eqb, ⊎_elim}
-use Rattle.std.proofs.lemmas.Bool.{eqb-true, le-leb, lt-ltb, false≢true}
+use Rattle.std.proofs.Common.{◌≡◌, ℕ, ◌+◌, ◌-◌, ◌/◌, ◌^◌, ◌<◌, ◌≤◌, ◌⊎◌, inl, inr, Bool, true, false, cond, filter, length, replicate, List, [], ◌∷◌, refl, ap, ap₂, ◌∙◌, arith, nat_le, nat_lt, ◌&&◌, ◌||◌, eqb, ⊎_elim}
+use Rattle.std.proofs.lemmas.Bool.{eqb-true, le-leb, lt-ltb}
 use Rattle.std.proofs.lemmas.List.{length-replicate}
 use Rattle.std.proofs.lemmas.List.Elements.{All-replicate}
 use Rattle.std.specs.List.{All, Contains, find, range_with_len}
 use Rattle.definitions.specs.Bytes.{IsPage, zero_page}
 use Rattle.definitions.specs.Zones.{numbers, top}
-use Rattle.definitions.specs.Tables.{frame, entry_at, with_entries, HasTable, table_frames, is_saveable, flags_of, owner_of}
+use Rattle.definitions.specs.Tables.{with_entries, HasTable, table_frames, is_saveable, flags_of, owner_of}
 use Rattle.definitions.specs.Lists.{image_slots}
 use Rattle.definitions.proofs.Ascending.{Contains-head, Contains-tail}
 use Rattle.definitions.proofs.ZoneNumbers.{below_top, top_is_next, Contains-range, range-bounds}
@@ -15,7 +15,7 @@ use Rattle.plain_machine.specs.Machine.{Hardware, Memory, IsHardware, Fits, IsOf
 use Rattle.plain_machine.specs.Shows.{seen_frames}
 use Rattle.plain_machine.specs.Step.{fresh_entry, fresh_frames, fresh_memory, region_flags, with_each_entry}
 use Rattle.plain_machine.proofs.EachEntry.{length-each, IsPage-each, entry_at-each, frame-each_other}
-use Rattle.plain_machine.proofs.SameMemory.{entry-same, of_frame_table, of_slot_table, table_frame_valid}
+use Rattle.plain_machine.proofs.SameMemory.{entry-same, of_frame_table, table_frame_valid}
 
 pub fresh_entry-table : (h : Hardware) (p : ℕ) → is_table_frame h p ≡ true → fresh_entry h p ≡ 0
 unfolding fresh_entry

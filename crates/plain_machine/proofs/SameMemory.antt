@@ -1,17 +1,17 @@
 -- Laws of memories that are the same but for what free page frames hold.
-use Rattle.std.proofs.Common.{◌≡◌, ◌≢◌, ℕ, ◌+◌, ◌-◌, ◌*◌, ◌/◌, ◌%◌, ◌^◌, ◌<◌, ◌≤◌, ◌⊎◌, inl, inr, Bool, true, false, List, [], ◌∷◌, length, refl, sym, ap, ap₂, ◌∙◌, arith, ⊎_elim, filter, cond, eqb, set, get_or, subst}
-use Rattle.std.proofs.lemmas.Bool.{cases_eq, cases_lt, eqb-true, eq-eqb, false≢true}
+use Rattle.std.proofs.Common.{◌≡◌, ◌≢◌, ℕ, ◌+◌, ◌-◌, ◌*◌, ◌/◌, ◌%◌, ◌^◌, ◌<◌, ◌≤◌, ◌⊎◌, inl, inr, Bool, true, List, [], ◌∷◌, length, refl, sym, ap, ap₂, ◌∙◌, arith, ⊎_elim, filter, cond, eqb, set, get_or, subst}
+use Rattle.std.proofs.lemmas.Bool.{cases_eq, false≢true}
 use Rattle.std.proofs.lemmas.List.{length-set, get_or-set_same, get_or-set_other}
-use Rattle.std.specs.List.{All, Contains, range_with_len}
+use Rattle.std.specs.List.{All, Contains}
 use Rattle.definitions.specs.Bytes.{IsPage, number_at, with_number}
-use Rattle.definitions.specs.Zones.{numbers, top, AreZones}
-use Rattle.definitions.specs.Tables.{frame, with_frame, entry_at, with_entry, is_saveable, flags_of, owner_of, HasTable}
+use Rattle.definitions.specs.Zones.{numbers, top}
+use Rattle.definitions.specs.Tables.{frame, entry_at, with_entry, is_saveable, flags_of, owner_of}
 use Rattle.definitions.specs.Lists.{free_frames}
-use Rattle.definitions.proofs.Ascending.{Contains-nil, Contains-head, Contains-tail, Contains-cons_cases}
+use Rattle.definitions.proofs.Ascending.{Contains-head, Contains-tail}
 use Rattle.definitions.proofs.TableEntries.{entry_at-with_entry_same, entry_at-with_entry_other, frame-with_entry_other, length-with_entry, IsPage-with_entry}
 use Rattle.definitions.proofs.ZoneNumbers.{below_top}
 use Rattle.definitions.proofs.ZoneLists.{Contains-free_frames, Contains-from_free_frames}
-use Rattle.plain_machine.specs.Machine.{Hardware, Memory, IsHardware, Fits, IsSameMemory, unused, frame_entry, raw_slot_entry, IsOfTable, IsTableFrame, table_len, is_well_formed, is_slot_entry}
+use Rattle.plain_machine.specs.Machine.{Hardware, Memory, IsHardware, Fits, IsSameMemory, frame_entry, raw_slot_entry, IsOfTable, IsTableFrame, table_len, is_well_formed, is_slot_entry}
 
 -- two tests that agree at each element keep the same elements
 pub filter_agree_within : (p q : ℕ → Bool) (xs : List ℕ) → ((x : ℕ) → Contains xs x → p x ≡ q x) → filter p xs ≡ filter q xs

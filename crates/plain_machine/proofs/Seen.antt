@@ -1,16 +1,16 @@
 -- Laws of page frames with the image's slots given back.
-use Rattle.std.proofs.Common.{◌≡◌, ◌≢◌, ℕ, zero, suc, ◌+◌, ◌*◌, ◌/◌, ◌%◌, ◌<◌, ◌≤◌, ◌⊎◌, inl, inr, Bool, List, [], ◌∷◌, length, refl, sym, ap, ap₂, ◌∙◌, arith, ⊎_elim, eqb, set, get_or, subst}
+use Rattle.std.proofs.Common.{◌≡◌, ◌≢◌, ℕ, zero, suc, ◌+◌, ◌*◌, ◌/◌, ◌%◌, inl, inr, List, [], ◌∷◌, length, refl, sym, ap, ◌∙◌, arith, eqb, set, subst}
 use Rattle.std.proofs.lemmas.Bool.{cases_lt}
-use Rattle.std.proofs.lemmas.List.{length-set, get_or-set_other}
-use Rattle.std.specs.List.{All, Contains, range_with_len}
-use Rattle.definitions.specs.Bytes.{IsPage, with_number}
-use Rattle.definitions.specs.Zones.{numbers, top}
-use Rattle.definitions.specs.Tables.{frame, entry_at, with_entry, with_entries}
+use Rattle.std.proofs.lemmas.List.{get_or-set_other}
+use Rattle.std.specs.List.{Contains, range_with_len}
+use Rattle.definitions.specs.Bytes.{with_number}
+use Rattle.definitions.specs.Zones.{numbers}
+use Rattle.definitions.specs.Tables.{frame, with_entry, with_entries}
 use Rattle.definitions.specs.Lists.{image_slots}
 use Rattle.definitions.proofs.Ascending.{Contains-head, Contains-tail}
 use Rattle.definitions.proofs.FreeSlots.{image_slot}
 use Rattle.definitions.proofs.ZoneNumbers.{range-bounds}
-use Rattle.definitions.proofs.TableEntries.{length-with_entries, IsPage-with_entries, frame-with_entries_other}
+use Rattle.definitions.proofs.TableEntries.{length-with_entries, frame-with_entries_other}
 use Rattle.plain_machine.specs.Machine.{Hardware, Memory, IsHardware, IsOfTable, raw_slot_entry, table_len}
 use Rattle.plain_machine.specs.Shows.{seen_frames}
 use Rattle.plain_machine.proofs.SameMemory.{filter_agree_within, slot_entry-set_other, of_frame_table, of_slot_table, tables_apart}

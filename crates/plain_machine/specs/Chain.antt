@@ -1,9 +1,9 @@
 -- The chain of an image: its map pages and what they point to, in any disk.
 -- In Linux: get_swap_reader and swap_read_page, kernel/power/swap.c.
-use Rattle.std.specs.Prelude.{◌≡◌, ◌≢◌, ℕ, ◌+◌, ◌*◌, ◌/◌, ◌%◌, ◌==◌, ◌&&◌, ◌||◌, List, [], ◌∷◌, ◌++◌, Bool, not, nat_lt, length, map, Option, Some, None, Result, Ok, Err, if◌then◌else◌, IsTrue, ◌↔◌, ◌<◌, Contains, bit_and, zero, suc}
+use Rattle.std.specs.Prelude.{◌≡◌, ◌≢◌, ℕ, ◌*◌, ◌/◌, ◌%◌, ◌==◌, ◌&&◌, ◌||◌, List, [], ◌∷◌, Bool, not, nat_lt, length, map, Option, Some, None, Result, Ok, Err, if◌then◌else◌, ◌↔◌, ◌<◌, bit_and, zero, suc}
 use Rattle.std.specs.List.{list_any, range_with_len}
-use Rattle.page_core.specs.declared.format.Format.TheVariants.{Plain, SkipZeros}
-use Rattle.definitions.specs.Bytes.{zero_page, word}
+use Rattle.page_core.specs.declared.format.Format.TheVariants.{SkipZeros}
+use Rattle.definitions.specs.Bytes.{zero_page}
 use Rattle.definitions.specs.Disk as disk
 use Rattle.definitions.specs.SwapHeader.{IsMarked, image_of, flags_of, last_page_of}
 use Rattle.definitions.specs.SwapMap.{map_entry, map_link}

@@ -1,11 +1,14 @@
 -- The events that are served, with numbers in the ranges of a script's lines.
-use Rattle.std.specs.Prelude.{ℕ, ◌<◌, ◌≤◌, ⊤}
+use Rattle.std.specs.Prelude.{ℕ, ◌<◌, ◌≤◌, All, ⊤}
 use Rattle.plain_machine.specs.declared.event.Event.{Event}
 use Rattle.plain_machine.specs.declared.event.Event.TheVariants as event
 use Rattle.plain_machine.specs.declared.event.TaskOp.{TaskOp}
 use Rattle.plain_machine.specs.declared.event.TaskOp.TheVariants as op
 use Rattle.plain_machine.specs.declared.event.Actor.{Actor}
 use Rattle.plain_machine.specs.declared.event.Actor.TheVariants as actor
+use Rattle.plain_machine.specs.declared.event.Loader.{Loader}
+use Rattle.plain_machine.specs.declared.event.Loader.TheVariants as loader
+use Rattle.plain_machine.specs.declared.event.Ranges.{Ranges}
 
 -- tasks are numbered 1 to 64
 pub record IsTask (t : ℕ) : Type 0 where
@@ -26,15 +29,28 @@ abbrev pub IsFittingActor : Actor → Type 0
 IsFittingActor actor.Core = ⊤
 IsFittingActor (actor.Task t) = IsTask t
 
+-- at most 8 ranges of page frame numbers below 65536, each from its low end to its high end
+pub record IsRange (range : ℕ × ℕ) : Type 0 where
+  pub ordered : range.0 ≤ range.1
+  pub below : range.1 < 65536
+
+pub record AreRanges (ranges : Ranges) : Type 0 where
+  pub few : ranges.count ≤ 8
+  pub each : All IsRange ranges.list
+
+abbrev pub IsFittingLoader : Loader → Type 0
+IsFittingLoader (loader.Ranges ranges) = AreRanges ranges
+IsFittingLoader loader.Table = ⊤
+
 abbrev pub IsFitting : Event → Type 0
 IsFitting (event.Boot from) = ⊤
-IsFitting (event.Hibernate f) = ⊥
+IsFitting (event.Hibernate f) = ⊤
 IsFitting (event.Suspend f) = ⊥
 IsFitting event.Wake = ⊥
 IsFitting event.Settle = ⊥
 IsFitting (event.Shrink want) = ⊥
-IsFitting (event.Resume loader check) = ⊥
+IsFitting (event.Resume l check) = IsFittingLoader l
 IsFitting (event.Step x) = IsFittingActor x
 IsFitting (event.Task t o) = IsTask t × IsFittingOp o
-IsFitting (event.Cut pick) = ⊥
+IsFitting (event.Cut pick) = ⊤
 IsFitting (event.Arm first count pick) = ⊥

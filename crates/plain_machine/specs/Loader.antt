@@ -1,6 +1,6 @@
 -- Resuming over the loader's memory: which page frames it leaves free, and what memory is afterwards.
 -- In Linux: prepare_image and get_buffer, kernel/power/snapshot.c; swsusp_arch_resume.
-use Rattle.std.specs.Prelude.{ℕ, ◌+◌, ◌/◌, ◌==◌, ◌&&◌, ◌||◌, ◌++◌, List, [], ◌∷◌, Bool, not, nat_lt, nat_le, length, map, filter, replicate, take, Option, Some, None, if◌then◌else◌, flat_map}
+use Rattle.std.specs.Prelude.{ℕ, ◌+◌, ◌/◌, ◌==◌, ◌&&◌, List, [], ◌∷◌, Bool, not, nat_lt, nat_le, map, filter, replicate, take, Option, Some, None, if◌then◌else◌}
 use Rattle.std.specs.List.{list_any, range_with_len}
 use Rattle.definitions.specs.Bytes.{zero_page}
 use Rattle.definitions.specs.Zones.{numbers, top}

@@ -1,13 +1,13 @@
 -- The machine: its hardware and its memory.
 -- In Linux: struct zone (include/linux/mmzone.h), struct page, and struct swap_info_struct (include/linux/swap.h); saveable
 -- and free page frames are those of kernel/power/snapshot.c.
-use Rattle.std.specs.Prelude.{◌≡◌, ◌≤◌, ◌<◌, ◌⊎◌, ℕ, ◌+◌, ◌*◌, ◌/◌, ◌%◌, ◌-◌, All, ◌==◌, ◌&&◌, ◌||◌, Bool, true, false, not, nat_lt, nat_le, List, [], ◌∷◌, ◌++◌, length, map, filter, take_while, replicate, Option, Some, None, if◌then◌else◌, slice_index_or, Contains}
+use Rattle.std.specs.Prelude.{◌≡◌, ◌≤◌, ◌<◌, ◌⊎◌, ℕ, ◌+◌, ◌/◌, ◌%◌, All, ◌==◌, ◌&&◌, ◌||◌, Bool, true, not, nat_lt, nat_le, List, ◌++◌, length, filter, Option, if◌then◌else◌, Contains}
 use Rattle.std.specs.List.{list_any, range_with_len, find}
-use Rattle.definitions.specs.Bytes.{zero_page, IsPage}
+use Rattle.definitions.specs.Bytes.{IsPage}
 use Rattle.definitions.specs.Zones.{numbers, top, AreZones}
 use Rattle.definitions.specs.Tables.{frame, entry_at, flags_of, owner_of, is_free, is_saveable}
 use Rattle.definitions.specs.Slots.{block_of, IsFileMap}
-use Rattle.definitions.specs.Lists.{saveable_frames, free_frames, free_slots}
+use Rattle.definitions.specs.Lists.{saveable_frames, free_frames}
 use Rattle.definitions.specs.declared.info.Ident.{Ident}
 
 -- What a machine has and keeps: zones (start, count), the number of slots (last_page + 1), the first page frames of the frame

@@ -1,5 +1,5 @@
 -- The premises of the headline, over what a disk and the ends of a program tell.
-use Rattle.std.specs.Prelude.{◌≡◌, ◌≢◌, ℕ, List, Option, Some, None, IsSome, IfSome, ⊤}
+use Rattle.std.specs.Prelude.{◌≡◌, ◌≢◌, ℕ, List, Option, Some, IsSome}
 use Rattle.definitions.specs.Disk as disk
 use Rattle.definitions.specs.SwapHeader.{IsMarked, orig_sig_of, image_signature}
 use Rattle.plain_machine.specs.Machine.{Hardware}

@@ -2,14 +2,14 @@
 -- changes nothing.
 -- In Linux: freeze_processes, kernel/power/process.c; enough_free_mem, kernel/power/snapshot.c; enough_swap, kernel/power/swap.c.
 -- The order is own.
-use Rattle.std.specs.Prelude.{ℕ, ◌+◌, ◌==◌, ◌&&◌, ◌||◌, Bool, true, false, not, nat_lt, List, length, Option, Some, None, if◌then◌else◌, is_none, is_some}
+use Rattle.std.specs.Prelude.{ℕ, ◌+◌, ◌==◌, ◌&&◌, Bool, true, false, not, nat_lt, length, Option, Some, None, if◌then◌else◌, is_none, is_some}
 use Rattle.std.specs.List.{range_with_len, find}
 use Rattle.page_core.specs.declared.format.Format.{Format}
 use Rattle.definitions.specs.Tables.{owner_of}
-use Rattle.plain_machine.specs.Machine.{Hardware, Memory, is_valid, frame_entry, slot_entry, is_slot_of, saveable, unused, unused_slots}
+use Rattle.plain_machine.specs.Machine.{Hardware, Memory, is_valid, frame_entry, slot_entry, is_slot_of, unused, unused_slots}
 use Rattle.plain_machine.specs.Image.{Image, image_of_memory, n_of, pages_of}
-use Rattle.plain_machine.specs.Chain.{or_else, first_some}
-use Rattle.plain_machine.specs.State.{State, off, on, booting, hibernating, undoing, settling, waking, loading, asleep, Running, Held, nothing, sure, maybe, Flight}
+use Rattle.plain_machine.specs.Chain.{or_else}
+use Rattle.plain_machine.specs.State.{State, off, on, booting, hibernating, undoing, settling, waking, loading, asleep, Running, Held, nothing, sure, maybe}
 use Rattle.plain_machine.specs.declared.event.Event.{Event}
 use Rattle.plain_machine.specs.declared.event.Event.TheVariants as event
 use Rattle.plain_machine.specs.declared.event.TaskOp.{TaskOp}

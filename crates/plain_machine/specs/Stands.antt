@@ -1,20 +1,21 @@
 -- [stands]: when a world and a disk stand for a state of the plain machine. Each part is a definition of its own.
 -- It has no counterpart in Linux: it is what the promises are about.
-use Rattle.std.specs.Prelude.{◌≡◌, ◌≢◌, ◌<◌, ◌≤◌, ◌⊎◌, ℕ, ◌+◌, ◌-◌, ◌/◌, List, [], ◌∷◌, ◌++◌, length, map, take, Option, Some, None, IsTrue, Contains, All, bit_and, ⊤, slice_index_or, nat_lt}
+use Rattle.std.specs.Prelude.{◌≡◌, ◌≢◌, ◌<◌, ◌≤◌, ◌⊎◌, ℕ, ◌+◌, ◌-◌, ◌/◌, List, [], ◌++◌, length, map, take, Some, None, Contains, All, bit_and, ⊤}
 use Rattle.std.specs.List.{range_with_len}
 use Rattle.definitions.specs.Disk as disk
 use Rattle.definitions.specs.Bytes.{bytes_at}
 use Rattle.definitions.specs.SwapHeader.{IsMarked, image_of, taken_back, flags_of, hw_sig_of}
 use Rattle.definitions.specs.Tables.{frame}
+use Rattle.definitions.specs.Zones.{top}
 use Rattle.sig_header.specs.AreaKind.{area_kind}
 use Rattle.plain_machine.specs.Machine.{Hardware, Memory, block_of_slot, raw_slot_entry, slot_entry, image_slot, IsSameMemory, Fits, unused_slots}
 use Rattle.definitions.specs.NumberPages.{meta_of}
 use Rattle.plain_machine.specs.Image.{Image, SlotPages, n_of, with_data, maps_of, pages_of, stream_of, hibernate_steps, image_of_memory}
 use Rattle.plain_machine.specs.Laid.{laid, laid_block}
 use Rattle.plain_machine.specs.Chain.{Holds, Marked, header_of, blocks_of, entry_block, map_block}
-use Rattle.plain_machine.specs.Loader.{has, left_free, loader_frame}
-use Rattle.plain_machine.specs.UsableArea.{area_block, area_fault, has_bad_slots_of, bad_set_fault}
-use Rattle.plain_machine.specs.State.{State, off, on, booting, hibernating, undoing, settling, waking, loading, asleep, Running, Held, nothing, sure, maybe, Saved, own, other, Load, Found, not_yet, found_own, found_other, held_in}
+use Rattle.plain_machine.specs.Loader.{left_free, loader_frame}
+use Rattle.plain_machine.specs.UsableArea.{area_block, area_fault, bad_set_fault}
+use Rattle.plain_machine.specs.State.{State, off, on, booting, hibernating, undoing, settling, waking, loading, asleep, Running, Held, nothing, sure, maybe, Saved, own, other, Load, found_own, found_other, held_in}
 use Rattle.plain_machine.specs.Shows.{Shown, activity_in, seen_frames, ShowsRunning, ShowsKept}
 use Rattle.plain_machine.specs.Step.{fresh_frames}
 use Rattle.plain_machine.specs.declared.event.BootFrom.{BootFrom}
@@ -144,7 +145,7 @@ data_read i k = pages_read k - (meta_of (n_of i) + 1)
 -- The pages read so far are the image's first ones with data, the others are the loader's. Every image of the disk is the one
 -- that the second step found, but for block(0). From step 4 on none is marked.
 pub record IsLoading (h : Hardware) (shown : Shown) (c : disk.Content) (load : Load) (k : ℕ) : Type 0 where
-  pub kept : (p : ℕ) → (Contains (left_free h load.dump load.loader) p → ⊥) → frame shown.frames p ≡ loader_frame load.dump load.loader p
+  pub kept : (p : ℕ) → p < top h.zones → (Contains (left_free h load.dump load.loader) p → ⊥) → frame shown.frames p ≡ loader_frame load.dump load.loader p
   pub read : (i : Image) → load.found ≡ found_own i → shown.loaded ≡ take (data_read i k) (with_data i)
   pub own : (i : Image) → load.found ≡ found_own i → (v : disk.Image) × Holds h v i × IsOwn h v i × EachImage c (IsTakenBack h v)
   pub others : (v : disk.Image) → load.found ≡ found_other v → EachImage c (IsTakenBack h v)

@@ -1,8 +1,8 @@
 -- The states of the plain machine. It has no bitmap, copy frame, map page, safe frame or write order.
 -- In Linux what passes between them is hibernate and software_resume, kernel/power/hibernate.c.
-use Rattle.std.specs.Prelude.{ℕ, ◌+◌, ◌-◌, ◌==◌, ◌&&◌, ◌||◌, Bool, true, false, nat_lt, nat_le, List, Option, Some, None, if◌then◌else◌}
+use Rattle.std.specs.Prelude.{ℕ, ◌-◌, ◌==◌, Bool, nat_lt, Option, None, if◌then◌else◌}
 use Rattle.definitions.specs.Disk as disk
-use Rattle.plain_machine.specs.Machine.{Hardware, Memory}
+use Rattle.plain_machine.specs.Machine.{Memory}
 use Rattle.plain_machine.specs.Image.{Image, SlotPages, hibernate_steps}
 use Rattle.plain_machine.specs.declared.no_swap.NoSwap.{NoSwap}
 use Rattle.plain_machine.specs.declared.event.BootFrom.{BootFrom}

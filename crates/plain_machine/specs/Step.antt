@@ -1,34 +1,31 @@
 -- [step]: what the machine may answer, and the state after it. A pair that isn't among the outcomes can't come.
 -- In Linux: hibernation_snapshot, create_image and software_resume, kernel/power/hibernate.c; swsusp_write, mark_swapfiles,
 -- swsusp_check and swsusp_unmark, kernel/power/swap.c.
-use Rattle.std.specs.Prelude.{◌≡◌, ℕ, ◌+◌, ◌-◌, ◌*◌, ◌==◌, ◌&&◌, ◌||◌, Bool, true, false, not, nat_lt, nat_le, List, [], ◌∷◌, ◌++◌, length, filter, take, replicate, Option, Some, None, if◌then◌else◌, is_none, is_some, unwrap_or, slice_get, slice_set, slice_index_or, Contains}
+use Rattle.std.specs.Prelude.{◌≡◌, ℕ, ◌+◌, ◌-◌, ◌*◌, ◌==◌, ◌&&◌, ◌||◌, Bool, true, false, not, nat_lt, nat_le, List, [], ◌∷◌, ◌++◌, length, filter, take, replicate, Option, Some, None, if◌then◌else◌, is_some, unwrap_or, slice_get, slice_set, Contains}
 use Rattle.std.specs.List.{range_with_len, find}
 use Rattle.page_core.specs.declared.format.Format.{Format}
-use Rattle.definitions.specs.Bytes.{zero_page, word, with_word, with_number}
+use Rattle.definitions.specs.Bytes.{zero_page, word, with_word}
 use Rattle.definitions.specs.Disk as disk
 use Rattle.definitions.specs.Zones.{numbers, top}
 use Rattle.definitions.specs.Tables.{frame, with_entry, with_entries, flags_of}
-use Rattle.definitions.specs.NumberPages.{meta_of, page_of_words}
+use Rattle.definitions.specs.NumberPages.{meta_of}
 use Rattle.sig_header.specs.AreaKind.{area_kind}
-use Rattle.plain_machine.specs.Machine.{Hardware, Memory, is_valid, frame_entry, slot_entry, is_table_frame, saveable, bad_slot}
-use Rattle.plain_machine.specs.Image.{Image, SlotPages, image_of_memory, n_of, d_of, pages_of, maps_of, maps_read, hibernate_steps, resume_steps}
+use Rattle.plain_machine.specs.Machine.{Hardware, Memory, frame_entry, is_table_frame, saveable, bad_slot}
+use Rattle.plain_machine.specs.Image.{Image, SlotPages, image_of_memory, n_of, d_of, hibernate_steps, resume_steps}
 use Rattle.plain_machine.specs.Loader.{has, left_free, need, restored}
 use Rattle.plain_machine.specs.Trace.{trace, restored_in, slots_in}
 use Rattle.plain_machine.specs.UsableArea.{area_fault, dump_area_fault, area_block, bad_slots_in}
-use Rattle.plain_machine.specs.State.{State, off, on, booting, hibernating, undoing, settling, waking, loading, asleep, Running, Held, nothing, sure, maybe, perhaps, Saved, own, other, Flight, goes_out, comes_in, Load, Found, not_yet, found_own, found_other, held_in, kept_in, held_while_loading}
+use Rattle.plain_machine.specs.State.{State, off, on, booting, hibernating, undoing, settling, waking, loading, asleep, Running, Held, nothing, sure, maybe, perhaps, own, other, Flight, goes_out, comes_in, Load, Found, not_yet, found_own, found_other, held_in, kept_in, held_while_loading}
 use Rattle.plain_machine.specs.Refusals.{refusal, free_slots_of}
 use Rattle.plain_machine.specs.declared.event.Event.{Event}
 use Rattle.plain_machine.specs.declared.event.Event.TheVariants as event
 use Rattle.plain_machine.specs.declared.event.TaskOp.{TaskOp}
 use Rattle.plain_machine.specs.declared.event.TaskOp.TheVariants as op
-use Rattle.plain_machine.specs.declared.event.Actor.{Actor}
 use Rattle.plain_machine.specs.declared.event.Actor.TheVariants as actor
 use Rattle.plain_machine.specs.declared.event.BootFrom.{BootFrom}
 use Rattle.plain_machine.specs.declared.event.BootFrom.TheVariants.{Fresh, Kept}
 use Rattle.plain_machine.specs.declared.event.Loader.{Loader}
 use Rattle.plain_machine.specs.declared.event.Loader.TheVariants as loader
-use Rattle.plain_machine.specs.declared.event.IdentCheck.{IdentCheck}
-use Rattle.plain_machine.specs.declared.no_swap.NoSwap.{NoSwap}
 use Rattle.plain_machine.specs.declared.reply.Reply.{Reply}
 use Rattle.plain_machine.specs.declared.reply.Reply.TheVariants as reply
 use Rattle.plain_machine.specs.declared.reply.Left.{Left}

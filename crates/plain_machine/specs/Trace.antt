@@ -1,8 +1,8 @@
 -- [trace]: the replies of a resume without device faults, over any disk. It reads a whole disk by place.
 -- In Linux: swsusp_check and swsusp_read, kernel/power/swap.c; load_header, check_header, unpack_orig_pfns and
 -- snapshot_write_next, kernel/power/snapshot.c.
-use Rattle.std.specs.Prelude.{ℕ, ◌+◌, ◌*◌, ◌/◌, ◌%◌, ◌-◌, ◌==◌, ◌&&◌, ◌||◌, List, [], ◌∷◌, ◌++◌, Bool, false, not, nat_lt, nat_le, length, map, filter, min, max, Option, Some, None, if◌then◌else◌, bit_and, flat_map, unwrap_or, is_none, nat_eq, zero, suc}
-use Rattle.std.specs.List.{list_any, range_with_len}
+use Rattle.std.specs.Prelude.{ℕ, ◌+◌, ◌*◌, ◌/◌, ◌%◌, ◌-◌, ◌==◌, ◌&&◌, ◌||◌, List, [], ◌∷◌, Bool, false, not, nat_lt, nat_le, length, map, filter, min, max, Option, Some, None, if◌then◌else◌, bit_and, unwrap_or, is_none, nat_eq, zero, suc}
+use Rattle.std.specs.List.{range_with_len}
 use Rattle.std.specs.Cmp.Lexicographic.{pointwise}
 use Rattle.page_core.specs.declared.format.Format.{Format}
 use Rattle.page_core.specs.declared.format.Format.TheVariants.{Plain, SkipZeros}
@@ -13,8 +13,8 @@ use Rattle.definitions.specs.InfoPage.{info_of, mismatch}
 use Rattle.definitions.specs.NumberPages.{meta_of, number_of_word, zero_bit, end_value}
 use Rattle.definitions.specs.declared.info.Field.{Field}
 use Rattle.definitions.specs.declared.info.Info.{Info}
-use Rattle.plain_machine.specs.Machine.{Hardware, Memory, block_of_slot, is_valid, valid_count, tables_fault, is_slot_of, slot_entry}
-use Rattle.plain_machine.specs.Image.{Image, SlotPages, is_zeros, maps_read}
+use Rattle.plain_machine.specs.Machine.{Hardware, Memory, block_of_slot, is_valid, valid_count, tables_fault, slot_entry}
+use Rattle.plain_machine.specs.Image.{Image, SlotPages, maps_read}
 use Rattle.plain_machine.specs.Chain.{header_of, map_fault, entry_fault, entry_block, or_else, first_some}
 use Rattle.plain_machine.specs.Loader.{left_free, need, restored}
 use Rattle.plain_machine.specs.UsableArea.{dump_area_fault}

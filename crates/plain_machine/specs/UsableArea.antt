@@ -1,6 +1,6 @@
 -- Which swap areas a machine can use.
 -- In Linux: swsusp_swap_check, kernel/power/swap.c; read_swap_header, mm/swapfile.c.
-use Rattle.std.specs.Prelude.{ℕ, ◌+◌, ◌==◌, ◌&&◌, ◌||◌, List, [], ◌∷◌, Bool, not, nat_eq, nat_lt, Option, Some, None, if◌then◌else◌, take}
+use Rattle.std.specs.Prelude.{ℕ, ◌+◌, ◌==◌, List, [], ◌∷◌, Bool, not, nat_eq, nat_lt, Option, Some, None, if◌then◌else◌, take}
 use Rattle.std.specs.List.{list_any, list_all, range_with_len}
 use Rattle.std.specs.Cmp.Lexicographic.{pointwise}
 use Rattle.definitions.specs.Disk as disk

@@ -1,16 +1,17 @@
-use crate::event::{Actor, Event, TaskOp};
+use crate::event::{Actor, Event, Loader, Ranges, TaskOp};
 
 impl Event {
     ghost use Rattle.std.specs.Prelude.{◌↔◌, IsTrue};
     ghost use Rattle.plain_machine.specs.Fitting.{IsFitting};
 
-    /// Whether a machine serves the event: it is a boot, a task's claim, release, store, show or cache, or a step, and its
-    /// numbers are in the ranges of a script's lines.
+    /// Whether the event is served: it is a boot, a task's claim, release, store, show or cache, a hibernation, a resume, a
+    /// cut or a step, and its numbers are in the ranges of a script's lines.
     pub fn fits(&self) -> bool
         ensures { IsTrue result ↔ IsFitting self.now }
     {
         match *self {
-            Event::Boot(_) => true,
+            Event::Boot(_) | Event::Hibernate(_) | Event::Cut(_) => true,
+            Event::Resume(loader, _) => loader.fits(),
             Event::Step(Actor::Core) => true,
             Event::Step(Actor::Task(t)) => is_task(t),
             Event::Task(t, op) => is_task(t) && op.fits(),
@@ -39,8 +40,39 @@ impl TaskOp {
     }
 }
 
-ghost use Rattle.std.specs.Prelude.{◌<◌, ◌↔◌, IsTrue};
-ghost use Rattle.plain_machine.specs.Fitting.{IsTask};
+impl Loader {
+    ghost use Rattle.std.specs.Prelude.{◌↔◌, IsTrue};
+    ghost use Rattle.plain_machine.specs.Fitting.{IsFittingLoader};
+
+    fn fits(&self) -> bool
+        ensures { IsTrue result ↔ IsFittingLoader self.now }
+    {
+        match self {
+            Loader::Ranges(ranges) => ranges.fit(),
+            Loader::Table => true,
+        }
+    }
+}
+
+impl Ranges {
+    ghost use Rattle.std.specs.Prelude.{◌↔◌, IsTrue};
+    ghost use Rattle.plain_machine.specs.Fitting.{AreRanges};
+
+    fn fit(&self) -> bool
+        ensures { IsTrue result ↔ AreRanges self.now }
+    {
+        self.count <= 8 && self.list.iter().all(is_range)
+    }
+}
+
+ghost use Rattle.std.specs.Prelude.{◌<◌, ◌↔◌, ℕ, IsTrue};
+ghost use Rattle.plain_machine.specs.Fitting.{IsTask, IsRange};
+
+fn is_range(range: &(u32, u32)) -> bool
+    ensures { IsTrue result ↔ IsRange range.now }
+{
+    range.0 <= range.1 && range.1 < 65536
+}
 
 fn is_task(t: u32) -> bool
     ensures { IsTrue result ↔ IsTask t }
