@@ -18,7 +18,7 @@ use Rattle.image_read.specs.Answers.{Compares, Gives}
 use Rattle.image_read.specs.declared.cause.Cause.{Cause}
 use Rattle.image_read.proofs.Over.{as_reply, cases_listed}
 use Rattle.image_read.proofs.Places.{at_map, read_at_page, some_read}
-use Rattle.image_read.proofs.Read.{IsRead, read_map}
+use Rattle.image_read.proofs.Read.{IsRead, are_listed, read_map}
 use Rattle.image_read.proofs.ReadInfo.{read_info, info_fault_is}
 use Rattle.image_read.proofs.ReadNumbers.{at_numbers, cause_of_place, read_numbers}
 use Rattle.image_read.proofs.ReadData.{at_data, frame_found, read_data}
@@ -113,8 +113,8 @@ was_taken h v check own zones r t page origs zeros frame new new_origs new_zeros
       ]
     ]
 
--- What was refused: its cause, and nothing is listed by it.
-refused_here : (h : Hardware) (v : disk.Image) (check : IdentCheck) (own : Option Ident) (zones : List (ℕ × ℕ)) (r : Reading) (t : ℕ) (page origs zeros : List ℕ) (cause : Cause) (new : Reading) (new_origs new_zeros : List ℕ) → Over h v check own zones r t page origs zeros → Takes own zones page r origs zeros (Err cause) new new_origs new_zeros → (read_cause h v check (place t) ≡ Some (reply_of cause)) × (new.listed ≡ r.listed)
+-- What was refused: its cause, and nothing is listed by it nor was before.
+refused_here : (h : Hardware) (v : disk.Image) (check : IdentCheck) (own : Option Ident) (zones : List (ℕ × ℕ)) (r : Reading) (t : ℕ) (page origs zeros : List ℕ) (cause : Cause) (new : Reading) (new_origs new_zeros : List ℕ) → Over h v check own zones r t page origs zeros → Takes own zones page r origs zeros (Err cause) new new_origs new_zeros → (read_cause h v check (place t) ≡ Some (reply_of cause)) × (new.listed ≡ r.listed) × (r.listed ≡ None)
 refused_here h v check own zones r t page origs zeros cause new new_origs new_zeros over takes =
     let reading = over.reading in
     let steps_is = reading.steps in
@@ -130,6 +130,7 @@ refused_here h v check own zones r t page origs zeros cause new new_origs new_ze
                   ∙ sym (info_fault_is h v check own (length (numbers zones)) r.format (info_of page) over.compares (zones_count h zones over.zones_is) reading.area.same_format info_is)
                   ∙ ap as_reply h'.0.0,
               h'.0.1,
+              reading.listed ∙ ap (λ (s : ℕ). told h v (pages_read s)) one,
             )
         | inr other ↦
             let apart' : r.steps % 512 ≡ 0 → ⊥ = λ e. apart (ap (λ (s : ℕ). s % 512) (sym steps_is) ∙ e) in
@@ -139,7 +140,7 @@ refused_here h v check own zones r t page origs zeros cause new new_origs new_ze
               | inl none ↦
                   let h' = takes.numbers apart' other' none in
                   let place_is = at_numbers h v check r t page origs zeros reading apart some none over.page_is in
-                  (cause_of_place h v check zones r t (pages_read t - 1) page zeros place_is over.zones_is ∙ ap as_reply h'.0, h'.1)
+                  (cause_of_place h v check zones r t (pages_read t - 1) page zeros place_is over.zones_is ∙ ap as_reply h'.0, h'.1, none)
               | inr listed ↦ let h' = takes.saved_page listed.0 apart' other' listed.1 in absurd (let no = h'.0 in cc)
             ]
       ]
@@ -150,12 +151,14 @@ gives_refused h v check own zones r t page origs zeros cause new new_origs new_z
     let both = refused_here h v check own zones r t page origs zeros cause new new_origs new_zeros over takes in (
       ap (λ o. or_else o (next_cause h v t)) both.0,
       both.1 ∙ over.reading.listed ∙ sym (some_of_some (read_cause h v check (place t)) (reply_of cause) (told h v (pages_read (t + 1))) (told h v (pages_read t)) both.0),
+      λ n listed. absurd (let no : Some n ≡ None = sym listed ∙ both.1 ∙ both.2 in cc),
     )
 
 pub gives_next_refused : (h : Hardware) (v : disk.Image) (check : IdentCheck) (t : ℕ) (frame : Option ℕ) (mid after : Reading) (origs zeros : List ℕ) (cause : Cause) → WasTaken h v check t frame mid origs zeros → Advances mid (Err cause) after → Gives h v check t (Err cause) after origs zeros
 gives_next_refused h v check t frame mid after origs zeros cause taken on = (
   next_refused h v check mid after t origs zeros cause taken.read on,
   on.2 ∙ taken.read.listed ∙ sym (none_of_none (read_cause h v check (place t)) (told h v (pages_read (t + 1))) (told h v (pages_read t)) taken.read.cause),
+  λ n listed. are_listed h v check mid t (pages_read (t + 1)) n origs zeros taken.read (sym on.2 ∙ listed),
 )
 
 pub gives_on : (h : Hardware) (v : disk.Image) (check : IdentCheck) (t : ℕ) (frame : Option ℕ) (mid after : Reading) (origs zeros : List ℕ) (x : Unit {0}) → WasTaken h v check t frame mid origs zeros → Advances mid (Ok x) after → Gives h v check t (Ok frame) after origs zeros

@@ -1,6 +1,6 @@
 -- A place that was read without a cause, before the step is counted.
-use Rattle.std.proofs.Common.{◌≡◌, ◌≢◌, ℕ, ◌+◌, ◌-◌, ◌/◌, ◌%◌, ◌<◌, ◌≤◌, zero, suc, List, length, cond, eqb, Some, None, refl, sym, ap, ap₂, ◌∙◌, subst, arith}
-use Rattle.std.proofs.lemmas.Bool.{cond-true, cond-false, eq-eqb, ne_eqb}
+use Rattle.std.proofs.Common.{◌≡◌, ◌≢◌, ℕ, ◌+◌, ◌-◌, ◌/◌, ◌%◌, ◌<◌, ◌≤◌, zero, suc, List, length, cond, eqb, Some, None, refl, sym, ap, ap₂, ◌∙◌, subst, inl, inr, arith}
+use Rattle.std.proofs.lemmas.Bool.{cases_eq, cond-true, cond-false, eq-eqb, ne_eqb}
 use Rattle.std.specs.List.Sorted.{IsStrictlyIncreasing}
 use Rattle.definitions.specs.Disk as disk
 use Rattle.swap_map.specs.MapPages.{NumberedPage}
@@ -9,7 +9,7 @@ use Rattle.plain_machine.specs.Chain.{map_block}
 use Rattle.plain_machine.specs.Trace.{first_map, info_in, meta_in, place, place_count, read_cause, step_cause}
 use Rattle.plain_machine.specs.declared.event.IdentCheck.{IdentCheck}
 use Rattle.image_read.specs.Reading.{Reading}
-use Rattle.image_read.specs.Stream.{IsAreaOf, IsReading, HasCounts, place_block, pages_read, known_pages, known_saved, numbers_read, frames_in, marked_in, data_frames, unpacked_at, told, frame_after}
+use Rattle.image_read.specs.Stream.{IsAreaOf, IsReading, HasCounts, AreListed, place_block, pages_read, known_pages, known_saved, numbers_read, frames_in, marked_in, data_frames, unpacked_at, told, frame_after}
 use Rattle.image_read.proofs.Places.{at_map, read_at_map}
 
 pub record IsRead (h : Hardware) (v : disk.Image) (check : IdentCheck) (r : Reading) (t k : ℕ) (origs zeros : List ℕ) : Type 0 where
@@ -48,6 +48,25 @@ told_all h v k le all = told_is h v k le ∙ cond-true (eqb (numbers_read h v k)
 
 pub told_more : (h : Hardware) (v : disk.Image) (k : ℕ) → 1 ≤ k → (numbers_read h v k ≢ (info_in h v).image_pages) → told h v k ≡ None
 told_more h v k le more = told_is h v k le ∙ cond-false (eqb (numbers_read h v k) (info_in h v).image_pages) (Some (info_in h v).image_pages) None (ne_eqb (numbers_read h v k) (info_in h v).image_pages more)
+
+-- where n is told, every number was read
+told_some : (h : Hardware) (v : disk.Image) (k n : ℕ) → told h v k ≡ Some n → (n ≡ (info_in h v).image_pages) × (numbers_read h v k ≡ (info_in h v).image_pages)
+told_some h v zero n some = cc
+told_some h v (suc k) n some = elim (cases_eq (numbers_read h v (suc k)) (info_in h v).image_pages) [
+  | inl all ↦ (let same : Some n ≡ Some (info_in h v).image_pages = sym some ∙ told_all h v (suc k) (omega arith) all in cc, all)
+  | inr more ↦ absurd (let no : Some n ≡ None = sym some ∙ told_more h v (suc k) (omega arith) more in cc)
+]
+
+pub are_listed : (h : Hardware) (v : disk.Image) (check : IdentCheck) (r : Reading) (t k n : ℕ) (origs zeros : List ℕ) → IsRead h v check r t k origs zeros → r.listed ≡ Some n → AreListed h v n origs zeros
+are_listed h v check r t k n origs zeros read listed =
+    let all = told_some h v k n (sym read.listed ∙ listed) in
+    record {
+      count = all.0;
+      frames = read.frames ∙ ap (frames_in h v) all.1;
+      marks = read.marks ∙ ap (marked_in h v) all.1;
+      rising = read.rising;
+      whole = read.whole n listed;
+    }
 
 -- A map.
 pub read_map : (h : Hardware) (v : disk.Image) (check : IdentCheck) (r new : Reading) (t : ℕ) (page origs zeros : List ℕ) → IsReading h v check r t origs zeros → t < place_count (known_pages h v (pages_read t)) → t % 512 ≡ 0 → page ≡ disk.block v (place_block h v (place t)) → new ≡ record r { map = record { page = page; map = r.steps / 512 + 1 } } → IsRead h v check new t (pages_read (t + 1)) origs zeros

@@ -85,6 +85,14 @@ pub record IsAreaOf (h : Hardware) (v : disk.Image) (extents : List (ℕ × ℕ 
   pub same_blocks : blocks ≡ blocks_of v
   pub same_format : format ≡ format_in h v
 
+-- The sets hold all n page frames that the numbers name, and the stream has a page for each of them that has data.
+pub record AreListed (h : Hardware) (v : disk.Image) (n : ℕ) (origs zeros : List ℕ) : Type 0 where
+  pub count : n ≡ (info_in h v).image_pages
+  pub frames : origs ≡ frames_in h v (info_in h v).image_pages
+  pub marks : zeros ≡ marked_in h v (info_in h v).image_pages
+  pub rising : IsStrictlyIncreasing origs
+  pub whole : (info_in h v).pages ≡ length (data_frames h v) + meta_in h v + 1
+
 -- The first t places of the disk v were read, and nothing is wrong with them.
 pub record IsReading (h : Hardware) (v : disk.Image) (check : IdentCheck) (r : Reading) (t : ℕ) (origs zeros : List ℕ) : Type 0 where
   pub area : IsAreaOf h v r.extents r.last r.blocks r.format

@@ -145,7 +145,8 @@ impl Reader {
     }
 
     /// Reads the next block. A number page's page frames go into `origs`, and those without a data page into `zeros` too. A
-    /// data page is in `page` then. With `ident` the image's identity is compared.
+    /// data page is in `page` then. With `ident` the image's identity is compared. Where the wanted next block is refused and
+    /// `listed` tells a count, the sets hold all the page frames of the image, so room for its pages can be planned.
     pub fn step<D: Disk>(
         &mut self,
         disk: &mut D,
