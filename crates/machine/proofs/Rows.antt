@@ -51,7 +51,7 @@ or_right : (b c : Bool) → c ≡ true → (b || c) ≡ true
 or_right true c e = refl
 or_right false c e = e
 
-any_true : (xs : List ℕ) (p : ℕ) → Contains xs p → list_any (λ q. eqb q p) xs ≡ true
+pub any_true : (xs : List ℕ) (p : ℕ) → Contains xs p → list_any (λ q. eqb q p) xs ≡ true
 any_true [] p in' = absurd (Contains-nil p in')
 any_true (x ∷ xs) p in' =
     elim (Contains-cons_cases x xs p in') [
@@ -67,7 +67,7 @@ or_cases : (b c : Bool) → (b || c) ≡ true → (b ≡ true) ⊎ (c ≡ true)
 or_cases true c e = inl refl
 or_cases false c e = inr e
 
-any_Contains : (xs : List ℕ) (p : ℕ) → list_any (λ q. eqb q p) xs ≡ true → Contains xs p
+pub any_Contains : (xs : List ℕ) (p : ℕ) → list_any (λ q. eqb q p) xs ≡ true → Contains xs p
 any_Contains [] p e = absurd (false≢true e)
 any_Contains (x ∷ xs) p e =
     elim (or_cases (eqb x p) (list_any (λ q. eqb q p) xs) e) [

@@ -22,10 +22,10 @@ const IN_USE: u16 = 0;
 /// The slot table's entry of a free slot, and of a bad one.
 const FREE_SLOT: u32 = 0;
 
-const BAD_SLOT: u32 = 131072;
+pub(crate) const BAD_SLOT: u32 = 131072;
 
 /// How many entries of 4 bytes a page frame has.
-const ENTRIES: u32 = 1024;
+pub(crate) const ENTRIES: u32 = 1024;
 
 /// Makes the page frames those of fresh memory, but for the slot table's entries: zeros and the frame table, in which the
 /// tables' page frames are in use and all others free.
@@ -113,7 +113,7 @@ fn set_slot(frames: &mut Frames, table: u32, slot: u32, entry: u32)
 }
 
 /// The page frame of a slot's entry.
-fn table_frame(frames: &Frames, table: u32, slot: u32) -> u32
+pub(crate) fn table_frame(frames: &Frames, table: u32, slot: u32) -> u32
     requires { table + slot / 1024 < length frames.now }
     ensures { result ≡ table + slot / 1024 }
 {
@@ -132,7 +132,8 @@ fn entry_of(area: &Result<Area, NoSwap>, slot: u32) -> u32
     }
 }
 
-fn is_bad(area: &Area, slot: u32) -> bool
+/// Whether an area's header names a slot bad.
+pub(crate) fn is_bad(area: &Area, slot: u32) -> bool
     ensures { result ≡ list_any (λ q. q == slot) (take area.now.count area.now.bad) }
 {
     area.bad

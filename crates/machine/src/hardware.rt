@@ -1,4 +1,4 @@
-ghost use Rattle.std.specs.Prelude.{◌≡◌, ℕ, ◌+◌, ◌≤◌, [], ◌∷◌, length};
+ghost use Rattle.std.specs.Prelude.{◌≡◌, ℕ, ◌+◌, ◌^◌, ◌<◌, ◌≤◌, [], ◌∷◌, length, All};
 ghost use Rattle.definitions.specs.Slots.{block_of};
 ghost use Rattle.plain_machine.specs.Machine.{IsHardware};
 ghost use Rattle.machine.specs.Scripted.{scripted_hardware, scripted_ident, filled_name};
@@ -89,9 +89,16 @@ impl Hardware {
         self.slot_table
     }
 
+    /// What the machine's images are tied to, as an info page can say it.
     pub fn ident(&self) -> &Ident
-        ensures { result.now ≡ self.now.ident }
+        ensures ident { result.now ≡ self.now.ident }
+        ensures code { self.now.ident.version_code < 2 ^ 32 }
+        ensures names { length self.now.ident.names ≡ 6 }
+        ensures each_name { All (λ name. length name ≡ 65) self.now.ident.names }
     {
+        // Only what is read is known to have the size of its type.
+        let _code = self.ident.version_code;
+        let _names = whole(&self.ident.names);
         &self.ident
     }
 
@@ -110,6 +117,14 @@ impl Hardware {
     {
         &self.extents
     }
+}
+
+/// The names of an identity. Each has 65 bytes by its type.
+fn whole(names: &[[u8; 65]]) -> &[[u8; 65]]
+    ensures names { result.now ≡ names.now }
+    ensures each { All (λ name. length name ≡ 65) names.now }
+{
+    names
 }
 
 /// The identity of scripted machines: Linux 6.1.0 on `plain`.

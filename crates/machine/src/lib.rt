@@ -5,6 +5,7 @@ mod area;
 mod fresh;
 mod hardware;
 mod machine;
+mod tables;
 mod tasks;
 #[cfg(test)]
 mod tests;
@@ -13,3 +14,4 @@ pub use area::usable;
 pub use fresh::{set_fresh, set_slots};
 pub use hardware::Hardware;
 pub use machine::Machine;
+pub use tables::{has_bad_slots, tables_fit};

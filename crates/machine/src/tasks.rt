@@ -142,7 +142,7 @@ fn not_own(frames: &Frames, hw: &Hardware, t: u32, p: u32) -> Option<Reply>
 }
 
 /// Whether the machine has a page frame.
-fn is_valid(hw: &Hardware, p: u32) -> bool
+pub(crate) fn is_valid(hw: &Hardware, p: u32) -> bool
     ensures test { result ≡ is_valid hw.now p }
     ensures valid { IsTrue result → Contains (numbers hw.now.zones) p }
     ensures hardware { IsHardware hw.now }

@@ -1,8 +1,12 @@
-use crate::{Hardware, set_fresh, set_slots, usable};
+ghost use Rattle.std.specs.Prelude.{◌≡◌, ◌<◌, ◌≤◌, length, IfOk};
+ghost use Rattle.definitions.specs.Zones.{top};
+
+use crate::{Hardware, has_bad_slots, set_fresh, set_slots, tables_fit, usable};
 use frame_arena::Frames;
-use page_core::Page;
+use page_core::{NoMemory, Page};
 use plain_machine::NoSwap;
-use sig_header::{AreaKind, area_page};
+use sig_header::{Area, AreaKind, area_page};
+use std::alloc::Global;
 use std::test::Fail;
 
 // The tables of a scripted machine with 3001 slots are in page frames 0 to 6. Entries have 4 bytes.
@@ -47,4 +51,84 @@ fn areas_that_cannot_be_used(rt: HostRuntime) {
     );
     let none = usable(&hw, 3001, &AreaKind::read(&Page::zero()));
     assert_eq!(rt; none.err(), Some(NoSwap::Signature { sig: [0; 10] }));
+}
+
+// The first table frame at fault in fresh memory with one number of 4 bytes set.
+fn fault_of(alloc: Global, p: u32, offset: usize, number: u32) -> Result<Option<u32>, NoMemory>
+    requires frame { p < 4096 }
+    requires number { offset ≤ 4092 }
+{
+    let hw = small_machine();
+    let mut frames = fresh_frames(alloc, &hw)?;
+    put(&mut frames, p, offset, number);
+    Ok(tables_fit(&frames, &hw).err())
+}
+
+fn put(frames: &mut Frames, p: u32, offset: usize, number: u32)
+    requires frame { p < length frames.old }
+    requires number { offset ≤ 4092 }
+    ensures { length frames.new ≡ length frames.old }
+{
+    frames.put_u32(p, offset, number);
+}
+
+#[tactic(auto, unfolding(crate::specs::Scripted::scripted_hardware))]
+fn small_machine() -> Hardware
+    ensures { top result.zones ≡ 4096 }
+{
+    Hardware::scripted(3000)
+}
+
+// Fresh memory of a machine whose slot 5 is bad.
+fn fresh_frames(alloc: Global, hw: &Hardware) -> Result<Frames, NoMemory>
+    requires { top hw.now.zones ≡ 4096 }
+    ensures { IfOk result (λ frames. length frames ≡ 4096) }
+{
+    let mut frames = Frames::create(alloc, 4096)?;
+    set_fresh(&mut frames, hw);
+    set_slots(&mut frames, hw, &Ok(area_with(5)));
+    Ok(frames)
+}
+
+fn area_with(slot: u32) -> Area {
+    let mut bad = [0; 630];
+    bad[0] = slot;
+    Area {
+        last: 3000,
+        count: 1,
+        bad,
+    }
+}
+
+// Frame 0 has the entries of page frames 0 to 1023, the tables' among them, and frame 5 those of slots 1024 to 2047.
+#[test]
+fn table_frames_at_fault(rt: HostRuntime) -> Result<(), Fail> {
+    let alloc = rt.alloc();
+    assert_eq!(rt; fault_of(alloc, 0, 28, 1)?, None);
+    assert_eq!(rt; fault_of(alloc, 4, 4, 64)?, None);
+    assert_eq!(rt; fault_of(alloc, 4, 4, 65536)?, Some(4));
+    assert_eq!(rt; fault_of(alloc, 4, 0, 0)?, Some(4));
+    assert_eq!(rt; fault_of(alloc, 5, 0, 70)?, Some(5));
+    assert_eq!(rt; fault_of(alloc, 6, 3808, 70)?, Some(6));
+    assert_eq!(rt; fault_of(alloc, 6, 3812, 70)?, None);
+    assert_eq!(rt; fault_of(alloc, 0, 24, 1)?, Some(6));
+    assert_eq!(rt; fault_of(alloc, 0, 24, 65536)?, Some(6));
+    assert_eq!(rt; fault_of(alloc, 1, 3904, 128)?, Some(1));
+    assert_eq!(rt; fault_of(alloc, 3, 4092, 65537)?, Some(3));
+    Ok(())
+}
+
+#[test]
+fn bad_slots_of_an_area(rt: HostRuntime) -> Result<(), Fail> {
+    let hw = small_machine();
+    let mut frames = fresh_frames(rt.alloc(), &hw)?;
+    assert!(rt; has_bad_slots(&frames, &hw, &area_with(5)));
+    assert!(rt; !has_bad_slots(&frames, &hw, &area_with(6)));
+    put(&mut frames, 4, 24, 131072);
+    assert!(rt; !has_bad_slots(&frames, &hw, &area_with(5)));
+    put(&mut frames, 4, 20, 0);
+    assert!(rt; has_bad_slots(&frames, &hw, &area_with(6)));
+    put(&mut frames, 4, 0, 0);
+    assert!(rt; !has_bad_slots(&frames, &hw, &area_with(6)));
+    Ok(())
 }

@@ -1,0 +1,232 @@
+ghost use Rattle.std.specs.Prelude.{◌≡◌, ℕ, ◌+◌, ◌*◌, ◌/◌, ◌<◌, ◌↔◌, not, true, length, IsTrue, IsOk, IfErr, MatchResult, Some, None, Contains};
+ghost use Rattle.std.specs.List.{find};
+ghost use Rattle.definitions.specs.Tables.{entry_of, flags_of, owner_of, is_saveable};
+ghost use Rattle.definitions.specs.Zones.{numbers, top};
+ghost use Rattle.page_states.specs.Flags.{bits_of};
+ghost use Rattle.plain_machine.specs.Loader.{has};
+ghost use Rattle.plain_machine.specs.Machine.{Fits, IsTableFrame, bad_slot, frame_entry, frame_table_frames, is_slot_entry, is_table_at_fault, is_well_formed, raw_slot_entry, slot_table_frames, table_len, tables_fault};
+ghost use Rattle.plain_machine.specs.UsableArea.{bad_slots_of, has_bad_slots_of};
+
+use crate::Hardware;
+use crate::fresh::{BAD_SLOT, ENTRIES, is_bad, table_frame};
+use crate::tasks::is_valid;
+use bitflags::Flags;
+use frame_arena::Frames;
+use page_states::{PageFlags, entry};
+use sig_header::Area;
+
+/// Tasks are numbered from 1 up to this.
+const MOST_TASKS: u32 = 64;
+
+/// Whether the tables in memory are well formed; else the first table frame at fault: it isn't saveable, has an owner, or an
+/// entry in it is one that no valid page frame, or no slot, may have.
+pub fn tables_fit(frames: &Frames, hw: &Hardware) -> Result<(), u32>
+    requires { length frames.now ≡ top hw.now.zones }
+    ensures fits { IsOk result ↔ (tables_fault hw.now frames.now ≡ None) }
+    ensures fault { IfErr result (λ f. tables_fault hw.now frames.now ≡ Some f) }
+    ensures tables { IsOk result → Fits hw.now frames.now }
+{
+    let _ = frames.len();
+    let frame_table = frame_table_fits(frames, hw);
+    let slot_table = slot_table_fits(frames, hw);
+    if hw.frame_table() < hw.slot_table() {
+        frame_table.and(slot_table)
+    } else {
+        slot_table.and(frame_table)
+    }
+}
+
+/// Whether no page frame of the frame table is at fault; else the first that is.
+fn frame_table_fits(frames: &Frames, hw: &Hardware) -> Result<(), u32>
+    requires { length frames.now ≡ top hw.now.zones }
+    ensures { MatchResult result
+        (λ u. find (is_table_at_fault hw.now frames.now) (frame_table_frames hw.now) ≡ None)
+        (λ f. find (is_table_at_fault hw.now frames.now) (frame_table_frames hw.now) ≡ Some f) }
+{
+    for i in 0..table_len(hw.zones().top()) {
+        if !frame_table_frame_fits(frames, hw, i) {
+            return Err(hw.frame_table() + i);
+        }
+    }
+    Ok(())
+}
+
+/// Whether no page frame of the slot table is at fault; else the first that is.
+fn slot_table_fits(frames: &Frames, hw: &Hardware) -> Result<(), u32>
+    requires { length frames.now ≡ top hw.now.zones }
+    ensures { MatchResult result
+        (λ u. find (is_table_at_fault hw.now frames.now) (slot_table_frames hw.now) ≡ None)
+        (λ f. find (is_table_at_fault hw.now frames.now) (slot_table_frames hw.now) ≡ Some f) }
+{
+    for i in 0..table_len(hw.slots()) {
+        if !slot_table_frame_fits(frames, hw, i) {
+            return Err(hw.slot_table() + i);
+        }
+    }
+    Ok(())
+}
+
+/// How many page frames a table with so many entries takes.
+fn table_len(entries: u32) -> u32
+    ensures { result ≡ table_len entries }
+{
+    entries.div_ceil(ENTRIES)
+}
+
+/// Whether page frame `i` of the frame table, from 0, is faultless: its own entry, and the entries in it.
+fn frame_table_frame_fits(frames: &Frames, hw: &Hardware, i: u32) -> bool
+    requires size { length frames.now ≡ top hw.now.zones }
+    requires within { i < table_len (top hw.now.zones) }
+    ensures { result ≡ not (is_table_at_fault hw.now frames.now (hw.now.frame_table + i)) }
+{
+    is_used(frames, hw, hw.frame_table() + i) && entries_fit(frames, hw, i)
+}
+
+/// Whether page frame `i` of the slot table, from 0, is faultless: its own entry, and the entries in it.
+fn slot_table_frame_fits(frames: &Frames, hw: &Hardware, i: u32) -> bool
+    requires size { length frames.now ≡ top hw.now.zones }
+    requires within { i < table_len hw.now.slots }
+    ensures { result ≡ not (is_table_at_fault hw.now frames.now (hw.now.slot_table + i)) }
+{
+    is_used(frames, hw, hw.slot_table() + i) && slots_fit(frames, hw, i)
+}
+
+/// Whether a table frame is marked as one: saveable, and no task's.
+fn is_used(frames: &Frames, hw: &Hardware, f: u32) -> bool
+    requires size { length frames.now ≡ top hw.now.zones }
+    requires table { IsTableFrame hw.now f }
+    ensures { IsTrue result ↔ ((is_saveable (flags_of (frame_entry hw.now frames.now f)) ≡ true) × (owner_of (frame_entry hw.now frames.now f) ≡ 0)) }
+{
+    let (flags, owner) = entry(frames, hw.frame_table(), f);
+    is_saveable(flags) && owner == 0
+}
+
+/// Whether an image saves a page frame with these flags (saveable_page, kernel/power/snapshot.c).
+fn is_saveable(flags: PageFlags) -> bool
+    ensures { result ≡ is_saveable (bits_of flags) }
+{
+    !flags.intersects(PageFlags::FREE)
+        && !flags.intersects(PageFlags::OFFLINE)
+        && !flags.intersects(PageFlags::GUARD)
+        && !(flags.intersects(PageFlags::RESERVED)
+            && (flags.intersects(PageFlags::UNMAPPED) || flags.intersects(PageFlags::NOSAVE)))
+}
+
+/// Whether the entries of the valid page frames that lie in page frame `i` of the frame table are well formed.
+fn entries_fit(frames: &Frames, hw: &Hardware, i: u32) -> bool
+    requires size { length frames.now ≡ top hw.now.zones }
+    requires within { i < 128 }
+    ensures { IsTrue result ↔ ((p : ℕ) → p / 1024 ≡ i → Contains (numbers hw.now.zones) p → is_well_formed (frame_entry hw.now frames.now p) ≡ true) }
+{
+    for p in ENTRIES * i..ENTRIES * (i + 1) {
+        if !entry_fits(frames, hw, p) {
+            return false;
+        }
+    }
+    true
+}
+
+/// Whether a page frame's entry is well formed, if the page frame is valid.
+fn entry_fits(frames: &Frames, hw: &Hardware, p: u32) -> bool
+    requires { length frames.now ≡ top hw.now.zones }
+    ensures { IsTrue result ↔ (Contains (numbers hw.now.zones) p → is_well_formed (frame_entry hw.now frames.now p) ≡ true) }
+{
+    if !is_valid(hw, p) {
+        return true;
+    }
+    let (flags, owner) = entry(frames, hw.frame_table(), p);
+    is_well_formed(flags.bits(), owner)
+}
+
+/// Whether a page frame may have these flags and this owner: none above CACHE, nothing beside FREE, and nothing but CACHE beside
+/// an owner.
+fn is_well_formed(flags: u16, owner: u16) -> bool
+    ensures { result ≡ is_well_formed (entry_of flags owner) }
+{
+    flags < 128
+        && u32::from(owner) <= MOST_TASKS
+        && (flags & 1 == 0 || flags == 1 && owner == 0)
+        && (flags == 0 || flags == 64 || owner == 0)
+}
+
+/// Whether the slot table's entries in page frame `i` of it are such as their slots may have.
+fn slots_fit(frames: &Frames, hw: &Hardware, i: u32) -> bool
+    requires size { length frames.now ≡ top hw.now.zones }
+    requires within { i < 128 }
+    ensures { IsTrue result ↔ ((s : ℕ) → s / 1024 ≡ i → s < hw.now.slots → is_slot_entry s (raw_slot_entry hw.now frames.now s) ≡ true) }
+{
+    for slot in ENTRIES * i..hw.slots().min(ENTRIES * (i + 1)) {
+        if !is_slot_entry(slot, slot_entry(frames, hw, slot)) {
+            return false;
+        }
+    }
+    true
+}
+
+/// The entry of a slot in the slot table.
+#[tactic(auto, unfolding(definitions::specs::Tables::entry_at))]
+fn slot_entry(frames: &Frames, hw: &Hardware, slot: u32) -> u32
+    requires size { length frames.now ≡ top hw.now.zones }
+    requires within { slot < hw.now.slots }
+    ensures { result ≡ raw_slot_entry hw.now frames.now slot }
+{
+    let p = table_frame(frames, hw.slot_table(), slot);
+    frames.u32_at(p, (4 * (slot % ENTRIES)) as usize)
+}
+
+/// Whether a slot may have an entry: bad, or free or a task's. Slot 0, the header's, is bad.
+fn is_slot_entry(slot: u32, entry: u32) -> bool
+    ensures { result ≡ is_slot_entry slot entry }
+{
+    entry == BAD_SLOT || slot != 0 && entry <= MOST_TASKS
+}
+
+/// Whether just the area's bad slots, slot 0 among them, are bad in the slot table.
+pub fn has_bad_slots(frames: &Frames, hw: &Hardware, area: &Area) -> bool
+    requires { length frames.now ≡ top hw.now.zones }
+    ensures { result ≡ has_bad_slots_of hw.now frames.now area.now }
+{
+    are_named(frames, hw, area) && named_are_bad(frames, hw, area)
+}
+
+/// Whether each bad slot of the slot table is one of the area's.
+fn are_named(frames: &Frames, hw: &Hardware, area: &Area) -> bool
+    requires { length frames.now ≡ top hw.now.zones }
+    ensures { IsTrue result ↔ ((s : ℕ) → s < hw.now.slots → raw_slot_entry hw.now frames.now s ≡ bad_slot → has (bad_slots_of area.now) s ≡ true) }
+{
+    for slot in 0..hw.slots() {
+        if slot_entry(frames, hw, slot) == BAD_SLOT && !names(area, slot) {
+            return false;
+        }
+    }
+    true
+}
+
+/// Whether a slot is one of an area's bad slots.
+fn names(area: &Area, slot: u32) -> bool
+    ensures { result ≡ has (bad_slots_of area.now) slot }
+{
+    slot == 0 || is_bad(area, slot)
+}
+
+/// Whether each of the area's bad slots that the slot table has is bad there.
+fn named_are_bad(frames: &Frames, hw: &Hardware, area: &Area) -> bool
+    requires { length frames.now ≡ top hw.now.zones }
+    ensures { IsTrue result ↔ ((s : ℕ) → s < hw.now.slots → has (bad_slots_of area.now) s ≡ true → raw_slot_entry hw.now frames.now s ≡ bad_slot) }
+{
+    let count = (area.count as usize).min(area.bad.len());
+    for &slot in &area.bad[..count] {
+        if !is_bad_or_beyond(frames, hw, slot) {
+            return false;
+        }
+    }
+    is_bad_or_beyond(frames, hw, 0)
+}
+
+/// Whether a slot is bad in the slot table, if it has the slot.
+fn is_bad_or_beyond(frames: &Frames, hw: &Hardware, slot: u32) -> bool
+    requires { length frames.now ≡ top hw.now.zones }
+    ensures { IsTrue result ↔ (slot < hw.now.slots → raw_slot_entry hw.now frames.now slot ≡ bad_slot) }
+{
+    slot >= hw.slots() || slot_entry(frames, hw, slot) == BAD_SLOT
+}
