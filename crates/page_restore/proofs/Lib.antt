@@ -1,0 +1,7 @@
+mod Clearing
+mod Finishing
+mod Keeping
+mod Members
+mod Moving
+mod Placing
+mod Walk

@@ -1,0 +1,49 @@
+-- Pages of an image that wait until all of them go to their own page frames (prepare_image and get_buffer,
+-- kernel/power/snapshot.c).
+use Rattle.std.specs.Prelude.{ℕ, ◌==◌, ◌&&◌, ◌||◌, Bool, not, nat_le, List, [], ◌∷◌, Option, Some, None, map, take, filter, if◌then◌else◌}
+use Rattle.std.specs.List.{list_any, zip}
+use Rattle.definitions.specs.Bytes.{zero_page}
+use Rattle.definitions.specs.Tables.{frame}
+use Rattle.definitions.specs.Zones.{numbers}
+use Rattle.safe_pages.specs.Placed.{Placed, sources}
+
+-- The page frames that are free to the loader, the originals with data of the last plan, where their pages wait, and how
+-- many of them wait so far.
+pub record Awaiting : Type 0 where
+  pub zones : List (ℕ × ℕ)
+  pub free : List ℕ
+  pub originals : List ℕ
+  pub placement : Placed
+  pub loaded : ℕ
+
+-- whether one of these ranges, both ends included, has p
+abbrev pub is_in_range : List (ℕ × ℕ) → ℕ → Bool
+is_in_range ranges p = list_any (λ r. nat_le r.0 p && nat_le p r.1) ranges
+
+-- the valid page frames outside these ranges
+unfoldable pub outside : List (ℕ × ℕ) → List (ℕ × ℕ) → List ℕ
+outside ranges zones = filter (λ p. not (is_in_range ranges p)) (numbers zones)
+
+-- the originals that aren't among those without data
+unfoldable pub with_data : List ℕ → List ℕ → List ℕ
+with_data origs zeros = filter (λ p. not (list_any (λ q. q == p) zeros)) origs
+
+-- the pages that wait, in the order of their originals
+abbrev pub waiting_pages : List (List ℕ) → Awaiting → List (List ℕ)
+waiting_pages frames w = map (frame frames) (take w.loaded (sources w.placement.moves))
+
+-- the page of the first pair whose number is p
+abbrev pub saved_page : List (ℕ × List ℕ) → ℕ → Option (List ℕ)
+saved_page [] p = None
+saved_page (s ∷ saved) p = if s.0 == p then Some s.1 else saved_page saved p
+
+abbrev pub page_or : Option (List ℕ) → List ℕ → List ℕ
+page_or (Some page) other = page
+page_or None other = other
+
+-- What page frame p has once the image is back: an original with data has the page that waited for it, any other original
+-- and any other page frame that was free to the loader is zero, and the rest is as before.
+unfoldable pub restored_page : List (List ℕ) → Awaiting → List ℕ → ℕ → List ℕ
+restored_page frames w origs p =
+    page_or (saved_page (zip w.originals (waiting_pages frames w)) p)
+    (if list_any (λ q. q == p) origs || list_any (λ q. q == p) w.free then zero_page else frame frames p)

@@ -1,0 +1,172 @@
+//! Pages of an image that is loaded, from where they wait to their own page frames (prepare_image and get_buffer,
+//! kernel/power/snapshot.c).
+#![tactic(auto)]
+
+mod sets;
+#[cfg(test)]
+mod tests;
+
+ghost use Rattle.std.specs.Prelude.{◌≡◌, ◌≢◌, ℕ, ◌+◌, ◌<◌, ◌≤◌, ◌↔◌, ◌++◌, ◌∷◌, [], true, false, Contains, IsErr, IfOk, IfErr, OnOk, OnErr, length};
+ghost use Rattle.definitions.specs.Moves.{assigned};
+ghost use Rattle.definitions.specs.Tables.{frame};
+ghost use Rattle.definitions.specs.Zones.{top};
+ghost use Rattle.safe_pages.specs.Placed.{targets, IsPlacement, TakesFrom};
+ghost use Rattle.safe_pages.specs.Plan.{need_for, planned};
+ghost use Rattle.page_restore.specs.Waiting.{outside, with_data, waiting_pages, restored_page};
+
+use frame_arena::Frames;
+use memory_bitmap::Bitmap;
+use page_core::{NoMemory, Page};
+use relocate::{Steps, Work, execute, sequence};
+use restore_list::RestoreList;
+use safe_pages::{Placement, TooFew};
+use sets::{mark_outside, mark_with_data, zero_apart};
+use std::alloc::Global;
+use std::marker::{Brand, Model};
+use std::sync::ledger::{Blank, Ledger};
+use zones::Zones;
+
+/// Pages of an image that wait for their page frames, and the page frames that the loader has free. It takes all its
+/// memory when it is made.
+#[derive(Drop)]
+pub struct Waiting {
+    free: Bitmap,
+    /// The originals with data.
+    origs: Bitmap,
+    /// Whether the placement is that of the last plan.
+    ready: bool,
+    placement: Placement,
+    work: Work,
+    loaded: u32,
+}
+
+impl Model for Waiting {
+    ghost use Rattle.page_restore.specs.Waiting.{Awaiting};
+
+    ghost Value = { Awaiting };
+
+    ghost use Rattle.page_restore.specs.Kept.{kept_waiting, IsKept};
+
+    ghost view = { kept_waiting };
+
+    ghost invariant = { IsKept };
+}
+
+impl Waiting {
+    /// No page waits, and no page frame is free to the loader.
+    pub fn create(alloc: Global, zones: &Zones) -> Result<Waiting, NoMemory>
+        ensures zones { IfOk result (λ w. w.zones ≡ zones.now) }
+        ensures empty { IfOk result (λ w. (w.free ≡ []) × (w.originals ≡ []) × (w.loaded ≡ 0)) }
+        ensures unready { IfOk result (λ w. w.placement.ready ≡ false) }
+    {
+        Ok(Waiting {
+            free: Bitmap::create(alloc, zones)?,
+            origs: Bitmap::create(alloc, zones)?,
+            ready: false,
+            placement: Placement::create(alloc, zones)?,
+            work: Work::create(alloc, zones.top())?,
+            loaded: 0,
+        })
+    }
+
+    /// Page frames outside these ranges, both ends included, are free to the loader. Nothing is planned yet.
+    pub fn begin(&mut self, zones: &Zones, ranges: &[(u32, u32)])
+        requires { zones.now ≡ self.old.zones }
+        ensures free { self.new.free ≡ outside ranges.now zones.now }
+        ensures empty { self.new.originals ≡ [] }
+        ensures loaded { self.new.loaded ≡ 0 }
+        ensures unready { self.new.placement.ready ≡ false }
+        ensures zones { self.new.zones ≡ self.old.zones }
+    {
+        self.ready = false;
+        self.loaded = 0;
+        self.origs.clear_all();
+        mark_outside(&mut self.free, zones, ranges);
+    }
+
+    /// Plans where the pages of these originals wait, all but those without data. Refused where too few page frames are
+    /// free.
+    pub fn plan(&mut self, origs: &Bitmap, zeros: &Bitmap) -> Result<(), TooFew>
+        requires { origs.now.zones ≡ self.old.zones }
+        ensures refused { IsErr result ↔ (length self.old.free < need_for (length (with_data origs.now.members zeros.now.members))) }
+        ensures tells { IfErr result (λ few. few ≡ record { have = length self.old.free; need = need_for (length (with_data origs.now.members zeros.now.members)) }) }
+        ensures planned { OnOk result (self.new.placement ≡ planned self.old.zones (with_data origs.now.members zeros.now.members) self.old.free) }
+        ensures ready { OnOk result (self.new.placement.ready ≡ true) }
+        ensures placement { OnOk result (IsPlacement self.new.placement) }
+        ensures taken { OnOk result (TakesFrom self.old.free self.new.placement) }
+        ensures targets { OnOk result (targets self.new.placement.moves ≡ with_data origs.now.members zeros.now.members) }
+        ensures unready { OnErr result (self.new.placement.ready ≡ false) }
+        ensures originals { self.new.originals ≡ with_data origs.now.members zeros.now.members }
+        ensures free { self.new.free ≡ self.old.free }
+        ensures zones { self.new.zones ≡ self.old.zones }
+        ensures loaded { self.new.loaded ≡ 0 }
+    {
+        self.ready = false;
+        self.loaded = 0;
+        mark_with_data(&mut self.origs, origs, zeros);
+        self.placement.plan(&self.origs, &self.free)?;
+        self.ready = true;
+        Ok(())
+    }
+
+    /// How many pages don't wait yet.
+    pub fn left(&self) -> u32
+        requires { self.now.placement.ready ≡ true }
+        ensures { result + self.now.loaded ≡ length self.now.originals }
+    {
+        self.origs.len() - self.loaded
+    }
+
+    /// Puts the page of the next original where it waits.
+    pub fn place(&mut self, frames: &mut Frames, page: &Page)
+        requires ready { self.old.placement.ready ≡ true }
+        requires left { self.old.loaded < length self.old.originals }
+        requires frames { top self.old.zones ≤ length frames.old }
+        ensures waits { waiting_pages frames.new self.new ≡ waiting_pages frames.old self.old ++ page.now ∷ [] }
+        ensures others { (p : ℕ) → (Contains self.old.free p → ⊥) → frame frames.new p ≡ frame frames.old p }
+        ensures size { length frames.new ≡ length frames.old }
+        ensures counted { self.new ≡ record self.old { loaded = self.old.loaded + 1 } }
+    {
+        // So one more can be counted.
+        let left = self.loaded < self.origs.len();
+        prove!(left);
+        let p = self.placement.frame_for(self.loaded);
+        frames.write(p, page);
+        self.loaded += 1;
+    }
+
+    /// Brings all pages to their page frames at once. Every other original is zero afterwards, and so is every other page
+    /// frame that was free to the loader (swsusp_arch_resume, and clear_free_pages of kernel/power/snapshot.c).
+    pub fn finish(&mut self, frames: &mut Frames, origs: &Bitmap)
+        requires ready { self.old.placement.ready ≡ true }
+        requires loaded { self.old.loaded ≡ length self.old.originals }
+        requires frames { top self.old.zones ≤ length frames.old }
+        requires origs { origs.now.zones ≡ self.old.zones }
+        ensures restored { (p : ℕ) → frame frames.new p ≡ restored_page frames.old self.old origs.now.members p }
+        ensures size { length frames.new ≡ length frames.old }
+        ensures waiting { self.new ≡ self.old }
+    {
+        move_pages::<Brand>(&self.placement, &mut self.work, frames, Blank::new(1));
+        zero_apart(frames, &self.free, &self.origs);
+        zero_apart(frames, origs, &self.origs);
+    }
+}
+
+/// Makes the moves of a placement at once. The list frames and the bounce frame have anything afterwards.
+fn move_pages<L: Ledger>(placement: &Placement, work: &mut Work, frames: &mut Frames, blank: Blank)
+    requires name { blank.name ≡ L.name }
+    requires parts { blank.parts ≡ L.parts }
+    requires some { 0 < blank.parts }
+    requires ready { placement.now.ready ≡ true }
+    requires placement { IsPlacement placement.now }
+    requires frames { top placement.now.zones ≤ length frames.old }
+    requires work { top placement.now.zones ≤ work.old }
+    ensures moves { (p : ℕ) → (Contains placement.now.list p → ⊥) → p ≢ placement.now.bounce → frame frames.new p ≡ frame (assigned frames.old placement.now.moves) p }
+    ensures size { length frames.new ≡ length frames.old }
+    ensures work { work.new ≡ work.old }
+{
+    let mut list = RestoreList::begin(frames, placement);
+    sequence(placement, work, frames, &mut list);
+    let mut steps = Steps::<L>::begin(blank);
+    execute(frames, &list, &mut steps);
+}
