@@ -1,27 +1,33 @@
 -- Header blocks that agree but for bytes 4056 to 4085 say the same of the area.
-use Rattle.std.proofs.Common.{◌≡◌, ℕ, ◌+◌, ◌-◌, ◌*◌, ◌++◌, replicate, Option, Some, None, ◌<◌, ◌≤◌, inl, inr, Bool, true, false, cond, eqb, ltb, nat_eq, List, map, take, min, refl, sym, ap, ap₂, ◌∙◌, arith}
+use Rattle.std.proofs.Common.{◌≡◌, ℕ, ◌+◌, ◌-◌, ◌*◌, ◌++◌, replicate, Option, Some, None, ◌<◌, ◌≤◌, inl, inr, Bool, true, false, cond, eqb, ltb, nat_eq, List, map, take, drop, min, refl, sym, ap, ap₂, ◌∙◌, arith}
 use Rattle.std.specs.List.{range_with_len}
 use Rattle.std.specs.Cmp.Lexicographic.{pointwise, same_text}
 use Rattle.std.proofs.lemmas.Bool.{cases_Bool, cases_lt, false≢true, cond-true, cond-false, lt-ltb}
-use Rattle.std.proofs.lemmas.List.{ext_get_or, get_or-take, length-take}
+use Rattle.std.proofs.lemmas.List.{ext_get_or, get_or-take, length-take, take-take, drop-take}
 use Rattle.std.proofs.lemmas.List.FromFn.{length-map-range_with_len, get_or-map-range_with_len}
-use Rattle.definitions.specs.Bytes.{AgreeBut, number_at}
+use Rattle.definitions.specs.Bytes.{AgreeBut, bytes_at, number_at}
 use Rattle.definitions.specs.SwapHeader.{IsMarked, image_signature, old_signature, area_signature, sig_of, version_of, last_page_of, bad_count_of, bad_pages_of, first_outside}
 use Rattle.definitions.proofs.PageBytes.{bytes_at-same, number_at-same}
 use Rattle.sig_header.specs.AreaKind.{area_kind, area_of, area_with, version_1_kind, mark_of}
 use Rattle.sig_header.specs.declared.area.Area.{Area}
+use Rattle.sig_header.specs.declared.area.Mark.{Mark}
 use Rattle.sig_header.specs.declared.area.AreaFault.TheVariants.{Version, BadCount, LastZero}
 use Rattle.sig_header.specs.declared.area.AreaKind.{AreaKind}
 use Rattle.sig_header.specs.declared.area.AreaKind.TheVariants.{Image, Old, Other, BadArea, Swap}
 use Rattle.plain_machine.specs.Stands.{AgreeOnArea}
 
-pub number_same : (p q : List ℕ) (k : ℕ) → AgreeBut 4056 4086 p q → k + 4 ≤ 4056 → number_at 4 p k ≡ number_at 4 q k
-number_same p q k agree le = number_at-same 4 p q k (bytes_at-same 4 p q k agree.size (λ i from to. agree.before i (omega arith)))
+-- a number of the first 4056 bytes is one of the front
+bytes_of_front : (p : List ℕ) (k : ℕ) → k + 4 ≤ 4056 → bytes_at 4 p k ≡ drop k (take (k + 4) (take 4056 p))
+bytes_of_front p k le = sym (drop-take k 4 p) ∙ ap (drop k) (sym (take-take (k + 4) 4056 p le))
+
+pub number_same : (p q : List ℕ) (k : ℕ) → AgreeOnArea p q → k + 4 ≤ 4056 → number_at 4 p k ≡ number_at 4 q k
+number_same p q k agree le =
+    number_at-same 4 p q k (bytes_of_front p k le ∙ ap (λ (front : List ℕ). drop k (take (k + 4) front)) agree.front ∙ sym (bytes_of_front q k le))
 
 pub sig_same : (p q : List ℕ) → AgreeBut 4056 4086 p q → sig_of p ≡ sig_of q
 sig_same p q agree = bytes_at-same 10 p q 4086 agree.size (λ i from to. agree.after i from)
 
-bad_pages_same : (p q : List ℕ) (n : ℕ) → AgreeBut 4056 4086 p q → n ≤ 630 → bad_pages_of p n ≡ bad_pages_of q n
+bad_pages_same : (p q : List ℕ) (n : ℕ) → AgreeOnArea p q → n ≤ 630 → bad_pages_of p n ≡ bad_pages_of q n
 unfolding bad_pages_of
 bad_pages_same p q n agree few =
     let f : ℕ → ℕ = λ i. number_at 4 p (1536 + 4 * i) in
@@ -32,7 +38,7 @@ bad_pages_same p q n agree few =
     (λ i lt. let here : i < n = omega arith in
     get_or-map-range_with_len f 0 n i i 0 here (omega arith) ∙ number_same p q (1536 + 4 * i) agree (omega arith) ∙ sym (get_or-map-range_with_len g 0 n i i 0 here (omega arith)))
 
-area_of_same : (p q : List ℕ) → AgreeBut 4056 4086 p q → bad_count_of p ≤ 630 → area_of p ≡ area_of q
+area_of_same : (p q : List ℕ) → AgreeOnArea p q → bad_count_of p ≤ 630 → area_of p ≡ area_of q
 unfolding area_of
 area_of_same p q agree few =
     let count = number_same p q 1032 agree (omega arith) in
@@ -57,7 +63,7 @@ area_with_same : (p q : List ℕ) (found : Option ℕ) → area_of p ≡ area_of
 area_with_same p q None same = ap Swap same
 area_with_same p q (Some slot) same = refl
 
-fields_same : (p q : List ℕ) → AgreeBut 4056 4086 p q → (bad_count_of p ≤ 630) → area_with p (first_outside (last_page_of p) (bad_pages_of p (bad_count_of p))) ≡ area_with q (first_outside (last_page_of q) (bad_pages_of q (bad_count_of q)))
+fields_same : (p q : List ℕ) → AgreeOnArea p q → (bad_count_of p ≤ 630) → area_with p (first_outside (last_page_of p) (bad_pages_of p (bad_count_of p))) ≡ area_with q (first_outside (last_page_of q) (bad_pages_of q (bad_count_of q)))
 fields_same p q agree few =
     let count = number_same p q 1032 agree (omega arith) in
     let last = number_same p q 1028 agree (omega arith) in
@@ -75,7 +81,7 @@ behind_count n m x y same few = elim (cases_Bool (ltb 630 n)) [
   at_most : (k : ℕ) → ltb 630 k ≡ false → k ≤ 630
   at_most k e = elim (cases_lt 630 k) [ inl lt ↦ absurd (false≢true (sym e ∙ lt-ltb 630 k lt)) | inr le ↦ le ]
 
-version_same : (p q : List ℕ) → AgreeBut 4056 4086 p q → version_1_kind p ≡ version_1_kind q
+version_same : (p q : List ℕ) → AgreeOnArea p q → version_1_kind p ≡ version_1_kind q
 version_same p q agree =
     let version = number_same p q 1024 agree (omega arith) in
     let count = number_same p q 1032 agree (omega arith) in
@@ -97,14 +103,32 @@ kind_behind : (p sig : List ℕ) (b : Bool) → b ≡ false →
 kind_behind p sig true e = absurd (false≢true (sym e))
 kind_behind p sig false e = refl
 
-pub area_kind_same : (p q : List ℕ) → AgreeBut 4056 4086 p q → (IsMarked p → ⊥) → area_kind p ≡ area_kind q
+-- of blocks without an image's signature
+kind_same : (p q : List ℕ) → AgreeOnArea p q → pointwise nat_eq (sig_of p) image_signature ≡ false → area_kind p ≡ area_kind q
 unfolding area_kind
-area_kind_same p q agree unmarked =
-    let sig = sig_same p q agree in
-    let not_image : pointwise nat_eq (sig_of p) image_signature ≡ false = false_of (pointwise nat_eq (sig_of p) image_signature) (λ e. unmarked (same_text (sig_of p) image_signature (sym e))) in
+kind_same p q agree not_image =
+    let sig = agree.signature in
     kind_behind p (sig_of p) (pointwise nat_eq (sig_of p) image_signature) not_image
     ∙ ap₂ (λ (s : List ℕ) (kind : AreaKind). cond (pointwise nat_eq s old_signature) Old (cond (pointwise nat_eq s area_signature) kind (Other s))) sig (version_same p q agree)
     ∙ sym (kind_behind q (sig_of q) (pointwise nat_eq (sig_of q) image_signature) (ap (λ (s : List ℕ). pointwise nat_eq s image_signature) (sym sig) ∙ not_image))
+
+pub area_kind_same : (p q : List ℕ) → AgreeBut 4056 4086 p q → (IsMarked p → ⊥) → area_kind p ≡ area_kind q
+area_kind_same p q agree unmarked =
+    kind_same p q (agree_on_area p q agree)
+    (false_of (pointwise nat_eq (sig_of p) image_signature) (λ e. unmarked (same_text (sig_of p) image_signature (sym e))))
+
+image_kind : (p : List ℕ) → pointwise nat_eq (sig_of p) image_signature ≡ true → area_kind p ≡ Image (mark_of p)
+unfolding area_kind
+image_kind p is = ap (λ (b : Bool). cond b (Image (mark_of p)) (cond (pointwise nat_eq (sig_of p) old_signature) Old (cond (pointwise nat_eq (sig_of p) area_signature) (version_1_kind p) (Other (sig_of p))))) is
+
+-- what is the same of all marks is the same of both blocks
+pub same_of_kinds : {A : Type 0} (f : AreaKind → A) (p q : List ℕ) → AgreeOnArea p q → ((m n : Mark) → f (Image m) ≡ f (Image n)) → f (area_kind p) ≡ f (area_kind q)
+same_of_kinds f p q agree marks = elim (cases_Bool (pointwise nat_eq (sig_of p) image_signature)) [
+  | inl image ↦
+      let other : pointwise nat_eq (sig_of q) image_signature ≡ true = ap (λ (s : List ℕ). pointwise nat_eq s image_signature) (sym agree.signature) ∙ image in
+      ap f (image_kind p image) ∙ marks (mark_of p) (mark_of q) ∙ sym (ap f (image_kind q other))
+  | inr not_image ↦ ap f (kind_same p q agree not_image)
+]
 
 -- the last page of an area is the block's
 

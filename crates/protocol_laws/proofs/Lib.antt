@@ -11,6 +11,7 @@ pub mod Marked
 pub mod Ending
 pub mod Beginning
 pub mod Finding
+pub mod HeaderBack
 pub mod TakingBack
 pub mod Resumed
 pub mod OwnChain
@@ -25,3 +26,14 @@ pub mod Writers
 pub mod Undoing
 pub mod InChain
 pub mod Undone
+pub mod Stopping
+pub mod TraceAt
+pub mod Other
+pub mod OtherResumed
+pub mod AreaKept
+pub mod LoadSteps
+pub mod LoadReplies
+pub mod LoadRows
+pub mod KeptTables
+pub mod Snapshots
+pub mod ReplaySteps

@@ -24,21 +24,36 @@ length-placed page first whole = let s = length-signed page whole in length-with
 length-flagged : (page : List ℕ) (first flags : ℕ) → IsPage page → length (flagged page first flags) ≡ 4096
 length-flagged page first flags whole = let t = length-placed page first whole in length-with_number 4 (with_number 8 (signed page) 4064 first) 4072 flags (omega arith) ∙ t
 
--- a block's signature, first map's block and flags
+-- the signature
+sig_of-flagged : (page : List ℕ) (first flags : ℕ) → IsPage page → sig_of (flagged page first flags) ≡ image_signature
+sig_of-flagged page first flags whole =
+    let inner = length-inner page whole in
+    let s = length-signed page whole in
+    let t = length-placed page first whole in
+    bytes_at-with_number_apart 10 4 (with_number 8 (signed page) 4064 first) 4072 flags 4086 (omega arith) (inr (omega arith))
+    ∙ bytes_at-with_number_apart 10 8 (signed page) 4064 first 4086 (omega arith) (inr (omega arith))
+    ∙ bytes_at-with_bytes (with_bytes page 4076 (sig_of page)) 4086 image_signature (omega arith)
+
+sig_of-either : (page : List ℕ) (first flags hw : ℕ) (b : Bool) → IsPage page → sig_of (cond b (flagged page first flags) (with_number 4 (flagged page first flags) 4056 hw)) ≡ image_signature
+sig_of-either page first flags hw true whole = sig_of-flagged page first flags whole
+sig_of-either page first flags hw false whole =
+    let size = length-flagged page first flags whole in
+    bytes_at-with_number_apart 10 4 (flagged page first flags) 4056 hw 4086 (omega arith) (inr (omega arith)) ∙ sig_of-flagged page first flags whole
+
+pub marked-is_marked : (page : List ℕ) (first flags hw : ℕ) → IsPage page → IsMarked (marked page first flags hw)
+unfolding marked
+marked-is_marked page first flags hw whole = sig_of-either page first (marked_flags flags hw) hw (eqb hw 0) whole
+
+-- a block's first map's block and flags
 record HasFields (page : List ℕ) (first flags : ℕ) : Type 0 where
-  sig : sig_of page ≡ image_signature
   image : image_of page ≡ first
   flags_are : flags_of page ≡ flags
 
 fields-flagged : (page : List ℕ) (first flags : ℕ) → IsPage page → first < 2 ^ 64 → flags < 2 ^ 32 → HasFields (flagged page first flags) first flags
 fields-flagged page first flags whole first_fits flags_fits =
-    let inner = length-inner page whole in
     let s = length-signed page whole in
     let t = length-placed page first whole in
     record {
-      sig = bytes_at-with_number_apart 10 4 (with_number 8 (signed page) 4064 first) 4072 flags 4086 (omega arith) (inr (omega arith))
-          ∙ bytes_at-with_number_apart 10 8 (signed page) 4064 first 4086 (omega arith) (inr (omega arith))
-          ∙ bytes_at-with_bytes (with_bytes page 4076 (sig_of page)) 4086 image_signature (omega arith);
       image = number_at-with_number_apart 8 4 (with_number 8 (signed page) 4064 first) 4072 flags 4064 (omega arith) (inl (omega arith))
           ∙ number_at-with_number 8 (signed page) 4064 first (omega arith) (omega arith);
       flags_are = number_at-with_number 4 (with_number 8 (signed page) 4064 first) 4072 flags (omega arith) (omega arith);
@@ -50,7 +65,6 @@ fields-either page first flags hw false whole first_fits flags_fits =
     let f = fields-flagged page first flags whole first_fits flags_fits in
     let size = length-flagged page first flags whole in
     record {
-      sig = bytes_at-with_number_apart 10 4 (flagged page first flags) 4056 hw 4086 (omega arith) (inr (omega arith)) ∙ f.sig;
       image = number_at-with_number_apart 8 4 (flagged page first flags) 4056 hw 4064 (omega arith) (inr (omega arith)) ∙ f.image;
       flags_are = number_at-with_number_apart 4 4 (flagged page first flags) 4056 hw 4072 (omega arith) (inr (omega arith)) ∙ f.flags_are;
     }
@@ -58,9 +72,6 @@ fields-either page first flags hw false whole first_fits flags_fits =
 fields-marked : (page : List ℕ) (first flags hw : ℕ) → IsPage page → first < 2 ^ 64 → marked_flags flags hw < 2 ^ 32 → HasFields (marked page first flags hw) first (marked_flags flags hw)
 unfolding marked
 fields-marked page first flags hw whole first_fits flags_fits = fields-either page first (marked_flags flags hw) hw (eqb hw 0) whole first_fits flags_fits
-
-pub marked-is_marked : (page : List ℕ) (first flags hw : ℕ) → IsPage page → first < 2 ^ 64 → marked_flags flags hw < 2 ^ 32 → IsMarked (marked page first flags hw)
-marked-is_marked page first flags hw whole first_fits flags_fits = (fields-marked page first flags hw whole first_fits flags_fits).sig
 
 pub image_of-marked : (page : List ℕ) (first flags hw : ℕ) → IsPage page → first < 2 ^ 64 → marked_flags flags hw < 2 ^ 32 → image_of (marked page first flags hw) ≡ first
 image_of-marked page first flags hw whole first_fits flags_fits = (fields-marked page first flags hw whole first_fits flags_fits).image

@@ -133,19 +133,29 @@ false_of : (b : Bool) → (b ≡ true → ⊥) → b ≡ false
 false_of true never = absurd (never refl)
 false_of false never = refl
 
-pub area_block-unmarked : (h : Hardware) (v : disk.Image) → (IsMarked (header_of h v) → ⊥) → area_block h v ≡ header_of h v
-area_block-unmarked h v unmarked =
-    cond-false (pointwise nat_eq (sig_of (header_of h v)) image_signature) (taken_back (header_of h v)) (header_of h v)
-    (false_of (pointwise nat_eq (sig_of (header_of h v)) image_signature) (λ e. unmarked (same_text (sig_of (header_of h v)) image_signature (sym e))))
+-- a block, taken back where it is marked
+abbrev pub area_of : List ℕ → List ℕ
+area_of page = cond (pointwise nat_eq (sig_of page) image_signature) (taken_back page) page
+
+pub area_of-unmarked : (page : List ℕ) → (IsMarked page → ⊥) → area_of page ≡ page
+area_of-unmarked page unmarked =
+    cond-false (pointwise nat_eq (sig_of page) image_signature) (taken_back page) page
+    (false_of (pointwise nat_eq (sig_of page) image_signature) (λ e. unmarked (same_text (sig_of page) image_signature (sym e))))
 
 true_of : (b : Bool) → (b ≡ false → ⊥) → b ≡ true
 true_of true never = refl
 true_of false never = absurd (never refl)
 
+pub area_of-marked : (page : List ℕ) → IsMarked page → area_of page ≡ taken_back page
+area_of-marked page marked =
+    cond-true (pointwise nat_eq (sig_of page) image_signature) (taken_back page) page
+    (true_of (pointwise nat_eq (sig_of page) image_signature) (λ e. other_text (sig_of page) image_signature (sym e) marked))
+
+pub area_block-unmarked : (h : Hardware) (v : disk.Image) → (IsMarked (header_of h v) → ⊥) → area_block h v ≡ header_of h v
+area_block-unmarked h v unmarked = area_of-unmarked (header_of h v) unmarked
+
 pub area_block-marked : (h : Hardware) (v : disk.Image) → IsMarked (header_of h v) → area_block h v ≡ taken_back (header_of h v)
-area_block-marked h v marked =
-    cond-true (pointwise nat_eq (sig_of (header_of h v)) image_signature) (taken_back (header_of h v)) (header_of h v)
-    (true_of (pointwise nat_eq (sig_of (header_of h v)) image_signature) (λ e. other_text (sig_of (header_of h v)) image_signature (sym e) marked))
+area_block-marked h v marked = area_of-marked (header_of h v) marked
 
 -- The marked page.
 
@@ -179,7 +189,7 @@ is_mark_of h a i header whole first hw =
     let is = flags_of-marked header f m h.hw_sig whole first flags.fit in
     record {
       whole = length-marked header f m h.hw_sig whole;
-      is_marked = marked-is_marked header f m h.hw_sig whole first flags.fit;
+      is_marked = marked-is_marked header f m h.hw_sig whole;
       image = image_of-marked header f m h.hw_sig whole first flags.fit;
       flags = subst (AreFlags i.format) (sym is) flags;
       signature = elim (cases_Bool (eqb h.hw_sig 0)) [

@@ -56,7 +56,7 @@ restored_slots h dump m loader i hw fits is s lt =
 
 -- The area is the one that the image was made in.
 
-same_area : (h : Hardware) (v w : disk.Image) → Marked h v → (Marked h w → ⊥) → IsTakenBack h v w → area_block h w ≡ area_block h v
+pub same_area : (h : Hardware) (v w : disk.Image) → Marked h v → (Marked h w → ⊥) → IsTakenBack h v w → area_block h w ≡ area_block h v
 same_area h v w marked unmarked taken = elim taken.header [
   | inl same ↦ absurd (unmarked (subst IsMarked (sym same) marked))
   | inr back ↦ area_block-unmarked h w unmarked ∙ back ∙ sym (area_block-marked h v marked)

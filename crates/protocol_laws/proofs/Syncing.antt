@@ -1,12 +1,19 @@
 -- The first sync of a hibernation, and the read of the header block behind it.
-use Rattle.std.proofs.Common.{◌≡◌, ℕ, ◌+◌, ◌<◌, ◌≤◌, Bool, [], length, All, refl, sym, ap, ◌∙◌, subst, arith}
+use Rattle.std.proofs.Common.{◌≡◌, ℕ, ◌+◌, ◌-◌, ◌<◌, ◌≤◌, Bool, true, false, nat_eq, List, None, [], length, All, refl, sym, ap, ◌∙◌, subst, arith}
+use Rattle.std.specs.Cmp.Lexicographic.{pointwise, same_text}
+use Rattle.std.proofs.lemmas.Bool.{cond-false}
 use Rattle.std.proofs.lemmas.List.{take_all}
 use Rattle.std.proofs.lemmas.List.Elements.{All-take}
 use Rattle.std.proofs.lemmas.List.FromFn.{length-map-range_with_len}
 use Rattle.definitions.specs.Disk as disk
 use Rattle.definitions.proofs.DiskLaws.{as_it_reads-settled, IsImage-after_sync, IsImage-as_it_reads}
 use Rattle.plain_machine.specs.Machine.{Hardware, block_of_slot, unused_slots}
-use Rattle.plain_machine.specs.Chain.{header_of}
+use Rattle.definitions.specs.SwapHeader.{image_signature, sig_of, taken_back}
+use Rattle.sig_header.specs.AreaKind.{area_kind}
+use Rattle.sig_header.specs.declared.area.AreaKind.{AreaKind}
+use Rattle.sig_header.specs.declared.area.AreaKind.TheVariants.{Image as Marks, Old, Other, BadArea, Swap}
+use Rattle.plain_machine.specs.Chain.{Marked, header_of, blocks_of}
+use Rattle.plain_machine.specs.UsableArea.{area_fault, area_block, kind_fault, kind_or_fit_fault}
 use Rattle.plain_machine.specs.Image.{Image, stream_of, hibernate_steps}
 use Rattle.plain_machine.specs.Laid.{laid}
 use Rattle.plain_machine.specs.Shows.{Shown, hibernates, runs, ShowsRunning}
@@ -107,3 +114,34 @@ pub call_fails : (h : Hardware) (shown shown' : Shown) (c : disk.Content) (suspe
     shown'.activity ≡ runs → ShowsRunning h shown' a → NamesOnly h shown' [] → Stands h shown' c (on a)
 call_fails h shown shown' c suspends i a k stands lt activity shows names =
     goes_back h shown shown' c c suspends i a k (omega arith) stands (by_nothing h c) (λ s page e. refl) activity shows names
+
+-- What is read is the header block of an area.
+
+swap_kind : (h : Hardware) (blocks : ℕ) (kind : AreaKind) → kind_or_fit_fault h blocks kind ≡ None → kind_fault kind ≡ None
+swap_kind h blocks (Swap area) e = refl
+swap_kind h blocks (Marks mark) e = e
+swap_kind h blocks Old e = e
+swap_kind h blocks (Other sig) e = e
+swap_kind h blocks (BadArea why) e = e
+
+unmarked_block : (h : Hardware) (v : disk.Image) → (Marked h v → ⊥) → area_block h v ≡ header_of h v
+unmarked_block h v unmarked = cond-false (pointwise nat_eq (sig_of (header_of h v)) image_signature) (taken_back (header_of h v)) (header_of h v) (differs (pointwise nat_eq (sig_of (header_of h v)) image_signature) refl) where
+  differs : (b : Bool) → pointwise nat_eq (sig_of (header_of h v)) image_signature ≡ b → pointwise nat_eq (sig_of (header_of h v)) image_signature ≡ false
+  differs true e = absurd (unmarked (same_text (sig_of (header_of h v)) image_signature (sym e)))
+  differs false e = e
+
+pub reads_area : (h : Hardware) (shown : Shown) (c : disk.Content) (blocks : ℕ) (suspends : Bool) (i : Image) (a : Running) (k : ℕ) → disk.IsContent blocks c → Stands h shown c (hibernating suspends i a k) → k + 3 ≡ hibernate_steps i → kind_fault (area_kind (header_of h (disk.as_it_reads c))) ≡ None
+unfolding area_fault
+reads_area h shown c blocks suspends i a k whole stands at =
+    let v = disk.as_it_reads c in
+    let before : k < hibernate_steps i - 1 = omega arith in
+    let unmarked = unheld h shown c suspends i a k before stands v (IsImage-as_it_reads blocks c whole) in
+    let usable : kind_or_fit_fault h (blocks_of v) (area_kind (area_block h v)) ≡ None = stands.parts.0.area.area stands.parts.1.usable in
+    swap_kind h (blocks_of v) (area_kind (header_of h v)) (subst (λ (p : List ℕ). kind_or_fit_fault h (blocks_of v) (area_kind p) ≡ None) (unmarked_block h v unmarked) usable)
+
+-- Before the mark the header block that is kept is the disk's, unmarked.
+pub marks_unmarked : (h : Hardware) (shown : Shown) (c : disk.Content) (blocks : ℕ) (suspends : Bool) (i : Image) (a : Running) (k : ℕ) → disk.IsContent blocks c → Stands h shown c (hibernating suspends i a k) → k + 2 ≡ hibernate_steps i → (shown.header ≡ header_of h (disk.as_it_reads c)) × (Marked h (disk.as_it_reads c) → ⊥)
+marks_unmarked h shown c blocks suspends i a k whole stands at =
+    let before : k < hibernate_steps i - 1 = omega arith in
+    let here : k ≡ hibernate_steps i - 2 = omega arith in
+    ((stands.parts.5 here).1, unheld h shown c suspends i a k before stands (disk.as_it_reads c) (IsImage-as_it_reads blocks c whole))

@@ -33,7 +33,7 @@ use Rattle.protocol_laws.proofs.Restored.{restored_fits, fits_no_fault, restored
 
 -- Sizes.
 
-abbrev meta : Image → ℕ
+abbrev pub meta : Image → ℕ
 meta i = meta_of (n_of i)
 
 record AreFew (i : Image) : Type 0 where
@@ -50,15 +50,15 @@ are_few h v i is =
 max_pages : (i : Image) → max (pages_of i) 1 ≡ pages_of i
 max_pages i = omega arith
 
-count_is : (h : Hardware) (v : disk.Image) (i : Image) → IsOwnDisk h v i → place_count (info_in h v).pages ≡ maps_read (pages_of i) + pages_of i
+pub count_is : (h : Hardware) (v : disk.Image) (i : Image) → IsOwnDisk h v i → place_count (info_in h v).pages ≡ maps_read (pages_of i) + pages_of i
 count_is h v i is = ap (λ (x : Info). place_count x.pages) (info_is h v i is) ∙ ap₂ (λ (m p : ℕ). maps_read m + p) (max_pages i) (max_pages i)
 
 -- The loader's room, which is tested at the last number page.
 
-abbrev have : Hardware → Load → ℕ
+abbrev pub have : Hardware → Load → ℕ
 have h load = length (left_free h load.dump load.loader)
 
-abbrev few_reply : Hardware → Load → Image → Reply
+abbrev pub few_reply : Hardware → Load → Image → Reply
 few_reply h load i = reply.TooFewLoaderFrames (have h load) (need (d_of i))
 
 room_there : (h : Hardware) (v : disk.Image) (i : Image) (load : Load) → IsOwnDisk h v i → has_room h load (d_of i) ≡ true → room_cause h load.dump v load.loader ≡ None
@@ -162,7 +162,7 @@ late_resumed : (h : Hardware) (load : Load) (i : Image) (k : ℕ) → k + 1 ≡ 
 late_resumed h load i k last =
     ap (λ (o : Outcome). o.0) (cond-true (eqb (k + 1) (resume_steps i)) (reply.Resumed (n_of i), resumed (restored h load.dump load.loader i) i.slots load.loader) (reply.Loading (k + 1), loading load (k + 1)) (eq-eqb (k + 1) (resume_steps i) last))
 
-own_few : (h : Hardware) (load : Load) (i : Image) (k : ℕ) → k + 1 ≡ 6 + meta i → has_room h load (d_of i) ≡ false → own_reply h load i k ≡ few_reply h load i
+pub own_few : (h : Hardware) (load : Load) (i : Image) (k : ℕ) → k + 1 ≡ 6 + meta i → has_room h load (d_of i) ≡ false → own_reply h load i k ≡ few_reply h load i
 own_few h load i k here none =
     ap (λ (o : Outcome). o.0) (cond-true (eqb (k + 1) (6 + meta i) && not (has_room h load (d_of i))) (too_few h load (d_of i)) (late h load i k)
     (ap₂ (λ (b c : Bool). b && not c) (eq-eqb (k + 1) (6 + meta i) here) none))
@@ -178,7 +178,7 @@ restored-frames h dump loader i j e = ap (λ (xs : List (ℕ × List ℕ)). map 
 abbrev table_reply : Option ℕ → Option Reply
 table_reply o = elim o as (λ x. Option Reply) [ None ↦ None | Some f ↦ Some (reply.BadTables f) ]
 
-restored_is : (h : Hardware) (v : disk.Image) (i : Image) (dump : Memory) (loader : Loader) → IsOwnDisk h v i → restored_in h dump v loader ≡ restored h dump loader i
+pub restored_is : (h : Hardware) (v : disk.Image) (i : Image) (dump : Memory) (loader : Loader) → IsOwnDisk h v i → restored_in h dump v loader ≡ restored h dump loader i
 restored_is h v i dump loader is = restored-frames h dump loader (image_in h v (λ s. None)) i (ap (λ (x : Image). x.frames) (decodes h v i is.holds is.sayable))
 
 ends_resumed : (h : Hardware) (v : disk.Image) (i : Image) (dump : Memory) (loader : Loader) → IsOwnDisk h v i → last_reply h dump v loader ≡ reply.Resumed (n_of i)

@@ -22,7 +22,7 @@ use Rattle.plain_machine.proofs.DiskBlocks.{block-written}
 use Rattle.image_laws.specs.ImageBlocks.{Tries}
 use Rattle.image_laws.proofs.ImageBlocks.{length-taken_back}
 use Rattle.image_write.proofs.Done.{write_at, all_done}
-use Rattle.protocol_laws.specs.Steps.{IsOver, ShowsCopies}
+use Rattle.protocol_laws.specs.Steps.{IsOver}
 use Rattle.protocol_laws.specs.Undo.{with_held}
 use Rattle.protocol_laws.proofs.Same.{header_kept, area_kept, by_sync, reads_kept}
 use Rattle.protocol_laws.proofs.Places.{free_not_header, task_not_header}
@@ -168,8 +168,8 @@ fits_still h shown c c' blocks i call a is =
     fits_torn h shown c blocks i call a (disk.as_it_reads c') is.undoing_is (each_torn h shown c c' blocks i call a (disk.as_it_reads c') is (IsImage-as_it_reads blocks c' is.after))
 
 pub takes_mark_back : (h : Hardware) (shown shown' : Shown) (c c' : disk.Content) (blocks : ℕ) (i : Image) (call : UndoCall) (a : Running) → IsOver h i blocks c → IsPage shown.header → disk.IsContent blocks c' → Stands h shown c (undoing i call a 0) →
-    disk.Writes (block_of_slot h 0) (taken_back shown.header) c c' → shown'.activity ≡ undoes call 1 → ShowsCopies h shown' a i → Stands h shown' c' (undoing i call a 1)
-takes_mark_back h shown shown' c c' blocks i call a over page after stands writes activity shows =
+    disk.Writes (block_of_slot h 0) (taken_back shown.header) c c' → shown'.activity ≡ undoes call 1 → ShowsRunning h shown' a → NamesOnly h shown' (laid_blocks h a i) → Stands h shown' c' (undoing i call a 1)
+takes_mark_back h shown shown' c c' blocks i call a over page after stands writes activity shows names =
     let is : IsTried h shown c c' blocks i call a = record { undoing_is = record { over = over; page = page; stands = stands }; after = after; tries = inl writes } in
     let behind = stands.parts.0 in
     let fits = fits_still h shown c c' blocks i call a is in
@@ -184,14 +184,14 @@ takes_mark_back h shown shown' c c' blocks i call a over page after stands write
       parts = (
         record {
           held = λ v in'. held_torn h shown c blocks i call a v is.undoing_is (each_torn h shown c c' blocks i call a v is in');
-          shows = shows.shows;
+          shows = shows;
           task_slots = behind.task_slots;
           slot_pages = slots_read h c c' a.slots (slots_still h shown c c' blocks i call a is) behind.slot_pages;
           header = header_still h shown c c' blocks i call a is;
           area = record { area = λ e. fits.area; bad_slots = λ e. fits.bad_slots };
         },
         stands.parts.1,
-        shows.names,
+        names,
         still_laid h shown c c' blocks i call a is,
         (λ e. absurd (omega arith)),
         (λ e m. (keeps h shown c blocks i call a is.undoing_is).unmarked (subst IsMarked header m)),

@@ -1,5 +1,5 @@
 -- The writes of a hibernation's pages and maps.
-use Rattle.std.proofs.Common.{◌≡◌, ℕ, ◌+◌, ◌-◌, ◌*◌, ◌<◌, ◌≤◌, inl, inr, Bool, List, [], length, sym, ◌∙◌, subst, arith}
+use Rattle.std.proofs.Common.{◌≡◌, ◌≢◌, ap, ℕ, ◌+◌, ◌-◌, ◌*◌, ◌<◌, ◌≤◌, inl, inr, Bool, List, [], length, sym, ◌∙◌, subst, arith}
 use Rattle.definitions.specs.Disk as disk
 use Rattle.definitions.proofs.DiskLaws.{length-as_it_reads}
 use Rattle.plain_machine.specs.Machine.{Hardware, block_of_slot, unused_slots}
@@ -104,3 +104,11 @@ write_fails h shown shown' c c' blocks suspends i a k over stands lt failed acti
     let tried : disk.FailsToWrite (step_write h a i k).0 (step_write h a i k).1 c c' = subst (λ (w : ℕ × List ℕ). disk.FailsToWrite w.0 w.1 c c') (write_is h a i k more) failed in
     goes_back h shown shown' c c' suspends i a k (omega arith) stands (tries_header h shown c c' blocks suspends i a k (step_write h a i k).1 is (inr tried))
     (tries_slots h shown c c' blocks suspends i a k (step_write h a i k).1 is (inr tried)) activity shows names
+
+-- It is of another block than the header's.
+pub elsewhere : (h : Hardware) (shown : Shown) (c : disk.Content) (blocks : ℕ) (suspends : Bool) (i : Image) (a : Running) (k : ℕ) → IsOver h i blocks c → Stands h shown c (hibernating suspends i a k) → k + 4 < hibernate_steps i → (write_of_step h a i k).0 ≢ block_of_slot h 0
+elsewhere h shown c blocks suspends i a k over stands lt e =
+    let steps = count_is i in
+    let more : k < count_of i = omega arith in
+    let at = slot_of_write h a i k stands.parts.1 more in
+    free_not_header h a.memory at.slot over.hardware stands.parts.0.shows.fits at.free (sym e ∙ ap (λ (w : ℕ × List ℕ). w.0) (write_is h a i k more) ∙ at.is)

@@ -1,10 +1,12 @@
 -- What a hibernation's calls of the disk make of the state that a world and its disk stand for: for each step of the plain
 -- machine the state after it (save_image, swap_writer_finish and mark_swapfiles, kernel/power/swap.c).
-use Rattle.std.specs.Prelude.{◌≡◌, ◌<◌, ℕ, ◌+◌, Bool, false, [], None}
+use Rattle.std.specs.Prelude.{◌≡◌, ◌≢◌, ◌<◌, ℕ, ◌+◌, Bool, false, [], None}
 use Rattle.page_core.specs.declared.format.Format.{Format}
 use Rattle.definitions.specs.Disk.{Content, IsContent, Writes, FailsToWrite, Syncs, as_it_reads}
+use Rattle.sig_header.specs.AreaKind.{area_kind}
 use Rattle.plain_machine.specs.Machine.{Hardware, IsHardware, block_of_slot}
-use Rattle.plain_machine.specs.Chain.{header_of}
+use Rattle.plain_machine.specs.UsableArea.{kind_fault}
+use Rattle.plain_machine.specs.Chain.{header_of, Marked}
 use Rattle.plain_machine.specs.Image.{Image, image_of_memory, hibernate_steps}
 use Rattle.plain_machine.specs.Refusals.{refusal}
 use Rattle.plain_machine.specs.Shows.{Shown, rests, runs, hibernates, undoes, ShowsRunning}
@@ -36,6 +38,11 @@ WriteFails =
     (h : Hardware) (shown shown' : Shown) (c c' : Content) (blocks : ℕ) (suspends : Bool) (i : Image) (a : Running) (k : ℕ) → IsOver h i blocks c → Stands h shown c (hibernating suspends i a k) → k + 4 < hibernate_steps i →
     FailsToWrite (write_of_step h a i k).0 (write_of_step h a i k).1 c c' → shown'.activity ≡ runs → ShowsRunning h shown' a → NamesOnly h shown' [] → Stands h shown' c' (on a)
 
+-- It is of no block of the header's.
+abbrev pub WritesElsewhere : Type 0
+WritesElsewhere =
+    (h : Hardware) (shown : Shown) (c : Content) (blocks : ℕ) (suspends : Bool) (i : Image) (a : Running) (k : ℕ) → IsOver h i blocks c → Stands h shown c (hibernating suspends i a k) → k + 4 < hibernate_steps i → (write_of_step h a i k).0 ≢ block_of_slot h 0
+
 -- The sync behind the writes is a step, and the read of block(0) behind it. Where one fails the machine runs again.
 abbrev pub SyncsOn : Type 0
 SyncsOn =
@@ -47,10 +54,20 @@ ReadsOn =
     (h : Hardware) (shown shown' : Shown) (c : Content) (blocks : ℕ) (suspends : Bool) (i : Image) (a : Running) (k : ℕ) → IsOver h i blocks c → Stands h shown c (hibernating suspends i a k) → k + 3 ≡ hibernate_steps i →
     shown'.header ≡ header_of h (as_it_reads c) → shown'.activity ≡ hibernates suspends (k + 1) → ShowsCopies h shown' a i → Stands h shown' c (hibernating suspends i a (k + 1))
 
+-- What is read is the header block of a version 1 area that isn't marked.
+abbrev pub ReadsArea : Type 0
+ReadsArea =
+    (h : Hardware) (shown : Shown) (c : Content) (blocks : ℕ) (suspends : Bool) (i : Image) (a : Running) (k : ℕ) → IsContent blocks c → Stands h shown c (hibernating suspends i a k) → k + 3 ≡ hibernate_steps i → kind_fault (area_kind (header_of h (as_it_reads c))) ≡ None
+
 abbrev pub CallFails : Type 0
 CallFails =
     (h : Hardware) (shown shown' : Shown) (c : Content) (suspends : Bool) (i : Image) (a : Running) (k : ℕ) → Stands h shown c (hibernating suspends i a k) → k + 1 < hibernate_steps i →
     shown'.activity ≡ runs → ShowsRunning h shown' a → NamesOnly h shown' [] → Stands h shown' c (on a)
+
+-- The header block is kept as the disk reads it, and it isn't marked.
+abbrev pub MarksUnmarked : Type 0
+MarksUnmarked =
+    (h : Hardware) (shown : Shown) (c : Content) (blocks : ℕ) (suspends : Bool) (i : Image) (a : Running) (k : ℕ) → IsContent blocks c → Stands h shown c (hibernating suspends i a k) → k + 2 ≡ hibernate_steps i → (shown.header ≡ header_of h (as_it_reads c)) × (Marked h (as_it_reads c) → ⊥)
 
 -- The write of the mark is a step: from then on each image of the disk is unmarked or holds the image, and what the disk reads
 -- holds it. Where the write fails an undo begins.

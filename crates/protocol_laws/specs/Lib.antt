@@ -7,3 +7,11 @@ pub mod Slots
 pub mod Memory
 pub mod Writers
 pub mod Undo
+pub mod Replays
+pub mod Rows
+pub mod TraceAt
+pub mod ResumingOther
+pub mod AreaKept
+pub mod LoadRows
+pub mod KeptTables
+pub mod Snapshots

@@ -10,7 +10,7 @@ use Rattle.plain_machine.specs.Shows.{Shown, runs, undoes, ShowsRunning}
 use Rattle.plain_machine.specs.Stands.{Stands, NamesOnly, laid_blocks}
 use Rattle.plain_machine.specs.State.{on, undoing, Running, Held, nothing, maybe, own}
 use Rattle.plain_machine.specs.declared.reply.UndoCall.{UndoCall}
-use Rattle.protocol_laws.specs.Steps.{IsOver, ShowsCopies}
+use Rattle.protocol_laws.specs.Steps.{IsOver}
 
 -- the running machine, where this is held
 abbrev pub with_held : Running → Held → Running
@@ -21,7 +21,7 @@ with_held a held = record a { held = held }
 abbrev pub UndoWrites : Type 0
 UndoWrites =
     (h : Hardware) (shown shown' : Shown) (c c' : Content) (blocks : ℕ) (i : Image) (call : UndoCall) (a : Running) → IsOver h i blocks c → IsPage shown.header → IsContent blocks c' → Stands h shown c (undoing i call a 0) →
-    Writes (block_of_slot h 0) (taken_back shown.header) c c' → shown'.activity ≡ undoes call 1 → ShowsCopies h shown' a i → Stands h shown' c' (undoing i call a 1)
+    Writes (block_of_slot h 0) (taken_back shown.header) c c' → shown'.activity ≡ undoes call 1 → ShowsRunning h shown' a → NamesOnly h shown' (laid_blocks h a i) → Stands h shown' c' (undoing i call a 1)
 
 abbrev pub UndoWriteFails : Type 0
 UndoWriteFails =

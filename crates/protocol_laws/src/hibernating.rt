@@ -1,5 +1,5 @@
 ghost use Rattle.protocol_laws.specs.Writers.{WritesNext, ShowsStill};
-ghost use Rattle.protocol_laws.specs.Hibernating.{IsAcceptedUnlessRefused, Begins, WritesOn, WriteFails, SyncsOn, ReadsOn, CallFails, MarksOn, MarkFails, Ends, EndFails};
+ghost use Rattle.protocol_laws.specs.Hibernating.{IsAcceptedUnlessRefused, Begins, WritesOn, WriteFails, WritesElsewhere, SyncsOn, ReadsOn, ReadsArea, CallFails, MarksOn, MarkFails, MarksUnmarked, Ends, EndFails};
 ghost use Rattle.protocol_laws.specs.Undo.{UndoWrites, UndoWriteFails, UndoSyncs, UndoSyncFails};
 
 /// The begin of a hibernation.
@@ -18,12 +18,14 @@ pub fn writer_writes()
 pub fn writes()
     ensures made { WritesOn }
     ensures failed { WriteFails }
+    ensures elsewhere { WritesElsewhere }
 {}
 
 /// The sync behind the writes, and the read of block(0).
 pub fn syncs()
     ensures synced { SyncsOn }
     ensures read { ReadsOn }
+    ensures area { ReadsArea }
     ensures failed { CallFails }
 {}
 
@@ -31,6 +33,7 @@ pub fn syncs()
 pub fn marks()
     ensures made { MarksOn }
     ensures failed { MarkFails }
+    ensures unmarked { MarksUnmarked }
 {}
 
 /// The last sync.

@@ -1,4 +1,5 @@
 ghost use Rattle.protocol_laws.specs.Memory.{SeenTaken, FrameTaken, NamesTaken, NoneLeft, RunsTaken, RunsGivenBack, ShownLists, ShownSlots, WritesStream};
+ghost use Rattle.protocol_laws.specs.Snapshots.{TakesImage, RunsOverCopies, SlotsOverCopies};
 
 /// Slots that the image takes, and gives back.
 pub fn takes_slots()
@@ -15,4 +16,11 @@ pub fn shows_lists()
     ensures frames { ShownLists }
     ensures slots { ShownSlots }
     ensures stream { WritesStream }
+{}
+
+/// The image that is taken when a hibernation begins, and what its copies leave.
+pub fn takes_image()
+    ensures image { TakesImage }
+    ensures runs { RunsOverCopies }
+    ensures slots { SlotsOverCopies }
 {}

@@ -1,0 +1,452 @@
+-- Whole rows of a resume.
+use Rattle.std.proofs.Common.{◌≡◌, ◌<◌, ◌≤◌, ◌-◌, ◌/◌, ℕ, ◌+◌, inl, inr, List, [], take, Option, Some, None, unwrap_or, refl, sym, ap, ap₂, ◌∙◌, subst, arith, Contains}
+use Rattle.std.proofs.lemmas.Option.{same_Some, none-some}
+use Rattle.definitions.specs.Disk as disk
+use Rattle.definitions.specs.NumberPages.{meta_of}
+use Rattle.definitions.specs.SwapHeader.{taken_back}
+use Rattle.definitions.specs.Tables.{frame}
+use Rattle.definitions.proofs.DiskLaws.{IsImage-as_it_reads, IsImage-after_sync}
+use Rattle.plain_machine.specs.Machine.{Hardware, Memory, IsHardware, IsSameMemory, Fits, block_of_slot}
+use Rattle.plain_machine.specs.Chain.{header_of, Marked, Holds, or_else}
+use Rattle.plain_machine.specs.Image.{Image, n_of, with_data, SlotPages}
+use Rattle.definitions.specs.Zones.{top}
+use Rattle.plain_machine.specs.Loader.{restored, left_free, loader_frame}
+use Rattle.plain_machine.specs.Shows.{Shown, runs, loads, ShowsRunning, seen_frames}
+use Rattle.plain_machine.specs.Stands.{Stands, IsHeld, IsOwn, NamesOnly}
+use Rattle.plain_machine.specs.State.{State, Running, off, on, loading, Held, nothing, sure, maybe, own, other, perhaps, Load, Found, not_yet, found_own, found_other, held_while_loading}
+use Rattle.plain_machine.specs.Step.{Outcome, Step, own_step, resumed, no_flights, no_slots, load_fault, other_state}
+use Rattle.plain_machine.specs.Trace.{info_in, place, place_count, content_cause, next_cause, header_cause, taken_back_cause, restored_in, slots_in, tables_cause}
+use Rattle.plain_machine.specs.declared.event.Actor.TheVariants as actor
+use Rattle.plain_machine.specs.declared.event.Event.TheVariants as event
+use Rattle.plain_machine.specs.declared.event.Loader.{Loader}
+use Rattle.plain_machine.specs.declared.event.Loader.TheVariants as loader
+use Rattle.plain_machine.specs.declared.event.Ranges.{Ranges}
+use Rattle.plain_machine.specs.declared.reply.Left.TheVariants.{Same, Gone, Unsure}
+use Rattle.plain_machine.specs.declared.reply.Reply.{Reply}
+use Rattle.plain_machine.specs.declared.reply.Reply.TheVariants as reply
+use Rattle.image_laws.specs.Decoding.{IsSayable, IsIdent}
+use Rattle.image_laws.specs.ImageBlocks.{Tries}
+use Rattle.image_laws.proofs.Decoding.{memories_are_sayable}
+use Rattle.protocol_laws.specs.Loads.{ShowsLoad}
+use Rattle.protocol_laws.specs.LoadRows.{IsFoundOn, IsFoundIn, with_finding, Goes, ShowsRest, HaveGoneOn, running_with, IsStop, IsReading}
+use Rattle.protocol_laws.specs.Resuming.{IsHeldOwn, with_found}
+use Rattle.protocol_laws.specs.ResumingOther.{IsHeldOther, with_found_other}
+use Rattle.protocol_laws.specs.OwnTrace.{own_reply}
+use Rattle.protocol_laws.specs.Rows.{IsSameArea}
+use Rattle.protocol_laws.specs.TraceAt.{reply_at}
+use Rattle.protocol_laws.proofs.AreaKept.{kept_by_sync, kept_by_taking_back}
+use Rattle.protocol_laws.proofs.Finding.{load_syncs, finds_none, finds_own}
+use Rattle.protocol_laws.proofs.LoadReplies.{differ, no_header, traced_at, own_answers, no_mark, a_mark, stop_late, cause_stops, stop_kind, stops_cause, tables_fit}
+use Rattle.protocol_laws.proofs.LoadSteps.{by_core, fault_step, late_fault, own_goes, own_outcome, other_goes, stopped_off, find_goes, finds_traced}
+use Rattle.protocol_laws.proofs.Other.{finds_other, stops_at_other, takes_other_back, take_other_back_fails}
+use Rattle.protocol_laws.proofs.OtherResumed.{resumes_other}
+use Rattle.protocol_laws.proofs.OwnCauses.{IsOwnDisk}
+use Rattle.protocol_laws.proofs.OwnChain.{no_header_cause, no_taken_back_cause}
+use Rattle.protocol_laws.proofs.Resumed.{load_stops, load_fails, resumes}
+use Rattle.protocol_laws.proofs.Same.{header_kept, by_sync}
+use Rattle.protocol_laws.proofs.Stopping.{stops_tables, stops_taken_back}
+use Rattle.protocol_laws.proofs.TakingBack.{takes_back, take_back_fails, unmarked_synced, page_read}
+use Rattle.protocol_laws.proofs.Tracing.{restored_is, few_reply}
+
+abbrev running_of : Memory → SlotPages → Running
+running_of m slots = record { memory = m; slots = slots; flights = no_flights; unusable = None; held = nothing }
+
+same_area : (h : Hardware) (v : disk.Image) → IsSameArea h v v
+same_area h v = record { blocks = refl; header = record { front = refl; signature = refl } }
+
+-- The first sync, and the read of block(0).
+
+pub load_sync_row : (h : Hardware) (shown shown' : Shown) (c c' : disk.Content) (blocks : ℕ) (load : Load) → disk.IsContent blocks c → Stands h shown c (loading load 0) →
+    disk.Syncs c c' → ShowsLoad h shown' load 1 → Goes h shown' (reply.Loading 1) c c' (loading load 0) (loading load 1)
+load_sync_row h shown shown' c c' blocks load whole stands syncs shows = record {
+  step = by_core h (disk.as_it_reads c) load 0 (reply.Loading 1) (loading load 1) (1, omega arith, refl);
+  stands = load_syncs h shown shown' c c' blocks load whole stands syncs shows;
+  area = kept_by_sync h c c' syncs;
+}
+
+-- a call that fails before block(0) is written
+early_fault : (h : Hardware) (shown shown' : Shown) (c : disk.Content) (load : Load) (k : ℕ) (r : Reply) → held_while_loading load k ≡ load.held → load_fault load k ≡ (r, off load.held None) → Stands h shown c (loading load k) → ShowsRest shown' →
+    Goes h shown' r c c (loading load k) (off load.held None)
+early_fault h shown shown' c load k r held fault stands rest = record {
+  step = fault_step h (disk.as_it_reads c) load k r (off load.held None) fault;
+  stands = load_fails h shown shown' c load k held stands rest.0 rest.1;
+  area = same_area h (disk.as_it_reads c);
+}
+
+pub load_sync_fault_row : (h : Hardware) (shown shown' : Shown) (c : disk.Content) (load : Load) → Stands h shown c (loading load 0) → ShowsRest shown' → Goes h shown' (reply.SyncFault Same) c c (loading load 0) (off load.held None)
+load_sync_fault_row h shown shown' c load = early_fault h shown shown' c load 0 (reply.SyncFault Same) refl refl
+
+pub find_fault_row : (h : Hardware) (shown shown' : Shown) (c : disk.Content) (load : Load) → Stands h shown c (loading load 1) → ShowsRest shown' → Goes h shown' (reply.ReadFault Same) c c (loading load 1) (off load.held None)
+find_fault_row h shown shown' c load = early_fault h shown shown' c load 1 (reply.ReadFault Same) refl refl
+
+not_no_image : (flags : ℕ) → Some (reply.Compressed flags) ≡ Some reply.NoImage → ⊥
+not_no_image flags e = differ (reply.Compressed flags) reply.NoImage (same_Some (reply.Compressed flags) reply.NoImage e) (λ x. absurd (omega arith))
+
+header_reply : (h : Hardware) (v : disk.Image) (r : Reply) → header_cause h v ≡ Some r → unwrap_or (header_cause h v) (reply.Loading 2) ≡ r
+header_reply h v r says = ap (λ (o : Option Reply). unwrap_or o (reply.Loading 2)) says
+
+none_step : (h : Hardware) (c : disk.Content) (v : disk.Image) (load : Load) (held : Held) → load.held ≡ held → IsHeld h c held → disk.IsImage c v → header_cause h v ≡ Some reply.NoImage → Step h v (loading load 1) (event.Step actor.Core) reply.NoImage (off nothing None)
+none_step h c v load nothing is there here says = find_goes h v load nothing reply.NoImage (off nothing None) is (0, omega arith, refl)
+none_step h c v load (sure (own i)) is there here says = absurd (no_mark h v says (there v here).0.marked)
+none_step h c v load (sure other) is there here says = absurd (no_mark h v says (there v here))
+none_step h c v load (maybe (own i)) is there here says = find_goes h v load (maybe (own i)) reply.NoImage (off nothing None) is (1, omega arith, refl)
+none_step h c v load (maybe other) is there here says =
+    find_goes h v load (maybe other) reply.NoImage (off nothing None) is (finds_traced h v load reply.NoImage (off nothing None) (header_reply h v reply.NoImage says) refl)
+
+pub find_none_row : (h : Hardware) (shown shown' : Shown) (c : disk.Content) (blocks : ℕ) (load : Load) → disk.IsContent blocks c → Stands h shown c (loading load 1) →
+    header_cause h (disk.as_it_reads c) ≡ Some reply.NoImage → ShowsRest shown' → Goes h shown' reply.NoImage c c (loading load 1) (off nothing None)
+find_none_row h shown shown' c blocks load whole stands says rest =
+    let v = disk.as_it_reads c in
+    record {
+      step = none_step h c v load load.held refl stands.parts.0.0 (IsImage-as_it_reads blocks c whole) says;
+      stands = finds_none h shown shown' c blocks load whole stands (no_mark h v says) rest.0 rest.1;
+      area = same_area h v;
+    }
+
+-- The image is another's where it is compressed.
+
+compressed_other : (h : Hardware) (c : disk.Content) (v : disk.Image) (held : Held) (flags : ℕ) → IsHeld h c held → disk.IsImage c v → header_cause h v ≡ Some (reply.Compressed flags) → IsHeldOther held
+compressed_other h c v nothing flags there here says = absurd (there v here (a_mark h v (Some (reply.Compressed flags)) says (not_no_image flags)))
+compressed_other h c v (sure (own i)) flags there here says = absurd (none-some (reply.Compressed flags) (sym (no_header_cause h v i (there v here).0) ∙ says))
+compressed_other h c v (sure other) flags there here says = inl refl
+compressed_other h c v (maybe (own i)) flags there here says = elim (there v here).0 [
+  | inl never ↦ absurd (never (a_mark h v (Some (reply.Compressed flags)) says (not_no_image flags)))
+  | inr holds ↦ absurd (none-some (reply.Compressed flags) (sym (no_header_cause h v i holds) ∙ says))
+]
+compressed_other h c v (maybe other) flags there here says = inr refl
+
+other_step : (h : Hardware) (v : disk.Image) (load : Load) (r : Reply) (b : State) → IsHeldOther load.held → unwrap_or (header_cause h v) (reply.Loading 2) ≡ r → other_state h (with_found_other load v) v 1 r ≡ b → Step h v (loading load 1) (event.Step actor.Core) r b
+other_step h v load r b (inl is) says state = find_goes h v load (sure other) r b is (finds_traced h v load r b says state)
+other_step h v load r b (inr is) says state = find_goes h v load (maybe other) r b is (finds_traced h v load r b says state)
+
+pub find_compressed_row : (h : Hardware) (shown shown' : Shown) (c : disk.Content) (blocks flags : ℕ) (load : Load) → disk.IsContent blocks c → Stands h shown c (loading load 1) →
+    header_cause h (disk.as_it_reads c) ≡ Some (reply.Compressed flags) → ShowsRest shown' → Goes h shown' (reply.Compressed flags) c c (loading load 1) (off (sure other) None)
+find_compressed_row h shown shown' c blocks flags load whole stands says rest =
+    let v = disk.as_it_reads c in
+    let held = compressed_other h c v load.held flags stands.parts.0.0 (IsImage-as_it_reads blocks c whole) says in
+    record {
+      step = other_step h v load (reply.Compressed flags) (off (sure other) None) held (header_reply h v (reply.Compressed flags) says) refl;
+      stands = stops_at_other h shown shown' c blocks load whole stands held (a_mark h v (Some (reply.Compressed flags)) says (not_no_image flags)) rest.0 rest.1;
+      area = same_area h v;
+    }
+
+-- Else the image is found.
+
+own_sayable : (h : Hardware) (v : disk.Image) (i : Image) → IsHardware h → IsIdent h.ident → IsOwn h v i → IsSayable i
+own_sayable h v i hw ident is = subst IsSayable (sym is.of_memory.1.image) (memories_are_sayable h is.of_memory.0 i.slots i.format hw.zones ident)
+
+-- what is found, and the row of it
+abbrev Finds : Hardware → Shown → disk.Content → Load → Type 0
+Finds h shown' c load =
+    (found : Found) × IsFoundIn h (with_finding load found) (disk.as_it_reads c) ×
+    (ShowsLoad h shown' (with_finding load found) 2 → Goes h shown' (reply.Loading 2) c c (loading load 1) (loading (with_finding load found) 2))
+
+finds_it_own : (h : Hardware) (shown shown' : Shown) (c : disk.Content) (blocks : ℕ) (load : Load) (i : Image) → IsHardware h → IsIdent h.ident → disk.IsContent blocks c → Stands h shown c (loading load 1) → Marked h (disk.as_it_reads c) →
+    shown'.header ≡ header_of h (disk.as_it_reads c) → IsHeldOwn load.held i → Holds h (disk.as_it_reads c) i → IsOwn h (disk.as_it_reads c) i → Step h (disk.as_it_reads c) (loading load 1) (event.Step actor.Core) (reply.Loading 2) (loading (with_found load i) 2) →
+    Finds h shown' c load
+finds_it_own h shown shown' c blocks load i hw ident whole stands marked header held holds is step = (
+  found_own i,
+  (holds, is, own_sayable h (disk.as_it_reads c) i hw ident is),
+  λ shows. record { step = step; stands = finds_own h shown shown' c blocks load i whole stands held marked header shows; area = same_area h (disk.as_it_reads c) },
+)
+
+finds_it_other : (h : Hardware) (shown shown' : Shown) (c : disk.Content) (blocks : ℕ) (load : Load) → disk.IsContent blocks c → Stands h shown c (loading load 1) → Marked h (disk.as_it_reads c) →
+    shown'.header ≡ header_of h (disk.as_it_reads c) → header_cause h (disk.as_it_reads c) ≡ None → IsHeldOther load.held → Finds h shown' c load
+finds_it_other h shown shown' c blocks load whole stands marked header says held =
+    let v = disk.as_it_reads c in (
+      found_other v,
+      refl,
+      λ shows. record {
+        step = other_step h v load (reply.Loading 2) (loading (with_found_other load v) 2) held (ap (λ (o : Option Reply). unwrap_or o (reply.Loading 2)) says) refl;
+        stands = finds_other h shown shown' c blocks load whole stands held marked header shows;
+        area = same_area h v;
+      },
+    )
+
+finds_held : (h : Hardware) (shown shown' : Shown) (c : disk.Content) (blocks : ℕ) (load : Load) (held : Held) → load.held ≡ held → IsHeld h c held → IsHardware h → IsIdent h.ident → disk.IsContent blocks c → Stands h shown c (loading load 1) →
+    Marked h (disk.as_it_reads c) → header_cause h (disk.as_it_reads c) ≡ None → shown'.header ≡ header_of h (disk.as_it_reads c) → Finds h shown' c load
+finds_held h shown shown' c blocks load nothing is there hw ident whole stands marked says header = absurd (there (disk.as_it_reads c) (IsImage-as_it_reads blocks c whole) marked)
+finds_held h shown shown' c blocks load (sure (own i)) is there hw ident whole stands marked says header =
+    let v = disk.as_it_reads c in
+    let it = there v (IsImage-as_it_reads blocks c whole) in
+    finds_it_own h shown shown' c blocks load i hw ident whole stands marked header (inl is) it.0 it.1
+    (find_goes h v load (sure (own i)) (reply.Loading 2) (loading (with_found load i) 2) is (0, omega arith, refl))
+finds_held h shown shown' c blocks load (sure other) is there hw ident whole stands marked says header = finds_it_other h shown shown' c blocks load whole stands marked header says (inl is)
+finds_held h shown shown' c blocks load (maybe (own i)) is there hw ident whole stands marked says header =
+    let v = disk.as_it_reads c in
+    let it = there v (IsImage-as_it_reads blocks c whole) in
+    finds_it_own h shown shown' c blocks load i hw ident whole stands marked header (inr is) (elim it.0 [ inl never ↦ absurd (never marked) | inr holds ↦ holds ]) it.1
+    (find_goes h v load (maybe (own i)) (reply.Loading 2) (loading (with_found load i) 2) is (0, omega arith, refl))
+finds_held h shown shown' c blocks load (maybe other) is there hw ident whole stands marked says header = finds_it_other h shown shown' c blocks load whole stands marked header says (inr is)
+
+pub find_row : (h : Hardware) (shown shown' : Shown) (c : disk.Content) (blocks : ℕ) (load : Load) → IsHardware h → IsIdent h.ident → disk.IsContent blocks c → Stands h shown c (loading load 1) →
+    header_cause h (disk.as_it_reads c) ≡ None → shown'.header ≡ header_of h (disk.as_it_reads c) → Finds h shown' c load
+find_row h shown shown' c blocks load hw ident whole stands says header =
+    finds_held h shown shown' c blocks load load.held refl stands.parts.0.0 hw ident whole stands (a_mark h (disk.as_it_reads c) None says (λ e. none-some reply.NoImage e)) says header
+
+-- A step that goes on.
+
+own_disk : (h : Hardware) (v : disk.Image) (i : Image) → IsHardware h → Holds h v i × IsOwn h v i × IsSayable i → IsOwnDisk h v i
+own_disk h v i hw is = record { hardware = hw; holds = is.0; own = is.1; sayable = is.2 }
+
+own_loading : (h : Hardware) (v : disk.Image) (load : Load) (i : Image) (k : ℕ) → own_reply h load i k ≡ reply.Loading (k + 1) → own_step h load i k ≡ (reply.Loading (k + 1), loading load (k + 1))
+own_loading h v load i k answers = elim (own_outcome h load i k) [
+  | inl few ↦ differ (few_reply h load i) (reply.Loading (k + 1)) (sym (ap (λ (o : Outcome). o.0) few) ∙ answers) (λ e. absurd (omega arith))
+  | inr more ↦ elim more [
+    | inl end ↦ differ (reply.Resumed (n_of i)) (reply.Loading (k + 1)) (sym (ap (λ (o : Outcome). o.0) end) ∙ answers) (λ e. absurd (omega arith))
+    | inr on' ↦ on'
+  ]
+]
+
+loading_step : (h : Hardware) (w v : disk.Image) (load : Load) (found : Found) (k : ℕ) → IsHardware h → IsFoundOn h v found → HaveGoneOn h load v k → 2 ≤ k → k < 4 + place_count (info_in h v).pages →
+    reply_at h load.dump v load.loader load.check k ≡ reply.Loading (k + 1) → Step h w (loading (with_finding load found) k) (event.Step actor.Core) (reply.Loading (k + 1)) (loading (with_finding load found) (k + 1))
+loading_step h w v load not_yet k hw is gone late within says = absurd is
+loading_step h w v load (found_own i) k hw is gone late within says =
+    own_goes h w load i k (reply.Loading (k + 1)) (loading (with_found load i) (k + 1)) late
+    (own_loading h v (with_found load i) i k (own_answers h v i (with_found load i) k (reply.Loading (k + 1)) (own_disk h v i hw is) gone (omega arith) within says))
+loading_step h w v load (found_other u) k hw is gone late within says =
+    subst (λ (x : disk.Image). Step h w (loading (with_found_other load x) k) (event.Step actor.Core) (reply.Loading (k + 1)) (loading (with_found_other load x) (k + 1))) is
+    (other_goes h w v load k (reply.Loading (k + 1)) (loading (with_found_other load v) (k + 1)) late (traced_at h load v k (reply.Loading (k + 1)) within gone says) refl)
+
+-- The write of block(0) taken back.
+
+marked_before : (h : Hardware) (shown : Shown) (c : disk.Content) (blocks : ℕ) (load : Load) (v : disk.Image) (found : Found) → disk.IsContent blocks c → Stands h shown c (loading (with_finding load found) 2) → IsFoundOn h v found → Marked h (disk.as_it_reads c)
+marked_before h shown c blocks load v not_yet whole stands is = absurd is
+marked_before h shown c blocks load v (found_own i) whole stands is = (stands.parts.0.0 (disk.as_it_reads c) (IsImage-as_it_reads blocks c whole)).0.marked
+marked_before h shown c blocks load v (found_other u) whole stands is = stands.parts.0.0 (disk.as_it_reads c) (IsImage-as_it_reads blocks c whole)
+
+back_area : (h : Hardware) (shown : Shown) (c c' : disk.Content) (blocks : ℕ) (load : Load) (v : disk.Image) → disk.IsContent blocks c → Stands h shown c (loading load 2) → IsFoundIn h load v → Tries (block_of_slot h 0) (taken_back shown.header) c c' →
+    IsSameArea h (disk.as_it_reads c) (disk.as_it_reads c')
+back_area h shown c c' blocks load v whole stands is tries =
+    kept_by_taking_back h blocks c c' whole stands.parts.0.1 (marked_before h shown c blocks load v load.found whole stands is)
+    (subst (λ (page : List ℕ). Tries (block_of_slot h 0) (taken_back page) c c') (stands.parts.3 refl) tries)
+
+back_stands : (h : Hardware) (shown shown' : Shown) (c c' : disk.Content) (blocks : ℕ) (load : Load) (v : disk.Image) (found : Found) → IsHardware h → disk.IsContent blocks c → disk.IsContent blocks c' → Stands h shown c (loading (with_finding load found) 2) →
+    IsFoundOn h v found → disk.Writes (block_of_slot h 0) (taken_back shown.header) c c' → ShowsLoad h shown' (with_finding load found) 3 → Stands h shown' c' (loading (with_finding load found) 3)
+back_stands h shown shown' c c' blocks load v not_yet hw whole after stands is writes shows = absurd is
+back_stands h shown shown' c c' blocks load v (found_own i) hw whole after stands is writes shows = takes_back h shown shown' c c' blocks load i hw whole after stands writes shows
+back_stands h shown shown' c c' blocks load v (found_other u) hw whole after stands is writes shows = takes_other_back h shown shown' c c' blocks load u hw whole after stands writes shows
+
+pub take_back_row : (h : Hardware) (shown shown' : Shown) (c c' : disk.Content) (blocks : ℕ) (load : Load) (v : disk.Image) → IsHardware h → disk.IsContent blocks c → disk.IsContent blocks c' → Stands h shown c (loading load 2) →
+    IsFoundIn h load v → HaveGoneOn h load v 2 → disk.Writes (block_of_slot h 0) (taken_back shown.header) c c' → ShowsLoad h shown' load 3 → Goes h shown' (reply.Loading 3) c c' (loading load 2) (loading load 3)
+take_back_row h shown shown' c c' blocks load v hw whole after stands is gone writes shows = record {
+  step = loading_step h (disk.as_it_reads c) v load load.found 2 hw is gone (omega arith) (omega arith) refl;
+  stands = back_stands h shown shown' c c' blocks load v load.found hw whole after stands is writes shows;
+  area = back_area h shown c c' blocks load v whole stands is (inl writes);
+}
+
+back_fails : (h : Hardware) (shown shown' : Shown) (c c' : disk.Content) (blocks : ℕ) (load : Load) (v : disk.Image) (found : Found) → IsHardware h → disk.IsContent blocks c → disk.IsContent blocks c' → Stands h shown c (loading (with_finding load found) 2) →
+    IsFoundOn h v found → disk.FailsToWrite (block_of_slot h 0) (taken_back shown.header) c c' → ShowsRest shown' → Stands h shown' c' (off (perhaps (held_while_loading (with_finding load found) 2)) None)
+back_fails h shown shown' c c' blocks load v not_yet hw whole after stands is fails rest = absurd is
+back_fails h shown shown' c c' blocks load v (found_own i) hw whole after stands is fails rest = take_back_fails h shown shown' c c' blocks load i hw whole after stands fails rest.0 rest.1
+back_fails h shown shown' c c' blocks load v (found_other u) hw whole after stands is fails rest = take_other_back_fails h shown shown' c c' blocks load u hw whole after stands fails rest.0 rest.1
+
+pub take_back_fault_row : (h : Hardware) (shown shown' : Shown) (c c' : disk.Content) (blocks : ℕ) (load : Load) (v : disk.Image) → IsHardware h → disk.IsContent blocks c → disk.IsContent blocks c' → Stands h shown c (loading load 2) →
+    IsFoundIn h load v → disk.FailsToWrite (block_of_slot h 0) (taken_back shown.header) c c' → ShowsRest shown' → Goes h shown' (reply.WriteFault Unsure) c c' (loading load 2) (off (perhaps (held_while_loading load 2)) None)
+take_back_fault_row h shown shown' c c' blocks load v hw whole after stands is fails rest = record {
+  step = fault_step h (disk.as_it_reads c) load 2 (reply.WriteFault Unsure) (off (perhaps (held_while_loading load 2)) None) refl;
+  stands = back_fails h shown shown' c c' blocks load v load.found hw whole after stands is fails rest;
+  area = back_area h shown c c' blocks load v whole stands is (inr fails);
+}
+
+-- The sync behind it.
+
+pub back_sync_row : (h : Hardware) (shown shown' : Shown) (c c' : disk.Content) (blocks : ℕ) (load : Load) (v : disk.Image) → IsHardware h → disk.IsContent blocks c → Stands h shown c (loading load 3) →
+    IsFoundIn h load v → HaveGoneOn h load v 3 → disk.Syncs c c' → taken_back_cause h v ≡ None → ShowsLoad h shown' load 4 → Goes h shown' (reply.Loading 4) c c' (loading load 3) (loading load 4)
+back_sync_row h shown shown' c c' blocks load v hw whole stands is gone syncs none shows = record {
+  step = loading_step h (disk.as_it_reads c) v load load.found 3 hw is gone (omega arith) (omega arith) (ap (λ (o : Option Reply). unwrap_or o (reply.Loading 4)) none);
+  stands = unmarked_synced h shown shown' c c' blocks load whole stands syncs shows;
+  area = kept_by_sync h c c' syncs;
+}
+
+-- an own image is of this hardware, and has a chain
+back_stop_step : (h : Hardware) (w v : disk.Image) (load : Load) (found : Found) (r : Reply) → IsFoundOn h v found → HaveGoneOn h load v 3 → taken_back_cause h v ≡ Some r → Step h w (loading (with_finding load found) 3) (event.Step actor.Core) r (off nothing None)
+back_stop_step h w v load not_yet r is gone says = absurd is
+back_stop_step h w v load (found_own i) r is gone says = absurd (none-some r (sym (no_taken_back_cause h v i is.0 is.1) ∙ says))
+back_stop_step h w v load (found_other u) r is gone says =
+    subst (λ (x : disk.Image). Step h w (loading (with_found_other load x) 3) (event.Step actor.Core) r (off nothing None)) is
+    (other_goes h w v load 3 r (off nothing None) (omega arith) (traced_at h load v 3 r (omega arith) gone (ap (λ (o : Option Reply). unwrap_or o (reply.Loading 4)) says))
+    (stopped_off h (with_found_other load v) v 3 r (cause_stops (taken_back_cause h v) r (stops_taken_back h v) says)))
+
+pub back_sync_stop_row : (h : Hardware) (shown shown' : Shown) (c c' : disk.Content) (blocks : ℕ) (load : Load) (v : disk.Image) (r : Reply) → IsHardware h → disk.IsContent blocks c → Stands h shown c (loading load 3) →
+    IsFoundIn h load v → HaveGoneOn h load v 3 → disk.Syncs c c' → taken_back_cause h v ≡ Some r → ShowsRest shown' → Goes h shown' r c c' (loading load 3) (off nothing None)
+back_sync_stop_row h shown shown' c c' blocks load v r hw whole stands is gone syncs says rest =
+    let unmarked : Marked h (disk.as_it_reads c) → ⊥ = stands.parts.4 refl in
+    record {
+      step = back_stop_step h (disk.as_it_reads c) v load load.found r is gone says;
+      stands = record {
+        activity = rest.0;
+        parts = (rest.1, ((λ w in' m. unmarked (subst (Marked h) (IsImage-after_sync c c' w syncs in') m)), header_kept h c c' (by_sync h blocks c c' whole syncs) stands.parts.0.1));
+      };
+      area = kept_by_sync h c c' syncs;
+    }
+
+pub back_sync_fault_row : (h : Hardware) (shown shown' : Shown) (c : disk.Content) (load : Load) → Stands h shown c (loading load 3) → ShowsRest shown' → Goes h shown' (reply.SyncFault Unsure) c c (loading load 3) (off (perhaps (held_while_loading load 2)) None)
+back_sync_fault_row h shown shown' c load stands rest = record {
+  step = fault_step h (disk.as_it_reads c) load 3 (reply.SyncFault Unsure) (off (perhaps (held_while_loading load 2)) None) refl;
+  stands = record { activity = rest.0; parts = (rest.1, stands.parts.0) };
+  area = same_area h (disk.as_it_reads c);
+}
+
+-- The reads of maps and pages.
+
+pub read_row : (h : Hardware) (shown shown' : Shown) (c : disk.Content) (load : Load) (v : disk.Image) (k : ℕ) → IsReading h shown c load v k →
+    reply_at h load.dump v load.loader load.check k ≡ reply.Loading (k + 1) → ShowsLoad h shown' load (k + 1) → Goes h shown' (reply.Loading (k + 1)) c c (loading load k) (loading load (k + 1))
+read_row h shown shown' c load v k reads says shows =
+    let late = reads.late in
+    record {
+      step = loading_step h (disk.as_it_reads c) v load load.found k reads.hardware reads.found reads.gone_on (omega arith) reads.within says;
+      stands = page_read h shown shown' c load k late reads.stands shows;
+      area = same_area h (disk.as_it_reads c);
+    }
+
+own_stops : (h : Hardware) (load : Load) (i : Image) (k : ℕ) (r : Reply) → own_reply h load i k ≡ r → IsStop r → own_step h load i k ≡ (r, off nothing None)
+own_stops h load i k r answers stop = elim (own_outcome h load i k) [
+  | inl few ↦ few ∙ ap (λ (x : Reply). (x, off nothing None)) (sym (ap (λ (o : Outcome). o.0) few) ∙ answers)
+  | inr more ↦ elim more [
+    | inl end ↦ absurd (subst IsStop (sym answers ∙ ap (λ (o : Outcome). o.0) end) stop)
+    | inr on' ↦ absurd (subst IsStop (sym answers ∙ ap (λ (o : Outcome). o.0) on') stop)
+  ]
+]
+
+stop_step : (h : Hardware) (w v : disk.Image) (load : Load) (found : Found) (k : ℕ) (r : Reply) → IsHardware h → IsFoundOn h v found → HaveGoneOn h load v k → 4 ≤ k → k < 4 + place_count (info_in h v).pages →
+    reply_at h load.dump v load.loader load.check k ≡ r → IsStop r → Step h w (loading (with_finding load found) k) (event.Step actor.Core) r (off nothing None)
+stop_step h w v load not_yet k r hw is gone late within says stop = absurd is
+stop_step h w v load (found_own i) k r hw is gone late within says stop =
+    own_goes h w load i k r (off nothing None) (omega arith)
+    (own_stops h (with_found load i) i k r (own_answers h v i (with_found load i) k r (own_disk h v i hw is) gone (omega arith) within says) stop)
+stop_step h w v load (found_other u) k r hw is gone late within says stop =
+    subst (λ (x : disk.Image). Step h w (loading (with_found_other load x) k) (event.Step actor.Core) r (off nothing None)) is
+    (other_goes h w v load k r (off nothing None) (omega arith) (traced_at h load v k r within gone says)
+    (stopped_off h (with_found_other load v) v k r (stop_late h load.dump v load.loader load.check k r late says stop)))
+
+pub read_stop_row : (h : Hardware) (shown shown' : Shown) (c : disk.Content) (load : Load) (v : disk.Image) (k : ℕ) (r : Reply) → IsReading h shown c load v k →
+    reply_at h load.dump v load.loader load.check k ≡ r → IsStop r → ShowsRest shown' → Goes h shown' r c c (loading load k) (off nothing None)
+read_stop_row h shown shown' c load v k r reads says stop rest = record {
+  step = stop_step h (disk.as_it_reads c) v load load.found k r reads.hardware reads.found reads.gone_on reads.late reads.within says stop;
+  stands = load_stops h shown shown' c load k reads.late reads.stands rest.0 rest.1;
+  area = same_area h (disk.as_it_reads c);
+}
+
+pub read_fault_row : (h : Hardware) (shown shown' : Shown) (c : disk.Content) (load : Load) (k : ℕ) → 4 ≤ k → Stands h shown c (loading load k) → ShowsRest shown' → Goes h shown' (reply.ReadFault Gone) c c (loading load k) (off nothing None)
+read_fault_row h shown shown' c load k late stands rest = record {
+  step = fault_step h (disk.as_it_reads c) load k (reply.ReadFault Gone) (off nothing None) (late_fault load k late);
+  stands = load_stops h shown shown' c load k late stands rest.0 rest.1;
+  area = same_area h (disk.as_it_reads c);
+}
+
+-- The end.
+
+-- memory alone is looked at
+shows_memory : (h : Hardware) (shown : Shown) (m n : Memory) (slots slots' : SlotPages) → m ≡ n → ShowsRunning h shown (running_of m slots) → ShowsRunning h shown (running_of n slots')
+shows_memory h shown m n slots slots' e shows = record {
+  held = shows.held;
+  unusable = shows.unusable;
+  flights = shows.flights;
+  same = subst (λ (x : Memory). IsSameMemory h x (seen_frames h shown.frames)) e shows.same;
+  fits = subst (Fits h) e shows.fits;
+}
+
+-- the row of a resume that ends well
+abbrev EndsWell : Hardware → Shown → disk.Content → Load → disk.Image → Found → ℕ → ℕ → Type 0
+EndsWell h shown' c load v found k n = (slots : SlotPages) × Goes h shown' (reply.Resumed n) c c (loading (with_finding load found) k) (on (running_with h load v slots))
+
+own_end : (h : Hardware) (load : Load) (i : Image) (k n : ℕ) → own_reply h load i k ≡ reply.Resumed n → own_step h load i k ≡ (reply.Resumed n, resumed (restored h load.dump load.loader i) i.slots load.loader)
+own_end h load i k n answers = elim (own_outcome h load i k) [
+  | inl few ↦ differ (few_reply h load i) (reply.Resumed n) (sym (ap (λ (o : Outcome). o.0) few) ∙ answers) (λ e. absurd (omega arith))
+  | inr more ↦ elim more [
+    | inl end ↦ end ∙ ap (λ (x : Reply). (x, resumed (restored h load.dump load.loader i) i.slots load.loader)) (sym (ap (λ (o : Outcome). o.0) end) ∙ answers)
+    | inr on' ↦ differ (reply.Loading (k + 1)) (reply.Resumed n) (sym (ap (λ (o : Outcome). o.0) on') ∙ answers) (λ e. absurd (omega arith))
+  ]
+]
+
+own_ends : (h : Hardware) (shown shown' : Shown) (c : disk.Content) (blocks : ℕ) (load : Load) (ranges : Ranges) (v : disk.Image) (i : Image) (k n : ℕ) → disk.IsContent blocks c → IsReading h shown c (with_found load i) v k → load.loader ≡ loader.Ranges ranges →
+    reply_at h load.dump v load.loader load.check k ≡ reply.Resumed n → shown'.activity ≡ runs → ShowsRunning h shown' (running_with h load v no_slots) → NamesOnly h shown' [] → EndsWell h shown' c load v (found_own i) k n
+own_ends h shown shown' c blocks load ranges v i k n whole reads scripted says activity shows names =
+    let late = reads.late in
+    let disk_is = own_disk h v i reads.hardware reads.found in
+    let m = restored_in h load.dump v load.loader in
+    let same = restored_is h v i load.dump load.loader disk_is in
+    let state : resumed (restored h load.dump load.loader i) i.slots load.loader ≡ on (running_with h load v i.slots) =
+    ap₂ (λ (x : Memory) (l : Loader). resumed x i.slots l) (sym same) scripted in
+    let end = own_end h (with_found load i) i k n (own_answers h v i (with_found load i) k (reply.Resumed n) disk_is reads.gone_on (omega arith) reads.within says) in (
+      i.slots,
+      record {
+        step = own_goes h (disk.as_it_reads c) load i k (reply.Resumed n) (on (running_with h load v i.slots)) (omega arith) (end ∙ ap (λ (b : State). (reply.Resumed n, b)) state);
+        stands = subst (λ (x : Memory). Stands h shown' c (on (running_of x i.slots))) (sym same)
+            (resumes h shown shown' c blocks load i k reads.hardware whole late reads.stands activity (shows_memory h shown' m (restored h load.dump load.loader i) no_slots i.slots same shows) names);
+        area = same_area h (disk.as_it_reads c);
+      },
+    )
+
+other_ends : (h : Hardware) (shown shown' : Shown) (c : disk.Content) (blocks : ℕ) (load : Load) (ranges : Ranges) (v : disk.Image) (k n : ℕ) → disk.IsContent blocks c → IsReading h shown c (with_found_other load v) v k → load.loader ≡ loader.Ranges ranges →
+    reply_at h load.dump v load.loader load.check k ≡ reply.Resumed n → shown'.activity ≡ runs → ShowsRunning h shown' (running_with h load v no_slots) → NamesOnly h shown' [] → EndsWell h shown' c load v (found_other v) k n
+other_ends h shown shown' c blocks load ranges v k n whole reads scripted says activity shows names =
+    let late = reads.late in
+    let m = restored_in h load.dump v load.loader in
+    let slots = slots_in h v m in
+    let marked = a_mark h v None (no_header h load v k (omega arith) reads.gone_on) (λ e. none-some reply.NoImage e) in
+    let fit : tables_cause h v m ≡ None =
+    subst (λ (l : Loader). tables_cause h v (restored_in h load.dump v l) ≡ None) (sym scripted)
+    (tables_fit h load.dump v ranges load.check k n late (subst (λ (l : Loader). reply_at h load.dump v l load.check k ≡ reply.Resumed n) scripted says)) in (
+      slots,
+      record {
+        step = other_goes h (disk.as_it_reads c) v load k (reply.Resumed n) (on (running_with h load v slots)) (omega arith) (traced_at h load v k (reply.Resumed n) reads.within reads.gone_on says) (ap (resumed m slots) scripted);
+        stands = resumes_other h shown shown' c blocks load v k reads.hardware whole late reads.stands marked fit activity (shows_memory h shown' m m no_slots slots refl shows) names;
+        area = same_area h (disk.as_it_reads c);
+      },
+    )
+
+ends_well : (h : Hardware) (shown shown' : Shown) (c : disk.Content) (blocks : ℕ) (load : Load) (ranges : Ranges) (v : disk.Image) (found : Found) (k n : ℕ) → disk.IsContent blocks c → IsReading h shown c (with_finding load found) v k → load.loader ≡ loader.Ranges ranges →
+    reply_at h load.dump v load.loader load.check k ≡ reply.Resumed n → shown'.activity ≡ runs → ShowsRunning h shown' (running_with h load v no_slots) → NamesOnly h shown' [] → EndsWell h shown' c load v found k n
+ends_well h shown shown' c blocks load ranges v not_yet k n whole reads scripted says activity shows names = absurd reads.found
+ends_well h shown shown' c blocks load ranges v (found_own i) k n whole reads scripted says activity shows names = own_ends h shown shown' c blocks load ranges v i k n whole reads scripted says activity shows names
+ends_well h shown shown' c blocks load ranges v (found_other u) k n whole reads scripted says activity shows names =
+    subst (λ (x : disk.Image). IsReading h shown c (with_found_other load x) v k → EndsWell h shown' c load v (found_other x) k n) reads.found
+    (λ here. other_ends h shown shown' c blocks load ranges v k n whole here scripted says activity shows names) reads
+
+pub read_resumed_row : (h : Hardware) (shown shown' : Shown) (c : disk.Content) (blocks : ℕ) (load : Load) (ranges : Ranges) (v : disk.Image) (k n : ℕ) → disk.IsContent blocks c → IsReading h shown c load v k → load.loader ≡ loader.Ranges ranges →
+    reply_at h load.dump v load.loader load.check k ≡ reply.Resumed n → shown'.activity ≡ runs → ShowsRunning h shown' (running_with h load v no_slots) → NamesOnly h shown' [] →
+    (slots : SlotPages) × Goes h shown' (reply.Resumed n) c c (loading load k) (on (running_with h load v slots))
+read_resumed_row h shown shown' c blocks load ranges v k n = ends_well h shown shown' c blocks load ranges v load.found k n
+
+off_step : (h : Hardware) (w v : disk.Image) (load : Load) (found : Found) (k n : ℕ) → IsHardware h → IsFoundOn h v found → HaveGoneOn h load v k → 2 ≤ k → k < 4 + place_count (info_in h v).pages → load.loader ≡ loader.Table →
+    reply_at h load.dump v load.loader load.check k ≡ reply.Resumed n → Step h w (loading (with_finding load found) k) (event.Step actor.Core) (reply.Resumed n) (off nothing None)
+off_step h w v load not_yet k n hw is gone late within from says = absurd is
+off_step h w v load (found_own i) k n hw is gone late within from says =
+    let end = own_end h (with_found load i) i k n (own_answers h v i (with_found load i) k (reply.Resumed n) (own_disk h v i hw is) gone (omega arith) within says) in
+    own_goes h w load i k (reply.Resumed n) (off nothing None) late (end ∙ ap (λ (l : Loader). (reply.Resumed n, resumed (restored h load.dump load.loader i) i.slots l)) from)
+off_step h w v load (found_other u) k n hw is gone late within from says =
+    let m = restored_in h load.dump v load.loader in
+    subst (λ (x : disk.Image). Step h w (loading (with_found_other load x) k) (event.Step actor.Core) (reply.Resumed n) (off nothing None)) is
+    (other_goes h w v load k (reply.Resumed n) (off nothing None) late (traced_at h load v k (reply.Resumed n) within gone says) (ap (resumed m (slots_in h v m)) from))
+
+pub read_resumed_off_row : (h : Hardware) (shown shown' : Shown) (c : disk.Content) (load : Load) (v : disk.Image) (k n : ℕ) → IsReading h shown c load v k → load.loader ≡ loader.Table →
+    reply_at h load.dump v load.loader load.check k ≡ reply.Resumed n → ShowsRest shown' → Goes h shown' (reply.Resumed n) c c (loading load k) (off nothing None)
+read_resumed_off_row h shown shown' c load v k n reads from says rest =
+    let late = reads.late in
+    record {
+      step = off_step h (disk.as_it_reads c) v load load.found k n reads.hardware reads.found reads.gone_on (omega arith) reads.within from says;
+      stands = load_stops h shown shown' c load k late reads.stands rest.0 rest.1;
+      area = same_area h (disk.as_it_reads c);
+    }
+
+-- What the rows ask for.
+
+none_read : (k meta : ℕ) → k ≤ 6 → k - 4 - (k - 4 + 511) / 512 - (meta + 1) ≡ 0
+none_read k meta few = omega arith
+
+pub shows_none_read : (h : Hardware) (shown : Shown) (load : Load) (k : ℕ) → k ≤ 6 → shown.activity ≡ loads k →
+    ((p : ℕ) → p < top h.zones → (Contains (left_free h load.dump load.loader) p → ⊥) → frame shown.frames p ≡ loader_frame load.dump load.loader p) → shown.loaded ≡ [] → ShowsLoad h shown load k
+shows_none_read h shown load k few activity kept none = record {
+  activity = activity;
+  kept = kept;
+  read = λ i e. none ∙ sym (ap (λ (n : ℕ). take n (with_data i)) (none_read k (meta_of (n_of i)) few));
+}
+
+pub cause_ends : (h : Hardware) (load : Load) (v : disk.Image) (t : ℕ) (r : Reply) → or_else (content_cause h load.dump v load.loader load.check (place t)) (next_cause h v t) ≡ Some r → IsStop r
+cause_ends h load v t r e =
+    stop_kind r (cause_stops (or_else (content_cause h load.dump v load.loader load.check (place t)) (next_cause h v t)) r (stops_cause h load.dump v load.loader load.check t) e)
+
+pub tables_end : (h : Hardware) (load : Load) (v : disk.Image) (r : Reply) → tables_cause h v (restored_in h load.dump v load.loader) ≡ Some r → IsStop r
+tables_end h load v r e = stop_kind r (cause_stops (tables_cause h v (restored_in h load.dump v load.loader)) r (stops_tables h v (restored_in h load.dump v load.loader)) e)

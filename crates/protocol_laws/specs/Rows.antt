@@ -1,0 +1,48 @@
+-- What an event makes of something that stands for a state of the plain machine over a disk: for each state that it stood for there is
+-- one that the plain machine goes on to.
+use Rattle.std.specs.Prelude.{◌≡◌, zero, Option, Some, ⊤}
+use Rattle.definitions.specs.Disk as disk
+use Rattle.plain_machine.specs.Machine.{Hardware}
+use Rattle.plain_machine.specs.Chain.{blocks_of}
+use Rattle.plain_machine.specs.Stands.{AgreeOnArea}
+use Rattle.plain_machine.specs.State.{State}
+use Rattle.plain_machine.specs.Step.{Step}
+use Rattle.plain_machine.specs.UsableArea.{area_block}
+use Rattle.plain_machine.specs.declared.event.Event.{Event}
+use Rattle.plain_machine.specs.declared.reply.Reply.{Reply}
+use Rattle.plain_machine.specs.declared.reply.Reply.TheVariants as reply
+use Rattle.plain_machine.specs.declared.reply.Left.TheVariants.{Gone}
+
+-- Two disks have the same swap area: as many blocks, and the same header block, taken back where it is marked, but for bytes 4056 to 4085.
+pub record IsSameArea (h : Hardware) (v w : disk.Image) : Type 0 where
+  pub blocks : blocks_of w ≡ blocks_of v
+  pub header : AgreeOnArea (area_block h w) (area_block h v)
+
+-- the states that something stands for, by the content of the disk
+abbrev pub StandsBy : Type 1
+StandsBy = disk.Content → State → Type 0
+
+-- The reply is one that the plain machine may give, and what is there afterwards stands for the state that it goes on to. The
+-- area on the disk stays.
+pub record Leads (h : Hardware) (new : StandsBy) (e : Event) (r : Reply) (c c' : disk.Content) (a b : State) : Type 0 where
+  pub step : Step h (disk.as_it_reads c) a e r b
+  pub stands : new c' b
+  pub area : IsSameArea h (disk.as_it_reads c) (disk.as_it_reads c')
+
+-- the row of an event over these contents of the disk, for each state that was stood for
+abbrev pub IsRow : Hardware → StandsBy → StandsBy → Event → Reply → disk.Content → disk.Content → Type 0
+IsRow h old new e r c c' = (a : State) → old c a → (b : State) × Leads h new e r c c' a b
+
+-- the row over a disk that tells its content
+abbrev pub HasRow : Hardware → StandsBy → StandsBy → Event → Reply → Option disk.Content → Option disk.Content → Type 0
+HasRow h old new e r before now = (c : disk.Content) → before ≡ Some c → (c' : disk.Content) × (now ≡ Some c') × IsRow h old new e r c c'
+
+-- A reply that tells of a call of the disk that failed at this event. An undo's end tells of the one that the undo began with.
+abbrev pub IsNewFault : Reply → Type 0
+IsNewFault (reply.ReadFault left) = ⊤
+IsNewFault (reply.WriteFault Gone) = ⊥
+IsNewFault (reply.WriteFault left) = ⊤
+IsNewFault (reply.SyncFault Gone) = ⊥
+IsNewFault (reply.SyncFault left) = ⊤
+IsNewFault (reply.Undo call zero) = ⊤
+IsNewFault _ = ⊥
