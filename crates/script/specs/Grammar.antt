@@ -15,7 +15,7 @@ use Rattle.script.specs.declared.grammar.Item.TheVariants.{Nothing, Sets, Events
 use Rattle.script.specs.declared.grammar.Setting.TheVariants.{Last}
 use Rattle.script.specs.declared.grammar.LineStop.{LineStop}
 use Rattle.script.specs.declared.grammar.LineStop.TheVariants as stop
-use Rattle.script.specs.Shapes.{Shape, shapes}
+use Rattle.script.specs.Shapes.{Shape, shapes, IsScripted}
 use Rattle.script.specs.Words.{words_of}
 
 -- One line.
@@ -63,7 +63,7 @@ IsLastPage last = (1 ≤ last) × (last ≤ 16383)
 abbrev pub IsFittingItem : Item → Type 0
 IsFittingItem Nothing = ⊤
 IsFittingItem (Sets (Last last)) = IsLastPage last
-IsFittingItem (Events n e) = (1 ≤ n) × (n ≤ 100000) × IsFitting e
+IsFittingItem (Events n e) = (1 ≤ n) × (n ≤ 100000) × IsFitting e × IsScripted e
 
 -- A whole script.
 

@@ -1,6 +1,7 @@
 -- The lines that a script may have, by their first word.
-use Rattle.std.specs.Prelude.{ℕ, List, [], ◌∷◌, codes, Bool, true, false, Result, Ok, Err, slice_index, if◌then◌else◌}
+use Rattle.std.specs.Prelude.{◌≡◌, ℕ, List, [], ◌∷◌, codes, Bool, true, false, Result, Ok, Err, slice_index, if◌then◌else◌, ⊤}
 use Rattle.std.specs.Str.{bytes_eq}
+use Rattle.plain_machine.specs.declared.event.Event.{Event}
 use Rattle.plain_machine.specs.declared.event.Event.TheVariants as event
 use Rattle.plain_machine.specs.declared.event.TaskOp.{TaskOp}
 use Rattle.plain_machine.specs.declared.event.TaskOp.TheVariants as op
@@ -76,3 +77,27 @@ shapes =
     ∷ core_line (codes "step") [] (λ n. 1)
     ∷ core_line (codes "steps") (span 1 100000 ∷ []) (λ n. slice_index n 0)
     ∷ []
+
+-- what a line lets a task ask for: no page goes to a slot or comes from one
+abbrev pub IsScriptedOp : TaskOp → Type 0
+IsScriptedOp (op.Claim p) = ⊤
+IsScriptedOp (op.Release p) = ⊤
+IsScriptedOp (op.Store p k v) = ⊤
+IsScriptedOp (op.Show p k) = ⊤
+IsScriptedOp (op.Cache p) = ⊤
+IsScriptedOp (op.Out p) = ⊥
+IsScriptedOp (op.TakeIn s p) = ⊥
+
+-- the events that lines give
+abbrev pub IsScripted : Event → Type 0
+IsScripted (event.Boot from) = from ≡ Fresh
+IsScripted (event.Hibernate f) = ⊥
+IsScripted (event.Suspend f) = ⊥
+IsScripted event.Wake = ⊥
+IsScripted event.Settle = ⊥
+IsScripted (event.Shrink want) = ⊥
+IsScripted (event.Resume l check) = ⊥
+IsScripted (event.Step x) = ⊤
+IsScripted (event.Task t o) = IsScriptedOp o
+IsScripted (event.Cut pick) = ⊥
+IsScripted (event.Arm first count pick) = ⊥

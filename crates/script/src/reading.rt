@@ -1,6 +1,7 @@
 ghost use Rattle.std.specs.Prelude.{◌≡◌, ◌≤◌, ◌++◌, All, IfOk, IfErr, OnOk, length, false, Ok, Err, None, unwrap_or};
 ghost use Rattle.plain_machine.specs.Fitting.{IsFitting};
 ghost use Rattle.script.specs.Grammar.{IsFittingItem, IsLastPage, StopsBy, events_of, last_of, kind_by, kind_after, line_item, script_of, stop_at};
+ghost use Rattle.script.specs.Shapes.{IsScripted};
 ghost use Rattle.script.specs.declared.fault.ScriptFault.{ScriptFault};
 
 use crate::fault::{FaultKind, ParseStop, ScriptFault};
@@ -53,11 +54,13 @@ impl Script {
         requires room { length self.old.events ≤ 100000 }
         requires fits { IsFittingItem item }
         requires all_fit { All IsFitting self.old.events }
+        requires all_scripted { All IsScripted self.old.events }
         requires area { IsLastPage self.old.last }
         ensures last { OnOk result (self.new.last ≡ unwrap_or (last_of (Ok item)) self.old.last) }
         ensures events { OnOk result (self.new.events ≡ self.old.events ++ events_of (Ok item)) }
         ensures room { OnOk result (length self.new.events ≤ 100000) }
         ensures all_fit { OnOk result (All IsFitting self.new.events) }
+        ensures all_scripted { OnOk result (All IsScripted self.new.events) }
         ensures area { OnOk result (IsLastPage self.new.last) }
         ensures none { OnOk result (kind_by self.old.events (Ok item) ≡ None) }
         ensures fault { IfErr result (StopsBy (kind_by self.old.events (Ok item))) }
@@ -80,11 +83,13 @@ impl Script {
     fn read(&mut self, alloc: Global, line: &[u8]) -> Result<(), LineStop>
         requires room { length self.old.events ≤ 100000 }
         requires all_fit { All IsFitting self.old.events }
+        requires all_scripted { All IsScripted self.old.events }
         requires area { IsLastPage self.old.last }
         ensures last { OnOk result (self.new.last ≡ unwrap_or (last_of (line_item false line.now)) self.old.last) }
         ensures events { OnOk result (self.new.events ≡ self.old.events ++ events_of (line_item false line.now)) }
         ensures room { OnOk result (length self.new.events ≤ 100000) }
         ensures all_fit { OnOk result (All IsFitting self.new.events) }
+        ensures all_scripted { OnOk result (All IsScripted self.new.events) }
         ensures area { OnOk result (IsLastPage self.new.last) }
         ensures none { OnOk result (kind_after self.old.events line.now ≡ None) }
         ensures fault { IfErr result (StopsBy (kind_after self.old.events line.now)) }
@@ -111,9 +116,10 @@ pub fn parse(alloc: Global, bytes: &[u8]) -> Result<Script, ParseStop>
     ensures script { IfOk result (λ script. script_of bytes.now ≡ Ok script) }
     ensures fault { (fault : ScriptFault) → result ≡ Err (ParseStop.Fault fault) → script_of bytes.now ≡ Err fault }
 
-    // The last page is one that an area may have, and each event one that the machine takes.
+    // The last page is one that an area may have, and each event one that the machine takes and that a line may give.
     ensures area { IfOk result (λ script. IsLastPage script.last) }
     ensures fits { IfOk result (λ script. All IsFitting script.events) }
+    ensures scripted { IfOk result (λ script. All IsScripted script.events) }
     ensures few { IfOk result (λ script. length script.events ≤ 100000) }
 {
     if bytes.len() > MAX_BYTES {

@@ -61,7 +61,7 @@ run_formatted last blocks old new events replies before between now low high c t
     let v = disk.as_it_reads mid in
     let start : StandsFor old c1 (off nothing None) =
     subst (λ (x : disk.Content). StandsFor old x (off nothing None)) (sym formatted.2.2) (fresh.unmarked v (formatted_unmarked last blocks c mid whole some formatted.2.1)) in
-    let end = played.run c1 (off nothing None) formatted.1 start in
+    let end = played.run c1 (off nothing None) formatted.1 start (tt, refl) in
     let was = end.2 in (
       c1,
       formatted.2,

@@ -17,7 +17,10 @@ use Rattle.plain_machine.specs.declared.event.Event.{Event}
 use Rattle.plain_machine.specs.declared.event.Event.TheVariants as event
 use Rattle.plain_machine.specs.declared.reply.Reply.{Reply}
 use Rattle.plain_machine.specs.declared.reply.Reply.TheVariants as reply
-use Rattle.world_core.specs.Row.{HasRow, IsStep, IsCalled}
+use Rattle.protocol_laws.specs.Replays.{IsOfReplay, SameSteps, StaysOfReplay}
+use Rattle.protocol_laws.specs.Rows.{IsSameArea}
+use Rattle.script.specs.Shapes.{IsScripted}
+use Rattle.world_core.specs.Row.{HasRow, IsServed, IsStep, IsCalled}
 use Rattle.world_core.specs.StandsFor.{hardware_of}
 use Rattle.world_core.specs.declared.world.World.{World}
 use Rattle.swsusp_cli.specs.Playing.{Played, HasPlayed}
@@ -115,41 +118,58 @@ pub counted_earlier : (rs : List Reply) (low mid high : ℕ) → low ≤ mid →
 counted_earlier rs low mid high a (inl le) = inl (omega arith)
 counted_earlier rs low mid high a (inr last) = inr last
 
+-- One area.
+
+same_area : (h : Hardware) (v : disk.Image) → IsSameArea h v v
+same_area h v = record { blocks = refl; header = record { front = refl; signature = refl } }
+
+same_area_then : (h : Hardware) (u v w : disk.Image) → IsSameArea h u v → IsSameArea h v w → IsSameArea h u w
+same_area_then h u v w first then = record {
+  blocks = then.blocks ∙ first.blocks;
+  header = record { front = then.header.front ∙ first.header.front; signature = then.header.signature ∙ first.header.signature };
+}
+
 -- Played events, and one more.
 
 pub played_none : (w : World) (content : Option disk.Content) (count : ℕ) → HasPlayed w w [] [] content content count count
 played_none w content count = record {
   size = refl;
   faults = inl (omega arith);
-  run = λ c a told stands. (c, a, record { told = told; reads = refl; run = refl; stands = stands });
+  run = λ c a told stands of. (c, a, record { told = told; area = same_area (hardware_of w) (disk.as_it_reads c); run = refl; stands = stands; of_replay = of });
 }
 
-run_then : (old mid new : World) (es : List Event) (rs : List Reply) (e : Event) (r : Reply) (before between now : Option disk.Content) (c : disk.Content) (a : State) →
+-- The step over the disk as it reads now is one over the disk as it read at first.
+run_then : (old mid new : World) (es : List Event) (rs : List Reply) (e : Event) (r : Reply) (before between now : Option disk.Content) (c : disk.Content) (a : State) → SameSteps → StaysOfReplay →
     ((c' : disk.Content) × (b : State) × Played old mid es between c c' a b rs) → HasRow e mid new r between now → hardware_of mid ≡ hardware_of old →
     (c' : disk.Content) × (b : State) × Played old new (es ++ e ∷ []) now c c' a b (rs ++ r ∷ [])
-run_then old mid new es rs e r before between now c s so_far row hw =
+run_then old mid new es rs e r before between now c s same stays so_far row hw =
+    let h = hardware_of old in
+    let v = disk.as_it_reads c in
+    let w = disk.as_it_reads so_far.0 in
     let was = so_far.2 in
     let turn = row so_far.0 was.told in
-    let goes = turn.1.row so_far.1 was.stands in
-    let step : Step (hardware_of old) (disk.as_it_reads c) so_far.1 e r goes.0 =
-    subst (λ (v : disk.Image). Step (hardware_of old) v so_far.1 e r goes.0) was.reads (subst (λ (h : Hardware). Step h (disk.as_it_reads so_far.0) so_far.1 e r goes.0) hw goes.1.step) in (
+    let goes = turn.2 so_far.1 was.stands in
+    let step : Step h v so_far.1 e r goes.0 =
+    same h v w so_far.1 e r goes.0 was.area was.of_replay (subst (λ (g : Hardware). Step g w so_far.1 e r goes.0) hw goes.1.step) in
+    let area : IsSameArea h w (disk.as_it_reads turn.0) = subst (λ (g : Hardware). IsSameArea g w (disk.as_it_reads turn.0)) hw goes.1.area in (
       turn.0,
       goes.0,
       record {
-        told = turn.1.told;
-        reads = turn.1.reads ∙ was.reads;
-        run = run_more (hardware_of old) (disk.as_it_reads c) s es rs so_far.1 e r goes.0 was.run step;
+        told = turn.1;
+        area = same_area_then h v w (disk.as_it_reads turn.0) was.area area;
+        run = run_more h v s es rs so_far.1 e r goes.0 was.run step;
         stands = goes.1.stands;
+        of_replay = stays h v so_far.1 e r goes.0 was.of_replay step;
       },
     )
 
-pub played_more : (old mid new : World) (es : List Event) (rs : List Reply) (e : Event) (r : Reply) (before between now : Option disk.Content) (low middle high : ℕ) →
+pub played_more : (old mid new : World) (es : List Event) (rs : List Reply) (e : Event) (r : Reply) (before between now : Option disk.Content) (low middle high : ℕ) → SameSteps → StaysOfReplay →
     HasPlayed old mid es rs before between low middle → HasRow e mid new r between now → hardware_of mid ≡ hardware_of old → (IsFault r → disk.HasRisen middle high) → middle ≤ high →
     HasPlayed old new (es ++ e ∷ []) (rs ++ r ∷ []) before now low high
-played_more old mid new es rs e r before between now low middle high played row hw fault later = record {
+played_more old mid new es rs e r before between now low middle high same stays played row hw fault later = record {
   size = length-append rs (r ∷ []) ∙ ap (λ (n : ℕ). n + 1) played.size ∙ sym (length-append es (e ∷ []));
   faults = counted_then rs r low middle high fault later played.faults;
-  run = λ c a told stands. run_then old mid new es rs e r before between now c a (played.run c a told stands) row hw;
+  run = λ c a told stands of. run_then old mid new es rs e r before between now c a same stays (played.run c a told stands of) row hw;
 }
 
 -- Texts.
@@ -183,6 +203,21 @@ front_more t u old mid new p (k, le, q) = (length t + k, omega (arith, length-ap
 
 pub text_more : (rs : List Reply) (r : Reply) → text_of (rs ++ r ∷ []) ≡ text_of rs ++ line_of r
 text_more rs r = flat_map-append line_of rs (r ∷ []) ∙ ap (λ (xs : List ℕ). text_of rs ++ xs) (append-nil (line_of r))
+
+-- What a script's lines give is served.
+
+pub served : (e : Event) → IsScripted e → IsServed e
+served (event.Boot from) is = tt
+served (event.Hibernate f) is = absurd is
+served (event.Suspend f) is = absurd is
+served event.Wake is = absurd is
+served event.Settle is = absurd is
+served (event.Shrink want) is = absurd is
+served (event.Resume l check) is = absurd is
+served (event.Step x) is = tt
+served (event.Task t o) is = tt
+served (event.Cut pick) is = absurd is
+served (event.Arm first count pick) is = absurd is
 
 -- Steps.
 step_test : (e : Event) → IsStep e → is_step e ≡ true

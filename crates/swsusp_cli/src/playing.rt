@@ -5,6 +5,7 @@ ghost use Rattle.plain_machine.specs.Fitting.{IsFitting};
 ghost use Rattle.plain_machine.specs.Replies.{text_of, line_of};
 ghost use Rattle.plain_machine.specs.declared.reply.Reply.{Reply};
 ghost use Rattle.world_core.specs.StandsFor.{IsOff, blocks_of, hardware_of};
+ghost use Rattle.script.specs.Shapes.{IsScripted};
 ghost use Rattle.swsusp_cli.specs.Playing.{HasPlayed};
 ghost use Rattle.swsusp_cli.specs.Replay.{steps_of};
 
@@ -12,6 +13,7 @@ use crate::answer::put;
 use dump_file::Sink;
 use page_core::Failed;
 use plain_machine::{Event, Reply};
+use protocol_laws::replays;
 use script::{Line, line_of};
 use sector_disk::Disk;
 use world_core::World;
@@ -24,6 +26,7 @@ pub fn play<D: Disk, O: Sink>(
     events: &[Event],
 ) -> Result<(), Failed>
     requires fits { All IsFitting events.now }
+    requires scripted { All IsScripted events.now }
     requires blocks { IsOff world.old ⊎ (D.block_count disk.old ≡ blocks_of world.old) }
     ensures played { MatchResult result
         (λ _. (replies : List Reply) × HasPlayed world.old world.new events.now replies (D.content disk.old) (D.content disk.new) (D.faults disk.old) (D.faults disk.new)
@@ -37,6 +40,7 @@ pub fn play<D: Disk, O: Sink>(
     ensures orders { D.orders disk.new ≡ D.orders disk.old }
     ensures hardware { hardware_of world.new ≡ hardware_of world.old }
 {
+    replays();
     for event in events {
         let reply = world.event(disk, *event);
         match print_reply(out, &reply) {

@@ -3,6 +3,7 @@ ghost use Rattle.definitions.specs.Disk.{HasRisen};
 ghost use Rattle.definitions.specs.Streams.{IsOver, TakesFront};
 ghost use Rattle.script.specs.Grammar.{ScriptValue, IsLastPage};
 ghost use Rattle.plain_machine.specs.Fitting.{IsFitting};
+ghost use Rattle.script.specs.Shapes.{IsScripted};
 ghost use Rattle.swsusp_cli.specs.AnswerOf.{told_by};
 ghost use Rattle.swsusp_cli.specs.Outcome.{IsReplayed, small_told, fault_told, unformatted_told, memory_told};
 ghost use Rattle.swsusp_cli.specs.Readied.{IsReadied};
@@ -93,6 +94,7 @@ fn ready<I: Source>(alloc: Global, input: &mut I) -> Result<Script, Stop>
     ensures ready { IsReadied (I.remaining input.old) (I.remaining input.new) result }
     ensures area { IfOk result (λ script. IsLastPage script.last) }
     ensures fits { IfOk result (λ script. All IsFitting script.events) }
+    ensures scripted { IfOk result (λ script. All IsScripted script.events) }
     ensures few { IfOk result (λ script. length script.events ≤ 100000) }
     ensures read { HandsOutAtMost 1048577 (I.remaining input.old) (I.remaining input.new) }
     ensures stream { result ≡ Err Stop.Source → HasRisen (I.faults input.old) (I.faults input.new) }

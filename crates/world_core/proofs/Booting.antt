@@ -1,28 +1,24 @@
 -- Rows of a boot, but for its end.
-use Rattle.std.proofs.Common.{◌≡◌, ◌≢◌, ◌⊎◌, inl, inr, ℕ, ◌+◌, ◌*◌, ◌/◌, Bool, true, false, List, [], ◌∷◌, length, Option, Some, None, refl, sym, ap, ◌∙◌, arith, subst, unwrap_or}
-use Rattle.std.specs.List.{Contains}
+use Rattle.std.proofs.Common.{◌≡◌, ℕ, [], Option, Some, None, refl, sym, ap, ◌∙◌, arith, subst, unwrap_or}
 use Rattle.std.proofs.lemmas.Bool.{false≢true}
 use Rattle.definitions.specs.Disk as disk
-use Rattle.definitions.proofs.DiskLaws.{IsImage-as_it_reads, IsImage-after_sync, as_it_reads-settled, IsImage-settled}
+use Rattle.definitions.proofs.DiskLaws.{IsImage-as_it_reads, IsImage-after_sync, as_it_reads-settled}
 use Rattle.plain_machine.specs.Machine.{Hardware, Memory}
-use Rattle.plain_machine.specs.Chain.{Marked, Holds}
 use Rattle.plain_machine.specs.UsableArea.{area_block}
-use Rattle.plain_machine.specs.State.{State, off, on, booting, Running, Held, nothing, sure, maybe, Saved, own, other}
-use Rattle.plain_machine.specs.Stands.{Stands, EachImage, IsHeld, IsHeader, StandsOff, HasOneImage, AgreeOnArea}
+use Rattle.plain_machine.specs.State.{off, booting, Held, nothing, sure, maybe, own, other}
+use Rattle.plain_machine.specs.Stands.{Stands, IsHeld, IsHeader, HasOneImage, AgreeOnArea}
 use Rattle.plain_machine.specs.Step.{fresh_frames}
 use Rattle.plain_machine.specs.Refusals.{refusal}
-use Rattle.plain_machine.specs.Shows.{boots, ShowsKept}
 use Rattle.plain_machine.specs.declared.event.BootFrom.TheVariants.{Fresh, Kept}
 use Rattle.plain_machine.specs.declared.event.Event.TheVariants as event
 use Rattle.plain_machine.specs.declared.event.Actor.TheVariants as actor
 use Rattle.plain_machine.specs.declared.reply.Left.TheVariants.{Same}
-use Rattle.plain_machine.specs.declared.reply.Reply.{Reply}
 use Rattle.plain_machine.specs.declared.reply.Reply.TheVariants as reply
-use Rattle.world_core.specs.declared.world.Core.TheVariants.{Off, Running as Runs, BootBegun, BootSynced}
+use Rattle.world_core.specs.declared.world.Core.TheVariants.{Off, BootBegun, BootSynced}
 use Rattle.world_core.specs.declared.world.World.{World}
 use Rattle.world_core.specs.StandsFor.{StandsFor, activity_of, hardware_of, shown}
-use Rattle.world_core.specs.Row.{GoesOn, IsRow}
-use Rattle.world_core.proofs.Rows.{accepted_step, refused_step, row_at_rest, row_at_boot}
+use Rattle.world_core.specs.Row.{IsRow}
+use Rattle.world_core.proofs.Rows.{same_area, accepted_step, refused_step, row_at_rest, row_at_boot}
 
 -- What a smaller choice of images keeps.
 
@@ -67,6 +63,7 @@ no_dump w c core =
       record {
         step = refused_step (hardware_of w) (disk.as_it_reads c) (off held kept) (event.Boot Kept) reply.NoDump (refuses_dump (hardware_of w) held kept (no_kept w c held kept stands));
         stands = stands;
+        area = same_area (hardware_of w) (disk.as_it_reads c) (disk.as_it_reads c) refl;
       },
     ))
 
@@ -88,6 +85,7 @@ boot_begins old new c core core' hw frames =
       record {
         step = accepted_step (hardware_of old) (disk.as_it_reads c) (off held kept) (event.Boot Fresh) (reply.More 0 2) (booting Fresh (unwrap_or kept []) held 0) (accepts_boot (hardware_of old) held kept) (0, omega arith, refl);
         stands = begun_stands old new c held kept (unwrap_or kept []) core' hw frames stands;
+        area = same_area (hardware_of old) (disk.as_it_reads c) (disk.as_it_reads c) refl;
       },
     ))
 
@@ -119,6 +117,7 @@ boot_syncs old new blocks c c' whole syncs core core' hw frames =
       record {
         step = accepted_step (hardware_of old) (disk.as_it_reads c) (booting Fresh dump held 0) (event.Step actor.Core) (reply.More 1 2) (booting Fresh dump held 1) (accepts_step (hardware_of old) dump held 0) (0, omega arith, refl);
         stands = synced_stands old new blocks c c' dump held whole syncs core' hw frames stands;
+        area = same_area (hardware_of old) (disk.as_it_reads c) (disk.as_it_reads c') (reads_after_sync c c' syncs);
       },
     ))
 
@@ -138,5 +137,6 @@ boot_sync_fails old new c core core' hw =
       record {
         step = accepted_step (hardware_of old) (disk.as_it_reads c) (booting Fresh dump held 0) (event.Step actor.Core) (reply.SyncFault Same) (off held None) (accepts_step (hardware_of old) dump held 0) (1, omega arith, refl);
         stands = failed_stands old new c dump held 0 core' hw stands;
+        area = same_area (hardware_of old) (disk.as_it_reads c) (disk.as_it_reads c) refl;
       },
     ))

@@ -1,5 +1,5 @@
 -- What a call of the disk makes of its content, where it tells it.
-use Rattle.std.proofs.Common.{◌≡◌, ℕ, Option, Some, None, refl, sym, ap, ◌∙◌, subst}
+use Rattle.std.proofs.Common.{◌≡◌, ℕ, Option, Some, None, refl, subst}
 use Rattle.std.specs.Option.{IfSome}
 use Rattle.definitions.specs.Disk as disk
 

@@ -1,6 +1,6 @@
 -- The row of a boot's end.
-use Rattle.std.proofs.Common.{◌≡◌, ◌≢◌, ◌⊎◌, inl, inr, ℕ, ◌+◌, ◌<◌, ◌≤◌, ◌^◌, Bool, true, false, cond, not, ◌||◌, ◌&&◌, List, [], ◌∷◌, ◌++◌, length, Option, Some, None, Result, Ok, Err, refl, sym, ap, ◌∙◌, arith, subst, eqb, ⊎_elim}
-use Rattle.std.proofs.lemmas.Bool.{cases_eq, eqb-true, false≢true}
+use Rattle.std.proofs.Common.{◌≡◌, ◌⊎◌, inl, inr, ℕ, ◌<◌, ◌^◌, Bool, true, false, cond, not, ◌&&◌, List, [], ◌∷◌, ◌++◌, Some, None, Result, Ok, Err, refl, sym, ap, ◌∙◌, arith, subst, eqb, ⊎_elim}
+use Rattle.std.proofs.lemmas.Bool.{cases_eq, eqb-true}
 use Rattle.std.proofs.lemmas.Option.{none-some}
 use Rattle.std.specs.List.{Contains, range_with_len, list_all}
 use Rattle.definitions.specs.Disk as disk
@@ -9,16 +9,13 @@ use Rattle.definitions.proofs.DiskLaws.{IsImage-as_it_reads}
 use Rattle.definitions.proofs.ZoneNumbers.{range-bounds}
 use Rattle.sig_header.specs.AreaKind.{area_kind}
 use Rattle.sig_header.specs.declared.area.Area.{Area}
-use Rattle.sig_header.specs.declared.area.AreaKind.{AreaKind}
-use Rattle.sig_header.specs.declared.area.AreaKind.TheVariants.{Swap}
 use Rattle.plain_machine.specs.Machine.{Hardware, Memory, IsHardware, IsSameMemory, is_slot_entry, raw_slot_entry, bad_slot, image_slot}
-use Rattle.plain_machine.specs.Chain.{header_of, Marked, Holds}
+use Rattle.plain_machine.specs.Chain.{Marked}
 use Rattle.plain_machine.specs.Loader.{has}
-use Rattle.plain_machine.specs.UsableArea.{area_block, area_fault, bad_set_fault, bad_slots_of, bad_slots_in, has_bad_slots_of}
-use Rattle.plain_machine.specs.State.{State, off, on, booting, Running, Held, nothing, sure, maybe, Saved, own, other}
-use Rattle.plain_machine.specs.Stands.{Stands, EachImage, IsHeld, IsHeader, HasOneImage, NamesOnly, NamesHeld, HasArea, StandsOn}
-use Rattle.plain_machine.specs.Step.{Outcome, fresh_frames, fresh_memory, fresh_slot, with_each_entry, booted, boot_outcomes, boot_step}
-use Rattle.plain_machine.specs.Refusals.{refusal}
+use Rattle.plain_machine.specs.UsableArea.{area_block, area_fault, bad_set_fault, bad_slots_of}
+use Rattle.plain_machine.specs.State.{off, on, booting, Held, nothing, sure, maybe, own, other}
+use Rattle.plain_machine.specs.Stands.{Stands, IsHeld, IsHeader, HasOneImage, NamesHeld}
+use Rattle.plain_machine.specs.Step.{fresh_frames, fresh_memory, fresh_slot, with_each_entry, booted, boot_outcomes}
 use Rattle.plain_machine.specs.Shows.{Shown, seen_frames, ShowsHeld, ShowsRunning}
 use Rattle.plain_machine.specs.declared.event.BootFrom.TheVariants.{Fresh}
 use Rattle.plain_machine.specs.declared.event.Event.TheVariants as event
@@ -28,17 +25,16 @@ use Rattle.plain_machine.specs.declared.held.Held.TheVariants.{No, Yes}
 use Rattle.plain_machine.specs.declared.no_swap.NoSwap.{NoSwap}
 use Rattle.plain_machine.specs.declared.no_swap.NoSwap.TheVariants as no_swap
 use Rattle.plain_machine.specs.declared.reply.Left.TheVariants.{Same}
-use Rattle.plain_machine.specs.declared.reply.Reply.{Reply}
 use Rattle.plain_machine.specs.declared.reply.Reply.TheVariants as reply
 use Rattle.plain_machine.proofs.EachEntry.{each-same}
 use Rattle.plain_machine.proofs.Fresh.{slot_entry-fresh_memory, fits-fresh_memory, seen-plain}
 use Rattle.plain_machine.proofs.SameMemory.{same_refl}
 use Rattle.machine.specs.FreshSlots.{slot_of_area}
-use Rattle.world_core.specs.declared.world.Core.TheVariants.{Off, Running as Runs, BootBegun, BootSynced}
+use Rattle.world_core.specs.declared.world.Core.TheVariants.{Off, Running as Runs, BootSynced}
 use Rattle.world_core.specs.declared.world.World.{World}
-use Rattle.world_core.specs.StandsFor.{StandsFor, activity_of, hardware_of, shown, reason_of}
-use Rattle.world_core.specs.Row.{GoesOn, IsRow}
-use Rattle.world_core.proofs.Rows.{accepted_step, row_at_boot}
+use Rattle.world_core.specs.StandsFor.{StandsFor, activity_of, hardware_of, shown}
+use Rattle.world_core.specs.Row.{IsRow}
+use Rattle.world_core.proofs.Rows.{same_area, accepted_step, row_at_boot}
 use Rattle.world_core.proofs.Booting.{accepts_step, failed_stands}
 use Rattle.world_core.proofs.Headers.{IsAreaOf, reason_read, slot_read}
 
@@ -205,6 +201,7 @@ boot_ends old new blocks c image whole core ends hw none =
       record {
         step = accepted_step h v (booting Fresh dump held 1) (event.Step actor.Core) (reply.Booted image) (on (booted h v Fresh dump settled.0)) (accepts_step h dump held 1) settled.1;
         stands = stands_on old new c image dump settled.0 ends hw none parts.0 (subst (λ (f : HeldFlag). ShowsHeld f settled.0) (sym ends.held) settled.2) settled.3 parts.2;
+        area = same_area (hardware_of old) (disk.as_it_reads c) (disk.as_it_reads c) refl;
       },
     ))
 
@@ -221,5 +218,6 @@ boot_read_fails old new c core core' hw =
       record {
         step = accepted_step (hardware_of old) (disk.as_it_reads c) (booting Fresh dump held 1) (event.Step actor.Core) (reply.ReadFault Same) (off held None) (accepts_step (hardware_of old) dump held 1) (read_fault_in (hardware_of old) (disk.as_it_reads c) dump held);
         stands = failed_stands old new c dump held 1 core' hw stands;
+        area = same_area (hardware_of old) (disk.as_it_reads c) (disk.as_it_reads c) refl;
       },
     ))

@@ -1,21 +1,18 @@
 -- What a header block says, as the world reads it and as the definitions have it.
-use Rattle.std.proofs.Common.{◌≡◌, ◌≢◌, ℕ, ◌+◌, ◌*◌, ◌/◌, Bool, true, false, cond, not, List, [], ◌∷◌, length, Option, Some, None, Result, Ok, Err, refl, sym, ap, ◌∙◌, arith, subst, nat_lt, nat_eq, eqb, is_some, ◌||◌}
-use Rattle.std.proofs.lemmas.Bool.{false≢true}
+use Rattle.std.proofs.Common.{◌≡◌, ℕ, Bool, true, false, cond, List, Option, Some, None, Result, Ok, Err, refl, sym, ap, ◌∙◌, arith, nat_lt, nat_eq, eqb, is_some, ◌||◌}
 use Rattle.std.specs.Cmp.Lexicographic.{pointwise, same_text, other_text}
 use Rattle.definitions.specs.Bytes.{zero_page}
 use Rattle.definitions.specs.Disk as disk
 use Rattle.definitions.specs.SwapHeader.{IsMarked, sig_of, image_signature, old_signature, area_signature, taken_back, version_of, last_page_of, bad_count_of, bad_pages_of, first_outside}
 use Rattle.definitions.proofs.DiskLaws.{length-as_it_reads}
-use Rattle.sig_header.specs.AreaKind.{area_kind, version_1_kind, area_with, mark_of, area_of}
+use Rattle.sig_header.specs.AreaKind.{area_kind, version_1_kind, area_with, mark_of}
 use Rattle.sig_header.specs.declared.area.Area.{Area}
-use Rattle.sig_header.specs.declared.area.Mark.{Mark}
-use Rattle.sig_header.specs.declared.area.AreaFault.{AreaFault}
 use Rattle.sig_header.specs.declared.area.AreaKind.{AreaKind}
-use Rattle.sig_header.specs.declared.area.AreaKind.TheVariants.{Image, Old, Other, BadArea, Swap}
+use Rattle.sig_header.specs.declared.area.AreaKind.TheVariants.{Image, Old, Other, Swap}
 use Rattle.plain_machine.specs.Machine.{Hardware, block_of_slot, bad_slot}
-use Rattle.plain_machine.specs.Chain.{header_of, blocks_of, Marked}
+use Rattle.plain_machine.specs.Chain.{header_of, blocks_of}
 use Rattle.plain_machine.specs.Loader.{has}
-use Rattle.plain_machine.specs.UsableArea.{area_block, area_fault, kind_or_fit_fault, kind_fault, bad_slots_in, bad_slots_of}
+use Rattle.plain_machine.specs.UsableArea.{area_block, area_fault, bad_slots_in}
 use Rattle.plain_machine.specs.Step.{fresh_slot}
 use Rattle.plain_machine.specs.declared.no_swap.NoSwap.{NoSwap}
 use Rattle.machine.specs.FreshSlots.{slot_of_area}

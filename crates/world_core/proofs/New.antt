@@ -1,5 +1,5 @@
 -- A new world over a disk without a mark, and what a started one has come to.
-use Rattle.std.proofs.Common.{◌≡◌, ◌≢◌, ℕ, Bool, true, false, cond, List, take, Option, Some, None, Result, Ok, Err, refl, sym, ap, ap₂, ◌∙◌, subst, nat_eq}
+use Rattle.std.proofs.Common.{◌≡◌, ℕ, Bool, true, false, cond, List, take, Some, None, Result, Ok, Err, refl, sym, ap, ap₂, ◌∙◌, subst, nat_eq}
 use Rattle.std.specs.Cmp.Lexicographic.{pointwise, same_text}
 use Rattle.std.specs.Result.{MatchResult}
 use Rattle.definitions.specs.Bytes.{bytes_at}
@@ -8,18 +8,17 @@ use Rattle.definitions.specs.SwapHeader.{IsMarked, sig_of, image_signature, take
 use Rattle.definitions.proofs.DiskLaws.{IsImage-settled, as_it_reads-settled}
 use Rattle.sig_header.specs.AreaKind.{area_kind}
 use Rattle.sig_header.specs.declared.area.Area.{Area}
-use Rattle.sig_header.specs.declared.area.AreaKind.{AreaKind}
 use Rattle.sig_header.specs.declared.area.AreaKind.TheVariants.{Swap}
 use Rattle.plain_machine.specs.Machine.{Hardware}
 use Rattle.plain_machine.specs.Chain.{header_of, blocks_of as blocks_in, Marked}
 use Rattle.plain_machine.specs.UsableArea.{area_block, area_fault, kind_or_fit_fault}
-use Rattle.plain_machine.specs.State.{State, off, nothing}
-use Rattle.plain_machine.specs.Stands.{Stands, AgreeOnArea, IsHeld, IsHeader}
+use Rattle.plain_machine.specs.State.{off, nothing}
+use Rattle.plain_machine.specs.Stands.{Stands, AgreeOnArea}
 use Rattle.plain_machine.specs.declared.no_swap.NoSwap.{NoSwap}
 use Rattle.world_core.specs.declared.world.Core.TheVariants.{Off}
 use Rattle.world_core.specs.declared.world.World.{World}
 use Rattle.world_core.specs.StandsFor.{StandsFor, activity_of, hardware_of, shown, blocks_of}
-use Rattle.world_core.specs.Started.{IsStarted, area_kind_of, is_image}
+use Rattle.world_core.specs.Started.{IsStarted, area_kind_of}
 use Rattle.world_core.proofs.Ending.{Ends}
 use Rattle.world_core.proofs.Headers.{IsAreaOf, kind_read, marked_true, marked_false}
 

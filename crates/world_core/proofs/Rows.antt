@@ -1,17 +1,16 @@
 -- Rows of the plain machine for whole worlds.
-use Rattle.std.proofs.Common.{◌≡◌, ◌≢◌, ℕ, Bool, true, false, List, [], ◌∷◌, Option, Some, None, refl, sym, ap, ◌∙◌, arith, subst, ◌⊎◌, inl, inr, not, is_some}
+use Rattle.std.proofs.Common.{◌≡◌, ◌≢◌, ℕ, Bool, true, false, Option, Some, None, refl, sym, ap, ◌∙◌, arith, subst, ◌⊎◌, inl, inr, not, is_some}
 use Rattle.std.specs.List.{Contains}
 use Rattle.std.proofs.lemmas.Bool.{false≢true}
 use Rattle.definitions.specs.Disk as disk
 use Rattle.plain_machine.specs.Machine.{Hardware, Memory}
 use Rattle.plain_machine.specs.State.{State, off, on, booting, hibernating, undoing, settling, waking, loading, asleep, Running, Held, Flight}
-use Rattle.plain_machine.specs.Step.{Outcome, Step, outcomes, accepted, refused_or}
+use Rattle.plain_machine.specs.Step.{Step, outcomes, accepted, refused_or}
 use Rattle.plain_machine.specs.Refusals.{refusal, refused_if}
-use Rattle.plain_machine.specs.Fitting.{IsFitting}
 use Rattle.plain_machine.specs.Stands.{Stands}
-use Rattle.plain_machine.specs.Shows.{Activity, rests, runs, boots, activity_in}
+use Rattle.plain_machine.specs.Shows.{Activity, rests, boots, activity_in}
 use Rattle.plain_machine.specs.declared.event.BootFrom.{BootFrom}
-use Rattle.plain_machine.specs.declared.event.BootFrom.TheVariants.{Fresh, Kept}
+use Rattle.plain_machine.specs.declared.event.BootFrom.TheVariants.{Fresh}
 use Rattle.plain_machine.specs.declared.event.Event.{Event}
 use Rattle.plain_machine.specs.declared.event.Event.TheVariants as event
 use Rattle.plain_machine.specs.declared.event.TaskOp.{TaskOp}
@@ -19,11 +18,12 @@ use Rattle.plain_machine.specs.declared.event.Actor.{Actor}
 use Rattle.plain_machine.specs.declared.event.Actor.TheVariants as actor
 use Rattle.plain_machine.specs.declared.reply.Reply.{Reply}
 use Rattle.plain_machine.specs.declared.reply.Reply.TheVariants as reply
+use Rattle.protocol_laws.specs.Rows.{IsSameArea}
 use Rattle.world_core.specs.declared.world.Core.{Core}
 use Rattle.world_core.specs.declared.world.Core.TheVariants.{Off, Running as Runs, BootBegun, BootSynced}
 use Rattle.world_core.specs.declared.world.World.{World}
 use Rattle.world_core.specs.StandsFor.{StandsFor, activity_of, hardware_of, shown}
-use Rattle.world_core.specs.Row.{GoesOn, IsRow}
+use Rattle.world_core.specs.Row.{GoesOn, IsRow, IsServed}
 use Rattle.world_core.proofs.Cases.{activity_for, at_rest, at_run, at_boot}
 
 pub refused_step : (h : Hardware) (v : disk.Image) (a : State) (e : Event) (r : Reply) → refusal h a e ≡ Some r → Step h v a e r a
@@ -34,9 +34,13 @@ pub accepted_step : (h : Hardware) (v : disk.Image) (a : State) (e : Event) (r :
 unfolding outcomes
 accepted_step h v a e r b none in' = subst (λ (o : Option Reply). Contains (refused_or a o (accepted h v a e)) (r, b)) (sym none) in'
 
+-- a disk that reads the same has the same area
+pub same_area : (h : Hardware) (v w : disk.Image) → w ≡ v → IsSameArea h v w
+same_area h v w e = subst (IsSameArea h v) (sym e) (record { blocks = refl; header = record { front = refl; signature = refl } })
+
 -- a refused event leaves the world
 pub row_refused : (e : Event) (w : World) (r : Reply) (c : disk.Content) → ((a : State) → StandsFor w c a → refusal (hardware_of w) a e ≡ Some r) → IsRow e w w r c c
-row_refused e w r c why a stands = (a, record { step = refused_step (hardware_of w) (disk.as_it_reads c) a e r (why a stands); stands = stands })
+row_refused e w r c why a stands = (a, record { step = refused_step (hardware_of w) (disk.as_it_reads c) a e r (why a stands); stands = stands; area = same_area (hardware_of w) (disk.as_it_reads c) (disk.as_it_reads c) refl })
 
 -- Refusals by what the world is at.
 
@@ -137,16 +141,16 @@ no_flight w c a t stands r e = (subst (Stands (hardware_of w) (shown w) c) e sta
 pub idle_task : (w : World) (c : disk.Content) (a : State) (t : ℕ) → StandsFor w c a → refusal (hardware_of w) a (event.Step (actor.Task t)) ≡ Some reply.Idle
 idle_task w c a t stands = idle_without_flight (hardware_of w) a t (no_flight w c a t stands)
 
--- every event that fits is served
-pub not_served : (e : Event) → IsFitting e → ((from : BootFrom) → e ≡ event.Boot from → ⊥) → ((t : ℕ) (o : TaskOp) → e ≡ event.Task t o → ⊥) → ((x : Actor) → e ≡ event.Step x → ⊥) → ⊥
-not_served (event.Boot from) fits b t s = b from refl
-not_served (event.Hibernate f) fits b t s = fits
-not_served (event.Suspend f) fits b t s = fits
-not_served event.Wake fits b t s = fits
-not_served event.Settle fits b t s = fits
-not_served (event.Shrink want) fits b t s = fits
-not_served (event.Resume loader check) fits b t s = fits
-not_served (event.Step x) fits b t s = s x refl
-not_served (event.Task u o) fits b t s = t u o refl
-not_served (event.Cut pick) fits b t s = fits
-not_served (event.Arm first count pick) fits b t s = fits
+-- every event but these isn't served
+pub not_served : (e : Event) → IsServed e → ((from : BootFrom) → e ≡ event.Boot from → ⊥) → ((t : ℕ) (o : TaskOp) → e ≡ event.Task t o → ⊥) → ((x : Actor) → e ≡ event.Step x → ⊥) → ⊥
+not_served (event.Boot from) served b t s = b from refl
+not_served (event.Hibernate f) served b t s = served
+not_served (event.Suspend f) served b t s = served
+not_served event.Wake served b t s = served
+not_served event.Settle served b t s = served
+not_served (event.Shrink want) served b t s = served
+not_served (event.Resume loader check) served b t s = served
+not_served (event.Step x) served b t s = s x refl
+not_served (event.Task u o) served b t s = t u o refl
+not_served (event.Cut pick) served b t s = served
+not_served (event.Arm first count pick) served b t s = served

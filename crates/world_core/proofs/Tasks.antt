@@ -1,36 +1,24 @@
 -- The row of a task's request, and of a new world.
-use Rattle.std.proofs.Common.{◌≡◌, ◌<◌, ◌≤◌, ℕ, Bool, true, false, cond, not, ◌&&◌, List, [], ◌∷◌, Option, Some, None, refl, sym, ap, ap₂, ◌∙◌, arith, subst, eqb}
-use Rattle.std.specs.List.{Contains, range_with_len, list_all}
+use Rattle.std.proofs.Common.{◌≡◌, ◌<◌, ℕ, refl, sym, ap, ◌∙◌, subst}
 use Rattle.definitions.specs.Disk as disk
-use Rattle.definitions.proofs.Ascending.{Contains-head, Contains-tail}
-use Rattle.definitions.proofs.ZoneNumbers.{range-bounds}
-use Rattle.definitions.proofs.DiskLaws.{IsImage-settled, as_it_reads-settled}
 use Rattle.sig_header.specs.AreaKind.{area_kind}
-use Rattle.sig_header.specs.declared.area.Area.{Area}
-use Rattle.sig_header.specs.declared.area.AreaKind.{AreaKind}
-use Rattle.sig_header.specs.declared.area.AreaKind.TheVariants.{Image, Old, Other, BadArea, Swap}
-use Rattle.plain_machine.specs.Machine.{Hardware, Memory, raw_slot_entry, bad_slot, image_slot}
-use Rattle.plain_machine.specs.Chain.{Marked}
-use Rattle.plain_machine.specs.Loader.{has}
-use Rattle.plain_machine.specs.UsableArea.{area_block, area_fault, bad_set_fault, bad_slots_of, has_bad_slots_of}
-use Rattle.plain_machine.specs.State.{State, off, on, Running, Held, nothing, sure, maybe, Saved, own, other}
-use Rattle.plain_machine.specs.Stands.{Stands, IsHeld, NamesHeld, AreTaskSlots, HaveSlotPages, HasArea, StandsOn}
-use Rattle.plain_machine.specs.Image.{SlotPages}
+use Rattle.plain_machine.specs.Machine.{Hardware, raw_slot_entry}
+use Rattle.plain_machine.specs.UsableArea.{area_block}
+use Rattle.plain_machine.specs.State.{on, Running, Held, nothing, sure, maybe, own, other}
+use Rattle.plain_machine.specs.Stands.{Stands, IsHeld, NamesHeld, AreTaskSlots, HaveSlotPages, StandsOn}
 use Rattle.plain_machine.proofs.BadSlots.{bad_set-same, task_slots-same}
 use Rattle.plain_machine.specs.Shows.{Shown, RunsAs, ShowsRunning}
 use Rattle.plain_machine.specs.Step.{no_flights}
 use Rattle.machine.specs.declared.machine.Machine.{Machine}
 use Rattle.plain_machine.specs.declared.event.Event.TheVariants as event
 use Rattle.plain_machine.specs.declared.event.TaskOp.{TaskOp}
-use Rattle.plain_machine.specs.declared.no_swap.NoSwap.{NoSwap}
-use Rattle.plain_machine.specs.declared.no_swap.NoSwap.TheVariants as no_swap
 use Rattle.plain_machine.specs.declared.reply.Reply.{Reply}
 use Rattle.machine.specs.TaskRow.{HasRow, GoesOn as TaskGoesOn}
 use Rattle.world_core.specs.declared.world.Core.TheVariants.{Running as Runs}
 use Rattle.world_core.specs.declared.world.World.{World}
 use Rattle.world_core.specs.StandsFor.{StandsFor, activity_of, hardware_of, shown, reason_of}
-use Rattle.world_core.specs.Row.{GoesOn, IsRow}
-use Rattle.world_core.proofs.Rows.{row_at_run}
+use Rattle.world_core.specs.Row.{IsRow}
+use Rattle.world_core.proofs.Rows.{same_area, row_at_run}
 
 -- page frames with the same slot entries name the same slots
 names_same : (h : Hardware) (s s' : Shown) (c : disk.Content) (held : Held) → ((k : ℕ) → k < h.slots → raw_slot_entry h s'.frames k ≡ raw_slot_entry h s.frames k) → NamesHeld h s c held → NamesHeld h s' c held
@@ -78,4 +66,4 @@ row_of_task old new c t o r core core' machine row =
     row_at_run (event.Task t o) old new r c c core
     (λ a stands.
     let goes = row old.machine.held (reason_of old.machine.area) a (on_parts old c a stands).0 in
-    (on goes.0, record { step = goes.1.step (disk.as_it_reads c); stands = stands_after old new c t o r a goes.0 core' machine stands goes.1 }))
+    (on goes.0, record { step = goes.1.step (disk.as_it_reads c); stands = stands_after old new c t o r a goes.0 core' machine stands goes.1; area = same_area (hardware_of old) (disk.as_it_reads c) (disk.as_it_reads c) refl }))

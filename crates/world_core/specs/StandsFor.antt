@@ -1,5 +1,5 @@
 -- When a world and a disk stand for a state of the plain machine.
-use Rattle.std.specs.Prelude.{◌≡◌, ℕ, [], Bool, false, Option, Some, None, Result, Ok, Err}
+use Rattle.std.specs.Prelude.{◌≡◌, ℕ, [], false, Option, Some, None, Result, Ok, Err}
 use Rattle.definitions.specs.Disk as disk
 use Rattle.sig_header.specs.declared.area.Area.{Area}
 use Rattle.plain_machine.specs.Machine.{Hardware}

@@ -34,7 +34,7 @@ impl World {
     ghost use Rattle.plain_machine.specs.declared.event.Event.TheVariants as event;
     ghost use Rattle.plain_machine.specs.declared.event.Actor.TheVariants as actor;
     ghost use Rattle.world_core.specs.StandsFor.{hardware_of, blocks_of, IsOff, IsNew};
-    ghost use Rattle.world_core.specs.Row.{HasRow, IsRow, IsCalled};
+    ghost use Rattle.world_core.specs.Row.{HasRow, IsRow, IsCalled, IsServed};
     ghost use Rattle.plain_machine.specs.Faults.{IsFault};
 
     /// A machine that is off, with page frames of zeros.
@@ -66,6 +66,7 @@ impl World {
     /// What happens to the machine, and what it answers. It makes at most one call of the disk.
     pub fn event<D: Disk>(&mut self, disk: &mut D, event: Event) -> Reply
         requires fits { IsFitting event }
+        requires served { IsServed event }
         requires blocks { IsOff self.old ⊎ (D.block_count disk.old ≡ blocks_of self.old) }
         ensures row { HasRow event self.old self.new result (D.content disk.old) (D.content disk.new) }
         ensures cause { IsFault result → HasRisen (D.faults disk.old) (D.faults disk.new) }

@@ -20,6 +20,7 @@ loop-i-init c = record {
   few = rw c.new.ensures.items (search rules);
   area = search rules;
   fits = rw c.new.ensures.items (λ k d h. absurd (omega arith));
+  scripted = rw c.new.ensures.items (λ k d h. absurd (omega arith));
   no_fault = λ j less. absurd (omega arith);
 }
 
@@ -45,6 +46,7 @@ loop-i-preserved c =
       few = c.in_default.ensures.room;
       area = c.in_default.ensures.area;
       fits = c.in_default.ensures.all_fit;
+      scripted = c.in_default.ensures.all_scripted;
       no_fault = below_more (λ j. fault_at lines j ≡ None) k c.loop-i.invariant.no_fault (fault_at-none lines k c.in-Some.i c.in-Some.line.now c.loop-i.script.events here c.loop-i.invariant.events c.in_default.ensures.none);
     }
 

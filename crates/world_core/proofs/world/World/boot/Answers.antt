@@ -1,4 +1,4 @@
-use Rattle.std.proofs.Common.{◌≡◌, true, false, sym, ap, ◌∙◌, subst}
+use Rattle.std.proofs.Common.{sym, ◌∙◌, subst}
 use Rattle.std.proofs.lemmas.Bool.{false≢true}
 use Rattle.plain_machine.specs.declared.event.BootFrom.{BootFrom}
 use Rattle.plain_machine.specs.declared.event.Event.TheVariants as event

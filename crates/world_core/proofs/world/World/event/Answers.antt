@@ -1,8 +1,5 @@
-use Rattle.std.proofs.Common.{◌≡◌, ⊎_elim, inl, inr, sym, ◌∙◌, subst}
-use Rattle.plain_machine.specs.declared.event.Event.{Event}
-use Rattle.world_core.specs.Row.{HasRow}
 use Rattle.world_core.proofs.Rows.{not_served}
 use Rattle.world_core.proofs.world.World.event.Goals as goal
 
 pub unreachable-requires : goal.unreachable-requires
-unreachable-requires g c = not_served c.args.event c.requires.fits c.in_default.not-Boot c.in_default.not-Task c.in_default.not-Step
+unreachable-requires g c = not_served c.args.event c.requires.served c.in_default.not-Boot c.in_default.not-Task c.in_default.not-Step

@@ -1,4 +1,4 @@
-use Rattle.std.proofs.Common.{◌≡◌, ℕ, List, Option, Some, refl, sym, ap, ◌∙◌, subst}
+use Rattle.std.proofs.Common.{◌≡◌, ℕ, List, Option, refl, ap, ◌∙◌, subst}
 use Rattle.std.specs.Option.{IfSome}
 use Rattle.definitions.specs.Slots.{block_of}
 use Rattle.plain_machine.specs.Machine.{block_of_slot}
@@ -13,7 +13,7 @@ use Rattle.world_core.proofs.world.World.finish_boot.Goals as goal
 
 pub returns-in-Err-clause-row : goal.returns-in-Err-clause-row
 returns-in-Err-clause-row g c = λ k told.
-    (k, record { told = c.read_header.ensures.content ∙ told; reads = refl; row = boot_read_fails c.args.self.now _ k c.requires.synced refl refl })
+    (k, c.read_header.ensures.content ∙ told, boot_read_fails c.args.self.now _ k c.requires.synced refl refl)
 
 pub returns-in-Ok-clause-row : goal.returns-in-Ok-clause-row
 returns-in-Ok-clause-row g c = λ k told.
@@ -26,4 +26,4 @@ returns-in-Ok-clause-row g c = λ k told.
     let read : c.read_header.new.into ≡ header_at c.block-block.result blocks v = subst P told c.in-Ok.ensures.header in
     let header : c.read_header.new.into ≡ header_of h v = read ∙ ap (λ (b : ℕ). header_at b blocks v) block_is ∙ header_read h blocks k whole in
     let ends = ends_of_started c.args.self.now c.start.new.self c.read_header.new.into c.start.result v (blocks_told blocks k whole ∙ c.requires.blocks) header c.start.ensures.started in
-    (k, record { told = c.read_header.ensures.content ∙ told; reads = refl; row = boot_ends c.args.self.now c.start.new.self blocks k c.start.result whole c.requires.synced ends c.extents.ensures.hardware c.extents.ensures.regions })
+    (k, c.read_header.ensures.content ∙ told, boot_ends c.args.self.now c.start.new.self blocks k c.start.result whole c.requires.synced ends c.extents.ensures.hardware c.extents.ensures.regions)

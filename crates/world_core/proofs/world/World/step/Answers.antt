@@ -1,4 +1,3 @@
-use Rattle.std.proofs.Common.{refl}
 use Rattle.plain_machine.specs.declared.event.Event.TheVariants as event
 use Rattle.plain_machine.specs.declared.event.Actor.TheVariants as actor
 use Rattle.plain_machine.specs.declared.reply.Reply.TheVariants as reply
@@ -7,4 +6,4 @@ use Rattle.world_core.proofs.world.World.step.Goals as goal
 
 pub returns-in-Off-clause-row : goal.returns-in-Off-clause-row
 returns-in-Off-clause-row g c = λ k told.
-    (k, record { told = told; reads = refl; row = row_refused (event.Step actor.Core) c.args.self.now reply.Idle k (λ a stands. idle_core c.args.self.now k a stands c.in-Off.is) })
+    (k, told, row_refused (event.Step actor.Core) c.args.self.now reply.Idle k (λ a stands. idle_core c.args.self.now k a stands c.in-Off.is))

@@ -1,9 +1,9 @@
-use Rattle.std.proofs.Common.{refl, sym, subst}
+use Rattle.std.proofs.Common.{sym, subst}
 use Rattle.plain_machine.specs.declared.event.Event.TheVariants as event
 use Rattle.plain_machine.specs.declared.event.Actor.{Actor}
 use Rattle.plain_machine.specs.declared.event.Actor.TheVariants as actor
 use Rattle.plain_machine.specs.declared.reply.Reply.TheVariants as reply
-use Rattle.world_core.specs.Row.{HasRow, IsRow, IsCalled}
+use Rattle.world_core.specs.Row.{HasRow, IsRow}
 use Rattle.world_core.proofs.Rows.{row_refused, idle_task}
 use Rattle.world_core.proofs.world.World.step_of.Goals as goal
 
@@ -14,10 +14,7 @@ returns-in-Core-clause-row g c =
 pub returns-in-Task-clause-row : goal.returns-in-Task-clause-row
 returns-in-Task-clause-row g c = λ k told. (
   k,
-  record {
-    told = told;
-    reads = refl;
-    row = subst (λ (x : Actor). IsRow (event.Step x) c.args.self.now c.args.self.now reply.Idle k k) (sym c.in-Task.is)
-        (row_refused (event.Step (actor.Task c.in-Task.field-0)) c.args.self.now reply.Idle k (λ a stands. idle_task c.args.self.now k a c.in-Task.field-0 stands));
-  },
+  told,
+  subst (λ (x : Actor). IsRow (event.Step x) c.args.self.now c.args.self.now reply.Idle k k) (sym c.in-Task.is)
+      (row_refused (event.Step (actor.Task c.in-Task.field-0)) c.args.self.now reply.Idle k (λ a stands. idle_task c.args.self.now k a c.in-Task.field-0 stands)),
 )
