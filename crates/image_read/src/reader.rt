@@ -186,7 +186,7 @@ impl Reader {
         ensures orders { D.orders disk.new ≡ D.orders disk.old }
         ensures blocks { D.block_count disk.new ≡ D.block_count disk.old }
         ensures telling { D.tells_moments disk.new ≡ D.tells_moments disk.old }
-        ensures time { (IsOver self.old → ⊥) → IsTrue (D.tells_moments disk.old) → Changes (Elapses (D.moment disk.old) (D.moment disk.new)
+        ensures time { IsTrue (D.tells_moments disk.old) → Changes (Elapses (D.moment disk.old) (D.moment disk.new)
             (D.left_since disk.old) (D.left_since disk.new)) (D.content disk.old) (D.content disk.new) }
     {
         if self.over() {

@@ -1,2 +1,4 @@
 pub mod SectorLaws
 pub mod Contents
+pub mod Recordings
+pub mod Time

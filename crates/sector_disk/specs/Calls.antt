@@ -15,3 +15,10 @@ pub record TakesTurn {T E : Type 0} (old new : Calls) (result : Result T E) : Ty
   pub made : new.made ≡ raised old.made
   pub fault : OnErr result (new.faults ≡ raised old.faults)
   pub no_fault : OnOk result (new.faults ≡ old.faults)
+
+-- A call is made that fails in any case: it is a fault, and the calls that are due move up by one.
+pub record LosesTurn (old new : Calls) : Type 0 where
+  pub later : (k : ℕ) → 0 < k → IsDue new k ↔ IsDue old (k + 1)
+  pub pick : new.pick ≡ old.pick
+  pub made : new.made ≡ raised old.made
+  pub fault : new.faults ≡ raised old.faults

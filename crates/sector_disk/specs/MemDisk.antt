@@ -53,6 +53,19 @@ pub record IsCalled {T E : Type 0} (old new : MemDisk) (result : Result T E) : T
   pub orders : order_count new ≡ order_count old
   pub blocks : block_count new ≡ block_count old
 
+-- A read, a write or a sync that fails, whether or not it is armed: it is a fault, the armed calls are one nearer, and
+-- every sector is as before.
+pub record IsRefused (old new : MemDisk) : Type 0 where
+  pub later : (k : ℕ) → 0 < k → IsArmed new k ↔ IsArmed old (k + 1)
+  pub pick : armed_pick new ≡ armed_pick old
+  pub faults : fault_count old ≤ fault_count new
+  pub fault : fault_count new ≡ raised (fault_count old)
+  pub calls : call_count new ≡ raised (call_count old)
+  pub orders : order_count new ≡ order_count old
+  pub blocks : block_count new ≡ block_count old
+  pub durable : durable_sectors new ≡ durable_sectors old
+  pub live : live_sectors new ≡ live_sectors old
+
 -- the same calls stay armed, with the same pick
 pub record KeepsArmed (old new : MemDisk) : Type 0 where
   pub calls : (k : ℕ) → IsArmed new k ↔ IsArmed old k

@@ -1,5 +1,5 @@
 ghost use Rattle.std.specs.Prelude.{◌≡◌, ℕ, ◌+◌, ◌<◌, ◌≤◌, ◌↔◌};
-ghost use Rattle.sector_disk.specs.Calls.{IsDue, TakesTurn};
+ghost use Rattle.sector_disk.specs.Calls.{IsDue, TakesTurn, LosesTurn};
 
 use page_core::Failed;
 
@@ -65,5 +65,16 @@ impl Calls {
             return Err(Failed);
         }
         Ok(())
+    }
+
+    /// Counts a call that fails, whether or not that is due.
+    pub fn lose_turn(&mut self)
+        ensures turn { LosesTurn self.old self.new }
+        ensures faults { self.old.faults ≤ self.new.faults }
+    {
+        match self.take_turn() {
+            Ok(()) => self.faults = self.faults.saturating_add(1),
+            Err(Failed) => {}
+        }
     }
 }

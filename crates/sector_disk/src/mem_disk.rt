@@ -3,6 +3,7 @@ ghost use Rattle.sector_disk.specs.Sectors.{AreSectors, SameOutsideRange};
 
 use crate::Disk;
 use crate::calls::Calls;
+use crate::recorded::{Recorded, redo_all};
 use crate::sectors::{
     SECTORS_IN_BLOCK, Sector, joined, restart_sectors, sync_sectors, write_block, write_picked,
     zero_sectors,
@@ -31,7 +32,9 @@ pub struct MemDisk {
 }
 
 impl MemDisk {
-    ghost use Rattle.sector_disk.specs.MemDisk.{IsNew};
+    ghost use Rattle.std.specs.Prelude.{◌≡◌, All};
+    ghost use Rattle.sector_disk.specs.Recorded.{AreKept, held_after, page_size, blocks_needed};
+    ghost use Rattle.sector_disk.specs.MemDisk.{IsNew, IsRefused, block_count, armed_pick, durable_sectors, live_sectors};
 
     /// A disk of zeros.
     pub fn create(alloc: Global, blocks: u32) -> Result<MemDisk, NoMemory>
@@ -49,6 +52,45 @@ impl MemDisk {
             calls: Calls::none(),
             orders: 0,
         })
+    }
+
+    /// Counts a call that fails, whether or not it is armed.
+    pub(crate) fn refuse(&mut self)
+        ensures { IsRefused self.old self.new }
+    {
+        self.calls.lose_turn();
+    }
+
+    /// The pick of the sectors that a write takes where it fails.
+    pub(crate) fn armed_pick(&self) -> u64
+        ensures { result ≡ armed_pick self.now }
+    {
+        self.calls.pick
+    }
+
+    /// Has the sectors that a disk has which began with these ones, after these calls. Nothing is counted.
+    pub(crate) fn replay(&mut self, start: &[Sector], log: &[Recorded])
+        requires start { AreSectors (8 * block_count self.old) start.now }
+        requires inside { All (λ r. blocks_needed r ≤ block_count self.old) log.now }
+        requires pages { All (λ r. page_size r ≡ 4096) log.now }
+        ensures kept { AreKept (held_after start.now log.now) (durable_sectors self.new) (live_sectors self.new) }
+        ensures calls { self.new.calls ≡ self.old.calls }
+        ensures orders { self.new.orders ≡ self.old.orders }
+        ensures blocks { block_count self.new ≡ block_count self.old }
+    {
+        self.durable.copy_from_slice(start);
+        self.live.copy_from_slice(start);
+        redo_all(log, &mut self.durable, &mut self.live);
+        self.low = 0;
+        self.high = self.live.len();
+    }
+
+    /// The sectors as a read gives them.
+    pub(crate) fn live(&self) -> &[Sector]
+        ensures sectors { result.now ≡ live_sectors self.now }
+        ensures whole { AreSectors (8 * block_count self.now) result.now }
+    {
+        self.live.as_slice()
     }
 }
 

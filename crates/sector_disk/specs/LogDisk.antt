@@ -1,0 +1,114 @@
+-- What contracts say of a disk in memory that records its calls, beside what it tells as a disk.
+use Rattle.std.specs.Prelude.{◌≡◌, ℕ, ◌+◌, ◌*◌, ◌<◌, ◌≤◌, ◌↔◌, List, [], length, replicate, Result, OnOk, OnErr}
+use Rattle.definitions.specs.Disk.{Content, Image, raised}
+use Rattle.sector_disk.specs.Calls.{IsDue}
+use Rattle.sector_disk.specs.Recorded.{held_after, WasLeft}
+use Rattle.sector_disk.specs.declared.log_disk.LogDisk.{LogDisk}
+use Rattle.sector_disk.specs.declared.recorded.Recorded.{Recorded}
+
+-- how many blocks it has
+abbrev pub block_count : LogDisk → ℕ
+block_count d = d.disk.blocks
+
+-- how many calls failed
+abbrev pub fault_count : LogDisk → ℕ
+fault_count d = d.disk.calls.faults
+
+-- how many reads, writes and syncs there were
+abbrev pub call_count : LogDisk → ℕ
+call_count d = d.disk.calls.made
+
+-- how many restarts and arms there were
+abbrev pub order_count : LogDisk → ℕ
+order_count d = d.disk.orders
+
+-- the sectors as the last restart left them
+abbrev pub first_sectors : LogDisk → Image
+first_sectors d = d.start.items
+
+-- its writes and syncs since the last restart
+abbrev pub recorded : LogDisk → List Recorded
+recorded d = d.log.items
+
+-- how many writes and syncs it may record
+abbrev pub room : LogDisk → ℕ
+room d = d.room
+
+-- it has no room for another write or sync
+abbrev pub IsFull : LogDisk → Type 0
+IsFull d = room d ≤ length (recorded d)
+
+-- the sectors as the last sync or restart left them
+abbrev pub durable_sectors : LogDisk → Image
+durable_sectors d = d.disk.durable.items
+
+-- the sectors as a read gives them
+abbrev pub live_sectors : LogDisk → Image
+live_sectors d = d.disk.live.items
+
+-- what it tells of its content
+abbrev pub content : LogDisk → Content
+content d = held_after (first_sectors d) (recorded d)
+
+-- how many calls are recorded since the last restart
+abbrev pub moment : LogDisk → ℕ
+moment d = length (recorded d)
+
+-- what a power cut since a moment might have left
+abbrev pub left_since : LogDisk → ℕ → Image → Type 0
+left_since d = WasLeft (first_sectors d) (recorded d)
+
+-- the call number k from now is to fail; the next one has number 1
+abbrev pub IsArmed : LogDisk → ℕ → Type 0
+IsArmed d k = IsDue d.disk.calls k
+
+-- the pick of the sectors that a write takes where it is armed
+abbrev pub armed_pick : LogDisk → ℕ
+armed_pick d = d.disk.calls.pick
+
+-- A read, a write or a sync: the armed calls are one nearer, and a failure is a fault.
+pub record IsCalled {T E : Type 0} (old new : LogDisk) (result : Result T E) : Type 0 where
+  pub later : (k : ℕ) → 0 < k → IsArmed new k ↔ IsArmed old (k + 1)
+  pub pick : armed_pick new ≡ armed_pick old
+  pub faults : fault_count old ≤ fault_count new
+  pub fault : OnErr result (fault_count new ≡ raised (fault_count old))
+  pub no_fault : OnOk result (fault_count new ≡ fault_count old)
+  pub calls : call_count new ≡ raised (call_count old)
+  pub orders : order_count new ≡ order_count old
+  pub blocks : block_count new ≡ block_count old
+  pub first : first_sectors new ≡ first_sectors old
+  pub room_is : room new ≡ room old
+
+-- every sector is as before, and nothing is recorded
+pub record LeavesAll (old new : LogDisk) : Type 0 where
+  pub durable : durable_sectors new ≡ durable_sectors old
+  pub live : live_sectors new ≡ live_sectors old
+  pub first : first_sectors new ≡ first_sectors old
+  pub calls : recorded new ≡ recorded old
+  pub room_is : room new ≡ room old
+
+-- the same calls stay armed, with the same pick
+pub record KeepsArmed (old new : LogDisk) : Type 0 where
+  pub calls : (k : ℕ) → IsArmed new k ↔ IsArmed old k
+  pub pick : armed_pick new ≡ armed_pick old
+
+-- a restart or an arm: it alone is counted
+pub record IsOrdered (old new : LogDisk) : Type 0 where
+  pub orders : order_count new ≡ raised (order_count old)
+  pub calls : call_count new ≡ call_count old
+  pub faults : fault_count new ≡ fault_count old
+  pub blocks : block_count new ≡ block_count old
+  pub room_is : room new ≡ room old
+
+-- a disk as it is made: zeros, nothing counted, nothing armed, and room for so many calls
+pub record IsNew (blocks calls : ℕ) (d : LogDisk) : Type 0 where
+  pub blocks_are : block_count d ≡ blocks
+  pub durable : durable_sectors d ≡ replicate (8 * blocks) (replicate 512 0)
+  pub live : live_sectors d ≡ replicate (8 * blocks) (replicate 512 0)
+  pub first : first_sectors d ≡ replicate (8 * blocks) (replicate 512 0)
+  pub nothing_recorded : recorded d ≡ []
+  pub room_is : room d ≡ calls
+  pub no_calls : call_count d ≡ 0
+  pub faults : fault_count d ≡ 0
+  pub orders : order_count d ≡ 0
+  pub unarmed : (k : ℕ) → IsArmed d k → ⊥
