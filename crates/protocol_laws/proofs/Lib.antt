@@ -22,6 +22,7 @@ pub mod Tracing
 pub mod Chunks
 pub mod Taking
 pub mod Sets
+pub mod Unwritten
 pub mod Writers
 pub mod Undoing
 pub mod InChain
@@ -37,3 +38,4 @@ pub mod LoadRows
 pub mod KeptTables
 pub mod Snapshots
 pub mod ReplaySteps
+pub mod PowerCuts

@@ -1,4 +1,5 @@
 -- Whole rows of a resume.
+use Rattle.protocol_laws.proofs.Unwritten.{block_same, block_synced, unwritten_header}
 use Rattle.std.proofs.Common.{◌≡◌, ◌<◌, ◌≤◌, ◌-◌, ◌/◌, ℕ, ◌+◌, inl, inr, List, [], take, Option, Some, None, unwrap_or, refl, sym, ap, ap₂, ◌∙◌, subst, arith, Contains}
 use Rattle.std.proofs.lemmas.Option.{same_Some, none-some}
 use Rattle.definitions.specs.Disk as disk
@@ -62,6 +63,7 @@ load_sync_row h shown shown' c c' blocks load whole stands syncs shows = record 
   step = by_core h (disk.as_it_reads c) load 0 (reply.Loading 1) (loading load 1) (1, omega arith, refl);
   stands = load_syncs h shown shown' c c' blocks load whole stands syncs shows;
   area = kept_by_sync h c c' syncs;
+  unwritten = λ b not. block_synced blocks b c c' whole syncs;
 }
 
 -- a call that fails before block(0) is written
@@ -71,6 +73,7 @@ early_fault h shown shown' c load k r held fault stands rest = record {
   step = fault_step h (disk.as_it_reads c) load k r (off load.held None) fault;
   stands = load_fails h shown shown' c load k held stands rest.0 rest.1;
   area = same_area h (disk.as_it_reads c);
+  unwritten = λ b not. block_same b _;
 }
 
 pub load_sync_fault_row : (h : Hardware) (shown shown' : Shown) (c : disk.Content) (load : Load) → Stands h shown c (loading load 0) → ShowsRest shown' → Goes h shown' (reply.SyncFault Same) c c (loading load 0) (off load.held None)
@@ -101,6 +104,7 @@ find_none_row h shown shown' c blocks load whole stands says rest =
       step = none_step h c v load load.held refl stands.parts.0.0 (IsImage-as_it_reads blocks c whole) says;
       stands = finds_none h shown shown' c blocks load whole stands (no_mark h v says) rest.0 rest.1;
       area = same_area h v;
+      unwritten = λ b not. block_same b _;
     }
 
 -- The image is another's where it is compressed.
@@ -128,6 +132,7 @@ find_compressed_row h shown shown' c blocks flags load whole stands says rest =
       step = other_step h v load (reply.Compressed flags) (off (sure other) None) held (header_reply h v (reply.Compressed flags) says) refl;
       stands = stops_at_other h shown shown' c blocks load whole stands held (a_mark h v (Some (reply.Compressed flags)) says (not_no_image flags)) rest.0 rest.1;
       area = same_area h v;
+      unwritten = λ b not. block_same b _;
     }
 
 -- Else the image is found.
@@ -147,7 +152,7 @@ finds_it_own : (h : Hardware) (shown shown' : Shown) (c : disk.Content) (blocks 
 finds_it_own h shown shown' c blocks load i hw ident whole stands marked header held holds is step = (
   found_own i,
   (holds, is, own_sayable h (disk.as_it_reads c) i hw ident is),
-  λ shows. record { step = step; stands = finds_own h shown shown' c blocks load i whole stands held marked header shows; area = same_area h (disk.as_it_reads c) },
+  λ shows. record { step = step; stands = finds_own h shown shown' c blocks load i whole stands held marked header shows; unwritten = λ b not. block_same b _; area = same_area h (disk.as_it_reads c) },
 )
 
 finds_it_other : (h : Hardware) (shown shown' : Shown) (c : disk.Content) (blocks : ℕ) (load : Load) → disk.IsContent blocks c → Stands h shown c (loading load 1) → Marked h (disk.as_it_reads c) →
@@ -160,6 +165,7 @@ finds_it_other h shown shown' c blocks load whole stands marked header says held
         step = other_step h v load (reply.Loading 2) (loading (with_found_other load v) 2) held (ap (λ (o : Option Reply). unwrap_or o (reply.Loading 2)) says) refl;
         stands = finds_other h shown shown' c blocks load whole stands held marked header shows;
         area = same_area h v;
+        unwritten = λ b not. block_same b _;
       },
     )
 
@@ -233,6 +239,7 @@ take_back_row h shown shown' c c' blocks load v hw whole after stands is gone wr
   step = loading_step h (disk.as_it_reads c) v load load.found 2 hw is gone (omega arith) (omega arith) refl;
   stands = back_stands h shown shown' c c' blocks load v load.found hw whole after stands is writes shows;
   area = back_area h shown c c' blocks load v whole stands is (inl writes);
+  unwritten = λ b not. unwritten_header h [] b c c' writes.others not;
 }
 
 back_fails : (h : Hardware) (shown shown' : Shown) (c c' : disk.Content) (blocks : ℕ) (load : Load) (v : disk.Image) (found : Found) → IsHardware h → disk.IsContent blocks c → disk.IsContent blocks c' → Stands h shown c (loading (with_finding load found) 2) →
@@ -247,6 +254,7 @@ take_back_fault_row h shown shown' c c' blocks load v hw whole after stands is f
   step = fault_step h (disk.as_it_reads c) load 2 (reply.WriteFault Unsure) (off (perhaps (held_while_loading load 2)) None) refl;
   stands = back_fails h shown shown' c c' blocks load v load.found hw whole after stands is fails rest;
   area = back_area h shown c c' blocks load v whole stands is (inr fails);
+  unwritten = λ b not. unwritten_header h [] b c c' fails.others not;
 }
 
 -- The sync behind it.
@@ -257,6 +265,7 @@ back_sync_row h shown shown' c c' blocks load v hw whole stands is gone syncs no
   step = loading_step h (disk.as_it_reads c) v load load.found 3 hw is gone (omega arith) (omega arith) (ap (λ (o : Option Reply). unwrap_or o (reply.Loading 4)) none);
   stands = unmarked_synced h shown shown' c c' blocks load whole stands syncs shows;
   area = kept_by_sync h c c' syncs;
+  unwritten = λ b not. block_synced blocks b c c' whole syncs;
 }
 
 -- an own image is of this hardware, and has a chain
@@ -279,6 +288,7 @@ back_sync_stop_row h shown shown' c c' blocks load v r hw whole stands is gone s
         parts = (rest.1, ((λ w in' m. unmarked (subst (Marked h) (IsImage-after_sync c c' w syncs in') m)), header_kept h c c' (by_sync h blocks c c' whole syncs) stands.parts.0.1));
       };
       area = kept_by_sync h c c' syncs;
+      unwritten = λ b not. block_synced blocks b c c' whole syncs;
     }
 
 pub back_sync_fault_row : (h : Hardware) (shown shown' : Shown) (c : disk.Content) (load : Load) → Stands h shown c (loading load 3) → ShowsRest shown' → Goes h shown' (reply.SyncFault Unsure) c c (loading load 3) (off (perhaps (held_while_loading load 2)) None)
@@ -286,6 +296,7 @@ back_sync_fault_row h shown shown' c load stands rest = record {
   step = fault_step h (disk.as_it_reads c) load 3 (reply.SyncFault Unsure) (off (perhaps (held_while_loading load 2)) None) refl;
   stands = record { activity = rest.0; parts = (rest.1, stands.parts.0) };
   area = same_area h (disk.as_it_reads c);
+  unwritten = λ b not. block_same b _;
 }
 
 -- The reads of maps and pages.
@@ -298,6 +309,7 @@ read_row h shown shown' c load v k reads says shows =
       step = loading_step h (disk.as_it_reads c) v load load.found k reads.hardware reads.found reads.gone_on (omega arith) reads.within says;
       stands = page_read h shown shown' c load k late reads.stands shows;
       area = same_area h (disk.as_it_reads c);
+      unwritten = λ b not. block_same b _;
     }
 
 own_stops : (h : Hardware) (load : Load) (i : Image) (k : ℕ) (r : Reply) → own_reply h load i k ≡ r → IsStop r → own_step h load i k ≡ (r, off nothing None)
@@ -326,6 +338,7 @@ read_stop_row h shown shown' c load v k r reads says stop rest = record {
   step = stop_step h (disk.as_it_reads c) v load load.found k r reads.hardware reads.found reads.gone_on reads.late reads.within says stop;
   stands = load_stops h shown shown' c load k reads.late reads.stands rest.0 rest.1;
   area = same_area h (disk.as_it_reads c);
+  unwritten = λ b not. block_same b _;
 }
 
 pub read_fault_row : (h : Hardware) (shown shown' : Shown) (c : disk.Content) (load : Load) (k : ℕ) → 4 ≤ k → Stands h shown c (loading load k) → ShowsRest shown' → Goes h shown' (reply.ReadFault Gone) c c (loading load k) (off nothing None)
@@ -333,6 +346,7 @@ read_fault_row h shown shown' c load k late stands rest = record {
   step = fault_step h (disk.as_it_reads c) load k (reply.ReadFault Gone) (off nothing None) (late_fault load k late);
   stands = load_stops h shown shown' c load k late stands rest.0 rest.1;
   area = same_area h (disk.as_it_reads c);
+  unwritten = λ b not. block_same b _;
 }
 
 -- The end.
@@ -376,6 +390,7 @@ own_ends h shown shown' c blocks load ranges v i k n whole reads scripted says a
         stands = subst (λ (x : Memory). Stands h shown' c (on (running_of x i.slots))) (sym same)
             (resumes h shown shown' c blocks load i k reads.hardware whole late reads.stands activity (shows_memory h shown' m (restored h load.dump load.loader i) no_slots i.slots same shows) names);
         area = same_area h (disk.as_it_reads c);
+        unwritten = λ b not. block_same b _;
       },
     )
 
@@ -394,6 +409,7 @@ other_ends h shown shown' c blocks load ranges v k n whole reads scripted says a
         step = other_goes h (disk.as_it_reads c) v load k (reply.Resumed n) (on (running_with h load v slots)) (omega arith) (traced_at h load v k (reply.Resumed n) reads.within reads.gone_on says) (ap (resumed m slots) scripted);
         stands = resumes_other h shown shown' c blocks load v k reads.hardware whole late reads.stands marked fit activity (shows_memory h shown' m m no_slots slots refl shows) names;
         area = same_area h (disk.as_it_reads c);
+        unwritten = λ b not. block_same b _;
       },
     )
 
@@ -429,6 +445,7 @@ read_resumed_off_row h shown shown' c load v k n reads from says rest =
       step = off_step h (disk.as_it_reads c) v load load.found k n reads.hardware reads.found reads.gone_on (omega arith) reads.within from says;
       stands = load_stops h shown shown' c load k late reads.stands rest.0 rest.1;
       area = same_area h (disk.as_it_reads c);
+      unwritten = λ b not. block_same b _;
     }
 
 -- What the rows ask for.

@@ -15,3 +15,4 @@ pub mod AreaKept
 pub mod LoadRows
 pub mod KeptTables
 pub mod Snapshots
+pub mod Cuts

@@ -1,11 +1,11 @@
 -- What an event makes of something that stands for a state of the plain machine over a disk: for each state that it stood for there is
 -- one that the plain machine goes on to.
-use Rattle.std.specs.Prelude.{◌≡◌, zero, Option, Some, ⊤}
+use Rattle.std.specs.Prelude.{◌≡◌, ◌≤◌, ◌<◌, ◌+◌, ◌*◌, ℕ, zero, List, [], ◌∷◌, length, Contains, slice_index_or, Option, Some, ⊤}
 use Rattle.definitions.specs.Disk as disk
-use Rattle.plain_machine.specs.Machine.{Hardware}
+use Rattle.plain_machine.specs.Machine.{Hardware, block_of_slot}
 use Rattle.plain_machine.specs.Chain.{blocks_of}
-use Rattle.plain_machine.specs.Stands.{AgreeOnArea}
-use Rattle.plain_machine.specs.State.{State}
+use Rattle.plain_machine.specs.Stands.{AgreeOnArea, laid_blocks}
+use Rattle.plain_machine.specs.State.{State, off, on, booting, hibernating, undoing, settling, waking, loading, asleep}
 use Rattle.plain_machine.specs.Step.{Step}
 use Rattle.plain_machine.specs.UsableArea.{area_block}
 use Rattle.plain_machine.specs.declared.event.Event.{Event}
@@ -22,12 +22,30 @@ pub record IsSameArea (h : Hardware) (v w : disk.Image) : Type 0 where
 abbrev pub StandsBy : Type 1
 StandsBy = disk.Content → State → Type 0
 
+-- The blocks that may be written, by the state before an event: block(0) and the blocks of the image's slots in a hibernation, block(0)
+-- alone where a mark is taken back.
+abbrev pub blocks_written : Hardware → State → List ℕ
+blocks_written h (off held kept) = []
+blocks_written h (on a) = []
+blocks_written h (booting from dump held k) = []
+blocks_written h (hibernating suspends i a k) = block_of_slot h 0 ∷ laid_blocks h a i
+blocks_written h (undoing i call a k) = block_of_slot h 0 ∷ []
+blocks_written h (settling a k) = block_of_slot h 0 ∷ []
+blocks_written h (waking i held a k) = block_of_slot h 0 ∷ []
+blocks_written h (loading load k) = block_of_slot h 0 ∷ []
+blocks_written h (asleep i held a) = []
+
+-- Each image that a crash may leave afterwards has in this block what a crash might have left there before.
+pub record LeavesBlock (b : ℕ) (c c' : disk.Content) : Type 0 where
+  pub leaves : (v : disk.Image) (s : ℕ) → disk.IsImage c' v → s < length v → 8 * b ≤ s → s < 8 * b + 8 → Contains (disk.sector c s).candidates (slice_index_or v s [])
+
 -- The reply is one that the plain machine may give, and what is there afterwards stands for the state that it goes on to. The
--- area on the disk stays.
+-- area on the disk stays, and no other block than those is written.
 pub record Leads (h : Hardware) (new : StandsBy) (e : Event) (r : Reply) (c c' : disk.Content) (a b : State) : Type 0 where
   pub step : Step h (disk.as_it_reads c) a e r b
   pub stands : new c' b
   pub area : IsSameArea h (disk.as_it_reads c) (disk.as_it_reads c')
+  pub unwritten : (b : ℕ) → (Contains (blocks_written h a) b → ⊥) → LeavesBlock b c c'
 
 -- the row of an event over these contents of the disk, for each state that was stood for
 abbrev pub IsRow : Hardware → StandsBy → StandsBy → Event → Reply → disk.Content → disk.Content → Type 0

@@ -3,6 +3,7 @@
 #![tactic(auto)]
 
 mod area_kept;
+mod cutting;
 mod hibernating;
 mod kept_tables;
 mod load_rows;
@@ -14,6 +15,7 @@ mod resuming_other;
 mod trace;
 
 pub use area_kept::keeps_area;
+pub use cutting::cuts;
 pub use hibernating::{begins, ends, marks, syncs, undoes, writer_writes, writes};
 pub use kept_tables::keeps_tables;
 pub use load_rows::{finds_in_rows, meets_rows, reads_in_rows, takes_back_in_rows};

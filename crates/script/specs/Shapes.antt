@@ -1,12 +1,16 @@
 -- The lines that a script may have, by their first word.
-use Rattle.std.specs.Prelude.{◌≡◌, ℕ, List, [], ◌∷◌, codes, Bool, true, false, Result, Ok, Err, slice_index, if◌then◌else◌, ⊤}
+use Rattle.std.specs.Prelude.{◌≡◌, ℕ, List, [], ◌∷◌, codes, Bool, true, false, Result, Ok, Err, slice_index, replicate, if◌then◌else◌, ⊤}
 use Rattle.std.specs.Str.{bytes_eq}
+use Rattle.page_core.specs.declared.format.Format.TheVariants.{Plain}
 use Rattle.plain_machine.specs.declared.event.Event.{Event}
 use Rattle.plain_machine.specs.declared.event.Event.TheVariants as event
 use Rattle.plain_machine.specs.declared.event.TaskOp.{TaskOp}
 use Rattle.plain_machine.specs.declared.event.TaskOp.TheVariants as op
 use Rattle.plain_machine.specs.declared.event.Actor.TheVariants as actor
 use Rattle.plain_machine.specs.declared.event.BootFrom.TheVariants.{Fresh}
+use Rattle.plain_machine.specs.declared.event.Ranges.{Ranges}
+use Rattle.plain_machine.specs.declared.event.Loader.TheVariants as loader
+use Rattle.plain_machine.specs.declared.event.IdentCheck.TheVariants.{Compare}
 use Rattle.script.specs.declared.fault.FaultKind.{FaultKind}
 use Rattle.script.specs.declared.fault.FaultKind.TheVariants.{Count, Word}
 use Rattle.script.specs.declared.grammar.Item.{Item}
@@ -64,11 +68,18 @@ core_line first spans times = record {
   reads = λ line. second_word (codes "core") line >>= numbers_say spans (λ n. Events (times n) (event.Step actor.Core));
 }
 
+-- no range of page frames
+abbrev pub no_ranges : Ranges
+no_ranges = record { count = 0; list = replicate 8 (0, 0) }
+
 -- a row for each first word
 abbrev pub shapes : List Shape
 shapes =
     setting (codes "area") (span 1 16383 ∷ []) (λ n. Sets (Last (slice_index n 0)))
     ∷ event_line (codes "boot") [] (λ n. Events 1 (event.Boot Fresh))
+    ∷ event_line (codes "hibernate") [] (λ n. Events 1 (event.Hibernate Plain))
+    ∷ event_line (codes "resume") [] (λ n. Events 1 (event.Resume (loader.Ranges no_ranges) Compare))
+    ∷ event_line (codes "cut") (values ∷ []) (λ n. Events 1 (event.Cut (slice_index n 0)))
     ∷ task_line (codes "claim") (frames ∷ []) (λ n. op.Claim (slice_index n 1))
     ∷ task_line (codes "release") (frames ∷ []) (λ n. op.Release (slice_index n 1))
     ∷ task_line (codes "store") (frames ∷ words ∷ values ∷ []) (λ n. op.Store (slice_index n 1) (slice_index n 2) (slice_index n 3))
@@ -88,16 +99,16 @@ IsScriptedOp (op.Cache p) = ⊤
 IsScriptedOp (op.Out p) = ⊥
 IsScriptedOp (op.TakeIn s p) = ⊥
 
--- the events that lines give
+-- the events that lines give: a hibernation saves pages as they are, a resume's loader may use each page frame
 abbrev pub IsScripted : Event → Type 0
 IsScripted (event.Boot from) = from ≡ Fresh
-IsScripted (event.Hibernate f) = ⊥
+IsScripted (event.Hibernate f) = f ≡ Plain
 IsScripted (event.Suspend f) = ⊥
 IsScripted event.Wake = ⊥
 IsScripted event.Settle = ⊥
 IsScripted (event.Shrink want) = ⊥
-IsScripted (event.Resume l check) = ⊥
+IsScripted (event.Resume l check) = (l ≡ loader.Ranges no_ranges) × (check ≡ Compare)
 IsScripted (event.Step x) = ⊤
 IsScripted (event.Task t o) = IsScriptedOp o
-IsScripted (event.Cut pick) = ⊥
+IsScripted (event.Cut pick) = ⊤
 IsScripted (event.Arm first count pick) = ⊥

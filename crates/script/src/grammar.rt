@@ -2,11 +2,13 @@ ghost use Rattle.std.specs.Prelude.{◌≡◌, ◌<◌, ◌≤◌, IfOk, IsOk, �
 ghost use Rattle.std.specs.List.{list_all};
 ghost use Rattle.script.specs.Words.{texts};
 ghost use Rattle.script.specs.Grammar.{Says, is_printable, line_item, words_item, IsFittingItem};
-ghost use Rattle.script.specs.Shapes.{second_word};
+ghost use Rattle.plain_machine.specs.Fitting.{IsFitting};
+ghost use Rattle.script.specs.Shapes.{second_word, no_ranges};
 
 use crate::fault::FaultKind;
 use crate::words::{Span, numbers, words_of};
-use plain_machine::{Actor, BootFrom, Event, TaskOp};
+use page_core::Format;
+use plain_machine::{Actor, BootFrom, Event, IdentCheck, Loader, Ranges, TaskOp};
 use std::alloc::{AllocError, Global};
 
 // The numbers that may stand in the places of a line.
@@ -135,6 +137,18 @@ fn task(t: u32, op: TaskOp) -> Item
     Item::Events(1, Event::Task(t, op))
 }
 
+/// A resume whose loader may use each page frame, under the identity of the machine.
+fn resume() -> Event
+    ensures event { result ≡ Event.Resume (Loader.Ranges no_ranges) IdentCheck.Compare }
+    ensures fits { IsFitting result }
+{
+    let ranges = Ranges {
+        count: 0,
+        list: [(0, 0); 8],
+    };
+    Event::Resume(Loader::Ranges(ranges), IdentCheck::Compare)
+}
+
 /// What the words of a line say, by the first of them.
 #[tactic(auto, unfolding(crate::specs::Grammar::words_item))]
 fn item_of_words(first: &[u8], rest: &[&[u8]], begun: bool) -> Result<Item, FaultKind>
@@ -150,6 +164,18 @@ fn item_of_words(first: &[u8], rest: &[&[u8]], begun: bool) -> Result<Item, Faul
         b"boot" => {
             let [] = numbers(rest, [])?;
             Ok(Item::Events(1, Event::Boot(BootFrom::Fresh)))
+        }
+        b"hibernate" => {
+            let [] = numbers(rest, [])?;
+            Ok(Item::Events(1, Event::Hibernate(Format::Plain)))
+        }
+        b"resume" => {
+            let [] = numbers(rest, [])?;
+            Ok(Item::Events(1, resume()))
+        }
+        b"cut" => {
+            let [pick] = numbers(rest, [VALUE])?;
+            Ok(Item::Events(1, Event::Cut(pick)))
         }
         b"claim" => {
             let [t, p] = numbers(rest, [TASK, FRAME])?;

@@ -1,7 +1,15 @@
 use crate::{FaultKind, Line, ParseStop, ScriptFault, line_of, parse};
 use definitions::Field;
-use plain_machine::{Actor, BootFrom, Event, Left, NoSwap, Reply, TaskOp, UndoCall};
+use page_core::Format;
+use plain_machine::{
+    Actor, BootFrom, Event, IdentCheck, Left, Loader, NoSwap, Ranges, Reply, TaskOp, UndoCall,
+};
 use std::test::Fail;
+
+const NO_RANGE: Ranges = Ranges {
+    count: 0,
+    list: [(0, 0); 8],
+};
 
 /// A reply of each form, and its line.
 #[test]
@@ -69,9 +77,14 @@ fn lines_of_replies(rt: HostRuntime) {
 /// Scripts that are at fault, with the line and the kind.
 #[test]
 fn faulty_scripts(rt: HostRuntime) {
-    let table: [(&str, u32, FaultKind); 24] = [
+    let table: [(&str, u32, FaultKind); 29] = [
         ("claim 65 1", 1, FaultKind::Range),
         ("claim 1", 1, FaultKind::Count),
+        ("hibernate zeros", 1, FaultKind::Count),
+        ("resume 0-10", 1, FaultKind::Count),
+        ("boot\nsuspend", 2, FaultKind::Word),
+        ("cut", 1, FaultKind::Count),
+        ("cut 18446744073709551616", 1, FaultKind::Number),
         ("claim x 1", 1, FaultKind::Number),
         ("steps 3 1", 1, FaultKind::Word),
         ("boot\nsteps core 100000", 2, FaultKind::Events),
@@ -109,7 +122,7 @@ fn faulty_scripts(rt: HostRuntime) {
 #[test]
 fn script_of_each_form(rt: HostRuntime) {
     let text = b"area 9\n  area  0012 \n# \n\n  \nboot\nclaim 3 10\nrelease 64 0\n\
-store 3 10 511 18446744073709551615\nshow 1 65535 0\ncache 3 10\nstep core\nsteps core 2";
+store 3 10 511 18446744073709551615\nshow 1 65535 0\ncache 3 10\nstep core\nsteps core 2\n hibernate \nresume\ncut 128";
     let script = parse(rt.alloc(), text).expect(&rt, "read");
     assert_eq!(rt; script.last(), 12);
     assert_eq!(rt;
@@ -124,6 +137,9 @@ store 3 10 511 18446744073709551615\nshow 1 65535 0\ncache 3 10\nstep core\nstep
             Event::Step(Actor::Core),
             Event::Step(Actor::Core),
             Event::Step(Actor::Core),
+            Event::Hibernate(Format::Plain),
+            Event::Resume(Loader::Ranges(NO_RANGE), IdentCheck::Compare),
+            Event::Cut(128),
         ]
         .as_slice()
     );

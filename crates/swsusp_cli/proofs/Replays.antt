@@ -17,10 +17,10 @@ use Rattle.plain_machine.specs.declared.reply.Reply.{Reply}
 use Rattle.plain_machine.proofs.DiskBlocks.{block-written, IsPage-area_page, area_page-unmarked}
 use Rattle.machine.specs.Scripted.{scripted_hardware}
 use Rattle.world_core.specs.StandsFor.{StandsFor, IsNew}
-use Rattle.world_core.specs.declared.world.World.{World}
+use Rattle.world_core.specs.World.{World}
 use Rattle.swsusp_cli.specs.Formatting.{Formats}
 use Rattle.swsusp_cli.specs.Playing.{HasPlayed}
-use Rattle.swsusp_cli.specs.Replay.{IsRun, AreReplies, is_step, steps_of}
+use Rattle.swsusp_cli.specs.Replay.{restarts_by, IsRun, AreReplies, is_step, steps_of}
 use Rattle.swsusp_cli.proofs.Turns.{counted_earlier}
 
 whole_of : (blocks : ℕ) (told : Option disk.Content) (c : disk.Content) → told ≡ Some c → IfSome told (disk.IsContent blocks) → disk.IsContent blocks c
@@ -52,9 +52,9 @@ formatted_unmarked last blocks c mid whole some writes marked =
     let here : 0 < blocks_of (disk.as_it_reads mid) = omega arith in
     area_page-unmarked last (subst IsMarked (header_at_zero (scripted_hardware last) (disk.as_it_reads mid) (header_slot last) here ∙ reads) marked)
 
-run_formatted : (last blocks : ℕ) (old new : World) (events : List Event) (replies : List Reply) (before between now : Option disk.Content) (low high : ℕ) (c : disk.Content) → before ≡ Some c → disk.IsContent blocks c → 0 < blocks →
-    IsNew (scripted_hardware last) old → disk.Changes (Formats last) before between → HasPlayed old new events replies between now low high → IsRun last events replies c now
-run_formatted last blocks old new events replies before between now low high c told whole some fresh formats played =
+run_formatted : (last blocks : ℕ) (old new : World) (events : List Event) (replies : List Reply) (before between now : Option disk.Content) (low high orders orders' : ℕ) (c : disk.Content) → before ≡ Some c → disk.IsContent blocks c → 0 < blocks →
+    IsNew (scripted_hardware last) old → disk.Changes (Formats last) before between → HasPlayed old new events replies between now low high orders orders' → IsRun last events replies c now
+run_formatted last blocks old new events replies before between now low high orders orders' c told whole some fresh formats played =
     let formatted = changed (Formats last) before between c told formats in
     let c1 = formatted.0 in
     let mid = formatted.2.0 in
@@ -72,12 +72,13 @@ run_formatted last blocks old new events replies before between now low high c t
       ),
     )
 
-pub replies_of : (last blocks : ℕ) (old new : World) (events : List Event) (replies : List Reply) (before between now : Option disk.Content) (low middle high : ℕ) → IfSome before (disk.IsContent blocks) → 0 < blocks →
-    IsNew (scripted_hardware last) old → disk.Changes (Formats last) before between → low ≤ middle → HasPlayed old new events replies between now middle high → AreReplies last events replies before now low high
-replies_of last blocks old new events replies before between now low middle high whole some fresh formats later played = record {
+pub replies_of : (last blocks : ℕ) (old new : World) (events : List Event) (replies : List Reply) (before between now : Option disk.Content) (low middle high orders middle_orders orders' : ℕ) → IfSome before (disk.IsContent blocks) → 0 < blocks →
+    IsNew (scripted_hardware last) old → disk.Changes (Formats last) before between → low ≤ middle → middle_orders ≡ orders → HasPlayed old new events replies between now middle high middle_orders orders' → AreReplies last events replies before now low high orders orders'
+replies_of last blocks old new events replies before between now low middle high orders middle_orders orders' whole some fresh formats later same played = record {
   size = played.size;
+  restarts = played.restarts ∙ ap (restarts_by events) same;
   faults = counted_earlier replies low middle high later played.faults;
-  run = λ c told. run_formatted last blocks old new events replies before between now middle high c told (whole_of blocks before c told whole) some fresh formats played;
+  run = λ c told. run_formatted last blocks old new events replies before between now middle high middle_orders orders' c told (whole_of blocks before c told whole) some fresh formats played;
 }
 
 -- there are at most as many steps as events

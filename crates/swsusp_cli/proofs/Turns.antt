@@ -1,5 +1,5 @@
 -- Events played one after another: what one more makes.
-use Rattle.std.proofs.Common.{◌≡◌, ◌⊎◌, inl, inr, ◌≤◌, ℕ, ◌+◌, List, [], ◌∷◌, ◌++◌, length, take, drop, filter, cond, Bool, true, false, Option, Some, None, refl, sym, ap, ◌∙◌, arith, subst, append_assoc, length-append}
+use Rattle.std.proofs.Common.{zero, suc, ◌≡◌, ◌⊎◌, inl, inr, ◌≤◌, ℕ, ◌+◌, List, [], ◌∷◌, ◌++◌, length, take, drop, filter, cond, Bool, true, false, Option, Some, None, refl, sym, ap, ◌∙◌, arith, subst, append_assoc, length-append}
 use Rattle.std.proofs.lemmas.Bool.{false≢true}
 use Rattle.std.proofs.lemmas.List.Elements.{filter-append}
 use Rattle.std.proofs.lemmas.Grind.{flat_map-append}
@@ -8,23 +8,23 @@ use Rattle.std.proofs.Math.Seq.{take-append-add}
 use Rattle.std.proofs.lemmas.List.{take_all, append-nil, take-append-drop}
 use Rattle.definitions.specs.Disk as disk
 use Rattle.definitions.specs.Streams.{Takes, TakesAll, TakesFront}
-use Rattle.plain_machine.specs.Faults.{IsFault}
 use Rattle.plain_machine.specs.Machine.{Hardware}
 use Rattle.plain_machine.specs.Replies.{text_of, line_of}
 use Rattle.plain_machine.specs.State.{State}
 use Rattle.plain_machine.specs.Step.{Step, Run}
 use Rattle.plain_machine.specs.declared.event.Event.{Event}
 use Rattle.plain_machine.specs.declared.event.Event.TheVariants as event
+use Rattle.plain_machine.specs.declared.reply.Left.TheVariants.{Same, Gone, Unsure}
 use Rattle.plain_machine.specs.declared.reply.Reply.{Reply}
 use Rattle.plain_machine.specs.declared.reply.Reply.TheVariants as reply
-use Rattle.protocol_laws.specs.Replays.{IsOfReplay, SameSteps, StaysOfReplay}
-use Rattle.protocol_laws.specs.Rows.{IsSameArea}
+use Rattle.protocol_laws.specs.Replays.{SameSteps, StaysOfReplay}
+use Rattle.protocol_laws.specs.Rows.{IsSameArea, IsNewFault}
 use Rattle.script.specs.Shapes.{IsScripted}
-use Rattle.world_core.specs.Row.{HasRow, IsServed, IsStep, IsCalled}
+use Rattle.world_core.specs.Row.{HasRow, IsServed, IsStep, IsCalled, orders_after}
 use Rattle.world_core.specs.StandsFor.{hardware_of}
-use Rattle.world_core.specs.declared.world.World.{World}
+use Rattle.world_core.specs.World.{World}
 use Rattle.swsusp_cli.specs.Playing.{Played, HasPlayed}
-use Rattle.swsusp_cli.specs.Replay.{is_step, steps_of, is_counted, AreCounted}
+use Rattle.swsusp_cli.specs.Replay.{is_step, steps_of, is_cut, restarted, restarts_by, is_counted, AreCounted}
 
 -- a run and one step more
 pub run_more : (h : Hardware) (v : disk.Image) (a : State) (es : List Event) (rs : List Reply) (b : State) (e : Event) (r : Reply) (b' : State) → Run h v a es rs b → Step h v b e r b' → Run h v a (es ++ e ∷ []) (rs ++ r ∷ []) b'
@@ -39,11 +39,16 @@ risen_earlier low mid high a (inr e) = inr e
 
 -- Replies that tell of a failed call, and one more.
 
-counted_fault : (r : Reply) → is_counted r ≡ true → IsFault r
+counted_fault : (r : Reply) → is_counted r ≡ true → IsNewFault r
 counted_fault (reply.ReadFault left) c = tt
-counted_fault (reply.WriteFault left) c = tt
-counted_fault (reply.SyncFault left) c = tt
-counted_fault (reply.Undo call k) c = tt
+counted_fault (reply.WriteFault Same) c = tt
+counted_fault (reply.WriteFault Gone) c = absurd (false≢true c)
+counted_fault (reply.WriteFault Unsure) c = tt
+counted_fault (reply.SyncFault Same) c = tt
+counted_fault (reply.SyncFault Gone) c = absurd (false≢true c)
+counted_fault (reply.SyncFault Unsure) c = tt
+counted_fault (reply.Undo call zero) c = tt
+counted_fault (reply.Undo call (suc k)) c = absurd (false≢true c)
 counted_fault reply.Done c = absurd (false≢true c)
 counted_fault (reply.More k of) c = absurd (false≢true c)
 counted_fault (reply.Booted image) c = absurd (false≢true c)
@@ -108,7 +113,7 @@ one_allowed n low mid high false risen later (inl so_far) = inl (omega arith)
 one_allowed n low mid high true risen later (inl so_far) =
     elim (risen refl) [ inl lt ↦ inl (omega arith) | inr last ↦ inr (omega arith) ]
 
-counted_then : (rs : List Reply) (r : Reply) (low mid high : ℕ) → (IsFault r → disk.HasRisen mid high) → mid ≤ high → AreCounted rs low mid → AreCounted (rs ++ r ∷ []) low high
+counted_then : (rs : List Reply) (r : Reply) (low mid high : ℕ) → (IsNewFault r → disk.HasRisen mid high) → mid ≤ high → AreCounted rs low mid → AreCounted (rs ++ r ∷ []) low high
 counted_then rs r low mid high risen later so_far =
     subst (λ (n : ℕ). (low + n ≤ high) ⊎ (disk.last_count ≤ high)) (sym (counted_more rs r))
     (one_allowed (length (filter is_counted rs)) low mid high (is_counted r) (λ c. risen (counted_fault r c)) later so_far)
@@ -129,11 +134,35 @@ same_area_then h u v w first then = record {
   header = record { front = then.header.front ∙ first.header.front; signature = then.header.signature ∙ first.header.signature };
 }
 
+-- Restarts of the disk.
+
+one_restart : (m n : ℕ) → restarted (m + 1) n ≡ disk.raised (restarted m n)
+one_restart m n = ap (λ (k : ℕ). restarted k n) (let s : m + 1 ≡ suc m = omega arith in s)
+
+restarts_next : (e : Event) (m n : ℕ) → restarted (m + length (filter is_cut (e ∷ []))) n ≡ orders_after e (restarted m n)
+restarts_next (event.Cut pick) m n = one_restart m n
+restarts_next (event.Boot from) m n = ap (λ (k : ℕ). restarted k n) (let s : m + 0 ≡ m = omega arith in s)
+restarts_next (event.Hibernate f) m n = ap (λ (k : ℕ). restarted k n) (let s : m + 0 ≡ m = omega arith in s)
+restarts_next (event.Suspend f) m n = ap (λ (k : ℕ). restarted k n) (let s : m + 0 ≡ m = omega arith in s)
+restarts_next event.Wake m n = ap (λ (k : ℕ). restarted k n) (let s : m + 0 ≡ m = omega arith in s)
+restarts_next event.Settle m n = ap (λ (k : ℕ). restarted k n) (let s : m + 0 ≡ m = omega arith in s)
+restarts_next (event.Shrink want) m n = ap (λ (k : ℕ). restarted k n) (let s : m + 0 ≡ m = omega arith in s)
+restarts_next (event.Resume l check) m n = ap (λ (k : ℕ). restarted k n) (let s : m + 0 ≡ m = omega arith in s)
+restarts_next (event.Step x) m n = ap (λ (k : ℕ). restarted k n) (let s : m + 0 ≡ m = omega arith in s)
+restarts_next (event.Task t o) m n = ap (λ (k : ℕ). restarted k n) (let s : m + 0 ≡ m = omega arith in s)
+restarts_next (event.Arm first count pick) m n = ap (λ (k : ℕ). restarted k n) (let s : m + 0 ≡ m = omega arith in s)
+
+restarts_more : (es : List Event) (e : Event) (n : ℕ) → restarts_by (es ++ e ∷ []) n ≡ orders_after e (restarts_by es n)
+restarts_more es e n =
+    ap (λ (k : ℕ). restarted k n) (ap length (filter-append is_cut es (e ∷ [])) ∙ length-append (filter is_cut es) (filter is_cut (e ∷ [])))
+    ∙ restarts_next e (length (filter is_cut es)) n
+
 -- Played events, and one more.
 
-pub played_none : (w : World) (content : Option disk.Content) (count : ℕ) → HasPlayed w w [] [] content content count count
-played_none w content count = record {
+pub played_none : (w : World) (content : Option disk.Content) (count orders : ℕ) → HasPlayed w w [] [] content content count count orders orders
+played_none w content count orders = record {
   size = refl;
+  restarts = refl;
   faults = inl (omega arith);
   run = λ c a told stands of. (c, a, record { told = told; area = same_area (hardware_of w) (disk.as_it_reads c); run = refl; stands = stands; of_replay = of });
 }
@@ -163,12 +192,13 @@ run_then old mid new es rs e r before between now c s same stays so_far row hw =
       },
     )
 
-pub played_more : (old mid new : World) (es : List Event) (rs : List Reply) (e : Event) (r : Reply) (before between now : Option disk.Content) (low middle high : ℕ) → SameSteps → StaysOfReplay →
-    HasPlayed old mid es rs before between low middle → HasRow e mid new r between now → hardware_of mid ≡ hardware_of old → (IsFault r → disk.HasRisen middle high) → middle ≤ high →
-    HasPlayed old new (es ++ e ∷ []) (rs ++ r ∷ []) before now low high
-played_more old mid new es rs e r before between now low middle high same stays played row hw fault later = record {
+pub played_more : (old mid new : World) (es : List Event) (rs : List Reply) (e : Event) (r : Reply) (before between now : Option disk.Content) (low middle high orders middle_orders orders' : ℕ) → SameSteps → StaysOfReplay →
+    HasPlayed old mid es rs before between low middle orders middle_orders → HasRow e mid new r between now → hardware_of mid ≡ hardware_of old → (IsNewFault r → disk.HasRisen middle high) → middle ≤ high → orders' ≡ orders_after e middle_orders →
+    HasPlayed old new (es ++ e ∷ []) (rs ++ r ∷ []) before now low high orders orders'
+played_more old mid new es rs e r before between now low middle high orders middle_orders orders' same stays played row hw fault later after = record {
   size = length-append rs (r ∷ []) ∙ ap (λ (n : ℕ). n + 1) played.size ∙ sym (length-append es (e ∷ []));
   faults = counted_then rs r low middle high fault later played.faults;
+  restarts = after ∙ ap (orders_after e) played.restarts ∙ sym (restarts_more es e orders);
   run = λ c a told stands of. run_then old mid new es rs e r before between now c a same stays (played.run c a told stands of) row hw;
 }
 
@@ -208,15 +238,15 @@ text_more rs r = flat_map-append line_of rs (r ∷ []) ∙ ap (λ (xs : List ℕ
 
 pub served : (e : Event) → IsScripted e → IsServed e
 served (event.Boot from) is = tt
-served (event.Hibernate f) is = absurd is
+served (event.Hibernate f) is = tt
 served (event.Suspend f) is = absurd is
 served event.Wake is = absurd is
 served event.Settle is = absurd is
 served (event.Shrink want) is = absurd is
-served (event.Resume l check) is = absurd is
+served (event.Resume l check) is = tt
 served (event.Step x) is = tt
 served (event.Task t o) is = tt
-served (event.Cut pick) is = absurd is
+served (event.Cut pick) is = tt
 served (event.Arm first count pick) is = absurd is
 
 -- Steps.

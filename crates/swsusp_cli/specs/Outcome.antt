@@ -31,7 +31,7 @@ abbrev pub memory_told : Told
 memory_told = record { status = Memory; out = []; note = memory_note }
 
 -- What a source, a disk and two sinks tell before a replay and after it: the bytes left, the number of blocks, the content,
--- the counts of the disk's faults and calls, and the bytes taken.
+-- the counts of the disk's faults, calls and restarts, and the bytes taken.
 pub record Around : Type 0 where
   pub left : Option (List ℕ)
   pub left_after : Option (List ℕ)
@@ -42,6 +42,8 @@ pub record Around : Type 0 where
   pub high : ℕ
   pub calls : ℕ
   pub calls_after : ℕ
+  pub orders : ℕ
+  pub orders_after : ℕ
   pub out : Option (List ℕ)
   pub out_after : Option (List ℕ)
   pub note : Option (List ℕ)
@@ -61,11 +63,13 @@ pub record IsNoScript (x : Around) (status : Status) (fault : ScriptFault) : Typ
   pub says : (bytes : List ℕ) → x.left ≡ Some bytes → script_of bytes ≡ Err fault
   pub told : Tells x (fault_told fault) status
   pub content : x.content_after ≡ x.content
+  pub restarts : x.orders_after ≡ x.orders
 
 -- memory was refused
 pub record IsOutOfMemory (x : Around) (status : Status) : Type 0 where
   pub told : Tells x memory_told status
   pub content : x.content_after ≡ x.content
+  pub restarts : x.orders_after ≡ x.orders
 
 -- the source failed: that is noted, and nothing was printed
 pub record IsUnread (x : Around) (status : Status) : Type 0 where
@@ -73,6 +77,7 @@ pub record IsUnread (x : Around) (status : Status) : Type 0 where
   pub out : TakesAll [] x.out x.out_after
   pub note : TakesFront unread_note x.note x.note_after
   pub content : x.content_after ≡ x.content
+  pub restarts : x.orders_after ≡ x.orders
 
 -- the disk has too few blocks for the script's area
 pub record IsTooSmall (x : Around) (status : Status) (script : ScriptValue) : Type 0 where
@@ -80,6 +85,7 @@ pub record IsTooSmall (x : Around) (status : Status) (script : ScriptValue) : Ty
   pub small : x.blocks < script.last + 1
   pub told : Tells x (small_told x.blocks (script.last + 1)) status
   pub content : x.content_after ≡ x.content
+  pub restarts : x.orders_after ≡ x.orders
 
 -- a call of the disk failed while the area was formatted: only block 0 may have changed
 pub record IsUnformatted (x : Around) (status : Status) (script : ScriptValue) (call : Unformatted) : Type 0 where
@@ -89,6 +95,7 @@ pub record IsUnformatted (x : Around) (status : Status) (script : ScriptValue) (
   pub risen : disk.HasRisen x.low x.high
   pub calls : x.calls_after ≡ calls_until call x.calls
   pub content : disk.Changes (FailsToFormat script.last call) x.content x.content_after
+  pub restarts : x.orders_after ≡ x.orders
 
 -- the area was formatted, and each step of the script's events made at most one call of the disk
 abbrev pub CallsFew : Around → ScriptValue → Type 0
@@ -99,7 +106,7 @@ pub record IsPlayed (x : Around) (status : Status) (script : ScriptValue) : Type
   pub script_is : IsScript x script
   pub roomy : script.last + 1 ≤ x.blocks
   pub status_is : status ≡ Done
-  pub prints : Prints script x.content x.content_after x.low x.high x.out x.out_after
+  pub prints : Prints script x.content x.content_after x.low x.high x.orders x.orders_after x.out x.out_after
   pub note : TakesAll [] x.note x.note_after
   pub calls : CallsFew x script
 
@@ -108,7 +115,7 @@ pub record IsCutOff (x : Around) (status : Status) (script : ScriptValue) : Type
   pub script_is : IsScript x script
   pub roomy : script.last + 1 ≤ x.blocks
   pub status_is : status ≡ Stream
-  pub prints : PrintsFront script x.content x.content_after x.low x.high x.out x.out_after
+  pub prints : PrintsFront script x.content x.content_after x.low x.high x.orders x.orders_after x.out x.out_after
   pub note : TakesFront sink_note x.note x.note_after
   pub calls : CallsFew x script
 

@@ -8,8 +8,8 @@ use Rattle.plain_machine.specs.declared.reply.Reply.{Reply}
 use Rattle.protocol_laws.specs.Replays.{IsOfReplay}
 use Rattle.protocol_laws.specs.Rows.{IsSameArea}
 use Rattle.world_core.specs.StandsFor.{StandsFor, hardware_of}
-use Rattle.world_core.specs.declared.world.World.{World}
-use Rattle.swsusp_cli.specs.Replay.{AreCounted}
+use Rattle.world_core.specs.World.{World}
+use Rattle.swsusp_cli.specs.Replay.{AreCounted, restarts_by}
 
 -- From the state a and the content c the events gave these replies and ended in b and c', for which the world stands. The area
 -- on the disk stayed, and b is a state of a replay.
@@ -20,10 +20,11 @@ pub record Played (old new : World) (events : List Event) (now : Option disk.Con
   pub stands : StandsFor new c' b
   pub of_replay : IsOfReplay b
 
--- Each event gave a reply, as many tell of failed calls as the disk's count, which went from `low` to `high`, allows, and they
--- are a run from every content and state of a replay that the world stood for.
-pub record HasPlayed (old new : World) (events : List Event) (replies : List Reply) (before now : Option disk.Content) (low high : ℕ) : Type 0 where
+-- Each event gave a reply, as many tell of failed calls as the disk's count, which went from `low` to `high`, allows, the cuts
+-- alone restarted the disk, and the replies are a run from every content and state of a replay that the world stood for.
+pub record HasPlayed (old new : World) (events : List Event) (replies : List Reply) (before now : Option disk.Content) (low high orders orders' : ℕ) : Type 0 where
   pub size : length replies ≡ length events
   pub faults : AreCounted replies low high
+  pub restarts : orders' ≡ restarts_by events orders
   pub run : (c : disk.Content) (a : State) → before ≡ Some c → StandsFor old c a → IsOfReplay a →
       (c' : disk.Content) × (b : State) × Played old new events now c c' a b replies

@@ -3,6 +3,8 @@
 
 mod answer;
 mod choosing;
+#[cfg(test)]
+mod cut_tests;
 mod formatting;
 mod inspection;
 mod playing;

@@ -29,15 +29,14 @@ pub fn play<D: Disk, O: Sink>(
     requires scripted { All IsScripted events.now }
     requires blocks { IsOff world.old ⊎ (D.block_count disk.old ≡ blocks_of world.old) }
     ensures played { MatchResult result
-        (λ _. (replies : List Reply) × HasPlayed world.old world.new events.now replies (D.content disk.old) (D.content disk.new) (D.faults disk.old) (D.faults disk.new)
+        (λ _. (replies : List Reply) × HasPlayed world.old world.new events.now replies (D.content disk.old) (D.content disk.new) (D.faults disk.old) (D.faults disk.new) (D.orders disk.old) (D.orders disk.new)
         × TakesAll (text_of replies) (O.taken out.old) (O.taken out.new))
-        (λ _. (k : ℕ) × (replies : List Reply) × HasPlayed world.old world.new (take k events.now) replies (D.content disk.old) (D.content disk.new) (D.faults disk.old) (D.faults disk.new)
+        (λ _. (k : ℕ) × (replies : List Reply) × HasPlayed world.old world.new (take k events.now) replies (D.content disk.old) (D.content disk.new) (D.faults disk.old) (D.faults disk.new) (D.orders disk.old) (D.orders disk.new)
         × TakesFront (text_of replies) (O.taken out.old) (O.taken out.new)) }
     ensures stream { OnErr result (HasRisen (O.faults out.old) (O.faults out.new)) }
     ensures stream_faults { O.faults out.old ≤ O.faults out.new }
     ensures faults { D.faults disk.old ≤ D.faults disk.new }
     ensures calls { D.calls disk.new ≤ D.calls disk.old + steps_of events.now }
-    ensures orders { D.orders disk.new ≡ D.orders disk.old }
     ensures hardware { hardware_of world.new ≡ hardware_of world.old }
 {
     replays();

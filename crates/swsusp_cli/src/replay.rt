@@ -49,6 +49,8 @@ pub fn replay<I: Source, O: Sink, N: Sink, D: Disk>(
       high = D.faults disk.new;
       calls = D.calls disk.old;
       calls_after = D.calls disk.new;
+      orders = D.orders disk.old;
+      orders_after = D.orders disk.new;
       out = O.taken out.old;
       out_after = O.taken out.new;
       note = N.taken note.old;
@@ -59,7 +61,6 @@ pub fn replay<I: Source, O: Sink, N: Sink, D: Disk>(
     ensures device { result ≡ Status.Device → HasRisen (D.faults disk.old) (D.faults disk.new) }
     ensures words { result ≢ Status.Words }
     ensures read { HandsOutAtMost 1048577 (I.remaining input.old) (I.remaining input.new) }
-    ensures orders { D.orders disk.new ≡ D.orders disk.old }
     ensures calls { D.calls disk.new ≤ D.calls disk.old + 100002 }
 {
     let script = match ready(alloc, input) {

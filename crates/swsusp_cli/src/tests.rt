@@ -295,3 +295,117 @@ fn the_disk_of_a_replay(rt: HostRuntime) -> Result<(), Fail> {
     assert_eq!(rt; blocks, 16384);
     Ok(())
 }
+
+/// B, and then a whole hibernation.
+const FIRST_IMAGE: &str =
+    "area 3000\nboot\nsteps core 2\nclaim 3 10\nstore 3 10 0 77\nhibernate\nsteps core 15\n";
+
+/// The disk of the first image.
+fn first_image(alloc: Global) -> Result<MemDisk, Fail> {
+    let mut disk = MemDisk::create(alloc, 3001).ok().ok_or("memory")?;
+    printed_from(alloc, &["swsusp", "replay"], FIRST_IMAGE, &mut disk, &[])?;
+    Ok(disk)
+}
+
+fn block_of(disk: &mut MemDisk, block: u32) -> Result<Page, Fail> {
+    let mut page = Page::zero();
+    if block >= disk.blocks() {
+        return Err("no block".into());
+    }
+    disk.read(block, &mut page).ok().ok_or("a read failed")?;
+    Ok(page)
+}
+
+#[test]
+fn what_inspect_says_of_the_first_image(rt: HostRuntime) -> Result<(), Fail> {
+    let mut disk = first_image(rt.alloc())?;
+    let got = printed(rt.alloc(), &["swsusp", "inspect", "s"], &mut disk, &[])?;
+    assert_eq!(rt; got.0, Status::Done);
+    assert_eq!(rt;
+        got.1.as_slice(),
+        b"area last 3000 bad 0 image 1 flags 2 hw -\n".as_slice()
+    );
+    assert_eq!(rt; got.2.as_slice(), b"".as_slice());
+    Ok(())
+}
+
+// The map is in block 1, the info page in block 2, the number page in block 3, and the pages of page frames 0 to 6 and 10 in
+// blocks 4 to 11.
+#[test]
+fn the_bytes_of_the_first_image(rt: HostRuntime) -> Result<(), Fail> {
+    let mut disk = first_image(rt.alloc())?;
+    let header = block_of(&mut disk, 0)?;
+    assert_eq!(rt;
+        header.as_bytes()[4056..].iter().as_slice(),
+        b"\0\0\0\0\0\0\0\0\x01\0\0\0\0\0\0\0\x02\0\0\0SWAPSPACE2S1SUSPEND\0".as_slice()
+    );
+    let map = block_of(&mut disk, 1)?;
+    for k in 0..10 {
+        assert_eq!(rt; map.word(k), k as u64 + 2);
+    }
+    assert_eq!(rt; map.word(10), 0);
+    assert_eq!(rt; map.word(511), 0);
+    let info = block_of(&mut disk, 2)?;
+    assert_eq!(rt; info.u32_at(392), 393_472);
+    for (word, value) in [(50, 4096), (52, 8), (53, 10), (54, 40_960)] {
+        assert_eq!(rt; info.word(word), value);
+    }
+    let numbers = block_of(&mut disk, 3)?;
+    let listed = [0, 1, 2, 3, 4, 5, 6, 10, u64::MAX, 0];
+    for (k, number) in listed.iter().enumerate() {
+        assert_eq!(rt; numbers.word(k), *number);
+    }
+    let saved = block_of(&mut disk, 11)?;
+    assert_eq!(rt; saved.word(0), 77);
+    Ok(())
+}
+
+/// A thin run: meanwhile nothing is stored, and behind the resume the word is there again.
+const THIN_RUN: &str =
+    "boot\nsteps core 2\nclaim 3 10\nstore 3 10 0 77\nhibernate\nstore 3 10 0 5\nsteps core 15\nresume\nsteps core 15\nshow 3 10 0\n";
+
+const THIN_TEXT: &str =
+    "more 0 of 2\nmore 1 of 2\nbooted image no\nok\nok\nmore 0 of 15\nfrozen\nmore 1 of 15\nmore 2 of 15\n\
+more 3 of 15\nmore 4 of 15\nmore 5 of 15\nmore 6 of 15\nmore 7 of 15\nmore 8 of 15\nmore 9 of 15\nmore 10 of 15\nmore 11 of 15\n\
+more 12 of 15\nmore 13 of 15\nmore 14 of 15\nhibernated 8\nloading 0\nloading 1\nloading 2\nloading 3\nloading 4\nloading 5\n\
+loading 6\nloading 7\nloading 8\nloading 9\nloading 10\nloading 11\nloading 12\nloading 13\nloading 14\nresumed 8\nword 77\n";
+
+#[test]
+fn a_thin_run(rt: HostRuntime) -> Result<(), Fail> {
+    let (status, out, note) = replayed(rt.alloc(), THIN_RUN, 3001, &[])?;
+    assert_eq!(rt; status, Status::Done);
+    assert_eq!(rt; out.as_slice(), THIN_TEXT.as_bytes());
+    assert_eq!(rt; note.as_slice(), b"".as_slice());
+    Ok(())
+}
+
+/// Scripts of power cuts behind B, and what they print at the end.
+#[test]
+fn what_a_cut_leaves(rt: HostRuntime) -> Result<(), Fail> {
+    let table: [(&str, &str); 4] = [
+        (
+            "hibernate\nsteps core 14\ncut 0\nresume\nsteps core 2\n",
+            "\ncut\nloading 0\nloading 1\nno image\n",
+        ),
+        (
+            "hibernate\nsteps core 14\ncut 128\nresume\nsteps core 15\n",
+            "\nresumed 8\n",
+        ),
+        (
+            "hibernate\nsteps core 15\nresume\nsteps core 3\ncut 0\nresume\nsteps core 15\n",
+            "\nresumed 8\n",
+        ),
+        (
+            "hibernate\nsteps core 15\nresume\nsteps core 4\ncut 0\nresume\nsteps core 3\n",
+            "\nloading 1\nno image\nidle\n",
+        ),
+    ];
+    for (events, end) in &table {
+        let mut text = String::from_str(rt.alloc(), B)?;
+        text.push_str(events)?;
+        let (status, out, _) = replayed(rt.alloc(), text.as_str(), 3001, &[])?;
+        assert_eq!(rt; status, Status::Done);
+        assert!(rt; out.as_slice().ends_with(end.as_bytes()), "for {events}");
+    }
+    Ok(())
+}

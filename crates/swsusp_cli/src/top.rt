@@ -54,6 +54,8 @@ pub fn run<I: Source, O: Sink, N: Sink, D: Disk>(
       high = D.faults disk.new;
       calls = D.calls disk.old;
       calls_after = D.calls disk.new;
+      orders = D.orders disk.old;
+      orders_after = D.orders disk.new;
       out = O.taken out.old;
       out_after = O.taken out.new;
       note = N.taken note.old;
@@ -72,7 +74,7 @@ pub fn run<I: Source, O: Sink, N: Sink, D: Disk>(
     ensures calls { IsNoReplay (command_of (map string_bytes words.now)) →
         D.calls disk.new ≡ calls_after (command_of (map string_bytes words.now)) (D.block_count disk.old) (D.calls disk.old) }
     ensures few_calls { D.calls disk.new ≤ D.calls disk.old + 100002 }
-    ensures orders { D.orders disk.new ≡ D.orders disk.old }
+    ensures orders { IsNoReplay (command_of (map string_bytes words.now)) → D.orders disk.new ≡ D.orders disk.old }
 {
     match Command::parse(words) {
         None => unparsed().tell(out, note),

@@ -1,4 +1,5 @@
 -- Rows of a boot, but for its end.
+use Rattle.protocol_laws.proofs.Unwritten.{block_same, block_synced}
 use Rattle.std.proofs.Common.{◌≡◌, ℕ, [], Option, Some, None, refl, sym, ap, ◌∙◌, arith, subst, unwrap_or}
 use Rattle.std.proofs.lemmas.Bool.{false≢true}
 use Rattle.definitions.specs.Disk as disk
@@ -15,9 +16,10 @@ use Rattle.plain_machine.specs.declared.event.Actor.TheVariants as actor
 use Rattle.plain_machine.specs.declared.reply.Left.TheVariants.{Same}
 use Rattle.plain_machine.specs.declared.reply.Reply.TheVariants as reply
 use Rattle.world_core.specs.declared.world.Core.TheVariants.{Off, BootBegun, BootSynced}
-use Rattle.world_core.specs.declared.world.World.{World}
-use Rattle.world_core.specs.StandsFor.{StandsFor, activity_of, hardware_of, shown}
+use Rattle.world_core.specs.World.{World}
+use Rattle.world_core.specs.StandsFor.{StandsFor, hardware_of, shown}
 use Rattle.world_core.specs.Row.{IsRow}
+use Rattle.world_core.proofs.Cases.{activity_by}
 use Rattle.world_core.proofs.Rows.{same_area, accepted_step, refused_step, row_at_rest, row_at_boot}
 
 -- What a smaller choice of images keeps.
@@ -46,10 +48,9 @@ one_after_sync c c' syncs v w in_v in_w = IsImage-after_sync c c' v syncs in_v �
 
 -- Begin.
 
-no_kept : (w : World) (c : disk.Content) (held : Held) (kept : Option Memory) → StandsFor w c (off held kept) → kept ≡ None
-unfolding StandsFor
+pub no_kept : (w : World) (c : disk.Content) (held : Held) (kept : Option Memory) → StandsFor w c (off held kept) → kept ≡ None
 no_kept w c held None stands = refl
-no_kept w c held (Some m) stands = absurd (false≢true stands.parts.0.0)
+no_kept w c held (Some m) stands = absurd (false≢true stands.stands.parts.0.0)
 
 refuses_dump : (h : Hardware) (held : Held) (kept : Option Memory) → kept ≡ None → refusal h (off held kept) (event.Boot Kept) ≡ Some reply.NoDump
 unfolding refusal
@@ -64,6 +65,7 @@ no_dump w c core =
         step = refused_step (hardware_of w) (disk.as_it_reads c) (off held kept) (event.Boot Kept) reply.NoDump (refuses_dump (hardware_of w) held kept (no_kept w c held kept stands));
         stands = stands;
         area = same_area (hardware_of w) (disk.as_it_reads c) (disk.as_it_reads c) refl;
+        unwritten = λ b not. block_same b _;
       },
     ))
 
@@ -72,10 +74,13 @@ unfolding refusal
 accepts_boot h held kept = refl
 
 begun_stands : (old new : World) (c : disk.Content) (held : Held) (kept : Option Memory) (dump : Memory) → new.core ≡ BootBegun → hardware_of new ≡ hardware_of old → new.frames ≡ fresh_frames (hardware_of old) → StandsFor old c (off held kept) → StandsFor new c (booting Fresh dump held 0)
-unfolding StandsFor
 begun_stands old new c held kept dump core hw frames stands =
-    subst (λ (h : Hardware). Stands h (shown new) c (booting Fresh dump held 0)) (sym hw)
-    (record { activity = ap activity_of core; parts = (frames, stands.parts.1, λ e. let never : ⊥ = omega arith in absurd never) })
+    record {
+      stands = subst (λ (h : Hardware). Stands h (shown new) c (booting Fresh dump held 0)) (sym hw)
+          (record { activity = activity_by new BootBegun core; parts = (frames, stands.stands.parts.1, λ e. let never : ⊥ = omega arith in absurd never) });
+      image = tt;
+      resume = tt;
+    }
 
 pub boot_begins : (old new : World) (c : disk.Content) → old.core ≡ Off → new.core ≡ BootBegun → hardware_of new ≡ hardware_of old → new.frames ≡ fresh_frames (hardware_of old) → IsRow (event.Boot Fresh) old new (reply.More 0 2) c c
 boot_begins old new c core core' hw frames =
@@ -86,6 +91,7 @@ boot_begins old new c core core' hw frames =
         step = accepted_step (hardware_of old) (disk.as_it_reads c) (off held kept) (event.Boot Fresh) (reply.More 0 2) (booting Fresh (unwrap_or kept []) held 0) (accepts_boot (hardware_of old) held kept) (0, omega arith, refl);
         stands = begun_stands old new c held kept (unwrap_or kept []) core' hw frames stands;
         area = same_area (hardware_of old) (disk.as_it_reads c) (disk.as_it_reads c) refl;
+        unwritten = λ b not. block_same b _;
       },
     ))
 
@@ -96,47 +102,55 @@ unfolding refusal
 accepts_step h dump held k = refl
 
 synced_stands : (old new : World) (blocks : ℕ) (c c' : disk.Content) (dump : Memory) (held : Held) → disk.IsContent blocks c → disk.Syncs c c' → new.core ≡ BootSynced → hardware_of new ≡ hardware_of old → new.frames ≡ old.frames → StandsFor old c (booting Fresh dump held 0) → StandsFor new c' (booting Fresh dump held 1)
-unfolding StandsFor
 synced_stands old new blocks c c' dump held whole syncs core hw frames stands =
     let fewer = fewer_after_sync blocks c c' whole syncs in
-    subst (λ (h : Hardware). Stands h (shown new) c' (booting Fresh dump held 1)) (sym hw)
-    (record {
-      activity = ap activity_of core;
-      parts = (
-        frames ∙ stands.parts.0,
-        (held_by_images (hardware_of old) c c' held fewer stands.parts.1.0, header_by_images (hardware_of old) c c' fewer (reads_after_sync c c' syncs) stands.parts.1.1),
-        λ e. one_after_sync c c' syncs,
-      );
-    })
+    record {
+      stands = subst (λ (h : Hardware). Stands h (shown new) c' (booting Fresh dump held 1)) (sym hw)
+          (record {
+            activity = activity_by new BootSynced core;
+            parts = (
+              frames ∙ stands.stands.parts.0,
+              (held_by_images (hardware_of old) c c' held fewer stands.stands.parts.1.0, header_by_images (hardware_of old) c c' fewer (reads_after_sync c c' syncs) stands.stands.parts.1.1),
+              λ e. one_after_sync c c' syncs,
+            );
+          });
+      image = tt;
+      resume = tt;
+    }
 
 pub boot_syncs : (old new : World) (blocks : ℕ) (c c' : disk.Content) → disk.IsContent blocks c → disk.Syncs c c' → old.core ≡ BootBegun → new.core ≡ BootSynced → hardware_of new ≡ hardware_of old → new.frames ≡ old.frames → IsRow (event.Step actor.Core) old new (reply.More 1 2) c c'
 boot_syncs old new blocks c c' whole syncs core core' hw frames =
-    row_at_boot (event.Step actor.Core) old new (reply.More 1 2) c c' 0 (ap activity_of core)
+    row_at_boot (event.Step actor.Core) old new (reply.More 1 2) c c' 0 (activity_by old BootBegun core)
     (λ dump held stands. (
       booting Fresh dump held 1,
       record {
         step = accepted_step (hardware_of old) (disk.as_it_reads c) (booting Fresh dump held 0) (event.Step actor.Core) (reply.More 1 2) (booting Fresh dump held 1) (accepts_step (hardware_of old) dump held 0) (0, omega arith, refl);
         stands = synced_stands old new blocks c c' dump held whole syncs core' hw frames stands;
         area = same_area (hardware_of old) (disk.as_it_reads c) (disk.as_it_reads c') (reads_after_sync c c' syncs);
+        unwritten = λ b not. block_synced blocks b c c' whole syncs;
       },
     ))
 
 -- A call of the disk that fails.
 
 pub failed_stands : (old new : World) (c : disk.Content) (dump : Memory) (held : Held) (k : ℕ) → new.core ≡ Off → hardware_of new ≡ hardware_of old → StandsFor old c (booting Fresh dump held k) → StandsFor new c (off held None)
-unfolding StandsFor
 failed_stands old new c dump held k core hw stands =
-    subst (λ (h : Hardware). Stands h (shown new) c (off held None)) (sym hw)
-    (record { activity = ap activity_of core; parts = (refl, stands.parts.1) })
+    record {
+      stands = subst (λ (h : Hardware). Stands h (shown new) c (off held None)) (sym hw)
+          (record { activity = activity_by new Off core; parts = (refl, stands.stands.parts.1) });
+      image = tt;
+      resume = tt;
+    }
 
 pub boot_sync_fails : (old new : World) (c : disk.Content) → old.core ≡ BootBegun → new.core ≡ Off → hardware_of new ≡ hardware_of old → IsRow (event.Step actor.Core) old new (reply.SyncFault Same) c c
 boot_sync_fails old new c core core' hw =
-    row_at_boot (event.Step actor.Core) old new (reply.SyncFault Same) c c 0 (ap activity_of core)
+    row_at_boot (event.Step actor.Core) old new (reply.SyncFault Same) c c 0 (activity_by old BootBegun core)
     (λ dump held stands. (
       off held None,
       record {
         step = accepted_step (hardware_of old) (disk.as_it_reads c) (booting Fresh dump held 0) (event.Step actor.Core) (reply.SyncFault Same) (off held None) (accepts_step (hardware_of old) dump held 0) (1, omega arith, refl);
         stands = failed_stands old new c dump held 0 core' hw stands;
         area = same_area (hardware_of old) (disk.as_it_reads c) (disk.as_it_reads c) refl;
+        unwritten = λ b not. block_same b _;
       },
     ))

@@ -7,7 +7,8 @@ use Rattle.plain_machine.specs.State.{State, off, on, booting, hibernating, undo
 use Rattle.plain_machine.specs.Shows.{Activity, rests, runs, boots, hibernates, undoes, settles, wakes, loads, sleeps, activity_in}
 use Rattle.plain_machine.specs.declared.event.BootFrom.{BootFrom}
 use Rattle.plain_machine.specs.declared.event.BootFrom.TheVariants.{Fresh, Kept}
-use Rattle.world_core.specs.declared.world.World.{World}
+use Rattle.world_core.specs.declared.world.Core.{Core}
+use Rattle.world_core.specs.World.{World}
 use Rattle.world_core.specs.StandsFor.{StandsFor, activity_of}
 
 -- What tells activities apart: their kind, a boot's memory, and its steps.
@@ -34,9 +35,11 @@ abbrev steps_of : Activity → ℕ
 steps_of (boots from k) = k
 steps_of _ = 0
 
-pub activity_for : (w : World) (c : disk.Content) (a : State) → StandsFor w c a → activity_of w.core ≡ activity_in a
-unfolding StandsFor
-activity_for w c a stands = stands.activity
+pub activity_for : (w : World) (c : disk.Content) (a : State) → StandsFor w c a → activity_of w.core w.hib w.load ≡ activity_in a
+activity_for w c a stands = stands.stands.activity
+
+pub activity_by : (w : World) (core : Core) → w.core ≡ core → activity_of w.core w.hib w.load ≡ activity_of core w.hib w.load
+activity_by w core e = ap (λ (x : Core). activity_of x w.hib w.load) e
 
 other : {A : Type 0} (x y : Activity) → rank x ≢ rank y → x ≡ y → A
 other x y ne e = absurd (ne (ap rank e))

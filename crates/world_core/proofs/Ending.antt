@@ -1,4 +1,5 @@
 -- The row of a boot's end.
+use Rattle.protocol_laws.proofs.Unwritten.{block_same}
 use Rattle.std.proofs.Common.{◌≡◌, ◌⊎◌, inl, inr, ℕ, ◌<◌, ◌^◌, Bool, true, false, cond, not, ◌&&◌, List, [], ◌∷◌, ◌++◌, Some, None, Result, Ok, Err, refl, sym, ap, ◌∙◌, arith, subst, eqb, ⊎_elim}
 use Rattle.std.proofs.lemmas.Bool.{cases_eq, eqb-true}
 use Rattle.std.proofs.lemmas.Option.{none-some}
@@ -31,9 +32,10 @@ use Rattle.plain_machine.proofs.Fresh.{slot_entry-fresh_memory, fits-fresh_memor
 use Rattle.plain_machine.proofs.SameMemory.{same_refl}
 use Rattle.machine.specs.FreshSlots.{slot_of_area}
 use Rattle.world_core.specs.declared.world.Core.TheVariants.{Off, Running as Runs, BootSynced}
-use Rattle.world_core.specs.declared.world.World.{World}
-use Rattle.world_core.specs.StandsFor.{StandsFor, activity_of, hardware_of, shown}
+use Rattle.world_core.specs.World.{World}
+use Rattle.world_core.specs.StandsFor.{StandsFor, hardware_of, shown}
 use Rattle.world_core.specs.Row.{IsRow}
+use Rattle.world_core.proofs.Cases.{activity_by}
 use Rattle.world_core.proofs.Rows.{same_area, accepted_step, row_at_boot}
 use Rattle.world_core.proofs.Booting.{accepts_step, failed_stands}
 use Rattle.world_core.proofs.Headers.{IsAreaOf, reason_read, slot_read}
@@ -164,14 +166,14 @@ bad_slots_are h v (Ok area) hw is none =
 
 stands_on : (old new : World) (c : disk.Content) (image : Bool) (dump : Memory) (now : Held) → Ends old new (disk.as_it_reads c) image → IsHardware (hardware_of old) → (hardware_of old).regions ≡ [] → old.frames ≡ fresh_frames (hardware_of old) →
     ShowsHeld new.machine.held now → IsHeld (hardware_of old) c now → IsHeader (hardware_of old) c → StandsFor new c (on (booted (hardware_of old) (disk.as_it_reads c) Fresh dump now))
-unfolding StandsFor
 stands_on old new c image dump now ends hw none fresh flag held header =
     let h = hardware_of old in
     let v = disk.as_it_reads c in
     let frames = frames_fresh old new v image ends fresh in
+    let stands : Stands (hardware_of new) (shown new) c (on (booted h v Fresh dump now)) =
     subst (λ (g : Hardware). Stands g (shown new) c (on (booted h v Fresh dump now))) (sym ends.hardware)
     (record {
-      activity = ap activity_of ends.core;
+      activity = activity_by new Runs ends.core;
       parts = (
         shows_running old new v image dump now ends hw none fresh flag,
         record {
@@ -183,15 +185,15 @@ stands_on old new c image dump now ends hw none fresh flag held header =
           area = record { area = λ e. e; bad_slots = λ e. bad_slots_are h v new.machine.area hw ends.area e };
         },
       );
-    })
+    }) in
+    record { stands = stands; image = tt; resume = tt }
 
 booting_parts : (w : World) (c : disk.Content) (dump : Memory) (held : Held) → StandsFor w c (booting Fresh dump held 1) → (w.frames ≡ fresh_frames (hardware_of w)) × IsHeld (hardware_of w) c held × IsHeader (hardware_of w) c × HasOneImage c
-unfolding StandsFor
-booting_parts w c dump held stands = (stands.parts.0, stands.parts.1.0, stands.parts.1.1, stands.parts.2 refl)
+booting_parts w c dump held stands = (stands.stands.parts.0, stands.stands.parts.1.0, stands.stands.parts.1.1, stands.stands.parts.2 refl)
 
 pub boot_ends : (old new : World) (blocks : ℕ) (c : disk.Content) (image : Bool) → disk.IsContent blocks c → old.core ≡ BootSynced → Ends old new (disk.as_it_reads c) image → IsHardware (hardware_of old) → (hardware_of old).regions ≡ [] → IsRow (event.Step actor.Core) old new (reply.Booted image) c c
 boot_ends old new blocks c image whole core ends hw none =
-    row_at_boot (event.Step actor.Core) old new (reply.Booted image) c c 1 (ap activity_of core)
+    row_at_boot (event.Step actor.Core) old new (reply.Booted image) c c 1 (activity_by old BootSynced core)
     (λ dump held stands.
     let h = hardware_of old in
     let v = disk.as_it_reads c in
@@ -202,6 +204,7 @@ boot_ends old new blocks c image whole core ends hw none =
         step = accepted_step h v (booting Fresh dump held 1) (event.Step actor.Core) (reply.Booted image) (on (booted h v Fresh dump settled.0)) (accepts_step h dump held 1) settled.1;
         stands = stands_on old new c image dump settled.0 ends hw none parts.0 (subst (λ (f : HeldFlag). ShowsHeld f settled.0) (sym ends.held) settled.2) settled.3 parts.2;
         area = same_area (hardware_of old) (disk.as_it_reads c) (disk.as_it_reads c) refl;
+        unwritten = λ b not. block_same b _;
       },
     ))
 
@@ -212,12 +215,13 @@ read_fault_in h v dump (maybe x) = (2, omega arith, refl)
 
 pub boot_read_fails : (old new : World) (c : disk.Content) → old.core ≡ BootSynced → new.core ≡ Off → hardware_of new ≡ hardware_of old → IsRow (event.Step actor.Core) old new (reply.ReadFault Same) c c
 boot_read_fails old new c core core' hw =
-    row_at_boot (event.Step actor.Core) old new (reply.ReadFault Same) c c 1 (ap activity_of core)
+    row_at_boot (event.Step actor.Core) old new (reply.ReadFault Same) c c 1 (activity_by old BootSynced core)
     (λ dump held stands. (
       off held None,
       record {
         step = accepted_step (hardware_of old) (disk.as_it_reads c) (booting Fresh dump held 1) (event.Step actor.Core) (reply.ReadFault Same) (off held None) (accepts_step (hardware_of old) dump held 1) (read_fault_in (hardware_of old) (disk.as_it_reads c) dump held);
         stands = failed_stands old new c dump held 1 core' hw stands;
         area = same_area (hardware_of old) (disk.as_it_reads c) (disk.as_it_reads c) refl;
+        unwritten = λ b not. block_same b _;
       },
     ))

@@ -17,7 +17,7 @@ use Rattle.plain_machine.specs.Step.{fresh_slot}
 use Rattle.plain_machine.specs.declared.no_swap.NoSwap.{NoSwap}
 use Rattle.machine.specs.FreshSlots.{slot_of_area}
 use Rattle.world_core.specs.Started.{is_image, header_at, area_kind_of}
-use Rattle.world_core.specs.StandsFor.{reason_of}
+use Rattle.hib_core.specs.Hibernation.{reason_of}
 
 with_not_image : (page : List ℕ) (o : Option ℕ) → is_image (area_with page o) ≡ false
 with_not_image page None = refl

@@ -1,8 +1,11 @@
 pub mod Booting
 pub mod Cases
+pub mod Cutting
 pub mod Disks
 pub mod Ending
 pub mod Headers
+pub mod Hibernating
 pub mod New
+pub mod Resuming
 pub mod Rows
 pub mod Tasks

@@ -12,13 +12,14 @@ use Rattle.sig_header.specs.declared.area.AreaKind.TheVariants.{Swap}
 use Rattle.plain_machine.specs.Machine.{Hardware}
 use Rattle.plain_machine.specs.Chain.{header_of, blocks_of as blocks_in, Marked}
 use Rattle.plain_machine.specs.UsableArea.{area_block, area_fault, kind_or_fit_fault}
-use Rattle.plain_machine.specs.State.{off, nothing}
-use Rattle.plain_machine.specs.Stands.{Stands, AgreeOnArea}
+use Rattle.plain_machine.specs.State.{off, Held, nothing, sure, other}
+use Rattle.plain_machine.specs.Stands.{Stands, IsHeld, AgreeOnArea}
 use Rattle.plain_machine.specs.declared.no_swap.NoSwap.{NoSwap}
 use Rattle.world_core.specs.declared.world.Core.TheVariants.{Off}
-use Rattle.world_core.specs.declared.world.World.{World}
-use Rattle.world_core.specs.StandsFor.{StandsFor, activity_of, hardware_of, shown, blocks_of}
+use Rattle.world_core.specs.World.{World}
+use Rattle.world_core.specs.StandsFor.{StandsFor, hardware_of, shown, blocks_of}
 use Rattle.world_core.specs.Started.{IsStarted, area_kind_of}
+use Rattle.world_core.proofs.Cases.{activity_by}
 use Rattle.world_core.proofs.Ending.{Ends}
 use Rattle.world_core.proofs.Headers.{IsAreaOf, kind_read, marked_true, marked_false}
 
@@ -31,25 +32,34 @@ area_block_unmarked h v un =
     ap (λ (b : Bool). cond b (taken_back (header_of h v)) (header_of h v))
     (not_true (pointwise nat_eq (sig_of (header_of h v)) image_signature) (λ e. un (same_text (sig_of (header_of h v)) image_signature (sym e))))
 
-pub stands_new : (w : World) (h : Hardware) (v : disk.Image) → hardware_of w ≡ h → w.core ≡ Off → (Marked h v → ⊥) → StandsFor w (disk.settled v) (off nothing None)
-unfolding StandsFor
-stands_new w h v hw core un =
-    subst (λ (g : Hardware). Stands g (shown w) (disk.settled v) (off nothing None)) (sym hw)
+-- a machine that is off, over a disk with one image
+new_stands : (w : World) (h : Hardware) (v : disk.Image) (held : Held) → hardware_of w ≡ h → w.core ≡ Off → IsHeld h (disk.settled v) held → (IsMarked (area_block h v) → ⊥) → StandsFor w (disk.settled v) (off held None)
+new_stands w h v held hw core is un =
+    let stands : Stands (hardware_of w) (shown w) (disk.settled v) (off held None) =
+    subst (λ (g : Hardware). Stands g (shown w) (disk.settled v) (off held None)) (sym hw)
     (record {
-      activity = ap activity_of core;
+      activity = activity_by w Off core;
       parts = (
         refl,
         (
-          λ u in' marked. un (subst (Marked h) (IsImage-settled v u in') marked),
+          is,
           record {
-            unmarked = λ u in' marked. un (subst IsMarked (area_block_unmarked h v un) (subst (λ (x : disk.Image). IsMarked (area_block h x)) (IsImage-settled v u in') marked));
+            unmarked = λ u in' marked. un (subst (λ (x : disk.Image). IsMarked (area_block h x)) (IsImage-settled v u in') marked);
             one = λ u in'. agree (area_block h u) (area_block h (disk.as_it_reads (disk.settled v))) (ap (area_block h) (IsImage-settled v u in' ∙ sym (as_it_reads-settled v)));
           },
         ),
       );
-    }) where
+    }) in
+    record { stands = stands; image = tt; resume = tt } where
       agree : (a b : List ℕ) → a ≡ b → AgreeOnArea a b
       agree a b e = record { front = ap (take 4056) e; signature = ap (λ (page : List ℕ). bytes_at 10 page 4086) e }
+
+pub stands_new : (w : World) (h : Hardware) (v : disk.Image) → hardware_of w ≡ h → w.core ≡ Off → (Marked h v → ⊥) → StandsFor w (disk.settled v) (off nothing None)
+stands_new w h v hw core un =
+    new_stands w h v nothing hw core (λ u in' marked. un (subst (Marked h) (IsImage-settled v u in') marked)) (λ marked. un (subst IsMarked (area_block_unmarked h v un) marked))
+
+pub stands_marked : (w : World) (h : Hardware) (v : disk.Image) → hardware_of w ≡ h → w.core ≡ Off → Marked h v → (IsMarked (area_block h v) → ⊥) → StandsFor w (disk.settled v) (off (sure other) None)
+stands_marked w h v hw core marked un = new_stands w h v (sure other) hw core (λ u in'. subst (Marked h) (sym (IsImage-settled v u in')) marked) un
 
 area_of_started : (h : Hardware) (v : disk.Image) (blocks : ℕ) (header : List ℕ) (area : Result Area NoSwap) → area_kind_of header ≡ area_kind (area_block h v) → blocks_in v ≡ blocks →
     MatchResult area (λ a. (area_kind_of header ≡ Swap a) × (kind_or_fit_fault h blocks (area_kind_of header) ≡ None)) (λ why. kind_or_fit_fault h blocks (area_kind_of header) ≡ Some why) → IsAreaOf h v area

@@ -1,4 +1,5 @@
 -- Rows of the plain machine for whole worlds.
+use Rattle.protocol_laws.proofs.Unwritten.{block_same}
 use Rattle.std.proofs.Common.{◌≡◌, ◌≢◌, ℕ, Bool, true, false, Option, Some, None, refl, sym, ap, ◌∙◌, arith, subst, ◌⊎◌, inl, inr, not, is_some}
 use Rattle.std.specs.List.{Contains}
 use Rattle.std.proofs.lemmas.Bool.{false≢true}
@@ -6,12 +7,14 @@ use Rattle.definitions.specs.Disk as disk
 use Rattle.plain_machine.specs.Machine.{Hardware, Memory}
 use Rattle.plain_machine.specs.State.{State, off, on, booting, hibernating, undoing, settling, waking, loading, asleep, Running, Held, Flight}
 use Rattle.plain_machine.specs.Step.{Step, outcomes, accepted, refused_or}
-use Rattle.plain_machine.specs.Refusals.{refusal, refused_if}
+use Rattle.plain_machine.specs.Refusals.{start_refusal, asks_dump_to_boot, asks_dump_to_load, refusal, refused_if, refusal_if_running, task_refusal, hibernate_refusal}
 use Rattle.plain_machine.specs.Stands.{Stands}
-use Rattle.plain_machine.specs.Shows.{Activity, rests, boots, activity_in}
+use Rattle.plain_machine.specs.Shows.{Activity, rests, runs, boots, sleeps, activity_in}
 use Rattle.plain_machine.specs.declared.event.BootFrom.{BootFrom}
 use Rattle.plain_machine.specs.declared.event.BootFrom.TheVariants.{Fresh}
 use Rattle.plain_machine.specs.declared.event.Event.{Event}
+use Rattle.plain_machine.specs.declared.event.Loader.{Loader}
+use Rattle.plain_machine.specs.declared.event.IdentCheck.{IdentCheck}
 use Rattle.plain_machine.specs.declared.event.Event.TheVariants as event
 use Rattle.plain_machine.specs.declared.event.TaskOp.{TaskOp}
 use Rattle.plain_machine.specs.declared.event.Actor.{Actor}
@@ -19,12 +22,25 @@ use Rattle.plain_machine.specs.declared.event.Actor.TheVariants as actor
 use Rattle.plain_machine.specs.declared.reply.Reply.{Reply}
 use Rattle.plain_machine.specs.declared.reply.Reply.TheVariants as reply
 use Rattle.protocol_laws.specs.Rows.{IsSameArea}
+use Rattle.page_core.specs.declared.format.Format.{Format}
+use Rattle.hib_core.specs.Hibernation.{activity_at}
+use Rattle.hib_core.specs.Ready.{IsBusy, is_busy_at}
+use Rattle.hib_core.specs.declared.hib.Hib.{Hib}
+use Rattle.hib_core.specs.declared.hib.Stage.{Stage}
+use Rattle.hib_core.specs.declared.hib.Stage.TheVariants as stage
+use Rattle.resume_core.specs.Loading as resumption
+use Rattle.resume_core.specs.Ready as resume_ready
+use Rattle.resume_core.specs.declared.load.Load.{Load}
+use Rattle.resume_core.specs.declared.load.Stage.{Stage as LoadStage}
+use Rattle.resume_core.specs.declared.load.Stage.TheVariants as load_stage
 use Rattle.world_core.specs.declared.world.Core.{Core}
-use Rattle.world_core.specs.declared.world.Core.TheVariants.{Off, Running as Runs, BootBegun, BootSynced}
-use Rattle.world_core.specs.declared.world.World.{World}
-use Rattle.world_core.specs.StandsFor.{StandsFor, activity_of, hardware_of, shown}
+use Rattle.world_core.specs.declared.world.Core.TheVariants.{Off, Running as Runs, BootBegun, BootSynced, Hibernating, Loading}
+use Rattle.world_core.specs.declared.world.World.TheInside.{Inside}
+use Rattle.world_core.specs.World.{World}
+use Rattle.world_core.specs.Kept.{kept_world, IsKept, IsUp}
+use Rattle.world_core.specs.StandsFor.{StandsFor, IsBusyIn, activity_of, hardware_of, shown}
 use Rattle.world_core.specs.Row.{GoesOn, IsRow, IsServed}
-use Rattle.world_core.proofs.Cases.{activity_for, at_rest, at_run, at_boot}
+use Rattle.world_core.proofs.Cases.{activity_for, activity_by, at_rest, at_run, at_boot}
 
 pub refused_step : (h : Hardware) (v : disk.Image) (a : State) (e : Event) (r : Reply) → refusal h a e ≡ Some r → Step h v a e r a
 unfolding outcomes
@@ -40,35 +56,93 @@ same_area h v w e = subst (IsSameArea h v) (sym e) (record { blocks = refl; head
 
 -- a refused event leaves the world
 pub row_refused : (e : Event) (w : World) (r : Reply) (c : disk.Content) → ((a : State) → StandsFor w c a → refusal (hardware_of w) a e ≡ Some r) → IsRow e w w r c c
-row_refused e w r c why a stands = (a, record { step = refused_step (hardware_of w) (disk.as_it_reads c) a e r (why a stands); stands = stands; area = same_area (hardware_of w) (disk.as_it_reads c) (disk.as_it_reads c) refl })
+row_refused e w r c why a stands = (a, record { step = refused_step (hardware_of w) (disk.as_it_reads c) a e r (why a stands); stands = stands; area = same_area (hardware_of w) (disk.as_it_reads c) (disk.as_it_reads c) refl; unwritten = λ b not. block_same b _ })
 
 -- Refusals by what the world is at.
 
+starts_not_off : (a : State) (asks : Bool) → ((held : Held) (kept : Option Memory) → a ≡ off held kept → ⊥) → start_refusal a asks ≡ Some reply.NotOff
+starts_not_off (off held kept) asks other = absurd (other held kept refl)
+starts_not_off (on r) asks other = refl
+starts_not_off (booting f dump held k) asks other = refl
+starts_not_off (hibernating suspends i r k) asks other = refl
+starts_not_off (undoing i call r k) asks other = refl
+starts_not_off (settling r k) asks other = refl
+starts_not_off (waking i held r k) asks other = refl
+starts_not_off (loading load k) asks other = refl
+starts_not_off (asleep i held r) asks other = refl
+
 not_off_by : (h : Hardware) (a : State) (from : BootFrom) → ((held : Held) (kept : Option Memory) → a ≡ off held kept → ⊥) → refusal h a (event.Boot from) ≡ Some reply.NotOff
 unfolding refusal
-not_off_by h (off held kept) from other = absurd (other held kept refl)
-not_off_by h (on r) from other = refl
-not_off_by h (booting f dump held k) from other = refl
-not_off_by h (hibernating suspends i r k) from other = refl
-not_off_by h (undoing i call r k) from other = refl
-not_off_by h (settling r k) from other = refl
-not_off_by h (waking i held r k) from other = refl
-not_off_by h (loading load k) from other = refl
-not_off_by h (asleep i held r) from other = refl
+not_off_by h a from other = starts_not_off a (asks_dump_to_boot from) other
+
+resume_not_off_by : (h : Hardware) (a : State) (loader : Loader) (check : IdentCheck) → ((held : Held) (kept : Option Memory) → a ≡ off held kept → ⊥) → refusal h a (event.Resume loader check) ≡ Some reply.NotOff
+unfolding refusal
+resume_not_off_by h a loader check other = starts_not_off a (asks_dump_to_load loader) other
+
+-- a boot, a hibernation or another operation that isn't over
+abbrev is_underway : Activity → Bool
+is_underway rests = false
+is_underway runs = false
+is_underway sleeps = false
+is_underway _ = true
+
+busy_underway : (s : Stage) (made : ℕ) → is_busy_at s → is_underway (activity_at s made) ≡ true
+busy_underway stage.Idle made busy = absurd busy
+busy_underway stage.Over made busy = absurd busy
+busy_underway stage.Write made busy = refl
+busy_underway stage.Sync made busy = refl
+busy_underway stage.Read made busy = refl
+busy_underway stage.Mark made busy = refl
+busy_underway stage.End made busy = refl
+busy_underway (stage.TakeBack call) made busy = refl
+busy_underway (stage.EndUndo call) made busy = refl
 
 abbrev is_rest : Activity → Bool
 is_rest rests = true
 is_rest _ = false
 
-core_off : (core : Core) → activity_of core ≡ rests → core ≡ Off
-core_off Off e = refl
-core_off Runs e = absurd (false≢true (ap is_rest e))
-core_off BootBegun e = absurd (false≢true (ap is_rest e))
-core_off BootSynced e = absurd (false≢true (ap is_rest e))
+load_underway : (s : LoadStage) (made : ℕ) → resume_ready.is_busy_at s → is_underway (resumption.activity_at s made) ≡ true
+load_underway load_stage.Rest made busy = absurd busy
+load_underway load_stage.Runs made busy = absurd busy
+load_underway load_stage.Sync made busy = refl
+load_underway load_stage.Find made busy = refl
+load_underway load_stage.TakeBack made busy = refl
+load_underway load_stage.SyncBack made busy = refl
+load_underway load_stage.List made busy = refl
+load_underway load_stage.Read made busy = refl
 
-pub not_off : (w : World) (c : disk.Content) (a : State) (from : BootFrom) → w.core ≢ Off → StandsFor w c a → refusal (hardware_of w) a (event.Boot from) ≡ Some reply.NotOff
-not_off w c a from busy stands =
-    not_off_by (hardware_of w) a from (λ held kept e. busy (core_off w.core (activity_for w c a stands ∙ ap activity_in e)))
+abbrev is_idle : Core → Bool
+is_idle Off = true
+is_idle Runs = true
+is_idle BootBegun = false
+is_idle BootSynced = false
+is_idle Hibernating = false
+is_idle Loading = false
+
+core_underway : (core : Core) (hib : Hib) (load : Load) → (core ≡ Hibernating → IsBusy hib) → (core ≡ Loading → resume_ready.IsBusy load) → is_idle core ≡ false → is_underway (activity_of core hib load) ≡ true
+core_underway Off hib load busy loads no_idle = absurd (false≢true (sym no_idle))
+core_underway Runs hib load busy loads no_idle = absurd (false≢true (sym no_idle))
+core_underway BootBegun hib load busy loads no_idle = refl
+core_underway BootSynced hib load busy loads no_idle = refl
+core_underway Hibernating hib load busy loads no_idle = busy_underway hib.stage hib.made (busy refl)
+core_underway Loading hib load busy loads no_idle = load_underway load.stage load.made (loads refl)
+
+core_off : (w : World) (core : Core) → IsBusyIn w → w.core ≡ core → activity_of core w.hib w.load ≡ rests → core ≡ Off
+core_off w Off busy e rest = refl
+core_off w Runs busy e rest = absurd (false≢true (ap is_rest rest))
+core_off w BootBegun busy e rest = absurd (false≢true (ap is_rest rest))
+core_off w BootSynced busy e rest = absurd (false≢true (ap is_rest rest))
+core_off w Hibernating busy e rest = absurd (false≢true (sym (ap is_underway rest) ∙ busy_underway w.hib.stage w.hib.made (busy.hibernates e)))
+core_off w Loading busy e rest = absurd (false≢true (sym (ap is_underway rest) ∙ load_underway w.load.stage w.load.made (busy.resumes e)))
+
+never_off : (w : World) (c : disk.Content) (a : State) → IsBusyIn w → w.core ≢ Off → StandsFor w c a → (held : Held) (kept : Option Memory) → a ≡ off held kept → ⊥
+never_off w c a busy no_off stands held kept e = no_off (core_off w w.core busy refl (activity_for w c a stands ∙ ap activity_in e))
+
+pub not_off : (w : World) (c : disk.Content) (a : State) (from : BootFrom) → IsBusyIn w → w.core ≢ Off → StandsFor w c a → refusal (hardware_of w) a (event.Boot from) ≡ Some reply.NotOff
+not_off w c a from busy no_off stands = not_off_by (hardware_of w) a from (never_off w c a busy no_off stands)
+
+pub resume_not_off : (w : World) (c : disk.Content) (a : State) (loader : Loader) (check : IdentCheck) → IsBusyIn w → w.core ≢ Off → StandsFor w c a → refusal (hardware_of w) a (event.Resume loader check) ≡ Some reply.NotOff
+resume_not_off w c a loader check busy no_off stands = resume_not_off_by (hardware_of w) a loader check (never_off w c a busy no_off stands)
 
 not_on_by : (h : Hardware) (a : State) (t : ℕ) (o : TaskOp) → (held : Held) (kept : Option Memory) → a ≡ off held kept → refusal h a (event.Task t o) ≡ Some reply.NotOn
 unfolding refusal
@@ -76,17 +150,48 @@ not_on_by h a t o held kept e = ap (λ (b : State). refusal h b (event.Task t o)
 
 pub not_on : (w : World) (c : disk.Content) (a : State) (t : ℕ) (o : TaskOp) → w.core ≡ Off → StandsFor w c a → refusal (hardware_of w) a (event.Task t o) ≡ Some reply.NotOn
 not_on w c a t o e stands =
-    let rest = at_rest a (sym (ap activity_of e) ∙ activity_for w c a stands) in
+    let rest = at_rest a (sym (activity_by w Off e) ∙ activity_for w c a stands) in
     not_on_by (hardware_of w) a t o rest.0 rest.1 rest.2
 
-frozen_by : (h : Hardware) (a : State) (t : ℕ) (o : TaskOp) (dump : Memory) (held : Held) (k : ℕ) → a ≡ booting Fresh dump held k → refusal h a (event.Task t o) ≡ Some reply.Frozen
-unfolding refusal
-frozen_by h a t o dump held k e = ap (λ (b : State). refusal h b (event.Task t o)) e
+-- what is under way isn't disturbed
+frozen_by : (a : State) (test : Running → Option Reply) → is_underway (activity_in a) ≡ true → refusal_if_running a test ≡ Some reply.Frozen
+frozen_by (off held kept) test e = absurd (false≢true e)
+frozen_by (on r) test e = absurd (false≢true e)
+frozen_by (booting from dump held k) test e = refl
+frozen_by (hibernating suspends i r k) test e = refl
+frozen_by (undoing i call r k) test e = refl
+frozen_by (settling r k) test e = refl
+frozen_by (waking i held r k) test e = refl
+frozen_by (loading load k) test e = refl
+frozen_by (asleep i held r) test e = absurd (false≢true e)
 
-pub frozen : (w : World) (c : disk.Content) (a : State) (t : ℕ) (o : TaskOp) (k : ℕ) → activity_of w.core ≡ boots Fresh k → StandsFor w c a → refusal (hardware_of w) a (event.Task t o) ≡ Some reply.Frozen
-frozen w c a t o k e stands =
-    let boot = at_boot a k (sym e ∙ activity_for w c a stands) in
-    frozen_by (hardware_of w) a t o boot.0 boot.1 k boot.2
+taken_not_idle : (core : Core) → core ≢ Off → core ≢ Runs → is_idle core ≡ false
+taken_not_idle Off no_off no_run = absurd (no_off refl)
+taken_not_idle Runs no_off no_run = absurd (no_run refl)
+taken_not_idle BootBegun no_off no_run = refl
+taken_not_idle BootSynced no_off no_run = refl
+taken_not_idle Hibernating no_off no_run = refl
+taken_not_idle Loading no_off no_run = refl
+
+underway : (w : World) (c : disk.Content) (a : State) → IsBusyIn w → w.core ≢ Off → w.core ≢ Runs → StandsFor w c a → is_underway (activity_in a) ≡ true
+underway w c a busy no_off no_run stands = sym (ap is_underway (activity_for w c a stands)) ∙ core_underway w.core w.hib w.load busy.hibernates busy.resumes (taken_not_idle w.core no_off no_run)
+
+pub frozen_task : (w : World) (c : disk.Content) (a : State) (t : ℕ) (o : TaskOp) → IsBusyIn w → w.core ≢ Off → w.core ≢ Runs → StandsFor w c a → refusal (hardware_of w) a (event.Task t o) ≡ Some reply.Frozen
+unfolding refusal
+frozen_task w c a t o busy no_off no_run stands = frozen_by a (task_refusal (hardware_of w) t o) (underway w c a busy no_off no_run stands)
+
+pub frozen_hibernate : (w : World) (c : disk.Content) (a : State) (f : Format) → IsBusyIn w → w.core ≢ Off → w.core ≢ Runs → StandsFor w c a → refusal (hardware_of w) a (event.Hibernate f) ≡ Some reply.Frozen
+unfolding refusal
+frozen_hibernate w c a f busy no_off no_run stands = frozen_by a (hibernate_refusal (hardware_of w) f) (underway w c a busy no_off no_run stands)
+
+hibernate_not_on_by : (h : Hardware) (a : State) (f : Format) → (held : Held) (kept : Option Memory) → a ≡ off held kept → refusal h a (event.Hibernate f) ≡ Some reply.NotOn
+unfolding refusal
+hibernate_not_on_by h a f held kept e = ap (λ (b : State). refusal h b (event.Hibernate f)) e
+
+pub hibernate_not_on : (w : World) (c : disk.Content) (a : State) (f : Format) → w.core ≡ Off → StandsFor w c a → refusal (hardware_of w) a (event.Hibernate f) ≡ Some reply.NotOn
+hibernate_not_on w c a f e stands =
+    let rest = at_rest a (sym (activity_by w Off e) ∙ activity_for w c a stands) in
+    hibernate_not_on_by (hardware_of w) a f rest.0 rest.1 rest.2
 
 idle_off : (h : Hardware) (a : State) (x : Actor) (held : Held) (kept : Option Memory) → a ≡ off held kept → refusal h a (event.Step x) ≡ Some reply.Idle
 unfolding refusal
@@ -98,25 +203,38 @@ idle_on h a r e = ap (λ (b : State). refusal h b (event.Step actor.Core)) e
 
 pub idle_core : (w : World) (c : disk.Content) (a : State) → StandsFor w c a → (w.core ≡ Off) ⊎ (w.core ≡ Runs) → refusal (hardware_of w) a (event.Step actor.Core) ≡ Some reply.Idle
 idle_core w c a stands (inl e) =
-    let rest = at_rest a (sym (ap activity_of e) ∙ activity_for w c a stands) in
+    let rest = at_rest a (sym (activity_by w Off e) ∙ activity_for w c a stands) in
     idle_off (hardware_of w) a actor.Core rest.0 rest.1 rest.2
 idle_core w c a stands (inr e) =
-    let run = at_run a (sym (ap activity_of e) ∙ activity_for w c a stands) in
+    let run = at_run a (sym (activity_by w Runs e) ∙ activity_for w c a stands) in
     idle_on (hardware_of w) a run.0 run.1
+
+-- what a world is at, by its fields
+pub is_taken : (core : Core) → (core ≡ BootBegun) ⊎ ((core ≡ BootSynced) ⊎ ((core ≡ Hibernating) ⊎ (core ≡ Loading))) → (core ≢ Off) × (core ≢ Runs)
+is_taken core (inl e) = (λ o. absurd (false≢true (ap is_idle (sym e ∙ o))), λ o. absurd (false≢true (ap is_idle (sym e ∙ o))))
+is_taken core (inr (inl e)) = (λ o. absurd (false≢true (ap is_idle (sym e ∙ o))), λ o. absurd (false≢true (ap is_idle (sym e ∙ o))))
+is_taken core (inr (inr (inl e))) = (λ o. absurd (false≢true (ap is_idle (sym e ∙ o))), λ o. absurd (false≢true (ap is_idle (sym e ∙ o))))
+is_taken core (inr (inr (inr e))) = (λ o. absurd (false≢true (ap is_idle (sym e ∙ o))), λ o. absurd (false≢true (ap is_idle (sym e ∙ o))))
+
+pub busy_in : (inside : Inside) (w : World) → kept_world inside ≡ w → IsKept inside → IsBusyIn w
+busy_in inside w is kept = subst IsBusyIn is (record { hibernates = λ e. (kept.busy e).1; resumes = λ e. (kept.loads e).1 })
+
+pub is_up : (core : Core) → core ≡ Hibernating → IsUp core
+is_up core e = subst IsUp (sym e) tt
 
 -- Rows from a state that is known by what the world is at.
 
 pub row_at_rest : (e : Event) (old new : World) (r : Reply) (c c' : disk.Content) → old.core ≡ Off → ((held : Held) (kept : Option Memory) → StandsFor old c (off held kept) → (b : State) × GoesOn e old new r c c' (off held kept) b) → IsRow e old new r c c'
 row_at_rest e old new r c c' core goes a stands =
-    let rest = at_rest a (sym (ap activity_of core) ∙ activity_for old c a stands) in
+    let rest = at_rest a (sym (activity_by old Off core) ∙ activity_for old c a stands) in
     subst (λ (s : State). (b : State) × GoesOn e old new r c c' s b) (sym rest.2) (goes rest.0 rest.1 (subst (StandsFor old c) rest.2 stands))
 
 pub row_at_run : (e : Event) (old new : World) (r : Reply) (c c' : disk.Content) → old.core ≡ Runs → ((a : Running) → StandsFor old c (on a) → (b : State) × GoesOn e old new r c c' (on a) b) → IsRow e old new r c c'
 row_at_run e old new r c c' core goes a stands =
-    let run = at_run a (sym (ap activity_of core) ∙ activity_for old c a stands) in
+    let run = at_run a (sym (activity_by old Runs core) ∙ activity_for old c a stands) in
     subst (λ (s : State). (b : State) × GoesOn e old new r c c' s b) (sym run.1) (goes run.0 (subst (StandsFor old c) run.1 stands))
 
-pub row_at_boot : (e : Event) (old new : World) (r : Reply) (c c' : disk.Content) (k : ℕ) → activity_of old.core ≡ boots Fresh k → ((dump : Memory) (held : Held) → StandsFor old c (booting Fresh dump held k) → (b : State) × GoesOn e old new r c c' (booting Fresh dump held k) b) → IsRow e old new r c c'
+pub row_at_boot : (e : Event) (old new : World) (r : Reply) (c c' : disk.Content) (k : ℕ) → activity_of old.core old.hib old.load ≡ boots Fresh k → ((dump : Memory) (held : Held) → StandsFor old c (booting Fresh dump held k) → (b : State) × GoesOn e old new r c c' (booting Fresh dump held k) b) → IsRow e old new r c c'
 row_at_boot e old new r c c' k core goes a stands =
     let boot = at_boot a k (sym core ∙ activity_for old c a stands) in
     subst (λ (s : State). (b : State) × GoesOn e old new r c c' s b) (sym boot.2) (goes boot.0 boot.1 (subst (StandsFor old c) boot.2 stands))
@@ -135,22 +253,21 @@ idle_without_flight h (loading load k) t none = refl
 idle_without_flight h (asleep i held r) t none = refl
 
 no_flight : (w : World) (c : disk.Content) (a : State) (t : ℕ) → StandsFor w c a → (r : Running) → a ≡ on r → r.flights t ≡ None
-unfolding StandsFor
-no_flight w c a t stands r e = (subst (Stands (hardware_of w) (shown w) c) e stands).parts.0.flights t
+no_flight w c a t stands r e = (subst (Stands (hardware_of w) (shown w) c) e stands.stands).parts.0.flights t
 
 pub idle_task : (w : World) (c : disk.Content) (a : State) (t : ℕ) → StandsFor w c a → refusal (hardware_of w) a (event.Step (actor.Task t)) ≡ Some reply.Idle
 idle_task w c a t stands = idle_without_flight (hardware_of w) a t (no_flight w c a t stands)
 
 -- every event but these isn't served
-pub not_served : (e : Event) → IsServed e → ((from : BootFrom) → e ≡ event.Boot from → ⊥) → ((t : ℕ) (o : TaskOp) → e ≡ event.Task t o → ⊥) → ((x : Actor) → e ≡ event.Step x → ⊥) → ⊥
-not_served (event.Boot from) served b t s = b from refl
-not_served (event.Hibernate f) served b t s = served
-not_served (event.Suspend f) served b t s = served
-not_served event.Wake served b t s = served
-not_served event.Settle served b t s = served
-not_served (event.Shrink want) served b t s = served
-not_served (event.Resume loader check) served b t s = served
-not_served (event.Step x) served b t s = s x refl
-not_served (event.Task u o) served b t s = t u o refl
-not_served (event.Cut pick) served b t s = served
-not_served (event.Arm first count pick) served b t s = served
+pub not_served : (e : Event) → IsServed e → ((from : BootFrom) → e ≡ event.Boot from → ⊥) → ((t : ℕ) (o : TaskOp) → e ≡ event.Task t o → ⊥) → ((x : Actor) → e ≡ event.Step x → ⊥) → ((f : Format) → e ≡ event.Hibernate f → ⊥) → ((loader : Loader) (check : IdentCheck) → e ≡ event.Resume loader check → ⊥) → ((pick : ℕ) → e ≡ event.Cut pick → ⊥) → ⊥
+not_served (event.Boot from) served b t s h l u = b from refl
+not_served (event.Hibernate f) served b t s h l u = h f refl
+not_served (event.Suspend f) served b t s h l u = served
+not_served event.Wake served b t s h l u = served
+not_served event.Settle served b t s h l u = served
+not_served (event.Shrink want) served b t s h l u = served
+not_served (event.Resume loader check) served b t s h l u = l loader check refl
+not_served (event.Step x) served b t s h l u = s x refl
+not_served (event.Task t' o) served b t s h l u = t t' o refl
+not_served (event.Cut pick) served b t s h l u = u pick refl
+not_served (event.Arm first count pick) served b t s h l u = served

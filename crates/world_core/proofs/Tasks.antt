@@ -1,4 +1,5 @@
 -- The row of a task's request, and of a new world.
+use Rattle.protocol_laws.proofs.Unwritten.{block_same}
 use Rattle.std.proofs.Common.{◌≡◌, ◌<◌, ℕ, refl, sym, ap, ◌∙◌, subst}
 use Rattle.definitions.specs.Disk as disk
 use Rattle.sig_header.specs.AreaKind.{area_kind}
@@ -14,14 +15,16 @@ use Rattle.plain_machine.specs.declared.event.Event.TheVariants as event
 use Rattle.plain_machine.specs.declared.event.TaskOp.{TaskOp}
 use Rattle.plain_machine.specs.declared.reply.Reply.{Reply}
 use Rattle.machine.specs.TaskRow.{HasRow, GoesOn as TaskGoesOn}
+use Rattle.hib_core.specs.Hibernation.{reason_of}
 use Rattle.world_core.specs.declared.world.Core.TheVariants.{Running as Runs}
-use Rattle.world_core.specs.declared.world.World.{World}
-use Rattle.world_core.specs.StandsFor.{StandsFor, activity_of, hardware_of, shown, reason_of}
+use Rattle.world_core.specs.World.{World}
+use Rattle.world_core.specs.StandsFor.{StandsFor, hardware_of, shown}
 use Rattle.world_core.specs.Row.{IsRow}
+use Rattle.world_core.proofs.Cases.{activity_by}
 use Rattle.world_core.proofs.Rows.{same_area, row_at_run}
 
 -- page frames with the same slot entries name the same slots
-names_same : (h : Hardware) (s s' : Shown) (c : disk.Content) (held : Held) → ((k : ℕ) → k < h.slots → raw_slot_entry h s'.frames k ≡ raw_slot_entry h s.frames k) → NamesHeld h s c held → NamesHeld h s' c held
+pub names_same : (h : Hardware) (s s' : Shown) (c : disk.Content) (held : Held) → ((k : ℕ) → k < h.slots → raw_slot_entry h s'.frames k ≡ raw_slot_entry h s.frames k) → NamesHeld h s c held → NamesHeld h s' c held
 names_same h s s' c nothing same names = λ k lt e. names k lt (sym (same k lt) ∙ e)
 names_same h s s' c (sure (own i)) same names = λ v in' marked k lt e. names v in' marked k lt (sym (same k lt) ∙ e)
 names_same h s s' c (sure other) same names = tt
@@ -29,21 +32,20 @@ names_same h s s' c (maybe (own i)) same names = λ v in' marked k lt e. names v
 names_same h s s' c (maybe other) same names = tt
 
 on_parts : (w : World) (c : disk.Content) (a : Running) → StandsFor w c (on a) → ShowsRunning (hardware_of w) (shown w) a × StandsOn (hardware_of w) (shown w) c a
-unfolding StandsFor
-on_parts w c a stands = stands.parts
+on_parts w c a stands = stands.stands.parts
 
 stands_after : (old new : World) (c : disk.Content) (t : ℕ) (o : TaskOp) (r : Reply) (a b : Running) → new.core ≡ Runs → new.machine ≡ old.machine → StandsFor old c (on a) →
     TaskGoesOn (hardware_of old) t o old.machine.held (reason_of old.machine.area) old.frames new.frames r a b → StandsFor new c (on b)
-unfolding StandsFor
 stands_after old new c t o r a b core machine stands goes =
     let h = hardware_of old in
-    let before = stands.parts.1 in
+    let before = stands.stands.parts.1 in
     let hw : hardware_of new ≡ h = ap (λ (m : Machine). m.hw) machine in
     let runs : ShowsRunning h (shown new) b =
     subst (λ (m : Machine). RunsAs h m.held (reason_of m.area) no_flights new.frames b) (sym machine) goes.runs in
+    let stands' : Stands (hardware_of new) (shown new) c (on b) =
     subst (λ (g : Hardware). Stands g (shown new) c (on b)) (sym hw)
     (record {
-      activity = ap activity_of core;
+      activity = activity_by new Runs core;
       parts = (
         runs,
         record {
@@ -58,7 +60,8 @@ stands_after old new c t o r a b core machine stands goes =
           };
         },
       );
-    })
+    }) in
+    record { stands = stands'; image = tt; resume = tt }
 
 -- the row of a machine that runs
 pub row_of_task : (old new : World) (c : disk.Content) (t : ℕ) (o : TaskOp) (r : Reply) → old.core ≡ Runs → new.core ≡ Runs → new.machine ≡ old.machine → HasRow (hardware_of old) t o old.frames new.frames r → IsRow (event.Task t o) old new r c c
@@ -66,4 +69,4 @@ row_of_task old new c t o r core core' machine row =
     row_at_run (event.Task t o) old new r c c core
     (λ a stands.
     let goes = row old.machine.held (reason_of old.machine.area) a (on_parts old c a stands).0 in
-    (on goes.0, record { step = goes.1.step (disk.as_it_reads c); stands = stands_after old new c t o r a goes.0 core' machine stands goes.1; area = same_area (hardware_of old) (disk.as_it_reads c) (disk.as_it_reads c) refl }))
+    (on goes.0, record { step = goes.1.step (disk.as_it_reads c); stands = stands_after old new c t o r a goes.0 core' machine stands goes.1; area = same_area (hardware_of old) (disk.as_it_reads c) (disk.as_it_reads c) refl; unwritten = λ b not. block_same b _ }))

@@ -7,7 +7,7 @@ use Rattle.plain_machine.specs.declared.event.Event.TheVariants as event
 use Rattle.plain_machine.specs.declared.reply.Reply.{Reply}
 use Rattle.plain_machine.specs.declared.reply.Reply.TheVariants as reply
 use Rattle.protocol_laws.specs.Rows as rows
-use Rattle.world_core.specs.declared.world.World.{World}
+use Rattle.world_core.specs.World.{World}
 use Rattle.world_core.specs.StandsFor.{hardware_of, StandsFor}
 
 -- what the state goes on to
@@ -24,13 +24,30 @@ HasRow e old new r before now = rows.HasRow (hardware_of old) (StandsFor old) (S
 -- the events that are served
 abbrev pub IsServed : Event → Type 0
 IsServed (event.Boot from) = ⊤
+IsServed (event.Hibernate format) = ⊤
+IsServed (event.Resume loader check) = ⊤
 IsServed (event.Step x) = ⊤
 IsServed (event.Task t o) = ⊤
+IsServed (event.Cut pick) = ⊤
 IsServed _ = ⊥
 
 abbrev pub IsStep : Event → Type 0
 IsStep (event.Step x) = ⊤
 IsStep _ = ⊥
+
+abbrev pub IsNoCut : Event → Type 0
+IsNoCut (event.Cut pick) = ⊥
+IsNoCut _ = ⊤
+
+-- the disk is restarted by a cut alone
+abbrev pub orders_after : Event → ℕ → ℕ
+orders_after (event.Cut pick) orders = disk.raised orders
+orders_after _ orders = orders
+
+-- a cut leaves one of the disk's images
+abbrev pub RestartsAt : Event → Option disk.Content → Option disk.Content → Type 0
+RestartsAt (event.Cut pick) before now = disk.Changes disk.Restarts before now
+RestartsAt _ before now = ⊤
 
 -- at most one call of the disk, and only in a step that an actor had to make
 abbrev pub IsCalled : Event → Reply → ℕ → ℕ → Type 0

@@ -1,18 +1,30 @@
 -- When a world and a disk stand for a state of the plain machine.
-use Rattle.std.specs.Prelude.{◌≡◌, ℕ, [], false, Option, Some, None, Result, Ok, Err}
+use Rattle.std.specs.Prelude.{◌≡◌, ℕ, List, [], false, None}
+use Rattle.std.specs.List.{zip}
 use Rattle.definitions.specs.Disk as disk
-use Rattle.sig_header.specs.declared.area.Area.{Area}
-use Rattle.plain_machine.specs.Machine.{Hardware}
+use Rattle.plain_machine.specs.Machine.{Hardware, Memory}
+use Rattle.definitions.specs.SwapHeader.{IsMarked}
 use Rattle.plain_machine.specs.Chain.{Marked}
-use Rattle.plain_machine.specs.State.{State, off, nothing}
+use Rattle.plain_machine.specs.UsableArea.{area_block}
+use Rattle.plain_machine.specs.State.{State, off, nothing, sure, other}
 use Rattle.plain_machine.specs.Step.{no_flights}
-use Rattle.plain_machine.specs.Shows.{Shown, Activity, rests, runs, boots}
+use Rattle.plain_machine.specs.Shows.{Shown, Activity, rests, runs, boots, hibernates, undoes, loads}
 use Rattle.plain_machine.specs.Stands.{Stands}
 use Rattle.plain_machine.specs.declared.event.BootFrom.TheVariants.{Fresh}
-use Rattle.plain_machine.specs.declared.no_swap.NoSwap.{NoSwap}
+use Rattle.plain_machine.specs.declared.reply.Reply.{Reply}
+use Rattle.page_restore.specs.Waiting.{waiting_pages}
+use Rattle.machine.specs.declared.machine.Machine.{Machine}
+use Rattle.hib_core.specs.Hibernation as hibernation
+use Rattle.hib_core.specs.Ready.{IsBusy}
+use Rattle.hib_core.specs.Row.{IsOfState}
+use Rattle.hib_core.specs.declared.hib.Hib.{Hib}
+use Rattle.resume_core.specs.Loading as resumption
+use Rattle.resume_core.specs.Ready as resume_ready
+use Rattle.resume_core.specs.Row as resume_row
+use Rattle.resume_core.specs.declared.load.Load.{Load}
 use Rattle.world_core.specs.declared.world.Core.{Core}
-use Rattle.world_core.specs.declared.world.Core.TheVariants.{Off, Running, BootBegun, BootSynced}
-use Rattle.world_core.specs.declared.world.World.{World}
+use Rattle.world_core.specs.declared.world.Core.TheVariants.{Off, Running, BootBegun, BootSynced, Hibernating, Loading}
+use Rattle.world_core.specs.World.{World}
 
 abbrev pub hardware_of : World → Hardware
 hardware_of w = w.machine.hw
@@ -24,33 +36,81 @@ blocks_of w = w.machine.blocks
 abbrev pub IsOff : World → Type 0
 IsOff w = w.core ≡ Off
 
-abbrev pub activity_of : Core → Activity
-activity_of Off = rests
-activity_of Running = runs
-activity_of BootBegun = boots Fresh 0
-activity_of BootSynced = boots Fresh 1
+-- one that hibernates or resumes has a step to make
+pub record IsBusyIn (w : World) : Type 0 where
+  pub hibernates : w.core ≡ Hibernating → IsBusy w.hib
+  pub resumes : w.core ≡ Loading → resume_ready.IsBusy w.load
 
--- why an area can't be used
-abbrev pub reason_of : Result Area NoSwap → Option NoSwap
-reason_of (Ok area) = None
-reason_of (Err why) = Some why
+abbrev pub activity_of : Core → Hib → Load → Activity
+activity_of Off hib load = rests
+activity_of Running hib load = runs
+activity_of BootBegun hib load = boots Fresh 0
+activity_of BootSynced hib load = boots Fresh 1
+activity_of Hibernating hib load = hibernation.activity_of hib
+activity_of Loading hib load = resumption.activity_of load
 
--- what a world shows: between two calls of the disk it keeps nothing, and it has no copies and no loaded pages
-abbrev pub shown : World → Shown
-shown w = record {
-  activity = activity_of w.core;
+-- the block that is kept, the page frames of the copies, and the pages that wait, by page frame
+abbrev pub header_of : Core → Hib → Load → List ℕ
+header_of Off hib load = []
+header_of Running hib load = []
+header_of BootBegun hib load = []
+header_of BootSynced hib load = []
+header_of Hibernating hib load = hib.header
+header_of Loading hib load = load.header
+
+abbrev pub copies_of : Core → Hib → List ℕ
+copies_of Off hib = []
+copies_of Running hib = []
+copies_of BootBegun hib = []
+copies_of BootSynced hib = []
+copies_of Hibernating hib = hib.snapshot.copies
+copies_of Loading hib = []
+
+abbrev pub loaded_of : Core → Memory → Load → List (ℕ × List ℕ)
+loaded_of Off frames load = []
+loaded_of Running frames load = []
+loaded_of BootBegun frames load = []
+loaded_of BootSynced frames load = []
+loaded_of Hibernating frames load = []
+loaded_of Loading frames load = zip load.waiting.originals (waiting_pages frames load.waiting)
+
+-- What is shown between two calls of the disk: a hibernation keeps a block and has copies, a resume keeps one and has loaded pages.
+abbrev pub shown_at : Core → Machine → Memory → Hib → Load → Shown
+shown_at core machine frames hib load = record {
+  activity = activity_of core hib load;
   keeps_dump = false;
-  held = w.machine.held;
-  unusable = reason_of w.machine.area;
+  held = machine.held;
+  unusable = hibernation.reason_of machine.area;
   flights = no_flights;
-  frames = w.frames;
-  header = [];
-  copies = [];
-  loaded = [];
+  frames = frames;
+  header = header_of core hib load;
+  copies = copies_of core hib;
+  loaded = loaded_of core frames load;
 }
 
-unfoldable pub StandsFor : World → disk.Content → State → Type 0
-StandsFor w c a = Stands (hardware_of w) (shown w) c a
+abbrev pub shown : World → Shown
+shown w = shown_at w.core w.machine w.frames w.hib w.load
+
+-- A world and its disk stand for a state. Where the world hibernates, its numbers and sets are those of the state's image; where it
+-- resumes, its resume is the state's.
+pub record StandsFor (w : World) (c : disk.Content) (a : State) : Type 0 where
+  pub stands : Stands (hardware_of w) (shown w) c a
+  pub image : IsOfState (hardware_of w) w.frames w.hib a
+  pub resume : resume_row.IsOfState w.machine w.frames w.load c a
+
+-- what a world is at by what its hibernation or resume is at, and after this reply to the begin or a step of the one or the other
+abbrev pub core_at : Activity → Core
+core_at rests = Off
+core_at (hibernates suspends k) = Hibernating
+core_at (undoes call k) = Hibernating
+core_at (loads k) = Loading
+core_at _ = Running
+
+abbrev pub core_told : Reply → Core
+core_told r = core_at (hibernation.activity_told r)
+
+abbrev pub core_resumed : Reply → Core
+core_resumed r = core_at (resumption.activity_told r)
 
 -- A new world is off. Over a disk with one image it stands for a machine with nothing held where that isn't marked, else with
 -- another's image, if taking the mark back leaves none.
@@ -58,3 +118,4 @@ pub record IsNew (h : Hardware) (w : World) : Type 0 where
   pub hardware : hardware_of w ≡ h
   pub is_off : IsOff w
   pub unmarked : (v : disk.Image) → (Marked h v → ⊥) → StandsFor w (disk.settled v) (off nothing None)
+  pub marked : (v : disk.Image) → Marked h v → (IsMarked (area_block h v) → ⊥) → StandsFor w (disk.settled v) (off (sure other) None)

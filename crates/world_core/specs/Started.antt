@@ -12,7 +12,7 @@ use Rattle.plain_machine.specs.UsableArea.{kind_or_fit_fault}
 use Rattle.plain_machine.specs.declared.held.Held.TheVariants.{No, Yes}
 use Rattle.machine.specs.FreshSlots.{slot_of_area}
 use Rattle.world_core.specs.declared.world.Core.TheVariants.{Running}
-use Rattle.world_core.specs.declared.world.World.{World}
+use Rattle.world_core.specs.World.{World}
 use Rattle.world_core.specs.StandsFor.{hardware_of, blocks_of}
 
 abbrev pub is_image : AreaKind → Bool

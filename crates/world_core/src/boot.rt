@@ -1,6 +1,6 @@
 ghost use Rattle.std.specs.Prelude.{◌≡◌, ℕ, ◌⊎◌, ◌≤◌, ◌↔◌, IsTrue, OnOk, OnErr, IfSome};
 ghost use Rattle.definitions.specs.Bytes.{zero_page};
-ghost use Rattle.definitions.specs.Disk.{HasRisen, raised, as_it_reads};
+ghost use Rattle.definitions.specs.Disk.{HasRisen, raised, as_it_reads, Changes, Elapses};
 ghost use Rattle.world_core.specs.Started.{is_image, header_at};
 
 use crate::World;
@@ -18,15 +18,15 @@ impl World {
     ghost use Rattle.plain_machine.specs.declared.event.Actor.TheVariants as actor;
     ghost use Rattle.plain_machine.specs.declared.event.BootFrom.TheVariants as from;
     ghost use Rattle.world_core.specs.declared.world.Core.TheVariants as core;
-    ghost use Rattle.world_core.specs.StandsFor.{hardware_of, blocks_of, IsOff};
+    ghost use Rattle.world_core.specs.StandsFor.{hardware_of, blocks_of, IsOff, IsBusyIn};
     ghost use Rattle.world_core.specs.Row.{HasRow, IsRow, IsCalled};
-    ghost use Rattle.plain_machine.specs.Faults.{IsFault};
+    ghost use Rattle.protocol_laws.specs.Rows.{IsNewFault};
     ghost use Rattle.world_core.specs.Started.{IsStarted};
 
     /// Begins a boot, on a disk of so many blocks.
     pub(crate) fn boot(&mut self, blocks: u32, from: BootFrom) -> Reply
         ensures row { (c : Content) → IsRow (event.Boot from) self.old self.new result c c }
-        ensures cause { IsFault result → ⊥ }
+        ensures cause { IsNewFault result → ⊥ }
         ensures hardware { hardware_of self.new ≡ hardware_of self.old }
         ensures blocks { ((self.new.core ≡ self.old.core) × (blocks_of self.new ≡ blocks_of self.old)) ⊎ (blocks_of self.new ≡ blocks) }
     {
@@ -39,8 +39,9 @@ impl World {
         }
     }
 
-    fn is_off(&self) -> bool
-        ensures { IsTrue result ↔ IsOff self.now }
+    pub(crate) fn is_off(&self) -> bool
+        ensures off { IsTrue result ↔ IsOff self.now }
+        ensures busy { IsBusyIn self.now }
     {
         matches!(self.core, Core::Off)
     }
@@ -49,7 +50,7 @@ impl World {
     fn boot_fresh(&mut self, blocks: u32) -> Reply
         requires { IsOff self.old }
         ensures row { (c : Content) → IsRow (event.Boot from.Fresh) self.old self.new result c c }
-        ensures cause { IsFault result → ⊥ }
+        ensures cause { IsNewFault result → ⊥ }
         ensures hardware { hardware_of self.new ≡ hardware_of self.old }
         ensures blocks { blocks_of self.new ≡ blocks }
     {
@@ -64,13 +65,16 @@ impl World {
     pub(crate) fn sync_for_boot<D: Disk>(&mut self, disk: &mut D) -> Reply
         requires begun { self.old.core ≡ core.BootBegun }
         ensures row { HasRow (event.Step actor.Core) self.old self.new result (D.content disk.old) (D.content disk.new) }
-        ensures cause { IsFault result → HasRisen (D.faults disk.old) (D.faults disk.new) }
+        ensures cause { IsNewFault result → HasRisen (D.faults disk.old) (D.faults disk.new) }
         ensures faults { D.faults disk.old ≤ D.faults disk.new }
         ensures calls { IsCalled (event.Step actor.Core) result (D.calls disk.old) (D.calls disk.new) }
         ensures orders { D.orders disk.new ≡ D.orders disk.old }
         ensures hardware { hardware_of self.new ≡ hardware_of self.old }
         ensures blocks { blocks_of self.new ≡ blocks_of self.old }
         ensures disk_blocks { D.block_count disk.new ≡ D.block_count disk.old }
+        ensures telling { D.tells_moments disk.new ≡ D.tells_moments disk.old }
+        ensures time { IsTrue (D.tells_moments disk.old) → Changes (Elapses (D.moment disk.old) (D.moment disk.new)
+            (D.left_since disk.old) (D.left_since disk.new)) (D.content disk.old) (D.content disk.new) }
     {
         match disk.sync() {
             Ok(()) => {
@@ -89,13 +93,16 @@ impl World {
         requires synced { self.old.core ≡ core.BootSynced }
         requires blocks { D.block_count disk.old ≡ blocks_of self.old }
         ensures row { HasRow (event.Step actor.Core) self.old self.new result (D.content disk.old) (D.content disk.new) }
-        ensures cause { IsFault result → HasRisen (D.faults disk.old) (D.faults disk.new) }
+        ensures cause { IsNewFault result → HasRisen (D.faults disk.old) (D.faults disk.new) }
         ensures faults { D.faults disk.old ≤ D.faults disk.new }
         ensures calls { IsCalled (event.Step actor.Core) result (D.calls disk.old) (D.calls disk.new) }
         ensures orders { D.orders disk.new ≡ D.orders disk.old }
         ensures hardware { hardware_of self.new ≡ hardware_of self.old }
         ensures blocks { blocks_of self.new ≡ blocks_of self.old }
         ensures disk_blocks { D.block_count disk.new ≡ D.block_count disk.old }
+        ensures telling { D.tells_moments disk.new ≡ D.tells_moments disk.old }
+        ensures time { IsTrue (D.tells_moments disk.old) → Changes (Elapses (D.moment disk.old) (D.moment disk.new)
+            (D.left_since disk.old) (D.left_since disk.new)) (D.content disk.old) (D.content disk.new) }
     {
         let mut header = Page::zero();
         let block = self.machine.hw.extents().block(0);
@@ -112,6 +119,7 @@ impl World {
 
     /// Runs, as the header block says. Whether it is marked.
     fn start(&mut self, header: &Page) -> bool
+        requires synced { self.old.core ≡ core.BootSynced }
         ensures started { IsStarted self.old self.new header.now result }
     {
         let hw = self.machine.hw;
@@ -148,6 +156,9 @@ fn read_header<D: Disk>(disk: &mut D, block: u64, into: &mut Page) -> Result<(),
     ensures calls { (D.calls disk.new ≡ D.calls disk.old) ⊎ (D.calls disk.new ≡ raised (D.calls disk.old)) }
     ensures orders { D.orders disk.new ≡ D.orders disk.old }
     ensures blocks { D.block_count disk.new ≡ D.block_count disk.old }
+    ensures telling { D.tells_moments disk.new ≡ D.tells_moments disk.old }
+    ensures time { IsTrue (D.tells_moments disk.old) → Changes (Elapses (D.moment disk.old) (D.moment disk.new)
+        (D.left_since disk.old) (D.left_since disk.new)) (D.content disk.old) (D.content disk.new) }
 {
     if block >= u64::from(disk.blocks()) {
         return Ok(());

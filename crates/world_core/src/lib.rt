@@ -2,6 +2,9 @@
 #![tactic(auto)]
 
 mod boot;
+mod hibernation;
+mod power;
+mod resume;
 #[cfg(test)]
 mod tests;
 mod world;

@@ -1,5 +1,6 @@
 use crate::{Hardware, World};
-use plain_machine::{Actor, BootFrom, Event, Reply, TaskOp};
+use page_core::Format;
+use plain_machine::{Actor, BootFrom, Event, IdentCheck, Loader, Ranges, Reply, TaskOp};
 use sector_disk::{Disk, MemDisk};
 use sig_header::area_page;
 use std::test::Fail;
@@ -65,6 +66,76 @@ fn a_fault_in_boot(rt: HostRuntime) -> Result<(), Fail> {
             _ => "another reply",
         };
         assert_eq!(rt; got, *reply);
+    }
+    Ok(())
+}
+
+// A machine hibernates: meanwhile no page frame is claimed, and no hibernation begins. The power is cut behind its first step.
+#[test]
+fn hibernates(rt: HostRuntime) -> Result<(), Fail> {
+    let mut disk = MemDisk::create(rt.alloc(), 3001).ok().ok_or("memory")?;
+    disk.write(0, &area_page(3000, &[]))
+        .ok()
+        .ok_or("a write failed")?;
+    let mut world = World::create(rt.alloc(), Hardware::scripted(3000))
+        .ok()
+        .ok_or("memory")?;
+    let script = [
+        (Event::Hibernate(Format::Plain), Reply::NotOn),
+        (Event::Boot(BootFrom::Fresh), Reply::More { k: 0, of: 2 }),
+        (Event::Hibernate(Format::Plain), Reply::Frozen),
+        (Event::Step(Actor::Core), Reply::More { k: 1, of: 2 }),
+        (Event::Step(Actor::Core), Reply::Booted { image: false }),
+        (Event::Task(3, TaskOp::Claim(10)), Reply::Done),
+        (
+            Event::Hibernate(Format::Plain),
+            Reply::More { k: 0, of: 15 },
+        ),
+        (Event::Task(3, TaskOp::Claim(11)), Reply::Frozen),
+        (Event::Hibernate(Format::Plain), Reply::Frozen),
+        (Event::Step(Actor::Core), Reply::More { k: 1, of: 15 }),
+        (Event::Cut(0), Reply::WasCut),
+        (Event::Step(Actor::Core), Reply::Idle),
+    ];
+    for (event, reply) in &script {
+        assert_eq!(rt; world.event(&mut disk, *event), *reply);
+    }
+    Ok(())
+}
+
+const ANY_FRAME: Ranges = Ranges {
+    count: 0,
+    list: [(0, 0); 8],
+};
+
+// A machine resumes: meanwhile nothing else begins, and as the disk has no image it is off again.
+#[test]
+fn finds_no_image(rt: HostRuntime) -> Result<(), Fail> {
+    let mut disk = MemDisk::create(rt.alloc(), 3001).ok().ok_or("memory")?;
+    disk.write(0, &area_page(3000, &[]))
+        .ok()
+        .ok_or("a write failed")?;
+    let mut world = World::create(rt.alloc(), Hardware::scripted(3000))
+        .ok()
+        .ok_or("memory")?;
+    let resume = Event::Resume(Loader::Ranges(ANY_FRAME), IdentCheck::Compare);
+    let script = [
+        (
+            Event::Resume(Loader::Table, IdentCheck::Skip),
+            Reply::NoDump,
+        ),
+        (resume, Reply::Loading { k: 0 }),
+        (Event::Task(3, TaskOp::Claim(10)), Reply::Frozen),
+        (Event::Hibernate(Format::Plain), Reply::Frozen),
+        (Event::Boot(BootFrom::Fresh), Reply::NotOff),
+        (resume, Reply::NotOff),
+        (Event::Step(Actor::Core), Reply::Loading { k: 1 }),
+        (Event::Step(Actor::Core), Reply::NoImage),
+        (Event::Step(Actor::Core), Reply::Idle),
+        (Event::Task(3, TaskOp::Claim(10)), Reply::NotOn),
+    ];
+    for (event, reply) in &script {
+        assert_eq!(rt; world.event(&mut disk, *event), *reply);
     }
     Ok(())
 }

@@ -1,20 +1,27 @@
-ghost use Rattle.std.specs.Prelude.{◌≡◌, ℕ, ◌⊎◌, ◌≤◌, length, IfOk};
-ghost use Rattle.definitions.specs.Zones.{top};
+ghost use Rattle.std.specs.Prelude.{◌≡◌, ℕ, ◌⊎◌, ◌≤◌, IfOk, IsTrue};
+ghost use Rattle.protocol_laws.specs.Rows.{IsNewFault};
 
 use frame_arena::Frames;
+use hib_core::Hib;
 use machine::{Hardware, Machine};
 use page_core::NoMemory;
 use plain_machine::{Actor, Event, Reply, TaskOp};
+use resume_core::Load;
 use sector_disk::Disk;
 use std::alloc::Global;
+use std::marker::Model;
+use swap_slots::FreeRuns;
 
-/// A simulated machine: what it is at, and its page frames. It takes all its memory when it is created.
+/// A simulated machine: what it is at, its page frames, its hibernation and its resume. It takes all its memory when it is created.
 #[derive(Drop)]
 pub struct World {
     pub(crate) machine: Machine,
     pub(crate) frames: Frames,
+    /// The free slots, while the machine hibernates.
+    pub(crate) runs: FreeRuns,
+    pub(crate) hib: Hib,
+    pub(crate) load: Load,
     pub(crate) core: Core,
-    ghost size: { length frames ≡ top machine.hw.zones },
 }
 
 /// What the machine as a whole is at.
@@ -26,25 +33,44 @@ pub(crate) enum Core {
     BootBegun,
     /// A boot has synced the disk.
     BootSynced,
+    Hibernating,
+    Loading,
+}
+
+impl Model for World {
+    ghost use Rattle.world_core.specs.World.{World as WorldValue};
+
+    ghost Value = { WorldValue };
+
+    ghost use Rattle.world_core.specs.Kept.{kept_world, IsKept};
+
+    ghost view = { kept_world };
+
+    ghost invariant = { IsKept };
 }
 
 impl World {
     ghost use Rattle.plain_machine.specs.Fitting.{IsFitting, IsTask, IsFittingOp};
-    ghost use Rattle.definitions.specs.Disk.{Content, HasRisen};
+    ghost use Rattle.definitions.specs.Disk.{Content, Image, IsMixture, HasRisen, Changes, Elapses};
     ghost use Rattle.plain_machine.specs.declared.event.Event.TheVariants as event;
     ghost use Rattle.plain_machine.specs.declared.event.Actor.TheVariants as actor;
     ghost use Rattle.world_core.specs.StandsFor.{hardware_of, blocks_of, IsOff, IsNew};
-    ghost use Rattle.world_core.specs.Row.{HasRow, IsRow, IsCalled, IsServed};
-    ghost use Rattle.plain_machine.specs.Faults.{IsFault};
+    ghost use Rattle.world_core.specs.Row.{HasRow, IsRow, IsCalled, IsServed, IsNoCut, RestartsAt, orders_after};
 
     /// A machine that is off, with page frames of zeros.
     pub fn create(alloc: Global, hw: Hardware) -> Result<World, NoMemory>
         ensures { IfOk result (IsNew hw) }
     {
         let frames = Frames::create(alloc, hw.zones().top())?;
+        let runs = FreeRuns::create(alloc, hw.slots())?;
+        let hib = Hib::create(alloc, &hw)?;
+        let load = Load::create(alloc, &hw)?;
         Ok(World {
             machine: Machine::of(hw),
             frames,
+            runs,
+            hib,
+            load,
             core: Core::Off,
         })
     }
@@ -69,10 +95,14 @@ impl World {
         requires served { IsServed event }
         requires blocks { IsOff self.old ⊎ (D.block_count disk.old ≡ blocks_of self.old) }
         ensures row { HasRow event self.old self.new result (D.content disk.old) (D.content disk.new) }
-        ensures cause { IsFault result → HasRisen (D.faults disk.old) (D.faults disk.new) }
+        ensures cause { IsNewFault result → HasRisen (D.faults disk.old) (D.faults disk.new) }
         ensures faults { D.faults disk.old ≤ D.faults disk.new }
         ensures calls { IsCalled event result (D.calls disk.old) (D.calls disk.new) }
-        ensures orders { D.orders disk.new ≡ D.orders disk.old }
+        ensures orders { D.orders disk.new ≡ orders_after event (D.orders disk.old) }
+        ensures cut { RestartsAt event (D.content disk.old) (D.content disk.new) }
+        ensures telling { D.tells_moments disk.new ≡ D.tells_moments disk.old }
+        ensures inside { IsNoCut event → IsTrue (D.tells_moments disk.old) → (v : Image) → D.left_since disk.new (D.moment disk.old) v →
+            Changes (λ old new. IsMixture old new v) (D.content disk.old) (D.content disk.new) }
         ensures hardware { hardware_of self.new ≡ hardware_of self.old }
         ensures blocks { IsOff self.new ⊎ (D.block_count disk.new ≡ blocks_of self.new) }
     {
@@ -80,6 +110,9 @@ impl World {
             Event::Boot(from) => self.boot(disk.blocks(), from),
             Event::Task(t, op) => self.task(t, op),
             Event::Step(actor) => self.step_of(disk, actor),
+            Event::Hibernate(format) => self.hibernate(format),
+            Event::Resume(loader, check) => self.resume(disk.blocks(), loader, check),
+            Event::Cut(pick) => self.cut(disk, pick),
             _ => unreachable!(),
         }
     }
@@ -88,14 +121,14 @@ impl World {
         requires task { IsTask t }
         requires op { IsFittingOp op }
         ensures row { (c : Content) → IsRow (event.Task t op) self.old self.new result c c }
-        ensures cause { IsFault result → ⊥ }
+        ensures cause { IsNewFault result → ⊥ }
         ensures hardware { hardware_of self.new ≡ hardware_of self.old }
         ensures blocks { blocks_of self.new ≡ blocks_of self.old }
         ensures core { self.new.core ≡ self.old.core }
     {
         match self.core {
             Core::Off => Reply::NotOn,
-            Core::BootBegun | Core::BootSynced => Reply::Frozen,
+            Core::BootBegun | Core::BootSynced | Core::Hibernating | Core::Loading => Reply::Frozen,
             Core::Running => self.machine.task(&mut self.frames, t, op),
         }
     }
@@ -104,13 +137,16 @@ impl World {
     fn step_of<D: Disk>(&mut self, disk: &mut D, actor: Actor) -> Reply
         requires blocks { IsOff self.old ⊎ (D.block_count disk.old ≡ blocks_of self.old) }
         ensures row { HasRow (event.Step actor) self.old self.new result (D.content disk.old) (D.content disk.new) }
-        ensures cause { IsFault result → HasRisen (D.faults disk.old) (D.faults disk.new) }
+        ensures cause { IsNewFault result → HasRisen (D.faults disk.old) (D.faults disk.new) }
         ensures faults { D.faults disk.old ≤ D.faults disk.new }
         ensures calls { IsCalled (event.Step actor) result (D.calls disk.old) (D.calls disk.new) }
         ensures orders { D.orders disk.new ≡ D.orders disk.old }
         ensures hardware { hardware_of self.new ≡ hardware_of self.old }
         ensures blocks { blocks_of self.new ≡ blocks_of self.old }
         ensures disk_blocks { D.block_count disk.new ≡ D.block_count disk.old }
+        ensures telling { D.tells_moments disk.new ≡ D.tells_moments disk.old }
+        ensures time { IsTrue (D.tells_moments disk.old) → Changes (Elapses (D.moment disk.old) (D.moment disk.new)
+            (D.left_since disk.old) (D.left_since disk.new)) (D.content disk.old) (D.content disk.new) }
         ensures off { IsOff self.old → IsOff self.new }
     {
         match actor {
@@ -122,19 +158,24 @@ impl World {
     fn step<D: Disk>(&mut self, disk: &mut D) -> Reply
         requires blocks { IsOff self.old ⊎ (D.block_count disk.old ≡ blocks_of self.old) }
         ensures row { HasRow (event.Step actor.Core) self.old self.new result (D.content disk.old) (D.content disk.new) }
-        ensures cause { IsFault result → HasRisen (D.faults disk.old) (D.faults disk.new) }
+        ensures cause { IsNewFault result → HasRisen (D.faults disk.old) (D.faults disk.new) }
         ensures faults { D.faults disk.old ≤ D.faults disk.new }
         ensures calls { IsCalled (event.Step actor.Core) result (D.calls disk.old) (D.calls disk.new) }
         ensures orders { D.orders disk.new ≡ D.orders disk.old }
         ensures hardware { hardware_of self.new ≡ hardware_of self.old }
         ensures blocks { blocks_of self.new ≡ blocks_of self.old }
         ensures disk_blocks { D.block_count disk.new ≡ D.block_count disk.old }
+        ensures telling { D.tells_moments disk.new ≡ D.tells_moments disk.old }
+        ensures time { IsTrue (D.tells_moments disk.old) → Changes (Elapses (D.moment disk.old) (D.moment disk.new)
+            (D.left_since disk.old) (D.left_since disk.new)) (D.content disk.old) (D.content disk.new) }
         ensures off { IsOff self.old → IsOff self.new }
     {
         match self.core {
             Core::Off | Core::Running => Reply::Idle,
             Core::BootBegun => self.sync_for_boot(disk),
             Core::BootSynced => self.finish_boot(disk),
+            Core::Hibernating => self.step_hibernation(disk),
+            Core::Loading => self.step_resume(disk),
         }
     }
 }

@@ -18,12 +18,11 @@ one_more events i lt = take_more events i (event.Boot Fresh) lt
 
 pub loop-event-init : goal.loop-event-init
 loop-event-init g c = record {
-  played = ([], played_none c.args.world.now (g.D.Disk.content c.args.disk.now) (g.D.Disk.faults c.args.disk.now), Takes-none [] (g.O.Sink.taken c.args.out.now));
+  played = ([], played_none c.args.world.now (g.D.Disk.content c.args.disk.now) (g.D.Disk.faults c.args.disk.now) (g.D.Disk.orders c.args.disk.now), Takes-none [] (g.O.Sink.taken c.args.out.now));
   blocks = c.requires.blocks;
   hardware = refl;
   faults = omega arith;
   calls = omega arith;
-  orders = refl;
   stream = omega arith;
 }
 
@@ -43,9 +42,9 @@ loop-event-preserved g c =
     record {
       played = (
         rs ++ r ∷ [],
-        subst (λ (es : List Event). HasPlayed c.args.world.now c.event-reply.new.self es (rs ++ r ∷ []) (g.D.Disk.content c.args.disk.now) (g.D.Disk.content c.event-reply.new.disk) (g.D.Disk.faults c.args.disk.now) (g.D.Disk.faults c.event-reply.new.disk)) (sym more)
+        subst (λ (es : List Event). HasPlayed c.args.world.now c.event-reply.new.self es (rs ++ r ∷ []) (g.D.Disk.content c.args.disk.now) (g.D.Disk.content c.event-reply.new.disk) (g.D.Disk.faults c.args.disk.now) (g.D.Disk.faults c.event-reply.new.disk) (g.D.Disk.orders c.args.disk.now) (g.D.Disk.orders c.event-reply.new.disk)) (sym more)
             (played_more c.args.world.now c.loop-event.world c.event-reply.new.self (take i events) rs e r (g.D.Disk.content c.args.disk.now) (g.D.Disk.content c.loop-event.disk) (g.D.Disk.content c.event-reply.new.disk)
-            (g.D.Disk.faults c.args.disk.now) (g.D.Disk.faults c.loop-event.disk) (g.D.Disk.faults c.event-reply.new.disk) c.replays.ensures.same c.replays.ensures.stays inv.played.1 row.row inv.hardware row.cause row.faults),
+            (g.D.Disk.faults c.args.disk.now) (g.D.Disk.faults c.loop-event.disk) (g.D.Disk.faults c.event-reply.new.disk) (g.D.Disk.orders c.args.disk.now) (g.D.Disk.orders c.loop-event.disk) (g.D.Disk.orders c.event-reply.new.disk) c.replays.ensures.same c.replays.ensures.stays inv.played.1 row.row inv.hardware row.cause row.faults row.orders),
         subst (λ (t : List ℕ). TakesAll t old_out new_out) (sym (text_more rs r)) (taken_more (text_of rs) (line_of r) old_out mid_out new_out inv.played.2 c.in-Ok.ensures.whole),
       );
       blocks = row.blocks;
@@ -53,7 +52,6 @@ loop-event-preserved g c =
       faults = let a = inv.faults in let b = row.faults in omega arith;
       calls = subst (λ (es : List Event). g.D.Disk.calls c.event-reply.new.disk ≤ g.D.Disk.calls c.args.disk.now + steps_of es) (sym more)
           (calls_more (take i events) e r (g.D.Disk.calls c.args.disk.now) (g.D.Disk.calls c.loop-event.disk) (g.D.Disk.calls c.event-reply.new.disk) inv.calls row.calls);
-      orders = row.orders ∙ inv.orders;
       stream = let a = inv.stream in let b = c.print_reply.ensures.counted in omega arith;
     }
 
@@ -72,9 +70,9 @@ returns-in-Err-clause-played g c =
     let rs = inv.played.0 in (
       i + 1,
       rs ++ r ∷ [],
-      subst (λ (es : List Event). HasPlayed c.args.world.now c.event-reply.new.self es (rs ++ r ∷ []) (g.D.Disk.content c.args.disk.now) (g.D.Disk.content c.event-reply.new.disk) (g.D.Disk.faults c.args.disk.now) (g.D.Disk.faults c.event-reply.new.disk)) (sym more)
+      subst (λ (es : List Event). HasPlayed c.args.world.now c.event-reply.new.self es (rs ++ r ∷ []) (g.D.Disk.content c.args.disk.now) (g.D.Disk.content c.event-reply.new.disk) (g.D.Disk.faults c.args.disk.now) (g.D.Disk.faults c.event-reply.new.disk) (g.D.Disk.orders c.args.disk.now) (g.D.Disk.orders c.event-reply.new.disk)) (sym more)
           (played_more c.args.world.now c.loop-event.world c.event-reply.new.self (take i events) rs e r (g.D.Disk.content c.args.disk.now) (g.D.Disk.content c.loop-event.disk) (g.D.Disk.content c.event-reply.new.disk)
-          (g.D.Disk.faults c.args.disk.now) (g.D.Disk.faults c.loop-event.disk) (g.D.Disk.faults c.event-reply.new.disk) c.replays.ensures.same c.replays.ensures.stays inv.played.1 row.row inv.hardware row.cause row.faults),
+          (g.D.Disk.faults c.args.disk.now) (g.D.Disk.faults c.loop-event.disk) (g.D.Disk.faults c.event-reply.new.disk) (g.D.Disk.orders c.args.disk.now) (g.D.Disk.orders c.loop-event.disk) (g.D.Disk.orders c.event-reply.new.disk) c.replays.ensures.same c.replays.ensures.stays inv.played.1 row.row inv.hardware row.cause row.faults row.orders),
       subst (λ (t : List ℕ). TakesFront t old_out new_out) (sym (text_more rs r)) (front_more (text_of rs) (line_of r) old_out mid_out new_out inv.played.2 c.print_reply.ensures.front),
     )
 

@@ -9,12 +9,11 @@ use Rattle.swsusp_cli.proofs.playing.play.Given as goal
 
 abbrev pub invariant-loop-event : goal.invariant-loop-event
 invariant-loop-event g l = record {
-  played : (replies : List Reply) × HasPlayed l.fn.world l.world (take l.event-index l.events) replies (g.D.Disk.content l.fn.disk) (g.D.Disk.content l.disk) (g.D.Disk.faults l.fn.disk) (g.D.Disk.faults l.disk)
+  played : (replies : List Reply) × HasPlayed l.fn.world l.world (take l.event-index l.events) replies (g.D.Disk.content l.fn.disk) (g.D.Disk.content l.disk) (g.D.Disk.faults l.fn.disk) (g.D.Disk.faults l.disk) (g.D.Disk.orders l.fn.disk) (g.D.Disk.orders l.disk)
       × TakesAll (text_of replies) (g.O.Sink.taken l.fn.out) (g.O.Sink.taken l.out);
   blocks : IsOff l.world ⊎ (g.D.Disk.block_count l.disk ≡ blocks_of l.world);
   hardware : hardware_of l.world ≡ hardware_of l.fn.world;
   faults : g.D.Disk.faults l.fn.disk ≤ g.D.Disk.faults l.disk;
   calls : g.D.Disk.calls l.disk ≤ g.D.Disk.calls l.fn.disk + steps_of (take l.event-index l.events);
-  orders : g.D.Disk.orders l.disk ≡ g.D.Disk.orders l.fn.disk;
   stream : g.O.Sink.faults l.fn.out ≤ g.O.Sink.faults l.out;
 }

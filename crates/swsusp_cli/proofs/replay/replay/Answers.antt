@@ -1,4 +1,4 @@
-use Rattle.std.proofs.Common.{◌≡◌, ◌≤◌, ◌+◌, ℕ, List, refl, sym, ap, ◌∙◌, subst, arith, take, length, []}
+use Rattle.std.proofs.Common.{inr, ◌≡◌, ◌≤◌, ◌+◌, ℕ, List, refl, sym, ap, ◌∙◌, subst, arith, take, length, []}
 use Rattle.definitions.specs.Disk as disk
 use Rattle.definitions.proofs.Pieces.{Takes-none}
 use Rattle.plain_machine.specs.Machine.{Hardware}
@@ -24,6 +24,7 @@ returns-in-Err-Script-clause-outcome g c =
       says = ready;
       told = subst (λ (t : Told). IsTold t tell.result (g.O.Sink.taken c.args.out.now) (g.O.Sink.taken tell.new.out) (g.N.Sink.taken c.args.note.now) (g.N.Sink.taken tell.new.note)) answer tell.ensures.told;
       content = refl;
+      restarts = refl;
     })
 
 pub returns-then-blocks-last-clause-outcome : goal.returns-then-blocks-last-clause-outcome
@@ -42,6 +43,7 @@ returns-then-blocks-last-clause-outcome g c =
       small = omega arith;
       told = subst (λ (t : Told). IsTold t tell.result (g.O.Sink.taken c.args.out.now) (g.O.Sink.taken tell.new.out) (g.N.Sink.taken c.args.note.now) (g.N.Sink.taken tell.new.note)) answer tell.ensures.told;
       content = refl;
+      restarts = refl;
     })
 
 pub returns-in-Err-format-clause-outcome : goal.returns-in-Err-format-clause-outcome
@@ -58,6 +60,7 @@ returns-in-Err-format-clause-outcome g c =
       risen = c.in-Err-format.ensures.cause refl;
       calls = c.in-Err-format.ensures.calls;
       content = subst (λ (last : ℕ). disk.Changes (FailsToFormat last c.in-Err-format.call) (g.D.Disk.content c.args.disk.now) (g.D.Disk.content c.format.new.disk)) c.last-3.ensures c.in-Err-format.ensures.content;
+      restarts = c.format.ensures.orders;
     })
 
 pub returns-in-Ok-play-clause-outcome : goal.returns-in-Ok-play-clause-outcome
@@ -73,7 +76,7 @@ returns-in-Ok-play-clause-outcome g c =
     let between = g.D.Disk.content c.format.new.disk in
     let after = g.D.Disk.content c.play.new.disk in
     let rs = c.in-Ok-play.ensures.played.0 in
-    let was = subst (λ (events : List Event). HasPlayed c.in-Ok-create.world c.play.new.world events rs between after (g.D.Disk.faults c.format.new.disk) (g.D.Disk.faults c.play.new.disk)) c.events.ensures c.in-Ok-play.ensures.played.1 in
+    let was = subst (λ (events : List Event). HasPlayed c.in-Ok-create.world c.play.new.world events rs between after (g.D.Disk.faults c.format.new.disk) (g.D.Disk.faults c.play.new.disk) (g.D.Disk.orders c.format.new.disk) (g.D.Disk.orders c.play.new.disk)) c.events.ensures c.in-Ok-play.ensures.played.1 in
     let steps = subst (λ (events : List Event). g.D.Disk.calls c.play.new.disk ≤ g.D.Disk.calls c.format.new.disk + steps_of events) c.events.ensures c.play.ensures.calls in
     played script (record {
       script_is = record { says = c.in-Ok.ensures.ready.0; over = c.in-Ok.ensures.ready.1 };
@@ -81,8 +84,8 @@ returns-in-Ok-play-clause-outcome g c =
       status_is = refl;
       prints = (
         rs,
-        replies_of script.last (g.D.Disk.block_count c.args.disk.now) c.in-Ok-create.world c.play.new.world script.events rs before between after (g.D.Disk.faults c.args.disk.now) (g.D.Disk.faults c.format.new.disk) (g.D.Disk.faults c.play.new.disk)
-            (g.met.D.Disk.well_formed c.args.disk.now) (omega arith) fresh formats c.format.ensures.faults was,
+        replies_of script.last (g.D.Disk.block_count c.args.disk.now) c.in-Ok-create.world c.play.new.world script.events rs before between after (g.D.Disk.faults c.args.disk.now) (g.D.Disk.faults c.format.new.disk) (g.D.Disk.faults c.play.new.disk) (g.D.Disk.orders c.args.disk.now) (g.D.Disk.orders c.format.new.disk) (g.D.Disk.orders c.play.new.disk)
+            (g.met.D.Disk.well_formed c.args.disk.now) (omega arith) fresh formats c.format.ensures.faults c.format.ensures.orders was,
         c.in-Ok-play.ensures.played.2,
       );
       note = Takes-none [] (g.N.Sink.taken c.args.note.now);
@@ -109,7 +112,7 @@ returns-clause-outcome g c =
     let after = g.D.Disk.content c.play.new.disk in
     let k = c.in-Err-play.ensures.played.0 in
     let rs = c.in-Err-play.ensures.played.1 in
-    let was = subst (λ (events : List Event). HasPlayed c.in-Ok-create.world c.play.new.world (take k events) rs between after (g.D.Disk.faults c.format.new.disk) (g.D.Disk.faults c.play.new.disk)) c.events.ensures c.in-Err-play.ensures.played.2 in
+    let was = subst (λ (events : List Event). HasPlayed c.in-Ok-create.world c.play.new.world (take k events) rs between after (g.D.Disk.faults c.format.new.disk) (g.D.Disk.faults c.play.new.disk) (g.D.Disk.orders c.format.new.disk) (g.D.Disk.orders c.play.new.disk)) c.events.ensures c.in-Err-play.ensures.played.2 in
     let steps = subst (λ (events : List Event). g.D.Disk.calls c.play.new.disk ≤ g.D.Disk.calls c.format.new.disk + steps_of events) c.events.ensures c.play.ensures.calls in
     cut_off script (record {
       script_is = record { says = c.in-Ok.ensures.ready.0; over = c.in-Ok.ensures.ready.1 };
@@ -118,8 +121,8 @@ returns-clause-outcome g c =
       prints = (
         k,
         rs,
-        replies_of script.last (g.D.Disk.block_count c.args.disk.now) c.in-Ok-create.world c.play.new.world (take k script.events) rs before between after (g.D.Disk.faults c.args.disk.now) (g.D.Disk.faults c.format.new.disk) (g.D.Disk.faults c.play.new.disk)
-            (g.met.D.Disk.well_formed c.args.disk.now) (omega arith) fresh formats c.format.ensures.faults was,
+        replies_of script.last (g.D.Disk.block_count c.args.disk.now) c.in-Ok-create.world c.play.new.world (take k script.events) rs before between after (g.D.Disk.faults c.args.disk.now) (g.D.Disk.faults c.format.new.disk) (g.D.Disk.faults c.play.new.disk) (g.D.Disk.orders c.args.disk.now) (g.D.Disk.orders c.format.new.disk) (g.D.Disk.orders c.play.new.disk)
+            (g.met.D.Disk.well_formed c.args.disk.now) (omega arith) fresh formats c.format.ensures.faults c.format.ensures.orders was,
         c.in-Err-play.ensures.played.3,
       );
       note = c.print.ensures.front;
@@ -138,4 +141,11 @@ returns-in-Err-clause-outcome g c =
     out_of_memory (record {
       told = subst (λ (t : Told). IsTold t tell.result (g.O.Sink.taken c.args.out.now) (g.O.Sink.taken tell.new.out) (g.N.Sink.taken c.args.note.now) (g.N.Sink.taken tell.new.note)) c.no_memory-in-Err.ensures.told tell.ensures.told;
       content = refl;
+      restarts = refl;
     })
+
+pub returns-then-blocks-last-clause-stream : goal.returns-then-blocks-last-clause-stream
+returns-then-blocks-last-clause-stream g c = λ stream. inr (c.tell-then-blocks-last.ensures.stream stream)
+
+pub returns-in-Err-format-clause-stream : goal.returns-in-Err-format-clause-stream
+returns-in-Err-format-clause-stream g c = λ stream. inr (c.tell-in-Err-format.ensures.stream stream)

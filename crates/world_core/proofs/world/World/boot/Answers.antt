@@ -11,11 +11,11 @@ use Rattle.world_core.proofs.world.World.boot.Goals as goal
 pub returns-then-not-is_off-clause-row : goal.returns-then-not-is_off-clause-row
 returns-then-not-is_off-clause-row c = λ k.
     row_refused (event.Boot c.args.from) c.args.self.now reply.NotOff k
-    (λ a stands. not_off c.args.self.now k a c.args.from (λ off. false≢true (sym c.if-not-is_off.true ∙ c.is_off.ensures.1 off)) stands)
+    (λ a stands. not_off c.args.self.now k a c.args.from c.is_off.ensures.busy (λ off. false≢true (sym c.if-not-is_off.true ∙ c.is_off.ensures.off.1 off)) stands)
 
 pub returns-in-Kept-clause-row : goal.returns-in-Kept-clause-row
 returns-in-Kept-clause-row c = λ k.
-    subst (λ (from : BootFrom). IsRow (event.Boot from) c.args.self.now c.args.self.now reply.NoDump k k) (sym c.in-Kept.is) (no_dump c.args.self.now k (c.is_off.ensures.0 c.if-not-is_off.false))
+    subst (λ (from : BootFrom). IsRow (event.Boot from) c.args.self.now c.args.self.now reply.NoDump k k) (sym c.in-Kept.is) (no_dump c.args.self.now k (c.is_off.ensures.off.0 c.if-not-is_off.false))
 
 pub returns-in-Fresh-clause-row : goal.returns-in-Fresh-clause-row
 returns-in-Fresh-clause-row c = λ k.

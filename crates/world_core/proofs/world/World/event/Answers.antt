@@ -1,5 +1,51 @@
+use Rattle.std.proofs.Common.{sym, subst}
+use Rattle.plain_machine.specs.declared.event.Event.{Event}
+use Rattle.world_core.specs.Row.{IsRow, HasRow, IsNoCut}
+use Rattle.sector_disk.proofs.Time.{unread, inside}
 use Rattle.world_core.proofs.Rows.{not_served}
 use Rattle.world_core.proofs.world.World.event.Goals as goal
 
 pub unreachable-requires : goal.unreachable-requires
-unreachable-requires g c = not_served c.args.event c.requires.served c.in_default.not-Boot c.in_default.not-Task c.in_default.not-Step
+unreachable-requires g c = not_served c.args.event c.requires.served c.in_default.not-Boot c.in_default.not-Task c.in_default.not-Step c.in_default.not-Hibernate c.in_default.not-Resume c.in_default.not-Cut
+
+pub returns-in-Boot-clause-row : goal.returns-in-Boot-clause-row
+returns-in-Boot-clause-row g c = λ k told. (k, told, subst (λ (e : Event). IsRow e c.args.self.now c.boot.new.self c.boot.result k k) (sym c.in-Boot.is) (c.boot.ensures.row k))
+
+pub returns-in-Task-clause-row : goal.returns-in-Task-clause-row
+returns-in-Task-clause-row g c = λ k told. (k, told, subst (λ (e : Event). IsRow e c.args.self.now c.task.new.self c.task.result k k) (sym c.in-Task.is) (c.task.ensures.row k))
+
+pub returns-in-Step-clause-row : goal.returns-in-Step-clause-row
+returns-in-Step-clause-row g c =
+    subst (λ (e : Event). HasRow e c.args.self.now c.step_of.new.self c.step_of.result (g.D.Disk.content c.args.disk.now) (g.D.Disk.content c.step_of.new.disk)) (sym c.in-Step.is) c.step_of.ensures.row
+
+pub returns-in-Hibernate-clause-row : goal.returns-in-Hibernate-clause-row
+returns-in-Hibernate-clause-row g c = λ k told. (k, told, subst (λ (e : Event). IsRow e c.args.self.now c.hibernate.new.self c.hibernate.result k k) (sym c.in-Hibernate.is) (c.hibernate.ensures.row k))
+
+pub returns-in-Resume-clause-row : goal.returns-in-Resume-clause-row
+returns-in-Resume-clause-row g c = λ k told. (k, told, subst (λ (e : Event). IsRow e c.args.self.now c.resume.new.self c.resume.result k k) (sym c.in-Resume.is) (c.resume.ensures.row k))
+
+pub returns-in-Cut-clause-row : goal.returns-in-Cut-clause-row
+returns-in-Cut-clause-row g c =
+    subst (λ (e : Event). HasRow e c.args.self.now c.cut.new.self c.cut.result (g.D.Disk.content c.args.disk.now) (g.D.Disk.content c.cut.new.disk)) (sym c.in-Cut.is) c.cut.ensures.row
+
+-- An event that calls no disk leaves what a crash might leave.
+
+pub returns-in-Boot-clause-inside : goal.returns-in-Boot-clause-inside
+returns-in-Boot-clause-inside g c = λ no tells v left. unread (g.D.Disk.moment c.args.disk.now) (g.D.Disk.left_since c.args.disk.now) (g.D.Disk.content c.args.disk.now) v (g.met.D.Disk.only_now c.args.disk.now v tells) left
+
+pub returns-in-Task-clause-inside : goal.returns-in-Task-clause-inside
+returns-in-Task-clause-inside g c = λ no tells v left. unread (g.D.Disk.moment c.args.disk.now) (g.D.Disk.left_since c.args.disk.now) (g.D.Disk.content c.args.disk.now) v (g.met.D.Disk.only_now c.args.disk.now v tells) left
+
+pub returns-in-Hibernate-clause-inside : goal.returns-in-Hibernate-clause-inside
+returns-in-Hibernate-clause-inside g c = λ no tells v left. unread (g.D.Disk.moment c.args.disk.now) (g.D.Disk.left_since c.args.disk.now) (g.D.Disk.content c.args.disk.now) v (g.met.D.Disk.only_now c.args.disk.now v tells) left
+
+pub returns-in-Resume-clause-inside : goal.returns-in-Resume-clause-inside
+returns-in-Resume-clause-inside g c = λ no tells v left. unread (g.D.Disk.moment c.args.disk.now) (g.D.Disk.left_since c.args.disk.now) (g.D.Disk.content c.args.disk.now) v (g.met.D.Disk.only_now c.args.disk.now v tells) left
+
+pub returns-in-Step-clause-inside : goal.returns-in-Step-clause-inside
+returns-in-Step-clause-inside g c = λ no tells v left.
+    inside (g.D.Disk.moment c.args.disk.now) (g.D.Disk.moment c.step_of.new.disk) (g.D.Disk.left_since c.args.disk.now) (g.D.Disk.left_since c.step_of.new.disk) (g.D.Disk.content c.args.disk.now) (g.D.Disk.content c.step_of.new.disk) v
+    (c.step_of.ensures.time tells) (g.met.D.Disk.only_now c.args.disk.now v tells) left
+
+pub returns-in-Cut-clause-inside : goal.returns-in-Cut-clause-inside
+returns-in-Cut-clause-inside g c = λ no. absurd (subst IsNoCut c.in-Cut.is no)

@@ -1,18 +1,35 @@
-use Rattle.std.proofs.Common.{ap, ⊎_elim}
+use Rattle.std.proofs.Common.{refl, sym, ap, ◌∙◌, subst}
 use Rattle.plain_machine.specs.declared.event.Event.TheVariants as event
 use Rattle.plain_machine.specs.declared.reply.Reply.TheVariants as reply
-use Rattle.world_core.specs.StandsFor.{activity_of}
-use Rattle.world_core.proofs.Rows.{row_refused, not_on, frozen}
+use Rattle.world_core.specs.World.{World}
+use Rattle.world_core.specs.Kept.{kept_world}
+use Rattle.world_core.specs.Row.{IsRow}
+use Rattle.world_core.proofs.Rows.{row_refused, not_on, frozen_task, is_taken, busy_in}
 use Rattle.world_core.proofs.Tasks.{row_of_task}
 use Rattle.world_core.proofs.world.World.task.Goals as goal
 
 pub returns-in-Off-clause-row : goal.returns-in-Off-clause-row
-returns-in-Off-clause-row c = λ k. row_refused (event.Task c.args.t c.args.op) c.args.self.now reply.NotOn k (λ a stands. not_on c.args.self.now k a c.args.t c.args.op c.in-Off.is stands)
+returns-in-Off-clause-row c = λ k.
+    row_refused (event.Task c.args.t c.args.op) c.args.self.now reply.NotOn k
+    (λ a stands. not_on c.args.self.now k a c.args.t c.args.op (sym (ap (λ (w : World). w.core) c.self.view_is) ∙ c.in-Off.is) stands)
 
-pub returns-in-BootBegun-clause-row : goal.returns-in-BootBegun-clause-row
-returns-in-BootBegun-clause-row c = λ k.
-    row_refused (event.Task c.args.t c.args.op) c.args.self.now reply.Frozen k
-    (λ a stands. ⊎_elim (λ e. frozen c.args.self.now k a c.args.t c.args.op 0 (ap activity_of e) stands) (λ e. frozen c.args.self.now k a c.args.t c.args.op 1 (ap activity_of e) stands) c.in-BootBegun.is)
+pub returns-in-BootBegun : goal.returns-in-BootBegun
+returns-in-BootBegun c =
+    let core = ap (λ (w : World). w.core) c.self.view_is in
+    let taken = is_taken c.self.inside.core c.in-BootBegun.is in
+    let busy = busy_in c.self.inside c.args.self.now c.self.view_is c.self.invariant in
+    record {
+      row = λ k. row_refused (event.Task c.args.t c.args.op) c.args.self.now reply.Frozen k
+          (λ a stands. frozen_task c.args.self.now k a c.args.t c.args.op busy (λ e. taken.0 (core ∙ e)) (λ e. taken.1 (core ∙ e)) stands);
+      cause = λ e. e;
+      hardware = refl;
+      blocks = refl;
+      core = refl;
+    }
 
 pub returns-in-Running-clause-row : goal.returns-in-Running-clause-row
-returns-in-Running-clause-row c = λ k. row_of_task c.args.self.now _ k c.args.t c.args.op c.task.result c.in-Running.is c.in-Running.is c.task.ensures.machine c.task.ensures.row
+returns-in-Running-clause-row c = λ k.
+    let old = kept_world c.self.inside in
+    let new = record old { machine = c.task.new.self; frames = c.task.new.frames } in
+    subst (λ (w : World). IsRow (event.Task c.args.t c.args.op) w new c.task.result k k) c.self.view_is
+    (row_of_task old new k c.args.t c.args.op c.task.result c.in-Running.is c.in-Running.is c.task.ensures.machine c.task.ensures.row)

@@ -1,0 +1,275 @@
+-- The rows of the begin of a hibernation, and what its next step needs.
+use Rattle.protocol_laws.proofs.Unwritten.{block_same}
+use Rattle.std.proofs.Common.{◌≡◌, ◌<◌, ◌^◌, ℕ, ◌+◌, inl, inr, false, List, [], ◌∷◌, length, get_or, map, take, refl, sym, ap, ap₂, ◌∙◌, subst, arith, All, Contains, None, IfOk}
+use Rattle.page_core.specs.declared.format.Format.{Format}
+use Rattle.definitions.specs.Disk as disk
+use Rattle.definitions.specs.Tables.{frame}
+use Rattle.definitions.specs.Zones.{top}
+use Rattle.definitions.specs.declared.info.Info.{Info}
+use Rattle.definitions.proofs.Ascending.{Contains-nil, Contains-head, Contains-tail, Contains-cons_cases}
+use Rattle.definitions.proofs.FreeSlots.{free_slot}
+use Rattle.prealloc.proofs.Picks.{Contains-from_take}
+use Rattle.snapshot.specs.Taken.{Taken}
+use Rattle.snapshot.specs.declared.Counts.{Counts}
+use Rattle.swap_slots.specs.Runs.{SlotRuns}
+use Rattle.swap_slots.specs.Table.{Matches, free_in}
+use Rattle.image_laws.specs.Decoding.{IsIdent, MemoriesAreSayable}
+use Rattle.image_write.specs.Writing.{IsWriting, AreOfImage, BlocksBelow, writes_of}
+use Rattle.plain_machine.specs.Machine.{Memory, IsHardware, unused, unused_slots, raw_slot_entry, block_of_slot}
+use Rattle.plain_machine.specs.Image.{image_of_memory, hibernate_steps, maps_of}
+use Rattle.plain_machine.specs.Laid.{laid_block}
+use Rattle.plain_machine.specs.Shows.{RunsAs}
+use Rattle.plain_machine.specs.Stands.{Stands, NamesHeld, laid_blocks}
+use Rattle.plain_machine.specs.State.{State, on, hibernating, Running, Held, nothing, sure, maybe, own, other}
+use Rattle.plain_machine.specs.Step.{Step, no_flights, no_slots}
+use Rattle.plain_machine.specs.UsableArea.{fit_fault}
+use Rattle.plain_machine.specs.declared.event.Event.TheVariants as event
+use Rattle.plain_machine.specs.declared.reply.Reply.{Reply}
+use Rattle.plain_machine.specs.declared.reply.Reply.TheVariants as reply
+use Rattle.protocol_laws.specs.Hibernating.{Begins}
+use Rattle.protocol_laws.specs.Memory.{RunsTaken, FrameTaken, NamesTaken, WritesStream}
+use Rattle.protocol_laws.specs.Slots.{IsMemoryOf, AreFree, taken, HasSets}
+use Rattle.protocol_laws.specs.Snapshots.{NamesNone, RunsOverCopies, SlotsOverCopies}
+use Rattle.protocol_laws.specs.Steps.{ShowsCopies}
+use Rattle.protocol_laws.specs.Writers.{IsWriterOf, slot_table_of}
+use Rattle.protocol_laws.proofs.Places.{usable_fits}
+use Rattle.machine.specs.declared.machine.Machine.{Machine}
+use Rattle.hib_core.specs.Begin.{IsRefused, IsCounted, IsTaken, info_of}
+use Rattle.hib_core.specs.Begin as begin
+use Rattle.hib_core.specs.Hibernation.{running_by, shown_by, reason_of, activity_at}
+use Rattle.hib_core.specs.Ready.{CanStep, CanWrite, IsPlace}
+use Rattle.hib_core.specs.Row.{StandsFor, IsOf, IsBegun}
+use Rattle.hib_core.specs.declared.hib.Hib.{Hib}
+use Rattle.hib_core.specs.declared.hib.Job.TheVariants as job
+use Rattle.hib_core.specs.declared.hib.Stage.{Stage}
+use Rattle.hib_core.specs.declared.hib.Stage.TheVariants as stage
+use Rattle.hib_core.proofs.BeginImage.{IsCountOf, counts_are, info_is, first_in_laid, taken_from_frames}
+use Rattle.hib_core.proofs.BeginRefusals.{AreCounts, IsSeen, SeenLaws, seen, not_refused}
+use Rattle.hib_core.proofs.BeginTables.{area_of, copies_apart, free_slots_stay, image_on_disk, slot_table_lies}
+use Rattle.hib_core.proofs.Cases.{at_run}
+use Rattle.hib_core.proofs.Facts.{same_writer}
+use Rattle.hib_core.proofs.Plain.{accepted_step, refused_step}
+use Rattle.hib_core.proofs.Syncing.{same_area}
+
+-- A refused hibernation.
+
+names_idle : (machine : Machine) (frames : Memory) (hib : Hib) (c : disk.Content) (held : Held) → NamesHeld machine.hw (running_by machine frames) c held → NamesHeld machine.hw (shown_by machine frames hib) c held
+names_idle machine frames hib c nothing names = names
+names_idle machine frames hib c (sure (own i)) names = names
+names_idle machine frames hib c (sure other) names = names
+names_idle machine frames hib c (maybe (own i)) names = names
+names_idle machine frames hib c (maybe other) names = names
+
+idle_stands : (machine : Machine) (frames : Memory) (hib : Hib) (c : disk.Content) (a : Running) → hib.stage ≡ stage.Idle → Stands machine.hw (running_by machine frames) c (on a) → Stands machine.hw (shown_by machine frames hib) c (on a)
+idle_stands machine frames hib c a idle stands = record {
+  activity = ap (λ (s : Stage). activity_at s hib.made) idle;
+  parts = (
+    stands.parts.0,
+    record {
+      held = stands.parts.1.held;
+      task_slots = stands.parts.1.task_slots;
+      slot_pages = stands.parts.1.slot_pages;
+      names = names_idle machine frames hib c a.held stands.parts.1.names;
+      header = stands.parts.1.header;
+      area = stands.parts.1.area;
+    },
+  );
+}
+
+pub refused_row : (machine : Machine) (frames : Memory) (hib : Hib) (f : Format) (r : Reply) (c : disk.Content) → IsRefused machine frames f r → hib.stage ≡ stage.Idle → IsBegun machine frames frames hib (job.Hibernate f) r c
+refused_row machine frames hib f r c refused idle s stands =
+    let at = at_run s stands.activity in
+    let a : Running = at.0 in
+    let here : Stands machine.hw (running_by machine frames) c (on a) = subst (Stands machine.hw (running_by machine frames) c) at.1 stands in (
+      s,
+      record {
+        step = subst (λ (t : State). Step machine.hw (disk.as_it_reads c) t (event.Hibernate f) r t) (sym at.1) (refused_step machine.hw (disk.as_it_reads c) (on a) (event.Hibernate f) r (refused c a here));
+        stands = subst (StandsFor machine frames hib c) (sym at.1) (record { stands = idle_stands machine frames hib c a idle here; image = tt });
+        area = same_area machine.hw (disk.as_it_reads c);
+        unwritten = λ b not. block_same b _;
+      },
+    )
+
+-- A hibernation that begins.
+
+pub record BeginLaws : Type 0 where
+  pub seen : SeenLaws
+  pub begun : Begins
+  pub over : RunsOverCopies
+  pub slots_over : SlotsOverCopies
+  pub taken : RunsTaken
+  pub frames : FrameTaken
+  pub names : NamesTaken
+  pub sayable : MemoriesAreSayable
+  pub stream : WritesStream
+
+-- the machine, and a hibernation that has counted and taken
+pub record IsBegin (machine : Machine) (frames frames' : Memory) (hib hib' : Hib) (counts : Counts) : Type 0 where
+  pub hardware : IsHardware machine.hw
+  pub ident : IsIdent machine.hw.ident
+  pub size : length frames ≡ top machine.hw.zones
+  pub counted : IsCounted machine frames hib counts
+  pub taken : IsTaken machine frames frames' hib hib' counts
+
+copies_are : (machine : Machine) (frames frames' : Memory) (hib hib' : Hib) (counts : Counts) → IsTaken machine frames frames' hib hib' counts → hib'.snapshot.copies ≡ take (length hib.snapshot.origs) (unused machine.hw frames)
+copies_are machine frames frames' hib hib' counts is = ap (λ (s : Taken). s.copies) is.snapshot
+
+free_stays : (machine : Machine) (frames frames' : Memory) (hib hib' : Hib) (counts : Counts) (is : IsBegin machine frames frames' hib hib' counts) → free_in is.taken.copied (slot_table_of machine.hw) ≡ free_in frames (slot_table_of machine.hw)
+free_stays machine frames frames' hib hib' counts is =
+    free_slots_stay machine frames is.taken.copied hib counts (length hib.snapshot.origs) hib'.snapshot.copies is.counted (copies_are machine frames frames' hib hib' counts is.taken) is.taken.others
+
+in_one : (xs : List ℕ) (x : ℕ) → Contains (take 1 xs) x → get_or xs 0 0 ≡ x
+in_one [] x in' = absurd (Contains-nil x in')
+in_one (y ∷ xs) x in' = elim (Contains-cons_cases y (take 0 xs) x in') [ inl e ↦ e | inr rest ↦ absurd (Contains-nil x rest) ]
+
+copies_stay : (m n : Memory) (ps : List ℕ) → ((p : ℕ) → Contains ps p → frame n p ≡ frame m p) → map (frame n) ps ≡ map (frame m) ps
+copies_stay m n [] same = refl
+copies_stay m n (p ∷ ps) same = ap₂ (λ (x : List ℕ) (xs : List (List ℕ)). x ∷ xs) (same p (Contains-head p ps)) (copies_stay m n ps (λ q in'. same q (Contains-tail p ps q in')))
+
+shows_copies : (machine : Machine) (frames frames' : Memory) (hib hib' : Hib) (counts : Counts) (f : Format) (c : disk.Content) (a : Running) → BeginLaws → IsBegin machine frames frames' hib hib' counts → Stands machine.hw (running_by machine frames) c (on a) → IsSeen machine.hw frames f a →
+    ShowsCopies machine.hw (shown_by machine frames' hib') a (image_of_memory machine.hw a.memory a.slots f)
+shows_copies machine frames frames' hib hib' counts f c a laws is stands seen =
+    let h = machine.hw in
+    let i = image_of_memory h a.memory a.slots f in
+    let t = is.taken in
+    let why = reason_of machine.area in
+    let free = free_in t.copied (slot_table_of h) in
+    let was : RunsAs h machine.held why no_flights frames a = stands.parts.0 in
+    let others : (p : ℕ) → (Contains (unused h frames) p → ⊥) → frame t.copied p ≡ frame frames p =
+    λ p out. t.others p (λ in'. out (Contains-from_take (length hib.snapshot.origs) (unused h frames) p (subst (λ (xs : List ℕ). Contains xs p) (copies_are machine frames frames' hib hib' counts t) in'))) in
+    let over : RunsAs h machine.held why no_flights t.copied a = laws.over h machine.held why no_flights frames t.copied a is.hardware was seen.none others in
+    let memory : IsMemoryOf h t.copied = record { pages = t.pages; table = slot_table_lies h t.copied is.hardware (t.size ∙ is.size) } in
+    let first : AreFree h t.copied (take 1 free) = λ s in'. free_slot h.slots h.slot_table t.copied s (Contains-from_take 1 free s in') in
+    let given : taken h t.copied (take 1 free) ≡ frames' = sym t.slots in
+    let none : NamesNone h t.copied = laws.slots_over h a.memory frames t.copied is.hardware seen.fits was.same seen.none others in
+    let laid : (k : ℕ) → Contains (take 1 free) k → Contains (laid_blocks h a i) (block_of_slot h k) = λ k in'.
+    subst (λ (b : ℕ). Contains (laid_blocks h a i) b)
+    (ap (λ (xs : List ℕ). laid_block h.extents xs 0) (sym (free_stays machine frames frames' hib hib' counts is ∙ seen.slots)) ∙ ap (block_of_slot h) (in_one free k in'))
+    (first_in_laid h a i) in
+    record {
+      shows = subst (λ (m : Memory). RunsAs h machine.held why no_flights m a) given (laws.taken h machine.held why no_flights t.copied (take 1 free) a memory first over);
+      names = λ k lt e. laws.names h t.copied (take 1 free) (laid_blocks h a i) memory first (λ j j_lt j_e. absurd (none j j_lt j_e)) laid k lt (ap (λ (m : Memory). raw_slot_entry h m k) given ∙ e);
+      copies = ap (λ (m : Memory). map (frame m) hib'.snapshot.copies) (sym given)
+          ∙ copies_stay t.copied (taken h t.copied (take 1 free)) hib'.snapshot.copies
+          (λ p in'. laws.frames h t.copied (take 1 free) p first
+          (λ of. copies_apart machine frames hib counts (length hib.snapshot.origs) hib'.snapshot.copies is.counted (copies_are machine frames frames' hib hib' counts t) p in' of))
+          ∙ t.copies ∙ ap (map (frame frames)) is.counted.origs ∙ seen.image.pages;
+    }
+
+-- the numbers and sets are the image's
+is_of : (machine : Machine) (frames frames' : Memory) (hib hib' : Hib) (counts : Counts) (f : Format) (a : Running) → BeginLaws → IsBegin machine frames frames' hib hib' counts → hib.snapshot.format ≡ f → IsSeen machine.hw frames f a →
+    IsOf machine.hw frames' hib' a (image_of_memory machine.hw a.memory a.slots f)
+is_of machine frames frames' hib hib' counts f a laws is format seen =
+    let h = machine.hw in
+    let i = image_of_memory h a.memory a.slots f in
+    let t = is.taken in
+    let free : free_in t.copied (slot_table_of h) ≡ unused_slots h a.memory = free_stays machine frames frames' hib hib' counts is ∙ seen.slots in
+    let count : IsCountOf hib counts i = counts_are machine frames hib counts i is.counted (sym format) seen.image in
+    let writer : IsWriterOf h a i hib'.made frames' t.writer = record {
+      info = t.info ∙ info_is h hib counts a.memory a.slots f count;
+      extents = t.extents;
+      table = t.table;
+      made = t.written ∙ sym t.made;
+      writing = subst (λ (xs : List ℕ). IsWriting xs frames' t.writer) free t.writing;
+    } in
+    record {
+      sayable = laws.sayable h a.memory a.slots f is.hardware.zones is.ident;
+      saved = t.n ∙ count.saved;
+      steps = t.of ∙ ap (λ (p : ℕ). p + maps_of p + 4) count.pages;
+      format = ap (λ (s : Taken). s.format) t.snapshot ∙ format;
+      origs = ap (λ (s : Taken). s.origs) t.snapshot ∙ count.origs;
+      zeros = ap (λ (s : Taken). s.zeros) t.snapshot ∙ count.zeros;
+      first = t.first ∙ t.writing.first ∙ ap₂ (λ (es : List (ℕ × ℕ × ℕ)) (xs : List ℕ). laid_block es xs 0) t.extents free;
+      apart = copies_apart machine frames hib counts (length hib.snapshot.origs) hib'.snapshot.copies is.counted (copies_are machine frames frames' hib hib' counts t);
+      writing = λ e w has. subst (IsWriterOf h a i hib'.made frames') (same_writer t.writer w (sym t.has ∙ has)) writer;
+    }
+
+pub begun_row : (machine : Machine) (frames frames' : Memory) (hib hib' : Hib) (counts : Counts) (f : Format) (c : disk.Content) → BeginLaws → IsBegin machine frames frames' hib hib' counts → hib.snapshot.format ≡ f → IsBegun machine frames frames' hib' (job.Hibernate f) (reply.More 0 hib'.of) c
+begun_row machine frames frames' hib hib' counts f c laws is format s stands =
+    let h = machine.hw in
+    let at = at_run s stands.activity in
+    let a : Running = at.0 in
+    let i = image_of_memory h a.memory a.slots f in
+    let here : Stands h (running_by machine frames) c (on a) = subst (Stands h (running_by machine frames) c) at.1 stands in
+    let sees : IsSeen h frames f a = seen machine frames f c a laws.seen is.hardware is.counted.held here in
+    let counted : AreCounts h frames hib counts = record { origs = is.counted.origs; zeros = is.counted.zeros; saved = is.counted.saved; with_pages = is.counted.with_pages } in
+    let goes = not_refused machine frames f hib counts c a laws.seen is.hardware is.counted.held is.counted.area counted format is.counted.copies is.counted.slots here in
+    let of : IsOf h frames' hib' a i = is_of machine frames frames' hib hib' counts f a laws is format sees in
+    let stepped : Step h (disk.as_it_reads c) (on a) (event.Hibernate f) (reply.More 0 (hibernate_steps i)) (hibernating false i a 0) =
+    accepted_step h (disk.as_it_reads c) (on a) (event.Hibernate f) (reply.More 0 (hibernate_steps i)) (hibernating false i a 0) goes (0, omega arith, refl) in (
+      hibernating false i a 0,
+      record {
+        step = subst (λ (t : State). Step h (disk.as_it_reads c) t (event.Hibernate f) (reply.More 0 hib'.of) (hibernating false i a 0)) (sym at.1)
+            (subst (λ (n : ℕ). Step h (disk.as_it_reads c) (on a) (event.Hibernate f) (reply.More 0 n) (hibernating false i a 0)) (sym of.steps) stepped);
+        stands = record {
+          stands = laws.begun h (running_by machine frames) (shown_by machine frames' hib') c a f false is.hardware here goes (ap₂ activity_at is.taken.next is.taken.made) (shows_copies machine frames frames' hib hib' counts f c a laws is here sees);
+          image = of;
+        };
+        area = same_area h (disk.as_it_reads c);
+        unwritten = λ b not. block_same b _;
+      },
+    )
+
+-- What the first write needs.
+
+are_of_image : (machine : Machine) (frames frames' : Memory) (hib hib' : Hib) (counts : Counts) → BeginLaws → (is : IsBegin machine frames frames' hib hib' counts) → AreOfImage is.taken.writer.info hib'.snapshot.origs hib'.snapshot.copies hib'.snapshot.zeros
+are_of_image machine frames frames' hib hib' counts laws is =
+    let h = machine.hw in
+    let f = hib.snapshot.format in
+    let i = image_of_memory h frames no_slots f in
+    let t = is.taken in
+    let from = taken_from_frames h frames no_slots f in
+    let count : IsCountOf hib counts i = counts_are machine frames hib counts i is.counted refl from in
+    let sets : HasSets i t.copied hib'.snapshot.origs hib'.snapshot.copies hib'.snapshot.zeros = record {
+      origs = ap (λ (s : Taken). s.origs) t.snapshot ∙ count.origs;
+      zeros = ap (λ (s : Taken). s.zeros) t.snapshot ∙ count.zeros;
+      copies = t.copies ∙ ap (map (frame frames)) is.counted.origs ∙ from.pages;
+    } in
+    subst (λ (info : Info). AreOfImage info hib'.snapshot.origs hib'.snapshot.copies hib'.snapshot.zeros) (sym (t.info ∙ info_is h hib counts frames no_slots f count))
+    (laws.stream i t.copied hib'.snapshot.origs hib'.snapshot.copies hib'.snapshot.zeros (laws.sayable h frames no_slots f is.hardware.zones is.ident) sets).1
+
+can_write : (machine : Machine) (frames frames' : Memory) (hib hib' : Hib) (counts : Counts) → BeginLaws → IsBegin machine frames frames' hib hib' counts → IfOk machine.area (λ area. fit_fault machine.hw machine.blocks area ≡ None) → length frames' ≡ length frames →
+    CanWrite machine.hw machine.blocks frames' hib'
+can_write machine frames frames' hib hib' counts laws is usable size =
+    let h = machine.hw in
+    let t = is.taken in
+    let free = free_in t.copied (slot_table_of h) in
+    let below : BlocksBelow h.extents (free_in frames (slot_table_of h)) (writes_of (info_of h counts)) machine.blocks = image_on_disk machine frames hib counts is.hardware is.counted usable in
+    let blocks : BlocksBelow t.writer.extents free (writes_of t.writer.info) machine.blocks =
+    subst (λ (info : Info). BlocksBelow t.writer.extents free (writes_of info) machine.blocks) (sym t.info)
+    (subst (λ (es : List (ℕ × ℕ × ℕ)). BlocksBelow es free (writes_of (info_of h counts)) machine.blocks) (sym t.extents)
+    (subst (λ (xs : List ℕ). BlocksBelow h.extents xs (writes_of (info_of h counts)) machine.blocks) (sym (free_stays machine frames frames' hib hib' counts is)) below)) in
+    record {
+      writer = t.writer;
+      has = t.has;
+      table = t.table;
+      made = t.written ∙ sym t.made;
+      of = ap (λ (info : Info). writes_of info + 4) t.info ∙ sym t.of;
+      ready = (free, t.writing, blocks);
+      sets = are_of_image machine frames frames' hib hib' counts laws is;
+      copies = subst (λ (n : ℕ). All (λ p. p < n) hib'.snapshot.copies) (t.size ∙ sym size) t.below;
+      reading = t.reading hib'.snapshot.origs hib'.snapshot.copies hib'.snapshot.zeros;
+    }
+
+first_place : (made of pages : ℕ) → made ≡ 0 → of ≡ pages + maps_of pages + 4 → made + 4 < of
+first_place made of pages a b = omega arith
+
+pub can_step : (machine : Machine) (frames frames' : Memory) (runs : SlotRuns) (hib hib' : Hib) (counts : Counts) → BeginLaws → IsBegin machine frames frames' hib hib' counts → IfOk machine.area (λ area. fit_fault machine.hw machine.blocks area ≡ None) →
+    machine.hw.hw_sig < 2 ^ 32 → machine.blocks < 2 ^ 32 → length frames' ≡ length frames → Matches frames' (slot_table_of machine.hw) runs → CanStep machine frames' runs hib'
+can_step machine frames frames' runs hib hib' counts laws is usable signature few size matches =
+    let h = machine.hw in
+    let t = is.taken in
+    let area = area_of machine is.counted.area usable in
+    let some = is.hardware.some_slots in
+    record {
+      hardware = is.hardware;
+      signature = signature;
+      few = few;
+      size = size ∙ is.size;
+      table = slot_table_lies h frames' is.hardware (size ∙ is.size);
+      matches = matches;
+      header = (usable_fits h machine.blocks area.0 area.1).1 0 (omega arith);
+      usable = is.counted.area;
+      place = subst (λ (s : Stage). IsPlace s hib'.made hib'.of) (sym t.next) (first_place hib'.made hib'.of (begin.pages_of counts) t.made t.of);
+      write = λ e. can_write machine frames frames' hib hib' counts laws is usable size;
+    }

@@ -1,0 +1,133 @@
+-- The rows of the mark, and of its sync.
+use Rattle.plain_machine.specs.Stands.{laid_blocks}
+use Rattle.protocol_laws.proofs.Unwritten.{block_same, block_synced, unwritten_header}
+use Rattle.std.proofs.Common.{◌≡◌, false, ℕ, ◌+◌, List, None, inl, inr, refl, sym, ap, ◌∙◌, subst}
+use Rattle.definitions.specs.Disk as disk
+use Rattle.definitions.specs.SwapHeader.{marked}
+use Rattle.swap_slots.specs.Runs.{SlotRuns}
+use Rattle.page_core.specs.declared.format.Format.{Format}
+use Rattle.plain_machine.specs.Machine.{Memory, block_of_slot, unused_slots}
+use Rattle.plain_machine.specs.Image.{Image, hibernate_steps}
+use Rattle.plain_machine.specs.Laid.{laid_block}
+use Rattle.plain_machine.specs.State.{off, hibernating, undoing, Running, sure, own}
+use Rattle.plain_machine.specs.Step.{Step}
+use Rattle.plain_machine.specs.declared.event.Event.TheVariants as event
+use Rattle.plain_machine.specs.declared.event.Actor.TheVariants as actor
+use Rattle.plain_machine.specs.declared.reply.Reply.TheVariants as reply
+use Rattle.plain_machine.specs.declared.reply.UndoCall.TheVariants as undo
+use Rattle.image_laws.specs.ImageBlocks.{Tries}
+use Rattle.protocol_laws.specs.Rows.{IsSameArea}
+use Rattle.protocol_laws.specs.AreaKept.{KeptBySync, KeptByMark}
+use Rattle.protocol_laws.specs.Hibernating.{MarksOn, MarkFails, MarksUnmarked, Ends, EndFails}
+use Rattle.protocol_laws.specs.Steps.{marked_header, mark_flags}
+use Rattle.machine.specs.declared.machine.Machine.{Machine}
+use Rattle.hib_core.specs.Hibernation.{shown_by, activity_at}
+use Rattle.hib_core.specs.Ready.{CanStep}
+use Rattle.hib_core.specs.Row.{StandsFor, IsOf, IsRow}
+use Rattle.hib_core.specs.declared.hib.Hib.{Hib}
+use Rattle.hib_core.specs.declared.hib.Stage.{Stage}
+use Rattle.hib_core.specs.declared.hib.Stage.TheVariants as stage
+use Rattle.hib_core.proofs.Facts.{is_over, row_at_hibernation, still_of}
+use Rattle.hib_core.proofs.Plain.{may_mark, mark_may_fail, may_end, end_may_fail}
+use Rattle.hib_core.proofs.Syncing.{place_at, more_of, same_area}
+
+-- the header block with the mark of the hibernation's image
+abbrev pub mark_of : Machine → Hib → List ℕ
+mark_of machine hib = marked hib.header hib.first (mark_flags hib.snapshot.format) machine.hw.hw_sig
+
+mark_is : (machine : Machine) (frames : Memory) (hib : Hib) (a : Running) (i : Image) → IsOf machine.hw frames hib a i → mark_of machine hib ≡ marked_header machine.hw a i hib.header
+mark_is machine frames hib a i of =
+    ap (λ (n : ℕ). marked hib.header n (mark_flags hib.snapshot.format) machine.hw.hw_sig) of.first
+    ∙ ap (λ (f : Format). marked hib.header (laid_block machine.hw.extents (unused_slots machine.hw a.memory) 0) (mark_flags f) machine.hw.hw_sig) of.format
+
+-- the write of the mark leaves the area, failed or not
+mark_keeps : (machine : Machine) (frames : Memory) (runs : SlotRuns) (hib : Hib) (c c' : disk.Content) (i : Image) (a : Running) → KeptByMark → MarksUnmarked → CanStep machine frames runs hib → disk.IsContent machine.blocks c → hib.made + 2 ≡ hibernate_steps i →
+    StandsFor machine frames hib c (hibernating false i a hib.made) → Tries (block_of_slot machine.hw 0) (mark_of machine hib) c c' → IsSameArea machine.hw (disk.as_it_reads c) (disk.as_it_reads c')
+mark_keeps machine frames runs hib c c' i a keeps unmarked can whole place s tries =
+    let before = unmarked machine.hw (shown_by machine frames hib) c machine.blocks false i a hib.made whole s.stands place in
+    keeps machine.hw machine.blocks hib.first (mark_flags hib.snapshot.format) machine.hw.hw_sig c c' whole can.header before.1
+    (subst (λ (p : List ℕ). Tries (block_of_slot machine.hw 0) (marked p hib.first (mark_flags hib.snapshot.format) machine.hw.hw_sig) c c') before.0 tries)
+
+pub marked_row : (machine : Machine) (frames : Memory) (runs : SlotRuns) (hib : Hib) (c c' : disk.Content) → MarksOn → KeptByMark → MarksUnmarked → CanStep machine frames runs hib → hib.stage ≡ stage.Mark → disk.IsContent machine.blocks c → disk.IsContent machine.blocks c' → disk.Writes (block_of_slot machine.hw 0) (mark_of machine hib) c c' →
+    IsRow machine frames hib machine frames (record hib { header = mark_of machine hib; stage = stage.End; made = hib.made + 1 }) (event.Step actor.Core) (reply.More (hib.made + 1) hib.of) c c'
+marked_row machine frames runs hib c c' marks_on keeps unmarked can at whole whole' writes =
+    let new = record hib { header = mark_of machine hib; stage = stage.End; made = hib.made + 1 } in
+    row_at_hibernation machine frames hib machine frames new (event.Step actor.Core) (reply.More (hib.made + 1) hib.of) c c' (ap (λ (s : Stage). activity_at s hib.made) at)
+    (λ i a s.
+    let of = s.image in
+    let place : hib.made + 2 ≡ hibernate_steps i = place_at hib stage.Mark at can.place ∙ of.steps in
+    let is = mark_is machine frames hib a i of in (
+      hibernating false i a (hib.made + 1),
+      record {
+        step = more_of machine.hw (disk.as_it_reads c) i a hib.made hib.of of.steps (may_mark machine.hw (disk.as_it_reads c) i a hib.made place);
+        stands = record {
+          stands = marks_on machine.hw (shown_by machine frames hib) (shown_by machine frames new) c c' machine.blocks false i a hib.made (is_over machine frames runs hib c a i can whole of) whole' s.stands place
+              (subst (λ (p : List ℕ). disk.Writes (block_of_slot machine.hw 0) p c c') is writes) is refl (record { shows = s.stands.parts.0.shows; names = s.stands.parts.2; copies = s.stands.parts.3.copies });
+          image = still_of machine.hw frames frames hib a i (mark_of machine hib) stage.End (hib.made + 1) refl of;
+        };
+        area = mark_keeps machine frames runs hib c c' i a keeps unmarked can whole place s (inl writes);
+        unwritten = λ b not. unwritten_header machine.hw (laid_blocks machine.hw a i) b c c' writes.others not;
+      },
+    ))
+
+pub mark_failed_row : (machine : Machine) (frames : Memory) (runs : SlotRuns) (hib : Hib) (c c' : disk.Content) → MarkFails → KeptByMark → MarksUnmarked → CanStep machine frames runs hib → hib.stage ≡ stage.Mark → disk.IsContent machine.blocks c → disk.IsContent machine.blocks c' → disk.FailsToWrite (block_of_slot machine.hw 0) (mark_of machine hib) c c' →
+    IsRow machine frames hib machine frames (record hib { header = mark_of machine hib; stage = stage.TakeBack undo.Write }) (event.Step actor.Core) (reply.Undo undo.Write 0) c c'
+mark_failed_row machine frames runs hib c c' mark_fails keeps unmarked can at whole whole' fails =
+    let new = record hib { header = mark_of machine hib; stage = stage.TakeBack undo.Write } in
+    row_at_hibernation machine frames hib machine frames new (event.Step actor.Core) (reply.Undo undo.Write 0) c c' (ap (λ (s : Stage). activity_at s hib.made) at)
+    (λ i a s.
+    let of = s.image in
+    let place : hib.made + 2 ≡ hibernate_steps i = place_at hib stage.Mark at can.place ∙ of.steps in
+    let is = mark_is machine frames hib a i of in (
+      undoing i undo.Write a 0,
+      record {
+        step = mark_may_fail machine.hw (disk.as_it_reads c) i a hib.made place;
+        stands = record {
+          stands = mark_fails machine.hw (shown_by machine frames hib) (shown_by machine frames new) c c' machine.blocks false i a hib.made (is_over machine frames runs hib c a i can whole of) whole' s.stands place
+              (subst (λ (p : List ℕ). disk.FailsToWrite (block_of_slot machine.hw 0) p c c') is fails) is refl (record { shows = s.stands.parts.0.shows; names = s.stands.parts.2; copies = s.stands.parts.3.copies });
+          image = still_of machine.hw frames frames hib a i (mark_of machine hib) (stage.TakeBack undo.Write) hib.made refl of;
+        };
+        area = mark_keeps machine frames runs hib c c' i a keeps unmarked can whole place s (inr fails);
+        unwritten = λ b not. unwritten_header machine.hw (laid_blocks machine.hw a i) b c c' fails.others not;
+      },
+    ))
+
+pub ended_row : (machine : Machine) (frames : Memory) (runs : SlotRuns) (hib : Hib) (c c' : disk.Content) → Ends → KeptBySync → CanStep machine frames runs hib → hib.stage ≡ stage.End → disk.IsContent machine.blocks c → disk.Syncs c c' →
+    IsRow machine frames hib machine frames (record hib { stage = stage.Over }) (event.Step actor.Core) (reply.Hibernated hib.n) c c'
+ended_row machine frames runs hib c c' ends keeps can at whole syncs =
+    let new = record hib { stage = stage.Over } in
+    row_at_hibernation machine frames hib machine frames new (event.Step actor.Core) (reply.Hibernated hib.n) c c' (ap (λ (s : Stage). activity_at s hib.made) at)
+    (λ i a s.
+    let of = s.image in
+    let place : hib.made + 1 ≡ hibernate_steps i = place_at hib stage.End at can.place ∙ of.steps in (
+      off (sure (own i)) None,
+      record {
+        step = subst (λ (n : ℕ). Step machine.hw (disk.as_it_reads c) (hibernating false i a hib.made) (event.Step actor.Core) (reply.Hibernated n) (off (sure (own i)) None)) (sym of.saved) (may_end machine.hw (disk.as_it_reads c) i a hib.made place);
+        stands = record {
+          stands = ends machine.hw (shown_by machine frames hib) (shown_by machine frames new) c c' machine.blocks false i a hib.made (is_over machine frames runs hib c a i can whole of) s.stands place syncs refl refl;
+          image = tt;
+        };
+        area = keeps machine.hw c c' syncs;
+        unwritten = λ b not. block_synced machine.blocks b c c' whole syncs;
+      },
+    ))
+
+pub end_failed_row : (machine : Machine) (frames : Memory) (runs : SlotRuns) (hib : Hib) (c : disk.Content) → EndFails → CanStep machine frames runs hib → hib.stage ≡ stage.End →
+    IsRow machine frames hib machine frames (record hib { stage = stage.TakeBack undo.Sync }) (event.Step actor.Core) (reply.Undo undo.Sync 0) c c
+end_failed_row machine frames runs hib c end_fails can at =
+    let new = record hib { stage = stage.TakeBack undo.Sync } in
+    row_at_hibernation machine frames hib machine frames new (event.Step actor.Core) (reply.Undo undo.Sync 0) c c (ap (λ (s : Stage). activity_at s hib.made) at)
+    (λ i a s.
+    let of = s.image in
+    let place : hib.made + 1 ≡ hibernate_steps i = place_at hib stage.End at can.place ∙ of.steps in (
+      undoing i undo.Sync a 0,
+      record {
+        step = end_may_fail machine.hw (disk.as_it_reads c) i a hib.made place;
+        stands = record {
+          stands = end_fails machine.hw (shown_by machine frames hib) (shown_by machine frames new) c false i a hib.made s.stands place refl refl (record { shows = s.stands.parts.0.shows; names = s.stands.parts.2; copies = s.stands.parts.3.copies });
+          image = still_of machine.hw frames frames hib a i hib.header (stage.TakeBack undo.Sync) hib.made refl of;
+        };
+        area = same_area machine.hw (disk.as_it_reads c);
+        unwritten = λ b not. block_same b _;
+      },
+    ))

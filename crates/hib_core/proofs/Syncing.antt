@@ -1,0 +1,142 @@
+-- The rows of the sync behind the writes, and of the read of the header block.
+use Rattle.protocol_laws.proofs.Unwritten.{block_same, block_synced}
+use Rattle.std.proofs.Common.{◌≡◌, ◌<◌, false, All, ℕ, ◌+◌, List, [], Some, refl, sym, ap, ◌∙◌, subst, arith}
+use Rattle.definitions.specs.Disk as disk
+use Rattle.definitions.specs.Bytes.{IsPage}
+use Rattle.swap_slots.specs.Runs.{SlotRuns}
+use Rattle.plain_machine.specs.Machine.{Hardware, Memory, raw_slot_entry}
+use Rattle.plain_machine.specs.Chain.{header_of}
+use Rattle.plain_machine.specs.Image.{Image, hibernate_steps}
+use Rattle.plain_machine.specs.Shows.{RunsAs, hibernates, seen_frames}
+use Rattle.plain_machine.specs.State.{on, hibernating, Running}
+use Rattle.plain_machine.specs.Stands.{NamesOnly}
+use Rattle.plain_machine.specs.Step.{Step, no_flights}
+use Rattle.plain_machine.specs.declared.event.Event.TheVariants as event
+use Rattle.plain_machine.specs.declared.event.Actor.TheVariants as actor
+use Rattle.plain_machine.specs.declared.reply.Reply.{Reply}
+use Rattle.plain_machine.specs.declared.reply.Reply.TheVariants as reply
+use Rattle.plain_machine.specs.UsableArea.{kind_fault}
+use Rattle.sig_header.specs.AreaKind.{area_kind}
+use Rattle.std.proofs.lemmas.Option.{none-some}
+use Rattle.plain_machine.specs.declared.no_swap.NoSwap.{NoSwap}
+use Rattle.plain_machine.specs.declared.reply.Left.TheVariants.{Same}
+use Rattle.protocol_laws.specs.Rows.{IsSameArea}
+use Rattle.protocol_laws.specs.AreaKept.{KeptBySync}
+use Rattle.protocol_laws.specs.Hibernating.{SyncsOn, ReadsOn, ReadsArea, CallFails}
+use Rattle.protocol_laws.specs.Memory.{NoneLeft, RunsGivenBack}
+use Rattle.protocol_laws.specs.Slots.{IsMemoryOf}
+use Rattle.machine.specs.declared.machine.Machine.{Machine}
+use Rattle.hib_core.specs.Hibernation.{shown_by, activity_at, activity_of, reason_of}
+use Rattle.hib_core.specs.Ready.{CanStep, IsPlace}
+use Rattle.hib_core.specs.Row.{IsRow}
+use Rattle.hib_core.specs.declared.hib.Hib.{Hib}
+use Rattle.hib_core.specs.declared.hib.Stage.{Stage}
+use Rattle.hib_core.specs.declared.hib.Stage.TheVariants as stage
+use Rattle.hib_core.proofs.Facts.{is_over, row_at_hibernation, still_of}
+use Rattle.hib_core.proofs.Plain.{may_sync, sync_may_fail, may_read, read_may_fail}
+
+pub same_area : (h : Hardware) (v : disk.Image) → IsSameArea h v v
+same_area h v = record { blocks = refl; header = record { front = refl; signature = refl } }
+
+abbrev pub gone_on : Hib → Stage → Hib
+gone_on hib next = record hib { stage = next; made = hib.made + 1 }
+
+abbrev pub idle : Hib → Hib
+idle hib = record hib { stage = stage.Idle }
+
+pub place_at : (hib : Hib) (s : Stage) → hib.stage ≡ s → IsPlace hib.stage hib.made hib.of → IsPlace s hib.made hib.of
+place_at hib s e p = subst (λ (t : Stage). IsPlace t hib.made hib.of) e p
+
+pub more_of : (h : Hardware) (v : disk.Image) (i : Image) (a : Running) (k of : ℕ) → of ≡ hibernate_steps i → Step h v (hibernating false i a k) (event.Step actor.Core) (reply.More (k + 1) (hibernate_steps i)) (hibernating false i a (k + 1)) → Step h v (hibernating false i a k) (event.Step actor.Core) (reply.More (k + 1) of) (hibernating false i a (k + 1))
+more_of h v i a k of steps step = subst (λ (n : ℕ). Step h v (hibernating false i a k) (event.Step actor.Core) (reply.More (k + 1) n) (hibernating false i a (k + 1))) (sym steps) step
+
+pub synced_row : (machine : Machine) (frames : Memory) (runs : SlotRuns) (hib : Hib) (c c' : disk.Content) → SyncsOn → KeptBySync → CanStep machine frames runs hib → hib.stage ≡ stage.Sync → disk.IsContent machine.blocks c → disk.Syncs c c' →
+    IsRow machine frames hib machine frames (gone_on hib stage.Read) (event.Step actor.Core) (reply.More (hib.made + 1) hib.of) c c'
+synced_row machine frames runs hib c c' syncs_on keeps can at whole syncs =
+    row_at_hibernation machine frames hib machine frames (gone_on hib stage.Read) (event.Step actor.Core) (reply.More (hib.made + 1) hib.of) c c' (ap (λ (s : Stage). activity_at s hib.made) at)
+    (λ i a s.
+    let of = s.image in
+    let place : hib.made + 4 ≡ hibernate_steps i = place_at hib stage.Sync at can.place ∙ of.steps in (
+      hibernating false i a (hib.made + 1),
+      record {
+        step = more_of machine.hw (disk.as_it_reads c) i a hib.made hib.of of.steps (may_sync machine.hw (disk.as_it_reads c) i a hib.made place);
+        stands = record {
+          stands = syncs_on machine.hw (shown_by machine frames hib) (shown_by machine frames (gone_on hib stage.Read)) c c' machine.blocks false i a hib.made (is_over machine frames runs hib c a i can whole of) s.stands place syncs refl
+              (record { shows = s.stands.parts.0.shows; names = s.stands.parts.2; copies = s.stands.parts.3.copies });
+          image = still_of machine.hw frames frames hib a i hib.header stage.Read (hib.made + 1) refl of;
+        };
+        area = keeps machine.hw c c' syncs;
+        unwritten = λ b not. block_synced machine.blocks b c c' whole syncs;
+      },
+    ))
+
+-- a call that fails, before the mark: the image's slots are given back
+pub fails_row : (machine : Machine) (frames frames' : Memory) (runs : SlotRuns) (hib hib' : Hib) (c : disk.Content) (r : Reply) → CallFails → RunsGivenBack → NoneLeft → CanStep machine frames runs hib → All IsPage frames → activity_of hib ≡ hibernates false hib.made → hib.made + 1 < hib.of →
+    ((i : Image) (a : Running) → hib.of ≡ hibernate_steps i → Step machine.hw (disk.as_it_reads c) (hibernating false i a hib.made) (event.Step actor.Core) r (on a)) →
+    frames' ≡ seen_frames machine.hw frames → hib'.stage ≡ stage.Idle → IsRow machine frames hib machine frames' hib' (event.Step actor.Core) r c c
+fails_row machine frames frames' runs hib hib' c r call_fails given_back none_left can pages is more may given idle_now =
+    row_at_hibernation machine frames hib machine frames' hib' (event.Step actor.Core) r c c is
+    (λ i a s.
+    let of = s.image in
+    let memory : IsMemoryOf machine.hw frames = record { pages = pages; table = can.table } in
+    let back : RunsAs machine.hw machine.held (reason_of machine.area) no_flights frames' a =
+    subst (λ (m : Memory). RunsAs machine.hw machine.held (reason_of machine.area) no_flights m a) (sym given)
+    (given_back machine.hw machine.held (reason_of machine.area) no_flights frames a memory s.stands.parts.0.shows) in
+    let names : NamesOnly machine.hw (shown_by machine frames' hib') [] =
+    λ k lt e. absurd (none_left machine.hw frames k memory lt (ap (λ (m : Memory). raw_slot_entry machine.hw m k) (sym given) ∙ e)) in
+    let place : hib.made + 1 < hibernate_steps i = subst (λ (n : ℕ). hib.made + 1 < n) of.steps more in (
+      on a,
+      record {
+        step = may i a of.steps;
+        stands = record {
+          stands = call_fails machine.hw (shown_by machine frames hib) (shown_by machine frames' hib') c false i a hib.made s.stands place (ap (λ (t : Stage). activity_at t hib'.made) idle_now) back names;
+          image = tt;
+        };
+        area = same_area machine.hw (disk.as_it_reads c);
+        unwritten = λ b not. block_same b _;
+      },
+    ))
+
+pub sync_failed_row : (machine : Machine) (frames frames' : Memory) (runs : SlotRuns) (hib : Hib) (c : disk.Content) → CallFails → RunsGivenBack → NoneLeft → CanStep machine frames runs hib → All IsPage frames → hib.stage ≡ stage.Sync →
+    frames' ≡ seen_frames machine.hw frames → IsRow machine frames hib machine frames' (idle hib) (event.Step actor.Core) (reply.SyncFault Same) c c
+sync_failed_row machine frames frames' runs hib c call_fails given_back none_left can pages at given =
+    let place = place_at hib stage.Sync at can.place in
+    fails_row machine frames frames' runs hib (idle hib) c (reply.SyncFault Same) call_fails given_back none_left can pages (ap (λ (s : Stage). activity_at s hib.made) at) (omega arith)
+    (λ i a steps. sync_may_fail machine.hw (disk.as_it_reads c) i a hib.made (place ∙ steps)) given refl
+
+pub read_failed_row : (machine : Machine) (frames frames' : Memory) (runs : SlotRuns) (hib : Hib) (header : List ℕ) (c : disk.Content) → CallFails → RunsGivenBack → NoneLeft → CanStep machine frames runs hib → All IsPage frames → hib.stage ≡ stage.Read →
+    frames' ≡ seen_frames machine.hw frames → IsRow machine frames hib machine frames' (idle (record hib { header = header })) (event.Step actor.Core) (reply.ReadFault Same) c c
+read_failed_row machine frames frames' runs hib header c call_fails given_back none_left can pages at given =
+    let place = place_at hib stage.Read at can.place in
+    fails_row machine frames frames' runs hib (idle (record hib { header = header })) c (reply.ReadFault Same) call_fails given_back none_left can pages (ap (λ (s : Stage). activity_at s hib.made) at) (omega arith)
+    (λ i a steps. read_may_fail machine.hw (disk.as_it_reads c) i a hib.made (place ∙ steps)) given refl
+
+pub read_row : (machine : Machine) (frames : Memory) (runs : SlotRuns) (hib : Hib) (header : List ℕ) (c : disk.Content) → ReadsOn → CanStep machine frames runs hib → hib.stage ≡ stage.Read → disk.IsContent machine.blocks c → header ≡ header_of machine.hw (disk.as_it_reads c) →
+    IsRow machine frames hib machine frames (record hib { header = header; stage = stage.Mark; made = hib.made + 1 }) (event.Step actor.Core) (reply.More (hib.made + 1) hib.of) c c
+read_row machine frames runs hib header c reads_on can at whole read =
+    let new = record hib { header = header; stage = stage.Mark; made = hib.made + 1 } in
+    row_at_hibernation machine frames hib machine frames new (event.Step actor.Core) (reply.More (hib.made + 1) hib.of) c c (ap (λ (s : Stage). activity_at s hib.made) at)
+    (λ i a s.
+    let of = s.image in
+    let place : hib.made + 3 ≡ hibernate_steps i = place_at hib stage.Read at can.place ∙ of.steps in (
+      hibernating false i a (hib.made + 1),
+      record {
+        step = more_of machine.hw (disk.as_it_reads c) i a hib.made hib.of of.steps (may_read machine.hw (disk.as_it_reads c) i a hib.made place);
+        stands = record {
+          stands = reads_on machine.hw (shown_by machine frames hib) (shown_by machine frames new) c machine.blocks false i a hib.made (is_over machine frames runs hib c a i can whole of) s.stands place read refl
+              (record { shows = s.stands.parts.0.shows; names = s.stands.parts.2; copies = s.stands.parts.3.copies });
+          image = still_of machine.hw frames frames hib a i header stage.Mark (hib.made + 1) refl of;
+        };
+        area = same_area machine.hw (disk.as_it_reads c);
+        unwritten = λ b not. block_same b _;
+      },
+    ))
+
+-- a header block that isn't that of an area can't be read
+pub not_swap_row : (machine : Machine) (frames frames' : Memory) (runs : SlotRuns) (hib hib' : Hib) (c : disk.Content) (why : NoSwap) → ReadsArea → CanStep machine frames runs hib → hib.stage ≡ stage.Read → disk.IsContent machine.blocks c →
+    kind_fault (area_kind (header_of machine.hw (disk.as_it_reads c))) ≡ Some why → IsRow machine frames hib machine frames' hib' (event.Step actor.Core) (reply.NoSwap why) c c
+not_swap_row machine frames frames' runs hib hib' c why reads_area can at whole fault =
+    row_at_hibernation machine frames hib machine frames' hib' (event.Step actor.Core) (reply.NoSwap why) c c (ap (λ (s : Stage). activity_at s hib.made) at)
+    (λ i a s.
+    let place : hib.made + 3 ≡ hibernate_steps i = place_at hib stage.Read at can.place ∙ s.image.steps in
+    absurd (none-some why (sym (reads_area machine.hw (shown_by machine frames hib) c machine.blocks false i a hib.made whole s.stands place) ∙ fault)))

@@ -1,0 +1,144 @@
+-- The rows of an undo.
+use Rattle.protocol_laws.proofs.Unwritten.{block_same, block_synced, unwritten_header}
+use Rattle.std.proofs.Common.{◌≡◌, All, [], inl, inr, refl, sym, ap, ◌∙◌, subst}
+use Rattle.definitions.specs.Bytes.{IsPage}
+use Rattle.definitions.specs.Disk as disk
+use Rattle.definitions.specs.SwapHeader.{taken_back}
+use Rattle.swap_slots.specs.Runs.{SlotRuns}
+use Rattle.plain_machine.specs.Machine.{Hardware, Memory, block_of_slot, raw_slot_entry}
+use Rattle.plain_machine.specs.Image.{Image}
+use Rattle.plain_machine.specs.Shows.{RunsAs, ShowsHeld, seen_frames}
+use Rattle.plain_machine.specs.State.{on, undoing, Running, nothing, maybe, own}
+use Rattle.plain_machine.specs.Stands.{NamesOnly}
+use Rattle.plain_machine.specs.Step.{no_flights, undone_fault}
+use Rattle.plain_machine.specs.declared.event.Event.TheVariants as event
+use Rattle.plain_machine.specs.declared.event.Actor.TheVariants as actor
+use Rattle.plain_machine.specs.declared.held.Held.{Held as HeldFlag}
+use Rattle.plain_machine.specs.declared.held.Held.TheVariants.{No, Perhaps}
+use Rattle.plain_machine.specs.declared.reply.Left.TheVariants.{Gone, Unsure}
+use Rattle.plain_machine.specs.declared.reply.Reply.TheVariants as reply
+use Rattle.plain_machine.specs.declared.reply.UndoCall.{UndoCall}
+use Rattle.image_laws.specs.ImageBlocks.{Tries}
+use Rattle.protocol_laws.specs.Rows.{IsSameArea}
+use Rattle.protocol_laws.specs.AreaKept.{KeptBySync, KeptByHeader}
+use Rattle.protocol_laws.specs.Memory.{NoneLeft, RunsGivenBack}
+use Rattle.protocol_laws.specs.Slots.{IsMemoryOf}
+use Rattle.protocol_laws.specs.Undo.{UndoWrites, UndoWriteFails, UndoSyncs, UndoSyncFails, with_held}
+use Rattle.machine.specs.declared.machine.Machine.{Machine}
+use Rattle.hib_core.specs.Hibernation.{shown_by, activity_at, reason_of}
+use Rattle.hib_core.specs.Ready.{CanStep}
+use Rattle.hib_core.specs.Row.{StandsFor, IsRow}
+use Rattle.hib_core.specs.declared.hib.Hib.{Hib}
+use Rattle.hib_core.specs.declared.hib.Stage.{Stage}
+use Rattle.hib_core.specs.declared.hib.Stage.TheVariants as stage
+use Rattle.hib_core.proofs.Facts.{is_over, row_at_undo, still_of}
+use Rattle.hib_core.proofs.Plain.{may_take_back, take_back_may_fail, may_end_undo, end_undo_may_fail}
+use Rattle.hib_core.proofs.Syncing.{same_area}
+
+-- the machine where an image may be held, and where none is
+abbrev pub unsure : Machine → Machine
+unsure machine = record machine { held = Perhaps }
+
+abbrev pub certain : Machine → Machine
+certain machine = record machine { held = No }
+
+-- the write of the header block taken back leaves the area, failed or not
+back_keeps : (machine : Machine) (frames : Memory) (runs : SlotRuns) (hib : Hib) (c c' : disk.Content) (i : Image) (call : UndoCall) (a : Running) → KeptByHeader → CanStep machine frames runs hib → disk.IsContent machine.blocks c → IsPage (taken_back hib.header) →
+    StandsFor machine frames hib c (undoing i call a 0) → Tries (block_of_slot machine.hw 0) (taken_back hib.header) c c' → IsSameArea machine.hw (disk.as_it_reads c) (disk.as_it_reads c')
+back_keeps machine frames runs hib c c' i call a keeps can whole page s tries =
+    let mark = s.stands.parts.4 refl in
+    keeps machine.hw machine.blocks (taken_back hib.header) c c' whole can.header page mark.unmarked mark.area tries
+
+pub back_row : (machine : Machine) (frames : Memory) (runs : SlotRuns) (hib : Hib) (c c' : disk.Content) (call : UndoCall) → UndoWrites → KeptByHeader → CanStep machine frames runs hib → IsPage hib.header → IsPage (taken_back hib.header) → hib.stage ≡ stage.TakeBack call → disk.IsContent machine.blocks c → disk.IsContent machine.blocks c' →
+    disk.Writes (block_of_slot machine.hw 0) (taken_back hib.header) c c' → IsRow machine frames hib machine frames (record hib { stage = stage.EndUndo call }) (event.Step actor.Core) (reply.Undo call 1) c c'
+back_row machine frames runs hib c c' call undo_writes keeps can page back at whole whole' writes =
+    let new = record hib { stage = stage.EndUndo call } in
+    row_at_undo machine frames hib machine frames new (event.Step actor.Core) (reply.Undo call 1) c c' call 0 (ap (λ (s : Stage). activity_at s hib.made) at)
+    (λ i a s.
+    let of = s.image in (
+      undoing i call a 1,
+      record {
+        step = may_take_back machine.hw (disk.as_it_reads c) i call a;
+        stands = record {
+          stands = undo_writes machine.hw (shown_by machine frames hib) (shown_by machine frames new) c c' machine.blocks i call a (is_over machine frames runs hib c a i can whole of) page whole' s.stands writes refl
+              s.stands.parts.0.shows s.stands.parts.2;
+          image = still_of machine.hw frames frames hib a i hib.header (stage.EndUndo call) hib.made refl of;
+        };
+        area = back_keeps machine frames runs hib c c' i call a keeps can whole back s (inl writes);
+        unwritten = λ b not. unwritten_header machine.hw [] b c c' writes.others not;
+      },
+    ))
+
+-- the running state shown with another answer to what is held
+with_flag : (h : Hardware) (machine machine' : Machine) (frames : Memory) (a : Running) (i : Image) → machine'.area ≡ machine.area → machine'.held ≡ Perhaps → RunsAs h machine.held (reason_of machine.area) no_flights frames a → RunsAs h machine'.held (reason_of machine'.area) no_flights frames (with_held a (maybe (own i)))
+with_flag h machine machine' frames a i area held runs = record {
+  held = subst (λ (f : HeldFlag). ShowsHeld f (maybe (own i))) (sym held) tt;
+  unusable = runs.unusable ∙ sym (ap reason_of area);
+  flights = runs.flights;
+  same = runs.same;
+  fits = runs.fits;
+}
+
+pub back_failed_row : (machine : Machine) (frames : Memory) (runs : SlotRuns) (hib : Hib) (c c' : disk.Content) (call : UndoCall) → UndoWriteFails → KeptByHeader → CanStep machine frames runs hib → IsPage hib.header → IsPage (taken_back hib.header) → hib.stage ≡ stage.TakeBack call → disk.IsContent machine.blocks c → disk.IsContent machine.blocks c' →
+    disk.FailsToWrite (block_of_slot machine.hw 0) (taken_back hib.header) c c' → IsRow machine frames hib (unsure machine) frames (record hib { stage = stage.Idle }) (event.Step actor.Core) (undone_fault call Unsure) c c'
+back_failed_row machine frames runs hib c c' call undo_write_fails keeps can page back at whole whole' fails =
+    let new = record hib { stage = stage.Idle } in
+    row_at_undo machine frames hib (unsure machine) frames new (event.Step actor.Core) (undone_fault call Unsure) c c' call 0 (ap (λ (s : Stage). activity_at s hib.made) at)
+    (λ i a s. (
+      on (with_held a (maybe (own i))),
+      record {
+        step = take_back_may_fail machine.hw (disk.as_it_reads c) i call a;
+        stands = record {
+          stands = undo_write_fails machine.hw (shown_by machine frames hib) (shown_by (unsure machine) frames new) c c' machine.blocks i call a (is_over machine frames runs hib c a i can whole s.image) page whole' s.stands fails refl
+              (with_flag machine.hw machine (unsure machine) frames a i refl refl s.stands.parts.0.shows) s.stands.parts.2;
+          image = tt;
+        };
+        area = back_keeps machine frames runs hib c c' i call a keeps can whole back s (inr fails);
+        unwritten = λ b not. unwritten_header machine.hw [] b c c' fails.others not;
+      },
+    ))
+
+pub undone_row : (machine : Machine) (frames frames' : Memory) (runs : SlotRuns) (hib : Hib) (c c' : disk.Content) (call : UndoCall) → UndoSyncs → KeptBySync → RunsGivenBack → NoneLeft → CanStep machine frames runs hib → All IsPage frames → hib.stage ≡ stage.EndUndo call → disk.IsContent machine.blocks c →
+    disk.Syncs c c' → frames' ≡ seen_frames machine.hw frames → IsRow machine frames hib (certain machine) frames' (record hib { stage = stage.Idle }) (event.Step actor.Core) (undone_fault call Gone) c c'
+undone_row machine frames frames' runs hib c c' call undo_syncs keeps given_back none_left can pages at whole syncs given =
+    let new = record hib { stage = stage.Idle } in
+    row_at_undo machine frames hib (certain machine) frames' new (event.Step actor.Core) (undone_fault call Gone) c c' call 1 (ap (λ (s : Stage). activity_at s hib.made) at)
+    (λ i a s.
+    let memory : IsMemoryOf machine.hw frames = record { pages = pages; table = can.table } in
+    let back : RunsAs machine.hw machine.held (reason_of machine.area) no_flights frames' a =
+    subst (λ (m : Memory). RunsAs machine.hw machine.held (reason_of machine.area) no_flights m a) (sym given)
+    (given_back machine.hw machine.held (reason_of machine.area) no_flights frames a memory s.stands.parts.0.shows) in
+    let shows : RunsAs machine.hw No (reason_of machine.area) no_flights frames' (with_held a nothing) =
+    record { held = tt; unusable = back.unusable; flights = back.flights; same = back.same; fits = back.fits } in
+    let names : NamesOnly machine.hw (shown_by (certain machine) frames' new) [] =
+    λ k lt e. absurd (none_left machine.hw frames k memory lt (ap (λ (m : Memory). raw_slot_entry machine.hw m k) (sym given) ∙ e)) in (
+      on (with_held a nothing),
+      record {
+        step = may_end_undo machine.hw (disk.as_it_reads c) i call a;
+        stands = record {
+          stands = undo_syncs machine.hw (shown_by machine frames hib) (shown_by (certain machine) frames' new) c c' machine.blocks i call a (is_over machine frames runs hib c a i can whole s.image) s.stands syncs refl shows names;
+          image = tt;
+        };
+        area = keeps machine.hw c c' syncs;
+        unwritten = λ b not. block_synced machine.blocks b c c' whole syncs;
+      },
+    ))
+
+pub end_failed_row : (machine : Machine) (frames : Memory) (runs : SlotRuns) (hib : Hib) (c : disk.Content) (call : UndoCall) → UndoSyncFails → CanStep machine frames runs hib → hib.stage ≡ stage.EndUndo call → disk.IsContent machine.blocks c →
+    IsRow machine frames hib (unsure machine) frames (record hib { stage = stage.Idle }) (event.Step actor.Core) (undone_fault call Unsure) c c
+end_failed_row machine frames runs hib c call undo_sync_fails can at whole =
+    let new = record hib { stage = stage.Idle } in
+    row_at_undo machine frames hib (unsure machine) frames new (event.Step actor.Core) (undone_fault call Unsure) c c call 1 (ap (λ (s : Stage). activity_at s hib.made) at)
+    (λ i a s. (
+      on (with_held a (maybe (own i))),
+      record {
+        step = end_undo_may_fail machine.hw (disk.as_it_reads c) i call a;
+        stands = record {
+          stands = undo_sync_fails machine.hw (shown_by machine frames hib) (shown_by (unsure machine) frames new) c machine.blocks i call a (is_over machine frames runs hib c a i can whole s.image) s.stands refl
+              (with_flag machine.hw machine (unsure machine) frames a i refl refl s.stands.parts.0.shows) s.stands.parts.2;
+          image = tt;
+        };
+        area = same_area machine.hw (disk.as_it_reads c);
+        unwritten = λ b not. block_same b _;
+      },
+    ))

@@ -1,0 +1,63 @@
+-- A hibernation begins, or is refused, in each state that is stood for.
+use Rattle.std.proofs.Common.{◌<◌, ◌^◌, sym, ap, subst, arith}
+use Rattle.plain_machine.specs.declared.reply.Reply.{Reply}
+use Rattle.hib_core.specs.Ready.{is_busy_at}
+use Rattle.hib_core.specs.Row.{IsBegun}
+use Rattle.hib_core.specs.declared.hib.Hib.{Hib}
+use Rattle.hib_core.specs.declared.hib.Job.TheVariants as job
+use Rattle.hib_core.proofs.BeginRows.{BeginLaws, IsBegin, begun_row, can_step, refused_row}
+use Rattle.hib_core.proofs.hib.Hib.hibernate.Goals as goal
+
+pub returns-in-Ok-clause-row : goal.returns-in-Ok-clause-row
+returns-in-Ok-clause-row c = λ k.
+    let laws : BeginLaws = record {
+      seen = record { image = c.takes_image.ensures.image; lists = c.shows_lists.ensures.frames; slots = c.shows_lists.ensures.slots };
+      begun = c.begins.ensures.begun;
+      over = c.takes_image.ensures.runs;
+      slots_over = c.takes_image.ensures.slots;
+      taken = c.takes_slots.ensures.runs;
+      frames = c.takes_slots.ensures.frames;
+      names = c.takes_slots.ensures.names;
+      sayable = c.memories_are_sayable.ensures;
+      stream = c.shows_lists.ensures.stream;
+    } in
+    let is : IsBegin c.args.machine.now c.args.frames.now c.take.new.frames c.accept.new.self c.take.new.self c.in-Ok.counts = record {
+      hardware = c.zones-zones.ensures.hardware;
+      ident = record { version_code = c.ident-ident.ensures.code; names = c.ident-ident.ensures.names; each_name = c.ident-ident.ensures.each_name };
+      size = c.requires.ready.size;
+      counted = c.in-Ok.ensures.counted;
+      taken = c.take.ensures.taken;
+    } in
+    subst (λ (r : Reply). IsBegun c.args.machine.now c.args.frames.now c.take.new.frames c.take.new.self (job.Hibernate c.args.format) r k) (sym c.take.ensures.reply)
+    (begun_row c.args.machine.now c.args.frames.now c.take.new.frames c.accept.new.self c.take.new.self c.in-Ok.counts c.args.format k laws is c.in-Ok.ensures.format)
+
+pub returns-in-Ok-clause-ready : goal.returns-in-Ok-clause-ready
+returns-in-Ok-clause-ready c = λ busy.
+    let laws : BeginLaws = record {
+      seen = record { image = c.takes_image.ensures.image; lists = c.shows_lists.ensures.frames; slots = c.shows_lists.ensures.slots };
+      begun = c.begins.ensures.begun;
+      over = c.takes_image.ensures.runs;
+      slots_over = c.takes_image.ensures.slots;
+      taken = c.takes_slots.ensures.runs;
+      frames = c.takes_slots.ensures.frames;
+      names = c.takes_slots.ensures.names;
+      sayable = c.memories_are_sayable.ensures;
+      stream = c.shows_lists.ensures.stream;
+    } in
+    let is : IsBegin c.args.machine.now c.args.frames.now c.take.new.frames c.accept.new.self c.take.new.self c.in-Ok.counts = record {
+      hardware = c.zones-zones.ensures.hardware;
+      ident = record { version_code = c.ident-ident.ensures.code; names = c.ident-ident.ensures.names; each_name = c.ident-ident.ensures.each_name };
+      size = c.requires.ready.size;
+      counted = c.in-Ok.ensures.counted;
+      taken = c.take.ensures.taken;
+    } in
+    let signature : c.args.machine.now.hw.hw_sig < 2 ^ 32 = omega (arith, c.hw_sig-sig.ensures) in
+    let few : c.args.machine.now.blocks < 2 ^ 32 = omega arith in
+    can_step c.args.machine.now c.args.frames.now c.take.new.frames c.take.new.runs c.accept.new.self c.take.new.self c.in-Ok.counts laws is c.requires.ready.usable signature few c.take.ensures.size c.take.ensures.matches
+
+pub returns-in-Err-clause-row : goal.returns-in-Err-clause-row
+returns-in-Err-clause-row c = λ k.
+    refused_row c.args.machine.now c.args.frames.now c.accept.new.self c.args.format c.in-Err.reply k c.in-Err.ensures.refused (ap (λ (hib : Hib). hib.stage) c.accept.ensures.hib)
+
+pub returns-in-Err-clause-ready : goal.returns-in-Err-clause-ready
+returns-in-Err-clause-ready c = λ busy. absurd (subst is_busy_at (ap (λ (hib : Hib). hib.stage) c.accept.ensures.hib) busy)

@@ -1,0 +1,42 @@
+use Rattle.std.proofs.Common.{◌≡◌, ◌<◌, List, refl, sym, ap, ◌∙◌, subst, ℕ}
+use Rattle.definitions.specs.Slots.{block_of}
+use Rattle.plain_machine.specs.UsableArea.{kind_fault}
+use Rattle.sig_header.specs.AreaKind.{area_kind}
+use Rattle.plain_machine.specs.declared.reply.Reply.TheVariants as reply
+use Rattle.plain_machine.specs.declared.reply.Left.TheVariants.{Same}
+use Rattle.hib_core.proofs.Facts.{content_of, row_of, header_read}
+use Rattle.hib_core.proofs.Syncing.{read_row, read_failed_row, not_swap_row}
+use Rattle.hib_core.proofs.hib.Hib.read_header.Goals as goal
+
+pub returns-in-Err-clause-row : goal.returns-in-Err-clause-row
+returns-in-Err-clause-row g c = λ k told. (
+  k,
+  c.read.ensures.content ∙ told,
+  row_of c.args.machine.now c.args.frames.now c.args.self.now c.args.machine.now c.give_up.new.frames _ c.give_up.new.self (reply.ReadFault Same) (reply.ReadFault Same) k k c.give_up.ensures.hib refl
+      (read_failed_row c.args.machine.now c.args.frames.now c.give_up.new.frames c.args.runs.now c.args.self.now c.read.new.into k c.syncs.ensures.failed c.takes_slots.ensures.given_back c.takes_slots.ensures.none_left
+      c.requires.ready c.give_up.ensures.pages c.requires.stage c.give_up.ensures.given),
+)
+
+pub returns-in-None-clause-row : goal.returns-in-None-clause-row
+returns-in-None-clause-row g c = λ k told.
+    let whole = content_of (g.D.Disk.block_count c.args.disk.now) c.args.machine.now.blocks (g.D.Disk.content c.args.disk.now) k told c.requires.blocks (g.met.D.Disk.well_formed c.args.disk.now) in
+    let block_is : c.block-block.result ≡ block_of c.args.machine.now.hw.extents 0 = c.block-block.ensures.block ∙ ap (λ (es : List (ℕ × ℕ × ℕ)). block_of es 0) c.extents.ensures.extents in
+    let below = subst (λ (n : ℕ). n < c.args.machine.now.blocks) (sym block_is) c.requires.ready.header in
+    let read = header_read c.args.machine.now.hw c.block-block.result c.args.machine.now.blocks c.read.new.into k (g.D.Disk.content c.args.disk.now) whole block_is below told c.in-Ok.ensures.bytes in (
+      k,
+      c.read.ensures.content ∙ told,
+      row_of c.args.machine.now c.args.frames.now c.args.self.now c.args.machine.now c.args.frames.now _ c.go_on.new.self _ c.go_on.result k k c.go_on.ensures.hib c.go_on.ensures.reply
+          (read_row c.args.machine.now c.args.frames.now c.args.runs.now c.args.self.now c.read.new.into k c.syncs.ensures.read c.requires.ready c.requires.stage whole read),
+    )
+
+pub returns-in-Some-clause-row : goal.returns-in-Some-clause-row
+returns-in-Some-clause-row g c = λ k told.
+    let whole = content_of (g.D.Disk.block_count c.args.disk.now) c.args.machine.now.blocks (g.D.Disk.content c.args.disk.now) k told c.requires.blocks (g.met.D.Disk.well_formed c.args.disk.now) in
+    let block_is : c.block-block.result ≡ block_of c.args.machine.now.hw.extents 0 = c.block-block.ensures.block ∙ ap (λ (es : List (ℕ × ℕ × ℕ)). block_of es 0) c.extents.ensures.extents in
+    let below = subst (λ (n : ℕ). n < c.args.machine.now.blocks) (sym block_is) c.requires.ready.header in
+    let read = header_read c.args.machine.now.hw c.block-block.result c.args.machine.now.blocks c.read.new.into k (g.D.Disk.content c.args.disk.now) whole block_is below told c.in-Ok.ensures.bytes in (
+      k,
+      c.read.ensures.content ∙ told,
+      not_swap_row c.args.machine.now c.args.frames.now c.give_up-in-Some.new.frames c.args.runs.now c.args.self.now c.give_up-in-Some.new.self k c.in-Some.why c.syncs.ensures.area c.requires.ready c.requires.stage whole
+          (ap (λ (page : List ℕ). kind_fault (area_kind page)) (sym read) ∙ sym c.not_swap.ensures ∙ c.in-Some.is),
+    )

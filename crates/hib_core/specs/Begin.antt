@@ -1,0 +1,73 @@
+-- The begin of a hibernation: why it is refused, what is counted, and what is taken.
+use Rattle.std.specs.Prelude.{◌≡◌, ◌≤◌, ◌<◌, ℕ, ◌+◌, ◌-◌, List, length, map, take, All, Contains, Some, IsOk}
+use Rattle.page_core.specs.declared.format.Format.{Format}
+use Rattle.definitions.specs.Bytes.{IsPage}
+use Rattle.definitions.specs.Disk as disk
+use Rattle.definitions.specs.NumberPages.{meta_of}
+use Rattle.definitions.specs.Tables.{frame, with_entries}
+use Rattle.definitions.specs.declared.info.Info.{Info}
+use Rattle.snapshot.specs.Taken.{zero_frames}
+use Rattle.snapshot.specs.declared.Counts.{Counts}
+use Rattle.swap_slots.specs.Table.{free_in}
+use Rattle.image_write.specs.Writing.{Writing, IsWriting, IsReading}
+use Rattle.plain_machine.specs.Image.{maps_of}
+use Rattle.plain_machine.specs.Machine.{Hardware, Memory, IsOfTable, saveable, unused, valid_count, image_slot}
+use Rattle.plain_machine.specs.Refusals.{refusal}
+use Rattle.plain_machine.specs.State.{on, Running}
+use Rattle.plain_machine.specs.Stands.{Stands}
+use Rattle.plain_machine.specs.declared.event.Event.TheVariants as event
+use Rattle.plain_machine.specs.declared.held.Held.TheVariants.{No}
+use Rattle.plain_machine.specs.declared.reply.Reply.{Reply}
+use Rattle.protocol_laws.specs.Writers.{slot_table_of}
+use Rattle.machine.specs.declared.machine.Machine.{Machine}
+use Rattle.hib_core.specs.Hibernation.{running_by}
+use Rattle.hib_core.specs.declared.hib.Hib.{Hib}
+use Rattle.hib_core.specs.declared.hib.Stage.TheVariants as stage
+
+-- The hibernation is refused with this reply in every running state that a machine stands for.
+abbrev pub IsRefused : Machine → Memory → Format → Reply → Type 0
+IsRefused machine frames f r = (c : disk.Content) (a : Running) → Stands machine.hw (running_by machine frames) c (on a) → refusal machine.hw (on a) (event.Hibernate f) ≡ Some r
+
+-- how many pages the stream of the image has
+abbrev pub pages_of : Counts → ℕ
+pages_of counts = counts.d + meta_of counts.n + 1
+
+-- A hibernation that isn't refused has counted what it saves: there is room for the copies and the image, and no copy will lie in the slot table.
+pub record IsCounted (machine : Machine) (frames : Memory) (hib : Hib) (counts : Counts) : Type 0 where
+  pub held : machine.held ≡ No
+  pub area : IsOk machine.area
+  pub origs : hib.snapshot.origs ≡ saveable machine.hw frames
+  pub zeros : hib.snapshot.zeros ≡ zero_frames hib.snapshot.format frames (saveable machine.hw frames)
+  pub saved : counts.n ≡ length (saveable machine.hw frames)
+  pub with_pages : counts.d ≡ length (saveable machine.hw frames) - length hib.snapshot.zeros
+  pub copies : length (saveable machine.hw frames) + 1025 ≤ length (unused machine.hw frames)
+  pub slots : pages_of counts + 1026 ≤ length (free_in frames (slot_table_of machine.hw))
+  pub table : (p : ℕ) → IsOfTable machine.hw.slot_table machine.hw.slots p → Contains (saveable machine.hw frames) p
+
+-- what an image's first page says of it
+abbrev pub info_of : Hardware → Counts → Info
+info_of h counts = record { ident = h.ident; physpages = valid_count h; image_pages = counts.n; pages = pages_of counts }
+
+-- The counted page frames are copied, which leaves all but the copies, and the image's writer has taken the slot of its first map.
+pub record IsTaken (machine : Machine) (frames frames' : Memory) (hib hib' : Hib) (counts : Counts) : Type 0 where
+  pub copied : Memory
+  pub writer : Writing
+  pub pages : All IsPage copied
+  pub snapshot : hib'.snapshot ≡ record hib.snapshot { copies = take (length hib.snapshot.origs) (unused machine.hw frames) }
+  pub copies : map (frame copied) hib'.snapshot.copies ≡ map (frame frames) hib.snapshot.origs
+  pub others : (p : ℕ) → (Contains hib'.snapshot.copies p → ⊥) → frame copied p ≡ frame frames p
+  pub size : length copied ≡ length frames
+  pub below : All (λ p. p < length copied) hib'.snapshot.copies
+  pub info : writer.info ≡ info_of machine.hw counts
+  pub extents : writer.extents ≡ machine.hw.extents
+  pub table : writer.table ≡ slot_table_of machine.hw
+  pub written : writer.written ≡ 0
+  pub writing : IsWriting (free_in copied (slot_table_of machine.hw)) frames' writer
+  pub reading : (origs copies zeros : List ℕ) → IsReading origs copies zeros writer
+  pub slots : frames' ≡ with_entries copied machine.hw.slot_table (take 1 (free_in copied (slot_table_of machine.hw))) image_slot
+  pub n : hib'.n ≡ counts.n
+  pub made : hib'.made ≡ 0
+  pub of : hib'.of ≡ pages_of counts + maps_of (pages_of counts) + 4
+  pub first : hib'.first ≡ writer.first
+  pub next : hib'.stage ≡ stage.Write
+  pub has : hib'.writer ≡ Some writer

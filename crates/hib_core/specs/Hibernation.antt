@@ -1,0 +1,78 @@
+-- A hibernation, and what a machine shows while it is at it.
+use Rattle.std.specs.Prelude.{◌≡◌, ℕ, List, [], Bool, true, false, Option, Some, None, Result, Ok, Err}
+use Rattle.sig_header.specs.declared.area.Area.{Area}
+use Rattle.plain_machine.specs.Machine.{Memory}
+use Rattle.plain_machine.specs.Shows.{Shown, Activity, rests, runs, hibernates, undoes}
+use Rattle.plain_machine.specs.Step.{no_flights}
+use Rattle.plain_machine.specs.declared.no_swap.NoSwap.{NoSwap}
+use Rattle.plain_machine.specs.declared.reply.Reply.{Reply}
+use Rattle.plain_machine.specs.declared.reply.Reply.TheVariants as reply
+use Rattle.machine.specs.declared.machine.Machine.{Machine}
+use Rattle.hib_core.specs.declared.hib.Hib.{Hib}
+use Rattle.hib_core.specs.declared.hib.Stage.{Stage}
+use Rattle.hib_core.specs.declared.hib.Stage.TheVariants as stage
+
+-- why an area can't be used
+abbrev pub reason_of : Result Area NoSwap → Option NoSwap
+reason_of (Ok area) = None
+reason_of (Err why) = Some why
+
+-- what a machine is at, by the step that is next and how many are made
+abbrev pub activity_at : Stage → ℕ → Activity
+activity_at stage.Idle made = runs
+activity_at stage.Over made = rests
+activity_at stage.Write made = hibernates false made
+activity_at stage.Sync made = hibernates false made
+activity_at stage.Read made = hibernates false made
+activity_at stage.Mark made = hibernates false made
+activity_at stage.End made = hibernates false made
+activity_at (stage.TakeBack call) made = undoes call 0
+activity_at (stage.EndUndo call) made = undoes call 1
+
+abbrev pub activity_of : Hib → Activity
+activity_of hib = activity_at hib.stage hib.made
+
+-- what a machine is at after this reply to a step or to the begin of a hibernation
+abbrev pub activity_told : Reply → Activity
+activity_told (reply.More k of) = hibernates false k
+activity_told (reply.Undo call k) = undoes call k
+activity_told (reply.Hibernated n) = rests
+activity_told _ = runs
+
+-- whether a reply says that there was nothing to do
+abbrev pub is_idle : Reply → Bool
+is_idle reply.Idle = true
+is_idle _ = false
+
+-- what is shown: the block that is kept, and the page frames of the copies
+abbrev pub shown_by : Machine → Memory → Hib → Shown
+shown_by machine frames hib = record {
+  activity = activity_of hib;
+  keeps_dump = false;
+  held = machine.held;
+  unusable = reason_of machine.area;
+  flights = no_flights;
+  frames = frames;
+  header = hib.header;
+  copies = hib.snapshot.copies;
+  loaded = [];
+}
+
+-- what a machine that runs shows
+abbrev pub running_by : Machine → Memory → Shown
+running_by machine frames = record {
+  activity = runs;
+  keeps_dump = false;
+  held = machine.held;
+  unusable = reason_of machine.area;
+  flights = no_flights;
+  frames = frames;
+  header = [];
+  copies = [];
+  loaded = [];
+}
+
+-- over a machine's zones, and at nothing
+pub record IsIdle (zones : List (ℕ × ℕ)) (hib : Hib) : Type 0 where
+  pub idle : hib.stage ≡ stage.Idle
+  pub over : hib.snapshot.zones ≡ zones

@@ -1,0 +1,5 @@
+pub mod Begin
+pub mod Hibernation
+pub mod Ready
+pub mod Row
+pub mod Writes

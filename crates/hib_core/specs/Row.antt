@@ -1,0 +1,69 @@
+-- The rows of the plain machine that a hibernation makes.
+use Rattle.std.specs.Prelude.{◌≡◌, ℕ, Contains, Option, Some, ⊤}
+use Rattle.definitions.specs.Disk as disk
+use Rattle.plain_machine.specs.Machine.{Hardware, Memory, IsOfTable, unused_slots}
+use Rattle.plain_machine.specs.Image.{Image, n_of, numbers_of, without_data, hibernate_steps}
+use Rattle.plain_machine.specs.Laid.{laid_block}
+use Rattle.plain_machine.specs.State.{State, off, on, booting, hibernating, undoing, settling, waking, loading, asleep, Running}
+use Rattle.plain_machine.specs.Stands.{Stands}
+use Rattle.plain_machine.specs.declared.event.Event.{Event}
+use Rattle.plain_machine.specs.declared.event.Event.TheVariants as event
+use Rattle.plain_machine.specs.declared.reply.Reply.{Reply}
+use Rattle.image_laws.specs.Decoding.{IsSayable}
+use Rattle.image_write.specs.Writing.{Writing}
+use Rattle.protocol_laws.specs.Rows as rows
+use Rattle.protocol_laws.specs.Writers.{IsWriterOf}
+use Rattle.machine.specs.declared.machine.Machine.{Machine}
+use Rattle.hib_core.specs.Hibernation.{shown_by, running_by}
+use Rattle.hib_core.specs.declared.hib.Hib.{Hib}
+use Rattle.hib_core.specs.declared.hib.Job.{Job}
+use Rattle.hib_core.specs.declared.hib.Job.TheVariants as job
+use Rattle.hib_core.specs.declared.hib.Stage.TheVariants as stage
+
+-- The numbers and sets of a hibernation are those of the image that a machine is saving.
+pub record IsOf (h : Hardware) (frames : Memory) (hib : Hib) (a : Running) (i : Image) : Type 0 where
+  pub sayable : IsSayable i
+  pub saved : hib.n ≡ n_of i
+  pub steps : hib.of ≡ hibernate_steps i
+  pub format : hib.snapshot.format ≡ i.format
+  pub origs : hib.snapshot.origs ≡ numbers_of i
+  pub zeros : hib.snapshot.zeros ≡ without_data i
+  pub first : hib.first ≡ laid_block h.extents (unused_slots h a.memory) 0
+  pub apart : (p : ℕ) → Contains hib.snapshot.copies p → IsOfTable h.slot_table h.slots p → ⊥
+  pub writing : hib.stage ≡ stage.Write → (w : Writing) → hib.writer ≡ Some w → IsWriterOf h a i hib.made frames w
+
+abbrev pub IsOfState : Hardware → Memory → Hib → State → Type 0
+IsOfState h frames hib (hibernating suspends i a k) = IsOf h frames hib a i
+IsOfState h frames hib (undoing i call a k) = IsOf h frames hib a i
+IsOfState h frames hib (off held kept) = ⊤
+IsOfState h frames hib (on a) = ⊤
+IsOfState h frames hib (booting from dump held k) = ⊤
+IsOfState h frames hib (settling a k) = ⊤
+IsOfState h frames hib (waking i held a k) = ⊤
+IsOfState h frames hib (loading load k) = ⊤
+IsOfState h frames hib (asleep i held a) = ⊤
+
+-- what a machine shows while it hibernates, and its disk, stand for a state, whose image it is at
+pub record StandsFor (machine : Machine) (frames : Memory) (hib : Hib) (c : disk.Content) (a : State) : Type 0 where
+  pub stands : Stands machine.hw (shown_by machine frames hib) c a
+  pub image : IsOfState machine.hw frames hib a
+
+-- the row of an event over these contents of the disk, and over a disk that tells its content
+abbrev pub IsRow : Machine → Memory → Hib → Machine → Memory → Hib → Event → Reply → disk.Content → disk.Content → Type 0
+IsRow machine frames hib machine' frames' hib' e r c c' =
+    rows.IsRow machine.hw (StandsFor machine frames hib) (StandsFor machine' frames' hib') e r c c'
+
+abbrev pub HasRow : Machine → Memory → Hib → Machine → Memory → Hib → Event → Reply → Option disk.Content → Option disk.Content → Type 0
+HasRow machine frames hib machine' frames' hib' e r before now =
+    rows.HasRow machine.hw (StandsFor machine frames hib) (StandsFor machine' frames' hib') e r before now
+
+-- what a job asks the plain machine for
+abbrev pub event_of : Job → Event
+event_of (job.Hibernate format) = event.Hibernate format
+event_of (job.Suspend format) = event.Suspend format
+event_of job.Settle = event.Settle
+
+-- The row of the begin of a job, by a machine that runs.
+abbrev pub IsBegun : Machine → Memory → Memory → Hib → Job → Reply → disk.Content → Type 0
+IsBegun machine frames frames' hib' asked r c =
+    rows.IsRow machine.hw (λ held s. Stands machine.hw (running_by machine frames) held s) (StandsFor machine frames' hib') (event_of asked) r c c

@@ -1,0 +1,234 @@
+ghost use Rattle.std.specs.Prelude.{◌≡◌, ◌≤◌, ◌⊎◌, ◌<◌, ◌+◌, ◌/◌, ◌^◌, ℕ, ⊤, length, Contains, IfOk, IfErr, IfSome, IfNone};
+ghost use Rattle.definitions.specs.Disk.{Content};
+ghost use Rattle.definitions.specs.Lists.{saveable_frames};
+ghost use Rattle.definitions.specs.Tables.{HasTable};
+ghost use Rattle.definitions.specs.Zones.{top};
+ghost use Rattle.definitions.specs.NumberPages.{meta_of};
+ghost use Rattle.hib_core.specs.Begin.{pages_of, info_of};
+ghost use Rattle.plain_machine.specs.Image.{maps_of};
+ghost use Rattle.plain_machine.specs.Machine.{IsOfTable};
+ghost use Rattle.plain_machine.specs.Shows.{runs as shown_to_run};
+ghost use Rattle.plain_machine.specs.declared.reply.Reply.TheVariants as reply;
+ghost use Rattle.protocol_laws.specs.Rows.{IsNewFault};
+ghost use Rattle.protocol_laws.specs.Writers.{slot_table_of};
+ghost use Rattle.swap_slots.specs.Table.{LiesIn, Matches};
+
+use crate::hib::Stage;
+use crate::write::slot_table;
+use crate::{Hib, Job};
+use frame_arena::Frames;
+use image_header::Info;
+use image_laws::memories_are_sayable;
+use image_write::Writer;
+use machine::{Hardware, Machine};
+use page_core::Format;
+use plain_machine::{Held, Reply};
+use protocol_laws::{begins, shows_lists, takes_image, takes_slots};
+use saveable::{View, saveable};
+use snapshot::Counts;
+use swap_slots::{FreeRuns, SlotTable};
+
+/// Free slots that are left behind an image and the block of its first map (PAGES_FOR_IO, kernel/power/power.h).
+const SLOTS_LEFT: u32 = 1026;
+
+// The begin of a hibernation (hibernation_snapshot, kernel/power/hibernate.c; enough_swap, kernel/power/swap.c).
+impl Hib {
+    ghost use Rattle.hib_core.specs.Begin.{IsRefused, IsCounted, IsTaken};
+    ghost use Rattle.hib_core.specs.Hibernation.{activity_of, activity_told};
+    ghost use Rattle.hib_core.specs.Ready.{CanBegin, CanStep, IsBusy, IsServed};
+    ghost use Rattle.hib_core.specs.Row.{IsBegun};
+    ghost use Rattle.hib_core.specs.declared.hib.Stage.TheVariants as stage;
+    ghost use Rattle.hib_core.specs.declared.hib.Job.TheVariants as job;
+
+    /// Begins a job, or refuses it and changes nothing. Saveable page frames are copied into free ones. No call of a disk is made.
+    pub fn begin(
+        &mut self,
+        machine: &mut Machine,
+        frames: &mut Frames,
+        runs: &mut FreeRuns,
+        job: Job,
+    ) -> Reply
+        requires served { IsServed job }
+        requires ready { CanBegin machine.old frames.old runs.old self.old }
+        ensures row { (c : Content) → IsBegun machine.old frames.old frames.new self.new job result c }
+        ensures activity { activity_of self.new ≡ activity_told result }
+        ensures ready { IsBusy self.new → CanStep machine.new frames.new runs.new self.new }
+        ensures machine { machine.new ≡ machine.old }
+        ensures size { length frames.new ≡ length frames.old }
+        ensures zones { self.new.snapshot.zones ≡ self.old.snapshot.zones }
+        ensures matches { Matches frames.new (slot_table_of machine.old.hw) runs.new }
+        ensures no_fault { IsNewFault result → ⊥ }
+    {
+        match job {
+            Job::Hibernate(format) => self.hibernate(machine, frames, runs, format),
+            Job::Suspend(_) | Job::Settle => unreachable!(),
+        }
+    }
+
+    /// Begins a hibernation, or refuses it.
+    fn hibernate(
+        &mut self,
+        machine: &Machine,
+        frames: &mut Frames,
+        runs: &mut FreeRuns,
+        format: Format,
+    ) -> Reply
+        requires ready { CanBegin machine.now frames.old runs.old self.old }
+        ensures row { (c : Content) → IsBegun machine.now frames.old frames.new self.new (job.Hibernate format) result c }
+        ensures activity { activity_of self.new ≡ activity_told result }
+        ensures ready { IsBusy self.new → CanStep machine.now frames.new runs.new self.new }
+        ensures size { length frames.new ≡ length frames.old }
+        ensures zones { self.new.snapshot.zones ≡ self.old.snapshot.zones }
+        ensures matches { Matches frames.new (slot_table_of machine.now.hw) runs.new }
+        ensures no_fault { IsNewFault result → ⊥ }
+    {
+        begins();
+        shows_lists();
+        takes_image();
+        takes_slots();
+        memories_are_sayable();
+        // Only what is read is known to have the size of its type.
+        let (_blocks, _sig) = (machine.blocks, machine.hw.hw_sig());
+        let (_zones, _ident) = (machine.hw.zones(), machine.hw.ident());
+        self.stage = Stage::Idle;
+        match self.accept(machine, frames, runs, format) {
+            Ok(counts) => self.take(machine, frames, runs, counts),
+            Err(reply) => reply,
+        }
+    }
+
+    /// Tests a hibernation, in the order of its refusals, and counts what it saves.
+    fn accept(
+        &mut self,
+        machine: &Machine,
+        frames: &Frames,
+        runs: &FreeRuns,
+        format: Format,
+    ) -> Result<Counts, Reply>
+        requires ready { CanBegin machine.now frames.now runs.now self.old }
+        ensures refused { IfErr result (λ r. IsRefused machine.now frames.now format r) }
+        ensures stays { IfErr result (λ r. activity_told r ≡ shown_to_run) }
+        ensures no_fault { IfErr result (λ r. IsNewFault r → ⊥) }
+        ensures counted { IfOk result (λ counts. IsCounted machine.now frames.now self.new counts) }
+        ensures format { IfOk result (λ counts. self.new.snapshot.format ≡ format) }
+        ensures hib { self.new ≡ record self.old { snapshot = self.new.snapshot } }
+        ensures zones { self.new.snapshot.zones ≡ self.old.snapshot.zones }
+    {
+        shows_lists();
+        takes_image();
+        let (zones, table) = (machine.hw.zones(), machine.hw.frame_table());
+        if machine.held != Held::No {
+            return Err(Reply::Closed);
+        }
+        if let Err(why) = machine.area {
+            return Err(Reply::NoSwap { why });
+        }
+        let view = View {
+            frames,
+            zones,
+            table,
+        };
+        let counts = match self.snapshot.count(&view, format) {
+            Ok(counts) => counts,
+            Err(short) => {
+                return Err(Reply::NoFrames {
+                    free: short.free,
+                    need: short.need,
+                });
+            }
+        };
+        let slots = slot_table(&machine.hw);
+        let (free, need) = (
+            slots.free_count(frames, runs),
+            pages_of(counts) + SLOTS_LEFT,
+        );
+        if free < need {
+            return Err(Reply::NoSlots { free, need });
+        }
+        match lost_frame(&view, &slots) {
+            None => Ok(counts),
+            Some(frame) => Err(Reply::BadTables { frame }),
+        }
+    }
+
+    /// Copies the pages, and takes the slot of the first map.
+    fn take(
+        &mut self,
+        machine: &Machine,
+        frames: &mut Frames,
+        runs: &mut FreeRuns,
+        counts: Counts,
+    ) -> Reply
+        requires ready { CanBegin machine.now frames.old runs.old self.old }
+        requires counted { IsCounted machine.now frames.old self.old counts }
+        ensures taken { IsTaken machine.now frames.old frames.new self.old self.new counts }
+        ensures reply { result ≡ reply.More 0 self.new.of }
+        ensures matches { Matches frames.new (slot_table_of machine.now.hw) runs.new }
+        ensures size { length frames.new ≡ length frames.old }
+    {
+        // Only what is read is known to have the size of its type.
+        let _blocks = machine.blocks;
+        let (zones, table) = (machine.hw.zones(), machine.hw.frame_table());
+        self.snapshot.copy(frames, zones, table);
+        let _ = frames.len();
+        let info = info_of(&machine.hw, counts);
+        let (slots, map) = (slot_table(&machine.hw), machine.hw.extents());
+        let writer = Writer::begin(frames, runs, &slots, map, &info);
+        self.first = writer.first();
+        self.n = counts.n;
+        self.made = 0;
+        self.of = steps_of(counts);
+        self.stage = Stage::Write;
+        self.writer = Some(writer);
+        Reply::More { k: 0, of: self.of }
+    }
+}
+
+/// The first page frame of the slot table that isn't saveable. No machine has one, since a copy might then lie in the table.
+fn lost_frame(view: &View, slots: &SlotTable) -> Option<u32>
+    requires table { HasTable view.now.frames.now view.now.table (top view.now.zones.now) }
+    requires slots { LiesIn view.now.frames.now slots.now }
+    ensures none { IfNone result ((p : ℕ) → IsOfTable slots.now.first slots.now.slots p → Contains (saveable_frames view.now.zones.now view.now.table view.now.frames.now) p) }
+    ensures lost { IfSome result (λ p. IsOfTable slots.now.first slots.now.slots p × (Contains (saveable_frames view.now.zones.now view.now.table view.now.frames.now) p → ⊥)) }
+{
+    let _ = view.frames.len();
+    for p in slots.first..slots.first + slots.slots.div_ceil(1024) {
+        if !saveable(view, p) {
+            return Some(p);
+        }
+    }
+    None
+}
+
+/// How many pages the image has: the info page, those of the numbers, and those with data.
+fn pages_of(counts: Counts) -> u32
+    requires saved { counts.n ≤ 65536 }
+    requires some { counts.d ≤ counts.n }
+    ensures { result ≡ pages_of counts }
+{
+    counts.d + counts.n.div_ceil(512) + 1
+}
+
+/// How many steps a hibernation has: the writes of the pages and of the maps, and four at the header block.
+fn steps_of(counts: Counts) -> u32
+    requires saved { counts.n ≤ 65536 }
+    requires some { counts.d ≤ counts.n }
+    ensures { result ≡ pages_of counts + maps_of (pages_of counts) + 4 }
+{
+    let pages = pages_of(counts);
+    pages + pages / 511 + 1 + 4
+}
+
+/// What the image's first page says of it.
+fn info_of(hw: &Hardware, counts: Counts) -> Info
+    requires saved { counts.n ≤ 65536 }
+    requires some { counts.d ≤ counts.n }
+    ensures { result ≡ info_of hw.now counts }
+{
+    Info {
+        ident: *hw.ident(),
+        physpages: u64::from(hw.zones().count()),
+        image_pages: u64::from(counts.n),
+        pages: u64::from(pages_of(counts)),
+    }
+}

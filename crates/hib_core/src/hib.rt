@@ -1,0 +1,128 @@
+ghost use Rattle.std.specs.Prelude.{◌≡◌, false, ◌≤◌, ◌⊎◌, ◌<◌, ◌^◌, ℕ, ⊤, IfOk, IsTrue};
+ghost use Rattle.definitions.specs.Disk.{HasRisen, raised, Changes, Elapses};
+ghost use Rattle.hib_core.specs.Hibernation.{IsIdle};
+
+use frame_arena::Frames;
+use image_write::Writer;
+use machine::{Hardware, Machine};
+use page_core::{Format, NoMemory, Page};
+use plain_machine::{Reply, UndoCall};
+use sector_disk::Disk;
+use snapshot::Snapshot;
+use std::alloc::Global;
+use swap_slots::FreeRuns;
+
+/// What is begun.
+#[derive(Clone, Copy, Debug, PartialEq, Eq)]
+pub enum Job {
+    /// Memory is saved, and the machine switched off.
+    Hibernate(Format),
+    /// Memory is saved, and the machine sleeps. Not served yet.
+    Suspend(Format),
+    /// The mark of a held image is taken back. Not served yet.
+    Settle,
+}
+
+/// What is done next.
+#[derive(Clone, Copy, Debug, PartialEq, Eq)]
+pub(crate) enum Stage {
+    /// Nothing: the machine runs.
+    Idle,
+    /// Nothing: the image is on the disk, and the machine is off.
+    Over,
+    /// A page or a map is written.
+    Write,
+    /// What was written is synced.
+    Sync,
+    /// The header block is read.
+    Read,
+    /// The header block is written with the mark.
+    Mark,
+    /// The mark is synced.
+    End,
+    /// After a call that failed, the header block is written taken back.
+    TakeBack(UndoCall),
+    /// That is synced.
+    EndUndo(UndoCall),
+}
+
+/// A hibernation, or none. It takes all its memory when it is created.
+#[derive(Drop)]
+pub struct Hib {
+    pub(crate) snapshot: Snapshot,
+    /// The header block, from its read on; then the marked one.
+    pub(crate) header: Page,
+    pub(crate) stage: Stage,
+    /// Steps made, and steps in all.
+    pub(crate) made: u32,
+    pub(crate) of: u32,
+    /// How many page frames are saved.
+    pub(crate) n: u32,
+    /// The block of the first map.
+    pub(crate) first: u32,
+    pub(crate) writer: Option<Writer>,
+}
+
+impl Hib {
+    ghost use Rattle.plain_machine.specs.declared.event.Event.TheVariants as event;
+    ghost use Rattle.plain_machine.specs.declared.event.Actor.TheVariants as actor;
+    ghost use Rattle.protocol_laws.specs.Rows.{IsNewFault};
+    ghost use Rattle.hib_core.specs.Hibernation.{activity_of, activity_told, is_idle};
+    ghost use Rattle.hib_core.specs.Ready.{CanStep, IsBusy, IsSameMachine};
+    ghost use Rattle.hib_core.specs.Row.{HasRow};
+
+    /// No hibernation, with the memory for every one of this machine.
+    pub fn create(alloc: Global, hw: &Hardware) -> Result<Hib, NoMemory>
+        ensures { IfOk result (IsIdle hw.now.zones) }
+    {
+        let snapshot = Snapshot::create(alloc, hw.zones())?;
+        Ok(Hib {
+            snapshot,
+            header: Page::zero(),
+            stage: Stage::Idle,
+            made: 0,
+            of: 0,
+            n: 0,
+            first: 0,
+            writer: None,
+        })
+    }
+
+    /// Makes the next step: at most one call of the disk.
+    pub fn step<D: Disk>(
+        &mut self,
+        machine: &mut Machine,
+        frames: &mut Frames,
+        runs: &mut FreeRuns,
+        disk: &mut D,
+    ) -> Reply
+        requires ready { CanStep machine.old frames.old runs.old self.old }
+        requires blocks { D.block_count disk.old ≡ machine.old.blocks }
+        requires busy { IsBusy self.old }
+        ensures row { HasRow machine.old frames.old self.old machine.new frames.new self.new (event.Step actor.Core) result (D.content disk.old) (D.content disk.new) }
+        ensures activity { activity_of self.new ≡ activity_told result }
+        ensures zones { self.new.snapshot.zones ≡ self.old.snapshot.zones }
+        ensures works { is_idle result ≡ false }
+        ensures ready { CanStep machine.new frames.new runs.new self.new }
+        ensures machine { IsSameMachine machine.old machine.new }
+        ensures cause { IsNewFault result → HasRisen (D.faults disk.old) (D.faults disk.new) }
+        ensures faults { D.faults disk.old ≤ D.faults disk.new }
+        ensures calls { D.calls disk.new ≡ raised (D.calls disk.old) }
+        ensures orders { D.orders disk.new ≡ D.orders disk.old }
+        ensures blocks { D.block_count disk.new ≡ D.block_count disk.old }
+        ensures telling { D.tells_moments disk.new ≡ D.tells_moments disk.old }
+        ensures time { IsTrue (D.tells_moments disk.old) → Changes (Elapses (D.moment disk.old) (D.moment disk.new)
+            (D.left_since disk.old) (D.left_since disk.new)) (D.content disk.old) (D.content disk.new) }
+    {
+        match self.stage {
+            Stage::Write => self.write_next(machine, frames, runs, disk),
+            Stage::Sync => self.sync_pages(machine, frames, runs, disk),
+            Stage::Read => self.read_header(machine, frames, runs, disk),
+            Stage::Mark => self.write_mark(machine, frames, runs, disk),
+            Stage::End => self.sync_mark(machine, frames, runs, disk),
+            Stage::TakeBack(call) => self.take_back(machine, frames, runs, disk, call),
+            Stage::EndUndo(call) => self.end_undo(machine, frames, runs, disk, call),
+            Stage::Idle | Stage::Over => unreachable!(),
+        }
+    }
+}

@@ -1,0 +1,13 @@
+//! Hibernating: a snapshot is taken, its image written behind the free slots' blocks, and the header block marked
+//! (hibernation_snapshot, kernel/power/hibernate.c; swsusp_write and mark_swapfiles, kernel/power/swap.c).
+#![tactic(auto)]
+
+mod begin;
+mod hib;
+mod mark;
+#[cfg(test)]
+mod tests;
+mod undo;
+mod write;
+
+pub use hib::{Hib, Job};

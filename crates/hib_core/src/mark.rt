@@ -1,0 +1,122 @@
+ghost use Rattle.std.specs.Prelude.{◌≡◌, false, ◌≤◌, ◌+◌, ◌<◌, ◌^◌, ℕ, IsTrue};
+ghost use Rattle.definitions.specs.Disk.{HasRisen, raised, Changes, Elapses};
+ghost use Rattle.protocol_laws.specs.Rows.{IsNewFault};
+ghost use Rattle.plain_machine.specs.declared.reply.Reply.TheVariants as reply;
+ghost use Rattle.protocol_laws.specs.Steps.{mark_flags};
+
+use crate::Hib;
+use crate::hib::Stage;
+use frame_arena::Frames;
+use machine::Machine;
+use page_core::Failed;
+use plain_machine::{Reply, UndoCall};
+use protocol_laws::{ends, keeps_area, marks};
+use sector_disk::Disk;
+use sig_header::mark;
+use swap_slots::FreeRuns;
+
+/// SF_NOCOMPRESS_MODE (kernel/power/power.h).
+const NOCOMPRESS_MODE: u32 = 2;
+
+/// The image has no data pages for its pages of zeros.
+const SKIPS_ZEROS: u32 = 256;
+
+// The mark (mark_swapfiles, kernel/power/swap.c).
+impl Hib {
+    ghost use Rattle.plain_machine.specs.declared.event.Event.TheVariants as event;
+    ghost use Rattle.plain_machine.specs.declared.event.Actor.TheVariants as actor;
+    ghost use Rattle.hib_core.specs.declared.hib.Stage.TheVariants as stage;
+    ghost use Rattle.hib_core.specs.Hibernation.{activity_of, activity_told, is_idle};
+    ghost use Rattle.hib_core.specs.Ready.{CanStep, IsSameMachine};
+    ghost use Rattle.hib_core.specs.Row.{HasRow};
+
+    /// Writes the header block with the mark. Where that fails the mark may be there or not: an undo begins.
+    pub(crate) fn write_mark<D: Disk>(
+        &mut self,
+        machine: &Machine,
+        frames: &Frames,
+        runs: &FreeRuns,
+        disk: &mut D,
+    ) -> Reply
+        requires ready { CanStep machine.now frames.now runs.now self.old }
+        requires blocks { D.block_count disk.old ≡ machine.now.blocks }
+        requires stage { self.old.stage ≡ stage.Mark }
+        ensures row { HasRow machine.now frames.now self.old machine.now frames.now self.new (event.Step actor.Core) result (D.content disk.old) (D.content disk.new) }
+        ensures activity { activity_of self.new ≡ activity_told result }
+        ensures zones { self.new.snapshot.zones ≡ self.old.snapshot.zones }
+        ensures works { is_idle result ≡ false }
+        ensures ready { CanStep machine.now frames.now runs.now self.new }
+        ensures cause { IsNewFault result → HasRisen (D.faults disk.old) (D.faults disk.new) }
+        ensures faults { D.faults disk.old ≤ D.faults disk.new }
+        ensures calls { D.calls disk.new ≡ raised (D.calls disk.old) }
+        ensures orders { D.orders disk.new ≡ D.orders disk.old }
+        ensures blocks { D.block_count disk.new ≡ D.block_count disk.old }
+        ensures telling { D.tells_moments disk.new ≡ D.tells_moments disk.old }
+        ensures time { IsTrue (D.tells_moments disk.old) → Changes (Elapses (D.moment disk.old) (D.moment disk.new)
+            (D.left_since disk.old) (D.left_since disk.new)) (D.content disk.old) (D.content disk.new) }
+    {
+        marks();
+        keeps_area();
+        let (first, flags) = (u64::from(self.first), self.flags());
+        self.header = mark(&self.header, first, flags, machine.hw.hw_sig());
+        let block = machine.hw.extents().block(0);
+        match disk.write(block as u32, &self.header) {
+            Ok(()) => self.go_on(Stage::End),
+            Err(Failed) => self.begin_undo(UndoCall::Write),
+        }
+    }
+
+    /// Syncs the mark: the hibernation is over.
+    pub(crate) fn sync_mark<D: Disk>(
+        &mut self,
+        machine: &Machine,
+        frames: &Frames,
+        runs: &FreeRuns,
+        disk: &mut D,
+    ) -> Reply
+        requires ready { CanStep machine.now frames.now runs.now self.old }
+        requires blocks { D.block_count disk.old ≡ machine.now.blocks }
+        requires stage { self.old.stage ≡ stage.End }
+        ensures row { HasRow machine.now frames.now self.old machine.now frames.now self.new (event.Step actor.Core) result (D.content disk.old) (D.content disk.new) }
+        ensures activity { activity_of self.new ≡ activity_told result }
+        ensures zones { self.new.snapshot.zones ≡ self.old.snapshot.zones }
+        ensures works { is_idle result ≡ false }
+        ensures ready { CanStep machine.now frames.now runs.now self.new }
+        ensures cause { IsNewFault result → HasRisen (D.faults disk.old) (D.faults disk.new) }
+        ensures faults { D.faults disk.old ≤ D.faults disk.new }
+        ensures calls { D.calls disk.new ≡ raised (D.calls disk.old) }
+        ensures orders { D.orders disk.new ≡ D.orders disk.old }
+        ensures blocks { D.block_count disk.new ≡ D.block_count disk.old }
+        ensures telling { D.tells_moments disk.new ≡ D.tells_moments disk.old }
+        ensures time { IsTrue (D.tells_moments disk.old) → Changes (Elapses (D.moment disk.old) (D.moment disk.new)
+            (D.left_since disk.old) (D.left_since disk.new)) (D.content disk.old) (D.content disk.new) }
+    {
+        ends();
+        keeps_area();
+        match disk.sync() {
+            Ok(()) => {
+                self.stage = Stage::Over;
+                Reply::Hibernated { n: self.n }
+            }
+            Err(Failed) => self.begin_undo(UndoCall::Sync),
+        }
+    }
+
+    /// The flags of the mark.
+    fn flags(&self) -> u32
+        ensures { result ≡ mark_flags self.now.snapshot.format }
+    {
+        match self.snapshot.zeros() {
+            None => NOCOMPRESS_MODE,
+            Some(_) => NOCOMPRESS_MODE + SKIPS_ZEROS,
+        }
+    }
+
+    fn begin_undo(&mut self, call: UndoCall) -> Reply
+        ensures hib { self.new ≡ record self.old { stage = stage.TakeBack call } }
+        ensures reply { result ≡ reply.Undo call 0 }
+    {
+        self.stage = Stage::TakeBack(call);
+        Reply::Undo { call, k: 0 }
+    }
+}

@@ -1,0 +1,133 @@
+ghost use Rattle.std.specs.Prelude.{◌≡◌, false, ◌≤◌, ◌+◌, ◌<◌, ◌^◌, ℕ, IsTrue};
+ghost use Rattle.definitions.specs.Disk.{HasRisen, raised, Changes, Elapses};
+ghost use Rattle.protocol_laws.specs.Rows.{IsNewFault};
+ghost use Rattle.hib_core.specs.Hibernation.{is_idle};
+ghost use Rattle.plain_machine.specs.Step.{undone_fault};
+ghost use Rattle.plain_machine.specs.declared.held.Held.TheVariants.{Perhaps};
+ghost use Rattle.plain_machine.specs.declared.reply.Left.TheVariants.{Unsure};
+
+use crate::Hib;
+use crate::hib::Stage;
+use frame_arena::Frames;
+use machine::Machine;
+use page_core::Failed;
+use plain_machine::{Held, Left, Reply, UndoCall};
+use protocol_laws::{keeps_area, takes_slots, undoes};
+use sector_disk::Disk;
+use sig_header::take_back;
+use swap_slots::FreeRuns;
+
+// Undoing a mark whose write or sync has failed (swsusp_unmark, kernel/power/swap.c).
+impl Hib {
+    ghost use Rattle.plain_machine.specs.declared.event.Event.TheVariants as event;
+    ghost use Rattle.plain_machine.specs.declared.event.Actor.TheVariants as actor;
+    ghost use Rattle.hib_core.specs.declared.hib.Stage.TheVariants as stage;
+    ghost use Rattle.hib_core.specs.Hibernation.{activity_of, activity_told};
+    ghost use Rattle.hib_core.specs.Ready.{CanStep, IsSameMachine};
+    ghost use Rattle.hib_core.specs.Row.{HasRow};
+
+    /// Writes the header block taken back.
+    pub(crate) fn take_back<D: Disk>(
+        &mut self,
+        machine: &mut Machine,
+        frames: &Frames,
+        runs: &FreeRuns,
+        disk: &mut D,
+        call: UndoCall,
+    ) -> Reply
+        requires ready { CanStep machine.old frames.now runs.now self.old }
+        requires blocks { D.block_count disk.old ≡ machine.old.blocks }
+        requires stage { self.old.stage ≡ stage.TakeBack call }
+        ensures row { HasRow machine.old frames.now self.old machine.new frames.now self.new (event.Step actor.Core) result (D.content disk.old) (D.content disk.new) }
+        ensures activity { activity_of self.new ≡ activity_told result }
+        ensures zones { self.new.snapshot.zones ≡ self.old.snapshot.zones }
+        ensures works { is_idle result ≡ false }
+        ensures ready { CanStep machine.new frames.now runs.now self.new }
+        ensures machine { IsSameMachine machine.old machine.new }
+        ensures cause { IsNewFault result → HasRisen (D.faults disk.old) (D.faults disk.new) }
+        ensures faults { D.faults disk.old ≤ D.faults disk.new }
+        ensures calls { D.calls disk.new ≡ raised (D.calls disk.old) }
+        ensures orders { D.orders disk.new ≡ D.orders disk.old }
+        ensures blocks { D.block_count disk.new ≡ D.block_count disk.old }
+        ensures telling { D.tells_moments disk.new ≡ D.tells_moments disk.old }
+        ensures time { IsTrue (D.tells_moments disk.old) → Changes (Elapses (D.moment disk.old) (D.moment disk.new)
+            (D.left_since disk.old) (D.left_since disk.new)) (D.content disk.old) (D.content disk.new) }
+    {
+        undoes();
+        keeps_area();
+        let block = machine.hw.extents().block(0);
+        let back = take_back(&self.header);
+        let _ = self.header.as_bytes();
+        let _ = back.as_bytes();
+        match disk.write(block as u32, &back) {
+            Ok(()) => {
+                self.stage = Stage::EndUndo(call);
+                Reply::Undo { call, k: 1 }
+            }
+            Err(Failed) => self.leave_unsure(machine, call),
+        }
+    }
+
+    /// Syncs that: no image is there any more, and the machine runs.
+    pub(crate) fn end_undo<D: Disk>(
+        &mut self,
+        machine: &mut Machine,
+        frames: &mut Frames,
+        runs: &mut FreeRuns,
+        disk: &mut D,
+        call: UndoCall,
+    ) -> Reply
+        requires ready { CanStep machine.old frames.old runs.old self.old }
+        requires blocks { D.block_count disk.old ≡ machine.old.blocks }
+        requires stage { self.old.stage ≡ stage.EndUndo call }
+        ensures row { HasRow machine.old frames.old self.old machine.new frames.new self.new (event.Step actor.Core) result (D.content disk.old) (D.content disk.new) }
+        ensures activity { activity_of self.new ≡ activity_told result }
+        ensures zones { self.new.snapshot.zones ≡ self.old.snapshot.zones }
+        ensures works { is_idle result ≡ false }
+        ensures ready { CanStep machine.new frames.new runs.new self.new }
+        ensures machine { IsSameMachine machine.old machine.new }
+        ensures cause { IsNewFault result → HasRisen (D.faults disk.old) (D.faults disk.new) }
+        ensures faults { D.faults disk.old ≤ D.faults disk.new }
+        ensures calls { D.calls disk.new ≡ raised (D.calls disk.old) }
+        ensures orders { D.orders disk.new ≡ D.orders disk.old }
+        ensures blocks { D.block_count disk.new ≡ D.block_count disk.old }
+        ensures telling { D.tells_moments disk.new ≡ D.tells_moments disk.old }
+        ensures time { IsTrue (D.tells_moments disk.old) → Changes (Elapses (D.moment disk.old) (D.moment disk.new)
+            (D.left_since disk.old) (D.left_since disk.new)) (D.content disk.old) (D.content disk.new) }
+    {
+        undoes();
+        keeps_area();
+        takes_slots();
+        match disk.sync() {
+            Ok(()) => {
+                self.give_up(machine, frames, runs);
+                machine.held = Held::No;
+                undone(call, Left::Gone)
+            }
+            Err(Failed) => self.leave_unsure(machine, call),
+        }
+    }
+
+    /// The image may be there: the machine runs, with that known.
+    fn leave_unsure(&mut self, machine: &mut Machine, call: UndoCall) -> Reply
+        ensures hib { self.new ≡ record self.old { stage = stage.Idle } }
+        ensures machine { machine.new ≡ record machine.old { held = Perhaps } }
+        ensures reply { result ≡ undone_fault call Unsure }
+        ensures works { is_idle result ≡ false }
+    {
+        self.stage = Stage::Idle;
+        machine.held = Held::Perhaps;
+        undone(call, Left::Unsure)
+    }
+}
+
+/// The fault of the call that the undo began with.
+fn undone(call: UndoCall, left: Left) -> Reply
+    ensures reply { result ≡ undone_fault call left }
+    ensures works { is_idle result ≡ false }
+{
+    match call {
+        UndoCall::Write => Reply::WriteFault { left },
+        UndoCall::Sync => Reply::SyncFault { left },
+    }
+}

@@ -1,0 +1,80 @@
+-- Blocks that a call of the disk leaves.
+use Rattle.std.proofs.Common.{◌≡◌, ◌≢◌, ◌<◌, ◌≤◌, ◌⊎◌, inl, inr, ℕ, suc, ◌+◌, ◌-◌, ◌*◌, List, [], ◌∷◌, length, map, Contains, slice_index_or, refl, sym, ap, ◌∙◌, subst, arith}
+use Rattle.std.proofs.lemmas.Bool.{cases_lt}
+use Rattle.std.proofs.lemmas.List.{get_or-map, length-map}
+use Rattle.std.proofs.lemmas.List.Elements.{Contains-get_or}
+use Rattle.std.proofs.lemmas.List.FromFn.{length-map-range_with_len}
+use Rattle.definitions.specs.Disk as disk
+use Rattle.definitions.proofs.DiskLaws.{IsImage-as_it_reads, IsImage-after_sync, IsImage-settled, length-as_it_reads}
+use Rattle.plain_machine.specs.Machine.{Hardware, block_of_slot, unused_slots}
+use Rattle.plain_machine.specs.Image.{Image, stream_of, hibernate_steps}
+use Rattle.plain_machine.specs.Laid.{laid}
+use Rattle.image_write.proofs.Done.{write_at}
+use Rattle.plain_machine.specs.Stands.{laid_writes, laid_blocks}
+use Rattle.plain_machine.specs.State.{Running, hibernating}
+use Rattle.protocol_laws.specs.Rows.{LeavesBlock, blocks_written}
+use Rattle.protocol_laws.specs.Steps.{write_of_step}
+use Rattle.protocol_laws.proofs.Laid.{count_of, count_is}
+
+pub block_same : (b : ℕ) (c : disk.Content) → LeavesBlock b c c
+block_same b c = record { leaves = λ v s in' lt low high. in'.chosen s (let size = in'.size in omega arith) }
+
+pub block_synced : (blocks b : ℕ) (c c' : disk.Content) → disk.IsContent blocks c → disk.Syncs c c' → LeavesBlock b c c'
+block_synced blocks b c c' whole syncs = record {
+  leaves = λ v s in' lt low high.
+      let is = IsImage-after_sync c c' v syncs in' in
+      let all = IsImage-as_it_reads blocks c whole in
+      let size : length v ≡ length c = ap length is ∙ length-as_it_reads c in
+      subst (λ (u : disk.Image). Contains (disk.sector c s).candidates (slice_index_or u s [])) (sym is) (all.chosen s (omega arith));
+}
+
+pub block_cut : (b : ℕ) (c c' : disk.Content) → disk.Restarts c c' → LeavesBlock b c c'
+block_cut b c c' restarts = record {
+  leaves = λ v s in' lt low high.
+      let u = restarts.0 in
+      let is : v ≡ u = IsImage-settled u v (subst (λ (x : disk.Content). disk.IsImage x v) restarts.2 in') in
+      let size : length v ≡ length c = ap length is ∙ restarts.1.size in
+      subst (λ (x : disk.Image). Contains (disk.sector c s).candidates (slice_index_or x s [])) (sym is) (restarts.1.chosen s (omega arith));
+}
+
+sector_other : (b w s : ℕ) (c c' : disk.Content) → disk.SameOutside w c c' → b ≢ w → 8 * b ≤ s → s < 8 * b + 8 → disk.sector c' s ≡ disk.sector c s
+sector_other b w s c c' same other low high = elim (cases_lt b w) [
+  | inl lt ↦ same.below s (omega arith)
+  | inr le ↦ elim (cases_lt w b) [
+    | inl lt ↦ same.above s (omega arith)
+    | inr ge ↦ absurd (other (omega arith))
+  ]
+]
+
+-- a call that writes another block
+pub block_other : (b w : ℕ) (c c' : disk.Content) → disk.SameOutside w c c' → b ≢ w → LeavesBlock b c c'
+block_other b w c c' same other = record {
+  leaves = λ v s in' lt low high.
+      subst (λ (x : disk.Sector). Contains x.candidates (slice_index_or v s [])) (sector_other b w s c c' same other low high) (in'.chosen s (let size = in'.size in omega arith));
+}
+
+-- one that writes block(0)
+pub unwritten_header : (h : Hardware) (others : List ℕ) (b : ℕ) (c c' : disk.Content) → disk.SameOutside (block_of_slot h 0) c c' → (Contains (block_of_slot h 0 ∷ others) b → ⊥) → LeavesBlock b c c'
+unwritten_header h others b c c' same not = block_other b (block_of_slot h 0) c c' same (λ e. not (0, omega arith, sym e))
+
+later_in : (x b : ℕ) (xs : List ℕ) → Contains xs b → Contains (x ∷ xs) b
+later_in x b xs in' = (suc in'.0, (let lt = in'.1 in omega arith), in'.2)
+
+-- one that writes the image
+write_in_laid : (h : Hardware) (a : Running) (i : Image) (k : ℕ) → k < length (laid_writes h a i) → Contains (laid_blocks h a i) (write_of_step h a i k).0
+write_in_laid h a i k lt =
+    let first : ℕ × List ℕ → ℕ = λ written. written.0 in
+    let size = length-map (laid_writes h a i) first in
+    subst (Contains (laid_blocks h a i)) (get_or-map first (laid_writes h a i) k (0, []) 0 (omega arith)) (Contains-get_or (laid_blocks h a i) k 0 (omega arith))
+
+pub laid_count : (h : Hardware) (a : Running) (i : Image) (k : ℕ) → k + 4 < hibernate_steps i → k < length (laid_writes h a i)
+unfolding laid
+laid_count h a i k lt =
+    let steps = count_is i in
+    let size = length-map-range_with_len (write_at h.extents (unused_slots h a.memory) (stream_of i)) 0 (count_of i) in
+    omega arith
+
+pub unwritten_slots : (h : Hardware) (a : Running) (i : Image) (k b : ℕ) (c c' : disk.Content) → k < length (laid_writes h a i) → disk.SameOutside (write_of_step h a i k).0 c c' → (Contains (block_of_slot h 0 ∷ laid_blocks h a i) b → ⊥) → LeavesBlock b c c'
+unwritten_slots h a i k b c c' lt same not =
+    block_other b (write_of_step h a i k).0 c c' same
+    (λ e. not (subst (Contains (block_of_slot h 0 ∷ laid_blocks h a i)) (sym e) (later_in (block_of_slot h 0) (write_of_step h a i k).0 (laid_blocks h a i) (write_in_laid h a i k lt))))

@@ -1,0 +1,93 @@
+-- What is known of a resume before a step, in the state that it stands for.
+use Rattle.std.proofs.Common.{◌≡◌, ◌<◌, ℕ, List, Contains, Option, Some, None, refl, sym, ap, ◌∙◌, subst, arith}
+use Rattle.std.specs.Option.{IfSome}
+use Rattle.definitions.proofs.DiskLaws.{length-as_it_reads}
+use Rattle.std.specs.List.{zip}
+use Rattle.definitions.specs.Disk as disk
+use Rattle.page_restore.specs.Waiting.{waiting_pages}
+use Rattle.plain_machine.specs.Machine.{Hardware, Memory}
+use Rattle.plain_machine.specs.Chain.{blocks_of}
+use Rattle.plain_machine.specs.Loader.{left_free, loader_frame}
+use Rattle.plain_machine.specs.Shows.{loads}
+use Rattle.plain_machine.specs.State.{State, loading, Load as Resume}
+use Rattle.plain_machine.specs.declared.event.Event.{Event}
+use Rattle.plain_machine.specs.declared.event.Event.TheVariants as event
+use Rattle.plain_machine.specs.declared.event.Actor.TheVariants as actor
+use Rattle.plain_machine.specs.declared.reply.Reply.{Reply}
+use Rattle.protocol_laws.specs.LoadRows.{Goes, ShowsNoneRead}
+use Rattle.protocol_laws.specs.Loads.{ShowsLoad}
+use Rattle.protocol_laws.specs.Rows as rows
+use Rattle.machine.specs.declared.machine.Machine.{Machine}
+use Rattle.resume_core.specs.Loading.{shown_by, activity_of}
+use Rattle.swap_slots.specs.Runs.{SlotRuns}
+use Rattle.resume_core.specs.Ready.{IsOver}
+use Rattle.resume_core.specs.Row.{StandsFor, HasLoader, IsOfState, IsRow, NoneWaits}
+use Rattle.resume_core.specs.declared.load.Load.{Load}
+use Rattle.resume_core.proofs.Cases.{at_load}
+
+pub whole_content : (blocks : ℕ) (told : Option disk.Content) (c : disk.Content) → told ≡ Some c → IfSome told (disk.IsContent blocks) → disk.IsContent blocks c
+whole_content blocks told c e h = subst (λ (o : Option disk.Content). IfSome o (disk.IsContent blocks)) e h
+
+-- the content after a call of the disk, where it tells it
+pub changed : (R : disk.Content → disk.Content → Type 0) (before now : Option disk.Content) (c : disk.Content) → before ≡ Some c → disk.Changes R before now → (c' : disk.Content) × (now ≡ Some c') × R c c'
+changed R before now c e h = by_now now (subst (λ (o : Option disk.Content). disk.Changes R o now) e h) where
+  by_now : (o : Option disk.Content) → disk.Changes R (Some c) o → (c' : disk.Content) × (o ≡ Some c') × R c c'
+  by_now None r = absurd r
+  by_now (Some c') r = (c', refl, r)
+
+-- the disk's content, which the machine knows the number of blocks of
+pub content_of : (count blocks : ℕ) (told : Option disk.Content) (c : disk.Content) → told ≡ Some c → count ≡ blocks → IfSome told (disk.IsContent count) → disk.IsContent blocks c
+content_of count blocks told c e same h = subst (λ (n : ℕ). disk.IsContent n c) same (whole_content count told c e h)
+
+-- what a clause says of the content, where it is told
+pub told_of : (P : disk.Content → Type 0) (told : Option disk.Content) (c : disk.Content) → told ≡ Some c → IfSome told P → P c
+told_of P told c e h = subst (λ (o : Option disk.Content). IfSome o P) e h
+
+-- a row that leads to what is there in the end
+pub row_of : (machine : Machine) (frames : Memory) (load : Load) (machine' : Machine) (frames' : Memory) (load' end : Load) (r told : Reply) (c c' : disk.Content) → end ≡ load' → told ≡ r →
+    IsRow machine frames load machine' frames' load' (event.Step actor.Core) r c c' → IsRow machine frames load machine' frames' end (event.Step actor.Core) told c c'
+row_of machine frames load machine' frames' load' end r told c c' same reply row =
+    subst (λ (x : Load). IsRow machine frames load machine' frames' x (event.Step actor.Core) told c c') (sym same) (subst (λ (q : Reply). IsRow machine frames load machine' frames' load' (event.Step actor.Core) q c c') (sym reply) row)
+
+-- the rows of a resume
+pub row_at_load : (machine : Machine) (frames : Memory) (load : Load) (machine' : Machine) (frames' : Memory) (load' : Load) (e : Event) (r : Reply) (c c' : disk.Content) (k : ℕ) → activity_of load ≡ loads k →
+    ((l : Resume) → StandsFor machine frames load c (loading l k) → (b : State) × rows.Leads machine.hw (StandsFor machine' frames' load') e r c c' (loading l k) b) →
+    IsRow machine frames load machine' frames' load' e r c c'
+row_at_load machine frames load machine' frames' load' e r c c' k is goes s stands =
+    let at = at_load s k (sym is ∙ stands.stands.activity) in
+    subst (λ (t : State). (b : State) × rows.Leads machine.hw (StandsFor machine' frames' load') e r c c' t b) (sym at.1)
+    (goes at.0 (subst (StandsFor machine frames load c) at.1 stands))
+
+-- a step that goes on to a state whose resume it is at
+pub leads : (machine : Machine) (frames : Memory) (load : Load) (r : Reply) (c c' : disk.Content) (a b : State) → Goes machine.hw (shown_by machine frames load) r c c' a b → IsOfState machine frames load c' b →
+    rows.Leads machine.hw (StandsFor machine frames load) (event.Step actor.Core) r c c' a b
+leads machine frames load r c c' a b goes is = record { step = goes.step; stands = record { stands = goes.stands; resume = is }; area = goes.area; unwritten = goes.unwritten }
+
+pub same_loader : (h : Hardware) (load load' : Load) (l : Resume) → load'.waiting.free ≡ load.waiting.free → load'.check ≡ load.check → HasLoader h load l → HasLoader h load' l
+same_loader h load load' l free check has = record { ranges = has.ranges; scripted = has.scripted; free = free ∙ has.free; check = check ∙ has.check }
+
+-- up to the info page nothing is shown of the pages
+pub shows_none : (machine : Machine) (frames : Memory) (load load' : Load) (c : disk.Content) (l l' : Resume) (j k : ℕ) → ShowsNoneRead → StandsFor machine frames load c (loading l j) → l'.loader ≡ l.loader → l'.dump ≡ l.dump → activity_of load' ≡ loads k → k < 7 → NoneWaits load' →
+    ShowsLoad machine.hw (shown_by machine frames load') l' k
+shows_none machine frames load load' c l l' j k none_read s loader dump activity few none =
+    let kept = s.stands.parts.1.kept in
+    none_read machine.hw (shown_by machine frames load') l' k (omega arith) activity
+    (λ p lt free. kept p lt (λ has. free (subst (λ d. Contains (left_free machine.hw d l'.loader) p) (sym dump) (subst (λ x. Contains (left_free machine.hw l.dump x) p) (sym loader) has)))
+    ∙ ap (λ d. loader_frame d l.loader p) (sym dump) ∙ ap (λ x. loader_frame l'.dump x p) (sym loader))
+    (ap (λ (xs : List ℕ). zip xs (waiting_pages frames load'.waiting)) none)
+
+pub count_of : (blocks : ℕ) (c : disk.Content) → disk.IsContent blocks c → blocks_of (disk.as_it_reads c) ≡ blocks
+count_of blocks c whole = let size = length-as_it_reads c in let all = whole.size in omega arith
+
+pub over_still : (machine : Machine) (frames : Memory) (runs : SlotRuns) (load load' : Load) → load'.origs.zones ≡ load.origs.zones → load'.zeros.zones ≡ load.zeros.zones → load'.waiting.zones ≡ load.waiting.zones → IsOver machine frames runs load → IsOver machine frames runs load'
+over_still machine frames runs load load' origs zeros waiting over = record {
+  hardware = over.hardware;
+  ident = over.ident;
+  few = over.few;
+  size = over.size;
+  table = over.table;
+  room = over.room;
+  origs = origs ∙ over.origs;
+  zeros = zeros ∙ over.zeros;
+  waiting = waiting ∙ over.waiting;
+}

@@ -1,0 +1,137 @@
+-- The rows of the first sync, and of the read of the header block.
+use Rattle.std.proofs.Common.{◌≡◌, inl, inr, ℕ, List, Some, None, refl, sym, ap, ◌∙◌, subst, arith}
+use Rattle.definitions.specs.Disk as disk
+use Rattle.sig_header.specs.AreaKind.{mark_of}
+use Rattle.sig_header.specs.declared.area.Mark.{Mark}
+use Rattle.plain_machine.specs.Machine.{Memory}
+use Rattle.plain_machine.specs.Chain.{header_of}
+use Rattle.plain_machine.specs.State.{off, loading, nothing, sure, other, Load as Resume}
+use Rattle.plain_machine.specs.Trace.{header_cause}
+use Rattle.plain_machine.specs.declared.event.Event.TheVariants as event
+use Rattle.plain_machine.specs.declared.event.Actor.TheVariants as actor
+use Rattle.plain_machine.specs.declared.reply.Reply.{Reply}
+use Rattle.plain_machine.specs.declared.reply.Reply.TheVariants as reply
+use Rattle.plain_machine.specs.declared.reply.Left.TheVariants.{Same}
+use Rattle.image_laws.specs.Decoding.{IsIdent}
+use Rattle.plain_machine.specs.Machine.{IsHardware}
+use Rattle.protocol_laws.specs.LoadRows.{LoadSyncRow, LoadSyncFaultRow, FindNoneRow, FindCompressedRow, FindRow, FindFaultRow, ShowsNoneRead, GoneOnEarly, with_finding}
+use Rattle.machine.specs.declared.machine.Machine.{Machine}
+use Rattle.resume_core.specs.Header.{header_fault}
+use Rattle.resume_core.specs.Loading.{shown_by, activity_at}
+use Rattle.resume_core.specs.Row.{StandsFor, IsRow, KnowsAt}
+use Rattle.resume_core.specs.declared.load.Load.{Load}
+use Rattle.resume_core.specs.declared.load.Stage.{Stage}
+use Rattle.resume_core.specs.declared.load.Stage.TheVariants as stage
+use Rattle.resume_core.proofs.Headers.{header_faults}
+use Rattle.resume_core.proofs.Facts.{row_at_load, leads, same_loader, shows_none, count_of}
+
+abbrev pub stopped : Load → Load
+stopped load = record load { stage = stage.Rest }
+
+pub knows_at : (machine : Machine) (frames : Memory) (load : Load) (c : disk.Content) (l : Resume) (k : ℕ) (at : Stage) → load.stage ≡ at → StandsFor machine frames load c (loading l k) → KnowsAt at machine frames load c l k
+knows_at machine frames load c l k at is s = subst (λ (t : Stage). KnowsAt t machine frames load c l k) is s.resume.knows
+
+pub activity_is : (load : Load) (at : Stage) → load.stage ≡ at → activity_at load.stage load.made ≡ activity_at at load.made
+activity_is load at is = ap (λ (t : Stage). activity_at t load.made) is
+
+pub synced_row : (machine : Machine) (frames : Memory) (load : Load) (c c' : disk.Content) → LoadSyncRow → ShowsNoneRead → load.stage ≡ stage.Sync → disk.IsContent machine.blocks c → disk.Syncs c c' →
+    IsRow machine frames load machine frames (record load { stage = stage.Find }) (event.Step actor.Core) (reply.Loading 1) c c'
+synced_row machine frames load c c' sync_row none_read at whole syncs =
+    let new = record load { stage = stage.Find } in
+    row_at_load machine frames load machine frames new (event.Step actor.Core) (reply.Loading 1) c c' 0 (activity_is load stage.Sync at)
+    (λ l s.
+    let knows = knows_at machine frames load c l 0 stage.Sync at s in (
+      loading l 1,
+      leads machine frames new (reply.Loading 1) c c' (loading l 0) (loading l 1)
+          (sync_row machine.hw (shown_by machine frames load) (shown_by machine frames new) c c' machine.blocks l whole s.stands syncs
+          (shows_none machine frames load new c l l 0 1 none_read s refl refl refl (omega arith) knows.2))
+          (record { loader = same_loader machine.hw load new l refl refl s.resume.loader; knows = knows }),
+    ))
+
+pub sync_failed_row : (machine : Machine) (frames : Memory) (load : Load) (c : disk.Content) → LoadSyncFaultRow → load.stage ≡ stage.Sync →
+    IsRow machine frames load machine frames (stopped load) (event.Step actor.Core) (reply.SyncFault Same) c c
+sync_failed_row machine frames load c fault_row at =
+    row_at_load machine frames load machine frames (stopped load) (event.Step actor.Core) (reply.SyncFault Same) c c 0 (activity_is load stage.Sync at)
+    (λ l s. (
+      off l.held None,
+      leads machine frames (stopped load) (reply.SyncFault Same) c c (loading l 0) (off l.held None)
+          (fault_row machine.hw (shown_by machine frames load) (shown_by machine frames (stopped load)) c l s.stands (refl, refl)) tt,
+    ))
+
+pub find_failed_row : (machine : Machine) (frames : Memory) (load : Load) (header : List ℕ) (c : disk.Content) → FindFaultRow → load.stage ≡ stage.Find →
+    IsRow machine frames load machine frames (stopped (record load { header = header })) (event.Step actor.Core) (reply.ReadFault Same) c c
+find_failed_row machine frames load header c fault_row at =
+    let new = stopped (record load { header = header }) in
+    row_at_load machine frames load machine frames new (event.Step actor.Core) (reply.ReadFault Same) c c 1 (activity_is load stage.Find at)
+    (λ l s. (
+      off l.held None,
+      leads machine frames new (reply.ReadFault Same) c c (loading l 1) (off l.held None)
+          (fault_row machine.hw (shown_by machine frames load) (shown_by machine frames new) c l s.stands (refl, refl)) tt,
+    ))
+
+-- without a mark nothing is found
+pub none_row : (machine : Machine) (frames : Memory) (load : Load) (header : List ℕ) (c : disk.Content) → FindNoneRow → load.stage ≡ stage.Find → disk.IsContent machine.blocks c → header_cause machine.hw (disk.as_it_reads c) ≡ Some reply.NoImage →
+    IsRow machine frames load machine frames (stopped (record load { header = header })) (event.Step actor.Core) reply.NoImage c c
+none_row machine frames load header c find_none at whole none =
+    let new = stopped (record load { header = header }) in
+    row_at_load machine frames load machine frames new (event.Step actor.Core) reply.NoImage c c 1 (activity_is load stage.Find at)
+    (λ l s. (
+      off nothing None,
+      leads machine frames new reply.NoImage c c (loading l 1) (off nothing None)
+          (find_none machine.hw (shown_by machine frames load) (shown_by machine frames new) c machine.blocks l whole s.stands none (refl, refl)) tt,
+    ))
+
+compressed_row : (machine : Machine) (frames : Memory) (load : Load) (header : List ℕ) (c : disk.Content) (flags : ℕ) → FindCompressedRow → load.stage ≡ stage.Find → disk.IsContent machine.blocks c → header_cause machine.hw (disk.as_it_reads c) ≡ Some (reply.Compressed flags) →
+    IsRow machine frames load machine frames (stopped (record load { header = header })) (event.Step actor.Core) (reply.Compressed flags) c c
+compressed_row machine frames load header c flags find_compressed at whole cause =
+    let new = stopped (record load { header = header }) in
+    row_at_load machine frames load machine frames new (event.Step actor.Core) (reply.Compressed flags) c c 1 (activity_is load stage.Find at)
+    (λ l s. (
+      off (sure other) None,
+      leads machine frames new (reply.Compressed flags) c c (loading l 1) (off (sure other) None)
+          (find_compressed machine.hw (shown_by machine frames load) (shown_by machine frames new) c machine.blocks flags l whole s.stands cause (refl, refl)) tt,
+    ))
+
+pub found_row : (machine : Machine) (frames : Memory) (load : Load) (header : List ℕ) (mark : Mark) (c : disk.Content) → FindRow → ShowsNoneRead → GoneOnEarly → IsHardware machine.hw → IsIdent machine.hw.ident → load.stage ≡ stage.Find → disk.IsContent machine.blocks c →
+    header ≡ header_of machine.hw (disk.as_it_reads c) → header_fault header ≡ None → mark ≡ mark_of header →
+    IsRow machine frames load machine frames (record load { header = header; mark = mark; stage = stage.TakeBack }) (event.Step actor.Core) (reply.Loading 2) c c
+found_row machine frames load header mark c find none_read early hardware ident at whole read none marks =
+    let new = record load { header = header; mark = mark; stage = stage.TakeBack } in
+    let v = disk.as_it_reads c in
+    let uncaused : header_cause machine.hw v ≡ None = subst (λ (p : List ℕ). header_fault p ≡ None) read none in
+    row_at_load machine frames load machine frames new (event.Step actor.Core) (reply.Loading 2) c c 1 (activity_is load stage.Find at)
+    (λ l s.
+    let knows = knows_at machine frames load c l 1 stage.Find at s in
+    let found = find machine.hw (shown_by machine frames load) (shown_by machine frames new) c machine.blocks l hardware ident whole s.stands uncaused read in
+    let l' = with_finding l found.0 in (
+      loading l' 2,
+      leads machine frames new (reply.Loading 2) c c (loading l 1) (loading l' 2)
+          (found.2 (shows_none machine frames load new c l l' 1 2 none_read s refl refl refl (omega arith) knows.2))
+          (record {
+            loader = (let has = s.resume.loader in record { ranges = has.ranges; scripted = has.scripted; free = has.free; check = has.check });
+            knows = (
+              v,
+              record { found = found.1; uncaused = uncaused; header = read; mark = marks ∙ ap mark_of read; reads = λ b lt ne. refl; blocks = count_of machine.blocks c whole },
+              early machine.hw l' v 2 (omega arith) uncaused,
+              knows.0,
+              knows.1,
+              knows.2,
+            );
+          }),
+    ))
+
+-- why nothing is read, by the header
+pub fault_row : (machine : Machine) (frames : Memory) (load : Load) (header : List ℕ) (c : disk.Content) (why : Reply) → FindNoneRow → FindCompressedRow → load.stage ≡ stage.Find → disk.IsContent machine.blocks c → header ≡ header_of machine.hw (disk.as_it_reads c) → header_fault header ≡ Some why →
+    IsRow machine frames load machine frames (stopped (record load { header = header })) (event.Step actor.Core) why c c
+fault_row machine frames load header c why find_none find_compressed at whole read some =
+    let cause : header_cause machine.hw (disk.as_it_reads c) ≡ Some why = subst (λ (p : List ℕ). header_fault p ≡ Some why) read some in
+    elim (header_faults header why some) [
+      | inl none ↦ (
+          let is : header_cause machine.hw (disk.as_it_reads c) ≡ Some reply.NoImage = cause ∙ ap (λ (r : Reply). Some r) none in
+          subst (λ (r : Reply). IsRow machine frames load machine frames (stopped (record load { header = header })) (event.Step actor.Core) r c c) (sym none)
+          (none_row machine frames load header c find_none at whole is))
+      | inr of ↦ (
+          let is : header_cause machine.hw (disk.as_it_reads c) ≡ Some (reply.Compressed of.0) = cause ∙ ap (λ (r : Reply). Some r) of.1 in
+          subst (λ (r : Reply). IsRow machine frames load machine frames (stopped (record load { header = header })) (event.Step actor.Core) r c c) (sym of.1)
+          (compressed_row machine frames load header c of.0 find_compressed at whole is))
+    ]

@@ -1,0 +1,11 @@
+pub mod Cases
+pub mod Facts
+pub mod Headers
+pub mod Finding
+pub mod TakingBack
+pub mod OwnImage
+pub mod Answering
+pub mod Listing
+pub mod Placing
+pub mod Beginning
+pub mod Ending

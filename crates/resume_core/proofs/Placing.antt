@@ -1,0 +1,493 @@
+-- The rows behind the last number page: the room for the pages to come, and the pages as they come.
+use Rattle.std.proofs.Common.{◌≡◌, ◌<◌, ◌≤◌, ◌⊎◌, inl, inr, ℕ, ◌+◌, ◌-◌, ◌%◌, ◌^◌, List, [], ◌∷◌, ◌++◌, length, map, take, Contains, Option, Some, None, IsSome, IsTrue, is_none, unwrap_or, get_or, slice_get, suc, zero, cond, ltb, eqb, Bool, true, false, refl, sym, ap, ap₂, ◌∙◌, subst, arith}
+use Rattle.std.specs.List.{zip}
+use Rattle.std.proofs.lemmas.Bool.{cases_lt, cond-true, lt-ltb, eq-eqb, false≢true}
+use Rattle.std.proofs.lemmas.Bool.Decides.{eqb_tells}
+use Rattle.std.proofs.lemmas.List.FromFn.{map-range_with_len_more}
+use Rattle.std.proofs.lemmas.Option.{same_Some, none-some, slice_get-get_or}
+use Rattle.std.specs.List.Sorted.{IsStrictlyIncreasing}
+use Rattle.definitions.specs.Disk as disk
+use Rattle.definitions.specs.Tables.{frame}
+use Rattle.safe_pages.specs.Placed.{sources}
+use Rattle.image_read.specs.Causes.{reply_of}
+use Rattle.image_read.specs.Reading.{Reading, IsOver}
+use Rattle.image_read.specs.Taking as taking
+use Rattle.image_read.specs.Stream as stream
+use Rattle.image_read.specs.Stream.{pages_read, told, data_frames, frames_in, marked_in, numbers_read, frame_at, place_block}
+use Rattle.image_read.specs.Answers.{Reads, Answers, told_after}
+use Rattle.image_read.specs.declared.cause.Cause.{Cause}
+use Rattle.image_read.specs.declared.cause.Cause.TheVariants as cause
+use Rattle.image_read.specs.declared.reader.ReadStep.{ReadStep}
+use Rattle.image_read.specs.declared.reader.ReadStep.TheVariants as read_step
+use Rattle.plain_machine.specs.Machine.{IsHardware}
+use Rattle.plain_machine.specs.declared.event.Event.TheVariants as event
+use Rattle.plain_machine.specs.declared.event.Actor.TheVariants as actor
+use Rattle.plain_machine.specs.declared.event.IdentCheck.{IdentCheck}
+use Rattle.protocol_laws.specs.Rows as rows
+use Rattle.swap_slots.specs.Runs.{SlotRuns}
+use Rattle.resume_core.specs.Ready.{CanStep, CanMake, CanRead}
+use Rattle.resume_core.specs.Reader.{HasAnswered}
+use Rattle.resume_core.specs.Row.{StandsFor, IsRow}
+use Rattle.resume_core.specs.declared.load.Stage.{Stage}
+use Rattle.image_read.proofs.Places.{pages_left, at_map, at_page, read_at_map, read_at_page, two_places}
+use Rattle.image_read.proofs.Read.{told_all, saved_is}
+use Rattle.image_read.proofs.Rising.{data_frames_are, data_length}
+use Rattle.page_restore.specs.Waiting.{Awaiting, waiting_pages, with_data}
+use Rattle.plain_machine.specs.Machine.{Hardware, Memory}
+use Rattle.plain_machine.specs.Chain.{or_else}
+use Rattle.plain_machine.specs.Loader.{left_free}
+use Rattle.plain_machine.specs.Image as image
+use Rattle.plain_machine.specs.Stands.{data_read}
+use Rattle.plain_machine.specs.State.{off, loading, nothing, Load as Resume}
+use Rattle.plain_machine.specs.Trace.{info_in, meta_in, stream_page, d_in, place, Place, place_count, read_cause, want_cause, room_cause, content_cause, next_cause, step_cause}
+use Rattle.plain_machine.specs.declared.event.Loader.{Loader}
+use Rattle.plain_machine.specs.declared.reply.Reply.{Reply}
+use Rattle.plain_machine.specs.declared.reply.Reply.TheVariants as reply
+use Rattle.protocol_laws.specs.LoadRows.{ReadRow, ReadStopRow, GoneOnNext, CauseStops, IsStop, IsFoundOn}
+use Rattle.protocol_laws.specs.TraceAt.{reply_past}
+use Rattle.protocol_laws.specs.Loads.{ShowsLoad}
+use Rattle.restore_laws.specs.DataPages.{data_page, data_pages}
+use Rattle.machine.specs.declared.machine.Machine.{Machine}
+use Rattle.resume_core.specs.Loading.{shown_by}
+use Rattle.resume_core.specs.Reader.{room_refusal, refusal_behind}
+use Rattle.resume_core.specs.Row.{HasReader, HasRead, HavePlaces, ListsOn, ReadsOn, LeadsOn}
+use Rattle.resume_core.specs.declared.load.Load.{Load}
+use Rattle.resume_core.specs.declared.load.Stage.TheVariants as stage
+use Rattle.resume_core.proofs.Facts.{leads, same_loader, row_at_load}
+use Rattle.resume_core.proofs.Finding.{activity_is, knows_at}
+use Rattle.resume_core.proofs.TakingBack.{found_still}
+use Rattle.resume_core.proofs.Answering.{late_reply, no_want_before, goes_reply, room_reply, stops_reply, no_want_after, no_read_cause, all_read, more_to_read}
+use Rattle.resume_core.proofs.Listing.{SavesFew, HasNoCause, read_on, not_over}
+use Rattle.resume_core.proofs.OwnImage.{pages_are, count_is}
+
+-- The reply of a refusal.
+
+pub refusal_few : (o : Option ℕ) (have d : ℕ) (cause : Cause) (why : Reply) → IsSome o → room_refusal have d ≡ Some why → why ≡ refusal_behind o have d cause
+refusal_few None have d cause why some e = absurd (false≢true some)
+refusal_few (Some n) have d cause why some e = sym (ap (λ (x : Option Reply). unwrap_or x (reply_of cause)) e)
+
+pub refusal_cause : (o : Option ℕ) (have d : ℕ) (cause : Cause) → room_refusal have d ≡ None → reply_of cause ≡ refusal_behind o have d cause
+refusal_cause None have d cause e = refl
+refusal_cause (Some n) have d cause e = sym (ap (λ (x : Option Reply). unwrap_or x (reply_of cause)) e)
+
+pub refusal_unlisted : (o : Option ℕ) (have d : ℕ) (cause : Cause) → (IsSome o → IsTrue false) → reply_of cause ≡ refusal_behind o have d cause
+refusal_unlisted None have d cause none = refl
+refusal_unlisted (Some n) have d cause none = absurd (false≢true (none refl))
+
+-- Behind the last number page.
+
+some_all : (b : Bool) (n : ℕ) → IsSome (cond b (Some n) None) → cond b (Some n) None ≡ Some n
+some_all true n e = refl
+some_all false n e = absurd (false≢true e)
+
+told_some : (h : Hardware) (v : disk.Image) (j : ℕ) → IsSome (told h v j) → told h v j ≡ Some (info_in h v).image_pages
+told_some h v zero e = absurd (false≢true e)
+told_some h v (suc j) e = some_all (eqb (numbers_read h v (suc j)) (info_in h v).image_pages) (info_in h v).image_pages e
+
+abbrev pub IsListed : Load → Type 0
+IsListed load = (r : Reading) → load.reader ≡ Some r → IsSome r.listed
+
+told_listed : (h : Hardware) (v : disk.Image) (load : Load) (t : ℕ) → HasReader h v load t → IsListed load → told h v (pages_read t) ≡ Some (info_in h v).image_pages
+told_listed h v load t read listed = told_some h v (pages_read t) (subst IsSome read.reading.listed (listed read.reader read.has))
+
+-- the room is tested there
+want_listed : (h : Hardware) (dump : Memory) (v : disk.Image) (loader : Loader) (t : ℕ) → told h v (pages_read t) ≡ None → told h v (pages_read (t + 1)) ≡ Some (info_in h v).image_pages → want_cause h dump v loader (place t) ≡ room_cause h dump v loader
+want_listed h dump v loader t before after = elim (eqb_tells (t % 512) 0) [
+  | inl is ↦ absurd (none-some (info_in h v).image_pages (sym before ∙ ap (told h v) (sym (read_at_map t is.1)) ∙ after))
+  | inr is ↦ (
+      let next = read_at_page t is.1 in
+      let all = (all_read h v (pages_read (t + 1)) after).1 in
+      let n = (info_in h v).image_pages in
+      let at : pages_read t ≡ meta_in h v = elim (cases_lt 0 (pages_read t)) [
+        | inl some ↦ (let more = more_to_read h v (pages_read t) (omega arith) before in omega arith)
+        | inr none ↦ omega arith
+      ] in
+      ap (want_cause h dump v loader) (at_page t is.1) ∙ cond-true (eqb (pages_read t) (meta_in h v)) (room_cause h dump v loader) None (eq-eqb (pages_read t) (meta_in h v) at))
+]
+
+same_data : (origs zeros : List ℕ) → with_data origs zeros ≡ taking.with_data origs zeros
+unfolding with_data taking.with_data
+same_data origs zeros = refl
+
+listed_data : (h : Hardware) (v : disk.Image) (origs zeros : List ℕ) → origs ≡ frames_in h v (info_in h v).image_pages → zeros ≡ marked_in h v (info_in h v).image_pages → IsStrictlyIncreasing origs → with_data origs zeros ≡ data_frames h v
+listed_data h v origs zeros frames marks rising = same_data origs zeros ∙ ap₂ taking.with_data frames marks ∙ data_frames_are h v (subst IsStrictlyIncreasing frames rising)
+
+-- the page frames with data are those that the numbers name
+data_of : (h : Hardware) (v : disk.Image) (j : ℕ) (origs zeros : List ℕ) → origs ≡ frames_in h v (numbers_read h v j) → zeros ≡ marked_in h v (numbers_read h v j) → IsStrictlyIncreasing origs → told h v j ≡ Some (info_in h v).image_pages → with_data origs zeros ≡ data_frames h v
+data_of h v j origs zeros frames_are marks_are rising told_now =
+    let n = (info_in h v).image_pages in
+    let all = all_read h v j told_now in
+    let saved = saved_is h v j all.0 in
+    let enough = all.1 in
+    let count : numbers_read h v j ≡ n = omega arith in
+    let frames : origs ≡ frames_in h v n = frames_are ∙ ap (frames_in h v) count in
+    let marks : zeros ≡ marked_in h v n = marks_are ∙ ap (marked_in h v) count in
+    listed_data h v origs zeros frames marks rising
+
+data_are : (h : Hardware) (v : disk.Image) (load : Load) (t : ℕ) → HasReader h v load t → told h v (pages_read t) ≡ Some (info_in h v).image_pages → with_data load.origs.members load.zeros.members ≡ data_frames h v
+data_are h v load t read told_now = data_of h v (pages_read t) load.origs.members load.zeros.members read.reading.frames read.reading.marks read.reading.rising told_now
+
+room_is : (h : Hardware) (dump : Memory) (v : disk.Image) (loader : Loader) (have d : ℕ) → have ≡ length (left_free h dump loader) → d ≡ d_in h v → room_cause h dump v loader ≡ room_refusal have d
+room_is h dump v loader have d same count = ap₂ room_refusal (sym same) (sym count)
+
+-- the room at the step that reads the last number page, as it was tested
+room_tested : (machine : Machine) (frames : Memory) (load : Load) (c : disk.Content) (l : Resume) (v : disk.Image) (k : ℕ) → HasRead machine frames load c l v k → IsListed load → told machine.hw v (pages_read (k - 4)) ≡ None →
+    want_cause machine.hw l.dump v l.loader (place (k - 4)) ≡ room_refusal (length load.waiting.free) (length (with_data load.origs.members load.zeros.members))
+room_tested machine frames load c l v k read listed before =
+    let h = machine.hw in
+    let after = told_listed h v load (k - 4 + 1) read.read listed in
+    want_listed h l.dump v l.loader (k - 4) before after
+    ∙ room_is h l.dump v l.loader (length load.waiting.free) (length (with_data load.origs.members load.zeros.members)) (ap length read.loader.free) (ap length (data_are h v load (k - 4 + 1) read.read after) ∙ sym (count_is h v))
+
+content_of_room : (a w n : Option Reply) (r : Reply) → a ≡ None → w ≡ Some r → or_else (or_else a w) n ≡ Some r
+content_of_room a w n r none some = ap (λ (x : Option Reply). or_else (or_else x w) n) none ∙ ap (λ (x : Option Reply). or_else x n) some
+
+-- too little room
+pub few_row : (machine : Machine) (frames : Memory) (load load' : Load) (why : Reply) → ReadStopRow → CauseStops → IsListed load → room_refusal (length load.waiting.free) (length (with_data load.origs.members load.zeros.members)) ≡ Some why → load'.stage ≡ stage.Rest →
+    ListsOn machine frames load machine frames load' why
+few_row machine frames load load' why stops cause_stops listed refused rest c l v k read before waits =
+    let h = machine.hw in
+    let want = room_tested machine frames load c l v k read listed before ∙ refused in
+    let none = no_read_cause h v l.check (k - 4) read.sound in
+    let stop : IsStop why = cause_stops h l v (k - 4) why (content_of_room (read_cause h v l.check (place (k - 4))) (want_cause h l.dump v l.loader (place (k - 4))) (next_cause h v (k - 4)) why none want) in (
+      off nothing None,
+      leads machine frames load' why c c (loading l k) (off nothing None)
+          (stops h read.shown (shown_by machine frames load') c l v k why read.reading (room_reply h l.dump v l.loader l.check k why read.reading.late none want) stop (activity_is load' stage.Rest rest, refl)) tt,
+    )
+
+-- enough room: the places of the pages to come are planned
+pub planned_row : (machine : Machine) (frames : Memory) (load mid : Load) (machine' : Machine) (frames' : Memory) (load' : Load) (r : Reply) → IsListed load → mid ≡ record load { waiting = mid.waiting } → mid.waiting.originals ≡ with_data load.origs.members load.zeros.members → mid.waiting.free ≡ load.waiting.free → mid.waiting.loaded ≡ 0 →
+    room_refusal (length load.waiting.free) (length (with_data load.origs.members load.zeros.members)) ≡ None → ReadsOn machine frames mid machine' frames' load' r → ListsOn machine frames load machine' frames' load' r
+planned_row machine frames load mid machine' frames' load' r listed is originals free loaded room goes c l v k read before waits =
+    let h = machine.hw in
+    let told_now = told_listed h v load (k - 4 + 1) read.read listed in
+    let n = (info_in h v).image_pages in
+    let fewer : pages_read (k - 4 + 1) ≤ meta_in h v + 1 = elim (cases_lt 0 (pages_read (k - 4))) [
+      | inl some ↦ (let more = more_to_read h v (pages_read (k - 4)) (omega arith) before in omega arith)
+      | inr none ↦ omega arith
+    ] in
+    let check : mid.check ≡ load.check = ap (λ (x : Load). x.check) is in
+    goes c l v k
+    (record {
+      shown = read.shown;
+      whole = read.whole;
+      reading = read.reading;
+      loader = same_loader h load mid l free check read.loader;
+      found = found_still machine load mid c c l v (ap (λ (x : Load). x.header) is) (ap (λ (x : Load). x.mark) is) read.found.reads read.found;
+      sound = read.sound;
+      read = subst (λ (x : Load). HasReader h v x (k - 4 + 1)) (sym is) (record { reader = read.read.reader; has = read.read.has; reading = read.read.reading });
+      kept = read.kept;
+      made = ap (λ (x : Load). x.made) is ∙ read.made;
+    })
+    (record {
+      listed = told_now;
+      originals = originals ∙ data_are h v load (k - 4 + 1) read.read told_now;
+      loaded = loaded ∙ (let fewer = fewer in omega arith);
+      pages = ap (λ (n : ℕ). map (frame frames) (take n (sources mid.waiting.placement.moves))) loaded ∙ sym (ap (data_pages h v) loaded);
+    })
+    (room_tested machine frames load c l v k read listed before ∙ room)
+
+-- Pages are still to come.
+
+few_pages : (h : Hardware) (v : disk.Image) (load : Load) (t : ℕ) → HasReader h v load t → SavesFew load → told h v (pages_read t) ≡ Some (info_in h v).image_pages → (info_in h v).pages < 70000
+few_pages h v load t read few told_now =
+    let n = (info_in h v).image_pages in
+    let whole = read.reading.whole n (read.reading.listed ∙ told_now) in
+    let count = data_length h v in
+    let saved = few read.reader read.has in
+    let same = read.reading.saved in
+    let is = saved_is h v (pages_read t) (all_read h v (pages_read t) told_now).0 in
+    omega arith
+
+pub going_row : (machine : Machine) (frames : Memory) (load : Load) (m : ℕ) → ReadRow → GoneOnNext → SavesFew load → ((h : Hardware) (v : disk.Image) (t : ℕ) → HasReader h v load t → (2 ≤ t) × (t ≡ place_count (info_in h v).pages) → IsTrue false) → (load.made + 1 < 2 ^ 32 → m ≡ load.made + 1) →
+    ReadsOn machine frames load machine frames (record load { stage = stage.Read; made = m }) (reply.Loading m)
+going_row machine frames load m reads next few not_over counted c l v k read places room =
+    let h = machine.hw in
+    let late = read.reading.late in
+    let within = read.reading.within in
+    let two = two_places (info_in h v).pages in
+    let more : k - 4 + 1 < place_count (info_in h v).pages = elim (cases_lt (k - 4 + 1) (place_count (info_in h v).pages)) [
+      | inl lt ↦ lt
+      | inr le ↦ absurd (false≢true (not_over h v (k - 4 + 1) read.read (omega arith, omega arith)))
+    ] in
+    let goes = goes_reply h l.dump v l.loader l.check k late read.sound room more in
+    let small = few_pages h v load (k - 4 + 1) read.read few places.listed in
+    let made = read.made in
+    let m_is : m ≡ k + 1 = counted (omega arith) ∙ ap (λ (n : ℕ). n + 1) made in
+    let few_loaded : load.waiting.loaded ≤ length (data_frames h v) =
+    (let whole = read.read.reading.whole (info_in h v).image_pages (read.read.reading.listed ∙ places.listed) in let is = places.loaded in omega arith) in
+    let new = record load { stage = stage.Read; made = k + 1 } in
+    let at : k - 4 + 1 ≡ k + 1 - 4 = omega arith in
+    let shows : ShowsLoad h (shown_by machine frames new) l (k + 1) = record {
+      activity = refl;
+      kept = read.kept;
+      read = λ i own.
+          let holds = subst (IsFoundOn h v) own read.found.found in
+          let is : 4 + (k - 4 + 1) ≡ k + 1 = omega arith in
+          ap₂ zip places.originals places.pages
+          ∙ pages_are h v i (k - 4 + 1) load.waiting.loaded holds.0 holds.2 places.loaded few_loaded ∙ ap (λ (n : ℕ). take (data_read i n) (image.with_data i)) is;
+    } in
+    subst (λ (n : ℕ). LeadsOn machine frames (record load { stage = stage.Read; made = n }) (reply.Loading n) c l k) (sym m_is) (
+      loading l (k + 1),
+      leads machine frames new (reply.Loading (k + 1)) c c (loading l k) (loading l (k + 1))
+          (reads h read.shown (shown_by machine frames new) c l v k read.reading goes shows)
+          (record {
+            loader = same_loader h load new l refl refl read.loader;
+            knows = (
+              v,
+              found_still machine load new c c l v refl refl read.found.reads read.found,
+              next h l v k read.reading.gone_on goes,
+              omega arith,
+              record { reader = read.read.reader; has = read.read.has; reading = subst (λ (t : ℕ). stream.IsReading h v load.check read.read.reader t load.origs.members load.zeros.members) at read.read.reading },
+              subst (λ (t : ℕ). HavePlaces h v frames load.waiting t) at places,
+            );
+          }),
+    )
+
+-- a row that leads to what is there in the end
+pub reads_row_of : (machine : Machine) (frames : Memory) (load : Load) (machine' : Machine) (frames' : Memory) (load' end : Load) (r told : Reply) → end ≡ load' → told ≡ r → ReadsOn machine frames load machine' frames' load' r → ReadsOn machine frames load machine' frames' end told
+reads_row_of machine frames load machine' frames' load' end r told same reply row =
+    subst (λ (x : Load). ReadsOn machine frames load machine' frames' x told) (sym same) (subst (λ (q : Reply). ReadsOn machine frames load machine' frames' load' q) (sym reply) row)
+
+-- The reads of the pages.
+
+pub read_can : (machine : Machine) (frames : Memory) (runs : SlotRuns) (load : Load) → load.stage ≡ stage.Read → CanStep machine frames runs load → CanRead machine.blocks load × (4 ≤ load.made) × (load.waiting.placement.ready ≡ true)
+read_can machine frames runs load at can = subst (λ (s : Stage). CanMake s machine frames runs load) at can.next
+
+cause_stop : (x : Cause) → IsStop (reply_of x)
+cause_stop cause.NoChain = tt
+cause_stop (cause.BadBlock b) = tt
+cause_stop (cause.ChainEnds m) = tt
+cause_stop (cause.Mismatch f) = tt
+cause_stop (cause.MemorySize i o) = tt
+cause_stop (cause.BadCounts i p) = tt
+cause_stop (cause.BadPfn p) = tt
+cause_stop (cause.PfnOrder a b) = tt
+cause_stop (cause.PfnEnd f) = tt
+
+-- the image can't be read further
+pub refused_row : (machine : Machine) (frames : Memory) (load mid load' : Load) (result : ReadStep) (why : Cause) (c : disk.Content) → ReadStopRow → IsHardware machine.hw → load.stage ≡ stage.Read → 4 ≤ load.made → result ≡ read_step.Refused why →
+    ((v : disk.Image) (t : ℕ) → HasReader machine.hw v load t → Reads machine.hw v (Some c) → HasAnswered machine.hw v t result load mid) → load'.stage ≡ stage.Rest → IsRow machine frames load machine frames load' (event.Step actor.Core) (reply_of why) c c
+refused_row machine frames load mid load' result why c stops hardware at late is answers rest =
+    row_at_load machine frames load machine frames load' (event.Step actor.Core) (reply_of why) c c load.made (activity_is load stage.Read at)
+    (λ l s.
+    let h = machine.hw in
+    let k = load.made in
+    let knows = knows_at machine frames load c l k stage.Read at s in
+    let v = knows.0 in
+    let answered = answers v (k - 4) knows.4 knows.1.reads in
+    let a = subst (λ (x : ReadStep). Answers h v load.check (k - 4) x answered.before answered.after mid.origs.members mid.zeros.members mid.page) is answered.answers in
+    let cause : step_cause h v l.check (k - 4) ≡ Some (reply_of why) = subst (λ (x : IdentCheck). step_cause h v x (k - 4) ≡ Some (reply_of why)) s.resume.loader.check a.0 in
+    let want = no_want_after h l.dump v l.loader (k - 4) knows.5.listed in (
+      off nothing None,
+      leads machine frames load' (reply_of why) c c (loading l k) (off nothing None)
+          (stops h (shown_by machine frames load) (shown_by machine frames load') c l v k (reply_of why)
+          (record { hardware = hardware; late = late; within = knows.3; stands = s.stands; found = knows.1.found; gone_on = knows.2 })
+          (stops_reply h l.dump v l.loader l.check k (reply_of why) late cause want) (cause_stop why) (activity_is load' stage.Rest rest, refl)) tt,
+    ))
+
+-- what the step leaves of the places, for the places before
+abbrev pub KeepsPlaces : Hardware → Memory → Awaiting → Memory → Awaiting → Load → Load → ReadStep → Type 0
+KeepsPlaces h frames waiting frames' waiting' load mid result =
+    (v : disk.Image) (t : ℕ) → HasReader h v load t → HasAnswered h v t result load mid → t < place_count (info_in h v).pages → HavePlaces h v frames waiting t → HavePlaces h v frames' waiting' (t + 1)
+
+-- the row of a read, with the places as they are afterwards
+pub read_on_row : (machine : Machine) (frames frames' : Memory) (load mid after : Load) (machine' : Machine) (frames'' : Memory) (load' : Load) (result : ReadStep) (r : Reply) (c : disk.Content) → IsHardware machine.hw → load.stage ≡ stage.Read → 4 ≤ load.made → machine'.hw ≡ machine.hw → disk.IsContent machine.blocks c →
+    mid ≡ record load { reader = mid.reader; origs = mid.origs; zeros = mid.zeros; page = mid.page } → after ≡ record mid { waiting = after.waiting } → after.waiting.free ≡ mid.waiting.free → HasNoCause result →
+    ((p : ℕ) → (Contains load.waiting.free p → ⊥) → frame frames' p ≡ frame frames p) →
+    ((v : disk.Image) (t : ℕ) → HasReader machine.hw v load t → Reads machine.hw v (Some c) → HasAnswered machine.hw v t result load mid) → KeepsPlaces machine.hw frames load.waiting frames' after.waiting load mid result →
+    ReadsOn machine frames' after machine' frames'' load' r → IsRow machine frames load machine' frames'' load' (event.Step actor.Core) r c c
+read_on_row machine frames frames' load mid after machine' frames'' load' result r c hardware at late same whole is is' free none others answers keeps goes =
+    row_at_load machine frames load machine' frames'' load' (event.Step actor.Core) r c c load.made (activity_is load stage.Read at)
+    (λ l s.
+    let h = machine.hw in
+    let knows = knows_at machine frames load c l load.made stage.Read at s in
+    let v = knows.0 in
+    let t = load.made - 4 in
+    let was = knows.4 in
+    let within : t < place_count (info_in h v).pages = (let lt = knows.3 in omega arith) in
+    let check : mid.check ≡ load.check = ap (λ (x : Load). x.check) is in
+    let check' : after.check ≡ load.check = ap (λ (x : Load). x.check) is' ∙ check in
+    let waiting : mid.waiting ≡ load.waiting = ap (λ (x : Load). x.waiting) is in
+    let free' : after.waiting.free ≡ load.waiting.free = free ∙ ap (λ (w : Awaiting). w.free) waiting in
+    let answered = answers v t was knows.1.reads in
+    let read = read_on h v t result load mid check was within none answered in
+    let led = goes c l v load.made
+    (record {
+      shown = shown_by machine frames load;
+      whole = whole;
+      reading = record { hardware = hardware; late = late; within = knows.3; stands = s.stands; found = knows.1.found; gone_on = knows.2 };
+      loader = same_loader h load after l free' check' s.resume.loader;
+      found = found_still machine load after c c l v (ap (λ (x : Load). x.header) is' ∙ ap (λ (x : Load). x.header) is) (ap (λ (x : Load). x.mark) is' ∙ ap (λ (x : Load). x.mark) is) knows.1.reads knows.1;
+      sound = subst (λ (x : IdentCheck). step_cause h v x t ≡ None) s.resume.loader.check read.0;
+      read = subst (λ (x : Load). HasReader h v x (t + 1)) (sym is') (record { reader = read.1.reader; has = read.1.has; reading = read.1.reading });
+      kept = λ p lt not. others p (λ has. not (subst (λ (ps : List ℕ). Contains ps p) s.resume.loader.free has)) ∙ s.stands.parts.1.kept p lt not;
+      made = ap (λ (x : Load). x.made) is' ∙ ap (λ (x : Load). x.made) is;
+    })
+    (keeps v t was answered within knows.5)
+    (no_want_after h l.dump v l.loader t knows.5.listed) in (
+      led.0,
+      subst (λ (x : Hardware). rows.Leads x (StandsFor machine' frames'' load') (event.Step actor.Core) r c c (loading l load.made) led.0) same led.1,
+    ))
+
+-- the place of a page behind the last number page: it is one with data, of those that the numbers name
+pub record IsDataPlace (h : Hardware) (v : disk.Image) (t : ℕ) : Type 0 where
+  pub behind : meta_in h v < pages_read t
+  pub within : pages_read t - 1 - meta_in h v < length (data_frames h v)
+
+data_place : (h : Hardware) (v : disk.Image) (load : Load) (t : ℕ) → HasReader h v load t → told h v (pages_read t) ≡ Some (info_in h v).image_pages → t < place_count (info_in h v).pages → (t % 512 ≡ 0 → ⊥) → IsDataPlace h v t
+data_place h v load t read told_now within page =
+    let n = (info_in h v).image_pages in
+    let all = all_read h v (pages_read t) told_now in
+    let least = all.1 in
+    let some = all.0 in
+    let whole = read.reading.whole n (read.reading.listed ∙ told_now) in
+    let left = pages_left t (info_in h v).pages page within in
+    record { behind = omega arith; within = omega arith }
+
+-- a map leaves the places, and a page gets its own
+map_leaves : (h : Hardware) (v : disk.Image) (frames : Memory) (waiting : Awaiting) (t : ℕ) → t % 512 ≡ 0 → HavePlaces h v frames waiting t → HavePlaces h v frames waiting (t + 1)
+map_leaves h v frames waiting t map places =
+    let same = read_at_map t map in
+    record {
+      listed = ap (told h v) same ∙ places.listed;
+      originals = places.originals;
+      loaded = places.loaded ∙ ap (λ (j : ℕ). j - 1 - meta_in h v) (sym same);
+      pages = places.pages;
+    }
+
+some_frame : (h : Hardware) (v : disk.Image) (t : ℕ) → IsDataPlace h v t → (t % 512 ≡ 0 → ⊥) → frame_at h v (place t) ≡ None → ⊥
+some_frame h v t at page none =
+    let is : frame_at h v (place t) ≡ Some (get_or (data_frames h v) (pages_read t - 1 - meta_in h v) 0) =
+    ap (frame_at h v) (at_page t page)
+    ∙ cond-true (ltb (meta_in h v) (pages_read t)) (slice_get (data_frames h v) (pages_read t - 1 - meta_in h v)) None (lt-ltb (meta_in h v) (pages_read t) at.behind)
+    ∙ slice_get-get_or (data_frames h v) (pages_read t - 1 - meta_in h v) 0 at.within in
+    none-some (get_or (data_frames h v) (pages_read t - 1 - meta_in h v) 0) (sym none ∙ is)
+
+pub map_keeps : (h : Hardware) (frames : Memory) (waiting : Awaiting) (load mid : Load) (result : ReadStep) → ((k : ℕ) × (result ≡ read_step.More k)) ⊎ (result ≡ read_step.Done) → KeepsPlaces h frames waiting frames waiting load mid result
+map_keeps h frames waiting load mid result is v t read answered within places = elim is [
+  | inl more ↦ elim (eqb_tells (t % 512) 0) [
+    | inl map ↦ map_leaves h v frames waiting t map.1 places
+    | inr page ↦ (
+        let a = subst (λ (s : ReadStep). Answers h v load.check t s answered.before answered.after mid.origs.members mid.zeros.members mid.page) more.1 answered.answers in
+        absurd (some_frame h v t (data_place h v load t read places.listed within page.1) page.1 a.2))
+  ]
+  | inr done ↦ (
+      let a = subst (λ (s : ReadStep). Answers h v load.check t s answered.before answered.after mid.origs.members mid.zeros.members mid.page) done answered.answers in
+      let same : answered.before ≡ read.reader = same_Some answered.before read.reader (sym answered.was ∙ read.has) in
+      absurd (not_over h v load t read within (subst IsOver same a.0)))
+]
+
+page_placed : (h : Hardware) (v : disk.Image) (frames frames' : Memory) (waiting waiting' : Awaiting) (load : Load) (t : ℕ) (page : List ℕ) → HasReader h v load t → HavePlaces h v frames waiting t → (t % 512 ≡ 0 → ⊥) → IsDataPlace h v t → page ≡ disk.block v (place_block h v (place t)) → waiting'.originals ≡ waiting.originals →
+    (waiting.loaded < length waiting.originals → waiting_pages frames' waiting' ≡ waiting_pages frames waiting ++ page ∷ []) → (waiting.loaded < length waiting.originals → waiting'.loaded ≡ waiting.loaded + 1) → HavePlaces h v frames' waiting' (t + 1)
+page_placed h v frames frames' waiting waiting' load t page read places here at is originals placed counted =
+    let j = pages_read t in
+    let n = (info_in h v).image_pages in
+    let next = read_at_page t here in
+    let behind = at.behind in
+    let index = places.loaded in
+    let count = ap length places.originals in
+    let inside = at.within in
+    let below : waiting.loaded < length waiting.originals = omega arith in
+    let all = all_read h v j places.listed in
+    let enough = all.1 in
+    let numbers : numbers_read h v (pages_read (t + 1)) ≡ n = (let saved = saved_is h v (pages_read (t + 1)) (omega arith) in omega arith) in
+    let loaded = counted below in
+    let this : j ≡ 1 + meta_in h v + waiting.loaded = omega arith in
+    let stream_at : page ≡ data_page h v waiting.loaded = is ∙ ap (λ (x : Place). disk.block v (place_block h v x)) (at_page t here) ∙ ap (stream_page h v) this in
+    record {
+      listed = told_all h v (pages_read (t + 1)) (omega arith) numbers;
+      originals = originals ∙ places.originals;
+      loaded = loaded ∙ (let e : waiting.loaded + 1 ≡ pages_read (t + 1) - 1 - meta_in h v = omega arith in e);
+      pages =
+          placed below
+          ∙ ap₂ (λ (xs : List (List ℕ)) (x : List ℕ). xs ++ x ∷ []) places.pages stream_at
+          ∙ sym (map-range_with_len_more (data_page h v) 0 waiting.loaded waiting.loaded (omega arith))
+          ∙ sym (ap (data_pages h v) loaded);
+    }
+
+pub page_keeps : (h : Hardware) (frames frames' : Memory) (waiting waiting' : Awaiting) (load mid : Load) (result : ReadStep) (pfn : ℕ) → result ≡ read_step.Page pfn → waiting'.originals ≡ waiting.originals →
+    (waiting.loaded < length waiting.originals → waiting_pages frames' waiting' ≡ waiting_pages frames waiting ++ mid.page ∷ []) → (waiting.loaded < length waiting.originals → waiting'.loaded ≡ waiting.loaded + 1) → KeepsPlaces h frames waiting frames' waiting' load mid result
+page_keeps h frames frames' waiting waiting' load mid result pfn is originals placed counted v t read answered within places =
+    let a = subst (λ (s : ReadStep). Answers h v load.check t s answered.before answered.after mid.origs.members mid.zeros.members mid.page) is answered.answers in
+    elim (eqb_tells (t % 512) 0) [
+      | inl map ↦ absurd (none-some pfn (ap (frame_at h v) (sym (at_map t map.1)) ∙ a.2))
+      | inr page ↦ page_placed h v frames frames' waiting waiting' load t mid.page read places page.1 (data_place h v load t read places.listed within page.1) a.3 originals placed counted
+    ]
+
+-- only what waits has changed
+pub waiting_only : (mid after : Load) (w : Awaiting) → after ≡ record mid { waiting = w } → after ≡ record mid { waiting = after.waiting }
+waiting_only mid after w is = is ∙ ap (λ (x : Awaiting). record mid { waiting = x }) (sym (ap (λ (x : Load). x.waiting) is))
+
+pub no_page : (result : ReadStep) → ((k : ℕ) × (result ≡ read_step.More k)) ⊎ (result ≡ read_step.Done) → HasNoCause result
+no_page result is = elim is [ inl more ↦ inl more | inr done ↦ inr (inr done) ]
+
+-- A refusal before all is listed, or behind the last number page.
+
+first_cause : (a w n : Option Reply) (x r : Reply) → a ≡ Some x → or_else a n ≡ Some r → or_else (or_else a w) n ≡ Some r
+first_cause a w n x r e some = ap (λ (y : Option Reply). or_else (or_else y w) n) e ∙ sym (ap (λ (y : Option Reply). or_else y n) e) ∙ some
+
+with_room : (a w n : Option Reply) (r : Reply) → w ≡ None → or_else a n ≡ Some r → or_else (or_else a w) n ≡ Some r
+with_room None w n r none some = ap (λ (y : Option Reply). or_else y n) none ∙ some
+with_room (Some x) w n r none some = some
+
+abbrev pub all_causes : Hardware → Memory → disk.Image → Loader → IdentCheck → ℕ → Option Reply
+all_causes h dump v loader check t = or_else (content_cause h dump v loader check (place t)) (next_cause h v t)
+
+behind_room : (h : Hardware) (dump : Memory) (v : disk.Image) (loader : Loader) (check : IdentCheck) (t have d n : ℕ) (why : Cause) → step_cause h v check t ≡ Some (reply_of why) → read_cause h v check (place t) ≡ None → want_cause h dump v loader (place t) ≡ room_refusal have d →
+    all_causes h dump v loader check t ≡ Some (refusal_behind (Some n) have d why)
+behind_room h dump v loader check t have d n why some none want = by (room_refusal have d) refl where
+  by : (o : Option Reply) → room_refusal have d ≡ o → all_causes h dump v loader check t ≡ Some (refusal_behind (Some n) have d why)
+  by None e =
+      with_room (read_cause h v check (place t)) (want_cause h dump v loader (place t)) (next_cause h v t) (reply_of why) (want ∙ e) some
+      ∙ ap (λ (r : Reply). Some r) (refusal_cause (Some n) have d why e)
+  by (Some few) e =
+      content_of_room (read_cause h v check (place t)) (want_cause h dump v loader (place t)) (next_cause h v t) few none (want ∙ e)
+      ∙ ap (λ (r : Reply). Some r) (refusal_few (Some n) have d why few refl e)
+
+-- what the answer is, by what the reader has listed then
+pub refusal_is : (h : Hardware) (dump : Memory) (v : disk.Image) (loader : Loader) (check : IdentCheck) (t have d : ℕ) (listed : Option ℕ) (why : Cause) → step_cause h v check t ≡ Some (reply_of why) → listed ≡ told_after h v check t → told h v (pages_read t) ≡ None →
+    have ≡ length (left_free h dump loader) → ((n : ℕ) → listed ≡ Some n → d ≡ d_in h v) → all_causes h dump v loader check t ≡ Some (refusal_behind listed have d why)
+refusal_is h dump v loader check t have d listed why some is before free count = by_read (read_cause h v check (place t)) refl where
+  by_told : (o : Option ℕ) → told h v (pages_read (t + 1)) ≡ o → listed ≡ told h v (pages_read (t + 1)) → read_cause h v check (place t) ≡ None → all_causes h dump v loader check t ≡ Some (refusal_behind listed have d why)
+  by_told None e same none =
+      with_room (read_cause h v check (place t)) (want_cause h dump v loader (place t)) (next_cause h v t) (reply_of why) (no_want_before h dump v loader t e) some
+      ∙ ap (λ (o : Option ℕ). Some (refusal_behind o have d why)) (sym (same ∙ e))
+  by_told (Some n) e same none =
+      let all = told_some h v (pages_read (t + 1)) (subst IsSome (sym e) refl) in
+      behind_room h dump v loader check t have d n why some none (want_listed h dump v loader t before all ∙ room_is h dump v loader have d free (count n (same ∙ e)))
+      ∙ ap (λ (o : Option ℕ). Some (refusal_behind o have d why)) (sym (same ∙ e))
+
+  by_read : (o : Option Reply) → read_cause h v check (place t) ≡ o → all_causes h dump v loader check t ≡ Some (refusal_behind listed have d why)
+  by_read None e = by_told (told h v (pages_read (t + 1))) refl (is ∙ ap (λ (o : Option Reply). cond (is_none o) (told h v (pages_read (t + 1))) (told h v (pages_read t))) e) e
+  by_read (Some x) e =
+      first_cause (read_cause h v check (place t)) (want_cause h dump v loader (place t)) (next_cause h v t) x (reply_of why) e some
+      ∙ ap (λ (o : Option ℕ). Some (refusal_behind o have d why)) (sym (is ∙ ap (λ (o : Option Reply). cond (is_none o) (told h v (pages_read (t + 1))) (told h v (pages_read t))) e ∙ before))
+
+pub refused_list_row : (machine : Machine) (frames : Memory) (load mid load' : Load) (result : ReadStep) (why : Cause) (r : Reply) (c : disk.Content) → ReadStopRow → CauseStops → IsHardware machine.hw → load.stage ≡ stage.List → 4 ≤ load.made →
+    mid ≡ record load { reader = mid.reader; origs = mid.origs; zeros = mid.zeros; page = mid.page } → result ≡ read_step.Refused why →
+    ((v : disk.Image) (t : ℕ) → HasReader machine.hw v load t → Reads machine.hw v (Some c) → HasAnswered machine.hw v t result load mid) →
+    ((q : Reading) → mid.reader ≡ Some q → r ≡ refusal_behind q.listed (length mid.waiting.free) (length (with_data mid.origs.members mid.zeros.members)) why) → load'.stage ≡ stage.Rest → IsRow machine frames load machine frames load' (event.Step actor.Core) r c c
+refused_list_row machine frames load mid load' result why r c stops cause_stops hardware at late is refused answers reply rest =
+    row_at_load machine frames load machine frames load' (event.Step actor.Core) r c c load.made (activity_is load stage.List at)
+    (λ l s.
+    let h = machine.hw in
+    let k = load.made in
+    let knows = knows_at machine frames load c l k stage.List at s in
+    let v = knows.0 in
+    let answered = answers v (k - 4) knows.4 knows.1.reads in
+    let a = subst (λ (x : ReadStep). Answers h v load.check (k - 4) x answered.before answered.after mid.origs.members mid.zeros.members mid.page) refused answered.answers in
+    let checks = s.resume.loader.check in
+    let free : length mid.waiting.free ≡ length (left_free h l.dump l.loader) = ap (λ (x : Load). length x.waiting.free) is ∙ ap length s.resume.loader.free in
+    let causes : all_causes h l.dump v l.loader load.check (k - 4) ≡ Some r =
+    refusal_is h l.dump v l.loader load.check (k - 4) (length mid.waiting.free) (length (with_data mid.origs.members mid.zeros.members)) answered.after.listed why a.0 a.1 knows.5 free
+    (λ n listed. let sets = a.2 n listed in ap length (listed_data h v mid.origs.members mid.zeros.members sets.frames sets.marks sets.rising) ∙ sym (count_is h v))
+    ∙ ap (λ (x : Reply). Some x) (sym (reply answered.after answered.has)) in
+    let cause : all_causes h l.dump v l.loader l.check (k - 4) ≡ Some r = subst (λ (x : IdentCheck). all_causes h l.dump v l.loader x (k - 4) ≡ Some r) checks causes in (
+      off nothing None,
+      leads machine frames load' r c c (loading l k) (off nothing None)
+          (stops h (shown_by machine frames load) (shown_by machine frames load') c l v k r
+          (record { hardware = hardware; late = late; within = knows.3; stands = s.stands; found = knows.1.found; gone_on = knows.2 })
+          (late_reply h l.dump v l.loader l.check k late ∙ ap (λ (o : Option Reply). unwrap_or o (reply_past h l.dump v l.loader (k - 4))) cause)
+          (cause_stops h l v (k - 4) r cause) (activity_is load' stage.Rest rest, refl)) tt,
+    ))

@@ -1,0 +1,154 @@
+-- The rows of the header block taken back, and of the sync behind it.
+use Rattle.std.proofs.Common.{◌≡◌, ℕ, inl, List, [], Option, Some, None, unwrap_or, refl, sym, ap, ◌∙◌, subst, arith}
+use Rattle.definitions.specs.Disk as disk
+use Rattle.definitions.specs.SwapHeader.{taken_back}
+use Rattle.definitions.proofs.DiskLaws.{as_it_reads-settled}
+use Rattle.image_read.specs.Answers.{Reads}
+use Rattle.image_read.specs.Reading.{Reading}
+use Rattle.image_read.specs.Stream as stream
+use Rattle.image_laws.specs.ImageBlocks.{Tries}
+use Rattle.plain_machine.specs.Machine.{Hardware, Memory, IsHardware, block_of_slot}
+use Rattle.plain_machine.specs.Chain.{header_of, blocks_of}
+use Rattle.sig_header.specs.AreaKind.{mark_of}
+use Rattle.plain_machine.specs.State.{off, loading, nothing, perhaps, held_while_loading, Load as Resume}
+use Rattle.plain_machine.specs.Trace.{info_in, taken_back_cause}
+use Rattle.plain_machine.specs.declared.event.Event.TheVariants as event
+use Rattle.plain_machine.specs.declared.event.Actor.TheVariants as actor
+use Rattle.plain_machine.specs.declared.event.IdentCheck.{IdentCheck}
+use Rattle.plain_machine.specs.declared.reply.Reply.{Reply}
+use Rattle.plain_machine.specs.declared.reply.Reply.TheVariants as reply
+use Rattle.plain_machine.specs.declared.reply.Left.TheVariants.{Unsure}
+use Rattle.protocol_laws.specs.LoadRows.{TakeBackRow, TakeBackFaultRow, BackSyncRow, BackSyncStopRow, BackSyncFaultRow, ShowsNoneRead, GoneOnNext}
+use Rattle.protocol_laws.proofs.Same.{reads_kept}
+use Rattle.image_read.proofs.Places.{two_places}
+use Rattle.machine.specs.declared.machine.Machine.{Machine}
+use Rattle.resume_core.specs.Loading.{shown_by}
+use Rattle.swap_slots.specs.Runs.{SlotRuns}
+use Rattle.resume_core.specs.Ready.{CanStep, CanMake, NoneListed}
+use Rattle.resume_core.specs.declared.load.Stage.{Stage}
+use Rattle.resume_core.specs.Row.{IsRow, HasFound}
+use Rattle.resume_core.specs.declared.load.Load.{Load}
+use Rattle.resume_core.specs.declared.load.Stage.TheVariants as stage
+use Rattle.resume_core.proofs.Facts.{row_at_load, leads, same_loader, shows_none}
+use Rattle.resume_core.proofs.Finding.{stopped, knows_at, activity_is}
+
+-- the header of the disk v has the mark that was found, and v as many blocks as the machine knows of
+pub record HasFoundMark (machine : Machine) (load : Load) (v : disk.Image) : Type 0 where
+  pub mark : load.mark ≡ mark_of (header_of machine.hw v)
+  pub blocks : machine.blocks ≡ blocks_of v
+
+-- the image is found still, at another content
+pub found_still : (machine : Machine) (load load' : Load) (c c' : disk.Content) (l : Resume) (v : disk.Image) → load'.header ≡ load.header → load'.mark ≡ load.mark → Reads machine.hw v (Some c') → HasFound machine load c l v → HasFound machine load' c' l v
+found_still machine load load' c c' l v header mark reads found = record {
+  found = found.found;
+  uncaused = found.uncaused;
+  header = header ∙ found.header;
+  mark = mark ∙ found.mark;
+  reads = reads;
+  blocks = found.blocks;
+}
+
+reads_after : (h : Hardware) (v : disk.Image) (page : List ℕ) (c c' : disk.Content) → Reads h v (Some c) → Tries (block_of_slot h 0) page c c' → Reads h v (Some c')
+reads_after h v page c c' reads tries = λ b lt apart. reads_kept (block_of_slot h 0) b page c c' tries apart ∙ reads b lt apart
+
+reads_synced : (h : Hardware) (v : disk.Image) (c c' : disk.Content) → Reads h v (Some c) → disk.Syncs c c' → Reads h v (Some c')
+reads_synced h v c c' reads syncs =
+    let same : disk.as_it_reads c' ≡ disk.as_it_reads c = ap disk.as_it_reads syncs ∙ as_it_reads-settled (disk.as_it_reads c) in
+    λ b lt apart. ap (λ (w : disk.Image). disk.block w b) same ∙ reads b lt apart
+
+pub back_row : (machine : Machine) (frames : Memory) (load : Load) (c c' : disk.Content) → TakeBackRow → ShowsNoneRead → GoneOnNext → IsHardware machine.hw → load.stage ≡ stage.TakeBack → disk.IsContent machine.blocks c → disk.IsContent machine.blocks c' →
+    disk.Writes (block_of_slot machine.hw 0) (taken_back load.header) c c' → IsRow machine frames load machine frames (record load { stage = stage.SyncBack }) (event.Step actor.Core) (reply.Loading 3) c c'
+back_row machine frames load c c' made none_read next hardware at whole whole' writes =
+    let new = record load { stage = stage.SyncBack } in
+    row_at_load machine frames load machine frames new (event.Step actor.Core) (reply.Loading 3) c c' 2 (activity_is load stage.TakeBack at)
+    (λ l s.
+    let knows = knows_at machine frames load c l 2 stage.TakeBack at s in (
+      loading l 3,
+      leads machine frames new (reply.Loading 3) c c' (loading l 2) (loading l 3)
+          (made machine.hw (shown_by machine frames load) (shown_by machine frames new) c c' machine.blocks l knows.0 hardware whole whole' s.stands knows.1.found knows.2 writes
+          (shows_none machine frames load new c l l 2 3 none_read s refl refl refl (omega arith) knows.5))
+          (record {
+            loader = same_loader machine.hw load new l refl refl s.resume.loader;
+            knows = (
+              knows.0,
+              found_still machine load new c c' l knows.0 refl refl (reads_after machine.hw knows.0 (taken_back load.header) c c' knows.1.reads (inl writes)) knows.1,
+              next machine.hw l knows.0 2 knows.2 refl,
+              knows.3,
+              knows.4,
+              knows.5,
+            );
+          }),
+    ))
+
+pub back_failed_row : (machine : Machine) (frames : Memory) (load : Load) (c c' : disk.Content) → TakeBackFaultRow → IsHardware machine.hw → load.stage ≡ stage.TakeBack → disk.IsContent machine.blocks c → disk.IsContent machine.blocks c' →
+    disk.FailsToWrite (block_of_slot machine.hw 0) (taken_back load.header) c c' → IsRow machine frames load machine frames (stopped load) (event.Step actor.Core) (reply.WriteFault Unsure) c c'
+back_failed_row machine frames load c c' failed hardware at whole whole' tries =
+    row_at_load machine frames load machine frames (stopped load) (event.Step actor.Core) (reply.WriteFault Unsure) c c' 2 (activity_is load stage.TakeBack at)
+    (λ l s.
+    let knows = knows_at machine frames load c l 2 stage.TakeBack at s in (
+      off (perhaps (held_while_loading l 2)) None,
+      leads machine frames (stopped load) (reply.WriteFault Unsure) c c' (loading l 2) (off (perhaps (held_while_loading l 2)) None)
+          (failed machine.hw (shown_by machine frames load) (shown_by machine frames (stopped load)) c c' machine.blocks l knows.0 hardware whole whole' s.stands knows.1.found tries (refl, refl)) tt,
+    ))
+
+-- The sync.
+
+abbrev pub opened : Load → Reading → Load
+opened load r = record load { reader = Some r; made = 4; stage = stage.List }
+
+pub opened_row : (machine : Machine) (frames : Memory) (load : Load) (r : Reading) (c c' : disk.Content) → BackSyncRow → ShowsNoneRead → GoneOnNext → IsHardware machine.hw → load.stage ≡ stage.SyncBack → disk.IsContent machine.blocks c → disk.Syncs c c' →
+    ((v : disk.Image) → HasFoundMark machine load v → (taken_back_cause machine.hw v ≡ None) × ((check : IdentCheck) → stream.IsReading machine.hw v check r 0 [] [])) →
+    IsRow machine frames load machine frames (opened load r) (event.Step actor.Core) (reply.Loading 4) c c'
+opened_row machine frames load r c c' synced none_read next hardware at whole syncs opens =
+    let new = opened load r in
+    row_at_load machine frames load machine frames new (event.Step actor.Core) (reply.Loading 4) c c' 3 (activity_is load stage.SyncBack at)
+    (λ l s.
+    let knows = knows_at machine frames load c l 3 stage.SyncBack at s in
+    let v = knows.0 in
+    let opened_at = opens v (record { mark = knows.1.mark; blocks = sym knows.1.blocks }) in (
+      loading l 4,
+      leads machine frames new (reply.Loading 4) c c' (loading l 3) (loading l 4)
+          (synced machine.hw (shown_by machine frames load) (shown_by machine frames new) c c' machine.blocks l v hardware whole s.stands knows.1.found knows.2 syncs opened_at.0
+          (shows_none machine frames load new c l l 3 4 none_read s refl refl refl (omega arith) knows.5))
+          (record {
+            loader = same_loader machine.hw load new l refl refl s.resume.loader;
+            knows = (
+              v,
+              found_still machine load new c c' l v refl refl (reads_synced machine.hw v c c' knows.1.reads syncs) knows.1,
+              next machine.hw l v 3 knows.2 (ap (λ (o : Option Reply). unwrap_or o (reply.Loading 4)) opened_at.0),
+              (let two = two_places (info_in machine.hw v).pages in omega arith),
+              record {
+                reader = r;
+                has = refl;
+                reading = subst (λ (zs : List ℕ). stream.IsReading machine.hw v load.check r 0 load.origs.members zs) (sym knows.4) (subst (λ (os : List ℕ). stream.IsReading machine.hw v load.check r 0 os []) (sym knows.3) (opened_at.1 load.check));
+              },
+              refl,
+              knows.5,
+            );
+          }),
+    ))
+
+pub back_stopped_row : (machine : Machine) (frames : Memory) (load : Load) (c c' : disk.Content) (why : Reply) → BackSyncStopRow → IsHardware machine.hw → load.stage ≡ stage.SyncBack → disk.IsContent machine.blocks c → disk.Syncs c c' →
+    ((v : disk.Image) → HasFoundMark machine load v → taken_back_cause machine.hw v ≡ Some why) → IsRow machine frames load machine frames (stopped load) (event.Step actor.Core) why c c'
+back_stopped_row machine frames load c c' why stops hardware at whole syncs cause =
+    row_at_load machine frames load machine frames (stopped load) (event.Step actor.Core) why c c' 3 (activity_is load stage.SyncBack at)
+    (λ l s.
+    let knows = knows_at machine frames load c l 3 stage.SyncBack at s in
+    let v = knows.0 in (
+      off nothing None,
+      leads machine frames (stopped load) why c c' (loading l 3) (off nothing None)
+          (stops machine.hw (shown_by machine frames load) (shown_by machine frames (stopped load)) c c' machine.blocks l v why hardware whole s.stands knows.1.found knows.2 syncs
+          (cause v (record { mark = knows.1.mark; blocks = sym knows.1.blocks })) (refl, refl)) tt,
+    ))
+
+pub back_sync_failed_row : (machine : Machine) (frames : Memory) (load : Load) (c : disk.Content) → BackSyncFaultRow → load.stage ≡ stage.SyncBack → IsRow machine frames load machine frames (stopped load) (event.Step actor.Core) (reply.SyncFault Unsure) c c
+back_sync_failed_row machine frames load c failed at =
+    row_at_load machine frames load machine frames (stopped load) (event.Step actor.Core) (reply.SyncFault Unsure) c c 3 (activity_is load stage.SyncBack at)
+    (λ l s. (
+      off (perhaps (held_while_loading l 2)) None,
+      leads machine frames (stopped load) (reply.SyncFault Unsure) c c (loading l 3) (off (perhaps (held_while_loading l 2)) None)
+          (failed machine.hw (shown_by machine frames load) (shown_by machine frames (stopped load)) c l s.stands (refl, refl)) tt,
+    ))
+
+pub empty_at : (machine : Machine) (frames : Memory) (runs : SlotRuns) (load : Load) → load.stage ≡ stage.SyncBack → CanStep machine frames runs load → NoneListed load
+empty_at machine frames runs load at can = subst (λ (s : Stage). CanMake s machine frames runs load) at can.next

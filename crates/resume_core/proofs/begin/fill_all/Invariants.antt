@@ -1,0 +1,12 @@
+use Rattle.std.proofs.Common.{◌≡◌, ◌<◌, ℕ, List, length}
+use Rattle.definitions.specs.Bytes.{filled_page}
+use Rattle.definitions.specs.Tables.{frame}
+use Rattle.resume_core.proofs.begin.fill_all.Given as goal
+
+-- those before p are filled
+pub record IsFilledTo (old now : List (List ℕ)) (p : ℕ) : Type 0 where
+  pub filled : (q : ℕ) → q < p → frame now q ≡ filled_page 165
+  pub size : length now ≡ length old
+
+abbrev pub invariant-loop-p : goal.invariant-loop-p
+invariant-loop-p l = IsFilledTo l.fn.frames l.frames l.p

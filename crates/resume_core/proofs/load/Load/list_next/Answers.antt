@@ -1,0 +1,52 @@
+use Rattle.std.proofs.Common.{refl, sym, ap, ◌∙◌, subst}
+use Rattle.plain_machine.specs.declared.reply.Reply.TheVariants as reply
+use Rattle.plain_machine.specs.declared.reply.Left.TheVariants.{Gone}
+use Rattle.image_read.specs.Answers.{Reads}
+use Rattle.resume_core.specs.declared.load.Load.{Load}
+use Rattle.resume_core.specs.declared.load.Stage.TheVariants as stage
+use Rattle.resume_core.proofs.Facts.{content_of, row_of}
+use Rattle.resume_core.proofs.Finding.{activity_is}
+use Rattle.resume_core.proofs.Listing.{read_failed_row, listed_on, list_can}
+use Rattle.resume_core.proofs.Placing.{refused_list_row}
+use Rattle.resume_core.proofs.load.Load.list_next.Goals as goal
+
+pub returns-in-Fault-clause-row : goal.returns-in-Fault-clause-row
+returns-in-Fault-clause-row g c = λ k told. (
+  k,
+  c.read_block.ensures.content ∙ told,
+  row_of c.args.machine.now c.args.frames.now c.args.self.now c.args.machine.now c.args.frames.now _ c.stop.new.self (reply.ReadFault Gone) c.stop.result k k c.stop.ensures.load c.stop.ensures.reply
+      (read_failed_row c.args.machine.now c.args.frames.now c.args.self.now _ k c.reads_in_rows.ensures.failed (activity_is c.args.self.now stage.List c.requires.stage) (list_can c.args.machine.now c.args.frames.now c.args.runs.now c.args.self.now c.requires.stage c.requires.ready).1 refl),
+)
+
+pub returns-in-Refused-clause-row : goal.returns-in-Refused-clause-row
+returns-in-Refused-clause-row g c = λ k told. (
+  k,
+  c.read_block.ensures.content ∙ told,
+  refused_list_row c.args.machine.now c.args.frames.now c.args.self.now c.read_block.new.self c.refuse_listing.new.self c.read_block.result c.in-Refused.cause c.refuse_listing.result k c.reads_in_rows.ensures.stopped c.meets_rows.ensures.cause c.requires.ready.over.hardware c.requires.stage
+      (list_can c.args.machine.now c.args.frames.now c.args.runs.now c.args.self.now c.requires.stage c.requires.ready).1 c.read_block.ensures.load c.in-Refused.is
+      (λ v t has reads. c.read_block.ensures.answers v t has (subst (Reads c.args.machine.now.hw v) (sym told) reads))
+      c.refuse_listing.ensures.reply (ap (λ (x : Load). x.stage) c.refuse_listing.ensures.load),
+)
+
+pub returns-in-More : goal.returns-in-More
+returns-in-More g c = record {
+  row = λ k told.
+      let whole = content_of (g.D.Disk.block_count c.args.disk.now) c.args.machine.now.blocks (g.D.Disk.content c.args.disk.now) k told c.requires.blocks (g.met.D.Disk.well_formed c.args.disk.now) in (
+        k,
+        c.read_block.ensures.content ∙ told,
+        listed_on c.args.machine.now c.args.frames.now c.args.self.now c.read_block.new.self c.list_on.new.machine c.list_on.new.frames c.list_on.new.self c.read_block.result c.list_on.result k
+            c.requires.ready.over.hardware c.requires.stage (list_can c.args.machine.now c.args.frames.now c.args.runs.now c.args.self.now c.requires.stage c.requires.ready).1 c.list_on.ensures.machine.hw whole
+            c.read_block.ensures.load c.in-More.is (λ v t has reads. c.read_block.ensures.answers v t has (subst (Reads c.args.machine.now.hw v) (sym told) reads)) c.list_on.ensures.row,
+      );
+  activity = c.list_on.ensures.activity;
+  works = c.list_on.ensures.works;
+  ready = c.list_on.ensures.ready;
+  machine = c.list_on.ensures.machine;
+  cause = λ fault. absurd (c.list_on.ensures.no_fault fault);
+  faults = c.read_block.ensures.faults;
+  calls = c.read_block.ensures.calls;
+  orders = c.read_block.ensures.orders;
+  blocks = c.read_block.ensures.blocks;
+  telling = c.read_block.ensures.telling;
+  time = c.read_block.ensures.time;
+}

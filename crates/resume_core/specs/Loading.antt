@@ -1,0 +1,75 @@
+-- A resume, and what a machine shows while it is at it.
+use Rattle.std.specs.Prelude.{◌≡◌, ℕ, ⊤, Bool, true, false, List, [], Option, Some, None, Result, Ok, Err}
+use Rattle.std.specs.List.{zip}
+use Rattle.sig_header.specs.declared.area.Area.{Area}
+use Rattle.plain_machine.specs.Machine.{Memory}
+use Rattle.plain_machine.specs.Shows.{Shown, Activity, rests, runs, loads}
+use Rattle.plain_machine.specs.Step.{no_flights}
+use Rattle.plain_machine.specs.declared.event.Loader.TheVariants as loader
+use Rattle.plain_machine.specs.declared.no_swap.NoSwap.{NoSwap}
+use Rattle.plain_machine.specs.declared.reply.Reply.{Reply}
+use Rattle.plain_machine.specs.declared.reply.Reply.TheVariants as reply
+use Rattle.page_restore.specs.Waiting.{waiting_pages}
+use Rattle.machine.specs.declared.machine.Machine.{Machine}
+use Rattle.resume_core.specs.declared.load.Load.{Load}
+use Rattle.resume_core.specs.declared.load.Stage.{Stage}
+use Rattle.resume_core.specs.declared.load.Stage.TheVariants as stage
+use Rattle.resume_core.specs.declared.load.Start.{Start}
+use Rattle.resume_core.specs.declared.load.Start.TheVariants as start
+
+-- what can be begun: a resume with a scripted loader
+abbrev pub IsServed : Start → Type 0
+IsServed (start.Resume (loader.Ranges ranges) check) = ⊤
+IsServed (start.Resume loader.Table check) = ⊥
+IsServed (start.Boot from) = ⊥
+
+-- why an area can't be used
+abbrev pub reason_of : Result Area NoSwap → Option NoSwap
+reason_of (Ok area) = None
+reason_of (Err why) = Some why
+
+-- what a machine is at, by the step that is next and, once blocks of the chain are read, how many are made
+abbrev pub activity_at : Stage → ℕ → Activity
+activity_at stage.Rest made = rests
+activity_at stage.Runs made = runs
+activity_at stage.Sync made = loads 0
+activity_at stage.Find made = loads 1
+activity_at stage.TakeBack made = loads 2
+activity_at stage.SyncBack made = loads 3
+activity_at stage.List made = loads made
+activity_at stage.Read made = loads made
+
+abbrev pub activity_of : Load → Activity
+activity_of load = activity_at load.stage load.made
+
+-- what a machine is at after this reply to a step or to the begin of a resume
+abbrev pub activity_told : Reply → Activity
+activity_told (reply.Loading k) = loads k
+activity_told (reply.Resumed n) = runs
+activity_told _ = rests
+
+-- whether a reply says that there was nothing to do
+abbrev pub is_idle : Reply → Bool
+is_idle reply.Idle = true
+is_idle _ = false
+
+-- what is shown: the header block that was found, and the pages that wait, by page frame
+abbrev pub shown_by : Machine → Memory → Load → Shown
+shown_by machine frames load = record {
+  activity = activity_of load;
+  keeps_dump = false;
+  held = machine.held;
+  unusable = reason_of machine.area;
+  flights = no_flights;
+  frames = frames;
+  header = load.header;
+  copies = [];
+  loaded = zip load.waiting.originals (waiting_pages frames load.waiting);
+}
+
+-- over a machine's zones, and at nothing
+pub record IsIdle (zones : List (ℕ × ℕ)) (load : Load) : Type 0 where
+  pub idle : load.stage ≡ stage.Rest
+  pub origs : load.origs.zones ≡ zones
+  pub zeros : load.zeros.zones ≡ zones
+  pub waiting : load.waiting.zones ≡ zones

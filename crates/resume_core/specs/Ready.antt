@@ -1,0 +1,77 @@
+-- What a step of a resume needs of the machine, whatever its disk tells.
+use Rattle.std.specs.Prelude.{◌≡◌, ◌≤◌, ◌<◌, ◌^◌, ℕ, length, true, Some, None, IsOk, IfOk, ⊤, []}
+use Rattle.definitions.specs.Zones.{top}
+use Rattle.swap_slots.specs.Runs.{SlotRuns}
+use Rattle.swap_slots.specs.Table.{LiesIn, Matches}
+use Rattle.plain_machine.specs.Machine.{Memory, IsHardware, block_of_slot}
+use Rattle.plain_machine.specs.UsableArea.{fit_fault}
+use Rattle.image_laws.specs.Decoding.{IsIdent}
+use Rattle.image_read.specs.Reading.{Reading, IsReady}
+use Rattle.protocol_laws.specs.Writers.{slot_table_of}
+use Rattle.machine.specs.declared.machine.Machine.{Machine}
+use Rattle.resume_core.specs.declared.load.Load.{Load}
+use Rattle.resume_core.specs.declared.load.Stage.{Stage}
+use Rattle.resume_core.specs.declared.load.Stage.TheVariants as stage
+
+-- something is under way
+abbrev pub is_busy_at : Stage → Type 0
+is_busy_at stage.Rest = ⊥
+is_busy_at stage.Runs = ⊥
+is_busy_at _ = ⊤
+
+abbrev pub IsBusy : Load → Type 0
+IsBusy load = is_busy_at load.stage
+
+-- a reader that goes on, on a disk of so many blocks
+pub record CanRead (blocks : ℕ) (load : Load) : Type 0 where
+  pub reader : Reading
+  pub has : load.reader ≡ Some reader
+  pub ready : IsReady reader load.origs.members load.zeros.members
+  pub within : reader.blocks ≤ blocks
+
+-- no page frame is listed yet
+abbrev pub NoneListed : Load → Type 0
+NoneListed load = (load.origs.members ≡ []) × (load.zeros.members ≡ [])
+
+-- each slot of the area, if there is one, is on a block of the disk
+abbrev pub IsUsable : Machine → Type 0
+IsUsable machine = IfOk machine.area (λ area. fit_fault machine.hw machine.blocks area ≡ None)
+
+-- what the step that is next needs
+abbrev pub CanMake : Stage → Machine → Memory → SlotRuns → Load → Type 0
+CanMake stage.Runs machine frames runs load = IsOk machine.area × IsUsable machine × Matches frames (slot_table_of machine.hw) runs
+CanMake stage.Rest machine frames runs load = ⊤
+CanMake stage.Sync machine frames runs load = NoneListed load
+CanMake stage.Find machine frames runs load = NoneListed load
+CanMake stage.TakeBack machine frames runs load = (block_of_slot machine.hw 0 < machine.blocks) × NoneListed load
+CanMake stage.SyncBack machine frames runs load = NoneListed load
+CanMake stage.List machine frames runs load = CanRead machine.blocks load × (4 ≤ load.made)
+CanMake stage.Read machine frames runs load = CanRead machine.blocks load × (4 ≤ load.made) × (load.waiting.placement.ready ≡ true)
+
+-- A resume over this machine: memory has its page frames, the runs have room for its slots, and the sets are over its zones.
+pub record IsOver (machine : Machine) (frames : Memory) (runs : SlotRuns) (load : Load) : Type 0 where
+  pub hardware : IsHardware machine.hw
+  pub ident : IsIdent machine.hw.ident
+  pub few : machine.blocks < 2 ^ 32
+  pub size : length frames ≡ top machine.hw.zones
+  pub table : LiesIn frames (slot_table_of machine.hw)
+  pub room : machine.hw.slots ≤ runs.room
+  pub origs : load.origs.zones ≡ machine.hw.zones
+  pub zeros : load.zeros.zones ≡ machine.hw.zones
+  pub waiting : load.waiting.zones ≡ machine.hw.zones
+
+-- What a begin needs: memory has the machine's page frames, and the sets are over its zones.
+pub record CanBegin (machine : Machine) (frames : Memory) (load : Load) : Type 0 where
+  pub size : length frames ≡ top machine.hw.zones
+  pub origs : load.origs.zones ≡ machine.hw.zones
+  pub zeros : load.zeros.zones ≡ machine.hw.zones
+  pub waiting : load.waiting.zones ≡ machine.hw.zones
+
+pub record CanStep (machine : Machine) (frames : Memory) (runs : SlotRuns) (load : Load) : Type 0 where
+  pub over : IsOver machine frames runs load
+  pub next : CanMake load.stage machine frames runs load
+
+-- the area and what is held may change
+pub record IsSameMachine (old new : Machine) : Type 0 where
+  pub hw : new.hw ≡ old.hw
+  pub blocks : new.blocks ≡ old.blocks

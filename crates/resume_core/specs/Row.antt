@@ -1,0 +1,154 @@
+-- The rows of the plain machine that a resume makes.
+use Rattle.std.specs.Prelude.{◌≡◌, ◌<◌, ℕ, ◌+◌, ◌-◌, [], Contains, Option, Some, None, ⊤}
+use Rattle.definitions.specs.Disk as disk
+use Rattle.definitions.specs.Tables.{frame}
+use Rattle.definitions.specs.Zones.{top}
+use Rattle.sig_header.specs.AreaKind.{mark_of}
+use Rattle.page_restore.specs.Waiting.{Awaiting, waiting_pages}
+use Rattle.plain_machine.specs.Machine.{Hardware, Memory}
+use Rattle.plain_machine.specs.Chain.{header_of, blocks_of}
+use Rattle.plain_machine.specs.Loader.{left_free, loader_frame}
+use Rattle.plain_machine.specs.Shows.{Shown}
+use Rattle.plain_machine.specs.State.{State, off, on, booting, hibernating, undoing, settling, waking, loading, asleep, Held, Load as Resume}
+use Rattle.plain_machine.specs.Stands.{Stands}
+use Rattle.plain_machine.specs.Trace.{info_in, place_count, header_cause, step_cause, want_cause, place}
+use Rattle.plain_machine.specs.declared.event.Event.{Event}
+use Rattle.plain_machine.specs.declared.event.Event.TheVariants as event
+use Rattle.plain_machine.specs.declared.event.Actor.TheVariants as actor
+use Rattle.plain_machine.specs.declared.event.Loader.{Loader}
+use Rattle.plain_machine.specs.declared.event.Loader.TheVariants as loader
+use Rattle.plain_machine.specs.declared.event.Ranges.{Ranges}
+use Rattle.plain_machine.specs.declared.event.IdentCheck.{IdentCheck}
+use Rattle.plain_machine.specs.declared.reply.Reply.{Reply}
+use Rattle.image_read.specs.Answers.{Reads}
+use Rattle.image_read.specs.Reading.{Reading}
+use Rattle.image_read.specs.Stream as stream
+use Rattle.image_read.specs.Stream.{data_frames, pages_read, told}
+use Rattle.protocol_laws.specs.LoadRows as load_rows
+use Rattle.protocol_laws.specs.LoadRows.{IsFoundIn, HaveGoneOn, ShowsRest}
+use Rattle.protocol_laws.specs.Rows as rows
+use Rattle.restore_laws.specs.DataPages.{data_before, data_pages}
+use Rattle.machine.specs.declared.machine.Machine.{Machine}
+use Rattle.resume_core.specs.Loading.{shown_by}
+use Rattle.resume_core.specs.declared.load.Load.{Load}
+use Rattle.resume_core.specs.declared.load.Stage.{Stage}
+use Rattle.resume_core.specs.declared.load.Stage.TheVariants as stage
+
+-- The loader of the resume is a scripted one, and what is free to it is free to the pages that wait.
+pub record HasLoader (h : Hardware) (load : Load) (l : Resume) : Type 0 where
+  pub ranges : Ranges
+  pub scripted : l.loader ≡ loader.Ranges ranges
+  pub free : load.waiting.free ≡ left_free h l.dump l.loader
+  pub check : load.check ≡ l.check
+
+-- The image was found on the disk v, and the disk with this content reads like it but for block(0).
+pub record HasFound (machine : Machine) (load : Load) (c : disk.Content) (l : Resume) (v : disk.Image) : Type 0 where
+  pub found : IsFoundIn machine.hw l v
+  pub uncaused : header_cause machine.hw v ≡ None
+  pub header : load.header ≡ header_of machine.hw v
+  pub mark : load.mark ≡ mark_of (header_of machine.hw v)
+  pub reads : Reads machine.hw v (Some c)
+  pub blocks : blocks_of v ≡ machine.blocks
+
+-- The reader has read the first t places of the disk v.
+pub record HasReader (h : Hardware) (v : disk.Image) (load : Load) (t : ℕ) : Type 0 where
+  pub reader : Reading
+  pub has : load.reader ≡ Some reader
+  pub reading : stream.IsReading h v load.check reader t load.origs.members load.zeros.members
+
+-- The pages with data among them wait for the page frames that they were saved for.
+pub record HavePlaces (h : Hardware) (v : disk.Image) (frames : Memory) (waiting : Awaiting) (t : ℕ) : Type 0 where
+  pub listed : told h v (pages_read t) ≡ Some (info_in h v).image_pages
+  pub originals : waiting.originals ≡ data_frames h v
+  pub loaded : waiting.loaded ≡ data_before h v t
+  pub pages : waiting_pages frames waiting ≡ data_pages h v waiting.loaded
+
+-- no page waits
+abbrev pub NoneWaits : Load → Type 0
+NoneWaits load = load.waiting.originals ≡ []
+
+-- what is known by the step that is next: what was found, and how far it is read
+abbrev pub KnowsAt : Stage → Machine → Memory → Load → disk.Content → Resume → ℕ → Type 0
+KnowsAt stage.TakeBack machine frames load c l k =
+    (v : disk.Image) × HasFound machine load c l v × HaveGoneOn machine.hw l v k × (load.origs.members ≡ []) × (load.zeros.members ≡ []) × NoneWaits load
+KnowsAt stage.SyncBack machine frames load c l k =
+    (v : disk.Image) × HasFound machine load c l v × HaveGoneOn machine.hw l v k × (load.origs.members ≡ []) × (load.zeros.members ≡ []) × NoneWaits load
+KnowsAt stage.List machine frames load c l k =
+    (v : disk.Image) × HasFound machine load c l v × HaveGoneOn machine.hw l v k × (k < 4 + place_count (info_in machine.hw v).pages)
+    × HasReader machine.hw v load (k - 4) × (told machine.hw v (pages_read (k - 4)) ≡ None) × NoneWaits load
+KnowsAt stage.Read machine frames load c l k =
+    (v : disk.Image) × HasFound machine load c l v × HaveGoneOn machine.hw l v k × (k < 4 + place_count (info_in machine.hw v).pages)
+    × HasReader machine.hw v load (k - 4) × HavePlaces machine.hw v frames load.waiting (k - 4)
+KnowsAt _ machine frames load c l k = (load.origs.members ≡ []) × (load.zeros.members ≡ []) × NoneWaits load
+
+-- The resume is the one that a state is at.
+pub record IsOf (machine : Machine) (frames : Memory) (load : Load) (c : disk.Content) (l : Resume) (k : ℕ) : Type 0 where
+  pub loader : HasLoader machine.hw load l
+  pub knows : KnowsAt load.stage machine frames load c l k
+
+abbrev pub IsOfState : Machine → Memory → Load → disk.Content → State → Type 0
+IsOfState machine frames load c (loading l k) = IsOf machine frames load c l k
+IsOfState machine frames load c (off held kept) = ⊤
+IsOfState machine frames load c (on a) = ⊤
+IsOfState machine frames load c (booting from dump held k) = ⊤
+IsOfState machine frames load c (hibernating suspends i a k) = ⊤
+IsOfState machine frames load c (undoing i call a k) = ⊤
+IsOfState machine frames load c (settling a k) = ⊤
+IsOfState machine frames load c (waking i held a k) = ⊤
+IsOfState machine frames load c (asleep i held a) = ⊤
+
+-- what a machine shows while it resumes, and its disk, stand for a state, whose resume it is at
+pub record StandsFor (machine : Machine) (frames : Memory) (load : Load) (c : disk.Content) (a : State) : Type 0 where
+  pub stands : Stands machine.hw (shown_by machine frames load) c a
+  pub resume : IsOfState machine frames load c a
+
+-- the row of an event over these contents of the disk, and over a disk that tells its content
+abbrev pub IsRow : Machine → Memory → Load → Machine → Memory → Load → Event → Reply → disk.Content → disk.Content → Type 0
+IsRow machine frames load machine' frames' load' e r c c' =
+    rows.IsRow machine.hw (StandsFor machine frames load) (StandsFor machine' frames' load') e r c c'
+
+abbrev pub HasRow : Machine → Memory → Load → Machine → Memory → Load → Event → Reply → Option disk.Content → Option disk.Content → Type 0
+HasRow machine frames load machine' frames' load' e r before now =
+    rows.HasRow machine.hw (StandsFor machine frames load) (StandsFor machine' frames' load') e r before now
+
+-- the row of a begin, from each state of a machine that is off
+abbrev pub BeginsRow : Machine → Memory → Load → Loader → IdentCheck → Reply → Type 0
+BeginsRow machine frames' load' loader check r =
+    (shown : Shown) (c : disk.Content) (held : Held) (kept : Option Memory) → ShowsRest shown → Stands machine.hw shown c (off held kept) →
+    (b : State) × rows.Leads machine.hw (StandsFor machine frames' load') (event.Resume loader check) r c c (off held kept) b
+
+-- A block was read at the step behind k others, and neither it nor the block behind it is at fault. What the machine showed before
+-- stood for the state.
+pub record HasRead (machine : Machine) (frames : Memory) (load : Load) (c : disk.Content) (l : Resume) (v : disk.Image) (k : ℕ) : Type 0 where
+  pub shown : Shown
+  pub whole : disk.IsContent machine.blocks c
+  pub reading : load_rows.IsReading machine.hw shown c l v k
+  pub loader : HasLoader machine.hw load l
+  pub found : HasFound machine load c l v
+  pub sound : step_cause machine.hw v l.check (k - 4) ≡ None
+  pub read : HasReader machine.hw v load (k - 4 + 1)
+  pub kept : (p : ℕ) → p < top machine.hw.zones → (Contains (left_free machine.hw l.dump l.loader) p → ⊥) → frame frames p ≡ loader_frame l.dump l.loader p
+  pub made : load.made ≡ k
+
+-- where the reply leads, from the state that is at that step
+abbrev pub LeadsOn : Machine → Memory → Load → Reply → disk.Content → Resume → ℕ → Type 0
+LeadsOn machine' frames' load' r c l k =
+    (b : State) × rows.Leads machine'.hw (StandsFor machine' frames' load') (event.Step actor.Core) r c c (loading l k) b
+
+-- of the page frames that the image names, not all were listed before; the reader tells whether they are now
+abbrev pub ListsOn : Machine → Memory → Load → Machine → Memory → Load → Reply → Type 0
+ListsOn machine frames load machine' frames' load' r =
+    (c : disk.Content) (l : Resume) (v : disk.Image) (k : ℕ) → HasRead machine frames load c l v k → told machine.hw v (pages_read (k - 4)) ≡ None → NoneWaits load →
+    LeadsOn machine' frames' load' r c l k
+
+-- all are listed, and the pages read wait; the machine may have had room to test at this step, which it did
+abbrev pub ReadsOn : Machine → Memory → Load → Machine → Memory → Load → Reply → Type 0
+ReadsOn machine frames load machine' frames' load' r =
+    (c : disk.Content) (l : Resume) (v : disk.Image) (k : ℕ) → HasRead machine frames load c l v k → HavePlaces machine.hw v frames load.waiting (k - 4 + 1) →
+    want_cause machine.hw l.dump v l.loader (place (k - 4)) ≡ None → LeadsOn machine' frames' load' r c l k
+
+-- at the last step
+abbrev pub EndsOn : Machine → Memory → Load → Machine → Memory → Load → Reply → Type 0
+EndsOn machine frames load machine' frames' load' r =
+    (c : disk.Content) (l : Resume) (v : disk.Image) (k : ℕ) → HasRead machine frames load c l v k → HavePlaces machine.hw v frames load.waiting (k - 4 + 1) →
+    want_cause machine.hw l.dump v l.loader (place (k - 4)) ≡ None → k - 4 + 1 ≡ place_count (info_in machine.hw v).pages → LeadsOn machine' frames' load' r c l k

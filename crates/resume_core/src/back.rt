@@ -1,0 +1,159 @@
+ghost use Rattle.std.specs.Prelude.{◌≡◌, ◌≤◌, ◌⊎◌, ℕ, false, [], IfOk, IfErr, if◌then◌else◌, IsTrue};
+ghost use Rattle.image_read.specs.Reading.{IsReady};
+ghost use Rattle.plain_machine.specs.Trace.{is_set};
+ghost use Rattle.page_core.specs.declared.format.Format.TheVariants.{Plain, SkipZeros};
+ghost use Rattle.plain_machine.specs.Shows.{rests};
+ghost use Rattle.resume_core.specs.Header.{Opens, signature_fault};
+ghost use Rattle.resume_core.specs.Loading.{activity_told, is_idle};
+ghost use Rattle.definitions.specs.Disk.{HasRisen, raised, Changes, Elapses};
+ghost use Rattle.protocol_laws.specs.Rows.{IsNewFault};
+
+use crate::Load;
+use crate::load::Stage;
+use frame_arena::Frames;
+use image_read::Reader;
+use machine::{Hardware, Machine};
+use page_core::{Failed, Format};
+use plain_machine::{Left, Reply};
+use protocol_laws::{meets_rows, takes_back_in_rows};
+use sector_disk::Disk;
+use sig_header::{Mark, take_back};
+use swap_slots::FreeRuns;
+
+/// SF_HW_SIG (kernel/power/power.h).
+const HW_SIG: u32 = 8;
+
+/// The image has no data pages for its pages of zeros (own).
+const SKIPS_ZEROS: u32 = 256;
+
+// The header block taken back, before anything else of the image is read (swsusp_check, kernel/power/swap.c).
+impl Load {
+    ghost use Rattle.plain_machine.specs.declared.event.Event.TheVariants as event;
+    ghost use Rattle.plain_machine.specs.declared.event.Actor.TheVariants as actor;
+    ghost use Rattle.resume_core.specs.declared.load.Stage.TheVariants as stage;
+    ghost use Rattle.resume_core.specs.Loading.{activity_of, activity_told, is_idle};
+    ghost use Rattle.resume_core.specs.Ready.{CanStep, IsOver, IsSameMachine};
+    ghost use Rattle.resume_core.specs.Row.{HasRow};
+
+    /// Writes the header block taken back.
+    pub(crate) fn take_back<D: Disk>(
+        &mut self,
+        machine: &Machine,
+        frames: &Frames,
+        runs: &FreeRuns,
+        disk: &mut D,
+    ) -> Reply
+        requires ready { CanStep machine.now frames.now runs.now self.old }
+        requires blocks { D.block_count disk.old ≡ machine.now.blocks }
+        requires stage { self.old.stage ≡ stage.TakeBack }
+        ensures row { HasRow machine.now frames.now self.old machine.now frames.now self.new (event.Step actor.Core) result (D.content disk.old) (D.content disk.new) }
+        ensures activity { activity_of self.new ≡ activity_told result }
+        ensures works { is_idle result ≡ false }
+        ensures ready { CanStep machine.now frames.now runs.now self.new }
+        ensures cause { IsNewFault result → HasRisen (D.faults disk.old) (D.faults disk.new) }
+        ensures faults { D.faults disk.old ≤ D.faults disk.new }
+        ensures calls { (D.calls disk.new ≡ D.calls disk.old) ⊎ (D.calls disk.new ≡ raised (D.calls disk.old)) }
+        ensures orders { D.orders disk.new ≡ D.orders disk.old }
+        ensures blocks { D.block_count disk.new ≡ D.block_count disk.old }
+        ensures telling { D.tells_moments disk.new ≡ D.tells_moments disk.old }
+        ensures time { IsTrue (D.tells_moments disk.old) → Changes (Elapses (D.moment disk.old) (D.moment disk.new)
+            (D.left_since disk.old) (D.left_since disk.new)) (D.content disk.old) (D.content disk.new) }
+    {
+        takes_back_in_rows();
+        meets_rows();
+        let block = machine.hw.extents().block(0);
+        match disk.write(block as u32, &take_back(&self.header)) {
+            Ok(()) => {
+                self.stage = Stage::SyncBack;
+                Reply::Loading { k: 3 }
+            }
+            Err(Failed) => self.stop(Reply::WriteFault { left: Left::Unsure }),
+        }
+    }
+
+    /// Syncs that: no image is there any more. Then the chain must begin at a block of the area.
+    pub(crate) fn sync_back<D: Disk>(
+        &mut self,
+        machine: &Machine,
+        frames: &Frames,
+        runs: &FreeRuns,
+        disk: &mut D,
+    ) -> Reply
+        requires ready { CanStep machine.now frames.now runs.now self.old }
+        requires blocks { D.block_count disk.old ≡ machine.now.blocks }
+        requires stage { self.old.stage ≡ stage.SyncBack }
+        ensures row { HasRow machine.now frames.now self.old machine.now frames.now self.new (event.Step actor.Core) result (D.content disk.old) (D.content disk.new) }
+        ensures activity { activity_of self.new ≡ activity_told result }
+        ensures works { is_idle result ≡ false }
+        ensures ready { CanStep machine.now frames.now runs.now self.new }
+        ensures cause { IsNewFault result → HasRisen (D.faults disk.old) (D.faults disk.new) }
+        ensures faults { D.faults disk.old ≤ D.faults disk.new }
+        ensures calls { (D.calls disk.new ≡ D.calls disk.old) ⊎ (D.calls disk.new ≡ raised (D.calls disk.old)) }
+        ensures orders { D.orders disk.new ≡ D.orders disk.old }
+        ensures blocks { D.block_count disk.new ≡ D.block_count disk.old }
+        ensures telling { D.tells_moments disk.new ≡ D.tells_moments disk.old }
+        ensures time { IsTrue (D.tells_moments disk.old) → Changes (Elapses (D.moment disk.old) (D.moment disk.new)
+            (D.left_since disk.old) (D.left_since disk.new)) (D.content disk.old) (D.content disk.new) }
+    {
+        takes_back_in_rows();
+        meets_rows();
+        match disk.sync() {
+            Ok(()) => {}
+            Err(Failed) => return self.stop(Reply::SyncFault { left: Left::Unsure }),
+        }
+        match reader_of(&machine.hw, machine.blocks, &self.mark) {
+            Ok(reader) => {
+                self.reader = Some(reader);
+                self.made = 4;
+                self.stage = Stage::List;
+                Reply::Loading { k: 4 }
+            }
+            Err(why) => self.stop(why),
+        }
+    }
+}
+
+/// A reader of the marked image, where it was made under the machine's signature and its chain begins in the area.
+fn reader_of(hw: &Hardware, blocks: u32, mark: &Mark) -> Result<Reader, Reply>
+    ensures opens { Opens hw.now blocks mark.now result }
+    ensures ready { IfOk result (λ r. IsReady r [] []) }
+    ensures blocks { IfOk result (λ r. r.blocks ≡ blocks) }
+    ensures stops { IfErr result (λ why. IsNewFault why → ⊥) }
+    ensures rests { IfErr result (λ why. activity_told why ≡ rests) }
+    ensures works { IfErr result (λ why. is_idle why ≡ false) }
+{
+    match other_signature(hw, mark) {
+        Some(why) => return Err(why),
+        None => {}
+    }
+    match Reader::begin(mark.first, hw.extents(), mark.last, blocks, format_of(mark)) {
+        Ok(reader) => Ok(reader),
+        Err(cause) => Err(Reply::from(cause)),
+    }
+}
+
+/// Why the image can't be read where it was made under another signature than the machine's.
+fn other_signature(hw: &Hardware, mark: &Mark) -> Option<Reply>
+    ensures { result ≡ signature_fault hw.now mark.now }
+{
+    if mark.flags & HW_SIG == 0 {
+        return None;
+    }
+    if mark.hw_sig == hw.hw_sig() {
+        return None;
+    }
+    Some(Reply::HwMismatch {
+        image: mark.hw_sig,
+        own: hw.hw_sig(),
+    })
+}
+
+fn format_of(mark: &Mark) -> Format
+    ensures { result ≡ (if is_set mark.now.flags 256 then SkipZeros else Plain) }
+{
+    if mark.flags & SKIPS_ZEROS == 0 {
+        Format::Plain
+    } else {
+        Format::SkipZeros
+    }
+}

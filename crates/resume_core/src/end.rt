@@ -1,0 +1,112 @@
+ghost use Rattle.std.specs.Prelude.{◌≡◌, ◌≤◌, ◌<◌, ℕ, false, true, length, Some, None, IfOk, MatchResult};
+ghost use Rattle.definitions.specs.Disk.{Image};
+ghost use Rattle.definitions.specs.Zones.{top};
+ghost use Rattle.plain_machine.specs.Chain.{header_of, blocks_of, Marked};
+ghost use Rattle.plain_machine.specs.Trace.{tables_cause};
+ghost use Rattle.plain_machine.specs.UsableArea.{fit_fault};
+ghost use Rattle.plain_machine.specs.declared.reply.Reply.TheVariants as reply;
+ghost use Rattle.protocol_laws.specs.Rows.{IsNewFault};
+ghost use Rattle.protocol_laws.specs.Writers.{slot_table_of};
+
+use crate::Load;
+use crate::load::Stage;
+use frame_arena::Frames;
+use machine::{Hardware, Machine, has_bad_slots, tables_fit, usable};
+use page_core::Page;
+use plain_machine::{Held, Reply};
+use protocol_laws::{meets_rows, reads_in_rows};
+use sig_header::{Area, AreaKind, take_back};
+use swap_slots::{FreeRuns, SlotTable};
+
+// The end of a resume (swsusp_arch_resume; hibernation_restore, kernel/power/hibernate.c).
+impl Load {
+    ghost use Rattle.plain_machine.specs.declared.event.Event.TheVariants as event;
+    ghost use Rattle.plain_machine.specs.declared.event.Actor.TheVariants as actor;
+    ghost use Rattle.plain_machine.specs.declared.reply.Reply.TheVariants as reply;
+    ghost use Rattle.resume_core.specs.declared.load.Stage.TheVariants as stage;
+    ghost use Rattle.resume_core.specs.Loading.{activity_of, activity_told, is_idle};
+    ghost use Rattle.resume_core.specs.Ready.{CanRead, CanStep, IsOver, IsSameMachine};
+    ghost use Rattle.resume_core.specs.Row.{HasRow, HasReader, ListsOn, ReadsOn, EndsOn};
+    ghost use Rattle.resume_core.specs.Reader.{HasAnswered, StillReads, room_refusal, refusal_behind};
+
+    /// Brings the pages home, and runs where the tables fit the machine and the area. Pages are never missing here, since the
+    /// reader tests the stream's number of pages by the numbers that it names.
+    pub(crate) fn end(
+        &mut self,
+        machine: &mut Machine,
+        frames: &mut Frames,
+        runs: &mut FreeRuns,
+    ) -> Reply
+        requires over { IsOver machine.old frames.old runs.old self.old }
+        requires reader { CanRead machine.old.blocks self.old }
+        requires made { 4 ≤ self.old.made }
+        requires planned { self.old.waiting.placement.ready ≡ true }
+        ensures row { EndsOn machine.old frames.old self.old machine.new frames.new self.new result }
+        ensures activity { activity_of self.new ≡ activity_told result }
+        ensures works { is_idle result ≡ false }
+        ensures ready { CanStep machine.new frames.new runs.new self.new }
+        ensures machine { IsSameMachine machine.old machine.new }
+        ensures no_fault { IsNewFault result → ⊥ }
+    {
+        reads_in_rows();
+        meets_rows();
+        let saved = self.saved();
+        let missing = self.waiting.left();
+        if missing > 0 {
+            return self.stop(Reply::BadCounts {
+                image_pages: u64::from(saved),
+                pages: u64::from(missing),
+            });
+        }
+        self.waiting.finish(frames, &self.origs);
+        // So each page frame has 4096 bytes.
+        let _ = frames.len();
+        match restored_area(&machine.hw, machine.blocks, frames, &self.header) {
+            Ok(area) => {
+                machine.area = Ok(area);
+                machine.held = Held::No;
+                runs.rebuild(frames, &slot_table(&machine.hw));
+                self.stage = Stage::Runs;
+                Reply::Resumed { n: saved }
+            }
+            Err(frame) => self.stop(Reply::BadTables { frame }),
+        }
+    }
+
+    /// How many page frames the image saves.
+    fn saved(&self) -> u32
+        ensures { result ≡ length self.now.origs.members }
+    {
+        self.origs.len()
+    }
+}
+
+/// The area of the header block taken back, where the restored tables fit the machine and it. Else a table frame at fault.
+fn restored_area(hw: &Hardware, blocks: u32, frames: &Frames, header: &Page) -> Result<Area, u32>
+    requires { length frames.now ≡ top hw.now.zones }
+    ensures fits { IfOk result (λ area. fit_fault hw.now blocks area ≡ None) }
+    ensures tables { (v : Image) → header.now ≡ header_of hw.now v → blocks ≡ blocks_of v → Marked hw.now v →
+        MatchResult result (λ area. tables_cause hw.now v frames.now ≡ None) (λ f. tables_cause hw.now v frames.now ≡ Some (reply.BadTables f)) }
+{
+    tables_fit(frames, hw)?;
+    match usable(hw, blocks, &AreaKind::read(&take_back(header))) {
+        Ok(area) => {
+            if has_bad_slots(frames, hw, &area) {
+                Ok(area)
+            } else {
+                Err(hw.slot_table())
+            }
+        }
+        Err(_) => Err(hw.slot_table()),
+    }
+}
+
+/// The machine's slot table.
+fn slot_table(hw: &Hardware) -> SlotTable
+    ensures { result ≡ slot_table_of hw.now }
+{
+    SlotTable {
+        first: hw.slot_table(),
+        slots: hw.slots(),
+    }
+}

@@ -1,0 +1,152 @@
+ghost use Rattle.std.specs.Prelude.{◌≡◌, ◌≤◌, ◌⊎◌, ℕ, false, None, Some, IfOk, IfErr, IsTrue};
+ghost use Rattle.sig_header.specs.AreaKind.{area_kind, mark_of};
+ghost use Rattle.plain_machine.specs.Shows.{rests};
+ghost use Rattle.resume_core.specs.Header.{header_fault, mark_in};
+ghost use Rattle.resume_core.specs.Loading.{activity_told, is_idle};
+ghost use Rattle.definitions.specs.Disk.{HasRisen, raised, Changes, Elapses};
+ghost use Rattle.protocol_laws.specs.Rows.{IsNewFault};
+
+use crate::Load;
+use crate::load::Stage;
+use frame_arena::Frames;
+use machine::Machine;
+use page_core::{Failed, Page};
+use plain_machine::{Left, Reply};
+use protocol_laws::{finds_in_rows, meets_rows};
+use sector_disk::Disk;
+use sig_header::{AreaKind, Mark};
+use swap_slots::FreeRuns;
+
+/// SF_NOCOMPRESS_MODE (kernel/power/power.h).
+const NOCOMPRESS_MODE: u32 = 2;
+
+// The sync, and the read of the header block (swsusp_check, kernel/power/swap.c).
+impl Load {
+    ghost use Rattle.plain_machine.specs.declared.event.Event.TheVariants as event;
+    ghost use Rattle.plain_machine.specs.declared.event.Actor.TheVariants as actor;
+    ghost use Rattle.resume_core.specs.declared.load.Stage.TheVariants as stage;
+    ghost use Rattle.resume_core.specs.Loading.{activity_of, activity_told, is_idle};
+    ghost use Rattle.resume_core.specs.Ready.{CanStep, IsOver, IsSameMachine};
+    ghost use Rattle.resume_core.specs.Row.{HasRow};
+
+    /// Syncs: after it the disk has one content.
+    pub(crate) fn sync_first<D: Disk>(
+        &mut self,
+        machine: &Machine,
+        frames: &Frames,
+        runs: &FreeRuns,
+        disk: &mut D,
+    ) -> Reply
+        requires ready { CanStep machine.now frames.now runs.now self.old }
+        requires blocks { D.block_count disk.old ≡ machine.now.blocks }
+        requires stage { self.old.stage ≡ stage.Sync }
+        ensures row { HasRow machine.now frames.now self.old machine.now frames.now self.new (event.Step actor.Core) result (D.content disk.old) (D.content disk.new) }
+        ensures activity { activity_of self.new ≡ activity_told result }
+        ensures works { is_idle result ≡ false }
+        ensures ready { CanStep machine.now frames.now runs.now self.new }
+        ensures cause { IsNewFault result → HasRisen (D.faults disk.old) (D.faults disk.new) }
+        ensures faults { D.faults disk.old ≤ D.faults disk.new }
+        ensures calls { (D.calls disk.new ≡ D.calls disk.old) ⊎ (D.calls disk.new ≡ raised (D.calls disk.old)) }
+        ensures orders { D.orders disk.new ≡ D.orders disk.old }
+        ensures blocks { D.block_count disk.new ≡ D.block_count disk.old }
+        ensures telling { D.tells_moments disk.new ≡ D.tells_moments disk.old }
+        ensures time { IsTrue (D.tells_moments disk.old) → Changes (Elapses (D.moment disk.old) (D.moment disk.new)
+            (D.left_since disk.old) (D.left_since disk.new)) (D.content disk.old) (D.content disk.new) }
+    {
+        finds_in_rows();
+        meets_rows();
+        match disk.sync() {
+            Ok(()) => {
+                self.stage = Stage::Find;
+                Reply::Loading { k: 1 }
+            }
+            Err(Failed) => self.stop(Reply::SyncFault { left: Left::Same }),
+        }
+    }
+
+    /// Reads the header block, which must carry the mark of an image that isn't compressed. One that isn't below the disk's
+    /// blocks counts as zeros, and isn't read.
+    pub(crate) fn find<D: Disk>(
+        &mut self,
+        machine: &Machine,
+        frames: &Frames,
+        runs: &FreeRuns,
+        disk: &mut D,
+    ) -> Reply
+        requires ready { CanStep machine.now frames.now runs.now self.old }
+        requires blocks { D.block_count disk.old ≡ machine.now.blocks }
+        requires stage { self.old.stage ≡ stage.Find }
+        ensures row { HasRow machine.now frames.now self.old machine.now frames.now self.new (event.Step actor.Core) result (D.content disk.old) (D.content disk.new) }
+        ensures activity { activity_of self.new ≡ activity_told result }
+        ensures works { is_idle result ≡ false }
+        ensures ready { CanStep machine.now frames.now runs.now self.new }
+        ensures cause { IsNewFault result → HasRisen (D.faults disk.old) (D.faults disk.new) }
+        ensures faults { D.faults disk.old ≤ D.faults disk.new }
+        ensures calls { (D.calls disk.new ≡ D.calls disk.old) ⊎ (D.calls disk.new ≡ raised (D.calls disk.old)) }
+        ensures orders { D.orders disk.new ≡ D.orders disk.old }
+        ensures blocks { D.block_count disk.new ≡ D.block_count disk.old }
+        ensures telling { D.tells_moments disk.new ≡ D.tells_moments disk.old }
+        ensures time { IsTrue (D.tells_moments disk.old) → Changes (Elapses (D.moment disk.old) (D.moment disk.new)
+            (D.left_since disk.old) (D.left_since disk.new)) (D.content disk.old) (D.content disk.new) }
+    {
+        finds_in_rows();
+        meets_rows();
+        let block = machine.hw.extents().block(0);
+        if block >= u64::from(machine.blocks) {
+            return self.stop(Reply::NoImage);
+        }
+        match disk.read(block as u32, &mut self.header) {
+            Ok(()) => {}
+            Err(Failed) => return self.stop(Reply::ReadFault { left: Left::Same }),
+        }
+        match found(&self.header) {
+            Ok(mark) => {
+                self.mark = mark;
+                self.stage = Stage::TakeBack;
+                Reply::Loading { k: 2 }
+            }
+            Err(why) => self.stop(why),
+        }
+    }
+
+    /// The resume ends here, and the machine is off.
+    pub(crate) fn stop(&mut self, why: Reply) -> Reply
+        ensures load { self.new ≡ record self.old { stage = stage.Rest } }
+        ensures reply { result ≡ why }
+    {
+        self.stage = Stage::Rest;
+        why
+    }
+}
+
+/// The mark of an image that can be read, or why there is none.
+fn found(header: &Page) -> Result<Mark, Reply>
+    ensures found { IfOk result (λ mark. (header_fault header.now ≡ None) × (mark ≡ mark_of header.now)) }
+    ensures stops { IfErr result (λ why. IsNewFault why → ⊥) }
+    ensures rests { IfErr result (λ why. activity_told why ≡ rests) }
+    ensures works { IfErr result (λ why. is_idle why ≡ false) }
+    ensures none { IfErr result (λ why. header_fault header.now ≡ Some why) }
+{
+    match mark_in(header) {
+        Some(mark) => {
+            if mark.flags & NOCOMPRESS_MODE == 0 {
+                return Err(Reply::Compressed { flags: mark.flags });
+            }
+            Ok(mark)
+        }
+        None => Err(Reply::NoImage),
+    }
+}
+
+/// The mark of a header block that has one.
+fn mark_in(header: &Page) -> Option<Mark>
+    ensures { result ≡ mark_in (area_kind header.now) }
+{
+    match AreaKind::read(header) {
+        AreaKind::Image(mark) => Some(mark),
+        AreaKind::Old => None,
+        AreaKind::Other { .. } => None,
+        AreaKind::BadArea { .. } => None,
+        AreaKind::Swap(_) => None,
+    }
+}

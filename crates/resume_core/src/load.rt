@@ -1,0 +1,155 @@
+ghost use Rattle.std.specs.Prelude.{◌≡◌, ◌≤◌, ◌⊎◌, ◌<◌, ◌^◌, ℕ, false, IfOk, IsTrue};
+ghost use Rattle.definitions.specs.Disk.{HasRisen, raised, Changes, Elapses};
+ghost use Rattle.protocol_laws.specs.Rows.{IsNewFault};
+ghost use Rattle.resume_core.specs.Loading.{IsIdle, IsServed};
+
+use frame_arena::Frames;
+use image_read::Reader;
+use machine::{Hardware, Machine};
+use memory_bitmap::Bitmap;
+use page_core::{NoMemory, Page};
+use page_restore::Waiting;
+use plain_machine::{BootFrom, IdentCheck, Loader, Reply};
+use sector_disk::Disk;
+use sig_header::Mark;
+use std::alloc::Global;
+use swap_slots::FreeRuns;
+
+/// What is begun.
+#[derive(Clone, Copy, Debug, PartialEq, Eq)]
+pub enum Start {
+    /// The machine is switched on. Not served yet.
+    Boot(BootFrom),
+    /// The machine is switched on, and the image on the disk resumed. A dump's loader isn't served yet.
+    Resume(Loader, IdentCheck),
+}
+
+/// What is done next.
+#[derive(Clone, Copy, Debug, PartialEq, Eq)]
+pub(crate) enum Stage {
+    /// Nothing: the machine is off.
+    Rest,
+    /// Nothing: the image was resumed, and the machine runs.
+    Runs,
+    /// The disk is synced.
+    Sync,
+    /// The header block is read.
+    Find,
+    /// It is written taken back.
+    TakeBack,
+    /// That is synced.
+    SyncBack,
+    /// A map, the info page or a number page is read.
+    List,
+    /// A map or a saved page is read.
+    Read,
+}
+
+/// A resume, or none. It takes all its memory when it is created.
+#[derive(Drop)]
+pub struct Load {
+    /// The page frames that the image names, and those of them without a data page.
+    pub(crate) origs: Bitmap,
+    pub(crate) zeros: Bitmap,
+    pub(crate) waiting: Waiting,
+    pub(crate) reader: Option<Reader>,
+    /// The header block as it was found, and what its mark says.
+    pub(crate) header: Page,
+    pub(crate) mark: Mark,
+    /// The block that was read last.
+    pub(crate) page: Page,
+    pub(crate) stage: Stage,
+    /// Steps made, once blocks of the chain are read.
+    pub(crate) made: u32,
+    pub(crate) check: IdentCheck,
+}
+
+impl Load {
+    ghost use Rattle.plain_machine.specs.declared.event.Event.TheVariants as event;
+    ghost use Rattle.plain_machine.specs.declared.event.Actor.TheVariants as actor;
+    ghost use Rattle.resume_core.specs.declared.load.Stage.TheVariants as stage;
+    ghost use Rattle.resume_core.specs.Loading.{activity_of, activity_told, is_idle};
+    ghost use Rattle.resume_core.specs.Ready.{CanBegin, CanStep, IsBusy, IsSameMachine};
+    ghost use Rattle.resume_core.specs.Row.{HasRow, BeginsRow};
+    ghost use Rattle.swap_slots.specs.Runs.{SlotRuns};
+    ghost use Rattle.plain_machine.specs.declared.event.Loader.{Loader};
+    ghost use Rattle.plain_machine.specs.declared.event.IdentCheck.{IdentCheck};
+    ghost use Rattle.resume_core.specs.declared.load.Start.TheVariants as starts;
+
+    /// No resume, with the memory for every one of this machine.
+    pub fn create(alloc: Global, hw: &Hardware) -> Result<Load, NoMemory>
+        ensures { IfOk result (IsIdle hw.now.zones) }
+    {
+        Ok(Load {
+            origs: Bitmap::create(alloc, hw.zones())?,
+            zeros: Bitmap::create(alloc, hw.zones())?,
+            waiting: Waiting::create(alloc, hw.zones())?,
+            reader: None,
+            header: Page::zero(),
+            mark: Mark {
+                last: 0,
+                count: 0,
+                first: 0,
+                flags: 0,
+                hw_sig: 0,
+            },
+            page: Page::zero(),
+            stage: Stage::Rest,
+            made: 0,
+            check: IdentCheck::Skip,
+        })
+    }
+
+    /// Begins, over a machine that is off.
+    pub fn begin(&mut self, machine: &Machine, frames: &mut Frames, start: Start) -> Reply
+        requires served { IsServed start }
+        requires ready { CanBegin machine.now frames.old self.old }
+        ensures row { (loader : Loader) (check : IdentCheck) → start ≡ starts.Resume loader check → BeginsRow machine.now frames.new self.new loader check result }
+        ensures activity { activity_of self.new ≡ activity_told result }
+        ensures ready { (runs : SlotRuns) → machine.now.hw.slots ≤ runs.room → CanStep machine.now frames.new runs self.new }
+        ensures no_fault { IsNewFault result → ⊥ }
+    {
+        match start {
+            Start::Resume(Loader::Ranges(ranges), check) => {
+                self.begin_ranges(machine, frames, &ranges, check)
+            }
+            Start::Resume(Loader::Table, _) | Start::Boot(_) => unreachable!(),
+        }
+    }
+
+    /// Makes the next step: at most one call of the disk.
+    pub fn step<D: Disk>(
+        &mut self,
+        machine: &mut Machine,
+        frames: &mut Frames,
+        runs: &mut FreeRuns,
+        disk: &mut D,
+    ) -> Reply
+        requires ready { CanStep machine.old frames.old runs.old self.old }
+        requires blocks { D.block_count disk.old ≡ machine.old.blocks }
+        requires busy { IsBusy self.old }
+        ensures row { HasRow machine.old frames.old self.old machine.new frames.new self.new (event.Step actor.Core) result (D.content disk.old) (D.content disk.new) }
+        ensures activity { activity_of self.new ≡ activity_told result }
+        ensures works { is_idle result ≡ false }
+        ensures ready { CanStep machine.new frames.new runs.new self.new }
+        ensures machine { IsSameMachine machine.old machine.new }
+        ensures cause { IsNewFault result → HasRisen (D.faults disk.old) (D.faults disk.new) }
+        ensures faults { D.faults disk.old ≤ D.faults disk.new }
+        ensures calls { (D.calls disk.new ≡ D.calls disk.old) ⊎ (D.calls disk.new ≡ raised (D.calls disk.old)) }
+        ensures orders { D.orders disk.new ≡ D.orders disk.old }
+        ensures blocks { D.block_count disk.new ≡ D.block_count disk.old }
+        ensures telling { D.tells_moments disk.new ≡ D.tells_moments disk.old }
+        ensures time { IsTrue (D.tells_moments disk.old) → Changes (Elapses (D.moment disk.old) (D.moment disk.new)
+            (D.left_since disk.old) (D.left_since disk.new)) (D.content disk.old) (D.content disk.new) }
+    {
+        match self.stage {
+            Stage::Sync => self.sync_first(machine, frames, runs, disk),
+            Stage::Find => self.find(machine, frames, runs, disk),
+            Stage::TakeBack => self.take_back(machine, frames, runs, disk),
+            Stage::SyncBack => self.sync_back(machine, frames, runs, disk),
+            Stage::List => self.list_next(machine, frames, runs, disk),
+            Stage::Read => self.read_next(machine, frames, runs, disk),
+            Stage::Rest | Stage::Runs => unreachable!(),
+        }
+    }
+}

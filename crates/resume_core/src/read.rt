@@ -1,0 +1,118 @@
+ghost use Rattle.std.specs.Prelude.{◌≡◌, ◌≤◌, ◌⊎◌, ◌<◌, ◌+◌, ◌++◌, ◌∷◌, ℕ, false, [], true, IsTrue, length, Some, IsSome, ◌↔◌, Contains};
+ghost use Rattle.definitions.specs.Tables.{frame};
+ghost use Rattle.definitions.specs.Zones.{top};
+ghost use Rattle.definitions.specs.Disk.{Image, Changes, Elapses};
+ghost use Rattle.plain_machine.specs.Machine.{Hardware};
+ghost use Rattle.plain_machine.specs.Trace.{info_in, place_count};
+ghost use Rattle.page_restore.specs.Waiting.{waiting_pages};
+ghost use Rattle.definitions.specs.Disk.{HasRisen, raised};
+ghost use Rattle.protocol_laws.specs.Rows.{IsNewFault};
+
+use crate::Load;
+use crate::load::Stage;
+use frame_arena::Frames;
+use image_read::ReadStep;
+use machine::Machine;
+use plain_machine::{Left, Reply};
+use protocol_laws::{meets_rows, reads_in_rows};
+use sector_disk::Disk;
+use swap_slots::FreeRuns;
+
+// The reads of the saved pages (snapshot_write_next, kernel/power/snapshot.c).
+impl Load {
+    ghost use Rattle.plain_machine.specs.declared.event.Event.TheVariants as event;
+    ghost use Rattle.plain_machine.specs.declared.event.Actor.TheVariants as actor;
+    ghost use Rattle.plain_machine.specs.declared.reply.Reply.TheVariants as reply;
+    ghost use Rattle.resume_core.specs.declared.load.Stage.TheVariants as stage;
+    ghost use Rattle.resume_core.specs.Loading.{activity_of, activity_told, is_idle};
+    ghost use Rattle.resume_core.specs.Ready.{CanRead, CanStep, IsOver, IsSameMachine};
+    ghost use Rattle.resume_core.specs.Row.{HasRow, HasReader, ListsOn, ReadsOn, EndsOn};
+    ghost use Rattle.resume_core.specs.Reader.{HasAnswered, StillReads, room_refusal, refusal_behind};
+
+    /// Reads the next map or saved page.
+    pub(crate) fn read_next<D: Disk>(
+        &mut self,
+        machine: &mut Machine,
+        frames: &mut Frames,
+        runs: &mut FreeRuns,
+        disk: &mut D,
+    ) -> Reply
+        requires ready { CanStep machine.old frames.old runs.old self.old }
+        requires blocks { D.block_count disk.old ≡ machine.old.blocks }
+        requires stage { self.old.stage ≡ stage.Read }
+        ensures row { HasRow machine.old frames.old self.old machine.new frames.new self.new (event.Step actor.Core) result (D.content disk.old) (D.content disk.new) }
+        ensures activity { activity_of self.new ≡ activity_told result }
+        ensures works { is_idle result ≡ false }
+        ensures ready { CanStep machine.new frames.new runs.new self.new }
+        ensures machine { IsSameMachine machine.old machine.new }
+        ensures cause { IsNewFault result → HasRisen (D.faults disk.old) (D.faults disk.new) }
+        ensures faults { D.faults disk.old ≤ D.faults disk.new }
+        ensures calls { (D.calls disk.new ≡ D.calls disk.old) ⊎ (D.calls disk.new ≡ raised (D.calls disk.old)) }
+        ensures orders { D.orders disk.new ≡ D.orders disk.old }
+        ensures blocks { D.block_count disk.new ≡ D.block_count disk.old }
+        ensures telling { D.tells_moments disk.new ≡ D.tells_moments disk.old }
+        ensures time { IsTrue (D.tells_moments disk.old) → Changes (Elapses (D.moment disk.old) (D.moment disk.new)
+            (D.left_since disk.old) (D.left_since disk.new)) (D.content disk.old) (D.content disk.new) }
+    {
+        reads_in_rows();
+        match self.read_block(machine, disk) {
+            ReadStep::Fault => self.stop(Reply::ReadFault { left: Left::Gone }),
+            ReadStep::Refused(cause) => self.stop(Reply::from(cause)),
+            ReadStep::Page { .. } => {
+                self.place_page(frames);
+                self.read_on(machine, frames, runs)
+            }
+            ReadStep::More { .. } | ReadStep::Done => self.read_on(machine, frames, runs),
+        }
+    }
+
+    /// Puts the page that was read where it waits. There is a place for each page that the numbers name.
+    fn place_page(&mut self, frames: &mut Frames)
+        requires ready { self.old.waiting.placement.ready ≡ true }
+        requires frames { top self.old.waiting.zones ≤ length frames.old }
+        ensures placed { self.old.waiting.loaded < length self.old.waiting.originals → waiting_pages frames.new self.new.waiting ≡ waiting_pages frames.old self.old.waiting ++ self.old.page ∷ [] }
+        ensures counted { self.old.waiting.loaded < length self.old.waiting.originals → self.new.waiting.loaded ≡ self.old.waiting.loaded + 1 }
+        ensures load { self.new ≡ record self.old { waiting = record self.old.waiting { loaded = self.new.waiting.loaded } } }
+        ensures others { (p : ℕ) → (Contains self.old.waiting.free p → ⊥) → frame frames.new p ≡ frame frames.old p }
+        ensures size { length frames.new ≡ length frames.old }
+    {
+        if self.waiting.left() > 0 {
+            self.waiting.place(frames, &self.page);
+        }
+    }
+
+    /// Goes on, or ends after the last page.
+    pub(crate) fn read_on(
+        &mut self,
+        machine: &mut Machine,
+        frames: &mut Frames,
+        runs: &mut FreeRuns,
+    ) -> Reply
+        requires over { IsOver machine.old frames.old runs.old self.old }
+        requires reader { CanRead machine.old.blocks self.old }
+        requires made { 4 ≤ self.old.made }
+        requires planned { self.old.waiting.placement.ready ≡ true }
+        ensures row { ReadsOn machine.old frames.old self.old machine.new frames.new self.new result }
+        ensures activity { activity_of self.new ≡ activity_told result }
+        ensures works { is_idle result ≡ false }
+        ensures ready { CanStep machine.new frames.new runs.new self.new }
+        ensures machine { IsSameMachine machine.old machine.new }
+        ensures no_fault { IsNewFault result → ⊥ }
+    {
+        reads_in_rows();
+        meets_rows();
+        if self.is_over() {
+            self.end(machine, frames, runs)
+        } else {
+            self.go_on(Stage::Read)
+        }
+    }
+
+    /// Whether the last page was read.
+    fn is_over(&self) -> bool
+        requires { IsSome self.now.reader }
+        ensures { (v : Image) (t : ℕ) (h : Hardware) → HasReader h v self.now t → IsTrue result ↔ ((2 ≤ t) × (t ≡ place_count (info_in h v).pages)) }
+    {
+        self.reader.as_ref().unwrap().over()
+    }
+}

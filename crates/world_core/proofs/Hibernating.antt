@@ -1,0 +1,221 @@
+-- What the rows of a hibernation say of the world that makes them.
+use Rattle.std.proofs.Common.{◌≡◌, ℕ, Bool, true, false, List, [], Option, Some, None, Result, Ok, Err, refl, sym, ap, ◌∙◌, subst}
+use Rattle.std.specs.Result.{IfOk, MatchResult}
+use Rattle.std.proofs.lemmas.Bool.{false≢true}
+use Rattle.definitions.specs.Disk as disk
+use Rattle.page_core.specs.declared.format.Format.{Format}
+use Rattle.sig_header.specs.declared.area.Area.{Area}
+use Rattle.sig_header.specs.declared.area.AreaKind.{AreaKind}
+use Rattle.sig_header.specs.declared.area.AreaKind.TheVariants.{Swap}
+use Rattle.plain_machine.specs.Machine.{Hardware, Memory}
+use Rattle.plain_machine.specs.Shows.{Shown, Activity, rests, runs, hibernates, undoes, ShowsKept}
+use Rattle.plain_machine.specs.State.{State, off, on, booting, hibernating, undoing, settling, waking, loading, asleep, Running, Held}
+use Rattle.plain_machine.specs.Stands.{Stands}
+use Rattle.plain_machine.specs.UsableArea.{fit_fault, kind_or_fit_fault}
+use Rattle.plain_machine.specs.declared.event.Event.TheVariants as event
+use Rattle.plain_machine.specs.declared.event.Actor.TheVariants as actor
+use Rattle.plain_machine.specs.declared.no_swap.NoSwap.{NoSwap}
+use Rattle.plain_machine.specs.declared.reply.Reply.{Reply}
+use Rattle.machine.specs.declared.machine.Machine.{Machine}
+use Rattle.hib_core.specs.Hibernation as hibernation
+use Rattle.hib_core.specs.Ready.{IsBusy, is_busy_at, IsSameMachine}
+use Rattle.hib_core.specs.Row as hib_row
+use Rattle.hib_core.specs.declared.hib.Hib.{Hib}
+use Rattle.hib_core.specs.declared.hib.Job.TheVariants as job
+use Rattle.hib_core.specs.declared.hib.Stage.{Stage}
+use Rattle.hib_core.specs.declared.hib.Stage.TheVariants as stage
+use Rattle.resume_core.specs.Row as resume_row
+use Rattle.plain_machine.specs.Step.{no_flights}
+use Rattle.world_core.specs.declared.world.Core.{Core}
+use Rattle.world_core.specs.declared.world.Core.TheVariants.{Off, Running as Runs, Hibernating, Loading}
+use Rattle.world_core.specs.World.{World}
+use Rattle.world_core.specs.StandsFor.{StandsFor, hardware_of, shown, shown_at, core_at, core_told}
+use Rattle.world_core.specs.Row.{IsRow, HasRow}
+use Rattle.world_core.proofs.Cases.{activity_by}
+use Rattle.world_core.proofs.Tasks.{names_same}
+
+-- What a hibernation is at.
+
+abbrev is_of_hibernation : Activity → Bool
+is_of_hibernation rests = true
+is_of_hibernation runs = true
+is_of_hibernation (hibernates suspends k) = true
+is_of_hibernation (undoes call k) = true
+is_of_hibernation _ = false
+
+of_hibernation : (s : Stage) (made : ℕ) → is_of_hibernation (hibernation.activity_at s made) ≡ true
+of_hibernation stage.Idle made = refl
+of_hibernation stage.Over made = refl
+of_hibernation stage.Write made = refl
+of_hibernation stage.Sync made = refl
+of_hibernation stage.Read made = refl
+of_hibernation stage.Mark made = refl
+of_hibernation stage.End made = refl
+of_hibernation (stage.TakeBack call) made = refl
+of_hibernation (stage.EndUndo call) made = refl
+
+never_at : {A : Type 0} (hib : Hib) (x : Activity) → is_of_hibernation x ≡ false → hibernation.activity_of hib ≡ x → A
+never_at hib x not_of e = absurd (false≢true (sym not_of ∙ sym (ap is_of_hibernation e) ∙ of_hibernation hib.stage hib.made))
+
+abbrev is_hibernating : Core → Bool
+is_hibernating Hibernating = true
+is_hibernating _ = false
+
+busy_at : (s : Stage) (made : ℕ) → core_at (hibernation.activity_at s made) ≡ Hibernating → is_busy_at s
+busy_at stage.Idle made e = absurd (false≢true (ap is_hibernating e))
+busy_at stage.Over made e = absurd (false≢true (ap is_hibernating e))
+busy_at stage.Write made e = tt
+busy_at stage.Sync made e = tt
+busy_at stage.Read made e = tt
+busy_at stage.Mark made e = tt
+busy_at stage.End made e = tt
+busy_at (stage.TakeBack call) made e = tt
+busy_at (stage.EndUndo call) made e = tt
+
+-- a world that hibernates by a reply has a hibernation that is busy
+pub busy_told : (hib : Hib) (r : Reply) (core : Core) → core ≡ core_told r → hibernation.activity_of hib ≡ hibernation.activity_told r → core ≡ Hibernating → IsBusy hib
+busy_told hib r core is told e = busy_at hib.stage hib.made (ap core_at told ∙ sym is ∙ e)
+
+abbrev is_loading : Core → Bool
+is_loading Loading = true
+is_loading _ = false
+
+never_loads_at : {A : Type 0} (s : Stage) (made : ℕ) → core_at (hibernation.activity_at s made) ≡ Loading → A
+never_loads_at stage.Idle made e = absurd (false≢true (ap is_loading e))
+never_loads_at stage.Over made e = absurd (false≢true (ap is_loading e))
+never_loads_at stage.Write made e = absurd (false≢true (ap is_loading e))
+never_loads_at stage.Sync made e = absurd (false≢true (ap is_loading e))
+never_loads_at stage.Read made e = absurd (false≢true (ap is_loading e))
+never_loads_at stage.Mark made e = absurd (false≢true (ap is_loading e))
+never_loads_at stage.End made e = absurd (false≢true (ap is_loading e))
+never_loads_at (stage.TakeBack call) made e = absurd (false≢true (ap is_loading e))
+never_loads_at (stage.EndUndo call) made e = absurd (false≢true (ap is_loading e))
+
+-- it doesn't resume
+pub never_loads : {A : Type 0} (hib : Hib) (r : Reply) (core : Core) → core ≡ core_told r → hibernation.activity_of hib ≡ hibernation.activity_told r → core ≡ Loading → A
+never_loads hib r core is told e = never_loads_at hib.stage hib.made (ap core_at told ∙ sym is ∙ e)
+
+-- What is shown.
+
+shown_running : (w : World) → w.core ≡ Runs → shown w ≡ hibernation.running_by w.machine w.frames
+shown_running w e = ap (λ (core : Core). shown_at core w.machine w.frames w.hib w.load) e
+
+shown_hibernating : (w : World) → w.core ≡ Hibernating → shown w ≡ hibernation.shown_by w.machine w.frames w.hib
+shown_hibernating w e = ap (λ (core : Core). shown_at core w.machine w.frames w.hib w.load) e
+
+hibernation_stands : (w : World) (c : disk.Content) (a : State) → w.core ≡ Hibernating → StandsFor w c a → hib_row.StandsFor w.machine w.frames w.hib c a
+hibernation_stands w c a core stands = record {
+  stands = subst (λ (s : Shown). Stands (hardware_of w) s c a) (shown_hibernating w core) stands.stands;
+  image = stands.image;
+}
+
+still_hibernating : (w : World) (c : disk.Content) (a : State) → w.core ≡ Hibernating → hib_row.StandsFor w.machine w.frames w.hib c a → resume_row.IsOfState w.machine w.frames w.load c a → StandsFor w c a
+still_hibernating w c a core stands resume = record {
+  stands = subst (λ (s : Shown). Stands (hardware_of w) s c a) (sym (shown_hibernating w core)) stands.stands;
+  image = stands.image;
+  resume = resume;
+}
+
+-- what an operation shows of a world, but for the activity, is seen no more once the world is off or runs
+abbrev pub shown_in : World → Activity → List ℕ → List ℕ → List (ℕ × List ℕ) → Shown
+shown_in w activity header copies loaded = record {
+  activity = activity;
+  keeps_dump = false;
+  held = w.machine.held;
+  unusable = hibernation.reason_of w.machine.area;
+  flights = no_flights;
+  frames = w.frames;
+  header = header;
+  copies = copies;
+  loaded = loaded;
+}
+
+kept_same : (w : World) (activity : Activity) (header copies : List ℕ) (loaded : List (ℕ × List ℕ)) (kept : Option Memory) → ShowsKept (hardware_of w) (shown_in w activity header copies loaded) kept → ShowsKept (hardware_of w) (shown w) kept
+kept_same w activity header copies loaded None shows = shows
+kept_same w activity header copies loaded (Some m) shows = shows
+
+pub then_off : (w : World) (c : disk.Content) (activity : Activity) (header copies : List ℕ) (loaded : List (ℕ × List ℕ)) (held : Held) (kept : Option Memory) → w.core ≡ Off → Stands (hardware_of w) (shown_in w activity header copies loaded) c (off held kept) → StandsFor w c (off held kept)
+then_off w c activity header copies loaded held kept core stands = record {
+  stands = record { activity = activity_by w Off core; parts = (kept_same w activity header copies loaded kept stands.parts.0, stands.parts.1) };
+  image = tt;
+  resume = tt;
+}
+
+pub then_running : (w : World) (c : disk.Content) (activity : Activity) (header copies : List ℕ) (loaded : List (ℕ × List ℕ)) (a : Running) → w.core ≡ Runs → Stands (hardware_of w) (shown_in w activity header copies loaded) c (on a) → StandsFor w c (on a)
+then_running w c activity header copies loaded a core stands =
+    let before = stands.parts.1 in
+    record {
+      stands = record {
+        activity = activity_by w Runs core;
+        parts = (
+          stands.parts.0,
+          record {
+            held = before.held;
+            task_slots = before.task_slots;
+            slot_pages = before.slot_pages;
+            names = names_same (hardware_of w) (shown_in w activity header copies loaded) (shown w) c a.held (λ k lt. refl) before.names;
+            header = before.header;
+            area = before.area;
+          },
+        );
+      };
+      image = tt;
+      resume = tt;
+    }
+
+-- the states of a hibernation are those of the world that is at what it is at
+world_stands : (w : World) (c : disk.Content) (b : State) → w.core ≡ core_at (hibernation.activity_of w.hib) → hib_row.StandsFor w.machine w.frames w.hib c b → StandsFor w c b
+world_stands w c (off held kept) core stands = then_off w c (hibernation.activity_of w.hib) w.hib.header w.hib.snapshot.copies [] held kept (core ∙ ap core_at stands.stands.activity) stands.stands
+world_stands w c (on a) core stands = then_running w c (hibernation.activity_of w.hib) w.hib.header w.hib.snapshot.copies [] a (core ∙ ap core_at stands.stands.activity) stands.stands
+world_stands w c (hibernating suspends i a k) core stands = still_hibernating w c (hibernating suspends i a k) (core ∙ ap core_at stands.stands.activity) stands tt
+world_stands w c (undoing i call a k) core stands = still_hibernating w c (undoing i call a k) (core ∙ ap core_at stands.stands.activity) stands tt
+world_stands w c (booting from dump held k) core stands = never_at w.hib _ refl stands.stands.activity
+world_stands w c (settling a k) core stands = never_at w.hib _ refl stands.stands.activity
+world_stands w c (waking i held a k) core stands = never_at w.hib _ refl stands.stands.activity
+world_stands w c (loading load k) core stands = never_at w.hib _ refl stands.stands.activity
+world_stands w c (asleep i held a) core stands = never_at w.hib _ refl stands.stands.activity
+
+-- The rows.
+
+pub row_of_begin : (old new : World) (f : Format) (r : Reply) (c : disk.Content) → old.core ≡ Runs → new.core ≡ core_told r → new.machine ≡ old.machine → hibernation.activity_of new.hib ≡ hibernation.activity_told r →
+    hib_row.IsBegun old.machine old.frames new.frames new.hib (job.Hibernate f) r c → IsRow (event.Hibernate f) old new r c c
+row_of_begin old new f r c core core' machine told row a stands =
+    let goes = row a (subst (λ (s : Shown). Stands (hardware_of old) s c a) (shown_running old core) stands.stands) in (
+      goes.0,
+      record {
+        step = goes.1.step;
+        stands = world_stands new c goes.0 (core' ∙ sym (ap core_at told)) (subst (λ (m : Machine). hib_row.StandsFor m new.frames new.hib c goes.0) (sym machine) goes.1.stands);
+        area = goes.1.area;
+        unwritten = goes.1.unwritten;
+      },
+    )
+
+pub row_of_step : (old new : World) (r : Reply) (before now : Option disk.Content) → old.core ≡ Hibernating → new.core ≡ core_told r → hibernation.activity_of new.hib ≡ hibernation.activity_told r →
+    hib_row.HasRow old.machine old.frames old.hib new.machine new.frames new.hib (event.Step actor.Core) r before now → HasRow (event.Step actor.Core) old new r before now
+row_of_step old new r before now core core' told row k is =
+    let at = row k is in (
+      at.0,
+      at.1,
+      λ a stands.
+          let goes = at.2 a (hibernation_stands old k a core stands) in (
+            goes.0,
+            record { step = goes.1.step; stands = world_stands new at.0 goes.0 (core' ∙ sym (ap core_at told)) goes.1.stands; area = goes.1.area; unwritten = goes.1.unwritten },
+          ),
+    )
+
+-- The area.
+
+abbrev IsUsable : Hardware → ℕ → Result Area NoSwap → Type 0
+IsUsable h blocks area = IfOk area (λ a. fit_fault h blocks a ≡ None)
+
+pub usable_same : (m m' : Machine) → IsSameMachine m m' → IsUsable m.hw m.blocks m.area → IsUsable m'.hw m'.blocks m'.area
+usable_same m m' same usable =
+    subst (λ (h : Hardware). IsUsable h m'.blocks m'.area) (sym same.hw)
+    (subst (λ (n : ℕ). IsUsable m.hw n m'.area) (sym same.blocks)
+    (subst (λ (a : Result Area NoSwap). IsUsable m.hw m.blocks a) (sym same.area) usable))
+
+-- an area that a header block's kind is, and that fits
+pub usable_of : (h : Hardware) (blocks : ℕ) (kind : AreaKind) (area : Result Area NoSwap) →
+    MatchResult area (λ a. (kind ≡ Swap a) × (kind_or_fit_fault h blocks kind ≡ None)) (λ why. kind_or_fit_fault h blocks kind ≡ Some why) → IsUsable h blocks area
+usable_of h blocks kind (Ok a) is = sym (ap (kind_or_fit_fault h blocks) is.0) ∙ is.1
+usable_of h blocks kind (Err why) is = tt

@@ -1,0 +1,224 @@
+-- What the rows of a resume say of the world that makes them.
+use Rattle.protocol_laws.proofs.Unwritten.{block_same}
+use Rattle.std.proofs.Common.{◌≡◌, ℕ, Bool, true, false, [], Option, Some, None, Result, Ok, Err, refl, sym, ap, ◌∙◌, subst}
+use Rattle.std.specs.List.{zip}
+use Rattle.std.proofs.lemmas.Bool.{false≢true}
+use Rattle.definitions.specs.Disk as disk
+use Rattle.sig_header.specs.declared.area.Area.{Area}
+use Rattle.plain_machine.specs.Machine.{Hardware, Memory}
+use Rattle.plain_machine.specs.Shows.{Shown, Activity, rests, runs, loads}
+use Rattle.plain_machine.specs.State.{State, off, on, booting, hibernating, undoing, settling, waking, loading, asleep, Held, Load as Resume}
+use Rattle.plain_machine.specs.Stands.{Stands}
+use Rattle.plain_machine.specs.Refusals.{refusal}
+use Rattle.plain_machine.specs.declared.event.Event.TheVariants as event
+use Rattle.plain_machine.specs.declared.event.Actor.TheVariants as actor
+use Rattle.plain_machine.specs.declared.event.Loader.{Loader}
+use Rattle.plain_machine.specs.declared.event.Loader.TheVariants as loaders
+use Rattle.plain_machine.specs.declared.event.IdentCheck.{IdentCheck}
+use Rattle.plain_machine.specs.declared.no_swap.NoSwap.{NoSwap}
+use Rattle.plain_machine.specs.declared.reply.Reply.{Reply}
+use Rattle.plain_machine.specs.declared.reply.Reply.TheVariants as reply
+use Rattle.protocol_laws.specs.Rows as rows
+use Rattle.page_restore.specs.Waiting.{waiting_pages}
+use Rattle.swap_slots.specs.Runs.{SlotRuns}
+use Rattle.machine.specs.declared.machine.Machine.{Machine}
+use Rattle.hib_core.specs.Hibernation as hibernation
+use Rattle.resume_core.specs.Loading as resumption
+use Rattle.resume_core.specs.Ready.{IsBusy, is_busy_at, IsUsable, CanMake, CanStep}
+use Rattle.resume_core.specs.Row as resume_row
+use Rattle.resume_core.specs.declared.load.Load.{Load}
+use Rattle.resume_core.specs.declared.load.Stage.{Stage}
+use Rattle.resume_core.specs.declared.load.Stage.TheVariants as stage
+use Rattle.world_core.specs.declared.world.Core.{Core}
+use Rattle.world_core.specs.declared.world.Core.TheVariants.{Off, Running as Runs, BootBegun, BootSynced, Hibernating, Loading}
+use Rattle.world_core.specs.World.{World}
+use Rattle.world_core.specs.Kept.{IsUp}
+use Rattle.world_core.specs.StandsFor.{StandsFor, hardware_of, shown, shown_at, core_at, core_resumed}
+use Rattle.world_core.specs.Row.{IsRow, HasRow}
+use Rattle.world_core.proofs.Booting.{no_kept}
+use Rattle.world_core.proofs.Cases.{activity_by}
+use Rattle.world_core.proofs.Hibernating.{shown_in, then_off, then_running}
+use Rattle.world_core.proofs.Rows.{refused_step, row_at_rest, same_area}
+
+-- What a resume is at.
+
+abbrev is_of_resume : Activity → Bool
+is_of_resume rests = true
+is_of_resume runs = true
+is_of_resume (loads k) = true
+is_of_resume _ = false
+
+of_resume : (s : Stage) (made : ℕ) → is_of_resume (resumption.activity_at s made) ≡ true
+of_resume stage.Rest made = refl
+of_resume stage.Runs made = refl
+of_resume stage.Sync made = refl
+of_resume stage.Find made = refl
+of_resume stage.TakeBack made = refl
+of_resume stage.SyncBack made = refl
+of_resume stage.List made = refl
+of_resume stage.Read made = refl
+
+never_at : {A : Type 0} (load : Load) (x : Activity) → is_of_resume x ≡ false → resumption.activity_of load ≡ x → A
+never_at load x not_of e = absurd (false≢true (sym not_of ∙ sym (ap is_of_resume e) ∙ of_resume load.stage load.made))
+
+abbrev is_loading : Core → Bool
+is_loading Loading = true
+is_loading _ = false
+
+abbrev is_running : Core → Bool
+is_running Runs = true
+is_running _ = false
+
+abbrev is_hibernating : Core → Bool
+is_hibernating Hibernating = true
+is_hibernating _ = false
+
+busy_at : (s : Stage) (made : ℕ) → core_at (resumption.activity_at s made) ≡ Loading → is_busy_at s
+busy_at stage.Rest made e = absurd (false≢true (ap is_loading e))
+busy_at stage.Runs made e = absurd (false≢true (ap is_loading e))
+busy_at stage.Sync made e = tt
+busy_at stage.Find made e = tt
+busy_at stage.TakeBack made e = tt
+busy_at stage.SyncBack made e = tt
+busy_at stage.List made e = tt
+busy_at stage.Read made e = tt
+
+runs_at : (s : Stage) (made : ℕ) → core_at (resumption.activity_at s made) ≡ Runs → s ≡ stage.Runs
+runs_at stage.Rest made e = absurd (false≢true (ap is_running e))
+runs_at stage.Runs made e = refl
+runs_at stage.Sync made e = absurd (false≢true (ap is_running e))
+runs_at stage.Find made e = absurd (false≢true (ap is_running e))
+runs_at stage.TakeBack made e = absurd (false≢true (ap is_running e))
+runs_at stage.SyncBack made e = absurd (false≢true (ap is_running e))
+runs_at stage.List made e = absurd (false≢true (ap is_running e))
+runs_at stage.Read made e = absurd (false≢true (ap is_running e))
+
+never_hibernates : (s : Stage) (made : ℕ) → core_at (resumption.activity_at s made) ≡ Hibernating → ⊥
+never_hibernates stage.Rest made e = false≢true (ap is_hibernating e)
+never_hibernates stage.Runs made e = false≢true (ap is_hibernating e)
+never_hibernates stage.Sync made e = false≢true (ap is_hibernating e)
+never_hibernates stage.Find made e = false≢true (ap is_hibernating e)
+never_hibernates stage.TakeBack made e = false≢true (ap is_hibernating e)
+never_hibernates stage.SyncBack made e = false≢true (ap is_hibernating e)
+never_hibernates stage.List made e = false≢true (ap is_hibernating e)
+never_hibernates stage.Read made e = false≢true (ap is_hibernating e)
+
+-- a world by what it has answered to a step of its resume
+pub record IsAfter (load : Load) (r : Reply) (core : Core) : Type 0 where
+  pub core_is : core ≡ core_resumed r
+  pub told : resumption.activity_of load ≡ resumption.activity_told r
+
+core_now : (load : Load) (r : Reply) (core : Core) → IsAfter load r core → core ≡ core_at (resumption.activity_of load)
+core_now load r core is = is.core_is ∙ sym (ap core_at is.told)
+
+pub busy_after : (load : Load) (r : Reply) (core : Core) → IsAfter load r core → core ≡ Loading → IsBusy load
+busy_after load r core is e = busy_at load.stage load.made (sym (core_now load r core is) ∙ e)
+
+pub idle_after : {A : Type 0} (load : Load) (r : Reply) (core : Core) → IsAfter load r core → core ≡ Hibernating → A
+idle_after load r core is e = absurd (never_hibernates load.stage load.made (sym (core_now load r core is) ∙ e))
+
+usable_after : (machine : Machine) (frames : Memory) (runs_of : SlotRuns) (load : Load) (r : Reply) (core : Core) → IsAfter load r core → CanStep machine frames runs_of load → core ≡ Runs → IsUsable machine
+usable_after machine frames runs_of load r core is can e =
+    (subst (λ (s : Stage). CanMake s machine frames runs_of load) (runs_at load.stage load.made (sym (core_now load r core is) ∙ e)) can.next).1
+
+pub usable_up : (machine : Machine) (frames : Memory) (runs_of : SlotRuns) (load : Load) (r : Reply) (core : Core) → IsAfter load r core → CanStep machine frames runs_of load → IsUp core → IsUsable machine
+usable_up machine frames runs_of load r Off after can up = absurd up
+usable_up machine frames runs_of load r Runs after can up = usable_after machine frames runs_of load r Runs after can refl
+usable_up machine frames runs_of load r BootBegun after can up = absurd up
+usable_up machine frames runs_of load r BootSynced after can up = absurd up
+usable_up machine frames runs_of load r Hibernating after can up = idle_after load r Hibernating after refl
+usable_up machine frames runs_of load r Loading after can up = absurd up
+
+-- What is shown.
+
+reason_same : (area : Result Area NoSwap) → resumption.reason_of area ≡ hibernation.reason_of area
+reason_same (Ok area) = refl
+reason_same (Err why) = refl
+
+-- a resume as the world shows it
+abbrev shown_loading : World → Shown
+shown_loading w = shown_in w (resumption.activity_of w.load) w.load.header [] (zip w.load.waiting.originals (waiting_pages w.frames w.load.waiting))
+
+with_reason : World → Option NoSwap → Shown
+with_reason w why = record (shown_loading w) { unusable = why }
+
+loading_is : (w : World) → resumption.shown_by w.machine w.frames w.load ≡ shown_loading w
+unfolding with_reason
+loading_is w = ap (with_reason w) (reason_same w.machine.area)
+
+shown_at_load : (w : World) → w.core ≡ Loading → shown w ≡ shown_loading w
+shown_at_load w e = ap (λ (core : Core). shown_at core w.machine w.frames w.hib w.load) e
+
+resume_stands : (w : World) (c : disk.Content) (a : State) → w.core ≡ Loading → StandsFor w c a → resume_row.StandsFor w.machine w.frames w.load c a
+resume_stands w c a core stands = record {
+  stands = subst (λ (s : Shown). Stands (hardware_of w) s c a) (shown_at_load w core ∙ sym (loading_is w)) stands.stands;
+  resume = stands.resume;
+}
+
+as_shown : (w : World) (c : disk.Content) (a : State) → resume_row.StandsFor w.machine w.frames w.load c a → Stands (hardware_of w) (shown_loading w) c a
+as_shown w c a stands = subst (λ (s : Shown). Stands (hardware_of w) s c a) (loading_is w) stands.stands
+
+still_loading : (w : World) (c : disk.Content) (load : Resume) (k : ℕ) → w.core ≡ Loading → resume_row.StandsFor w.machine w.frames w.load c (loading load k) → StandsFor w c (loading load k)
+still_loading w c load k core stands = record {
+  stands = subst (λ (s : Shown). Stands (hardware_of w) s c (loading load k)) (sym (shown_at_load w core)) (as_shown w c (loading load k) stands);
+  image = tt;
+  resume = stands.resume;
+}
+
+-- the states of a resume are those of the world that is at what it is at
+world_stands : (w : World) (c : disk.Content) (b : State) → w.core ≡ core_at (resumption.activity_of w.load) → resume_row.StandsFor w.machine w.frames w.load c b → StandsFor w c b
+world_stands w c (off held kept) core stands =
+    then_off w c (resumption.activity_of w.load) w.load.header [] (zip w.load.waiting.originals (waiting_pages w.frames w.load.waiting)) held kept (core ∙ ap core_at stands.stands.activity) (as_shown w c (off held kept) stands)
+world_stands w c (on a) core stands =
+    then_running w c (resumption.activity_of w.load) w.load.header [] (zip w.load.waiting.originals (waiting_pages w.frames w.load.waiting)) a (core ∙ ap core_at stands.stands.activity) (as_shown w c (on a) stands)
+world_stands w c (loading load k) core stands = still_loading w c load k (core ∙ ap core_at stands.stands.activity) stands
+world_stands w c (booting from dump held k) core stands = never_at w.load _ refl stands.stands.activity
+world_stands w c (hibernating suspends i a k) core stands = never_at w.load _ refl stands.stands.activity
+world_stands w c (undoing i call a k) core stands = never_at w.load _ refl stands.stands.activity
+world_stands w c (settling a k) core stands = never_at w.load _ refl stands.stands.activity
+world_stands w c (waking i held a k) core stands = never_at w.load _ refl stands.stands.activity
+world_stands w c (asleep i held a) core stands = never_at w.load _ refl stands.stands.activity
+
+-- The rows.
+
+refuses_table : (h : Hardware) (held : Held) (kept : Option Memory) (check : IdentCheck) → kept ≡ None → refusal h (off held kept) (event.Resume loaders.Table check) ≡ Some reply.NoDump
+unfolding refusal
+refuses_table h held kept check none = ap (λ (k : Option Memory). refusal h (off held k) (event.Resume loaders.Table check)) none
+
+-- no dump is kept
+pub no_table : (w : World) (c : disk.Content) (check : IdentCheck) → w.core ≡ Off → IsRow (event.Resume loaders.Table check) w w reply.NoDump c c
+no_table w c check core =
+    row_at_rest (event.Resume loaders.Table check) w w reply.NoDump c c core
+    (λ held kept stands. (
+      off held kept,
+      record {
+        step = refused_step (hardware_of w) (disk.as_it_reads c) (off held kept) (event.Resume loaders.Table check) reply.NoDump (refuses_table (hardware_of w) held kept check (no_kept w c held kept stands));
+        stands = stands;
+        area = same_area (hardware_of w) (disk.as_it_reads c) (disk.as_it_reads c) refl;
+        unwritten = λ b not. block_same b _;
+      },
+    ))
+
+pub row_of_begin : (old new : World) (loader : Loader) (check : IdentCheck) (r : Reply) (c : disk.Content) → old.core ≡ Off → IsAfter new.load r new.core → hardware_of new ≡ hardware_of old →
+    resume_row.BeginsRow new.machine new.frames new.load loader check r → IsRow (event.Resume loader check) old new r c c
+row_of_begin old new loader check r c core after hw row =
+    row_at_rest (event.Resume loader check) old new r c c core
+    (λ held kept stands.
+    let led = row (shown old) c held kept (activity_by old Off core, refl) (subst (λ (h : Hardware). Stands h (shown old) c (off held kept)) (sym hw) stands.stands) in (
+      led.0,
+      subst (λ (h : Hardware). rows.Leads h (StandsFor new) (event.Resume loader check) r c c (off held kept) led.0) hw
+          (record { step = led.1.step; stands = world_stands new c led.0 (core_now new.load r new.core after) led.1.stands; area = led.1.area; unwritten = led.1.unwritten }),
+    ))
+
+pub row_of_step : (old new : World) (r : Reply) (before now : Option disk.Content) → old.core ≡ Loading → IsAfter new.load r new.core →
+    resume_row.HasRow old.machine old.frames old.load new.machine new.frames new.load (event.Step actor.Core) r before now → HasRow (event.Step actor.Core) old new r before now
+row_of_step old new r before now core after row k is =
+    let at = row k is in (
+      at.0,
+      at.1,
+      λ a stands.
+          let goes = at.2 a (resume_stands old k a core stands) in (
+            goes.0,
+            record { step = goes.1.step; stands = world_stands new at.0 goes.0 (core_now new.load r new.core after) goes.1.stands; area = goes.1.area; unwritten = goes.1.unwritten },
+          ),
+    )

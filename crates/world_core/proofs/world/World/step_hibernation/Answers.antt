@@ -1,0 +1,37 @@
+use Rattle.std.proofs.Common.{inr, ap, sym, ◌∙◌, subst}
+use Rattle.std.proofs.lemmas.Bool.{false≢true}
+use Rattle.hib_core.specs.Hibernation.{is_idle}
+use Rattle.plain_machine.specs.declared.event.Event.TheVariants as event
+use Rattle.plain_machine.specs.declared.event.Actor.TheVariants as actor
+use Rattle.plain_machine.specs.Machine.{Hardware}
+use Rattle.world_core.specs.World.{World}
+use Rattle.world_core.specs.Kept.{kept_world}
+use Rattle.world_core.specs.Row.{HasRow}
+use Rattle.world_core.proofs.Hibernating.{row_of_step, busy_told, never_loads, usable_same}
+use Rattle.world_core.proofs.Rows.{is_up}
+use Rattle.world_core.proofs.world.World.step_hibernation.Goals as goal
+
+pub invariant_of-self : goal.invariant_of-self
+invariant_of-self g c =
+    let core = ap (λ (w : World). w.core) c.self.view_is ∙ c.requires.hibernates in
+    let same = sym (ap (λ (h : Hardware). h.zones) c.step-reply.ensures.machine.hw) in
+    record {
+      size = c.step-reply.ensures.ready.size;
+      zones = c.step-reply.ensures.zones ∙ c.self.invariant.zones ∙ same;
+      origs = c.self.invariant.origs ∙ same;
+      zeros = c.self.invariant.zeros ∙ same;
+      waiting = c.self.invariant.waiting ∙ same;
+      room = c.step-reply.ensures.ready.matches.room;
+      usable = λ up. usable_same c.self.inside.machine c.step-reply.new.machine c.step-reply.ensures.machine (c.self.invariant.usable (is_up c.self.inside.core core));
+      busy = λ e. (c.step-reply.ensures.ready, busy_told c.step-reply.new.self c.step-reply.result c.core_after-self-inside.result c.core_after-self-inside.ensures c.step-reply.ensures.activity e);
+      loads = λ e. never_loads c.step-reply.new.self c.step-reply.result c.core_after-self-inside.result c.core_after-self-inside.ensures c.step-reply.ensures.activity e;
+    }
+
+pub returns-clause-row : goal.returns-clause-row
+returns-clause-row g c =
+    let new = kept_world (record { machine = c.step-reply.new.machine; frames = c.step-reply.new.frames; runs = c.step-reply.new.runs; hib = c.step-reply.new.self; load = c.self.inside.load; core = c.core_after-self-inside.result }) in
+    subst (λ (old : World). HasRow (event.Step actor.Core) old new c.step-reply.result (g.D.Disk.content c.args.disk.now) (g.D.Disk.content c.step-reply.new.disk)) c.self.view_is
+    (row_of_step (kept_world c.self.inside) new c.step-reply.result (g.D.Disk.content c.args.disk.now) (g.D.Disk.content c.step-reply.new.disk) (ap (λ (w : World). w.core) c.self.view_is ∙ c.requires.hibernates) c.core_after-self-inside.ensures c.step-reply.ensures.activity c.step-reply.ensures.row)
+
+pub returns-clause-calls : goal.returns-clause-calls
+returns-clause-calls g c = inr (tt, (λ e. false≢true (sym c.step-reply.ensures.works ∙ ap is_idle e)), c.step-reply.ensures.calls)

@@ -1,0 +1,37 @@
+use Rattle.std.proofs.Common.{inl, inr, ap, sym, ◌∙◌, subst, ⊎_elim}
+use Rattle.std.proofs.lemmas.Bool.{false≢true}
+use Rattle.resume_core.specs.Loading.{is_idle}
+use Rattle.plain_machine.specs.declared.event.Event.TheVariants as event
+use Rattle.plain_machine.specs.declared.event.Actor.TheVariants as actor
+use Rattle.plain_machine.specs.Machine.{Hardware}
+use Rattle.world_core.specs.World.{World}
+use Rattle.world_core.specs.Kept.{kept_world}
+use Rattle.world_core.specs.Row.{HasRow}
+use Rattle.world_core.proofs.Resuming.{IsAfter, row_of_step, busy_after, idle_after, usable_up}
+use Rattle.world_core.proofs.world.World.step_resume.Goals as goal
+
+pub invariant_of-self : goal.invariant_of-self
+invariant_of-self g c =
+    let after : IsAfter c.step-reply.new.self c.step-reply.result c.core_after-self-inside.result = record { core_is = c.core_after-self-inside.ensures; told = c.step-reply.ensures.activity } in
+    let over = c.step-reply.ensures.ready.over in
+    record {
+      size = over.size;
+      zones = c.self.invariant.zones ∙ sym (ap (λ (h : Hardware). h.zones) c.step-reply.ensures.machine.hw);
+      origs = over.origs;
+      zeros = over.zeros;
+      waiting = over.waiting;
+      room = over.room;
+      usable = λ up. usable_up c.step-reply.new.machine c.step-reply.new.frames c.step-reply.new.runs c.step-reply.new.self c.step-reply.result c.core_after-self-inside.result after c.step-reply.ensures.ready up;
+      busy = λ e. idle_after c.step-reply.new.self c.step-reply.result c.core_after-self-inside.result after e;
+      loads = λ e. (c.step-reply.ensures.ready, busy_after c.step-reply.new.self c.step-reply.result c.core_after-self-inside.result after e);
+    }
+
+pub returns-clause-row : goal.returns-clause-row
+returns-clause-row g c =
+    let new = kept_world (record { machine = c.step-reply.new.machine; frames = c.step-reply.new.frames; runs = c.step-reply.new.runs; hib = c.self.inside.hib; load = c.step-reply.new.self; core = c.core_after-self-inside.result }) in
+    subst (λ (old : World). HasRow (event.Step actor.Core) old new c.step-reply.result (g.D.Disk.content c.args.disk.now) (g.D.Disk.content c.step-reply.new.disk)) c.self.view_is
+    (row_of_step (kept_world c.self.inside) new c.step-reply.result (g.D.Disk.content c.args.disk.now) (g.D.Disk.content c.step-reply.new.disk) (ap (λ (w : World). w.core) c.self.view_is ∙ c.requires.resumes)
+    (record { core_is = c.core_after-self-inside.ensures; told = c.step-reply.ensures.activity }) c.step-reply.ensures.row)
+
+pub returns-clause-calls : goal.returns-clause-calls
+returns-clause-calls g c = ⊎_elim (λ same. inl same) (λ raised. inr (tt, (λ e. false≢true (sym c.step-reply.ensures.works ∙ ap is_idle e)), raised)) c.step-reply.ensures.calls

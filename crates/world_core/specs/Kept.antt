@@ -1,0 +1,35 @@
+-- How a simulated machine is kept.
+use Rattle.std.specs.Prelude.{◌≡◌, ◌≤◌, length, None, IfOk, ⊤}
+use Rattle.definitions.specs.Zones.{top}
+use Rattle.plain_machine.specs.UsableArea.{fit_fault}
+use Rattle.hib_core.specs.Ready.{CanStep, IsBusy}
+use Rattle.resume_core.specs.Ready as resumption
+use Rattle.world_core.specs.declared.world.Core.{Core}
+use Rattle.world_core.specs.declared.world.Core.TheVariants.{Off, Running, BootBegun, BootSynced, Hibernating, Loading}
+use Rattle.world_core.specs.declared.world.World.TheInside.{Inside}
+use Rattle.world_core.specs.World.{World}
+
+abbrev pub kept_world : Inside → World
+kept_world a = record { machine = a.machine; frames = a.frames; hib = a.hib; load = a.load; core = a.core }
+
+-- a machine that runs, or hibernates, has its area
+abbrev pub IsUp : Core → Type 0
+IsUp Off = ⊥
+IsUp Running = ⊤
+IsUp BootBegun = ⊥
+IsUp BootSynced = ⊥
+IsUp Hibernating = ⊤
+IsUp Loading = ⊥
+
+-- Memory has the machine's page frames, and hibernation and resume are over its zones, with room for its slots. Where the area can
+-- be used each slot's block is one of the disk's, and a hibernation or resume can make its next step.
+pub record IsKept (a : Inside) : Type 0 where
+  pub size : length a.frames ≡ top a.machine.hw.zones
+  pub zones : a.hib.snapshot.zones ≡ a.machine.hw.zones
+  pub origs : a.load.origs.zones ≡ a.machine.hw.zones
+  pub zeros : a.load.zeros.zones ≡ a.machine.hw.zones
+  pub waiting : a.load.waiting.zones ≡ a.machine.hw.zones
+  pub room : a.machine.hw.slots ≤ a.runs.room
+  pub usable : IsUp a.core → IfOk a.machine.area (λ area. fit_fault a.machine.hw a.machine.blocks area ≡ None)
+  pub busy : a.core ≡ Hibernating → CanStep a.machine a.frames a.runs a.hib × IsBusy a.hib
+  pub loads : a.core ≡ Loading → resumption.CanStep a.machine a.frames a.runs a.load × resumption.IsBusy a.load

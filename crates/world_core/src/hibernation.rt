@@ -1,0 +1,94 @@
+ghost use Rattle.std.specs.Prelude.{◌≡◌, ℕ, ◌≤◌, IsTrue};
+ghost use Rattle.definitions.specs.Disk.{HasRisen, Changes, Elapses};
+ghost use Rattle.world_core.specs.StandsFor.{core_told};
+
+use crate::World;
+use crate::world::Core;
+use hib_core::Job;
+use page_core::Format;
+use plain_machine::Reply;
+use sector_disk::Disk;
+use swap_slots::SlotTable;
+
+// A hibernation: its begin and its steps (hibernate, kernel/power/hibernate.c).
+impl World {
+    ghost use Rattle.definitions.specs.Disk.{Content};
+    ghost use Rattle.plain_machine.specs.declared.event.Event.TheVariants as event;
+    ghost use Rattle.plain_machine.specs.declared.event.Actor.TheVariants as actor;
+    ghost use Rattle.protocol_laws.specs.Rows.{IsNewFault};
+    ghost use Rattle.world_core.specs.declared.world.Core.TheVariants as core;
+    ghost use Rattle.world_core.specs.StandsFor.{hardware_of, blocks_of, IsOff};
+    ghost use Rattle.world_core.specs.Row.{HasRow, IsRow, IsCalled};
+
+    /// Begins a hibernation, if the machine runs.
+    pub(crate) fn hibernate(&mut self, format: Format) -> Reply
+        ensures row { (c : Content) → IsRow (event.Hibernate format) self.old self.new result c c }
+        ensures cause { IsNewFault result → ⊥ }
+        ensures hardware { hardware_of self.new ≡ hardware_of self.old }
+        ensures blocks { blocks_of self.new ≡ blocks_of self.old }
+        ensures off { IsOff self.old → IsOff self.new }
+    {
+        match self.core {
+            Core::Off => Reply::NotOn,
+            Core::BootBegun | Core::BootSynced | Core::Hibernating | Core::Loading => Reply::Frozen,
+            Core::Running => self.begin_hibernation(format),
+        }
+    }
+
+    /// Begins it. Tasks don't take or give back slots, but nothing says so: the free ones are read from the slot table.
+    fn begin_hibernation(&mut self, format: Format) -> Reply
+        requires running { self.old.core ≡ core.Running }
+        ensures row { (c : Content) → IsRow (event.Hibernate format) self.old self.new result c c }
+        ensures cause { IsNewFault result → ⊥ }
+        ensures hardware { hardware_of self.new ≡ hardware_of self.old }
+        ensures blocks { blocks_of self.new ≡ blocks_of self.old }
+    {
+        let table = SlotTable {
+            first: self.machine.hw.slot_table(),
+            slots: self.machine.hw.slots(),
+        };
+        self.runs.rebuild(&self.frames, &table);
+        let reply = self.hib.begin(
+            &mut self.machine,
+            &mut self.frames,
+            &mut self.runs,
+            Job::Hibernate(format),
+        );
+        self.core = core_after(&reply);
+        reply
+    }
+
+    /// Makes the next step of it.
+    pub(crate) fn step_hibernation<D: Disk>(&mut self, disk: &mut D) -> Reply
+        requires hibernates { self.old.core ≡ core.Hibernating }
+        requires blocks { D.block_count disk.old ≡ blocks_of self.old }
+        ensures row { HasRow (event.Step actor.Core) self.old self.new result (D.content disk.old) (D.content disk.new) }
+        ensures cause { IsNewFault result → HasRisen (D.faults disk.old) (D.faults disk.new) }
+        ensures faults { D.faults disk.old ≤ D.faults disk.new }
+        ensures calls { IsCalled (event.Step actor.Core) result (D.calls disk.old) (D.calls disk.new) }
+        ensures orders { D.orders disk.new ≡ D.orders disk.old }
+        ensures hardware { hardware_of self.new ≡ hardware_of self.old }
+        ensures blocks { blocks_of self.new ≡ blocks_of self.old }
+        ensures disk_blocks { D.block_count disk.new ≡ D.block_count disk.old }
+        ensures telling { D.tells_moments disk.new ≡ D.tells_moments disk.old }
+        ensures time { IsTrue (D.tells_moments disk.old) → Changes (Elapses (D.moment disk.old) (D.moment disk.new)
+            (D.left_since disk.old) (D.left_since disk.new)) (D.content disk.old) (D.content disk.new) }
+    {
+        let reply = self
+            .hib
+            .step(&mut self.machine, &mut self.frames, &mut self.runs, disk);
+        self.core = core_after(&reply);
+        reply
+    }
+}
+
+/// What the machine is at after this reply to the begin or a step of a hibernation.
+fn core_after(reply: &Reply) -> Core
+    ensures { result ≡ core_told reply.now }
+{
+    match reply {
+        Reply::More { .. } | Reply::Undo { .. } => Core::Hibernating,
+        Reply::Hibernated { .. } => Core::Off,
+        _ => Core::Running,
+    }
+}

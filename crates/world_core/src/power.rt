@@ -1,0 +1,34 @@
+ghost use Rattle.std.specs.Prelude.{◌≡◌, ℕ, ◌≤◌};
+ghost use Rattle.definitions.specs.Disk.{raised, Changes, Restarts};
+
+use crate::World;
+use crate::world::Core;
+use plain_machine::Reply;
+use protocol_laws::cuts;
+use sector_disk::Disk;
+
+// A power cut (own).
+impl World {
+    ghost use Rattle.plain_machine.specs.declared.event.Event.TheVariants as event;
+    ghost use Rattle.protocol_laws.specs.Rows.{IsNewFault};
+    ghost use Rattle.world_core.specs.StandsFor.{hardware_of, IsOff};
+    ghost use Rattle.world_core.specs.Row.{HasRow};
+
+    /// The power is cut: the disk is left with one of its images, and memory is gone. Never refused.
+    pub(crate) fn cut<D: Disk>(&mut self, disk: &mut D, pick: u64) -> Reply
+        ensures row { HasRow (event.Cut pick) self.old self.new result (D.content disk.old) (D.content disk.new) }
+        ensures cause { IsNewFault result → ⊥ }
+        ensures faults { D.faults disk.old ≤ D.faults disk.new }
+        ensures calls { D.calls disk.new ≡ D.calls disk.old }
+        ensures orders { D.orders disk.new ≡ raised (D.orders disk.old) }
+        ensures telling { D.tells_moments disk.new ≡ D.tells_moments disk.old }
+        ensures hardware { hardware_of self.new ≡ hardware_of self.old }
+        ensures off { IsOff self.new }
+        ensures cut { Changes Restarts (D.content disk.old) (D.content disk.new) }
+    {
+        cuts();
+        disk.restart(pick);
+        self.core = Core::Off;
+        Reply::WasCut
+    }
+}

@@ -1,0 +1,86 @@
+ghost use Rattle.std.specs.Prelude.{◌≡◌, ℕ, ◌⊎◌, ◌≤◌, IsTrue};
+ghost use Rattle.definitions.specs.Disk.{HasRisen, Changes, Elapses};
+ghost use Rattle.world_core.specs.StandsFor.{core_resumed};
+
+use crate::World;
+use crate::world::Core;
+use plain_machine::{IdentCheck, Loader, Ranges, Reply};
+use resume_core::Start;
+use sector_disk::Disk;
+
+// A resume: its begin and its steps (software_resume, kernel/power/hibernate.c).
+impl World {
+    ghost use Rattle.definitions.specs.Disk.{Content};
+    ghost use Rattle.plain_machine.specs.declared.event.Event.TheVariants as event;
+    ghost use Rattle.plain_machine.specs.declared.event.Actor.TheVariants as actor;
+    ghost use Rattle.plain_machine.specs.declared.event.Loader.TheVariants as loaders;
+    ghost use Rattle.protocol_laws.specs.Rows.{IsNewFault};
+    ghost use Rattle.world_core.specs.declared.world.Core.TheVariants as core;
+    ghost use Rattle.world_core.specs.StandsFor.{hardware_of, blocks_of, IsOff};
+    ghost use Rattle.world_core.specs.Row.{HasRow, IsRow, IsCalled};
+
+    /// Begins a resume, on a disk of so many blocks, if the machine is off. It keeps no dump yet, so a dump's loader is refused.
+    pub(crate) fn resume(&mut self, blocks: u32, loader: Loader, check: IdentCheck) -> Reply
+        ensures row { (c : Content) → IsRow (event.Resume loader check) self.old self.new result c c }
+        ensures cause { IsNewFault result → ⊥ }
+        ensures hardware { hardware_of self.new ≡ hardware_of self.old }
+        ensures blocks { ((self.new.core ≡ self.old.core) × (blocks_of self.new ≡ blocks_of self.old)) ⊎ (blocks_of self.new ≡ blocks) }
+    {
+        if !self.is_off() {
+            return Reply::NotOff;
+        }
+        match loader {
+            Loader::Table => Reply::NoDump,
+            Loader::Ranges(ranges) => self.begin_resume(blocks, ranges, check),
+        }
+    }
+
+    /// Begins it, with a scripted loader that holds these ranges of page frames.
+    fn begin_resume(&mut self, blocks: u32, ranges: Ranges, check: IdentCheck) -> Reply
+        requires { IsOff self.old }
+        ensures row { (c : Content) → IsRow (event.Resume (loaders.Ranges ranges) check) self.old self.new result c c }
+        ensures cause { IsNewFault result → ⊥ }
+        ensures hardware { hardware_of self.new ≡ hardware_of self.old }
+        ensures blocks { blocks_of self.new ≡ blocks }
+    {
+        self.machine.blocks = blocks;
+        let start = Start::Resume(Loader::Ranges(ranges), check);
+        let reply = self.load.begin(&self.machine, &mut self.frames, start);
+        self.core = core_after(&reply);
+        reply
+    }
+
+    /// Makes the next step of it.
+    pub(crate) fn step_resume<D: Disk>(&mut self, disk: &mut D) -> Reply
+        requires resumes { self.old.core ≡ core.Loading }
+        requires blocks { D.block_count disk.old ≡ blocks_of self.old }
+        ensures row { HasRow (event.Step actor.Core) self.old self.new result (D.content disk.old) (D.content disk.new) }
+        ensures cause { IsNewFault result → HasRisen (D.faults disk.old) (D.faults disk.new) }
+        ensures faults { D.faults disk.old ≤ D.faults disk.new }
+        ensures calls { IsCalled (event.Step actor.Core) result (D.calls disk.old) (D.calls disk.new) }
+        ensures orders { D.orders disk.new ≡ D.orders disk.old }
+        ensures hardware { hardware_of self.new ≡ hardware_of self.old }
+        ensures blocks { blocks_of self.new ≡ blocks_of self.old }
+        ensures disk_blocks { D.block_count disk.new ≡ D.block_count disk.old }
+        ensures telling { D.tells_moments disk.new ≡ D.tells_moments disk.old }
+        ensures time { IsTrue (D.tells_moments disk.old) → Changes (Elapses (D.moment disk.old) (D.moment disk.new)
+            (D.left_since disk.old) (D.left_since disk.new)) (D.content disk.old) (D.content disk.new) }
+    {
+        let reply = self
+            .load
+            .step(&mut self.machine, &mut self.frames, &mut self.runs, disk);
+        self.core = core_after(&reply);
+        reply
+    }
+}
+
+/// What the machine is at after this reply to the begin or a step of a resume.
+fn core_after(reply: &Reply) -> Core
+    ensures { result ≡ core_resumed reply.now }
+{
+    match reply {
+        Reply::Loading { .. } => Core::Loading,
+        Reply::Resumed { .. } => Core::Running,
+        _ => Core::Off,
+    }
+}
