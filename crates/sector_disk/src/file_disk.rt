@@ -3,14 +3,16 @@ ghost use Rattle.definitions.specs.Disk.{raised, HasRisen};
 ghost use Rattle.sector_disk.specs.FileDisk.{IsNew};
 
 use crate::Disk;
+use crate::in_use::is_in_use;
 use page_core::{Failed, Page};
-use std::fs::{OpenFile, OpenOptions};
+use std::fs::{Metadata, OpenFile, OpenOptions};
 use std::io::{self, ErrorKind, Read, Seek, SeekFrom, Write};
+use std::os::unix::fs::{FileTypeExt, MetadataExt};
 use std::rt::Files;
 
 const BLOCK_SIZE: u64 = 4096;
 
-/// A disk in a file, whose blocks are its length divided by 4096.
+/// A disk in a file or on a block device, whose blocks are its length divided by 4096.
 ///
 /// It tells neither content nor moments: what a file does at a power cut is not known here. A restart and an arm
 /// do nothing but count.
@@ -24,24 +26,43 @@ pub struct FileDisk<F> {
 }
 
 impl<F: Read + Write + Seek + OpenFile + Drop> FileDisk<F> {
-    /// Opens a file for reading and writing.
-    pub fn open<R: Files<File = F>>(rt: &R, path: &str) -> io::Result<FileDisk<F>>
+    /// Opens a file or a block device for reading and writing. A device that the kernel uses is refused.
+    ///
+    /// What is neither a file nor a block device is refused before it is opened, since to open a FIFO is to wait.
+    pub fn open<R: Files<File = F> + Alloc + Clone + Drop>(
+        rt: &R,
+        path: &str,
+    ) -> io::Result<FileDisk<F>>
         ensures { IfOk result IsNew }
     {
-        Self::over(OpenOptions::new().read(true).write(true).open(rt, path)?)
+        let found = kind_at(rt, path)?;
+        if found.file_type().is_block_device() && is_in_use(rt, found.rdev())? {
+            return Err(ErrorKind::ResourceBusy.into());
+        }
+        Self::over(
+            OpenOptions::new().read(true).write(true).open(rt, path)?,
+            &found,
+        )
     }
 
-    /// Opens a file for reading alone: each write fails.
+    /// Opens a file or a block device for reading alone: each write fails. What is neither is refused before it is opened.
     pub fn open_read_only<R: Files<File = F>>(rt: &R, path: &str) -> io::Result<FileDisk<F>>
         ensures { IfOk result IsNew }
     {
-        Self::over(OpenOptions::new().read(true).open(rt, path)?)
+        let found = kind_at(rt, path)?;
+        Self::over(OpenOptions::new().read(true).open(rt, path)?, &found)
     }
 
-    fn over(file: F) -> io::Result<FileDisk<F>>
+    /// A disk over an open file, which must be the one that was found at its path. Of a device the system tells the length
+    /// at its end alone.
+    fn over(mut file: F, found: &Metadata) -> io::Result<FileDisk<F>>
         ensures { IfOk result IsNew }
     {
-        let blocks = file.metadata()?.len() / BLOCK_SIZE;
+        let opened = file.metadata()?;
+        if opened.dev() != found.dev() || opened.ino() != found.ino() {
+            return Err(ErrorKind::NotFound.into());
+        }
+        let blocks = file.seek(SeekFrom::End(0))? / BLOCK_SIZE;
         Ok(FileDisk {
             file,
             blocks: u32::try_from(blocks).unwrap_or(u32::MAX),
@@ -67,6 +88,17 @@ impl<F: Read + Write + Seek + OpenFile + Drop> FileDisk<F> {
                 Err(Failed)
             }
         }
+    }
+}
+
+/// What is at a path, if that is a regular file or a block device.
+fn kind_at<R: Files>(rt: &R, path: &str) -> io::Result<Metadata> {
+    let found = rt.metadata(path)?;
+    let kind = found.file_type();
+    if kind.is_file() || kind.is_block_device() {
+        Ok(found)
+    } else {
+        Err(ErrorKind::InvalidInput.into())
     }
 }
 

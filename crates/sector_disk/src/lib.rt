@@ -4,6 +4,9 @@
 mod calls;
 mod disk;
 mod file_disk;
+#[cfg(test)]
+mod file_tests;
+mod in_use;
 mod log_disk;
 mod mem_disk;
 mod recorded;
