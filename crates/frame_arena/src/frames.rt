@@ -13,17 +13,21 @@ pub struct Frames {
     pages: Block<[u8; 4096]>,
     lease: Lease<[u8; 4096], Global>,
     alloc: Global,
+    /// Whether nothing was written since the page frames were made.
+    untouched: bool,
 }
 
 impl Model for Frames {
-    ghost use Rattle.std.specs.Prelude.{List, ℕ, ◌<◌, ◌^◌, length};
+    ghost use Rattle.std.specs.Prelude.{◌≡◌, List, ℕ, ◌<◌, ◌^◌, length, replicate, IsTrue};
+    ghost use Rattle.definitions.specs.Bytes.{zero_page};
     ghost use Rattle.frame_arena.specs.Leases.{IsFull, IsLeaseOf};
 
     ghost Value = { List (List ℕ) };
 
     ghost view = { λ f. f.pages.items };
 
-    ghost invariant = { λ f. (length f.pages.items < 2 ^ 32) × IsFull f.pages × IsLeaseOf f.lease f.pages f.alloc };
+    ghost invariant = { λ f. (length f.pages.items < 2 ^ 32) × IsFull f.pages × IsLeaseOf f.lease f.pages f.alloc
+        × (IsTrue f.untouched → f.pages.items ≡ replicate (length f.pages.items) zero_page) };
 }
 
 impl Drop for Frames {
@@ -32,6 +36,7 @@ impl Drop for Frames {
             pages,
             lease,
             alloc,
+            untouched: _,
         } = self;
         lease.give_back(&alloc, pages);
     }
@@ -50,6 +55,7 @@ impl Frames {
                     pages,
                     lease,
                     alloc,
+                    untouched: true,
                 })
             }
             Err(_) => Err(NoMemory),
@@ -78,6 +84,7 @@ impl Frames {
         requires { p < length self.old }
         ensures { self.new ≡ with_frame self.old p page.now }
     {
+        self.untouched = false;
         self.pages.items_mut()[p as usize] = *page.as_bytes();
     }
 
@@ -87,6 +94,7 @@ impl Frames {
         requires to_in_range { to < length self.old }
         ensures { self.new ≡ with_frame self.old to (frame self.old from) }
     {
+        self.untouched = false;
         let page = self.pages.items()[from as usize];
         self.pages.items_mut()[to as usize] = page;
     }
@@ -98,6 +106,7 @@ impl Frames {
         ensures copied { self.new ≡ with_run self.old to (run_at n self.old from) }
         ensures len { length self.new ≡ length self.old }
     {
+        self.untouched = false;
         let pages = self.pages.items_mut();
         let (from, to, n) = (from as usize, to as usize, n as usize);
         if to < from {
@@ -122,6 +131,7 @@ impl Frames {
         requires word_in_range { i < 512 }
         ensures { self.new ≡ with_frame self.old p (with_word (frame self.old p) i v) }
     {
+        self.untouched = false;
         let page = &mut self.pages.items_mut()[p as usize];
         LittleEndian::write_u64(&mut page[8 * i..8 * i + 8], v);
     }
@@ -141,6 +151,7 @@ impl Frames {
         requires number_in_range { k ≤ 4092 }
         ensures { self.new ≡ with_frame self.old p (with_number 4 (frame self.old p) k v) }
     {
+        self.untouched = false;
         let page = &mut self.pages.items_mut()[p as usize];
         LittleEndian::write_u32(&mut page[k..k + 4], v);
     }
@@ -150,7 +161,19 @@ impl Frames {
         requires { p < length self.old }
         ensures { self.new ≡ with_frame self.old p zero_page }
     {
+        self.untouched = false;
         self.pages.items_mut()[p as usize] = [0; 4096];
+    }
+
+    /// Sets each byte of every page frame to zero. New page frames are zeros already.
+    pub fn zero_all(&mut self)
+        ensures { self.new ≡ replicate (length self.old) zero_page }
+    {
+        if self.untouched {
+            return;
+        }
+        let pages = self.pages.items_mut();
+        fill_pages(pages, [0; 4096]);
     }
 
     /// Sets each byte of page frame `p` to `byte`.
@@ -158,6 +181,7 @@ impl Frames {
         requires { p < length self.old }
         ensures { self.new ≡ with_frame self.old p (filled_page byte) }
     {
+        self.untouched = false;
         self.pages.items_mut()[p as usize] = [byte; 4096];
     }
 }
@@ -172,6 +196,15 @@ fn push_copies(pages: &mut Block<[u8; 4096]>, page: [u8; 4096], n: u32)
 {
     for _ in 0..n {
         pages.push(page);
+    }
+}
+
+// Writes a page over each of the pages.
+fn fill_pages(pages: &mut [[u8; 4096]], page: [u8; 4096])
+    ensures { pages.new ≡ replicate (length pages.old) page }
+{
+    for p in 0..pages.len() {
+        pages[p] = page;
     }
 }
 

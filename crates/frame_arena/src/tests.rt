@@ -43,6 +43,18 @@ fn one_frame_at_a_time(rt: HostRuntime) -> Result<(), Fail> {
 }
 
 #[test]
+fn all_frames_are_zeroed(rt: HostRuntime) -> Result<(), Fail> {
+    let mut frames = Frames::create(rt.alloc(), 2)?;
+    frames.zero_all();
+    frames.set_word(1, 511, 7);
+    frames.zero_all();
+    assert_eq!(rt; frames.len(), 2);
+    assert_eq!(rt; *frames.page(0), [0; 4096]);
+    assert_eq!(rt; *frames.page(1), [0; 4096]);
+    Ok(())
+}
+
+#[test]
 fn no_frames(rt: HostRuntime) -> Result<(), Fail> {
     let mut frames = Frames::create(rt.alloc(), 0)?;
     frames.copy_run(0, 0, 0);

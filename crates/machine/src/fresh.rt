@@ -34,19 +34,11 @@ pub fn set_fresh(frames: &mut Frames, hw: &Hardware)
     ensures fresh { frames.new ≡ fresh_frames hw.now }
     ensures len { length frames.new ≡ length frames.old }
 {
-    zero_all(frames);
+    frames.zero_all();
     let mut j = 0;
     while let Some((start, count)) = hw.zones().zone(j) {
         set_zone(frames, hw, start, count);
         j += 1;
-    }
-}
-
-fn zero_all(frames: &mut Frames)
-    ensures { frames.new ≡ replicate (length frames.old) zero_page }
-{
-    for p in 0..frames.len() {
-        frames.zero(p);
     }
 }
 
