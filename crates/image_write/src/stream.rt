@@ -1,4 +1,4 @@
-ghost use Rattle.std.specs.Prelude.{◌≡◌, ℕ, ◌^◌, ◌<◌, ◌≤◌, ◌↔◌, [], List, IsSome, IfSome, length, slice_index_or, option_copied};
+ghost use Rattle.std.specs.Prelude.{◌≡◌, ℕ, ◌^◌, ◌<◌, ◌≤◌, [], List, length, slice_index_or, option_copied};
 ghost use Rattle.definitions.specs.NumberPages.{meta_of, marked_numbers};
 ghost use Rattle.pfn_pack.specs.Places.{members_in};
 ghost use Rattle.plain_machine.specs.Image.{stream_pages};
@@ -8,20 +8,17 @@ use memory_bitmap::Bitmap;
 use page_core::Page;
 use pfn_pack::pack;
 
-/// Page `k` of the stream, from 0, where it is the info page or a number page. Those with data follow.
-pub fn head_page(info: &Info, origs: &Bitmap, zeros: Option<&Bitmap>, k: u32) -> Option<Page>
-    requires { info.now.pages < 2 ^ 52 }
-    ensures some { IsSome result ↔ (k ≤ meta_of (length origs.now.members)) }
-    ensures page { IfSome result (λ page. (saved : List (List ℕ)) → page ≡ slice_index_or
-        (stream_pages info.now (marked_numbers origs.now.members (members_in (option_copied zeros.entry))) saved) k []) }
+/// Page `k` of the stream, from 0, which is the info page or a number page.
+pub fn head_page(info: &Info, origs: &Bitmap, zeros: Option<&Bitmap>, k: u32) -> Page
+    requires few { info.now.pages < 2 ^ 52 }
+    requires head { k ≤ meta_of (length origs.now.members) }
+    ensures { (saved : List (List ℕ)) → result ≡ slice_index_or
+        (stream_pages info.now (marked_numbers origs.now.members (members_in (option_copied zeros.entry))) saved) k [] }
 {
     if k == 0 {
-        return Some(encode(info));
-    }
-    if k > origs.len().div_ceil(512) {
-        return None;
+        return encode(info);
     }
     let mut page = Page::zero();
     pack(origs, zeros, k - 1, &mut page);
-    Some(page)
+    page
 }

@@ -1,11 +1,12 @@
-ghost use Rattle.std.specs.Prelude.{◌≡◌, ◌⊎◌, ℕ, ◌+◌, ◌-◌, ◌*◌, ◌/◌, ◌%◌, ◌^◌, ◌<◌, ◌≤◌, List, false, true, IsTrue, All, length, take, slice_index, option_copied};
+ghost use Rattle.std.specs.Prelude.{◌≡◌, ◌⊎◌, ℕ, ◌+◌, ◌-◌, ◌*◌, ◌/◌, ◌%◌, ◌^◌, ◌<◌, ◌≤◌, List, ◌↔◌, false, true, IsTrue, All, length, take, slice_index, option_copied};
 ghost use Rattle.definitions.specs.Disk.{Changes, Elapses, raised, HasRisen};
 ghost use Rattle.definitions.specs.Bytes.{IsPage};
 ghost use Rattle.definitions.specs.Slots.{block_of};
 ghost use Rattle.image_write.specs.Answers.{after};
 ghost use Rattle.image_write.specs.Writing.{writes_of};
-ghost use Rattle.definitions.specs.NumberPages.{meta_of};
-ghost use Rattle.definitions.specs.Tables.{with_entry, with_entries};
+ghost use Rattle.definitions.specs.NumberPages.{meta_of, marked_numbers};
+ghost use Rattle.definitions.specs.Tables.{frame, with_entry, with_entries};
+ghost use Rattle.plain_machine.specs.Image.{stream_pages};
 ghost use Rattle.swap_slots.specs.Table.{LiesIn, Matches, free_in};
 ghost use Rattle.pfn_pack.specs.Places.{members_in};
 ghost use Rattle.plain_machine.specs.Laid.{laid_block, is_map_write, page_of_write, page_place};
@@ -153,7 +154,12 @@ impl Writer {
         if self.is_at_map() {
             return self.write_map(disk);
         }
-        let page = self.next_page(frames, origs, copies, zeros);
+        if self.is_at_head(origs) {
+            let page = self.next_head(origs, zeros);
+            return self.write_page(frames, runs, disk, &page);
+        }
+        let copy = self.next_copy(frames, origs, copies, zeros);
+        let page = Page::from_bytes(frames.page(copy));
         self.write_page(frames, runs, disk, &page)
     }
 
@@ -314,32 +320,45 @@ impl Writer {
         }
     }
 
-    /// The page of the image that is next.
-    fn next_page(
+    /// Whether the page of the image that is next is the info page or a number page.
+    fn is_at_head(&self, origs: &Bitmap) -> bool
+        requires few { self.now.info.pages < 2 ^ 52 }
+        requires originals { length origs.now.members ≡ self.now.info.image_pages }
+        ensures { IsTrue result ↔ (page_of_write self.now.written ≤ meta_of self.now.info.image_pages) }
+    {
+        self.written - self.written / 512 <= origs.len().div_ceil(512)
+    }
+
+    /// The info page or the number page that is next.
+    fn next_head(&self, origs: &Bitmap, zeros: Option<&Bitmap>) -> Page
+        requires few { self.now.info.pages < 2 ^ 52 }
+        requires originals { length origs.now.members ≡ self.now.info.image_pages }
+        requires head { page_of_write self.now.written ≤ meta_of self.now.info.image_pages }
+        ensures { (saved : List (List ℕ)) → result ≡ page_next (stream_pages self.now.info (marked_numbers origs.now.members (members_in (option_copied zeros.entry))) saved) self.now }
+    {
+        head_page(&self.info, origs, zeros, self.written - self.written / 512)
+    }
+
+    /// The page frame of the copy that is next.
+    fn next_copy(
         &mut self,
         frames: &Frames,
         origs: &Bitmap,
         copies: &Bitmap,
         zeros: Option<&Bitmap>,
-    ) -> Page
-        requires few { self.old.info.pages < 2 ^ 52 }
+    ) -> u32
         requires page { page_of_write self.old.written < self.old.info.pages }
+        requires data { meta_of self.old.info.image_pages < page_of_write self.old.written }
         requires sets { AreOfImage self.old.info origs.now.members copies.now.members (members_in (option_copied zeros)) }
         requires copies { All (λ p. p < length frames.now) copies.now.members }
         requires reading { IsReading origs.now.members copies.now.members (members_in (option_copied zeros)) self.old }
-        ensures page { result ≡ page_next (stream_of_sets self.old.info frames.now origs.now.members copies.now.members (members_in (option_copied zeros.entry))) self.old }
+        ensures within { result < length frames.now }
+        ensures page { frame frames.now result ≡ page_next (stream_of_sets self.old.info frames.now origs.now.members copies.now.members (members_in (option_copied zeros.entry))) self.old }
         ensures same { self.new ≡ record self.old { orig = self.new.orig; copy = self.new.copy; passed = self.new.passed } }
         ensures reading { IsPassed origs.now.members copies.now.members (members_in (option_copied zeros.entry)) self.new.orig self.new.copy self.new.passed
             (page_of_write self.old.written + 1 - (meta_of self.old.info.image_pages + 1)) }
     {
-        let k = self.written - self.written / 512;
-        match head_page(&self.info, origs, zeros, k) {
-            Some(page) => page,
-            None => {
-                let copy = self.cursor.next(origs, copies, zeros);
-                Page::from_bytes(frames.page(copy))
-            }
-        }
+        self.cursor.next(origs, copies, zeros)
     }
 
     /// Whether the next write is one of a map.

@@ -11,24 +11,10 @@ use Rattle.image_write.specs.Copies.{IsPassed, with_data, data_pages}
 use Rattle.image_write.specs.Kept.{writing}
 use Rattle.image_write.specs.Writing.{Writing, IsReading, AreOfImage, data_written, stream_of_sets}
 use Rattle.image_write.proofs.Heads.{saved_page_at}
-use Rattle.image_write.proofs.writer.Writer.next_page.Goals as goal
+use Rattle.image_write.proofs.writer.Writer.next_copy.Goals as goal
 
-pub page-requires : goal.page-requires
-page-requires c = All-contains (λ (p : ℕ). p < length c.args.frames.now) c.args.copies.now.members c.next-copy.result c.requires.copies c.next-copy.ensures.member
-
-pub returns-in-Some-clause-page : goal.returns-in-Some-clause-page
-returns-in-Some-clause-page c =
-    let w = writing c.self.inside in
-    let is = c.self.view_is in
-    let origs = c.args.origs.now.members in
-    let copies = c.args.copies.now.members in
-    let zeros = members_in (option_copied c.args.zeros) in
-    let here : c.in-Some.page ≡ get_or (stream_of_sets w.info c.args.frames.now origs copies zeros) (page_of_write w.written) [] =
-    c.in-Some.ensures.page (data_pages c.args.frames.now origs copies zeros) in
-    subst (λ (v : Writing). c.in-Some.page ≡ get_or (stream_of_sets v.info c.args.frames.now origs copies zeros) (page_of_write v.written) []) is here
-
-pub returns-in-None-clause-page : goal.returns-in-None-clause-page
-returns-in-None-clause-page c =
+pub returns-clause-page : goal.returns-clause-page
+returns-clause-page c =
     let w = writing c.self.inside in
     let is = c.self.view_is in
     let origs = c.args.origs.now.members in
@@ -37,32 +23,28 @@ returns-in-None-clause-page c =
     let sets : AreOfImage w.info origs copies zeros = subst (λ (v : Writing). AreOfImage v.info origs copies zeros) (sym is) c.requires.sets in
     let reading : IsReading origs copies zeros w = subst (λ (v : Writing). IsReading origs copies zeros v) (sym is) c.requires.reading in
     let page : page_of_write w.written < w.info.pages = subst (λ (v : Writing). page_of_write v.written < v.info.pages) (sym is) c.requires.page in
-    let head = c.in-None.ensures.some.1 in
+    let with_page : meta_of w.info.image_pages < page_of_write w.written = subst (λ (v : Writing). meta_of v.info.image_pages < page_of_write v.written) (sym is) c.requires.data in
     let originals = sets.originals in
     let pages = sets.pages in
-    let above : meta_of w.info.image_pages + 1 ≤ page_of_write w.written = elim (cases_lt (meta_of (length origs)) (w.written - w.written / 512)) [
-      | inl lt ↦ let same = ap meta_of originals in omega arith
-      | inr ge ↦ absurd (false≢true (head ge))
-    ] in
     let found = data_written w.info w.written in
     let more : found < length (with_data origs copies zeros) = omega arith in
     let frames = c.args.frames.now in
     let pairs = with_data origs copies zeros in
     let saved = data_pages frames origs copies zeros in
     let read : ℕ × ℕ → List ℕ = λ pair. frame frames pair.1 in
-    let copy : c.next-copy.result ≡ (get_or pairs found (0, 0)).1 = c.next-copy.ensures.copy found reading in
+    let copy : c.next.result ≡ (get_or pairs found (0, 0)).1 = c.next.ensures.copy found reading in
     let numbers = marked_numbers origs zeros in
     let size = length-marked origs zeros in
     let place : meta_of (length numbers) + 1 + found ≡ page_of_write w.written = let same = ap meta_of (size ∙ originals) in omega arith in
-    let here : c.from_bytes.result ≡ get_or (stream_of_sets w.info frames origs copies zeros) (page_of_write w.written) [] =
-    c.from_bytes.ensures.bytes ∙ c.page.ensures.content ∙ ap (frame frames) copy
+    let here : frame frames c.next.result ≡ get_or (stream_of_sets w.info frames origs copies zeros) (page_of_write w.written) [] =
+    ap (frame frames) copy
     ∙ sym (get_or-map read pairs found (0, 0) [] more)
     ∙ sym (saved_page_at w.info numbers saved found)
     ∙ ap (λ (k : ℕ). get_or (stream_of_sets w.info frames origs copies zeros) k []) place in
-    subst (λ (v : Writing). c.from_bytes.result ≡ get_or (stream_of_sets v.info frames origs copies zeros) (page_of_write v.written) []) is here
+    subst (λ (v : Writing). frame frames c.next.result ≡ get_or (stream_of_sets v.info frames origs copies zeros) (page_of_write v.written) []) is here
 
-pub returns-in-None-clause-reading : goal.returns-in-None-clause-reading
-returns-in-None-clause-reading c =
+pub returns-clause-reading : goal.returns-clause-reading
+returns-clause-reading c =
     let w = writing c.self.inside in
     let is = c.self.view_is in
     let origs = c.args.origs.now.members in
@@ -71,16 +53,12 @@ returns-in-None-clause-reading c =
     let sets : AreOfImage w.info origs copies zeros = subst (λ (v : Writing). AreOfImage v.info origs copies zeros) (sym is) c.requires.sets in
     let reading : IsReading origs copies zeros w = subst (λ (v : Writing). IsReading origs copies zeros v) (sym is) c.requires.reading in
     let page : page_of_write w.written < w.info.pages = subst (λ (v : Writing). page_of_write v.written < v.info.pages) (sym is) c.requires.page in
-    let head = c.in-None.ensures.some.1 in
+    let with_page : meta_of w.info.image_pages < page_of_write w.written = subst (λ (v : Writing). meta_of v.info.image_pages < page_of_write v.written) (sym is) c.requires.data in
     let originals = sets.originals in
     let pages = sets.pages in
-    let above : meta_of w.info.image_pages + 1 ≤ page_of_write w.written = elim (cases_lt (meta_of (length origs)) (w.written - w.written / 512)) [
-      | inl lt ↦ let same = ap meta_of originals in omega arith
-      | inr ge ↦ absurd (false≢true (head ge))
-    ] in
     let found = data_written w.info w.written in
     let more : found < length (with_data origs copies zeros) = omega arith in
     let next : found + 1 ≡ page_of_write w.written + 1 - (meta_of w.info.image_pages + 1) = omega arith in
-    let cursor = c.next-copy.new.self in
+    let cursor = c.next.new.self in
     subst (λ (v : Writing). IsPassed origs copies zeros cursor.orig cursor.copy cursor.passed (page_of_write v.written + 1 - (meta_of v.info.image_pages + 1))) is
-    (subst (λ (n : ℕ). IsPassed origs copies zeros cursor.orig cursor.copy cursor.passed n) next (c.next-copy.ensures.passed found reading))
+    (subst (λ (n : ℕ). IsPassed origs copies zeros cursor.orig cursor.copy cursor.passed n) next (c.next.ensures.passed found reading))
