@@ -1,3 +1,5 @@
 pub mod NumbersLaws
 pub mod ScriptLaws
 pub mod Shapes
+mod DigitLaws
+mod WordsLaws

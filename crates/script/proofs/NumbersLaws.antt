@@ -1,8 +1,8 @@
 -- Numbers that are read word by word.
-use Rattle.std.proofs.Common.{◌≡◌, ℕ, ◌+◌, ◌<◌, ◌≤◌, List, [], ◌∷◌, ◌++◌, length, take, drop, get_or, Result, Ok, Err, Option, Some, None, refl, ap, arith, add-one, append_assoc, append-nil}
+use Rattle.std.proofs.Common.{◌≡◌, ℕ, suc, ◌+◌, ◌-◌, ◌<◌, ◌≤◌, List, [], ◌∷◌, ◌++◌, length, take, drop, get_or, Result, Ok, Err, Option, Some, None, refl, sym, ap, arith, add-one, append_assoc, append-nil}
 use Rattle.std.proofs.Math.ListN.{set}
 use Rattle.std.proofs.Math.Seq.{drop-cons}
-use Rattle.std.proofs.lemmas.List.{take_more_set, get_or-map, length-map, drop_all, take_all}
+use Rattle.std.proofs.lemmas.List.{take_more_set, get_or-map, length-map, map-append, drop_all, take_all}
 use denote.Ref.{Bor}
 use Rattle.std.proofs.lemmas.Bool.Decides.{nat_tests}
 use Rattle.script.specs.declared.fault.FaultKind.{FaultKind}
@@ -47,6 +47,14 @@ with_front-fault spans ws ns i k d w in_spans in_words e = rw (drop_cons spans i
 
 pub length-texts : (words : List (Bor (List ℕ))) → length (texts words) ≡ length words
 length-texts words = length-map words (λ word. word.now)
+
+pub texts-more : (words : List (Bor (List ℕ))) (word : Bor (List ℕ)) → texts (words ++ word ∷ []) ≡ texts words ++ word.now ∷ []
+texts-more words word = map-append (λ w. w.now) words (word ∷ [])
+
+-- the first word, and those behind it
+pub texts-split : (words : List (Bor (List ℕ))) (d : Bor (List ℕ)) → 1 ≤ length words → texts words ≡ (get_or words 0 d).now ∷ texts (take (length words - 1) (drop 1 words))
+texts-split [] d some = absurd (omega arith)
+texts-split (word ∷ words) d some = ap (λ rest. word.now ∷ texts rest) (sym (take_all (suc (length words) - 1) words (omega arith)))
 
 -- the same two, for words wherever they lie
 pub with_front-more : (spans : List Span) (words : List (Bor (List ℕ))) (ns : List ℕ) (i n : ℕ) (s : Span) (d : Bor (List ℕ)) → i < length spans → i < length words → length ns ≡ length spans → number_in (get_or spans i s) (get_or words i d).now ≡ Ok n → with_front (take (i + 1) (set ns i n)) (numbers_in (drop (i + 1) spans) (drop (i + 1) (texts words))) ≡ with_front (take i ns) (numbers_in (drop i spans) (drop i (texts words)))

@@ -50,10 +50,6 @@ abbrev pub Stops : LineStop → Result Item FaultKind → Type 0
 Stops stop.NoMemory answer = ⊤
 Stops (stop.Fault k) answer = answer ≡ Err k
 
-abbrev pub Says : Result Item LineStop → Result Item FaultKind → Type 0
-Says (Ok item) answer = answer ≡ Ok item
-Says (Err s) answer = Stops s answer
-
 -- What fits.
 
 -- a last page that a swap area may have

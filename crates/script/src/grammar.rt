@@ -1,15 +1,16 @@
 ghost use Rattle.std.specs.Prelude.{◌≡◌, ◌<◌, ◌≤◌, IfOk, IsOk, ◌↔◌, false, IfErr};
 ghost use Rattle.std.specs.List.{list_all};
 ghost use Rattle.script.specs.Words.{texts};
-ghost use Rattle.script.specs.Grammar.{Says, is_printable, line_item, words_item, IsFittingItem};
+ghost use Rattle.script.specs.Grammar.{is_printable, line_item, words_item, IsFittingItem};
 ghost use Rattle.plain_machine.specs.Fitting.{IsFitting};
 ghost use Rattle.script.specs.Shapes.{second_word, no_ranges};
 
 use crate::fault::FaultKind;
-use crate::words::{Span, numbers, words_of};
+use crate::words::{Span, numbers, put_words};
+use arrayvec::ArrayVec;
 use page_core::Format;
 use plain_machine::{Actor, BootFrom, Event, IdentCheck, Loader, Ranges, TaskOp};
-use std::alloc::{AllocError, Global};
+use std::alloc::AllocError;
 
 // The numbers that may stand in the places of a line.
 const LAST: Span = Span {
@@ -83,20 +84,21 @@ impl From<FaultKind> for LineStop {
 
 /// What a line says, where `begun` tells that an event stands before it.
 #[tactic(auto, unfolding(crate::specs::Grammar::line_item))]
-pub fn item_of_line(alloc: Global, line: &[u8], begun: bool) -> Result<Item, LineStop>
-    ensures says { Says result (line_item begun line.now) }
+pub fn item_of_line(line: &[u8], begun: bool) -> Result<Item, FaultKind>
+    ensures says { result ≡ line_item begun line.now }
     ensures fits { IfOk result IsFittingItem }
 {
     if !is_printable(line) {
-        return Err(LineStop::Fault(FaultKind::Byte));
+        return Err(FaultKind::Byte);
     }
     if let [b'#', ..] = line {
         return Ok(Item::Nothing);
     }
-    let words = words_of(alloc, line)?;
+    let mut words = ArrayVec::new();
+    put_words(line, &mut words);
     match words.as_slice() {
         [] => Ok(Item::Nothing),
-        [first, rest @ ..] => Ok(item_of_words(first, rest, begun)?),
+        [first, rest @ ..] => item_of_words(first, rest, begun),
     }
 }
 

@@ -80,7 +80,7 @@ impl Script {
     }
 
     /// Adds what one more line says.
-    fn read(&mut self, alloc: Global, line: &[u8]) -> Result<(), LineStop>
+    fn read(&mut self, line: &[u8]) -> Result<(), LineStop>
         requires room { length self.old.events ≤ 100000 }
         requires all_fit { All IsFitting self.old.events }
         requires all_scripted { All IsScripted self.old.events }
@@ -94,7 +94,7 @@ impl Script {
         ensures none { OnOk result (kind_after self.old.events line.now ≡ None) }
         ensures fault { IfErr result (StopsBy (kind_after self.old.events line.now)) }
     {
-        let item = item_of_line(alloc, line, !self.events.is_empty())?;
+        let item = item_of_line(line, !self.events.is_empty())?;
         self.add(item)
     }
 }
@@ -130,7 +130,7 @@ pub fn parse(alloc: Global, bytes: &[u8]) -> Result<Script, ParseStop>
         events: Vec::new(alloc),
     };
     for (i, line) in bytes.split(|b| *b == b'\n').enumerate() {
-        if let Err(stop) = script.read(alloc, line) {
+        if let Err(stop) = script.read(line) {
             return Err(stop.at(i as u32 + 1));
         }
     }

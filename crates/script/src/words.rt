@@ -1,10 +1,11 @@
-ghost use Rattle.std.specs.Prelude.{◌≡◌, IfOk};
-ghost use Rattle.std.specs.List.{list_all};
-ghost use Rattle.std.specs.Char.{is_ascii_digit};
+ghost use Rattle.std.specs.Prelude.{◌≡◌, [], IfOk, take};
 ghost use Rattle.script.specs.Words.{all_numbers, number_in, number_of, texts, words_of, AllWithin};
 
 use crate::fault::FaultKind;
-use std::alloc::{AllocError, Global};
+use arrayvec::ArrayVec;
+
+/// One word more than a line may have.
+pub const MAX_WORDS: usize = 6;
 
 /// The numbers that may stand in a place, both ends included.
 #[derive(Clone, Copy)]
@@ -13,30 +14,37 @@ pub struct Span {
     pub high: u64,
 }
 
-/// The words of a line, which stand between spaces.
-pub fn words_of(alloc: Global, line: &[u8]) -> Result<Vec<&[u8]>, AllocError>
-    ensures { IfOk result (λ v. texts v.items ≡ words_of line.now) }
+/// Puts the first words of a line, which stand between spaces, into an empty list. A line that says something has fewer.
+pub fn put_words<'a>(line: &'a [u8], into: &mut ArrayVec<&'a [u8], MAX_WORDS>)
+    requires { into.old.items ≡ [] }
+    ensures { texts into.new.items ≡ take 6 (words_of line.now) }
 {
-    line.split(|b| *b == b' ')
-        .filter(|word| !word.is_empty())
-        .collect(alloc)
-}
-
-fn is_digits(word: &[u8]) -> bool
-    ensures { result ≡ list_all is_ascii_digit word.now }
-{
-    word.iter().all(|b| b.is_ascii_digit())
+    for word in line.split(|b| *b == b' ') {
+        if !word.is_empty() && !into.is_full() {
+            into.push(word);
+        }
+    }
 }
 
 /// The number that a word of digits is.
 fn number_of(word: &[u8]) -> Option<u64>
     ensures { result ≡ number_of word.now }
 {
-    if !is_digits(word) {
+    if word.is_empty() {
         return None;
     }
-    let text = str::from_utf8(word).ok()?;
-    text.parse().ok()
+    let mut number = 0;
+    for b in word {
+        if !b.is_ascii_digit() {
+            return None;
+        }
+        let digit = u64::from(*b - b'0');
+        if number > (u64::MAX - digit) / 10 {
+            return None;
+        }
+        number = 10 * number + digit;
+    }
+    Some(number)
 }
 
 /// A number of this span.

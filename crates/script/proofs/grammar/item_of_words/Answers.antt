@@ -1,4 +1,4 @@
-use Rattle.std.proofs.Common.{◌≡◌, ℕ, length, Option, refl, sym, ap, arith}
+use Rattle.std.proofs.Common.{Option, refl, sym, ap, arith}
 use Rattle.script.specs.Grammar.{words_item, shape_item}
 use Rattle.script.specs.Shapes.{Shape, shapes}
 use Rattle.script.specs.Words.{texts}

@@ -1,63 +1,36 @@
-use Rattle.std.proofs.Common.{◌≡◌, ℕ, ◌∷◌, [], sym, ap, ◌∙◌, List, Bool, true, false, Result, Ok, Err, Some, None, rules, arith, refl}
-use Rattle.std.specs.List.{list_all}
+use Rattle.std.proofs.Common.{◌≡◌, ◌+◌, ◌*◌, ◌<◌, get_or, length, true, arith, sym, ap, ◌∙◌}
 use Rattle.std.specs.Char.{is_ascii_digit}
-use Rattle.std.specs.Str.{IsUtf8}
-use Rattle.std.specs.Str.Parse.{ParsesUnsigned, digits_value}
-use Rattle.std.specs.Result.{result_ok, MatchResult}
-use denote.Ref.{Bor}
 use Rattle.std.proofs.lemmas.Bool.Decides.{nat_tests}
-use Rattle.std.proofs.lemmas.Str.Parse.{IsNumeralModel, numerals_by_value, parse_digits}
-use Rattle.std.proofs.lemmas.Str.Ascii.{IsAscii-cons, IsAscii-nil}
-use Rattle.std.specs.Str.{IsAscii}
-use Rattle.std.proofs.lemmas.Str.{IsUtf8-from_ascii}
-use Rattle.std.specs.Prelude.{◌&&◌}
-use Rattle.script.specs.Words.{number_of}
+use Rattle.script.proofs.DigitLaws.{number_of-none, number_of-other, digit_read, number_of-large, number_of-all}
 use Rattle.script.proofs.words.number_of.Goals as goal
 
-own : IsNumeralModel (λ ds. list_all is_ascii_digit ds ≡ true) (digits_value 10)
-own = numerals_by_value _ (search rules)
+pub returns-then-is_empty : goal.returns-then-is_empty
+returns-then-is_empty c = sym (number_of-none c.args.word.now (grind (arith, nat_tests, c.is_empty.ensures, c.if-is_empty.true)))
 
-front_true : (a b : Bool) → (a && b) ≡ true → (a ≡ true) × (b ≡ true)
-front_true true true e = (refl, refl)
-front_true true false e = absurd (cc)
-front_true false b e = absurd (cc)
+pub returns-then-not-is_ascii_digit : goal.returns-then-not-is_ascii_digit
+returns-then-not-is_ascii_digit c =
+    sym (number_of-other c.args.word.now c.loop-b.b-index c.loop-b-test.true (sym c.is_ascii_digit.ensures.value ∙ c.if-not-is_ascii_digit.true))
 
--- digits are text
-ascii_from_digits : (bs : List ℕ) → list_all is_ascii_digit bs ≡ true → IsAscii bs
-ascii_from_digits [] e = IsAscii-nil
-ascii_from_digits (b ∷ bs) e =
-    let both = front_true (is_ascii_digit b) (list_all is_ascii_digit bs) e in
-    IsAscii-cons b bs (grind (arith, nat_tests, both.0)) (ascii_from_digits bs both.1)
+pub returns-then-number-digit : goal.returns-then-number-digit
+returns-then-number-digit c =
+    let i = c.loop-b.b-index in
+    let is : is_ascii_digit (get_or c.args.word.now i 0) ≡ true = sym c.is_ascii_digit.ensures.value ∙ c.if-not-is_ascii_digit.false in
+    let read = digit_read c.args.word.now i c.loop-b.number c.loop-b-test.true c.loop-b.invariant.0 c.loop-b.invariant.1 is in
+    let all = read.1 in
+    let large = c.if-number-digit.true in
+    let digit = c.from-digit.ensures in
+    sym (number_of-large c.args.word.now (i + 1) (omega arith))
 
--- a text of digits is parsed as the number that it is
-parsed : {E : Type 0} (bs : List ℕ) (r : Result ℕ E) → list_all is_ascii_digit bs ≡ true → ParsesUnsigned 64 10 bs r → result_ok r ≡ number_of bs
-unfolding number_of
-parsed {E} bs (Ok n) digits h = let k = parse_digits own {E = E} 64 bs (Ok n) h digits in grind (arith, nat_tests)
-parsed {E} bs (Err e) digits h = let k = parse_digits own {E = E} 64 bs (Err e) h digits in grind (arith, nat_tests)
-
-not_digits : (bs : List ℕ) → list_all is_ascii_digit bs ≡ false → number_of bs ≡ None
-unfolding number_of
-not_digits bs e = rw e refl
-
-pub returns-then-not-is_digits : goal.returns-then-not-is_digits
-returns-then-not-is_digits c = sym (not_digits c.args.word.now (cc))
-
--- what `from_utf8` says of bytes that are text, and of the text that it gives
-no_error : {E : Type 0} (P : E → Type 0) (bs : List ℕ) (r : Result (Bor (List ℕ)) E) → IsUtf8 bs → MatchResult r (λ s. (s.now ≡ bs) × IsUtf8 bs) (λ e. ¬ (IsUtf8 bs) × P e) → None ≡ result_ok r → ⊥
-no_error P bs (Ok s) utf8 h e = cc
-no_error P bs (Err d) utf8 h e = h.0 utf8
-
-same_text : {E : Type 0} (P : E → Type 0) (bs : List ℕ) (r : Result (Bor (List ℕ)) E) (text : Bor (List ℕ)) → MatchResult r (λ s. (s.now ≡ bs) × IsUtf8 bs) (λ e. ¬ (IsUtf8 bs) × P e) → Some text ≡ result_ok r → text.now ≡ bs
-same_text P bs (Ok s) text h e = let same : text ≡ s = cc in cc
-same_text P bs (Err d) text h e = absurd (cc)
-
-pub returns-in_err-text : goal.returns-in_err-text
-returns-in_err-text c =
-    let utf8 = IsUtf8-from_ascii c.args.word.now (ascii_from_digits c.args.word.now (cc)) in
-    absurd (no_error _ c.args.word.now c.from_utf8.result utf8 c.from_utf8.ensures.cases c.in_err-text.ensures.value)
+pub loop-b-preserved : goal.loop-b-preserved
+loop-b-preserved c =
+    let i = c.loop-b.b-index in
+    let is : is_ascii_digit (get_or c.args.word.now i 0) ≡ true = sym c.is_ascii_digit.ensures.value ∙ c.if-not-is_ascii_digit.false in
+    let read = digit_read c.args.word.now i c.loop-b.number c.loop-b-test.true c.loop-b.invariant.0 c.loop-b.invariant.1 is in
+    (read.0, ap (λ d. 10 * c.loop-b.number + d) c.from-digit.ensures ∙ read.1)
 
 pub returns : goal.returns
 returns c =
-    let same = same_text _ c.args.word.now c.from_utf8.result c.in_ok-text.text c.from_utf8.ensures.cases c.in_ok-text.ensures.value in
-    let gives = parsed c.in_ok-text.text.now c.parse.result (rw same (cc)) c.parse.ensures.value.0 in
-    c.ok-2.ensures.value ∙ gives ∙ ap number_of same
+    let fits = c.loop-b.auto.number-fits in
+    let some : 0 < length c.args.word.now = grind (arith, nat_tests, c.is_empty.ensures, c.if-is_empty.false) in
+    let end = c.loop-b-test.false in
+    sym (number_of-all c.args.word.now c.loop-b.b-index c.loop-b.number some (omega arith) c.loop-b.invariant.0 c.loop-b.invariant.1 (omega arith))
