@@ -1,17 +1,15 @@
 -- What the writes have made of the disk: after so many of them so much reads as laid.
-use Rattle.std.proofs.Common.{◌≡◌, ℕ, ◌+◌, ◌-◌, ◌*◌, ◌/◌, ◌%◌, ◌<◌, ◌≤◌, ◌⊎◌, zero, suc, Bool, true, false, List, [], ◌∷◌, ◌++◌, length, get_or, take, drop, map, min, cond, eqb, refl, sym, ap, ap₂, ◌∙◌, subst, inl, inr, arith, zero-add, append-nil, length-drop}
-use Rattle.std.proofs.Math.Seq.{take-add}
+use Rattle.std.proofs.Common.{◌≡◌, ℕ, ◌+◌, ◌-◌, ◌*◌, ◌/◌, ◌%◌, ◌<◌, ◌≤◌, ◌⊎◌, Bool, true, false, List, [], length, get_or, min, cond, eqb, refl, sym, ap, ◌∙◌, subst, inl, inr, arith, zero-add}
 use Rattle.std.proofs.lemmas.Bool.{cases_lt, cases_order, cases_Bool, cond-true, cond-false}
-use Rattle.std.proofs.lemmas.List.{ext_get_or, get_or-drop, get_or-take, get_or-map, take_all, length-take-le, length-map}
-use Rattle.std.proofs.lemmas.List.Folds.{concat-append}
-use Rattle.std.proofs.lemmas.List.FromFn.{length-map-range_with_len, get_or-map-range_with_len, map-range_with_len_more}
+use Rattle.std.proofs.lemmas.List.{length-map}
+use Rattle.std.proofs.lemmas.List.FromFn.{length-map-range_with_len, get_or-map-range_with_len}
 use Rattle.std.proofs.lemmas.List.Kept.{AllPairs-from_increasing}
-use Rattle.std.specs.List.{All, concat, range_with_len}
+use Rattle.std.specs.List.{All}
 use Rattle.std.specs.List.Sorted.{IsStrictlyIncreasing}
 use Rattle.definitions.specs.Bytes.{IsPage, zero_page}
-use Rattle.definitions.specs.Disk.{Content, Image, Sector, no_sector, as_it_reads, block, sector_bytes, Writes}
+use Rattle.definitions.specs.Disk.{Content, Image, as_it_reads, block, Writes}
 use Rattle.definitions.specs.Slots.{IsFileMap}
-use Rattle.definitions.proofs.DiskLaws.{length-as_it_reads, block-other}
+use Rattle.definitions.proofs.DiskLaws.{block-other}
 use Rattle.definitions.proofs.PageBytes.{length-zero_page}
 use Rattle.definitions.proofs.FileMaps.{block_of-injective}
 use Rattle.definitions.proofs.SwapMaps.{length-map_page}

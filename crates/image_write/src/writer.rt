@@ -155,8 +155,7 @@ impl Writer {
             return self.write_map(disk);
         }
         if self.is_at_head(origs) {
-            let page = self.next_head(origs, zeros);
-            return self.write_page(frames, runs, disk, &page);
+            return self.write_head(frames, runs, disk, origs, zeros);
         }
         let copy = self.next_copy(frames, origs, copies, zeros);
         let page = Page::from_bytes(frames.page(copy));
@@ -205,6 +204,56 @@ impl Writer {
             return self.write_map(disk);
         }
         self.write_page(frames, runs, disk, page)
+    }
+
+    /// Writes the info page or the number page that is next, as `write_page` does. It is a call of its own, so that a step that
+    /// writes a copy makes no room for a page that is made here.
+    #[inline(never)]
+    fn write_head<D: Disk>(
+        &mut self,
+        frames: &mut Frames,
+        runs: &mut FreeRuns,
+        disk: &mut D,
+        origs: &Bitmap,
+        zeros: Option<&Bitmap>,
+    ) -> WriteStep
+        requires table { LiesIn frames.old self.old.table }
+        requires matches { Matches frames.old self.old.table runs.old }
+        requires writing { IsReady (D.block_count disk.old) frames.old self.old }
+        requires page { is_map_write self.old.info.pages self.old.written ≡ false }
+        requires originals { length origs.now.members ≡ self.old.info.image_pages }
+        requires head { page_of_write self.old.written ≤ meta_of self.old.info.image_pages }
+
+        ensures answer { (result ≡ WriteStep.Fault) ⊎ (result ≡ after (self.old.written + 1) (writes_of self.old.info)) }
+        ensures written { (free : List ℕ) (saved : List (List ℕ)) → IsWriting free frames.old self.old → Succeeds result →
+            let page = page_next (stream_pages self.old.info (marked_numbers origs.now.members (members_in (option_copied zeros.entry))) saved) self.old in
+            Changes (Makes (write_next free self.old page)) (D.content disk.old) (D.content disk.new) }
+        ensures failed { (free : List ℕ) (saved : List (List ℕ)) → IsWriting free frames.old self.old → result ≡ WriteStep.Fault →
+            let page = page_next (stream_pages self.old.info (marked_numbers origs.now.members (members_in (option_copied zeros.entry))) saved) self.old in
+            Changes (FailsToMake (write_next free self.old page)) (D.content disk.old) (D.content disk.new) }
+
+        ensures cause { result ≡ WriteStep.Fault → HasRisen (D.faults disk.old) (D.faults disk.new) }
+        ensures faults { D.faults disk.old ≤ D.faults disk.new }
+        ensures calls { D.calls disk.new ≡ raised (D.calls disk.old) }
+        ensures orders { D.orders disk.new ≡ D.orders disk.old }
+        ensures blocks { D.block_count disk.new ≡ D.block_count disk.old }
+        ensures telling { D.tells_moments disk.new ≡ D.tells_moments disk.old }
+        ensures time { IsTrue (D.tells_moments disk.old) → Changes (Elapses (D.moment disk.old) (D.moment disk.new)
+            (D.left_since disk.old) (D.left_since disk.new)) (D.content disk.old) (D.content disk.new) }
+
+        ensures image { IsSameImage self.old self.new }
+        ensures made { Succeeds result → self.new.written ≡ self.old.written + 1 }
+        ensures writing { (free : List ℕ) → IsWriting free frames.old self.old → GoesOn result → IsWriting free frames.new self.new }
+        ensures cursor { IsSameCursor self.old self.new }
+
+        ensures taken { (free : List ℕ) → IsWriting free frames.old self.old →
+            frames.new ≡ with_entries frames.old self.old.table.first (slots_of_write self.old.info free self.old.written) 65536 }
+        ensures len { length frames.new ≡ length frames.old }
+        ensures runs { Matches frames.new self.old.table runs.new }
+        ensures room { runs.new.room ≡ runs.old.room }
+    {
+        let page = self.next_head(origs, zeros);
+        self.write_page(frames, runs, disk, &page)
     }
 
     /// Writes a page of the image to the next free slot. With the last entry of the map the slot of the next map is taken.

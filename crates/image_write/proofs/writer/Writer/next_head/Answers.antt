@@ -3,7 +3,6 @@ use Rattle.definitions.specs.NumberPages.{marked_numbers}
 use Rattle.pfn_pack.specs.Places.{members_in}
 use Rattle.plain_machine.specs.Image.{stream_pages}
 use Rattle.plain_machine.specs.Laid.{page_of_write}
-use Rattle.image_write.specs.Kept.{writing}
 use Rattle.image_write.specs.Writing.{Writing}
 use Rattle.image_write.proofs.writer.Writer.next_head.Goals as goal
 
