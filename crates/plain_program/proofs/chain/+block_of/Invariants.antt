@@ -1,5 +1,0 @@
-use Rattle.std.proofs.Common.{length}
-use Rattle.plain_program.proofs.chain.+block_of.Given as goal
-
-abbrev pub decreases-block_of : goal.decreases-block_of
-decreases-block_of l = length l.extents.now
