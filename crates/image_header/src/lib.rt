@@ -11,9 +11,6 @@ ghost use Rattle.image_header.specs.Counts.{are_bad_counts};
 
 pub use definitions::{Field, Ident, Info};
 
-#[cfg(test)]
-mod tests;
-
 use page_core::{Format, Page};
 use thiserror::Error;
 

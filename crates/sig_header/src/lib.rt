@@ -4,8 +4,6 @@
 mod area;
 mod marking;
 mod signatures;
-#[cfg(test)]
-mod tests;
 
 pub use area::{Area, AreaFault, AreaKind, Mark, area_page};
 pub use marking::{mark, take_back};

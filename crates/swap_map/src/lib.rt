@@ -3,8 +3,6 @@
 #![tactic(auto)]
 
 mod reader;
-#[cfg(test)]
-mod tests;
 mod writer;
 
 pub use reader::{ChainFault, MapReader};

@@ -1,6 +1,10 @@
 ghost use Rattle.std.specs.Prelude.{◌≡◌};
 
-use super::*;
+use image_header::{BadCounts, Field, Ident, Info, check, counts, decode, encode};
+use page_core::Format;
+
+/// How many bytes a name has.
+const NAME_SIZE: usize = 65;
 
 // The scripted machine's names: sysname, nodename, release, version, machine, domainname.
 const NAMES: [&str; 6] = ["Linux", "machine", "6.1.0", "#1", "plain", "(none)"];

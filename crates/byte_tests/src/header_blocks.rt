@@ -1,7 +1,7 @@
 ghost use Rattle.std.specs.Prelude.{◌≤◌};
 
-use crate::{Area, AreaFault, AreaKind, area_page, mark, take_back};
 use page_core::Page;
+use sig_header::{Area, AreaFault, AreaKind, area_page, mark, take_back};
 
 /// The last 40 bytes of a header block that was marked with the first map in block 1 and SF_NOCOMPRESS_MODE.
 const MARKED: [u8; 40] = *b"\0\0\0\0\0\0\0\0\x01\0\0\0\0\0\0\0\x02\0\0\0SWAPSPACE2S1SUSPEND\0";

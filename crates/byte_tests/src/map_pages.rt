@@ -1,4 +1,4 @@
-use crate::{ChainFault, MapReader, MapWriter, Pushed};
+use swap_map::{ChainFault, MapReader, MapWriter, Pushed};
 
 // The 511 entries of an image whose first map is block 1, and the next map behind them.
 #[test]

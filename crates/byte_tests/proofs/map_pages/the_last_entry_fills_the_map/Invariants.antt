@@ -1,5 +1,5 @@
 use Rattle.std.proofs.Common.{◌≡◌, ◌+◌, length}
-use Rattle.swap_map.proofs.tests.the_last_entry_fills_the_map.Given as goal
+use Rattle.byte_tests.proofs.map_pages.the_last_entry_fills_the_map.Given as goal
 
 -- the entries so far
 abbrev pub invariant-loop-block : goal.invariant-loop-block
