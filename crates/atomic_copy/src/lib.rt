@@ -1,9 +1,6 @@
 //! The atomic copy of the page frames that an image saves.
 #![tactic(auto)]
 
-#[cfg(test)]
-mod tests;
-
 ghost use Rattle.std.specs.Prelude.{◌≡◌, ◌<◌, All, length};
 ghost use Rattle.atomic_copy.specs.Copies.{AreCopied, AreDisjoint};
 

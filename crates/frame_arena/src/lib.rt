@@ -3,7 +3,5 @@
 
 mod block;
 mod frames;
-#[cfg(test)]
-mod tests;
 
 pub use frames::Frames;

@@ -3,11 +3,7 @@
 #![tactic(auto)]
 
 mod packing;
-#[cfg(test)]
-mod packing_tests;
 mod unpack;
-#[cfg(test)]
-mod unpack_tests;
 
 pub use packing::pack;
 pub use unpack::{PfnFault, Unpack};

@@ -2,9 +2,6 @@
 //! kernel/power/hibernate.c, and swsusp_save, kernel/power/snapshot.c).
 #![tactic(auto)]
 
-#[cfg(test)]
-mod tests;
-
 ghost use Rattle.std.specs.Prelude.{◌≡◌, ℕ, ◌+◌, ◌-◌, ◌<◌, ◌≤◌, ◌↔◌, [], All, Contains, IsOk, IsErr, IsSome, IfOk, IfErr, IfSome, IfNone, length, map, take};
 ghost use Rattle.definitions.specs.Bytes.{zero_page};
 ghost use Rattle.definitions.specs.Zones.{top};

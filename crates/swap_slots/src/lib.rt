@@ -4,8 +4,6 @@
 mod file_map;
 mod runs;
 mod table;
-#[cfg(test)]
-mod tests;
 mod words;
 
 pub use file_map::FileMap;

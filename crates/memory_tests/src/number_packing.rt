@@ -1,8 +1,9 @@
-ghost use Rattle.std.specs.Prelude.{◌≡◌, ◌<◌};
+ghost use Rattle.std.specs.Prelude.{◌<◌};
 
-use crate::pack;
+use crate::fixtures::put;
 use memory_bitmap::Bitmap;
 use page_core::Page;
+use pfn_pack::pack;
 use std::alloc::Global;
 use std::test::Fail;
 use zones::Zones;
@@ -15,15 +16,6 @@ fn set_of(alloc: Global, frames: &[u32]) -> Result<Bitmap, Fail> {
         put(&mut set, &zones, p);
     }
     Ok(set)
-}
-
-fn put(set: &mut Bitmap, zones: &Zones, p: u32)
-    requires { set.old.zones ≡ zones.now }
-    ensures { set.new.zones ≡ zones.now }
-{
-    if zones.valid(p) {
-        set.set(p);
-    }
 }
 
 fn packed(set: &Bitmap, zeros: Option<&Bitmap>, k: u32) -> Page

@@ -1,6 +1,6 @@
-use crate::{PfnFault, Unpack};
 use memory_bitmap::Bitmap;
 use page_core::{Format, Page};
+use pfn_pack::{PfnFault, Unpack};
 use std::alloc::Global;
 use std::test::Fail;
 use zones::Zones;

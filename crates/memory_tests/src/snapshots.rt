@@ -2,33 +2,19 @@ ghost use Rattle.std.specs.Prelude.{◌≡◌, ◌≤◌, length};
 ghost use Rattle.definitions.specs.Zones.{top};
 ghost use Rattle.definitions.specs.Tables.{HasTable};
 
-use crate::{Counts, Snapshot};
+use crate::fixtures::set_flags;
 use bitflags::Flags;
 use frame_arena::Frames;
 use page_core::Format;
 use page_states::{PageFlags, set_entry};
 use prealloc::Short;
 use saveable::View;
+use snapshot::{Counts, Snapshot};
 use std::test::Fail;
 use zones::Zones;
 
-/// The flags of page frames 0 to 9. Those of 0, 2, 5, 7 and 9 let a page frame be saved.
-const FLAGS: [u16; 10] = [0, 1, 2, 4, 8, 16, 18, 32, 34, 64];
-
 /// Page frames that are saved, in a memory of 4025 page frames. The others are free.
 const SAVED: u32 = 1500;
-
-fn set_flags(frames: &mut Frames)
-    requires { length frames.old ≡ 100 }
-    ensures { length frames.new ≡ 100 }
-{
-    for p in 0..100 {
-        set_entry(frames, 0, p, PageFlags::FREE, 0);
-    }
-    for (p, bits) in FLAGS.iter().enumerate() {
-        set_entry(frames, 0, p as u32, PageFlags::from_bits_retain(*bits), 0);
-    }
-}
 
 fn free_rest(frames: &mut Frames)
     requires { length frames.old ≡ 4025 }

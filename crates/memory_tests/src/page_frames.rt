@@ -1,4 +1,4 @@
-use crate::Frames;
+use frame_arena::Frames;
 use page_core::Page;
 use std::test::Fail;
 

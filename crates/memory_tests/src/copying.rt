@@ -1,4 +1,4 @@
-use crate::copy_all;
+use atomic_copy::copy_all;
 use frame_arena::Frames;
 use memory_bitmap::Bitmap;
 use std::test::Fail;

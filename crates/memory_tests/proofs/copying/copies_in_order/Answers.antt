@@ -1,7 +1,7 @@
 use Rattle.std.proofs.Common.{◌≡◌, ℕ, ◌∙◌, List, [], ◌∷◌, refl, sym, ap, subst, lit<}
 use Rattle.std.specs.List.{Contains}
 use Rattle.definitions.specs.Zones.{numbers}
-use Rattle.atomic_copy.proofs.tests.copies_in_order.Goals as goal
+use Rattle.memory_tests.proofs.copying.copies_in_order.Goals as goal
 
 pub set-requires : goal.set-requires
 set-requires g c =

@@ -1,6 +1,6 @@
-use crate::{FileMap, FreeRuns, SlotTable};
 use frame_arena::Frames;
 use std::test::Fail;
+use swap_slots::{FileMap, FreeRuns, SlotTable};
 
 #[test]
 fn runs_of_slots(rt: HostRuntime) -> Result<(), Fail> {

@@ -1,5 +1,5 @@
 use Rattle.std.proofs.Common.{◌≡◌}
-use Rattle.pfn_pack.proofs.packing_tests.goes_on_with_the_next_page.Given as goal
+use Rattle.memory_tests.proofs.number_packing.goes_on_with_the_next_page.Given as goal
 
 abbrev pub invariant-loop-p : goal.invariant-loop-p
 invariant-loop-p g l = l.set.zones ≡ l.zones
