@@ -10,7 +10,6 @@ ghost use Rattle.definitions.specs.declared.info.Field.{Field};
 ghost use Rattle.image_header.specs.Counts.{are_bad_counts};
 
 pub use definitions::{Field, Ident, Info};
-
 use page_core::{Format, Page};
 use thiserror::Error;
 

@@ -3,8 +3,6 @@
 #![tactic(auto)]
 
 mod sets;
-#[cfg(test)]
-mod tests;
 
 ghost use Rattle.std.specs.Prelude.{◌≡◌, ◌≢◌, ℕ, ◌+◌, ◌<◌, ◌≤◌, ◌↔◌, ◌++◌, ◌∷◌, [], true, false, Contains, IsErr, IfOk, IfErr, OnOk, OnErr, length};
 ghost use Rattle.definitions.specs.Moves.{assigned};

@@ -1,5 +1,4 @@
 pub mod Arranging
-pub mod Checked
 pub mod Cycles
 pub mod Emitting
 pub mod Executing

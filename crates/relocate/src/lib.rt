@@ -14,8 +14,6 @@ ghost use Rattle.relocate.specs.Relocation.{order_of, steps_of, most_steps, IsPe
 mod order;
 mod runs;
 mod steps;
-#[cfg(test)]
-mod tests;
 
 use frame_arena::Frames;
 use order::Order;

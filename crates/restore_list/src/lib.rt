@@ -2,9 +2,6 @@
 //! (struct pbe, kernel/power/snapshot.c).
 #![tactic(auto)]
 
-#[cfg(test)]
-mod tests;
-
 ghost use Rattle.std.specs.Prelude.{◌≡◌, ℕ, ◌+◌, ◌*◌, ◌/◌, ◌%◌, ◌<◌, ◌≤◌, List, [], ◌∷◌, ◌++◌, true, All, Some, length, slice_get, slice_index, Contains};
 ghost use Rattle.definitions.specs.Moves.{Entry};
 ghost use Rattle.definitions.specs.Tables.{frame};

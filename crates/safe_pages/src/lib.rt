@@ -3,8 +3,6 @@
 #![tactic(auto)]
 
 mod plan;
-#[cfg(test)]
-mod tests;
 
 ghost use Rattle.std.specs.Prelude.{◌≡◌, ◌<◌, ◌↔◌, [], true, false, IsErr, IfOk, IfErr, OnOk, OnErr, Some, length, slice_get};
 ghost use Rattle.safe_pages.specs.Placed.{placed, sources, targets, IsPlacement, TakesFrom};
