@@ -5,8 +5,6 @@ mod blocks;
 mod moves;
 mod numbers;
 mod stream;
-#[cfg(test)]
-mod tests;
 
 pub use blocks::{
     differ_within_sector, durable_after_sync, kept_by_sync_and_restart, kept_by_writes, torn_mark,

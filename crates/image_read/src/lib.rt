@@ -5,8 +5,6 @@
 mod area;
 mod cause;
 mod reader;
-#[cfg(test)]
-mod tests;
 
 pub use cause::Cause;
 pub use reader::{ReadStep, Reader};

@@ -6,5 +6,4 @@ pub mod Heads
 mod Mapping
 pub mod Done
 pub mod Staying
-mod Testing
 pub mod Naming

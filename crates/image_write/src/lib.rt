@@ -3,8 +3,6 @@
 
 mod copies;
 mod stream;
-#[cfg(test)]
-mod tests;
 mod write_step;
 mod writer;
 
