@@ -7,8 +7,6 @@ mod hardware;
 mod machine;
 mod tables;
 mod tasks;
-#[cfg(test)]
-mod tests;
 
 pub use area::usable;
 pub use fresh::{set_fresh, set_slots};

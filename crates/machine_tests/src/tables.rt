@@ -1,8 +1,8 @@
 ghost use Rattle.std.specs.Prelude.{◌≡◌, ◌<◌, ◌≤◌, length, IfOk};
 ghost use Rattle.definitions.specs.Zones.{top};
 
-use crate::{Hardware, has_bad_slots, set_fresh, set_slots, tables_fit, usable};
 use frame_arena::Frames;
+use machine::{Hardware, has_bad_slots, set_fresh, set_slots, tables_fit, usable};
 use page_core::{NoMemory, Page};
 use plain_machine::NoSwap;
 use sig_header::{Area, AreaKind, area_page};
@@ -72,7 +72,7 @@ fn put(frames: &mut Frames, p: u32, offset: usize, number: u32)
     frames.put_u32(p, offset, number);
 }
 
-#[tactic(auto, unfolding(crate::specs::Scripted::scripted_hardware))]
+#[tactic(auto, unfolding(machine::specs::Scripted::scripted_hardware))]
 fn small_machine() -> Hardware
     ensures { top result.zones ≡ 4096 }
 {
