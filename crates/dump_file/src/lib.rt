@@ -1,6 +1,7 @@
 //! Where the program's bytes come from and go to: sources and sinks.
 #![tactic(auto)]
 
+mod calls;
 mod memory;
 mod sink;
 mod source;

@@ -65,7 +65,11 @@ impl<W: Write + Drop> StdSink<W> {
 impl<W: Write + Drop> Sink for StdSink<W> {
     ghost taken = { λ _. None };
 
+    ghost flushed = { λ _. None };
+
     ghost faults = { λ s. s.faults };
+
+    ghost of_taken = { λ _. tt };
 
     /// A write that takes nothing of a piece that isn't empty is a fault.
     fn write(&mut self, from: &[u8]) -> Result<usize, Failed> {

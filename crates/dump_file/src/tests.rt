@@ -22,8 +22,24 @@ fn a_sink_in_memory_takes_what_fits(rt: HostRuntime) -> Result<(), Fail> {
     assert_eq!(rt; sink.write(b"swap"), Ok(4));
     assert!(rt; sink.write(b"s").is_err());
     assert_eq!(rt; sink.write(b""), Ok(0));
+    assert_eq!(rt; sink.flushed(), 0);
     assert!(rt; sink.flush().is_ok());
+    assert_eq!(rt; sink.flushed(), 4);
     assert_eq!(rt; sink.as_bytes(), b"swap".as_slice());
+    Ok(())
+}
+
+#[test]
+fn a_sink_in_memory_fails_as_listed(rt: HostRuntime) -> Result<(), Fail> {
+    let room = Vec::with_capacity(rt.alloc(), 4)?;
+    let mut sink = MemSink::new(room, Vec::from_slice(rt.alloc(), &[1, 2])?);
+    assert_eq!(rt; sink.write(b"sw"), Ok(2));
+    assert!(rt; sink.write(b"ap").is_err());
+    assert!(rt; sink.flush().is_err());
+    assert_eq!(rt; sink.flushed(), 0);
+    assert!(rt; sink.flush().is_ok());
+    assert_eq!(rt; sink.flushed(), 2);
+    assert_eq!(rt; sink.as_bytes(), b"sw".as_slice());
     Ok(())
 }
 
