@@ -1,11 +1,11 @@
 -- Events played one after another: what one more makes.
-use Rattle.std.proofs.Common.{zero, suc, ◌≡◌, ◌⊎◌, inl, inr, ◌≤◌, ℕ, ◌+◌, List, [], ◌∷◌, ◌++◌, length, take, drop, filter, cond, Bool, true, false, Option, Some, None, refl, sym, ap, ◌∙◌, arith, subst, append_assoc, length-append}
-use Rattle.std.proofs.lemmas.Bool.{false≢true}
+use Rattle.std.proofs.Common.{suc, ◌≡◌, ◌⊎◌, inl, inr, ◌≤◌, ℕ, ◌+◌, Contains, List, [], ◌∷◌, ◌++◌, length, take, filter, cond, Bool, true, false, Option, Some, None, refl, sym, ap, ◌∙◌, arith, subst, append_assoc, length-append}
 use Rattle.std.proofs.lemmas.List.Elements.{filter-append}
 use Rattle.std.proofs.lemmas.Grind.{flat_map-append}
 use Rattle.std.proofs.Math.Nat.{min-le_left}
 use Rattle.std.proofs.Math.Seq.{take-append-add}
-use Rattle.std.proofs.lemmas.List.{take_all, append-nil, take-append-drop}
+use Rattle.std.proofs.lemmas.List.{take_all, append-nil}
+use Rattle.std.specs.Option.{IfSome}
 use Rattle.definitions.specs.Disk as disk
 use Rattle.definitions.specs.Streams.{Takes, TakesAll, TakesFront}
 use Rattle.plain_machine.specs.Machine.{Hardware}
@@ -14,17 +14,18 @@ use Rattle.plain_machine.specs.State.{State}
 use Rattle.plain_machine.specs.Step.{Step, Run}
 use Rattle.plain_machine.specs.declared.event.Event.{Event}
 use Rattle.plain_machine.specs.declared.event.Event.TheVariants as event
-use Rattle.plain_machine.specs.declared.reply.Left.TheVariants.{Same, Gone, Unsure}
 use Rattle.plain_machine.specs.declared.reply.Reply.{Reply}
-use Rattle.plain_machine.specs.declared.reply.Reply.TheVariants as reply
 use Rattle.protocol_laws.specs.Replays.{SameSteps, StaysOfReplay}
-use Rattle.protocol_laws.specs.Rows.{IsSameArea, IsNewFault}
+use Rattle.protocol_laws.specs.Rows.{IsSameArea, IsNewFault, LeavesBlock, blocks_written}
+use Rattle.protocol_laws.proofs.Unwritten.{block_same}
 use Rattle.script.specs.Shapes.{IsScripted}
 use Rattle.world_core.specs.Row.{HasRow, IsServed, IsStep, IsCalled, orders_after}
 use Rattle.world_core.specs.StandsFor.{hardware_of}
 use Rattle.world_core.specs.World.{World}
 use Rattle.swsusp_cli.specs.Playing.{Played, HasPlayed}
-use Rattle.swsusp_cli.specs.Replay.{is_step, steps_of, is_cut, restarted, restarts_by, is_counted, AreCounted}
+use Rattle.swsusp_cli.specs.Replay.{is_step, steps_of, is_cut, restarted, restarts_by, AreCounted}
+use Rattle.swsusp_cli.specs.View.{DiskView}
+use Rattle.swsusp_cli.proofs.Blocks.{leaves_then, unwritten_here}
 
 -- a run and one step more
 pub run_more : (h : Hardware) (v : disk.Image) (a : State) (es : List Event) (rs : List Reply) (b : State) (e : Event) (r : Reply) (b' : State) → Run h v a es rs b → Step h v b e r b' → Run h v a (es ++ e ∷ []) (rs ++ r ∷ []) b'
@@ -37,91 +38,36 @@ pub risen_earlier : (low mid high : ℕ) → low ≤ mid → disk.HasRisen mid h
 risen_earlier low mid high a (inl lt) = inl (omega arith)
 risen_earlier low mid high a (inr e) = inr e
 
--- Replies that tell of a failed call, and one more.
-
-counted_fault : (r : Reply) → is_counted r ≡ true → IsNewFault r
-counted_fault (reply.ReadFault left) c = tt
-counted_fault (reply.WriteFault Same) c = tt
-counted_fault (reply.WriteFault Gone) c = absurd (false≢true c)
-counted_fault (reply.WriteFault Unsure) c = tt
-counted_fault (reply.SyncFault Same) c = tt
-counted_fault (reply.SyncFault Gone) c = absurd (false≢true c)
-counted_fault (reply.SyncFault Unsure) c = tt
-counted_fault (reply.Undo call zero) c = tt
-counted_fault (reply.Undo call (suc k)) c = absurd (false≢true c)
-counted_fault reply.Done c = absurd (false≢true c)
-counted_fault (reply.More k of) c = absurd (false≢true c)
-counted_fault (reply.Booted image) c = absurd (false≢true c)
-counted_fault (reply.Word value) c = absurd (false≢true c)
-counted_fault (reply.Slot slot) c = absurd (false≢true c)
-counted_fault (reply.Written slot) c = absurd (false≢true c)
-counted_fault (reply.Reading slot) c = absurd (false≢true c)
-counted_fault (reply.Fetched slot) c = absurd (false≢true c)
-counted_fault (reply.Hibernated n) c = absurd (false≢true c)
-counted_fault reply.Settled c = absurd (false≢true c)
-counted_fault (reply.Loading k) c = absurd (false≢true c)
-counted_fault (reply.Resumed n) c = absurd (false≢true c)
-counted_fault reply.WasCut c = absurd (false≢true c)
-counted_fault reply.Idle c = absurd (false≢true c)
-counted_fault reply.NotOff c = absurd (false≢true c)
-counted_fault reply.NotOn c = absurd (false≢true c)
-counted_fault reply.NoDump c = absurd (false≢true c)
-counted_fault reply.Frozen c = absurd (false≢true c)
-counted_fault reply.InFlight c = absurd (false≢true c)
-counted_fault reply.NoFrame c = absurd (false≢true c)
-counted_fault reply.NotFree c = absurd (false≢true c)
-counted_fault reply.NotOwner c = absurd (false≢true c)
-counted_fault reply.Closed c = absurd (false≢true c)
-counted_fault reply.NoSlot c = absurd (false≢true c)
-counted_fault reply.NoSlotHere c = absurd (false≢true c)
-counted_fault reply.NothingHeld c = absurd (false≢true c)
-counted_fault (reply.Busy task) c = absurd (false≢true c)
-counted_fault (reply.NoSwap why) c = absurd (false≢true c)
-counted_fault (reply.NoFrames free need) c = absurd (false≢true c)
-counted_fault (reply.NoSlots free need) c = absurd (false≢true c)
-counted_fault reply.NoImage c = absurd (false≢true c)
-counted_fault (reply.Compressed flags) c = absurd (false≢true c)
-counted_fault (reply.HwMismatch image own) c = absurd (false≢true c)
-counted_fault reply.NoChain c = absurd (false≢true c)
-counted_fault (reply.BadBlock block) c = absurd (false≢true c)
-counted_fault (reply.ChainEnds map) c = absurd (false≢true c)
-counted_fault (reply.Mismatch field) c = absurd (false≢true c)
-counted_fault (reply.MemorySize image own) c = absurd (false≢true c)
-counted_fault (reply.BadCounts image_pages pages) c = absurd (false≢true c)
-counted_fault (reply.BadPfn pfn) c = absurd (false≢true c)
-counted_fault (reply.PfnOrder x y) c = absurd (false≢true c)
-counted_fault (reply.PfnEnd found) c = absurd (false≢true c)
-counted_fault (reply.TooFewLoaderFrames have need) c = absurd (false≢true c)
-counted_fault (reply.BadTables frame) c = absurd (false≢true c)
-counted_fault reply.Sleeping c = absurd (false≢true c)
-counted_fault (reply.Asleep n) c = absurd (false≢true c)
-counted_fault reply.NotAsleep c = absurd (false≢true c)
-counted_fault reply.Woken c = absurd (false≢true c)
-counted_fault (reply.Shrunk dropped left) c = absurd (false≢true c)
-
-counted_more : (rs : List Reply) (r : Reply) → length (filter is_counted (rs ++ r ∷ [])) ≡ length (filter is_counted rs) + cond (is_counted r) 1 0
-counted_more rs r =
-    ap length (filter-append is_counted rs (r ∷ [])) ∙ length-append (filter is_counted rs) (filter is_counted (r ∷ []))
-    ∙ ap (λ (n : ℕ). length (filter is_counted rs) + n) (one_test (is_counted r)) where
-      one_test : (b : Bool) → length (cond b (r ∷ []) []) ≡ cond b 1 0
-      one_test true = refl
-      one_test false = refl
-
-one_allowed : (n low mid high : ℕ) (b : Bool) → (b ≡ true → disk.HasRisen mid high) → mid ≤ high → (low + n ≤ mid) ⊎ (disk.last_count ≤ mid) → (low + (n + cond b 1 0) ≤ high) ⊎ (disk.last_count ≤ high)
-one_allowed n low mid high b risen later (inr last) = inr (omega arith)
-one_allowed n low mid high false risen later (inl so_far) = inl (omega arith)
-one_allowed n low mid high true risen later (inl so_far) =
-    elim (risen refl) [ inl lt ↦ inl (omega arith) | inr last ↦ inr (omega arith) ]
+-- The count of faults, reply by reply.
 
 counted_then : (rs : List Reply) (r : Reply) (low mid high : ℕ) → (IsNewFault r → disk.HasRisen mid high) → mid ≤ high → AreCounted rs low mid → AreCounted (rs ++ r ∷ []) low high
-counted_then rs r low mid high risen later so_far =
-    subst (λ (n : ℕ). (low + n ≤ high) ⊎ (disk.last_count ≤ high)) (sym (counted_more rs r))
-    (one_allowed (length (filter is_counted rs)) low mid high (is_counted r) (λ c. risen (counted_fault r c)) later so_far)
+counted_then [] r low mid high risen later so_far = (high, omega arith, λ f. risen_earlier low mid high so_far (risen f), omega arith)
+counted_then (q ∷ rs) r low mid high risen later (m, le, f, rest) = (m, le, f, counted_then rs r m mid high risen later rest)
 
 -- from an earlier count on
 pub counted_earlier : (rs : List Reply) (low mid high : ℕ) → low ≤ mid → AreCounted rs mid high → AreCounted rs low high
-counted_earlier rs low mid high a (inl le) = inl (omega arith)
-counted_earlier rs low mid high a (inr last) = inr last
+counted_earlier [] low mid high a le = omega arith
+counted_earlier (r ∷ rs) low mid high a (m, le, f, rest) = (m, omega arith, λ fault. risen_earlier low mid m a (f fault), rest)
+
+counted_later : (rs : List Reply) (low high : ℕ) → AreCounted rs low high → low ≤ high
+counted_later [] low high le = le
+counted_later (r ∷ rs) low high (m, le, f, rest) = let later = counted_later rs m high rest in omega arith
+
+-- So replies that tell of a failed call are at most as many as the count rose by, its last value aside.
+pub counted_few : (tells : Reply → Bool) → ((r : Reply) → tells r ≡ true → IsNewFault r) → (rs : List Reply) (low high : ℕ) → AreCounted rs low high → (low + length (filter tells rs) ≤ high) ⊎ (disk.last_count ≤ high)
+counted_few tells only [] low high le = inl (omega arith)
+counted_few tells only (r ∷ rs) low high (m, le, f, rest) = by_test (tells r) (λ e. f (only r e)) (counted_few tells only rs m high rest) where
+  later : m ≤ high
+  later = counted_later rs m high rest
+
+  by_test : (b : Bool) → (b ≡ true → disk.HasRisen low m) → (m + length (filter tells rs) ≤ high) ⊎ (disk.last_count ≤ high) → (low + length (cond b (r ∷ filter tells rs) (filter tells rs)) ≤ high) ⊎ (disk.last_count ≤ high)
+  by_test b risen (inr last) = inr last
+  by_test false risen (inl few) = inl (omega arith)
+  by_test true risen (inl few) = elim (risen refl) [ inl lt ↦ inl (omega arith) | inr last ↦ let l = later in inr (omega arith) ]
+
+-- what a disk holds, where it is told, is whole
+pub whole_of : (blocks : ℕ) (told : Option disk.Content) (c : disk.Content) → told ≡ Some c → IfSome told (disk.IsContent blocks) → disk.IsContent blocks c
+whole_of blocks told c e h = subst (λ (o : Option disk.Content). IfSome o (disk.IsContent blocks)) e h
 
 -- One area.
 
@@ -157,21 +103,65 @@ restarts_more es e n =
     ap (λ (k : ℕ). restarted k n) (ap length (filter-append is_cut es (e ∷ [])) ∙ length-append (filter is_cut es) (filter is_cut (e ∷ [])))
     ∙ restarts_next e (length (filter is_cut es)) n
 
+-- Steps.
+step_test : (e : Event) → IsStep e → is_step e ≡ true
+step_test (event.Step x) s = refl
+step_test (event.Boot from) s = absurd s
+step_test (event.Hibernate f) s = absurd s
+step_test (event.Suspend f) s = absurd s
+step_test event.Wake s = absurd s
+step_test event.Settle s = absurd s
+step_test (event.Shrink want) s = absurd s
+step_test (event.Resume loader check) s = absurd s
+step_test (event.Task u o) s = absurd s
+step_test (event.Cut pick) s = absurd s
+step_test (event.Arm first count pick) s = absurd s
+
+steps_more : (es : List Event) (e : Event) → steps_of (es ++ e ∷ []) ≡ steps_of es + cond (is_step e) 1 0
+steps_more es e = ap length (filter-append is_step es (e ∷ [])) ∙ length-append (filter is_step es) (filter is_step (e ∷ [])) ∙ ap (λ (n : ℕ). steps_of es + n) (one_test (is_step e)) where
+  one_test : (b : Bool) → length (cond b (e ∷ []) []) ≡ cond b 1 0
+  one_test true = refl
+  one_test false = refl
+
+-- a count that is raised, where there is one step more
+raised_within : (start before now n m t : ℕ) → before ≤ start + n → m ≡ n + t → t ≡ 1 → now ≡ disk.raised before → now ≤ start + m
+raised_within start before now n m t so_far more one raised = omega (arith, min-le_left (before + 1) disk.last_count)
+
+same_within : (start before now n m t : ℕ) → before ≤ start + n → m ≡ n + t → now ≡ before → now ≤ start + m
+same_within start before now n m t so_far more same = omega arith
+
+calls_more : (es : List Event) (e : Event) (r : Reply) (start before now : ℕ) → before ≤ start + steps_of es → IsCalled e r before now → now ≤ start + steps_of (es ++ e ∷ [])
+calls_more es e r start before now so_far (inl same) = same_within start before now (steps_of es) (steps_of (es ++ e ∷ [])) (cond (is_step e) 1 0) so_far (steps_more es e) same
+calls_more es e r start before now so_far (inr called) =
+    raised_within start before now (steps_of es) (steps_of (es ++ e ∷ [])) (cond (is_step e) 1 0) so_far (steps_more es e) (ap (λ (b : Bool). cond b 1 0) (step_test e called.0)) called.2
+
 -- Played events, and one more.
 
-pub played_none : (w : World) (content : Option disk.Content) (count orders : ℕ) → HasPlayed w w [] [] content content count count orders orders
-played_none w content count orders = record {
+pub played_none : (w : World) (x : DiskView) → HasPlayed w w [] [] x x
+played_none w x = record {
   size = refl;
+  calls = omega arith;
   restarts = refl;
-  faults = inl (omega arith);
-  run = λ c a told stands of. (c, a, record { told = told; area = same_area (hardware_of w) (disk.as_it_reads c); run = refl; stands = stands; of_replay = of });
+  faults = omega arith;
+  run = λ c a told stands of. (
+    c,
+    a,
+    record {
+      told = told;
+      area = same_area (hardware_of w) (disk.as_it_reads c);
+      run = refl;
+      stands = stands;
+      of_replay = of;
+      unwritten = λ some b none. block_same b c;
+    },
+  );
 }
 
 -- The step over the disk as it reads now is one over the disk as it read at first.
-run_then : (old mid new : World) (es : List Event) (rs : List Reply) (e : Event) (r : Reply) (before between now : Option disk.Content) (c : disk.Content) (a : State) → SameSteps → StaysOfReplay →
-    ((c' : disk.Content) × (b : State) × Played old mid es between c c' a b rs) → HasRow e mid new r between now → hardware_of mid ≡ hardware_of old →
+run_then : (old mid new : World) (es : List Event) (rs : List Reply) (e : Event) (r : Reply) (blocks : ℕ) (between now : Option disk.Content) (c : disk.Content) (a : State) → SameSteps → StaysOfReplay →
+    IfSome between (disk.IsContent blocks) → ((c' : disk.Content) × (b : State) × Played old mid es between c c' a b rs) → HasRow e mid new r between now → hardware_of mid ≡ hardware_of old →
     (c' : disk.Content) × (b : State) × Played old new (es ++ e ∷ []) now c c' a b (rs ++ r ∷ [])
-run_then old mid new es rs e r before between now c s same stays so_far row hw =
+run_then old mid new es rs e r blocks between now c s same stays whole so_far row hw =
     let h = hardware_of old in
     let v = disk.as_it_reads c in
     let w = disk.as_it_reads so_far.0 in
@@ -180,7 +170,9 @@ run_then old mid new es rs e r before between now c s same stays so_far row hw =
     let goes = turn.2 so_far.1 was.stands in
     let step : Step h v so_far.1 e r goes.0 =
     same h v w so_far.1 e r goes.0 was.area was.of_replay (subst (λ (g : Hardware). Step g w so_far.1 e r goes.0) hw goes.1.step) in
-    let area : IsSameArea h w (disk.as_it_reads turn.0) = subst (λ (g : Hardware). IsSameArea g w (disk.as_it_reads turn.0)) hw goes.1.area in (
+    let area : IsSameArea h w (disk.as_it_reads turn.0) = subst (λ (g : Hardware). IsSameArea g w (disk.as_it_reads turn.0)) hw goes.1.area in
+    let leaves : (b : ℕ) → (Contains (blocks_written h so_far.1) b → ⊥) → LeavesBlock b so_far.0 turn.0 =
+    subst (λ (g : Hardware). (b : ℕ) → (Contains (blocks_written g so_far.1) b → ⊥) → LeavesBlock b so_far.0 turn.0) hw goes.1.unwritten in (
       turn.0,
       goes.0,
       record {
@@ -189,17 +181,21 @@ run_then old mid new es rs e r before between now c s same stays so_far row hw =
         run = run_more h v s es rs so_far.1 e r goes.0 was.run step;
         stands = goes.1.stands;
         of_replay = stays h v so_far.1 e r goes.0 was.of_replay step;
+        unwritten = λ some b none.
+            leaves_then blocks b c so_far.0 turn.0 (whole_of blocks between so_far.0 was.told whole) (was.unwritten some b none) (leaves b (unwritten_here h so_far.1 b some none));
       },
     )
 
-pub played_more : (old mid new : World) (es : List Event) (rs : List Reply) (e : Event) (r : Reply) (before between now : Option disk.Content) (low middle high orders middle_orders orders' : ℕ) → SameSteps → StaysOfReplay →
-    HasPlayed old mid es rs before between low middle orders middle_orders → HasRow e mid new r between now → hardware_of mid ≡ hardware_of old → (IsNewFault r → disk.HasRisen middle high) → middle ≤ high → orders' ≡ orders_after e middle_orders →
-    HasPlayed old new (es ++ e ∷ []) (rs ++ r ∷ []) before now low high orders orders'
-played_more old mid new es rs e r before between now low middle high orders middle_orders orders' same stays played row hw fault later after = record {
+pub played_more : (old mid new : World) (es : List Event) (rs : List Reply) (e : Event) (r : Reply) (before between now : DiskView) → SameSteps → StaysOfReplay →
+    IfSome between.content (disk.IsContent between.blocks) → HasPlayed old mid es rs before between → HasRow e mid new r between.content now.content → hardware_of mid ≡ hardware_of old →
+    (IsNewFault r → disk.HasRisen between.faults now.faults) → between.faults ≤ now.faults → IsCalled e r between.calls now.calls → now.orders ≡ orders_after e between.orders →
+    HasPlayed old new (es ++ e ∷ []) (rs ++ r ∷ []) before now
+played_more old mid new es rs e r before between now same stays whole played row hw fault later called after = record {
   size = length-append rs (r ∷ []) ∙ ap (λ (n : ℕ). n + 1) played.size ∙ sym (length-append es (e ∷ []));
-  faults = counted_then rs r low middle high fault later played.faults;
-  restarts = after ∙ ap (orders_after e) played.restarts ∙ sym (restarts_more es e orders);
-  run = λ c a told stands of. run_then old mid new es rs e r before between now c a same stays (played.run c a told stands of) row hw;
+  calls = calls_more es e r before.calls between.calls now.calls played.calls called;
+  restarts = after ∙ ap (orders_after e) played.restarts ∙ sym (restarts_more es e before.orders);
+  faults = counted_then rs r before.faults between.faults now.faults fault later played.faults;
+  run = λ c a told stands of. run_then old mid new es rs e r between.blocks between.content now.content c a same stays whole (played.run c a told stands of) row hw;
 }
 
 -- Texts.
@@ -248,42 +244,3 @@ served (event.Step x) is = tt
 served (event.Task t o) is = tt
 served (event.Cut pick) is = tt
 served (event.Arm first count pick) is = absurd is
-
--- Steps.
-step_test : (e : Event) → IsStep e → is_step e ≡ true
-step_test (event.Step x) s = refl
-step_test (event.Boot from) s = absurd s
-step_test (event.Hibernate f) s = absurd s
-step_test (event.Suspend f) s = absurd s
-step_test event.Wake s = absurd s
-step_test event.Settle s = absurd s
-step_test (event.Shrink want) s = absurd s
-step_test (event.Resume loader check) s = absurd s
-step_test (event.Task u o) s = absurd s
-step_test (event.Cut pick) s = absurd s
-step_test (event.Arm first count pick) s = absurd s
-
-pub steps_more : (es : List Event) (e : Event) → steps_of (es ++ e ∷ []) ≡ steps_of es + cond (is_step e) 1 0
-steps_more es e = ap length (filter-append is_step es (e ∷ [])) ∙ length-append (filter is_step es) (filter is_step (e ∷ [])) ∙ ap (λ (n : ℕ). steps_of es + n) (one_test (is_step e)) where
-  one_test : (b : Bool) → length (cond b (e ∷ []) []) ≡ cond b 1 0
-  one_test true = refl
-  one_test false = refl
-
--- a count that is raised, where there is one step more
-raised_within : (start before now n m t : ℕ) → before ≤ start + n → m ≡ n + t → t ≡ 1 → now ≡ disk.raised before → now ≤ start + m
-raised_within start before now n m t so_far more one raised = omega (arith, min-le_left (before + 1) disk.last_count)
-
-same_within : (start before now n m t : ℕ) → before ≤ start + n → m ≡ n + t → now ≡ before → now ≤ start + m
-same_within start before now n m t so_far more same = omega arith
-
-pub calls_more : (es : List Event) (e : Event) (r : Reply) (start before now : ℕ) → before ≤ start + steps_of es → IsCalled e r before now → now ≤ start + steps_of (es ++ e ∷ [])
-calls_more es e r start before now so_far (inl same) = same_within start before now (steps_of es) (steps_of (es ++ e ∷ [])) (cond (is_step e) 1 0) so_far (steps_more es e) same
-calls_more es e r start before now so_far (inr called) =
-    raised_within start before now (steps_of es) (steps_of (es ++ e ∷ [])) (cond (is_step e) 1 0) so_far (steps_more es e) (ap (λ (b : Bool). cond b 1 0) (step_test e called.0)) called.2
-
--- the steps of first events are at most those of all
-pub steps_front : (k : ℕ) (es : List Event) → steps_of (take k es) ≤ steps_of es
-steps_front k es =
-    let all : steps_of es ≡ steps_of (take k es) + steps_of (drop k es) =
-    ap steps_of (sym (take-append-drop k es)) ∙ ap length (filter-append is_step (take k es) (drop k es)) ∙ length-append (filter is_step (take k es)) (filter is_step (drop k es)) in
-    omega arith

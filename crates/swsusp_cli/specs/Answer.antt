@@ -1,7 +1,7 @@
 -- What a run ends with.
 use Rattle.std.specs.Prelude.{ℕ, List, [], ◌∷◌, ◌++◌, codes}
 use Rattle.swsusp_cli.specs.declared.status.Status.{Status}
-use Rattle.swsusp_cli.specs.declared.status.Status.TheVariants.{Words, Device}
+use Rattle.swsusp_cli.specs.declared.status.Status.TheVariants.{Done, Words, Device}
 
 -- a status, the text on out and the text on note
 pub record Told : Type 0 where
@@ -12,6 +12,10 @@ pub record Told : Type 0 where
 -- a text and the end of its line
 abbrev pub line : List ℕ → List ℕ
 line text = text ++ 10 ∷ []
+
+-- all is done, and nothing is left to say
+abbrev pub done : Told
+done = record { status = Done; out = []; note = [] }
 
 -- the words don't parse
 abbrev pub unparsed : Told

@@ -11,4 +11,5 @@ pub mod Reading
 pub mod Replay
 pub mod Run
 pub mod Told
+pub mod View
 pub mod Words

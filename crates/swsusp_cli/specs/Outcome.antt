@@ -1,13 +1,14 @@
 -- How a replay may end.
-use Rattle.std.specs.Prelude.{◌≡◌, ◌≤◌, ◌<◌, ℕ, ◌+◌, List, [], Option, Some, Ok, Err}
+use Rattle.std.specs.Prelude.{◌≡◌, ◌≤◌, ◌<◌, ℕ, ◌+◌, List, [], length, Some, Ok, Err}
 use Rattle.definitions.specs.Disk as disk
-use Rattle.definitions.specs.Streams.{TakesAll, TakesFront, IsOver}
+use Rattle.definitions.specs.Streams.{IsOver}
 use Rattle.script.specs.Grammar.{ScriptValue, script_of}
 use Rattle.script.specs.declared.fault.ScriptFault.{ScriptFault}
 use Rattle.swsusp_cli.specs.Answer.{Told}
-use Rattle.swsusp_cli.specs.Told.{IsTold, sink_note}
+use Rattle.swsusp_cli.specs.Told.{IsTold, IsTried, IsPrinted, sink_note}
 use Rattle.swsusp_cli.specs.Formatting.{FailsToFormat, calls_until}
-use Rattle.swsusp_cli.specs.Replay.{Prints, PrintsFront, steps_of, small_note, fault_note, write_note, sync_note, unread_note, memory_note}
+use Rattle.swsusp_cli.specs.Replay.{Prints, PrintsFront, small_note, fault_note, write_note, sync_note, unread_note, memory_note}
+use Rattle.swsusp_cli.specs.View.{View}
 use Rattle.swsusp_cli.specs.declared.formatting.Unformatted.{Unformatted}
 use Rattle.swsusp_cli.specs.declared.formatting.Unformatted.TheVariants.{Write, Sync}
 use Rattle.swsusp_cli.specs.declared.status.Status.{Status}
@@ -30,101 +31,73 @@ unformatted_told call = record { status = Device; out = []; note = call_note cal
 abbrev pub memory_told : Told
 memory_told = record { status = Memory; out = []; note = memory_note }
 
--- What a source, a disk and two sinks tell before a replay and after it: the bytes left, the number of blocks, the content,
--- the counts of the disk's faults, calls and restarts, and the bytes taken.
-pub record Around : Type 0 where
-  pub left : Option (List ℕ)
-  pub left_after : Option (List ℕ)
-  pub blocks : ℕ
-  pub content : Option disk.Content
-  pub content_after : Option disk.Content
-  pub low : ℕ
-  pub high : ℕ
-  pub calls : ℕ
-  pub calls_after : ℕ
-  pub orders : ℕ
-  pub orders_after : ℕ
-  pub out : Option (List ℕ)
-  pub out_after : Option (List ℕ)
-  pub note : Option (List ℕ)
-  pub note_after : Option (List ℕ)
-
--- this is told, and the disk holds what it held
-abbrev pub Tells : Around → Told → Status → Type 0
-Tells x told status = IsTold told status x.out x.out_after x.note x.note_after
+-- this is told
+abbrev pub Tells : Told → Status → View → View → Type 0
+Tells told status x x' = IsTold told status x.out x'.out x.note x'.note
 
 -- what was left is this script, and is read to its end
-pub record IsScript (x : Around) (script : ScriptValue) : Type 0 where
+pub record IsScript (x x' : View) (script : ScriptValue) : Type 0 where
   pub says : (bytes : List ℕ) → x.left ≡ Some bytes → script_of bytes ≡ Ok script
-  pub over : IsOver x.left_after
+  pub over : IsOver x'.left
+  pub few : length script.events ≤ 100000
 
--- the input is no script: its first fault is told
-pub record IsNoScript (x : Around) (status : Status) (fault : ScriptFault) : Type 0 where
+-- the input is no script: its first fault is told, and the disk isn't called
+pub record IsNoScript (x x' : View) (status : Status) (fault : ScriptFault) : Type 0 where
   pub says : (bytes : List ℕ) → x.left ≡ Some bytes → script_of bytes ≡ Err fault
-  pub told : Tells x (fault_told fault) status
-  pub content : x.content_after ≡ x.content
-  pub restarts : x.orders_after ≡ x.orders
+  pub told : Tells (fault_told fault) status x x'
+  pub untouched : x'.disk ≡ x.disk
 
--- memory was refused
-pub record IsOutOfMemory (x : Around) (status : Status) : Type 0 where
-  pub told : Tells x memory_told status
-  pub content : x.content_after ≡ x.content
-  pub restarts : x.orders_after ≡ x.orders
+-- memory was refused before the disk was called
+pub record IsOutOfMemory (x x' : View) (status : Status) : Type 0 where
+  pub told : Tells memory_told status x x'
+  pub untouched : x'.disk ≡ x.disk
 
--- the source failed: that is noted, and nothing was printed
-pub record IsUnread (x : Around) (status : Status) : Type 0 where
+-- the source failed: that is noted, out is as before, and the disk isn't called
+pub record IsUnread (x x' : View) (status : Status) : Type 0 where
   pub status_is : status ≡ Stream
-  pub out : TakesAll [] x.out x.out_after
-  pub note : TakesFront unread_note x.note x.note_after
-  pub content : x.content_after ≡ x.content
-  pub restarts : x.orders_after ≡ x.orders
+  pub out : x'.out ≡ x.out
+  pub note : IsTried unread_note x.note x'.note
+  pub untouched : x'.disk ≡ x.disk
 
--- the disk has too few blocks for the script's area
-pub record IsTooSmall (x : Around) (status : Status) (script : ScriptValue) : Type 0 where
-  pub script_is : IsScript x script
-  pub small : x.blocks < script.last + 1
-  pub told : Tells x (small_told x.blocks (script.last + 1)) status
-  pub content : x.content_after ≡ x.content
-  pub restarts : x.orders_after ≡ x.orders
+-- the disk has too few blocks for the script's area, and isn't called
+pub record IsTooSmall (x x' : View) (status : Status) (script : ScriptValue) : Type 0 where
+  pub script_is : IsScript x x' script
+  pub small : x.disk.blocks < script.last + 1
+  pub told : Tells (small_told x.disk.blocks (script.last + 1)) status x x'
+  pub untouched : x'.disk ≡ x.disk
 
 -- a call of the disk failed while the area was formatted: only block 0 may have changed
-pub record IsUnformatted (x : Around) (status : Status) (script : ScriptValue) (call : Unformatted) : Type 0 where
-  pub script_is : IsScript x script
-  pub roomy : script.last + 1 ≤ x.blocks
-  pub told : Tells x (unformatted_told call) status
-  pub risen : disk.HasRisen x.low x.high
-  pub calls : x.calls_after ≡ calls_until call x.calls
-  pub content : disk.Changes (FailsToFormat script.last call) x.content x.content_after
-  pub restarts : x.orders_after ≡ x.orders
-
--- the area was formatted, and each step of the script's events made at most one call of the disk
-abbrev pub CallsFew : Around → ScriptValue → Type 0
-CallsFew x script = x.calls_after ≤ x.calls + 2 + steps_of script.events
+pub record IsUnformatted (x x' : View) (status : Status) (script : ScriptValue) (call : Unformatted) : Type 0 where
+  pub script_is : IsScript x x' script
+  pub roomy : script.last + 1 ≤ x.disk.blocks
+  pub told : Tells (unformatted_told call) status x x'
+  pub risen : disk.HasRisen x.disk.faults x'.disk.faults
+  pub calls : x'.disk.calls ≡ calls_until call x.disk.calls
+  pub content : disk.Changes (FailsToFormat script.last call) x.disk.content x'.disk.content
+  pub restarts : x'.disk.orders ≡ x.disk.orders
 
 -- all events were played: out took the lines of a run of the plain machine
-pub record IsPlayed (x : Around) (status : Status) (script : ScriptValue) : Type 0 where
-  pub script_is : IsScript x script
-  pub roomy : script.last + 1 ≤ x.blocks
+pub record IsPlayed (x x' : View) (status : Status) (script : ScriptValue) : Type 0 where
+  pub script_is : IsScript x x' script
+  pub roomy : script.last + 1 ≤ x.disk.blocks
   pub status_is : status ≡ Done
-  pub prints : Prints script x.content x.content_after x.low x.high x.orders x.orders_after x.out x.out_after
-  pub note : TakesAll [] x.note x.note_after
-  pub calls : CallsFew x script
+  pub prints : Prints script x x'
+  pub note : IsPrinted [] x.note x'.note
 
--- out failed: it took a front of the lines of a run over first events, and that is noted
-pub record IsCutOff (x : Around) (status : Status) (script : ScriptValue) : Type 0 where
-  pub script_is : IsScript x script
-  pub roomy : script.last + 1 ≤ x.blocks
+-- a sink failed: out took a front of the lines of a run over first events, and the fault is noted
+pub record IsCutOff (x x' : View) (status : Status) (script : ScriptValue) : Type 0 where
+  pub script_is : IsScript x x' script
+  pub roomy : script.last + 1 ≤ x.disk.blocks
   pub status_is : status ≡ Stream
-  pub prints : PrintsFront script x.content x.content_after x.low x.high x.orders x.orders_after x.out x.out_after
-  pub note : TakesFront sink_note x.note x.note_after
-  pub calls : CallsFew x script
+  pub prints : PrintsFront script x x'
+  pub note : IsTried sink_note x.note x'.note
 
--- one of these
-pub data IsReplayed (x : Around) (status : Status) : Type 0 where
-  no_script : (fault : ScriptFault) → IsNoScript x status fault → IsReplayed x status
-  out_of_memory : IsOutOfMemory x status → IsReplayed x status
-  unread : IsUnread x status → IsReplayed x status
-  too_small : (script : ScriptValue) → IsTooSmall x status script → IsReplayed x status
-  unformatted : (script : ScriptValue) (call : Unformatted) → IsUnformatted x status script call → IsReplayed x status
-  played : (script : ScriptValue) → IsPlayed x status script → IsReplayed x status
-  cut_off : (script : ScriptValue) → IsCutOff x status script → IsReplayed x status
+-- One of these, by what the outside told before a replay and after it.
+pub data IsReplayed (x x' : View) (status : Status) : Type 0 where
+  no_script : (fault : ScriptFault) → IsNoScript x x' status fault → IsReplayed x x' status
+  out_of_memory : IsOutOfMemory x x' status → IsReplayed x x' status
+  unread : IsUnread x x' status → IsReplayed x x' status
+  too_small : (script : ScriptValue) → IsTooSmall x x' status script → IsReplayed x x' status
+  unformatted : (script : ScriptValue) (call : Unformatted) → IsUnformatted x x' status script call → IsReplayed x x' status
+  played : (script : ScriptValue) → IsPlayed x x' status script → IsReplayed x x' status
+  cut_off : (script : ScriptValue) → IsCutOff x x' status script → IsReplayed x x' status

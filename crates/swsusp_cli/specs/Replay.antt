@@ -1,23 +1,25 @@
 -- What `replay` does: it prints a run of the plain machine.
-use Rattle.std.specs.Prelude.{zero, suc, ◌≡◌, ◌⊎◌, ◌≤◌, ℕ, ◌+◌, List, ◌∷◌, ◌++◌, length, take, filter, Bool, true, false, codes, decimal, Option, Some, None}
+use Rattle.std.specs.Prelude.{zero, suc, ◌≡◌, ◌≢◌, ◌⊎◌, ◌≤◌, ◌<◌, ℕ, ◌+◌, List, [], ◌∷◌, ◌++◌, length, take, filter, Bool, true, false, codes, decimal, Some, None}
 use Rattle.definitions.specs.Disk as disk
-use Rattle.definitions.specs.Streams.{TakesAll, TakesFront}
+use Rattle.definitions.specs.Streams.{TakesFront}
+use Rattle.plain_machine.specs.Machine.{Hardware, block_of_slot}
 use Rattle.plain_machine.specs.Replies.{text_of}
 use Rattle.plain_machine.specs.State.{State, off, nothing}
 use Rattle.plain_machine.specs.Step.{Run}
 use Rattle.plain_machine.specs.declared.event.Event.{Event}
 use Rattle.plain_machine.specs.declared.event.Event.TheVariants as event
-use Rattle.plain_machine.specs.declared.reply.Left.TheVariants.{Same, Gone, Unsure}
 use Rattle.plain_machine.specs.declared.reply.Reply.{Reply}
-use Rattle.plain_machine.specs.declared.reply.Reply.TheVariants as reply
+use Rattle.protocol_laws.specs.Rows.{IsNewFault, LeavesBlock}
 use Rattle.machine.specs.Scripted.{scripted_hardware}
 use Rattle.script.specs.Grammar.{ScriptValue}
 use Rattle.script.specs.Kinds.{kind_name}
 use Rattle.script.specs.declared.fault.ScriptFault.{ScriptFault}
-use Rattle.world_core.specs.StandsFor.{StandsFor}
+use Rattle.world_core.specs.StandsFor.{StandsFor, IsOff, blocks_of, hardware_of}
 use Rattle.world_core.specs.World.{World}
 use Rattle.swsusp_cli.specs.Answer.{line}
 use Rattle.swsusp_cli.specs.Formatting.{Formats}
+use Rattle.swsusp_cli.specs.Told.{IsPrinted}
+use Rattle.swsusp_cli.specs.View.{View, DiskView}
 
 -- how many events are steps, each of which may call the disk once
 abbrev pub is_step : Event → Bool
@@ -39,46 +41,48 @@ restarted (suc k) orders = disk.raised (restarted k orders)
 abbrev pub restarts_by : List Event → ℕ → ℕ
 restarts_by events orders = restarted (length (filter is_cut events)) orders
 
--- Whether a reply tells of a call of the disk that failed at its event. An undo's end tells of the one that the undo began with.
-abbrev pub is_counted : Reply → Bool
-is_counted (reply.ReadFault left) = true
-is_counted (reply.WriteFault Same) = true
-is_counted (reply.WriteFault Gone) = false
-is_counted (reply.WriteFault Unsure) = true
-is_counted (reply.SyncFault Same) = true
-is_counted (reply.SyncFault Gone) = false
-is_counted (reply.SyncFault Unsure) = true
-is_counted (reply.Undo call zero) = true
-is_counted _ = false
-
--- such replies are at most as many as the disk's count rose by, its last value aside
+-- The disk's count of faults goes from `low` to `high` without falling, and rises at each reply that tells of a call that failed at
+-- its event: such replies are at most as many as it rose by, its last value aside.
 abbrev pub AreCounted : List Reply → ℕ → ℕ → Type 0
-AreCounted replies low high = (low + length (filter is_counted replies) ≤ high) ⊎ (disk.last_count ≤ high)
+AreCounted [] low high = low ≤ high
+AreCounted (r ∷ replies) low high = (mid : ℕ) × (low ≤ mid) × (IsNewFault r → disk.HasRisen low mid) × AreCounted replies mid high
 
--- Over a disk that held c, once an area is formatted on it, the replies are a run of the plain machine, which begins off with
--- nothing held, over these events. World and disk stand for the state that it ends in.
-abbrev pub IsRun : ℕ → List Event → List Reply → disk.Content → Option disk.Content → Type 0
-IsRun last events replies c after =
-    (formatted : disk.Content) × Formats last c formatted
-    × ((b : State) × Run (scripted_hardware last) (disk.as_it_reads formatted) (off nothing None) events replies b
-    × ((w : World) × (c' : disk.Content) × (after ≡ Some c') × StandsFor w c' b))
+-- no slot of the area lies on this block
+abbrev pub IsNoSlot : Hardware → ℕ → Type 0
+IsNoSlot h b = (s : ℕ) → s < h.slots → block_of_slot h s ≢ b
 
--- Each event gave a reply, the count of the disk's faults, from `low` to `high`, allows for them, its count of restarts went from
--- `orders` to `orders'` by the cuts among the events alone, and where the disk tells its content the replies are a run.
-pub record AreReplies (last : ℕ) (events : List Event) (replies : List Reply) (before after : Option disk.Content) (low high orders orders' : ℕ) : Type 0 where
+-- Over a disk that held c an area was formatted, and the replies are a run of the plain machine over these events, which begins
+-- off with nothing held. A world of this machine, over this disk, and what the disk holds stand for the state that it ends in.
+-- Blocks on which no slot lies have kept their bytes in every image of the disk.
+pub record IsRun (x x' : DiskView) (last : ℕ) (events : List Event) (replies : List Reply) (c : disk.Content) : Type 0 where
+  pub formatted : disk.Content
+  pub formats : Formats last c formatted
+  pub end : State
+  pub run : Run (scripted_hardware last) (disk.as_it_reads formatted) (off nothing None) events replies end
+  pub world : World
+  pub hardware : hardware_of world ≡ scripted_hardware last
+  pub blocks : IsOff world ⊎ (blocks_of world ≡ x.blocks)
+  pub held : disk.Content
+  pub told : x'.content ≡ Some held
+  pub stands : StandsFor world held end
+  pub unwritten : (b : ℕ) → IsNoSlot (scripted_hardware last) b → LeavesBlock b c held
+
+-- Each event gave a reply, each step made at most one call of the disk after the formatting's two, the cuts alone restarted it, its
+-- count of faults allows for the replies, and where it tells its content the replies are a run.
+pub record AreReplies (x x' : DiskView) (last : ℕ) (events : List Event) (replies : List Reply) : Type 0 where
   pub size : length replies ≡ length events
-  pub restarts : orders' ≡ restarts_by events orders
-  pub faults : AreCounted replies low high
-  pub run : (c : disk.Content) → before ≡ Some c → IsRun last events replies c after
+  pub calls : x'.calls ≤ x.calls + 2 + steps_of events
+  pub restarts : x'.orders ≡ restarts_by events x.orders
+  pub faults : AreCounted replies x.faults x'.faults
+  pub run : (c : disk.Content) → x.content ≡ Some c → IsRun x x' last events replies c
 
 -- Out took the lines of the replies to all events; it took a front of the lines of those to some first events.
-abbrev pub Prints : ScriptValue → Option disk.Content → Option disk.Content → ℕ → ℕ → ℕ → ℕ → Option (List ℕ) → Option (List ℕ) → Type 0
-Prints script before after low high orders orders' out out' =
-    (replies : List Reply) × AreReplies script.last script.events replies before after low high orders orders' × TakesAll (text_of replies) out out'
+abbrev pub Prints : ScriptValue → View → View → Type 0
+Prints script x x' = (replies : List Reply) × AreReplies x.disk x'.disk script.last script.events replies × IsPrinted (text_of replies) x.out x'.out
 
-abbrev pub PrintsFront : ScriptValue → Option disk.Content → Option disk.Content → ℕ → ℕ → ℕ → ℕ → Option (List ℕ) → Option (List ℕ) → Type 0
-PrintsFront script before after low high orders orders' out out' =
-    (k : ℕ) × (replies : List Reply) × AreReplies script.last (take k script.events) replies before after low high orders orders' × TakesFront (text_of replies) out out'
+abbrev pub PrintsFront : ScriptValue → View → View → Type 0
+PrintsFront script x x' =
+    (k : ℕ) × (replies : List Reply) × AreReplies x.disk x'.disk script.last (take k script.events) replies × TakesFront (text_of replies) x.out.taken x'.out.taken
 
 -- Notes.
 

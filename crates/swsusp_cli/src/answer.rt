@@ -1,6 +1,7 @@
 ghost use Rattle.std.specs.Prelude.{◌≡◌, ◌≢◌, ◌⊎◌, ◌≤◌, length, OnOk, OnErr};
 ghost use Rattle.definitions.specs.Disk.{HasRisen};
 ghost use Rattle.definitions.specs.Streams.{TakesAll, TakesFront};
+ghost use Rattle.swsusp_cli.specs.Told.{IsPrinted, FailsToPrint};
 
 use crate::status::Status;
 use dump_file::Sink;
@@ -22,7 +23,11 @@ impl Answer {
     /// Prints both texts. Where a sink fails the status is `Stream`, and `sink fault` is tried as a note.
     pub fn tell<O: Sink, N: Sink>(&self, out: &mut O, note: &mut N) -> Status
         requires { self.now.status ≢ Status.Stream }
-        ensures told { IsTold (told_by self.now) result (O.taken out.old) (O.taken out.new) (N.taken note.old) (N.taken note.new) }
+        ensures told { IsTold (told_by self.now) result
+            (record { taken = O.taken out.old; flushed = O.flushed out.old; faults = O.faults out.old })
+            (record { taken = O.taken out.new; flushed = O.flushed out.new; faults = O.faults out.new })
+            (record { taken = N.taken note.old; flushed = N.flushed note.old; faults = N.faults note.old })
+            (record { taken = N.taken note.new; flushed = N.flushed note.new; faults = N.faults note.new }) }
         ensures stream { result ≡ Status.Stream →
             HasRisen (O.faults out.old) (O.faults out.new) ⊎ HasRisen (N.faults note.old) (N.faults note.new) }
         ensures status { result ≢ Status.Stream → result ≡ self.now.status }
@@ -40,8 +45,12 @@ impl Answer {
 
 /// Writes a text to its end, and flushes.
 pub fn print<S: Sink>(sink: &mut S, text: &[u8]) -> Result<(), Failed>
-    ensures whole { OnOk result (TakesAll text.now (S.taken sink.old) (S.taken sink.new)) }
-    ensures front { TakesFront text.now (S.taken sink.old) (S.taken sink.new) }
+    ensures printed { OnOk result (IsPrinted text.now
+        (record { taken = S.taken sink.old; flushed = S.flushed sink.old; faults = S.faults sink.old })
+        (record { taken = S.taken sink.new; flushed = S.flushed sink.new; faults = S.faults sink.new })) }
+    ensures failed { OnErr result (FailsToPrint text.now
+        (record { taken = S.taken sink.old; flushed = S.flushed sink.old; faults = S.faults sink.old })
+        (record { taken = S.taken sink.new; flushed = S.flushed sink.new; faults = S.faults sink.new })) }
     ensures counted { S.faults sink.old ≤ S.faults sink.new }
     ensures cause { OnErr result (HasRisen (S.faults sink.old) (S.faults sink.new)) }
 {

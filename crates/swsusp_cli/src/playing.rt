@@ -7,7 +7,6 @@ ghost use Rattle.plain_machine.specs.declared.reply.Reply.{Reply};
 ghost use Rattle.world_core.specs.StandsFor.{IsOff, blocks_of, hardware_of};
 ghost use Rattle.script.specs.Shapes.{IsScripted};
 ghost use Rattle.swsusp_cli.specs.Playing.{HasPlayed};
-ghost use Rattle.swsusp_cli.specs.Replay.{steps_of};
 
 use crate::answer::put;
 use dump_file::Sink;
@@ -29,15 +28,18 @@ pub fn play<D: Disk, O: Sink>(
     requires scripted { All IsScripted events.now }
     requires blocks { IsOff world.old ⊎ (D.block_count disk.old ≡ blocks_of world.old) }
     ensures played { MatchResult result
-        (λ _. (replies : List Reply) × HasPlayed world.old world.new events.now replies (D.content disk.old) (D.content disk.new) (D.faults disk.old) (D.faults disk.new) (D.orders disk.old) (D.orders disk.new)
+        (λ _. (replies : List Reply) × HasPlayed world.old world.new events.now replies
+        (record { blocks = D.block_count disk.old; content = D.content disk.old; faults = D.faults disk.old; calls = D.calls disk.old; orders = D.orders disk.old })
+        (record { blocks = D.block_count disk.new; content = D.content disk.new; faults = D.faults disk.new; calls = D.calls disk.new; orders = D.orders disk.new })
         × TakesAll (text_of replies) (O.taken out.old) (O.taken out.new))
-        (λ _. (k : ℕ) × (replies : List Reply) × HasPlayed world.old world.new (take k events.now) replies (D.content disk.old) (D.content disk.new) (D.faults disk.old) (D.faults disk.new) (D.orders disk.old) (D.orders disk.new)
+        (λ _. (k : ℕ) × (replies : List Reply) × HasPlayed world.old world.new (take k events.now) replies
+        (record { blocks = D.block_count disk.old; content = D.content disk.old; faults = D.faults disk.old; calls = D.calls disk.old; orders = D.orders disk.old })
+        (record { blocks = D.block_count disk.new; content = D.content disk.new; faults = D.faults disk.new; calls = D.calls disk.new; orders = D.orders disk.new })
         × TakesFront (text_of replies) (O.taken out.old) (O.taken out.new)) }
     ensures stream { OnErr result (HasRisen (O.faults out.old) (O.faults out.new)) }
     ensures stream_faults { O.faults out.old ≤ O.faults out.new }
-    ensures faults { D.faults disk.old ≤ D.faults disk.new }
-    ensures calls { D.calls disk.new ≤ D.calls disk.old + steps_of events.now }
     ensures hardware { hardware_of world.new ≡ hardware_of world.old }
+    ensures blocks { IsOff world.new ⊎ (D.block_count disk.new ≡ blocks_of world.new) }
 {
     replays();
     for event in events {
@@ -47,7 +49,7 @@ pub fn play<D: Disk, O: Sink>(
             Err(Failed) => return Err(Failed),
         }
     }
-    out.flush()
+    Ok(())
 }
 
 fn print_reply<O: Sink>(out: &mut O, reply: &Reply) -> Result<(), Failed>

@@ -1,6 +1,6 @@
 ghost use Rattle.std.specs.Prelude.{◌≡◌, ◌≢◌, ◌⊎◌, ◌≤◌, ◌+◌, ◌<◌, ◌^◌, Some, Ok, Err, IfOk, List, ℕ, All, length};
 ghost use Rattle.definitions.specs.Disk.{HasRisen};
-ghost use Rattle.definitions.specs.Streams.{IsOver, TakesFront};
+ghost use Rattle.definitions.specs.Streams.{IsOver};
 ghost use Rattle.script.specs.Grammar.{ScriptValue, IsLastPage};
 ghost use Rattle.plain_machine.specs.Fitting.{IsFitting};
 ghost use Rattle.script.specs.Shapes.{IsScripted};
@@ -9,6 +9,8 @@ ghost use Rattle.swsusp_cli.specs.Outcome.{IsReplayed, small_told, fault_told, u
 ghost use Rattle.swsusp_cli.specs.Readied.{IsReadied};
 ghost use Rattle.swsusp_cli.specs.Reading.{HandsOutAtMost};
 ghost use Rattle.swsusp_cli.specs.Replay.{unread_note};
+ghost use Rattle.swsusp_cli.specs.Answer.{done};
+ghost use Rattle.swsusp_cli.specs.Told.{IsTried, sink_note};
 
 use crate::answer::{Answer, print};
 use crate::formatting::{Unformatted, format};
@@ -17,7 +19,7 @@ use crate::reading::{ReadStop, read_script};
 use crate::status::Status;
 use dump_file::{Sink, Source};
 use machine::Hardware;
-use page_core::NoMemory;
+use page_core::{Failed, NoMemory};
 use script::{Line, ParseStop, Script, ScriptFault, parse};
 use sector_disk::Disk;
 use std::alloc::Global;
@@ -41,27 +43,20 @@ pub fn replay<I: Source, O: Sink, N: Sink, D: Disk>(
 ) -> Status
     ensures outcome { IsReplayed (record {
       left = I.remaining input.old;
-      left_after = I.remaining input.new;
-      blocks = D.block_count disk.old;
-      content = D.content disk.old;
-      content_after = D.content disk.new;
-      low = D.faults disk.old;
-      high = D.faults disk.new;
-      calls = D.calls disk.old;
-      calls_after = D.calls disk.new;
-      orders = D.orders disk.old;
-      orders_after = D.orders disk.new;
-      out = O.taken out.old;
-      out_after = O.taken out.new;
-      note = N.taken note.old;
-      note_after = N.taken note.new;
+      disk = record { blocks = D.block_count disk.old; content = D.content disk.old; faults = D.faults disk.old; calls = D.calls disk.old; orders = D.orders disk.old };
+      out = record { taken = O.taken out.old; flushed = O.flushed out.old; faults = O.faults out.old };
+      note = record { taken = N.taken note.old; flushed = N.flushed note.old; faults = N.faults note.old };
+    }) (record {
+      left = I.remaining input.new;
+      disk = record { blocks = D.block_count disk.new; content = D.content disk.new; faults = D.faults disk.new; calls = D.calls disk.new; orders = D.orders disk.new };
+      out = record { taken = O.taken out.new; flushed = O.flushed out.new; faults = O.faults out.new };
+      note = record { taken = N.taken note.new; flushed = N.flushed note.new; faults = N.faults note.new };
     }) result }
     ensures stream { result ≡ Status.Stream → HasRisen (I.faults input.old) (I.faults input.new)
         ⊎ HasRisen (O.faults out.old) (O.faults out.new) ⊎ HasRisen (N.faults note.old) (N.faults note.new) }
     ensures device { result ≡ Status.Device → HasRisen (D.faults disk.old) (D.faults disk.new) }
     ensures words { result ≢ Status.Words }
     ensures read { HandsOutAtMost 1048577 (I.remaining input.old) (I.remaining input.new) }
-    ensures calls { D.calls disk.new ≤ D.calls disk.old + 100002 }
 {
     let script = match ready(alloc, input) {
         Ok(script) => script,
@@ -82,11 +77,8 @@ pub fn replay<I: Source, O: Sink, N: Sink, D: Disk>(
         Err(call) => return unformatted(call).tell(out, note),
     }
     match play(&mut world, disk, out, script.events()) {
-        Ok(()) => Status::Done,
-        Err(_) => {
-            let _ = print(note, b"sink fault\n");
-            Status::Stream
-        }
+        Ok(()) => done().tell(out, note),
+        Err(Failed) => cut_off(note),
     }
 }
 
@@ -116,10 +108,35 @@ fn ready<I: Source>(alloc: Global, input: &mut I) -> Result<Script, Stop>
 /// The source failed: that is noted, once.
 fn unread<N: Sink>(note: &mut N) -> Status
     ensures status { result ≡ Status.Stream }
-    ensures note { TakesFront unread_note (N.taken note.old) (N.taken note.new) }
+    ensures note { IsTried unread_note
+        (record { taken = N.taken note.old; flushed = N.flushed note.old; faults = N.faults note.old })
+        (record { taken = N.taken note.new; flushed = N.flushed note.new; faults = N.faults note.new }) }
 {
     let _ = print(note, b"source fault\n");
     Status::Stream
+}
+
+/// Out failed: that is noted, once.
+fn cut_off<N: Sink>(note: &mut N) -> Status
+    ensures status { result ≡ Status.Stream }
+    ensures note { IsTried sink_note
+        (record { taken = N.taken note.old; flushed = N.flushed note.old; faults = N.faults note.old })
+        (record { taken = N.taken note.new; flushed = N.flushed note.new; faults = N.faults note.new }) }
+{
+    let _ = print(note, b"sink fault\n");
+    Status::Stream
+}
+
+/// All is played: nothing is left to say.
+fn done() -> Answer
+    ensures told { told_by result ≡ done }
+    ensures status { result.status ≡ Status.Done }
+{
+    Answer {
+        status: Status::Done,
+        out: Line::new(),
+        note: Line::new(),
+    }
 }
 
 fn no_memory() -> Answer

@@ -1,5 +1,6 @@
 ghost use Rattle.std.specs.Prelude.{◌≡◌, ◌≢◌, None, Some, ◌≤◌, ◌+◌, ◌⊎◌, map, string_bytes};
 ghost use Rattle.definitions.specs.Disk.{HasRisen};
+ghost use Rattle.dump_file.specs.Flushed.{IsFlushed};
 ghost use Rattle.swsusp_cli.specs.Answer.{Told, unparsed};
 ghost use Rattle.swsusp_cli.specs.AnswerOf.{told_by};
 ghost use Rattle.swsusp_cli.specs.Run.{IsAnswer, IsNoReplay, calls_after};
@@ -43,29 +44,28 @@ pub fn run<I: Source, O: Sink, N: Sink, D: Disk>(
 ) -> Status
     ensures answered { IsNoReplay (command_of (map string_bytes words.now)) → (told : Told)
         × IsAnswer (command_of (map string_bytes words.now)) (D.block_count disk.old) (D.content disk.old) (D.faults disk.old) (D.faults disk.new) told
-        × IsTold told result (O.taken out.old) (O.taken out.new) (N.taken note.old) (N.taken note.new) }
+        × IsTold told result
+        (record { taken = O.taken out.old; flushed = O.flushed out.old; faults = O.faults out.old })
+        (record { taken = O.taken out.new; flushed = O.flushed out.new; faults = O.faults out.new })
+        (record { taken = N.taken note.old; flushed = N.flushed note.old; faults = N.faults note.old })
+        (record { taken = N.taken note.new; flushed = N.flushed note.new; faults = N.faults note.new }) }
     ensures replayed { command_of (map string_bytes words.now) ≡ Some Replay → IsReplayed (record {
       left = I.remaining input.old;
-      left_after = I.remaining input.new;
-      blocks = D.block_count disk.old;
-      content = D.content disk.old;
-      content_after = D.content disk.new;
-      low = D.faults disk.old;
-      high = D.faults disk.new;
-      calls = D.calls disk.old;
-      calls_after = D.calls disk.new;
-      orders = D.orders disk.old;
-      orders_after = D.orders disk.new;
-      out = O.taken out.old;
-      out_after = O.taken out.new;
-      note = N.taken note.old;
-      note_after = N.taken note.new;
+      disk = record { blocks = D.block_count disk.old; content = D.content disk.old; faults = D.faults disk.old; calls = D.calls disk.old; orders = D.orders disk.old };
+      out = record { taken = O.taken out.old; flushed = O.flushed out.old; faults = O.faults out.old };
+      note = record { taken = N.taken note.old; flushed = N.flushed note.old; faults = N.faults note.old };
+    }) (record {
+      left = I.remaining input.new;
+      disk = record { blocks = D.block_count disk.new; content = D.content disk.new; faults = D.faults disk.new; calls = D.calls disk.new; orders = D.orders disk.new };
+      out = record { taken = O.taken out.new; flushed = O.flushed out.new; faults = O.faults out.new };
+      note = record { taken = N.taken note.new; flushed = N.flushed note.new; faults = N.faults note.new };
     }) result }
 
     // Each answer that isn't success has its cause.
     ensures words { result ≡ Status.Words → command_of (map string_bytes words.now) ≡ None }
     ensures stream { result ≡ Status.Stream → HasRisen (I.faults input.old) (I.faults input.new)
         ⊎ HasRisen (O.faults out.old) (O.faults out.new) ⊎ HasRisen (N.faults note.old) (N.faults note.new) }
+    ensures flushed { result ≢ Status.Stream → IsFlushed (O.taken out.new) (O.flushed out.new) × IsFlushed (N.taken note.new) (N.flushed note.new) }
     ensures device { result ≡ Status.Device → HasRisen (D.faults disk.old) (D.faults disk.new) }
 
     ensures read { HandsOutAtMost 1048577 (I.remaining input.old) (I.remaining input.new) }

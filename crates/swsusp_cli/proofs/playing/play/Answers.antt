@@ -1,4 +1,4 @@
-use Rattle.std.proofs.Common.{◌≡◌, ◌≤◌, ◌<◌, ◌+◌, ◌++◌, ℕ, List, [], ◌∷◌, length, take, get_or, refl, sym, ◌∙◌, subst, arith}
+use Rattle.std.proofs.Common.{◌≡◌, ◌<◌, ◌+◌, ◌++◌, ℕ, List, [], ◌∷◌, length, take, get_or, refl, sym, ◌∙◌, subst, arith}
 use Rattle.std.proofs.lemmas.List.{take_more}
 use Rattle.std.proofs.lemmas.List.Elements.{All-get_or}
 use Rattle.definitions.specs.Streams.{TakesAll, TakesFront}
@@ -9,8 +9,8 @@ use Rattle.plain_machine.specs.declared.event.Event.TheVariants as event
 use Rattle.plain_machine.specs.declared.event.BootFrom.TheVariants.{Fresh}
 use Rattle.script.specs.Shapes.{IsScripted}
 use Rattle.swsusp_cli.specs.Playing.{HasPlayed}
-use Rattle.swsusp_cli.specs.Replay.{steps_of}
-use Rattle.swsusp_cli.proofs.Turns.{served, played_none, played_more, taken_more, front_more, text_more, calls_more, steps_front}
+use Rattle.swsusp_cli.specs.View.{DiskView}
+use Rattle.swsusp_cli.proofs.Turns.{served, played_none, played_more, taken_more, front_more, text_more}
 use Rattle.swsusp_cli.proofs.playing.play.Goals as goal
 
 one_more : (events : List Event) (i : ℕ) → i < length events → take (i + 1) events ≡ take i events ++ get_or events i (event.Boot Fresh) ∷ []
@@ -18,11 +18,9 @@ one_more events i lt = take_more events i (event.Boot Fresh) lt
 
 pub loop-event-init : goal.loop-event-init
 loop-event-init g c = record {
-  played = ([], played_none c.args.world.now (g.D.Disk.content c.args.disk.now) (g.D.Disk.faults c.args.disk.now) (g.D.Disk.orders c.args.disk.now), Takes-none [] (g.O.Sink.taken c.args.out.now));
+  played = ([], played_none c.args.world.now (record { blocks = g.D.Disk.block_count c.args.disk.now; content = g.D.Disk.content c.args.disk.now; faults = g.D.Disk.faults c.args.disk.now; calls = g.D.Disk.calls c.args.disk.now; orders = g.D.Disk.orders c.args.disk.now }), Takes-none [] (g.O.Sink.taken c.args.out.now));
   blocks = c.requires.blocks;
   hardware = refl;
-  faults = omega arith;
-  calls = omega arith;
   stream = omega arith;
 }
 
@@ -35,23 +33,24 @@ loop-event-preserved g c =
     let row = c.event-reply.ensures in
     let r = c.event-reply.result in
     let more = one_more events i (let lt = c.loop-event-test.true in omega arith) in
+    let before : DiskView = record { blocks = g.D.Disk.block_count c.args.disk.now; content = g.D.Disk.content c.args.disk.now; faults = g.D.Disk.faults c.args.disk.now; calls = g.D.Disk.calls c.args.disk.now; orders = g.D.Disk.orders c.args.disk.now } in
+    let between : DiskView = record { blocks = g.D.Disk.block_count c.loop-event.disk; content = g.D.Disk.content c.loop-event.disk; faults = g.D.Disk.faults c.loop-event.disk; calls = g.D.Disk.calls c.loop-event.disk; orders = g.D.Disk.orders c.loop-event.disk } in
+    let now : DiskView = record { blocks = g.D.Disk.block_count c.event-reply.new.disk; content = g.D.Disk.content c.event-reply.new.disk; faults = g.D.Disk.faults c.event-reply.new.disk; calls = g.D.Disk.calls c.event-reply.new.disk; orders = g.D.Disk.orders c.event-reply.new.disk } in
     let old_out = g.O.Sink.taken c.args.out.now in
     let mid_out = g.O.Sink.taken c.loop-event.out in
     let new_out = g.O.Sink.taken c.print_reply.new.out in
     let rs = inv.played.0 in
+    let played = subst (λ (es : List Event). HasPlayed c.args.world.now c.event-reply.new.self es (rs ++ r ∷ []) before now) (sym more)
+    (played_more c.args.world.now c.loop-event.world c.event-reply.new.self (take i events) rs e r before between now c.replays.ensures.same c.replays.ensures.stays
+    (g.met.D.Disk.well_formed c.loop-event.disk) inv.played.1 row.row inv.hardware row.cause row.faults row.calls row.orders) in
     record {
       played = (
         rs ++ r ∷ [],
-        subst (λ (es : List Event). HasPlayed c.args.world.now c.event-reply.new.self es (rs ++ r ∷ []) (g.D.Disk.content c.args.disk.now) (g.D.Disk.content c.event-reply.new.disk) (g.D.Disk.faults c.args.disk.now) (g.D.Disk.faults c.event-reply.new.disk) (g.D.Disk.orders c.args.disk.now) (g.D.Disk.orders c.event-reply.new.disk)) (sym more)
-            (played_more c.args.world.now c.loop-event.world c.event-reply.new.self (take i events) rs e r (g.D.Disk.content c.args.disk.now) (g.D.Disk.content c.loop-event.disk) (g.D.Disk.content c.event-reply.new.disk)
-            (g.D.Disk.faults c.args.disk.now) (g.D.Disk.faults c.loop-event.disk) (g.D.Disk.faults c.event-reply.new.disk) (g.D.Disk.orders c.args.disk.now) (g.D.Disk.orders c.loop-event.disk) (g.D.Disk.orders c.event-reply.new.disk) c.replays.ensures.same c.replays.ensures.stays inv.played.1 row.row inv.hardware row.cause row.faults row.orders),
+        played,
         subst (λ (t : List ℕ). TakesAll t old_out new_out) (sym (text_more rs r)) (taken_more (text_of rs) (line_of r) old_out mid_out new_out inv.played.2 c.in-Ok.ensures.whole),
       );
       blocks = row.blocks;
       hardware = row.hardware ∙ inv.hardware;
-      faults = let a = inv.faults in let b = row.faults in omega arith;
-      calls = subst (λ (es : List Event). g.D.Disk.calls c.event-reply.new.disk ≤ g.D.Disk.calls c.args.disk.now + steps_of es) (sym more)
-          (calls_more (take i events) e r (g.D.Disk.calls c.args.disk.now) (g.D.Disk.calls c.loop-event.disk) (g.D.Disk.calls c.event-reply.new.disk) inv.calls row.calls);
       stream = let a = inv.stream in let b = c.print_reply.ensures.counted in omega arith;
     }
 
@@ -64,28 +63,21 @@ returns-in-Err-clause-played g c =
     let row = c.event-reply.ensures in
     let r = c.event-reply.result in
     let more = one_more events i (let lt = c.loop-event-test.true in omega arith) in
+    let before : DiskView = record { blocks = g.D.Disk.block_count c.args.disk.now; content = g.D.Disk.content c.args.disk.now; faults = g.D.Disk.faults c.args.disk.now; calls = g.D.Disk.calls c.args.disk.now; orders = g.D.Disk.orders c.args.disk.now } in
+    let between : DiskView = record { blocks = g.D.Disk.block_count c.loop-event.disk; content = g.D.Disk.content c.loop-event.disk; faults = g.D.Disk.faults c.loop-event.disk; calls = g.D.Disk.calls c.loop-event.disk; orders = g.D.Disk.orders c.loop-event.disk } in
+    let now : DiskView = record { blocks = g.D.Disk.block_count c.event-reply.new.disk; content = g.D.Disk.content c.event-reply.new.disk; faults = g.D.Disk.faults c.event-reply.new.disk; calls = g.D.Disk.calls c.event-reply.new.disk; orders = g.D.Disk.orders c.event-reply.new.disk } in
     let old_out = g.O.Sink.taken c.args.out.now in
     let mid_out = g.O.Sink.taken c.loop-event.out in
     let new_out = g.O.Sink.taken c.print_reply.new.out in
-    let rs = inv.played.0 in (
+    let rs = inv.played.0 in
+    let played = subst (λ (es : List Event). HasPlayed c.args.world.now c.event-reply.new.self es (rs ++ r ∷ []) before now) (sym more)
+    (played_more c.args.world.now c.loop-event.world c.event-reply.new.self (take i events) rs e r before between now c.replays.ensures.same c.replays.ensures.stays
+    (g.met.D.Disk.well_formed c.loop-event.disk) inv.played.1 row.row inv.hardware row.cause row.faults row.calls row.orders) in (
       i + 1,
       rs ++ r ∷ [],
-      subst (λ (es : List Event). HasPlayed c.args.world.now c.event-reply.new.self es (rs ++ r ∷ []) (g.D.Disk.content c.args.disk.now) (g.D.Disk.content c.event-reply.new.disk) (g.D.Disk.faults c.args.disk.now) (g.D.Disk.faults c.event-reply.new.disk) (g.D.Disk.orders c.args.disk.now) (g.D.Disk.orders c.event-reply.new.disk)) (sym more)
-          (played_more c.args.world.now c.loop-event.world c.event-reply.new.self (take i events) rs e r (g.D.Disk.content c.args.disk.now) (g.D.Disk.content c.loop-event.disk) (g.D.Disk.content c.event-reply.new.disk)
-          (g.D.Disk.faults c.args.disk.now) (g.D.Disk.faults c.loop-event.disk) (g.D.Disk.faults c.event-reply.new.disk) (g.D.Disk.orders c.args.disk.now) (g.D.Disk.orders c.loop-event.disk) (g.D.Disk.orders c.event-reply.new.disk) c.replays.ensures.same c.replays.ensures.stays inv.played.1 row.row inv.hardware row.cause row.faults row.orders),
+      played,
       subst (λ (t : List ℕ). TakesFront t old_out new_out) (sym (text_more rs r)) (front_more (text_of rs) (line_of r) old_out mid_out new_out inv.played.2 c.print_reply.ensures.front),
     )
-
-pub returns-in-Err-clause-calls : goal.returns-in-Err-clause-calls
-returns-in-Err-clause-calls g c =
-    let events = c.args.events.now in
-    let i = c.loop-event.event-index in
-    let e = get_or events i (event.Boot Fresh) in
-    let more = one_more events i (let lt = c.loop-event-test.true in omega arith) in
-    let called = subst (λ (es : List Event). g.D.Disk.calls c.event-reply.new.disk ≤ g.D.Disk.calls c.args.disk.now + steps_of es) (sym more)
-    (calls_more (take i events) e c.event-reply.result (g.D.Disk.calls c.args.disk.now) (g.D.Disk.calls c.loop-event.disk) (g.D.Disk.calls c.event-reply.new.disk) c.loop-event.invariant.calls c.event-reply.ensures.calls) in
-    let front = steps_front (i + 1) events in
-    omega arith
 
 pub event-reply-requires-clause-served : goal.event-reply-requires-clause-served
 event-reply-requires-clause-served g c =

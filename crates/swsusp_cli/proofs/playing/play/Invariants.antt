@@ -1,19 +1,20 @@
-use Rattle.std.proofs.Common.{◌≡◌, ◌⊎◌, ◌≤◌, ◌+◌, List, take}
+use Rattle.std.proofs.Common.{◌≡◌, ◌⊎◌, ◌≤◌, List, take}
 use Rattle.definitions.specs.Streams.{TakesAll}
 use Rattle.plain_machine.specs.Replies.{text_of}
 use Rattle.plain_machine.specs.declared.reply.Reply.{Reply}
 use Rattle.world_core.specs.StandsFor.{IsOff, blocks_of, hardware_of}
 use Rattle.swsusp_cli.specs.Playing.{HasPlayed}
-use Rattle.swsusp_cli.specs.Replay.{steps_of}
+use Rattle.swsusp_cli.specs.View.{DiskView}
 use Rattle.swsusp_cli.proofs.playing.play.Given as goal
 
 abbrev pub invariant-loop-event : goal.invariant-loop-event
-invariant-loop-event g l = record {
-  played : (replies : List Reply) × HasPlayed l.fn.world l.world (take l.event-index l.events) replies (g.D.Disk.content l.fn.disk) (g.D.Disk.content l.disk) (g.D.Disk.faults l.fn.disk) (g.D.Disk.faults l.disk) (g.D.Disk.orders l.fn.disk) (g.D.Disk.orders l.disk)
-      × TakesAll (text_of replies) (g.O.Sink.taken l.fn.out) (g.O.Sink.taken l.out);
-  blocks : IsOff l.world ⊎ (g.D.Disk.block_count l.disk ≡ blocks_of l.world);
-  hardware : hardware_of l.world ≡ hardware_of l.fn.world;
-  faults : g.D.Disk.faults l.fn.disk ≤ g.D.Disk.faults l.disk;
-  calls : g.D.Disk.calls l.disk ≤ g.D.Disk.calls l.fn.disk + steps_of (take l.event-index l.events);
-  stream : g.O.Sink.faults l.fn.out ≤ g.O.Sink.faults l.out;
-}
+invariant-loop-event g l =
+    let before : DiskView = record { blocks = g.D.Disk.block_count l.fn.disk; content = g.D.Disk.content l.fn.disk; faults = g.D.Disk.faults l.fn.disk; calls = g.D.Disk.calls l.fn.disk; orders = g.D.Disk.orders l.fn.disk } in
+    let now : DiskView = record { blocks = g.D.Disk.block_count l.disk; content = g.D.Disk.content l.disk; faults = g.D.Disk.faults l.disk; calls = g.D.Disk.calls l.disk; orders = g.D.Disk.orders l.disk } in
+    record {
+      played : (replies : List Reply) × HasPlayed l.fn.world l.world (take l.event-index l.events) replies before now
+          × TakesAll (text_of replies) (g.O.Sink.taken l.fn.out) (g.O.Sink.taken l.out);
+      blocks : IsOff l.world ⊎ (g.D.Disk.block_count l.disk ≡ blocks_of l.world);
+      hardware : hardware_of l.world ≡ hardware_of l.fn.world;
+      stream : g.O.Sink.faults l.fn.out ≤ g.O.Sink.faults l.out;
+    }

@@ -1,0 +1,130 @@
+-- Blocks on which no slot of the area lies: no event writes them.
+use Rattle.std.proofs.Common.{zero, suc, ◌≡◌, ◌≢◌, ◌⊎◌, inl, inr, ◌<◌, ℕ, ◌+◌, ◌/◌, Bool, true, false, cond, List, [], ◌∷◌, length, map, eqb, set, get_or, slice_index_or, Contains, refl, sym, ◌∙◌, subst, arith}
+use Rattle.std.proofs.lemmas.Bool.{cases_lt}
+use Rattle.std.proofs.lemmas.List.{get_or-set_same, get_or-set_other, length-set, get_or_past, get_or_default}
+use Rattle.std.specs.List.{range_with_len}
+use Rattle.definitions.specs.Disk as disk
+use Rattle.definitions.proofs.DiskLaws.{IsImage-as_it_reads, length-as_it_reads}
+use Rattle.definitions.proofs.FrameSets.{Contains-from_filter}
+use Rattle.definitions.proofs.ZoneNumbers.{range-bounds}
+use Rattle.plain_machine.specs.Machine.{Hardware, Memory, block_of_slot, unused_slots, slot_entry}
+use Rattle.plain_machine.specs.Image.{Image, stream_of, maps_of}
+use Rattle.plain_machine.specs.Laid.{laid, laid_block, laid_map, laid_write, is_map_write, map_place, page_place, page_of_write}
+use Rattle.plain_machine.specs.Stands.{laid_blocks}
+use Rattle.plain_machine.specs.State.{State, Running, off, on, booting, hibernating, undoing, settling, waking, loading, asleep}
+use Rattle.protocol_laws.specs.Rows.{LeavesBlock, blocks_written}
+use Rattle.swsusp_cli.specs.Replay.{IsNoSlot}
+
+-- Over two changes a block is left, where each leaves it.
+
+other_sector : (blocks s t : ℕ) (d : disk.Content) (x : List ℕ) → disk.IsContent blocks d → Contains (disk.sector d s).candidates x → t < length d →
+    (t ≡ s) ⊎ (t ≢ s) → s < length d → Contains (disk.sector d t).candidates (slice_index_or (set (disk.as_it_reads d) s x) t [])
+other_sector blocks s t d x whole in' lt (inl e) inside =
+    subst (λ (k : ℕ). Contains (disk.sector d k).candidates (slice_index_or (set (disk.as_it_reads d) s x) k [])) (sym e)
+    (subst (Contains (disk.sector d s).candidates) (sym (get_or-set_same (disk.as_it_reads d) s x [] (omega (arith, length-as_it_reads d)))) in')
+other_sector blocks s t d x whole in' lt (inr ne) inside =
+    subst (Contains (disk.sector d t).candidates) (sym (get_or-set_other (disk.as_it_reads d) s t x [] ne)) ((IsImage-as_it_reads blocks d whole).chosen t lt)
+
+same_or_not : (t s : ℕ) → (t ≡ s) ⊎ (t ≢ s)
+same_or_not t s = elim (cases_lt t s) [
+  | inl lt ↦ inr (λ e. omega arith)
+  | inr le ↦ elim (cases_lt s t) [
+    | inl lt ↦ inr (λ e. omega arith)
+    | inr ge ↦ inl (omega arith)
+  ]
+]
+
+-- an image that reads as the disk does, but for one sector, which has one of its candidates
+with_candidate : (blocks s : ℕ) (d : disk.Content) (x : List ℕ) → disk.IsContent blocks d → s < length d → Contains (disk.sector d s).candidates x → disk.IsImage d (set (disk.as_it_reads d) s x)
+with_candidate blocks s d x whole inside in' = record {
+  size = length-set (disk.as_it_reads d) s x ∙ length-as_it_reads d;
+  chosen = λ t lt. other_sector blocks s t d x whole in' lt (same_or_not t s) inside;
+}
+
+none_in : (x : List ℕ) → Contains [] x → ⊥
+none_in x (k, lt, e) = omega arith
+
+inside_of : (s : ℕ) (d : disk.Content) (x : List ℕ) → Contains (disk.sector d s).candidates x → s < length d
+inside_of s d x in' = elim (cases_lt s (length d)) [
+  | inl lt ↦ lt
+  | inr le ↦ absurd (none_in x (subst (λ (k : disk.Sector). Contains k.candidates x) (get_or_past d s disk.no_sector le) in'))
+]
+
+pub leaves_then : (blocks b : ℕ) (c d e : disk.Content) → disk.IsContent blocks d → LeavesBlock b c d → LeavesBlock b d e → LeavesBlock b c e
+leaves_then blocks b c d e whole first then = record {
+  leaves = λ v s in' lt low high.
+      let x = slice_index_or v s [] in
+      let within = then.leaves v s in' lt low high in
+      let inside = inside_of s d x within in
+      let u = set (disk.as_it_reads d) s x in
+      let size = length-set (disk.as_it_reads d) s x in
+      let reads = length-as_it_reads d in
+      subst (Contains (disk.sector c s).candidates) (get_or-set_same (disk.as_it_reads d) s x [] (omega arith))
+      (first.leaves u s (with_candidate blocks s d x whole inside within) (omega arith) low high);
+}
+
+-- Each block that an event may write is a slot's.
+
+-- a slot of the area lies on this block
+abbrev IsOfSlot : Hardware → ℕ → Type 0
+IsOfSlot h b = (s : ℕ) × (s < h.slots) × (block_of_slot h s ≡ b)
+
+unused_below : (h : Hardware) (m : Memory) (s : ℕ) → Contains (unused_slots h m) s → s < h.slots
+unused_below h m s in' = let bounds = range-bounds 0 h.slots s (Contains-from_filter (λ k. eqb (slot_entry h m k) 0) (range_with_len 0 h.slots) s in').0 in let below = bounds.1 in omega arith
+
+get_or_same : (xs : List ℕ) (k : ℕ) → k < length xs → get_or xs k (get_or xs k 0) ≡ get_or xs k 0
+get_or_same xs k lt = get_or_default xs k (get_or xs k 0) 0 lt
+
+place_below : (h : Hardware) (free : List ℕ) (place : ℕ) → 0 < h.slots → ((s : ℕ) → Contains free s → s < h.slots) → get_or free place 0 < h.slots
+place_below h free place some each = elim (cases_lt place (length free)) as (λ x. get_or free place 0 < h.slots) [
+  | inl lt ↦ each (get_or free place 0) (place, lt, get_or_same free place lt)
+  | inr le ↦ subst (λ (s : ℕ). s < h.slots) (sym (get_or_past free place 0 le)) some
+]
+
+write_of_slot : (h : Hardware) (m : Memory) (pages : ℕ) (page : List ℕ) (k : ℕ) → 0 < h.slots → IsOfSlot h (laid_write h.extents (unused_slots h m) pages page k).0
+write_of_slot h m pages page k some = by_kind (is_map_write pages k) where
+  below : (place : ℕ) → get_or (unused_slots h m) place 0 < h.slots
+  below place = place_below h (unused_slots h m) place some (unused_below h m)
+
+  by_kind : (is_map : Bool) →
+      IsOfSlot h
+      (cond {A = ℕ × List ℕ} is_map (laid_block h.extents (unused_slots h m) (map_place (k / 512)), laid_map h.extents (unused_slots h m) pages (k / 512))
+      (laid_block h.extents (unused_slots h m) (page_place (page_of_write k)), page)).0
+  by_kind true = (get_or (unused_slots h m) (map_place (k / 512)) 0, below (map_place (k / 512)), refl)
+  by_kind false = (get_or (unused_slots h m) (page_place (page_of_write k)) 0, below (page_place (page_of_write k)), refl)
+
+each_mapped : {A B : Type 0} (g : A → B) (f : B → ℕ) (P : ℕ → Type 0) (xs : List A) → ((x : A) → P (f (g x))) → (y : ℕ) → Contains (map f (map g xs)) y → P y
+each_mapped g f P [] each y (k, lt, e) = absurd (omega arith)
+each_mapped g f P (x ∷ xs) each y (zero, lt, e) = subst P e (each x)
+each_mapped g f P (x ∷ xs) each y (suc k, lt, e) = each_mapped g f P xs each y (k, omega arith, e)
+
+laid_of_slot : (h : Hardware) (a : Running) (i : Image) (b : ℕ) → 0 < h.slots → Contains (laid_blocks h a i) b → IsOfSlot h b
+unfolding laid
+laid_of_slot h a i b some in' =
+    let stream = stream_of i in
+    let page : ℕ → List ℕ = λ k. slice_index_or stream (page_of_write k) [] in
+    each_mapped (λ k. laid_write h.extents (unused_slots h a.memory) (length stream) (page k) k) (λ written. written.0) (IsOfSlot h)
+    (range_with_len 0 (length stream + maps_of (length stream))) (λ k. write_of_slot h a.memory (length stream) (page k) k some) b in'
+
+header_of_slot : (h : Hardware) (b : ℕ) → 0 < h.slots → Contains (block_of_slot h 0 ∷ []) b → IsOfSlot h b
+header_of_slot h b some (zero, lt, e) = (0, some, e)
+header_of_slot h b some (suc k, lt, e) = absurd (omega arith)
+
+image_of_slot : (h : Hardware) (a : Running) (i : Image) (b : ℕ) → 0 < h.slots → Contains (block_of_slot h 0 ∷ laid_blocks h a i) b → IsOfSlot h b
+image_of_slot h a i b some (zero, lt, e) = (0, some, e)
+image_of_slot h a i b some (suc k, lt, e) = laid_of_slot h a i b some (k, omega arith, e)
+
+written_of_slot : (h : Hardware) (a : State) (b : ℕ) → 0 < h.slots → Contains (blocks_written h a) b → IsOfSlot h b
+written_of_slot h (off held kept) b some (k, lt, e) = absurd (omega arith)
+written_of_slot h (on a) b some (k, lt, e) = absurd (omega arith)
+written_of_slot h (booting from dump held n) b some (k, lt, e) = absurd (omega arith)
+written_of_slot h (hibernating suspends i a k) b some in' = image_of_slot h a i b some in'
+written_of_slot h (undoing i call a k) b some in' = header_of_slot h b some in'
+written_of_slot h (settling a k) b some in' = header_of_slot h b some in'
+written_of_slot h (waking i held a k) b some in' = header_of_slot h b some in'
+written_of_slot h (loading load k) b some in' = header_of_slot h b some in'
+written_of_slot h (asleep i held a) b some (k, lt, e) = absurd (omega arith)
+
+-- a block on which no slot lies isn't written
+pub unwritten_here : (h : Hardware) (a : State) (b : ℕ) → 0 < h.slots → IsNoSlot h b → Contains (blocks_written h a) b → ⊥
+unwritten_here h a b some none in' = let is = written_of_slot h a b some in' in none is.0 is.1 is.2

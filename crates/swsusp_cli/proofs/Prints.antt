@@ -1,0 +1,61 @@
+-- Texts that are printed, and what is behind them.
+use Rattle.std.proofs.Common.{zero, suc, ◌≢◌, inl, inr, ◌≤◌, ℕ, ◌+◌, List, [], length, Option, Some, None, Result, Ok, Err, OnOk, OnErr, subst, arith, append-nil}
+use Rattle.definitions.specs.Streams.{Takes, TakesAll, TakesFront}
+use Rattle.dump_file.specs.Flushed.{IsFlushed}
+use Rattle.swsusp_cli.specs.Answer.{Told}
+use Rattle.swsusp_cli.specs.Outcome.{IsReplayed, no_script, out_of_memory, unread, too_small, unformatted, played, cut_off, fault_told, memory_told, small_told, unformatted_told}
+use Rattle.swsusp_cli.specs.Told.{IsPrinted, FailsToPrint, IsTold, IsTried}
+use Rattle.swsusp_cli.specs.View.{SinkView, View}
+use Rattle.swsusp_cli.specs.declared.status.Status.{Status}
+use Rattle.swsusp_cli.specs.declared.status.Status.TheVariants.{Stream}
+use Rattle.swsusp_cli.proofs.Turns.{taken_more, front_more}
+
+pub tried : {A E : Type 0} (r : Result A E) (text : List ℕ) (old new : SinkView) → OnOk r (IsPrinted text old new) → OnErr r (FailsToPrint text old new) → IsTried text old new
+tried (Ok x) text old new printed failed = inl printed
+tried (Err e) text old new printed failed = inr failed
+
+-- a text was taken whole, and the end behind it is printed, or fails
+pub printed_then : (text : List ℕ) (old mid new : SinkView) → TakesAll text old.taken mid.taken → IsPrinted [] mid new → IsPrinted text old new
+printed_then text old mid new whole end = record {
+  whole = subst (λ (t : List ℕ). TakesAll t old.taken new.taken) (append-nil text) (taken_more text [] old.taken mid.taken new.taken whole end.whole);
+  flushed = end.flushed;
+}
+
+pub front_then : (text : List ℕ) (old mid new : SinkView) → TakesAll text old.taken mid.taken → FailsToPrint [] mid new → TakesFront text old.taken new.taken
+front_then text old mid new whole end =
+    subst (λ (t : List ℕ). TakesFront t old.taken new.taken) (append-nil text) (front_more text [] old.taken mid.taken new.taken whole end.front)
+
+pub whole_front : (text : List ℕ) (old new : Option (List ℕ)) → TakesAll text old new → TakesFront text old new
+whole_front text old new whole = (length text, omega arith, whole)
+
+-- a sink that fails before the first byte has taken a front of any text
+no_bytes : (k : ℕ) (text : List ℕ) (old new : Option (List ℕ)) → k ≤ 0 → Takes k [] old new → Takes 0 text old new
+no_bytes zero text None None le taken = tt
+no_bytes zero text None (Some new) le taken = taken
+no_bytes zero text (Some old) None le taken = taken
+no_bytes zero text (Some old) (Some new) le taken = taken
+no_bytes (suc k) text old new le taken = absurd (omega arith)
+
+pub fails_early : (text : List ℕ) (old new : SinkView) → FailsToPrint [] old new → FailsToPrint text old new
+fails_early text old new end = record {
+  front = (0, omega arith, no_bytes end.front.0 text old.taken new.taken end.front.1 end.front.2);
+  risen = end.risen;
+}
+
+-- But where a sink failed all is flushed.
+
+abbrev pub AreFlushed : SinkView → SinkView → Type 0
+AreFlushed out note = IsFlushed out.taken out.flushed × IsFlushed note.taken note.flushed
+
+pub told_flushed : (told : Told) (status : Status) (out out' note note' : SinkView) → IsTold told status out out' note note' → status ≢ Stream → AreFlushed out' note'
+told_flushed told status out out' note note' (inl whole) well = (whole.out_whole.flushed, whole.note_whole.flushed)
+told_flushed told status out out' note note' (inr short) well = absurd (well short.status_is)
+
+pub replay_flushed : (x x' : View) (status : Status) → IsReplayed x x' status → status ≢ Stream → AreFlushed x'.out x'.note
+replay_flushed x x' status (no_script fault is) well = told_flushed (fault_told fault) status x.out x'.out x.note x'.note is.told well
+replay_flushed x x' status (out_of_memory is) well = told_flushed memory_told status x.out x'.out x.note x'.note is.told well
+replay_flushed x x' status (unread is) well = absurd (well is.status_is)
+replay_flushed x x' status (too_small script is) well = told_flushed (small_told x.disk.blocks (script.last + 1)) status x.out x'.out x.note x'.note is.told well
+replay_flushed x x' status (unformatted script call is) well = told_flushed (unformatted_told call) status x.out x'.out x.note x'.note is.told well
+replay_flushed x x' status (played script is) well = (is.prints.2.flushed, is.note.flushed)
+replay_flushed x x' status (cut_off script is) well = absurd (well is.status_is)
