@@ -1,0 +1,48 @@
+#!/bin/sh
+# Counts the instructions of the built program by valgrind's callgrind: of an empty script, of a line that claims a page frame, of
+# a line that shows a word, and of a hibernation and a resume of 1,500 page frames. The program is the first word, or
+# crates/swsusp_cli/out/swsusp_cli, which `rt run` leaves. Without valgrind it says so and counts nothing.
+set -u
+top=$(cd "$(dirname "$0")/.." && pwd)
+program=${1:-$top/crates/swsusp_cli/out/swsusp_cli}
+if ! command -v valgrind >/dev/null; then
+    echo "not counted: valgrind isn't there"
+    exit 0
+fi
+if [ ! -x "$program" ]; then
+    echo "$program isn't built: rt run in crates/swsusp_cli builds it"
+    exit 1
+fi
+room=$(mktemp -d)
+trap 'rm -rf "$room"' EXIT
+
+# So many lines of a command, which begins with the page frame where one is named.
+lines() {
+    awk -v n="$1" -v text="$2" 'BEGIN { for (i = 0; i < n; i++) { line = text; sub(/FRAME/, 16 + i, line); print line } }'
+}
+
+# How many instructions a script takes. Where the processor has string instructions the C library would fill memory by one that
+# valgrind counts byte for byte, so it is told not to.
+count() {
+    GLIBC_TUNABLES=glibc.cpu.hwcaps=-ERMS valgrind --tool=callgrind --callgrind-out-file=/dev/null "$program" replay \
+        <"$room/$1" 2>&1 >/dev/null | sed -n 's/.*Collected *: *//p'
+}
+
+# 1,500 page frames of a task and the 7 of the tables: 1,511 pages, 3 maps, and 4 steps more.
+steps=1518
+: >"$room/empty"
+{ printf 'boot\nsteps core 2\n' && lines 1500 'claim 1 FRAME'; } >"$room/claims"
+{ cat "$room/claims" && printf 'hibernate\nsteps core %d\nresume\nsteps core %d\n' $steps $steps; } >"$room/cycle"
+{ printf 'boot\nsteps core 2\nclaim 1 16\n'; } >"$room/one"
+{ cat "$room/one" && lines 10000 'show 1 16 3'; } >"$room/shows"
+
+empty=$(count empty)
+claims=$(count claims)
+cycle=$(count cycle)
+one=$(count one)
+shows=$(count shows)
+echo "an empty script: $empty instructions"
+echo "a claim: $(((claims - one) / 1499))"
+echo "a show: $(((shows - one) / 10000))"
+echo "a hibernation and a resume of 1500 page frames: $((cycle - claims))"
+"$program" replay <"$room/cycle" | tail -n 1
