@@ -18,19 +18,21 @@ pub returns-in-Err-Script-clause-outcome : goal.returns-in-Err-Script-clause-out
 returns-in-Err-Script-clause-outcome g c =
     let tell = c.tell-in-Err-Script in
     let out : SinkView = record { taken = g.O.Sink.taken c.args.out.now; flushed = g.O.Sink.flushed c.args.out.now; faults = g.O.Sink.faults c.args.out.now } in
+    let before : DiskView = record { blocks = g.D.Disk.block_count c.args.disk.now; content = g.D.Disk.content c.args.disk.now; faults = g.D.Disk.faults c.args.disk.now; calls = g.D.Disk.calls c.args.disk.now; orders = g.D.Disk.orders c.args.disk.now } in
     let note : SinkView = record { taken = g.N.Sink.taken c.args.note.now; flushed = g.N.Sink.flushed c.args.note.now; faults = g.N.Sink.faults c.args.note.now } in
     let ready = rw c.in-Err-Script.field-0-is at c.in-Err-Script.ensures.ready in
     let answer : told_by c.no_script.result ≡ fault_told c.in-Err-Script.fault = rw c.in-Err-Script.field-0-is at c.no_script.ensures.told in
     no_script c.in-Err-Script.fault (record {
       says = ready;
       told = subst (λ (t : Told). IsTold t tell.result out (record { taken = g.O.Sink.taken tell.new.out; flushed = g.O.Sink.flushed tell.new.out; faults = g.O.Sink.faults tell.new.out }) note (record { taken = g.N.Sink.taken tell.new.note; flushed = g.N.Sink.flushed tell.new.note; faults = g.N.Sink.faults tell.new.note })) answer tell.ensures.told;
-      untouched = refl;
+      untouched = refl {a = before};
     })
 
 pub returns-then-blocks-last-clause-outcome : goal.returns-then-blocks-last-clause-outcome
 returns-then-blocks-last-clause-outcome g c =
     let tell = c.tell-then-blocks-last in
     let out : SinkView = record { taken = g.O.Sink.taken c.args.out.now; flushed = g.O.Sink.flushed c.args.out.now; faults = g.O.Sink.faults c.args.out.now } in
+    let before : DiskView = record { blocks = g.D.Disk.block_count c.args.disk.now; content = g.D.Disk.content c.args.disk.now; faults = g.D.Disk.faults c.args.disk.now; calls = g.D.Disk.calls c.args.disk.now; orders = g.D.Disk.orders c.args.disk.now } in
     let note : SinkView = record { taken = g.N.Sink.taken c.args.note.now; flushed = g.N.Sink.flushed c.args.note.now; faults = g.N.Sink.faults c.args.note.now } in
     let script = c.in-Ok.script in
     let blocks_is = c.blocks-blocks.ensures in
@@ -44,7 +46,7 @@ returns-then-blocks-last-clause-outcome g c =
       script_is = record { says = c.in-Ok.ensures.ready.0; over = c.in-Ok.ensures.ready.1; few = c.in-Ok.ensures.few };
       small = omega arith;
       told = subst (λ (t : Told). IsTold t tell.result out (record { taken = g.O.Sink.taken tell.new.out; flushed = g.O.Sink.flushed tell.new.out; faults = g.O.Sink.faults tell.new.out }) note (record { taken = g.N.Sink.taken tell.new.note; flushed = g.N.Sink.flushed tell.new.note; faults = g.N.Sink.faults tell.new.note })) answer tell.ensures.told;
-      untouched = refl;
+      untouched = refl {a = before};
     })
 
 pub returns-in-Err-format-clause-outcome : goal.returns-in-Err-format-clause-outcome
@@ -121,10 +123,11 @@ pub returns-in-Err-clause-outcome : goal.returns-in-Err-clause-outcome
 returns-in-Err-clause-outcome g c =
     let tell = c.tell-in-Err in
     let out : SinkView = record { taken = g.O.Sink.taken c.args.out.now; flushed = g.O.Sink.flushed c.args.out.now; faults = g.O.Sink.faults c.args.out.now } in
+    let before : DiskView = record { blocks = g.D.Disk.block_count c.args.disk.now; content = g.D.Disk.content c.args.disk.now; faults = g.D.Disk.faults c.args.disk.now; calls = g.D.Disk.calls c.args.disk.now; orders = g.D.Disk.orders c.args.disk.now } in
     let note : SinkView = record { taken = g.N.Sink.taken c.args.note.now; flushed = g.N.Sink.flushed c.args.note.now; faults = g.N.Sink.faults c.args.note.now } in
     out_of_memory (record {
       told = subst (λ (t : Told). IsTold t tell.result out (record { taken = g.O.Sink.taken tell.new.out; flushed = g.O.Sink.flushed tell.new.out; faults = g.O.Sink.faults tell.new.out }) note (record { taken = g.N.Sink.taken tell.new.note; flushed = g.N.Sink.flushed tell.new.note; faults = g.N.Sink.faults tell.new.note })) c.no_memory-in-Err.ensures.told tell.ensures.told;
-      untouched = refl;
+      untouched = refl {a = before};
     })
 
 pub returns-then-blocks-last-clause-stream : goal.returns-then-blocks-last-clause-stream
