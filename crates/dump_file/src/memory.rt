@@ -1,4 +1,4 @@
-ghost use Rattle.std.specs.Prelude.{◌≡◌, ℕ, ◌+◌, ◌-◌, ◌<◌, ◌≤◌, ◌↔◌, ◌⊎◌, List, Some, ◌++◌, [], drop, take, length, min, vec_len, vec_capacity, IfOk, OnOk, IsOk, OnErr, IsErr};
+ghost use Rattle.std.specs.Prelude.{◌≡◌, ℕ, ◌+◌, ◌-◌, ◌<◌, ◌≤◌, ◌↔◌, ◌⊎◌, List, Some, ◌++◌, [], take, length, min, vec_len, vec_capacity, IfOk, OnOk, IsOk, OnErr, IsErr};
 ghost use Rattle.definitions.specs.Disk.{HasRisen, raised};
 ghost use Rattle.definitions.specs.Streams.{HandsOut, IsOver, Takes};
 

@@ -60,7 +60,7 @@ seen machine frames f c a laws hw unmarked stands =
     let h = machine.hw in
     let runs = stands.parts.0 in
     let held : a.held ≡ nothing = unheld a.held (subst (λ (flag : HeldFlag). ShowsHeld flag a.held) unmarked runs.held) in
-    let names : NamesHeld h (running_by machine frames) c nothing = subst (NamesHeld h (running_by machine frames) c) held stands.parts.1.names in
+    let names : NamesHeld h (running_by machine frames) nothing = subst (NamesHeld h (running_by machine frames)) held stands.parts.1.names in
     let none : NamesNone h frames = λ s lt e. Contains-nil _ (names s lt e) in
     let lists = laws.lists h a.memory frames hw runs.fits runs.same in
     record {

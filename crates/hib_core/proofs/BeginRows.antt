@@ -13,7 +13,7 @@ use Rattle.snapshot.specs.Taken.{Taken}
 use Rattle.snapshot.specs.declared.Counts.{Counts}
 use Rattle.swap_slots.specs.Runs.{SlotRuns}
 use Rattle.swap_slots.specs.Table.{Matches, free_in}
-use Rattle.image_laws.specs.Decoding.{IsIdent, MemoriesAreSayable}
+use Rattle.image_laws.specs.Decoding.{MemoriesAreSayable}
 use Rattle.image_write.specs.Writing.{IsWriting, AreOfImage, BlocksBelow, writes_of}
 use Rattle.plain_machine.specs.Machine.{Memory, IsHardware, unused, unused_slots, raw_slot_entry, block_of_slot}
 use Rattle.plain_machine.specs.Image.{image_of_memory, hibernate_steps, maps_of}
@@ -53,12 +53,12 @@ use Rattle.hib_core.proofs.Syncing.{same_area}
 
 -- A refused hibernation.
 
-names_idle : (machine : Machine) (frames : Memory) (hib : Hib) (c : disk.Content) (held : Held) → NamesHeld machine.hw (running_by machine frames) c held → NamesHeld machine.hw (shown_by machine frames hib) c held
-names_idle machine frames hib c nothing names = names
-names_idle machine frames hib c (sure (own i)) names = names
-names_idle machine frames hib c (sure other) names = names
-names_idle machine frames hib c (maybe (own i)) names = names
-names_idle machine frames hib c (maybe other) names = names
+names_idle : (machine : Machine) (frames : Memory) (hib : Hib) (held : Held) → NamesHeld machine.hw (running_by machine frames) held → NamesHeld machine.hw (shown_by machine frames hib) held
+names_idle machine frames hib nothing names = names
+names_idle machine frames hib (sure (own i)) names = record { memory = names.memory; image = names.image; names = names.names }
+names_idle machine frames hib (sure other) names = names
+names_idle machine frames hib (maybe (own i)) names = record { memory = names.memory; image = names.image; names = names.names }
+names_idle machine frames hib (maybe other) names = names
 
 idle_stands : (machine : Machine) (frames : Memory) (hib : Hib) (c : disk.Content) (a : Running) → hib.stage ≡ stage.Idle → Stands machine.hw (running_by machine frames) c (on a) → Stands machine.hw (shown_by machine frames hib) c (on a)
 idle_stands machine frames hib c a idle stands = record {
@@ -68,8 +68,9 @@ idle_stands machine frames hib c a idle stands = record {
     record {
       held = stands.parts.1.held;
       task_slots = stands.parts.1.task_slots;
+      flights = stands.parts.1.flights;
       slot_pages = stands.parts.1.slot_pages;
-      names = names_idle machine frames hib c a.held stands.parts.1.names;
+      names = names_idle machine frames hib a.held stands.parts.1.names;
       header = stands.parts.1.header;
       area = stands.parts.1.area;
     },
@@ -87,6 +88,7 @@ refused_row machine frames hib f r c refused idle s stands =
         stands = subst (StandsFor machine frames hib c) (sym at.1) (record { stands = idle_stands machine frames hib c a idle here; image = tt });
         area = same_area machine.hw (disk.as_it_reads c);
         unwritten = λ b not. block_same b _;
+        leaves = tt;
       },
     )
 
@@ -106,7 +108,6 @@ pub record BeginLaws : Type 0 where
 -- the machine, and a hibernation that has counted and taken
 pub record IsBegin (machine : Machine) (frames frames' : Memory) (hib hib' : Hib) (counts : Counts) : Type 0 where
   pub hardware : IsHardware machine.hw
-  pub ident : IsIdent machine.hw.ident
   pub size : length frames ≡ top machine.hw.zones
   pub counted : IsCounted machine frames hib counts
   pub taken : IsTaken machine frames frames' hib hib' counts
@@ -173,7 +174,7 @@ is_of machine frames frames' hib hib' counts f a laws is format seen =
       writing = subst (λ (xs : List ℕ). IsWriting xs frames' t.writer) free t.writing;
     } in
     record {
-      sayable = laws.sayable h a.memory a.slots f is.hardware.zones is.ident;
+      sayable = laws.sayable h a.memory a.slots f is.hardware;
       saved = t.n ∙ count.saved;
       steps = t.of ∙ ap (λ (p : ℕ). p + maps_of p + 4) count.pages;
       format = ap (λ (s : Taken). s.format) t.snapshot ∙ format;
@@ -207,6 +208,7 @@ begun_row machine frames frames' hib hib' counts f c laws is format s stands =
         };
         area = same_area h (disk.as_it_reads c);
         unwritten = λ b not. block_same b _;
+        leaves = tt;
       },
     )
 
@@ -226,7 +228,7 @@ are_of_image machine frames frames' hib hib' counts laws is =
       copies = t.copies ∙ ap (map (frame frames)) is.counted.origs ∙ from.pages;
     } in
     subst (λ (info : Info). AreOfImage info hib'.snapshot.origs hib'.snapshot.copies hib'.snapshot.zeros) (sym (t.info ∙ info_is h hib counts frames no_slots f count))
-    (laws.stream i t.copied hib'.snapshot.origs hib'.snapshot.copies hib'.snapshot.zeros (laws.sayable h frames no_slots f is.hardware.zones is.ident) sets).1
+    (laws.stream i t.copied hib'.snapshot.origs hib'.snapshot.copies hib'.snapshot.zeros (laws.sayable h frames no_slots f is.hardware) sets).1
 
 can_write : (machine : Machine) (frames frames' : Memory) (hib hib' : Hib) (counts : Counts) → BeginLaws → IsBegin machine frames frames' hib hib' counts → IfOk machine.area (λ area. fit_fault machine.hw machine.blocks area ≡ None) → length frames' ≡ length frames →
     CanWrite machine.hw machine.blocks frames' hib'
@@ -255,15 +257,14 @@ first_place : (made of pages : ℕ) → made ≡ 0 → of ≡ pages + maps_of pa
 first_place made of pages a b = omega arith
 
 pub can_step : (machine : Machine) (frames frames' : Memory) (runs : SlotRuns) (hib hib' : Hib) (counts : Counts) → BeginLaws → IsBegin machine frames frames' hib hib' counts → IfOk machine.area (λ area. fit_fault machine.hw machine.blocks area ≡ None) →
-    machine.hw.hw_sig < 2 ^ 32 → machine.blocks < 2 ^ 32 → length frames' ≡ length frames → Matches frames' (slot_table_of machine.hw) runs → CanStep machine frames' runs hib'
-can_step machine frames frames' runs hib hib' counts laws is usable signature few size matches =
+    machine.blocks < 2 ^ 32 → length frames' ≡ length frames → Matches frames' (slot_table_of machine.hw) runs → CanStep machine frames' runs hib'
+can_step machine frames frames' runs hib hib' counts laws is usable few size matches =
     let h = machine.hw in
     let t = is.taken in
     let area = area_of machine is.counted.area usable in
     let some = is.hardware.some_slots in
     record {
       hardware = is.hardware;
-      signature = signature;
       few = few;
       size = size ∙ is.size;
       table = slot_table_lies h frames' is.hardware (size ∙ is.size);

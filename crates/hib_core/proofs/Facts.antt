@@ -66,7 +66,6 @@ pub is_over : (machine : Machine) (frames : Memory) (runs : SlotRuns) (hib : Hib
 is_over machine frames runs hib c a i can whole of = record {
   hardware = can.hardware;
   info = of.sayable.info;
-  signature = can.signature;
   content = whole;
   few = can.few;
 }

@@ -19,7 +19,9 @@ use Rattle.image_laws.specs.ImageBlocks.{Tries}
 use Rattle.protocol_laws.specs.Rows.{IsSameArea}
 use Rattle.protocol_laws.specs.AreaKept.{KeptBySync, KeptByMark}
 use Rattle.protocol_laws.specs.Hibernating.{MarksOn, MarkFails, MarksUnmarked, Ends, EndFails}
-use Rattle.protocol_laws.specs.Steps.{marked_header, mark_flags}
+use Rattle.protocol_laws.specs.Steps.{marked_header}
+use Rattle.plain_machine.specs.Mark.{mark_flags}
+use Rattle.protocol_laws.proofs.Ending.{end_leaves}
 use Rattle.machine.specs.declared.machine.Machine.{Machine}
 use Rattle.hib_core.specs.Hibernation.{shown_by, activity_at}
 use Rattle.hib_core.specs.Ready.{CanStep}
@@ -67,6 +69,7 @@ marked_row machine frames runs hib c c' marks_on keeps unmarked can at whole who
         };
         area = mark_keeps machine frames runs hib c c' i a keeps unmarked can whole place s (inl writes);
         unwritten = λ b not. unwritten_header machine.hw (laid_blocks machine.hw a i) b c c' writes.others not;
+        leaves = tt;
       },
     ))
 
@@ -89,6 +92,7 @@ mark_failed_row machine frames runs hib c c' mark_fails keeps unmarked can at wh
         };
         area = mark_keeps machine frames runs hib c c' i a keeps unmarked can whole place s (inr fails);
         unwritten = λ b not. unwritten_header machine.hw (laid_blocks machine.hw a i) b c c' fails.others not;
+        leaves = tt;
       },
     ))
 
@@ -109,6 +113,7 @@ ended_row machine frames runs hib c c' ends keeps can at whole syncs =
         };
         area = keeps machine.hw c c' syncs;
         unwritten = λ b not. block_synced machine.blocks b c c' whole syncs;
+        leaves = end_leaves machine.hw (shown_by machine frames hib) c c' machine.blocks false i a hib.made (is_over machine frames runs hib c a i can whole of) s.stands place syncs;
       },
     ))
 
@@ -129,5 +134,6 @@ end_failed_row machine frames runs hib c end_fails can at =
         };
         area = same_area machine.hw (disk.as_it_reads c);
         unwritten = λ b not. block_same b _;
+        leaves = tt;
       },
     ))

@@ -46,26 +46,29 @@ eqb_differs a b ne = elim (eqb_tells a b) [ inl t ↦ absurd (ne t.1) | inr f �
 abbrev next_of : Image → Running → ℕ → Outcome
 next_of i a k = (reply.More (k + 1) (hibernate_steps i), hibernating false i a (k + 1))
 
+abbrev at_end : Image → Running → ℕ → List Outcome
+at_end i a k = cond (eqb (k + 1) (hibernate_steps i)) (hibernated false i a ∷ (reply.Undo undo.Sync 0, undoing i undo.Sync a 0) ∷ []) []
+
 abbrev behind_writes : Image → Running → ℕ → List Outcome
 behind_writes i a k =
     let last = hibernate_steps i in
     cond (eqb (k + 1) (last - 3)) (next_of i a k ∷ (reply.SyncFault Same, on a) ∷ [])
     (cond (eqb (k + 1) (last - 2)) (next_of i a k ∷ (reply.ReadFault Same, on a) ∷ [])
     (cond (eqb (k + 1) (last - 1)) (next_of i a k ∷ (reply.Undo undo.Write 0, undoing i undo.Write a 0) ∷ [])
-    (hibernated false i a ∷ (reply.Undo undo.Sync 0, undoing i undo.Sync a 0) ∷ [])))
+    (at_end i a k)))
 
 abbrev behind_sync : Image → Running → ℕ → List Outcome
 behind_sync i a k =
     let last = hibernate_steps i in
     cond (eqb (k + 1) (last - 2)) (next_of i a k ∷ (reply.ReadFault Same, on a) ∷ [])
     (cond (eqb (k + 1) (last - 1)) (next_of i a k ∷ (reply.Undo undo.Write 0, undoing i undo.Write a 0) ∷ [])
-    (hibernated false i a ∷ (reply.Undo undo.Sync 0, undoing i undo.Sync a 0) ∷ []))
+    (at_end i a k))
 
 abbrev behind_read : Image → Running → ℕ → List Outcome
 behind_read i a k =
     let last = hibernate_steps i in
     cond (eqb (k + 1) (last - 1)) (next_of i a k ∷ (reply.Undo undo.Write 0, undoing i undo.Write a 0) ∷ [])
-    (hibernated false i a ∷ (reply.Undo undo.Sync 0, undoing i undo.Sync a 0) ∷ [])
+    (at_end i a k)
 
 write_step : (i : Image) (a : Running) (k : ℕ) → k + 4 < hibernate_steps i → hibernate_step false i a k ≡ next_of i a k ∷ (reply.WriteFault Same, on a) ∷ []
 write_step i a k lt =
@@ -100,7 +103,7 @@ mark_step : (i : Image) (a : Running) (k : ℕ) → k + 2 ≡ hibernate_steps i 
 mark_step i a k e =
     let some : 4 ≤ hibernate_steps i = omega arith in
     no_read i a k (omega arith) (omega arith)
-    ∙ cond-true (eqb (k + 1) (hibernate_steps i - 1)) (next_of i a k ∷ (reply.Undo undo.Write 0, undoing i undo.Write a 0) ∷ []) (hibernated false i a ∷ (reply.Undo undo.Sync 0, undoing i undo.Sync a 0) ∷ []) (eq-eqb (k + 1) (hibernate_steps i - 1) (omega arith))
+    ∙ cond-true (eqb (k + 1) (hibernate_steps i - 1)) (next_of i a k ∷ (reply.Undo undo.Write 0, undoing i undo.Write a 0) ∷ []) (at_end i a k) (eq-eqb (k + 1) (hibernate_steps i - 1) (omega arith))
 
 not_before_last : (k n : ℕ) → k + 1 ≡ n → k + 1 ≡ n - 1 → ⊥
 not_before_last k n at e = omega arith
@@ -109,7 +112,8 @@ end_step : (i : Image) (a : Running) (k : ℕ) → k + 1 ≡ hibernate_steps i �
 end_step i a k e =
     let some : 4 ≤ hibernate_steps i = omega arith in
     no_read i a k (omega arith) (omega arith)
-    ∙ cond-false (eqb (k + 1) (hibernate_steps i - 1)) (next_of i a k ∷ (reply.Undo undo.Write 0, undoing i undo.Write a 0) ∷ []) (hibernated false i a ∷ (reply.Undo undo.Sync 0, undoing i undo.Sync a 0) ∷ []) (eqb_differs (k + 1) (hibernate_steps i - 1) (not_before_last k (hibernate_steps i) e))
+    ∙ cond-false (eqb (k + 1) (hibernate_steps i - 1)) (next_of i a k ∷ (reply.Undo undo.Write 0, undoing i undo.Write a 0) ∷ []) (at_end i a k) (eqb_differs (k + 1) (hibernate_steps i - 1) (not_before_last k (hibernate_steps i) e))
+    ∙ cond-true (eqb (k + 1) (hibernate_steps i)) (hibernated false i a ∷ (reply.Undo undo.Sync 0, undoing i undo.Sync a 0) ∷ []) [] (eq-eqb (k + 1) (hibernate_steps i) e)
 
 -- The rows.
 

@@ -72,7 +72,6 @@ ready_on machine frames frames' runs runs' hib hib1 end next can size matches ot
     let is : end ≡ record hib { stage = next; made = hib.made + 1; writer = hib1.writer } = ends ∙ ap (λ (x : Hib). record x { stage = next; made = x.made + 1 }) others in
     let there : CanStep machine frames' runs' (record hib { stage = next; made = hib.made + 1; writer = hib1.writer }) = record {
       hardware = can.hardware;
-      signature = can.signature;
       few = can.few;
       size = size ∙ can.size;
       table = let in' = can.table in omega arith;

@@ -20,7 +20,7 @@ use Rattle.sig_header.specs.AreaKind.{area_kind}
 use Rattle.std.proofs.lemmas.Option.{none-some}
 use Rattle.plain_machine.specs.declared.no_swap.NoSwap.{NoSwap}
 use Rattle.plain_machine.specs.declared.reply.Left.TheVariants.{Same}
-use Rattle.protocol_laws.specs.Rows.{IsSameArea}
+use Rattle.protocol_laws.specs.Rows.{IsSameArea, LeavesImage}
 use Rattle.protocol_laws.specs.AreaKept.{KeptBySync}
 use Rattle.protocol_laws.specs.Hibernating.{SyncsOn, ReadsOn, ReadsArea, CallFails}
 use Rattle.protocol_laws.specs.Memory.{NoneLeft, RunsGivenBack}
@@ -67,14 +67,15 @@ synced_row machine frames runs hib c c' syncs_on keeps can at whole syncs =
         };
         area = keeps machine.hw c c' syncs;
         unwritten = λ b not. block_synced machine.blocks b c c' whole syncs;
+        leaves = tt;
       },
     ))
 
 -- a call that fails, before the mark: the image's slots are given back
 pub fails_row : (machine : Machine) (frames frames' : Memory) (runs : SlotRuns) (hib hib' : Hib) (c : disk.Content) (r : Reply) → CallFails → RunsGivenBack → NoneLeft → CanStep machine frames runs hib → All IsPage frames → activity_of hib ≡ hibernates false hib.made → hib.made + 1 < hib.of →
     ((i : Image) (a : Running) → hib.of ≡ hibernate_steps i → Step machine.hw (disk.as_it_reads c) (hibernating false i a hib.made) (event.Step actor.Core) r (on a)) →
-    frames' ≡ seen_frames machine.hw frames → hib'.stage ≡ stage.Idle → IsRow machine frames hib machine frames' hib' (event.Step actor.Core) r c c
-fails_row machine frames frames' runs hib hib' c r call_fails given_back none_left can pages is more may given idle_now =
+    ((i : Image) (a : Running) → LeavesImage machine.hw (event.Step actor.Core) r (hibernating false i a hib.made) c) → frames' ≡ seen_frames machine.hw frames → hib'.stage ≡ stage.Idle → IsRow machine frames hib machine frames' hib' (event.Step actor.Core) r c c
+fails_row machine frames frames' runs hib hib' c r call_fails given_back none_left can pages is more may leaves given idle_now =
     row_at_hibernation machine frames hib machine frames' hib' (event.Step actor.Core) r c c is
     (λ i a s.
     let of = s.image in
@@ -94,6 +95,7 @@ fails_row machine frames frames' runs hib hib' c r call_fails given_back none_le
         };
         area = same_area machine.hw (disk.as_it_reads c);
         unwritten = λ b not. block_same b _;
+        leaves = leaves i a;
       },
     ))
 
@@ -102,14 +104,14 @@ pub sync_failed_row : (machine : Machine) (frames frames' : Memory) (runs : Slot
 sync_failed_row machine frames frames' runs hib c call_fails given_back none_left can pages at given =
     let place = place_at hib stage.Sync at can.place in
     fails_row machine frames frames' runs hib (idle hib) c (reply.SyncFault Same) call_fails given_back none_left can pages (ap (λ (s : Stage). activity_at s hib.made) at) (omega arith)
-    (λ i a steps. sync_may_fail machine.hw (disk.as_it_reads c) i a hib.made (place ∙ steps)) given refl
+    (λ i a steps. sync_may_fail machine.hw (disk.as_it_reads c) i a hib.made (place ∙ steps)) (λ i a. tt) given refl
 
 pub read_failed_row : (machine : Machine) (frames frames' : Memory) (runs : SlotRuns) (hib : Hib) (header : List ℕ) (c : disk.Content) → CallFails → RunsGivenBack → NoneLeft → CanStep machine frames runs hib → All IsPage frames → hib.stage ≡ stage.Read →
     frames' ≡ seen_frames machine.hw frames → IsRow machine frames hib machine frames' (idle (record hib { header = header })) (event.Step actor.Core) (reply.ReadFault Same) c c
 read_failed_row machine frames frames' runs hib header c call_fails given_back none_left can pages at given =
     let place = place_at hib stage.Read at can.place in
     fails_row machine frames frames' runs hib (idle (record hib { header = header })) c (reply.ReadFault Same) call_fails given_back none_left can pages (ap (λ (s : Stage). activity_at s hib.made) at) (omega arith)
-    (λ i a steps. read_may_fail machine.hw (disk.as_it_reads c) i a hib.made (place ∙ steps)) given refl
+    (λ i a steps. read_may_fail machine.hw (disk.as_it_reads c) i a hib.made (place ∙ steps)) (λ i a. tt) given refl
 
 pub read_row : (machine : Machine) (frames : Memory) (runs : SlotRuns) (hib : Hib) (header : List ℕ) (c : disk.Content) → ReadsOn → CanStep machine frames runs hib → hib.stage ≡ stage.Read → disk.IsContent machine.blocks c → header ≡ header_of machine.hw (disk.as_it_reads c) →
     IsRow machine frames hib machine frames (record hib { header = header; stage = stage.Mark; made = hib.made + 1 }) (event.Step actor.Core) (reply.More (hib.made + 1) hib.of) c c
@@ -129,6 +131,7 @@ read_row machine frames runs hib header c reads_on can at whole read =
         };
         area = same_area machine.hw (disk.as_it_reads c);
         unwritten = λ b not. block_same b _;
+        leaves = tt;
       },
     ))
 

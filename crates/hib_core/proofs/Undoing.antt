@@ -1,4 +1,5 @@
 -- The rows of an undo.
+use Rattle.protocol_laws.proofs.Leaving.{leaves_undoing}
 use Rattle.protocol_laws.proofs.Unwritten.{block_same, block_synced, unwritten_header}
 use Rattle.std.proofs.Common.{◌≡◌, All, [], inl, inr, refl, sym, ap, ◌∙◌, subst}
 use Rattle.definitions.specs.Bytes.{IsPage}
@@ -66,6 +67,7 @@ back_row machine frames runs hib c c' call undo_writes keeps can page back at wh
         };
         area = back_keeps machine frames runs hib c c' i call a keeps can whole back s (inl writes);
         unwritten = λ b not. unwritten_header machine.hw [] b c c' writes.others not;
+        leaves = tt;
       },
     ))
 
@@ -95,6 +97,7 @@ back_failed_row machine frames runs hib c c' call undo_write_fails keeps can pag
         };
         area = back_keeps machine frames runs hib c c' i call a keeps can whole back s (inr fails);
         unwritten = λ b not. unwritten_header machine.hw [] b c c' fails.others not;
+        leaves = leaves_undoing machine.hw (undone_fault call Unsure) i call a 0 c';
       },
     ))
 
@@ -121,6 +124,7 @@ undone_row machine frames frames' runs hib c c' call undo_syncs keeps given_back
         };
         area = keeps machine.hw c c' syncs;
         unwritten = λ b not. block_synced machine.blocks b c c' whole syncs;
+        leaves = leaves_undoing machine.hw (undone_fault call Gone) i call a 1 c';
       },
     ))
 
@@ -140,5 +144,6 @@ end_failed_row machine frames runs hib c call undo_sync_fails can at whole =
         };
         area = same_area machine.hw (disk.as_it_reads c);
         unwritten = λ b not. block_same b _;
+        leaves = leaves_undoing machine.hw (undone_fault call Unsure) i call a 1 c;
       },
     ))

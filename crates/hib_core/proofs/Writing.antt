@@ -136,6 +136,7 @@ written_row machine frames frames' runs hib c c' w w' next writes_next shows_sti
         area = keeps machine.hw machine.blocks (write_of_step machine.hw a i hib.made).0 (write_of_step machine.hw a i hib.made).1 c c' whole
             (elsewhere machine.hw (shown_by machine frames hib) c machine.blocks false i a hib.made over s.stands place) (inl made_it);
         unwritten = λ b not. unwritten_slots machine.hw a i hib.made b c c' (laid_count machine.hw a i hib.made place) made_it.others not;
+        leaves = tt;
       },
     ))
 
@@ -166,6 +167,7 @@ write_failed_row machine frames mid frames' runs hib hib' c c' w writes_next sho
         area = keeps machine.hw machine.blocks (write_of_step machine.hw a i hib.made).0 (write_of_step machine.hw a i hib.made).1 c c' whole
             (elsewhere machine.hw (shown_by machine frames hib) c machine.blocks false i a hib.made over s.stands place) (inr failed);
         unwritten = λ b not. unwritten_slots machine.hw a i hib.made b c c' (laid_count machine.hw a i hib.made place) failed.others not;
+        leaves = tt;
       },
     ))
 

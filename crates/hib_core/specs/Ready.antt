@@ -52,7 +52,6 @@ pub record CanWrite (h : Hardware) (blocks : ℕ) (frames : Memory) (hib : Hib) 
 -- The machine is one, with a disk of so many blocks. Memory has its page frames, the runs are those of its slot table, and the header block is one of the disk's.
 pub record CanStep (machine : Machine) (frames : Memory) (runs : SlotRuns) (hib : Hib) : Type 0 where
   pub hardware : IsHardware machine.hw
-  pub signature : machine.hw.hw_sig < 2 ^ 32
   pub few : machine.blocks < 2 ^ 32
   pub size : length frames ≡ top machine.hw.zones
   pub table : LiesIn frames (slot_table_of machine.hw)

@@ -88,8 +88,8 @@ impl Hib {
         takes_slots();
         memories_are_sayable();
         // Only what is read is known to have the size of its type.
-        let (_blocks, _sig) = (machine.blocks, machine.hw.hw_sig());
-        let (_zones, _ident) = (machine.hw.zones(), machine.hw.ident());
+        let _blocks = machine.blocks;
+        let _zones = machine.hw.zones();
         self.stage = Stage::Idle;
         match self.accept(machine, frames, runs, format) {
             Ok(counts) => self.take(machine, frames, runs, counts),

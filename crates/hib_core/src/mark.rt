@@ -2,7 +2,7 @@ ghost use Rattle.std.specs.Prelude.{◌≡◌, false, ◌≤◌, ◌+◌, ◌<�
 ghost use Rattle.definitions.specs.Disk.{HasRisen, raised, Changes, Elapses};
 ghost use Rattle.protocol_laws.specs.Rows.{IsNewFault};
 ghost use Rattle.plain_machine.specs.declared.reply.Reply.TheVariants as reply;
-ghost use Rattle.protocol_laws.specs.Steps.{mark_flags};
+ghost use Rattle.plain_machine.specs.Mark.{mark_flags};
 
 use crate::Hib;
 use crate::hib::Stage;

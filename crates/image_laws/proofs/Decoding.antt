@@ -376,7 +376,9 @@ page_of_memory m ps s (k, lt, e) =
     ap page_of (sym is) ∙ ap (frame m) (ap number_of is)
 
 pub memories_are_sayable : MemoriesAreSayable
-memories_are_sayable h m slots f zones ident =
+memories_are_sayable h m slots f hw =
+    let zones = hw.zones in
+    let ident = hw.ident in
     let ps = saveable h m in
     let pair : ℕ → Saved = λ p. (p, frame m p) in
     let i = image_of_memory h m slots f in

@@ -1,13 +1,11 @@
 -- That a disk which holds an image decodes to it.
-use Rattle.std.specs.Prelude.{◌≡◌, ℕ, ◌+◌, ◌^◌, ◌<◌, List, length, [], All, Contains, slice_index_or}
+use Rattle.std.specs.Prelude.{◌≡◌, ℕ, ◌+◌, ◌<◌, [], List, All, Contains, slice_index_or}
 use Rattle.definitions.specs.Disk as disk
 use Rattle.definitions.specs.InfoPage.{IsInfo}
 use Rattle.definitions.specs.NumberPages.{zero_bit}
 use Rattle.definitions.specs.Tables.{frame}
-use Rattle.definitions.specs.Zones.{AreZones}
-use Rattle.definitions.specs.declared.info.Ident.{Ident}
 use Rattle.page_core.specs.declared.format.Format.{Format}
-use Rattle.plain_machine.specs.Machine.{Hardware, Memory, saveable}
+use Rattle.plain_machine.specs.Machine.{Hardware, Memory, IsHardware, saveable}
 use Rattle.plain_machine.specs.Image.{Image, SlotPages, n_of, d_of, numbers_of, with_data, info_of_image, image_of_memory}
 use Rattle.plain_machine.specs.Chain.{Holds}
 use Rattle.plain_machine.specs.Trace.{info_in, number_in, stream_page, meta_in, image_in, restored_in}
@@ -20,16 +18,10 @@ pub record IsSayable (i : Image) : Type 0 where
   pub numbers : All (λ saved. saved.0 < zero_bit) i.frames
   pub one_page : (s t : ℕ × List ℕ) → Contains i.frames s → Contains i.frames t → s.0 ≡ t.0 → s.1 ≡ t.1
 
--- an identity that an info page can say: names of 65 bytes, and a version code of 4
-pub record IsIdent (ident : Ident) : Type 0 where
-  pub version_code : ident.version_code < 2 ^ 32
-  pub names : length ident.names ≡ 6
-  pub each_name : All (λ name. length name ≡ 65) ident.names
-
 -- so is each image of a memory
 abbrev pub MemoriesAreSayable : Type 0
 MemoriesAreSayable =
-    (h : Hardware) (m : Memory) (slots : SlotPages) (f : Format) → AreZones h.zones → IsIdent h.ident → IsSayable (image_of_memory h m slots f)
+    (h : Hardware) (m : Memory) (slots : SlotPages) (f : Format) → IsHardware h → IsSayable (image_of_memory h m slots f)
 
 -- the info page says the image's identity and counts
 abbrev pub SaysInfo : Type 0
@@ -55,5 +47,5 @@ Decodes = (h : Hardware) (v : disk.Image) (i : Image) → Holds h v i → IsSaya
 abbrev pub ResumesMemory : Type 0
 ResumesMemory =
     (h : Hardware) (m : Memory) (slots : SlotPages) (f : Format) (dump : Memory) (loader : Loader) (v : disk.Image) →
-    AreZones h.zones → IsIdent h.ident → Holds h v (image_of_memory h m slots f) →
+    IsHardware h → Holds h v (image_of_memory h m slots f) →
     (p : ℕ) → Contains (saveable h m) p → frame (restored_in h dump v loader) p ≡ frame m p

@@ -1,6 +1,5 @@
-ghost use Rattle.std.specs.Prelude.{◌≡◌, ◌==◌, ℕ, ◌+◌, ◌/◌, ◌<◌, ◌≤◌, List, [], length, replicate, take};
+ghost use Rattle.std.specs.Prelude.{◌≡◌, ◌==◌, ℕ, ◌+◌, ◌/◌, ◌<◌, ◌≤◌, List, [], length, take};
 ghost use Rattle.std.specs.List.{range_with_len, list_any};
-ghost use Rattle.definitions.specs.Bytes.{zero_page};
 ghost use Rattle.definitions.specs.Tables.{HasTable, with_entry};
 ghost use Rattle.definitions.specs.Zones.{top};
 ghost use Rattle.plain_machine.specs.Machine.{is_table_frame, is_of_table};

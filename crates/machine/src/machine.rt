@@ -20,6 +20,7 @@ impl Machine {
     pub fn of(hw: Hardware) -> Machine
         ensures hw { result.hw ≡ hw }
         ensures held { result.held ≡ No }
+        ensures blocks { result.blocks ≡ 0 }
     {
         Machine {
             hw,

@@ -2,8 +2,10 @@ pub mod BadSlots
 pub mod DiskBlocks
 pub mod EachEntry
 pub mod Examples
+pub mod Flights
 pub mod Fresh
 pub mod LaidChain
+pub mod PastEnd
 pub mod Restoring
 pub mod SameMemory
 pub mod Seen

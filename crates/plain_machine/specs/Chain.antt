@@ -1,11 +1,12 @@
 -- The chain of an image: its map pages and what they point to, in any disk.
 -- In Linux: get_swap_reader and swap_read_page, kernel/power/swap.c.
-use Rattle.std.specs.Prelude.{◌≡◌, ◌≢◌, ℕ, ◌*◌, ◌/◌, ◌%◌, ◌==◌, ◌&&◌, ◌||◌, List, [], ◌∷◌, Bool, not, nat_lt, length, map, Option, Some, None, Result, Ok, Err, if◌then◌else◌, ◌↔◌, ◌<◌, bit_and, zero, suc}
+use Rattle.std.specs.Prelude.{◌≡◌, ◌≢◌, ℕ, ◌*◌, ◌/◌, ◌%◌, ◌==◌, ◌&&◌, ◌||◌, List, [], ◌∷◌, Bool, not, nat_eq, nat_lt, length, map, Option, Some, None, Result, Ok, Err, if◌then◌else◌, ◌↔◌, ◌<◌, ◌≤◌, bit_and, zero, suc}
 use Rattle.std.specs.List.{list_any, range_with_len}
+use Rattle.std.specs.Cmp.Lexicographic.{pointwise}
 use Rattle.page_core.specs.declared.format.Format.TheVariants.{SkipZeros}
 use Rattle.definitions.specs.Bytes.{zero_page}
 use Rattle.definitions.specs.Disk as disk
-use Rattle.definitions.specs.SwapHeader.{IsMarked, image_of, flags_of, last_page_of}
+use Rattle.definitions.specs.SwapHeader.{IsMarked, sig_of, image_signature, image_of, flags_of, last_page_of}
 use Rattle.definitions.specs.SwapMap.{map_entry, map_link}
 use Rattle.definitions.specs.Slots.{block_of}
 use Rattle.plain_machine.specs.Machine.{Hardware, block_of_slot}
@@ -24,6 +25,10 @@ header_of h v = if nat_lt (block_of_slot h 0) (blocks_of v) then disk.block v (b
 -- the disk carries the signature of an image
 abbrev pub Marked : Hardware → disk.Image → Type 0
 Marked h v = IsMarked (header_of h v)
+
+-- whether it does, as a test
+abbrev pub is_marked_disk : Hardware → disk.Image → Bool
+is_marked_disk h v = pointwise nat_eq (sig_of (header_of h v)) image_signature
 
 -- Whether block x is at fault in a chain, where the slots lie so on that many blocks, up to the last slot: it is the
 -- header's, or no block of a slot from 1 to the last that the disk has. Past the last extent that one goes on.
@@ -81,12 +86,12 @@ chain h v b p =
     ok_unless (first_some (map (place_fault h v b) (range_with_len 0 p))) (map (entry_block v b) (range_with_len 0 p))
 
 -- [holds]: the disk is marked, and its chain is the image's stream, apart from the blocks of the tasks' slots, which
--- have their pages
+-- have their pages. The last map is one of the chain's also where it has no entry.
 pub record Holds (h : Hardware) (v : disk.Image) (i : Image) : Type 0 where
   pub marked : Marked h v
   pub uncompressed : bit_and (flags_of (header_of h v)) 2 ≢ 0
   pub format : (bit_and (flags_of (header_of h v)) 256 ≢ 0) ↔ (i.format ≡ SkipZeros)
   pub whole : (blocks : List ℕ) × (chain h v (image_of (header_of h v)) (pages_of i) ≡ Ok blocks) × (map (disk.block v) blocks ≡ stream_of i)
   pub slots : (s : ℕ) (page : List ℕ) → i.slots s ≡ Some page → disk.block v (block_of_slot h s) ≡ page
-  pub maps_apart : (s j : ℕ) (page : List ℕ) → i.slots s ≡ Some page → 511 * j < pages_of i → map_block v (image_of (header_of h v)) j ≢ block_of_slot h s
+  pub maps_apart : (s j : ℕ) (page : List ℕ) → i.slots s ≡ Some page → 511 * j ≤ pages_of i → map_block v (image_of (header_of h v)) j ≢ block_of_slot h s
   pub pages_apart : (s k : ℕ) (page : List ℕ) → i.slots s ≡ Some page → k < pages_of i → entry_block v (image_of (header_of h v)) k ≢ block_of_slot h s

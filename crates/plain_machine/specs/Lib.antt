@@ -6,6 +6,7 @@ pub mod Image
 pub mod Laid
 pub mod Loader
 pub mod Machine
+pub mod Mark
 pub mod Premises
 pub mod Refusals
 pub mod Replies

@@ -1,7 +1,7 @@
 -- The machine: its hardware and its memory.
 -- In Linux: struct zone (include/linux/mmzone.h), struct page, and struct swap_info_struct (include/linux/swap.h); saveable
 -- and free page frames are those of kernel/power/snapshot.c.
-use Rattle.std.specs.Prelude.{◌≡◌, ◌≤◌, ◌<◌, ◌⊎◌, ℕ, ◌+◌, ◌/◌, ◌%◌, All, ◌==◌, ◌&&◌, ◌||◌, Bool, true, not, nat_lt, nat_le, List, ◌++◌, length, filter, Option, if◌then◌else◌, Contains}
+use Rattle.std.specs.Prelude.{◌≡◌, ◌≤◌, ◌<◌, ◌⊎◌, ℕ, ◌+◌, ◌/◌, ◌%◌, ◌^◌, All, ◌==◌, ◌&&◌, ◌||◌, Bool, true, not, nat_lt, nat_le, List, ◌++◌, length, filter, Option, if◌then◌else◌, Contains, slice_index_or}
 use Rattle.std.specs.List.{list_any, range_with_len, find}
 use Rattle.definitions.specs.Bytes.{IsPage}
 use Rattle.definitions.specs.Zones.{numbers, top, AreZones}
@@ -131,8 +131,27 @@ pub record Fits (h : Hardware) (m : Memory) : Type 0 where
   pub tables : (f : ℕ) → IsTableFrame h f → (is_saveable (flags_of (frame_entry h m f)) ≡ true) × (owner_of (frame_entry h m f) ≡ 0)
   pub slots : (s : ℕ) → s < h.slots → is_slot_entry s (raw_slot_entry h m s) ≡ true
 
--- The parts of a machine fit one another: the page frames of the tables are valid and no page frame is of both, a region has
--- even flags below 128, and the extents of the swap area cover just its slots.
+-- an identity that an info page can say: names of 65 bytes, and a version code of 4 (struct new_utsname)
+pub record IsIdent (ident : Ident) : Type 0 where
+  pub version_code : ident.version_code < 2 ^ 32
+  pub names : length ident.names ≡ 6
+  pub each_name : All (λ name. length name ≡ 65) ident.names
+
+-- page frame p is one of a region (start, count, flags)
+pub record IsInRegion (r : ℕ × ℕ × ℕ) (p : ℕ) : Type 0 where
+  pub from : r.0 ≤ p
+  pub below : p < r.0 + r.1
+
+-- A region isn't empty, its flags are even and below 128, and its page frames are valid and of no table.
+pub record IsRegion (h : Hardware) (r : ℕ × ℕ × ℕ) : Type 0 where
+  pub some : 1 ≤ r.1
+  pub few_flags : r.2 < 128
+  pub even : r.2 % 2 ≡ 0
+  pub valid : (p : ℕ) → IsInRegion r p → Contains (numbers h.zones) p
+  pub of_no_table : (p : ℕ) → IsInRegion r p → IsTableFrame h p → ⊥
+
+-- What a machine is, and nothing else: the page frames of the tables are valid and no page frame is of both, the regions are at
+-- most 64 and apart, the extents of the swap area cover just its slots, and identity and signature fit their fields.
 pub record IsHardware (h : Hardware) : Type 0 where
   pub zones : AreZones h.zones
   pub some_slots : 2 ≤ h.slots
@@ -140,8 +159,12 @@ pub record IsHardware (h : Hardware) : Type 0 where
   pub frame_table : (i : ℕ) → i < table_len (top h.zones) → Contains (numbers h.zones) (h.frame_table + i)
   pub slot_table : (i : ℕ) → i < table_len h.slots → Contains (numbers h.zones) (h.slot_table + i)
   pub apart : (h.frame_table + table_len (top h.zones) ≤ h.slot_table) ⊎ (h.slot_table + table_len h.slots ≤ h.frame_table)
-  pub regions : (r : ℕ × ℕ × ℕ) → Contains h.regions r → (r.2 < 128) × (r.2 % 2 ≡ 0)
+  pub few_regions : length h.regions ≤ 64
+  pub regions : All (IsRegion h) h.regions
+  pub regions_apart : (j k p : ℕ) → j < k → k < length h.regions → IsInRegion (slice_index_or h.regions j (0, 0, 0)) p → IsInRegion (slice_index_or h.regions k (0, 0, 0)) p → ⊥
   pub map : IsFileMap h.extents h.slots
+  pub ident : IsIdent h.ident
+  pub signature : h.hw_sig < 2 ^ 32
 
 -- Two memories are the same: the same page frames are free, and the others have the same pages.
 pub record IsSameMemory (h : Hardware) (m n : Memory) : Type 0 where

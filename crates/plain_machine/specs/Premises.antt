@@ -1,25 +1,22 @@
--- The premises of the headline, over what a disk and the ends of a program tell.
-use Rattle.std.specs.Prelude.{◌≡◌, ◌≢◌, ℕ, List, Option, Some, IsSome}
+-- The premises of the headline, over what a disk tells.
 use Rattle.definitions.specs.Disk as disk
-use Rattle.definitions.specs.SwapHeader.{IsMarked, orig_sig_of, image_signature}
+use Rattle.definitions.specs.SwapHeader.{IsMarked}
 use Rattle.plain_machine.specs.Machine.{Hardware}
-use Rattle.plain_machine.specs.Chain.{header_of}
+use Rattle.plain_machine.specs.UsableArea.{area_block}
 
--- [honest disk] The disk tells its content and starts with one image. That it keeps the rules of disks is the contract of
--- its calls.
-abbrev pub StartsWith : Option disk.Content → disk.Image → Type 0
-StartsWith content v = content ≡ Some (disk.settled v)
+-- [honest disk] The disk tells its content and starts with one image: a promise takes it as a disk that is settled on it. That it
+-- keeps the rules of disks is the contract of its calls.
 
 -- [sole writer] Nobody else writes the disk: what it tells after one call it tells before the next. It stands in the
 -- program's type, which holds the disk by an exclusive reference.
+
 -- [one hardware] One hardware, with its signature, serves the whole script: `Step` and `Run` take it once.
 
--- [telling ends] The source, out and note tell their bytes.
-abbrev pub Tells : Option (List ℕ) → Type 0
-Tells bytes = IsSome bytes
+-- [telling ends] The source, out and note tell their bytes: each promise on them is for ends that do.
 
--- [no marked original] No marked block(0) that is handed in has the signature of an image as its original signature.
+-- [no marked original] No marked block(0) that is handed in has the signature of an image as its original signature: taken back it
+-- isn't marked.
 abbrev pub HasOriginal : Hardware → disk.Image → Type 0
-HasOriginal h v = IsMarked (header_of h v) → orig_sig_of (header_of h v) ≢ image_signature
+HasOriginal h v = IsMarked (area_block h v) → ⊥
 
 -- [memory] The status isn't 6: `Memory` of the program's `Status`.

@@ -72,11 +72,12 @@ asks_dump_to_load loader.Table = true
 abbrev pub busy_task : Running → Option ℕ
 busy_task a = find (λ t. is_some (a.flights t)) (range_with_len 1 64)
 
+abbrev pub busy_reply : Option ℕ → Option Reply
+busy_reply None = None
+busy_reply (Some t) = Some (reply.Busy t)
+
 abbrev pub busy : Running → Option Reply
-busy a = busy_reply (busy_task a) where
-  busy_reply : Option ℕ → Option Reply
-  busy_reply None = None
-  busy_reply (Some t) = Some (reply.Busy t)
+busy a = busy_reply (busy_task a)
 
 abbrev pub closed : Running → Option Reply
 closed a = refused_if (is_held a.held) reply.Closed

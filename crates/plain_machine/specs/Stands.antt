@@ -1,23 +1,25 @@
 -- [stands]: when a world and a disk stand for a state of the plain machine. Each part is a definition of its own.
 -- It has no counterpart in Linux: it is what the promises are about.
-use Rattle.std.specs.Prelude.{◌≡◌, ◌≢◌, ◌<◌, ◌≤◌, ◌⊎◌, ℕ, ◌+◌, ◌-◌, ◌/◌, List, [], ◌++◌, length, map, take, Some, None, Contains, All, bit_and, ⊤}
-use Rattle.std.specs.List.{range_with_len}
+use Rattle.std.specs.Prelude.{◌≡◌, ◌≢◌, ◌<◌, ◌≤◌, ◌⊎◌, ℕ, ◌+◌, ◌-◌, ◌/◌, true, List, [], length, map, take, Option, Some, None, IsSome, Contains, All, bit_and, ⊤}
 use Rattle.definitions.specs.Disk as disk
 use Rattle.definitions.specs.Bytes.{bytes_at}
-use Rattle.definitions.specs.SwapHeader.{IsMarked, image_of, taken_back, flags_of, hw_sig_of}
-use Rattle.definitions.specs.Tables.{frame}
+use Rattle.definitions.specs.SwapHeader.{IsMarked, taken_back, flags_of, hw_sig_of}
+use Rattle.definitions.specs.Tables.{frame, owner_of}
 use Rattle.definitions.specs.Zones.{top}
 use Rattle.sig_header.specs.AreaKind.{area_kind}
-use Rattle.plain_machine.specs.Machine.{Hardware, Memory, block_of_slot, raw_slot_entry, slot_entry, image_slot, IsSameMemory, Fits, unused_slots}
+use Rattle.plain_machine.specs.Machine.{Hardware, Memory, block_of_slot, raw_slot_entry, slot_entry, frame_entry, image_slot, is_slot_of, is_valid, Fits, unused_slots}
 use Rattle.definitions.specs.NumberPages.{meta_of}
 use Rattle.plain_machine.specs.Image.{Image, SlotPages, n_of, with_data, maps_of, pages_of, stream_of, hibernate_steps, image_of_memory}
 use Rattle.plain_machine.specs.Laid.{laid, laid_block}
-use Rattle.plain_machine.specs.Chain.{Holds, Marked, header_of, blocks_of, entry_block, map_block}
+use Rattle.plain_machine.specs.Chain.{Holds, Marked, header_of, blocks_of}
+use Rattle.plain_machine.specs.Mark.{HasMark}
+use Rattle.plain_machine.specs.Fitting.{IsTask}
 use Rattle.plain_machine.specs.Loader.{left_free, loader_frame}
-use Rattle.plain_machine.specs.UsableArea.{area_block, area_fault, bad_set_fault}
-use Rattle.plain_machine.specs.State.{State, off, on, booting, hibernating, undoing, settling, waking, loading, asleep, Running, Held, nothing, sure, maybe, Saved, own, other, Load, found_own, found_other, held_in}
-use Rattle.plain_machine.specs.Shows.{Shown, activity_in, seen_frames, ShowsRunning, ShowsKept}
-use Rattle.plain_machine.specs.Step.{fresh_frames}
+use Rattle.plain_machine.specs.UsableArea.{area_block, area_fault, bad_set_fault, dump_area_fault}
+use Rattle.plain_machine.specs.State.{State, off, on, booting, hibernating, undoing, settling, waking, loading, asleep, Running, Flight, goes_out, comes_in, Held, nothing, sure, maybe, Saved, own, other, Load, found_own, found_other, held_in}
+use Rattle.plain_machine.specs.Shows.{Shown, activity_in, ShowsRunning, ShowsKept}
+use Rattle.plain_machine.specs.Step.{fresh_frames, no_flights}
+use Rattle.plain_machine.specs.declared.no_swap.NoSwap.{NoSwap}
 use Rattle.plain_machine.specs.declared.event.BootFrom.{BootFrom}
 use Rattle.plain_machine.specs.declared.event.BootFrom.TheVariants.{Fresh, Kept}
 
@@ -27,9 +29,32 @@ EachImage c P = (v : disk.Image) → disk.IsImage c v → P v
 
 -- 1. Held.
 
--- a slot that has a page is a task's by the table
-abbrev pub AreTaskSlots : Hardware → Memory → SlotPages → Type 0
-AreTaskSlots h m slots = (s : ℕ) (page : List ℕ) → slots s ≡ Some page → (s < h.slots) × (1 ≤ slot_entry h m s) × (slot_entry h m s ≤ 64)
+-- slot s is a task's by the table
+abbrev pub IsTaskSlot : Hardware → Memory → ℕ → Type 0
+IsTaskSlot h m s = (s < h.slots) × (1 ≤ slot_entry h m s) × (slot_entry h m s ≤ 64)
+
+-- slot s is the target of an unfinished out
+abbrev pub IsTarget : (ℕ → Option Flight) → ℕ → Type 0
+IsTarget flights s = (t : ℕ) × (p : ℕ) × (flights t ≡ Some (goes_out s p))
+
+-- The slots that have a page are just the tasks' by the table, but for the targets of unfinished outs. Where the area can't be
+-- used, for this reason, every slot counts as bad, and none has a page.
+pub record AreTaskSlots (h : Hardware) (why : Option NoSwap) (m : Memory) (flights : ℕ → Option Flight) (slots : SlotPages) : Type 0 where
+  pub usable : (s : ℕ) (page : List ℕ) → slots s ≡ Some page → why ≡ None
+  pub tasks : (s : ℕ) (page : List ℕ) → slots s ≡ Some page → IsTaskSlot h m s
+  pub landed : (s : ℕ) (page : List ℕ) → slots s ≡ Some page → IsTarget flights s → ⊥
+  pub paged : why ≡ None → (s : ℕ) → IsTaskSlot h m s → (IsTarget flights s → ⊥) → IsSome (slots s)
+
+-- Of a task's unfinished operation the slot and the page frame are its own, so no two have one slot.
+pub record IsFlight (h : Hardware) (m : Memory) (t s p : ℕ) : Type 0 where
+  pub task : IsTask t
+  pub slot : is_slot_of h m t s ≡ true
+  pub valid : is_valid h p ≡ true
+  pub owner : owner_of (frame_entry h m p) ≡ t
+
+pub record HasFlights (h : Hardware) (a : Running) : Type 0 where
+  pub outs : (t s p : ℕ) → a.flights t ≡ Some (goes_out s p) → IsFlight h a.memory t s p
+  pub ins : (t s p : ℕ) → a.flights t ≡ Some (comes_in s p) → IsFlight h a.memory t s p
 
 -- the area of the disk v can be used by a machine with this memory
 pub record FitsArea (h : Hardware) (v : disk.Image) (m : Memory) : Type 0 where
@@ -39,7 +64,7 @@ pub record FitsArea (h : Hardware) (v : disk.Image) (m : Memory) : Type 0 where
 -- An own image is the image of a memory that fits and whose slot table fits the area, made under the machine's signature.
 pub record IsImageOf (h : Hardware) (v : disk.Image) (i : Image) (m : Memory) : Type 0 where
   pub fits : Fits h m
-  pub task_slots : AreTaskSlots h m i.slots
+  pub task_slots : AreTaskSlots h None m no_flights i.slots
   pub fits_area : FitsArea h v m
   pub image : i ≡ image_of_memory h m i.slots i.format
 
@@ -64,23 +89,28 @@ abbrev pub NamesOnly : Hardware → Shown → List ℕ → Type 0
 NamesOnly h shown blocks =
     (s : ℕ) → s < h.slots → raw_slot_entry h shown.frames s ≡ image_slot → Contains blocks (block_of_slot h s)
 
--- the blocks of an unfinished image, and those of the chain that a disk holds
+-- the blocks that an image is laid on: those of the slots that were free in the memory that it was made of
+abbrev pub blocks_laid : Hardware → Memory → Image → List ℕ
+blocks_laid h m i = map (λ written. written.0) (laid h.extents (unused_slots h m) (stream_of i))
+
 abbrev pub laid_blocks : Hardware → Running → Image → List ℕ
-laid_blocks h a i = map (λ written. written.0) (laid h.extents (unused_slots h a.memory) (stream_of i))
+laid_blocks h a i = blocks_laid h a.memory i
 
-abbrev pub chain_blocks : Hardware → disk.Image → Image → List ℕ
-chain_blocks h v i =
-    let first = image_of (header_of h v) in
-    map (entry_block v first) (range_with_len 0 (pages_of i)) ++ map (map_block v first) (range_with_len 0 (maps_of (pages_of i)))
+-- The slots that are named as an image's: those of the held one lie on its blocks, also where it is only perhaps there. Of
+-- another's image no slot is named so.
+pub record NamesOwn (h : Hardware) (shown : Shown) (i : Image) : Type 0 where
+  pub memory : Memory
+  pub image : i ≡ image_of_memory h memory i.slots i.format
+  pub names : NamesOnly h shown (blocks_laid h memory i)
 
-abbrev pub NamesSaved : Hardware → Shown → disk.Content → Saved → Type 0
-NamesSaved h shown c (own i) = EachImage c (λ v. Marked h v → NamesOnly h shown (chain_blocks h v i))
-NamesSaved h shown c other = ⊤
+abbrev pub NamesSaved : Hardware → Shown → Saved → Type 0
+NamesSaved h shown (own i) = NamesOwn h shown i
+NamesSaved h shown other = NamesOnly h shown []
 
-abbrev pub NamesHeld : Hardware → Shown → disk.Content → Held → Type 0
-NamesHeld h shown c nothing = NamesOnly h shown []
-NamesHeld h shown c (sure x) = NamesSaved h shown c x
-NamesHeld h shown c (maybe x) = NamesSaved h shown c x
+abbrev pub NamesHeld : Hardware → Shown → Held → Type 0
+NamesHeld h shown nothing = NamesOnly h shown []
+NamesHeld h shown (sure x) = NamesSaved h shown x
+NamesHeld h shown (maybe x) = NamesSaved h shown x
 
 -- 3. Header: taken back where it is marked, block(0) is one block in every image, but for bytes 4056 to 4085.
 pub record AgreeOnArea (a b : List ℕ) : Type 0 where
@@ -91,15 +121,17 @@ pub record IsHeader (h : Hardware) (c : disk.Content) : Type 0 where
   pub unmarked : EachImage c (λ v. IsMarked (area_block h v) → ⊥)
   pub one : EachImage c (λ v. AgreeOnArea (area_block h v) (area_block h (disk.as_it_reads c)))
 
--- a running machine's area is that block's, and where it is usable its bad slots are the table's
-pub record HasArea (h : Hardware) (c : disk.Content) (a : Running) : Type 0 where
-  pub area : a.unusable ≡ None → area_fault h (disk.as_it_reads c) ≡ None
-  pub bad_slots : a.unusable ≡ None → bad_set_fault h a.memory (area_kind (area_block h (disk.as_it_reads c))) ≡ None
+-- A running machine's area is that block's: why it can't be used is what the block calls for, and where it can be used its bad
+-- slots are the table's.
+abbrev pub HasArea : Hardware → disk.Content → Running → Type 0
+HasArea h c a = a.unusable ≡ dump_area_fault h (disk.as_it_reads c) a.memory
 
 -- 4. Hibernating.
 
--- A hibernation that was accepted: the image is that of the memory, none is held, and the area can be used and has the slots.
+-- A hibernation that was accepted: the image is that of the memory, no task has an unfinished operation, no image is held, and the
+-- area can be used and has the slots.
 pub record IsAccepted (h : Hardware) (a : Running) (i : Image) : Type 0 where
+  pub idle : (t : ℕ) → IsTask t → a.flights t ≡ None
   pub image : i ≡ image_of_memory h a.memory a.slots i.format
   pub unheld : a.held ≡ nothing
   pub usable : a.unusable ≡ None
@@ -109,15 +141,19 @@ pub record IsAccepted (h : Hardware) (a : Running) (i : Image) : Type 0 where
 abbrev pub laid_writes : Hardware → Running → Image → List (ℕ × List ℕ)
 laid_writes h a i = laid h.extents (unused_slots h a.memory) (stream_of i)
 
+-- the block of the least slot that is free, in which the first map lies
+abbrev pub first_map_block : Hardware → Running → ℕ
+first_map_block h a = laid_block h.extents (unused_slots h a.memory) 0
+
 abbrev pub Reads : disk.Image → ℕ × List ℕ → Type 0
 Reads v written = disk.block v written.0 ≡ written.1
 
--- Every image of the disk has the blocks of the hibernation and the tasks' slots. One that is marked has the chain that was laid:
--- its first map lies in the least slot that was free.
+-- Every image of the disk has the blocks of the hibernation and the tasks' slots. One that is marked says that the chain that was
+-- laid is the image: its first map lies in the least slot that was free.
 pub record HasLaid (h : Hardware) (c : disk.Content) (i : Image) (a : Running) : Type 0 where
   pub blocks : EachImage c (λ v. All (Reads v) (laid_writes h a i))
   pub slots : (s : ℕ) (page : List ℕ) → i.slots s ≡ Some page → EachImage c (λ v. disk.block v (block_of_slot h s) ≡ page)
-  pub chain : EachImage c (λ v. Marked h v → image_of (header_of h v) ≡ laid_block h.extents (unused_slots h a.memory) 0)
+  pub mark : EachImage c (λ v. Marked h v → HasMark h i.format (first_map_block h a) (header_of h v))
 
 -- What the first k steps wrote reads as laid, and the copies are the image's pages. After the first sync every image of the
 -- disk has it.
@@ -158,10 +194,16 @@ HasOneImage c = (v w : disk.Image) → disk.IsImage c v → disk.IsImage c w →
 abbrev pub KeepsHeader : Hardware → Shown → disk.Content → Type 0
 KeepsHeader h shown c = shown.header ≡ header_of h (disk.as_it_reads c)
 
-pub record KeepsMark (h : Hardware) (shown : Shown) (c : disk.Content) : Type 0 where
+pub record KeepsMark (h : Hardware) (shown : Shown) (c : disk.Content) (i : Image) (a : Running) : Type 0 where
   pub marked : IsMarked shown.header
+  pub mark : HasMark h i.format (first_map_block h a) shown.header
   pub unmarked : IsMarked (taken_back shown.header) → ⊥
   pub area : AgreeOnArea (taken_back shown.header) (area_block h (disk.as_it_reads c))
+
+-- 7. Asleep and waking: the image is the held one, and that of the memory that is kept.
+pub record IsSaved (h : Hardware) (i : Image) (held : Held) (a : Running) : Type 0 where
+  pub image : i ≡ image_of_memory h a.memory a.slots i.format
+  pub is_held : (held ≡ sure (own i)) ⊎ (held ≡ maybe (own i))
 
 -- Stands, by the state: what the world shows is the state's, and what the disk may hold is as its parts say.
 
@@ -171,9 +213,10 @@ StandsOff h c held = IsHeld h c held × IsHeader h c
 -- the disk of a running state
 pub record StandsOn (h : Hardware) (shown : Shown) (c : disk.Content) (a : Running) : Type 0 where
   pub held : IsHeld h c a.held
-  pub task_slots : AreTaskSlots h a.memory a.slots
+  pub task_slots : AreTaskSlots h a.unusable a.memory a.flights a.slots
+  pub flights : HasFlights h a
   pub slot_pages : HaveSlotPages h c a.slots
-  pub names : NamesHeld h shown c a.held
+  pub names : NamesHeld h shown a.held
   pub header : IsHeader h c
   pub area : HasArea h c a
 
@@ -181,7 +224,8 @@ pub record StandsOn (h : Hardware) (shown : Shown) (c : disk.Content) (a : Runni
 pub record StandsBehind (h : Hardware) (shown : Shown) (c : disk.Content) (a : Running) (image : Held) : Type 0 where
   pub held : IsHeld h c image
   pub shows : ShowsRunning h shown a
-  pub task_slots : AreTaskSlots h a.memory a.slots
+  pub task_slots : AreTaskSlots h a.unusable a.memory a.flights a.slots
+  pub flights : HasFlights h a
   pub slot_pages : HaveSlotPages h c a.slots
   pub header : IsHeader h c
   pub area : HasArea h c a
@@ -189,7 +233,7 @@ pub record StandsBehind (h : Hardware) (shown : Shown) (c : disk.Content) (a : R
 -- a boot from fresh memory has its page frames from the begin on; one from a dump's memory has that
 abbrev pub ShowsBoot : Hardware → Shown → BootFrom → Memory → Type 0
 ShowsBoot h shown Fresh dump = shown.frames ≡ fresh_frames h
-ShowsBoot h shown Kept dump = IsSameMemory h dump (seen_frames h shown.frames) × Fits h dump
+ShowsBoot h shown Kept dump = (shown.frames ≡ dump) × Fits h dump
 
 -- the parts that a state has
 abbrev pub HasParts : Hardware → Shown → disk.Content → State → Type 0
@@ -200,21 +244,21 @@ HasParts h shown c (hibernating suspends i a k) =
     StandsBehind h shown c a (held_in (hibernating suspends i a k)) × IsAccepted h a i × NamesOnly h shown (laid_blocks h a i) × IsWritten h shown c i a k
     × (k ≡ hibernate_steps i - 3 → HasOneImage c)
     × (k ≡ hibernate_steps i - 2 → HasOneImage c × KeepsHeader h shown c)
-    × (k ≡ hibernate_steps i - 1 → KeepsMark h shown c × Holds h (disk.as_it_reads c) i)
+    × (k ≡ hibernate_steps i - 1 → KeepsMark h shown c i a × Holds h (disk.as_it_reads c) i)
 HasParts h shown c (undoing i call a k) =
     StandsBehind h shown c a (maybe (own i)) × IsAccepted h a i × NamesOnly h shown (laid_blocks h a i) × HasLaid h c i a
-    × (k ≡ 0 → KeepsMark h shown c)
+    × (k ≡ 0 → KeepsMark h shown c i a)
     × (k ≡ 1 → Marked h (disk.as_it_reads c) → ⊥)
 HasParts h shown c (settling a k) =
-    StandsBehind h shown c a (held_in (settling a k)) × NamesHeld h shown c a.held × (k ≡ 1 → KeepsHeader h shown c)
+    StandsBehind h shown c a (held_in (settling a k)) × NamesHeld h shown a.held × (k ≡ 1 → KeepsHeader h shown c)
     × (k ≡ 2 → Marked h (disk.as_it_reads c) → ⊥)
 HasParts h shown c (waking i held a k) =
-    StandsBehind h shown c a (held_in (waking i held a k)) × NamesHeld h shown c held × (k ≡ 1 → KeepsHeader h shown c)
-    × (k ≡ 2 → Marked h (disk.as_it_reads c) → ⊥)
+    StandsBehind h shown c a (held_in (waking i held a k)) × NamesHeld h shown held × IsSaved h i held a
+    × (k ≡ 1 → KeepsHeader h shown c) × (k ≡ 2 → Marked h (disk.as_it_reads c) → ⊥)
 HasParts h shown c (loading load k) =
     StandsOff h c (held_in (loading load k)) × IsLoading h shown c load k × ((k ≡ 1) ⊎ (k ≡ 2) → HasOneImage c)
     × (k ≡ 2 → KeepsHeader h shown c) × (k ≡ 3 → Marked h (disk.as_it_reads c) → ⊥)
-HasParts h shown c (asleep i held a) = StandsBehind h shown c a held × NamesHeld h shown c held
+HasParts h shown c (asleep i held a) = StandsBehind h shown c a held × NamesHeld h shown held × IsSaved h i held a
 
 -- A world that shows this and a disk with this content stand for a state: it shows what the state is at, and its parts hold.
 pub record Stands (h : Hardware) (shown : Shown) (c : disk.Content) (a : State) : Type 0 where

@@ -1,7 +1,7 @@
 -- [step]: what the machine may answer, and the state after it. A pair that isn't among the outcomes can't come.
 -- In Linux: hibernation_snapshot, create_image and software_resume, kernel/power/hibernate.c; swsusp_write, mark_swapfiles,
 -- swsusp_check and swsusp_unmark, kernel/power/swap.c.
-use Rattle.std.specs.Prelude.{◌≡◌, ℕ, ◌+◌, ◌-◌, ◌*◌, ◌==◌, ◌&&◌, ◌||◌, Bool, true, false, not, nat_lt, nat_le, List, [], ◌∷◌, ◌++◌, length, filter, take, replicate, Option, Some, None, if◌then◌else◌, is_some, unwrap_or, slice_get, slice_set, Contains}
+use Rattle.std.specs.Prelude.{◌≡◌, ℕ, ◌+◌, ◌-◌, ◌*◌, ◌==◌, ◌&&◌, ◌||◌, Bool, true, false, not, nat_lt, nat_le, List, [], ◌∷◌, ◌++◌, length, filter, take, replicate, Option, Some, None, if◌then◌else◌, is_none, is_some, unwrap_or, slice_get, slice_set, Contains}
 use Rattle.std.specs.List.{range_with_len, find}
 use Rattle.page_core.specs.declared.format.Format.{Format}
 use Rattle.definitions.specs.Bytes.{zero_page, word, with_word}
@@ -15,6 +15,7 @@ use Rattle.plain_machine.specs.Image.{Image, SlotPages, image_of_memory, n_of, d
 use Rattle.plain_machine.specs.Loader.{has, left_free, need, restored}
 use Rattle.plain_machine.specs.Trace.{trace, restored_in, slots_in}
 use Rattle.plain_machine.specs.UsableArea.{area_fault, dump_area_fault, area_block, bad_slots_in}
+use Rattle.plain_machine.specs.Chain.{is_marked_disk}
 use Rattle.plain_machine.specs.State.{State, off, on, booting, hibernating, undoing, settling, waking, loading, asleep, Running, Held, nothing, sure, maybe, perhaps, own, other, Flight, goes_out, comes_in, Load, Found, not_yet, found_own, found_other, held_in, kept_in, held_while_loading}
 use Rattle.plain_machine.specs.Refusals.{refusal, free_slots_of}
 use Rattle.plain_machine.specs.declared.event.Event.{Event}
@@ -142,7 +143,7 @@ booted h v Fresh dump held = record {
 }
 booted h v Kept dump held = record {
   memory = dump;
-  slots = slots_in h v dump;
+  slots = if is_none (dump_area_fault h v dump) then slots_in h v dump else no_slots;
   flights = no_flights;
   unusable = dump_area_fault h v dump;
   held = held;
@@ -158,7 +159,8 @@ boot_outcomes h v from dump (maybe x) =
 abbrev pub boot_step : Hardware → disk.Image → BootFrom → Memory → Held → ℕ → List Outcome
 boot_step h v from dump held k =
     if k == 0 then done_or (reply.More 1 2) (booting from dump held 1) (reply.SyncFault Same) (off held None)
-    else boot_outcomes h v from dump held ++ only (reply.ReadFault Same) (off held None)
+    else (if k == 1 then boot_outcomes h v from dump held ++ only (reply.ReadFault Same) (off held None)
+    else [])
 
 -- Hibernating: the page and map writes, a sync, a read of block(0), the write of the mark, a sync.
 
@@ -175,7 +177,8 @@ hibernate_step suspends i a k =
     else (if k + 1 == last - 3 then next ∷ (reply.SyncFault Same, on a) ∷ []
     else (if k + 1 == last - 2 then next ∷ (reply.ReadFault Same, on a) ∷ []
     else (if k + 1 == last - 1 then next ∷ (reply.Undo undo.Write 0, undoing i undo.Write a 0) ∷ []
-    else hibernated suspends i a ∷ (reply.Undo undo.Sync 0, undoing i undo.Sync a 0) ∷ [])))
+    else (if k + 1 == last then hibernated suspends i a ∷ (reply.Undo undo.Sync 0, undoing i undo.Sync a 0) ∷ []
+    else []))))
 
 abbrev pub undone_fault : UndoCall → Left → Reply
 undone_fault undo.Write left = reply.WriteFault left
@@ -185,7 +188,8 @@ abbrev pub undo_step : Image → UndoCall → Running → ℕ → List Outcome
 undo_step i call a k =
     let failed : Outcome = (undone_fault call Unsure, on (record a { held = maybe (own i) })) in
     if k == 0 then (reply.Undo call 1, undoing i call a 1) ∷ failed ∷ []
-    else (undone_fault call Gone, on (record a { held = nothing })) ∷ failed ∷ []
+    else (if k == 1 then (undone_fault call Gone, on (record a { held = nothing })) ∷ failed ∷ []
+    else [])
 
 -- Settling and waking: a read of block(0), its write taken back, a sync.
 
@@ -194,14 +198,16 @@ settle_step a k =
     let uncertain = on (record a { held = perhaps a.held }) in
     if k == 0 then done_or (reply.More 1 3) (settling a 1) (reply.ReadFault Same) (on a)
     else (if k == 1 then done_or (reply.More 2 3) (settling a 2) (reply.WriteFault Unsure) uncertain
-    else done_or reply.Settled (on (record a { held = nothing })) (reply.SyncFault Unsure) uncertain)
+    else (if k == 2 then done_or reply.Settled (on (record a { held = nothing })) (reply.SyncFault Unsure) uncertain
+    else []))
 
 abbrev pub wake_step : Image → Held → Running → ℕ → List Outcome
 wake_step i held a k =
     let uncertain = asleep i (perhaps held) a in
     if k == 0 then done_or (reply.More 1 3) (waking i held a 1) (reply.ReadFault Same) (asleep i held a)
     else (if k == 1 then done_or (reply.More 2 3) (waking i held a 2) (reply.WriteFault Unsure) uncertain
-    else done_or reply.Woken (on (record a { held = nothing })) (reply.SyncFault Unsure) uncertain)
+    else (if k == 2 then done_or reply.Woken (on (record a { held = nothing })) (reply.SyncFault Unsure) uncertain
+    else []))
 
 -- Resuming.
 
@@ -256,7 +262,7 @@ abbrev pub find_step : Hardware → disk.Image → Load → Held → List Outcom
 find_step h v load nothing = no_image
 find_step h v load (sure (own i)) = only (reply.Loading 2) (loading (record load { found = found_own i }) 2)
 find_step h v load (maybe (own i)) = (reply.Loading 2, loading (record load { found = found_own i }) 2) ∷ no_image
-find_step h v load (sure other) = other_step h (record load { found = found_other v }) v 1
+find_step h v load (sure other) = if is_marked_disk h v then other_step h (record load { found = found_other v }) v 1 else []
 find_step h v load (maybe other) = other_step h (record load { found = found_other v }) v 1
 
 abbrev pub loaded_step : Hardware → Load → Found → ℕ → List Outcome
@@ -264,11 +270,20 @@ loaded_step h load not_yet k = []
 loaded_step h load (found_own i) k = own_step h load i k ∷ []
 loaded_step h load (found_other v) k = other_step h load v k
 
+-- whether there is a step k + 1 behind the four at block(0)
+abbrev pub has_place : Hardware → Load → Found → ℕ → Bool
+has_place h load not_yet k = false
+has_place h load (found_own i) k = nat_lt k (resume_steps i)
+has_place h load (found_other v) k = nat_lt k (length (trace h load.dump v load.loader load.check))
+
+abbrev pub load_answers : Hardware → disk.Image → Load → ℕ → List Outcome
+load_answers h v load k =
+    if k == 0 then only (reply.Loading 1) (loading load 1)
+    else (if k == 1 then find_step h v load load.held else loaded_step h load load.found k)
+
 abbrev pub load_step : Hardware → disk.Image → Load → ℕ → List Outcome
 load_step h v load k =
-    load_fault load k
-    ∷ (if k == 0 then only (reply.Loading 1) (loading load 1)
-    else (if k == 1 then find_step h v load load.held else loaded_step h load load.found k))
+    if nat_lt k 4 || has_place h load load.found k then load_fault load k ∷ load_answers h v load k else []
 
 -- Shrinking: [drop]. The first page frames whose flags are CACHE alone, until so many saveable ones are left.
 abbrev pub droppable : Hardware → Memory → List ℕ

@@ -1,11 +1,15 @@
 -- A hibernation that ends early: the machine runs again, with nothing held.
-use Rattle.std.proofs.Common.{◌≡◌, ℕ, ◌-◌, ◌<◌, Bool, true, false, ltb, List, [], Some, refl, sym, ◌∙◌, subst}
+use Rattle.std.proofs.Common.{◌≡◌, ℕ, ◌-◌, ◌<◌, Bool, true, false, ltb, List, [], Option, Some, None, refl, sym, ap, ◌∙◌, subst}
 use Rattle.std.proofs.lemmas.Bool.{lt-ltb, ltb-true, cond-true, cond-false}
 use Rattle.definitions.specs.Disk as disk
 use Rattle.plain_machine.specs.Machine.{Hardware, block_of_slot}
-use Rattle.plain_machine.specs.Image.{Image, SlotPages, hibernate_steps}
+use Rattle.plain_machine.specs.Image.{Image, SlotPages, image_of_memory, hibernate_steps}
 use Rattle.plain_machine.specs.Shows.{Shown, runs, ShowsRunning}
-use Rattle.plain_machine.specs.Stands.{Stands, IsHeld, HaveSlotPages, NamesOnly, NamesHeld}
+use Rattle.plain_machine.specs.Stands.{Stands, IsHeld, HaveSlotPages, NamesOnly, NamesHeld, IsAccepted, HasFlights, AreTaskSlots, laid_blocks}
+use Rattle.plain_machine.specs.Step.{no_flights}
+use Rattle.plain_machine.specs.declared.no_swap.NoSwap.{NoSwap}
+use Rattle.plain_machine.proofs.BadSlots.{task_slots-idle}
+use Rattle.plain_machine.proofs.Flights.{no_flights_in}
 use Rattle.plain_machine.specs.State.{on, hibernating, Running, nothing, maybe, own, held_in}
 use Rattle.protocol_laws.proofs.Same.{KeepsHeader, header_kept, area_kept, nothing_kept}
 
@@ -30,8 +34,23 @@ ReadsSlots h c c' slots =
 pub slots_read : (h : Hardware) (c c' : disk.Content) (slots : SlotPages) → ReadsSlots h c c' slots → HaveSlotPages h c slots → HaveSlotPages h c' slots
 slots_read h c c' slots same have = λ s page e. same s page e ∙ have s page e
 
-pub names_nothing : (h : Hardware) (shown : Shown) (c : disk.Content) (a : Running) → a.held ≡ nothing → NamesOnly h shown [] → NamesHeld h shown c a.held
-names_nothing h shown c a none names = subst (NamesHeld h shown c) (sym none) names
+pub names_nothing : (h : Hardware) (shown : Shown) (a : Running) → a.held ≡ nothing → NamesOnly h shown [] → NamesHeld h shown a.held
+names_nothing h shown a none names = subst (NamesHeld h shown) (sym none) names
+
+-- an image that was laid perhaps stays, and its slots are named
+pub names_laid : (h : Hardware) (shown : Shown) (i : Image) (a : Running) → IsAccepted h a i → NamesOnly h shown (laid_blocks h a i) → NamesHeld h shown (maybe (own i))
+names_laid h shown i a accepted names = record {
+  memory = a.memory;
+  image = subst (λ (u : SlotPages). i ≡ image_of_memory h a.memory u i.format) (sym (ap (λ (x : Image). x.slots) accepted.image)) accepted.image;
+  names = names;
+}
+
+-- the tasks' slots are those of the image that a hibernation saves
+pub own_task_slots : (h : Hardware) (a : Running) (i : Image) → IsAccepted h a i → HasFlights h a → AreTaskSlots h a.unusable a.memory a.flights a.slots → AreTaskSlots h None a.memory no_flights i.slots
+own_task_slots h a i accepted flights are =
+    subst (AreTaskSlots h None a.memory no_flights) (sym (ap (λ (x : Image). x.slots) accepted.image))
+    (task_slots-idle h None a.memory a.flights no_flights a.slots (no_flights_in h a flights accepted.idle) (λ t. refl)
+    (subst (λ (why : Option NoSwap). AreTaskSlots h why a.memory a.flights a.slots) accepted.usable are))
 
 -- Whatever call kept the header and the slots, the machine runs as it ran.
 pub goes_back : (h : Hardware) (shown shown' : Shown) (c c' : disk.Content) (suspends : Bool) (i : Image) (a : Running) (k : ℕ) → k < hibernate_steps i - 1 → Stands h shown c (hibernating suspends i a k) →
@@ -46,8 +65,9 @@ goes_back h shown shown' c c' suspends i a k lt stands keeps reads activity show
         record {
           held = subst (IsHeld h c') (sym accepted.unheld) (nothing_kept h c c' keeps (unheld h shown c suspends i a k lt stands));
           task_slots = behind.task_slots;
+          flights = behind.flights;
           slot_pages = slots_read h c c' a.slots reads behind.slot_pages;
-          names = names_nothing h shown' c' a accepted.unheld names;
+          names = names_nothing h shown' a accepted.unheld names;
           header = header_kept h c c' keeps behind.header;
           area = area_kept h c c' a keeps behind.area;
         },

@@ -19,6 +19,7 @@ use Rattle.plain_machine.specs.declared.no_swap.NoSwap.{NoSwap}
 use Rattle.plain_machine.specs.declared.reply.Reply.{Reply}
 use Rattle.plain_machine.specs.declared.reply.Reply.TheVariants as reply
 use Rattle.protocol_laws.specs.Steps.{ShowsCopies}
+use Rattle.plain_machine.proofs.Flights.{idle_tasks}
 use Rattle.protocol_laws.proofs.Back.{held_before}
 
 -- What isn't refused.
@@ -72,6 +73,7 @@ accepts h a f hw none =
     let free = length (unused_slots h a.memory) in
     let enough = not_below free (pages_of i + 1026) (test_fails (ltb free (pages_of i + 1026)) (reply.NoSlots free (pages_of i + 1026)) slots) in
     record {
+      idle = idle_tasks a (first_none (busy a) (or_else (closed a) (or_else (no_swap a.unusable) (or_else (no_frames h a i) (no_slots h a i)))) none);
       image = refl;
       unheld = not_held a.held (test_fails (is_held a.held) reply.Closed open_is);
       usable = has_swap a.unusable swap;
@@ -91,6 +93,7 @@ begins h shown shown' c a f suspends hw stands none activity shows =
           held = subst (IsHeld h c) (accepted.unheld ∙ sym (held_before suspends i a 0 (omega arith))) was.held;
           shows = shows.shows;
           task_slots = was.task_slots;
+          flights = was.flights;
           slot_pages = was.slot_pages;
           header = was.header;
           area = was.area;

@@ -6,11 +6,13 @@ use Rattle.plain_machine.specs.Machine.{Hardware}
 use Rattle.plain_machine.specs.Chain.{Holds}
 use Rattle.plain_machine.specs.Image.{Image, hibernate_steps}
 use Rattle.plain_machine.specs.Shows.{Shown, rests, undoes}
-use Rattle.plain_machine.specs.Stands.{Stands, IsHeld, IsOwn, AgreeOnArea}
+use Rattle.plain_machine.specs.Stands.{Stands, EachImage, IsHeld, IsOwn, AgreeOnArea, first_map_block}
+use Rattle.plain_machine.specs.Mark.{HasMark}
 use Rattle.plain_machine.specs.State.{off, hibernating, undoing, Running, sure, maybe, own}
 use Rattle.plain_machine.specs.UsableArea.{area_block}
 use Rattle.plain_machine.specs.declared.reply.UndoCall.TheVariants as undo
 use Rattle.definitions.specs.SwapHeader.{IsMarked, taken_back}
+use Rattle.protocol_laws.specs.Rows.{HasImage}
 use Rattle.protocol_laws.specs.Steps.{IsOver, ShowsCopies}
 use Rattle.protocol_laws.proofs.Same.{header_kept, by_sync}
 use Rattle.protocol_laws.proofs.Back.{held_behind}
@@ -35,6 +37,16 @@ ends h shown shown' c c' blocks suspends i a k over stands last syncs activity k
       );
     }
 
+-- it has left the mark and the blocks in every image
+pub end_leaves : (h : Hardware) (shown : Shown) (c c' : disk.Content) (blocks : ℕ) (suspends : Bool) (i : Image) (a : Running) (k : ℕ) → IsOver h i blocks c → Stands h shown c (hibernating suspends i a k) → k + 1 ≡ hibernate_steps i →
+    disk.Syncs c c' → EachImage c' (HasImage h i a)
+end_leaves h shown c c' blocks suspends i a k over stands last syncs v in' =
+    let here = IsImage-as_it_reads blocks c over.content in
+    let holds : Holds h (disk.as_it_reads c) i = (stands.parts.6 (omega arith)).1 in
+    let laid = stands.parts.3.durable (omega arith) in
+    subst (HasImage h i a) (sym (IsImage-after_sync c c' v syncs in'))
+    (record { marked = holds.marked; mark = laid.mark (disk.as_it_reads c) here holds.marked; laid = laid.blocks (disk.as_it_reads c) here })
+
 -- a sync that fails begins an undo
 pub end_fails : (h : Hardware) (shown shown' : Shown) (c : disk.Content) (suspends : Bool) (i : Image) (a : Running) (k : ℕ) → Stands h shown c (hibernating suspends i a k) → k + 1 ≡ hibernate_steps i →
     shown'.header ≡ shown.header → shown'.activity ≡ undoes undo.Sync 0 → ShowsCopies h shown' a i → Stands h shown' c (undoing i undo.Sync a 0)
@@ -48,6 +60,7 @@ end_fails h shown shown' c suspends i a k stands last header activity shows =
           held = held_at_end h shown c suspends i a k last stands;
           shows = shows.shows;
           task_slots = behind.task_slots;
+          flights = behind.flights;
           slot_pages = behind.slot_pages;
           header = behind.header;
           area = behind.area;
@@ -57,6 +70,7 @@ end_fails h shown shown' c suspends i a k stands last header activity shows =
         stands.parts.3.durable (omega arith),
         (λ e. record {
           marked = subst IsMarked (sym header) mark.marked;
+          mark = subst (HasMark h i.format (first_map_block h a)) (sym header) mark.mark;
           unmarked = λ m. mark.unmarked (subst (λ (p : List ℕ). IsMarked (taken_back p)) header m);
           area = subst (λ (p : List ℕ). AgreeOnArea (taken_back p) (area_block h (disk.as_it_reads c))) (sym header) mark.area;
         }),

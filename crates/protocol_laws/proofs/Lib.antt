@@ -25,7 +25,6 @@ pub mod Sets
 pub mod Unwritten
 pub mod Writers
 pub mod Undoing
-pub mod InChain
 pub mod Undone
 pub mod Stopping
 pub mod TraceAt
@@ -33,6 +32,7 @@ pub mod Other
 pub mod OtherResumed
 pub mod AreaKept
 pub mod LoadSteps
+pub mod Leaving
 pub mod LoadReplies
 pub mod LoadRows
 pub mod KeptTables

@@ -79,7 +79,7 @@ comes h v i load k is gone lt = elim (cases_Bool (has_room h load (d_of i))) [
   | inr none ↦ elim (cases_lt (5 + meta_of (n_of i)) k) [
     | inl late ↦
         let j = 5 + meta_of (n_of i) in
-        let own = traces_own h v i load j is.hardware is.holds is.own is.sayable (omega arith) (omega arith) (inl (omega arith)) in
+        let own = traces_own h v i load j is.hardware is.holds is.own (omega arith) (omega arith) (inl (omega arith)) in
         let any = traced_at h load v j (reply.Loading (j + 1)) (within_own h v i j is (omega arith)) (λ m some m_lt. gone m some (omega arith)) (gone j (omega arith) late) in
         differ (few_reply h load i) (reply.Loading (j + 1)) (sym (own_few h load i j (omega arith) none) ∙ same_Some (own_reply h load i j) (reply.Loading (j + 1)) (sym own ∙ any)) (λ e. absurd (omega arith))
     | inr early ↦ inl (omega arith)
@@ -89,7 +89,7 @@ comes h v i load k is gone lt = elim (cases_Bool (has_room h load (d_of i))) [
 pub own_answers : (h : Hardware) (v : disk.Image) (i : Image) (load : Load) (k : ℕ) (r : Reply) → IsOwnDisk h v i → HaveGoneOn h load v k → 1 ≤ k → k < 4 + place_count (info_in h v).pages → reply_at h load.dump v load.loader load.check k ≡ r → own_reply h load i k ≡ r
 own_answers h v i load k r is gone some within says =
     let lt = own_within h v i k is within in
-    let own = traces_own h v i load k is.hardware is.holds is.own is.sayable some lt (comes h v i load k is gone lt) in
+    let own = traces_own h v i load k is.hardware is.holds is.own some lt (comes h v i load k is gone lt) in
     same_Some (own_reply h load i k) r (sym own ∙ traced_at h load v k r within gone says)
 
 -- What block(0) says.

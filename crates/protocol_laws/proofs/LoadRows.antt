@@ -1,21 +1,24 @@
 -- Whole rows of a resume.
+use Rattle.protocol_laws.proofs.Leaving.{leaves_loading}
 use Rattle.protocol_laws.proofs.Unwritten.{block_same, block_synced, unwritten_header}
-use Rattle.std.proofs.Common.{◌≡◌, ◌<◌, ◌≤◌, ◌-◌, ◌/◌, ℕ, ◌+◌, inl, inr, List, [], take, Option, Some, None, unwrap_or, refl, sym, ap, ap₂, ◌∙◌, subst, arith, Contains}
+use Rattle.std.proofs.Common.{◌≡◌, ◌<◌, ◌≤◌, ◌-◌, ◌/◌, ℕ, ◌+◌, inl, inr, true, List, [], take, Option, Some, None, unwrap_or, refl, sym, ap, ap₂, ◌∙◌, subst, arith, Contains}
 use Rattle.std.proofs.lemmas.Option.{same_Some, none-some}
 use Rattle.definitions.specs.Disk as disk
 use Rattle.definitions.specs.NumberPages.{meta_of}
-use Rattle.definitions.specs.SwapHeader.{taken_back}
+use Rattle.definitions.specs.SwapHeader.{taken_back, sig_of, image_signature}
+use Rattle.std.specs.Cmp.Lexicographic.{other_text}
+use Rattle.std.proofs.lemmas.Bool.{cond-true, true_from_ne_false}
 use Rattle.definitions.specs.Tables.{frame}
 use Rattle.definitions.proofs.DiskLaws.{IsImage-as_it_reads, IsImage-after_sync}
 use Rattle.plain_machine.specs.Machine.{Hardware, Memory, IsHardware, IsSameMemory, Fits, block_of_slot}
-use Rattle.plain_machine.specs.Chain.{header_of, Marked, Holds, or_else}
+use Rattle.plain_machine.specs.Chain.{header_of, Marked, is_marked_disk, Holds, or_else}
 use Rattle.plain_machine.specs.Image.{Image, n_of, with_data, SlotPages}
 use Rattle.definitions.specs.Zones.{top}
 use Rattle.plain_machine.specs.Loader.{restored, left_free, loader_frame}
 use Rattle.plain_machine.specs.Shows.{Shown, runs, loads, ShowsRunning, seen_frames}
 use Rattle.plain_machine.specs.Stands.{Stands, IsHeld, IsOwn, NamesOnly}
 use Rattle.plain_machine.specs.State.{State, Running, off, on, loading, Held, nothing, sure, maybe, own, other, perhaps, Load, Found, not_yet, found_own, found_other, held_while_loading}
-use Rattle.plain_machine.specs.Step.{Outcome, Step, own_step, resumed, no_flights, no_slots, load_fault, other_state}
+use Rattle.plain_machine.specs.Step.{Outcome, Step, own_step, other_step as other_step_of, resumed, no_flights, no_slots, load_fault, other_state}
 use Rattle.plain_machine.specs.Trace.{info_in, place, place_count, content_cause, next_cause, header_cause, taken_back_cause, restored_in, slots_in, tables_cause}
 use Rattle.plain_machine.specs.declared.event.Actor.TheVariants as actor
 use Rattle.plain_machine.specs.declared.event.Event.TheVariants as event
@@ -25,9 +28,7 @@ use Rattle.plain_machine.specs.declared.event.Ranges.{Ranges}
 use Rattle.plain_machine.specs.declared.reply.Left.TheVariants.{Same, Gone, Unsure}
 use Rattle.plain_machine.specs.declared.reply.Reply.{Reply}
 use Rattle.plain_machine.specs.declared.reply.Reply.TheVariants as reply
-use Rattle.image_laws.specs.Decoding.{IsSayable, IsIdent}
 use Rattle.image_laws.specs.ImageBlocks.{Tries}
-use Rattle.image_laws.proofs.Decoding.{memories_are_sayable}
 use Rattle.protocol_laws.specs.Loads.{ShowsLoad}
 use Rattle.protocol_laws.specs.LoadRows.{IsFoundOn, IsFoundIn, with_finding, Goes, ShowsRest, HaveGoneOn, running_with, IsStop, IsReading}
 use Rattle.protocol_laws.specs.Resuming.{IsHeldOwn, with_found}
@@ -37,11 +38,11 @@ use Rattle.protocol_laws.specs.Rows.{IsSameArea}
 use Rattle.protocol_laws.specs.TraceAt.{reply_at}
 use Rattle.protocol_laws.proofs.AreaKept.{kept_by_sync, kept_by_taking_back}
 use Rattle.protocol_laws.proofs.Finding.{load_syncs, finds_none, finds_own}
-use Rattle.protocol_laws.proofs.LoadReplies.{differ, no_header, traced_at, own_answers, no_mark, a_mark, stop_late, cause_stops, stop_kind, stops_cause, tables_fit}
-use Rattle.protocol_laws.proofs.LoadSteps.{by_core, fault_step, late_fault, own_goes, own_outcome, other_goes, stopped_off, find_goes, finds_traced}
+use Rattle.protocol_laws.proofs.LoadReplies.{differ, no_header, traced_at, own_within, own_answers, no_mark, a_mark, stop_late, cause_stops, stop_kind, stops_cause, tables_fit}
+use Rattle.protocol_laws.proofs.LoadSteps.{IsThere, there_own, there_other, by_core, fault_step, late_fault, own_goes, own_outcome, other_goes, stopped_off, find_goes, finds_traced}
 use Rattle.protocol_laws.proofs.Other.{finds_other, stops_at_other, takes_other_back, take_other_back_fails}
 use Rattle.protocol_laws.proofs.OtherResumed.{resumes_other}
-use Rattle.protocol_laws.proofs.OwnCauses.{IsOwnDisk}
+use Rattle.protocol_laws.proofs.OwnCauses.{IsOwnDisk, own_sayable}
 use Rattle.protocol_laws.proofs.OwnChain.{no_header_cause, no_taken_back_cause}
 use Rattle.protocol_laws.proofs.Resumed.{load_stops, load_fails, resumes}
 use Rattle.protocol_laws.proofs.Same.{header_kept, by_sync}
@@ -60,27 +61,29 @@ same_area h v = record { blocks = refl; header = record { front = refl; signatur
 pub load_sync_row : (h : Hardware) (shown shown' : Shown) (c c' : disk.Content) (blocks : ℕ) (load : Load) → disk.IsContent blocks c → Stands h shown c (loading load 0) →
     disk.Syncs c c' → ShowsLoad h shown' load 1 → Goes h shown' (reply.Loading 1) c c' (loading load 0) (loading load 1)
 load_sync_row h shown shown' c c' blocks load whole stands syncs shows = record {
-  step = by_core h (disk.as_it_reads c) load 0 (reply.Loading 1) (loading load 1) (1, omega arith, refl);
+  step = by_core h (disk.as_it_reads c) load 0 (reply.Loading 1) (loading load 1) refl (1, omega arith, refl);
   stands = load_syncs h shown shown' c c' blocks load whole stands syncs shows;
   area = kept_by_sync h c c' syncs;
   unwritten = λ b not. block_synced blocks b c c' whole syncs;
+  leaves = tt;
 }
 
 -- a call that fails before block(0) is written
-early_fault : (h : Hardware) (shown shown' : Shown) (c : disk.Content) (load : Load) (k : ℕ) (r : Reply) → held_while_loading load k ≡ load.held → load_fault load k ≡ (r, off load.held None) → Stands h shown c (loading load k) → ShowsRest shown' →
+early_fault : (h : Hardware) (shown shown' : Shown) (c : disk.Content) (load : Load) (k : ℕ) (r : Reply) → IsThere h load load.found k → held_while_loading load k ≡ load.held → load_fault load k ≡ (r, off load.held None) → Stands h shown c (loading load k) → ShowsRest shown' →
     Goes h shown' r c c (loading load k) (off load.held None)
-early_fault h shown shown' c load k r held fault stands rest = record {
-  step = fault_step h (disk.as_it_reads c) load k r (off load.held None) fault;
+early_fault h shown shown' c load k r there held fault stands rest = record {
+  step = fault_step h (disk.as_it_reads c) load k r (off load.held None) there fault;
   stands = load_fails h shown shown' c load k held stands rest.0 rest.1;
   area = same_area h (disk.as_it_reads c);
   unwritten = λ b not. block_same b _;
+  leaves = leaves_loading h r load k c;
 }
 
 pub load_sync_fault_row : (h : Hardware) (shown shown' : Shown) (c : disk.Content) (load : Load) → Stands h shown c (loading load 0) → ShowsRest shown' → Goes h shown' (reply.SyncFault Same) c c (loading load 0) (off load.held None)
-load_sync_fault_row h shown shown' c load = early_fault h shown shown' c load 0 (reply.SyncFault Same) refl refl
+load_sync_fault_row h shown shown' c load = early_fault h shown shown' c load 0 (reply.SyncFault Same) refl refl refl
 
 pub find_fault_row : (h : Hardware) (shown shown' : Shown) (c : disk.Content) (load : Load) → Stands h shown c (loading load 1) → ShowsRest shown' → Goes h shown' (reply.ReadFault Same) c c (loading load 1) (off load.held None)
-find_fault_row h shown shown' c load = early_fault h shown shown' c load 1 (reply.ReadFault Same) refl refl
+find_fault_row h shown shown' c load = early_fault h shown shown' c load 1 (reply.ReadFault Same) refl refl refl
 
 not_no_image : (flags : ℕ) → Some (reply.Compressed flags) ≡ Some reply.NoImage → ⊥
 not_no_image flags e = differ (reply.Compressed flags) reply.NoImage (same_Some (reply.Compressed flags) reply.NoImage e) (λ x. absurd (omega arith))
@@ -105,6 +108,7 @@ find_none_row h shown shown' c blocks load whole stands says rest =
       stands = finds_none h shown shown' c blocks load whole stands (no_mark h v says) rest.0 rest.1;
       area = same_area h v;
       unwritten = λ b not. block_same b _;
+      leaves = tt;
     }
 
 -- The image is another's where it is compressed.
@@ -119,9 +123,15 @@ compressed_other h c v (maybe (own i)) flags there here says = elim (there v her
 ]
 compressed_other h c v (maybe other) flags there here says = inr refl
 
-other_step : (h : Hardware) (v : disk.Image) (load : Load) (r : Reply) (b : State) → IsHeldOther load.held → unwrap_or (header_cause h v) (reply.Loading 2) ≡ r → other_state h (with_found_other load v) v 1 r ≡ b → Step h v (loading load 1) (event.Step actor.Core) r b
-other_step h v load r b (inl is) says state = find_goes h v load (sure other) r b is (finds_traced h v load r b says state)
-other_step h v load r b (inr is) says state = find_goes h v load (maybe other) r b is (finds_traced h v load r b says state)
+-- the signature's test
+is_signed : (h : Hardware) (v : disk.Image) → Marked h v → is_marked_disk h v ≡ true
+is_signed h v marked = true_from_ne_false (is_marked_disk h v) (λ e. other_text (sig_of (header_of h v)) image_signature (sym e) marked)
+
+other_step : (h : Hardware) (v : disk.Image) (load : Load) (r : Reply) (b : State) → IsHeldOther load.held → Marked h v → unwrap_or (header_cause h v) (reply.Loading 2) ≡ r → other_state h (with_found_other load v) v 1 r ≡ b → Step h v (loading load 1) (event.Step actor.Core) r b
+other_step h v load r b (inl is) marked says state =
+    find_goes h v load (sure other) r b is
+    (subst (λ (xs : List Outcome). Contains xs (r, b)) (sym (cond-true (is_marked_disk h v) (other_step_of h (with_found_other load v) v 1) [] (is_signed h v marked))) (finds_traced h v load r b says state))
+other_step h v load r b (inr is) marked says state = find_goes h v load (maybe other) r b is (finds_traced h v load r b says state)
 
 pub find_compressed_row : (h : Hardware) (shown shown' : Shown) (c : disk.Content) (blocks flags : ℕ) (load : Load) → disk.IsContent blocks c → Stands h shown c (loading load 1) →
     header_cause h (disk.as_it_reads c) ≡ Some (reply.Compressed flags) → ShowsRest shown' → Goes h shown' (reply.Compressed flags) c c (loading load 1) (off (sure other) None)
@@ -129,16 +139,14 @@ find_compressed_row h shown shown' c blocks flags load whole stands says rest =
     let v = disk.as_it_reads c in
     let held = compressed_other h c v load.held flags stands.parts.0.0 (IsImage-as_it_reads blocks c whole) says in
     record {
-      step = other_step h v load (reply.Compressed flags) (off (sure other) None) held (header_reply h v (reply.Compressed flags) says) refl;
+      step = other_step h v load (reply.Compressed flags) (off (sure other) None) held (a_mark h v (Some (reply.Compressed flags)) says (not_no_image flags)) (header_reply h v (reply.Compressed flags) says) refl;
       stands = stops_at_other h shown shown' c blocks load whole stands held (a_mark h v (Some (reply.Compressed flags)) says (not_no_image flags)) rest.0 rest.1;
       area = same_area h v;
       unwritten = λ b not. block_same b _;
+      leaves = tt;
     }
 
 -- Else the image is found.
-
-own_sayable : (h : Hardware) (v : disk.Image) (i : Image) → IsHardware h → IsIdent h.ident → IsOwn h v i → IsSayable i
-own_sayable h v i hw ident is = subst IsSayable (sym is.of_memory.1.image) (memories_are_sayable h is.of_memory.0 i.slots i.format hw.zones ident)
 
 -- what is found, and the row of it
 abbrev Finds : Hardware → Shown → disk.Content → Load → Type 0
@@ -146,13 +154,13 @@ Finds h shown' c load =
     (found : Found) × IsFoundIn h (with_finding load found) (disk.as_it_reads c) ×
     (ShowsLoad h shown' (with_finding load found) 2 → Goes h shown' (reply.Loading 2) c c (loading load 1) (loading (with_finding load found) 2))
 
-finds_it_own : (h : Hardware) (shown shown' : Shown) (c : disk.Content) (blocks : ℕ) (load : Load) (i : Image) → IsHardware h → IsIdent h.ident → disk.IsContent blocks c → Stands h shown c (loading load 1) → Marked h (disk.as_it_reads c) →
+finds_it_own : (h : Hardware) (shown shown' : Shown) (c : disk.Content) (blocks : ℕ) (load : Load) (i : Image) → IsHardware h → disk.IsContent blocks c → Stands h shown c (loading load 1) → Marked h (disk.as_it_reads c) →
     shown'.header ≡ header_of h (disk.as_it_reads c) → IsHeldOwn load.held i → Holds h (disk.as_it_reads c) i → IsOwn h (disk.as_it_reads c) i → Step h (disk.as_it_reads c) (loading load 1) (event.Step actor.Core) (reply.Loading 2) (loading (with_found load i) 2) →
     Finds h shown' c load
-finds_it_own h shown shown' c blocks load i hw ident whole stands marked header held holds is step = (
+finds_it_own h shown shown' c blocks load i hw whole stands marked header held holds is step = (
   found_own i,
-  (holds, is, own_sayable h (disk.as_it_reads c) i hw ident is),
-  λ shows. record { step = step; stands = finds_own h shown shown' c blocks load i whole stands held marked header shows; unwritten = λ b not. block_same b _; area = same_area h (disk.as_it_reads c) },
+  (holds, is),
+  λ shows. record { step = step; stands = finds_own h shown shown' c blocks load i whole stands held marked header shows; unwritten = λ b not. block_same b _; area = same_area h (disk.as_it_reads c); leaves = tt },
 )
 
 finds_it_other : (h : Hardware) (shown shown' : Shown) (c : disk.Content) (blocks : ℕ) (load : Load) → disk.IsContent blocks c → Stands h shown c (loading load 1) → Marked h (disk.as_it_reads c) →
@@ -162,38 +170,39 @@ finds_it_other h shown shown' c blocks load whole stands marked header says held
       found_other v,
       refl,
       λ shows. record {
-        step = other_step h v load (reply.Loading 2) (loading (with_found_other load v) 2) held (ap (λ (o : Option Reply). unwrap_or o (reply.Loading 2)) says) refl;
+        step = other_step h v load (reply.Loading 2) (loading (with_found_other load v) 2) held marked (ap (λ (o : Option Reply). unwrap_or o (reply.Loading 2)) says) refl;
         stands = finds_other h shown shown' c blocks load whole stands held marked header shows;
         area = same_area h v;
         unwritten = λ b not. block_same b _;
+        leaves = tt;
       },
     )
 
-finds_held : (h : Hardware) (shown shown' : Shown) (c : disk.Content) (blocks : ℕ) (load : Load) (held : Held) → load.held ≡ held → IsHeld h c held → IsHardware h → IsIdent h.ident → disk.IsContent blocks c → Stands h shown c (loading load 1) →
+finds_held : (h : Hardware) (shown shown' : Shown) (c : disk.Content) (blocks : ℕ) (load : Load) (held : Held) → load.held ≡ held → IsHeld h c held → IsHardware h → disk.IsContent blocks c → Stands h shown c (loading load 1) →
     Marked h (disk.as_it_reads c) → header_cause h (disk.as_it_reads c) ≡ None → shown'.header ≡ header_of h (disk.as_it_reads c) → Finds h shown' c load
-finds_held h shown shown' c blocks load nothing is there hw ident whole stands marked says header = absurd (there (disk.as_it_reads c) (IsImage-as_it_reads blocks c whole) marked)
-finds_held h shown shown' c blocks load (sure (own i)) is there hw ident whole stands marked says header =
+finds_held h shown shown' c blocks load nothing is there hw whole stands marked says header = absurd (there (disk.as_it_reads c) (IsImage-as_it_reads blocks c whole) marked)
+finds_held h shown shown' c blocks load (sure (own i)) is there hw whole stands marked says header =
     let v = disk.as_it_reads c in
     let it = there v (IsImage-as_it_reads blocks c whole) in
-    finds_it_own h shown shown' c blocks load i hw ident whole stands marked header (inl is) it.0 it.1
+    finds_it_own h shown shown' c blocks load i hw whole stands marked header (inl is) it.0 it.1
     (find_goes h v load (sure (own i)) (reply.Loading 2) (loading (with_found load i) 2) is (0, omega arith, refl))
-finds_held h shown shown' c blocks load (sure other) is there hw ident whole stands marked says header = finds_it_other h shown shown' c blocks load whole stands marked header says (inl is)
-finds_held h shown shown' c blocks load (maybe (own i)) is there hw ident whole stands marked says header =
+finds_held h shown shown' c blocks load (sure other) is there hw whole stands marked says header = finds_it_other h shown shown' c blocks load whole stands marked header says (inl is)
+finds_held h shown shown' c blocks load (maybe (own i)) is there hw whole stands marked says header =
     let v = disk.as_it_reads c in
     let it = there v (IsImage-as_it_reads blocks c whole) in
-    finds_it_own h shown shown' c blocks load i hw ident whole stands marked header (inr is) (elim it.0 [ inl never ↦ absurd (never marked) | inr holds ↦ holds ]) it.1
+    finds_it_own h shown shown' c blocks load i hw whole stands marked header (inr is) (elim it.0 [ inl never ↦ absurd (never marked) | inr holds ↦ holds ]) it.1
     (find_goes h v load (maybe (own i)) (reply.Loading 2) (loading (with_found load i) 2) is (0, omega arith, refl))
-finds_held h shown shown' c blocks load (maybe other) is there hw ident whole stands marked says header = finds_it_other h shown shown' c blocks load whole stands marked header says (inr is)
+finds_held h shown shown' c blocks load (maybe other) is there hw whole stands marked says header = finds_it_other h shown shown' c blocks load whole stands marked header says (inr is)
 
-pub find_row : (h : Hardware) (shown shown' : Shown) (c : disk.Content) (blocks : ℕ) (load : Load) → IsHardware h → IsIdent h.ident → disk.IsContent blocks c → Stands h shown c (loading load 1) →
+pub find_row : (h : Hardware) (shown shown' : Shown) (c : disk.Content) (blocks : ℕ) (load : Load) → IsHardware h → disk.IsContent blocks c → Stands h shown c (loading load 1) →
     header_cause h (disk.as_it_reads c) ≡ None → shown'.header ≡ header_of h (disk.as_it_reads c) → Finds h shown' c load
-find_row h shown shown' c blocks load hw ident whole stands says header =
-    finds_held h shown shown' c blocks load load.held refl stands.parts.0.0 hw ident whole stands (a_mark h (disk.as_it_reads c) None says (λ e. none-some reply.NoImage e)) says header
+find_row h shown shown' c blocks load hw whole stands says header =
+    finds_held h shown shown' c blocks load load.held refl stands.parts.0.0 hw whole stands (a_mark h (disk.as_it_reads c) None says (λ e. none-some reply.NoImage e)) says header
 
 -- A step that goes on.
 
-own_disk : (h : Hardware) (v : disk.Image) (i : Image) → IsHardware h → Holds h v i × IsOwn h v i × IsSayable i → IsOwnDisk h v i
-own_disk h v i hw is = record { hardware = hw; holds = is.0; own = is.1; sayable = is.2 }
+own_disk : (h : Hardware) (v : disk.Image) (i : Image) → IsHardware h → Holds h v i × IsOwn h v i → IsOwnDisk h v i
+own_disk h v i hw is = record { hardware = hw; holds = is.0; own = is.1; sayable = own_sayable h v i hw is.1 }
 
 own_loading : (h : Hardware) (v : disk.Image) (load : Load) (i : Image) (k : ℕ) → own_reply h load i k ≡ reply.Loading (k + 1) → own_step h load i k ≡ (reply.Loading (k + 1), loading load (k + 1))
 own_loading h v load i k answers = elim (own_outcome h load i k) [
@@ -208,7 +217,7 @@ loading_step : (h : Hardware) (w v : disk.Image) (load : Load) (found : Found) (
     reply_at h load.dump v load.loader load.check k ≡ reply.Loading (k + 1) → Step h w (loading (with_finding load found) k) (event.Step actor.Core) (reply.Loading (k + 1)) (loading (with_finding load found) (k + 1))
 loading_step h w v load not_yet k hw is gone late within says = absurd is
 loading_step h w v load (found_own i) k hw is gone late within says =
-    own_goes h w load i k (reply.Loading (k + 1)) (loading (with_found load i) (k + 1)) late
+    own_goes h w load i k (reply.Loading (k + 1)) (loading (with_found load i) (k + 1)) (own_within h v i k (own_disk h v i hw is) within) late
     (own_loading h v (with_found load i) i k (own_answers h v i (with_found load i) k (reply.Loading (k + 1)) (own_disk h v i hw is) gone (omega arith) within says))
 loading_step h w v load (found_other u) k hw is gone late within says =
     subst (λ (x : disk.Image). Step h w (loading (with_found_other load x) k) (event.Step actor.Core) (reply.Loading (k + 1)) (loading (with_found_other load x) (k + 1))) is
@@ -240,6 +249,7 @@ take_back_row h shown shown' c c' blocks load v hw whole after stands is gone wr
   stands = back_stands h shown shown' c c' blocks load v load.found hw whole after stands is writes shows;
   area = back_area h shown c c' blocks load v whole stands is (inl writes);
   unwritten = λ b not. unwritten_header h [] b c c' writes.others not;
+  leaves = tt;
 }
 
 back_fails : (h : Hardware) (shown shown' : Shown) (c c' : disk.Content) (blocks : ℕ) (load : Load) (v : disk.Image) (found : Found) → IsHardware h → disk.IsContent blocks c → disk.IsContent blocks c' → Stands h shown c (loading (with_finding load found) 2) →
@@ -251,10 +261,11 @@ back_fails h shown shown' c c' blocks load v (found_other u) hw whole after stan
 pub take_back_fault_row : (h : Hardware) (shown shown' : Shown) (c c' : disk.Content) (blocks : ℕ) (load : Load) (v : disk.Image) → IsHardware h → disk.IsContent blocks c → disk.IsContent blocks c' → Stands h shown c (loading load 2) →
     IsFoundIn h load v → disk.FailsToWrite (block_of_slot h 0) (taken_back shown.header) c c' → ShowsRest shown' → Goes h shown' (reply.WriteFault Unsure) c c' (loading load 2) (off (perhaps (held_while_loading load 2)) None)
 take_back_fault_row h shown shown' c c' blocks load v hw whole after stands is fails rest = record {
-  step = fault_step h (disk.as_it_reads c) load 2 (reply.WriteFault Unsure) (off (perhaps (held_while_loading load 2)) None) refl;
+  step = fault_step h (disk.as_it_reads c) load 2 (reply.WriteFault Unsure) (off (perhaps (held_while_loading load 2)) None) refl refl;
   stands = back_fails h shown shown' c c' blocks load v load.found hw whole after stands is fails rest;
   area = back_area h shown c c' blocks load v whole stands is (inr fails);
   unwritten = λ b not. unwritten_header h [] b c c' fails.others not;
+  leaves = tt;
 }
 
 -- The sync behind it.
@@ -266,6 +277,7 @@ back_sync_row h shown shown' c c' blocks load v hw whole stands is gone syncs no
   stands = unmarked_synced h shown shown' c c' blocks load whole stands syncs shows;
   area = kept_by_sync h c c' syncs;
   unwritten = λ b not. block_synced blocks b c c' whole syncs;
+  leaves = tt;
 }
 
 -- an own image is of this hardware, and has a chain
@@ -289,14 +301,16 @@ back_sync_stop_row h shown shown' c c' blocks load v r hw whole stands is gone s
       };
       area = kept_by_sync h c c' syncs;
       unwritten = λ b not. block_synced blocks b c c' whole syncs;
+      leaves = leaves_loading h r load 3 c';
     }
 
 pub back_sync_fault_row : (h : Hardware) (shown shown' : Shown) (c : disk.Content) (load : Load) → Stands h shown c (loading load 3) → ShowsRest shown' → Goes h shown' (reply.SyncFault Unsure) c c (loading load 3) (off (perhaps (held_while_loading load 2)) None)
 back_sync_fault_row h shown shown' c load stands rest = record {
-  step = fault_step h (disk.as_it_reads c) load 3 (reply.SyncFault Unsure) (off (perhaps (held_while_loading load 2)) None) refl;
+  step = fault_step h (disk.as_it_reads c) load 3 (reply.SyncFault Unsure) (off (perhaps (held_while_loading load 2)) None) refl refl;
   stands = record { activity = rest.0; parts = (rest.1, stands.parts.0) };
   area = same_area h (disk.as_it_reads c);
   unwritten = λ b not. block_same b _;
+  leaves = tt;
 }
 
 -- The reads of maps and pages.
@@ -310,6 +324,7 @@ read_row h shown shown' c load v k reads says shows =
       stands = page_read h shown shown' c load k late reads.stands shows;
       area = same_area h (disk.as_it_reads c);
       unwritten = λ b not. block_same b _;
+      leaves = tt;
     }
 
 own_stops : (h : Hardware) (load : Load) (i : Image) (k : ℕ) (r : Reply) → own_reply h load i k ≡ r → IsStop r → own_step h load i k ≡ (r, off nothing None)
@@ -325,7 +340,7 @@ stop_step : (h : Hardware) (w v : disk.Image) (load : Load) (found : Found) (k :
     reply_at h load.dump v load.loader load.check k ≡ r → IsStop r → Step h w (loading (with_finding load found) k) (event.Step actor.Core) r (off nothing None)
 stop_step h w v load not_yet k r hw is gone late within says stop = absurd is
 stop_step h w v load (found_own i) k r hw is gone late within says stop =
-    own_goes h w load i k r (off nothing None) (omega arith)
+    own_goes h w load i k r (off nothing None) (own_within h v i k (own_disk h v i hw is) within) (omega arith)
     (own_stops h (with_found load i) i k r (own_answers h v i (with_found load i) k r (own_disk h v i hw is) gone (omega arith) within says) stop)
 stop_step h w v load (found_other u) k r hw is gone late within says stop =
     subst (λ (x : disk.Image). Step h w (loading (with_found_other load x) k) (event.Step actor.Core) r (off nothing None)) is
@@ -339,14 +354,24 @@ read_stop_row h shown shown' c load v k r reads says stop rest = record {
   stands = load_stops h shown shown' c load k reads.late reads.stands rest.0 rest.1;
   area = same_area h (disk.as_it_reads c);
   unwritten = λ b not. block_same b _;
+  leaves = leaves_loading h r load k c;
 }
 
-pub read_fault_row : (h : Hardware) (shown shown' : Shown) (c : disk.Content) (load : Load) (k : ℕ) → 4 ≤ k → Stands h shown c (loading load k) → ShowsRest shown' → Goes h shown' (reply.ReadFault Gone) c c (loading load k) (off nothing None)
-read_fault_row h shown shown' c load k late stands rest = record {
-  step = fault_step h (disk.as_it_reads c) load k (reply.ReadFault Gone) (off nothing None) (late_fault load k late);
-  stands = load_stops h shown shown' c load k late stands rest.0 rest.1;
+-- where it reads there is a step
+reading_there : (h : Hardware) (load : Load) (v : disk.Image) (found : Found) (k : ℕ) → IsHardware h → IsFoundOn h v found → HaveGoneOn h load v k → k < 4 + place_count (info_in h v).pages → IsThere h load found k
+reading_there h load v not_yet k hw is gone within = absurd is
+reading_there h load v (found_own i) k hw is gone within = there_own h load i k (own_within h v i k (own_disk h v i hw is) within)
+reading_there h load v (found_other u) k hw is gone within =
+    subst (λ (x : disk.Image). IsThere h load (found_other x) k) is
+    (there_other h load v k (reply_at h load.dump v load.loader load.check k) (traced_at h load v k (reply_at h load.dump v load.loader load.check k) within gone refl))
+
+pub read_fault_row : (h : Hardware) (shown shown' : Shown) (c : disk.Content) (load : Load) (v : disk.Image) (k : ℕ) → IsReading h shown c load v k → ShowsRest shown' → Goes h shown' (reply.ReadFault Gone) c c (loading load k) (off nothing None)
+read_fault_row h shown shown' c load v k reads rest = record {
+  step = fault_step h (disk.as_it_reads c) load k (reply.ReadFault Gone) (off nothing None) (reading_there h load v load.found k reads.hardware reads.found reads.gone_on reads.within) (late_fault load k reads.late);
+  stands = load_stops h shown shown' c load k reads.late reads.stands rest.0 rest.1;
   area = same_area h (disk.as_it_reads c);
   unwritten = λ b not. block_same b _;
+  leaves = tt;
 }
 
 -- The end.
@@ -386,11 +411,12 @@ own_ends h shown shown' c blocks load ranges v i k n whole reads scripted says a
     let end = own_end h (with_found load i) i k n (own_answers h v i (with_found load i) k (reply.Resumed n) disk_is reads.gone_on (omega arith) reads.within says) in (
       i.slots,
       record {
-        step = own_goes h (disk.as_it_reads c) load i k (reply.Resumed n) (on (running_with h load v i.slots)) (omega arith) (end ∙ ap (λ (b : State). (reply.Resumed n, b)) state);
+        step = own_goes h (disk.as_it_reads c) load i k (reply.Resumed n) (on (running_with h load v i.slots)) (own_within h v i k disk_is reads.within) (omega arith) (end ∙ ap (λ (b : State). (reply.Resumed n, b)) state);
         stands = subst (λ (x : Memory). Stands h shown' c (on (running_of x i.slots))) (sym same)
             (resumes h shown shown' c blocks load i k reads.hardware whole late reads.stands activity (shows_memory h shown' m (restored h load.dump load.loader i) no_slots i.slots same shows) names);
         area = same_area h (disk.as_it_reads c);
         unwritten = λ b not. block_same b _;
+        leaves = tt;
       },
     )
 
@@ -410,6 +436,7 @@ other_ends h shown shown' c blocks load ranges v k n whole reads scripted says a
         stands = resumes_other h shown shown' c blocks load v k reads.hardware whole late reads.stands marked fit activity (shows_memory h shown' m m no_slots slots refl shows) names;
         area = same_area h (disk.as_it_reads c);
         unwritten = λ b not. block_same b _;
+        leaves = tt;
       },
     )
 
@@ -431,7 +458,7 @@ off_step : (h : Hardware) (w v : disk.Image) (load : Load) (found : Found) (k n 
 off_step h w v load not_yet k n hw is gone late within from says = absurd is
 off_step h w v load (found_own i) k n hw is gone late within from says =
     let end = own_end h (with_found load i) i k n (own_answers h v i (with_found load i) k (reply.Resumed n) (own_disk h v i hw is) gone (omega arith) within says) in
-    own_goes h w load i k (reply.Resumed n) (off nothing None) late (end ∙ ap (λ (l : Loader). (reply.Resumed n, resumed (restored h load.dump load.loader i) i.slots l)) from)
+    own_goes h w load i k (reply.Resumed n) (off nothing None) (own_within h v i k (own_disk h v i hw is) within) late (end ∙ ap (λ (l : Loader). (reply.Resumed n, resumed (restored h load.dump load.loader i) i.slots l)) from)
 off_step h w v load (found_other u) k n hw is gone late within from says =
     let m = restored_in h load.dump v load.loader in
     subst (λ (x : disk.Image). Step h w (loading (with_found_other load x) k) (event.Step actor.Core) (reply.Resumed n) (off nothing None)) is
@@ -446,6 +473,7 @@ read_resumed_off_row h shown shown' c load v k n reads from says rest =
       stands = load_stops h shown shown' c load k late reads.stands rest.0 rest.1;
       area = same_area h (disk.as_it_reads c);
       unwritten = λ b not. block_same b _;
+      leaves = tt;
     }
 
 -- What the rows ask for.

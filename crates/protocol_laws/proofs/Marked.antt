@@ -3,16 +3,17 @@ use Rattle.std.proofs.Common.{◌≡◌, ℕ, ◌+◌, ◌⊎◌, inl, inr, Bool
 use Rattle.std.proofs.lemmas.List.Elements.{All-take}
 use Rattle.definitions.specs.Bytes.{AgreeBut}
 use Rattle.definitions.specs.Disk as disk
-use Rattle.definitions.specs.SwapHeader.{IsMarked, taken_back, image_of, flags_of, hw_sig_of}
+use Rattle.definitions.specs.SwapHeader.{IsMarked, taken_back, flags_of, hw_sig_of}
 use Rattle.definitions.proofs.DiskLaws.{IsImage-as_it_reads}
 use Rattle.sig_header.specs.AreaKind.{area_kind}
 use Rattle.sig_header.specs.declared.area.AreaKind.{AreaKind}
 use Rattle.plain_machine.specs.Machine.{Hardware, block_of_slot, unused_slots}
 use Rattle.plain_machine.specs.Chain.{header_of, blocks_of, Marked, Holds}
 use Rattle.plain_machine.specs.Image.{Image, SlotPages, image_of_memory, stream_of, hibernate_steps}
-use Rattle.plain_machine.specs.Laid.{laid_block}
 use Rattle.plain_machine.specs.Shows.{Shown, hibernates, undoes, ShowsRunning}
-use Rattle.plain_machine.specs.Stands.{Stands, StandsBehind, HasLaid, IsHeld, IsOwn, FitsArea, AreTaskSlots, AgreeOnArea, KeepsMark, Reads, laid_writes}
+use Rattle.plain_machine.specs.Stands.{Stands, StandsBehind, HasLaid, IsHeld, IsOwn, FitsArea, AgreeOnArea, KeepsMark, Reads, laid_writes, first_map_block}
+use Rattle.plain_machine.specs.Mark.{HasMark}
+use Rattle.plain_machine.proofs.BadSlots.{fits_area, has_area}
 use Rattle.plain_machine.specs.State.{hibernating, undoing, Running, maybe, own}
 use Rattle.plain_machine.specs.UsableArea.{area_block, area_fault, bad_set_fault, kind_or_fit_fault}
 use Rattle.plain_machine.specs.declared.reply.UndoCall.TheVariants as undo
@@ -24,13 +25,13 @@ use Rattle.protocol_laws.specs.Steps.{IsOver, ShowsCopies, marked_header}
 use Rattle.protocol_laws.proofs.Same.{reads_kept}
 use Rattle.protocol_laws.proofs.Places.{task_not_header}
 use Rattle.protocol_laws.proofs.Areas.{agree_on_area, area_kind_same, sig_same}
-use Rattle.protocol_laws.proofs.Back.{ReadsSlots, slots_read, held_behind, unheld}
-use Rattle.protocol_laws.proofs.Marking.{IsReady, HasMark, is_kept, the_mark, mark_torn, marked_holds, marked_reads, header_on_disk, image_blocks, header_of_marked, area_block-unmarked, area_block-marked}
+use Rattle.protocol_laws.proofs.Back.{own_task_slots, ReadsSlots, slots_read, held_behind, unheld}
+use Rattle.protocol_laws.proofs.Marking.{IsReady, HasPage, is_kept, the_mark, mark_torn, marked_holds, marked_reads, header_on_disk, image_blocks, header_of_marked, area_block-unmarked, area_block-marked}
 
 -- Each image is the one of before, or has the mark.
 pub data Torn (h : Hardware) (c : disk.Content) (page : List ℕ) (v : disk.Image) : Type 0 where
   as_before : disk.IsImage c v → Torn h c page v
-  with_mark : HasMark h c page v → Torn h c page v
+  with_mark : HasPage h c page v → Torn h c page v
 
 pub record IsTried (h : Hardware) (shown : Shown) (c c' : disk.Content) (blocks : ℕ) (suspends : Bool) (i : Image) (a : Running) (k : ℕ) : Type 0 where
   pub ready : IsReady h shown c blocks suspends i a k
@@ -98,7 +99,7 @@ is_own h shown c suspends i a k v stands area signature =
         a.memory,
         record {
           fits = stands.parts.0.shows.fits;
-          task_slots = subst (AreTaskSlots h a.memory) (sym slots) stands.parts.0.task_slots;
+          task_slots = own_task_slots h a i stands.parts.1 stands.parts.0.flights stands.parts.0.task_slots;
           fits_area = area;
           image = subst (λ (u : SlotPages). i ≡ image_of_memory h a.memory u i.format) (sym slots) stands.parts.1.image;
         },
@@ -114,7 +115,7 @@ area_by_kind h v w blocks kind = ap₂ (λ (n : ℕ) (x : AreaKind). kind_or_fit
 area_torn : (h : Hardware) (shown : Shown) (c c' : disk.Content) (blocks : ℕ) (suspends : Bool) (i : Image) (a : Running) (k : ℕ) (v : disk.Image) → IsTried h shown c c' blocks suspends i a k → disk.IsImage c' v → FitsArea h v a.memory
 area_torn h shown c c' blocks suspends i a k v is in' =
     let stands = is.ready.stands in
-    let usable = stands.parts.1.usable in
+    let usable = fits_area h c a stands.parts.0.area stands.parts.1.usable in
     let w = disk.as_it_reads c in
     let says = each_says h shown c c' blocks suspends i a k v is in' in
     let kept = is_kept h shown c blocks suspends i a k is.ready in
@@ -123,8 +124,8 @@ area_torn h shown c c' blocks suspends i a k v is in' =
     let n = image_blocks blocks c w is.ready.over.content (IsImage-as_it_reads blocks c is.ready.over.content) in
     let m = image_blocks blocks c' v is.after in' in
     record {
-      area = area_by_kind h v w (m ∙ sym n) kind ∙ stands.parts.0.area.area usable;
-      bad_slots = ap (bad_set_fault h a.memory) kind ∙ stands.parts.0.area.bad_slots usable;
+      area = area_by_kind h v w (m ∙ sym n) kind ∙ usable.area;
+      bad_slots = ap (bad_set_fault h a.memory) kind ∙ usable.bad_slots;
     }
 
 held_torn : (h : Hardware) (shown : Shown) (c c' : disk.Content) (blocks : ℕ) (suspends : Bool) (i : Image) (a : Running) (k : ℕ) (v : disk.Image) → IsTried h shown c c' blocks suspends i a k → FitsArea h v a.memory → Torn h c (marked_header h a i shown.header) v → ((Marked h v → ⊥) ⊎ Holds h v i) × IsOwn h v i
@@ -146,7 +147,7 @@ held_torn h shown c c' blocks suspends i a k v is area (with_mark has) =
 tried_slots : (h : Hardware) (shown : Shown) (c c' : disk.Content) (blocks : ℕ) (suspends : Bool) (i : Image) (a : Running) (k : ℕ) → IsTried h shown c c' blocks suspends i a k → ReadsSlots h c c' a.slots
 tried_slots h shown c c' blocks suspends i a k is s old e =
     let behind = is.ready.stands.parts.0 in
-    let task = behind.task_slots s old e in
+    let task = behind.task_slots.tasks s old e in
     reads_kept (block_of_slot h 0) (block_of_slot h s) (marked_header h a i shown.header) c c' is.tries (task_not_header h a.memory s is.ready.over.hardware behind.shows.fits task.0 task.2)
 
 -- what is behind the mark's write
@@ -161,15 +162,16 @@ behind_mark h shown shown' c c' blocks suspends i a k is shows =
       held = λ w in_w. held_torn h shown c c' blocks suspends i a k w is (area_torn h shown c c' blocks suspends i a k w is in_w) (torn h shown c c' blocks suspends i a k w is in_w);
       shows = shows;
       task_slots = behind.task_slots;
+      flights = behind.flights;
       slot_pages = slots_read h c c' a.slots (tried_slots h shown c c' blocks suspends i a k is) behind.slot_pages;
       header = record {
         unmarked = λ w in_w. (each_says h shown c c' blocks suspends i a k w is in_w).unmarked;
         one = λ w in_w. agree_both (area_block h w) (area_block h v') shown.header (each_says h shown c c' blocks suspends i a k w is in_w).agrees says.agrees;
       };
-      area = record { area = λ e. area.area; bad_slots = λ e. area.bad_slots };
+      area = has_area h c' a is.ready.stands.parts.1.usable area;
     }
 
-keeps_mark : (h : Hardware) (shown shown' : Shown) (c c' : disk.Content) (blocks : ℕ) (suspends : Bool) (i : Image) (a : Running) (k : ℕ) → IsTried h shown c c' blocks suspends i a k → shown'.header ≡ marked_header h a i shown.header → KeepsMark h shown' c'
+keeps_mark : (h : Hardware) (shown shown' : Shown) (c c' : disk.Content) (blocks : ℕ) (suspends : Bool) (i : Image) (a : Running) (k : ℕ) → IsTried h shown c c' blocks suspends i a k → shown'.header ≡ marked_header h a i shown.header → KeepsMark h shown' c' i a
 keeps_mark h shown shown' c c' blocks suspends i a k is header =
     let mark = the_mark h shown c blocks suspends i a k is.ready in
     let kept = is_kept h shown c blocks suspends i a k is.ready in
@@ -177,6 +179,7 @@ keeps_mark h shown shown' c c' blocks suspends i a k is header =
     let says = each_says h shown c c' blocks suspends i a k (disk.as_it_reads c') is (IsImage-as_it_reads blocks c' is.after) in
     record {
       marked = subst IsMarked (sym header) mark.is_marked;
+      mark = subst (HasMark h i.format (first_map_block h a)) (sym header) mark.own;
       unmarked = λ m. back_unmarked page shown.header mark.back kept.unmarked (subst (λ (p : List ℕ). IsMarked (taken_back p)) header m);
       area = subst (λ (p : List ℕ). AgreeOnArea (taken_back p) (area_block h (disk.as_it_reads c'))) (sym header)
           (agree_both (taken_back page) (area_block h (disk.as_it_reads c')) shown.header (agree_on_area (taken_back page) shown.header mark.back) says.agrees);
@@ -193,17 +196,17 @@ slots_torn : (h : Hardware) (shown : Shown) (c c' : disk.Content) (blocks : ℕ)
 slots_torn h shown c c' blocks suspends i a k v s page is e (as_before was) = let last = is.ready.last in (is.ready.stands.parts.3.durable (omega arith)).slots s page e v was
 slots_torn h shown c c' blocks suspends i a k v s page is e (with_mark has) = (marked_holds h shown c blocks suspends i a k v is.ready has).slots s page e
 
-chain_torn : (h : Hardware) (shown : Shown) (c c' : disk.Content) (blocks : ℕ) (suspends : Bool) (i : Image) (a : Running) (k : ℕ) (v : disk.Image) → IsTried h shown c c' blocks suspends i a k → Torn h c (marked_header h a i shown.header) v → Marked h v → image_of (header_of h v) ≡ laid_block h.extents (unused_slots h a.memory) 0
-chain_torn h shown c c' blocks suspends i a k v is (as_before was) marked = let last = is.ready.last in absurd (unheld h shown c suspends i a k (omega arith) is.ready.stands v was marked)
-chain_torn h shown c c' blocks suspends i a k v is (with_mark has) marked =
+says_torn : (h : Hardware) (shown : Shown) (c c' : disk.Content) (blocks : ℕ) (suspends : Bool) (i : Image) (a : Running) (k : ℕ) (v : disk.Image) → IsTried h shown c c' blocks suspends i a k → Torn h c (marked_header h a i shown.header) v → Marked h v → HasMark h i.format (first_map_block h a) (header_of h v)
+says_torn h shown c c' blocks suspends i a k v is (as_before was) marked = let last = is.ready.last in absurd (unheld h shown c suspends i a k (omega arith) is.ready.stands v was marked)
+says_torn h shown c c' blocks suspends i a k v is (with_mark has) marked =
     let lt = header_on_disk h shown c blocks suspends i a k is.ready.over is.ready.stands in
-    ap image_of (header_of_marked h c blocks (marked_header h a i shown.header) v is.ready.over.content lt has) ∙ (the_mark h shown c blocks suspends i a k is.ready).image
+    subst (HasMark h i.format (first_map_block h a)) (sym (header_of_marked h c blocks (marked_header h a i shown.header) v is.ready.over.content lt has)) (the_mark h shown c blocks suspends i a k is.ready).own
 
 has_laid : (h : Hardware) (shown : Shown) (c c' : disk.Content) (blocks : ℕ) (suspends : Bool) (i : Image) (a : Running) (k : ℕ) → IsTried h shown c c' blocks suspends i a k → HasLaid h c' i a
 has_laid h shown c c' blocks suspends i a k is = record {
   blocks = λ v in'. written_torn h shown c c' blocks suspends i a k v is (torn h shown c c' blocks suspends i a k v is in');
   slots = λ s page e v in'. slots_torn h shown c c' blocks suspends i a k v s page is e (torn h shown c c' blocks suspends i a k v is in');
-  chain = λ v in' marked. chain_torn h shown c c' blocks suspends i a k v is (torn h shown c c' blocks suspends i a k v is in') marked;
+  mark = λ v in' marked. says_torn h shown c c' blocks suspends i a k v is (torn h shown c c' blocks suspends i a k v is in') marked;
 }
 
 -- a mark that fails begins an undo
@@ -235,7 +238,7 @@ marks_on h shown shown' c c' blocks suspends i a k over after stands last writes
     let lt = header_on_disk h shown c blocks suspends i a k over stands in
     let size = over.content.size in
     let was = earlier_image blocks (block_of_slot h 0) page c c' v' over.content (inl writes) here' in
-    let has : HasMark h c page v' = record { here = block-written (block_of_slot h 0) page c c' mark.whole (omega arith) writes; from = was.0; was = was.1; same = was.2 } in
+    let has : HasPage h c page v' = record { here = block-written (block_of_slot h 0) page c c' mark.whole (omega arith) writes; from = was.0; was = was.1; same = was.2 } in
     let behind = behind_mark h shown shown' c c' blocks suspends i a k is shows.shows in
     record {
       activity = activity;
@@ -244,6 +247,7 @@ marks_on h shown shown' c c' blocks suspends i a k over after stands last writes
           held = subst (IsHeld h c') (sym (held_behind suspends i a (k + 1) (λ lt. omega arith))) behind.held;
           shows = behind.shows;
           task_slots = behind.task_slots;
+          flights = behind.flights;
           slot_pages = behind.slot_pages;
           header = behind.header;
           area = behind.area;

@@ -1,7 +1,7 @@
 -- The write of the mark.
 use Rattle.std.proofs.Common.{◌≡◌, ◌≢◌, ◌↔◌, ℕ, ◌+◌, ◌*◌, ◌<◌, ◌≤◌, ◌^◌, ◌⊎◌, inl, inr, Bool, true, false, cond, eqb, ltb, bit_and, bit_or, List, [], length, get_or, take, drop, Some, All, refl, sym, ap, ap₂, ◌∙◌, subst, arith, nat_eq}
 use Rattle.std.specs.Cmp.Lexicographic.{pointwise, same_text, other_text}
-use Rattle.std.proofs.lemmas.Bool.{cases_Bool, cond-true, cond-false, lt-ltb, false≢true}
+use Rattle.std.proofs.lemmas.Bool.{cases_Bool, eqb-true, false_from_ne_true, cond-true, cond-false, lt-ltb, false≢true}
 use Rattle.std.proofs.lemmas.List.{get_or_default, get_or-take, get_or-drop, length-take-le, length-drop}
 use Rattle.std.proofs.lemmas.List.Elements.{All-take}
 use Rattle.page_core.specs.declared.format.Format.{Format}
@@ -16,9 +16,11 @@ use Rattle.sig_header.specs.AreaKind.{area_kind}
 use Rattle.plain_machine.specs.Machine.{Hardware, block_of_slot, slot_entry, unused_slots}
 use Rattle.plain_machine.specs.Chain.{header_of, blocks_of, Holds, chain, map_block, entry_block}
 use Rattle.plain_machine.specs.Image.{Image, stream_of, maps_of, hibernate_steps}
-use Rattle.plain_machine.specs.Laid.{laid_block, laid_entries, map_place, page_place}
+use Rattle.plain_machine.specs.Laid.{laid_entries, map_place, page_place}
 use Rattle.plain_machine.specs.Shows.{Shown}
-use Rattle.plain_machine.specs.Stands.{Stands, Reads, laid_writes}
+use Rattle.plain_machine.specs.Mark.{mark_flags, HasMark}
+use Rattle.plain_machine.proofs.BadSlots.{fits_area}
+use Rattle.plain_machine.specs.Stands.{Stands, Reads, laid_writes, first_map_block}
 use Rattle.plain_machine.specs.State.{hibernating, Running}
 use Rattle.plain_machine.specs.UsableArea.{area_block}
 use Rattle.plain_machine.proofs.LaidChain.{ReadsLaid, AreUsable, IsLaid, map_block-laid, entry_block-laid, chain-laid, blocks-laid}
@@ -27,7 +29,7 @@ use Rattle.image_laws.proofs.ImageBlocks.{marked_within, long}
 use Rattle.image_laws.proofs.Images.{SameBut, torn_image}
 use Rattle.image_write.proofs.Done.{write_at}
 use Rattle.image_write.proofs.Heads.{length-concat}
-use Rattle.protocol_laws.specs.Steps.{IsOver, mark_flags, marked_header}
+use Rattle.protocol_laws.specs.Steps.{IsOver, marked_header}
 use Rattle.protocol_laws.proofs.Places.{IsUsable, usable_area, free_place, free_not_0, free_not_header, free_not_used, task_not_header}
 use Rattle.protocol_laws.proofs.Laid.{count_of, length-stream_of, slot_of_write, done_of_take}
 use Rattle.protocol_laws.proofs.Areas.{last_of_swap}
@@ -80,7 +82,7 @@ image_blocks blocks c v whole is = blocks_now blocks c v whole is.size
 
 -- block(0) is one that the disk has
 is_usable : (h : Hardware) (shown : Shown) (c : disk.Content) (suspends : Bool) (i : Image) (a : Running) (k : ℕ) → Stands h shown c (hibernating suspends i a k) → IsUsable h (blocks_of (now c)) (area_block h (now c))
-is_usable h shown c suspends i a k stands = usable_area h (now c) (stands.parts.0.area.area stands.parts.1.usable)
+is_usable h shown c suspends i a k stands = usable_area h (now c) (fits_area h c a stands.parts.0.area stands.parts.1.usable).area
 
 pub header_on_disk : (h : Hardware) (shown : Shown) (c : disk.Content) (blocks : ℕ) (suspends : Bool) (i : Image) (a : Running) (k : ℕ) → IsOver h i blocks c → Stands h shown c (hibernating suspends i a k) → block_of_slot h 0 < blocks
 header_on_disk h shown c blocks suspends i a k over stands =
@@ -160,7 +162,7 @@ area_block-marked h v marked = area_of-marked (header_of h v) marked
 -- The marked page.
 
 abbrev first_block : Hardware → Running → ℕ
-first_block h a = laid_block h.extents (unused_slots h a.memory) 0
+first_block h a = first_map_block h a
 
 first_fits : (h : Hardware) (shown : Shown) (c : disk.Content) (blocks : ℕ) (suspends : Bool) (i : Image) (a : Running) (k : ℕ) → IsOver h i blocks c → Stands h shown c (hibernating suspends i a k) → first_block h a < 2 ^ 64
 first_fits h shown c blocks suspends i a k over stands =
@@ -174,6 +176,7 @@ first_fits h shown c blocks suspends i a k over stands =
 pub record IsMarkOf (h : Hardware) (a : Running) (i : Image) (header page : List ℕ) : Type 0 where
   pub whole : IsPage page
   pub is_marked : IsMarked page
+  pub own : HasMark h i.format (first_block h a) page
   pub image : image_of page ≡ first_block h a
   pub flags : AreFlags i.format (flags_of page)
   pub signature : (bit_and (flags_of page) 8 ≡ 0) ⊎ (hw_sig_of page ≡ h.hw_sig)
@@ -190,6 +193,11 @@ is_mark_of h a i header whole first hw =
     record {
       whole = length-marked header f m h.hw_sig whole;
       is_marked = marked-is_marked header f m h.hw_sig whole;
+      own = record {
+        first_map = image_of-marked header f m h.hw_sig whole first flags.fit;
+        flags = is;
+        signature = λ some. hw_sig_of-marked header f m h.hw_sig whole (false_from_ne_true (eqb h.hw_sig 0) (λ e. some (eqb-true h.hw_sig 0 e))) hw;
+      };
       image = image_of-marked header f m h.hw_sig whole first flags.fit;
       flags = subst (AreFlags i.format) (sym is) flags;
       signature = elim (cases_Bool (eqb h.hw_sig 0)) [
@@ -204,7 +212,7 @@ is_mark_of h a i header whole first hw =
 pub the_mark : (h : Hardware) (shown : Shown) (c : disk.Content) (blocks : ℕ) (suspends : Bool) (i : Image) (a : Running) (k : ℕ) → IsReady h shown c blocks suspends i a k → IsMarkOf h a i shown.header (marked_header h a i shown.header)
 the_mark h shown c blocks suspends i a k ready =
     let kept = is_kept h shown c blocks suspends i a k ready in
-    is_mark_of h a i shown.header kept.page (first_fits h shown c blocks suspends i a k ready.over ready.stands) ready.over.signature
+    is_mark_of h a i shown.header kept.page (first_fits h shown c blocks suspends i a k ready.over ready.stands) ready.over.hardware.signature
 
 -- An image after the mark's write, failed or not.
 
@@ -222,20 +230,20 @@ mark_torn h shown c c' blocks suspends i a k v ready tries is =
     (λ w in_w. subst (λ (page : List ℕ). AgreeBut 3584 4096 page (marked_header h a i shown.header)) (sym kept.block ∙ ap (λ (u : disk.Image). disk.block u (block_of_slot h 0)) (one (now c) w here in_w)) mark.within) is
 
 -- One with the marked page: what it has is the image.
-pub record HasMark (h : Hardware) (c : disk.Content) (page : List ℕ) (v : disk.Image) : Type 0 where
+pub record HasPage (h : Hardware) (c : disk.Content) (page : List ℕ) (v : disk.Image) : Type 0 where
   pub here : disk.block v (block_of_slot h 0) ≡ page
   pub from : disk.Image
   pub was : disk.IsImage c from
   pub same : SameBut (block_of_slot h 0) v from
 
-blocks_of_marked : (h : Hardware) (c : disk.Content) (blocks : ℕ) (page : List ℕ) (v : disk.Image) → disk.IsContent blocks c → HasMark h c page v → blocks_of v ≡ blocks
+blocks_of_marked : (h : Hardware) (c : disk.Content) (blocks : ℕ) (page : List ℕ) (v : disk.Image) → disk.IsContent blocks c → HasPage h c page v → blocks_of v ≡ blocks
 blocks_of_marked h c blocks page v whole has = let size = has.same.size in let is = has.was.size in blocks_now blocks c v whole (omega arith)
 
-pub header_of_marked : (h : Hardware) (c : disk.Content) (blocks : ℕ) (page : List ℕ) (v : disk.Image) → disk.IsContent blocks c → block_of_slot h 0 < blocks → HasMark h c page v → header_of h v ≡ page
+pub header_of_marked : (h : Hardware) (c : disk.Content) (blocks : ℕ) (page : List ℕ) (v : disk.Image) → disk.IsContent blocks c → block_of_slot h 0 < blocks → HasPage h c page v → header_of h v ≡ page
 header_of_marked h c blocks page v whole lt has = header_is h v (let n = blocks_of_marked h c blocks page v whole has in omega arith) ∙ has.here
 
 -- it reads as laid
-pub marked_reads : (h : Hardware) (shown : Shown) (c : disk.Content) (blocks : ℕ) (suspends : Bool) (i : Image) (a : Running) (k : ℕ) (page : List ℕ) (v : disk.Image) → IsReady h shown c blocks suspends i a k → HasMark h c page v → ReadsLaid h (unused_slots h a.memory) (stream_of i) v
+pub marked_reads : (h : Hardware) (shown : Shown) (c : disk.Content) (blocks : ℕ) (suspends : Bool) (i : Image) (a : Running) (k : ℕ) (page : List ℕ) (v : disk.Image) → IsReady h shown c blocks suspends i a k → HasPage h c page v → ReadsLaid h (unused_slots h a.memory) (stream_of i) v
 marked_reads h shown c blocks suspends i a k page v ready has j lt =
     let stands = ready.stands in
     let last = ready.last in
@@ -258,7 +266,7 @@ last_of_header h shown c blocks suspends i a k ready =
     let slots = usable.slots in
     omega arith
 
-marked_usable : (h : Hardware) (shown : Shown) (c : disk.Content) (blocks : ℕ) (suspends : Bool) (i : Image) (a : Running) (k : ℕ) (v : disk.Image) → IsReady h shown c blocks suspends i a k → HasMark h c (marked_header h a i shown.header) v → AreUsable h v (unused_slots h a.memory) (count_of i)
+marked_usable : (h : Hardware) (shown : Shown) (c : disk.Content) (blocks : ℕ) (suspends : Bool) (i : Image) (a : Running) (k : ℕ) (v : disk.Image) → IsReady h shown c blocks suspends i a k → HasPage h c (marked_header h a i shown.header) v → AreUsable h v (unused_slots h a.memory) (count_of i)
 marked_usable h shown c blocks suspends i a k v ready has =
     let stands = ready.stands in
     let whole = ready.over.content in
@@ -290,7 +298,7 @@ marked_usable h shown c blocks suspends i a k v ready has =
     }
 
 -- it holds the image
-pub marked_holds : (h : Hardware) (shown : Shown) (c : disk.Content) (blocks : ℕ) (suspends : Bool) (i : Image) (a : Running) (k : ℕ) (v : disk.Image) → IsReady h shown c blocks suspends i a k → HasMark h c (marked_header h a i shown.header) v → Holds h v i
+pub marked_holds : (h : Hardware) (shown : Shown) (c : disk.Content) (blocks : ℕ) (suspends : Bool) (i : Image) (a : Running) (k : ℕ) (v : disk.Image) → IsReady h shown c blocks suspends i a k → HasPage h c (marked_header h a i shown.header) v → Holds h v i
 marked_holds h shown c blocks suspends i a k v ready has =
     let stands = ready.stands in
     let whole = ready.over.content in
@@ -310,7 +318,7 @@ marked_holds h shown c blocks suspends i a k v ready has =
       usable = marked_usable h shown c blocks suspends i a k v ready has;
     } in
     let task : (s : ℕ) (page : List ℕ) → i.slots s ≡ Some page → (s < h.slots) × (1 ≤ slot_entry h a.memory s) × (slot_entry h a.memory s ≤ 64) =
-    λ s page e. stands.parts.0.task_slots s page (sym (ap (λ (x : Image). x.slots s) stands.parts.1.image) ∙ e) in
+    λ s page e. stands.parts.0.task_slots.tasks s page (sym (ap (λ (x : Image). x.slots s) stands.parts.1.image) ∙ e) in
     record {
       marked = subst IsMarked (sym header) mark.is_marked;
       uncompressed = subst (λ (p : List ℕ). bit_and (flags_of p) 2 ≢ 0) (sym header) mark.flags.uncompressed;

@@ -1,6 +1,6 @@
 -- The end of a resume of another's image.
-use Rattle.std.proofs.Common.{◌≡◌, ℕ, ◌/◌, ◌<◌, ◌≤◌, Bool, true, false, cond, ltb, leb, ◌&&◌, List, [], Option, Some, None, is_none, refl, sym, ap, ◌∙◌, subst, arith}
-use Rattle.std.proofs.lemmas.Bool.{false≢true, ltb-true, leb-true}
+use Rattle.std.proofs.Common.{◌≡◌, ℕ, ◌/◌, ◌<◌, ◌≤◌, Bool, true, false, cond, ltb, leb, ◌&&◌, List, [], Option, Some, None, IsSome, is_none, refl, sym, ap, ap₂, ◌∙◌, subst, arith}
+use Rattle.std.proofs.lemmas.Bool.{false≢true, cond-true, ltb-true, leb-true, lt-ltb, le-leb}
 use Rattle.std.proofs.lemmas.Option.{none-some, cond_some}
 use Rattle.definitions.specs.Disk as disk
 use Rattle.definitions.proofs.DiskLaws.{IsImage-as_it_reads}
@@ -8,7 +8,9 @@ use Rattle.sig_header.specs.AreaKind.{area_kind}
 use Rattle.plain_machine.specs.Machine.{Hardware, Memory, IsHardware, block_of_slot, slot_entry, tables_fault}
 use Rattle.plain_machine.specs.Chain.{blocks_of, Marked, or_else}
 use Rattle.plain_machine.specs.Shows.{Shown, runs, ShowsRunning}
-use Rattle.plain_machine.specs.Stands.{Stands, IsHeld, FitsArea, NamesOnly}
+use Rattle.plain_machine.specs.Stands.{Stands, IsHeld, IsTaskSlot, FitsArea, NamesOnly}
+use Rattle.plain_machine.specs.Step.{no_flights}
+use Rattle.plain_machine.proofs.BadSlots.{no_target, no_flights-owned, has_area}
 use Rattle.plain_machine.specs.State.{on, loading, Load}
 use Rattle.plain_machine.specs.Trace.{tables_cause, restored_in, slots_in}
 use Rattle.plain_machine.specs.UsableArea.{area_block, area_fault, bad_set_fault, dump_area_fault, first_fault}
@@ -65,6 +67,15 @@ has_page h v m s page e =
     let some = ltb-true 0 entry each.1 in
     ((ltb-true s h.slots each.0, omega arith, leb-true entry 64 each.2), is.1)
 
+-- and each task's slot has one
+is_paged : (h : Hardware) (v : disk.Image) (m : Memory) (s : ℕ) → IsTaskSlot h m s → IsSome (slots_in h v m s)
+is_paged h v m s is =
+    let entry = slot_entry h m s in
+    let test : (ltb s h.slots && ltb 0 entry && leb entry 64) ≡ true =
+    ap₂ (λ (a b : Bool). a && b) (ap₂ (λ (a b : Bool). a && b) (lt-ltb s h.slots is.0) (let some = is.1 in lt-ltb 0 entry (omega arith))) (le-leb entry 64 is.2) in
+    let page : Option (List ℕ) = Some (disk.block v (block_of_slot h s)) in
+    subst IsSome (sym (cond-true (ltb s h.slots && ltb 0 entry && leb entry 64) page None test)) refl
+
 pub resumes_other : (h : Hardware) (shown shown' : Shown) (c : disk.Content) (blocks : ℕ) (load : Load) (v : disk.Image) (k : ℕ) → IsHardware h → disk.IsContent blocks c → 4 ≤ k → Stands h shown c (loading (with_found_other load v) k) →
     Marked h v → tables_cause h v (restored_in h load.dump v load.loader) ≡ None →
     shown'.activity ≡ runs → ShowsRunning h shown' (other_running h load v) → NamesOnly h shown' [] → Stands h shown' c (on (other_running h load v))
@@ -84,13 +95,19 @@ resumes_other h shown shown' c blocks load v k hw whole le stands marked none ac
         shows,
         record {
           held = subst (IsHeld h c) (held_later (with_found_other load v) k le) stands.parts.0.0;
-          task_slots = λ s page e. (has_page h v m s page e).0;
+          task_slots = record {
+            usable = λ s page e. refl;
+            tasks = λ s page e. (has_page h v m s page e).0;
+            landed = λ s page e. no_target no_flights (λ t. refl) s;
+            paged = λ none s is not. is_paged h v m s is;
+          };
+          flights = no_flights-owned h (other_running h load v) (λ t. refl);
           slot_pages = λ s page e.
               let has = has_page h v m s page e in
               taken.others (block_of_slot h s) (usable.on_disk s has.0.0) (task_not_header h m s hw shows.fits has.0.0 has.0.2) ∙ has.1;
           names = names;
           header = stands.parts.0.1;
-          area = record { area = λ e. now.area; bad_slots = λ e. now.bad_slots };
+          area = has_area h c (other_running h load v) refl now;
         },
       );
     }

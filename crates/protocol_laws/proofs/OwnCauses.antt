@@ -33,7 +33,7 @@ use Rattle.plain_machine.specs.declared.event.IdentCheck.TheVariants.{Compare, S
 use Rattle.plain_machine.specs.declared.reply.Reply.{Reply}
 use Rattle.plain_machine.specs.declared.reply.Reply.TheVariants as reply
 use Rattle.image_laws.specs.Decoding.{IsSayable}
-use Rattle.image_laws.proofs.Decoding.{says_info, says_numbers, format_is}
+use Rattle.image_laws.proofs.Decoding.{says_info, says_numbers, format_is, memories_are_sayable}
 use Rattle.protocol_laws.proofs.Resumed.{table_saved}
 
 -- What is read from such a disk.
@@ -42,6 +42,9 @@ pub record IsOwnDisk (h : Hardware) (v : disk.Image) (i : Image) : Type 0 where
   pub holds : Holds h v i
   pub own : IsOwn h v i
   pub sayable : IsSayable i
+
+pub own_sayable : (h : Hardware) (v : disk.Image) (i : Image) → IsHardware h → IsOwn h v i → IsSayable i
+own_sayable h v i hw is = subst IsSayable (sym is.of_memory.1.image) (memories_are_sayable h is.of_memory.0 i.slots i.format hw)
 
 pub info_is : (h : Hardware) (v : disk.Image) (i : Image) → IsOwnDisk h v i → info_in h v ≡ info_of_image i
 info_is h v i is = says_info h v i is.holds is.sayable

@@ -11,7 +11,7 @@ use Rattle.plain_machine.specs.Image.{Image, SlotPages, n_of, d_of, hibernate_st
 use Rattle.plain_machine.specs.Loader.{has, restored}
 use Rattle.plain_machine.specs.Refusals.{refusal, start_refusal}
 use Rattle.plain_machine.specs.State.{State, off, on, booting, hibernating, undoing, settling, waking, loading, asleep, Running, Held, nothing, sure, maybe, perhaps, own, other, Flight, goes_out, comes_in, Load, Found, not_yet, found_own, found_other, saved_found, held_in, kept_in}
-use Rattle.plain_machine.specs.Step.{Step, Outcome, only, done_or, outcomes, accepted, refused_or, if_running, woken, requested, task_step, begun, booted, boot_outcomes, boot_step, fresh_memory, no_slots, no_flights, core_step, hibernated, hibernate_step, undo_step, settle_step, wake_step, resumed, find_step, loaded_step, load_step, load_fault, own_step, too_few, has_room, undone_fault, drop_memory, dropped_by}
+use Rattle.plain_machine.specs.Step.{Step, Outcome, only, done_or, outcomes, accepted, refused_or, if_running, woken, requested, task_step, begun, booted, boot_outcomes, boot_step, fresh_memory, no_slots, no_flights, core_step, hibernated, hibernate_step, undo_step, settle_step, wake_step, resumed, find_step, loaded_step, load_step, load_answers, has_place, load_fault, own_step, too_few, has_room, undone_fault, drop_memory, dropped_by}
 use Rattle.plain_machine.specs.UsableArea.{area_fault, area_block, bad_slots_in, kind_or_fit_fault}
 use Rattle.plain_machine.specs.declared.event.Actor.TheVariants as actor
 use Rattle.plain_machine.specs.declared.event.BootFrom.{BootFrom}
@@ -65,7 +65,7 @@ boots_same h v w dump (maybe x) same =
 
 boot_step_same : (h : Hardware) (v w : disk.Image) (from : BootFrom) (dump : Memory) (held : Held) (k : ℕ) → from ≡ Fresh → IsSameArea h v w → boot_step h w from dump held k ≡ boot_step h v from dump held k
 boot_step_same h v w Fresh dump held k fresh same =
-    ap (λ (booted : List Outcome). cond (eqb k 0) (done_or (reply.More 1 2) (booting Fresh dump held 1) (reply.SyncFault Same) (off held None)) (booted ++ only (reply.ReadFault Same) (off held None)))
+    ap (λ (booted : List Outcome). cond (eqb k 0) (done_or (reply.More 1 2) (booting Fresh dump held 1) (reply.SyncFault Same) (off held None)) (cond (eqb k 1) (booted ++ only (reply.ReadFault Same) (off held None)) []))
     (boots_same h v w dump held same)
 boot_step_same h v w Kept dump held k fresh same = absurd (cc)
 
@@ -78,7 +78,7 @@ find_same h v w load (maybe other) is_own = absurd is_own
 
 load_step_same : (h : Hardware) (v w : disk.Image) (load : Load) (k : ℕ) → IsOwnHeld load.held → load_step h w load k ≡ load_step h v load k
 load_step_same h v w load k is_own =
-    ap (λ (found : List Outcome). load_fault load k ∷ cond (eqb k 0) (only (reply.Loading 1) (loading load 1)) (cond (eqb k 1) found (loaded_step h load load.found k)))
+    ap (λ (found : List Outcome). cond (ltb k 4 || has_place h load load.found k) (load_fault load k ∷ cond (eqb k 0) (only (reply.Loading 1) (loading load 1)) (cond (eqb k 1) found (loaded_step h load load.found k))) [])
     (find_same h v w load load.held is_own)
 
 core_same : (h : Hardware) (v w : disk.Image) (a : State) → IsSameArea h v w → IsOfReplay a → core_step h w a ≡ core_step h v a
@@ -235,8 +235,8 @@ boots_stay h v dump (maybe other) is_own = absurd is_own
 boot_step_stays : (h : Hardware) (v : disk.Image) (from : BootFrom) (dump : Memory) (held : Held) (k : ℕ) → from ≡ Fresh → IsOwnHeld held → AllStay (boot_step h v from dump held k)
 boot_step_stays h v Fresh dump held k fresh is_own =
     all_of_either (eqb k 0) (done_or (reply.More 1 2) (booting Fresh dump held 1) (reply.SyncFault Same) (off held None))
-    (boot_outcomes h v Fresh dump held ++ only (reply.ReadFault Same) (off held None))
-    ((refl, is_own), ((is_own, refl), tt)) (boots_stay h v dump held is_own)
+    (cond (eqb k 1) (boot_outcomes h v Fresh dump held ++ only (reply.ReadFault Same) (off held None)) [])
+    ((refl, is_own), ((is_own, refl), tt)) (all_of_either (eqb k 1) (boot_outcomes h v Fresh dump held ++ only (reply.ReadFault Same) (off held None)) [] (boots_stay h v dump held is_own) tt)
 boot_step_stays h v Kept dump held k fresh is_own = absurd (cc)
 
 hibernated_stays : (suspends : Bool) (i : Image) (a : Running) → IsOwnHeld a.held → StaysIn (hibernated suspends i a)
@@ -253,16 +253,18 @@ hibernate_step_stays suspends i a k is_own =
     let marked = next ∷ (reply.Undo undo.Write 0, undoing i undo.Write a 0) ∷ [] in
     let ended = hibernated suspends i a ∷ (reply.Undo undo.Sync 0, undoing i undo.Sync a 0) ∷ [] in
     let both : IsOwnHeld a.held × (IsOwnHeld a.held × Unit {0}) = (is_own, (is_own, tt)) in
-    all_of_either (ltb (k + 1) (last - 3)) written (cond (eqb (k + 1) (last - 3)) synced (cond (eqb (k + 1) (last - 2)) read (cond (eqb (k + 1) (last - 1)) marked ended))) both
-    (all_of_either (eqb (k + 1) (last - 3)) synced (cond (eqb (k + 1) (last - 2)) read (cond (eqb (k + 1) (last - 1)) marked ended)) both
-    (all_of_either (eqb (k + 1) (last - 2)) read (cond (eqb (k + 1) (last - 1)) marked ended) both
-    (all_of_either (eqb (k + 1) (last - 1)) marked ended both (hibernated_stays suspends i a is_own, (is_own, tt)))))
+    let end = cond (eqb (k + 1) last) ended [] in
+    all_of_either (ltb (k + 1) (last - 3)) written (cond (eqb (k + 1) (last - 3)) synced (cond (eqb (k + 1) (last - 2)) read (cond (eqb (k + 1) (last - 1)) marked end))) both
+    (all_of_either (eqb (k + 1) (last - 3)) synced (cond (eqb (k + 1) (last - 2)) read (cond (eqb (k + 1) (last - 1)) marked end)) both
+    (all_of_either (eqb (k + 1) (last - 2)) read (cond (eqb (k + 1) (last - 1)) marked end) both
+    (all_of_either (eqb (k + 1) (last - 1)) marked end both
+    (all_of_either (eqb (k + 1) last) ended [] (hibernated_stays suspends i a is_own, (is_own, tt)) tt))))
 
 undo_step_stays : (i : Image) (call : UndoCall) (a : Running) (k : ℕ) → IsOwnHeld a.held → AllStay (undo_step i call a k)
 undo_step_stays i call a k is_own =
     let failed : Outcome = (undone_fault call Unsure, on (record a { held = maybe (own i) })) in
-    all_of_either (eqb k 0) ((reply.Undo call 1, undoing i call a 1) ∷ failed ∷ []) ((undone_fault call Gone, on (record a { held = nothing })) ∷ failed ∷ [])
-    (is_own, (tt, tt)) (tt, (tt, tt))
+    let ended = (undone_fault call Gone, on (record a { held = nothing })) ∷ failed ∷ [] in
+    all_of_either (eqb k 0) ((reply.Undo call 1, undoing i call a 1) ∷ failed ∷ []) (cond (eqb k 1) ended []) (is_own, (tt, tt)) (all_of_either (eqb k 1) ended [] (tt, (tt, tt)) tt)
 
 settle_step_stays : (a : Running) (k : ℕ) → IsOwnHeld a.held → AllStay (settle_step a k)
 settle_step_stays a k is_own =
@@ -271,8 +273,8 @@ settle_step_stays a k is_own =
     let read = done_or (reply.More 1 3) (settling a 1) (reply.ReadFault Same) (on a) in
     let written = done_or (reply.More 2 3) (settling a 2) (reply.WriteFault Unsure) uncertain in
     let synced = done_or reply.Settled (on (record a { held = nothing })) (reply.SyncFault Unsure) uncertain in
-    all_of_either (eqb k 0) read (cond (eqb k 1) written synced) (is_own, (is_own, tt))
-    (all_of_either (eqb k 1) written synced (is_own, (unsure, tt)) (tt, (unsure, tt)))
+    all_of_either (eqb k 0) read (cond (eqb k 1) written (cond (eqb k 2) synced [])) (is_own, (is_own, tt))
+    (all_of_either (eqb k 1) written (cond (eqb k 2) synced []) (is_own, (unsure, tt)) (all_of_either (eqb k 2) synced [] (tt, (unsure, tt)) tt))
 
 wake_step_stays : (i : Image) (held : Held) (a : Running) (k : ℕ) → IsOwnHeld held → IsOwnHeld a.held → AllStay (wake_step i held a k)
 wake_step_stays i held a k image_own is_own =
@@ -281,8 +283,8 @@ wake_step_stays i held a k image_own is_own =
     let read = done_or (reply.More 1 3) (waking i held a 1) (reply.ReadFault Same) (asleep i held a) in
     let written = done_or (reply.More 2 3) (waking i held a 2) (reply.WriteFault Unsure) uncertain in
     let synced = done_or reply.Woken (on (record a { held = nothing })) (reply.SyncFault Unsure) uncertain in
-    all_of_either (eqb k 0) read (cond (eqb k 1) written synced) ((image_own, is_own), ((image_own, is_own), tt))
-    (all_of_either (eqb k 1) written synced ((image_own, is_own), ((unsure, is_own), tt)) (tt, ((unsure, is_own), tt)))
+    all_of_either (eqb k 0) read (cond (eqb k 1) written (cond (eqb k 2) synced [])) ((image_own, is_own), ((image_own, is_own), tt))
+    (all_of_either (eqb k 1) written (cond (eqb k 2) synced []) ((image_own, is_own), ((unsure, is_own), tt)) (all_of_either (eqb k 2) synced [] (tt, ((unsure, is_own), tt)) tt))
 
 load_fault_stays : (load : Load) (k : ℕ) → IsOwnHeld load.held → IsOwnFound load.found → StaysIn (load_fault load k)
 load_fault_stays load k is_own found_is =
@@ -323,11 +325,12 @@ loaded_stays h load (found_own i) k is_own here found_is = (own_step_stays h loa
 loaded_stays h load (found_other v) k is_own here found_is = absurd is_own
 
 load_step_stays : (h : Hardware) (v : disk.Image) (load : Load) (k : ℕ) → IsOwnHeld load.held → IsOwnFound load.found → AllStay (load_step h v load k)
-load_step_stays h v load k is_own found_is = (
-  load_fault_stays load k is_own found_is,
-  all_of_either (eqb k 0) (only (reply.Loading 1) (loading load 1)) (cond (eqb k 1) (find_step h v load load.held) (loaded_step h load load.found k)) ((is_own, found_is), tt)
-      (all_of_either (eqb k 1) (find_step h v load load.held) (loaded_step h load load.found k) (find_stays h v load load.held is_own is_own) (loaded_stays h load load.found k found_is is_own found_is)),
-)
+load_step_stays h v load k is_own found_is =
+    all_of_either (ltb k 4 || has_place h load load.found k) (load_fault load k ∷ load_answers h v load k) [] (
+      load_fault_stays load k is_own found_is,
+      all_of_either (eqb k 0) (only (reply.Loading 1) (loading load 1)) (cond (eqb k 1) (find_step h v load load.held) (loaded_step h load load.found k)) ((is_own, found_is), tt)
+          (all_of_either (eqb k 1) (find_step h v load load.held) (loaded_step h load load.found k) (find_stays h v load load.held is_own is_own) (loaded_stays h load load.found k found_is is_own found_is)),
+    ) tt
 
 core_stays : (h : Hardware) (v : disk.Image) (a : State) → IsOfReplay a → AllStay (core_step h v a)
 core_stays h v (off held kept) of = tt

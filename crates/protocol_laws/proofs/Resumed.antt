@@ -16,9 +16,10 @@ use Rattle.plain_machine.specs.Loader.{restored}
 use Rattle.plain_machine.specs.Shows.{Shown, rests, runs, ShowsRunning}
 use Rattle.plain_machine.specs.Stands.{Stands, IsHeld, IsTakenBack, NamesOnly}
 use Rattle.plain_machine.specs.State.{off, on, loading, nothing, Load, held_while_loading}
+use Rattle.plain_machine.specs.Step.{no_flights}
 use Rattle.plain_machine.specs.UsableArea.{area_block}
 use Rattle.plain_machine.specs.declared.event.Loader.{Loader}
-use Rattle.plain_machine.proofs.BadSlots.{SameSlots, bad_set-same, task_slots-same}
+use Rattle.plain_machine.proofs.BadSlots.{SameSlots, bad_set-same, task_slots-same, no_flights-owned, has_area}
 use Rattle.plain_machine.proofs.Restoring.{restored-saveable}
 use Rattle.plain_machine.proofs.SameMemory.{entry-same, of_slot_table}
 use Rattle.protocol_laws.proofs.Places.{usable_area, task_not_header}
@@ -85,16 +86,18 @@ resumes h shown shown' c blocks load i k hw whole le stands activity shows names
         shows,
         record {
           held = subst (IsHeld h c) (held_later (with_found load i) k le) stands.parts.0.0;
-          task_slots = task_slots-same h m (restored h load.dump load.loader i) i.slots slots is.task_slots;
+          task_slots = task_slots-same h None m (restored h load.dump load.loader i) no_flights i.slots slots is.task_slots;
+          flights = no_flights-owned h (resumed_running h load i) (λ t. refl);
           slot_pages = λ s old e.
-              let task = is.task_slots s old e in
+              let task = is.task_slots.tasks s old e in
               taken.others (block_of_slot h s) (usable.on_disk s task.0) (task_not_header h m s hw is.fits task.0 task.2) ∙ holds.slots s old e;
           names = names;
           header = stands.parts.0.1;
-          area = record {
-            area = λ e. fits_area.area;
-            bad_slots = λ e. bad_set-same h m (restored h load.dump load.loader i) (area_kind (area_block h w)) slots ∙ fits_area.bad_slots;
-          };
+          area = has_area h c (resumed_running h load i) refl
+              (record {
+                area = fits_area.area;
+                bad_slots = bad_set-same h m (restored h load.dump load.loader i) (area_kind (area_block h w)) slots ∙ fits_area.bad_slots;
+              });
         },
       );
     }

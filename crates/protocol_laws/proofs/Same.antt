@@ -7,11 +7,11 @@ use Rattle.definitions.specs.Disk.{Content, Image, IsContent, IsImage, as_it_rea
 use Rattle.definitions.specs.SwapHeader.{IsMarked, sig_of, image_signature, taken_back}
 use Rattle.definitions.proofs.DiskLaws.{length-as_it_reads, block-other, IsImage-after_sync, IsImage-as_it_reads, as_it_reads-settled}
 use Rattle.sig_header.specs.AreaKind.{area_kind}
-use Rattle.plain_machine.specs.Machine.{Hardware, block_of_slot}
+use Rattle.plain_machine.specs.Machine.{Hardware, Memory, block_of_slot}
 use Rattle.plain_machine.specs.Chain.{header_of, blocks_of, Marked}
 use Rattle.plain_machine.specs.State.{Running, nothing}
 use Rattle.plain_machine.specs.Stands.{IsHeld, IsHeader, HasArea, AgreeOnArea}
-use Rattle.plain_machine.specs.UsableArea.{area_block, area_fault, bad_set_fault, kind_or_fit_fault}
+use Rattle.plain_machine.specs.UsableArea.{area_block, area_fault, bad_set_fault, dump_area_fault, first_fault, kind_or_fit_fault}
 use Rattle.image_laws.specs.ImageBlocks.{Tries}
 use Rattle.image_laws.proofs.ImageBlocks.{failed}
 use Rattle.image_laws.proofs.Images.{earlier_image}
@@ -31,6 +31,11 @@ pub same_area_fault : (h : Hardware) (v w : Image) → SameHeader h v w → area
 unfolding area_fault
 same_area_fault h v w same =
     ap₂ (λ (n : ℕ) (page : List ℕ). kind_or_fit_fault h n (area_kind page)) same.blocks (same_area_block h v w same)
+
+pub same_dump_area : (h : Hardware) (v w : Image) (m : Memory) → SameHeader h v w → dump_area_fault h v m ≡ dump_area_fault h w m
+unfolding dump_area_fault
+same_dump_area h v w m same =
+    ap₂ first_fault (same_area_fault h v w same) (ap (λ (page : List ℕ). bad_set_fault h m (area_kind page)) (same_area_block h v w same))
 
 pub same_mark : (h : Hardware) (v w : Image) → SameHeader h v w → Marked h v → Marked h w
 same_mark h v w same marked = subst IsMarked same.header marked
@@ -59,12 +64,7 @@ header_kept h c c' keeps is = record {
 }
 
 pub area_kept : (h : Hardware) (c c' : Content) (a : Running) → KeepsHeader h c c' → HasArea h c a → HasArea h c' a
-area_kept h c c' a keeps is = record {
-  area = λ usable. same_area_fault h (as_it_reads c') (as_it_reads c) keeps.reads ∙ is.area usable;
-  bad_slots = λ usable.
-      ap (λ (page : List ℕ). bad_set_fault h a.memory (area_kind page)) (same_area_block h (as_it_reads c') (as_it_reads c) keeps.reads)
-      ∙ is.bad_slots usable;
-}
+area_kept h c c' a keeps is = is ∙ sym (same_dump_area h (as_it_reads c') (as_it_reads c) a.memory keeps.reads)
 
 pub nothing_kept : (h : Hardware) (c c' : Content) → KeepsHeader h c c' → IsHeld h c nothing → IsHeld h c' nothing
 nothing_kept h c c' keeps is = λ v in' marked. let was = keeps.each v in' in is was.0 was.1 (same_mark h v was.0 was.2 marked)

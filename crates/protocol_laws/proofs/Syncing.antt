@@ -20,6 +20,7 @@ use Rattle.plain_machine.specs.Shows.{Shown, hibernates, runs, ShowsRunning}
 use Rattle.plain_machine.specs.Stands.{Stands, IsHeld, HaveSlotPages, Reads, NamesOnly, laid_writes}
 use Rattle.plain_machine.specs.State.{on, hibernating, Running, nothing}
 use Rattle.image_write.proofs.Done.{write_at}
+use Rattle.plain_machine.proofs.BadSlots.{fits_area}
 use Rattle.protocol_laws.specs.Steps.{IsOver, ShowsCopies}
 use Rattle.protocol_laws.proofs.Same.{header_kept, area_kept, nothing_kept, by_sync, by_nothing}
 use Rattle.protocol_laws.proofs.Laid.{count_of, count_is}
@@ -56,6 +57,7 @@ syncs_on h shown shown' c c' blocks suspends i a k over stands last syncs activi
           held = subst (IsHeld h c') (sym (held_before suspends i a (k + 1) (omega arith))) none;
           shows = shows.shows;
           task_slots = behind.task_slots;
+          flights = behind.flights;
           slot_pages = slots_read h c c' a.slots (λ s page e. ap (λ (v : disk.Image). disk.block v (block_of_slot h s)) reads) behind.slot_pages;
           header = header_kept h c c' keeps behind.header;
           area = area_kept h c c' a keeps behind.area;
@@ -68,7 +70,7 @@ syncs_on h shown shown' c c' blocks suspends i a k over stands last syncs activi
           durable = λ le. record {
             blocks = λ v in'. subst (λ (w : disk.Image). All (Reads w) (laid_writes h a i)) (image v in') all;
             slots = λ s page e v in'. subst (λ (w : disk.Image). disk.block w (block_of_slot h s) ≡ page) (image v in') (slots s page e);
-            chain = λ v in' marked. absurd (none v in' marked);
+            mark = λ v in' marked. absurd (none v in' marked);
           };
         },
         (λ e v w in_v in_w. IsImage-after_sync c c' v syncs in_v ∙ sym (IsImage-after_sync c c' w syncs in_w)),
@@ -92,6 +94,7 @@ reads_on h shown shown' c blocks suspends i a k over stands last header activity
           held = subst (IsHeld h c) (sym (held_before suspends i a (k + 1) (omega arith))) (unheld h shown c suspends i a k (omega arith) stands);
           shows = shows.shows;
           task_slots = behind.task_slots;
+          flights = behind.flights;
           slot_pages = behind.slot_pages;
           header = behind.header;
           area = behind.area;
@@ -136,7 +139,7 @@ reads_area h shown c blocks suspends i a k whole stands at =
     let v = disk.as_it_reads c in
     let before : k < hibernate_steps i - 1 = omega arith in
     let unmarked = unheld h shown c suspends i a k before stands v (IsImage-as_it_reads blocks c whole) in
-    let usable : kind_or_fit_fault h (blocks_of v) (area_kind (area_block h v)) ≡ None = stands.parts.0.area.area stands.parts.1.usable in
+    let usable : kind_or_fit_fault h (blocks_of v) (area_kind (area_block h v)) ≡ None = (fits_area h c a stands.parts.0.area stands.parts.1.usable).area in
     swap_kind h (blocks_of v) (area_kind (header_of h v)) (subst (λ (p : List ℕ). kind_or_fit_fault h (blocks_of v) (area_kind p) ≡ None) (unmarked_block h v unmarked) usable)
 
 -- Before the mark the header block that is kept is the disk's, unmarked.

@@ -22,11 +22,10 @@ use Rattle.plain_machine.specs.declared.event.Loader.TheVariants.{Ranges, Table}
 use Rattle.plain_machine.specs.declared.event.IdentCheck.{IdentCheck}
 use Rattle.plain_machine.specs.declared.reply.Reply.{Reply}
 use Rattle.plain_machine.specs.declared.reply.Reply.TheVariants as reply
-use Rattle.image_laws.specs.Decoding.{IsSayable}
 use Rattle.image_laws.proofs.Decoding.{meta_is, decodes}
 use Rattle.image_read.proofs.TraceAt.{cause_at, reply_or, last_at, trace_at, trace_ends}
 use Rattle.protocol_laws.specs.OwnTrace.{own_reply, Comes}
-use Rattle.protocol_laws.proofs.OwnCauses.{IsOwnDisk, info_is, some_saved, few_saved, both_none}
+use Rattle.protocol_laws.proofs.OwnCauses.{IsOwnDisk, info_is, some_saved, few_saved, both_none, own_sayable}
 use Rattle.protocol_laws.proofs.OwnChain.{no_header_cause, no_taken_back_cause, no_place_cause}
 use Rattle.protocol_laws.proofs.OwnNumbers.{d_is, no_read_cause}
 use Rattle.protocol_laws.proofs.Restored.{restored_fits, fits_no_fault, restored_area}
@@ -248,9 +247,9 @@ later_reply h v i load k t is four lt comes =
           ap (λ (o : Option Reply). unwrap_or o (last_reply h load.dump v load.loader)) (content_by_want h v i load t is ∙ no_want h v i load t is goes)
           ∙ ends_resumed h v i load.dump load.loader is ∙ sym (own_late h load i k t four goes ∙ late_resumed h load i k (omega arith))
 
-pub traces_own : (h : Hardware) (v : disk.Image) (i : Image) (load : Load) (k : ℕ) → IsHardware h → Holds h v i → IsOwn h v i → IsSayable i → 1 ≤ k → k < resume_steps i → Comes h load i k → slice_get (trace h load.dump v load.loader load.check) k ≡ Some (own_reply h load i k)
-traces_own h v i load k hw holds own say some lt comes =
-    let is : IsOwnDisk h v i = record { hardware = hw; holds = holds; own = own; sayable = say } in
+pub traces_own : (h : Hardware) (v : disk.Image) (i : Image) (load : Load) (k : ℕ) → IsHardware h → Holds h v i → IsOwn h v i → 1 ≤ k → k < resume_steps i → Comes h load i k → slice_get (trace h load.dump v load.loader load.check) k ≡ Some (own_reply h load i k)
+traces_own h v i load k hw holds own some lt comes =
+    let is : IsOwnDisk h v i = record { hardware = hw; holds = holds; own = own; sayable = own_sayable h v i hw own } in
     let sizes = are_few h v i is in
     let n = sizes.some in
     elim (cases_lt k 4) [

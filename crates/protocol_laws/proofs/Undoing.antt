@@ -16,6 +16,7 @@ use Rattle.plain_machine.specs.Stands.{Stands, AgreeOnArea, KeepsMark}
 use Rattle.plain_machine.specs.State.{undoing, Running}
 use Rattle.plain_machine.specs.UsableArea.{area_block}
 use Rattle.plain_machine.specs.declared.reply.UndoCall.{UndoCall}
+use Rattle.plain_machine.proofs.BadSlots.{fits_area}
 use Rattle.image_laws.specs.ImageBlocks.{Tries}
 use Rattle.image_laws.proofs.ImageBlocks.{length-taken_back}
 use Rattle.image_laws.proofs.Images.{SameBut, torn_image}
@@ -29,11 +30,11 @@ pub record IsUndoing (h : Hardware) (shown : Shown) (c : disk.Content) (blocks :
   pub page : IsPage shown.header
   pub stands : Stands h shown c (undoing i call a 0)
 
-pub keeps : (h : Hardware) (shown : Shown) (c : disk.Content) (blocks : ℕ) (i : Image) (call : UndoCall) (a : Running) → IsUndoing h shown c blocks i call a → KeepsMark h shown c
+pub keeps : (h : Hardware) (shown : Shown) (c : disk.Content) (blocks : ℕ) (i : Image) (call : UndoCall) (a : Running) → IsUndoing h shown c blocks i call a → KeepsMark h shown c i a
 keeps h shown c blocks i call a is = is.stands.parts.4 refl
 
 pub usable : (h : Hardware) (shown : Shown) (c : disk.Content) (blocks : ℕ) (i : Image) (call : UndoCall) (a : Running) → IsUndoing h shown c blocks i call a → IsUsable h (blocks_of (disk.as_it_reads c)) (area_block h (disk.as_it_reads c))
-usable h shown c blocks i call a is = usable_area h (disk.as_it_reads c) (is.stands.parts.0.area.area is.stands.parts.1.usable)
+usable h shown c blocks i call a is = usable_area h (disk.as_it_reads c) (fits_area h c a is.stands.parts.0.area is.stands.parts.1.usable).area
 
 pub on_disk : (h : Hardware) (shown : Shown) (c : disk.Content) (blocks : ℕ) (i : Image) (call : UndoCall) (a : Running) → IsUndoing h shown c blocks i call a → block_of_slot h 0 < blocks
 on_disk h shown c blocks i call a is =

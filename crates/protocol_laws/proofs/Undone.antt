@@ -5,16 +5,17 @@ use Rattle.std.proofs.lemmas.List.{get_or-take, get_or-drop, get_or_past}
 use Rattle.std.proofs.lemmas.List.Elements.{All-take}
 use Rattle.definitions.specs.Bytes.{IsPage, AgreeBut}
 use Rattle.definitions.specs.Disk as disk
-use Rattle.definitions.specs.SwapHeader.{IsMarked, taken_back, image_of}
+use Rattle.definitions.specs.SwapHeader.{IsMarked, taken_back}
 use Rattle.definitions.proofs.DiskLaws.{length-as_it_reads, as_it_reads-settled, IsImage-after_sync, IsImage-as_it_reads}
 use Rattle.sig_header.specs.AreaKind.{area_kind}
 use Rattle.sig_header.specs.declared.area.AreaKind.{AreaKind}
 use Rattle.plain_machine.specs.Machine.{Hardware, block_of_slot, unused_slots}
 use Rattle.plain_machine.specs.Chain.{header_of, blocks_of, Marked, Holds}
 use Rattle.plain_machine.specs.Image.{Image, stream_of}
-use Rattle.plain_machine.specs.Laid.{laid_block}
+use Rattle.plain_machine.specs.Mark.{HasMark}
+use Rattle.plain_machine.proofs.BadSlots.{fits_area, has_area}
 use Rattle.plain_machine.specs.Shows.{Shown, undoes, runs, ShowsRunning}
-use Rattle.plain_machine.specs.Stands.{Stands, HasLaid, IsHeld, IsOwn, FitsArea, IsHeader, AgreeOnArea, Reads, NamesOnly, laid_writes, laid_blocks}
+use Rattle.plain_machine.specs.Stands.{Stands, HasLaid, IsHeld, IsOwn, FitsArea, IsHeader, AgreeOnArea, Reads, NamesOnly, laid_writes, laid_blocks, first_map_block}
 use Rattle.plain_machine.specs.State.{on, undoing, Running, nothing, maybe, own}
 use Rattle.plain_machine.specs.UsableArea.{area_block, area_fault, bad_set_fault, kind_or_fit_fault}
 use Rattle.plain_machine.specs.declared.reply.UndoCall.{UndoCall}
@@ -30,8 +31,7 @@ use Rattle.protocol_laws.proofs.Laid.{count_of, slot_of_write, done_of_take}
 use Rattle.protocol_laws.proofs.Areas.{area_kind_same}
 use Rattle.protocol_laws.proofs.Marked.{agree_both}
 use Rattle.protocol_laws.proofs.Marking.{header_is, length-block, image_blocks}
-use Rattle.protocol_laws.proofs.Back.{ReadsSlots, slots_read}
-use Rattle.protocol_laws.proofs.InChain.{names_chain}
+use Rattle.protocol_laws.proofs.Back.{ReadsSlots, slots_read, names_laid}
 use Rattle.protocol_laws.proofs.Undoing.{IsUndoing, TornUndo, still, back, keeps, torn, says_area, on_disk, header_page, area_page}
 
 -- What blocks say of an area where they agree on it.
@@ -84,11 +84,10 @@ fits_torn h shown c blocks i call a v is t =
     let kind = kind_torn h shown c blocks i call a v is t in
     let n = count_torn h shown c blocks v is.over.content t in
     let m = image_blocks blocks c w is.over.content (IsImage-as_it_reads blocks c is.over.content) in
-    let area = is.stands.parts.0.area in
-    let open_is = is.stands.parts.1.usable in
+    let area = fits_area h c a is.stands.parts.0.area is.stands.parts.1.usable in
     record {
-      area = ap₂ (λ (k : ℕ) (x : AreaKind). kind_or_fit_fault h k x) (n ∙ sym m) kind ∙ area.area open_is;
-      bad_slots = ap (bad_set_fault h a.memory) kind ∙ area.bad_slots open_is;
+      area = ap₂ (λ (k : ℕ) (x : AreaKind). kind_or_fit_fault h k x) (n ∙ sym m) kind ∙ area.area;
+      bad_slots = ap (bad_set_fault h a.memory) kind ∙ area.bad_slots;
     }
 
 -- What is held: where the block is taken back the image isn't marked.
@@ -133,24 +132,24 @@ laid_torn h shown c blocks i call a v is (back w in_w same header) =
 slots_torn : (h : Hardware) (shown : Shown) (c : disk.Content) (blocks : ℕ) (i : Image) (call : UndoCall) (a : Running) (v : disk.Image) (s : ℕ) (page : List ℕ) → IsUndoing h shown c blocks i call a → i.slots s ≡ Some page → TornUndo h shown c v → disk.block v (block_of_slot h s) ≡ page
 slots_torn h shown c blocks i call a v s page is e (still was) = is.stands.parts.3.slots s page e v was
 slots_torn h shown c blocks i call a v s page is e (back w in_w same header) =
-    let task = is.stands.parts.0.task_slots s page (sym (ap (λ (x : Image). x.slots s) is.stands.parts.1.image) ∙ e) in
+    let task = is.stands.parts.0.task_slots.tasks s page (sym (ap (λ (x : Image). x.slots s) is.stands.parts.1.image) ∙ e) in
     same.others (block_of_slot h s) (task_not_header h a.memory s is.over.hardware is.stands.parts.0.shows.fits task.0 task.2) ∙ is.stands.parts.3.slots s page e w in_w
 
-chain_torn : (h : Hardware) (shown : Shown) (c : disk.Content) (blocks : ℕ) (i : Image) (call : UndoCall) (a : Running) (v : disk.Image) → IsUndoing h shown c blocks i call a → TornUndo h shown c v → Marked h v → image_of (header_of h v) ≡ laid_block h.extents (unused_slots h a.memory) 0
-chain_torn h shown c blocks i call a v is (still was) marked = is.stands.parts.3.chain v was marked
-chain_torn h shown c blocks i call a v is (back w in_w same header) marked = absurd ((keeps h shown c blocks i call a is).unmarked (subst IsMarked header marked))
+says_torn : (h : Hardware) (shown : Shown) (c : disk.Content) (blocks : ℕ) (i : Image) (call : UndoCall) (a : Running) (v : disk.Image) → IsUndoing h shown c blocks i call a → TornUndo h shown c v → Marked h v → HasMark h i.format (first_map_block h a) (header_of h v)
+says_torn h shown c blocks i call a v is (still was) marked = is.stands.parts.3.mark v was marked
+says_torn h shown c blocks i call a v is (back w in_w same header) marked = absurd ((keeps h shown c blocks i call a is).unmarked (subst IsMarked header marked))
 
 still_laid : (h : Hardware) (shown : Shown) (c c' : disk.Content) (blocks : ℕ) (i : Image) (call : UndoCall) (a : Running) → IsTried h shown c c' blocks i call a → HasLaid h c' i a
 still_laid h shown c c' blocks i call a is = record {
   blocks = λ v in'. laid_torn h shown c blocks i call a v is.undoing_is (each_torn h shown c c' blocks i call a v is in');
   slots = λ s page e v in'. slots_torn h shown c blocks i call a v s page is.undoing_is e (each_torn h shown c c' blocks i call a v is in');
-  chain = λ v in' marked. chain_torn h shown c blocks i call a v is.undoing_is (each_torn h shown c c' blocks i call a v is in') marked;
+  mark = λ v in' marked. says_torn h shown c blocks i call a v is.undoing_is (each_torn h shown c c' blocks i call a v is in') marked;
 }
 
 slots_still : (h : Hardware) (shown : Shown) (c c' : disk.Content) (blocks : ℕ) (i : Image) (call : UndoCall) (a : Running) → IsTried h shown c c' blocks i call a → ReadsSlots h c c' a.slots
 slots_still h shown c c' blocks i call a is s old e =
     let behind = is.undoing_is.stands.parts.0 in
-    let task = behind.task_slots s old e in
+    let task = behind.task_slots.tasks s old e in
     reads_kept (block_of_slot h 0) (block_of_slot h s) (taken_back shown.header) c c' is.tries (task_not_header h a.memory s is.undoing_is.over.hardware behind.shows.fits task.0 task.2)
 
 -- the parts behind the write, for whichever running state with this memory is shown
@@ -186,9 +185,10 @@ takes_mark_back h shown shown' c c' blocks i call a over page after stands write
           held = λ v in'. held_torn h shown c blocks i call a v is.undoing_is (each_torn h shown c c' blocks i call a v is in');
           shows = shows;
           task_slots = behind.task_slots;
+          flights = behind.flights;
           slot_pages = slots_read h c c' a.slots (slots_still h shown c c' blocks i call a is) behind.slot_pages;
           header = header_still h shown c c' blocks i call a is;
-          area = record { area = λ e. fits.area; bad_slots = λ e. fits.bad_slots };
+          area = has_area h c' a stands.parts.1.usable fits;
         },
         stands.parts.1,
         names,
@@ -213,17 +213,11 @@ undo_write_fails h shown shown' c c' blocks i call a over page after stands fail
         record {
           held = held;
           task_slots = behind.task_slots;
+          flights = record { outs = behind.flights.outs; ins = behind.flights.ins };
           slot_pages = slots_read h c c' a.slots (slots_still h shown c c' blocks i call a is) behind.slot_pages;
-          names = names_chain h shown' c' blocks i a
-              (record {
-                over = record { hardware = over.hardware; info = over.info; signature = over.signature; content = after; few = over.few };
-                fits = behind.shows.fits;
-                accepted = stands.parts.1;
-                held = held;
-                laid_is = still_laid h shown c c' blocks i call a is;
-              }) names;
+          names = names_laid h shown' i a stands.parts.1 names;
           header = header_still h shown c c' blocks i call a is;
-          area = record { area = λ e. fits.area; bad_slots = λ e. fits.bad_slots };
+          area = has_area h c' a stands.parts.1.usable fits;
         },
       );
     }
@@ -244,10 +238,11 @@ undo_syncs h shown shown' c c' blocks i call a over stands syncs activity shows 
         record {
           held = λ v in' marked. unmarked (subst (Marked h) (IsImage-after_sync c c' v syncs in') marked);
           task_slots = behind.task_slots;
+          flights = record { outs = behind.flights.outs; ins = behind.flights.ins };
           slot_pages = slots_read h c c' a.slots (λ s page e. ap (λ (v : disk.Image). disk.block v (block_of_slot h s)) reads) behind.slot_pages;
           names = names;
           header = header_kept h c c' keeps behind.header;
-          area = record { area = area.area; bad_slots = area.bad_slots };
+          area = area;
         },
       );
     }
@@ -264,10 +259,11 @@ undo_sync_fails h shown shown' c blocks i call a over stands activity shows name
         record {
           held = behind.held;
           task_slots = behind.task_slots;
+          flights = record { outs = behind.flights.outs; ins = behind.flights.ins };
           slot_pages = behind.slot_pages;
-          names = names_chain h shown' c blocks i a (record { over = over; fits = behind.shows.fits; accepted = stands.parts.1; held = behind.held; laid_is = stands.parts.3 }) names;
+          names = names_laid h shown' i a stands.parts.1 names;
           header = behind.header;
-          area = record { area = area.area; bad_slots = area.bad_slots };
+          area = area;
         },
       );
     }

@@ -10,6 +10,7 @@ use Rattle.plain_machine.specs.Stands.{Stands, IsHeld, NamesOnly}
 use Rattle.plain_machine.specs.State.{on, hibernating, Running}
 use Rattle.image_laws.specs.ImageBlocks.{Tries}
 use Rattle.image_write.proofs.Done.{write_at, one_more_done}
+use Rattle.plain_machine.proofs.BadSlots.{fits_area}
 use Rattle.protocol_laws.specs.Steps.{write_of_step, IsOver, ShowsCopies}
 use Rattle.protocol_laws.proofs.Same.{KeepsHeader, header_kept, area_kept, nothing_kept, by_other_write, reads_kept}
 use Rattle.protocol_laws.proofs.Places.{usable_area, free_not_header, free_not_used}
@@ -36,7 +37,7 @@ tries_header h shown c c' blocks suspends i a k page is tries =
 tries_slots : (h : Hardware) (shown : Shown) (c c' : disk.Content) (blocks : ℕ) (suspends : Bool) (i : Image) (a : Running) (k : ℕ) (page : List ℕ) → IsWriting h shown c blocks suspends i a k → Tries (step_write h a i k).0 page c c' → ReadsSlots h c c' a.slots
 tries_slots h shown c c' blocks suspends i a k page is tries s old e =
     let at = slot_of_write h a i k is.stands.parts.1 is.more in
-    let task = is.stands.parts.0.task_slots s old e in
+    let task = is.stands.parts.0.task_slots.tasks s old e in
     reads_kept (step_write h a i k).0 (block_of_slot h s) page c c' tries
     (λ same. free_not_used h a.memory at.slot s is.over.hardware at.free task.0 task.1 (same ∙ at.is))
 
@@ -45,7 +46,7 @@ has_block : (h : Hardware) (shown : Shown) (c : disk.Content) (blocks : ℕ) (su
 has_block h shown c blocks suspends i a k is =
     let v = disk.as_it_reads c in
     let at = slot_of_write h a i k is.stands.parts.1 is.more in
-    let usable = usable_area h v (is.stands.parts.0.area.area is.stands.parts.1.usable) in
+    let usable = usable_area h v (fits_area h c a is.stands.parts.0.area is.stands.parts.1.usable).area in
     let below : block_of_slot h at.slot < blocks_of v = usable.on_disk at.slot at.free.within in
     let here = at.is in
     let size = is.over.content.size in
@@ -74,6 +75,7 @@ writes_on h shown shown' c c' blocks suspends i a k over stands lt wrote activit
           held = subst (IsHeld h c') (sym (held_before suspends i a (k + 1) after)) (nothing_kept h c c' keeps (unheld h shown c suspends i a k before stands));
           shows = shows.shows;
           task_slots = behind.task_slots;
+          flights = behind.flights;
           slot_pages = slots_read h c c' a.slots reads behind.slot_pages;
           header = header_kept h c c' keeps behind.header;
           area = area_kept h c c' a keeps behind.area;

@@ -10,10 +10,11 @@ use Rattle.plain_machine.specs.Chain.{header_of, Marked}
 use Rattle.plain_machine.specs.Image.{Image, image_of_memory, hibernate_steps}
 use Rattle.plain_machine.specs.Refusals.{refusal}
 use Rattle.plain_machine.specs.Shows.{Shown, rests, runs, hibernates, undoes, ShowsRunning}
-use Rattle.plain_machine.specs.Stands.{Stands, IsAccepted, NamesOnly}
+use Rattle.plain_machine.specs.Stands.{Stands, EachImage, IsAccepted, NamesOnly}
 use Rattle.plain_machine.specs.State.{off, on, hibernating, undoing, Running, sure, own}
 use Rattle.plain_machine.specs.declared.event.Event.TheVariants.{Hibernate}
 use Rattle.plain_machine.specs.declared.reply.UndoCall.TheVariants as undo
+use Rattle.protocol_laws.specs.Rows.{HasImage}
 use Rattle.protocol_laws.specs.Steps.{write_of_step, marked_header, IsOver, ShowsCopies}
 
 -- A hibernation that isn't refused has its image, its area and its slots,
@@ -86,6 +87,12 @@ abbrev pub Ends : Type 0
 Ends =
     (h : Hardware) (shown shown' : Shown) (c c' : Content) (blocks : ℕ) (suspends : Bool) (i : Image) (a : Running) (k : ℕ) → IsOver h i blocks c → Stands h shown c (hibernating suspends i a k) → k + 1 ≡ hibernate_steps i →
     Syncs c c' → shown'.activity ≡ rests → shown'.keeps_dump ≡ false → Stands h shown' c' (off (sure (own i)) None)
+
+-- It has left the mark and the blocks in every image.
+abbrev pub EndLeaves : Type 0
+EndLeaves =
+    (h : Hardware) (shown : Shown) (c c' : Content) (blocks : ℕ) (suspends : Bool) (i : Image) (a : Running) (k : ℕ) → IsOver h i blocks c → Stands h shown c (hibernating suspends i a k) → k + 1 ≡ hibernate_steps i →
+    Syncs c c' → EachImage c' (HasImage h i a)
 
 abbrev pub EndFails : Type 0
 EndFails =

@@ -22,7 +22,6 @@ use Rattle.plain_machine.specs.declared.event.Ranges.{Ranges}
 use Rattle.plain_machine.specs.declared.reply.Left.TheVariants.{Same, Gone, Unsure}
 use Rattle.plain_machine.specs.declared.reply.Reply.{Reply}
 use Rattle.plain_machine.specs.declared.reply.Reply.TheVariants as reply
-use Rattle.image_laws.specs.Decoding.{IsSayable, IsIdent}
 use Rattle.protocol_laws.specs.Loads.{ShowsLoad}
 use Rattle.protocol_laws.specs.Rows.{Leads}
 use Rattle.protocol_laws.specs.TraceAt.{reply_at}
@@ -30,7 +29,7 @@ use Rattle.protocol_laws.specs.TraceAt.{reply_at}
 -- The disk v, on which the second step found an image: one that the machine made and that v holds, or another's, which v is.
 abbrev pub IsFoundOn : Hardware → disk.Image → Found → Type 0
 IsFoundOn h v not_yet = ⊥
-IsFoundOn h v (found_own i) = Holds h v i × IsOwn h v i × IsSayable i
+IsFoundOn h v (found_own i) = Holds h v i × IsOwn h v i
 IsFoundOn h v (found_other w) = v ≡ w
 
 abbrev pub IsFoundIn : Hardware → Load → disk.Image → Type 0
@@ -93,7 +92,7 @@ FindCompressedRow =
 
 abbrev pub FindRow : Type 0
 FindRow =
-    (h : Hardware) (shown shown' : Shown) (c : Content) (blocks : ℕ) (load : Load) → IsHardware h → IsIdent h.ident → IsContent blocks c → Stands h shown c (loading load 1) →
+    (h : Hardware) (shown shown' : Shown) (c : Content) (blocks : ℕ) (load : Load) → IsHardware h → IsContent blocks c → Stands h shown c (loading load 1) →
     header_cause h (as_it_reads c) ≡ None → shown'.header ≡ header_of h (as_it_reads c) →
     (found : Found) × IsFoundIn h (with_finding load found) (as_it_reads c) ×
     (ShowsLoad h shown' (with_finding load found) 2 → Goes h shown' (reply.Loading 2) c c (loading load 1) (loading (with_finding load found) 2))
@@ -169,7 +168,7 @@ ReadResumedOffRow =
 
 abbrev pub ReadFaultRow : Type 0
 ReadFaultRow =
-    (h : Hardware) (shown shown' : Shown) (c : Content) (load : Load) (k : ℕ) → 4 ≤ k → Stands h shown c (loading load k) → ShowsRest shown' →
+    (h : Hardware) (shown shown' : Shown) (c : Content) (load : Load) (v : disk.Image) (k : ℕ) → IsReading h shown c load v k → ShowsRest shown' →
     Goes h shown' (reply.ReadFault Gone) c c (loading load k) (off nothing None)
 
 -- What the rows ask for.

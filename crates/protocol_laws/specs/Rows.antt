@@ -1,14 +1,19 @@
 -- What an event makes of something that stands for a state of the plain machine over a disk: for each state that it stood for there is
 -- one that the plain machine goes on to.
-use Rattle.std.specs.Prelude.{◌≡◌, ◌≤◌, ◌<◌, ◌+◌, ◌*◌, ℕ, zero, List, [], ◌∷◌, length, Contains, slice_index_or, Option, Some, ⊤}
+use Rattle.std.specs.Prelude.{◌≡◌, ◌≤◌, ◌<◌, ◌+◌, ◌*◌, ℕ, zero, List, [], ◌∷◌, length, All, flat_map, Contains, slice_index_or, Option, Some, None, ⊤}
+use Rattle.std.specs.List.{range_with_len}
 use Rattle.definitions.specs.Disk as disk
 use Rattle.plain_machine.specs.Machine.{Hardware, block_of_slot}
-use Rattle.plain_machine.specs.Chain.{blocks_of}
-use Rattle.plain_machine.specs.Stands.{AgreeOnArea, laid_blocks}
-use Rattle.plain_machine.specs.State.{State, off, on, booting, hibernating, undoing, settling, waking, loading, asleep}
+use Rattle.plain_machine.specs.Chain.{Marked, header_of, blocks_of}
+use Rattle.plain_machine.specs.Image.{Image}
+use Rattle.plain_machine.specs.Mark.{HasMark}
+use Rattle.plain_machine.specs.Stands.{EachImage, AgreeOnArea, Reads, laid_writes, laid_blocks, first_map_block}
+use Rattle.plain_machine.specs.State.{State, off, on, booting, hibernating, undoing, settling, waking, loading, asleep, Running, Flight, goes_out, comes_in}
 use Rattle.plain_machine.specs.Step.{Step}
 use Rattle.plain_machine.specs.UsableArea.{area_block}
+use Rattle.plain_machine.specs.declared.event.Actor.TheVariants as actor
 use Rattle.plain_machine.specs.declared.event.Event.{Event}
+use Rattle.plain_machine.specs.declared.event.Event.TheVariants as event
 use Rattle.plain_machine.specs.declared.reply.Reply.{Reply}
 use Rattle.plain_machine.specs.declared.reply.Reply.TheVariants as reply
 use Rattle.plain_machine.specs.declared.reply.Left.TheVariants.{Gone}
@@ -22,11 +27,17 @@ pub record IsSameArea (h : Hardware) (v w : disk.Image) : Type 0 where
 abbrev pub StandsBy : Type 1
 StandsBy = disk.Content → State → Type 0
 
--- The blocks that may be written, by the state before an event: block(0) and the blocks of the image's slots in a hibernation, block(0)
--- alone where a mark is taken back.
+-- the block that an unfinished out goes to
+abbrev pub out_block : Hardware → Option Flight → List ℕ
+out_block h None = []
+out_block h (Some (goes_out s p)) = block_of_slot h s ∷ []
+out_block h (Some (comes_in s p)) = []
+
+-- The blocks that may be written, by the state before an event: those of unfinished outs while the machine runs, block(0) and the
+-- blocks of the image's slots in a hibernation, block(0) alone where a mark is taken back.
 abbrev pub blocks_written : Hardware → State → List ℕ
 blocks_written h (off held kept) = []
-blocks_written h (on a) = []
+blocks_written h (on a) = flat_map (λ t. out_block h (a.flights t)) (range_with_len 1 64)
 blocks_written h (booting from dump held k) = []
 blocks_written h (hibernating suspends i a k) = block_of_slot h 0 ∷ laid_blocks h a i
 blocks_written h (undoing i call a k) = block_of_slot h 0 ∷ []
@@ -39,6 +50,18 @@ blocks_written h (asleep i held a) = []
 pub record LeavesBlock (b : ℕ) (c c' : disk.Content) : Type 0 where
   pub leaves : (v : disk.Image) (s : ℕ) → disk.IsImage c' v → s < length v → 8 * b ≤ s → s < 8 * b + 8 → Contains (disk.sector c s).candidates (slice_index_or v s [])
 
+-- A hibernation that ended has left the mark in this image of the disk, and the blocks as they are laid.
+pub record HasImage (h : Hardware) (i : Image) (a : Running) (v : disk.Image) : Type 0 where
+  pub marked : Marked h v
+  pub mark : HasMark h i.format (first_map_block h a) (header_of h v)
+  pub laid : All (Reads v) (laid_writes h a i)
+
+-- it has left it in every image
+abbrev pub LeavesImage : Hardware → Event → Reply → State → disk.Content → Type 0
+LeavesImage h (event.Step actor.Core) (reply.Hibernated n) (hibernating suspends i a k) c = EachImage c (HasImage h i a)
+LeavesImage h (event.Step actor.Core) (reply.Asleep n) (hibernating suspends i a k) c = EachImage c (HasImage h i a)
+LeavesImage h _ _ _ c = ⊤
+
 -- The reply is one that the plain machine may give, and what is there afterwards stands for the state that it goes on to. The
 -- area on the disk stays, and no other block than those is written.
 pub record Leads (h : Hardware) (new : StandsBy) (e : Event) (r : Reply) (c c' : disk.Content) (a b : State) : Type 0 where
@@ -46,6 +69,7 @@ pub record Leads (h : Hardware) (new : StandsBy) (e : Event) (r : Reply) (c c' :
   pub stands : new c' b
   pub area : IsSameArea h (disk.as_it_reads c) (disk.as_it_reads c')
   pub unwritten : (b : ℕ) → (Contains (blocks_written h a) b → ⊥) → LeavesBlock b c c'
+  pub leaves : LeavesImage h e r a c'
 
 -- the row of an event over these contents of the disk, for each state that was stood for
 abbrev pub IsRow : Hardware → StandsBy → StandsBy → Event → Reply → disk.Content → disk.Content → Type 0

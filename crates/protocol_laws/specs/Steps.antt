@@ -1,36 +1,28 @@
 -- What a hibernation's calls of the disk write.
 use Rattle.std.specs.Prelude.{◌≡◌, ◌<◌, ◌^◌, ℕ, List, [], map, slice_index_or}
-use Rattle.page_core.specs.declared.format.Format.{Format}
-use Rattle.page_core.specs.declared.format.Format.TheVariants.{Plain, SkipZeros}
 use Rattle.definitions.specs.Disk.{Content, IsContent}
 use Rattle.definitions.specs.InfoPage.{IsInfo}
 use Rattle.definitions.specs.SwapHeader.{marked}
 use Rattle.definitions.specs.Tables.{frame}
-use Rattle.plain_machine.specs.Machine.{Hardware, IsHardware, unused_slots}
+use Rattle.plain_machine.specs.Machine.{Hardware, IsHardware}
 use Rattle.plain_machine.specs.Image.{Image, info_of_image}
-use Rattle.plain_machine.specs.Laid.{laid_block}
+use Rattle.plain_machine.specs.Mark.{mark_flags}
 use Rattle.plain_machine.specs.Shows.{Shown, ShowsRunning}
-use Rattle.plain_machine.specs.Stands.{NamesOnly, laid_writes, laid_blocks}
+use Rattle.plain_machine.specs.Stands.{NamesOnly, laid_writes, laid_blocks, first_map_block}
 use Rattle.plain_machine.specs.State.{Running}
 
 -- the write of step k + 1 of the page and map writes: a block, and what is written there
 abbrev pub write_of_step : Hardware → Running → Image → ℕ → ℕ × List ℕ
 write_of_step h a i k = slice_index_or (laid_writes h a i) k (0, [])
 
--- The flags of a mark: SF_NOCOMPRESS_MODE, and with SkipZeros 256 (mark_swapfiles, kernel/power/swap.c).
-abbrev pub mark_flags : Format → ℕ
-mark_flags Plain = 2
-mark_flags SkipZeros = 258
-
 -- the header block with the mark of this image, whose first map lies in the least free slot
 abbrev pub marked_header : Hardware → Running → Image → List ℕ → List ℕ
-marked_header h a i header = marked header (laid_block h.extents (unused_slots h a.memory) 0) (mark_flags i.format) h.hw_sig
+marked_header h a i header = marked header (first_map_block h a) (mark_flags i.format) h.hw_sig
 
 -- The machine, and a disk of so many blocks. Its numbers fit their fields in an image.
 pub record IsOver (h : Hardware) (i : Image) (blocks : ℕ) (c : Content) : Type 0 where
   pub hardware : IsHardware h
   pub info : IsInfo (info_of_image i)
-  pub signature : h.hw_sig < 2 ^ 32
   pub content : IsContent blocks c
   pub few : blocks < 2 ^ 32
 

@@ -85,8 +85,10 @@ begun_row machine frames load ranges check begins none_read is shown c held kept
             loader = record { ranges = ranges; scripted = refl; free = is.free ∙ free_is h l.dump ranges is.regions; check = is.checks };
             knows = subst (λ (s : Stage). KnowsAt s machine frames load c l 0) (sym is.at) (is.origs, is.zeros, is.none);
           };
+          ended = tt;
         };
         area = record { blocks = refl; header = record { front = refl; signature = refl } };
         unwritten = λ b not. block_same b _;
+        leaves = tt;
       },
     )

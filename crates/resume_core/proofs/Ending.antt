@@ -33,7 +33,7 @@ use Rattle.restore_laws.proofs.LastTables.{last_resumed, last_refused, table_at_
 use Rattle.restore_laws.proofs.SoundTables.{sound_tables_fit}
 use Rattle.machine.specs.declared.machine.Machine.{Machine}
 use Rattle.resume_core.specs.Loading.{shown_by}
-use Rattle.resume_core.specs.Row.{HasRead, HavePlaces, EndsOn}
+use Rattle.resume_core.specs.Row.{HasRead, HavePlaces, EndsOn, swap_area}
 use Rattle.resume_core.specs.declared.load.Load.{Load}
 use Rattle.resume_core.specs.declared.load.Stage.TheVariants as stage
 use Rattle.resume_core.proofs.Answering.{ends_reply}
@@ -130,7 +130,7 @@ bad_tables_row machine frames frames' load load' f stops is faulty rest c l v k 
     let at_last : last_reply h l.dump v l.loader ≡ reply.BadTables f = subst (λ (x : Loader). last_reply h l.dump v x ≡ reply.BadTables f) (sym read.loader.scripted)
     (last_refused h l.dump v read.loader.ranges (reply.BadTables f) (subst (λ (x : Loader). tables_cause h v (restored_in h l.dump v x) ≡ Some (reply.BadTables f)) read.loader.scripted (subst (λ (m : Memory). tables_cause h v m ≡ Some (reply.BadTables f)) memory cause))) in (
       off nothing None,
-      leads machine frames' load' (reply.BadTables f) c c (loading l k) (off nothing None)
+      leads machine frames' load' (reply.BadTables f) c c (loading l k) (off nothing None) tt
           (stops h read.shown (shown_by machine frames' load') c l v k (reply.BadTables f) read.reading (ends_reply h l.dump v l.loader l.check k read.reading.late read.sound room (omega arith) ∙ at_last) tt (activity_is load' stage.Rest rest, refl)) tt,
     )
 
@@ -144,9 +144,9 @@ no_fault h v m good = by (tables_fault h m) refl where
 abbrev pub running : Machine → Area → Machine
 running machine area = record machine { area = Ok area; held = No }
 
-pub resumed_row : (machine : Machine) (frames frames' : Memory) (load load' : Load) (area : Area) (n : ℕ) → ReadResumedRow → All IsPage frames' → IsHome machine frames frames' load → IsGood machine frames' load → n ≡ length load.origs.members → load'.stage ≡ stage.Runs →
+pub resumed_row : (machine : Machine) (frames frames' : Memory) (load load' : Load) (area : Area) (n : ℕ) → ReadResumedRow → All IsPage frames' → IsHome machine frames frames' load → IsGood machine frames' load → area_kind (taken_back load.header) ≡ Swap area → n ≡ length load.origs.members → load'.stage ≡ stage.Runs →
     EndsOn machine frames load (running machine area) frames' load' (reply.Resumed n)
-resumed_row machine frames frames' load load' area n resumed pages is good count runs_now c l v k read places room over =
+resumed_row machine frames frames' load load' area n resumed pages is good kind count runs_now c l v k read places room over =
     let h = machine.hw in
     let memory = home machine frames frames' load c l v k is read places over in
     let cause = good v read.found.header (sym read.found.blocks) (was_marked h v read.found.uncaused) in
@@ -160,5 +160,6 @@ resumed_row machine frames frames' load load' area n resumed pages is good count
     (ends_reply h l.dump v l.loader l.check k read.reading.late read.sound room (omega arith) ∙ at_last ∙ ap reply.Resumed (sym saved)) (activity_is load' stage.Runs runs_now)
     (runs_as_restored h l v No None shown'.flights frames' refl refl (λ t. refl) memory fits) (names_none h shown' fits) in (
       on (running_with h l v goes.0),
-      leads (running machine area) frames' load' (reply.Resumed n) c c (loading l k) (on (running_with h l v goes.0)) goes.1 tt,
+      leads (running machine area) frames' load' (reply.Resumed n) c c (loading l k) (on (running_with h l v goes.0))
+          (record { memory = memory; area = (area, refl, read.found.area ∙ ap swap_area kind) }) goes.1 tt,
     )

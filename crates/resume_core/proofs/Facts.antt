@@ -21,7 +21,7 @@ use Rattle.machine.specs.declared.machine.Machine.{Machine}
 use Rattle.resume_core.specs.Loading.{shown_by, activity_of}
 use Rattle.swap_slots.specs.Runs.{SlotRuns}
 use Rattle.resume_core.specs.Ready.{IsOver}
-use Rattle.resume_core.specs.Row.{StandsFor, HasLoader, IsOfState, IsRow, NoneWaits}
+use Rattle.resume_core.specs.Row.{StandsFor, StandsAfter, HasEnded, HasLoader, IsOfState, IsRow, NoneWaits}
 use Rattle.resume_core.specs.declared.load.Load.{Load}
 use Rattle.resume_core.proofs.Cases.{at_load}
 
@@ -51,17 +51,17 @@ row_of machine frames load machine' frames' load' end r told c c' same reply row
 
 -- the rows of a resume
 pub row_at_load : (machine : Machine) (frames : Memory) (load : Load) (machine' : Machine) (frames' : Memory) (load' : Load) (e : Event) (r : Reply) (c c' : disk.Content) (k : ℕ) → activity_of load ≡ loads k →
-    ((l : Resume) → StandsFor machine frames load c (loading l k) → (b : State) × rows.Leads machine.hw (StandsFor machine' frames' load') e r c c' (loading l k) b) →
+    ((l : Resume) → StandsFor machine frames load c (loading l k) → (b : State) × rows.Leads machine.hw (StandsAfter machine' frames' load') e r c c' (loading l k) b) →
     IsRow machine frames load machine' frames' load' e r c c'
 row_at_load machine frames load machine' frames' load' e r c c' k is goes s stands =
     let at = at_load s k (sym is ∙ stands.stands.activity) in
-    subst (λ (t : State). (b : State) × rows.Leads machine.hw (StandsFor machine' frames' load') e r c c' t b) (sym at.1)
+    subst (λ (t : State). (b : State) × rows.Leads machine.hw (StandsAfter machine' frames' load') e r c c' t b) (sym at.1)
     (goes at.0 (subst (StandsFor machine frames load c) at.1 stands))
 
 -- a step that goes on to a state whose resume it is at
-pub leads : (machine : Machine) (frames : Memory) (load : Load) (r : Reply) (c c' : disk.Content) (a b : State) → Goes machine.hw (shown_by machine frames load) r c c' a b → IsOfState machine frames load c' b →
-    rows.Leads machine.hw (StandsFor machine frames load) (event.Step actor.Core) r c c' a b
-leads machine frames load r c c' a b goes is = record { step = goes.step; stands = record { stands = goes.stands; resume = is }; area = goes.area; unwritten = goes.unwritten }
+pub leads : (machine : Machine) (frames : Memory) (load : Load) (r : Reply) (c c' : disk.Content) (a b : State) → HasEnded machine frames c' b → Goes machine.hw (shown_by machine frames load) r c c' a b → IsOfState machine frames load c' b →
+    rows.Leads machine.hw (StandsAfter machine frames load) (event.Step actor.Core) r c c' a b
+leads machine frames load r c c' a b ended goes is = record { step = goes.step; stands = record { stands = goes.stands; resume = is; ended = ended }; area = goes.area; unwritten = goes.unwritten; leaves = goes.leaves }
 
 pub same_loader : (h : Hardware) (load load' : Load) (l : Resume) → load'.waiting.free ≡ load.waiting.free → load'.check ≡ load.check → HasLoader h load l → HasLoader h load' l
 same_loader h load load' l free check has = record { ranges = has.ranges; scripted = has.scripted; free = free ∙ has.free; check = check ∙ has.check }
@@ -82,7 +82,6 @@ count_of blocks c whole = let size = length-as_it_reads c in let all = whole.siz
 pub over_still : (machine : Machine) (frames : Memory) (runs : SlotRuns) (load load' : Load) → load'.origs.zones ≡ load.origs.zones → load'.zeros.zones ≡ load.zeros.zones → load'.waiting.zones ≡ load.waiting.zones → IsOver machine frames runs load → IsOver machine frames runs load'
 over_still machine frames runs load load' origs zeros waiting over = record {
   hardware = over.hardware;
-  ident = over.ident;
   few = over.few;
   size = over.size;
   table = over.table;

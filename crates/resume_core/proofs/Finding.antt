@@ -1,7 +1,11 @@
 -- The rows of the first sync, and of the read of the header block.
 use Rattle.std.proofs.Common.{◌≡◌, inl, inr, ℕ, List, Some, None, refl, sym, ap, ◌∙◌, subst, arith}
 use Rattle.definitions.specs.Disk as disk
-use Rattle.sig_header.specs.AreaKind.{mark_of}
+use Rattle.definitions.specs.SwapHeader.{taken_back}
+use Rattle.std.proofs.lemmas.Option.{none-some}
+use Rattle.sig_header.specs.AreaKind.{mark_of, area_kind}
+use Rattle.protocol_laws.proofs.LoadReplies.{a_mark}
+use Rattle.protocol_laws.proofs.Marking.{area_block-marked}
 use Rattle.sig_header.specs.declared.area.Mark.{Mark}
 use Rattle.plain_machine.specs.Machine.{Memory}
 use Rattle.plain_machine.specs.Chain.{header_of}
@@ -12,13 +16,12 @@ use Rattle.plain_machine.specs.declared.event.Actor.TheVariants as actor
 use Rattle.plain_machine.specs.declared.reply.Reply.{Reply}
 use Rattle.plain_machine.specs.declared.reply.Reply.TheVariants as reply
 use Rattle.plain_machine.specs.declared.reply.Left.TheVariants.{Same}
-use Rattle.image_laws.specs.Decoding.{IsIdent}
 use Rattle.plain_machine.specs.Machine.{IsHardware}
 use Rattle.protocol_laws.specs.LoadRows.{LoadSyncRow, LoadSyncFaultRow, FindNoneRow, FindCompressedRow, FindRow, FindFaultRow, ShowsNoneRead, GoneOnEarly, with_finding}
 use Rattle.machine.specs.declared.machine.Machine.{Machine}
 use Rattle.resume_core.specs.Header.{header_fault}
 use Rattle.resume_core.specs.Loading.{shown_by, activity_at}
-use Rattle.resume_core.specs.Row.{StandsFor, IsRow, KnowsAt}
+use Rattle.resume_core.specs.Row.{StandsFor, IsRow, KnowsAt, swap_area}
 use Rattle.resume_core.specs.declared.load.Load.{Load}
 use Rattle.resume_core.specs.declared.load.Stage.{Stage}
 use Rattle.resume_core.specs.declared.load.Stage.TheVariants as stage
@@ -42,7 +45,7 @@ synced_row machine frames load c c' sync_row none_read at whole syncs =
     (λ l s.
     let knows = knows_at machine frames load c l 0 stage.Sync at s in (
       loading l 1,
-      leads machine frames new (reply.Loading 1) c c' (loading l 0) (loading l 1)
+      leads machine frames new (reply.Loading 1) c c' (loading l 0) (loading l 1) tt
           (sync_row machine.hw (shown_by machine frames load) (shown_by machine frames new) c c' machine.blocks l whole s.stands syncs
           (shows_none machine frames load new c l l 0 1 none_read s refl refl refl (omega arith) knows.2))
           (record { loader = same_loader machine.hw load new l refl refl s.resume.loader; knows = knows }),
@@ -54,7 +57,7 @@ sync_failed_row machine frames load c fault_row at =
     row_at_load machine frames load machine frames (stopped load) (event.Step actor.Core) (reply.SyncFault Same) c c 0 (activity_is load stage.Sync at)
     (λ l s. (
       off l.held None,
-      leads machine frames (stopped load) (reply.SyncFault Same) c c (loading l 0) (off l.held None)
+      leads machine frames (stopped load) (reply.SyncFault Same) c c (loading l 0) (off l.held None) tt
           (fault_row machine.hw (shown_by machine frames load) (shown_by machine frames (stopped load)) c l s.stands (refl, refl)) tt,
     ))
 
@@ -65,7 +68,7 @@ find_failed_row machine frames load header c fault_row at =
     row_at_load machine frames load machine frames new (event.Step actor.Core) (reply.ReadFault Same) c c 1 (activity_is load stage.Find at)
     (λ l s. (
       off l.held None,
-      leads machine frames new (reply.ReadFault Same) c c (loading l 1) (off l.held None)
+      leads machine frames new (reply.ReadFault Same) c c (loading l 1) (off l.held None) tt
           (fault_row machine.hw (shown_by machine frames load) (shown_by machine frames new) c l s.stands (refl, refl)) tt,
     ))
 
@@ -77,7 +80,7 @@ none_row machine frames load header c find_none at whole none =
     row_at_load machine frames load machine frames new (event.Step actor.Core) reply.NoImage c c 1 (activity_is load stage.Find at)
     (λ l s. (
       off nothing None,
-      leads machine frames new reply.NoImage c c (loading l 1) (off nothing None)
+      leads machine frames new reply.NoImage c c (loading l 1) (off nothing None) tt
           (find_none machine.hw (shown_by machine frames load) (shown_by machine frames new) c machine.blocks l whole s.stands none (refl, refl)) tt,
     ))
 
@@ -88,30 +91,30 @@ compressed_row machine frames load header c flags find_compressed at whole cause
     row_at_load machine frames load machine frames new (event.Step actor.Core) (reply.Compressed flags) c c 1 (activity_is load stage.Find at)
     (λ l s. (
       off (sure other) None,
-      leads machine frames new (reply.Compressed flags) c c (loading l 1) (off (sure other) None)
+      leads machine frames new (reply.Compressed flags) c c (loading l 1) (off (sure other) None) tt
           (find_compressed machine.hw (shown_by machine frames load) (shown_by machine frames new) c machine.blocks flags l whole s.stands cause (refl, refl)) tt,
     ))
 
-pub found_row : (machine : Machine) (frames : Memory) (load : Load) (header : List ℕ) (mark : Mark) (c : disk.Content) → FindRow → ShowsNoneRead → GoneOnEarly → IsHardware machine.hw → IsIdent machine.hw.ident → load.stage ≡ stage.Find → disk.IsContent machine.blocks c →
+pub found_row : (machine : Machine) (frames : Memory) (load : Load) (header : List ℕ) (mark : Mark) (c : disk.Content) → FindRow → ShowsNoneRead → GoneOnEarly → IsHardware machine.hw → load.stage ≡ stage.Find → disk.IsContent machine.blocks c →
     header ≡ header_of machine.hw (disk.as_it_reads c) → header_fault header ≡ None → mark ≡ mark_of header →
     IsRow machine frames load machine frames (record load { header = header; mark = mark; stage = stage.TakeBack }) (event.Step actor.Core) (reply.Loading 2) c c
-found_row machine frames load header mark c find none_read early hardware ident at whole read none marks =
+found_row machine frames load header mark c find none_read early hardware at whole read none marks =
     let new = record load { header = header; mark = mark; stage = stage.TakeBack } in
     let v = disk.as_it_reads c in
     let uncaused : header_cause machine.hw v ≡ None = subst (λ (p : List ℕ). header_fault p ≡ None) read none in
     row_at_load machine frames load machine frames new (event.Step actor.Core) (reply.Loading 2) c c 1 (activity_is load stage.Find at)
     (λ l s.
     let knows = knows_at machine frames load c l 1 stage.Find at s in
-    let found = find machine.hw (shown_by machine frames load) (shown_by machine frames new) c machine.blocks l hardware ident whole s.stands uncaused read in
+    let found = find machine.hw (shown_by machine frames load) (shown_by machine frames new) c machine.blocks l hardware whole s.stands uncaused read in
     let l' = with_finding l found.0 in (
       loading l' 2,
-      leads machine frames new (reply.Loading 2) c c (loading l 1) (loading l' 2)
+      leads machine frames new (reply.Loading 2) c c (loading l 1) (loading l' 2) tt
           (found.2 (shows_none machine frames load new c l l' 1 2 none_read s refl refl refl (omega arith) knows.2))
           (record {
             loader = (let has = s.resume.loader in record { ranges = has.ranges; scripted = has.scripted; free = has.free; check = has.check });
             knows = (
               v,
-              record { found = found.1; uncaused = uncaused; header = read; mark = marks ∙ ap mark_of read; reads = λ b lt ne. refl; blocks = count_of machine.blocks c whole },
+              record { found = found.1; uncaused = uncaused; header = read; mark = marks ∙ ap mark_of read; reads = λ b lt ne. refl; blocks = count_of machine.blocks c whole; area = ap (λ (p : List ℕ). swap_area (area_kind p)) (area_block-marked machine.hw v (a_mark machine.hw v None uncaused (λ e. none-some reply.NoImage e)) ∙ ap taken_back (sym read)) },
               early machine.hw l' v 2 (omega arith) uncaused,
               knows.0,
               knows.1,

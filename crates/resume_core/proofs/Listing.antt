@@ -20,7 +20,8 @@ use Rattle.plain_machine.specs.declared.event.Actor.TheVariants as actor
 use Rattle.plain_machine.specs.declared.reply.Reply.{Reply}
 use Rattle.plain_machine.specs.declared.reply.Reply.TheVariants as reply
 use Rattle.plain_machine.specs.declared.reply.Left.TheVariants.{Gone}
-use Rattle.protocol_laws.specs.LoadRows.{ReadRow, ReadFaultRow, GoneOnNext, IsFoundOn}
+use Rattle.protocol_laws.specs.LoadRows.{ReadRow, ReadFaultRow, GoneOnNext, IsFoundOn, IsReading}
+use Rattle.protocol_laws.proofs.OwnCauses.{own_sayable}
 use Rattle.protocol_laws.specs.Loads.{ShowsLoad}
 use Rattle.protocol_laws.specs.Rows as rows
 use Rattle.machine.specs.declared.machine.Machine.{Machine}
@@ -28,7 +29,7 @@ use Rattle.swap_slots.specs.Runs.{SlotRuns}
 use Rattle.resume_core.specs.Loading.{shown_by, activity_of}
 use Rattle.resume_core.specs.Ready.{CanStep, CanMake, CanRead}
 use Rattle.resume_core.specs.Reader.{HasAnswered}
-use Rattle.resume_core.specs.Row.{StandsFor, HasReader, IsRow, ListsOn, LeadsOn}
+use Rattle.resume_core.specs.Row.{StandsFor, StandsAfter, HasReader, IsRow, ListsOn, LeadsOn}
 use Rattle.resume_core.specs.declared.load.Load.{Load}
 use Rattle.resume_core.specs.declared.load.Stage.{Stage}
 use Rattle.resume_core.specs.declared.load.Stage.TheVariants as stage
@@ -46,15 +47,29 @@ use Rattle.resume_core.proofs.Finding.{knows_at, activity_is}
 use Rattle.resume_core.proofs.Answering.{goes_reply, no_want_before, more_to_read}
 use Rattle.resume_core.proofs.OwnImage.{none_read_yet}
 
+-- a resume that reads blocks of the chain, by the state that it stands for
+abbrev pub IsAtRead : Machine → Memory → Load → disk.Content → Type 0
+IsAtRead machine frames load c = (l : Resume) → StandsFor machine frames load c (loading l load.made) → (v : disk.Image) × IsReading machine.hw (shown_by machine frames load) c l v load.made
+
+pub at_list : (machine : Machine) (frames : Memory) (load : Load) (c : disk.Content) → IsHardware machine.hw → load.stage ≡ stage.List → 4 ≤ load.made → IsAtRead machine frames load c
+at_list machine frames load c hw at late l s =
+    let knows = knows_at machine frames load c l load.made stage.List at s in
+    (knows.0, record { hardware = hw; late = late; within = knows.3; stands = s.stands; found = knows.1.found; gone_on = knows.2 })
+
+pub at_read : (machine : Machine) (frames : Memory) (load : Load) (c : disk.Content) → IsHardware machine.hw → load.stage ≡ stage.Read → 4 ≤ load.made → IsAtRead machine frames load c
+at_read machine frames load c hw at late l s =
+    let knows = knows_at machine frames load c l load.made stage.Read at s in
+    (knows.0, record { hardware = hw; late = late; within = knows.3; stands = s.stands; found = knows.1.found; gone_on = knows.2 })
+
 -- the disk fails at a read
-pub read_failed_row : (machine : Machine) (frames : Memory) (load load' : Load) (c : disk.Content) → ReadFaultRow → activity_of load ≡ loads load.made → 4 ≤ load.made → load'.stage ≡ stage.Rest →
+pub read_failed_row : (machine : Machine) (frames : Memory) (load load' : Load) (c : disk.Content) → ReadFaultRow → activity_of load ≡ loads load.made → IsAtRead machine frames load c → load'.stage ≡ stage.Rest →
     IsRow machine frames load machine frames load' (event.Step actor.Core) (reply.ReadFault Gone) c c
-read_failed_row machine frames load load' c failed is late rest =
+read_failed_row machine frames load load' c failed is reads rest =
     row_at_load machine frames load machine frames load' (event.Step actor.Core) (reply.ReadFault Gone) c c load.made is
     (λ l s. (
       off nothing None,
-      leads machine frames load' (reply.ReadFault Gone) c c (loading l load.made) (off nothing None)
-          (failed machine.hw (shown_by machine frames load) (shown_by machine frames load') c l load.made late s.stands (activity_is load' stage.Rest rest, refl)) tt,
+      leads machine frames load' (reply.ReadFault Gone) c c (loading l load.made) (off nothing None) tt
+          (let at = reads l s in failed machine.hw (shown_by machine frames load) (shown_by machine frames load') c l at.0 load.made at.1 (activity_is load' stage.Rest rest, refl)) tt,
     ))
 
 -- up to here few blocks are read
@@ -94,10 +109,10 @@ few_made h v load t read few none =
     ]
 
 -- the page frames that wait are none, as those of an own image
-none_shown : (h : Hardware) (v : disk.Image) (l : Resume) (i : Image) (t k : ℕ) → 4 + t ≡ k → IsFoundOn h v l.found → l.found ≡ found_own i → told h v (pages_read t) ≡ None → [] ≡ take (data_read i k) (with_data i)
-none_shown h v l i t k is found own none =
+none_shown : (h : Hardware) (v : disk.Image) (l : Resume) (i : Image) (t k : ℕ) → IsHardware h → 4 + t ≡ k → IsFoundOn h v l.found → l.found ≡ found_own i → told h v (pages_read t) ≡ None → [] ≡ take (data_read i k) (with_data i)
+none_shown h v l i t k hw is found own none =
     let holds = subst (IsFoundOn h v) own found in
-    let zero : data_read i k ≡ 0 = subst (λ (n : ℕ). data_read i n ≡ 0) is (none_read_yet h v i t holds.0 holds.1 holds.2 none) in
+    let zero : data_read i k ≡ 0 = subst (λ (n : ℕ). data_read i n ≡ 0) is (none_read_yet h v i t holds.0 holds.1 (own_sayable h v i hw holds.1) none) in
     sym (ap (λ (n : ℕ). take n (with_data i)) zero)
 
 -- numbers are still to come
@@ -118,17 +133,17 @@ more_row machine frames load m reads next few unlisted counted c l v k read none
     let shows : ShowsLoad h (shown_by machine frames new) l (k + 1) = record {
       activity = refl;
       kept = read.kept;
-      read = λ i own. ap (λ (xs : List ℕ). zip xs (waiting_pages frames load.waiting)) waits ∙ none_shown h v l i (k - 4 + 1) (k + 1) (omega arith) read.found.found own none';
+      read = λ i own. ap (λ (xs : List ℕ). zip xs (waiting_pages frames load.waiting)) waits ∙ none_shown h v l i (k - 4 + 1) (k + 1) read.reading.hardware (omega arith) read.found.found own none';
     } in
     subst (λ (n : ℕ). LeadsOn machine frames (record load { stage = stage.List; made = n }) (reply.Loading n) c l k) (sym m_is) (
       loading l (k + 1),
-      leads machine frames new (reply.Loading (k + 1)) c c (loading l k) (loading l (k + 1))
+      leads machine frames new (reply.Loading (k + 1)) c c (loading l k) (loading l (k + 1)) tt
           (reads h read.shown (shown_by machine frames new) c l v k read.reading goes shows)
           (record {
             loader = same_loader h load new l refl refl read.loader;
             knows = (
               v,
-              found_still machine load new c c l v refl refl read.found.reads read.found,
+              found_still machine load new c c l v refl refl read.found.reads refl read.found,
               next h l v k read.reading.gone_on goes,
               omega arith,
               record { reader = reader; has = read.read.has; reading = subst (λ (t : ℕ). stream.IsReading h v load.check reader t load.origs.members load.zeros.members) at read.read.reading },
@@ -191,7 +206,7 @@ listed_on machine frames load mid machine' frames' load' result r c hardware at 
       whole = whole;
       reading = record { hardware = hardware; late = late; within = knows.3; stands = s.stands; found = knows.1.found; gone_on = knows.2 };
       loader = same_loader h load mid l (ap (λ (w : Awaiting). w.free) waiting) check s.resume.loader;
-      found = found_still machine load mid c c l v (ap (λ (x : Load). x.header) is) (ap (λ (x : Load). x.mark) is) knows.1.reads knows.1;
+      found = found_still machine load mid c c l v (ap (λ (x : Load). x.header) is) (ap (λ (x : Load). x.mark) is) knows.1.reads refl knows.1;
       sound = subst (λ (x : IdentCheck). step_cause h v x t ≡ None) s.resume.loader.check read.0;
       read = read.1;
       kept = s.stands.parts.1.kept;
@@ -199,7 +214,7 @@ listed_on machine frames load mid machine' frames' load' result r c hardware at 
     })
     knows.5 (ap (λ (w : Awaiting). w.originals) waiting ∙ knows.6) in (
       led.0,
-      subst (λ (x : Hardware). rows.Leads x (StandsFor machine' frames' load') (event.Step actor.Core) r c c (loading l load.made) led.0) same led.1,
+      subst (λ (x : Hardware). rows.Leads x (StandsAfter machine' frames' load') (event.Step actor.Core) r c c (loading l load.made) led.0) same led.1,
     ))
 
 pub list_can : (machine : Machine) (frames : Memory) (runs : SlotRuns) (load : Load) → load.stage ≡ stage.List → CanStep machine frames runs load → CanRead machine.blocks load × (4 ≤ load.made)

@@ -9,7 +9,10 @@ use Rattle.image_read.specs.Stream as stream
 use Rattle.image_laws.specs.ImageBlocks.{Tries}
 use Rattle.plain_machine.specs.Machine.{Hardware, Memory, IsHardware, block_of_slot}
 use Rattle.plain_machine.specs.Chain.{header_of, blocks_of}
-use Rattle.sig_header.specs.AreaKind.{mark_of}
+use Rattle.sig_header.specs.AreaKind.{mark_of, area_kind}
+use Rattle.plain_machine.specs.UsableArea.{area_block}
+use Rattle.protocol_laws.specs.Rows.{IsSameArea}
+use Rattle.protocol_laws.proofs.Areas.{same_of_kinds}
 use Rattle.plain_machine.specs.State.{off, loading, nothing, perhaps, held_while_loading, Load as Resume}
 use Rattle.plain_machine.specs.Trace.{info_in, taken_back_cause}
 use Rattle.plain_machine.specs.declared.event.Event.TheVariants as event
@@ -26,7 +29,7 @@ use Rattle.resume_core.specs.Loading.{shown_by}
 use Rattle.swap_slots.specs.Runs.{SlotRuns}
 use Rattle.resume_core.specs.Ready.{CanStep, CanMake, NoneListed}
 use Rattle.resume_core.specs.declared.load.Stage.{Stage}
-use Rattle.resume_core.specs.Row.{IsRow, HasFound}
+use Rattle.resume_core.specs.Row.{IsRow, HasFound, swap_area}
 use Rattle.resume_core.specs.declared.load.Load.{Load}
 use Rattle.resume_core.specs.declared.load.Stage.TheVariants as stage
 use Rattle.resume_core.proofs.Facts.{row_at_load, leads, same_loader, shows_none}
@@ -37,15 +40,21 @@ pub record HasFoundMark (machine : Machine) (load : Load) (v : disk.Image) : Typ
   pub mark : load.mark ≡ mark_of (header_of machine.hw v)
   pub blocks : machine.blocks ≡ blocks_of v
 
+-- disks with the same area have one area, if any
+pub same_swap_area : (h : Hardware) (v w : disk.Image) → IsSameArea h v w → swap_area (area_kind (area_block h w)) ≡ swap_area (area_kind (area_block h v))
+same_swap_area h v w same = same_of_kinds swap_area (area_block h w) (area_block h v) same.header (λ m n. refl)
+
 -- the image is found still, at another content
-pub found_still : (machine : Machine) (load load' : Load) (c c' : disk.Content) (l : Resume) (v : disk.Image) → load'.header ≡ load.header → load'.mark ≡ load.mark → Reads machine.hw v (Some c') → HasFound machine load c l v → HasFound machine load' c' l v
-found_still machine load load' c c' l v header mark reads found = record {
+pub found_still : (machine : Machine) (load load' : Load) (c c' : disk.Content) (l : Resume) (v : disk.Image) → load'.header ≡ load.header → load'.mark ≡ load.mark → Reads machine.hw v (Some c') →
+    swap_area (area_kind (area_block machine.hw (disk.as_it_reads c'))) ≡ swap_area (area_kind (area_block machine.hw (disk.as_it_reads c))) → HasFound machine load c l v → HasFound machine load' c' l v
+found_still machine load load' c c' l v header mark reads area found = record {
   found = found.found;
   uncaused = found.uncaused;
   header = header ∙ found.header;
   mark = mark ∙ found.mark;
   reads = reads;
   blocks = found.blocks;
+  area = area ∙ found.area ∙ ap (λ (p : List ℕ). swap_area (area_kind (taken_back p))) (sym header);
 }
 
 reads_after : (h : Hardware) (v : disk.Image) (page : List ℕ) (c c' : disk.Content) → Reads h v (Some c) → Tries (block_of_slot h 0) page c c' → Reads h v (Some c')
@@ -62,16 +71,16 @@ back_row machine frames load c c' made none_read next hardware at whole whole' w
     let new = record load { stage = stage.SyncBack } in
     row_at_load machine frames load machine frames new (event.Step actor.Core) (reply.Loading 3) c c' 2 (activity_is load stage.TakeBack at)
     (λ l s.
-    let knows = knows_at machine frames load c l 2 stage.TakeBack at s in (
+    let knows = knows_at machine frames load c l 2 stage.TakeBack at s in
+    let goes = made machine.hw (shown_by machine frames load) (shown_by machine frames new) c c' machine.blocks l knows.0 hardware whole whole' s.stands knows.1.found knows.2 writes
+    (shows_none machine frames load new c l l 2 3 none_read s refl refl refl (omega arith) knows.5) in (
       loading l 3,
-      leads machine frames new (reply.Loading 3) c c' (loading l 2) (loading l 3)
-          (made machine.hw (shown_by machine frames load) (shown_by machine frames new) c c' machine.blocks l knows.0 hardware whole whole' s.stands knows.1.found knows.2 writes
-          (shows_none machine frames load new c l l 2 3 none_read s refl refl refl (omega arith) knows.5))
+      leads machine frames new (reply.Loading 3) c c' (loading l 2) (loading l 3) tt goes
           (record {
             loader = same_loader machine.hw load new l refl refl s.resume.loader;
             knows = (
               knows.0,
-              found_still machine load new c c' l knows.0 refl refl (reads_after machine.hw knows.0 (taken_back load.header) c c' knows.1.reads (inl writes)) knows.1,
+              found_still machine load new c c' l knows.0 refl refl (reads_after machine.hw knows.0 (taken_back load.header) c c' knows.1.reads (inl writes)) (same_swap_area machine.hw (disk.as_it_reads c) (disk.as_it_reads c') goes.area) knows.1,
               next machine.hw l knows.0 2 knows.2 refl,
               knows.3,
               knows.4,
@@ -87,7 +96,7 @@ back_failed_row machine frames load c c' failed hardware at whole whole' tries =
     (λ l s.
     let knows = knows_at machine frames load c l 2 stage.TakeBack at s in (
       off (perhaps (held_while_loading l 2)) None,
-      leads machine frames (stopped load) (reply.WriteFault Unsure) c c' (loading l 2) (off (perhaps (held_while_loading l 2)) None)
+      leads machine frames (stopped load) (reply.WriteFault Unsure) c c' (loading l 2) (off (perhaps (held_while_loading l 2)) None) tt
           (failed machine.hw (shown_by machine frames load) (shown_by machine frames (stopped load)) c c' machine.blocks l knows.0 hardware whole whole' s.stands knows.1.found tries (refl, refl)) tt,
     ))
 
@@ -105,16 +114,16 @@ opened_row machine frames load r c c' synced none_read next hardware at whole sy
     (λ l s.
     let knows = knows_at machine frames load c l 3 stage.SyncBack at s in
     let v = knows.0 in
-    let opened_at = opens v (record { mark = knows.1.mark; blocks = sym knows.1.blocks }) in (
+    let opened_at = opens v (record { mark = knows.1.mark; blocks = sym knows.1.blocks }) in
+    let goes = synced machine.hw (shown_by machine frames load) (shown_by machine frames new) c c' machine.blocks l v hardware whole s.stands knows.1.found knows.2 syncs opened_at.0
+    (shows_none machine frames load new c l l 3 4 none_read s refl refl refl (omega arith) knows.5) in (
       loading l 4,
-      leads machine frames new (reply.Loading 4) c c' (loading l 3) (loading l 4)
-          (synced machine.hw (shown_by machine frames load) (shown_by machine frames new) c c' machine.blocks l v hardware whole s.stands knows.1.found knows.2 syncs opened_at.0
-          (shows_none machine frames load new c l l 3 4 none_read s refl refl refl (omega arith) knows.5))
+      leads machine frames new (reply.Loading 4) c c' (loading l 3) (loading l 4) tt goes
           (record {
             loader = same_loader machine.hw load new l refl refl s.resume.loader;
             knows = (
               v,
-              found_still machine load new c c' l v refl refl (reads_synced machine.hw v c c' knows.1.reads syncs) knows.1,
+              found_still machine load new c c' l v refl refl (reads_synced machine.hw v c c' knows.1.reads syncs) (same_swap_area machine.hw (disk.as_it_reads c) (disk.as_it_reads c') goes.area) knows.1,
               next machine.hw l v 3 knows.2 (ap (λ (o : Option Reply). unwrap_or o (reply.Loading 4)) opened_at.0),
               (let two = two_places (info_in machine.hw v).pages in omega arith),
               record {
@@ -136,7 +145,7 @@ back_stopped_row machine frames load c c' why stops hardware at whole syncs caus
     let knows = knows_at machine frames load c l 3 stage.SyncBack at s in
     let v = knows.0 in (
       off nothing None,
-      leads machine frames (stopped load) why c c' (loading l 3) (off nothing None)
+      leads machine frames (stopped load) why c c' (loading l 3) (off nothing None) tt
           (stops machine.hw (shown_by machine frames load) (shown_by machine frames (stopped load)) c c' machine.blocks l v why hardware whole s.stands knows.1.found knows.2 syncs
           (cause v (record { mark = knows.1.mark; blocks = sym knows.1.blocks })) (refl, refl)) tt,
     ))
@@ -146,7 +155,7 @@ back_sync_failed_row machine frames load c failed at =
     row_at_load machine frames load machine frames (stopped load) (event.Step actor.Core) (reply.SyncFault Unsure) c c 3 (activity_is load stage.SyncBack at)
     (λ l s. (
       off (perhaps (held_while_loading l 2)) None,
-      leads machine frames (stopped load) (reply.SyncFault Unsure) c c (loading l 3) (off (perhaps (held_while_loading l 2)) None)
+      leads machine frames (stopped load) (reply.SyncFault Unsure) c c (loading l 3) (off (perhaps (held_while_loading l 2)) None) tt
           (failed machine.hw (shown_by machine frames load) (shown_by machine frames (stopped load)) c l s.stands (refl, refl)) tt,
     ))
 

@@ -5,7 +5,6 @@ use Rattle.swap_slots.specs.Runs.{SlotRuns}
 use Rattle.swap_slots.specs.Table.{LiesIn, Matches}
 use Rattle.plain_machine.specs.Machine.{Memory, IsHardware, block_of_slot}
 use Rattle.plain_machine.specs.UsableArea.{fit_fault}
-use Rattle.image_laws.specs.Decoding.{IsIdent}
 use Rattle.image_read.specs.Reading.{Reading, IsReady}
 use Rattle.protocol_laws.specs.Writers.{slot_table_of}
 use Rattle.machine.specs.declared.machine.Machine.{Machine}
@@ -51,7 +50,6 @@ CanMake stage.Read machine frames runs load = CanRead machine.blocks load × (4 
 -- A resume over this machine: memory has its page frames, the runs have room for its slots, and the sets are over its zones.
 pub record IsOver (machine : Machine) (frames : Memory) (runs : SlotRuns) (load : Load) : Type 0 where
   pub hardware : IsHardware machine.hw
-  pub ident : IsIdent machine.hw.ident
   pub few : machine.blocks < 2 ^ 32
   pub size : length frames ≡ top machine.hw.zones
   pub table : LiesIn frames (slot_table_of machine.hw)

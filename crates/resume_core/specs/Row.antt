@@ -1,15 +1,20 @@
 -- The rows of the plain machine that a resume makes.
-use Rattle.std.specs.Prelude.{◌≡◌, ◌<◌, ℕ, ◌+◌, ◌-◌, [], Contains, Option, Some, None, ⊤}
+use Rattle.std.specs.Prelude.{◌≡◌, ◌<◌, ℕ, ◌+◌, ◌-◌, [], Contains, Option, Some, None, Ok, ⊤}
 use Rattle.definitions.specs.Disk as disk
 use Rattle.definitions.specs.Tables.{frame}
 use Rattle.definitions.specs.Zones.{top}
-use Rattle.sig_header.specs.AreaKind.{mark_of}
+use Rattle.definitions.specs.SwapHeader.{taken_back}
+use Rattle.sig_header.specs.AreaKind.{mark_of, area_kind}
+use Rattle.sig_header.specs.declared.area.Area.{Area}
+use Rattle.sig_header.specs.declared.area.AreaKind.{AreaKind}
+use Rattle.sig_header.specs.declared.area.AreaKind.TheVariants.{Image, Old, Other, BadArea, Swap}
 use Rattle.page_restore.specs.Waiting.{Awaiting, waiting_pages}
 use Rattle.plain_machine.specs.Machine.{Hardware, Memory}
 use Rattle.plain_machine.specs.Chain.{header_of, blocks_of}
 use Rattle.plain_machine.specs.Loader.{left_free, loader_frame}
+use Rattle.plain_machine.specs.UsableArea.{area_block}
 use Rattle.plain_machine.specs.Shows.{Shown}
-use Rattle.plain_machine.specs.State.{State, off, on, booting, hibernating, undoing, settling, waking, loading, asleep, Held, Load as Resume}
+use Rattle.plain_machine.specs.State.{State, off, on, booting, hibernating, undoing, settling, waking, loading, asleep, Running, Held, Load as Resume}
 use Rattle.plain_machine.specs.Stands.{Stands}
 use Rattle.plain_machine.specs.Trace.{info_in, place_count, header_cause, step_cause, want_cause, place}
 use Rattle.plain_machine.specs.declared.event.Event.{Event}
@@ -41,7 +46,15 @@ pub record HasLoader (h : Hardware) (load : Load) (l : Resume) : Type 0 where
   pub free : load.waiting.free ≡ left_free h l.dump l.loader
   pub check : load.check ≡ l.check
 
--- The image was found on the disk v, and the disk with this content reads like it but for block(0).
+-- the area of a header block that is one's
+abbrev pub swap_area : AreaKind → Option Area
+swap_area (Image mark) = None
+swap_area Old = None
+swap_area (Other sig) = None
+swap_area (BadArea why) = None
+swap_area (Swap area) = Some area
+
+-- The image was found on the disk v, and the disk with this content reads like it but for block(0), which taken back says the same area.
 pub record HasFound (machine : Machine) (load : Load) (c : disk.Content) (l : Resume) (v : disk.Image) : Type 0 where
   pub found : IsFoundIn machine.hw l v
   pub uncaused : header_cause machine.hw v ≡ None
@@ -49,6 +62,7 @@ pub record HasFound (machine : Machine) (load : Load) (c : disk.Content) (l : Re
   pub mark : load.mark ≡ mark_of (header_of machine.hw v)
   pub reads : Reads machine.hw v (Some c)
   pub blocks : blocks_of v ≡ machine.blocks
+  pub area : swap_area (area_kind (area_block machine.hw (disk.as_it_reads c))) ≡ swap_area (area_kind (taken_back load.header))
 
 -- The reader has read the first t places of the disk v.
 pub record HasReader (h : Hardware) (v : disk.Image) (load : Load) (t : ℕ) : Type 0 where
@@ -102,20 +116,42 @@ pub record StandsFor (machine : Machine) (frames : Memory) (load : Load) (c : di
   pub stands : Stands machine.hw (shown_by machine frames load) c a
   pub resume : IsOfState machine frames load c a
 
+-- A resume that has ended leaves just the memory of the state that runs, free page frames too, and the area that the header block says.
+pub record HasResumed (machine : Machine) (frames : Memory) (c : disk.Content) (a : Running) : Type 0 where
+  pub memory : frames ≡ a.memory
+  pub area : (area : Area) × (machine.area ≡ Ok area) × (swap_area (area_kind (area_block machine.hw (disk.as_it_reads c))) ≡ Some area)
+
+abbrev pub HasEnded : Machine → Memory → disk.Content → State → Type 0
+HasEnded machine frames c (on a) = HasResumed machine frames c a
+HasEnded machine frames c (off held kept) = ⊤
+HasEnded machine frames c (booting from dump held k) = ⊤
+HasEnded machine frames c (hibernating suspends i a k) = ⊤
+HasEnded machine frames c (undoing i call a k) = ⊤
+HasEnded machine frames c (settling a k) = ⊤
+HasEnded machine frames c (waking i held a k) = ⊤
+HasEnded machine frames c (loading load k) = ⊤
+HasEnded machine frames c (asleep i held a) = ⊤
+
+-- what a machine shows after a step of a resume, and its disk, stand for a state, where a machine that runs has just resumed
+pub record StandsAfter (machine : Machine) (frames : Memory) (load : Load) (c : disk.Content) (a : State) : Type 0 where
+  pub stands : Stands machine.hw (shown_by machine frames load) c a
+  pub resume : IsOfState machine frames load c a
+  pub ended : HasEnded machine frames c a
+
 -- the row of an event over these contents of the disk, and over a disk that tells its content
 abbrev pub IsRow : Machine → Memory → Load → Machine → Memory → Load → Event → Reply → disk.Content → disk.Content → Type 0
 IsRow machine frames load machine' frames' load' e r c c' =
-    rows.IsRow machine.hw (StandsFor machine frames load) (StandsFor machine' frames' load') e r c c'
+    rows.IsRow machine.hw (StandsFor machine frames load) (StandsAfter machine' frames' load') e r c c'
 
 abbrev pub HasRow : Machine → Memory → Load → Machine → Memory → Load → Event → Reply → Option disk.Content → Option disk.Content → Type 0
 HasRow machine frames load machine' frames' load' e r before now =
-    rows.HasRow machine.hw (StandsFor machine frames load) (StandsFor machine' frames' load') e r before now
+    rows.HasRow machine.hw (StandsFor machine frames load) (StandsAfter machine' frames' load') e r before now
 
 -- the row of a begin, from each state of a machine that is off
 abbrev pub BeginsRow : Machine → Memory → Load → Loader → IdentCheck → Reply → Type 0
 BeginsRow machine frames' load' loader check r =
     (shown : Shown) (c : disk.Content) (held : Held) (kept : Option Memory) → ShowsRest shown → Stands machine.hw shown c (off held kept) →
-    (b : State) × rows.Leads machine.hw (StandsFor machine frames' load') (event.Resume loader check) r c c (off held kept) b
+    (b : State) × rows.Leads machine.hw (StandsAfter machine frames' load') (event.Resume loader check) r c c (off held kept) b
 
 -- A block was read at the step behind k others, and neither it nor the block behind it is at fault. What the machine showed before
 -- stood for the state.
@@ -133,7 +169,7 @@ pub record HasRead (machine : Machine) (frames : Memory) (load : Load) (c : disk
 -- where the reply leads, from the state that is at that step
 abbrev pub LeadsOn : Machine → Memory → Load → Reply → disk.Content → Resume → ℕ → Type 0
 LeadsOn machine' frames' load' r c l k =
-    (b : State) × rows.Leads machine'.hw (StandsFor machine' frames' load') (event.Step actor.Core) r c c (loading l k) b
+    (b : State) × rows.Leads machine'.hw (StandsAfter machine' frames' load') (event.Step actor.Core) r c c (loading l k) b
 
 -- of the page frames that the image names, not all were listed before; the reader tells whether they are now
 abbrev pub ListsOn : Machine → Memory → Load → Machine → Memory → Load → Reply → Type 0

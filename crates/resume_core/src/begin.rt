@@ -16,6 +16,7 @@ const FILL: u8 = 165;
 // The begin of a resume.
 impl Load {
     ghost use Rattle.plain_machine.specs.declared.event.Loader.TheVariants as loader;
+    ghost use Rattle.plain_machine.specs.declared.reply.Reply.TheVariants as reply;
     ghost use Rattle.swap_slots.specs.Runs.{SlotRuns};
     ghost use Rattle.resume_core.specs.Loading.{activity_of, activity_told, is_idle};
     ghost use Rattle.resume_core.specs.Ready.{CanBegin, CanStep};
@@ -33,13 +34,13 @@ impl Load {
         ensures row { BeginsRow machine.now frames.new self.new (loader.Ranges ranges.now) check result }
         ensures activity { activity_of self.new ≡ activity_told result }
         ensures ready { (runs : SlotRuns) → machine.now.hw.slots ≤ runs.room → CanStep machine.now frames.new runs self.new }
+        ensures begun { result ≡ reply.Loading 0 }
         ensures no_fault { IsNewFault result → ⊥ }
     {
         load_begins();
         meets_rows();
-        // Only what is read is known to be of its type.
+        // Only what is read is known to have the size of its type.
         let _blocks = machine.blocks;
-        let _ident = machine.hw.ident();
         fill_all(frames);
         self.waiting.begin(machine.hw.zones(), held_ranges(ranges));
         self.origs.clear_all();

@@ -1,6 +1,9 @@
 ghost use Rattle.std.specs.Prelude.{◌≡◌, ◌≤◌, ◌<◌, ℕ, false, true, length, Some, None, IfOk, MatchResult};
 ghost use Rattle.definitions.specs.Disk.{Image};
+ghost use Rattle.definitions.specs.SwapHeader.{taken_back};
 ghost use Rattle.definitions.specs.Zones.{top};
+ghost use Rattle.sig_header.specs.AreaKind.{area_kind};
+ghost use Rattle.sig_header.specs.declared.area.AreaKind.TheVariants.{Swap};
 ghost use Rattle.plain_machine.specs.Chain.{header_of, blocks_of, Marked};
 ghost use Rattle.plain_machine.specs.Trace.{tables_cause};
 ghost use Rattle.plain_machine.specs.UsableArea.{fit_fault};
@@ -85,6 +88,7 @@ impl Load {
 fn restored_area(hw: &Hardware, blocks: u32, frames: &Frames, header: &Page) -> Result<Area, u32>
     requires { length frames.now ≡ top hw.now.zones }
     ensures fits { IfOk result (λ area. fit_fault hw.now blocks area ≡ None) }
+    ensures kind { IfOk result (λ area. area_kind (taken_back header.now) ≡ Swap area) }
     ensures tables { (v : Image) → header.now ≡ header_of hw.now v → blocks ≡ blocks_of v → Marked hw.now v →
         MatchResult result (λ area. tables_cause hw.now v frames.now ≡ None) (λ f. tables_cause hw.now v frames.now ≡ Some (reply.BadTables f)) }
 {

@@ -67,6 +67,7 @@ pub struct Load {
 impl Load {
     ghost use Rattle.plain_machine.specs.declared.event.Event.TheVariants as event;
     ghost use Rattle.plain_machine.specs.declared.event.Actor.TheVariants as actor;
+    ghost use Rattle.plain_machine.specs.declared.reply.Reply.TheVariants as reply;
     ghost use Rattle.resume_core.specs.declared.load.Stage.TheVariants as stage;
     ghost use Rattle.resume_core.specs.Loading.{activity_of, activity_told, is_idle};
     ghost use Rattle.resume_core.specs.Ready.{CanBegin, CanStep, IsBusy, IsSameMachine};
@@ -107,6 +108,7 @@ impl Load {
         ensures row { (loader : Loader) (check : IdentCheck) → start ≡ starts.Resume loader check → BeginsRow machine.now frames.new self.new loader check result }
         ensures activity { activity_of self.new ≡ activity_told result }
         ensures ready { (runs : SlotRuns) → machine.now.hw.slots ≤ runs.room → CanStep machine.now frames.new runs self.new }
+        ensures begun { result ≡ reply.Loading 0 }
         ensures no_fault { IsNewFault result → ⊥ }
     {
         match start {

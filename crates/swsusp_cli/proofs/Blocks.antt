@@ -1,7 +1,8 @@
 -- Blocks on which no slot of the area lies: no event writes them.
-use Rattle.std.proofs.Common.{zero, suc, ◌≡◌, ◌≢◌, ◌⊎◌, inl, inr, ◌<◌, ℕ, ◌+◌, ◌/◌, Bool, true, false, cond, List, [], ◌∷◌, length, map, eqb, set, get_or, slice_index_or, Contains, refl, sym, ◌∙◌, subst, arith}
-use Rattle.std.proofs.lemmas.Bool.{cases_lt}
+use Rattle.std.proofs.Common.{zero, suc, ◌≡◌, ◌≢◌, ◌⊎◌, inl, inr, ◌<◌, ℕ, ◌+◌, ◌/◌, ◌==◌, nat_lt, Bool, true, false, ◌&&◌, cond, List, [], ◌∷◌, length, map, flat_map, eqb, Option, Some, None, set, get_or, slice_index_or, Contains, refl, sym, ◌∙◌, subst, arith}
+use Rattle.std.proofs.lemmas.Bool.{cases_lt, ltb-true}
 use Rattle.std.proofs.lemmas.List.{get_or-set_same, get_or-set_other, length-set, get_or_past, get_or_default}
+use Rattle.std.proofs.lemmas.List.Elements.{Contains-append_cases}
 use Rattle.std.specs.List.{range_with_len}
 use Rattle.definitions.specs.Disk as disk
 use Rattle.definitions.proofs.DiskLaws.{IsImage-as_it_reads, length-as_it_reads}
@@ -10,9 +11,10 @@ use Rattle.definitions.proofs.ZoneNumbers.{range-bounds}
 use Rattle.plain_machine.specs.Machine.{Hardware, Memory, block_of_slot, unused_slots, slot_entry}
 use Rattle.plain_machine.specs.Image.{Image, stream_of, maps_of}
 use Rattle.plain_machine.specs.Laid.{laid, laid_block, laid_map, laid_write, is_map_write, map_place, page_place, page_of_write}
-use Rattle.plain_machine.specs.Stands.{laid_blocks}
-use Rattle.plain_machine.specs.State.{State, Running, off, on, booting, hibernating, undoing, settling, waking, loading, asleep}
-use Rattle.protocol_laws.specs.Rows.{LeavesBlock, blocks_written}
+use Rattle.plain_machine.specs.Shows.{Shown}
+use Rattle.plain_machine.specs.Stands.{Stands, HasFlights, laid_blocks}
+use Rattle.plain_machine.specs.State.{State, Running, Flight, goes_out, comes_in, off, on, booting, hibernating, undoing, settling, waking, loading, asleep}
+use Rattle.protocol_laws.specs.Rows.{LeavesBlock, blocks_written, out_block}
 use Rattle.swsusp_cli.specs.Replay.{IsNoSlot}
 
 -- Over two changes a block is left, where each leaves it.
@@ -114,17 +116,37 @@ image_of_slot : (h : Hardware) (a : Running) (i : Image) (b : ℕ) → 0 < h.slo
 image_of_slot h a i b some (zero, lt, e) = (0, some, e)
 image_of_slot h a i b some (suc k, lt, e) = laid_of_slot h a i b some (k, omega arith, e)
 
-written_of_slot : (h : Hardware) (a : State) (b : ℕ) → 0 < h.slots → Contains (blocks_written h a) b → IsOfSlot h b
-written_of_slot h (off held kept) b some (k, lt, e) = absurd (omega arith)
-written_of_slot h (on a) b some (k, lt, e) = absurd (omega arith)
-written_of_slot h (booting from dump held n) b some (k, lt, e) = absurd (omega arith)
-written_of_slot h (hibernating suspends i a k) b some in' = image_of_slot h a i b some in'
-written_of_slot h (undoing i call a k) b some in' = header_of_slot h b some in'
-written_of_slot h (settling a k) b some in' = header_of_slot h b some in'
-written_of_slot h (waking i held a k) b some in' = header_of_slot h b some in'
-written_of_slot h (loading load k) b some in' = header_of_slot h b some in'
-written_of_slot h (asleep i held a) b some (k, lt, e) = absurd (omega arith)
+-- an unfinished out goes to a slot of the area
+left_of_both : (x y : Bool) → (x && y) ≡ true → x ≡ true
+left_of_both true y e = refl
+left_of_both false y e = e
+
+out_of_slot : (h : Hardware) (a : Running) → HasFlights h a → (t : ℕ) (flight : Option Flight) (b : ℕ) → a.flights t ≡ flight → Contains (out_block h flight) b → IsOfSlot h b
+out_of_slot h a has t None b is (k, lt, e) = absurd (omega arith)
+out_of_slot h a has t (Some (goes_out s p)) b is (zero, lt, e) =
+    (s, ltb-true s h.slots (left_of_both (nat_lt s h.slots) (slot_entry h a.memory s == t) (has.outs t s p is).slot), e)
+out_of_slot h a has t (Some (goes_out s p)) b is (suc k, lt, e) = absurd (omega arith)
+out_of_slot h a has t (Some (comes_in s p)) b is (k, lt, e) = absurd (omega arith)
+
+outs_of_slots : (h : Hardware) (a : Running) → HasFlights h a → (ts : List ℕ) (b : ℕ) → Contains (flat_map (λ t. out_block h (a.flights t)) ts) b → IsOfSlot h b
+outs_of_slots h a has [] b (k, lt, e) = absurd (omega arith)
+outs_of_slots h a has (t ∷ ts) b in' =
+    elim (Contains-append_cases (out_block h (a.flights t)) (flat_map (λ u. out_block h (a.flights u)) ts) b in') [
+      | inl here ↦ out_of_slot h a has t (a.flights t) b refl here
+      | inr there ↦ outs_of_slots h a has ts b there
+    ]
+
+written_of_slot : (h : Hardware) (shown : Shown) (c : disk.Content) (a : State) (b : ℕ) → Stands h shown c a → 0 < h.slots → Contains (blocks_written h a) b → IsOfSlot h b
+written_of_slot h shown c (off held kept) b stands some (k, lt, e) = absurd (omega arith)
+written_of_slot h shown c (on a) b stands some in' = outs_of_slots h a stands.parts.1.flights (range_with_len 1 64) b in'
+written_of_slot h shown c (booting from dump held n) b stands some (k, lt, e) = absurd (omega arith)
+written_of_slot h shown c (hibernating suspends i a k) b stands some in' = image_of_slot h a i b some in'
+written_of_slot h shown c (undoing i call a k) b stands some in' = header_of_slot h b some in'
+written_of_slot h shown c (settling a k) b stands some in' = header_of_slot h b some in'
+written_of_slot h shown c (waking i held a k) b stands some in' = header_of_slot h b some in'
+written_of_slot h shown c (loading load k) b stands some in' = header_of_slot h b some in'
+written_of_slot h shown c (asleep i held a) b stands some (k, lt, e) = absurd (omega arith)
 
 -- a block on which no slot lies isn't written
-pub unwritten_here : (h : Hardware) (a : State) (b : ℕ) → 0 < h.slots → IsNoSlot h b → Contains (blocks_written h a) b → ⊥
-unwritten_here h a b some none in' = let is = written_of_slot h a b some in' in none is.0 is.1 is.2
+pub unwritten_here : (h : Hardware) (shown : Shown) (c : disk.Content) (a : State) (b : ℕ) → Stands h shown c a → 0 < h.slots → IsNoSlot h b → Contains (blocks_written h a) b → ⊥
+unwritten_here h shown c a b stands some none in' = let is = written_of_slot h shown c a b stands some in' in none is.0 is.1 is.2

@@ -10,6 +10,7 @@ use Rattle.definitions.specs.Disk as disk
 use Rattle.definitions.specs.Streams.{Takes, TakesAll, TakesFront}
 use Rattle.plain_machine.specs.Machine.{Hardware}
 use Rattle.plain_machine.specs.Replies.{text_of, line_of}
+use Rattle.plain_machine.specs.Stands.{Stands}
 use Rattle.plain_machine.specs.State.{State}
 use Rattle.plain_machine.specs.Step.{Step, Run}
 use Rattle.plain_machine.specs.declared.event.Event.{Event}
@@ -20,7 +21,7 @@ use Rattle.protocol_laws.specs.Rows.{IsSameArea, IsNewFault, LeavesBlock, blocks
 use Rattle.protocol_laws.proofs.Unwritten.{block_same}
 use Rattle.script.specs.Shapes.{IsScripted}
 use Rattle.world_core.specs.Row.{HasRow, IsServed, IsStep, IsCalled, orders_after}
-use Rattle.world_core.specs.StandsFor.{hardware_of}
+use Rattle.world_core.specs.StandsFor.{hardware_of, shown}
 use Rattle.world_core.specs.World.{World}
 use Rattle.swsusp_cli.specs.Playing.{Played, HasPlayed}
 use Rattle.swsusp_cli.specs.Replay.{is_step, steps_of, is_cut, restarted, restarts_by, AreCounted}
@@ -171,6 +172,7 @@ run_then old mid new es rs e r blocks between now c s same stays whole so_far ro
     let step : Step h v so_far.1 e r goes.0 =
     same h v w so_far.1 e r goes.0 was.area was.of_replay (subst (λ (g : Hardware). Step g w so_far.1 e r goes.0) hw goes.1.step) in
     let area : IsSameArea h w (disk.as_it_reads turn.0) = subst (λ (g : Hardware). IsSameArea g w (disk.as_it_reads turn.0)) hw goes.1.area in
+    let here : Stands h (shown mid) so_far.0 so_far.1 = subst (λ (g : Hardware). Stands g (shown mid) so_far.0 so_far.1) hw was.stands.stands in
     let leaves : (b : ℕ) → (Contains (blocks_written h so_far.1) b → ⊥) → LeavesBlock b so_far.0 turn.0 =
     subst (λ (g : Hardware). (b : ℕ) → (Contains (blocks_written g so_far.1) b → ⊥) → LeavesBlock b so_far.0 turn.0) hw goes.1.unwritten in (
       turn.0,
@@ -182,7 +184,7 @@ run_then old mid new es rs e r blocks between now c s same stays whole so_far ro
         stands = goes.1.stands;
         of_replay = stays h v so_far.1 e r goes.0 was.of_replay step;
         unwritten = λ some b none.
-            leaves_then blocks b c so_far.0 turn.0 (whole_of blocks between so_far.0 was.told whole) (was.unwritten some b none) (leaves b (unwritten_here h so_far.1 b some none));
+            leaves_then blocks b c so_far.0 turn.0 (whole_of blocks between so_far.0 was.told whole) (was.unwritten some b none) (leaves b (unwritten_here h (shown mid) so_far.0 so_far.1 b here some none));
       },
     )
 

@@ -66,6 +66,7 @@ no_dump w c core =
         stands = stands;
         area = same_area (hardware_of w) (disk.as_it_reads c) (disk.as_it_reads c) refl;
         unwritten = λ b not. block_same b _;
+        leaves = tt;
       },
     ))
 
@@ -92,6 +93,7 @@ boot_begins old new c core core' hw frames =
         stands = begun_stands old new c held kept (unwrap_or kept []) core' hw frames stands;
         area = same_area (hardware_of old) (disk.as_it_reads c) (disk.as_it_reads c) refl;
         unwritten = λ b not. block_same b _;
+        leaves = tt;
       },
     ))
 
@@ -128,6 +130,7 @@ boot_syncs old new blocks c c' whole syncs core core' hw frames =
         stands = synced_stands old new blocks c c' dump held whole syncs core' hw frames stands;
         area = same_area (hardware_of old) (disk.as_it_reads c) (disk.as_it_reads c') (reads_after_sync c c' syncs);
         unwritten = λ b not. block_synced blocks b c c' whole syncs;
+        leaves = tt;
       },
     ))
 
@@ -152,5 +155,6 @@ boot_sync_fails old new c core core' hw =
         stands = failed_stands old new c dump held 0 core' hw stands;
         area = same_area (hardware_of old) (disk.as_it_reads c) (disk.as_it_reads c) refl;
         unwritten = λ b not. block_same b _;
+        leaves = tt;
       },
     ))

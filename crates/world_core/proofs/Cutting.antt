@@ -48,5 +48,6 @@ row_of_cut old new pick blocks c c' cuts_off keeps whole restarts core hw = λ a
         };
         area = keeps h (shown old) c c' blocks a whole stands.stands restarts;
         unwritten = λ b not. block_cut b c c' restarts;
+        leaves = tt;
       },
     )

@@ -1,6 +1,6 @@
 -- The row of a boot's end.
 use Rattle.protocol_laws.proofs.Unwritten.{block_same}
-use Rattle.std.proofs.Common.{◌≡◌, ◌⊎◌, inl, inr, ℕ, ◌<◌, ◌^◌, Bool, true, false, cond, not, ◌&&◌, List, [], ◌∷◌, ◌++◌, Some, None, Result, Ok, Err, refl, sym, ap, ◌∙◌, arith, subst, eqb, ⊎_elim}
+use Rattle.std.proofs.Common.{◌≡◌, ◌⊎◌, inl, inr, ℕ, ◌<◌, ◌≤◌, ◌^◌, Bool, true, false, cond, not, ◌&&◌, List, [], ◌∷◌, ◌++◌, Some, None, Result, Ok, Err, refl, sym, ap, ◌∙◌, arith, subst, eqb, ⊎_elim}
 use Rattle.std.proofs.lemmas.Bool.{cases_eq, eqb-true}
 use Rattle.std.proofs.lemmas.Option.{none-some}
 use Rattle.std.specs.List.{Contains, range_with_len, list_all}
@@ -15,7 +15,9 @@ use Rattle.plain_machine.specs.Chain.{Marked}
 use Rattle.plain_machine.specs.Loader.{has}
 use Rattle.plain_machine.specs.UsableArea.{area_block, area_fault, bad_set_fault, bad_slots_of}
 use Rattle.plain_machine.specs.State.{off, on, booting, Held, nothing, sure, maybe, own, other}
-use Rattle.plain_machine.specs.Stands.{Stands, IsHeld, IsHeader, HasOneImage, NamesHeld}
+use Rattle.plain_machine.specs.Stands.{Stands, IsHeld, IsHeader, IsOwn, IsTaskSlot, HasOneImage, NamesOwn, NamesHeld}
+use Rattle.plain_machine.specs.Image.{Image}
+use Rattle.plain_machine.proofs.BadSlots.{no_flights-owned, dump_area-of}
 use Rattle.plain_machine.specs.Step.{fresh_frames, fresh_memory, fresh_slot, with_each_entry, booted, boot_outcomes}
 use Rattle.plain_machine.specs.Shows.{Shown, seen_frames, ShowsHeld, ShowsRunning}
 use Rattle.plain_machine.specs.declared.event.BootFrom.TheVariants.{Fresh}
@@ -141,12 +143,27 @@ shows_running old new v image dump now ends hw none fresh flag =
           (λ s. ap (is_slot_entry s) (sym (slot_read h v new.machine.area s ends.area)) ∙ slot_well new.machine.area s);
     }
 
-names_none : (h : Hardware) (s : Shown) (c : disk.Content) (held : Held) → ((k : ℕ) → k < h.slots → raw_slot_entry h s.frames k ≡ image_slot → ⊥) → NamesHeld h s c held
-names_none h s c nothing plain = λ k lt e. absurd (plain k lt e)
-names_none h s c (sure (own i)) plain = λ v in' marked k lt e. absurd (plain k lt e)
-names_none h s c (sure other) plain = tt
-names_none h s c (maybe (own i)) plain = λ v in' marked k lt e. absurd (plain k lt e)
-names_none h s c (maybe other) plain = tt
+names_own : (h : Hardware) (s : Shown) (v : disk.Image) (i : Image) → ((k : ℕ) → k < h.slots → raw_slot_entry h s.frames k ≡ image_slot → ⊥) → IsOwn h v i → NamesOwn h s i
+names_own h s v i plain is = record { memory = is.of_memory.0; image = is.of_memory.1.image; names = λ k lt e. absurd (plain k lt e) }
+
+names_none : (h : Hardware) (s : Shown) (c : disk.Content) (held : Held) → disk.IsImage c (disk.as_it_reads c) → ((k : ℕ) → k < h.slots → raw_slot_entry h s.frames k ≡ image_slot → ⊥) → IsHeld h c held → NamesHeld h s held
+names_none h s c nothing here plain is = λ k lt e. absurd (plain k lt e)
+names_none h s c (sure (own i)) here plain is = names_own h s (disk.as_it_reads c) i plain (is (disk.as_it_reads c) here).1
+names_none h s c (sure other) here plain is = λ k lt e. absurd (plain k lt e)
+names_none h s c (maybe (own i)) here plain is = names_own h s (disk.as_it_reads c) i plain (is (disk.as_it_reads c) here).1
+names_none h s c (maybe other) here plain is = λ k lt e. absurd (plain k lt e)
+
+-- no slot of fresh memory is a task's
+not_a_tasks : (e : ℕ) → (e ≡ bad_slot) ⊎ (e ≡ 0) → 1 ≤ cond (eqb e image_slot) 0 e → cond (eqb e image_slot) 0 e ≤ 64 → ⊥
+not_a_tasks e (inl bad) some few =
+    let is : cond (eqb e image_slot) 0 e ≡ bad_slot = ap (λ (x : ℕ). cond (eqb x image_slot) 0 x) bad in omega arith
+not_a_tasks e (inr free) some few =
+    let is : cond (eqb e image_slot) 0 e ≡ 0 = ap (λ (x : ℕ). cond (eqb x image_slot) 0 x) free in omega arith
+
+fresh_unowned : (h : Hardware) (v : disk.Image) (area : Result Area NoSwap) (s : ℕ) → IsHardware h → IsAreaOf h v area → IsTaskSlot h (fresh_memory h (fresh_slot h v)) s → ⊥
+fresh_unowned h v area s hw is task =
+    let at = slot_entry-fresh_memory h (fresh_slot h v) s hw (λ k. fresh_small h v area k is) task.0 in
+    not_a_tasks (raw_slot_entry h (fresh_memory h (fresh_slot h v)) s) (⊎_elim (λ bad. inl (at ∙ bad)) (λ free. inr (at ∙ free)) (fresh_value h v area s is)) task.1 task.2
 
 -- the bad slots of the table are the area's
 bad_slots_are : (h : Hardware) (v : disk.Image) (area : Result Area NoSwap) → IsHardware h → IsAreaOf h v area → area_fault h v ≡ None → bad_set_fault h (fresh_memory h (fresh_slot h v)) (area_kind (area_block h v)) ≡ None
@@ -164,9 +181,9 @@ bad_slots_are h v (Ok area) hw is none =
       agree true = refl
       agree false = refl
 
-stands_on : (old new : World) (c : disk.Content) (image : Bool) (dump : Memory) (now : Held) → Ends old new (disk.as_it_reads c) image → IsHardware (hardware_of old) → (hardware_of old).regions ≡ [] → old.frames ≡ fresh_frames (hardware_of old) →
+stands_on : (old new : World) (c : disk.Content) (image : Bool) (dump : Memory) (now : Held) → disk.IsImage c (disk.as_it_reads c) → Ends old new (disk.as_it_reads c) image → IsHardware (hardware_of old) → (hardware_of old).regions ≡ [] → old.frames ≡ fresh_frames (hardware_of old) →
     ShowsHeld new.machine.held now → IsHeld (hardware_of old) c now → IsHeader (hardware_of old) c → StandsFor new c (on (booted (hardware_of old) (disk.as_it_reads c) Fresh dump now))
-stands_on old new c image dump now ends hw none fresh flag held header =
+stands_on old new c image dump now here ends hw none fresh flag held header =
     let h = hardware_of old in
     let v = disk.as_it_reads c in
     let frames = frames_fresh old new v image ends fresh in
@@ -178,11 +195,17 @@ stands_on old new c image dump now ends hw none fresh flag held header =
         shows_running old new v image dump now ends hw none fresh flag,
         record {
           held = held;
-          task_slots = λ s page e. absurd (none-some page e);
+          task_slots = record {
+            usable = λ s page e. absurd (none-some page e);
+            tasks = λ s page e. absurd (none-some page e);
+            landed = λ s page e. absurd (none-some page e);
+            paged = λ usable s is not. absurd (fresh_unowned h v new.machine.area s hw ends.area is);
+          };
+          flights = no_flights-owned h (booted h v Fresh dump now) (λ t. refl);
           slot_pages = λ s page e. absurd (none-some page e);
-          names = names_none h (shown new) c now (λ s lt e. fresh_plain h v new.machine.area s hw ends.area lt (ap (λ (n : Memory). raw_slot_entry h n s) (sym frames) ∙ e));
+          names = names_none h (shown new) c now here (λ s lt e. fresh_plain h v new.machine.area s hw ends.area lt (ap (λ (n : Memory). raw_slot_entry h n s) (sym frames) ∙ e)) held;
           header = header;
-          area = record { area = λ e. e; bad_slots = λ e. bad_slots_are h v new.machine.area hw ends.area e };
+          area = dump_area-of h v (fresh_memory h (fresh_slot h v)) (bad_slots_are h v new.machine.area hw ends.area);
         },
       );
     }) in
@@ -202,9 +225,10 @@ boot_ends old new blocks c image whole core ends hw none =
       on (booted h v Fresh dump settled.0),
       record {
         step = accepted_step h v (booting Fresh dump held 1) (event.Step actor.Core) (reply.Booted image) (on (booted h v Fresh dump settled.0)) (accepts_step h dump held 1) settled.1;
-        stands = stands_on old new c image dump settled.0 ends hw none parts.0 (subst (λ (f : HeldFlag). ShowsHeld f settled.0) (sym ends.held) settled.2) settled.3 parts.2;
+        stands = stands_on old new c image dump settled.0 (IsImage-as_it_reads blocks c whole) ends hw none parts.0 (subst (λ (f : HeldFlag). ShowsHeld f settled.0) (sym ends.held) settled.2) settled.3 parts.2;
         area = same_area (hardware_of old) (disk.as_it_reads c) (disk.as_it_reads c) refl;
         unwritten = λ b not. block_same b _;
+        leaves = tt;
       },
     ))
 
@@ -223,5 +247,6 @@ boot_read_fails old new c core core' hw =
         stands = failed_stands old new c dump held 1 core' hw stands;
         area = same_area (hardware_of old) (disk.as_it_reads c) (disk.as_it_reads c) refl;
         unwritten = λ b not. block_same b _;
+        leaves = tt;
       },
     ))

@@ -8,7 +8,7 @@ use Rattle.sig_header.specs.declared.area.Area.{Area}
 use Rattle.sig_header.specs.declared.area.AreaKind.{AreaKind}
 use Rattle.sig_header.specs.declared.area.AreaKind.TheVariants.{Swap}
 use Rattle.plain_machine.specs.Machine.{Hardware, Memory}
-use Rattle.plain_machine.specs.Shows.{Shown, Activity, rests, runs, hibernates, undoes, ShowsKept}
+use Rattle.plain_machine.specs.Shows.{Shown, Activity, rests, runs, hibernates, undoes, ShowsKept, loads}
 use Rattle.plain_machine.specs.State.{State, off, on, booting, hibernating, undoing, settling, waking, loading, asleep, Running, Held}
 use Rattle.plain_machine.specs.Stands.{Stands}
 use Rattle.plain_machine.specs.UsableArea.{fit_fault, kind_or_fit_fault}
@@ -16,6 +16,7 @@ use Rattle.plain_machine.specs.declared.event.Event.TheVariants as event
 use Rattle.plain_machine.specs.declared.event.Actor.TheVariants as actor
 use Rattle.plain_machine.specs.declared.no_swap.NoSwap.{NoSwap}
 use Rattle.plain_machine.specs.declared.reply.Reply.{Reply}
+use Rattle.plain_machine.specs.declared.reply.Reply.TheVariants as reply
 use Rattle.machine.specs.declared.machine.Machine.{Machine}
 use Rattle.hib_core.specs.Hibernation as hibernation
 use Rattle.hib_core.specs.Ready.{IsBusy, is_busy_at, IsSameMachine}
@@ -30,7 +31,7 @@ use Rattle.world_core.specs.declared.world.Core.{Core}
 use Rattle.world_core.specs.declared.world.Core.TheVariants.{Off, Running as Runs, Hibernating, Loading}
 use Rattle.world_core.specs.World.{World}
 use Rattle.world_core.specs.StandsFor.{StandsFor, hardware_of, shown, shown_at, core_at, core_told}
-use Rattle.world_core.specs.Row.{IsRow, HasRow}
+use Rattle.world_core.specs.Row.{IsRow, HasRow, Restores}
 use Rattle.world_core.proofs.Cases.{activity_by}
 use Rattle.world_core.proofs.Tasks.{names_same}
 
@@ -152,8 +153,9 @@ then_running w c activity header copies loaded a core stands =
           record {
             held = before.held;
             task_slots = before.task_slots;
+            flights = before.flights;
             slot_pages = before.slot_pages;
-            names = names_same (hardware_of w) (shown_in w activity header copies loaded) (shown w) c a.held (λ k lt. refl) before.names;
+            names = names_same (hardware_of w) (shown_in w activity header copies loaded) (shown w) a.held (λ k lt. refl) before.names;
             header = before.header;
             area = before.area;
           },
@@ -187,6 +189,7 @@ row_of_begin old new f r c core core' machine told row a stands =
         stands = world_stands new c goes.0 (core' ∙ sym (ap core_at told)) (subst (λ (m : Machine). hib_row.StandsFor m new.frames new.hib c goes.0) (sym machine) goes.1.stands);
         area = goes.1.area;
         unwritten = goes.1.unwritten;
+        leaves = goes.1.leaves;
       },
     )
 
@@ -199,9 +202,14 @@ row_of_step old new r before now core core' told row k is =
       λ a stands.
           let goes = at.2 a (hibernation_stands old k a core stands) in (
             goes.0,
-            record { step = goes.1.step; stands = world_stands new at.0 goes.0 (core' ∙ sym (ap core_at told)) goes.1.stands; area = goes.1.area; unwritten = goes.1.unwritten },
+            record { step = goes.1.step; stands = world_stands new at.0 goes.0 (core' ∙ sym (ap core_at told)) goes.1.stands; area = goes.1.area; unwritten = goes.1.unwritten; leaves = goes.1.leaves },
           ),
     )
+
+-- a world that hibernates resumes nothing
+pub restores_none : (old new : World) (r : Reply) (before now : Option disk.Content) → old.core ≡ Hibernating → Restores (event.Step actor.Core) old new r before now
+restores_none old new (reply.Resumed n) before now core = λ c is load k stands. never_at old.hib (loads k) refl (sym (activity_by old Hibernating core) ∙ stands.stands.activity)
+restores_none old new _ before now core = tt
 
 -- The area.
 

@@ -7,7 +7,7 @@ use Rattle.definitions.specs.Disk as disk
 use Rattle.sig_header.specs.declared.area.Area.{Area}
 use Rattle.plain_machine.specs.Machine.{Hardware, Memory}
 use Rattle.plain_machine.specs.Shows.{Shown, Activity, rests, runs, loads}
-use Rattle.plain_machine.specs.State.{State, off, on, booting, hibernating, undoing, settling, waking, loading, asleep, Held, Load as Resume}
+use Rattle.plain_machine.specs.State.{State, off, on, booting, hibernating, undoing, settling, waking, loading, asleep, Running, Held, Load as Resume}
 use Rattle.plain_machine.specs.Stands.{Stands}
 use Rattle.plain_machine.specs.Refusals.{refusal}
 use Rattle.plain_machine.specs.declared.event.Event.TheVariants as event
@@ -34,9 +34,10 @@ use Rattle.world_core.specs.declared.world.Core.TheVariants.{Off, Running as Run
 use Rattle.world_core.specs.World.{World}
 use Rattle.world_core.specs.Kept.{IsUp}
 use Rattle.world_core.specs.StandsFor.{StandsFor, hardware_of, shown, shown_at, core_at, core_resumed}
-use Rattle.world_core.specs.Row.{IsRow, HasRow}
+use Rattle.world_core.specs.Row.{IsRow, HasRow, Restores}
 use Rattle.world_core.proofs.Booting.{no_kept}
-use Rattle.world_core.proofs.Cases.{activity_by}
+use Rattle.world_core.proofs.Cases.{activity_by, at_run}
+use Rattle.plain_machine.specs.Step.{Step}
 use Rattle.world_core.proofs.Hibernating.{shown_in, then_off, then_running}
 use Rattle.world_core.proofs.Rows.{refused_step, row_at_rest, same_area}
 
@@ -165,6 +166,10 @@ still_loading w c load k core stands = record {
   resume = stands.resume;
 }
 
+-- what stands for a state after a step
+standing : (machine : Machine) (frames : Memory) (load : Load) (c : disk.Content) (b : State) → resume_row.StandsAfter machine frames load c b → resume_row.StandsFor machine frames load c b
+standing machine frames load c b after = record { stands = after.stands; resume = after.resume }
+
 -- the states of a resume are those of the world that is at what it is at
 world_stands : (w : World) (c : disk.Content) (b : State) → w.core ≡ core_at (resumption.activity_of w.load) → resume_row.StandsFor w.machine w.frames w.load c b → StandsFor w c b
 world_stands w c (off held kept) core stands =
@@ -196,6 +201,7 @@ no_table w c check core =
         stands = stands;
         area = same_area (hardware_of w) (disk.as_it_reads c) (disk.as_it_reads c) refl;
         unwritten = λ b not. block_same b _;
+        leaves = tt;
       },
     ))
 
@@ -207,7 +213,7 @@ row_of_begin old new loader check r c core after hw row =
     let led = row (shown old) c held kept (activity_by old Off core, refl) (subst (λ (h : Hardware). Stands h (shown old) c (off held kept)) (sym hw) stands.stands) in (
       led.0,
       subst (λ (h : Hardware). rows.Leads h (StandsFor new) (event.Resume loader check) r c c (off held kept) led.0) hw
-          (record { step = led.1.step; stands = world_stands new c led.0 (core_now new.load r new.core after) led.1.stands; area = led.1.area; unwritten = led.1.unwritten }),
+          (record { step = led.1.step; stands = world_stands new c led.0 (core_now new.load r new.core after) (standing new.machine new.frames new.load c led.0 led.1.stands); area = led.1.area; unwritten = led.1.unwritten; leaves = led.1.leaves }),
     ))
 
 pub row_of_step : (old new : World) (r : Reply) (before now : Option disk.Content) → old.core ≡ Loading → IsAfter new.load r new.core →
@@ -219,6 +225,24 @@ row_of_step old new r before now core after row k is =
       λ a stands.
           let goes = at.2 a (resume_stands old k a core stands) in (
             goes.0,
-            record { step = goes.1.step; stands = world_stands new at.0 goes.0 (core_now new.load r new.core after) goes.1.stands; area = goes.1.area; unwritten = goes.1.unwritten },
+            record { step = goes.1.step; stands = world_stands new at.0 goes.0 (core_now new.load r new.core after) (standing new.machine new.frames new.load at.0 goes.0 goes.1.stands); area = goes.1.area; unwritten = goes.1.unwritten; leaves = goes.1.leaves },
           ),
     )
+
+-- the memory and the area of a machine that has resumed
+has_resumed : (new : World) (r : Reply) (c' : disk.Content) (h : Hardware) (v : disk.Image) (load : Resume) (k : ℕ) (b : State) → resumption.activity_of new.load ≡ runs → Step h v (loading load k) (event.Step actor.Core) r b →
+    resume_row.StandsAfter new.machine new.frames new.load c' b → (a : Running) × Step h v (loading load k) (event.Step actor.Core) r (on a) × resume_row.HasResumed new.machine new.frames c' a
+has_resumed new r c' h v load k b told step stands =
+    let at = at_run b (sym told ∙ stands.stands.activity) in (
+      at.0,
+      subst (λ (t : State). Step h v (loading load k) (event.Step actor.Core) r t) at.1 step,
+      subst (resume_row.HasEnded new.machine new.frames c') at.1 stands.ended,
+    )
+
+pub restores_at : (old new : World) (r : Reply) (before now : Option disk.Content) → old.core ≡ Loading → IsAfter new.load r new.core →
+    resume_row.HasRow old.machine old.frames old.load new.machine new.frames new.load (event.Step actor.Core) r before now → Restores (event.Step actor.Core) old new r before now
+restores_at old new (reply.Resumed n) before now core after row = λ c is load k stands.
+    let at = row c is in
+    let goes = at.2 (loading load k) (resume_stands old c (loading load k) core stands) in
+    (at.0, at.1, has_resumed new (reply.Resumed n) at.0 (hardware_of old) (disk.as_it_reads c) load k goes.0 after.told goes.1.step goes.1.stands)
+restores_at old new _ before now core after row = tt

@@ -1,7 +1,10 @@
 -- What an event makes of a world and its disk.
-use Rattle.std.specs.Prelude.{◌≡◌, ◌≢◌, ◌⊎◌, ℕ, Option, ⊤}
+use Rattle.std.specs.Prelude.{◌≡◌, ◌≢◌, ◌⊎◌, ℕ, Option, Some, ⊤}
 use Rattle.definitions.specs.Disk as disk
-use Rattle.plain_machine.specs.State.{State}
+use Rattle.plain_machine.specs.State.{State, on, loading, Load, Running}
+use Rattle.plain_machine.specs.Step.{Step}
+use Rattle.plain_machine.specs.declared.event.Actor.TheVariants as actor
+use Rattle.resume_core.specs.Row.{HasResumed}
 use Rattle.plain_machine.specs.declared.event.Event.{Event}
 use Rattle.plain_machine.specs.declared.event.Event.TheVariants as event
 use Rattle.plain_machine.specs.declared.reply.Reply.{Reply}
@@ -48,6 +51,21 @@ orders_after _ orders = orders
 abbrev pub RestartsAt : Event → Option disk.Content → Option disk.Content → Type 0
 RestartsAt (event.Cut pick) before now = disk.Changes disk.Restarts before now
 RestartsAt _ before now = ⊤
+
+-- the disk's number of blocks is taken at an accepted boot or resume alone
+abbrev pub blocks_after : Event → Reply → ℕ → ℕ → ℕ
+blocks_after (event.Boot from) (reply.More k of) disk_blocks kept = disk_blocks
+blocks_after (event.Resume loader check) (reply.Loading k) disk_blocks kept = disk_blocks
+blocks_after _ _ disk_blocks kept = kept
+
+-- A resume that ends has led to a state whose memory is just the world's page frames, free ones too, and whose area is that of the
+-- header block, bad slots included.
+abbrev pub Restores : Event → World → World → Reply → Option disk.Content → Option disk.Content → Type 0
+Restores (event.Step actor.Core) old new (reply.Resumed n) before now =
+    (c : disk.Content) → before ≡ Some c → (load : Load) (k : ℕ) → StandsFor old c (loading load k) →
+    (c' : disk.Content) × (now ≡ Some c')
+    × ((a : Running) × Step (hardware_of old) (disk.as_it_reads c) (loading load k) (event.Step actor.Core) (reply.Resumed n) (on a) × HasResumed new.machine new.frames c' a)
+Restores _ old new _ before now = ⊤
 
 -- at most one call of the disk, and only in a step that an actor had to make
 abbrev pub IsCalled : Event → Reply → ℕ → ℕ → Type 0

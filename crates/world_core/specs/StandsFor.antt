@@ -3,9 +3,8 @@ use Rattle.std.specs.Prelude.{◌≡◌, ℕ, List, [], false, None}
 use Rattle.std.specs.List.{zip}
 use Rattle.definitions.specs.Disk as disk
 use Rattle.plain_machine.specs.Machine.{Hardware, Memory}
-use Rattle.definitions.specs.SwapHeader.{IsMarked}
 use Rattle.plain_machine.specs.Chain.{Marked}
-use Rattle.plain_machine.specs.UsableArea.{area_block}
+use Rattle.plain_machine.specs.Premises.{HasOriginal}
 use Rattle.plain_machine.specs.State.{State, off, nothing, sure, other}
 use Rattle.plain_machine.specs.Step.{no_flights}
 use Rattle.plain_machine.specs.Shows.{Shown, Activity, rests, runs, boots, hibernates, undoes, loads}
@@ -117,5 +116,6 @@ core_resumed r = core_at (resumption.activity_told r)
 pub record IsNew (h : Hardware) (w : World) : Type 0 where
   pub hardware : hardware_of w ≡ h
   pub is_off : IsOff w
+  pub blocks : blocks_of w ≡ 0
   pub unmarked : (v : disk.Image) → (Marked h v → ⊥) → StandsFor w (disk.settled v) (off nothing None)
-  pub marked : (v : disk.Image) → Marked h v → (IsMarked (area_block h v) → ⊥) → StandsFor w (disk.settled v) (off (sure other) None)
+  pub marked : (v : disk.Image) → Marked h v → HasOriginal h v → StandsFor w (disk.settled v) (off (sure other) None)

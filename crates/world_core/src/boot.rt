@@ -19,7 +19,8 @@ impl World {
     ghost use Rattle.plain_machine.specs.declared.event.BootFrom.TheVariants as from;
     ghost use Rattle.world_core.specs.declared.world.Core.TheVariants as core;
     ghost use Rattle.world_core.specs.StandsFor.{hardware_of, blocks_of, IsOff, IsBusyIn};
-    ghost use Rattle.world_core.specs.Row.{HasRow, IsRow, IsCalled};
+    ghost use Rattle.plain_machine.specs.declared.reply.Reply.TheVariants as reply;
+    ghost use Rattle.world_core.specs.Row.{HasRow, IsRow, IsCalled, Restores, blocks_after};
     ghost use Rattle.protocol_laws.specs.Rows.{IsNewFault};
     ghost use Rattle.world_core.specs.Started.{IsStarted};
 
@@ -29,6 +30,7 @@ impl World {
         ensures cause { IsNewFault result → ⊥ }
         ensures hardware { hardware_of self.new ≡ hardware_of self.old }
         ensures blocks { ((self.new.core ≡ self.old.core) × (blocks_of self.new ≡ blocks_of self.old)) ⊎ (blocks_of self.new ≡ blocks) }
+        ensures kept { blocks_of self.new ≡ blocks_after (event.Boot from) result blocks (blocks_of self.old) }
     {
         if !self.is_off() {
             return Reply::NotOff;
@@ -53,6 +55,7 @@ impl World {
         ensures cause { IsNewFault result → ⊥ }
         ensures hardware { hardware_of self.new ≡ hardware_of self.old }
         ensures blocks { blocks_of self.new ≡ blocks }
+        ensures reply { result ≡ reply.More 0 2 }
     {
         let hw = self.machine.hw;
         set_fresh(&mut self.frames, &hw);
@@ -65,6 +68,7 @@ impl World {
     pub(crate) fn sync_for_boot<D: Disk>(&mut self, disk: &mut D) -> Reply
         requires begun { self.old.core ≡ core.BootBegun }
         ensures row { HasRow (event.Step actor.Core) self.old self.new result (D.content disk.old) (D.content disk.new) }
+        ensures restored { Restores (event.Step actor.Core) self.old self.new result (D.content disk.old) (D.content disk.new) }
         ensures cause { IsNewFault result → HasRisen (D.faults disk.old) (D.faults disk.new) }
         ensures faults { D.faults disk.old ≤ D.faults disk.new }
         ensures calls { IsCalled (event.Step actor.Core) result (D.calls disk.old) (D.calls disk.new) }
@@ -93,6 +97,7 @@ impl World {
         requires synced { self.old.core ≡ core.BootSynced }
         requires blocks { D.block_count disk.old ≡ blocks_of self.old }
         ensures row { HasRow (event.Step actor.Core) self.old self.new result (D.content disk.old) (D.content disk.new) }
+        ensures restored { Restores (event.Step actor.Core) self.old self.new result (D.content disk.old) (D.content disk.new) }
         ensures cause { IsNewFault result → HasRisen (D.faults disk.old) (D.faults disk.new) }
         ensures faults { D.faults disk.old ≤ D.faults disk.new }
         ensures calls { IsCalled (event.Step actor.Core) result (D.calls disk.old) (D.calls disk.new) }

@@ -18,7 +18,7 @@ impl World {
     ghost use Rattle.protocol_laws.specs.Rows.{IsNewFault};
     ghost use Rattle.world_core.specs.declared.world.Core.TheVariants as core;
     ghost use Rattle.world_core.specs.StandsFor.{hardware_of, blocks_of, IsOff};
-    ghost use Rattle.world_core.specs.Row.{HasRow, IsRow, IsCalled};
+    ghost use Rattle.world_core.specs.Row.{HasRow, IsRow, IsCalled, Restores};
 
     /// Begins a hibernation, if the machine runs.
     pub(crate) fn hibernate(&mut self, format: Format) -> Reply
@@ -63,6 +63,7 @@ impl World {
         requires hibernates { self.old.core ≡ core.Hibernating }
         requires blocks { D.block_count disk.old ≡ blocks_of self.old }
         ensures row { HasRow (event.Step actor.Core) self.old self.new result (D.content disk.old) (D.content disk.new) }
+        ensures restored { Restores (event.Step actor.Core) self.old self.new result (D.content disk.old) (D.content disk.new) }
         ensures cause { IsNewFault result → HasRisen (D.faults disk.old) (D.faults disk.new) }
         ensures faults { D.faults disk.old ≤ D.faults disk.new }
         ensures calls { IsCalled (event.Step actor.Core) result (D.calls disk.old) (D.calls disk.new) }

@@ -11,7 +11,7 @@ use sector_disk::Disk;
 impl World {
     ghost use Rattle.plain_machine.specs.declared.event.Event.TheVariants as event;
     ghost use Rattle.protocol_laws.specs.Rows.{IsNewFault};
-    ghost use Rattle.world_core.specs.StandsFor.{hardware_of, IsOff};
+    ghost use Rattle.world_core.specs.StandsFor.{hardware_of, blocks_of, IsOff};
     ghost use Rattle.world_core.specs.Row.{HasRow};
 
     /// The power is cut: the disk is left with one of its images, and memory is gone. Never refused.
@@ -23,6 +23,7 @@ impl World {
         ensures orders { D.orders disk.new ≡ raised (D.orders disk.old) }
         ensures telling { D.tells_moments disk.new ≡ D.tells_moments disk.old }
         ensures hardware { hardware_of self.new ≡ hardware_of self.old }
+        ensures blocks { blocks_of self.new ≡ blocks_of self.old }
         ensures off { IsOff self.new }
         ensures cut { Changes Restarts (D.content disk.old) (D.content disk.new) }
     {

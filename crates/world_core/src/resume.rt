@@ -17,7 +17,8 @@ impl World {
     ghost use Rattle.protocol_laws.specs.Rows.{IsNewFault};
     ghost use Rattle.world_core.specs.declared.world.Core.TheVariants as core;
     ghost use Rattle.world_core.specs.StandsFor.{hardware_of, blocks_of, IsOff};
-    ghost use Rattle.world_core.specs.Row.{HasRow, IsRow, IsCalled};
+    ghost use Rattle.plain_machine.specs.declared.reply.Reply.TheVariants as reply;
+    ghost use Rattle.world_core.specs.Row.{HasRow, IsRow, IsCalled, Restores, blocks_after};
 
     /// Begins a resume, on a disk of so many blocks, if the machine is off. It keeps no dump yet, so a dump's loader is refused.
     pub(crate) fn resume(&mut self, blocks: u32, loader: Loader, check: IdentCheck) -> Reply
@@ -25,6 +26,7 @@ impl World {
         ensures cause { IsNewFault result → ⊥ }
         ensures hardware { hardware_of self.new ≡ hardware_of self.old }
         ensures blocks { ((self.new.core ≡ self.old.core) × (blocks_of self.new ≡ blocks_of self.old)) ⊎ (blocks_of self.new ≡ blocks) }
+        ensures kept { blocks_of self.new ≡ blocks_after (event.Resume loader check) result blocks (blocks_of self.old) }
     {
         if !self.is_off() {
             return Reply::NotOff;
@@ -42,6 +44,7 @@ impl World {
         ensures cause { IsNewFault result → ⊥ }
         ensures hardware { hardware_of self.new ≡ hardware_of self.old }
         ensures blocks { blocks_of self.new ≡ blocks }
+        ensures reply { result ≡ reply.Loading 0 }
     {
         self.machine.blocks = blocks;
         let start = Start::Resume(Loader::Ranges(ranges), check);
@@ -55,6 +58,7 @@ impl World {
         requires resumes { self.old.core ≡ core.Loading }
         requires blocks { D.block_count disk.old ≡ blocks_of self.old }
         ensures row { HasRow (event.Step actor.Core) self.old self.new result (D.content disk.old) (D.content disk.new) }
+        ensures restored { Restores (event.Step actor.Core) self.old self.new result (D.content disk.old) (D.content disk.new) }
         ensures cause { IsNewFault result → HasRisen (D.faults disk.old) (D.faults disk.new) }
         ensures faults { D.faults disk.old ≤ D.faults disk.new }
         ensures calls { IsCalled (event.Step actor.Core) result (D.calls disk.old) (D.calls disk.new) }

@@ -55,7 +55,7 @@ impl World {
     ghost use Rattle.plain_machine.specs.declared.event.Event.TheVariants as event;
     ghost use Rattle.plain_machine.specs.declared.event.Actor.TheVariants as actor;
     ghost use Rattle.world_core.specs.StandsFor.{hardware_of, blocks_of, IsOff, IsNew};
-    ghost use Rattle.world_core.specs.Row.{HasRow, IsRow, IsCalled, IsServed, IsNoCut, RestartsAt, orders_after};
+    ghost use Rattle.world_core.specs.Row.{HasRow, IsRow, IsCalled, IsServed, IsNoCut, RestartsAt, orders_after, blocks_after, Restores};
 
     /// A machine that is off, with page frames of zeros.
     pub fn create(alloc: Global, hw: Hardware) -> Result<World, NoMemory>
@@ -95,6 +95,7 @@ impl World {
         requires served { IsServed event }
         requires blocks { IsOff self.old ⊎ (D.block_count disk.old ≡ blocks_of self.old) }
         ensures row { HasRow event self.old self.new result (D.content disk.old) (D.content disk.new) }
+        ensures restored { Restores event self.old self.new result (D.content disk.old) (D.content disk.new) }
         ensures cause { IsNewFault result → HasRisen (D.faults disk.old) (D.faults disk.new) }
         ensures faults { D.faults disk.old ≤ D.faults disk.new }
         ensures calls { IsCalled event result (D.calls disk.old) (D.calls disk.new) }
@@ -105,6 +106,7 @@ impl World {
             Changes (λ old new. IsMixture old new v) (D.content disk.old) (D.content disk.new) }
         ensures hardware { hardware_of self.new ≡ hardware_of self.old }
         ensures blocks { IsOff self.new ⊎ (D.block_count disk.new ≡ blocks_of self.new) }
+        ensures kept { blocks_of self.new ≡ blocks_after event result (D.block_count disk.old) (blocks_of self.old) }
     {
         match event {
             Event::Boot(from) => self.boot(disk.blocks(), from),
@@ -137,6 +139,7 @@ impl World {
     fn step_of<D: Disk>(&mut self, disk: &mut D, actor: Actor) -> Reply
         requires blocks { IsOff self.old ⊎ (D.block_count disk.old ≡ blocks_of self.old) }
         ensures row { HasRow (event.Step actor) self.old self.new result (D.content disk.old) (D.content disk.new) }
+        ensures restored { Restores (event.Step actor) self.old self.new result (D.content disk.old) (D.content disk.new) }
         ensures cause { IsNewFault result → HasRisen (D.faults disk.old) (D.faults disk.new) }
         ensures faults { D.faults disk.old ≤ D.faults disk.new }
         ensures calls { IsCalled (event.Step actor) result (D.calls disk.old) (D.calls disk.new) }
@@ -158,6 +161,7 @@ impl World {
     fn step<D: Disk>(&mut self, disk: &mut D) -> Reply
         requires blocks { IsOff self.old ⊎ (D.block_count disk.old ≡ blocks_of self.old) }
         ensures row { HasRow (event.Step actor.Core) self.old self.new result (D.content disk.old) (D.content disk.new) }
+        ensures restored { Restores (event.Step actor.Core) self.old self.new result (D.content disk.old) (D.content disk.new) }
         ensures cause { IsNewFault result → HasRisen (D.faults disk.old) (D.faults disk.new) }
         ensures faults { D.faults disk.old ≤ D.faults disk.new }
         ensures calls { IsCalled (event.Step actor.Core) result (D.calls disk.old) (D.calls disk.new) }

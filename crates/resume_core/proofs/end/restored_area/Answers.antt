@@ -21,3 +21,6 @@ returns-in-Err-clause-tables c = λ v header blocks marked.
 
 pub returns-then-has_bad_slots-clause-fits : goal.returns-then-has_bad_slots-clause-fits
 returns-then-has_bad_slots-clause-fits c = fits_of c.args.hw.now c.args.blocks c.read.result c.in-Ok.area c.in-Ok.ensures.0 c.in-Ok.ensures.1
+
+pub returns-then-has_bad_slots-clause-kind : goal.returns-then-has_bad_slots-clause-kind
+returns-then-has_bad_slots-clause-kind c = sym (c.read.ensures ∙ ap area_kind c.take_back.ensures) ∙ c.in-Ok.ensures.0

@@ -23,7 +23,6 @@ returns-in-Ok-clause-row c = λ k.
     } in
     let is : IsBegin c.args.machine.now c.args.frames.now c.take.new.frames c.accept.new.self c.take.new.self c.in-Ok.counts = record {
       hardware = c.zones-zones.ensures.hardware;
-      ident = record { version_code = c.ident-ident.ensures.code; names = c.ident-ident.ensures.names; each_name = c.ident-ident.ensures.each_name };
       size = c.requires.ready.size;
       counted = c.in-Ok.ensures.counted;
       taken = c.take.ensures.taken;
@@ -46,14 +45,12 @@ returns-in-Ok-clause-ready c = λ busy.
     } in
     let is : IsBegin c.args.machine.now c.args.frames.now c.take.new.frames c.accept.new.self c.take.new.self c.in-Ok.counts = record {
       hardware = c.zones-zones.ensures.hardware;
-      ident = record { version_code = c.ident-ident.ensures.code; names = c.ident-ident.ensures.names; each_name = c.ident-ident.ensures.each_name };
       size = c.requires.ready.size;
       counted = c.in-Ok.ensures.counted;
       taken = c.take.ensures.taken;
     } in
-    let signature : c.args.machine.now.hw.hw_sig < 2 ^ 32 = omega (arith, c.hw_sig-sig.ensures) in
     let few : c.args.machine.now.blocks < 2 ^ 32 = omega arith in
-    can_step c.args.machine.now c.args.frames.now c.take.new.frames c.take.new.runs c.accept.new.self c.take.new.self c.in-Ok.counts laws is c.requires.ready.usable signature few c.take.ensures.size c.take.ensures.matches
+    can_step c.args.machine.now c.args.frames.now c.take.new.frames c.take.new.runs c.accept.new.self c.take.new.self c.in-Ok.counts laws is c.requires.ready.usable few c.take.ensures.size c.take.ensures.matches
 
 pub returns-in-Err-clause-row : goal.returns-in-Err-clause-row
 returns-in-Err-clause-row c = λ k.

@@ -4,7 +4,7 @@ use Rattle.definitions.specs.Slots.{block_of}
 use Rattle.definitions.specs.SwapHeader.{marked}
 use Rattle.plain_machine.specs.declared.reply.Reply.TheVariants as reply
 use Rattle.plain_machine.specs.declared.reply.UndoCall.TheVariants as undo
-use Rattle.protocol_laws.specs.Steps.{mark_flags}
+use Rattle.plain_machine.specs.Mark.{mark_flags}
 use Rattle.hib_core.specs.declared.hib.Stage.TheVariants as stage
 use Rattle.hib_core.proofs.Facts.{content_of, content_after, changed, write_at, row_of}
 use Rattle.hib_core.proofs.Marking.{mark_of, marked_row, mark_failed_row}

@@ -32,7 +32,6 @@ returns-clause-ready c = λ runs room.
     record {
       over = record {
         hardware = c.zones.ensures.hardware;
-        ident = record { version_code = c.ident-ident.ensures.code; names = c.ident-ident.ensures.names; each_name = c.ident-ident.ensures.each_name };
         few = omega arith;
         size = size;
         table = fits;

@@ -7,7 +7,7 @@ use Rattle.resume_core.proofs.load.Load.end.Goals as goal
 pub returns-in-Ok-clause-row : goal.returns-in-Ok-clause-row
 returns-in-Ok-clause-row c =
     resumed_row c.args.machine.now c.args.frames.now c.finish.new.frames c.args.self.now _ c.in-Ok.area c.saved-saved.result c.reads_in_rows.ensures.resumed c.len.ensures.pages
-    (record { restored = c.finish.ensures.restored; size = c.finish.ensures.size ∙ c.requires.over.size }) c.in-Ok.ensures.tables c.saved-saved.ensures refl
+    (record { restored = c.finish.ensures.restored; size = c.finish.ensures.size ∙ c.requires.over.size }) c.in-Ok.ensures.tables c.in-Ok.ensures.kind c.saved-saved.ensures refl
 
 pub returns-in-Err-clause-row : goal.returns-in-Err-clause-row
 returns-in-Err-clause-row c = λ d l v k read places room over.

@@ -46,7 +46,7 @@ returns-in-Ok-found-clause-row g c = λ k told.
     ∙ ap (λ (b : ℕ). disk.block (disk.as_it_reads k) b) at ∙ read_below c.args.machine.now.hw (disk.as_it_reads k) c.args.machine.now.blocks count lt in (
       k,
       c.read.ensures.content ∙ told,
-      found_row c.args.machine.now c.args.frames.now c.args.self.now c.read.new.into c.in-Ok-found.mark k c.finds_in_rows.ensures.found c.meets_rows.ensures.none_read c.meets_rows.ensures.early c.requires.ready.over.hardware c.requires.ready.over.ident c.requires.stage whole
+      found_row c.args.machine.now c.args.frames.now c.args.self.now c.read.new.into c.in-Ok-found.mark k c.finds_in_rows.ensures.found c.meets_rows.ensures.none_read c.meets_rows.ensures.early c.requires.ready.over.hardware c.requires.stage whole
           read c.in-Ok-found.ensures.found.0 c.in-Ok-found.ensures.found.1,
     )
 

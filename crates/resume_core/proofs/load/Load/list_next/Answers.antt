@@ -6,7 +6,7 @@ use Rattle.resume_core.specs.declared.load.Load.{Load}
 use Rattle.resume_core.specs.declared.load.Stage.TheVariants as stage
 use Rattle.resume_core.proofs.Facts.{content_of, row_of}
 use Rattle.resume_core.proofs.Finding.{activity_is}
-use Rattle.resume_core.proofs.Listing.{read_failed_row, listed_on, list_can}
+use Rattle.resume_core.proofs.Listing.{read_failed_row, at_list, listed_on, list_can}
 use Rattle.resume_core.proofs.Placing.{refused_list_row}
 use Rattle.resume_core.proofs.load.Load.list_next.Goals as goal
 
@@ -15,7 +15,7 @@ returns-in-Fault-clause-row g c = λ k told. (
   k,
   c.read_block.ensures.content ∙ told,
   row_of c.args.machine.now c.args.frames.now c.args.self.now c.args.machine.now c.args.frames.now _ c.stop.new.self (reply.ReadFault Gone) c.stop.result k k c.stop.ensures.load c.stop.ensures.reply
-      (read_failed_row c.args.machine.now c.args.frames.now c.args.self.now _ k c.reads_in_rows.ensures.failed (activity_is c.args.self.now stage.List c.requires.stage) (list_can c.args.machine.now c.args.frames.now c.args.runs.now c.args.self.now c.requires.stage c.requires.ready).1 refl),
+      (read_failed_row c.args.machine.now c.args.frames.now c.args.self.now _ k c.reads_in_rows.ensures.failed (activity_is c.args.self.now stage.List c.requires.stage) (at_list c.args.machine.now c.args.frames.now c.args.self.now k c.requires.ready.over.hardware c.requires.stage (list_can c.args.machine.now c.args.frames.now c.args.runs.now c.args.self.now c.requires.stage c.requires.ready).1) refl),
 )
 
 pub returns-in-Refused-clause-row : goal.returns-in-Refused-clause-row

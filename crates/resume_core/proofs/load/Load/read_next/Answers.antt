@@ -8,7 +8,7 @@ use Rattle.resume_core.specs.declared.load.Load.{Load}
 use Rattle.resume_core.specs.declared.load.Stage.TheVariants as stage
 use Rattle.resume_core.proofs.Facts.{content_of, row_of}
 use Rattle.resume_core.proofs.Finding.{activity_is}
-use Rattle.resume_core.proofs.Listing.{read_failed_row}
+use Rattle.resume_core.proofs.Listing.{read_failed_row, at_read}
 use Rattle.resume_core.proofs.Placing.{read_can, refused_row, read_on_row, map_keeps, page_keeps, no_page, KeepsPlaces, waiting_only}
 use Rattle.resume_core.proofs.load.Load.read_next.Goals as goal
 
@@ -17,7 +17,7 @@ returns-in-Fault-clause-row g c = λ k told. (
   k,
   c.read_block.ensures.content ∙ told,
   row_of c.args.machine.now c.args.frames.now c.args.self.now c.args.machine.now c.args.frames.now _ c.stop.new.self (reply.ReadFault Gone) c.stop.result k k c.stop.ensures.load c.stop.ensures.reply
-      (read_failed_row c.args.machine.now c.args.frames.now c.args.self.now _ k c.reads_in_rows.ensures.failed (activity_is c.args.self.now stage.Read c.requires.stage) (read_can c.args.machine.now c.args.frames.now c.args.runs.now c.args.self.now c.requires.stage c.requires.ready).1 refl),
+      (read_failed_row c.args.machine.now c.args.frames.now c.args.self.now _ k c.reads_in_rows.ensures.failed (activity_is c.args.self.now stage.Read c.requires.stage) (at_read c.args.machine.now c.args.frames.now c.args.self.now k c.requires.ready.over.hardware c.requires.stage (read_can c.args.machine.now c.args.frames.now c.args.runs.now c.args.self.now c.requires.stage c.requires.ready).1) refl),
 )
 
 pub returns-in-Refused-clause-row : goal.returns-in-Refused-clause-row

@@ -6,8 +6,8 @@ use Rattle.plain_machine.specs.declared.event.Actor.TheVariants as actor
 use Rattle.plain_machine.specs.Machine.{Hardware}
 use Rattle.world_core.specs.World.{World}
 use Rattle.world_core.specs.Kept.{kept_world}
-use Rattle.world_core.specs.Row.{HasRow}
-use Rattle.world_core.proofs.Hibernating.{row_of_step, busy_told, never_loads, usable_same}
+use Rattle.world_core.specs.Row.{HasRow, Restores}
+use Rattle.world_core.proofs.Hibernating.{row_of_step, busy_told, never_loads, usable_same, restores_none}
 use Rattle.world_core.proofs.Rows.{is_up}
 use Rattle.world_core.proofs.world.World.step_hibernation.Goals as goal
 
@@ -32,6 +32,12 @@ returns-clause-row g c =
     let new = kept_world (record { machine = c.step-reply.new.machine; frames = c.step-reply.new.frames; runs = c.step-reply.new.runs; hib = c.step-reply.new.self; load = c.self.inside.load; core = c.core_after-self-inside.result }) in
     subst (λ (old : World). HasRow (event.Step actor.Core) old new c.step-reply.result (g.D.Disk.content c.args.disk.now) (g.D.Disk.content c.step-reply.new.disk)) c.self.view_is
     (row_of_step (kept_world c.self.inside) new c.step-reply.result (g.D.Disk.content c.args.disk.now) (g.D.Disk.content c.step-reply.new.disk) (ap (λ (w : World). w.core) c.self.view_is ∙ c.requires.hibernates) c.core_after-self-inside.ensures c.step-reply.ensures.activity c.step-reply.ensures.row)
+
+pub returns-clause-restored : goal.returns-clause-restored
+returns-clause-restored g c =
+    let new = kept_world (record { machine = c.step-reply.new.machine; frames = c.step-reply.new.frames; runs = c.step-reply.new.runs; hib = c.step-reply.new.self; load = c.self.inside.load; core = c.core_after-self-inside.result }) in
+    subst (λ (old : World). Restores (event.Step actor.Core) old new c.step-reply.result (g.D.Disk.content c.args.disk.now) (g.D.Disk.content c.step-reply.new.disk)) c.self.view_is
+    (restores_none (kept_world c.self.inside) new c.step-reply.result (g.D.Disk.content c.args.disk.now) (g.D.Disk.content c.step-reply.new.disk) (ap (λ (w : World). w.core) c.self.view_is ∙ c.requires.hibernates))
 
 pub returns-clause-calls : goal.returns-clause-calls
 returns-clause-calls g c = inr (tt, (λ e. false≢true (sym c.step-reply.ensures.works ∙ ap is_idle e)), c.step-reply.ensures.calls)

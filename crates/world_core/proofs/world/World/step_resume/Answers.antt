@@ -6,8 +6,8 @@ use Rattle.plain_machine.specs.declared.event.Actor.TheVariants as actor
 use Rattle.plain_machine.specs.Machine.{Hardware}
 use Rattle.world_core.specs.World.{World}
 use Rattle.world_core.specs.Kept.{kept_world}
-use Rattle.world_core.specs.Row.{HasRow}
-use Rattle.world_core.proofs.Resuming.{IsAfter, row_of_step, busy_after, idle_after, usable_up}
+use Rattle.world_core.specs.Row.{HasRow, Restores}
+use Rattle.world_core.proofs.Resuming.{IsAfter, row_of_step, busy_after, idle_after, usable_up, restores_at}
 use Rattle.world_core.proofs.world.World.step_resume.Goals as goal
 
 pub invariant_of-self : goal.invariant_of-self
@@ -31,6 +31,13 @@ returns-clause-row g c =
     let new = kept_world (record { machine = c.step-reply.new.machine; frames = c.step-reply.new.frames; runs = c.step-reply.new.runs; hib = c.self.inside.hib; load = c.step-reply.new.self; core = c.core_after-self-inside.result }) in
     subst (λ (old : World). HasRow (event.Step actor.Core) old new c.step-reply.result (g.D.Disk.content c.args.disk.now) (g.D.Disk.content c.step-reply.new.disk)) c.self.view_is
     (row_of_step (kept_world c.self.inside) new c.step-reply.result (g.D.Disk.content c.args.disk.now) (g.D.Disk.content c.step-reply.new.disk) (ap (λ (w : World). w.core) c.self.view_is ∙ c.requires.resumes)
+    (record { core_is = c.core_after-self-inside.ensures; told = c.step-reply.ensures.activity }) c.step-reply.ensures.row)
+
+pub returns-clause-restored : goal.returns-clause-restored
+returns-clause-restored g c =
+    let new = kept_world (record { machine = c.step-reply.new.machine; frames = c.step-reply.new.frames; runs = c.step-reply.new.runs; hib = c.self.inside.hib; load = c.step-reply.new.self; core = c.core_after-self-inside.result }) in
+    subst (λ (old : World). Restores (event.Step actor.Core) old new c.step-reply.result (g.D.Disk.content c.args.disk.now) (g.D.Disk.content c.step-reply.new.disk)) c.self.view_is
+    (restores_at (kept_world c.self.inside) new c.step-reply.result (g.D.Disk.content c.args.disk.now) (g.D.Disk.content c.step-reply.new.disk) (ap (λ (w : World). w.core) c.self.view_is ∙ c.requires.resumes)
     (record { core_is = c.core_after-self-inside.ensures; told = c.step-reply.ensures.activity }) c.step-reply.ensures.row)
 
 pub returns-clause-calls : goal.returns-clause-calls
