@@ -34,6 +34,7 @@ use Rattle.swsusp_cli.specs.View.{View, DiskView, SinkView}
 use Rattle.swsusp_cli.specs.declared.formatting.Unformatted.{Unformatted}
 use Rattle.swsusp_cli.specs.declared.formatting.Unformatted.TheVariants.{Write, Sync}
 use Rattle.swsusp_cli.specs.declared.status.Status.{Status}
+use Rattle.run_laws.proofs.Once.{resumed_once}
 use Rattle.swsusp_cli.proofs.Blocks.{leaves_then}
 use Rattle.swsusp_cli.proofs.Prints.{printed_then, front_then, whole_front, fails_early}
 use Rattle.swsusp_cli.proofs.Turns.{counted_earlier, whole_of}
@@ -123,11 +124,14 @@ run_formatted last old new events replies before between now c told whole whole_
     let same = formats_size last c c1 formatted.2 in
     let kept : (b : ℕ) → IsNoSlot (hardware_of old) b → LeavesBlock b c1 end.0 =
     was.unwritten (subst (λ (h : Hardware). 0 < h.slots) (sym fresh.hardware) (some_slots last)) in
+    let run : Run (scripted_hardware last) (disk.as_it_reads c1) (off nothing None) events replies end.1 =
+    subst (λ (h : Hardware). Run h (disk.as_it_reads c1) (off nothing None) events replies end.1) fresh.hardware was.run in
     record {
       formatted = c1;
       formats = formatted.2;
       end = end.1;
-      run = subst (λ (h : Hardware). Run h (disk.as_it_reads c1) (off nothing None) events replies end.1) fresh.hardware was.run;
+      run = run;
+      once = resumed_once (scripted_hardware last) (disk.as_it_reads c1) None events replies end.1 run;
       world = new;
       hardware = hw ∙ fresh.hardware;
       blocks = world_blocks new before.blocks now.blocks (boot_blocks new) 0 c1 end.0 booted (same ∙ whole.size) here.size was.area.blocks;

@@ -1,0 +1,5 @@
+pub mod Once
+pub mod Refused
+pub mod Resuming
+pub mod Spent
+pub mod Staying

@@ -1,0 +1,2 @@
+//! Laws of the runs of the plain machine.
+#![tactic(auto)]
