@@ -1,3 +1,7 @@
+pub mod AtomicCopy
+pub mod Beginning
+pub mod Events
+pub mod Keeping
 pub mod Once
 pub mod Refused
 pub mod Resuming

@@ -15,7 +15,7 @@ use Rattle.run_laws.proofs.Spent.{IsResumed, IsSpent}
 use Rattle.run_laws.proofs.Resuming.{resume_spends}
 use Rattle.run_laws.proofs.Staying.{Stays, spent_stays}
 
-is_resumed : (n : ℕ) (r : Reply) → Some r ≡ Some (reply.Resumed n) → IsResumed r
+pub is_resumed : (n : ℕ) (r : Reply) → Some r ≡ Some (reply.Resumed n) → IsResumed r
 is_resumed n (reply.Resumed k) e = tt
 is_resumed n _ e = absurd (cc)
 
@@ -25,12 +25,12 @@ ends_no_resume (event.Hibernate f) n is = false≢true is
 ends_no_resume (event.Suspend f) n is = false≢true is
 ends_no_resume _ n is = false≢true is
 
-no_hibernation : (e : Event) (r : Reply) (n : ℕ) → Some r ≡ Some (reply.Resumed n) → is_hibernation e r ≡ true → ⊥
+pub no_hibernation : (e : Event) (r : Reply) (n : ℕ) → Some r ≡ Some (reply.Resumed n) → is_hibernation e r ≡ true → ⊥
 no_hibernation e (reply.Resumed k) n is hibernates = ends_no_resume e k hibernates
 no_hibernation e _ n is hibernates = absurd (cc)
 
 -- a hibernation is the first event, or is found among the later ones
-first_event : (e : Event) (es : List Event) (r : Reply) (rs : List Reply) → is_hibernation e r ≡ true → HibernatesAt (e ∷ es) (r ∷ rs) 0
+pub first_event : (e : Event) (es : List Event) (r : Reply) (rs : List Reply) → is_hibernation e r ≡ true → HibernatesAt (e ∷ es) (r ∷ rs) 0
 first_event e es r rs is = record {
   asked = e;
   answer = r;
@@ -39,7 +39,7 @@ first_event e es r rs is = record {
   accepted = is;
 }
 
-later_event : (e : Event) (es : List Event) (r : Reply) (rs : List Reply) (j : ℕ) → HibernatesAt es rs j → HibernatesAt (e ∷ es) (r ∷ rs) (suc j)
+pub later_event : (e : Event) (es : List Event) (r : Reply) (rs : List Reply) (j : ℕ) → HibernatesAt es rs j → HibernatesAt (e ∷ es) (r ∷ rs) (suc j)
 later_event e es r rs j at = record {
   asked = at.asked;
   answer = at.answer;
@@ -59,7 +59,7 @@ not_first e r mid n (inl hibernates) is = no_hibernation e r n is hibernates
 not_first e r mid n (inr stays) is = stays.1 (is_resumed n r is)
 
 -- from a spent state a hibernation stands before each resume
-before_resume : (h : Hardware) (v : disk.Image) (a : State) (es : List Event) (rs : List Reply) (b : State) → IsSpent a → Run h v a es rs b → (k : ℕ) → ResumesAt rs k → (j : ℕ) × (j < k) × HibernatesAt es rs j
+pub before_resume : (h : Hardware) (v : disk.Image) (a : State) (es : List Event) (rs : List Reply) (b : State) → IsSpent a → Run h v a es rs b → (k : ℕ) → ResumesAt rs k → (j : ℕ) × (j < k) × HibernatesAt es rs j
 before_resume h v a [] [] b spent run k (n, e) = absurd (none-some (reply.Resumed n) e)
 before_resume h v a [] (r ∷ rs) b spent run k is = absurd run
 before_resume h v a (e ∷ es) [] b spent run k is = absurd run

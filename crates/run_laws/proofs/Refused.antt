@@ -1,4 +1,4 @@
--- No refusal ends a resume.
+-- No refusal ends a resume, or begins an operation.
 use Rattle.std.proofs.Common.{ℕ, ◌+◌, ◌&&◌, not, length, Bool, true, false, Option, Some, None, is_none, is_some, nat_lt, ◌==◌}
 use Rattle.std.specs.Prelude.{⊤}
 use Rattle.page_core.specs.declared.format.Format.{Format}
@@ -15,13 +15,13 @@ use Rattle.plain_machine.specs.declared.event.TaskOp.TheVariants as op
 use Rattle.plain_machine.specs.declared.no_swap.NoSwap.{NoSwap}
 use Rattle.plain_machine.specs.declared.reply.Reply.{Reply}
 use Rattle.plain_machine.specs.declared.reply.Reply.TheVariants as reply
-use Rattle.run_laws.proofs.Spent.{IsResumed}
+use Rattle.run_laws.proofs.Spent.{GoesOn}
 
 abbrev pub EndsNone : Option Reply → Type 0
 EndsNone None = ⊤
-EndsNone (Some r) = IsResumed r → ⊥
+EndsNone (Some r) = GoesOn r → ⊥
 
-refused_ends_none : (test : Bool) (r : Reply) → (IsResumed r → ⊥) → EndsNone (refused_if test r)
+refused_ends_none : (test : Bool) (r : Reply) → (GoesOn r → ⊥) → EndsNone (refused_if test r)
 refused_ends_none true r none = none
 refused_ends_none false r none = tt
 
@@ -70,7 +70,7 @@ swap_ends_none : (why : Option NoSwap) → EndsNone (no_swap why)
 swap_ends_none None = tt
 swap_ends_none (Some why) = λ is. is
 
-hibernate_ends_none : (h : Hardware) (f : Format) (a : Running) → EndsNone (hibernate_refusal h f a)
+pub hibernate_ends_none : (h : Hardware) (f : Format) (a : Running) → EndsNone (hibernate_refusal h f a)
 hibernate_ends_none h f a =
     let i = image_of_memory h a.memory a.slots f in
     let few_slots = no_slots h a i in

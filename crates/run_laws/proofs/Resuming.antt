@@ -26,7 +26,7 @@ use Rattle.plain_machine.specs.declared.reply.Reply.{Reply}
 use Rattle.plain_machine.specs.declared.reply.Reply.TheVariants as reply
 use Rattle.plain_machine.specs.declared.reply.UndoCall.{UndoCall}
 use Rattle.plain_machine.specs.declared.reply.UndoCall.TheVariants as undo
-use Rattle.run_laws.proofs.Spent.{IsResumed, IsSpent}
+use Rattle.run_laws.proofs.Spent.{IsResumed, IsSpent, resumed_goes_on}
 use Rattle.run_laws.proofs.Refused.{EndsNone, refusal_ends_none}
 
 abbrev Spends : Outcome → Type 0
@@ -233,7 +233,7 @@ accepted_spends h v a (event.Cut pick) = ((λ is. absurd is), tt)
 accepted_spends h v a (event.Arm first count pick) = ((λ is. absurd is), tt)
 
 refused_or_spends : (a : State) (refused : Option Reply) (os : List Outcome) → EndsNone refused → AllSpend os → AllSpend (refused_or a refused os)
-refused_or_spends a (Some r) os none taken = ((λ is. absurd (none is)), tt)
+refused_or_spends a (Some r) os none taken = ((λ is. absurd (none (resumed_goes_on r is))), tt)
 refused_or_spends a None os none taken = taken
 
 all_spend : (h : Hardware) (v : disk.Image) (a : State) (e : Event) → AllSpend (outcomes h v a e)

@@ -10,6 +10,16 @@ abbrev pub IsResumed : Reply → Type 0
 IsResumed (reply.Resumed n) = ⊤
 IsResumed _ = ⊥
 
+-- the reply ends a resume or tells of a step that was made: no refusal does
+abbrev pub GoesOn : Reply → Type 0
+GoesOn (reply.Resumed n) = ⊤
+GoesOn (reply.More k of) = ⊤
+GoesOn _ = ⊥
+
+pub resumed_goes_on : (r : Reply) → IsResumed r → GoesOn r
+resumed_goes_on (reply.Resumed n) is = tt
+resumed_goes_on _ is = absurd is
+
 -- A state in which no image is there, and none can come but by a hibernation.
 abbrev pub IsSpent : State → Type 0
 IsSpent (off held kept) = held ≡ nothing

@@ -18,7 +18,7 @@ use Rattle.plain_machine.specs.declared.reply.Left.TheVariants.{Same, Gone, Unsu
 use Rattle.plain_machine.specs.declared.reply.Reply.{Reply}
 use Rattle.plain_machine.specs.declared.reply.Reply.TheVariants as reply
 use Rattle.run_laws.specs.Resumes.{is_hibernation}
-use Rattle.run_laws.proofs.Spent.{IsResumed, IsSpent}
+use Rattle.run_laws.proofs.Spent.{IsResumed, IsSpent, resumed_goes_on}
 use Rattle.run_laws.proofs.Refused.{EndsNone, refusal_ends_none}
 
 abbrev pub Stays : Event → Outcome → Type 0
@@ -184,7 +184,7 @@ accepted_stays h v a (event.Cut pick) spent = (inr (holds_nothing a spent, (λ i
 accepted_stays h v a (event.Arm first count pick) spent = (inr (spent, (λ is. is)), tt)
 
 refused_or_stays : (e : Event) (a : State) (refused : Option Reply) (os : List Outcome) → IsSpent a → EndsNone refused → AllStay e os → AllStay e (refused_or a refused os)
-refused_or_stays e a (Some r) os spent none taken = (inr (spent, none), tt)
+refused_or_stays e a (Some r) os spent none taken = (inr (spent, (λ is. none (resumed_goes_on r is))), tt)
 refused_or_stays e a None os spent none taken = taken
 
 all_stay : (h : Hardware) (v : disk.Image) (a : State) (e : Event) → IsSpent a → AllStay e (outcomes h v a e)

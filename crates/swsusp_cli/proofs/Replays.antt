@@ -34,6 +34,7 @@ use Rattle.swsusp_cli.specs.View.{View, DiskView, SinkView}
 use Rattle.swsusp_cli.specs.declared.formatting.Unformatted.{Unformatted}
 use Rattle.swsusp_cli.specs.declared.formatting.Unformatted.TheVariants.{Write, Sync}
 use Rattle.swsusp_cli.specs.declared.status.Status.{Status}
+use Rattle.run_laws.proofs.AtomicCopy.{all_restore}
 use Rattle.run_laws.proofs.Once.{resumed_once}
 use Rattle.swsusp_cli.proofs.Blocks.{leaves_then}
 use Rattle.swsusp_cli.proofs.Prints.{printed_then, front_then, whole_front, fails_early}
@@ -132,6 +133,7 @@ run_formatted last old new events replies before between now c told whole whole_
       end = end.1;
       run = run;
       once = resumed_once (scripted_hardware last) (disk.as_it_reads c1) None events replies end.1 run;
+      restores = all_restore (scripted_hardware last) (disk.as_it_reads c1) None events replies end.1 run;
       world = new;
       hardware = hw ∙ fresh.hardware;
       blocks = world_blocks new before.blocks now.blocks (boot_blocks new) 0 c1 end.0 booted (same ∙ whole.size) here.size was.area.blocks;

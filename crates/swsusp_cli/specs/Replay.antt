@@ -11,6 +11,7 @@ use Rattle.plain_machine.specs.declared.event.Event.TheVariants as event
 use Rattle.plain_machine.specs.declared.reply.Reply.{Reply}
 use Rattle.protocol_laws.specs.Rows.{IsNewFault, LeavesBlock}
 use Rattle.machine.specs.Scripted.{scripted_hardware}
+use Rattle.run_laws.specs.Copies.{AllRestore}
 use Rattle.run_laws.specs.Resumes.{AreResumedOnce}
 use Rattle.script.specs.Grammar.{ScriptValue}
 use Rattle.script.specs.Kinds.{kind_name}
@@ -53,8 +54,8 @@ abbrev pub IsNoSlot : Hardware → ℕ → Type 0
 IsNoSlot h b = (s : ℕ) → s < h.slots → block_of_slot h s ≢ b
 
 -- Over a disk that held c an area was formatted, and the replies are a run of the plain machine over these events, which begins
--- off with nothing held: so a hibernation stands before each resume and between any two of them. A world of this machine, over this
--- disk, and what the disk holds stand for the state that the run ends in.
+-- off with nothing held. A hibernation stands before each resume and between any two of them, and each resume restores what was there
+-- at the last one. A world of this machine, over this disk, and what the disk holds stand for the state that the run ends in.
 -- Blocks on which no slot lies have kept their bytes in every image of the disk.
 pub record IsRun (x x' : DiskView) (last : ℕ) (events : List Event) (replies : List Reply) (c : disk.Content) : Type 0 where
   pub formatted : disk.Content
@@ -62,6 +63,7 @@ pub record IsRun (x x' : DiskView) (last : ℕ) (events : List Event) (replies :
   pub end : State
   pub run : Run (scripted_hardware last) (disk.as_it_reads formatted) (off nothing None) events replies end
   pub once : AreResumedOnce events replies
+  pub restores : AllRestore (scripted_hardware last) (disk.as_it_reads formatted) (off nothing None) events replies end
   pub world : World
   pub hardware : hardware_of world ≡ scripted_hardware last
   pub blocks : IsOff world ⊎ (blocks_of world ≡ x.blocks)
