@@ -60,6 +60,14 @@ impl FileMap {
         })
     }
 
+    /// The extents, in the order of their slots.
+    pub fn extents(&self) -> &[(u32, u32, u32)]
+        ensures extents { result.now ≡ self.now }
+        ensures map { IsFileMap self.now (slots_of self.now) }
+    {
+        &self.extents[..self.len]
+    }
+
     /// The block of a slot. Past the last extent it goes on as that one does.
     pub fn block(&self, s: u32) -> u64
         ensures block { result ≡ block_of self.now s }
