@@ -1,6 +1,7 @@
 #!/bin/sh
 # Counts the instructions of the built program by valgrind's callgrind: of an empty script, of a line that claims a page frame, of
-# a line that shows a word, and of a hibernation and a resume of 1,500 page frames. The program is the first word, or
+# a line that shows a word, and of a hibernation and a resume of 1,500 page frames; and takes the time of a boot, a hibernation and a
+# resume of 15,000 page frames at a script's limits. The program is the first word, or
 # crates/swsusp_cli/out/swsusp_cli, which `rt run` leaves. Without valgrind it says so and counts nothing.
 set -u
 top=$(cd "$(dirname "$0")/.." && pwd)
@@ -46,3 +47,13 @@ echo "a claim: $(((claims - one) / 1499))"
 echo "a show: $(((shows - one) / 10000))"
 echo "a hibernation and a resume of 1500 page frames: $((cycle - claims))"
 "$program" replay <"$room/cycle" | tail -n 1
+
+# 65,536 page frames in 8 zones and 16,384 slots. The 80 page frames of the tables and two regions are saved: 15,031 pages and 30 maps.
+{
+    for zone in 0 1 2 3 4 5 6 7; do echo "zone $((8192 * zone)) 8192"; done
+    printf 'area 16383\nregion 80 8112 0\nregion 8192 6808 0\n'
+    printf 'boot\nsteps core 2\nhibernate\nsteps core 15065\nresume 0-1000\nsteps core 15065\n'
+} >"$room/limits"
+begin=$(date +%s%N)
+"$program" replay <"$room/limits" | tail -n 1
+echo "at a script's limits: $((($(date +%s%N) - begin) / 1000000)) ms"

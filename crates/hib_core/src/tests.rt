@@ -6,8 +6,9 @@ ghost use Rattle.sector_disk.specs.MemDisk.{block_count};
 
 use crate::write::slot_table;
 use crate::{Hib, Job};
+use definitions::Ident;
 use frame_arena::Frames;
-use machine::{Hardware, Machine, set_fresh, set_slots, usable};
+use machine::{Hardware, Machine, Parts, set_fresh, set_slots, usable};
 use page_core::{Format, Page};
 use plain_machine::{Held, Reply};
 use sector_disk::{Disk, MemDisk};
@@ -25,6 +26,24 @@ struct Bench {
     disk: MemDisk,
 }
 
+/// A machine with page frames 0 to 4095, the tables in the first of them, so many slots, and each on the block of its number.
+fn hardware(slots: u32) -> Result<Hardware, Fail> {
+    let parts = Parts {
+        zones: &[(0, 4096)],
+        slots,
+        frame_table: 0,
+        slot_table: 4,
+        regions: &[],
+        ident: Ident {
+            version_code: 393472,
+            names: [[0; 65]; 6],
+        },
+        hw_sig: 0,
+        extents: &[(0, slots, 0)],
+    };
+    Ok(Hardware::of(&parts).ok().ok_or("no hardware")?)
+}
+
 // A machine that runs with fresh memory, over a formatted area with this last slot. The tables are saveable, all other page
 // frames and all slots but slot 0 are free, and each slot is the block of its number.
 fn booted(alloc: Global, last: u32) -> Result<Bench, Fail>
@@ -34,7 +53,7 @@ fn booted(alloc: Global, last: u32) -> Result<Bench, Fail>
     ensures machine { IfOk result (λ b. b.machine.blocks ≡ last + 1) }
     ensures disk { IfOk result (λ b. block_count b.disk ≡ last + 1) }
 {
-    let hw = Hardware::scripted(last);
+    let hw = hardware(last + 1)?;
     let header = area_page(last, &[]);
     let mut disk = MemDisk::create(alloc, last + 1)?;
     disk.write(0, &header).ok().ok_or("a write failed")?;

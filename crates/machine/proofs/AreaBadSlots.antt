@@ -1,14 +1,15 @@
 -- Whether an area's bad slots are just those of a slot table.
-use Rattle.std.proofs.Common.{◌≡◌, ◌<◌, ℕ, Bool, true, false, not, eqb, cond, ◌&&◌, List, [], ◌∷◌, length, take, min, get_or, refl, sym, ap, ◌∙◌, subst, inl, inr, arith}
-use Rattle.std.proofs.lemmas.Bool.{and_parts, eqb-true, eq-eqb, false≢true}
+use Rattle.std.proofs.Common.{◌≡◌, ◌<◌, ℕ, Bool, true, false, not, eqb, cond, List, ◌∷◌, length, take, min, get_or, refl, sym, ap, ◌∙◌, subst, inl, inr, arith}
+use Rattle.std.proofs.lemmas.Bool.{eqb-true, eq-eqb, false≢true}
 use Rattle.std.proofs.lemmas.List.{get_or_default, take_min}
-use Rattle.std.specs.List.{Contains, list_all, range_with_len}
-use Rattle.definitions.proofs.Ascending.{Contains-nil, Contains-head, Contains-tail, Contains-cons_cases}
+use Rattle.std.specs.List.{range_with_len}
+use Rattle.definitions.proofs.Ascending.{Contains-tail, Contains-cons_cases}
 use Rattle.definitions.proofs.ZoneNumbers.{Contains-range, range-bounds}
 use Rattle.sig_header.specs.declared.area.Area.{Area}
 use Rattle.plain_machine.specs.Loader.{has}
 use Rattle.plain_machine.specs.Machine.{Hardware, Memory, bad_slot, raw_slot_entry}
 use Rattle.plain_machine.specs.UsableArea.{bad_slots_of, has_bad_slots_of}
+use Rattle.machine.proofs.ListTests.{all_each, each_all}
 use Rattle.machine.proofs.Rows.{any_Contains, any_true}
 
 -- each bad slot of a slot table of so many entries is one of a list, and each of the list that the table has is bad there
@@ -17,17 +18,6 @@ AreNamed h m named = (s : ℕ) → s < h.slots → raw_slot_entry h m s ≡ bad_
 
 abbrev pub AreBad : Hardware → Memory → List ℕ → Type 0
 AreBad h m named = (s : ℕ) → s < h.slots → has named s ≡ true → raw_slot_entry h m s ≡ bad_slot
-
-all_each : (test : ℕ → Bool) (xs : List ℕ) (x : ℕ) → list_all test xs ≡ true → Contains xs x → test x ≡ true
-all_each test [] x all in' = absurd (Contains-nil x in')
-all_each test (y ∷ ys) x all in' =
-    let parts = and_parts (test y) (list_all test ys) all in
-    elim (Contains-cons_cases y ys x in') [ inl here ↦ ap test (sym here) ∙ parts.0 | inr rest ↦ all_each test ys x parts.1 rest ]
-
-each_all : (test : ℕ → Bool) (xs : List ℕ) → ((x : ℕ) → Contains xs x → test x ≡ true) → list_all test xs ≡ true
-each_all test [] each = refl
-each_all test (y ∷ ys) each =
-    ap (λ (b : Bool). b && list_all test ys) (each y (Contains-head y ys)) ∙ each_all test ys (λ x in'. each x (Contains-tail y ys x in'))
 
 -- two tests agree
 agree : (a b : Bool) → (a ≡ true → b ≡ true) → (b ≡ true → a ≡ true) → cond a b (not b) ≡ true

@@ -1,6 +1,12 @@
 pub mod AreaBadSlots
 pub mod Beyond
+pub mod FreshEntries
+pub mod HardFaults
+pub mod KeptParts
+pub mod ListTests
+pub mod PartRuns
+pub mod PartTests
 pub mod Requests
 pub mod Rows
-pub mod ScriptedHardware
 pub mod TableFaults
+pub mod ZoneRuns

@@ -1,14 +1,13 @@
 -- The rows of each request of a task.
-use Rattle.std.proofs.Common.{◌≡◌, ◌≢◌, ℕ, ◌+◌, ◌*◌, ◌/◌, ◌%◌, ◌^◌, ◌<◌, ◌≤◌, ◌⊎◌, inl, inr, Bool, true, false, not, List, [], length, Option, Some, None, refl, sym, ap, ◌∙◌, arith, ap₂, ◌&&◌, ◌||◌, nat_lt, nat_le, eqb, set, get_or, subst}
+use Rattle.std.proofs.Common.{◌≡◌, ℕ, ◌*◌, ◌^◌, ◌<◌, ◌≤◌, ◌⊎◌, inl, inr, Bool, true, false, not, List, [], length, Some, None, refl, sym, ap, ◌∙◌, arith, ap₂, ◌&&◌, ◌||◌, nat_lt, nat_le, eqb, set, subst}
 use Rattle.std.proofs.lemmas.Bool.{eqb-true, le-leb}
 use Rattle.std.proofs.lemmas.List.{length-replicate}
 use Rattle.std.specs.List.{Contains}
-use Rattle.definitions.specs.Bytes.{IsPage, zero_page, with_word, word}
+use Rattle.definitions.specs.Bytes.{IsPage, zero_page}
 use Rattle.definitions.specs.Zones.{numbers, top}
 use Rattle.definitions.specs.Tables.{frame, with_entry, flags_of, owner_of, is_free}
 use Rattle.definitions.proofs.ZoneNumbers.{below_top}
-use Rattle.definitions.proofs.PageBytes.{length-with_number}
-use Rattle.plain_machine.specs.Machine.{Hardware, Memory, IsHardware, Fits, IsTableFrame, is_valid, is_well_formed, frame_entry, raw_slot_entry}
+use Rattle.plain_machine.specs.Machine.{Hardware, Memory, IsHardware, IsTableFrame, is_valid, is_well_formed, frame_entry}
 use Rattle.plain_machine.specs.State.{on, Running}
 use Rattle.plain_machine.specs.Chain.{or_else}
 use Rattle.plain_machine.specs.Fitting.{IsTask}
@@ -19,10 +18,10 @@ use Rattle.plain_machine.specs.declared.event.TaskOp.{TaskOp}
 use Rattle.plain_machine.specs.declared.event.TaskOp.TheVariants as op
 use Rattle.plain_machine.specs.declared.reply.Reply.{Reply}
 use Rattle.plain_machine.specs.declared.reply.Reply.TheVariants as reply
-use Rattle.plain_machine.proofs.SameMemory.{table_frame_used, frame-set_both, slot_entry-set_other, slot_entry-frame_entry_set, same_used}
-use Rattle.plain_machine.proofs.Seen.{seen_set, frame-seen, length-seen}
+use Rattle.plain_machine.proofs.SameMemory.{table_frame_used, frame-set_both, slot_entry-set_other, slot_entry-frame_entry_set}
+use Rattle.plain_machine.proofs.Seen.{seen_set, length-seen}
 use Rattle.machine.specs.TaskRow.{HasRow, own_refusal}
-use Rattle.machine.proofs.Rows.{Mirrors, mirrors_page, mirrors_entry, mirrors-frame_entry, mirrors-frame, KeepsSlots, row_refused, row_done, own_shown, owned_is_own}
+use Rattle.machine.proofs.Rows.{Mirrors, mirrors_page, mirrors_entry, mirrors-frame_entry, mirrors-frame, row_refused, row_done, own_shown, owned_is_own}
 
 -- Claiming.
 

@@ -1,6 +1,6 @@
 -- Rows of the plain machine for what a task asks.
-use Rattle.std.proofs.Common.{◌≡◌, ◌≢◌, ℕ, ◌+◌, ◌-◌, ◌*◌, ◌/◌, ◌^◌, ◌<◌, ◌≤◌, ◌⊎◌, inl, inr, Bool, true, false, not, List, [], ◌∷◌, length, Option, Some, None, is_some, ◌||◌, refl, sym, ap, ◌∙◌, arith, ⊎_elim, eqb, set, get_or, subst, zero, suc}
-use Rattle.std.proofs.lemmas.Bool.{cases_eq, eqb-true, eq-eqb, false≢true}
+use Rattle.std.proofs.Common.{◌≡◌, ◌≢◌, ℕ, ◌+◌, ◌-◌, ◌/◌, ◌^◌, ◌<◌, ◌≤◌, ◌⊎◌, inl, inr, Bool, true, false, not, List, [], ◌∷◌, length, Option, Some, None, is_some, ◌||◌, refl, sym, ap, ◌∙◌, arith, eqb, set, subst}
+use Rattle.std.proofs.lemmas.Bool.{eqb-true, eq-eqb, false≢true}
 use Rattle.std.proofs.lemmas.List.{length-set}
 use Rattle.std.specs.List.{Contains, list_any}
 use Rattle.definitions.specs.Disk as disk
@@ -13,18 +13,18 @@ use Rattle.definitions.proofs.TableEntries.{length-with_entry}
 use Rattle.plain_machine.specs.Machine.{Hardware, Memory, IsHardware, Fits, IsSameMemory, IsTableFrame, is_valid, is_well_formed, frame_entry, raw_slot_entry, table_len}
 use Rattle.plain_machine.specs.State.{State, on, Running, Flight}
 use Rattle.plain_machine.specs.Chain.{or_else}
-use Rattle.plain_machine.specs.Refusals.{refused_if, refusal, op_refusal, task_refusal}
+use Rattle.plain_machine.specs.Refusals.{refused_if, refusal, op_refusal}
 use Rattle.plain_machine.specs.Shows.{RunsAs, seen_frames}
-use Rattle.plain_machine.specs.Step.{Outcome, Step, outcomes, refused_or, requested, accepted}
+use Rattle.plain_machine.specs.Step.{Step, outcomes, refused_or, requested}
 use Rattle.plain_machine.specs.declared.event.Event.TheVariants.{Task}
 use Rattle.plain_machine.specs.declared.event.TaskOp.{TaskOp}
 use Rattle.plain_machine.specs.declared.held.Held.{Held}
 use Rattle.plain_machine.specs.declared.no_swap.NoSwap.{NoSwap}
 use Rattle.plain_machine.specs.declared.reply.Reply.{Reply}
 use Rattle.plain_machine.specs.declared.reply.Reply.TheVariants as reply
-use Rattle.plain_machine.proofs.SameMemory.{table_frame_valid, table_frame_not_owned, same_entry, same_used, same_set, same_entry_set, fits_set, fits_entry, entry-same, entry-set_other, slot_entry-set_other, slot_entry-frame_entry_set, of_frame_table, tables_apart}
+use Rattle.plain_machine.proofs.SameMemory.{table_frame_valid, table_frame_not_owned, same_entry, same_used, same_set, same_entry_set, fits_set, fits_entry, entry-same, entry-set_other, of_frame_table, tables_apart}
 use Rattle.plain_machine.proofs.Seen.{seen_set, seen_entry, frame-seen, length-seen}
-use Rattle.machine.specs.TaskRow.{GoesOn, HasRow, own_refusal}
+use Rattle.machine.specs.TaskRow.{HasRow, own_refusal}
 
 -- Steps of a running state for a task's request.
 

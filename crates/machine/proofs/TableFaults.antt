@@ -1,8 +1,7 @@
 -- Which table frames are at fault, and memories whose tables fit.
-use Rattle.std.proofs.Common.{◌≡◌, ℕ, ◌+◌, ◌/◌, ◌<◌, ◌≤◌, inl, inr, zero, suc, Bool, true, false, not, eqb, ltb, cond, ◌&&◌, ◌||◌, List, [], ◌∷◌, ◌++◌, length, ◌↔◌, Option, Some, None, Result, Ok, Err, refl, sym, ap, ap₂, ◌∙◌, subst, arith, ⊎_elim}
+use Rattle.std.proofs.Common.{◌≡◌, ℕ, ◌+◌, ◌/◌, ◌<◌, ◌≤◌, inl, inr, zero, suc, Bool, true, false, not, eqb, cond, ◌&&◌, ◌||◌, List, [], ◌∷◌, ◌++◌, length, ◌↔◌, Option, Some, None, Result, Ok, Err, refl, sym, ap, ap₂, ◌∙◌, subst, arith}
 use Rattle.std.proofs.lemmas.Bool.{both_ways, cases_Bool, eqb-true, eq-eqb, false≢true, lt-ltb, le-ltb, not-false}
 use Rattle.std.proofs.lemmas.Option.{none-some}
-use Rattle.std.proofs.lemmas.List.Elements.{Contains-append_left, Contains-append_right}
 use Rattle.std.proofs.lemmas.List.Folds.{find-append}
 use Rattle.std.specs.List.{All, Contains, find, list_any, range_with_len}
 use Rattle.std.specs.Option.{option_or}
@@ -13,7 +12,8 @@ use Rattle.definitions.specs.Zones.{numbers, top}
 use Rattle.definitions.proofs.ZoneNumbers.{Contains-range, range-bounds}
 use Rattle.plain_machine.specs.Machine.{Fits, Hardware, IsHardware, IsOfTable, IsTableFrame, Memory, frame_entry, frame_table_frames, is_slot_entry, is_table_at_fault, is_well_formed, raw_slot_entry, slot_table_frames, table_frames, table_len, tables_fault}
 use Rattle.plain_machine.proofs.SameMemory.{of_frame_table, of_slot_table, tables_apart}
-use Rattle.machine.proofs.Beyond.{any_at, any_none}
+use Rattle.machine.proofs.ListTests.{any_at, any_none}
+use Rattle.machine.proofs.PartTests.{in_table_frames}
 
 -- Table frame f is not at fault.
 pub record IsFaultless (h : Hardware) (m : Memory) (f : ℕ) : Type 0 where
@@ -195,19 +195,6 @@ tells_slots_first h m r s le a b =
     let fault = is_table_at_fault h m in
     let found = ap (in_order h m) (le-ltb h.frame_table h.slot_table le) ∙ find-append fault (slot_table_frames h) (frame_table_frames h) in
     subst (λ (o : Option ℕ). Tells o (result_and s r)) (sym found) (tells_first (find fault (slot_table_frames h)) (find fault (frame_table_frames h)) s r b a)
-
-Contains-table : (first entries f : ℕ) → IsOfTable first entries f → Contains (range_with_len first (table_len entries)) f
-Contains-table first entries f of = Contains-range first (table_len entries) f of.from of.below
-
-in_table_frames : (h : Hardware) (f : ℕ) → IsTableFrame h f → Contains (table_frames h) f
-in_table_frames h f of = elim (cases_Bool (ltb h.frame_table h.slot_table)) [
-  | inl e ↦ subst (λ (b : Bool). Contains (cond b (frame_table_frames h ++ slot_table_frames h) (slot_table_frames h ++ frame_table_frames h)) f) (sym e) (⊎_elim
-      (λ (a : IsOfTable h.frame_table (top h.zones) f). Contains-append_left (frame_table_frames h) (slot_table_frames h) f (Contains-table h.frame_table (top h.zones) f a))
-      (λ (b : IsOfTable h.slot_table h.slots f). Contains-append_right (frame_table_frames h) (slot_table_frames h) f (Contains-table h.slot_table h.slots f b)) of)
-  | inr e ↦ subst (λ (b : Bool). Contains (cond b (frame_table_frames h ++ slot_table_frames h) (slot_table_frames h ++ frame_table_frames h)) f) (sym e) (⊎_elim
-      (λ (a : IsOfTable h.frame_table (top h.zones) f). Contains-append_right (slot_table_frames h) (frame_table_frames h) f (Contains-table h.frame_table (top h.zones) f a))
-      (λ (b : IsOfTable h.slot_table h.slots f). Contains-append_left (slot_table_frames h) (frame_table_frames h) f (Contains-table h.slot_table h.slots f b)) of)
-]
 
 -- tables none of whose page frames is at fault fit
 pub fits-no_fault : (h : Hardware) (m : Memory) → IsHardware h → All IsPage m → length m ≡ top h.zones → tables_fault h m ≡ None → Fits h m

@@ -1,5 +1,5 @@
 -- How a machine's hardware is kept.
-use Rattle.std.specs.Prelude.{◌≡◌, [], ◌∷◌, refl}
+use Rattle.std.specs.Prelude.{◌≡◌, refl}
 use Rattle.plain_machine.specs.Machine.{Hardware, IsHardware}
 use Rattle.machine.specs.declared.hardware.Hardware.TheInside.{Inside}
 
@@ -9,16 +9,15 @@ kept_hardware a = record {
   slots = a.slots;
   frame_table = a.frame_table;
   slot_table = a.slot_table;
-  regions = [];
+  regions = a.regions;
   ident = a.ident;
   hw_sig = a.hw_sig;
   extents = a.extents;
 }
 
--- its parts fit, and each slot lies on the block of its number
+-- its parts fit together
 pub record IsKept (a : Inside) : Type 0 where
   pub hardware : IsHardware (kept_hardware a)
-  pub plain : a.extents ≡ (0, a.slots, 0) ∷ []
 
 abbrev pub kept_as : Hardware → Inside
 kept_as h = record {
@@ -26,6 +25,7 @@ kept_as h = record {
   slots = h.slots;
   frame_table = h.frame_table;
   slot_table = h.slot_table;
+  regions = h.regions;
   ident = h.ident;
   hw_sig = h.hw_sig;
   extents = h.extents;

@@ -1,5 +1,7 @@
 pub mod FreshSlots
+pub mod HardFault
 pub mod KeptHardware
-pub mod Scripted
+pub mod KeptRegions
+pub mod Runs
 pub mod TaskRow
 pub mod Usable

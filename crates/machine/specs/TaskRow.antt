@@ -1,9 +1,9 @@
 -- What a task's request makes of the page frames of a machine that runs.
-use Rattle.std.specs.Prelude.{◌≡◌, ℕ, ◌<◌, ◌==◌, not, Option, Some, None}
+use Rattle.std.specs.Prelude.{◌≡◌, ℕ, ◌<◌, ◌==◌, not, Option, None}
 use Rattle.definitions.specs.Disk as disk
 use Rattle.definitions.specs.Tables.{owner_of}
 use Rattle.plain_machine.specs.Machine.{Hardware, Memory, is_valid, frame_entry, raw_slot_entry}
-use Rattle.plain_machine.specs.State.{on, Running, Flight}
+use Rattle.plain_machine.specs.State.{on, Running}
 use Rattle.plain_machine.specs.Chain.{or_else}
 use Rattle.plain_machine.specs.Refusals.{refused_if}
 use Rattle.plain_machine.specs.Shows.{RunsAs}

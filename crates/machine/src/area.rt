@@ -1,8 +1,9 @@
-ghost use Rattle.std.specs.Prelude.{◌≡◌, ℕ, ◌+◌, ◌<◌, not, nat_lt, MatchResult, Some, None};
+ghost use Rattle.std.specs.Prelude.{◌≡◌, ℕ, ◌+◌, ◌<◌, ◌↔◌, not, nat_lt, length, IsTrue, MatchResult, Some, None};
 ghost use Rattle.std.specs.List.{list_any, range_with_len};
 ghost use Rattle.plain_machine.specs.Machine.{block_of_slot};
 ghost use Rattle.plain_machine.specs.UsableArea.{kind_or_fit_fault, fit_fault};
-ghost use Rattle.machine.specs.Usable.{HasKind};
+ghost use Rattle.definitions.specs.Slots.{extent_at};
+ghost use Rattle.machine.specs.Usable.{HasKind, Passes};
 
 use crate::Hardware;
 use plain_machine::NoSwap;
@@ -44,10 +45,26 @@ fn fitting(hw: &Hardware, blocks: u32, area: &Area) -> Result<Area, NoSwap>
     Ok(*area)
 }
 
-/// Whether a slot up to `last` lies on no block of the disk. Each slot lies on the block of its number, so the last one is the
-/// furthest.
+/// Whether a slot up to `last` lies on no block of the disk. Past the last extent that one goes on.
 fn lies_beyond(hw: &Hardware, last: u32, blocks: u32) -> bool
     ensures { result ≡ list_any (λ s. not (nat_lt (block_of_slot hw.now s) blocks)) (range_with_len 0 (last + 1)) }
 {
-    hw.extents().block(last) >= u64::from(blocks)
+    let map = hw.extents();
+    map.block(last) >= u64::from(blocks) || some_passes(map.extents(), last, blocks)
+}
+
+/// Whether one of these extents has a slot up to `last` that lies on no block of the disk.
+fn some_passes(extents: &[(u32, u32, u32)], last: u32, blocks: u32) -> bool
+    ensures { IsTrue result ↔ ((i : ℕ) × (i < length extents.now) × Passes (extent_at extents.now i) last blocks) }
+{
+    extents.iter().any(|&extent| passes(extent, last, blocks))
+}
+
+/// Whether an extent has a slot up to `last` that lies on no block of the disk.
+fn passes(extent: (u32, u32, u32), last: u32, blocks: u32) -> bool
+    ensures { IsTrue result ↔ Passes extent last blocks }
+{
+    let (start, length, block) = extent;
+    let fitting = blocks.saturating_sub(block);
+    fitting < length && u64::from(start) + u64::from(fitting) <= u64::from(last)
 }

@@ -1,9 +1,10 @@
-ghost use Rattle.std.specs.Prelude.{◌≡◌, ◌==◌, ℕ, ◌+◌, ◌/◌, ◌<◌, ◌≤◌, List, [], length, take};
-ghost use Rattle.std.specs.List.{range_with_len, list_any};
+ghost use Rattle.std.specs.Prelude.{◌≡◌, ◌==◌, ℕ, ◌+◌, ◌/◌, ◌<◌, ◌≤◌, List, length, take, All};
+ghost use Rattle.std.specs.List.{range_with_len, list_any, find};
 ghost use Rattle.definitions.specs.Tables.{HasTable, with_entry};
 ghost use Rattle.definitions.specs.Zones.{top};
 ghost use Rattle.plain_machine.specs.Machine.{is_table_frame, is_of_table};
-ghost use Rattle.plain_machine.specs.Step.{fresh_frames, fresh_entry, with_each_entry};
+ghost use Rattle.plain_machine.specs.Step.{fresh_frames, fresh_entry, region_flags, with_each_entry};
+ghost use Rattle.machine.specs.HardFault.{is_in_region};
 ghost use Rattle.machine.specs.FreshSlots.{slot_of_area};
 
 use crate::Hardware;
@@ -13,7 +14,7 @@ use page_states::{PageFlags, set_entry};
 use plain_machine::NoSwap;
 use sig_header::Area;
 
-/// The frame table's entry of a free page frame, and of one that has no flag.
+/// The flags of a free page frame, and of one that has none.
 const FREE: u16 = 1;
 
 const IN_USE: u16 = 0;
@@ -27,7 +28,7 @@ pub(crate) const BAD_SLOT: u32 = 131072;
 pub(crate) const ENTRIES: u32 = 1024;
 
 /// Makes the page frames those of fresh memory, but for the slot table's entries: zeros and the frame table, in which the
-/// tables' page frames are in use and all others free.
+/// tables' page frames are in use, those of a region have its flags, and all others are free.
 pub fn set_fresh(frames: &mut Frames, hw: &Hardware)
     requires { length frames.old ≡ top hw.now.zones }
     ensures fresh { frames.new ≡ fresh_frames hw.now }
@@ -59,14 +60,29 @@ fn fresh_flags(hw: &Hardware, p: u32) -> u16
     requires { p < 65536 }
     ensures { result ≡ fresh_entry hw.now p }
 {
-    if is_table_frame(hw, p) { IN_USE } else { FREE }
+    if is_table_frame(hw, p) {
+        IN_USE
+    } else {
+        region_flags(hw.regions(), p)
+    }
+}
+
+/// The flags of the region that has a page frame; outside the regions it is free.
+fn region_flags(regions: &[(u32, u32, u32)], p: u32) -> u16
+    requires { All (λ r. r.2 < 128) regions.now }
+    ensures { result ≡ region_flags (find (λ r. is_in_region r p) regions.now) }
+{
+    let has_page = |region: &&(u32, u32, u32)| region.0 <= p && p - region.0 < region.1;
+    match regions.iter().find(has_page) {
+        Some(region) => region.2 as u16,
+        None => FREE,
+    }
 }
 
 /// Whether a page frame is one of the tables'.
 pub(crate) fn is_table_frame(hw: &Hardware, p: u32) -> bool
     requires { p < 65536 }
-    ensures test { result ≡ is_table_frame hw.now p }
-    ensures regions { hw.now.regions ≡ [] }
+    ensures { result ≡ is_table_frame hw.now p }
 {
     is_of_table(hw.frame_table(), hw.zones().top(), p)
         || is_of_table(hw.slot_table(), hw.slots(), p)

@@ -1,21 +1,59 @@
-ghost use Rattle.std.specs.Prelude.{◌≡◌, ℕ, ◌+◌, ◌^◌, ◌<◌, ◌≤◌, [], ◌∷◌, length, All};
-ghost use Rattle.definitions.specs.Slots.{block_of};
-ghost use Rattle.plain_machine.specs.Machine.{IsHardware};
-ghost use Rattle.machine.specs.Scripted.{scripted_hardware, scripted_ident, filled_name};
+ghost use Rattle.std.specs.Prelude.{◌≡◌, ℕ, ◌+◌, ◌^◌, ◌<◌, ◌≤◌, ◌↔◌, length, All, IsOk, IfOk, IfErr, Some, None};
+ghost use Rattle.plain_machine.specs.Machine.{IsHardware, IsIdent};
 
+use crate::parts::{has_regions, has_slots, has_tables};
+use crate::regions::Regions;
 use definitions::Ident;
 use std::marker::Model;
 use swap_slots::FileMap;
 use zones::Zones;
 
+/// What a machine is made of, before it is known to fit together.
+#[derive(Clone, Copy)]
+pub struct Parts<'a> {
+    /// The runs of page frame numbers that the machine has: the first number and the count of each.
+    pub zones: &'a [(u32, u32)],
+    /// How many slots its swap area has, slot 0 among them.
+    pub slots: u32,
+    /// The first page frame of the frame table.
+    pub frame_table: u32,
+    /// The first page frame of the slot table.
+    pub slot_table: u32,
+    /// The runs of page frames that fresh memory gives flags: the first number, the count and the flags of each.
+    pub regions: &'a [(u32, u32, u32)],
+    /// What the machine's images are tied to.
+    pub ident: Ident,
+    /// The hardware signature, 0 where there is none.
+    pub hw_sig: u32,
+    /// Where the slots lie on the blocks of the disk: the first slot, the length and the first block of each extent.
+    pub extents: &'a [(u32, u32, u32)],
+}
+
+/// Why parts are no hardware: the first of these that is at fault, in this order.
+#[derive(Clone, Copy, Debug, PartialEq, Eq)]
+pub enum HardFault {
+    /// The zones are none, as `Zones::of` tells.
+    Zones,
+    /// The slots are fewer than 2 or more than 131,072.
+    Slots,
+    /// A page frame of a table isn't valid, or the tables share one.
+    Tables,
+    /// There are more than 64 regions, one is empty, has odd flags or flags above 126, or has a page frame that isn't valid, is a
+    /// table's or lies in another region.
+    Regions,
+    /// The extents are none of so many slots, as `FileMap::of` tells.
+    Extents,
+}
+
 /// What a machine has and keeps: the page frames of its zones, the slots of its swap area and the blocks that they lie on, where
-/// the two tables begin, and what its images are tied to.
+/// the two tables begin, the regions with flags of their own, and what its images are tied to.
 #[derive(Clone, Copy)]
 pub struct Hardware {
     zones: Zones,
     slots: u32,
     frame_table: u32,
     slot_table: u32,
+    regions: Regions,
     ident: Ident,
     hw_sig: u32,
     extents: FileMap,
@@ -38,30 +76,47 @@ impl Model for Hardware {
 }
 
 impl Hardware {
-    /// The machine of a script without settings but the area's last slot: page frames 0 to 4095, the frame table in the first
-    /// four of them, the slot table behind it, each slot on the block of its number, no hardware signature.
-    pub fn scripted(last: u32) -> Hardware
-        requires some { 1 ≤ last }
-        requires few { last ≤ 16383 }
-        ensures { result ≡ scripted_hardware last }
+    ghost use Rattle.machine.specs.HardFault.{hardware_of, hard_fault};
+
+    /// The hardware of these parts, where they fit together.
+    pub fn of(parts: &Parts) -> Result<Hardware, HardFault>
+        ensures ok { IsOk result ↔ (hard_fault (hardware_of parts.now) ≡ None) }
+        ensures hardware { IfOk result (λ hw. hw ≡ hardware_of parts.now) }
+        ensures is { IsOk result → IsHardware (hardware_of parts.now) }
+        ensures refused { IfErr result (λ fault. hard_fault (hardware_of parts.now) ≡ Some fault) }
     {
-        let zones = Zones::of(&[(0, 4096)]).unwrap();
-        let extents = FileMap::of(&[(0, last + 1, 0)], last + 1).unwrap();
-        Hardware {
-            zones,
-            slots: last + 1,
-            frame_table: 0,
-            slot_table: 4,
-            ident: scripted_ident(),
-            hw_sig: 0,
-            extents,
+        let Ok(zones) = Zones::of(parts.zones) else {
+            return Err(HardFault::Zones);
+        };
+        if !has_slots(parts) {
+            return Err(HardFault::Slots);
         }
+        if !has_tables(parts, &zones) {
+            return Err(HardFault::Tables);
+        }
+        if !has_regions(parts, &zones) {
+            return Err(HardFault::Regions);
+        }
+        let Ok(extents) = FileMap::of(parts.extents, parts.slots) else {
+            return Err(HardFault::Extents);
+        };
+        // Read into a number of its own, the signature is known to have 32 bits.
+        let hw_sig = parts.hw_sig;
+        Ok(Hardware {
+            zones,
+            slots: parts.slots,
+            frame_table: parts.frame_table,
+            slot_table: parts.slot_table,
+            regions: Regions::of(parts.regions),
+            ident: *of_its_type(&parts.ident),
+            hw_sig,
+            extents,
+        })
     }
 
     pub fn zones(&self) -> &Zones
         ensures zones { result.now ≡ self.now.zones }
         ensures hardware { IsHardware self.now }
-        ensures regions { self.now.regions ≡ [] }
     {
         &self.zones
     }
@@ -89,6 +144,14 @@ impl Hardware {
         self.slot_table
     }
 
+    /// The page frames that fresh memory gives flags: the first number, the count and the flags of each region.
+    pub fn regions(&self) -> &[(u32, u32, u32)]
+        ensures regions { result.now ≡ self.now.regions }
+        ensures hardware { IsHardware self.now }
+    {
+        self.regions.as_slice()
+    }
+
     /// What the machine's images are tied to, as an info page can say it.
     pub fn ident(&self) -> &Ident
         ensures ident { result.now ≡ self.now.ident }
@@ -111,12 +174,21 @@ impl Hardware {
 
     pub fn extents(&self) -> &FileMap
         ensures extents { result.now ≡ self.now.extents }
-        ensures plain { self.now.extents ≡ (0, self.now.slots, 0) ∷ [] }
         ensures hardware { IsHardware self.now }
-        ensures regions { self.now.regions ≡ [] }
     {
         &self.extents
     }
+}
+
+/// An identity, which an info page can say by its type.
+fn of_its_type(ident: &Ident) -> &Ident
+    ensures same { result.now ≡ ident.now }
+    ensures ident { IsIdent ident.now }
+{
+    // Only what is read is known to have the size of its type.
+    let _code = ident.version_code;
+    let _names = whole(&ident.names);
+    ident
 }
 
 /// The names of an identity. Each has 65 bytes by its type.
@@ -125,32 +197,4 @@ fn whole(names: &[[u8; 65]]) -> &[[u8; 65]]
     ensures each { All (λ name. length name ≡ 65) names.now }
 {
     names
-}
-
-/// The identity of scripted machines: Linux 6.1.0 on `plain`.
-#[tactic(auto, unfolding(crate::specs::Scripted::scripted_ident))]
-fn scripted_ident() -> Ident
-    ensures { result ≡ scripted_ident }
-{
-    Ident {
-        version_code: 393472,
-        names: [
-            name(b"Linux"),
-            name(b"machine"),
-            name(b"6.1.0"),
-            name(b"#1"),
-            name(b"plain"),
-            name(b"(none)"),
-        ],
-    }
-}
-
-/// A name, filled with zero bytes.
-fn name(text: &[u8]) -> [u8; 65]
-    requires { length text.now ≤ 65 }
-    ensures { result ≡ filled_name text.now }
-{
-    let mut name = [0; 65];
-    name[..text.len()].copy_from_slice(text);
-    name
 }

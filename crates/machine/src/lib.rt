@@ -5,11 +5,13 @@ mod area;
 mod fresh;
 mod hardware;
 mod machine;
+mod parts;
+mod regions;
 mod tables;
 mod tasks;
 
 pub use area::usable;
 pub use fresh::{set_fresh, set_slots};
-pub use hardware::Hardware;
+pub use hardware::{HardFault, Hardware, Parts};
 pub use machine::Machine;
 pub use tables::{has_bad_slots, tables_fit};

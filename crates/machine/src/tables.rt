@@ -67,7 +67,7 @@ fn slot_table_fits(frames: &Frames, hw: &Hardware) -> Result<(), u32>
 }
 
 /// How many page frames a table with so many entries takes.
-fn table_len(entries: u32) -> u32
+pub(crate) fn table_len(entries: u32) -> u32
     ensures { result ≡ table_len entries }
 {
     entries.div_ceil(ENTRIES)

@@ -2,4 +2,6 @@
 #![tactic(auto)]
 
 #[cfg(test)]
+mod hardware;
+#[cfg(test)]
 mod tables;

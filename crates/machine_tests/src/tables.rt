@@ -1,8 +1,9 @@
 ghost use Rattle.std.specs.Prelude.{◌≡◌, ◌<◌, ◌≤◌, length, IfOk};
 ghost use Rattle.definitions.specs.Zones.{top};
 
+use definitions::Ident;
 use frame_arena::Frames;
-use machine::{Hardware, has_bad_slots, set_fresh, set_slots, tables_fit, usable};
+use machine::{Hardware, Parts, has_bad_slots, set_fresh, set_slots, tables_fit, usable};
 use page_core::{NoMemory, Page};
 use plain_machine::NoSwap;
 use sig_header::{Area, AreaKind, area_page};
@@ -12,7 +13,7 @@ use std::test::Fail;
 // The tables of a scripted machine with 3001 slots are in page frames 0 to 6. Entries have 4 bytes.
 #[test]
 fn fresh_memory(rt: HostRuntime) -> Result<(), Fail> {
-    let hw = Hardware::scripted(3000);
+    let hw = small_machine()?;
     let mut frames = Frames::create(rt.alloc(), 4096)?;
     assert_eq!(rt; frames.len(), hw.zones().top());
     frames.fill(4095, 9);
@@ -31,8 +32,8 @@ fn fresh_memory(rt: HostRuntime) -> Result<(), Fail> {
 }
 
 #[test]
-fn areas_that_cannot_be_used(rt: HostRuntime) {
-    let hw = Hardware::scripted(3000);
+fn areas_that_cannot_be_used(rt: HostRuntime) -> Result<(), Fail> {
+    let hw = small_machine()?;
     let short = usable(&hw, 3000, &AreaKind::read(&area_page(3000, &[])));
     assert_eq!(rt;
         short.err(),
@@ -51,14 +52,15 @@ fn areas_that_cannot_be_used(rt: HostRuntime) {
     );
     let none = usable(&hw, 3001, &AreaKind::read(&Page::zero()));
     assert_eq!(rt; none.err(), Some(NoSwap::Signature { sig: [0; 10] }));
+    Ok(())
 }
 
 // The first table frame at fault in fresh memory with one number of 4 bytes set.
-fn fault_of(alloc: Global, p: u32, offset: usize, number: u32) -> Result<Option<u32>, NoMemory>
+fn fault_of(alloc: Global, p: u32, offset: usize, number: u32) -> Result<Option<u32>, Fail>
     requires frame { p < 4096 }
     requires number { offset ≤ 4092 }
 {
-    let hw = small_machine();
+    let hw = small_machine()?;
     let mut frames = fresh_frames(alloc, &hw)?;
     put(&mut frames, p, offset, number);
     Ok(tables_fit(&frames, &hw).err())
@@ -72,11 +74,24 @@ fn put(frames: &mut Frames, p: u32, offset: usize, number: u32)
     frames.put_u32(p, offset, number);
 }
 
-#[tactic(auto, unfolding(machine::specs::Scripted::scripted_hardware))]
-fn small_machine() -> Hardware
-    ensures { top result.zones ≡ 4096 }
+// A machine with page frames 0 to 4095, the tables in the first of them, 3001 slots, and each on the block of its number.
+fn small_machine() -> Result<Hardware, Fail>
+    ensures { IfOk result (λ hw. top hw.zones ≡ 4096) }
 {
-    Hardware::scripted(3000)
+    let parts = Parts {
+        zones: &[(0, 4096)],
+        slots: 3001,
+        frame_table: 0,
+        slot_table: 4,
+        regions: &[],
+        ident: Ident {
+            version_code: 393472,
+            names: [[0; 65]; 6],
+        },
+        hw_sig: 0,
+        extents: &[(0, 3001, 0)],
+    };
+    Ok(Hardware::of(&parts).ok().ok_or("no hardware")?)
 }
 
 // Fresh memory of a machine whose slot 5 is bad.
@@ -120,7 +135,7 @@ fn table_frames_at_fault(rt: HostRuntime) -> Result<(), Fail> {
 
 #[test]
 fn bad_slots_of_an_area(rt: HostRuntime) -> Result<(), Fail> {
-    let hw = small_machine();
+    let hw = small_machine()?;
     let mut frames = fresh_frames(rt.alloc(), &hw)?;
     assert!(rt; has_bad_slots(&frames, &hw, &area_with(5)));
     assert!(rt; !has_bad_slots(&frames, &hw, &area_with(6)));

@@ -4,4 +4,4 @@ mod Keeping
 mod Members
 mod Moving
 mod Placing
-mod Walk
+pub mod Walk

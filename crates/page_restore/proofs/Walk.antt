@@ -1,7 +1,7 @@
 -- A walk over an ascending list of page frames, from each to the next.
 use Rattle.std.proofs.Common.{◌≡◌, ℕ, ◌+◌, ◌<◌, ◌≤◌, ◌⊎◌, List, [], ◌∷◌, ◌++◌, length, filter, take, get_or, Some, Bool, true, false, cond, sym, ap, ◌∙◌, inl, inr, arith}
 use Rattle.std.proofs.lemmas.Bool.{cases_lt}
-use Rattle.std.proofs.lemmas.List.{append-nil, get_or_default, get_or-take, length-take}
+use Rattle.std.proofs.lemmas.List.{append-nil, get_or_default, get_or-take, length-take, take_more}
 use Rattle.std.proofs.lemmas.List.Elements.{Contains-get_or, filter_more}
 use Rattle.std.proofs.lemmas.List.Kept.{AllPairs-from_increasing}
 use Rattle.std.specs.List.{Contains}
@@ -100,3 +100,13 @@ walk_passes_by test xs marked k lt is fail =
     let x = get_or xs k 0 in
     is
     ∙ sym (filter_more test xs k 0 lt ∙ ap (λ (b : Bool). filter test (take k xs) ++ cond b (x ∷ []) []) fail ∙ append-nil (filter test (take k xs)))
+
+-- The numbers that were walked through.
+pub walk_takes : (xs marked : List ℕ) (p k : ℕ) → IsCursor xs p k → k < length xs → marked ≡ take k xs → inserted marked (get_or xs k 0) ≡ take (k + 1) xs
+walk_takes xs marked p k cursor lt is =
+    let x = get_or xs k 0 in
+    let above : (q : ℕ) → Contains (take k xs) q → q < x = λ q in'.
+    let low = walked_below xs p k q cursor in' in
+    let from = cursor.above k (omega arith) lt in
+    omega arith in
+    ap (λ (zs : List ℕ). inserted zs x) is ∙ inserted_above (take k xs) x above ∙ sym (take_more xs k 0 lt)

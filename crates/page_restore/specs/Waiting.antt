@@ -1,10 +1,9 @@
 -- Pages of an image that wait until all of them go to their own page frames (prepare_image and get_buffer,
 -- kernel/power/snapshot.c).
-use Rattle.std.specs.Prelude.{ℕ, ◌==◌, ◌&&◌, ◌||◌, Bool, not, nat_le, List, [], ◌∷◌, Option, Some, None, map, take, filter, if◌then◌else◌}
+use Rattle.std.specs.Prelude.{ℕ, ◌==◌, ◌||◌, Bool, not, List, [], ◌∷◌, Option, Some, None, map, take, filter, if◌then◌else◌}
 use Rattle.std.specs.List.{list_any, zip}
 use Rattle.definitions.specs.Bytes.{zero_page}
 use Rattle.definitions.specs.Tables.{frame}
-use Rattle.definitions.specs.Zones.{numbers}
 use Rattle.safe_pages.specs.Placed.{Placed, sources}
 
 -- The page frames that are free to the loader, the originals with data of the last plan, where their pages wait, and how
@@ -15,14 +14,6 @@ pub record Awaiting : Type 0 where
   pub originals : List ℕ
   pub placement : Placed
   pub loaded : ℕ
-
--- whether one of these ranges, both ends included, has p
-abbrev pub is_in_range : List (ℕ × ℕ) → ℕ → Bool
-is_in_range ranges p = list_any (λ r. nat_le r.0 p && nat_le p r.1) ranges
-
--- the valid page frames outside these ranges
-unfoldable pub outside : List (ℕ × ℕ) → List (ℕ × ℕ) → List ℕ
-outside ranges zones = filter (λ p. not (is_in_range ranges p)) (numbers zones)
 
 -- the originals that aren't among those without data
 unfoldable pub with_data : List ℕ → List ℕ → List ℕ

@@ -10,7 +10,7 @@ ghost use Rattle.definitions.specs.Tables.{frame};
 ghost use Rattle.definitions.specs.Zones.{top};
 ghost use Rattle.safe_pages.specs.Placed.{targets, IsPlacement, TakesFrom};
 ghost use Rattle.safe_pages.specs.Plan.{need_for, planned};
-ghost use Rattle.page_restore.specs.Waiting.{outside, with_data, waiting_pages, restored_page};
+ghost use Rattle.page_restore.specs.Waiting.{with_data, waiting_pages, restored_page};
 
 use frame_arena::Frames;
 use memory_bitmap::Bitmap;
@@ -18,7 +18,7 @@ use page_core::{NoMemory, Page};
 use relocate::{Steps, Work, execute, sequence};
 use restore_list::RestoreList;
 use safe_pages::{Placement, TooFew};
-use sets::{mark_outside, mark_with_data, zero_apart};
+use sets::{copy_members, mark_with_data, zero_apart};
 use std::alloc::Global;
 use std::marker::{Brand, Model};
 use std::sync::ledger::{Blank, Ledger};
@@ -67,10 +67,10 @@ impl Waiting {
         })
     }
 
-    /// Page frames outside these ranges, both ends included, are free to the loader. Nothing is planned yet.
-    pub fn begin(&mut self, zones: &Zones, ranges: &[(u32, u32)])
-        requires { zones.now ≡ self.old.zones }
-        ensures free { self.new.free ≡ outside ranges.now zones.now }
+    /// These page frames are free to the loader. Nothing is planned yet.
+    pub fn begin(&mut self, free: &Bitmap)
+        requires { free.now.zones ≡ self.old.zones }
+        ensures free { self.new.free ≡ free.now.members }
         ensures empty { self.new.originals ≡ [] }
         ensures loaded { self.new.loaded ≡ 0 }
         ensures unready { self.new.placement.ready ≡ false }
@@ -79,7 +79,7 @@ impl Waiting {
         self.ready = false;
         self.loaded = 0;
         self.origs.clear_all();
-        mark_outside(&mut self.free, zones, ranges);
+        copy_members(&mut self.free, free);
     }
 
     /// Plans where the pages of these originals wait, all but those without data. Refused where too few page frames are

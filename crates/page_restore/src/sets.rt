@@ -2,33 +2,23 @@ ghost use Rattle.std.specs.Prelude.{◌≡◌, ℕ, ◌≤◌, Contains, length}
 ghost use Rattle.definitions.specs.Bytes.{zero_page};
 ghost use Rattle.definitions.specs.Tables.{frame};
 ghost use Rattle.definitions.specs.Zones.{top};
-ghost use Rattle.page_restore.specs.Waiting.{is_in_range, outside, with_data};
+ghost use Rattle.page_restore.specs.Waiting.{with_data};
 
 use frame_arena::Frames;
 use memory_bitmap::Bitmap;
-use zones::Zones;
 
-/// Makes the set that of the valid page frames outside these ranges.
-pub(crate) fn mark_outside(set: &mut Bitmap, zones: &Zones, ranges: &[(u32, u32)])
-    requires { set.old.zones ≡ zones.now }
-    ensures { set.new ≡ record set.old { members = outside ranges.now zones.now } }
+/// Makes a set the same as another one.
+pub(crate) fn copy_members(set: &mut Bitmap, members: &Bitmap)
+    requires { set.old.zones ≡ members.now.zones }
+    ensures { set.new ≡ members.now }
 {
     set.clear_all();
     let mut from = 0;
-    for _ in 0..zones.count() {
-        let p = zones.next(from).unwrap();
-        if !is_in_range(ranges, p) {
-            set.set(p);
-        }
+    for _ in 0..members.len() {
+        let p = members.first_from(from).unwrap();
+        set.set(p);
         from = p + 1;
     }
-}
-
-/// Whether one of these ranges, both ends included, has the page frame.
-fn is_in_range(ranges: &[(u32, u32)], p: u32) -> bool
-    ensures { result ≡ is_in_range ranges.now p }
-{
-    ranges.iter().any(|&(first, last)| first <= p && p <= last)
 }
 
 /// Makes the set that of the originals that aren't among those without data.

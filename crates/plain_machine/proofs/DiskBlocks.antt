@@ -1,10 +1,12 @@
 -- What a block reads as once it is written, and the header block of a fresh area.
-use Rattle.std.proofs.Common.{◌≡◌, ℕ, ◌+◌, ◌*◌, ◌<◌, ◌≤◌, zero, suc, List, [], ◌∷◌, ◌++◌, length, get_or, take, drop, map, refl, sym, ap, ap₂, ◌∙◌, arith, zero-add, append-nil, length-drop}
+use Rattle.std.proofs.Common.{◌≡◌, ℕ, ◌+◌, ◌*◌, ◌<◌, ◌≤◌, zero, suc, List, [], ◌∷◌, ◌++◌, length, get_or, take, drop, map, flat_map, refl, sym, ap, ap₂, ◌∙◌, arith, zero-add, append-nil, length-drop, length-append}
 use Rattle.std.proofs.Math.Seq.{take-add}
 use Rattle.std.proofs.lemmas.List.{ext_get_or, get_or-drop, get_or-take, get_or-map, take_all, length-take-le}
 use Rattle.std.proofs.lemmas.List.Folds.{concat-append}
 use Rattle.std.proofs.lemmas.List.FromFn.{length-map-range_with_len, get_or-map-range_with_len, map-range_with_len_more}
 use Rattle.std.specs.List.{concat, range_with_len}
+use Rattle.byteorder.specs.Endian.{little_bytes}
+use Rattle.byteorder.specs.Numbers.{length-bytes_low_first}
 use Rattle.definitions.specs.Bytes.{IsPage, zero_page, with_number, with_bytes}
 use Rattle.definitions.specs.Disk.{Content, Sector, no_sector, as_it_reads, block, sector_bytes, Writes}
 use Rattle.definitions.specs.SwapHeader.{area_page, area_signature, image_signature, sig_of, IsMarked}
@@ -44,37 +46,51 @@ block-written b page old new whole within writes =
     ∙ sym (get_or-map-range_with_len (sector_bytes page) 0 8 j j [] j_lt (zero-add j))) in
     ap concat parts ∙ pieces page 8 ∙ take_all 4096 page (omega arith)
 
--- The header block of an area without bad pages has 4096 bytes and no mark.
+-- The header block of an area has 4096 bytes and no mark.
 
-numbers-whole : (last : ℕ) → length (with_number 4 (with_number 4 (with_number 4 zero_page 1024 1) 1028 last) 1032 0) ≡ 4096
-numbers-whole last =
+length-words : (bad : List ℕ) → length (flat_map (little_bytes 4) bad) ≡ 4 * length bad
+length-words [] = refl
+length-words (slot ∷ bad) =
+    let rest = length-words bad in
+    let four : length (little_bytes 4 slot) ≡ 4 = length-bytes_low_first 0 4 slot in
+    length-append (little_bytes 4 slot) (flat_map (little_bytes 4) bad) ∙ omega arith
+
+abbrev numbered : ℕ → List ℕ → List ℕ
+numbered last bad = with_number 4 (with_number 4 (with_number 4 zero_page 1024 1) 1028 last) 1032 (length bad)
+
+numbered-whole : (last : ℕ) (bad : List ℕ) → length (numbered last bad) ≡ 4096
+numbered-whole last bad =
     let zeros = length-zero_page in
     let one = length-with_number 4 zero_page 1024 1 (omega arith) in
     let two = length-with_number 4 (with_number 4 zero_page 1024 1) 1028 last (omega arith) in
-    let three = length-with_number 4 (with_number 4 (with_number 4 zero_page 1024 1) 1028 last) 1032 0 (omega arith) in
+    let three = length-with_number 4 (with_number 4 (with_number 4 zero_page 1024 1) 1028 last) 1032 (length bad) (omega arith) in
     omega arith
 
-listed-whole : (last : ℕ) → length (with_bytes (with_number 4 (with_number 4 (with_number 4 zero_page 1024 1) 1028 last) 1032 0) 1536 []) ≡ 4096
-listed-whole last =
-    let whole = numbers-whole last in
-    length-with_bytes (with_number 4 (with_number 4 (with_number 4 zero_page 1024 1) 1028 last) 1032 0) 1536 [] (omega arith) ∙ whole
+abbrev listed : ℕ → List ℕ → List ℕ
+listed last bad = with_bytes (numbered last bad) 1536 (flat_map (little_bytes 4) bad)
 
-pub IsPage-area_page : (last : ℕ) → IsPage (area_page last [])
-unfolding area_page
-IsPage-area_page last =
-    let whole = listed-whole last in
-    let ten : length area_signature ≡ 10 = refl in
-    length-with_bytes (with_bytes (with_number 4 (with_number 4 (with_number 4 zero_page 1024 1) 1028 last) 1032 0) 1536 []) 4086 area_signature (omega arith) ∙ whole
+listed-whole : (last : ℕ) (bad : List ℕ) → length bad ≤ 630 → length (listed last bad) ≡ 4096
+listed-whole last bad few =
+    let whole = numbered-whole last bad in
+    let words = length-words bad in
+    length-with_bytes (numbered last bad) 1536 (flat_map (little_bytes 4) bad) (omega arith) ∙ whole
 
-sig-area_page : (last : ℕ) → sig_of (area_page last []) ≡ area_signature
+pub IsPage-area_page : (last : ℕ) (bad : List ℕ) → length bad ≤ 630 → IsPage (area_page last bad)
 unfolding area_page
-sig-area_page last =
-    let whole = listed-whole last in
+IsPage-area_page last bad few =
+    let whole = listed-whole last bad few in
     let ten : length area_signature ≡ 10 = refl in
-    bytes_at-with_bytes (with_bytes (with_number 4 (with_number 4 (with_number 4 zero_page 1024 1) 1028 last) 1032 0) 1536 []) 4086 area_signature (omega arith)
+    length-with_bytes (listed last bad) 4086 area_signature (omega arith) ∙ whole
+
+sig-area_page : (last : ℕ) (bad : List ℕ) → length bad ≤ 630 → sig_of (area_page last bad) ≡ area_signature
+unfolding area_page
+sig-area_page last bad few =
+    let whole = listed-whole last bad few in
+    let ten : length area_signature ≡ 10 = refl in
+    bytes_at-with_bytes (listed last bad) 4086 area_signature (omega arith)
 
 apart : get_or area_signature 1 0 ≡ get_or image_signature 1 0 → ⊥
 apart e = let differ : ◌≡◌ {A = ℕ} 87 49 = e in let r : ⊥ = omega (arith, differ) in r
 
-pub area_page-unmarked : (last : ℕ) → IsMarked (area_page last []) → ⊥
-area_page-unmarked last marked = apart (ap (λ (xs : List ℕ). get_or xs 1 0) (sym (sig-area_page last) ∙ marked))
+pub area_page-unmarked : (last : ℕ) (bad : List ℕ) → length bad ≤ 630 → IsMarked (area_page last bad) → ⊥
+area_page-unmarked last bad few marked = apart (ap (λ (xs : List ℕ). get_or xs 1 0) (sym (sig-area_page last bad few) ∙ marked))

@@ -1,17 +1,19 @@
 -- Laws of fresh memory.
-use Rattle.std.proofs.Common.{◌≡◌, ℕ, ◌+◌, ◌-◌, ◌/◌, ◌^◌, ◌<◌, ◌≤◌, ◌⊎◌, inl, inr, Bool, true, false, cond, filter, length, replicate, List, [], ◌∷◌, refl, ap, ap₂, ◌∙◌, arith, nat_le, nat_lt, ◌&&◌, ◌||◌, eqb, ⊎_elim}
+use Rattle.std.proofs.Common.{suc, ◌≡◌, ℕ, ◌+◌, ◌-◌, ◌/◌, ◌%◌, ◌^◌, ◌<◌, ◌≤◌, ◌⊎◌, inl, inr, Bool, true, false, cond, filter, length, replicate, List, [], ◌∷◌, Option, Some, None, not, bit_and, sym, subst, refl, ap, ap₂, ◌∙◌, arith, nat_le, nat_lt, ◌&&◌, ◌||◌, eqb, ⊎_elim}
 use Rattle.std.proofs.lemmas.Bool.{eqb-true, le-leb, lt-ltb}
+use Rattle.std.proofs.lemmas.Nat.{and_mask}
+use Rattle.std.proofs.lemmas.Option.{none-some, same_Some}
 use Rattle.std.proofs.lemmas.List.{length-replicate}
 use Rattle.std.proofs.lemmas.List.Elements.{All-replicate}
 use Rattle.std.specs.List.{All, Contains, find, range_with_len}
 use Rattle.definitions.specs.Bytes.{IsPage, zero_page}
 use Rattle.definitions.specs.Zones.{numbers, top}
-use Rattle.definitions.specs.Tables.{with_entries, HasTable, table_frames, is_saveable, flags_of, owner_of}
+use Rattle.definitions.specs.Tables.{with_entries, HasTable, table_frames, is_free, is_saveable, flags_of, owner_of}
 use Rattle.definitions.specs.Lists.{image_slots}
 use Rattle.definitions.proofs.Ascending.{Contains-head, Contains-tail}
 use Rattle.definitions.proofs.ZoneNumbers.{below_top, top_is_next, Contains-range, range-bounds}
 use Rattle.definitions.proofs.TableEntries.{with_entries-none}
-use Rattle.plain_machine.specs.Machine.{Hardware, Memory, IsHardware, Fits, IsOfTable, IsTableFrame, is_of_table, is_table_frame, is_well_formed, is_slot_entry, frame_entry, raw_slot_entry, table_len, image_slot}
+use Rattle.plain_machine.specs.Machine.{Hardware, Memory, IsHardware, IsRegion, Fits, IsOfTable, IsTableFrame, is_of_table, is_table_frame, is_well_formed, is_slot_entry, frame_entry, raw_slot_entry, table_len, image_slot}
 use Rattle.plain_machine.specs.Shows.{seen_frames}
 use Rattle.plain_machine.specs.Step.{fresh_entry, fresh_frames, fresh_memory, region_flags, with_each_entry}
 use Rattle.plain_machine.proofs.EachEntry.{length-each, IsPage-each, entry_at-each, frame-each_other}
@@ -21,18 +23,59 @@ pub fresh_entry-table : (h : Hardware) (p : ℕ) → is_table_frame h p ≡ true
 unfolding fresh_entry
 fresh_entry-table h p e = ap (λ (b : Bool). cond b 0 (region_flags (find (λ r. nat_le r.0 p && nat_lt p (r.0 + r.1)) h.regions))) e
 
-pub fresh_entry-free : (h : Hardware) (p : ℕ) → h.regions ≡ [] → is_table_frame h p ≡ false → fresh_entry h p ≡ 1
-unfolding fresh_entry
-fresh_entry-free h p none e =
-    ap (λ (b : Bool). cond b 0 (region_flags (find (λ r. nat_le r.0 p && nat_lt p (r.0 + r.1)) h.regions))) e
-    ∙ ap (λ (rs : List (ℕ × ℕ × ℕ)). region_flags (find (λ r. nat_le r.0 p && nat_lt p (r.0 + r.1)) rs)) none
+-- the region that has a page frame
+abbrev region_at : Hardware → ℕ → Option (ℕ × ℕ × ℕ)
+region_at h p = find (λ r. nat_le r.0 p && nat_lt p (r.0 + r.1)) h.regions
 
--- without regions an entry is 0 or 1
-pub fresh_entry-one_of : (h : Hardware) (p : ℕ) → h.regions ≡ [] → (fresh_entry h p ≡ 0) ⊎ (fresh_entry h p ≡ 1)
-fresh_entry-one_of h p none = by_test (is_table_frame h p) refl where
-  by_test : (b : Bool) → is_table_frame h p ≡ b → (fresh_entry h p ≡ 0) ⊎ (fresh_entry h p ≡ 1)
-  by_test true e = inl (fresh_entry-table h p e)
-  by_test false e = inr (fresh_entry-free h p none e)
+pub fresh_entry-region : (h : Hardware) (p : ℕ) → is_table_frame h p ≡ false → fresh_entry h p ≡ region_flags (region_at h p)
+unfolding fresh_entry
+fresh_entry-region h p e = ap (λ (b : Bool). cond b 0 (region_flags (region_at h p))) e
+
+-- An entry of fresh memory is even flags below 128, or that of a free page frame.
+
+found-among : (test : ℕ × ℕ × ℕ → Bool) (rs : List (ℕ × ℕ × ℕ)) (r : ℕ × ℕ × ℕ) → find test rs ≡ Some r → Contains rs r
+found-among test [] r e = absurd (none-some r e)
+found-among test (x ∷ rs) r e = by_test (test x) refl (found-among test rs r) where
+  by_test : (b : Bool) → test x ≡ b → (find test rs ≡ Some r → Contains rs r) → Contains (x ∷ rs) r
+  by_test true t among =
+      let here : Some x ≡ Some r = sym (ap (λ (b : Bool). cond b (Some x) (find test rs)) t) ∙ e in
+      subst (λ (y : ℕ × ℕ × ℕ). Contains (x ∷ rs) y) (same_Some x r here) (0, omega arith, refl)
+  by_test false t among =
+      let (j, within, is) = among (sym (ap (λ (b : Bool). cond b (Some x) (find test rs)) t) ∙ e) in
+      (suc j, omega arith, is)
+
+region_of : (h : Hardware) (r : ℕ × ℕ × ℕ) → IsHardware h → Contains h.regions r → IsRegion h r
+region_of h r hw (j, within, is) = subst (IsRegion h) is (hw.regions j r within)
+
+pub record AreFlags (e : ℕ) : Type 0 where
+  pub few : e < 128
+  pub even : e % 2 ≡ 0
+
+region_flags-are : (h : Hardware) (found : Option (ℕ × ℕ × ℕ)) → ((r : ℕ × ℕ × ℕ) → found ≡ Some r → IsRegion h r) → AreFlags (region_flags found) ⊎ (region_flags found ≡ 1)
+region_flags-are h None is = inr refl
+region_flags-are h (Some r) is = let region = is r refl in inl (record { few = region.few_flags; even = region.even })
+
+pub fresh_entry-one_of : (h : Hardware) (p : ℕ) → IsHardware h → AreFlags (fresh_entry h p) ⊎ (fresh_entry h p ≡ 1)
+fresh_entry-one_of h p hw = by_test (is_table_frame h p) refl where
+  by_test : (b : Bool) → is_table_frame h p ≡ b → AreFlags (fresh_entry h p) ⊎ (fresh_entry h p ≡ 1)
+  by_test true e = let zero_is = fresh_entry-table h p e in inl (record { few = omega arith; even = ap (λ (n : ℕ). n % 2) zero_is })
+  by_test false e =
+      subst (λ (n : ℕ). AreFlags n ⊎ (n ≡ 1)) (sym (fresh_entry-region h p e))
+      (region_flags-are h (region_at h p) (λ r found. region_of h r hw (found-among (λ r. nat_le r.0 p && nat_lt p (r.0 + r.1)) h.regions r found)))
+
+flags-well_formed : (e : ℕ) → AreFlags e → is_well_formed e ≡ true
+flags-well_formed e are =
+    let few = are.few in
+    let same : e % 65536 ≡ e = omega arith in
+    let none : e / 65536 ≡ 0 = omega arith in
+    let used : bit_and e 1 ≡ 0 = and_mask e 1 ∙ are.even in
+    ap₂ (λ (flags owner : ℕ). nat_lt flags 128 && nat_le owner 64 && (not (is_free flags) || eqb e 1) && (eqb flags 0 || eqb flags 64 || eqb owner 0)) same none
+    ∙ ap₂ (λ (low : Bool) (bit : ℕ). low && nat_le 0 64 && (not (not (eqb bit 0)) || eqb e 1) && (eqb e 0 || eqb e 64 || eqb 0 0)) (lt-ltb e 128 few) used
+    ∙ last (eqb e 0) (eqb e 64) where
+      last : (a b : Bool) → (a || b || true) ≡ true
+      last true b = refl
+      last false true = refl
+      last false false = refl
 
 -- the test of the tables' page frames
 of_table-test : (first entries f : ℕ) → IsOfTable first entries f → is_of_table first entries f ≡ true
@@ -76,15 +119,20 @@ pages-fresh_frames : (h : Hardware) → All IsPage (fresh_frames h)
 unfolding fresh_frames
 pages-fresh_frames h = IsPage-each (fresh_entry h) (numbers h.zones) h.frame_table (replicate (top h.zones) zero_page) (zeros-whole (top h.zones))
 
-small_entry : (h : Hardware) (p : ℕ) → h.regions ≡ [] → fresh_entry h p < 2 ^ 32
-small_entry h p none = ⊎_elim (λ (e : fresh_entry h p ≡ 0). let r : fresh_entry h p < 2 ^ 32 = omega arith in r) (λ (e : fresh_entry h p ≡ 1). let r : fresh_entry h p < 2 ^ 32 = omega arith in r) (fresh_entry-one_of h p none)
+small_entry : (h : Hardware) (p : ℕ) → IsHardware h → fresh_entry h p < 2 ^ 32
+small_entry h p hw =
+    ⊎_elim (λ (are : AreFlags (fresh_entry h p)). let few = are.few in let r : fresh_entry h p < 2 ^ 32 = omega arith in r)
+    (λ (e : fresh_entry h p ≡ 1). let r : fresh_entry h p < 2 ^ 32 = omega arith in r) (fresh_entry-one_of h p hw)
 
-entry-fresh_frames : (h : Hardware) (p : ℕ) → IsHardware h → h.regions ≡ [] → Contains (numbers h.zones) p → frame_entry h (fresh_frames h) p ≡ fresh_entry h p
+well_formed_entry : (h : Hardware) (p : ℕ) → IsHardware h → is_well_formed (fresh_entry h p) ≡ true
+well_formed_entry h p hw = ⊎_elim (λ are. flags-well_formed (fresh_entry h p) are) (λ e. ap is_well_formed e) (fresh_entry-one_of h p hw)
+
+entry-fresh_frames : (h : Hardware) (p : ℕ) → IsHardware h → Contains (numbers h.zones) p → frame_entry h (fresh_frames h) p ≡ fresh_entry h p
 unfolding fresh_frames
-entry-fresh_frames h p hw none in' =
+entry-fresh_frames h p hw in' =
     entry_at-each (fresh_entry h) (top h.zones) (numbers h.zones) h.frame_table (replicate (top h.zones) zero_page) p (zeros-whole (top h.zones))
     (frame_table_within h (replicate (top h.zones) zero_page) hw (length-replicate (top h.zones) zero_page))
-    (λ k in_k. (below_top h.zones k hw.zones.apart in_k, small_entry h k none)) in'
+    (λ k in_k. (below_top h.zones k hw.zones.apart in_k, small_entry h k hw)) in'
 
 range_below : (n k : ℕ) → Contains (range_with_len 0 n) k → k < n
 range_below n k in' = let bounds = range-bounds 0 n k in' in omega (arith, bounds.1)
@@ -93,16 +141,16 @@ pub length-fresh_memory : (h : Hardware) (slots : ℕ → ℕ) → length (fresh
 unfolding fresh_memory
 length-fresh_memory h slots = length-each slots (range_with_len 0 h.slots) h.slot_table (fresh_frames h) ∙ length-fresh_frames h
 
-pub frame_entry-fresh_memory : (h : Hardware) (slots : ℕ → ℕ) (p : ℕ) → IsHardware h → h.regions ≡ [] → Contains (numbers h.zones) p → frame_entry h (fresh_memory h slots) p ≡ fresh_entry h p
+pub frame_entry-fresh_memory : (h : Hardware) (slots : ℕ → ℕ) (p : ℕ) → IsHardware h → Contains (numbers h.zones) p → frame_entry h (fresh_memory h slots) p ≡ fresh_entry h p
 unfolding fresh_memory
-frame_entry-fresh_memory h slots p hw none in' =
+frame_entry-fresh_memory h slots p hw in' =
     let f = h.frame_table + p / 1024 in
     let of = of_frame_table h p hw in' in
     let outside : (f < h.slot_table) ⊎ (h.slot_table + table_frames h.slots ≤ f) =
     let low = of.from in let high = of.below in ⊎_elim (λ (le : h.frame_table + table_len (top h.zones) ≤ h.slot_table). inl (omega arith)) (λ (le : h.slot_table + table_len h.slots ≤ h.frame_table). inr (omega arith)) hw.apart in
     entry-same (fresh_frames h) (with_each_entry slots (range_with_len 0 h.slots) h.slot_table (fresh_frames h)) h.frame_table p
     (frame-each_other slots h.slots (range_with_len 0 h.slots) h.slot_table (fresh_frames h) f (λ k in_k. range_below h.slots k in_k) outside)
-    ∙ entry-fresh_frames h p hw none in'
+    ∙ entry-fresh_frames h p hw in'
 
 pub slot_entry-fresh_memory : (h : Hardware) (slots : ℕ → ℕ) (s : ℕ) → IsHardware h → ((k : ℕ) → slots k < 2 ^ 32) → s < h.slots → raw_slot_entry h (fresh_memory h slots) s ≡ slots s
 unfolding fresh_memory
@@ -115,13 +163,13 @@ unfolding fresh_memory
 pages-fresh_memory h slots = IsPage-each slots (range_with_len 0 h.slots) h.slot_table (fresh_frames h) (pages-fresh_frames h)
 
 -- Fresh memory fits.
-pub fits-fresh_memory : (h : Hardware) (slots : ℕ → ℕ) → IsHardware h → h.regions ≡ [] → ((s : ℕ) → slots s < 2 ^ 32) → ((s : ℕ) → is_slot_entry s (slots s) ≡ true) → Fits h (fresh_memory h slots)
-fits-fresh_memory h slots hw none small well = record {
+pub fits-fresh_memory : (h : Hardware) (slots : ℕ → ℕ) → IsHardware h → ((s : ℕ) → slots s < 2 ^ 32) → ((s : ℕ) → is_slot_entry s (slots s) ≡ true) → Fits h (fresh_memory h slots)
+fits-fresh_memory h slots hw small well = record {
   pages = pages-fresh_memory h slots;
   size = length-fresh_memory h slots;
-  entries = λ p in'. ap is_well_formed (frame_entry-fresh_memory h slots p hw none in') ∙ ⊎_elim (λ e. ap is_well_formed e) (λ e. ap is_well_formed e) (fresh_entry-one_of h p none);
+  entries = λ p in'. ap is_well_formed (frame_entry-fresh_memory h slots p hw in') ∙ well_formed_entry h p hw;
   tables = λ f of.
-      let e = frame_entry-fresh_memory h slots f hw none (table_frame_valid h f hw of) ∙ fresh_entry-table h f (table_frame-test h f of) in
+      let e = frame_entry-fresh_memory h slots f hw (table_frame_valid h f hw of) ∙ fresh_entry-table h f (table_frame-test h f of) in
       (ap (λ (entry : ℕ). is_saveable (flags_of entry)) e, ap owner_of e);
   slots = λ s lt. ap (is_slot_entry s) (slot_entry-fresh_memory h slots s hw small lt) ∙ well s;
 }

@@ -59,8 +59,10 @@ fn brings_pages_home(rt: HostRuntime) -> Result<(), Fail> {
     add(&mut origs, &zones, &[1, 2, 5, 6, 13, 14]);
     add(&mut zeros, &zones, &[2, 6]);
     let mut waiting = Waiting::create(rt.alloc(), &zones)?;
-    // Free are 4 to 9 and 12 to 15. List frame 4, bounce frame 6; the pages wait in 12 to 15.
-    waiting.begin(&zones, &[(0, 3), (10, 11)]);
+    // List frame 4, bounce frame 6; the pages wait in 12 to 15.
+    let mut free = Bitmap::create(rt.alloc(), &zones)?;
+    add(&mut free, &zones, &[4, 5, 6, 7, 8, 9, 12, 13, 14, 15]);
+    waiting.begin(&free);
     waiting.plan(&origs, &zeros)?;
     assert_eq!(rt; waiting.left(), 4);
     place_numbered(&mut waiting, &mut frames);
@@ -92,7 +94,9 @@ fn brings_no_page(rt: HostRuntime) -> Result<(), Fail> {
     let mut origs = Bitmap::create(rt.alloc(), &zones)?;
     add(&mut origs, &zones, &[3, 7]);
     let mut waiting = Waiting::create(rt.alloc(), &zones)?;
-    waiting.begin(&zones, &[(0, 5)]);
+    let mut free = Bitmap::create(rt.alloc(), &zones)?;
+    add(&mut free, &zones, &[6, 7, 8, 9]);
+    waiting.begin(&free);
     waiting.plan(&origs, &origs)?;
     assert_eq!(rt; waiting.left(), 0);
     waiting.finish(&mut frames, &origs);
@@ -110,10 +114,13 @@ fn plans_again(rt: HostRuntime) -> Result<(), Fail> {
     let zeros = Bitmap::create(rt.alloc(), &zones)?;
     add(&mut origs, &zones, &[1, 2]);
     let mut waiting = Waiting::create(rt.alloc(), &zones)?;
-    waiting.begin(&zones, &[(2, 4), (0, 1), (4, 4)]);
+    let mut free = Bitmap::create(rt.alloc(), &zones)?;
+    add(&mut free, &zones, &[5, 6, 7]);
+    waiting.begin(&free);
     let few = TooFew { have: 3, need: 4 };
     assert_eq!(rt; waiting.plan(&origs, &zeros), Err(few));
-    waiting.begin(&zones, &[(0, 3), (8, 9)]);
+    add(&mut free, &zones, &[4]);
+    waiting.begin(&free);
     waiting.plan(&origs, &zeros)?;
     assert_eq!(rt; waiting.left(), 2);
     Ok(())

@@ -1,32 +1,15 @@
--- The page frames that are free to a scripted loader.
-use Rattle.std.proofs.Common.{◌≡◌, ℕ, Bool, true, false, not, ◌&&◌, ltb, List, [], length, Some, None, refl, sym, ap, ◌∙◌, inl, inr}
-use Rattle.std.specs.List.{list_any}
+-- Whether the page frames that are free to the loader are enough.
+use Rattle.std.proofs.Common.{◌≡◌, ℕ, ltb, length, Some, None, refl, sym, ap, ◌∙◌, inl, inr}
 use Rattle.std.proofs.lemmas.Bool.{cases_lt, cond-true, cond-false, lt-ltb, le-ltb}
 use Rattle.std.proofs.lemmas.Option.{none-some}
 use Rattle.definitions.specs.Disk as disk
-use Rattle.definitions.specs.Zones.{numbers}
 use Rattle.plain_machine.specs.Machine.{Hardware, Memory}
-use Rattle.plain_machine.specs.Loader.{left_free, is_in_ranges, is_in_regions, need}
+use Rattle.plain_machine.specs.Loader.{left_free, need}
 use Rattle.plain_machine.specs.Trace.{d_in}
 use Rattle.plain_machine.specs.declared.event.Loader.{Loader}
 use Rattle.plain_machine.specs.declared.reply.Reply.{Reply}
 use Rattle.plain_machine.specs.declared.reply.Reply.TheVariants as reply
-use Rattle.plain_machine.proofs.SameMemory.{filter_agree_within}
-use Rattle.page_restore.specs.Waiting.{outside}
-use Rattle.restore_laws.specs.Free.{FreeOf, PlanTells, RoomSuffices, RoomFails}
-
-and_true : (a b : Bool) → b ≡ true → (a && b) ≡ a
-and_true true b e = e
-and_true false b e = refl
-
-none_in : (p : ℕ) (regions : List (ℕ × ℕ × ℕ)) (test : ℕ × ℕ × ℕ → Bool) → regions ≡ [] → list_any test regions ≡ false
-none_in p regions test none = ap (list_any test) none
-
-pub free_of : FreeOf
-unfolding outside
-free_of h dump ranges none =
-    filter_agree_within (λ p. not (is_in_ranges ranges p) && not (is_in_regions h p)) (λ p. not (is_in_ranges ranges p)) (numbers h.zones)
-    (λ p in'. and_true (not (is_in_ranges ranges p)) (not (is_in_regions h p)) (ap not (none_in p h.regions _ none)))
+use Rattle.restore_laws.specs.Free.{PlanTells, RoomSuffices, RoomFails}
 
 pub plan_tells : PlanTells
 plan_tells d = refl

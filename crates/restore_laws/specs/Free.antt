@@ -1,21 +1,12 @@
--- The page frames that are free to a scripted loader, and whether they are enough.
-use Rattle.std.specs.Prelude.{◌≡◌, ◌≤◌, ◌<◌, ◌↔◌, ℕ, [], length, take, Some, None}
+-- Whether the page frames that are free to the loader are enough.
+use Rattle.std.specs.Prelude.{◌≡◌, ◌≤◌, ◌<◌, ◌↔◌, ℕ, length, Some, None}
 use Rattle.definitions.specs.Disk as disk
 use Rattle.plain_machine.specs.Machine.{Hardware, Memory}
 use Rattle.plain_machine.specs.Loader.{left_free, need}
 use Rattle.plain_machine.specs.Trace.{d_in, room_cause}
 use Rattle.plain_machine.specs.declared.event.Loader.{Loader}
-use Rattle.plain_machine.specs.declared.event.Loader.TheVariants as loaders
-use Rattle.plain_machine.specs.declared.event.Ranges.{Ranges}
 use Rattle.plain_machine.specs.declared.reply.Reply.TheVariants as reply
-use Rattle.page_restore.specs.Waiting.{outside}
 use Rattle.safe_pages.specs.Plan.{need_for}
-
--- without regions a scripted loader leaves free what its ranges don't hold
-abbrev pub FreeOf : Type 0
-FreeOf =
-    (h : Hardware) (dump : Memory) (ranges : Ranges) → h.regions ≡ [] →
-    left_free h dump (loaders.Ranges ranges) ≡ outside (take ranges.count ranges.list) h.zones
 
 -- a resume needs what a plan takes
 abbrev pub PlanTells : Type 0

@@ -1,8 +1,7 @@
-ghost use Rattle.restore_laws.specs.Free.{FreeOf, PlanTells, RoomSuffices, RoomFails};
+ghost use Rattle.restore_laws.specs.Free.{PlanTells, RoomSuffices, RoomFails};
 
-/// The page frames that are free to a scripted loader, and whether they are enough.
+/// Whether the page frames that are free to the loader are enough.
 pub fn has_room()
-    ensures free { FreeOf }
     ensures need { PlanTells }
     ensures suffices { RoomSuffices }
     ensures fails { RoomFails }

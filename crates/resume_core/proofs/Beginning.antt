@@ -6,9 +6,9 @@ use Rattle.definitions.specs.Bytes.{filled_page}
 use Rattle.definitions.specs.Disk as disk
 use Rattle.definitions.specs.Tables.{frame}
 use Rattle.definitions.specs.Zones.{top, numbers}
-use Rattle.page_restore.specs.Waiting.{outside, is_in_range, waiting_pages}
+use Rattle.page_restore.specs.Waiting.{waiting_pages}
 use Rattle.plain_machine.specs.Machine.{Hardware, Memory}
-use Rattle.plain_machine.specs.Loader.{left_free, is_in_ranges, is_in_regions, loader_page}
+use Rattle.plain_machine.specs.Loader.{left_free, loader_page}
 use Rattle.plain_machine.specs.Refusals.{refusal}
 use Rattle.plain_machine.specs.State.{off, loading, Held, not_yet, Load as Resume}
 use Rattle.plain_machine.specs.Step.{Step, outcomes, accepted, refused_or}
@@ -41,29 +41,13 @@ unfolding outcomes
 begin_step h v held kept ranges check =
     subst (λ (o : Option Reply). Contains (refused_or (off held kept) o (accepted h v (off held kept) (event.Resume (loader.Ranges ranges) check))) (reply.Loading 0, loading (begun held kept ranges check) 0)) (sym (begin_goes h held kept ranges check)) (0, omega arith, refl)
 
--- What is free to the loader.
-
-and_not_false : (b c : Bool) → c ≡ false → b ≡ (b && not c)
-and_not_false true c e = sym (ap not e)
-and_not_false false c e = refl
-
-filter_same : (f g : ℕ → Bool) (xs : List ℕ) → ((x : ℕ) → f x ≡ g x) → filter f xs ≡ filter g xs
-filter_same f g [] same = refl
-filter_same f g (x ∷ xs) same = ap₂ (λ (b : Bool) (rest : List ℕ). cond b (x ∷ rest) rest) (same x) (filter_same f g xs same)
-
-free_is : (h : Hardware) (dump : Memory) (ranges : Ranges) → h.regions ≡ [] → outside (take ranges.count ranges.list) h.zones ≡ left_free h dump (loader.Ranges ranges)
-unfolding outside
-free_is h dump ranges none = filter_same (λ (p : ℕ). not (is_in_range (take ranges.count ranges.list) p)) (λ (p : ℕ). not (is_in_ranges ranges p) && not (is_in_regions h p)) (numbers h.zones)
-    (λ p. and_not_false (not (is_in_ranges ranges p)) (is_in_regions h p) (ap (list_any (λ (r : ℕ × ℕ × ℕ). nat_le r.0 p && nat_lt p (r.0 + r.1) && not (eqb r.2 0))) none))
-
 page_is : filled_page 165 ≡ loader_page
 unfolding filled_page loader_page
 page_is = refl
 
 pub record HasBegun (machine : Machine) (frames : Memory) (load : Load) (ranges : Ranges) (check : IdentCheck) : Type 0 where
   pub filled : (p : ℕ) → p < top machine.hw.zones → frame frames p ≡ filled_page 165
-  pub regions : machine.hw.regions ≡ []
-  pub free : load.waiting.free ≡ outside (take ranges.count ranges.list) machine.hw.zones
+  pub free : load.waiting.free ≡ left_free machine.hw [] (loader.Ranges ranges)
   pub none : load.waiting.originals ≡ []
   pub checks : load.check ≡ check
   pub at : load.stage ≡ stage.Sync
@@ -82,7 +66,7 @@ begun_row machine frames load ranges check begins none_read is shown c held kept
               (none_read h (shown_by machine frames load) l 0 (omega arith) (activity_is load stage.Sync is.at) (λ p lt free. is.filled p lt ∙ page_is)
               (ap (λ (xs : List ℕ). zip xs (waiting_pages frames load.waiting)) is.none));
           resume = record {
-            loader = record { ranges = ranges; scripted = refl; free = is.free ∙ free_is h l.dump ranges is.regions; check = is.checks };
+            loader = record { ranges = ranges; scripted = refl; free = is.free; check = is.checks };
             knows = subst (λ (s : Stage). KnowsAt s machine frames load c l 0) (sym is.at) (is.origs, is.zeros, is.none);
           };
           ended = tt;

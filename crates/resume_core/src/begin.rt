@@ -1,12 +1,16 @@
-ghost use Rattle.std.specs.Prelude.{◌≡◌, ◌≤◌, ◌<◌, ℕ, min, take, length};
+ghost use Rattle.std.specs.Prelude.{◌≡◌, ◌≤◌, ◌<◌, ◌&&◌, ℕ, not, [], length};
 ghost use Rattle.definitions.specs.Bytes.{filled_page};
 ghost use Rattle.definitions.specs.Tables.{frame};
+ghost use Rattle.plain_machine.specs.Machine.{IsHardware};
+ghost use Rattle.plain_machine.specs.Loader.{left_free, is_in_ranges, is_in_regions};
+ghost use Rattle.plain_machine.specs.declared.event.Loader.TheVariants as loader;
 ghost use Rattle.protocol_laws.specs.Rows.{IsNewFault};
 
 use crate::Load;
 use crate::load::Stage;
 use frame_arena::Frames;
-use machine::Machine;
+use machine::{Hardware, Machine};
+use memory_bitmap::Bitmap;
 use plain_machine::{IdentCheck, Ranges, Reply};
 use protocol_laws::{load_begins, meets_rows};
 
@@ -15,7 +19,6 @@ const FILL: u8 = 165;
 
 // The begin of a resume.
 impl Load {
-    ghost use Rattle.plain_machine.specs.declared.event.Loader.TheVariants as loader;
     ghost use Rattle.plain_machine.specs.declared.reply.Reply.TheVariants as reply;
     ghost use Rattle.swap_slots.specs.Runs.{SlotRuns};
     ghost use Rattle.resume_core.specs.Loading.{activity_of, activity_told, is_idle};
@@ -42,7 +45,9 @@ impl Load {
         // Only what is read is known to have the size of its type.
         let _blocks = machine.blocks;
         fill_all(frames);
-        self.waiting.begin(machine.hw.zones(), held_ranges(ranges));
+        // Until the first number page is read the set of originals has room for the page frames free to the loader.
+        mark_left_free(&mut self.origs, &machine.hw, ranges);
+        self.waiting.begin(&self.origs);
         self.origs.clear_all();
         self.zeros.clear_all();
         self.reader = None;
@@ -52,13 +57,47 @@ impl Load {
     }
 }
 
-/// Those of the list that count.
-fn held_ranges(ranges: &Ranges) -> &[(u32, u32)]
-    ensures { result.now ≡ take ranges.now.count ranges.now.list }
+/// Makes the set that of the page frames that are free to a scripted loader.
+fn mark_left_free(set: &mut Bitmap, hw: &Hardware, ranges: &Ranges)
+    requires { set.old.zones ≡ hw.now.zones }
+    ensures set { set.new ≡ record set.old { members = left_free hw.now [] (loader.Ranges ranges.now) } }
+    ensures hardware { IsHardware hw.now }
 {
-    let list = &ranges.list[..];
-    let count = (ranges.count as usize).min(list.len());
-    &list[..count]
+    set.clear_all();
+    let zones = hw.zones();
+    let mut from = 0;
+    for _ in 0..zones.count() {
+        let p = zones.next(from).unwrap();
+        if is_left_free(hw, ranges, p) {
+            set.set(p);
+        }
+        from = p + 1;
+    }
+}
+
+/// Whether neither a range nor a region with flags has the page frame.
+fn is_left_free(hw: &Hardware, ranges: &Ranges, p: u32) -> bool
+    ensures { result ≡ (not (is_in_ranges ranges.now p) && not (is_in_regions hw.now p)) }
+{
+    !is_in_ranges(ranges, p) && !is_in_regions(hw, p)
+}
+
+/// Whether one of the ranges, both ends included, has the page frame.
+fn is_in_ranges(ranges: &Ranges, p: u32) -> bool
+    ensures { result ≡ is_in_ranges ranges.now p }
+{
+    ranges
+        .list
+        .iter()
+        .take(ranges.count as usize)
+        .any(|&(first, last)| first <= p && p <= last)
+}
+
+/// Whether a region with flags has the page frame.
+fn is_in_regions(hw: &Hardware, p: u32) -> bool
+    ensures { result ≡ is_in_regions hw.now p }
+{
+    hw.regions().iter().any(|&(start, count, flags)| start <= p && p - start < count && flags != 0)
 }
 
 /// Fills each page frame.

@@ -1,5 +1,8 @@
 pub mod NumbersLaws
+pub mod RangesLaws
 pub mod ScriptLaws
+pub mod SettingsLaws
 pub mod Shapes
 mod DigitLaws
+mod TablesLaws
 mod WordsLaws

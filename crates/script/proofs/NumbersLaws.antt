@@ -10,19 +10,19 @@ use Rattle.script.specs.declared.words.Span.{Span}
 use Rattle.script.specs.Words.{◌>>=◌, texts, number_in, number_of, in_span, numbers_in, all_numbers, AllWithin}
 use Rattle.script.specs.declared.fault.FaultKind.TheVariants.{Count}
 
--- the numbers that were read before, and those that are left
-abbrev pub with_front : List ℕ → Result (List ℕ) FaultKind → Result (List ℕ) FaultKind
+-- what was read before, and what is left
+abbrev pub with_front : {A : Type 0} → List A → Result (List A) FaultKind → Result (List A) FaultKind
 with_front front (Ok ns) = Ok (front ++ ns)
 with_front front (Err k) = Err k
 
-pub with_front-nil : (r : Result (List ℕ) FaultKind) → with_front [] r ≡ r
+pub with_front-nil : {A : Type 0} (r : Result (List A) FaultKind) → with_front [] r ≡ r
 with_front-nil (Ok ns) = refl
 with_front-nil (Err k) = refl
 
-drop_cons : {A : Type 0} (l : List A) (i : ℕ) (d : A) → i < length l → drop i l ≡ get_or l i d ∷ drop (i + 1) l
+pub drop_cons : {A : Type 0} (l : List A) (i : ℕ) (d : A) → i < length l → drop i l ≡ get_or l i d ∷ drop (i + 1) l
 drop_cons l i d h = rw add-one (drop-cons l i d h)
 
-with_front-append : (front more : List ℕ) (r : Result (List ℕ) FaultKind) → with_front (front ++ more) r ≡ with_front front (with_front more r)
+pub with_front-append : {A : Type 0} (front more : List A) (r : Result (List A) FaultKind) → with_front (front ++ more) r ≡ with_front front (with_front more r)
 with_front-append front more (Ok ns) = ap (λ x. Ok x) (append_assoc front more ns)
 with_front-append front more (Err k) = refl
 
@@ -72,7 +72,7 @@ pub with_front-all : (spans : List Span) (ws : List (List ℕ)) (ns : List ℕ) 
 unfolding numbers_in
 with_front-all spans ws ns i no_span no_number = rw (drop_all i spans no_span, take_all i ns no_number) (ap (λ x. Ok x) (append-nil ns))
 
-bind_ok : {A B : Type 0} (r : Result A FaultKind) (f : A → Result B FaultKind) (y : B) → (r >>= f) ≡ Ok y → (x : A) × (r ≡ Ok x) × (f x ≡ Ok y)
+pub bind_ok : {A B : Type 0} (r : Result A FaultKind) (f : A → Result B FaultKind) (y : B) → (r >>= f) ≡ Ok y → (x : A) × (r ≡ Ok x) × (f x ≡ Ok y)
 bind_ok (Ok x) f y e = (x, refl, e)
 bind_ok (Err k) f y e = absurd (cc)
 

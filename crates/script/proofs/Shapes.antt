@@ -1,88 +1,144 @@
--- The shapes of lines: a first word of a length that no shape's has is none of theirs.
-use Rattle.std.proofs.Common.{Decides, ◌≡◌, ◌≢◌, inl, inr, ℕ, ◌<◌, Bool, true, false, cond, eqb, ◌&&◌, List, [], ◌∷◌, length, take, get_or, Some, None, Ok, Err, codes, refl, sym, ap, ◌∙◌, arith, ne_eqb}
+-- The rows of lines, and the words behind the first that they read.
+use Rattle.std.proofs.Common.{◌≡◌, inl, inr, ℕ, ◌<◌, Bool, true, false, cond, List, [], ◌∷◌, length, take, get_or, Option, Some, None, Result, Ok, Err, codes, refl, sym, ap, ◌∙◌, arith, ne_eqb}
 use Rattle.std.specs.Prelude.{⊤}
 use Rattle.std.specs.List.{find, list_all}
 use Rattle.std.specs.Str.{bytes_eq}
-use Rattle.std.proofs.lemmas.Bool.{false≢true, cases_lt}
-use Rattle.std.proofs.lemmas.Bool.Decides.{eqb_tells}
-use Rattle.std.proofs.lemmas.Slice.Eq.{bytes_eq-Decides}
+use Rattle.std.proofs.lemmas.Bool.{cases_lt}
 use Rattle.std.proofs.lemmas.List.{take_all, length-take}
-use Rattle.script.specs.declared.fault.FaultKind.TheVariants.{Word, Late}
-use Rattle.script.specs.declared.grammar.Item.{Item}
+use Rattle.page_core.specs.declared.format.Format.TheVariants.{SkipZeros}
+use Rattle.plain_machine.specs.declared.event.Event.{Event}
+use Rattle.plain_machine.specs.declared.event.Event.TheVariants as event
+use Rattle.plain_machine.specs.declared.event.Loader.TheVariants as loader
+use Rattle.plain_machine.specs.declared.event.IdentCheck.TheVariants.{Compare}
+use Rattle.script.specs.declared.fault.FaultKind.{FaultKind}
+use Rattle.script.specs.declared.fault.FaultKind.TheVariants as kind
+use Rattle.script.specs.declared.grammar.Item.TheVariants.{Sets, Events}
+use Rattle.script.specs.declared.grammar.Setting.{Setting}
 use Rattle.script.specs.declared.words.Span.{Span}
-use Rattle.script.specs.Words.{◌>>=◌, words_of}
-use Rattle.script.specs.Shapes.{Shape, shapes, second_word, numbers_say}
-use Rattle.script.specs.Grammar.{is_printable, shape_item, words_item, item_of, line_item}
+use Rattle.script.specs.Ranges.{all_ranges}
+use Rattle.script.specs.Words.{◌>>=◌, all_numbers, words_of}
+use Rattle.script.specs.Shapes.{Row, setting_rows, event_rows, region_row, hibernate_row, resume_row, with_flags, format_in, second_word, numbers_say}
+use Rattle.script.specs.Grammar.{is_printable, row_of, by_rows, setting_by, setting_in, event_by, event_in, words_item, item_of, line_item}
 use Rattle.script.proofs.NumbersLaws.{all_numbers-other}
+use Rattle.script.proofs.RangesLaws.{all_ranges-many}
 
-abbrev pub none_has_length : ℕ → List Shape → Bool
-none_has_length n [] = true
-none_has_length n (s ∷ ss) = cond (eqb (length s.first) n) false (none_has_length n ss)
+-- No line that says something has more than nine words: what a line says hangs on the first nine words behind the first alone.
 
-other_word : (xs ys : List ℕ) → length xs ≢ length ys → bytes_eq xs ys ≡ false
-other_word xs ys ne = by (bytes_eq xs ys) (bytes_eq-Decides xs ys) where
-  by : (b : Bool) → Decides b (xs ≡ ys) → b ≡ false
-  by true decides = absurd (ne (ap length (decides.0 refl)))
-  by false decides = refl
+abbrev ReadsNine : {A : Type 0} → Row A → Type 0
+ReadsNine row = (words : List (List ℕ)) → row.reads (take 9 words) ≡ row.reads words
 
-pub none_first : (n : ℕ) (first : List ℕ) → length first ≡ n → (ss : List Shape) → none_has_length n ss ≡ true → find (λ s. bytes_eq s.first first) ss ≡ None
-none_first n first len [] e = refl
-none_first n first len (s ∷ ss) e = elim (eqb_tells (length s.first) n) [
-  | inl is ↦ absurd (false≢true (sym (ap (λ (b : Bool). cond b false (none_has_length n ss)) is.0) ∙ e))
-  | inr is ↦
-      ap (λ (b : Bool). cond b (Some s) (find (λ x. bytes_eq x.first first) ss)) (other_word s.first first (λ same. is.1 (same ∙ len)))
-      ∙ none_first n first len ss (sym (ap (λ (b : Bool). cond b false (none_has_length n ss)) is.0) ∙ e)
-]
+abbrev AllReadNine : {A : Type 0} → List (Row A) → Type 0
+AllReadNine [] = ⊤
+AllReadNine (row ∷ rows) = ReadsNine row × AllReadNine rows
 
--- No line that says something has more than five words: what a line says hangs on its first five words behind the first alone.
-
-abbrev ReadsFive : Shape → Type 0
-ReadsFive s = (words : List (List ℕ)) → s.reads (take 5 words) ≡ s.reads words
-
-abbrev AllReadFive : List Shape → Type 0
-AllReadFive [] = ⊤
-AllReadFive (s ∷ ss) = ReadsFive s × AllReadFive ss
-
-numbers_front : (n : ℕ) (spans : List Span) (says : List ℕ → Item) (words : List (List ℕ)) → length spans < n → numbers_say spans says (take n words) ≡ numbers_say spans says words
-numbers_front n spans says words few = elim (cases_lt n (length words)) [
-  | inr short ↦ ap (numbers_say spans says) (take_all n words short)
+all_front : (n : ℕ) (spans : List Span) (words : List (List ℕ)) → length spans < n → all_numbers spans (take n words) ≡ all_numbers spans words
+all_front n spans words few = elim (cases_lt n (length words)) [
+  | inr short ↦ ap (all_numbers spans) (take_all n words short)
   | inl long ↦
       let size = length-take n words in
-      ap (λ r. r >>= λ ns. Ok (says ns)) (all_numbers-other spans (take n words) (λ e. omega arith) ∙ sym (all_numbers-other spans words (λ e. omega arith)))
+      all_numbers-other spans (take n words) (λ e. omega arith) ∙ sym (all_numbers-other spans words (λ e. omega arith))
 ]
 
-core_front : (spans : List Span) (says : List ℕ → Item) (words : List (List ℕ)) → length spans < 4 → (second_word (codes "core") (take 5 words) >>= numbers_say spans says) ≡ (second_word (codes "core") words >>= numbers_say spans says)
-core_front spans says [] few = refl
-core_front spans says (word ∷ words) few = by (bytes_eq word (codes "core")) where
-  by : (b : Bool) → (cond b (Ok (take 4 words)) (Err Word) >>= numbers_say spans says) ≡ (cond b (Ok words) (Err Word) >>= numbers_say spans says)
-  by true = numbers_front 4 spans says words few
+numbers_front : {A : Type 0} (n : ℕ) (spans : List Span) (says : List ℕ → A) (words : List (List ℕ)) → length spans < n → numbers_say spans says (take n words) ≡ numbers_say spans says words
+numbers_front n spans says words few = ap (λ r. r >>= λ ns. Ok (says ns)) (all_front n spans words few)
+
+second_front : {A : Type 0} (second : List ℕ) (spans : List Span) (says : List ℕ → A) (words : List (List ℕ)) → length spans < 8 → (second_word second (take 9 words) >>= numbers_say spans says) ≡ (second_word second words >>= numbers_say spans says)
+second_front second spans says [] few = refl
+second_front second spans says (word ∷ words) few = by (bytes_eq word second) where
+  by : (b : Bool) → (cond b (Ok (take 8 words)) (Err kind.Word) >>= numbers_say spans says) ≡ (cond b (Ok words) (Err kind.Word) >>= numbers_say spans says)
+  by true = numbers_front 8 spans says words few
   by false = refl
 
-all_read_five : AllReadFive shapes
-all_read_five =
-    let n : (spans : List Span) (says : List ℕ → Item) → length spans < 5 → (words : List (List ℕ)) → numbers_say spans says (take 5 words) ≡ numbers_say spans says words = λ spans says few words. numbers_front 5 spans says words few in
-    (n _ _ (omega arith), (n _ _ (omega arith), (n _ _ (omega arith), (n _ _ (omega arith), (n _ _ (omega arith), (n _ _ (omega arith), (n _ _ (omega arith), (n _ _ (omega arith), (n _ _ (omega arith), (n _ _ (omega arith), (λ ws. core_front _ _ ws (omega arith), (λ ws. core_front _ _ ws (omega arith), tt))))))))))))
+format_front : (words : List (List ℕ)) → format_in (take 9 words) ≡ format_in words
+format_front [] = refl
+format_front (word ∷ words) = second_front (codes "zeros") [] (λ n. SkipZeros) (word ∷ words) (omega arith)
 
-found_front : (begun : Bool) (is : Shape → Bool) (words : List (List ℕ)) (ss : List Shape) → AllReadFive ss → shape_item begun (find is ss) (take 5 words) ≡ shape_item begun (find is ss) words
-found_front begun is words [] all = refl
-found_front begun is words (s ∷ ss) all = by (is s) (found_front begun is words ss all.1) where
-  by : (b : Bool) → shape_item begun (find is ss) (take 5 words) ≡ shape_item begun (find is ss) words → shape_item begun (cond b (Some s) (find is ss)) (take 5 words) ≡ shape_item begun (cond b (Some s) (find is ss)) words
-  by true rest = ap (λ r. cond (s.is_setting && begun) (Err Late) r) (all.0 words)
+ranges_front : (words : List (List ℕ)) → all_ranges (take 9 words) ≡ all_ranges words
+ranges_front words = elim (cases_lt 9 (length words)) [
+  | inr short ↦ ap all_ranges (take_all 9 words short)
+  | inl long ↦
+      let size = length-take 9 words in
+      all_ranges-many (take 9 words) (omega arith) ∙ sym (all_ranges-many words (omega arith))
+]
+
+all_settings_read_nine : AllReadNine setting_rows
+all_settings_read_nine =
+    let n : (spans : List Span) (says : List ℕ → Setting) → length spans < 9 → (words : List (List ℕ)) → numbers_say spans says (take 9 words) ≡ numbers_say spans says words = λ spans says few words. numbers_front 9 spans says words few in
+    let region : (words : List (List ℕ)) → region_row.reads (take 9 words) ≡ region_row.reads words = λ words. ap (λ r. r >>= with_flags) (all_front 9 _ words (omega arith)) in
+    (n _ _ (omega arith), (n _ _ (omega arith), (n _ _ (omega arith), (region, (n _ _ (omega arith), (n _ _ (omega arith), (n _ _ (omega arith), tt)))))))
+
+all_events_read_nine : AllReadNine event_rows
+all_events_read_nine =
+    let n : (spans : List Span) (says : List ℕ → ℕ × Event) → length spans < 9 → (words : List (List ℕ)) → numbers_say spans says (take 9 words) ≡ numbers_say spans says words = λ spans says few words. numbers_front 9 spans says words few in
+    let hibernate : (words : List (List ℕ)) → hibernate_row.reads (take 9 words) ≡ hibernate_row.reads words = λ words. ap (λ r. r >>= λ format. Ok (1, event.Hibernate format)) (format_front words) in
+    let resume : (words : List (List ℕ)) → resume_row.reads (take 9 words) ≡ resume_row.reads words = λ words. ap (λ r. r >>= λ ranges. Ok (1, event.Resume (loader.Ranges ranges) Compare)) (ranges_front words) in
+    (n _ _ (omega arith), (hibernate, (resume, (n _ _ (omega arith), (n _ _ (omega arith), (n _ _ (omega arith), (n _ _ (omega arith), (n _ _ (omega arith), (n _ _ (omega arith), (λ ws. second_front _ _ _ ws (omega arith), (λ ws. second_front _ _ _ ws (omega arith), tt)))))))))))
+
+abbrev FrontOf : {A : Type 0} → Option (Row A) → Type 0
+FrontOf None = ⊤
+FrontOf (Some row) = ReadsNine row
+
+found_front : {A : Type 0} (is : Row A → Bool) (rows : List (Row A)) → AllReadNine rows → FrontOf (find is rows)
+found_front is [] all = tt
+found_front is (row ∷ rows) all = by (is row) (found_front is rows all.1) where
+  by : (b : Bool) → FrontOf (find is rows) → FrontOf (cond b (Some row) (find is rows))
+  by true rest = all.0
   by false rest = rest
 
-pub words_item-front : (begun : Bool) (first : List ℕ) (words : List (List ℕ)) → words_item begun first (take 5 words) ≡ words_item begun first words
-unfolding words_item
-words_item-front begun first words = found_front begun (λ s. bytes_eq s.first first) words shapes all_read_five
+by_rows-front : (begun : Bool) (s : Option (Row Setting)) (e : Option (Row (ℕ × Event))) (words : List (List ℕ)) → FrontOf s → FrontOf e → by_rows begun s e (take 9 words) ≡ by_rows begun s e words
+by_rows-front begun (Some row) e words s_front e_front = ap (λ r. cond begun (Err kind.Late) (r >>= λ s. Ok (Sets s))) (s_front words)
+by_rows-front begun None (Some row) words s_front e_front = ap (λ r. r >>= λ e. Ok (Events e.0 e.1)) (e_front words)
+by_rows-front begun None None words s_front e_front = refl
 
--- what a line says, by its first six words
-pub line_item-words : (begun : Bool) (line first : List ℕ) (words : List (List ℕ)) → list_all is_printable line ≡ true → (get_or line 0 0 ≡ 35 → ⊥) → first ∷ words ≡ take 6 (words_of line) → words_item begun first words ≡ line_item begun line
+pub words_item-front : (begun : Bool) (first : List ℕ) (words : List (List ℕ)) → words_item begun first (take 9 words) ≡ words_item begun first words
+unfolding words_item
+words_item-front begun first words = by_rows-front begun (row_of first setting_rows) (row_of first event_rows) words (found_front (λ row. bytes_eq row.first first) setting_rows all_settings_read_nine) (found_front (λ row. bytes_eq row.first first) event_rows all_events_read_nine)
+
+-- what a line says, by the setting or the event that it is
+
+by_setting : (begun : Bool) (s : Option (Row Setting)) (e : Option (Row (ℕ × Event))) (words : List (List ℕ)) (x : Setting) → setting_by s words ≡ Ok (Some x) → by_rows begun s e words ≡ cond begun (Err kind.Late) (Ok (Sets x))
+by_setting begun None e words x is = absurd (cc)
+by_setting begun (Some row) e words x is = by (row.reads words) is where
+  by : (r : Result Setting FaultKind) → (r >>= λ s. Ok (Some s)) ≡ Ok (Some x) → cond begun (Err kind.Late) (r >>= λ s. Ok (Sets s)) ≡ cond begun (Err kind.Late) (Ok (Sets x))
+  by (Ok y) e = let same : y ≡ x = cc in rw same refl
+  by (Err k) e = absurd (cc)
+
+by_fault : (begun : Bool) (s : Option (Row Setting)) (e : Option (Row (ℕ × Event))) (words : List (List ℕ)) (k : FaultKind) → setting_by s words ≡ Err k → by_rows begun s e words ≡ cond begun (Err kind.Late) (Err k)
+by_fault begun None e words k is = absurd (cc)
+by_fault begun (Some row) e words k is = by (row.reads words) is where
+  by : (r : Result Setting FaultKind) → (r >>= λ s. Ok (Some s)) ≡ Err k → cond begun (Err kind.Late) (r >>= λ s. Ok (Sets s)) ≡ cond begun (Err kind.Late) (Err k)
+  by (Ok y) e = absurd (cc)
+  by (Err j) e = let same : j ≡ k = cc in rw same refl
+
+by_event : (begun : Bool) (s : Option (Row Setting)) (e : Option (Row (ℕ × Event))) (words : List (List ℕ)) → setting_by s words ≡ Ok None → by_rows begun s e words ≡ (event_by e words >>= λ x. Ok (Events x.0 x.1))
+by_event begun None (Some row) words is = refl
+by_event begun None None words is = refl
+by_event begun (Some row) e words is = by (row.reads words) is where
+  by : (r : Result Setting FaultKind) → (r >>= λ s. Ok (Some s)) ≡ Ok None → cond begun (Err kind.Late) (r >>= λ s. Ok (Sets s)) ≡ (event_by e words >>= λ x. Ok (Events x.0 x.1))
+  by (Ok y) e = absurd (cc)
+  by (Err k) e = absurd (cc)
+
+pub words_item-setting : (begun : Bool) (first : List ℕ) (words : List (List ℕ)) (x : Setting) → setting_in first words ≡ Ok (Some x) → words_item begun first words ≡ cond begun (Err kind.Late) (Ok (Sets x))
+unfolding words_item setting_in
+words_item-setting begun first words x is = by_setting begun (row_of first setting_rows) (row_of first event_rows) words x is
+
+pub words_item-fault : (begun : Bool) (first : List ℕ) (words : List (List ℕ)) (k : FaultKind) → setting_in first words ≡ Err k → words_item begun first words ≡ cond begun (Err kind.Late) (Err k)
+unfolding words_item setting_in
+words_item-fault begun first words k is = by_fault begun (row_of first setting_rows) (row_of first event_rows) words k is
+
+pub words_item-event : (begun : Bool) (first : List ℕ) (words : List (List ℕ)) → setting_in first words ≡ Ok None → words_item begun first words ≡ (event_in first words >>= λ x. Ok (Events x.0 x.1))
+unfolding words_item setting_in event_in
+words_item-event begun first words is = by_event begun (row_of first setting_rows) (row_of first event_rows) words is
+
+-- what a line says, by its first ten words
+pub line_item-words : (begun : Bool) (line first : List ℕ) (words : List (List ℕ)) → list_all is_printable line ≡ true → (get_or line 0 0 ≡ 35 → ⊥) → first ∷ words ≡ take 10 (words_of line) → words_item begun first words ≡ line_item begun line
 unfolding line_item
 line_item-words begun line first words printable no_comment are = rw (printable, ne_eqb (get_or line 0 0) 35 no_comment) (by (words_of line) are) where
-  by : (all : List (List ℕ)) → first ∷ words ≡ take 6 all → words_item begun first words ≡ item_of begun all
+  by : (all : List (List ℕ)) → first ∷ words ≡ take 10 all → words_item begun first words ≡ item_of begun all
   by [] e = absurd (cc)
   by (w ∷ ws) e =
       let one : first ≡ w = cc in
-      let rest : words ≡ take 5 ws = cc in
+      let rest : words ≡ take 9 ws = cc in
       rw (one, rest) (words_item-front begun w ws)
 
 -- an empty line is no comment

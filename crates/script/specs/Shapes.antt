@@ -1,48 +1,90 @@
 -- The lines that a script may have, by their first word.
-use Rattle.std.specs.Prelude.{◌≡◌, ℕ, List, [], ◌∷◌, codes, Bool, true, false, Result, Ok, Err, slice_index, replicate, if◌then◌else◌, ⊤}
+use Rattle.std.specs.Prelude.{◌≡◌, ℕ, ◌%◌, ◌==◌, List, [], ◌∷◌, codes, Result, Ok, Err, slice_index, if◌then◌else◌, ⊤}
 use Rattle.std.specs.Str.{bytes_eq}
-use Rattle.page_core.specs.declared.format.Format.TheVariants.{Plain}
+use Rattle.page_core.specs.declared.format.Format.{Format}
+use Rattle.page_core.specs.declared.format.Format.TheVariants.{Plain, SkipZeros}
 use Rattle.plain_machine.specs.declared.event.Event.{Event}
 use Rattle.plain_machine.specs.declared.event.Event.TheVariants as event
 use Rattle.plain_machine.specs.declared.event.TaskOp.{TaskOp}
 use Rattle.plain_machine.specs.declared.event.TaskOp.TheVariants as op
 use Rattle.plain_machine.specs.declared.event.Actor.TheVariants as actor
 use Rattle.plain_machine.specs.declared.event.BootFrom.TheVariants.{Fresh}
-use Rattle.plain_machine.specs.declared.event.Ranges.{Ranges}
+use Rattle.plain_machine.specs.declared.event.Loader.{Loader}
 use Rattle.plain_machine.specs.declared.event.Loader.TheVariants as loader
 use Rattle.plain_machine.specs.declared.event.IdentCheck.TheVariants.{Compare}
 use Rattle.script.specs.declared.fault.FaultKind.{FaultKind}
-use Rattle.script.specs.declared.fault.FaultKind.TheVariants.{Count, Word}
-use Rattle.script.specs.declared.grammar.Item.{Item}
-use Rattle.script.specs.declared.grammar.Item.TheVariants.{Sets, Events}
-use Rattle.script.specs.declared.grammar.Setting.TheVariants.{Last}
+use Rattle.script.specs.declared.fault.FaultKind.TheVariants as kind
+use Rattle.script.specs.declared.grammar.Setting.{Setting}
+use Rattle.script.specs.declared.grammar.Setting.TheVariants.{Zone, Last, Bad, Region, Tables, Signature, Extent}
 use Rattle.script.specs.declared.words.Span.{Span}
+use Rattle.script.specs.Ranges.{all_ranges}
 use Rattle.script.specs.Words.{◌>>=◌, all_numbers}
 
--- A line's first word, whether it is a setting's, and what the words behind it say.
-pub record Shape : Type 0 where
+-- A line's first word, and what the words behind it say.
+pub record Row (A : Type 0) : Type 0 where
   pub first : List ℕ
-  pub is_setting : Bool
-  pub reads : List (List ℕ) → Result Item FaultKind
+  pub reads : List (List ℕ) → Result A FaultKind
 
 -- the words behind one that must stand first
 abbrev pub second_word : List ℕ → List (List ℕ) → Result (List (List ℕ)) FaultKind
-second_word second [] = Err Count
-second_word second (word ∷ words) = if bytes_eq word second then Ok words else Err Word
+second_word second [] = Err kind.Count
+second_word second (word ∷ words) = if bytes_eq word second then Ok words else Err kind.Word
 
 -- numbers of these spans, and what they say
-abbrev pub numbers_say : List Span → (List ℕ → Item) → List (List ℕ) → Result Item FaultKind
+abbrev pub numbers_say : {A : Type 0} → List Span → (List ℕ → A) → List (List ℕ) → Result A FaultKind
 numbers_say spans says words = all_numbers spans words >>= λ n. Ok (says n)
+
+abbrev pub number_row : {A : Type 0} → List ℕ → List Span → (List ℕ → A) → Row A
+number_row first spans says = record { first = first; reads = numbers_say spans says }
 
 abbrev pub span : ℕ → ℕ → Span
 span low high = record { low = low; high = high }
 
--- the tasks, the page frames, the words of a page, and any number
-abbrev pub tasks : Span
-tasks = span 1 64
+-- The settings.
 
+-- page frames, and how many of them; the last page of an area, its slots, and how many of them
 abbrev pub frames : Span
 frames = span 0 65535
+
+abbrev pub counts : Span
+counts = span 1 65536
+
+abbrev pub last_pages : Span
+last_pages = span 1 16383
+
+abbrev pub slots : Span
+slots = span 0 16383
+
+abbrev pub lengths : Span
+lengths = span 1 16384
+
+-- the flags of a region are even
+abbrev pub with_flags : List ℕ → Result Setting FaultKind
+with_flags n = if slice_index n 2 % 2 == 0 then Ok (Region (slice_index n 0) (slice_index n 1) (slice_index n 2)) else Err kind.Range
+
+abbrev pub region_row : Row Setting
+region_row = record {
+  first = codes "region";
+  reads = λ words. all_numbers (frames ∷ counts ∷ span 0 126 ∷ []) words >>= with_flags;
+}
+
+-- a row for each first word of a setting
+abbrev pub setting_rows : List (Row Setting)
+setting_rows =
+    number_row (codes "zone") (frames ∷ counts ∷ []) (λ n. Zone (slice_index n 0) (slice_index n 1))
+    ∷ number_row (codes "area") (last_pages ∷ []) (λ n. Last (slice_index n 0))
+    ∷ number_row (codes "bad") (last_pages ∷ []) (λ n. Bad (slice_index n 0))
+    ∷ region_row
+    ∷ number_row (codes "tables") (frames ∷ frames ∷ []) (λ n. Tables (slice_index n 0) (slice_index n 1))
+    ∷ number_row (codes "hwsig") (span 0 4294967295 ∷ []) (λ n. Signature (slice_index n 0))
+    ∷ number_row (codes "extent") (slots ∷ lengths ∷ slots ∷ []) (λ n. Extent (slice_index n 0) (slice_index n 1) (slice_index n 2))
+    ∷ []
+
+-- The events. A line says how many times an event.
+
+-- the tasks, the words of a page, and any number
+abbrev pub tasks : Span
+tasks = span 1 64
 
 abbrev pub words : Span
 words = span 0 511
@@ -50,43 +92,49 @@ words = span 0 511
 abbrev pub values : Span
 values = span 0 18446744073709551615
 
-abbrev pub setting : List ℕ → List Span → (List ℕ → Item) → Shape
-setting first spans says = record { first = first; is_setting = true; reads = numbers_say spans says }
-
-abbrev pub event_line : List ℕ → List Span → (List ℕ → Item) → Shape
-event_line first spans says = record { first = first; is_setting = false; reads = numbers_say spans says }
+abbrev pub event_row : List ℕ → List Span → (List ℕ → Event) → Row (ℕ × Event)
+event_row first spans says = number_row first spans (λ n. (1, says n))
 
 -- the number of the task, and then what it asks for
-abbrev pub task_line : List ℕ → List Span → (List ℕ → TaskOp) → Shape
-task_line first spans asks = event_line first (tasks ∷ spans) (λ n. Events 1 (event.Task (slice_index n 0) (asks n)))
+abbrev pub task_row : List ℕ → List Span → (List ℕ → TaskOp) → Row (ℕ × Event)
+task_row first spans asks = event_row first (tasks ∷ spans) (λ n. event.Task (slice_index n 0) (asks n))
 
 -- so many steps of the core
-abbrev pub core_line : List ℕ → List Span → (List ℕ → ℕ) → Shape
-core_line first spans times = record {
+abbrev pub core_row : List ℕ → List Span → (List ℕ → ℕ) → Row (ℕ × Event)
+core_row first spans times = record {
   first = first;
-  is_setting = false;
-  reads = λ line. second_word (codes "core") line >>= numbers_say spans (λ n. Events (times n) (event.Step actor.Core));
+  reads = λ line. second_word (codes "core") line >>= numbers_say spans (λ n. (times n, event.Step actor.Core));
 }
 
--- no range of page frames
-abbrev pub no_ranges : Ranges
-no_ranges = record { count = 0; list = replicate 8 (0, 0) }
+-- pages as they are, or those that are all zero left out
+abbrev pub format_in : List (List ℕ) → Result Format FaultKind
+format_in [] = Ok Plain
+format_in (word ∷ words) = second_word (codes "zeros") (word ∷ words) >>= numbers_say [] (λ n. SkipZeros)
 
--- a row for each first word
-abbrev pub shapes : List Shape
-shapes =
-    setting (codes "area") (span 1 16383 ∷ []) (λ n. Sets (Last (slice_index n 0)))
-    ∷ event_line (codes "boot") [] (λ n. Events 1 (event.Boot Fresh))
-    ∷ event_line (codes "hibernate") [] (λ n. Events 1 (event.Hibernate Plain))
-    ∷ event_line (codes "resume") [] (λ n. Events 1 (event.Resume (loader.Ranges no_ranges) Compare))
-    ∷ event_line (codes "cut") (values ∷ []) (λ n. Events 1 (event.Cut (slice_index n 0)))
-    ∷ task_line (codes "claim") (frames ∷ []) (λ n. op.Claim (slice_index n 1))
-    ∷ task_line (codes "release") (frames ∷ []) (λ n. op.Release (slice_index n 1))
-    ∷ task_line (codes "store") (frames ∷ words ∷ values ∷ []) (λ n. op.Store (slice_index n 1) (slice_index n 2) (slice_index n 3))
-    ∷ task_line (codes "show") (frames ∷ words ∷ []) (λ n. op.Show (slice_index n 1) (slice_index n 2))
-    ∷ task_line (codes "cache") (frames ∷ []) (λ n. op.Cache (slice_index n 1))
-    ∷ core_line (codes "step") [] (λ n. 1)
-    ∷ core_line (codes "steps") (span 1 100000 ∷ []) (λ n. slice_index n 0)
+abbrev pub hibernate_row : Row (ℕ × Event)
+hibernate_row = record { first = codes "hibernate"; reads = λ line. format_in line >>= λ format. Ok (1, event.Hibernate format) }
+
+-- a resume compares the identity, and its loader holds the page frames of the ranges
+abbrev pub resume_row : Row (ℕ × Event)
+resume_row = record {
+  first = codes "resume";
+  reads = λ line. all_ranges line >>= λ ranges. Ok (1, event.Resume (loader.Ranges ranges) Compare);
+}
+
+-- a row for each first word of an event
+abbrev pub event_rows : List (Row (ℕ × Event))
+event_rows =
+    event_row (codes "boot") [] (λ n. event.Boot Fresh)
+    ∷ hibernate_row
+    ∷ resume_row
+    ∷ event_row (codes "cut") (values ∷ []) (λ n. event.Cut (slice_index n 0))
+    ∷ task_row (codes "claim") (frames ∷ []) (λ n. op.Claim (slice_index n 1))
+    ∷ task_row (codes "release") (frames ∷ []) (λ n. op.Release (slice_index n 1))
+    ∷ task_row (codes "store") (frames ∷ words ∷ values ∷ []) (λ n. op.Store (slice_index n 1) (slice_index n 2) (slice_index n 3))
+    ∷ task_row (codes "show") (frames ∷ words ∷ []) (λ n. op.Show (slice_index n 1) (slice_index n 2))
+    ∷ task_row (codes "cache") (frames ∷ []) (λ n. op.Cache (slice_index n 1))
+    ∷ core_row (codes "step") [] (λ n. 1)
+    ∷ core_row (codes "steps") (span 1 100000 ∷ []) (λ n. slice_index n 0)
     ∷ []
 
 -- what a line lets a task ask for: no page goes to a slot or comes from one
@@ -99,15 +147,20 @@ IsScriptedOp (op.Cache p) = ⊤
 IsScriptedOp (op.Out p) = ⊥
 IsScriptedOp (op.TakeIn s p) = ⊥
 
--- the events that lines give: a hibernation saves pages as they are, a resume's loader may use each page frame
+-- a scripted loader holds ranges of page frames: no line names a dump's
+abbrev pub IsScriptedLoader : Loader → Type 0
+IsScriptedLoader (loader.Ranges ranges) = ⊤
+IsScriptedLoader loader.Table = ⊥
+
+-- the events that lines give: a boot with fresh memory, and a resume that compares the identity
 abbrev pub IsScripted : Event → Type 0
 IsScripted (event.Boot from) = from ≡ Fresh
-IsScripted (event.Hibernate f) = f ≡ Plain
+IsScripted (event.Hibernate f) = ⊤
 IsScripted (event.Suspend f) = ⊥
 IsScripted event.Wake = ⊥
 IsScripted event.Settle = ⊥
 IsScripted (event.Shrink want) = ⊥
-IsScripted (event.Resume l check) = (l ≡ loader.Ranges no_ranges) × (check ≡ Compare)
+IsScripted (event.Resume l check) = IsScriptedLoader l × (check ≡ Compare)
 IsScripted (event.Step x) = ⊤
 IsScripted (event.Task t o) = IsScriptedOp o
 IsScripted (event.Cut pick) = ⊤

@@ -1,29 +1,52 @@
-ghost use Rattle.std.specs.Prelude.{◌≡◌, ◌<◌, ◌≤◌, IfOk, IsOk, ◌↔◌, false, IfErr};
+ghost use Rattle.std.specs.Prelude.{◌≡◌, ◌<◌, ◌≤◌, IfOk, IfSome, IsOk, ◌↔◌, false, IfErr};
 ghost use Rattle.std.specs.List.{list_all};
 ghost use Rattle.script.specs.Words.{texts};
-ghost use Rattle.script.specs.Grammar.{is_printable, line_item, words_item, IsFittingItem};
-ghost use Rattle.plain_machine.specs.Fitting.{IsFitting};
-ghost use Rattle.script.specs.Shapes.{second_word, no_ranges};
+ghost use Rattle.script.specs.Grammar.{event_in, is_printable, line_item, setting_in, words_item, IsFittingItem};
+ghost use Rattle.script.specs.Settings.{IsFittingSetting};
+ghost use Rattle.script.specs.Shapes.{format_in, region_row, second_word};
 
 use crate::fault::FaultKind;
+use crate::ranges::ranges;
 use crate::words::{Span, numbers, put_words};
 use arrayvec::ArrayVec;
 use page_core::Format;
-use plain_machine::{Actor, BootFrom, Event, IdentCheck, Loader, Ranges, TaskOp};
+use plain_machine::{Actor, BootFrom, Event, IdentCheck, Loader, TaskOp};
 use std::alloc::AllocError;
 
 // The numbers that may stand in the places of a line.
+const FRAME: Span = Span {
+    low: 0,
+    high: 65_535,
+};
+
+const FRAMES: Span = Span {
+    low: 1,
+    high: 65_536,
+};
+
 const LAST: Span = Span {
     low: 1,
     high: 16_383,
 };
 
-const TASK: Span = Span { low: 1, high: 64 };
+const FLAGS: Span = Span { low: 0, high: 126 };
 
-const FRAME: Span = Span {
+const SIGNATURE: Span = Span {
     low: 0,
-    high: 65_535,
+    high: 4_294_967_295,
 };
+
+const SLOT: Span = Span {
+    low: 0,
+    high: 16_383,
+};
+
+const LENGTH: Span = Span {
+    low: 1,
+    high: 16_384,
+};
+
+const TASK: Span = Span { low: 1, high: 64 };
 
 const WORD: Span = Span { low: 0, high: 511 };
 
@@ -47,10 +70,23 @@ pub enum Item {
     Events(u32, Event),
 }
 
+/// What a setting says of the machine.
 #[derive(Clone, Copy)]
 pub enum Setting {
+    /// A zone: its first page frame, and how many it has.
+    Zone(u32, u32),
     /// The last page of the swap area.
     Last(u32),
+    /// A slot that can't be used.
+    Bad(u32),
+    /// A region: its first page frame, how many it has, and the flags that fresh memory gives them.
+    Region(u32, u32, u32),
+    /// The first page frames of the frame table and of the slot table.
+    Tables(u32, u32),
+    /// The hardware signature.
+    Signature(u32),
+    /// An extent of the swap area: its first slot, how many it has, and the block of the first.
+    Extent(u32, u32, u32),
 }
 
 /// Why a line wasn't read.
@@ -133,79 +169,141 @@ fn behind<'a>(word: &[u8], words: &'a [&'a [u8]]) -> Result<&'a [&'a [u8]], Faul
     }
 }
 
-fn task(t: u32, op: TaskOp) -> Item
-    ensures { result ≡ Item.Events 1 (Event.Task t op) }
+fn task(t: u64, op: TaskOp) -> (u32, Event)
+    requires { t < 4294967296 }
+    ensures { result ≡ (1, Event.Task t op) }
 {
-    Item::Events(1, Event::Task(t, op))
+    (1, Event::Task(t as u32, op))
 }
 
-/// A resume whose loader may use each page frame, under the identity of the machine.
-fn resume() -> Event
-    ensures event { result ≡ Event.Resume (Loader.Ranges no_ranges) IdentCheck.Compare }
-    ensures fits { IsFitting result }
+/// How a hibernation is to write pages, by the words behind `hibernate`.
+fn format(words: &[&[u8]]) -> Result<Format, FaultKind>
+    ensures { result ≡ format_in (texts words.now) }
 {
-    let ranges = Ranges {
-        count: 0,
-        list: [(0, 0); 8],
-    };
-    Event::Resume(Loader::Ranges(ranges), IdentCheck::Compare)
+    if words.is_empty() {
+        return Ok(Format::Plain);
+    }
+    let [] = numbers(behind(b"zeros", words)?, [])?;
+    Ok(Format::SkipZeros)
+}
+
+/// A region, whose flags are even.
+fn region(words: &[&[u8]]) -> Result<Setting, FaultKind>
+    ensures says { result ≡ region_row.reads (texts words.now) }
+    ensures fits { IfOk result IsFittingSetting }
+{
+    let [start, count, flags] = numbers(words, [FRAME, FRAMES, FLAGS])?;
+    if flags % 2 == 0 {
+        Ok(Setting::Region(start as u32, count as u32, flags as u32))
+    } else {
+        Err(FaultKind::Range)
+    }
 }
 
 /// What the words of a line say, by the first of them.
-#[tactic(auto, unfolding(crate::specs::Grammar::words_item))]
 fn item_of_words(first: &[u8], rest: &[&[u8]], begun: bool) -> Result<Item, FaultKind>
     ensures says { result ≡ words_item begun first.now (texts rest.now) }
     ensures fits { IfOk result IsFittingItem }
 {
-    match first {
-        b"area" => {
+    match setting_of(first, rest) {
+        Ok(Some(setting)) => {
             before_events(begun)?;
-            let [last] = numbers(rest, [LAST])?;
-            Ok(Item::Sets(Setting::Last(last as u32)))
+            Ok(Item::Sets(setting))
         }
+        Err(kind) => {
+            before_events(begun)?;
+            Err(kind)
+        }
+        Ok(None) => {
+            let (count, event) = events_of(first, rest)?;
+            Ok(Item::Events(count, event))
+        }
+    }
+}
+
+/// The setting that a line is, where its first word is a setting's.
+#[tactic(auto, unfolding(crate::specs::Grammar::setting_in))]
+fn setting_of(first: &[u8], rest: &[&[u8]]) -> Result<Option<Setting>, FaultKind>
+    ensures says { result ≡ setting_in first.now (texts rest.now) }
+    ensures fits { IfOk result (λ setting. IfSome setting IsFittingSetting) }
+{
+    match first {
+        b"zone" => {
+            let [start, count] = numbers(rest, [FRAME, FRAMES])?;
+            Ok(Some(Setting::Zone(start as u32, count as u32)))
+        }
+        b"area" => {
+            let [last] = numbers(rest, [LAST])?;
+            Ok(Some(Setting::Last(last as u32)))
+        }
+        b"bad" => {
+            let [slot] = numbers(rest, [LAST])?;
+            Ok(Some(Setting::Bad(slot as u32)))
+        }
+        b"region" => Ok(Some(region(rest)?)),
+        b"tables" => {
+            let [frames, slots] = numbers(rest, [FRAME, FRAME])?;
+            Ok(Some(Setting::Tables(frames as u32, slots as u32)))
+        }
+        b"hwsig" => {
+            let [signature] = numbers(rest, [SIGNATURE])?;
+            Ok(Some(Setting::Signature(signature as u32)))
+        }
+        b"extent" => {
+            let [start, length, block] = numbers(rest, [SLOT, LENGTH, SLOT])?;
+            Ok(Some(Setting::Extent(start as u32, length as u32, block as u32)))
+        }
+        _ => Ok(None),
+    }
+}
+
+/// How many times which event a line is.
+#[tactic(auto, unfolding(crate::specs::Grammar::event_in))]
+fn events_of(first: &[u8], rest: &[&[u8]]) -> Result<(u32, Event), FaultKind>
+    ensures says { result ≡ event_in first.now (texts rest.now) }
+    ensures fits { IfOk result (λ events. IsFittingItem (Item.Events events.0 events.1)) }
+{
+    match first {
         b"boot" => {
             let [] = numbers(rest, [])?;
-            Ok(Item::Events(1, Event::Boot(BootFrom::Fresh)))
+            Ok((1, Event::Boot(BootFrom::Fresh)))
         }
-        b"hibernate" => {
-            let [] = numbers(rest, [])?;
-            Ok(Item::Events(1, Event::Hibernate(Format::Plain)))
-        }
+        b"hibernate" => Ok((1, Event::Hibernate(format(rest)?))),
         b"resume" => {
-            let [] = numbers(rest, [])?;
-            Ok(Item::Events(1, resume()))
+            let loader = Loader::Ranges(ranges(rest)?);
+            Ok((1, Event::Resume(loader, IdentCheck::Compare)))
         }
         b"cut" => {
             let [pick] = numbers(rest, [VALUE])?;
-            Ok(Item::Events(1, Event::Cut(pick)))
+            Ok((1, Event::Cut(pick)))
         }
         b"claim" => {
             let [t, p] = numbers(rest, [TASK, FRAME])?;
-            Ok(task(t as u32, TaskOp::Claim(p as u32)))
+            Ok(task(t, TaskOp::Claim(p as u32)))
         }
         b"release" => {
             let [t, p] = numbers(rest, [TASK, FRAME])?;
-            Ok(task(t as u32, TaskOp::Release(p as u32)))
+            Ok(task(t, TaskOp::Release(p as u32)))
         }
         b"store" => {
             let [t, p, k, v] = numbers(rest, [TASK, FRAME, WORD, VALUE])?;
-            Ok(task(t as u32, TaskOp::Store(p as u32, k as u32, v)))
+            Ok(task(t, TaskOp::Store(p as u32, k as u32, v)))
         }
         b"show" => {
             let [t, p, k] = numbers(rest, [TASK, FRAME, WORD])?;
-            Ok(task(t as u32, TaskOp::Show(p as u32, k as u32)))
+            Ok(task(t, TaskOp::Show(p as u32, k as u32)))
         }
         b"cache" => {
             let [t, p] = numbers(rest, [TASK, FRAME])?;
-            Ok(task(t as u32, TaskOp::Cache(p as u32)))
+            Ok(task(t, TaskOp::Cache(p as u32)))
         }
         b"step" => {
             let [] = numbers(behind(b"core", rest)?, [])?;
-            Ok(Item::Events(1, Event::Step(Actor::Core)))
+            Ok((1, Event::Step(Actor::Core)))
         }
         b"steps" => {
             let [n] = numbers(behind(b"core", rest)?, [STEPS])?;
-            Ok(Item::Events(n as u32, Event::Step(Actor::Core)))
+            Ok((n as u32, Event::Step(Actor::Core)))
         }
         _ => Err(FaultKind::Word),
     }

@@ -3,9 +3,12 @@
 
 mod fault;
 mod grammar;
+mod ident;
 mod line;
+mod ranges;
 mod reading;
 mod replies;
+mod settings;
 #[cfg(test)]
 mod tests;
 mod texts;

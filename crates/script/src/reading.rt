@@ -1,11 +1,15 @@
-ghost use Rattle.std.specs.Prelude.{◌≡◌, ◌≤◌, ◌++◌, All, IfOk, IfErr, OnOk, length, false, Ok, Err, None, unwrap_or};
+ghost use Rattle.std.specs.Prelude.{◌≡◌, ◌+◌, ◌<◌, ◌≤◌, ◌∷◌, ◌++◌, All, IfOk, IfErr, IsNone, OnOk, length, true, false, Ok, Err, None, []};
 ghost use Rattle.plain_machine.specs.Fitting.{IsFitting};
-ghost use Rattle.script.specs.Grammar.{IsFittingItem, IsLastPage, StopsBy, events_of, last_of, kind_by, kind_after, line_item, script_of, stop_at};
+ghost use Rattle.script.specs.Grammar.{end_fault, events_of, kind_after, kind_by, line_count, line_item, script_by, script_of, setting_of, settings_behind, stop_at, IsFittingItem, StopsBy};
+ghost use Rattle.script.specs.Reading.{IsReading, IsSettled};
+ghost use Rattle.script.specs.Settings.{hardware_by, is_faulty, IsLastPage};
 ghost use Rattle.script.specs.Shapes.{IsScripted};
 ghost use Rattle.script.specs.declared.fault.ScriptFault.{ScriptFault};
 
 use crate::fault::{FaultKind, ParseStop, ScriptFault};
-use crate::grammar::{Item, LineStop, Setting, item_of_line};
+use crate::grammar::{Item, LineStop, item_of_line};
+use crate::settings::Settings;
+use machine::Hardware;
 use plain_machine::Event;
 use std::alloc::Global;
 use std::marker::Model;
@@ -16,13 +20,12 @@ const MAX_BYTES: usize = 1_048_576;
 /// How many events a script may have.
 const MAX_EVENTS: usize = 100_000;
 
-/// The last page of a swap area where no line sets it.
-const DEFAULT_LAST: u32 = 3000;
-
-/// A script: what its settings set, and its events.
+/// A script: the machine that its settings describe, and its events.
 #[derive(Drop)]
 pub struct Script {
+    hardware: Hardware,
     last: u32,
+    bad: Vec<u32>,
     events: Vec<Event>,
 }
 
@@ -31,15 +34,29 @@ impl Model for Script {
 
     ghost Value = { ScriptValue };
 
-    ghost view = { λ s. record { last = s.last; events = s.events.items } };
+    ghost view = { λ s. record { hardware = s.hardware; last = s.last; bad = s.bad.items; events = s.events.items } };
 }
 
 impl Script {
+    /// The hardware of the machine.
+    pub fn hardware(&self) -> &Hardware
+        ensures { result.now ≡ self.now.hardware }
+    {
+        &self.hardware
+    }
+
     /// The last page of the swap area.
     pub fn last(&self) -> u32
         ensures { result ≡ self.now.last }
     {
         self.last
+    }
+
+    /// The slots of the swap area that can't be used, in the order of their lines.
+    pub fn bad(&self) -> &[u32]
+        ensures { result.now ≡ self.now.bad }
+    {
+        self.bad.as_slice()
     }
 
     /// The events, in their order.
@@ -48,54 +65,118 @@ impl Script {
     {
         self.events.as_slice()
     }
+}
+
+/// A script as far as it is read. The hardware is known from the first event on.
+#[derive(Drop)]
+struct Reader {
+    settings: Settings,
+    hardware: Option<Hardware>,
+    events: Vec<Event>,
+}
+
+impl Model for Reader {
+    ghost use Rattle.script.specs.Reading.{Reading};
+
+    ghost Value = { Reading };
+
+    ghost view = { λ r. record { settings = r.settings; hardware = r.hardware; events = r.events.items } };
+}
+
+impl Reader {
+    ghost use Rattle.script.specs.Grammar.{by_kind};
+
+    /// Nothing is read.
+    fn new(alloc: Global) -> Reader
+        ensures settings { result.settings ≡ by_kind [] }
+        ensures events { result.events ≡ [] }
+        ensures reading { IsReading result }
+    {
+        Reader {
+            settings: Settings::new(alloc),
+            hardware: None,
+            events: Vec::new(alloc),
+        }
+    }
+
+    /// Adds so many times an event. The first of all needs settings that describe a machine.
+    fn add_events(&mut self, count: u32, event: Event) -> Result<(), LineStop>
+        requires fits { IsFittingItem (Item.Events count event) }
+        requires reading { IsReading self.old }
+        ensures settings { OnOk result (self.new.settings ≡ self.old.settings) }
+        ensures events { OnOk result (self.new.events ≡ self.old.events ++ events_of (Ok (Item.Events count event))) }
+        ensures reading { OnOk result (IsReading self.new) }
+        ensures none { OnOk result (kind_by self.old.settings self.old.events (Ok (Item.Events count event)) ≡ None) }
+        ensures fault { IfErr result (StopsBy (kind_by self.old.settings self.old.events (Ok (Item.Events count event)))) }
+    {
+        let more = count as usize;
+        if more > MAX_EVENTS - self.events.len() {
+            return Err(LineStop::Fault(FaultKind::Events));
+        }
+        if self.hardware.is_none() {
+            let hardware = self.settings.hardware().ok_or(FaultKind::Hardware)?;
+            self.hardware = Some(hardware);
+        }
+        self.events.resize(self.events.len() + more, event)?;
+        Ok(())
+    }
 
     /// Adds what a line says.
     fn add(&mut self, item: Item) -> Result<(), LineStop>
-        requires room { length self.old.events ≤ 100000 }
         requires fits { IsFittingItem item }
-        requires all_fit { All IsFitting self.old.events }
-        requires all_scripted { All IsScripted self.old.events }
-        requires area { IsLastPage self.old.last }
-        ensures last { OnOk result (self.new.last ≡ unwrap_or (last_of (Ok item)) self.old.last) }
+        requires reading { IsReading self.old }
+        requires early { 0 < length self.old.events → setting_of (Ok item) ≡ None }
+        ensures settings { OnOk result (self.new.settings ≡ settings_behind (Ok item) self.old.settings) }
         ensures events { OnOk result (self.new.events ≡ self.old.events ++ events_of (Ok item)) }
-        ensures room { OnOk result (length self.new.events ≤ 100000) }
-        ensures all_fit { OnOk result (All IsFitting self.new.events) }
-        ensures all_scripted { OnOk result (All IsScripted self.new.events) }
-        ensures area { OnOk result (IsLastPage self.new.last) }
-        ensures none { OnOk result (kind_by self.old.events (Ok item) ≡ None) }
-        ensures fault { IfErr result (StopsBy (kind_by self.old.events (Ok item))) }
+        ensures reading { OnOk result (IsReading self.new) }
+        ensures none { OnOk result (kind_by self.old.settings self.old.events (Ok item) ≡ None) }
+        ensures fault { IfErr result (StopsBy (kind_by self.old.settings self.old.events (Ok item))) }
     {
         match item {
-            Item::Nothing => {}
-            Item::Sets(Setting::Last(last)) => self.last = last,
-            Item::Events(count, event) => {
-                let more = count as usize;
-                if more > MAX_EVENTS - self.events.len() {
-                    return Err(LineStop::Fault(FaultKind::Events));
-                }
-                self.events.resize(self.events.len() + more, event)?;
-            }
+            Item::Nothing => Ok(()),
+            Item::Sets(setting) => Ok(self.settings.add(setting)?),
+            Item::Events(count, event) => self.add_events(count, event),
         }
-        Ok(())
     }
 
     /// Adds what one more line says.
     fn read(&mut self, line: &[u8]) -> Result<(), LineStop>
-        requires room { length self.old.events ≤ 100000 }
-        requires all_fit { All IsFitting self.old.events }
-        requires all_scripted { All IsScripted self.old.events }
-        requires area { IsLastPage self.old.last }
-        ensures last { OnOk result (self.new.last ≡ unwrap_or (last_of (line_item false line.now)) self.old.last) }
+        requires { IsReading self.old }
+        ensures settings { OnOk result (self.new.settings ≡ settings_behind (line_item false line.now) self.old.settings) }
         ensures events { OnOk result (self.new.events ≡ self.old.events ++ events_of (line_item false line.now)) }
-        ensures room { OnOk result (length self.new.events ≤ 100000) }
-        ensures all_fit { OnOk result (All IsFitting self.new.events) }
-        ensures all_scripted { OnOk result (All IsScripted self.new.events) }
-        ensures area { OnOk result (IsLastPage self.new.last) }
-        ensures none { OnOk result (kind_after self.old.events line.now ≡ None) }
-        ensures fault { IfErr result (StopsBy (kind_after self.old.events line.now)) }
+        ensures reading { OnOk result (IsReading self.new) }
+        ensures none { OnOk result (kind_after self.old.settings self.old.events line.now ≡ None) }
+        ensures fault { IfErr result (StopsBy (kind_after self.old.settings self.old.events line.now)) }
     {
         let item = item_of_line(line, !self.events.is_empty())?;
         self.add(item)
+    }
+
+    /// What the script is read as. `behind` is the number of the line behind its last.
+    fn finish(self, behind: u32) -> Result<Script, ScriptFault>
+        requires { IsReading self }
+        ensures script { IfOk result (λ script. script ≡ script_by self.settings self.events) }
+        ensures none { IfOk result (λ script. end_fault behind self.settings self.events ≡ []) }
+        ensures sound { IfOk result (λ script. is_faulty self.settings ≡ false) }
+        ensures fault { IfErr result (λ fault. end_fault behind self.settings self.events ≡ fault ∷ []) }
+    {
+        let Reader {
+            settings,
+            hardware,
+            events,
+        } = self;
+        let Some(hardware) = hardware.or_else(|| settings.hardware()) else {
+            return Err(ScriptFault {
+                line: behind,
+                kind: FaultKind::Hardware,
+            });
+        };
+        Ok(Script {
+            hardware,
+            last: settings.last(),
+            bad: settings.into_bad(),
+            events,
+        })
     }
 }
 
@@ -111,13 +192,31 @@ impl LineStop {
     }
 }
 
+/// How many lines a script has.
+#[tactic(auto, unfolding(crate::specs::Grammar::line_count))]
+fn line_count(bytes: &[u8]) -> u32
+    requires { length bytes.now ≤ 1048576 }
+    ensures count { result ≡ line_count bytes.now }
+    ensures few { result ≤ 1048577 }
+{
+    let ended = bytes.iter().filter(|b| **b == b'\n').count() as u32;
+    match bytes.last() {
+        None | Some(b'\n') => ended,
+        Some(_) => ended + 1,
+    }
+}
+
 /// What a script says. Its first fault is named.
 pub fn parse(alloc: Global, bytes: &[u8]) -> Result<Script, ParseStop>
     ensures script { IfOk result (λ script. script_of bytes.now ≡ Ok script) }
     ensures fault { (fault : ScriptFault) → result ≡ Err (ParseStop.Fault fault) → script_of bytes.now ≡ Err fault }
 
-    // The last page is one that an area may have, and each event one that the machine takes and that a line may give.
+    // The last page and the bad slots are those that an area may have, which is the machine's, and each event is one that the
+    // machine takes and that a line may give.
+    ensures slots { IfOk result (λ script. script.hardware.slots ≡ script.last + 1) }
     ensures area { IfOk result (λ script. IsLastPage script.last) }
+    ensures few_bad { IfOk result (λ script. length script.bad ≤ 630) }
+    ensures bad { IfOk result (λ script. All (λ slot. (1 ≤ slot) × (slot ≤ script.last)) script.bad) }
     ensures fits { IfOk result (λ script. All IsFitting script.events) }
     ensures scripted { IfOk result (λ script. All IsScripted script.events) }
     ensures few { IfOk result (λ script. length script.events ≤ 100000) }
@@ -125,14 +224,14 @@ pub fn parse(alloc: Global, bytes: &[u8]) -> Result<Script, ParseStop>
     if bytes.len() > MAX_BYTES {
         return Err(LineStop::Fault(FaultKind::TooLong).at(0));
     }
-    let mut script = Script {
-        last: DEFAULT_LAST,
-        events: Vec::new(alloc),
-    };
+    let mut reader = Reader::new(alloc);
     for (i, line) in bytes.split(|b| *b == b'\n').enumerate() {
-        if let Err(stop) = script.read(line) {
+        if let Err(stop) = reader.read(line) {
             return Err(stop.at(i as u32 + 1));
         }
     }
-    Ok(script)
+    match reader.finish(line_count(bytes) + 1) {
+        Ok(script) => Ok(script),
+        Err(fault) => Err(ParseStop::Fault(fault)),
+    }
 }

@@ -5,7 +5,7 @@ use crate::fault::FaultKind;
 use arrayvec::ArrayVec;
 
 /// One word more than a line may have.
-pub const MAX_WORDS: usize = 6;
+pub const MAX_WORDS: usize = 10;
 
 /// The numbers that may stand in a place, both ends included.
 #[derive(Clone, Copy)]
@@ -17,7 +17,7 @@ pub struct Span {
 /// Puts the first words of a line, which stand between spaces, into an empty list. A line that says something has fewer.
 pub fn put_words<'a>(line: &'a [u8], into: &mut ArrayVec<&'a [u8], MAX_WORDS>)
     requires { into.old.items ≡ [] }
-    ensures { texts into.new.items ≡ take 6 (words_of line.now) }
+    ensures { texts into.new.items ≡ take 10 (words_of line.now) }
 {
     for word in line.split(|b| *b == b' ') {
         if !word.is_empty() && !into.is_full() {
@@ -27,7 +27,7 @@ pub fn put_words<'a>(line: &'a [u8], into: &mut ArrayVec<&'a [u8], MAX_WORDS>)
 }
 
 /// The number that a word of digits is.
-fn number_of(word: &[u8]) -> Option<u64>
+pub fn number_of(word: &[u8]) -> Option<u64>
     ensures { result ≡ number_of word.now }
 {
     if word.is_empty() {

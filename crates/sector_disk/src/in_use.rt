@@ -165,11 +165,19 @@ fn has_held_part<R: Files + Alloc + Clone + Drop>(rt: &R, disk: Device) -> io::R
         let entry = entry?;
         let part = format!(in rt.alloc(); "{folder}/{}", entry.file_name())?;
         let mark = format!(in rt.alloc(); "{part}/partition")?;
-        if fs::exists(rt, mark.as_str()).unwrap_or(false) && has_holder(rt, part.as_str())? {
+        if exists_within(rt, mark.as_str())? && has_holder(rt, part.as_str())? {
             return Ok(true);
         }
     }
     Ok(false)
+}
+
+/// Whether there is a file within an entry of a folder. Within one that is no folder there is none.
+fn exists_within<R: Files>(rt: &R, path: &str) -> io::Result<bool> {
+    match fs::exists(rt, path) {
+        Err(e) if e.kind() == ErrorKind::NotADirectory => Ok(false),
+        found => found,
+    }
 }
 
 /// Whether the kernel uses the device: it has a file system of it mounted, swaps to it, or another device holds it. A disk is

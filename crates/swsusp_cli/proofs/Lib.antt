@@ -1,4 +1,6 @@
 pub mod Blocks
+pub mod Formatted
+pub mod Needed
 pub mod Prints
 pub mod Replays
 pub mod Scripts

@@ -1,30 +1,25 @@
 -- From events played over a formatted disk to a run of the plain machine.
-use Rattle.std.proofs.Common.{zero, suc, ◌≡◌, ◌≢◌, ◌⊎◌, inl, inr, ◌≤◌, ◌<◌, ℕ, ◌+◌, ◌*◌, Bool, cond, List, [], ◌∷◌, length, take, nat_lt, slice_index_or, Contains, Option, Some, None, refl, sym, ap, ◌∙◌, subst, arith}
+use Rattle.std.proofs.Common.{◌≡◌, ◌⊎◌, inl, inr, ◌≤◌, ◌<◌, ℕ, ◌+◌, ◌*◌, List, length, take, Option, Some, None, refl, sym, ap, ◌∙◌, subst, arith}
 use Rattle.std.proofs.Math.Nat.{min-le_left, min-le_right}
-use Rattle.std.proofs.lemmas.Bool.{lt-ltb}
 use Rattle.std.proofs.lemmas.List.{length-take, take_all}
 use Rattle.std.proofs.lemmas.List.Sums.{count_by-le-length, length-filter}
 use Rattle.std.specs.Option.{IfSome}
-use Rattle.definitions.specs.Bytes.{zero_page}
 use Rattle.definitions.specs.Disk as disk
 use Rattle.definitions.specs.Streams.{TakesAll, TakesFront}
-use Rattle.definitions.specs.SwapHeader.{IsMarked, area_page}
-use Rattle.definitions.proofs.DiskLaws.{IsImage-after_sync, IsImage-as_it_reads, length-as_it_reads, length-settled}
-use Rattle.plain_machine.specs.Machine.{Hardware, block_of_slot}
-use Rattle.plain_machine.specs.Chain.{header_of, blocks_of, Marked}
+use Rattle.definitions.proofs.DiskLaws.{length-as_it_reads}
+use Rattle.plain_machine.specs.Machine.{Hardware}
+use Rattle.plain_machine.specs.Chain.{blocks_of}
 use Rattle.plain_machine.specs.Replies.{text_of}
 use Rattle.plain_machine.specs.State.{off, nothing}
 use Rattle.plain_machine.specs.Step.{Run}
 use Rattle.plain_machine.specs.declared.event.Event.{Event}
 use Rattle.plain_machine.specs.declared.reply.Reply.{Reply}
-use Rattle.plain_machine.proofs.DiskBlocks.{block-written, IsPage-area_page, area_page-unmarked}
 use Rattle.protocol_laws.specs.Rows.{LeavesBlock}
 use Rattle.script.specs.Grammar.{ScriptValue}
-use Rattle.machine.specs.Scripted.{scripted_hardware}
 use Rattle.world_core.specs.StandsFor.{StandsFor, IsNew, IsOff, hardware_of}
 use Rattle.world_core.specs.StandsFor.{blocks_of as boot_blocks}
 use Rattle.world_core.specs.World.{World}
-use Rattle.swsusp_cli.specs.Formatting.{Formats, calls_until}
+use Rattle.swsusp_cli.specs.Formatting.{Formats, LieBelow, calls_until}
 use Rattle.swsusp_cli.specs.Answer.{done}
 use Rattle.swsusp_cli.specs.Outcome.{IsScript, IsReplayed, no_script, out_of_memory, unread, too_small, unformatted, played, cut_off}
 use Rattle.swsusp_cli.specs.Playing.{HasPlayed}
@@ -37,6 +32,7 @@ use Rattle.swsusp_cli.specs.declared.status.Status.{Status}
 use Rattle.run_laws.proofs.AtomicCopy.{all_restore}
 use Rattle.run_laws.proofs.Once.{resumed_once}
 use Rattle.swsusp_cli.proofs.Blocks.{leaves_then}
+use Rattle.swsusp_cli.proofs.Formatted.{CanFormat, formatted_unmarked, formats_leaves, formats_size}
 use Rattle.swsusp_cli.proofs.Prints.{printed_then, front_then, whole_front, fails_early}
 use Rattle.swsusp_cli.proofs.Turns.{counted_earlier, whole_of}
 
@@ -47,60 +43,6 @@ changed R before now c e h = by_now now (subst (λ (o : Option disk.Content). di
   by_now None r = absurd r
   by_now (Some c') r = (c', refl, r)
 
-header_at_zero : (h : Hardware) (v : disk.Image) → block_of_slot h 0 ≡ 0 → 0 < blocks_of v → header_of h v ≡ disk.block v 0
-header_at_zero h v first some =
-    ap (λ (b : ℕ). cond (nat_lt b (blocks_of v)) (disk.block v b) zero_page) first
-    ∙ ap (λ (t : Bool). cond t (disk.block v 0) zero_page) (lt-ltb 0 (blocks_of v) some)
-
-header_slot : (last : ℕ) → block_of_slot (scripted_hardware last) 0 ≡ 0
-unfolding scripted_hardware
-header_slot last = refl
-
--- a formatted disk carries no mark
-formatted_unmarked : (last blocks : ℕ) (c mid : disk.Content) → disk.IsContent blocks c → 0 < blocks → disk.Writes 0 (area_page last []) c mid → Marked (scripted_hardware last) (disk.as_it_reads mid) → ⊥
-formatted_unmarked last blocks c mid whole some writes marked =
-    let size = writes.others.size in
-    let all = whole.size in
-    let read = length-as_it_reads mid in
-    let reads = block-written 0 (area_page last []) c mid (IsPage-area_page last) (omega arith) writes in
-    let here : 0 < blocks_of (disk.as_it_reads mid) = omega arith in
-    area_page-unmarked last (subst IsMarked (header_at_zero (scripted_hardware last) (disk.as_it_reads mid) (header_slot last) here ∙ reads) marked)
-
--- The formatting leaves every other block, and the disk's size.
-
-not_header : (last b : ℕ) → IsNoSlot (scripted_hardware last) b → b ≢ 0
-unfolding scripted_hardware
-not_header last b none e = none 0 (omega arith) (sym e)
-
-some_slots : (last : ℕ) → 0 < (scripted_hardware last).slots
-unfolding scripted_hardware
-some_slots last = omega arith
-
-formats_size : (last : ℕ) (c d : disk.Content) → Formats last c d → length d ≡ length c
-formats_size last c d formats =
-    ap length formats.2 ∙ length-settled (disk.as_it_reads formats.0) ∙ length-as_it_reads formats.0 ∙ formats.1.others.size
-
-live_at : (c : disk.Content) (s : ℕ) → slice_index_or (disk.as_it_reads c) s [] ≡ (disk.sector c s).live
-live_at [] s = refl
-live_at (x ∷ c) zero = refl
-live_at (x ∷ c) (suc s) = live_at c s
-
-formats_leaves : (blocks last b : ℕ) (c d : disk.Content) → disk.IsContent blocks c → Formats last c d → b ≢ 0 → LeavesBlock b c d
-formats_leaves blocks last b c d whole formats other = record {
-  leaves = λ v s in' lt low high.
-      let mid = formats.0 in
-      let others = formats.1.others in
-      let is = IsImage-after_sync mid d v formats.2 in' in
-      let above : 8 ≤ s = at_least b s other low in
-      let reads : slice_index_or v s [] ≡ slice_index_or (disk.as_it_reads c) s [] =
-      ap (λ (u : disk.Image). slice_index_or u s []) is ∙ live_at mid s ∙ ap (λ (x : disk.Sector). x.live) (others.above s above) ∙ sym (live_at c s) in
-      let size : length v ≡ length c = ap length is ∙ length-as_it_reads mid ∙ others.size in
-      subst (Contains (disk.sector c s).candidates) (sym reads) ((IsImage-as_it_reads blocks c whole).chosen s (omega arith));
-} where
-  at_least : (b s : ℕ) → b ≢ 0 → 8 * b ≤ s → 8 ≤ s
-  at_least zero s other low = absurd (other refl)
-  at_least (suc k) s other low = omega arith
-
 world_blocks : (w : World) (before after n m : ℕ) (c c' : disk.Content) → IsOff w ⊎ (after ≡ n) → length c ≡ 8 * before → length c' ≡ 8 * after →
     blocks_of (disk.as_it_reads c') ≡ blocks_of (disk.as_it_reads c) → IsOff w ⊎ (n ≡ before)
 world_blocks w before after n m c c' (inl is_off) size size' same = inl is_off
@@ -109,31 +51,34 @@ world_blocks w before after n m c c' (inr is) size size' same =
     let reads' = length-as_it_reads c' in
     inr (omega arith)
 
-run_formatted : (last : ℕ) (old new : World) (events : List Event) (replies : List Reply) (before between now : DiskView) (c : disk.Content) → before.content ≡ Some c → disk.IsContent before.blocks c →
-    IfSome between.content (disk.IsContent between.blocks) → IfSome now.content (disk.IsContent now.blocks) → 0 < before.blocks → IsNew (scripted_hardware last) old → disk.Changes (Formats last) before.content between.content →
-    HasPlayed old new events replies between now → hardware_of new ≡ hardware_of old → IsOff new ⊎ (now.blocks ≡ boot_blocks new) → IsRun before now last events replies c
-run_formatted last old new events replies before between now c told whole whole_between whole_now some fresh formats was_played hw booted =
-    let formatted = changed (Formats last) before.content between.content c told formats in
+run_formatted : (script : ScriptValue) (old new : World) (events : List Event) (replies : List Reply) (before between now : DiskView) (c : disk.Content) → before.content ≡ Some c → disk.IsContent before.blocks c →
+    IfSome between.content (disk.IsContent between.blocks) → IfSome now.content (disk.IsContent now.blocks) → CanFormat script before.blocks → IsNew script.hardware old →
+    disk.Changes (Formats script.hardware script.last script.bad) before.content between.content →
+    HasPlayed old new events replies between now → hardware_of new ≡ hardware_of old → IsOff new ⊎ (now.blocks ≡ boot_blocks new) → IsRun before now script events replies c
+run_formatted script old new events replies before between now c told whole whole_between whole_now can fresh formats was_played hw booted =
+    let h = script.hardware in
+    let formatted = changed (Formats h script.last script.bad) before.content between.content c told formats in
     let c1 = formatted.0 in
     let mid = formatted.2.0 in
     let v = disk.as_it_reads mid in
     let start : StandsFor old c1 (off nothing None) =
-    subst (λ (x : disk.Content). StandsFor old x (off nothing None)) (sym formatted.2.2) (fresh.unmarked v (formatted_unmarked last before.blocks c mid whole some formatted.2.1)) in
+    subst (λ (x : disk.Content). StandsFor old x (off nothing None)) (sym formatted.2.2)
+    (fresh.unmarked v (formatted_unmarked h script.last script.bad before.blocks c mid whole can.header can.few formatted.2.1)) in
     let end = was_played.run c1 (off nothing None) formatted.1 start (tt, refl) in
     let was = end.2 in
     let here = whole_of now.blocks now.content end.0 was.told whole_now in
-    let same = formats_size last c c1 formatted.2 in
+    let same = formats_size h script.last script.bad c c1 formatted.2 in
     let kept : (b : ℕ) → IsNoSlot (hardware_of old) b → LeavesBlock b c1 end.0 =
-    was.unwritten (subst (λ (h : Hardware). 0 < h.slots) (sym fresh.hardware) (some_slots last)) in
-    let run : Run (scripted_hardware last) (disk.as_it_reads c1) (off nothing None) events replies end.1 =
-    subst (λ (h : Hardware). Run h (disk.as_it_reads c1) (off nothing None) events replies end.1) fresh.hardware was.run in
+    was.unwritten (subst (λ (g : Hardware). 0 < g.slots) (sym fresh.hardware) can.some_slots) in
+    let run : Run h (disk.as_it_reads c1) (off nothing None) events replies end.1 =
+    subst (λ (g : Hardware). Run g (disk.as_it_reads c1) (off nothing None) events replies end.1) fresh.hardware was.run in
     record {
       formatted = c1;
       formats = formatted.2;
       end = end.1;
       run = run;
-      once = resumed_once (scripted_hardware last) (disk.as_it_reads c1) None events replies end.1 run;
-      restores = all_restore (scripted_hardware last) (disk.as_it_reads c1) None events replies end.1 run;
+      once = resumed_once h (disk.as_it_reads c1) None events replies end.1 run;
+      restores = all_restore h (disk.as_it_reads c1) None events replies end.1 run;
       world = new;
       hardware = hw ∙ fresh.hardware;
       blocks = world_blocks new before.blocks now.blocks (boot_blocks new) 0 c1 end.0 booted (same ∙ whole.size) here.size was.area.blocks;
@@ -142,24 +87,24 @@ run_formatted last old new events replies before between now c told whole whole_
       stands = was.stands;
       unwritten = λ b none.
           leaves_then between.blocks b c c1 end.0 (whole_of between.blocks between.content c1 formatted.1 whole_between)
-          (formats_leaves before.blocks last b c c1 whole formatted.2 (not_header last b none))
-          (kept b (subst (λ (h : Hardware). IsNoSlot h b) (sym fresh.hardware) none));
+          (formats_leaves h before.blocks script.last script.bad b c c1 whole formatted.2 (λ e. none 0 can.some_slots (sym e)))
+          (kept b (subst (λ (g : Hardware). IsNoSlot g b) (sym fresh.hardware) none));
     }
 
 -- a format's two calls, and at most so many more
 calls_within : (before between after steps : ℕ) → between ≡ disk.raised (disk.raised before) → after ≤ between + steps → after ≤ before + 2 + steps
 calls_within before between after steps two more = omega (arith, min-le_left (before + 1) disk.last_count, min-le_left (disk.raised before + 1) disk.last_count)
 
-pub replies_of : (last : ℕ) (old new : World) (events : List Event) (replies : List Reply) (before between now : DiskView) → IfSome before.content (disk.IsContent before.blocks) →
-    IfSome between.content (disk.IsContent between.blocks) → IfSome now.content (disk.IsContent now.blocks) → 0 < before.blocks → IsNew (scripted_hardware last) old → disk.Changes (Formats last) before.content between.content →
-    before.faults ≤ between.faults → between.calls ≡ disk.raised (disk.raised before.calls) → between.orders ≡ before.orders → HasPlayed old new events replies between now → hardware_of new ≡ hardware_of old → IsOff new ⊎ (now.blocks ≡ boot_blocks new) →
-    AreReplies before now last events replies
-replies_of last old new events replies before between now whole whole_between whole_now some fresh formats later two same was_played hw booted = record {
+pub replies_of : (script : ScriptValue) (old new : World) (events : List Event) (replies : List Reply) (before between now : DiskView) → IfSome before.content (disk.IsContent before.blocks) →
+    IfSome between.content (disk.IsContent between.blocks) → IfSome now.content (disk.IsContent now.blocks) → CanFormat script before.blocks → IsNew script.hardware old →
+    disk.Changes (Formats script.hardware script.last script.bad) before.content between.content → before.faults ≤ between.faults → between.calls ≡ disk.raised (disk.raised before.calls) → between.orders ≡ before.orders → HasPlayed old new events replies between now → hardware_of new ≡ hardware_of old → IsOff new ⊎ (now.blocks ≡ boot_blocks new) →
+    AreReplies before now script events replies
+replies_of script old new events replies before between now whole whole_between whole_now can fresh formats later two same was_played hw booted = record {
   size = was_played.size;
   calls = calls_within before.calls between.calls now.calls (steps_of events) two was_played.calls;
   restarts = was_played.restarts ∙ ap (restarts_by events) same;
   faults = counted_earlier replies before.faults between.faults now.faults later was_played.faults;
-  run = λ c told. run_formatted last old new events replies before between now c told (whole_of before.blocks before.content c told whole) whole_between whole_now some fresh formats was_played hw booted;
+  run = λ c told. run_formatted script old new events replies before between now c told (whole_of before.blocks before.content c told whole) whole_between whole_now can fresh formats was_played hw booted;
 }
 
 -- there are at most as many steps as events
@@ -193,7 +138,7 @@ few_calls x x' status (cut_off script is) =
     omega arith
 
 -- All events were played, and the ends of the texts are printed, or a sink fails there.
-pub played_whole : (x x' : View) (status : Status) (script : ScriptValue) (mid : SinkView) (replies : List Reply) → IsScript x x' script → script.last + 1 ≤ x.disk.blocks → AreReplies x.disk x'.disk script.last script.events replies →
+pub played_whole : (x x' : View) (status : Status) (script : ScriptValue) (mid : SinkView) (replies : List Reply) → IsScript x x' script → LieBelow script.hardware x.disk.blocks → AreReplies x.disk x'.disk script script.events replies →
     TakesAll (text_of replies) x.out.taken mid.taken → IsTold done status mid x'.out x.note x'.note → IsReplayed x x' status
 played_whole x x' status script mid replies script_is roomy are taken (inl whole) = played script (record {
   script_is = script_is;
@@ -211,7 +156,7 @@ played_whole x x' status script mid replies script_is roomy are taken (inr short
     script_is = script_is;
     roomy = roomy;
     status_is = short.status_is;
-    prints = (length script.events, replies, subst (λ (events : List Event). AreReplies x.disk x'.disk script.last events replies) (sym all) are, front);
+    prints = (length script.events, replies, subst (λ (events : List Event). AreReplies x.disk x'.disk script events replies) (sym all) are, front);
     note = note;
   })
 

@@ -5,14 +5,14 @@ use Rattle.std.proofs.Math.Nat.{min-le_left, min-le_right}
 use Rattle.std.proofs.lemmas.Bool.{lt-ltb, false≢true}
 use Rattle.std.proofs.lemmas.Option.{none-some}
 use Rattle.definitions.specs.Streams.{IsOver, HandsOut}
-use Rattle.script.specs.Grammar.{ScriptValue, script_of, value_of, lines_of}
+use Rattle.script.specs.Grammar.{ScriptValue, script_of, value_of, line_count, lines_of}
 use Rattle.script.specs.declared.fault.FaultKind.TheVariants as kind
 use Rattle.script.specs.declared.fault.ScriptFault.{ScriptFault}
 use Rattle.swsusp_cli.specs.Reading.{IsReadAs, HandsOutAtMost}
 
 long_fault : (bytes : List ℕ) → 1048576 < length bytes → script_of bytes ≡ Err (record { line = 0; kind = kind.TooLong })
 unfolding script_of
-long_fault bytes long = ap (λ (b : Bool). cond b (Err (record { line = 0; kind = kind.TooLong })) (value_of (lines_of bytes))) (lt-ltb 1048576 (length bytes) long)
+long_fault bytes long = ap (λ (b : Bool). cond b (Err (record { line = 0; kind = kind.TooLong })) (value_of (line_count bytes + 1) (lines_of bytes))) (lt-ltb 1048576 (length bytes) long)
 
 abbrev is_ok_value : Result ScriptValue ScriptFault → Bool
 is_ok_value (Ok script) = true

@@ -1,12 +1,12 @@
 -- How a replay may end.
-use Rattle.std.specs.Prelude.{◌≡◌, ◌≤◌, ◌<◌, ℕ, ◌+◌, List, [], length, Some, Ok, Err}
+use Rattle.std.specs.Prelude.{◌≡◌, ◌≤◌, ◌<◌, ℕ, List, [], length, Some, Ok, Err}
 use Rattle.definitions.specs.Disk as disk
 use Rattle.definitions.specs.Streams.{IsOver}
 use Rattle.script.specs.Grammar.{ScriptValue, script_of}
 use Rattle.script.specs.declared.fault.ScriptFault.{ScriptFault}
 use Rattle.swsusp_cli.specs.Answer.{Told}
 use Rattle.swsusp_cli.specs.Told.{IsTold, IsTried, IsPrinted, sink_note}
-use Rattle.swsusp_cli.specs.Formatting.{FailsToFormat, calls_until}
+use Rattle.swsusp_cli.specs.Formatting.{FailsToFormat, IsNeeded, LieBelow, calls_until}
 use Rattle.swsusp_cli.specs.Replay.{Prints, PrintsFront, small_note, fault_note, write_note, sync_note, unread_note, memory_note}
 use Rattle.swsusp_cli.specs.View.{View}
 use Rattle.swsusp_cli.specs.declared.formatting.Unformatted.{Unformatted}
@@ -62,24 +62,26 @@ pub record IsUnread (x x' : View) (status : Status) : Type 0 where
 -- the disk has too few blocks for the script's area, and isn't called
 pub record IsTooSmall (x x' : View) (status : Status) (script : ScriptValue) : Type 0 where
   pub script_is : IsScript x x' script
-  pub small : x.disk.blocks < script.last + 1
-  pub told : Tells (small_told x.disk.blocks (script.last + 1)) status x x'
+  pub need : ℕ
+  pub needed : IsNeeded script.hardware need
+  pub small : x.disk.blocks < need
+  pub told : Tells (small_told x.disk.blocks need) status x x'
   pub untouched : x'.disk ≡ x.disk
 
--- a call of the disk failed while the area was formatted: only block 0 may have changed
+-- a call of the disk failed while the area was formatted: only the header block may have changed
 pub record IsUnformatted (x x' : View) (status : Status) (script : ScriptValue) (call : Unformatted) : Type 0 where
   pub script_is : IsScript x x' script
-  pub roomy : script.last + 1 ≤ x.disk.blocks
+  pub roomy : LieBelow script.hardware x.disk.blocks
   pub told : Tells (unformatted_told call) status x x'
   pub risen : disk.HasRisen x.disk.faults x'.disk.faults
   pub calls : x'.disk.calls ≡ calls_until call x.disk.calls
-  pub content : disk.Changes (FailsToFormat script.last call) x.disk.content x'.disk.content
+  pub content : disk.Changes (FailsToFormat script.hardware script.last script.bad call) x.disk.content x'.disk.content
   pub restarts : x'.disk.orders ≡ x.disk.orders
 
 -- all events were played: out took the lines of a run of the plain machine
 pub record IsPlayed (x x' : View) (status : Status) (script : ScriptValue) : Type 0 where
   pub script_is : IsScript x x' script
-  pub roomy : script.last + 1 ≤ x.disk.blocks
+  pub roomy : LieBelow script.hardware x.disk.blocks
   pub status_is : status ≡ Done
   pub prints : Prints script x x'
   pub note : IsPrinted [] x.note x'.note
@@ -87,7 +89,7 @@ pub record IsPlayed (x x' : View) (status : Status) (script : ScriptValue) : Typ
 -- a sink failed: out took a front of the lines of a run over first events, and the fault is noted
 pub record IsCutOff (x x' : View) (status : Status) (script : ScriptValue) : Type 0 where
   pub script_is : IsScript x x' script
-  pub roomy : script.last + 1 ≤ x.disk.blocks
+  pub roomy : LieBelow script.hardware x.disk.blocks
   pub status_is : status ≡ Stream
   pub prints : PrintsFront script x x'
   pub note : IsTried sink_note x.note x'.note

@@ -10,7 +10,6 @@ use Rattle.plain_machine.specs.declared.event.Event.{Event}
 use Rattle.plain_machine.specs.declared.event.Event.TheVariants as event
 use Rattle.plain_machine.specs.declared.reply.Reply.{Reply}
 use Rattle.protocol_laws.specs.Rows.{IsNewFault, LeavesBlock}
-use Rattle.machine.specs.Scripted.{scripted_hardware}
 use Rattle.run_laws.specs.Copies.{AllRestore}
 use Rattle.run_laws.specs.Resumes.{AreResumedOnce}
 use Rattle.script.specs.Grammar.{ScriptValue}
@@ -53,41 +52,41 @@ AreCounted (r ∷ replies) low high = (mid : ℕ) × (low ≤ mid) × (IsNewFaul
 abbrev pub IsNoSlot : Hardware → ℕ → Type 0
 IsNoSlot h b = (s : ℕ) → s < h.slots → block_of_slot h s ≢ b
 
--- Over a disk that held c an area was formatted, and the replies are a run of the plain machine over these events, which begins
--- off with nothing held. A hibernation stands before each resume and between any two of them, and each resume restores what was there
--- at the last one. A world of this machine, over this disk, and what the disk holds stand for the state that the run ends in.
--- Blocks on which no slot lies have kept their bytes in every image of the disk.
-pub record IsRun (x x' : DiskView) (last : ℕ) (events : List Event) (replies : List Reply) (c : disk.Content) : Type 0 where
+-- Over a disk that held c the script's area was formatted, and the replies are a run of the plain machine over these events, which
+-- begins off with nothing held. A hibernation stands before each resume and between any two of them, and each resume restores what was
+-- there at the last one. A world of the script's machine, over this disk, and what the disk holds stand for the state that the run ends
+-- in. Blocks on which no slot lies have kept their bytes in every image of the disk.
+pub record IsRun (x x' : DiskView) (script : ScriptValue) (events : List Event) (replies : List Reply) (c : disk.Content) : Type 0 where
   pub formatted : disk.Content
-  pub formats : Formats last c formatted
+  pub formats : Formats script.hardware script.last script.bad c formatted
   pub end : State
-  pub run : Run (scripted_hardware last) (disk.as_it_reads formatted) (off nothing None) events replies end
+  pub run : Run script.hardware (disk.as_it_reads formatted) (off nothing None) events replies end
   pub once : AreResumedOnce events replies
-  pub restores : AllRestore (scripted_hardware last) (disk.as_it_reads formatted) (off nothing None) events replies end
+  pub restores : AllRestore script.hardware (disk.as_it_reads formatted) (off nothing None) events replies end
   pub world : World
-  pub hardware : hardware_of world ≡ scripted_hardware last
+  pub hardware : hardware_of world ≡ script.hardware
   pub blocks : IsOff world ⊎ (blocks_of world ≡ x.blocks)
   pub held : disk.Content
   pub told : x'.content ≡ Some held
   pub stands : StandsFor world held end
-  pub unwritten : (b : ℕ) → IsNoSlot (scripted_hardware last) b → LeavesBlock b c held
+  pub unwritten : (b : ℕ) → IsNoSlot script.hardware b → LeavesBlock b c held
 
 -- Each event gave a reply, each step made at most one call of the disk after the formatting's two, the cuts alone restarted it, its
 -- count of faults allows for the replies, and where it tells its content the replies are a run.
-pub record AreReplies (x x' : DiskView) (last : ℕ) (events : List Event) (replies : List Reply) : Type 0 where
+pub record AreReplies (x x' : DiskView) (script : ScriptValue) (events : List Event) (replies : List Reply) : Type 0 where
   pub size : length replies ≡ length events
   pub calls : x'.calls ≤ x.calls + 2 + steps_of events
   pub restarts : x'.orders ≡ restarts_by events x.orders
   pub faults : AreCounted replies x.faults x'.faults
-  pub run : (c : disk.Content) → x.content ≡ Some c → IsRun x x' last events replies c
+  pub run : (c : disk.Content) → x.content ≡ Some c → IsRun x x' script events replies c
 
 -- Out took the lines of the replies to all events; it took a front of the lines of those to some first events.
 abbrev pub Prints : ScriptValue → View → View → Type 0
-Prints script x x' = (replies : List Reply) × AreReplies x.disk x'.disk script.last script.events replies × IsPrinted (text_of replies) x.out x'.out
+Prints script x x' = (replies : List Reply) × AreReplies x.disk x'.disk script script.events replies × IsPrinted (text_of replies) x.out x'.out
 
 abbrev pub PrintsFront : ScriptValue → View → View → Type 0
 PrintsFront script x x' =
-    (k : ℕ) × (replies : List Reply) × AreReplies x.disk x'.disk script.last (take k script.events) replies × TakesFront (text_of replies) x.out.taken x'.out.taken
+    (k : ℕ) × (replies : List Reply) × AreReplies x.disk x'.disk script (take k script.events) replies × TakesFront (text_of replies) x.out.taken x'.out.taken
 
 -- Notes.
 

@@ -1,7 +1,9 @@
-ghost use Rattle.std.specs.Prelude.{◌≡◌, ◌+◌, ◌<◌, ◌≤◌, [], IsErr, IfErr, MatchResult};
+ghost use Rattle.std.specs.Prelude.{◌≡◌, ◌+◌, ◌<◌, ◌≤◌, IsErr, MatchResult, length};
 ghost use Rattle.definitions.specs.Disk.{Changes, HasRisen, raised};
-ghost use Rattle.swsusp_cli.specs.Formatting.{Formats, FailsToFormat, calls_until};
+ghost use Rattle.plain_machine.specs.Machine.{IsHardware, block_of_slot};
+ghost use Rattle.swsusp_cli.specs.Formatting.{Formats, FailsToFormat, IsNeeded, calls_until};
 
+use machine::Hardware;
 use page_core::Failed;
 use sector_disk::Disk;
 use sig_header::area_page;
@@ -13,12 +15,31 @@ pub enum Unformatted {
     Sync,
 }
 
-/// Writes the header block of a fresh area, and syncs.
-pub fn format<D: Disk>(disk: &mut D, last: u32) -> Result<(), Unformatted>
-    requires { 0 < D.block_count disk.old }
+/// How many blocks a disk needs for a machine's swap area.
+pub fn blocks_needed(hw: &Hardware) -> u32
+    ensures need { IsNeeded hw.now result }
+    ensures hardware { IsHardware hw.now }
+{
+    let _slots = hw.slots();
+    let mut need = 0;
+    for &(_, length, block) in hw.extents().extents() {
+        need = need.max(block + length);
+    }
+    need
+}
+
+/// Writes the header block of a fresh area with this last page and these bad pages, and syncs.
+pub fn format<D: Disk>(
+    disk: &mut D,
+    hw: &Hardware,
+    last: u32,
+    bad: &[u32],
+) -> Result<(), Unformatted>
+    requires header { block_of_slot hw.now 0 < D.block_count disk.old }
+    requires few { length bad.now ≤ 630 }
     ensures content { MatchResult result
-        (λ _. Changes (Formats last) (D.content disk.old) (D.content disk.new))
-        (λ call. Changes (FailsToFormat last call) (D.content disk.old) (D.content disk.new)) }
+        (λ _. Changes (Formats hw.now last bad.now) (D.content disk.old) (D.content disk.new))
+        (λ call. Changes (FailsToFormat hw.now last bad.now call) (D.content disk.old) (D.content disk.new)) }
     ensures cause { IsErr result → HasRisen (D.faults disk.old) (D.faults disk.new) }
     ensures faults { D.faults disk.old ≤ D.faults disk.new }
     ensures calls { MatchResult result
@@ -27,7 +48,10 @@ pub fn format<D: Disk>(disk: &mut D, last: u32) -> Result<(), Unformatted>
     ensures orders { D.orders disk.new ≡ D.orders disk.old }
     ensures blocks { D.block_count disk.new ≡ D.block_count disk.old }
 {
-    match disk.write(0, &area_page(last, &[])) {
+    // Only what is read is known to have the size of its type.
+    let _blocks = disk.blocks();
+    let header = hw.extents().block(0) as u32;
+    match disk.write(header, &area_page(last, bad)) {
         Ok(()) => {}
         Err(Failed) => return Err(Unformatted::Write),
     }

@@ -6,6 +6,8 @@ mod choosing;
 #[cfg(test)]
 mod cut_tests;
 mod formatting;
+#[cfg(test)]
+mod hardware_tests;
 mod inspection;
 mod playing;
 mod reading;

@@ -1,7 +1,7 @@
 ghost use Rattle.std.specs.Prelude.{◌≡◌, ◌≢◌, ◌⊎◌, ◌≤◌, ◌+◌, ◌<◌, ◌^◌, Some, Ok, Err, IfOk, List, ℕ, All, length};
 ghost use Rattle.definitions.specs.Disk.{HasRisen};
 ghost use Rattle.definitions.specs.Streams.{IsOver};
-ghost use Rattle.script.specs.Grammar.{ScriptValue, IsLastPage};
+ghost use Rattle.script.specs.Grammar.{ScriptValue};
 ghost use Rattle.plain_machine.specs.Fitting.{IsFitting};
 ghost use Rattle.script.specs.Shapes.{IsScripted};
 ghost use Rattle.swsusp_cli.specs.AnswerOf.{told_by};
@@ -13,12 +13,11 @@ ghost use Rattle.swsusp_cli.specs.Answer.{done};
 ghost use Rattle.swsusp_cli.specs.Told.{IsTried, sink_note};
 
 use crate::answer::{Answer, print};
-use crate::formatting::{Unformatted, format};
+use crate::formatting::{Unformatted, blocks_needed, format};
 use crate::playing::play;
 use crate::reading::{ReadStop, read_script};
 use crate::status::Status;
 use dump_file::{Sink, Source};
-use machine::Hardware;
 use page_core::{Failed, NoMemory};
 use script::{Line, ParseStop, Script, ScriptFault, parse};
 use sector_disk::Disk;
@@ -33,7 +32,7 @@ pub enum Stop {
     Script(ScriptFault),
 }
 
-/// Reads a script, formats the area that it names at block 0, and plays its events.
+/// Reads a script, formats the area that it names at the block of its first slot, and plays its events.
 pub fn replay<I: Source, O: Sink, N: Sink, D: Disk>(
     alloc: Global,
     input: &mut I,
@@ -64,15 +63,17 @@ pub fn replay<I: Source, O: Sink, N: Sink, D: Disk>(
         Err(Stop::Memory) => return no_memory().tell(out, note),
         Err(Stop::Script(fault)) => return no_script(fault).tell(out, note),
     };
-    let mut world = match World::create(alloc, Hardware::scripted(script.last())) {
+    let hw = script.hardware();
+    let mut world = match World::create(alloc, *hw) {
         Ok(world) => world,
         Err(NoMemory) => return no_memory().tell(out, note),
     };
     let blocks = disk.blocks();
-    if blocks <= script.last() {
-        return too_small(blocks, script.last() + 1).tell(out, note);
+    let need = blocks_needed(hw);
+    if blocks < need {
+        return too_small(blocks, need).tell(out, note);
     }
-    match format(disk, script.last()) {
+    match format(disk, hw, script.last(), script.bad()) {
         Ok(()) => {}
         Err(call) => return unformatted(call).tell(out, note),
     }
@@ -85,7 +86,7 @@ pub fn replay<I: Source, O: Sink, N: Sink, D: Disk>(
 /// Reads and parses a script.
 fn ready<I: Source>(alloc: Global, input: &mut I) -> Result<Script, Stop>
     ensures ready { IsReadied (I.remaining input.old) (I.remaining input.new) result }
-    ensures area { IfOk result (λ script. IsLastPage script.last) }
+    ensures few_bad { IfOk result (λ script. length script.bad ≤ 630) }
     ensures fits { IfOk result (λ script. All IsFitting script.events) }
     ensures scripted { IfOk result (λ script. All IsScripted script.events) }
     ensures few { IfOk result (λ script. length script.events ≤ 100000) }

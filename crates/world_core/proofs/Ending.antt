@@ -128,9 +128,9 @@ fresh_plain h v area s hw is lt e =
     let at = slot_entry-fresh_memory h (fresh_slot h v) s hw (λ k. fresh_small h v area k is) lt in
     ⊎_elim (λ (b : fresh_slot h v s ≡ bad_slot). let r : ⊥ = omega arith in r) (λ (f : fresh_slot h v s ≡ 0). let r : ⊥ = omega arith in r) (fresh_value h v area s is)
 
-shows_running : (old new : World) (v : disk.Image) (image : Bool) (dump : Memory) (now : Held) → Ends old new v image → IsHardware (hardware_of old) → (hardware_of old).regions ≡ [] → old.frames ≡ fresh_frames (hardware_of old) → ShowsHeld new.machine.held now →
+shows_running : (old new : World) (v : disk.Image) (image : Bool) (dump : Memory) (now : Held) → Ends old new v image → IsHardware (hardware_of old) → old.frames ≡ fresh_frames (hardware_of old) → ShowsHeld new.machine.held now →
     ShowsRunning (hardware_of old) (shown new) (booted (hardware_of old) v Fresh dump now)
-shows_running old new v image dump now ends hw none fresh flag =
+shows_running old new v image dump now ends hw fresh flag =
     let h = hardware_of old in
     let m = fresh_memory h (fresh_slot h v) in
     let seen : seen_frames h new.frames ≡ m = ap (seen_frames h) (frames_fresh old new v image ends fresh) ∙ seen-plain h m (λ s lt. fresh_plain h v new.machine.area s hw ends.area lt) in
@@ -139,7 +139,7 @@ shows_running old new v image dump now ends hw none fresh flag =
       unusable = reason_read h v new.machine.area ends.area;
       flights = λ t. refl;
       same = subst (IsSameMemory h m) (sym seen) (same_refl h m);
-      fits = fits-fresh_memory h (fresh_slot h v) hw none (λ s. fresh_small h v new.machine.area s ends.area)
+      fits = fits-fresh_memory h (fresh_slot h v) hw (λ s. fresh_small h v new.machine.area s ends.area)
           (λ s. ap (is_slot_entry s) (sym (slot_read h v new.machine.area s ends.area)) ∙ slot_well new.machine.area s);
     }
 
@@ -181,9 +181,9 @@ bad_slots_are h v (Ok area) hw is none =
       agree true = refl
       agree false = refl
 
-stands_on : (old new : World) (c : disk.Content) (image : Bool) (dump : Memory) (now : Held) → disk.IsImage c (disk.as_it_reads c) → Ends old new (disk.as_it_reads c) image → IsHardware (hardware_of old) → (hardware_of old).regions ≡ [] → old.frames ≡ fresh_frames (hardware_of old) →
+stands_on : (old new : World) (c : disk.Content) (image : Bool) (dump : Memory) (now : Held) → disk.IsImage c (disk.as_it_reads c) → Ends old new (disk.as_it_reads c) image → IsHardware (hardware_of old) → old.frames ≡ fresh_frames (hardware_of old) →
     ShowsHeld new.machine.held now → IsHeld (hardware_of old) c now → IsHeader (hardware_of old) c → StandsFor new c (on (booted (hardware_of old) (disk.as_it_reads c) Fresh dump now))
-stands_on old new c image dump now here ends hw none fresh flag held header =
+stands_on old new c image dump now here ends hw fresh flag held header =
     let h = hardware_of old in
     let v = disk.as_it_reads c in
     let frames = frames_fresh old new v image ends fresh in
@@ -192,7 +192,7 @@ stands_on old new c image dump now here ends hw none fresh flag held header =
     (record {
       activity = activity_by new Runs ends.core;
       parts = (
-        shows_running old new v image dump now ends hw none fresh flag,
+        shows_running old new v image dump now ends hw fresh flag,
         record {
           held = held;
           task_slots = record {
@@ -214,8 +214,8 @@ stands_on old new c image dump now here ends hw none fresh flag held header =
 booting_parts : (w : World) (c : disk.Content) (dump : Memory) (held : Held) → StandsFor w c (booting Fresh dump held 1) → (w.frames ≡ fresh_frames (hardware_of w)) × IsHeld (hardware_of w) c held × IsHeader (hardware_of w) c × HasOneImage c
 booting_parts w c dump held stands = (stands.stands.parts.0, stands.stands.parts.1.0, stands.stands.parts.1.1, stands.stands.parts.2 refl)
 
-pub boot_ends : (old new : World) (blocks : ℕ) (c : disk.Content) (image : Bool) → disk.IsContent blocks c → old.core ≡ BootSynced → Ends old new (disk.as_it_reads c) image → IsHardware (hardware_of old) → (hardware_of old).regions ≡ [] → IsRow (event.Step actor.Core) old new (reply.Booted image) c c
-boot_ends old new blocks c image whole core ends hw none =
+pub boot_ends : (old new : World) (blocks : ℕ) (c : disk.Content) (image : Bool) → disk.IsContent blocks c → old.core ≡ BootSynced → Ends old new (disk.as_it_reads c) image → IsHardware (hardware_of old) → IsRow (event.Step actor.Core) old new (reply.Booted image) c c
+boot_ends old new blocks c image whole core ends hw =
     row_at_boot (event.Step actor.Core) old new (reply.Booted image) c c 1 (activity_by old BootSynced core)
     (λ dump held stands.
     let h = hardware_of old in
@@ -225,7 +225,7 @@ boot_ends old new blocks c image whole core ends hw none =
       on (booted h v Fresh dump settled.0),
       record {
         step = accepted_step h v (booting Fresh dump held 1) (event.Step actor.Core) (reply.Booted image) (on (booted h v Fresh dump settled.0)) (accepts_step h dump held 1) settled.1;
-        stands = stands_on old new c image dump settled.0 (IsImage-as_it_reads blocks c whole) ends hw none parts.0 (subst (λ (f : HeldFlag). ShowsHeld f settled.0) (sym ends.held) settled.2) settled.3 parts.2;
+        stands = stands_on old new c image dump settled.0 (IsImage-as_it_reads blocks c whole) ends hw parts.0 (subst (λ (f : HeldFlag). ShowsHeld f settled.0) (sym ends.held) settled.2) settled.3 parts.2;
         area = same_area (hardware_of old) (disk.as_it_reads c) (disk.as_it_reads c) refl;
         unwritten = λ b not. block_same b _;
         leaves = tt;

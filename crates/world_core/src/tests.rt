@@ -1,9 +1,41 @@
-use crate::{Hardware, World};
+ghost use Rattle.std.specs.Prelude.{IfOk};
+ghost use Rattle.world_core.specs.StandsFor.{IsOff};
+
+use crate::World;
+use definitions::Ident;
+use machine::{Hardware, Parts};
 use page_core::Format;
 use plain_machine::{Actor, BootFrom, Event, IdentCheck, Loader, Ranges, Reply, TaskOp};
 use sector_disk::{Disk, MemDisk};
 use sig_header::area_page;
+use std::alloc::Global;
 use std::test::Fail;
+
+/// A machine with page frames 0 to 4095, the tables in the first of them, so many slots, and each on the block of its number.
+fn hardware(slots: u32) -> Result<Hardware, Fail> {
+    let parts = Parts {
+        zones: &[(0, 4096)],
+        slots,
+        frame_table: 0,
+        slot_table: 4,
+        regions: &[],
+        ident: Ident {
+            version_code: 393472,
+            names: [[0; 65]; 6],
+        },
+        hw_sig: 0,
+        extents: &[(0, slots, 0)],
+    };
+    Ok(Hardware::of(&parts).ok().ok_or("no hardware")?)
+}
+
+/// A world of that machine with 3001 slots, which is off.
+fn world_off(alloc: Global) -> Result<World, Fail>
+    ensures { IfOk result IsOff }
+{
+    let hw = hardware(3001)?;
+    Ok(World::create(alloc, hw).ok().ok_or("memory")?)
+}
 
 // A machine boots, and task 3 claims page frame 10, stores 77 in its first word and reads it back. The tables are in page
 // frames 0 to 6.
@@ -13,9 +45,7 @@ fn boots_and_serves_tasks(rt: HostRuntime) -> Result<(), Fail> {
     disk.write(0, &area_page(3000, &[]))
         .ok()
         .ok_or("a write failed")?;
-    let mut world = World::create(rt.alloc(), Hardware::scripted(3000))
-        .ok()
-        .ok_or("memory")?;
+    let mut world = world_off(rt.alloc())?;
     let script = [
         (Event::Task(3, TaskOp::Claim(10)), Reply::NotOn),
         (Event::Boot(BootFrom::Kept), Reply::NoDump),
@@ -48,9 +78,7 @@ fn boots_and_serves_tasks(rt: HostRuntime) -> Result<(), Fail> {
 #[test]
 fn a_fault_in_boot(rt: HostRuntime) -> Result<(), Fail> {
     let mut disk = MemDisk::create(rt.alloc(), 3001).ok().ok_or("memory")?;
-    let mut world = World::create(rt.alloc(), Hardware::scripted(3000))
-        .ok()
-        .ok_or("memory")?;
+    let mut world = world_off(rt.alloc())?;
     disk.arm(1, 1, 0);
     let script = [
         (Event::Boot(BootFrom::Fresh), "more"),
@@ -77,9 +105,7 @@ fn hibernates(rt: HostRuntime) -> Result<(), Fail> {
     disk.write(0, &area_page(3000, &[]))
         .ok()
         .ok_or("a write failed")?;
-    let mut world = World::create(rt.alloc(), Hardware::scripted(3000))
-        .ok()
-        .ok_or("memory")?;
+    let mut world = world_off(rt.alloc())?;
     let script = [
         (Event::Hibernate(Format::Plain), Reply::NotOn),
         (Event::Boot(BootFrom::Fresh), Reply::More { k: 0, of: 2 }),
@@ -115,9 +141,7 @@ fn finds_no_image(rt: HostRuntime) -> Result<(), Fail> {
     disk.write(0, &area_page(3000, &[]))
         .ok()
         .ok_or("a write failed")?;
-    let mut world = World::create(rt.alloc(), Hardware::scripted(3000))
-        .ok()
-        .ok_or("memory")?;
+    let mut world = world_off(rt.alloc())?;
     let resume = Event::Resume(Loader::Ranges(ANY_FRAME), IdentCheck::Compare);
     let script = [
         (

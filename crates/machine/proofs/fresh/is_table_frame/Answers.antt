@@ -1,6 +1,4 @@
-use Rattle.std.proofs.Common.{ℕ, ◌+◌, ◌<◌, subst, arith}
-use Rattle.definitions.specs.Zones.{top}
-use Rattle.definitions.proofs.ZoneNumbers.{top_at_most}
+use Rattle.std.proofs.Common.{arith}
 use Rattle.machine.proofs.Rows.{table_below}
 use Rattle.machine.proofs.fresh.is_table_frame.Goals as goal
 

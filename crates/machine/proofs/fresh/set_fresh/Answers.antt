@@ -1,11 +1,11 @@
-use Rattle.std.proofs.Common.{◌≡◌, ◌+◌, ◌-◌, ◌/◌, ◌<◌, ◌≤◌, ℕ, List, Option, Some, None, ◌++◌, length, take, replicate, sym, ap, ◌∙◌, subst, arith}
+use Rattle.std.proofs.Common.{◌≡◌, ◌+◌, ℕ, List, Option, Some, None, ◌++◌, length, take, replicate, sym, ap, ◌∙◌, subst, arith}
 use Rattle.std.proofs.lemmas.List.{length-replicate, take_all}
 use Rattle.std.specs.List.{range_with_len, slice_get}
 use Rattle.definitions.specs.Bytes.{zero_page}
 use Rattle.definitions.specs.Zones.{numbers, top}
 use Rattle.definitions.proofs.ZoneNumbers.{numbers-take_more}
 use Rattle.definitions.proofs.ZoneWalk.{at_zone, past_zones}
-use Rattle.plain_machine.specs.Machine.{Hardware, Memory}
+use Rattle.plain_machine.specs.Machine.{Hardware}
 use Rattle.plain_machine.specs.Step.{with_each_entry, fresh_entry, fresh_frames}
 use Rattle.plain_machine.proofs.EachEntry.{each-none, each-append, length-each}
 use Rattle.machine.proofs.Rows.{frame_table_fits}

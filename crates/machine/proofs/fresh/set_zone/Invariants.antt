@@ -1,4 +1,4 @@
-use Rattle.std.proofs.Common.{◌≡◌, ◌-◌, ◌≤◌, ℕ, List, length}
+use Rattle.std.proofs.Common.{◌≡◌, ◌-◌}
 use Rattle.std.specs.List.{range_with_len}
 use Rattle.plain_machine.specs.Step.{with_each_entry, fresh_entry}
 use Rattle.machine.proofs.fresh.set_zone.Given as goal

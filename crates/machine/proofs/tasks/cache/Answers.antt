@@ -1,4 +1,4 @@
-use Rattle.std.proofs.Common.{◌≡◌, ◌+◌, ◌*◌, ◌/◌, ◌<◌, ℕ, List, length, set, sym, ap, ◌∙◌, subst, arith, refl, true, inl, inr}
+use Rattle.std.proofs.Common.{◌≡◌, ◌+◌, ◌*◌, ℕ, sym, ap, ◌∙◌, subst, arith, refl, true, inr}
 use Rattle.definitions.specs.Tables.{with_entry, entry_of}
 use Rattle.plain_machine.specs.declared.event.TaskOp.TheVariants as op
 use Rattle.plain_machine.specs.declared.reply.Reply.TheVariants as reply

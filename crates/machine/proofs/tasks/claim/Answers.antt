@@ -1,7 +1,5 @@
-use Rattle.std.proofs.Common.{◌≡◌, ◌+◌, ◌*◌, ◌/◌, ◌<◌, ℕ, List, length, set, sym, ap, ◌∙◌, subst, arith}
-use Rattle.std.specs.List.{Contains}
+use Rattle.std.proofs.Common.{◌≡◌, ◌*◌, ℕ, length, set, sym, ap, ◌∙◌, subst, arith}
 use Rattle.definitions.specs.Bytes.{zero_page}
-use Rattle.definitions.specs.Zones.{numbers, top}
 use Rattle.definitions.specs.Tables.{with_entry, entry_of}
 use Rattle.definitions.proofs.ZoneNumbers.{below_top}
 use Rattle.plain_machine.specs.declared.event.TaskOp.TheVariants as op

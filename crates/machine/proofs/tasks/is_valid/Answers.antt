@@ -1,4 +1,4 @@
-use Rattle.std.proofs.Common.{◌≡◌, ℕ, List, Bool, true, sym, subst}
+use Rattle.std.proofs.Common.{ℕ, List, sym, subst}
 use Rattle.std.specs.List.{Contains}
 use Rattle.definitions.specs.Zones.{numbers}
 use Rattle.machine.proofs.Rows.{valid_is}

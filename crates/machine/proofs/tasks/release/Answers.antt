@@ -1,11 +1,11 @@
-use Rattle.std.proofs.Common.{◌≡◌, ◌+◌, ◌*◌, ◌/◌, ◌<◌, ℕ, List, length, set, sym, ap, ◌∙◌, subst, arith, refl, true, inl, inr}
-use Rattle.definitions.specs.Tables.{with_entry, entry_of}
+use Rattle.std.proofs.Common.{◌≡◌, ℕ, sym, ap, ◌∙◌, subst, arith, refl, true}
+use Rattle.definitions.specs.Tables.{with_entry}
 use Rattle.plain_machine.specs.declared.event.TaskOp.TheVariants as op
 use Rattle.plain_machine.specs.declared.reply.Reply.TheVariants as reply
 use Rattle.plain_machine.specs.Machine.{Memory, is_well_formed}
 use Rattle.machine.specs.TaskRow.{HasRow}
 use Rattle.machine.proofs.Rows.{entry_within}
-use Rattle.machine.proofs.Requests.{own_refused, own_entry_set, well_formed_by}
+use Rattle.machine.proofs.Requests.{own_refused, own_entry_set}
 use Rattle.machine.proofs.tasks.release.Goals as goal
 
 pub returns-in-Some-clause-row : goal.returns-in-Some-clause-row

@@ -1,14 +1,12 @@
-use Rattle.std.proofs.Common.{◌≡◌, ◌+◌, ◌*◌, ◌/◌, ◌<◌, ℕ, List, length, set, sym, ap, ◌∙◌, subst, arith, refl}
-use Rattle.definitions.specs.Bytes.{IsPage, word, with_word}
-use Rattle.definitions.specs.Tables.{frame}
+use Rattle.std.proofs.Common.{◌*◌, ℕ, List, sym, ◌∙◌, subst, arith, refl}
+use Rattle.definitions.specs.Bytes.{IsPage, with_word}
 use Rattle.definitions.proofs.PageBytes.{length-with_number}
 use Rattle.definitions.proofs.ZoneNumbers.{below_top}
 use Rattle.plain_machine.specs.Machine.{Memory}
 use Rattle.plain_machine.specs.declared.event.TaskOp.TheVariants as op
-use Rattle.plain_machine.specs.declared.reply.Reply.{Reply}
 use Rattle.plain_machine.specs.declared.reply.Reply.TheVariants as reply
 use Rattle.machine.specs.TaskRow.{HasRow}
-use Rattle.machine.proofs.Requests.{own_refused, own_page_set, own_page_told}
+use Rattle.machine.proofs.Requests.{own_refused, own_page_set}
 use Rattle.machine.proofs.tasks.store.Goals as goal
 
 pub returns-in-Some-clause-row : goal.returns-in-Some-clause-row

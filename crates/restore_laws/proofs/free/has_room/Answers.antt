@@ -1,6 +1,6 @@
 -- The laws.
-use Rattle.restore_laws.proofs.FreeFrames.{free_of, plan_tells, room_suffices, room_fails}
+use Rattle.restore_laws.proofs.FreeFrames.{plan_tells, room_suffices, room_fails}
 use Rattle.restore_laws.proofs.free.has_room.Goals as goal
 
 pub returns : goal.returns
-returns c = record { free = free_of; need = plan_tells; suffices = room_suffices; fails = room_fails }
+returns c = record { need = plan_tells; suffices = room_suffices; fails = room_fails }

@@ -15,5 +15,5 @@ returns-in-len1-up-clause-says c =
       | else-line-lt1+in_default-1 w ↦ search rules
     ] in
     let kept = ap texts c.as_slice.ensures.value ∙ c.put_words.ensures in
-    let whole : texts c.as_slice.result.now ≡ take 6 (words_of c.args.line.now) = kept in
+    let whole : texts c.as_slice.result.now ≡ take 10 (words_of c.args.line.now) = kept in
     c.item_of_words.ensures.says ∙ line_item-words c.args.begun c.args.line.now _ _ printable comment (sym (texts-split c.as_slice.result.now _ c.in-len1-up.len_at_least) ∙ whole)

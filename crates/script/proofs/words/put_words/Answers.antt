@@ -20,8 +20,8 @@ loop-word-preserved-then-not-is_full c =
     let k = length c.loop-word.yielded in
     let more : length (c.loop-word.yielded ++ c.in-Some.word ∷ []) ≡ k + 1 = length_push c.loop-word.yielded c.in-Some.word in
     let some : is_word c.in-Some.word.now ≡ true = grind (arith, nat_tests, c.is_empty.ensures, c.if-not-is_empty.true) in
-    let few : length c.loop-word.into.items < 6 = grind (arith, nat_tests, c.is_full.ensures.value, c.is_full.ensures.fits, c.if-not-is_full.true) in
-    let room : length (kept (take k parts)) < 6 = omega (arith, ap length c.loop-word.invariant, length-texts c.loop-word.into.items) in
+    let few : length c.loop-word.into.items < 10 = grind (arith, nat_tests, c.is_full.ensures.value, c.is_full.ensures.fits, c.if-not-is_full.true) in
+    let room : length (kept (take k parts)) < 10 = omega (arith, ap length c.loop-word.invariant, length-texts c.loop-word.into.items) in
     rw more
     (ap texts c.push.ensures.items ∙ texts-more c.loop-word.into.items c.in-Some.word
     ∙ ap (λ x. x ++ c.in-Some.word.now ∷ []) c.loop-word.invariant ∙ kept-word parts k c.in-Some.word.now turn.0 turn.1 some room)
@@ -34,7 +34,7 @@ loop-word-preserved c =
     let more : length (c.loop-word.yielded ++ c.in-Some.word ∷ []) ≡ k + 1 = length_push c.loop-word.yielded c.in-Some.word in
     let same : kept (take k parts) ≡ kept (take (k + 1) parts) = elim c.else-not-is_empty.branch [
       | else-not-is_empty-via-then-not-is_empty+else-not-is_full w ↦
-          let full : 6 ≤ length c.loop-word.into.items = grind (arith, nat_tests, w.is_full.ensures.value, w.is_full.ensures.fits, w.if-not-is_full.false) in
+          let full : 10 ≤ length c.loop-word.into.items = grind (arith, nat_tests, w.is_full.ensures.value, w.is_full.ensures.fits, w.if-not-is_full.false) in
           kept-full parts k c.in-Some.word.now turn.0 turn.1 (omega (arith, ap length c.loop-word.invariant, length-texts c.loop-word.into.items))
       | else-not-is_empty-via-else-not-is_empty w ↦
           let none : is_word c.in-Some.word.now ≡ false = grind (arith, nat_tests, c.is_empty.ensures, w.if-not-is_empty.false) in

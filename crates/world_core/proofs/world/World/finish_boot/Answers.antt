@@ -38,4 +38,4 @@ returns-in-Ok-clause-row g c = λ k told.
     let header : c.read_header.new.into ≡ header_of h v = read ∙ ap (λ (b : ℕ). header_at b blocks v) block_is ∙ header_read h blocks k whole in
     let header' : c.read_header.new.into ≡ header_of c.args.self.now.machine.hw v = subst (λ (g : Hardware). c.read_header.new.into ≡ header_of g v) same header in
     let ends = ends_of_started c.args.self.now c.start.new.self c.read_header.new.into c.start.result v (blocks_told blocks k whole ∙ c.requires.blocks) header' c.start.ensures.started in
-    (k, c.read_header.ensures.content ∙ told, boot_ends c.args.self.now c.start.new.self blocks k c.start.result whole c.requires.synced ends (subst IsHardware same c.extents.ensures.hardware) (subst (λ (g : Hardware). g.regions ≡ []) same c.extents.ensures.regions))
+    (k, c.read_header.ensures.content ∙ told, boot_ends c.args.self.now c.start.new.self blocks k c.start.result whole c.requires.synced ends (subst IsHardware same c.extents.ensures.hardware))

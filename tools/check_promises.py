@@ -1,0 +1,71 @@
+#!/usr/bin/env python3
+"""Checks docs/PROOFS.md: each file that a table names is there, and each name in its clauses stands in one of the row's files.
+
+A file without a folder of its own is one of the crate that the row has named before it. Says what it misses, and ends with status 1.
+"""
+
+import pathlib
+import re
+import sys
+
+TOP = pathlib.Path(__file__).resolve().parent.parent
+PAGE = TOP / "docs" / "PROOFS.md"
+PATH = re.compile(r"[\w/]+(?:\.antt|\.rt)|crates/[\w/]+|(?:src|specs|proofs|definitions/specs|run_laws/specs)(?:/[\w/]+)?")
+NAME = re.compile(r"`([\w\[\]-]+)`")
+
+
+def rows():
+    """The rows of the tables, each its line number and its cells."""
+    for number, line in enumerate(PAGE.read_text().splitlines(), 1):
+        if line.startswith("|") and not line.startswith("|--"):
+            yield number, [cell.strip() for cell in line.strip("|\n").split(" | ")]
+
+
+def files_of(cell):
+    """The files that a cell names, and the names of those that are missing."""
+    found, missing, crate = [], [], None
+    for word in PATH.findall(cell):
+        tries = [TOP / word]
+        if crate:
+            tries += [crate / word, crate / "src" / word, crate / "specs" / word, crate / "proofs" / word]
+        tries += [TOP / "crates" / word, TOP / "crates/plain_machine/specs" / word]
+        path = next((p for p in tries if p.exists()), None)
+        if path is None:
+            missing.append(word)
+            continue
+        found.append(path)
+        parts = path.relative_to(TOP).parts
+        if parts[0] == "crates" and len(parts) > 1:
+            crate = TOP / "crates" / parts[1]
+    return found, missing
+
+
+def text_of(path):
+    if path.is_dir():
+        return "\n".join(p.read_text() for p in sorted(path.rglob("*")) if p.suffix in (".rt", ".antt") and "out" not in p.parts)
+    return path.read_text()
+
+
+def main():
+    wrong = 0
+    checked = 0
+    for number, cells in rows():
+        if len(cells) < 3 or cells[0] in ("Words", "Promise", "Name"):
+            continue
+        clause, where = cells[1], cells[2]
+        found, missing = files_of(where + " " + clause)
+        for word in missing:
+            print(f"docs/PROOFS.md:{number}: {word} isn't there")
+            wrong += 1
+        text = "\n".join(text_of(p) for p in found)
+        for name in NAME.findall(clause):
+            checked += 1
+            if not re.search(r"(?<![\w-])" + re.escape(name) + r"(?![\w-])", text):
+                print(f"docs/PROOFS.md:{number}: no {name} in {', '.join(str(p.relative_to(TOP)) for p in found) or 'no file'}")
+                wrong += 1
+    print(f"docs/PROOFS.md: {checked} names checked, {wrong} missing")
+    return 1 if wrong else 0
+
+
+if __name__ == "__main__":
+    sys.exit(main())
