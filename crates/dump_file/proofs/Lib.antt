@@ -1,0 +1,17 @@
+pub mod Chains
+pub mod Contents
+pub mod Dumps
+pub mod ExtentFaults
+pub mod Fronts
+pub mod Handed
+pub mod HeadExtents
+pub mod HeadParts
+pub mod HeadZones
+pub mod Headers
+pub mod Items
+pub mod Numbers
+pub mod RecordFaults
+pub mod SixNames
+pub mod Taken
+pub mod ZoneFaults
+pub mod ZoneRecords

@@ -1,3 +1,7 @@
 pub mod Calls
+pub mod Dump
+pub mod Fields
 pub mod Flushed
 pub mod Memory
+pub mod Reading
+pub mod Written

@@ -1,0 +1,45 @@
+use frame_arena::Frames;
+use machine::Hardware;
+
+/// A machine's hardware and the content of its page frames, as a dump tells them.
+#[derive(Drop)]
+pub struct Dump {
+    pub hw: Hardware,
+    pub frames: Frames,
+}
+
+/// What is wrong with a dump.
+#[derive(Clone, Copy, Debug, PartialEq, Eq)]
+pub enum DumpKind {
+    /// The input ends before a byte that is wanted.
+    Short,
+    /// It begins with the mark of no version.
+    Magic,
+    /// The number of slots, or where the tables lie.
+    Header,
+    Zone,
+    Extent,
+    /// The number of records, or a record's page frame number that isn't valid.
+    Frame,
+    /// A record's page frame number isn't above the one before.
+    Order,
+    /// A byte follows the last record.
+    Extra,
+    /// A table frame is at fault.
+    Tables,
+}
+
+/// The first fault of a dump. `at` is a byte's place, or for `Tables` a page frame number.
+#[derive(Clone, Copy, Debug, PartialEq, Eq)]
+pub struct DumpFault {
+    pub kind: DumpKind,
+    pub at: u64,
+}
+
+/// Why no dump was read.
+#[derive(Clone, Copy, Debug, PartialEq, Eq)]
+pub enum DumpStop {
+    Fault(DumpFault),
+    SourceFault,
+    NoMemory,
+}

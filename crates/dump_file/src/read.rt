@@ -1,0 +1,106 @@
+ghost use Rattle.std.specs.Prelude.{◌≡◌, ◌≢◌, ℕ, ◌≤◌, List, [], Some, None, Ok, Err, length, nat_le, IsTrue, IsOk, IfOk};
+ghost use Rattle.definitions.specs.Disk.{HasRisen};
+ghost use Rattle.definitions.specs.Streams.{IsOver};
+ghost use Rattle.definitions.specs.Zones.{top};
+ghost use Rattle.plain_machine.specs.Machine.{Fits};
+ghost use Rattle.dump_file.specs.Dump.{body_fault, dump_of, head_fault};
+ghost use Rattle.dump_file.specs.Fields.{contents, hardware, first_record, record_count};
+ghost use Rattle.dump_file.specs.Reading.{IsHeader, IsReadTo};
+
+use crate::dump::{Dump, DumpFault, DumpKind, DumpStop};
+use crate::fill::{fault, fill};
+use crate::front::read_front;
+use crate::head::MOST_BYTES;
+use crate::header::{Header, header_of};
+use crate::records::{RECORD, read_records};
+use crate::source::Source;
+use frame_arena::Frames;
+use machine::tables_fit;
+use std::alloc::Global;
+
+/// Reads a dump to its end. A fault is the first one, where several could be named.
+pub fn read_dump<S: Source>(alloc: Global, source: &mut S) -> Result<Dump, DumpStop>
+    ensures dump { IfOk result (λ d. (bytes : List ℕ) → S.remaining source.old ≡ Some bytes → dump_of bytes ≡ Ok (record { hw = d.hw; memory = d.frames })) }
+    ensures end { IsOk result → IsOver (S.remaining source.new) }
+    ensures fault { (bytes : List ℕ) (f : DumpFault) → S.remaining source.old ≡ Some bytes → result ≡ Err (DumpStop.Fault f) → dump_of bytes ≡ Err f }
+    ensures fits { IfOk result (λ d. Fits d.hw d.frames) }
+    ensures no_region { IfOk result (λ d. d.hw.regions ≡ []) }
+    ensures counted { S.faults source.old ≤ S.faults source.new }
+    ensures cause { result ≡ Err DumpStop.SourceFault → HasRisen (S.faults source.old) (S.faults source.new) }
+{
+    let header = read_header(source)?;
+    let Ok(mut frames) = Frames::create(alloc, header.hw.zones().top()) else {
+        return Err(DumpStop::NoMemory);
+    };
+    read_body(source, &header, &mut frames)?;
+    Ok(Dump {
+        hw: header.hw,
+        frames,
+    })
+}
+
+/// Reads what stands before the records.
+fn read_header<S: Source>(source: &mut S) -> Result<Header, DumpStop>
+    ensures fault { (bytes : List ℕ) (f : DumpFault) → S.remaining source.old ≡ Some bytes → result ≡ Err (DumpStop.Fault f) → head_fault bytes ≡ Some f }
+    ensures header { IfOk result (λ h. (bytes : List ℕ) → S.remaining source.old ≡ Some bytes → IsHeader bytes h.hw h.first h.count) }
+    ensures left { IfOk result (λ h. (bytes : List ℕ) → S.remaining source.old ≡ Some bytes → IsReadTo bytes h.first (S.remaining source.new)) }
+    ensures early { IfOk result (λ h. h.first ≤ 1332) }
+    ensures no_region { IfOk result (λ h. h.hw.regions ≡ []) }
+    ensures counted { S.faults source.old ≤ S.faults source.new }
+    ensures cause { result ≡ Err DumpStop.SourceFault → HasRisen (S.faults source.old) (S.faults source.new) }
+{
+    let mut bytes = [0; MOST_BYTES];
+    let len = match read_front(source, &mut bytes) {
+        Ok(len) => len,
+        Err(_) => return Err(DumpStop::SourceFault),
+    };
+    match header_of(&bytes[..len]) {
+        Ok(header) => Ok(header),
+        Err(fault) => Err(DumpStop::Fault(fault)),
+    }
+}
+
+/// Reads the records into page frames of zeros, up to the end of the input.
+#[tactic(auto, unfolding(crate::specs::Dump::body_fault))]
+fn read_body<S: Source>(
+    source: &mut S,
+    header: &Header,
+    frames: &mut Frames,
+) -> Result<(), DumpStop>
+    requires size { length frames.old ≡ top header.now.hw.zones }
+    requires early { header.now.first ≤ 1332 }
+    ensures fault { (bytes : List ℕ) (f : DumpFault) → IsReadTo bytes header.now.first (S.remaining source.old) → frames.old ≡ contents bytes header.now.first 0 (top header.now.hw.zones) → result ≡ Err (DumpStop.Fault f) → body_fault header.now.hw bytes header.now.first header.now.count ≡ Some f }
+    ensures none { (bytes : List ℕ) → IsReadTo bytes header.now.first (S.remaining source.old) → frames.old ≡ contents bytes header.now.first 0 (top header.now.hw.zones) → IsOk result → body_fault header.now.hw bytes header.now.first header.now.count ≡ None }
+    ensures frames { (bytes : List ℕ) → IsReadTo bytes header.now.first (S.remaining source.old) → frames.old ≡ contents bytes header.now.first 0 (top header.now.hw.zones) → IsOk result → frames.new ≡ contents bytes header.now.first header.now.count (top header.now.hw.zones) }
+    ensures end { IsOk result → IsOver (S.remaining source.new) }
+    ensures fits { IsOk result → Fits header.now.hw frames.new }
+    ensures counted { S.faults source.old ≤ S.faults source.new }
+    ensures cause { result ≡ Err DumpStop.SourceFault → HasRisen (S.faults source.old) (S.faults source.new) }
+    ensures memory { result ≢ Err DumpStop.NoMemory }
+{
+    let first = header.first as u64;
+    read_records(source, header.hw.zones(), first, header.count, frames)?;
+    if !is_over(source)? {
+        return Err(fault(DumpKind::Extra, first + RECORD * u64::from(header.count)));
+    }
+    match tables_fit(frames, &header.hw) {
+        Ok(()) => Ok(()),
+        Err(f) => Err(fault(DumpKind::Tables, u64::from(f))),
+    }
+}
+
+/// Whether no byte is left. Takes one where there is one.
+fn is_over<S: Source>(source: &mut S) -> Result<bool, DumpStop>
+    ensures over { IfOk result (λ over. IsTrue over → IsOver (S.remaining source.new)) }
+    ensures at { IfOk result (λ over. (bytes : List ℕ) (k : ℕ) → IsReadTo bytes k (S.remaining source.old) → over ≡ nat_le (length bytes) k) }
+    ensures no_fault { (f : DumpFault) → result ≢ Err (DumpStop.Fault f) }
+    ensures memory { result ≢ Err DumpStop.NoMemory }
+    ensures counted { S.faults source.old ≤ S.faults source.new }
+    ensures cause { result ≡ Err DumpStop.SourceFault → HasRisen (S.faults source.old) (S.faults source.new) }
+{
+    let mut byte = [0];
+    match fill(source, &mut byte) {
+        Ok(count) => Ok(count == 0),
+        Err(_) => Err(DumpStop::SourceFault),
+    }
+}

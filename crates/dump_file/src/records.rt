@@ -1,0 +1,92 @@
+ghost use Rattle.std.specs.Prelude.{◌≡◌, ℕ, ◌+◌, ◌*◌, ◌^◌, ◌<◌, ◌≤◌, ◌↔◌, List, Some, None, Err, IsOk, length, IsTrue, IfOk, IfSome};
+ghost use Rattle.std.specs.List.{Contains};
+ghost use Rattle.definitions.specs.Bytes.{bytes_at, zero_page};
+ghost use Rattle.definitions.specs.Disk.{HasRisen};
+ghost use Rattle.definitions.specs.Streams.{HandsOut, IsOver};
+ghost use Rattle.definitions.specs.Tables.{with_frame};
+ghost use Rattle.definitions.specs.Zones.{numbers, top};
+ghost use Rattle.dump_file.specs.Dump.{fault_of_record, is_above, records_fault};
+ghost use Rattle.dump_file.specs.Fields.{contents, number, record_byte};
+ghost use Rattle.dump_file.specs.Reading.{IsReadTo};
+
+use crate::dump::{DumpFault, DumpKind, DumpStop};
+use crate::fill::{fault, read_number, take_exact};
+use crate::source::Source;
+use frame_arena::Frames;
+use page_core::Page;
+use zones::Zones;
+
+/// How many bytes a record has: a page frame's number and its content.
+pub(crate) const RECORD: u64 = 4100;
+
+/// Reads so many records, the first of which begins at byte `first`, into page frames of zeros.
+pub(crate) fn read_records<S: Source>(
+    source: &mut S,
+    zones: &Zones,
+    first: u64,
+    count: u32,
+    frames: &mut Frames,
+) -> Result<(), DumpStop>
+    requires size { length frames.old ≡ top zones.now }
+    requires early { first ≤ 2 ^ 32 }
+    ensures fault { (bytes : List ℕ) (f : DumpFault) → IsReadTo bytes first (S.remaining source.old) → result ≡ Err (DumpStop.Fault f) → records_fault zones.now bytes first count ≡ Some f }
+    ensures none { (bytes : List ℕ) → IsReadTo bytes first (S.remaining source.old) → IsOk result → records_fault zones.now bytes first count ≡ None }
+    ensures left { (bytes : List ℕ) → IsReadTo bytes first (S.remaining source.old) → IsOk result → IsReadTo bytes (record_byte first count) (S.remaining source.new) }
+    ensures frames { (bytes : List ℕ) → IsReadTo bytes first (S.remaining source.old) → frames.old ≡ contents bytes first 0 (top zones.now) → IsOk result → frames.new ≡ contents bytes first count (top zones.now) }
+    ensures size { length frames.new ≡ length frames.old }
+    ensures counted { S.faults source.old ≤ S.faults source.new }
+    ensures cause { result ≡ Err DumpStop.SourceFault → HasRisen (S.faults source.old) (S.faults source.new) }
+    ensures memory { result ≡ Err DumpStop.NoMemory → ⊥ }
+{
+    let mut before = None;
+    let mut page = [0; 4096];
+    for j in 0..count {
+        let at = first + RECORD * u64::from(j);
+        before = Some(read_record(source, zones, at, before, &mut page, frames)?);
+    }
+    Ok(())
+}
+
+/// Reads the record that begins at byte `at`, behind one of page frame `before`. Answers its page frame.
+fn read_record<S: Source>(
+    source: &mut S,
+    zones: &Zones,
+    at: u64,
+    before: Option<u32>,
+    page: &mut [u8; 4096],
+    frames: &mut Frames,
+) -> Result<u32, DumpStop>
+    requires size { length frames.old ≡ top zones.now }
+    requires early { at ≤ 2 ^ 47 }
+    ensures fault { (bytes : List ℕ) (f : DumpFault) → IsReadTo bytes at (S.remaining source.old) → result ≡ Err (DumpStop.Fault f) → fault_of_record zones.now bytes before at ≡ Some f }
+    ensures none { (bytes : List ℕ) → IsReadTo bytes at (S.remaining source.old) → IsOk result → fault_of_record zones.now bytes before at ≡ None }
+    ensures frame { IfOk result (λ p. (bytes : List ℕ) → IsReadTo bytes at (S.remaining source.old) → p ≡ number bytes at) }
+    ensures within { IfOk result (λ p. p < length frames.old) }
+    ensures frames { IfOk result (λ p. (bytes : List ℕ) → IsReadTo bytes at (S.remaining source.old) → frames.new ≡ with_frame frames.old p (bytes_at 4096 bytes (at + 4))) }
+    ensures left { (bytes : List ℕ) → IsReadTo bytes at (S.remaining source.old) → IsOk result → IsReadTo bytes (at + 4100) (S.remaining source.new) }
+    ensures size { length frames.new ≡ length frames.old }
+    ensures counted { S.faults source.old ≤ S.faults source.new }
+    ensures cause { result ≡ Err DumpStop.SourceFault → HasRisen (S.faults source.old) (S.faults source.new) }
+    ensures memory { result ≡ Err DumpStop.NoMemory → ⊥ }
+{
+    let p = read_number(source, at)?;
+    if !zones.valid(p) {
+        return Err(fault(DumpKind::Frame, at));
+    }
+    if !is_above(before, p) {
+        return Err(fault(DumpKind::Order, at));
+    }
+    take_exact(source, page, at + 4)?;
+    frames.write(p, &Page::from_bytes(page));
+    Ok(p)
+}
+
+/// Whether a page frame's number is above that of the record before.
+fn is_above(before: Option<u32>, p: u32) -> bool
+    ensures { result ≡ is_above before p }
+{
+    match before {
+        Some(before) => before < p,
+        None => true,
+    }
+}

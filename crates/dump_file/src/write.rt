@@ -1,0 +1,247 @@
+ghost use Rattle.std.specs.Prelude.{◌≡◌, ℕ, ◌+◌, ◌*◌, ◌<◌, ◌≤◌, not, IsTrue, ◌↔◌, List, [], ◌++◌, length, filter, OnOk, OnErr, if◌then◌else◌, All};
+ghost use Rattle.std.specs.List.{flat_map, concat, range_with_len};
+ghost use Rattle.definitions.specs.Bytes.{IsPage, zero_page};
+ghost use Rattle.definitions.specs.Disk.{HasRisen};
+ghost use Rattle.definitions.specs.Streams.{TakesAll, TakesFront};
+ghost use Rattle.definitions.specs.Tables.{frame};
+ghost use Rattle.definitions.specs.Zones.{numbers, top};
+ghost use Rattle.plain_machine.specs.Image.{is_zeros};
+ghost use Rattle.plain_machine.specs.Machine.{IsHardware};
+ghost use Rattle.dump_file.specs.Written.{dump_bytes, extent_bytes, front_bytes, head_bytes, is_plain, layout_bytes, map_bytes, nonzero, record_bytes, records_bytes, zone_bytes};
+
+use crate::head::Head;
+use crate::put::{put_all, put_number};
+use crate::sink::Sink;
+use frame_arena::Frames;
+use machine::Hardware;
+use page_core::{Failed, Page};
+use zones::Zones;
+
+/// Writes the dump of a machine without regions: its hardware, and a record for each valid page frame that isn't all zero.
+/// Nothing is flushed.
+#[tactic(auto, unfolding(crate::specs::Written::dump_bytes))]
+pub fn write_dump<K: Sink>(sink: &mut K, hw: &Hardware, frames: &Frames) -> Result<(), Failed>
+    requires frames { length frames.now ≡ top hw.now.zones }
+    requires no_region { hw.now.regions ≡ [] }
+    ensures whole { OnOk result (TakesAll (dump_bytes hw.now frames.now) (K.taken sink.old) (K.taken sink.new)) }
+    ensures front { TakesFront (dump_bytes hw.now frames.now) (K.taken sink.old) (K.taken sink.new) }
+    ensures counted { K.faults sink.old ≤ K.faults sink.new }
+    ensures cause { OnErr result (HasRisen (K.faults sink.old) (K.faults sink.new)) }
+{
+    let head = head_of(hw, frames);
+    put_all(sink, head.as_bytes())?;
+    put_records(sink, frames, hw.zones())
+}
+
+/// What stands before the records.
+#[tactic(auto, unfolding(crate::specs::Written::head_bytes))]
+fn head_of(hw: &Hardware, frames: &Frames) -> Head
+    requires { length frames.now ≡ top hw.now.zones }
+    ensures { result ≡ head_bytes hw.now frames.now }
+{
+    let mut head = Head::new();
+    put_front(&mut head, hw);
+    put_layout(&mut head, hw);
+    head.put_number(count_records(frames, hw.zones()));
+    head
+}
+
+/// Adds the mark of the version, seven numbers, the names and two zero bytes.
+#[tactic(auto, unfolding(crate::specs::Written::front_bytes))]
+fn put_front(head: &mut Head, hw: &Hardware)
+    requires { head.old ≡ [] }
+    ensures bytes { head.new ≡ front_bytes hw.now }
+    ensures len { length head.new ≡ 424 }
+{
+    let ident = hw.ident();
+    head.put(if is_plain(hw) {
+        b"SWSUDMP1"
+    } else {
+        b"SWSUDMP2"
+    });
+    head.put_number(ident.version_code);
+    head.put_number(hw.slots());
+    head.put_number(hw.frame_table());
+    head.put_number(hw.slot_table());
+    head.put_number(hw.hw_sig());
+    head.put_number(count_zones(hw.zones()));
+    put_names(head, &ident.names);
+    head.put(&[0, 0]);
+}
+
+/// Whether each slot lies on the block of its number.
+fn is_plain(hw: &Hardware) -> bool
+    ensures { result ≡ is_plain hw.now }
+{
+    match hw.extents().extents() {
+        [extent] => *extent == (0, hw.slots(), 0),
+        _ => false,
+    }
+}
+
+/// How many zones there are.
+fn count_zones(zones: &Zones) -> u32
+    ensures { result ≡ length zones.now }
+{
+    let mut count = 0;
+    while zones.zone(count).is_some() {
+        count += 1;
+    }
+    count
+}
+
+/// Adds the names of an identity.
+fn put_names(head: &mut Head, names: &[[u8; 65]])
+    requires six { length names.now ≡ 6 }
+    requires room { length head.old + 390 ≤ 1332 }
+    ensures bytes { head.new ≡ head.old ++ concat names.now }
+    ensures len { length head.new ≡ length head.old + 390 }
+{
+    for name in names {
+        head.put(name);
+    }
+}
+
+/// Adds the zones and, in version 2, the file map.
+#[tactic(auto, unfolding(crate::specs::Written::layout_bytes))]
+fn put_layout(head: &mut Head, hw: &Hardware)
+    requires { length head.old ≡ 424 }
+    ensures bytes { head.new ≡ head.old ++ layout_bytes hw.now }
+    ensures len { length head.new ≤ 1328 }
+{
+    put_zones(head, hw.zones());
+    if !is_plain(hw) {
+        put_map(head, hw.extents().extents());
+    }
+}
+
+/// Adds the zones, each its first number and its count.
+fn put_zones(head: &mut Head, zones: &Zones)
+    requires { length head.old ≡ 424 }
+    ensures bytes { head.new ≡ head.old ++ flat_map zone_bytes zones.now }
+    ensures len { length head.new ≤ 552 }
+{
+    let mut j = 0;
+    while let Some((start, count)) = zones.zone(j) {
+        head.put_number(start);
+        head.put_number(count);
+        j += 1;
+    }
+}
+
+/// Adds a file map: the resume offset, the number of extents, and the extents.
+fn put_map(head: &mut Head, extents: &[(u32, u32, u32)])
+    requires some { 1 ≤ length extents.now }
+    requires few { length extents.now ≤ 64 }
+    requires room { length head.old ≤ 552 }
+    ensures bytes { head.new ≡ head.old ++ map_bytes extents.now }
+    ensures len { length head.new ≤ 1328 }
+{
+    head.put_number(extents[0].2);
+    head.put_number(extents.len() as u32);
+    put_extents(head, extents);
+}
+
+fn put_extents(head: &mut Head, extents: &[(u32, u32, u32)])
+    requires few { length extents.now ≤ 64 }
+    requires room { length head.old ≤ 560 }
+    ensures bytes { head.new ≡ head.old ++ flat_map extent_bytes extents.now }
+    ensures len { length head.new ≡ length head.old + 12 * length extents.now }
+{
+    for &(start, length, block) in extents {
+        head.put_number(start);
+        head.put_number(length);
+        head.put_number(block);
+    }
+}
+
+/// How many page frames have a record.
+fn count_records(frames: &Frames, zones: &Zones) -> u32
+    requires { length frames.now ≡ top zones.now }
+    ensures { result ≡ length (nonzero frames.now (numbers zones.now)) }
+{
+    let mut total = 0;
+    let mut j = 0;
+    while let Some((start, count)) = zones.zone(j) {
+        total += count_records_of_zone(frames, start, count);
+        j += 1;
+    }
+    total
+}
+
+/// How many page frames of a zone have a record.
+fn count_records_of_zone(frames: &Frames, start: u32, count: u32) -> u32
+    requires within { start + count ≤ length frames.now }
+    requires few { start + count ≤ 65536 }
+    ensures counted { result ≡ length (nonzero frames.now (range_with_len start count)) }
+    ensures at_most { result ≤ count }
+{
+    let zero = Page::zero();
+    let mut total = 0;
+    for i in 0..count {
+        if !is_zero(frames, start + i, &zero) {
+            total += 1;
+        }
+    }
+    total
+}
+
+/// Writes the records, in ascending order of their page frames.
+fn put_records<K: Sink>(sink: &mut K, frames: &Frames, zones: &Zones) -> Result<(), Failed>
+    requires { length frames.now ≡ top zones.now }
+    ensures whole { OnOk result (TakesAll (records_bytes frames.now (numbers zones.now)) (K.taken sink.old) (K.taken sink.new)) }
+    ensures front { TakesFront (records_bytes frames.now (numbers zones.now)) (K.taken sink.old) (K.taken sink.new) }
+    ensures counted { K.faults sink.old ≤ K.faults sink.new }
+    ensures cause { OnErr result (HasRisen (K.faults sink.old) (K.faults sink.new)) }
+{
+    let mut j = 0;
+    while let Some((start, count)) = zones.zone(j) {
+        put_records_of_zone(sink, frames, start, count)?;
+        j += 1;
+    }
+    Ok(())
+}
+
+/// Writes the records of a zone's page frames.
+fn put_records_of_zone<K: Sink>(
+    sink: &mut K,
+    frames: &Frames,
+    start: u32,
+    count: u32,
+) -> Result<(), Failed>
+    requires within { start + count ≤ length frames.now }
+    requires few { start + count ≤ 65536 }
+    ensures whole { OnOk result (TakesAll (records_bytes frames.now (range_with_len start count)) (K.taken sink.old) (K.taken sink.new)) }
+    ensures front { TakesFront (records_bytes frames.now (range_with_len start count)) (K.taken sink.old) (K.taken sink.new) }
+    ensures counted { K.faults sink.old ≤ K.faults sink.new }
+    ensures cause { OnErr result (HasRisen (K.faults sink.old) (K.faults sink.new)) }
+{
+    let zero = Page::zero();
+    for i in 0..count {
+        if !is_zero(frames, start + i, &zero) {
+            put_record(sink, frames, start + i)?;
+        }
+    }
+    Ok(())
+}
+
+/// Writes a record: a page frame's number and its content.
+fn put_record<K: Sink>(sink: &mut K, frames: &Frames, p: u32) -> Result<(), Failed>
+    requires { p < length frames.now }
+    ensures whole { OnOk result (TakesAll (record_bytes frames.now p) (K.taken sink.old) (K.taken sink.new)) }
+    ensures front { TakesFront (record_bytes frames.now p) (K.taken sink.old) (K.taken sink.new) }
+    ensures counted { K.faults sink.old ≤ K.faults sink.new }
+    ensures cause { OnErr result (HasRisen (K.faults sink.old) (K.faults sink.new)) }
+{
+    put_number(sink, p)?;
+    put_all(sink, frames.page(p))
+}
+
+/// Whether each byte of page frame `p` is zero, as each of `zero` is.
+fn is_zero(frames: &Frames, p: u32, zero: &Page) -> bool
+    requires within { p < length frames.now }
+    requires zero { zero.now ≡ zero_page }
+    ensures { result ≡ is_zeros (frame frames.now p) }
+{
+    frames.page(p) == zero.as_bytes()
+}
