@@ -1,13 +1,3 @@
-use frame_arena::Frames;
-use machine::Hardware;
-
-/// A machine's hardware and the content of its page frames, as a dump tells them.
-#[derive(Drop)]
-pub struct Dump {
-    pub hw: Hardware,
-    pub frames: Frames,
-}
-
 /// What is wrong with a dump.
 #[derive(Clone, Copy, Debug, PartialEq, Eq)]
 pub enum DumpKind {

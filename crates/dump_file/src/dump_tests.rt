@@ -1,12 +1,12 @@
 ghost use Rattle.std.specs.Prelude.{None};
 
 use crate::{
-    Dump, DumpFault, DumpKind, DumpStop, MemSink, MemSource, Sink, Source, read_dump, write_dump,
+    DumpFault, DumpKind, DumpStop, MemSink, MemSource, Sink, Source, read_dump, write_dump,
 };
 use byteorder::{ByteOrder, LittleEndian};
 use definitions::Ident;
 use frame_arena::Frames;
-use machine::{Hardware, Parts};
+use machine::{Dump, Hardware, Parts};
 use page_core::Failed;
 use std::alloc::Global;
 use std::test::Fail;

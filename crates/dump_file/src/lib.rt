@@ -22,7 +22,7 @@ mod tests;
 mod write;
 mod zone_list;
 
-pub use dump::{Dump, DumpFault, DumpKind, DumpStop};
+pub use dump::{DumpFault, DumpKind, DumpStop};
 pub use memory::{MemSink, MemSource};
 pub use read::read_dump;
 pub use sink::Sink;

@@ -7,7 +7,7 @@ ghost use Rattle.dump_file.specs.Dump.{body_fault, dump_of, head_fault};
 ghost use Rattle.dump_file.specs.Fields.{contents, hardware, first_record, record_count};
 ghost use Rattle.dump_file.specs.Reading.{IsHeader, IsReadTo};
 
-use crate::dump::{Dump, DumpFault, DumpKind, DumpStop};
+use crate::dump::{DumpFault, DumpKind, DumpStop};
 use crate::fill::{fault, fill};
 use crate::front::read_front;
 use crate::head::MOST_BYTES;
@@ -15,7 +15,7 @@ use crate::header::{Header, header_of};
 use crate::records::{RECORD, read_records};
 use crate::source::Source;
 use frame_arena::Frames;
-use machine::tables_fit;
+use machine::{Dump, tables_fit};
 use std::alloc::Global;
 
 /// Reads a dump to its end. A fault is the first one, where several could be named.

@@ -13,7 +13,6 @@ use crate::dump::{DumpFault, DumpKind, DumpStop};
 use crate::fill::{fault, read_number, take_exact};
 use crate::source::Source;
 use frame_arena::Frames;
-use page_core::Page;
 use zones::Zones;
 
 /// How many bytes a record has: a page frame's number and its content.
@@ -77,7 +76,7 @@ fn read_record<S: Source>(
         return Err(fault(DumpKind::Order, at));
     }
     take_exact(source, page, at + 4)?;
-    frames.write(p, &Page::from_bytes(page));
+    frames.write_bytes(p, page);
     Ok(p)
 }
 

@@ -84,8 +84,16 @@ impl Frames {
         requires { p < length self.old }
         ensures { self.new ≡ with_frame self.old p page.now }
     {
+        self.write_bytes(p, page.as_bytes());
+    }
+
+    /// Copies the bytes of a page into page frame `p`.
+    pub fn write_bytes(&mut self, p: u32, bytes: &[u8; 4096])
+        requires { p < length self.old }
+        ensures { self.new ≡ with_frame self.old p bytes.now }
+    {
         self.untouched = false;
-        self.pages.items_mut()[p as usize] = *page.as_bytes();
+        self.pages.items_mut()[p as usize] = *bytes;
     }
 
     /// Copies page frame `from` into page frame `to`.

@@ -2,6 +2,7 @@
 #![tactic(auto)]
 
 mod area;
+mod dump;
 mod fresh;
 mod hardware;
 mod machine;
@@ -11,6 +12,7 @@ mod tables;
 mod tasks;
 
 pub use area::usable;
+pub use dump::Dump;
 pub use fresh::{set_fresh, set_slots};
 pub use hardware::{HardFault, Hardware, Parts};
 pub use machine::Machine;

@@ -67,7 +67,7 @@ pub returns-clause-frames : goal.returns-clause-frames
 returns-clause-frames g c bytes h =
     let piece : c.take_exact.new.piece ≡ bytes_at (length c.args.page.now) bytes (c.args.at + 4) = c.in_ok-take_exact.ensures.piece bytes (c.in_ok-p.ensures.left bytes h refl) refl in
     c.write.ensures
-    ∙ ap (with_frame c.args.frames.now c.in_ok-p.p) (c.from_bytes.ensures.bytes ∙ piece ∙ ap (λ (n : ℕ). bytes_at n bytes (c.args.at + 4)) c.told-page)
+    ∙ ap (with_frame c.args.frames.now c.in_ok-p.p) (piece ∙ ap (λ (n : ℕ). bytes_at n bytes (c.args.at + 4)) c.told-page)
 
 pub returns-clause-within : goal.returns-clause-within
 returns-clause-within g c =
