@@ -59,7 +59,7 @@ all_three true true false e = absurd (false≢true e)
 all_three true false d e = absurd (false≢true e)
 all_three false c d e = absurd (false≢true e)
 
-has_page : (h : Hardware) (v : disk.Image) (m : Memory) (s : ℕ) (page : List ℕ) → slots_in h v m s ≡ Some page → ((s < h.slots) × (1 ≤ slot_entry h m s) × (slot_entry h m s ≤ 64)) × (disk.block v (block_of_slot h s) ≡ page)
+pub has_page : (h : Hardware) (v : disk.Image) (m : Memory) (s : ℕ) (page : List ℕ) → slots_in h v m s ≡ Some page → ((s < h.slots) × (1 ≤ slot_entry h m s) × (slot_entry h m s ≤ 64)) × (disk.block v (block_of_slot h s) ≡ page)
 has_page h v m s page e =
     let entry = slot_entry h m s in
     let is = cond_some (ltb s h.slots && ltb 0 entry && leb entry 64) (disk.block v (block_of_slot h s)) page e in
@@ -68,7 +68,7 @@ has_page h v m s page e =
     ((ltb-true s h.slots each.0, omega arith, leb-true entry 64 each.2), is.1)
 
 -- and each task's slot has one
-is_paged : (h : Hardware) (v : disk.Image) (m : Memory) (s : ℕ) → IsTaskSlot h m s → IsSome (slots_in h v m s)
+pub is_paged : (h : Hardware) (v : disk.Image) (m : Memory) (s : ℕ) → IsTaskSlot h m s → IsSome (slots_in h v m s)
 is_paged h v m s is =
     let entry = slot_entry h m s in
     let test : (ltb s h.slots && ltb 0 entry && leb entry 64) ≡ true =

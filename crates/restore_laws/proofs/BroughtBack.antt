@@ -182,7 +182,7 @@ are_restored h dump v loader w origs frames frames' all size back =
 
 -- The machine that runs.
 
-no_image_slot : (h : Hardware) (m : Memory) → Fits h m → (s : ℕ) → s < h.slots → raw_slot_entry h m s ≡ image_slot → ⊥
+pub no_image_slot : (h : Hardware) (m : Memory) → Fits h m → (s : ℕ) → s < h.slots → raw_slot_entry h m s ≡ image_slot → ⊥
 no_image_slot h m fits s lt is = false≢true (sym (not_image (eqb s 0)) ∙ sym (ap (is_slot_entry s) is) ∙ fits.slots s lt) where
   not_image : (b : Bool) → (false || (not b && false)) ≡ false
   not_image true = refl

@@ -13,17 +13,21 @@ use Rattle.sig_header.specs.declared.area.AreaKind.{AreaKind}
 use Rattle.sig_header.specs.declared.area.AreaKind.TheVariants.{Swap}
 use Rattle.image_read.specs.Stream.{frames_in, pages_read}
 use Rattle.page_restore.specs.Waiting.{restored_page}
-use Rattle.plain_machine.specs.Machine.{Hardware, Memory, tables_fault}
+use Rattle.plain_machine.specs.Machine.{Hardware, Memory, IsHardware, tables_fault}
 use Rattle.plain_machine.specs.Chain.{header_of, blocks_of, Marked}
-use Rattle.plain_machine.specs.State.{off, on, loading, nothing, Load as Resume}
+use Rattle.plain_machine.specs.State.{off, on, loading, nothing, Load as Resume, Found, not_yet, found_own, found_other}
 use Rattle.plain_machine.specs.Trace.{info_in, place_count, number_in, header_cause, tables_cause, restored_in, last_reply}
 use Rattle.plain_machine.specs.UsableArea.{area_block, area_fault, fit_fault, kind_or_fit_fault, has_bad_slots_of}
 use Rattle.plain_machine.specs.declared.event.Loader.{Loader}
+use Rattle.plain_machine.specs.declared.event.Loader.TheVariants as loader
+use Rattle.plain_machine.specs.declared.event.Ranges.{Ranges}
 use Rattle.plain_machine.specs.declared.held.Held.TheVariants.{No}
 use Rattle.plain_machine.specs.declared.no_swap.NoSwap.{NoSwap}
 use Rattle.plain_machine.specs.declared.reply.Reply.TheVariants as reply
-use Rattle.protocol_laws.specs.LoadRows.{ReadStopRow, ReadResumedRow, running_with}
+use Rattle.protocol_laws.specs.LoadRows.{IsFoundOn, ReadStopRow, ReadResumedRow, ReadResumedOffRow, running_with}
 use Rattle.protocol_laws.proofs.LoadReplies.{a_mark}
+use Rattle.protocol_laws.proofs.OwnCauses.{own_sayable}
+use Rattle.protocol_laws.proofs.Tracing.{restored_is}
 use Rattle.protocol_laws.proofs.Marking.{area_block-marked}
 use Rattle.restore_laws.specs.DataPages.{data_pages}
 use Rattle.restore_laws.specs.Restored.{AreAllRead}
@@ -33,7 +37,7 @@ use Rattle.restore_laws.proofs.LastTables.{last_resumed, last_refused, table_at_
 use Rattle.restore_laws.proofs.SoundTables.{sound_tables_fit}
 use Rattle.machine.specs.declared.machine.Machine.{Machine}
 use Rattle.resume_core.specs.Loading.{shown_by}
-use Rattle.resume_core.specs.Row.{HasRead, HavePlaces, EndsOn, swap_area}
+use Rattle.resume_core.specs.Row.{HasRead, HavePlaces, EndsOn, swap_area, restored_found}
 use Rattle.resume_core.specs.declared.load.Load.{Load}
 use Rattle.resume_core.specs.declared.load.Stage.TheVariants as stage
 use Rattle.resume_core.proofs.Answering.{ends_reply}
@@ -122,13 +126,20 @@ IsFaulty machine frames' load f = (v : disk.Image) → load.header ≡ header_of
 abbrev pub IsGood : Machine → Memory → Load → Type 0
 IsGood machine frames' load = (v : disk.Image) → load.header ≡ header_of machine.hw v → machine.blocks ≡ blocks_of v → Marked machine.hw v → tables_cause machine.hw v frames' ≡ None
 
-pub bad_tables_row : (machine : Machine) (frames frames' : Memory) (load load' : Load) (f : ℕ) → ReadStopRow → IsHome machine frames frames' load → IsFaulty machine frames' load f → load'.stage ≡ stage.Rest → EndsOn machine frames load machine frames' load' (reply.BadTables f)
-bad_tables_row machine frames frames' load load' f stops is faulty rest c l v k read places room over =
+-- of the image that was found, which the disk v has
+restored_is_by : (h : Hardware) (l : Resume) (v : disk.Image) → IsHardware h → (f : Found) → IsFoundOn h v f → restored_in h l.dump v l.loader ≡ restored_found h l f
+restored_is_by h l v hw not_yet is = absurd is
+restored_is_by h l v hw (found_own i) is = restored_is h v i l.dump l.loader (record { hardware = hw; holds = is.0; own = is.1; sayable = own_sayable h v i hw is.1 })
+restored_is_by h l v hw (found_other w) is = ap (λ (x : disk.Image). restored_in h l.dump x l.loader) is
+
+pub bad_tables_row : (machine : Machine) (frames frames' : Memory) (load load' : Load) (ranges : Ranges) (f : ℕ) → ReadStopRow → load.loader ≡ loader.Ranges ranges → IsHome machine frames frames' load → IsFaulty machine frames' load f → load'.stage ≡ stage.Rest → EndsOn machine frames load machine frames' load' (reply.BadTables f)
+bad_tables_row machine frames frames' load load' ranges f stops by is faulty rest c l v k read places room over =
     let h = machine.hw in
+    let scripted : l.loader ≡ loader.Ranges ranges = sym read.loader.loader ∙ by in
     let memory = home machine frames frames' load c l v k is read places over in
     let cause = faulty v read.found.header (sym read.found.blocks) (was_marked h v read.found.uncaused) in
-    let at_last : last_reply h l.dump v l.loader ≡ reply.BadTables f = subst (λ (x : Loader). last_reply h l.dump v x ≡ reply.BadTables f) (sym read.loader.scripted)
-    (last_refused h l.dump v read.loader.ranges (reply.BadTables f) (subst (λ (x : Loader). tables_cause h v (restored_in h l.dump v x) ≡ Some (reply.BadTables f)) read.loader.scripted (subst (λ (m : Memory). tables_cause h v m ≡ Some (reply.BadTables f)) memory cause))) in (
+    let at_last : last_reply h l.dump v l.loader ≡ reply.BadTables f = subst (λ (x : Loader). last_reply h l.dump v x ≡ reply.BadTables f) (sym scripted)
+    (last_refused h l.dump v ranges (reply.BadTables f) (subst (λ (x : Loader). tables_cause h v (restored_in h l.dump v x) ≡ Some (reply.BadTables f)) scripted (subst (λ (m : Memory). tables_cause h v m ≡ Some (reply.BadTables f)) memory cause))) in (
       off nothing None,
       leads machine frames' load' (reply.BadTables f) c c (loading l k) (off nothing None) tt
           (stops h read.shown (shown_by machine frames' load') c l v k (reply.BadTables f) read.reading (ends_reply h l.dump v l.loader l.check k read.reading.late read.sound room (omega arith) ∙ at_last) tt (activity_is load' stage.Rest rest, refl)) tt,
@@ -144,22 +155,40 @@ no_fault h v m good = by (tables_fault h m) refl where
 abbrev pub running : Machine → Area → Machine
 running machine area = record machine { area = Ok area; held = No }
 
-pub resumed_row : (machine : Machine) (frames frames' : Memory) (load load' : Load) (area : Area) (n : ℕ) → ReadResumedRow → All IsPage frames' → IsHome machine frames frames' load → IsGood machine frames' load → area_kind (taken_back load.header) ≡ Swap area → n ≡ length load.origs.members → load'.stage ≡ stage.Runs →
+pub resumed_row : (machine : Machine) (frames frames' : Memory) (load load' : Load) (ranges : Ranges) (area : Area) (n : ℕ) → ReadResumedRow → load.loader ≡ loader.Ranges ranges → All IsPage frames' → IsHome machine frames frames' load → IsGood machine frames' load → area_kind (taken_back load.header) ≡ Swap area → n ≡ length load.origs.members → load'.stage ≡ stage.Runs →
     EndsOn machine frames load (running machine area) frames' load' (reply.Resumed n)
-resumed_row machine frames frames' load load' area n resumed pages is good kind count runs_now c l v k read places room over =
+resumed_row machine frames frames' load load' ranges area n resumed by pages is good kind count runs_now c l v k read places room over =
     let h = machine.hw in
+    let scripted : l.loader ≡ loader.Ranges ranges = sym read.loader.loader ∙ by in
     let memory = home machine frames frames' load c l v k is read places over in
     let cause = good v read.found.header (sym read.found.blocks) (was_marked h v read.found.uncaused) in
     let fits = sound_tables_fit h frames' read.reading.hardware pages is.size (no_fault h v frames' cause) in
     let all = all_are_read machine frames load c l v k read places over in
     let saved : n ≡ (info_in h v).image_pages = count ∙ ap length all.listed ∙ length_listed h v in
-    let at_last : last_reply h l.dump v l.loader ≡ reply.Resumed (info_in h v).image_pages = subst (λ (x : Loader). last_reply h l.dump v x ≡ reply.Resumed (info_in h v).image_pages) (sym read.loader.scripted)
-    (last_resumed h l.dump v read.loader.ranges (subst (λ (x : Loader). tables_cause h v (restored_in h l.dump v x) ≡ None) read.loader.scripted (subst (λ (m : Memory). tables_cause h v m ≡ None) memory cause))) in
+    let at_last : last_reply h l.dump v l.loader ≡ reply.Resumed (info_in h v).image_pages = subst (λ (x : Loader). last_reply h l.dump v x ≡ reply.Resumed (info_in h v).image_pages) (sym scripted)
+    (last_resumed h l.dump v ranges (subst (λ (x : Loader). tables_cause h v (restored_in h l.dump v x) ≡ None) scripted (subst (λ (m : Memory). tables_cause h v m ≡ None) memory cause))) in
     let shown' = shown_by (running machine area) frames' load' in
-    let goes = resumed h read.shown shown' c machine.blocks l read.loader.ranges v k n read.whole read.reading read.loader.scripted
+    let goes = resumed h read.shown shown' c machine.blocks l ranges v k n read.whole read.reading scripted
     (ends_reply h l.dump v l.loader l.check k read.reading.late read.sound room (omega arith) ∙ at_last ∙ ap reply.Resumed (sym saved)) (activity_is load' stage.Runs runs_now)
     (runs_as_restored h l v No None shown'.flights frames' refl refl (λ t. refl) memory fits) (names_none h shown' fits) in (
       on (running_with h l v goes.0),
       leads (running machine area) frames' load' (reply.Resumed n) c c (loading l k) (on (running_with h l v goes.0))
-          (record { memory = memory; area = (area, refl, read.found.area ∙ ap swap_area kind) }) goes.1 tt,
+          (record { memory = memory ∙ restored_is_by h l v read.reading.hardware l.found read.reading.found; area = (area, refl, read.found.area ∙ ap swap_area kind) }) goes.1 tt,
+    )
+
+-- after a dump's loader the machine is off
+pub resumed_off_row : (machine : Machine) (frames frames' : Memory) (load load' : Load) (n : ℕ) → ReadResumedOffRow → load.loader ≡ loader.Table → IsHome machine frames frames' load → n ≡ length load.origs.members → load'.stage ≡ stage.Rest →
+    EndsOn machine frames load machine frames' load' (reply.Resumed n)
+resumed_off_row machine frames frames' load load' n resumed by is count rest c l v k read places room over =
+    let h = machine.hw in
+    let kept : l.loader ≡ loader.Table = sym read.loader.loader ∙ by in
+    let memory = home machine frames frames' load c l v k is read places over in
+    let all = all_are_read machine frames load c l v k read places over in
+    let saved : n ≡ (info_in h v).image_pages = count ∙ ap length all.listed ∙ length_listed h v in
+    let at_last : last_reply h l.dump v l.loader ≡ reply.Resumed (info_in h v).image_pages = subst (λ (x : Loader). last_reply h l.dump v x ≡ reply.Resumed (info_in h v).image_pages) (sym kept) refl in (
+      off nothing None,
+      leads machine frames' load' (reply.Resumed n) c c (loading l k) (off nothing None)
+          (record { memory = memory ∙ restored_is_by h l v read.reading.hardware l.found read.reading.found; area = tt })
+          (resumed h read.shown (shown_by machine frames' load') c l v k n read.reading kept
+          (ends_reply h l.dump v l.loader l.check k read.reading.late read.sound room (omega arith) ∙ at_last ∙ ap reply.Resumed (sym saved)) (activity_is load' stage.Rest rest, refl)) tt,
     )

@@ -14,7 +14,8 @@ use Rattle.plain_machine.specs.declared.event.Event.{Event}
 use Rattle.plain_machine.specs.declared.event.Event.TheVariants as event
 use Rattle.plain_machine.specs.declared.event.Actor.TheVariants as actor
 use Rattle.plain_machine.specs.declared.reply.Reply.{Reply}
-use Rattle.protocol_laws.specs.LoadRows.{Goes, ShowsNoneRead}
+use Rattle.plain_machine.specs.declared.reply.Reply.TheVariants as reply
+use Rattle.protocol_laws.specs.LoadRows.{Goes, IsStop, ShowsNoneRead}
 use Rattle.protocol_laws.specs.Loads.{ShowsLoad}
 use Rattle.protocol_laws.specs.Rows as rows
 use Rattle.machine.specs.declared.machine.Machine.{Machine}
@@ -51,20 +52,25 @@ row_of machine frames load machine' frames' load' end r told c c' same reply row
 
 -- the rows of a resume
 pub row_at_load : (machine : Machine) (frames : Memory) (load : Load) (machine' : Machine) (frames' : Memory) (load' : Load) (e : Event) (r : Reply) (c c' : disk.Content) (k : ℕ) → activity_of load ≡ loads k →
-    ((l : Resume) → StandsFor machine frames load c (loading l k) → (b : State) × rows.Leads machine.hw (StandsAfter machine' frames' load') e r c c' (loading l k) b) →
+    ((l : Resume) → StandsFor machine frames load c (loading l k) → (b : State) × rows.Leads machine.hw (StandsAfter machine' frames' load' r (loading l k)) e r c c' (loading l k) b) →
     IsRow machine frames load machine' frames' load' e r c c'
 row_at_load machine frames load machine' frames' load' e r c c' k is goes s stands =
     let at = at_load s k (sym is ∙ stands.stands.activity) in
-    subst (λ (t : State). (b : State) × rows.Leads machine.hw (StandsAfter machine' frames' load') e r c c' t b) (sym at.1)
+    subst (λ (t : State). (b : State) × rows.Leads machine.hw (StandsAfter machine' frames' load' r t) e r c c' t b) (sym at.1)
     (goes at.0 (subst (StandsFor machine frames load c) at.1 stands))
 
 -- a step that goes on to a state whose resume it is at
-pub leads : (machine : Machine) (frames : Memory) (load : Load) (r : Reply) (c c' : disk.Content) (a b : State) → HasEnded machine frames c' b → Goes machine.hw (shown_by machine frames load) r c c' a b → IsOfState machine frames load c' b →
-    rows.Leads machine.hw (StandsAfter machine frames load) (event.Step actor.Core) r c c' a b
+pub leads : (machine : Machine) (frames : Memory) (load : Load) (r : Reply) (c c' : disk.Content) (a b : State) → HasEnded machine frames c' r a b → Goes machine.hw (shown_by machine frames load) r c c' a b → IsOfState machine frames load c' b →
+    rows.Leads machine.hw (StandsAfter machine frames load r a) (event.Step actor.Core) r c c' a b
 leads machine frames load r c c' a b ended goes is = record { step = goes.step; stands = record { stands = goes.stands; resume = is; ended = ended }; area = goes.area; unwritten = goes.unwritten; leaves = goes.leaves }
 
-pub same_loader : (h : Hardware) (load load' : Load) (l : Resume) → load'.waiting.free ≡ load.waiting.free → load'.check ≡ load.check → HasLoader h load l → HasLoader h load' l
-same_loader h load load' l free check has = record { ranges = has.ranges; scripted = has.scripted; free = free ∙ has.free; check = check ∙ has.check }
+-- a resume that ends early leaves nothing to say of memory
+pub stopped_early : (machine : Machine) (frames : Memory) (c : disk.Content) (r : Reply) (a b : State) → IsStop r → HasEnded machine frames c r a b
+stopped_early machine frames c (reply.Resumed n) a b stop = absurd stop
+stopped_early machine frames c _ a b stop = tt
+
+pub same_loader : (h : Hardware) (load load' : Load) (l : Resume) → load'.waiting.free ≡ load.waiting.free → load'.loader ≡ load.loader → load'.check ≡ load.check → HasLoader h load l → HasLoader h load' l
+same_loader h load load' l free same check has = record { loader = same ∙ has.loader; free = free ∙ has.free; check = check ∙ has.check }
 
 -- up to the info page nothing is shown of the pages
 pub shows_none : (machine : Machine) (frames : Memory) (load load' : Load) (c : disk.Content) (l l' : Resume) (j k : ℕ) → ShowsNoneRead → StandsFor machine frames load c (loading l j) → l'.loader ≡ l.loader → l'.dump ≡ l.dump → activity_of load' ≡ loads k → k < 7 → NoneWaits load' →

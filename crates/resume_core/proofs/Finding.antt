@@ -1,14 +1,15 @@
 -- The rows of the first sync, and of the read of the header block.
-use Rattle.std.proofs.Common.{◌≡◌, inl, inr, ℕ, List, Some, None, refl, sym, ap, ◌∙◌, subst, arith}
+use Rattle.std.proofs.Common.{◌≡◌, inl, inr, ℕ, Bool, true, false, List, Some, None, refl, sym, ap, ◌∙◌, subst, arith}
 use Rattle.definitions.specs.Disk as disk
 use Rattle.definitions.specs.SwapHeader.{taken_back}
-use Rattle.std.proofs.lemmas.Option.{none-some}
+use Rattle.std.proofs.lemmas.Bool.{false≢true}
+use Rattle.std.proofs.lemmas.Option.{none-some, same_Some}
 use Rattle.sig_header.specs.AreaKind.{mark_of, area_kind}
-use Rattle.protocol_laws.proofs.LoadReplies.{a_mark}
+use Rattle.protocol_laws.proofs.LoadReplies.{a_mark, no_mark}
 use Rattle.protocol_laws.proofs.Marking.{area_block-marked}
 use Rattle.sig_header.specs.declared.area.Mark.{Mark}
-use Rattle.plain_machine.specs.Machine.{Memory}
-use Rattle.plain_machine.specs.Chain.{header_of}
+use Rattle.plain_machine.specs.Machine.{Hardware, Memory}
+use Rattle.plain_machine.specs.Chain.{header_of, Marked}
 use Rattle.plain_machine.specs.State.{off, loading, nothing, sure, other, Load as Resume}
 use Rattle.plain_machine.specs.Trace.{header_cause}
 use Rattle.plain_machine.specs.declared.event.Event.TheVariants as event
@@ -20,7 +21,7 @@ use Rattle.plain_machine.specs.Machine.{IsHardware}
 use Rattle.protocol_laws.specs.LoadRows.{LoadSyncRow, LoadSyncFaultRow, FindNoneRow, FindCompressedRow, FindRow, FindFaultRow, ShowsNoneRead, GoneOnEarly, with_finding}
 use Rattle.machine.specs.declared.machine.Machine.{Machine}
 use Rattle.resume_core.specs.Header.{header_fault}
-use Rattle.resume_core.specs.Loading.{shown_by, activity_at}
+use Rattle.resume_core.specs.Loading.{shown_by, activity_at, FindsMark}
 use Rattle.resume_core.specs.Row.{StandsFor, IsRow, KnowsAt, swap_area}
 use Rattle.resume_core.specs.declared.load.Load.{Load}
 use Rattle.resume_core.specs.declared.load.Stage.{Stage}
@@ -48,7 +49,7 @@ synced_row machine frames load c c' sync_row none_read at whole syncs =
       leads machine frames new (reply.Loading 1) c c' (loading l 0) (loading l 1) tt
           (sync_row machine.hw (shown_by machine frames load) (shown_by machine frames new) c c' machine.blocks l whole s.stands syncs
           (shows_none machine frames load new c l l 0 1 none_read s refl refl refl (omega arith) knows.2))
-          (record { loader = same_loader machine.hw load new l refl refl s.resume.loader; knows = knows }),
+          (record { loader = same_loader machine.hw load new l refl refl refl s.resume.loader; knows = knows }),
     ))
 
 pub sync_failed_row : (machine : Machine) (frames : Memory) (load : Load) (c : disk.Content) → LoadSyncFaultRow → load.stage ≡ stage.Sync →
@@ -111,7 +112,7 @@ found_row machine frames load header mark c find none_read early hardware at who
       leads machine frames new (reply.Loading 2) c c (loading l 1) (loading l' 2) tt
           (found.2 (shows_none machine frames load new c l l' 1 2 none_read s refl refl refl (omega arith) knows.2))
           (record {
-            loader = (let has = s.resume.loader in record { ranges = has.ranges; scripted = has.scripted; free = has.free; check = has.check });
+            loader = (let has = s.resume.loader in record { loader = has.loader; free = has.free; check = has.check });
             knows = (
               v,
               record { found = found.1; uncaused = uncaused; header = read; mark = marks ∙ ap mark_of read; reads = λ b lt ne. refl; blocks = count_of machine.blocks c whole; area = ap (λ (p : List ℕ). swap_area (area_kind p)) (area_block-marked machine.hw v (a_mark machine.hw v None uncaused (λ e. none-some reply.NoImage e)) ∙ ap taken_back (sym read)) },
@@ -138,3 +139,25 @@ fault_row machine frames load header c why find_none find_compressed at whole re
           subst (λ (r : Reply). IsRow machine frames load machine frames (stopped (record load { header = header })) (event.Step actor.Core) r c c) (sym of.1)
           (compressed_row machine frames load header c of.0 find_compressed at whole is))
     ]
+
+-- What the second step says of an image.
+
+abbrev is_missing : Reply → Bool
+is_missing reply.NoImage = true
+is_missing _ = false
+
+pub none_found : (h : Hardware) (v : disk.Image) (r : Reply) → header_cause h v ≡ Some reply.NoImage → r ≡ reply.NoImage → FindsMark h r v
+none_found h v r none is = subst (λ (q : Reply). FindsMark h q v) (sym is) (no_mark h v none)
+
+pub image_found : (h : Hardware) (v : disk.Image) (header : List ℕ) → header ≡ header_of h v → header_fault header ≡ None → Marked h v
+image_found h v header read none = a_mark h v None (subst (λ (p : List ℕ). header_fault p ≡ None) read none) (λ e. none-some reply.NoImage e)
+
+pub fault_found : (h : Hardware) (v : disk.Image) (header : List ℕ) (why r : Reply) → header ≡ header_of h v → header_fault header ≡ Some why → r ≡ why → FindsMark h r v
+fault_found h v header why r read some is =
+    let cause : header_cause h v ≡ Some why = subst (λ (p : List ℕ). header_fault p ≡ Some why) read some in
+    subst (λ (q : Reply). FindsMark h q v) (sym is) (elim (header_faults header why some) [
+      | inl none ↦ none_found h v why (cause ∙ ap (λ (q : Reply). Some q) none) none
+      | inr of ↦ (
+          let marked = a_mark h v (Some why) cause (λ e. false≢true (sym (ap is_missing of.1) ∙ ap is_missing (same_Some why reply.NoImage e))) in
+          subst (λ (q : Reply). FindsMark h q v) (sym of.1) marked)
+    ])

@@ -140,7 +140,7 @@ more_row machine frames load m reads next few unlisted counted c l v k read none
       leads machine frames new (reply.Loading (k + 1)) c c (loading l k) (loading l (k + 1)) tt
           (reads h read.shown (shown_by machine frames new) c l v k read.reading goes shows)
           (record {
-            loader = same_loader h load new l refl refl read.loader;
+            loader = same_loader h load new l refl refl refl read.loader;
             knows = (
               v,
               found_still machine load new c c l v refl refl read.found.reads refl read.found,
@@ -205,7 +205,7 @@ listed_on machine frames load mid machine' frames' load' result r c hardware at 
       shown = shown_by machine frames load;
       whole = whole;
       reading = record { hardware = hardware; late = late; within = knows.3; stands = s.stands; found = knows.1.found; gone_on = knows.2 };
-      loader = same_loader h load mid l (ap (λ (w : Awaiting). w.free) waiting) check s.resume.loader;
+      loader = same_loader h load mid l (ap (λ (w : Awaiting). w.free) waiting) (ap (λ (x : Load). x.loader) is) check s.resume.loader;
       found = found_still machine load mid c c l v (ap (λ (x : Load). x.header) is) (ap (λ (x : Load). x.mark) is) knows.1.reads refl knows.1;
       sound = subst (λ (x : IdentCheck). step_cause h v x t ≡ None) s.resume.loader.check read.0;
       read = read.1;
@@ -214,7 +214,7 @@ listed_on machine frames load mid machine' frames' load' result r c hardware at 
     })
     knows.5 (ap (λ (w : Awaiting). w.originals) waiting ∙ knows.6) in (
       led.0,
-      subst (λ (x : Hardware). rows.Leads x (StandsAfter machine' frames' load') (event.Step actor.Core) r c c (loading l load.made) led.0) same led.1,
+      subst (λ (x : Hardware). rows.Leads x (StandsAfter machine' frames' load' r (loading l load.made)) (event.Step actor.Core) r c c (loading l load.made) led.0) same led.1,
     ))
 
 pub list_can : (machine : Machine) (frames : Memory) (runs : SlotRuns) (load : Load) → load.stage ≡ stage.List → CanStep machine frames runs load → CanRead machine.blocks load × (4 ≤ load.made)

@@ -53,7 +53,7 @@ use Rattle.resume_core.specs.Reader.{room_refusal, refusal_behind}
 use Rattle.resume_core.specs.Row.{HasReader, HasRead, HavePlaces, ListsOn, ReadsOn, LeadsOn}
 use Rattle.resume_core.specs.declared.load.Load.{Load}
 use Rattle.resume_core.specs.declared.load.Stage.TheVariants as stage
-use Rattle.resume_core.proofs.Facts.{leads, same_loader, row_at_load}
+use Rattle.resume_core.proofs.Facts.{stopped_early, leads, same_loader, row_at_load}
 use Rattle.resume_core.proofs.Finding.{activity_is, knows_at}
 use Rattle.resume_core.proofs.TakingBack.{found_still}
 use Rattle.resume_core.proofs.Answering.{late_reply, no_want_before, goes_reply, room_reply, stops_reply, no_want_after, no_read_cause, all_read, more_to_read}
@@ -152,7 +152,7 @@ few_row machine frames load load' why stops cause_stops listed refused rest c l 
     let none = no_read_cause h v l.check (k - 4) read.sound in
     let stop : IsStop why = cause_stops h l v (k - 4) why (content_of_room (read_cause h v l.check (place (k - 4))) (want_cause h l.dump v l.loader (place (k - 4))) (next_cause h v (k - 4)) why none want) in (
       off nothing None,
-      leads machine frames load' why c c (loading l k) (off nothing None) tt
+      leads machine frames load' why c c (loading l k) (off nothing None) (stopped_early machine frames c why (loading l k) (off nothing None) stop)
           (stops h read.shown (shown_by machine frames load') c l v k why read.reading (room_reply h l.dump v l.loader l.check k why read.reading.late none want) stop (activity_is load' stage.Rest rest, refl)) tt,
     )
 
@@ -173,7 +173,7 @@ planned_row machine frames load mid machine' frames' load' r listed is originals
       shown = read.shown;
       whole = read.whole;
       reading = read.reading;
-      loader = same_loader h load mid l free check read.loader;
+      loader = same_loader h load mid l free (ap (λ (x : Load). x.loader) is) check read.loader;
       found = found_still machine load mid c c l v (ap (λ (x : Load). x.header) is) (ap (λ (x : Load). x.mark) is) read.found.reads refl read.found;
       sound = read.sound;
       read = subst (λ (x : Load). HasReader h v x (k - 4 + 1)) (sym is) (record { reader = read.read.reader; has = read.read.has; reading = read.read.reading });
@@ -233,7 +233,7 @@ going_row machine frames load m reads next few not_over counted c l v k read pla
       leads machine frames new (reply.Loading (k + 1)) c c (loading l k) (loading l (k + 1)) tt
           (reads h read.shown (shown_by machine frames new) c l v k read.reading goes shows)
           (record {
-            loader = same_loader h load new l refl refl read.loader;
+            loader = same_loader h load new l refl refl refl read.loader;
             knows = (
               v,
               found_still machine load new c c l v refl refl read.found.reads refl read.found,
@@ -281,7 +281,7 @@ refused_row machine frames load mid load' result why c stops hardware at late is
     let cause : step_cause h v l.check (k - 4) ≡ Some (reply_of why) = subst (λ (x : IdentCheck). step_cause h v x (k - 4) ≡ Some (reply_of why)) s.resume.loader.check a.0 in
     let want = no_want_after h l.dump v l.loader (k - 4) knows.5.listed in (
       off nothing None,
-      leads machine frames load' (reply_of why) c c (loading l k) (off nothing None) tt
+      leads machine frames load' (reply_of why) c c (loading l k) (off nothing None) (stopped_early machine frames c (reply_of why) (loading l k) (off nothing None) (cause_stop why))
           (stops h (shown_by machine frames load) (shown_by machine frames load') c l v k (reply_of why)
           (record { hardware = hardware; late = late; within = knows.3; stands = s.stands; found = knows.1.found; gone_on = knows.2 })
           (stops_reply h l.dump v l.loader l.check k (reply_of why) late cause want) (cause_stop why) (activity_is load' stage.Rest rest, refl)) tt,
@@ -318,7 +318,7 @@ read_on_row machine frames frames' load mid after machine' frames'' load' result
       shown = shown_by machine frames load;
       whole = whole;
       reading = record { hardware = hardware; late = late; within = knows.3; stands = s.stands; found = knows.1.found; gone_on = knows.2 };
-      loader = same_loader h load after l free' check' s.resume.loader;
+      loader = same_loader h load after l free' (ap (λ (x : Load). x.loader) is' ∙ ap (λ (x : Load). x.loader) is) check' s.resume.loader;
       found = found_still machine load after c c l v (ap (λ (x : Load). x.header) is' ∙ ap (λ (x : Load). x.header) is) (ap (λ (x : Load). x.mark) is' ∙ ap (λ (x : Load). x.mark) is) knows.1.reads refl knows.1;
       sound = subst (λ (x : IdentCheck). step_cause h v x t ≡ None) s.resume.loader.check read.0;
       read = subst (λ (x : Load). HasReader h v x (t + 1)) (sym is') (record { reader = read.1.reader; has = read.1.has; reading = read.1.reading });
@@ -328,7 +328,7 @@ read_on_row machine frames frames' load mid after machine' frames'' load' result
     (keeps v t was answered within knows.5)
     (no_want_after h l.dump v l.loader t knows.5.listed) in (
       led.0,
-      subst (λ (x : Hardware). rows.Leads x (StandsAfter machine' frames'' load') (event.Step actor.Core) r c c (loading l load.made) led.0) same led.1,
+      subst (λ (x : Hardware). rows.Leads x (StandsAfter machine' frames'' load' r (loading l load.made)) (event.Step actor.Core) r c c (loading l load.made) led.0) same led.1,
     ))
 
 -- the place of a page behind the last number page: it is one with data, of those that the numbers name
@@ -486,7 +486,7 @@ refused_list_row machine frames load mid load' result why r c stops cause_stops 
     ∙ ap (λ (x : Reply). Some x) (sym (reply answered.after answered.has)) in
     let cause : all_causes h l.dump v l.loader l.check (k - 4) ≡ Some r = subst (λ (x : IdentCheck). all_causes h l.dump v l.loader x (k - 4) ≡ Some r) checks causes in (
       off nothing None,
-      leads machine frames load' r c c (loading l k) (off nothing None) tt
+      leads machine frames load' r c c (loading l k) (off nothing None) (stopped_early machine frames c r (loading l k) (off nothing None) (cause_stops h l v (k - 4) r cause))
           (stops h (shown_by machine frames load) (shown_by machine frames load') c l v k r
           (record { hardware = hardware; late = late; within = knows.3; stands = s.stands; found = knows.1.found; gone_on = knows.2 })
           (late_reply h l.dump v l.loader l.check k late ∙ ap (λ (o : Option Reply). unwrap_or o (reply_past h l.dump v l.loader (k - 4))) cause)

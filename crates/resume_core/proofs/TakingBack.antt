@@ -32,7 +32,9 @@ use Rattle.resume_core.specs.declared.load.Stage.{Stage}
 use Rattle.resume_core.specs.Row.{IsRow, HasFound, swap_area}
 use Rattle.resume_core.specs.declared.load.Load.{Load}
 use Rattle.resume_core.specs.declared.load.Stage.TheVariants as stage
-use Rattle.resume_core.proofs.Facts.{row_at_load, leads, same_loader, shows_none}
+use Rattle.protocol_laws.proofs.LoadReplies.{cause_stops, stop_kind}
+use Rattle.protocol_laws.proofs.Stopping.{stops_taken_back}
+use Rattle.resume_core.proofs.Facts.{stopped_early, row_at_load, leads, same_loader, shows_none}
 use Rattle.resume_core.proofs.Finding.{stopped, knows_at, activity_is}
 
 -- the header of the disk v has the mark that was found, and v as many blocks as the machine knows of
@@ -77,7 +79,7 @@ back_row machine frames load c c' made none_read next hardware at whole whole' w
       loading l 3,
       leads machine frames new (reply.Loading 3) c c' (loading l 2) (loading l 3) tt goes
           (record {
-            loader = same_loader machine.hw load new l refl refl s.resume.loader;
+            loader = same_loader machine.hw load new l refl refl refl s.resume.loader;
             knows = (
               knows.0,
               found_still machine load new c c' l knows.0 refl refl (reads_after machine.hw knows.0 (taken_back load.header) c c' knows.1.reads (inl writes)) (same_swap_area machine.hw (disk.as_it_reads c) (disk.as_it_reads c') goes.area) knows.1,
@@ -120,7 +122,7 @@ opened_row machine frames load r c c' synced none_read next hardware at whole sy
       loading l 4,
       leads machine frames new (reply.Loading 4) c c' (loading l 3) (loading l 4) tt goes
           (record {
-            loader = same_loader machine.hw load new l refl refl s.resume.loader;
+            loader = same_loader machine.hw load new l refl refl refl s.resume.loader;
             knows = (
               v,
               found_still machine load new c c' l v refl refl (reads_synced machine.hw v c c' knows.1.reads syncs) (same_swap_area machine.hw (disk.as_it_reads c) (disk.as_it_reads c') goes.area) knows.1,
@@ -143,11 +145,12 @@ back_stopped_row machine frames load c c' why stops hardware at whole syncs caus
     row_at_load machine frames load machine frames (stopped load) (event.Step actor.Core) why c c' 3 (activity_is load stage.SyncBack at)
     (λ l s.
     let knows = knows_at machine frames load c l 3 stage.SyncBack at s in
-    let v = knows.0 in (
+    let v = knows.0 in
+    let is = cause v (record { mark = knows.1.mark; blocks = sym knows.1.blocks }) in
+    let early = stop_kind why (cause_stops (taken_back_cause machine.hw v) why (stops_taken_back machine.hw v) is) in (
       off nothing None,
-      leads machine frames (stopped load) why c c' (loading l 3) (off nothing None) tt
-          (stops machine.hw (shown_by machine frames load) (shown_by machine frames (stopped load)) c c' machine.blocks l v why hardware whole s.stands knows.1.found knows.2 syncs
-          (cause v (record { mark = knows.1.mark; blocks = sym knows.1.blocks })) (refl, refl)) tt,
+      leads machine frames (stopped load) why c c' (loading l 3) (off nothing None) (stopped_early machine frames c' why (loading l 3) (off nothing None) early)
+          (stops machine.hw (shown_by machine frames load) (shown_by machine frames (stopped load)) c c' machine.blocks l v why hardware whole s.stands knows.1.found knows.2 syncs is (refl, refl)) tt,
     ))
 
 pub back_sync_failed_row : (machine : Machine) (frames : Memory) (load : Load) (c : disk.Content) → BackSyncFaultRow → load.stage ≡ stage.SyncBack → IsRow machine frames load machine frames (stopped load) (event.Step actor.Core) (reply.SyncFault Unsure) c c

@@ -2,9 +2,12 @@
 use Rattle.std.specs.Prelude.{◌≡◌, ℕ, ⊤, Bool, true, false, List, [], Option, Some, None, Result, Ok, Err}
 use Rattle.std.specs.List.{zip}
 use Rattle.sig_header.specs.declared.area.Area.{Area}
-use Rattle.plain_machine.specs.Machine.{Memory}
+use Rattle.definitions.specs.Disk as disk
+use Rattle.plain_machine.specs.Machine.{Hardware, Memory}
+use Rattle.plain_machine.specs.Chain.{Marked}
 use Rattle.plain_machine.specs.Shows.{Shown, Activity, rests, runs, loads}
 use Rattle.plain_machine.specs.Step.{no_flights}
+use Rattle.plain_machine.specs.declared.event.Loader.{Loader}
 use Rattle.plain_machine.specs.declared.event.Loader.TheVariants as loader
 use Rattle.plain_machine.specs.declared.no_swap.NoSwap.{NoSwap}
 use Rattle.plain_machine.specs.declared.reply.Reply.{Reply}
@@ -14,14 +17,6 @@ use Rattle.machine.specs.declared.machine.Machine.{Machine}
 use Rattle.resume_core.specs.declared.load.Load.{Load}
 use Rattle.resume_core.specs.declared.load.Stage.{Stage}
 use Rattle.resume_core.specs.declared.load.Stage.TheVariants as stage
-use Rattle.resume_core.specs.declared.load.Start.{Start}
-use Rattle.resume_core.specs.declared.load.Start.TheVariants as start
-
--- what can be begun: a resume with a scripted loader
-abbrev pub IsServed : Start → Type 0
-IsServed (start.Resume (loader.Ranges ranges) check) = ⊤
-IsServed (start.Resume loader.Table check) = ⊥
-IsServed (start.Boot from) = ⊥
 
 -- why an area can't be used
 abbrev pub reason_of : Result Area NoSwap → Option NoSwap
@@ -42,11 +37,24 @@ activity_at stage.Read made = loads made
 abbrev pub activity_of : Load → Activity
 activity_of load = activity_at load.stage load.made
 
--- what a machine is at after this reply to a step or to the begin of a resume
-abbrev pub activity_told : Reply → Activity
-activity_told (reply.Loading k) = loads k
-activity_told (reply.Resumed n) = runs
-activity_told _ = rests
+-- what a machine is at once an image is resumed: after a dump's loader it is off
+abbrev pub activity_resumed : Loader → Activity
+activity_resumed (loader.Ranges ranges) = runs
+activity_resumed loader.Table = rests
+
+-- what it is at after this reply to a step or to the begin of a resume
+abbrev pub activity_told : Loader → Reply → Activity
+activity_told loader (reply.Loading k) = loads k
+activity_told loader (reply.Resumed n) = activity_resumed loader
+activity_told loader _ = rests
+
+-- What the second step of a resume says of an image on the disk v: it is there, or it isn't. Where the disk failed it says nothing.
+abbrev pub FindsMark : Hardware → Reply → disk.Image → Type 0
+FindsMark h (reply.Loading k) v = Marked h v
+FindsMark h (reply.Compressed flags) v = Marked h v
+FindsMark h reply.NoImage v = Marked h v → ⊥
+FindsMark h (reply.ReadFault left) v = ⊤
+FindsMark h _ v = ⊥
 
 -- whether a reply says that there was nothing to do
 abbrev pub is_idle : Reply → Bool

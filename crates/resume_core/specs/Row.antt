@@ -1,5 +1,5 @@
 -- The rows of the plain machine that a resume makes.
-use Rattle.std.specs.Prelude.{◌≡◌, ◌<◌, ℕ, ◌+◌, ◌-◌, [], Contains, Option, Some, None, Ok, ⊤}
+use Rattle.std.specs.Prelude.{◌≡◌, ◌<◌, ℕ, ◌+◌, ◌-◌, [], Contains, Option, Some, None, true, Ok, ⊤}
 use Rattle.definitions.specs.Disk as disk
 use Rattle.definitions.specs.Tables.{frame}
 use Rattle.definitions.specs.Zones.{top}
@@ -11,26 +11,26 @@ use Rattle.sig_header.specs.declared.area.AreaKind.TheVariants.{Image, Old, Othe
 use Rattle.page_restore.specs.Waiting.{Awaiting, waiting_pages}
 use Rattle.plain_machine.specs.Machine.{Hardware, Memory}
 use Rattle.plain_machine.specs.Chain.{header_of, blocks_of}
-use Rattle.plain_machine.specs.Loader.{left_free, loader_frame}
+use Rattle.plain_machine.specs.Loader.{left_free, loader_frame, restored}
 use Rattle.plain_machine.specs.UsableArea.{area_block}
 use Rattle.plain_machine.specs.Shows.{Shown}
-use Rattle.plain_machine.specs.State.{State, off, on, booting, hibernating, undoing, settling, waking, loading, asleep, Running, Held, Load as Resume}
+use Rattle.plain_machine.specs.State.{State, off, on, booting, hibernating, undoing, settling, waking, loading, asleep, Held, Load as Resume, Found, not_yet, found_own, found_other}
 use Rattle.plain_machine.specs.Stands.{Stands}
-use Rattle.plain_machine.specs.Trace.{info_in, place_count, header_cause, step_cause, want_cause, place}
+use Rattle.plain_machine.specs.Trace.{info_in, place_count, header_cause, step_cause, want_cause, place, restored_in}
 use Rattle.plain_machine.specs.declared.event.Event.{Event}
 use Rattle.plain_machine.specs.declared.event.Event.TheVariants as event
 use Rattle.plain_machine.specs.declared.event.Actor.TheVariants as actor
 use Rattle.plain_machine.specs.declared.event.Loader.{Loader}
 use Rattle.plain_machine.specs.declared.event.Loader.TheVariants as loader
-use Rattle.plain_machine.specs.declared.event.Ranges.{Ranges}
 use Rattle.plain_machine.specs.declared.event.IdentCheck.{IdentCheck}
 use Rattle.plain_machine.specs.declared.reply.Reply.{Reply}
+use Rattle.plain_machine.specs.declared.reply.Reply.TheVariants as reply
 use Rattle.image_read.specs.Answers.{Reads}
 use Rattle.image_read.specs.Reading.{Reading}
 use Rattle.image_read.specs.Stream as stream
 use Rattle.image_read.specs.Stream.{data_frames, pages_read, told}
 use Rattle.protocol_laws.specs.LoadRows as load_rows
-use Rattle.protocol_laws.specs.LoadRows.{IsFoundIn, HaveGoneOn, ShowsRest}
+use Rattle.protocol_laws.specs.LoadRows.{IsFoundIn, HaveGoneOn}
 use Rattle.protocol_laws.specs.Rows as rows
 use Rattle.restore_laws.specs.DataPages.{data_before, data_pages}
 use Rattle.machine.specs.declared.machine.Machine.{Machine}
@@ -39,12 +39,16 @@ use Rattle.resume_core.specs.declared.load.Load.{Load}
 use Rattle.resume_core.specs.declared.load.Stage.{Stage}
 use Rattle.resume_core.specs.declared.load.Stage.TheVariants as stage
 
--- The loader of the resume is a scripted one, and what is free to it is free to the pages that wait.
+-- The loader is that of the resume, and what is free to it is free to the pages that wait.
 pub record HasLoader (h : Hardware) (load : Load) (l : Resume) : Type 0 where
-  pub ranges : Ranges
-  pub scripted : l.loader ≡ loader.Ranges ranges
+  pub loader : load.loader ≡ l.loader
   pub free : load.waiting.free ≡ left_free h l.dump l.loader
   pub check : load.check ≡ l.check
+
+-- a dump's loader is the memory that is kept
+abbrev pub HasLoaderMemory : Loader → Memory → Shown → Type 0
+HasLoaderMemory (loader.Ranges ranges) frames shown = ⊤
+HasLoaderMemory loader.Table frames shown = (shown.keeps_dump ≡ true) × (shown.frames ≡ frames)
 
 -- the area of a header block that is one's
 abbrev pub swap_area : AreaKind → Option Area
@@ -116,42 +120,62 @@ pub record StandsFor (machine : Machine) (frames : Memory) (load : Load) (c : di
   pub stands : Stands machine.hw (shown_by machine frames load) c a
   pub resume : IsOfState machine frames load c a
 
--- A resume that has ended leaves just the memory of the state that runs, free page frames too, and the area that the header block says.
-pub record HasResumed (machine : Machine) (frames : Memory) (c : disk.Content) (a : Running) : Type 0 where
-  pub memory : frames ≡ a.memory
-  pub area : (area : Area) × (machine.area ≡ Ok area) × (swap_area (area_kind (area_block machine.hw (disk.as_it_reads c))) ≡ Some area)
+-- Restored, of the image that was found: an own one's pages, or those of another's on the disk v
+abbrev pub restored_found : Hardware → Resume → Found → Memory
+restored_found h l not_yet = []
+restored_found h l (found_own i) = restored h l.dump l.loader i
+restored_found h l (found_other v) = restored_in h l.dump v l.loader
 
-abbrev pub HasEnded : Machine → Memory → disk.Content → State → Type 0
-HasEnded machine frames c (on a) = HasResumed machine frames c a
-HasEnded machine frames c (off held kept) = ⊤
-HasEnded machine frames c (booting from dump held k) = ⊤
-HasEnded machine frames c (hibernating suspends i a k) = ⊤
-HasEnded machine frames c (undoing i call a k) = ⊤
-HasEnded machine frames c (settling a k) = ⊤
-HasEnded machine frames c (waking i held a k) = ⊤
-HasEnded machine frames c (loading load k) = ⊤
-HasEnded machine frames c (asleep i held a) = ⊤
+abbrev pub restored_by : Hardware → Resume → Memory
+restored_by h l = restored_found h l l.found
 
--- what a machine shows after a step of a resume, and its disk, stand for a state, where a machine that runs has just resumed
-pub record StandsAfter (machine : Machine) (frames : Memory) (load : Load) (c : disk.Content) (a : State) : Type 0 where
-  pub stands : Stands machine.hw (shown_by machine frames load) c a
-  pub resume : IsOfState machine frames load c a
-  pub ended : HasEnded machine frames c a
+-- a machine that runs has the area that the header block says
+abbrev pub RunsOverArea : Machine → disk.Content → State → Type 0
+RunsOverArea machine c (on a) = (area : Area) × (machine.area ≡ Ok area) × (swap_area (area_kind (area_block machine.hw (disk.as_it_reads c))) ≡ Some area)
+RunsOverArea machine c (off held kept) = ⊤
+RunsOverArea machine c (booting from dump held k) = ⊤
+RunsOverArea machine c (hibernating suspends i a k) = ⊤
+RunsOverArea machine c (undoing i call a k) = ⊤
+RunsOverArea machine c (settling a k) = ⊤
+RunsOverArea machine c (waking i held a k) = ⊤
+RunsOverArea machine c (loading load k) = ⊤
+RunsOverArea machine c (asleep i held a) = ⊤
+
+-- A resume that has ended leaves just Restored, free page frames too, after either loader; and after a scripted one the area that
+-- the header block says.
+pub record HasResumed (machine : Machine) (frames : Memory) (c : disk.Content) (l : Resume) (b : State) : Type 0 where
+  pub memory : frames ≡ restored_by machine.hw l
+  pub area : RunsOverArea machine c b
+
+abbrev pub HasEnded : Machine → Memory → disk.Content → Reply → State → State → Type 0
+HasEnded machine frames c (reply.Resumed n) (loading l k) b = HasResumed machine frames c l b
+HasEnded machine frames c _ a b = ⊤
+
+-- What a machine shows after this reply to a step of a resume, from state a, and its disk, stand for a state; where the resume has ended
+-- memory is as it says.
+pub record StandsAfter (machine : Machine) (frames : Memory) (load : Load) (r : Reply) (a : State) (c : disk.Content) (b : State) : Type 0 where
+  pub stands : Stands machine.hw (shown_by machine frames load) c b
+  pub resume : IsOfState machine frames load c b
+  pub ended : HasEnded machine frames c r a b
+
+-- what the state goes on to
+abbrev pub GoesOn : Machine → Memory → Load → Event → Reply → disk.Content → disk.Content → State → State → Type 0
+GoesOn machine frames load e r c c' a b = rows.Leads machine.hw (StandsAfter machine frames load r a) e r c c' a b
 
 -- the row of an event over these contents of the disk, and over a disk that tells its content
 abbrev pub IsRow : Machine → Memory → Load → Machine → Memory → Load → Event → Reply → disk.Content → disk.Content → Type 0
 IsRow machine frames load machine' frames' load' e r c c' =
-    rows.IsRow machine.hw (StandsFor machine frames load) (StandsAfter machine' frames' load') e r c c'
+    (a : State) → StandsFor machine frames load c a → (b : State) × rows.Leads machine.hw (StandsAfter machine' frames' load' r a) e r c c' a b
 
 abbrev pub HasRow : Machine → Memory → Load → Machine → Memory → Load → Event → Reply → Option disk.Content → Option disk.Content → Type 0
 HasRow machine frames load machine' frames' load' e r before now =
-    rows.HasRow machine.hw (StandsFor machine frames load) (StandsAfter machine' frames' load') e r before now
+    (c : disk.Content) → before ≡ Some c → (c' : disk.Content) × (now ≡ Some c') × IsRow machine frames load machine' frames' load' e r c c'
 
--- the row of a begin, from each state of a machine that is off
-abbrev pub BeginsRow : Machine → Memory → Load → Loader → IdentCheck → Reply → Type 0
-BeginsRow machine frames' load' loader check r =
-    (shown : Shown) (c : disk.Content) (held : Held) (kept : Option Memory) → ShowsRest shown → Stands machine.hw shown c (off held kept) →
-    (b : State) × rows.Leads machine.hw (StandsAfter machine frames' load') (event.Resume loader check) r c c (off held kept) b
+-- the row of a begin, from each state of a machine that is off and has the loader's memory
+abbrev pub BeginsRow : Machine → Memory → Memory → Load → Loader → IdentCheck → Reply → Type 0
+BeginsRow machine frames frames' load' loader check r =
+    (shown : Shown) (c : disk.Content) (held : Held) (kept : Option Memory) → HasLoaderMemory loader frames shown → Stands machine.hw shown c (off held kept) →
+    (b : State) × GoesOn machine frames' load' (event.Resume loader check) r c c (off held kept) b
 
 -- A block was read at the step behind k others, and neither it nor the block behind it is at fault. What the machine showed before
 -- stood for the state.
@@ -169,7 +193,7 @@ pub record HasRead (machine : Machine) (frames : Memory) (load : Load) (c : disk
 -- where the reply leads, from the state that is at that step
 abbrev pub LeadsOn : Machine → Memory → Load → Reply → disk.Content → Resume → ℕ → Type 0
 LeadsOn machine' frames' load' r c l k =
-    (b : State) × rows.Leads machine'.hw (StandsAfter machine' frames' load') (event.Step actor.Core) r c c (loading l k) b
+    (b : State) × GoesOn machine' frames' load' (event.Step actor.Core) r c c (loading l k) b
 
 -- of the page frames that the image names, not all were listed before; the reader tells whether they are now
 abbrev pub ListsOn : Machine → Memory → Load → Machine → Memory → Load → Reply → Type 0

@@ -3,6 +3,7 @@ ghost use Rattle.image_read.specs.Reading.{IsReady};
 ghost use Rattle.plain_machine.specs.Trace.{is_set};
 ghost use Rattle.page_core.specs.declared.format.Format.TheVariants.{Plain, SkipZeros};
 ghost use Rattle.plain_machine.specs.Shows.{rests};
+ghost use Rattle.plain_machine.specs.declared.event.Loader.{Loader};
 ghost use Rattle.resume_core.specs.Header.{Opens, signature_fault};
 ghost use Rattle.resume_core.specs.Loading.{activity_told, is_idle};
 ghost use Rattle.definitions.specs.Disk.{HasRisen, raised, Changes, Elapses};
@@ -47,7 +48,8 @@ impl Load {
         requires blocks { D.block_count disk.old ≡ machine.now.blocks }
         requires stage { self.old.stage ≡ stage.TakeBack }
         ensures row { HasRow machine.now frames.now self.old machine.now frames.now self.new (event.Step actor.Core) result (D.content disk.old) (D.content disk.new) }
-        ensures activity { activity_of self.new ≡ activity_told result }
+        ensures activity { activity_of self.new ≡ activity_told self.old.loader result }
+        ensures loader { self.new.loader ≡ self.old.loader }
         ensures works { is_idle result ≡ false }
         ensures ready { CanStep machine.now frames.now runs.now self.new }
         ensures cause { IsNewFault result → HasRisen (D.faults disk.old) (D.faults disk.new) }
@@ -83,7 +85,8 @@ impl Load {
         requires blocks { D.block_count disk.old ≡ machine.now.blocks }
         requires stage { self.old.stage ≡ stage.SyncBack }
         ensures row { HasRow machine.now frames.now self.old machine.now frames.now self.new (event.Step actor.Core) result (D.content disk.old) (D.content disk.new) }
-        ensures activity { activity_of self.new ≡ activity_told result }
+        ensures activity { activity_of self.new ≡ activity_told self.old.loader result }
+        ensures loader { self.new.loader ≡ self.old.loader }
         ensures works { is_idle result ≡ false }
         ensures ready { CanStep machine.now frames.now runs.now self.new }
         ensures cause { IsNewFault result → HasRisen (D.faults disk.old) (D.faults disk.new) }
@@ -119,7 +122,7 @@ fn reader_of(hw: &Hardware, blocks: u32, mark: &Mark) -> Result<Reader, Reply>
     ensures ready { IfOk result (λ r. IsReady r [] []) }
     ensures blocks { IfOk result (λ r. r.blocks ≡ blocks) }
     ensures stops { IfErr result (λ why. IsNewFault why → ⊥) }
-    ensures rests { IfErr result (λ why. activity_told why ≡ rests) }
+    ensures rests { IfErr result (λ why. (loader : Loader) → activity_told loader why ≡ rests) }
     ensures works { IfErr result (λ why. is_idle why ≡ false) }
 {
     match other_signature(hw, mark) {

@@ -1,8 +1,9 @@
 ghost use Rattle.std.specs.Prelude.{◌≡◌, ◌≤◌, ◌<◌, ◌&&◌, ℕ, not, [], length};
 ghost use Rattle.definitions.specs.Bytes.{filled_page};
 ghost use Rattle.definitions.specs.Tables.{frame};
-ghost use Rattle.plain_machine.specs.Machine.{IsHardware};
-ghost use Rattle.plain_machine.specs.Loader.{left_free, is_in_ranges, is_in_regions};
+ghost use Rattle.definitions.specs.Zones.{top};
+ghost use Rattle.plain_machine.specs.Machine.{IsHardware, unused};
+ghost use Rattle.plain_machine.specs.Loader.{left_free, loader_frame, is_in_ranges, is_in_regions};
 ghost use Rattle.plain_machine.specs.declared.event.Loader.TheVariants as loader;
 ghost use Rattle.protocol_laws.specs.Rows.{IsNewFault};
 
@@ -11,8 +12,10 @@ use crate::load::Stage;
 use frame_arena::Frames;
 use machine::{Hardware, Machine};
 use memory_bitmap::Bitmap;
-use plain_machine::{IdentCheck, Ranges, Reply};
+use plain_machine::{IdentCheck, Loader, Ranges, Reply};
+use prealloc::pick;
 use protocol_laws::{load_begins, meets_rows};
+use saveable::{View, count_free};
 
 /// What a scripted loader has in each byte of its memory (own).
 const FILL: u8 = 165;
@@ -21,21 +24,23 @@ const FILL: u8 = 165;
 impl Load {
     ghost use Rattle.plain_machine.specs.declared.reply.Reply.TheVariants as reply;
     ghost use Rattle.swap_slots.specs.Runs.{SlotRuns};
-    ghost use Rattle.resume_core.specs.Loading.{activity_of, activity_told, is_idle};
+    ghost use Rattle.resume_core.specs.Loading.{activity_of, activity_told};
     ghost use Rattle.resume_core.specs.Ready.{CanBegin, CanStep};
     ghost use Rattle.resume_core.specs.Row.{BeginsRow};
 
-    /// Begins with a scripted loader, which holds these ranges of page frames.
-    pub(crate) fn begin_ranges(
+    /// Begins, over a machine that is off. A scripted loader fills each page frame with bytes of its own; a dump's loader is the memory
+    /// that is there.
+    pub fn begin(
         &mut self,
         machine: &Machine,
         frames: &mut Frames,
-        ranges: &Ranges,
+        loader: Loader,
         check: IdentCheck,
     ) -> Reply
         requires ready { CanBegin machine.now frames.old self.old }
-        ensures row { BeginsRow machine.now frames.new self.new (loader.Ranges ranges.now) check result }
-        ensures activity { activity_of self.new ≡ activity_told result }
+        ensures row { BeginsRow machine.now frames.old frames.new self.new loader check result }
+        ensures activity { activity_of self.new ≡ activity_told loader result }
+        ensures loader { self.new.loader ≡ loader }
         ensures ready { (runs : SlotRuns) → machine.now.hw.slots ≤ runs.room → CanStep machine.now frames.new runs self.new }
         ensures begun { result ≡ reply.Loading 0 }
         ensures no_fault { IsNewFault result → ⊥ }
@@ -44,17 +49,50 @@ impl Load {
         meets_rows();
         // Only what is read is known to have the size of its type.
         let _blocks = machine.blocks;
-        fill_all(frames);
         // Until the first number page is read the set of originals has room for the page frames free to the loader.
-        mark_left_free(&mut self.origs, &machine.hw, ranges);
+        make_loader(frames, &mut self.origs, &machine.hw, &loader);
         self.waiting.begin(&self.origs);
         self.origs.clear_all();
         self.zeros.clear_all();
         self.reader = None;
+        self.loader = loader;
         self.check = check;
         self.stage = Stage::Sync;
         Reply::Loading { k: 0 }
     }
+}
+
+/// Makes the loader, and the set that of the page frames that are free to it.
+fn make_loader(frames: &mut Frames, set: &mut Bitmap, hw: &Hardware, loader: &Loader)
+    requires size { length frames.old ≡ top hw.now.zones }
+    requires zones { set.old.zones ≡ hw.now.zones }
+    ensures loader { (p : ℕ) → p < length frames.old → frame frames.new p ≡ loader_frame frames.old loader.now p }
+    ensures size { length frames.new ≡ length frames.old }
+    ensures set { set.new ≡ record set.old { members = left_free hw.now frames.old loader.now } }
+    ensures hardware { IsHardware hw.now }
+{
+    match loader {
+        Loader::Ranges(ranges) => {
+            fill_all(frames);
+            mark_left_free(set, hw, ranges);
+        }
+        Loader::Table => mark_unused(set, frames, hw),
+    }
+}
+
+/// Makes the set that of the page frames whose entry in the frame table is free.
+fn mark_unused(set: &mut Bitmap, frames: &Frames, hw: &Hardware)
+    requires size { length frames.now ≡ top hw.now.zones }
+    requires zones { set.old.zones ≡ hw.now.zones }
+    ensures set { set.new ≡ record set.old { members = unused hw.now frames.now } }
+    ensures hardware { IsHardware hw.now }
+{
+    let view = View {
+        frames,
+        zones: hw.zones(),
+        table: hw.frame_table(),
+    };
+    pick(&view, count_free(&view), set);
 }
 
 /// Makes the set that of the page frames that are free to a scripted loader.

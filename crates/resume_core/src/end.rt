@@ -16,7 +16,7 @@ use crate::load::Stage;
 use frame_arena::Frames;
 use machine::{Hardware, Machine, has_bad_slots, tables_fit, usable};
 use page_core::Page;
-use plain_machine::{Held, Reply};
+use plain_machine::{Held, Loader, Reply};
 use protocol_laws::{meets_rows, reads_in_rows};
 use sig_header::{Area, AreaKind, take_back};
 use swap_slots::{FreeRuns, SlotTable};
@@ -32,8 +32,8 @@ impl Load {
     ghost use Rattle.resume_core.specs.Row.{HasRow, HasReader, ListsOn, ReadsOn, EndsOn};
     ghost use Rattle.resume_core.specs.Reader.{HasAnswered, StillReads, room_refusal, refusal_behind};
 
-    /// Brings the pages home, and runs where the tables fit the machine and the area. Pages are never missing here, since the
-    /// reader tests the stream's number of pages by the numbers that it names.
+    /// Brings the pages home. After a scripted loader the machine runs, where the tables fit it and the area; after a dump's loader
+    /// it is off. Pages are never missing here, since the reader tests the stream's number of pages by the numbers that it names.
     pub(crate) fn end(
         &mut self,
         machine: &mut Machine,
@@ -45,7 +45,8 @@ impl Load {
         requires made { 4 ≤ self.old.made }
         requires planned { self.old.waiting.placement.ready ≡ true }
         ensures row { EndsOn machine.old frames.old self.old machine.new frames.new self.new result }
-        ensures activity { activity_of self.new ≡ activity_told result }
+        ensures activity { activity_of self.new ≡ activity_told self.old.loader result }
+        ensures loader { self.new.loader ≡ self.old.loader }
         ensures works { is_idle result ≡ false }
         ensures ready { CanStep machine.new frames.new runs.new self.new }
         ensures machine { IsSameMachine machine.old machine.new }
@@ -64,15 +65,20 @@ impl Load {
         self.waiting.finish(frames, &self.origs);
         // So each page frame has 4096 bytes.
         let _ = frames.len();
-        match restored_area(&machine.hw, machine.blocks, frames, &self.header) {
-            Ok(area) => {
-                machine.area = Ok(area);
-                machine.held = Held::No;
-                runs.rebuild(frames, &slot_table(&machine.hw));
-                self.stage = Stage::Runs;
-                Reply::Resumed { n: saved }
+        match self.loader {
+            Loader::Table => self.stop(Reply::Resumed { n: saved }),
+            Loader::Ranges(_) => {
+                match restored_area(&machine.hw, machine.blocks, frames, &self.header) {
+                    Ok(area) => {
+                        machine.area = Ok(area);
+                        machine.held = Held::No;
+                        runs.rebuild(frames, &slot_table(&machine.hw));
+                        self.stage = Stage::Runs;
+                        Reply::Resumed { n: saved }
+                    }
+                    Err(frame) => self.stop(Reply::BadTables { frame }),
+                }
             }
-            Err(frame) => self.stop(Reply::BadTables { frame }),
         }
     }
 

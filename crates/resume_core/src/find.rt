@@ -1,9 +1,10 @@
 ghost use Rattle.std.specs.Prelude.{◌≡◌, ◌≤◌, ◌⊎◌, ℕ, false, None, Some, IfOk, IfErr, IsTrue};
 ghost use Rattle.sig_header.specs.AreaKind.{area_kind, mark_of};
 ghost use Rattle.plain_machine.specs.Shows.{rests};
+ghost use Rattle.plain_machine.specs.declared.event.Loader.{Loader};
 ghost use Rattle.resume_core.specs.Header.{header_fault, mark_in};
 ghost use Rattle.resume_core.specs.Loading.{activity_told, is_idle};
-ghost use Rattle.definitions.specs.Disk.{HasRisen, raised, Changes, Elapses};
+ghost use Rattle.definitions.specs.Disk.{Content, HasRisen, raised, as_it_reads, Changes, Elapses};
 ghost use Rattle.protocol_laws.specs.Rows.{IsNewFault};
 
 use crate::Load;
@@ -25,7 +26,7 @@ impl Load {
     ghost use Rattle.plain_machine.specs.declared.event.Event.TheVariants as event;
     ghost use Rattle.plain_machine.specs.declared.event.Actor.TheVariants as actor;
     ghost use Rattle.resume_core.specs.declared.load.Stage.TheVariants as stage;
-    ghost use Rattle.resume_core.specs.Loading.{activity_of, activity_told, is_idle};
+    ghost use Rattle.resume_core.specs.Loading.{activity_of, activity_told, is_idle, FindsMark};
     ghost use Rattle.resume_core.specs.Ready.{CanStep, IsOver, IsSameMachine};
     ghost use Rattle.resume_core.specs.Row.{HasRow};
 
@@ -41,7 +42,8 @@ impl Load {
         requires blocks { D.block_count disk.old ≡ machine.now.blocks }
         requires stage { self.old.stage ≡ stage.Sync }
         ensures row { HasRow machine.now frames.now self.old machine.now frames.now self.new (event.Step actor.Core) result (D.content disk.old) (D.content disk.new) }
-        ensures activity { activity_of self.new ≡ activity_told result }
+        ensures activity { activity_of self.new ≡ activity_told self.old.loader result }
+        ensures loader { self.new.loader ≡ self.old.loader }
         ensures works { is_idle result ≡ false }
         ensures ready { CanStep machine.now frames.now runs.now self.new }
         ensures cause { IsNewFault result → HasRisen (D.faults disk.old) (D.faults disk.new) }
@@ -76,8 +78,10 @@ impl Load {
         requires ready { CanStep machine.now frames.now runs.now self.old }
         requires blocks { D.block_count disk.old ≡ machine.now.blocks }
         requires stage { self.old.stage ≡ stage.Find }
+        ensures found { (c : Content) → D.content disk.old ≡ Some c → FindsMark machine.now.hw result (as_it_reads c) }
         ensures row { HasRow machine.now frames.now self.old machine.now frames.now self.new (event.Step actor.Core) result (D.content disk.old) (D.content disk.new) }
-        ensures activity { activity_of self.new ≡ activity_told result }
+        ensures activity { activity_of self.new ≡ activity_told self.old.loader result }
+        ensures loader { self.new.loader ≡ self.old.loader }
         ensures works { is_idle result ≡ false }
         ensures ready { CanStep machine.now frames.now runs.now self.new }
         ensures cause { IsNewFault result → HasRisen (D.faults disk.old) (D.faults disk.new) }
@@ -123,7 +127,7 @@ impl Load {
 fn found(header: &Page) -> Result<Mark, Reply>
     ensures found { IfOk result (λ mark. (header_fault header.now ≡ None) × (mark ≡ mark_of header.now)) }
     ensures stops { IfErr result (λ why. IsNewFault why → ⊥) }
-    ensures rests { IfErr result (λ why. activity_told why ≡ rests) }
+    ensures rests { IfErr result (λ why. (loader : Loader) → activity_told loader why ≡ rests) }
     ensures works { IfErr result (λ why. is_idle why ≡ false) }
     ensures none { IfErr result (λ why. header_fault header.now ≡ Some why) }
 {

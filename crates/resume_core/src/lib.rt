@@ -13,4 +13,4 @@ mod read;
 #[cfg(test)]
 mod tests;
 
-pub use load::{Load, Start};
+pub use load::Load;

@@ -42,7 +42,8 @@ impl Load {
         requires blocks { D.block_count disk.old ≡ machine.old.blocks }
         requires stage { self.old.stage ≡ stage.List }
         ensures row { HasRow machine.old frames.old self.old machine.new frames.new self.new (event.Step actor.Core) result (D.content disk.old) (D.content disk.new) }
-        ensures activity { activity_of self.new ≡ activity_told result }
+        ensures activity { activity_of self.new ≡ activity_told self.old.loader result }
+        ensures loader { self.new.loader ≡ self.old.loader }
         ensures works { is_idle result ≡ false }
         ensures ready { CanStep machine.new frames.new runs.new self.new }
         ensures machine { IsSameMachine machine.old machine.new }
@@ -110,7 +111,7 @@ impl Load {
         ensures load { self.new ≡ record self.old { stage = stage.Rest; waiting = self.new.waiting } }
         ensures same_zones { self.new.waiting.zones ≡ self.old.waiting.zones }
         ensures no_fault { IsNewFault result → ⊥ }
-        ensures rests { activity_told result ≡ rests }
+        ensures rests { activity_told self.old.loader result ≡ rests }
         ensures works { is_idle result ≡ false }
     {
         if !self.is_listed() {
@@ -128,7 +129,8 @@ impl Load {
         requires reader { CanRead machine.old.blocks self.old }
         requires made { 4 ≤ self.old.made }
         ensures row { ListsOn machine.old frames.old self.old machine.new frames.new self.new result }
-        ensures activity { activity_of self.new ≡ activity_told result }
+        ensures activity { activity_of self.new ≡ activity_told self.old.loader result }
+        ensures loader { self.new.loader ≡ self.old.loader }
         ensures works { is_idle result ≡ false }
         ensures ready { CanStep machine.new frames.new runs.new self.new }
         ensures machine { IsSameMachine machine.old machine.new }
@@ -158,7 +160,7 @@ impl Load {
         requires { self.old.origs.zones ≡ self.old.waiting.zones }
         ensures refused { IfErr result (λ why. room_refusal (length self.old.waiting.free) (length (with_data self.old.origs.members self.old.zeros.members)) ≡ Some why) }
         ensures no_fault { IfErr result (λ why. IsNewFault why → ⊥) }
-        ensures rests { IfErr result (λ why. activity_told why ≡ rests) }
+        ensures rests { IfErr result (λ why. activity_told self.old.loader why ≡ rests) }
         ensures works { IfErr result (λ why. is_idle why ≡ false) }
         ensures room { OnOk result (room_refusal (length self.old.waiting.free) (length (with_data self.old.origs.members self.old.zeros.members)) ≡ None) }
         ensures ready { OnOk result (self.new.waiting.placement.ready ≡ true) }

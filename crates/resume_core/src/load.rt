@@ -1,7 +1,7 @@
 ghost use Rattle.std.specs.Prelude.{◌≡◌, ◌≤◌, ◌⊎◌, ◌<◌, ◌^◌, ℕ, false, IfOk, IsTrue};
-ghost use Rattle.definitions.specs.Disk.{HasRisen, raised, Changes, Elapses};
+ghost use Rattle.definitions.specs.Disk.{Content, HasRisen, raised, as_it_reads, Changes, Elapses};
 ghost use Rattle.protocol_laws.specs.Rows.{IsNewFault};
-ghost use Rattle.resume_core.specs.Loading.{IsIdle, IsServed};
+ghost use Rattle.resume_core.specs.Loading.{IsIdle};
 
 use frame_arena::Frames;
 use image_read::Reader;
@@ -9,20 +9,11 @@ use machine::{Hardware, Machine};
 use memory_bitmap::Bitmap;
 use page_core::{NoMemory, Page};
 use page_restore::Waiting;
-use plain_machine::{BootFrom, IdentCheck, Loader, Reply};
+use plain_machine::{IdentCheck, Loader, Reply};
 use sector_disk::Disk;
 use sig_header::Mark;
 use std::alloc::Global;
 use swap_slots::FreeRuns;
-
-/// What is begun.
-#[derive(Clone, Copy, Debug, PartialEq, Eq)]
-pub enum Start {
-    /// The machine is switched on. Not served yet.
-    Boot(BootFrom),
-    /// The machine is switched on, and the image on the disk resumed. A dump's loader isn't served yet.
-    Resume(Loader, IdentCheck),
-}
 
 /// What is done next.
 #[derive(Clone, Copy, Debug, PartialEq, Eq)]
@@ -61,21 +52,17 @@ pub struct Load {
     pub(crate) stage: Stage,
     /// Steps made, once blocks of the chain are read.
     pub(crate) made: u32,
+    pub(crate) loader: Loader,
     pub(crate) check: IdentCheck,
 }
 
 impl Load {
     ghost use Rattle.plain_machine.specs.declared.event.Event.TheVariants as event;
     ghost use Rattle.plain_machine.specs.declared.event.Actor.TheVariants as actor;
-    ghost use Rattle.plain_machine.specs.declared.reply.Reply.TheVariants as reply;
     ghost use Rattle.resume_core.specs.declared.load.Stage.TheVariants as stage;
-    ghost use Rattle.resume_core.specs.Loading.{activity_of, activity_told, is_idle};
-    ghost use Rattle.resume_core.specs.Ready.{CanBegin, CanStep, IsBusy, IsSameMachine};
-    ghost use Rattle.resume_core.specs.Row.{HasRow, BeginsRow};
-    ghost use Rattle.swap_slots.specs.Runs.{SlotRuns};
-    ghost use Rattle.plain_machine.specs.declared.event.Loader.{Loader};
-    ghost use Rattle.plain_machine.specs.declared.event.IdentCheck.{IdentCheck};
-    ghost use Rattle.resume_core.specs.declared.load.Start.TheVariants as starts;
+    ghost use Rattle.resume_core.specs.Loading.{activity_of, activity_told, is_idle, FindsMark};
+    ghost use Rattle.resume_core.specs.Ready.{CanStep, IsBusy, IsSameMachine};
+    ghost use Rattle.resume_core.specs.Row.{HasRow};
 
     /// No resume, with the memory for every one of this machine.
     pub fn create(alloc: Global, hw: &Hardware) -> Result<Load, NoMemory>
@@ -97,26 +84,16 @@ impl Load {
             page: Page::zero(),
             stage: Stage::Rest,
             made: 0,
+            loader: Loader::Table,
             check: IdentCheck::Skip,
         })
     }
 
-    /// Begins, over a machine that is off.
-    pub fn begin(&mut self, machine: &Machine, frames: &mut Frames, start: Start) -> Reply
-        requires served { IsServed start }
-        requires ready { CanBegin machine.now frames.old self.old }
-        ensures row { (loader : Loader) (check : IdentCheck) → start ≡ starts.Resume loader check → BeginsRow machine.now frames.new self.new loader check result }
-        ensures activity { activity_of self.new ≡ activity_told result }
-        ensures ready { (runs : SlotRuns) → machine.now.hw.slots ≤ runs.room → CanStep machine.now frames.new runs self.new }
-        ensures begun { result ≡ reply.Loading 0 }
-        ensures no_fault { IsNewFault result → ⊥ }
+    /// The loader of the resume that is under way, or of the last one.
+    pub fn loader(&self) -> Loader
+        ensures { result ≡ self.now.loader }
     {
-        match start {
-            Start::Resume(Loader::Ranges(ranges), check) => {
-                self.begin_ranges(machine, frames, &ranges, check)
-            }
-            Start::Resume(Loader::Table, _) | Start::Boot(_) => unreachable!(),
-        }
+        self.loader
     }
 
     /// Makes the next step: at most one call of the disk.
@@ -130,8 +107,10 @@ impl Load {
         requires ready { CanStep machine.old frames.old runs.old self.old }
         requires blocks { D.block_count disk.old ≡ machine.old.blocks }
         requires busy { IsBusy self.old }
+        ensures found { self.old.stage ≡ stage.Find → (c : Content) → D.content disk.old ≡ Some c → FindsMark machine.old.hw result (as_it_reads c) }
         ensures row { HasRow machine.old frames.old self.old machine.new frames.new self.new (event.Step actor.Core) result (D.content disk.old) (D.content disk.new) }
-        ensures activity { activity_of self.new ≡ activity_told result }
+        ensures activity { activity_of self.new ≡ activity_told self.old.loader result }
+        ensures loader { self.new.loader ≡ self.old.loader }
         ensures works { is_idle result ≡ false }
         ensures ready { CanStep machine.new frames.new runs.new self.new }
         ensures machine { IsSameMachine machine.old machine.new }

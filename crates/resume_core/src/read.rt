@@ -41,7 +41,8 @@ impl Load {
         requires blocks { D.block_count disk.old ≡ machine.old.blocks }
         requires stage { self.old.stage ≡ stage.Read }
         ensures row { HasRow machine.old frames.old self.old machine.new frames.new self.new (event.Step actor.Core) result (D.content disk.old) (D.content disk.new) }
-        ensures activity { activity_of self.new ≡ activity_told result }
+        ensures activity { activity_of self.new ≡ activity_told self.old.loader result }
+        ensures loader { self.new.loader ≡ self.old.loader }
         ensures works { is_idle result ≡ false }
         ensures ready { CanStep machine.new frames.new runs.new self.new }
         ensures machine { IsSameMachine machine.old machine.new }
@@ -93,7 +94,8 @@ impl Load {
         requires made { 4 ≤ self.old.made }
         requires planned { self.old.waiting.placement.ready ≡ true }
         ensures row { ReadsOn machine.old frames.old self.old machine.new frames.new self.new result }
-        ensures activity { activity_of self.new ≡ activity_told result }
+        ensures activity { activity_of self.new ≡ activity_told self.old.loader result }
+        ensures loader { self.new.loader ≡ self.old.loader }
         ensures works { is_idle result ≡ false }
         ensures ready { CanStep machine.new frames.new runs.new self.new }
         ensures machine { IsSameMachine machine.old machine.new }

@@ -1,4 +1,4 @@
-use crate::{Load, Start};
+use crate::Load;
 use definitions::Ident;
 use frame_arena::Frames;
 use machine::{Hardware, Machine, Parts};
@@ -33,9 +33,13 @@ fn begins(rt: HostRuntime) -> Result<(), Fail> {
         count: 0,
         list: [(0, 0); 8],
     };
-    let start = Start::Resume(Loader::Ranges(ranges), IdentCheck::Compare);
     assert_eq!(rt;
-        load.begin(&machine, &mut frames, start),
+        load.begin(
+            &machine,
+            &mut frames,
+            Loader::Ranges(ranges),
+            IdentCheck::Compare
+        ),
         Reply::Loading { k: 0 }
     );
     assert!(rt; frames.len() > 10);

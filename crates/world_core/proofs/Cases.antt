@@ -1,15 +1,18 @@
 -- Which state a world stands for, by what it is at.
-use Rattle.std.proofs.Common.{◌≡◌, ◌≢◌, ℕ, Bool, true, false, Option, refl, sym, ap, arith}
+use Rattle.std.proofs.Common.{◌≡◌, ◌≢◌, ℕ, Bool, true, false, Option, refl, sym, ap, ap₂, arith}
 use Rattle.std.proofs.lemmas.Bool.{false≢true}
 use Rattle.definitions.specs.Disk as disk
 use Rattle.plain_machine.specs.Machine.{Memory}
-use Rattle.plain_machine.specs.State.{State, off, on, booting, hibernating, undoing, settling, waking, loading, asleep, Running, Held}
+use Rattle.plain_machine.specs.State.{State, off, on, booting, hibernating, undoing, settling, waking, loading, asleep, Running as Run, Held}
 use Rattle.plain_machine.specs.Shows.{Activity, rests, runs, boots, hibernates, undoes, settles, wakes, loads, sleeps, activity_in}
 use Rattle.plain_machine.specs.declared.event.BootFrom.{BootFrom}
-use Rattle.plain_machine.specs.declared.event.BootFrom.TheVariants.{Fresh, Kept}
+use Rattle.plain_machine.specs.declared.event.BootFrom.TheVariants.{Fresh}
+use Rattle.hib_core.specs.declared.hib.Hib.{Hib}
+use Rattle.resume_core.specs.declared.load.Load.{Load}
 use Rattle.world_core.specs.declared.world.Core.{Core}
+use Rattle.world_core.specs.declared.world.Core.TheVariants.{Off, Running, BootBegun, BootSynced, Hibernating, Loading}
 use Rattle.world_core.specs.World.{World}
-use Rattle.world_core.specs.StandsFor.{StandsFor, activity_of}
+use Rattle.world_core.specs.StandsFor.{StandsFor, IsOff, activity_of, is_off}
 
 -- What tells activities apart: their kind, a boot's memory, and its steps.
 abbrev rank : Activity → ℕ
@@ -23,13 +26,9 @@ rank (wakes k) = 6
 rank (loads k) = 7
 rank sleeps = 8
 
-abbrev is_fresh : BootFrom → Bool
-is_fresh Fresh = true
-is_fresh Kept = false
-
-abbrev boots_fresh : Activity → Bool
-boots_fresh (boots from k) = is_fresh from
-boots_fresh _ = false
+abbrev memory_from : Activity → BootFrom
+memory_from (boots from k) = from
+memory_from _ = Fresh
 
 abbrev steps_of : Activity → ℕ
 steps_of (boots from k) = k
@@ -55,7 +54,7 @@ at_rest (waking i held r k) e = other rests (wakes k) (λ r. omega arith) e
 at_rest (loading load k) e = other rests (loads k) (λ r. omega arith) e
 at_rest (asleep i held r) e = other rests sleeps (λ r. omega arith) e
 
-pub at_run : (a : State) → runs ≡ activity_in a → (r : Running) × (a ≡ on r)
+pub at_run : (a : State) → runs ≡ activity_in a → (r : Run) × (a ≡ on r)
 at_run (off held kept) e = other runs rests (λ r. omega arith) e
 at_run (on r) e = (r, refl)
 at_run (booting from dump held k) e = other runs (boots from k) (λ r. omega arith) e
@@ -66,17 +65,25 @@ at_run (waking i held r k) e = other runs (wakes k) (λ r. omega arith) e
 at_run (loading load k) e = other runs (loads k) (λ r. omega arith) e
 at_run (asleep i held r) e = other runs sleeps (λ r. omega arith) e
 
-fresh_boot : (from : BootFrom) (dump : Memory) (held : Held) (j k : ℕ) → boots Fresh j ≡ boots from k → (d : Memory) × (h : Held) × (booting from dump held k ≡ booting Fresh d h j)
-fresh_boot Fresh dump held j k e = (dump, held, ap (λ (n : ℕ). booting Fresh dump held n) (sym (ap steps_of e)))
-fresh_boot Kept dump held j k e = absurd (false≢true (sym (ap boots_fresh e)))
+pub at_boot : (a : State) (from : BootFrom) (j : ℕ) → boots from j ≡ activity_in a → (dump : Memory) × (held : Held) × (a ≡ booting from dump held j)
+at_boot (off held kept) from j e = other (boots from j) rests (λ r. omega arith) e
+at_boot (on r) from j e = other (boots from j) runs (λ r. omega arith) e
+at_boot (booting x dump held k) from j e = (dump, held, ap₂ (λ (y : BootFrom) (n : ℕ). booting y dump held n) (sym (ap memory_from e)) (sym (ap steps_of e)))
+at_boot (hibernating suspends i r k) from j e = other (boots from j) (hibernates suspends k) (λ r. omega arith) e
+at_boot (undoing i call r k) from j e = other (boots from j) (undoes call k) (λ r. omega arith) e
+at_boot (settling r k) from j e = other (boots from j) (settles k) (λ r. omega arith) e
+at_boot (waking i held r k) from j e = other (boots from j) (wakes k) (λ r. omega arith) e
+at_boot (loading load k) from j e = other (boots from j) (loads k) (λ r. omega arith) e
+at_boot (asleep i held r) from j e = other (boots from j) sleeps (λ r. omega arith) e
 
-pub at_boot : (a : State) (j : ℕ) → boots Fresh j ≡ activity_in a → (dump : Memory) × (held : Held) × (a ≡ booting Fresh dump held j)
-at_boot (off held kept) j e = other (boots Fresh j) rests (λ r. omega arith) e
-at_boot (on r) j e = other (boots Fresh j) runs (λ r. omega arith) e
-at_boot (booting from dump held k) j e = fresh_boot from dump held j k e
-at_boot (hibernating suspends i r k) j e = other (boots Fresh j) (hibernates suspends k) (λ r. omega arith) e
-at_boot (undoing i call r k) j e = other (boots Fresh j) (undoes call k) (λ r. omega arith) e
-at_boot (settling r k) j e = other (boots Fresh j) (settles k) (λ r. omega arith) e
-at_boot (waking i held r k) j e = other (boots Fresh j) (wakes k) (λ r. omega arith) e
-at_boot (loading load k) j e = other (boots Fresh j) (loads k) (λ r. omega arith) e
-at_boot (asleep i held r) j e = other (boots Fresh j) sleeps (λ r. omega arith) e
+-- a world that is off is at rest
+off_rests : (core : Core) (hib : Hib) (load : Load) → is_off core ≡ true → activity_of core hib load ≡ rests
+off_rests (Off keeps) hib load e = refl
+off_rests Running hib load e = absurd (false≢true e)
+off_rests (BootBegun from) hib load e = absurd (false≢true e)
+off_rests (BootSynced from) hib load e = absurd (false≢true e)
+off_rests Hibernating hib load e = absurd (false≢true e)
+off_rests Loading hib load e = absurd (false≢true e)
+
+pub rests_by : (w : World) → IsOff w → activity_of w.core w.hib w.load ≡ rests
+rests_by w e = off_rests w.core w.hib w.load e

@@ -1,7 +1,7 @@
 -- The row of a boot's end.
 use Rattle.protocol_laws.proofs.Unwritten.{block_same}
-use Rattle.std.proofs.Common.{◌≡◌, ◌⊎◌, inl, inr, ℕ, ◌<◌, ◌≤◌, ◌^◌, Bool, true, false, cond, not, ◌&&◌, List, [], ◌∷◌, ◌++◌, Some, None, Result, Ok, Err, refl, sym, ap, ◌∙◌, arith, subst, eqb, ⊎_elim}
-use Rattle.std.proofs.lemmas.Bool.{cases_eq, eqb-true}
+use Rattle.std.proofs.Common.{◌≡◌, ◌⊎◌, inl, inr, ℕ, ◌<◌, ◌≤◌, ◌^◌, Bool, true, false, cond, not, ◌&&◌, List, [], ◌∷◌, ◌++◌, Option, Some, None, is_none, Result, Ok, Err, refl, sym, ap, ◌∙◌, arith, subst, eqb, ⊎_elim}
+use Rattle.std.proofs.lemmas.Bool.{cases_eq, eqb-true, false≢true}
 use Rattle.std.proofs.lemmas.Option.{none-some}
 use Rattle.std.specs.List.{Contains, range_with_len, list_all}
 use Rattle.definitions.specs.Disk as disk
@@ -10,17 +10,21 @@ use Rattle.definitions.proofs.DiskLaws.{IsImage-as_it_reads}
 use Rattle.definitions.proofs.ZoneNumbers.{range-bounds}
 use Rattle.sig_header.specs.AreaKind.{area_kind}
 use Rattle.sig_header.specs.declared.area.Area.{Area}
-use Rattle.plain_machine.specs.Machine.{Hardware, Memory, IsHardware, IsSameMemory, is_slot_entry, raw_slot_entry, bad_slot, image_slot}
+use Rattle.plain_machine.specs.Machine.{Hardware, Memory, IsHardware, IsSameMemory, Fits, block_of_slot, is_slot_entry, raw_slot_entry, bad_slot, image_slot}
 use Rattle.plain_machine.specs.Chain.{Marked}
 use Rattle.plain_machine.specs.Loader.{has}
-use Rattle.plain_machine.specs.UsableArea.{area_block, area_fault, bad_set_fault, bad_slots_of}
+use Rattle.plain_machine.specs.UsableArea.{area_block, area_fault, bad_set_fault, bad_slots_of, dump_area_fault}
+use Rattle.plain_machine.specs.Trace.{slots_in}
 use Rattle.plain_machine.specs.State.{off, on, booting, Held, nothing, sure, maybe, own, other}
-use Rattle.plain_machine.specs.Stands.{Stands, IsHeld, IsHeader, IsOwn, IsTaskSlot, HasOneImage, NamesOwn, NamesHeld}
+use Rattle.plain_machine.specs.Stands.{Stands, AreTaskSlots, IsHeld, IsHeader, IsOwn, IsTaskSlot, HasOneImage, NamesOwn, NamesHeld, ShowsBoot}
 use Rattle.plain_machine.specs.Image.{Image}
-use Rattle.plain_machine.proofs.BadSlots.{no_flights-owned, dump_area-of}
-use Rattle.plain_machine.specs.Step.{fresh_frames, fresh_memory, fresh_slot, with_each_entry, booted, boot_outcomes}
+use Rattle.plain_machine.proofs.BadSlots.{no_target, no_flights-owned, dump_area-of}
+use Rattle.protocol_laws.proofs.OtherResumed.{has_page, is_paged}
+use Rattle.restore_laws.proofs.BroughtBack.{no_image_slot}
+use Rattle.plain_machine.specs.Step.{fresh_frames, fresh_memory, fresh_slot, with_each_entry, booted, boot_outcomes, no_slots, no_flights}
 use Rattle.plain_machine.specs.Shows.{Shown, seen_frames, ShowsHeld, ShowsRunning}
-use Rattle.plain_machine.specs.declared.event.BootFrom.TheVariants.{Fresh}
+use Rattle.plain_machine.specs.declared.event.BootFrom.{BootFrom}
+use Rattle.plain_machine.specs.declared.event.BootFrom.TheVariants.{Fresh, Kept}
 use Rattle.plain_machine.specs.declared.event.Event.TheVariants as event
 use Rattle.plain_machine.specs.declared.event.Actor.TheVariants as actor
 use Rattle.plain_machine.specs.declared.held.Held.{Held as HeldFlag}
@@ -33,14 +37,17 @@ use Rattle.plain_machine.proofs.EachEntry.{each-same}
 use Rattle.plain_machine.proofs.Fresh.{slot_entry-fresh_memory, fits-fresh_memory, seen-plain}
 use Rattle.plain_machine.proofs.SameMemory.{same_refl}
 use Rattle.machine.specs.FreshSlots.{slot_of_area}
-use Rattle.world_core.specs.declared.world.Core.TheVariants.{Off, Running as Runs, BootSynced}
+use Rattle.world_core.specs.declared.world.Core.TheVariants.{Off, Running as Runs, BootSynced, Loading}
 use Rattle.world_core.specs.World.{World}
 use Rattle.world_core.specs.StandsFor.{StandsFor, hardware_of, shown}
-use Rattle.world_core.specs.Row.{IsRow}
+use Rattle.world_core.specs.declared.world.Core.{Core}
+use Rattle.world_core.specs.Row.{IsRow, TellsMark}
 use Rattle.world_core.proofs.Cases.{activity_by}
 use Rattle.world_core.proofs.Rows.{same_area, accepted_step, row_at_boot}
 use Rattle.world_core.proofs.Booting.{accepts_step, failed_stands}
-use Rattle.world_core.proofs.Headers.{IsAreaOf, reason_read, slot_read}
+use Rattle.world_core.proofs.Headers.{IsAreaOf, StartsOver, reason_read, slot_read}
+use Rattle.hib_core.specs.Hibernation.{reason_of}
+use Rattle.world_core.specs.Started.{memory_at_start}
 
 -- The slots of fresh memory.
 
@@ -72,43 +79,43 @@ all_true test (x ∷ xs) each = ap (λ (b : Bool). b && list_all test xs) (each 
 
 -- What is held after a boot.
 
-abbrev pub SettlesHeld : Hardware → disk.Content → Memory → Held → Bool → Type 0
-SettlesHeld h c dump held image =
-    (now : Held) × Contains (boot_outcomes h (disk.as_it_reads c) Fresh dump held ++ (reply.ReadFault Same, off held None) ∷ []) (reply.Booted image, on (booted h (disk.as_it_reads c) Fresh dump now))
+abbrev pub SettlesHeld : Hardware → disk.Content → BootFrom → Memory → Held → Bool → Type 0
+SettlesHeld h c from dump held image =
+    (now : Held) × Contains (boot_outcomes h (disk.as_it_reads c) from dump held ++ (reply.ReadFault Same, off held None) ∷ []) (reply.Booted image, on (booted h (disk.as_it_reads c) from dump now))
     × ShowsHeld (cond image Yes No) now × IsHeld h c now
 
-settles_held : (h : Hardware) (c : disk.Content) (dump : Memory) (held : Held) (image : Bool) → disk.IsImage c (disk.as_it_reads c) → HasOneImage c → IsHeld h c held →
-    (image ≡ true → Marked h (disk.as_it_reads c)) → (image ≡ false → Marked h (disk.as_it_reads c) → ⊥) → SettlesHeld h c dump held image
-settles_held h c dump nothing true here one is marked unmarked = absurd (is (disk.as_it_reads c) here (marked refl))
-settles_held h c dump nothing false here one is marked unmarked = (nothing, (0, omega arith, refl), tt, is)
-settles_held h c dump (sure (own i)) true here one is marked unmarked = (sure (own i), (0, omega arith, refl), tt, is)
-settles_held h c dump (sure (own i)) false here one is marked unmarked = absurd (unmarked refl (is (disk.as_it_reads c) here).0.marked)
-settles_held h c dump (sure other) true here one is marked unmarked = (sure other, (0, omega arith, refl), tt, is)
-settles_held h c dump (sure other) false here one is marked unmarked = absurd (unmarked refl (is (disk.as_it_reads c) here))
-settles_held h c dump (maybe (own i)) true here one is marked unmarked = (
+settles_held : (h : Hardware) (c : disk.Content) (from : BootFrom) (dump : Memory) (held : Held) (image : Bool) → disk.IsImage c (disk.as_it_reads c) → HasOneImage c → IsHeld h c held →
+    (image ≡ true → Marked h (disk.as_it_reads c)) → (image ≡ false → Marked h (disk.as_it_reads c) → ⊥) → SettlesHeld h c from dump held image
+settles_held h c from dump nothing true here one is marked unmarked = absurd (is (disk.as_it_reads c) here (marked refl))
+settles_held h c from dump nothing false here one is marked unmarked = (nothing, (0, omega arith, refl), tt, is)
+settles_held h c from dump (sure (own i)) true here one is marked unmarked = (sure (own i), (0, omega arith, refl), tt, is)
+settles_held h c from dump (sure (own i)) false here one is marked unmarked = absurd (unmarked refl (is (disk.as_it_reads c) here).0.marked)
+settles_held h c from dump (sure other) true here one is marked unmarked = (sure other, (0, omega arith, refl), tt, is)
+settles_held h c from dump (sure other) false here one is marked unmarked = absurd (unmarked refl (is (disk.as_it_reads c) here))
+settles_held h c from dump (maybe (own i)) true here one is marked unmarked = (
   sure (own i),
   (1, omega arith, refl),
   tt,
   λ w in'. (elim (is w in').0 [ inl never ↦ absurd (never (subst (Marked h) (one (disk.as_it_reads c) w here in') (marked refl))) | inr holds ↦ holds ], (is w in').1),
 )
-settles_held h c dump (maybe (own i)) false here one is marked unmarked =
+settles_held h c from dump (maybe (own i)) false here one is marked unmarked =
     (nothing, (0, omega arith, refl), tt, λ w in' m. unmarked refl (subst (Marked h) (one w (disk.as_it_reads c) in' here) m))
-settles_held h c dump (maybe other) true here one is marked unmarked =
+settles_held h c from dump (maybe other) true here one is marked unmarked =
     (sure other, (1, omega arith, refl), tt, λ w in'. subst (Marked h) (one (disk.as_it_reads c) w here in') (marked refl))
-settles_held h c dump (maybe other) false here one is marked unmarked =
+settles_held h c from dump (maybe other) false here one is marked unmarked =
     (nothing, (0, omega arith, refl), tt, λ w in' m. unmarked refl (subst (Marked h) (one w (disk.as_it_reads c) in' here) m))
 
 -- What has come about at the end of a boot, over a disk that reads v.
-pub record Ends (old new : World) (v : disk.Image) (image : Bool) : Type 0 where
+pub record Ends (from : BootFrom) (old new : World) (v : disk.Image) (image : Bool) : Type 0 where
   pub core : new.core ≡ Runs
   pub hardware : hardware_of new ≡ hardware_of old
-  pub area : IsAreaOf (hardware_of old) v new.machine.area
-  pub frames : new.frames ≡ with_each_entry (slot_of_area new.machine.area) (range_with_len 0 (hardware_of old).slots) (hardware_of old).slot_table old.frames
+  pub area : StartsOver from (hardware_of old) v old.frames new.machine.area
+  pub frames : new.frames ≡ memory_at_start from (hardware_of old) new.machine.area old.frames
   pub held : new.machine.held ≡ cond image Yes No
   pub marked : image ≡ true → Marked (hardware_of old) v
   pub unmarked : image ≡ false → Marked (hardware_of old) v → ⊥
 
-frames_fresh : (old new : World) (v : disk.Image) (image : Bool) → Ends old new v image → old.frames ≡ fresh_frames (hardware_of old) → new.frames ≡ fresh_memory (hardware_of old) (fresh_slot (hardware_of old) v)
+frames_fresh : (old new : World) (v : disk.Image) (image : Bool) → Ends Fresh old new v image → old.frames ≡ fresh_frames (hardware_of old) → new.frames ≡ fresh_memory (hardware_of old) (fresh_slot (hardware_of old) v)
 unfolding fresh_memory
 frames_fresh old new v image ends fresh =
     let h = hardware_of old in
@@ -128,7 +135,7 @@ fresh_plain h v area s hw is lt e =
     let at = slot_entry-fresh_memory h (fresh_slot h v) s hw (λ k. fresh_small h v area k is) lt in
     ⊎_elim (λ (b : fresh_slot h v s ≡ bad_slot). let r : ⊥ = omega arith in r) (λ (f : fresh_slot h v s ≡ 0). let r : ⊥ = omega arith in r) (fresh_value h v area s is)
 
-shows_running : (old new : World) (v : disk.Image) (image : Bool) (dump : Memory) (now : Held) → Ends old new v image → IsHardware (hardware_of old) → old.frames ≡ fresh_frames (hardware_of old) → ShowsHeld new.machine.held now →
+shows_running : (old new : World) (v : disk.Image) (image : Bool) (dump : Memory) (now : Held) → Ends Fresh old new v image → IsHardware (hardware_of old) → old.frames ≡ fresh_frames (hardware_of old) → ShowsHeld new.machine.held now →
     ShowsRunning (hardware_of old) (shown new) (booted (hardware_of old) v Fresh dump now)
 shows_running old new v image dump now ends hw fresh flag =
     let h = hardware_of old in
@@ -181,7 +188,7 @@ bad_slots_are h v (Ok area) hw is none =
       agree true = refl
       agree false = refl
 
-stands_on : (old new : World) (c : disk.Content) (image : Bool) (dump : Memory) (now : Held) → disk.IsImage c (disk.as_it_reads c) → Ends old new (disk.as_it_reads c) image → IsHardware (hardware_of old) → old.frames ≡ fresh_frames (hardware_of old) →
+stands_on : (old new : World) (c : disk.Content) (image : Bool) (dump : Memory) (now : Held) → disk.IsImage c (disk.as_it_reads c) → Ends Fresh old new (disk.as_it_reads c) image → IsHardware (hardware_of old) → old.frames ≡ fresh_frames (hardware_of old) →
     ShowsHeld new.machine.held now → IsHeld (hardware_of old) c now → IsHeader (hardware_of old) c → StandsFor new c (on (booted (hardware_of old) (disk.as_it_reads c) Fresh dump now))
 stands_on old new c image dump now here ends hw fresh flag held header =
     let h = hardware_of old in
@@ -211,42 +218,136 @@ stands_on old new c image dump now here ends hw fresh flag held header =
     }) in
     record { stands = stands; image = tt; resume = tt }
 
-booting_parts : (w : World) (c : disk.Content) (dump : Memory) (held : Held) → StandsFor w c (booting Fresh dump held 1) → (w.frames ≡ fresh_frames (hardware_of w)) × IsHeld (hardware_of w) c held × IsHeader (hardware_of w) c × HasOneImage c
-booting_parts w c dump held stands = (stands.stands.parts.0, stands.stands.parts.1.0, stands.stands.parts.1.1, stands.stands.parts.2 refl)
+-- A dump's memory runs as it is.
 
-pub boot_ends : (old new : World) (blocks : ℕ) (c : disk.Content) (image : Bool) → disk.IsContent blocks c → old.core ≡ BootSynced → Ends old new (disk.as_it_reads c) image → IsHardware (hardware_of old) → IsRow (event.Step actor.Core) old new (reply.Booted image) c c
-boot_ends old new blocks c image whole core ends hw =
-    row_at_boot (event.Step actor.Core) old new (reply.Booted image) c c 1 (activity_by old BootSynced core)
+-- the tasks' slots of the dump, where the area can be used
+kept_slots : (h : Hardware) (v : disk.Image) (m : Memory) (fault : Option NoSwap) → AreTaskSlots h fault m no_flights (cond (is_none fault) (slots_in h v m) no_slots)
+kept_slots h v m None = record {
+  usable = λ s page e. refl;
+  tasks = λ s page e. (has_page h v m s page e).0;
+  landed = λ s page e. no_target no_flights (λ t. refl) s;
+  paged = λ none s is not. is_paged h v m s is;
+}
+kept_slots h v m (Some why) = record {
+  usable = λ s page e. absurd (none-some page e);
+  tasks = λ s page e. absurd (none-some page e);
+  landed = λ s page e. absurd (none-some page e);
+  paged = λ none s is not. absurd (none-some why (sym none));
+}
+
+kept_pages : (h : Hardware) (v : disk.Image) (m : Memory) (fault : Option NoSwap) (s : ℕ) (page : List ℕ) → cond (is_none fault) (slots_in h v m) no_slots s ≡ Some page → disk.block v (block_of_slot h s) ≡ page
+kept_pages h v m None s page e = (has_page h v m s page e).1
+kept_pages h v m (Some why) s page e = absurd (none-some page e)
+
+kept_reason : (h : Hardware) (v : disk.Image) (m : Memory) (area : Result Area NoSwap) → StartsOver Kept h v m area → dump_area_fault h v m ≡ reason_of area
+kept_reason h v m (Ok area) is = is.1
+kept_reason h v m (Err why) is = is
+
+shows_kept : (old new : World) (v : disk.Image) (image : Bool) (dump : Memory) (now : Held) → Ends Kept old new v image → old.frames ≡ dump → Fits (hardware_of old) dump → ShowsHeld new.machine.held now →
+    ShowsRunning (hardware_of old) (shown new) (booted (hardware_of old) v Kept dump now)
+shows_kept old new v image dump now ends is fits flag =
+    let h = hardware_of old in
+    let frames : new.frames ≡ dump = ends.frames ∙ is in
+    let seen : seen_frames h new.frames ≡ dump = ap (seen_frames h) frames ∙ seen-plain h dump (no_image_slot h dump fits) in
+    record {
+      held = flag;
+      unusable = kept_reason h v dump new.machine.area (subst (λ (m : Memory). StartsOver Kept h v m new.machine.area) is ends.area);
+      flights = λ t. refl;
+      same = subst (IsSameMemory h dump) (sym seen) (same_refl h dump);
+      fits = fits;
+    }
+
+stands_kept : (old new : World) (c : disk.Content) (image : Bool) (dump : Memory) (now : Held) → disk.IsImage c (disk.as_it_reads c) → Ends Kept old new (disk.as_it_reads c) image → old.frames ≡ dump → Fits (hardware_of old) dump →
+    ShowsHeld new.machine.held now → IsHeld (hardware_of old) c now → IsHeader (hardware_of old) c → StandsFor new c (on (booted (hardware_of old) (disk.as_it_reads c) Kept dump now))
+stands_kept old new c image dump now here ends is fits flag held header =
+    let h = hardware_of old in
+    let v = disk.as_it_reads c in
+    let frames : new.frames ≡ dump = ends.frames ∙ is in
+    let stands : Stands (hardware_of new) (shown new) c (on (booted h v Kept dump now)) =
+    subst (λ (g : Hardware). Stands g (shown new) c (on (booted h v Kept dump now))) (sym ends.hardware)
+    (record {
+      activity = activity_by new Runs ends.core;
+      parts = (
+        shows_kept old new v image dump now ends is fits flag,
+        record {
+          held = held;
+          task_slots = kept_slots h v dump (dump_area_fault h v dump);
+          flights = no_flights-owned h (booted h v Kept dump now) (λ t. refl);
+          slot_pages = λ s page e. kept_pages h v dump (dump_area_fault h v dump) s page e;
+          names = names_none h (shown new) c now here (λ s lt e. no_image_slot h dump fits s lt (ap (λ (n : Memory). raw_slot_entry h n s) (sym frames) ∙ e)) held;
+          header = header;
+          area = refl;
+        },
+      );
+    }) in
+    record { stands = stands; image = tt; resume = tt }
+
+-- The end, from either memory.
+
+pub record BootsAt (w : World) (c : disk.Content) (from : BootFrom) (dump : Memory) (held : Held) : Type 0 where
+  pub shows : ShowsBoot (hardware_of w) (shown w) from dump
+  pub held_is : IsHeld (hardware_of w) c held
+  pub header : IsHeader (hardware_of w) c
+  pub one : HasOneImage c
+
+booting_parts : (w : World) (c : disk.Content) (from : BootFrom) (dump : Memory) (held : Held) → StandsFor w c (booting from dump held 1) → BootsAt w c from dump held
+booting_parts w c from dump held stands = record { shows = stands.stands.parts.0; held_is = stands.stands.parts.1.0; header = stands.stands.parts.1.1; one = stands.stands.parts.2 refl }
+
+stands_started : (old new : World) (c : disk.Content) (from : BootFrom) (image : Bool) (dump : Memory) (before now : Held) → disk.IsImage c (disk.as_it_reads c) → Ends from old new (disk.as_it_reads c) image → IsHardware (hardware_of old) → BootsAt old c from dump before →
+    ShowsHeld new.machine.held now → IsHeld (hardware_of old) c now → StandsFor new c (on (booted (hardware_of old) (disk.as_it_reads c) from dump now))
+stands_started old new c Fresh image dump before now here ends hw at flag held = stands_on old new c image dump now here ends hw at.shows flag held at.header
+stands_started old new c Kept image dump before now here ends hw at flag held = stands_kept old new c image dump now here ends at.shows.0 at.shows.1 flag held at.header
+
+pub boot_ends : (old new : World) (blocks : ℕ) (c : disk.Content) (from : BootFrom) (image : Bool) → disk.IsContent blocks c → old.core ≡ BootSynced from → Ends from old new (disk.as_it_reads c) image → IsHardware (hardware_of old) → IsRow (event.Step actor.Core) old new (reply.Booted image) c c
+boot_ends old new blocks c from image whole core ends hw =
+    row_at_boot (event.Step actor.Core) old new (reply.Booted image) c c from 1 (activity_by old (BootSynced from) core)
     (λ dump held stands.
     let h = hardware_of old in
     let v = disk.as_it_reads c in
-    let parts = booting_parts old c dump held stands in
-    let settled = settles_held h c dump held image (IsImage-as_it_reads blocks c whole) parts.3 parts.1 ends.marked ends.unmarked in (
-      on (booted h v Fresh dump settled.0),
+    let here = IsImage-as_it_reads blocks c whole in
+    let at = booting_parts old c from dump held stands in
+    let settled = settles_held h c from dump held image here at.one at.held_is ends.marked ends.unmarked in (
+      on (booted h v from dump settled.0),
       record {
-        step = accepted_step h v (booting Fresh dump held 1) (event.Step actor.Core) (reply.Booted image) (on (booted h v Fresh dump settled.0)) (accepts_step h dump held 1) settled.1;
-        stands = stands_on old new c image dump settled.0 (IsImage-as_it_reads blocks c whole) ends hw parts.0 (subst (λ (f : HeldFlag). ShowsHeld f settled.0) (sym ends.held) settled.2) settled.3 parts.2;
+        step = accepted_step h v (booting from dump held 1) (event.Step actor.Core) (reply.Booted image) (on (booted h v from dump settled.0)) (accepts_step h from dump held 1) settled.1;
+        stands = stands_started old new c from image dump held settled.0 here ends hw at (subst (λ (f : HeldFlag). ShowsHeld f settled.0) (sym ends.held) settled.2) settled.3;
         area = same_area (hardware_of old) (disk.as_it_reads c) (disk.as_it_reads c) refl;
         unwritten = λ b not. block_same b _;
         leaves = tt;
       },
     ))
 
-read_fault_in : (h : Hardware) (v : disk.Image) (dump : Memory) (held : Held) → Contains (boot_outcomes h v Fresh dump held ++ (reply.ReadFault Same, off held None) ∷ []) (reply.ReadFault Same, off held None)
-read_fault_in h v dump nothing = (1, omega arith, refl)
-read_fault_in h v dump (sure x) = (1, omega arith, refl)
-read_fault_in h v dump (maybe x) = (2, omega arith, refl)
+read_fault_in : (h : Hardware) (v : disk.Image) (from : BootFrom) (dump : Memory) (held : Held) → Contains (boot_outcomes h v from dump held ++ (reply.ReadFault Same, off held None) ∷ []) (reply.ReadFault Same, off held None)
+read_fault_in h v from dump nothing = (1, omega arith, refl)
+read_fault_in h v from dump (sure x) = (1, omega arith, refl)
+read_fault_in h v from dump (maybe x) = (2, omega arith, refl)
 
-pub boot_read_fails : (old new : World) (c : disk.Content) → old.core ≡ BootSynced → new.core ≡ Off → hardware_of new ≡ hardware_of old → IsRow (event.Step actor.Core) old new (reply.ReadFault Same) c c
-boot_read_fails old new c core core' hw =
-    row_at_boot (event.Step actor.Core) old new (reply.ReadFault Same) c c 1 (activity_by old BootSynced core)
+pub boot_read_fails : (old new : World) (c : disk.Content) (from : BootFrom) → old.core ≡ BootSynced from → new.core ≡ Off false → hardware_of new ≡ hardware_of old → IsRow (event.Step actor.Core) old new (reply.ReadFault Same) c c
+boot_read_fails old new c from core core' hw =
+    row_at_boot (event.Step actor.Core) old new (reply.ReadFault Same) c c from 1 (activity_by old (BootSynced from) core)
     (λ dump held stands. (
       off held None,
       record {
-        step = accepted_step (hardware_of old) (disk.as_it_reads c) (booting Fresh dump held 1) (event.Step actor.Core) (reply.ReadFault Same) (off held None) (accepts_step (hardware_of old) dump held 1) (read_fault_in (hardware_of old) (disk.as_it_reads c) dump held);
-        stands = failed_stands old new c dump held 1 core' hw stands;
+        step = accepted_step (hardware_of old) (disk.as_it_reads c) (booting from dump held 1) (event.Step actor.Core) (reply.ReadFault Same) (off held None) (accepts_step (hardware_of old) from dump held 1) (read_fault_in (hardware_of old) (disk.as_it_reads c) from dump held);
+        stands = failed_stands old new c from dump held 1 core' hw stands;
         area = same_area (hardware_of old) (disk.as_it_reads c) (disk.as_it_reads c) refl;
         unwritten = λ b not. block_same b _;
         leaves = tt;
       },
     ))
+
+-- What the end says of an image.
+
+abbrev is_loading : Core → Bool
+is_loading Loading = true
+is_loading _ = false
+
+when_marked : (b : Bool) (M : Type 0) → (b ≡ false → M → ⊥) → M → b ≡ true
+when_marked true M un m = refl
+when_marked false M un m = absurd (un refl m)
+
+pub tells_mark : (from : BootFrom) (old new : World) (v : disk.Image) (image : Bool) → old.core ≡ BootSynced from → Ends from old new v image → TellsMark old (reply.Booted image) v
+tells_mark from old new v image core ends = record {
+  boots = λ other is. (ends.marked, when_marked image (Marked (hardware_of old) v) ends.unmarked);
+  finds = λ loads at. absurd (false≢true (sym (ap is_loading core) ∙ ap is_loading loads));
+}

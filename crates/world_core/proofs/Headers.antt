@@ -9,10 +9,12 @@ use Rattle.sig_header.specs.AreaKind.{area_kind, version_1_kind, area_with, mark
 use Rattle.sig_header.specs.declared.area.Area.{Area}
 use Rattle.sig_header.specs.declared.area.AreaKind.{AreaKind}
 use Rattle.sig_header.specs.declared.area.AreaKind.TheVariants.{Image, Old, Other, Swap}
-use Rattle.plain_machine.specs.Machine.{Hardware, block_of_slot, bad_slot}
+use Rattle.plain_machine.specs.Machine.{Hardware, Memory, block_of_slot, bad_slot}
 use Rattle.plain_machine.specs.Chain.{header_of, blocks_of}
 use Rattle.plain_machine.specs.Loader.{has}
-use Rattle.plain_machine.specs.UsableArea.{area_block, area_fault, bad_slots_in}
+use Rattle.plain_machine.specs.UsableArea.{area_block, area_fault, dump_area_fault, bad_slots_in}
+use Rattle.plain_machine.specs.declared.event.BootFrom.{BootFrom}
+use Rattle.plain_machine.specs.declared.event.BootFrom.TheVariants.{Fresh, Kept}
 use Rattle.plain_machine.specs.Step.{fresh_slot}
 use Rattle.plain_machine.specs.declared.no_swap.NoSwap.{NoSwap}
 use Rattle.machine.specs.FreshSlots.{slot_of_area}
@@ -83,3 +85,12 @@ slot_read h v (Ok area) s is =
     ap (λ (kind : AreaKind). cond (has (bad_slots_in kind) s) bad_slot 0) (sym is.0)
     ∙ ap (λ (fault : Option NoSwap). cond (is_some fault || has (bad_slots_in (area_kind (area_block h v))) s) bad_slot 0) (sym is.1)
 slot_read h v (Err why) s is = ap (λ (fault : Option NoSwap). cond (is_some fault || has (bad_slots_in (area_kind (area_block h v))) s) bad_slot 0) (sym is)
+
+-- over a dump's memory it is the block's too, and its bad slots are just those of the memory
+abbrev pub IsKeptAreaOf : Hardware → disk.Image → Memory → Result Area NoSwap → Type 0
+IsKeptAreaOf h v m (Ok area) = (area_kind (area_block h v) ≡ Swap area) × (dump_area_fault h v m ≡ None)
+IsKeptAreaOf h v m (Err why) = dump_area_fault h v m ≡ Some why
+
+abbrev pub StartsOver : BootFrom → Hardware → disk.Image → Memory → Result Area NoSwap → Type 0
+StartsOver Fresh h v m area = IsAreaOf h v area
+StartsOver Kept h v m area = IsKeptAreaOf h v m area

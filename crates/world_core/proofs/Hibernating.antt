@@ -30,7 +30,7 @@ use Rattle.plain_machine.specs.Step.{no_flights}
 use Rattle.world_core.specs.declared.world.Core.{Core}
 use Rattle.world_core.specs.declared.world.Core.TheVariants.{Off, Running as Runs, Hibernating, Loading}
 use Rattle.world_core.specs.World.{World}
-use Rattle.world_core.specs.StandsFor.{StandsFor, hardware_of, shown, shown_at, core_at, core_told}
+use Rattle.world_core.specs.StandsFor.{StandsFor, hardware_of, keeps_dump, shown, shown_at, core_at, core_told}
 use Rattle.world_core.specs.Row.{IsRow, HasRow, Restores}
 use Rattle.world_core.proofs.Cases.{activity_by}
 use Rattle.world_core.proofs.Tasks.{names_same}
@@ -131,13 +131,13 @@ shown_in w activity header copies loaded = record {
   loaded = loaded;
 }
 
-kept_same : (w : World) (activity : Activity) (header copies : List ℕ) (loaded : List (ℕ × List ℕ)) (kept : Option Memory) → ShowsKept (hardware_of w) (shown_in w activity header copies loaded) kept → ShowsKept (hardware_of w) (shown w) kept
-kept_same w activity header copies loaded None shows = shows
-kept_same w activity header copies loaded (Some m) shows = shows
+kept_same : (w : World) (activity : Activity) (header copies : List ℕ) (loaded : List (ℕ × List ℕ)) (kept : Option Memory) → w.core ≡ Off false → ShowsKept (hardware_of w) (shown_in w activity header copies loaded) kept → ShowsKept (hardware_of w) (shown w) kept
+kept_same w activity header copies loaded None core shows = ap keeps_dump core
+kept_same w activity header copies loaded (Some m) core shows = absurd (false≢true shows.0)
 
-pub then_off : (w : World) (c : disk.Content) (activity : Activity) (header copies : List ℕ) (loaded : List (ℕ × List ℕ)) (held : Held) (kept : Option Memory) → w.core ≡ Off → Stands (hardware_of w) (shown_in w activity header copies loaded) c (off held kept) → StandsFor w c (off held kept)
+pub then_off : (w : World) (c : disk.Content) (activity : Activity) (header copies : List ℕ) (loaded : List (ℕ × List ℕ)) (held : Held) (kept : Option Memory) → w.core ≡ Off false → Stands (hardware_of w) (shown_in w activity header copies loaded) c (off held kept) → StandsFor w c (off held kept)
 then_off w c activity header copies loaded held kept core stands = record {
-  stands = record { activity = activity_by w Off core; parts = (kept_same w activity header copies loaded kept stands.parts.0, stands.parts.1) };
+  stands = record { activity = activity_by w (Off false) core; parts = (kept_same w activity header copies loaded kept core stands.parts.0, stands.parts.1) };
   image = tt;
   resume = tt;
 }

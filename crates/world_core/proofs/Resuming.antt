@@ -1,5 +1,4 @@
 -- What the rows of a resume say of the world that makes them.
-use Rattle.protocol_laws.proofs.Unwritten.{block_same}
 use Rattle.std.proofs.Common.{◌≡◌, ℕ, Bool, true, false, [], Option, Some, None, Result, Ok, Err, refl, sym, ap, ◌∙◌, subst}
 use Rattle.std.specs.List.{zip}
 use Rattle.std.proofs.lemmas.Bool.{false≢true}
@@ -9,7 +8,7 @@ use Rattle.plain_machine.specs.Machine.{Hardware, Memory}
 use Rattle.plain_machine.specs.Shows.{Shown, Activity, rests, runs, loads}
 use Rattle.plain_machine.specs.State.{State, off, on, booting, hibernating, undoing, settling, waking, loading, asleep, Running, Held, Load as Resume}
 use Rattle.plain_machine.specs.Stands.{Stands}
-use Rattle.plain_machine.specs.Refusals.{refusal}
+use Rattle.plain_machine.specs.Refusals.{refusal, asks_dump_to_load}
 use Rattle.plain_machine.specs.declared.event.Event.TheVariants as event
 use Rattle.plain_machine.specs.declared.event.Actor.TheVariants as actor
 use Rattle.plain_machine.specs.declared.event.Loader.{Loader}
@@ -33,13 +32,10 @@ use Rattle.world_core.specs.declared.world.Core.{Core}
 use Rattle.world_core.specs.declared.world.Core.TheVariants.{Off, Running as Runs, BootBegun, BootSynced, Hibernating, Loading}
 use Rattle.world_core.specs.World.{World}
 use Rattle.world_core.specs.Kept.{IsUp}
-use Rattle.world_core.specs.StandsFor.{StandsFor, hardware_of, shown, shown_at, core_at, core_resumed}
+use Rattle.world_core.specs.StandsFor.{StandsFor, IsOff, hardware_of, keeps_dump, shown, shown_at, core_at, core_resumed}
 use Rattle.world_core.specs.Row.{IsRow, HasRow, Restores}
-use Rattle.world_core.proofs.Booting.{no_kept}
-use Rattle.world_core.proofs.Cases.{activity_by, at_run}
-use Rattle.plain_machine.specs.Step.{Step}
 use Rattle.world_core.proofs.Hibernating.{shown_in, then_off, then_running}
-use Rattle.world_core.proofs.Rows.{refused_step, row_at_rest, same_area}
+use Rattle.world_core.proofs.Rows.{row_at_rest}
 
 -- What a resume is at.
 
@@ -106,8 +102,9 @@ never_hibernates stage.Read made e = false≢true (ap is_hibernating e)
 
 -- a world by what it has answered to a step of its resume
 pub record IsAfter (load : Load) (r : Reply) (core : Core) : Type 0 where
-  pub core_is : core ≡ core_resumed r
-  pub told : resumption.activity_of load ≡ resumption.activity_told r
+  pub loader : Loader
+  pub core_is : core ≡ core_resumed loader r
+  pub told : resumption.activity_of load ≡ resumption.activity_told loader r
 
 core_now : (load : Load) (r : Reply) (core : Core) → IsAfter load r core → core ≡ core_at (resumption.activity_of load)
 core_now load r core is = is.core_is ∙ sym (ap core_at is.told)
@@ -123,10 +120,10 @@ usable_after machine frames runs_of load r core is can e =
     (subst (λ (s : Stage). CanMake s machine frames runs_of load) (runs_at load.stage load.made (sym (core_now load r core is) ∙ e)) can.next).1
 
 pub usable_up : (machine : Machine) (frames : Memory) (runs_of : SlotRuns) (load : Load) (r : Reply) (core : Core) → IsAfter load r core → CanStep machine frames runs_of load → IsUp core → IsUsable machine
-usable_up machine frames runs_of load r Off after can up = absurd up
+usable_up machine frames runs_of load r (Off keeps) after can up = absurd up
 usable_up machine frames runs_of load r Runs after can up = usable_after machine frames runs_of load r Runs after can refl
-usable_up machine frames runs_of load r BootBegun after can up = absurd up
-usable_up machine frames runs_of load r BootSynced after can up = absurd up
+usable_up machine frames runs_of load r (BootBegun from) after can up = absurd up
+usable_up machine frames runs_of load r (BootSynced from) after can up = absurd up
 usable_up machine frames runs_of load r Hibernating after can up = idle_after load r Hibernating after refl
 usable_up machine frames runs_of load r Loading after can up = absurd up
 
@@ -167,8 +164,8 @@ still_loading w c load k core stands = record {
 }
 
 -- what stands for a state after a step
-standing : (machine : Machine) (frames : Memory) (load : Load) (c : disk.Content) (b : State) → resume_row.StandsAfter machine frames load c b → resume_row.StandsFor machine frames load c b
-standing machine frames load c b after = record { stands = after.stands; resume = after.resume }
+standing : (machine : Machine) (frames : Memory) (load : Load) (r : Reply) (a : State) (c : disk.Content) (b : State) → resume_row.StandsAfter machine frames load r a c b → resume_row.StandsFor machine frames load c b
+standing machine frames load r a c b after = record { stands = after.stands; resume = after.resume }
 
 -- the states of a resume are those of the world that is at what it is at
 world_stands : (w : World) (c : disk.Content) (b : State) → w.core ≡ core_at (resumption.activity_of w.load) → resume_row.StandsFor w.machine w.frames w.load c b → StandsFor w c b
@@ -186,34 +183,25 @@ world_stands w c (asleep i held a) core stands = never_at w.load _ refl stands.s
 
 -- The rows.
 
-refuses_table : (h : Hardware) (held : Held) (kept : Option Memory) (check : IdentCheck) → kept ≡ None → refusal h (off held kept) (event.Resume loaders.Table check) ≡ Some reply.NoDump
+pub refuses_table : (h : Hardware) (held : Held) (loader : Loader) (check : IdentCheck) → asks_dump_to_load loader ≡ true → refusal h (off held None) (event.Resume loader check) ≡ Some reply.NoDump
 unfolding refusal
-refuses_table h held kept check none = ap (λ (k : Option Memory). refusal h (off held k) (event.Resume loaders.Table check)) none
+refuses_table h held (loaders.Ranges ranges) check asks = absurd (false≢true asks)
+refuses_table h held loaders.Table check asks = refl
 
--- no dump is kept
-pub no_table : (w : World) (c : disk.Content) (check : IdentCheck) → w.core ≡ Off → IsRow (event.Resume loaders.Table check) w w reply.NoDump c c
-no_table w c check core =
-    row_at_rest (event.Resume loaders.Table check) w w reply.NoDump c c core
-    (λ held kept stands. (
-      off held kept,
-      record {
-        step = refused_step (hardware_of w) (disk.as_it_reads c) (off held kept) (event.Resume loaders.Table check) reply.NoDump (refuses_table (hardware_of w) held kept check (no_kept w c held kept stands));
-        stands = stands;
-        area = same_area (hardware_of w) (disk.as_it_reads c) (disk.as_it_reads c) refl;
-        unwritten = λ b not. block_same b _;
-        leaves = tt;
-      },
-    ))
+-- the loader's memory is the dump's, where it asks for one
+loader_memory : (old : World) (frames : Memory) (loader : Loader) → frames ≡ old.frames → (asks_dump_to_load loader ≡ true → keeps_dump old.core ≡ true) → resume_row.HasLoaderMemory loader frames (shown old)
+loader_memory old frames (loaders.Ranges ranges) same dump = tt
+loader_memory old frames loaders.Table same dump = (dump refl, sym same)
 
-pub row_of_begin : (old new : World) (loader : Loader) (check : IdentCheck) (r : Reply) (c : disk.Content) → old.core ≡ Off → IsAfter new.load r new.core → hardware_of new ≡ hardware_of old →
-    resume_row.BeginsRow new.machine new.frames new.load loader check r → IsRow (event.Resume loader check) old new r c c
-row_of_begin old new loader check r c core after hw row =
-    row_at_rest (event.Resume loader check) old new r c c core
+pub row_of_begin : (old new : World) (frames : Memory) (loader : Loader) (check : IdentCheck) (r : Reply) (c : disk.Content) → IsOff old → IsAfter new.load r new.core → hardware_of new ≡ hardware_of old → frames ≡ old.frames → (asks_dump_to_load loader ≡ true → keeps_dump old.core ≡ true) →
+    resume_row.BeginsRow new.machine frames new.frames new.load loader check r → IsRow (event.Resume loader check) old new r c c
+row_of_begin old new frames loader check r c resting after hw same dump row =
+    row_at_rest (event.Resume loader check) old new r c c resting
     (λ held kept stands.
-    let led = row (shown old) c held kept (activity_by old Off core, refl) (subst (λ (h : Hardware). Stands h (shown old) c (off held kept)) (sym hw) stands.stands) in (
+    let led = row (shown old) c held kept (loader_memory old frames loader same dump) (subst (λ (h : Hardware). Stands h (shown old) c (off held kept)) (sym hw) stands.stands) in (
       led.0,
       subst (λ (h : Hardware). rows.Leads h (StandsFor new) (event.Resume loader check) r c c (off held kept) led.0) hw
-          (record { step = led.1.step; stands = world_stands new c led.0 (core_now new.load r new.core after) (standing new.machine new.frames new.load c led.0 led.1.stands); area = led.1.area; unwritten = led.1.unwritten; leaves = led.1.leaves }),
+          (record { step = led.1.step; stands = world_stands new c led.0 (core_now new.load r new.core after) (standing new.machine new.frames new.load r (off held kept) c led.0 led.1.stands); area = led.1.area; unwritten = led.1.unwritten; leaves = led.1.leaves }),
     ))
 
 pub row_of_step : (old new : World) (r : Reply) (before now : Option disk.Content) → old.core ≡ Loading → IsAfter new.load r new.core →
@@ -225,24 +213,15 @@ row_of_step old new r before now core after row k is =
       λ a stands.
           let goes = at.2 a (resume_stands old k a core stands) in (
             goes.0,
-            record { step = goes.1.step; stands = world_stands new at.0 goes.0 (core_now new.load r new.core after) (standing new.machine new.frames new.load at.0 goes.0 goes.1.stands); area = goes.1.area; unwritten = goes.1.unwritten; leaves = goes.1.leaves },
+            record { step = goes.1.step; stands = world_stands new at.0 goes.0 (core_now new.load r new.core after) (standing new.machine new.frames new.load r a at.0 goes.0 goes.1.stands); area = goes.1.area; unwritten = goes.1.unwritten; leaves = goes.1.leaves },
           ),
     )
 
--- the memory and the area of a machine that has resumed
-has_resumed : (new : World) (r : Reply) (c' : disk.Content) (h : Hardware) (v : disk.Image) (load : Resume) (k : ℕ) (b : State) → resumption.activity_of new.load ≡ runs → Step h v (loading load k) (event.Step actor.Core) r b →
-    resume_row.StandsAfter new.machine new.frames new.load c' b → (a : Running) × Step h v (loading load k) (event.Step actor.Core) r (on a) × resume_row.HasResumed new.machine new.frames c' a
-has_resumed new r c' h v load k b told step stands =
-    let at = at_run b (sym told ∙ stands.stands.activity) in (
-      at.0,
-      subst (λ (t : State). Step h v (loading load k) (event.Step actor.Core) r t) at.1 step,
-      subst (resume_row.HasEnded new.machine new.frames c') at.1 stands.ended,
-    )
-
-pub restores_at : (old new : World) (r : Reply) (before now : Option disk.Content) → old.core ≡ Loading → IsAfter new.load r new.core →
+-- the memory and the area that a resume leaves
+pub restores_at : (old new : World) (r : Reply) (before now : Option disk.Content) → old.core ≡ Loading →
     resume_row.HasRow old.machine old.frames old.load new.machine new.frames new.load (event.Step actor.Core) r before now → Restores (event.Step actor.Core) old new r before now
-restores_at old new (reply.Resumed n) before now core after row = λ c is load k stands.
+restores_at old new (reply.Resumed n) before now core row = λ c is load k stands.
     let at = row c is in
     let goes = at.2 (loading load k) (resume_stands old c (loading load k) core stands) in
-    (at.0, at.1, has_resumed new (reply.Resumed n) at.0 (hardware_of old) (disk.as_it_reads c) load k goes.0 after.told goes.1.step goes.1.stands)
-restores_at old new _ before now core after row = tt
+    (at.0, at.1, (goes.0, goes.1.step, goes.1.stands.ended))
+restores_at old new _ before now core row = tt

@@ -12,7 +12,6 @@ use Rattle.plain_machine.specs.Refusals.{start_refusal, asks_dump_to_boot, asks_
 use Rattle.plain_machine.specs.Stands.{Stands}
 use Rattle.plain_machine.specs.Shows.{Activity, rests, runs, boots, sleeps, activity_in}
 use Rattle.plain_machine.specs.declared.event.BootFrom.{BootFrom}
-use Rattle.plain_machine.specs.declared.event.BootFrom.TheVariants.{Fresh}
 use Rattle.plain_machine.specs.declared.event.Event.{Event}
 use Rattle.plain_machine.specs.declared.event.Loader.{Loader}
 use Rattle.plain_machine.specs.declared.event.IdentCheck.{IdentCheck}
@@ -39,9 +38,9 @@ use Rattle.world_core.specs.declared.world.Core.TheVariants.{Off, Running as Run
 use Rattle.world_core.specs.declared.world.World.TheInside.{Inside}
 use Rattle.world_core.specs.World.{World}
 use Rattle.world_core.specs.Kept.{kept_world, IsKept, IsUp}
-use Rattle.world_core.specs.StandsFor.{StandsFor, IsBusyIn, activity_of, hardware_of, shown}
+use Rattle.world_core.specs.StandsFor.{StandsFor, IsBusyIn, IsOff, activity_of, is_off, hardware_of, shown}
 use Rattle.world_core.specs.Row.{GoesOn, IsRow, IsServed}
-use Rattle.world_core.proofs.Cases.{activity_for, activity_by, at_rest, at_run, at_boot}
+use Rattle.world_core.proofs.Cases.{activity_for, activity_by, rests_by, at_rest, at_run, at_boot}
 
 pub refused_step : (h : Hardware) (v : disk.Image) (a : State) (e : Event) (r : Reply) → refusal h a e ≡ Some r → Step h v a e r a
 unfolding outcomes
@@ -112,46 +111,46 @@ load_underway load_stage.SyncBack made busy = refl
 load_underway load_stage.List made busy = refl
 load_underway load_stage.Read made busy = refl
 
-abbrev is_idle : Core → Bool
-is_idle Off = true
+abbrev pub is_idle : Core → Bool
+is_idle (Off keeps) = true
 is_idle Runs = true
-is_idle BootBegun = false
-is_idle BootSynced = false
+is_idle (BootBegun from) = false
+is_idle (BootSynced from) = false
 is_idle Hibernating = false
 is_idle Loading = false
 
 core_underway : (core : Core) (hib : Hib) (load : Load) → (core ≡ Hibernating → IsBusy hib) → (core ≡ Loading → resume_ready.IsBusy load) → is_idle core ≡ false → is_underway (activity_of core hib load) ≡ true
-core_underway Off hib load busy loads no_idle = absurd (false≢true (sym no_idle))
+core_underway (Off keeps) hib load busy loads no_idle = absurd (false≢true (sym no_idle))
 core_underway Runs hib load busy loads no_idle = absurd (false≢true (sym no_idle))
-core_underway BootBegun hib load busy loads no_idle = refl
-core_underway BootSynced hib load busy loads no_idle = refl
+core_underway (BootBegun from) hib load busy loads no_idle = refl
+core_underway (BootSynced from) hib load busy loads no_idle = refl
 core_underway Hibernating hib load busy loads no_idle = busy_underway hib.stage hib.made (busy refl)
 core_underway Loading hib load busy loads no_idle = load_underway load.stage load.made (loads refl)
 
-core_off : (w : World) (core : Core) → IsBusyIn w → w.core ≡ core → activity_of core w.hib w.load ≡ rests → core ≡ Off
-core_off w Off busy e rest = refl
+core_off : (w : World) (core : Core) → IsBusyIn w → w.core ≡ core → activity_of core w.hib w.load ≡ rests → is_off core ≡ true
+core_off w (Off keeps) busy e rest = refl
 core_off w Runs busy e rest = absurd (false≢true (ap is_rest rest))
-core_off w BootBegun busy e rest = absurd (false≢true (ap is_rest rest))
-core_off w BootSynced busy e rest = absurd (false≢true (ap is_rest rest))
+core_off w (BootBegun from) busy e rest = absurd (false≢true (ap is_rest rest))
+core_off w (BootSynced from) busy e rest = absurd (false≢true (ap is_rest rest))
 core_off w Hibernating busy e rest = absurd (false≢true (sym (ap is_underway rest) ∙ busy_underway w.hib.stage w.hib.made (busy.hibernates e)))
 core_off w Loading busy e rest = absurd (false≢true (sym (ap is_underway rest) ∙ load_underway w.load.stage w.load.made (busy.resumes e)))
 
-never_off : (w : World) (c : disk.Content) (a : State) → IsBusyIn w → w.core ≢ Off → StandsFor w c a → (held : Held) (kept : Option Memory) → a ≡ off held kept → ⊥
+never_off : (w : World) (c : disk.Content) (a : State) → IsBusyIn w → (IsOff w → ⊥) → StandsFor w c a → (held : Held) (kept : Option Memory) → a ≡ off held kept → ⊥
 never_off w c a busy no_off stands held kept e = no_off (core_off w w.core busy refl (activity_for w c a stands ∙ ap activity_in e))
 
-pub not_off : (w : World) (c : disk.Content) (a : State) (from : BootFrom) → IsBusyIn w → w.core ≢ Off → StandsFor w c a → refusal (hardware_of w) a (event.Boot from) ≡ Some reply.NotOff
+pub not_off : (w : World) (c : disk.Content) (a : State) (from : BootFrom) → IsBusyIn w → (IsOff w → ⊥) → StandsFor w c a → refusal (hardware_of w) a (event.Boot from) ≡ Some reply.NotOff
 not_off w c a from busy no_off stands = not_off_by (hardware_of w) a from (never_off w c a busy no_off stands)
 
-pub resume_not_off : (w : World) (c : disk.Content) (a : State) (loader : Loader) (check : IdentCheck) → IsBusyIn w → w.core ≢ Off → StandsFor w c a → refusal (hardware_of w) a (event.Resume loader check) ≡ Some reply.NotOff
+pub resume_not_off : (w : World) (c : disk.Content) (a : State) (loader : Loader) (check : IdentCheck) → IsBusyIn w → (IsOff w → ⊥) → StandsFor w c a → refusal (hardware_of w) a (event.Resume loader check) ≡ Some reply.NotOff
 resume_not_off w c a loader check busy no_off stands = resume_not_off_by (hardware_of w) a loader check (never_off w c a busy no_off stands)
 
 not_on_by : (h : Hardware) (a : State) (t : ℕ) (o : TaskOp) → (held : Held) (kept : Option Memory) → a ≡ off held kept → refusal h a (event.Task t o) ≡ Some reply.NotOn
 unfolding refusal
 not_on_by h a t o held kept e = ap (λ (b : State). refusal h b (event.Task t o)) e
 
-pub not_on : (w : World) (c : disk.Content) (a : State) (t : ℕ) (o : TaskOp) → w.core ≡ Off → StandsFor w c a → refusal (hardware_of w) a (event.Task t o) ≡ Some reply.NotOn
+pub not_on : (w : World) (c : disk.Content) (a : State) (t : ℕ) (o : TaskOp) → IsOff w → StandsFor w c a → refusal (hardware_of w) a (event.Task t o) ≡ Some reply.NotOn
 not_on w c a t o e stands =
-    let rest = at_rest a (sym (activity_by w Off e) ∙ activity_for w c a stands) in
+    let rest = at_rest a (sym (rests_by w e) ∙ activity_for w c a stands) in
     not_on_by (hardware_of w) a t o rest.0 rest.1 rest.2
 
 -- what is under way isn't disturbed
@@ -166,22 +165,22 @@ frozen_by (waking i held r k) test e = refl
 frozen_by (loading load k) test e = refl
 frozen_by (asleep i held r) test e = absurd (false≢true e)
 
-taken_not_idle : (core : Core) → core ≢ Off → core ≢ Runs → is_idle core ≡ false
-taken_not_idle Off no_off no_run = absurd (no_off refl)
+taken_not_idle : (core : Core) → (is_off core ≡ true → ⊥) → core ≢ Runs → is_idle core ≡ false
+taken_not_idle (Off keeps) no_off no_run = absurd (no_off refl)
 taken_not_idle Runs no_off no_run = absurd (no_run refl)
-taken_not_idle BootBegun no_off no_run = refl
-taken_not_idle BootSynced no_off no_run = refl
+taken_not_idle (BootBegun from) no_off no_run = refl
+taken_not_idle (BootSynced from) no_off no_run = refl
 taken_not_idle Hibernating no_off no_run = refl
 taken_not_idle Loading no_off no_run = refl
 
-underway : (w : World) (c : disk.Content) (a : State) → IsBusyIn w → w.core ≢ Off → w.core ≢ Runs → StandsFor w c a → is_underway (activity_in a) ≡ true
+underway : (w : World) (c : disk.Content) (a : State) → IsBusyIn w → (IsOff w → ⊥) → w.core ≢ Runs → StandsFor w c a → is_underway (activity_in a) ≡ true
 underway w c a busy no_off no_run stands = sym (ap is_underway (activity_for w c a stands)) ∙ core_underway w.core w.hib w.load busy.hibernates busy.resumes (taken_not_idle w.core no_off no_run)
 
-pub frozen_task : (w : World) (c : disk.Content) (a : State) (t : ℕ) (o : TaskOp) → IsBusyIn w → w.core ≢ Off → w.core ≢ Runs → StandsFor w c a → refusal (hardware_of w) a (event.Task t o) ≡ Some reply.Frozen
+pub frozen_task : (w : World) (c : disk.Content) (a : State) (t : ℕ) (o : TaskOp) → IsBusyIn w → (IsOff w → ⊥) → w.core ≢ Runs → StandsFor w c a → refusal (hardware_of w) a (event.Task t o) ≡ Some reply.Frozen
 unfolding refusal
 frozen_task w c a t o busy no_off no_run stands = frozen_by a (task_refusal (hardware_of w) t o) (underway w c a busy no_off no_run stands)
 
-pub frozen_hibernate : (w : World) (c : disk.Content) (a : State) (f : Format) → IsBusyIn w → w.core ≢ Off → w.core ≢ Runs → StandsFor w c a → refusal (hardware_of w) a (event.Hibernate f) ≡ Some reply.Frozen
+pub frozen_hibernate : (w : World) (c : disk.Content) (a : State) (f : Format) → IsBusyIn w → (IsOff w → ⊥) → w.core ≢ Runs → StandsFor w c a → refusal (hardware_of w) a (event.Hibernate f) ≡ Some reply.Frozen
 unfolding refusal
 frozen_hibernate w c a f busy no_off no_run stands = frozen_by a (hibernate_refusal (hardware_of w) f) (underway w c a busy no_off no_run stands)
 
@@ -189,9 +188,9 @@ hibernate_not_on_by : (h : Hardware) (a : State) (f : Format) → (held : Held) 
 unfolding refusal
 hibernate_not_on_by h a f held kept e = ap (λ (b : State). refusal h b (event.Hibernate f)) e
 
-pub hibernate_not_on : (w : World) (c : disk.Content) (a : State) (f : Format) → w.core ≡ Off → StandsFor w c a → refusal (hardware_of w) a (event.Hibernate f) ≡ Some reply.NotOn
+pub hibernate_not_on : (w : World) (c : disk.Content) (a : State) (f : Format) → IsOff w → StandsFor w c a → refusal (hardware_of w) a (event.Hibernate f) ≡ Some reply.NotOn
 hibernate_not_on w c a f e stands =
-    let rest = at_rest a (sym (activity_by w Off e) ∙ activity_for w c a stands) in
+    let rest = at_rest a (sym (rests_by w e) ∙ activity_for w c a stands) in
     hibernate_not_on_by (hardware_of w) a f rest.0 rest.1 rest.2
 
 idle_off : (h : Hardware) (a : State) (x : Actor) (held : Held) (kept : Option Memory) → a ≡ off held kept → refusal h a (event.Step x) ≡ Some reply.Idle
@@ -202,20 +201,33 @@ idle_on : (h : Hardware) (a : State) (r : Running) → a ≡ on r → refusal h 
 unfolding refusal
 idle_on h a r e = ap (λ (b : State). refusal h b (event.Step actor.Core)) e
 
-pub idle_core : (w : World) (c : disk.Content) (a : State) → StandsFor w c a → (w.core ≡ Off) ⊎ (w.core ≡ Runs) → refusal (hardware_of w) a (event.Step actor.Core) ≡ Some reply.Idle
+pub idle_core : (w : World) (c : disk.Content) (a : State) → StandsFor w c a → IsOff w ⊎ (w.core ≡ Runs) → refusal (hardware_of w) a (event.Step actor.Core) ≡ Some reply.Idle
 idle_core w c a stands (inl e) =
-    let rest = at_rest a (sym (activity_by w Off e) ∙ activity_for w c a stands) in
+    let rest = at_rest a (sym (rests_by w e) ∙ activity_for w c a stands) in
     idle_off (hardware_of w) a actor.Core rest.0 rest.1 rest.2
 idle_core w c a stands (inr e) =
     let run = at_run a (sym (activity_by w Runs e) ∙ activity_for w c a stands) in
     idle_on (hardware_of w) a run.0 run.1
 
 -- what a world is at, by its fields
-pub is_taken : (core : Core) → (core ≡ BootBegun) ⊎ ((core ≡ BootSynced) ⊎ ((core ≡ Hibernating) ⊎ (core ≡ Loading))) → (core ≢ Off) × (core ≢ Runs)
-is_taken core (inl e) = (λ o. absurd (false≢true (ap is_idle (sym e ∙ o))), λ o. absurd (false≢true (ap is_idle (sym e ∙ o))))
-is_taken core (inr (inl e)) = (λ o. absurd (false≢true (ap is_idle (sym e ∙ o))), λ o. absurd (false≢true (ap is_idle (sym e ∙ o))))
-is_taken core (inr (inr (inl e))) = (λ o. absurd (false≢true (ap is_idle (sym e ∙ o))), λ o. absurd (false≢true (ap is_idle (sym e ∙ o))))
-is_taken core (inr (inr (inr e))) = (λ o. absurd (false≢true (ap is_idle (sym e ∙ o))), λ o. absurd (false≢true (ap is_idle (sym e ∙ o))))
+abbrev pub IsTaken : Core → Type 0
+IsTaken core = (is_off core ≡ true → ⊥) × (core ≢ Runs)
+
+taken_by : (core : Core) → is_idle core ≡ false → IsTaken core
+taken_by core busy = (λ e. idle_off_core core e busy, λ e. false≢true (sym busy ∙ ap is_idle e)) where
+  idle_off_core : (x : Core) → is_off x ≡ true → is_idle x ≡ false → ⊥
+  idle_off_core (Off keeps) e idle = false≢true (sym idle)
+  idle_off_core Runs e idle = false≢true e
+  idle_off_core (BootBegun from) e idle = false≢true e
+  idle_off_core (BootSynced from) e idle = false≢true e
+  idle_off_core Hibernating e idle = false≢true e
+  idle_off_core Loading e idle = false≢true e
+
+pub is_taken : (core : Core) → ((from : BootFrom) × (core ≡ BootBegun from)) ⊎ (((from : BootFrom) × (core ≡ BootSynced from)) ⊎ ((core ≡ Hibernating) ⊎ (core ≡ Loading))) → IsTaken core
+is_taken core (inl e) = taken_by core (ap is_idle e.1)
+is_taken core (inr (inl e)) = taken_by core (ap is_idle e.1)
+is_taken core (inr (inr (inl e))) = taken_by core (ap is_idle e)
+is_taken core (inr (inr (inr e))) = taken_by core (ap is_idle e)
 
 pub busy_in : (inside : Inside) (w : World) → kept_world inside ≡ w → IsKept inside → IsBusyIn w
 busy_in inside w is kept = subst IsBusyIn is (record { hibernates = λ e. (kept.busy e).1; resumes = λ e. (kept.loads e).1 })
@@ -225,9 +237,9 @@ is_up core e = subst IsUp (sym e) tt
 
 -- Rows from a state that is known by what the world is at.
 
-pub row_at_rest : (e : Event) (old new : World) (r : Reply) (c c' : disk.Content) → old.core ≡ Off → ((held : Held) (kept : Option Memory) → StandsFor old c (off held kept) → (b : State) × GoesOn e old new r c c' (off held kept) b) → IsRow e old new r c c'
+pub row_at_rest : (e : Event) (old new : World) (r : Reply) (c c' : disk.Content) → IsOff old → ((held : Held) (kept : Option Memory) → StandsFor old c (off held kept) → (b : State) × GoesOn e old new r c c' (off held kept) b) → IsRow e old new r c c'
 row_at_rest e old new r c c' core goes a stands =
-    let rest = at_rest a (sym (activity_by old Off core) ∙ activity_for old c a stands) in
+    let rest = at_rest a (sym (rests_by old core) ∙ activity_for old c a stands) in
     subst (λ (s : State). (b : State) × GoesOn e old new r c c' s b) (sym rest.2) (goes rest.0 rest.1 (subst (StandsFor old c) rest.2 stands))
 
 pub row_at_run : (e : Event) (old new : World) (r : Reply) (c c' : disk.Content) → old.core ≡ Runs → ((a : Running) → StandsFor old c (on a) → (b : State) × GoesOn e old new r c c' (on a) b) → IsRow e old new r c c'
@@ -235,9 +247,9 @@ row_at_run e old new r c c' core goes a stands =
     let run = at_run a (sym (activity_by old Runs core) ∙ activity_for old c a stands) in
     subst (λ (s : State). (b : State) × GoesOn e old new r c c' s b) (sym run.1) (goes run.0 (subst (StandsFor old c) run.1 stands))
 
-pub row_at_boot : (e : Event) (old new : World) (r : Reply) (c c' : disk.Content) (k : ℕ) → activity_of old.core old.hib old.load ≡ boots Fresh k → ((dump : Memory) (held : Held) → StandsFor old c (booting Fresh dump held k) → (b : State) × GoesOn e old new r c c' (booting Fresh dump held k) b) → IsRow e old new r c c'
-row_at_boot e old new r c c' k core goes a stands =
-    let boot = at_boot a k (sym core ∙ activity_for old c a stands) in
+pub row_at_boot : (e : Event) (old new : World) (r : Reply) (c c' : disk.Content) (from : BootFrom) (k : ℕ) → activity_of old.core old.hib old.load ≡ boots from k → ((dump : Memory) (held : Held) → StandsFor old c (booting from dump held k) → (b : State) × GoesOn e old new r c c' (booting from dump held k) b) → IsRow e old new r c c'
+row_at_boot e old new r c c' from k core goes a stands =
+    let boot = at_boot a from k (sym core ∙ activity_for old c a stands) in
     subst (λ (s : State). (b : State) × GoesOn e old new r c c' s b) (sym boot.2) (goes boot.0 boot.1 (subst (StandsFor old c) boot.2 stands))
 
 -- No task has an operation.

@@ -14,10 +14,10 @@ kept_world a = record { machine = a.machine; frames = a.frames; hib = a.hib; loa
 
 -- a machine that runs, or hibernates, has its area
 abbrev pub IsUp : Core → Type 0
-IsUp Off = ⊥
+IsUp (Off keeps) = ⊥
 IsUp Running = ⊤
-IsUp BootBegun = ⊥
-IsUp BootSynced = ⊥
+IsUp (BootBegun from) = ⊥
+IsUp (BootSynced from) = ⊥
 IsUp Hibernating = ⊤
 IsUp Loading = ⊥
 

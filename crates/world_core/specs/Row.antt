@@ -1,15 +1,21 @@
 -- What an event makes of a world and its disk.
-use Rattle.std.specs.Prelude.{◌≡◌, ◌≢◌, ◌⊎◌, ℕ, Option, Some, ⊤}
+use Rattle.std.specs.Prelude.{◌≡◌, ◌≢◌, ◌⊎◌, ◌↔◌, ℕ, true, Option, Some, ⊤}
 use Rattle.definitions.specs.Disk as disk
-use Rattle.plain_machine.specs.State.{State, on, loading, Load, Running}
+use Rattle.plain_machine.specs.Machine.{Hardware}
+use Rattle.plain_machine.specs.Chain.{Marked}
+use Rattle.plain_machine.specs.declared.event.BootFrom.{BootFrom}
+use Rattle.plain_machine.specs.State.{State, loading, Load}
 use Rattle.plain_machine.specs.Step.{Step}
 use Rattle.plain_machine.specs.declared.event.Actor.TheVariants as actor
+use Rattle.resume_core.specs.Loading.{FindsMark}
 use Rattle.resume_core.specs.Row.{HasResumed}
+use Rattle.resume_core.specs.declared.load.Stage.TheVariants as stage
 use Rattle.plain_machine.specs.declared.event.Event.{Event}
 use Rattle.plain_machine.specs.declared.event.Event.TheVariants as event
 use Rattle.plain_machine.specs.declared.reply.Reply.{Reply}
 use Rattle.plain_machine.specs.declared.reply.Reply.TheVariants as reply
 use Rattle.protocol_laws.specs.Rows as rows
+use Rattle.world_core.specs.declared.world.Core.TheVariants.{BootSynced, Loading}
 use Rattle.world_core.specs.World.{World}
 use Rattle.world_core.specs.StandsFor.{hardware_of, StandsFor}
 
@@ -58,14 +64,30 @@ blocks_after (event.Boot from) (reply.More k of) disk_blocks kept = disk_blocks
 blocks_after (event.Resume loader check) (reply.Loading k) disk_blocks kept = disk_blocks
 blocks_after _ _ disk_blocks kept = kept
 
--- A resume that ends has led to a state whose memory is just the world's page frames, free ones too, and whose area is that of the
+-- A resume that ends has left just Restored, free page frames too, after either loader; and a machine that runs has the area of the
 -- header block, bad slots included.
 abbrev pub Restores : Event → World → World → Reply → Option disk.Content → Option disk.Content → Type 0
 Restores (event.Step actor.Core) old new (reply.Resumed n) before now =
     (c : disk.Content) → before ≡ Some c → (load : Load) (k : ℕ) → StandsFor old c (loading load k) →
     (c' : disk.Content) × (now ≡ Some c')
-    × ((a : Running) × Step (hardware_of old) (disk.as_it_reads c) (loading load k) (event.Step actor.Core) (reply.Resumed n) (on a) × HasResumed new.machine new.frames c' a)
+    × ((b : State) × Step (hardware_of old) (disk.as_it_reads c) (loading load k) (event.Step actor.Core) (reply.Resumed n) b × HasResumed new.machine new.frames c' load b)
 Restores _ old new _ before now = ⊤
+
+-- what the last step of a boot says of an image on the disk v, unless the disk failed
+abbrev pub BootsMark : Hardware → Reply → disk.Image → Type 0
+BootsMark h (reply.Booted image) v = (image ≡ true) ↔ Marked h v
+BootsMark h (reply.ReadFault left) v = ⊤
+BootsMark h _ v = ⊥
+
+-- There exactly when: a boot that ends says that an image is there just where block(0) of the disk v is marked, and so does the second
+-- step of a resume.
+pub record TellsMark (w : World) (r : Reply) (v : disk.Image) : Type 0 where
+  pub boots : (from : BootFrom) → w.core ≡ BootSynced from → BootsMark (hardware_of w) r v
+  pub finds : w.core ≡ Loading → w.load.stage ≡ stage.Find → FindsMark (hardware_of w) r v
+
+abbrev pub TellsImage : Event → World → Reply → Option disk.Content → Type 0
+TellsImage (event.Step actor.Core) w r told = (c : disk.Content) → told ≡ Some c → TellsMark w r (disk.as_it_reads c)
+TellsImage _ w r told = ⊤
 
 -- at most one call of the disk, and only in a step that an actor had to make
 abbrev pub IsCalled : Event → Reply → ℕ → ℕ → Type 0

@@ -1,15 +1,15 @@
 -- When a world and a disk stand for a state of the plain machine.
-use Rattle.std.specs.Prelude.{◌≡◌, ℕ, List, [], false, None}
+use Rattle.std.specs.Prelude.{◌≡◌, ℕ, List, [], Bool, true, false, Option, Some, None}
 use Rattle.std.specs.List.{zip}
 use Rattle.definitions.specs.Disk as disk
-use Rattle.plain_machine.specs.Machine.{Hardware, Memory}
+use Rattle.plain_machine.specs.Machine.{Hardware, Memory, Fits}
 use Rattle.plain_machine.specs.Chain.{Marked}
 use Rattle.plain_machine.specs.Premises.{HasOriginal}
 use Rattle.plain_machine.specs.State.{State, off, nothing, sure, other}
 use Rattle.plain_machine.specs.Step.{no_flights}
 use Rattle.plain_machine.specs.Shows.{Shown, Activity, rests, runs, boots, hibernates, undoes, loads}
 use Rattle.plain_machine.specs.Stands.{Stands}
-use Rattle.plain_machine.specs.declared.event.BootFrom.TheVariants.{Fresh}
+use Rattle.plain_machine.specs.declared.event.Loader.{Loader}
 use Rattle.plain_machine.specs.declared.reply.Reply.{Reply}
 use Rattle.page_restore.specs.Waiting.{waiting_pages}
 use Rattle.machine.specs.declared.machine.Machine.{Machine}
@@ -32,8 +32,25 @@ hardware_of w = w.machine.hw
 abbrev pub blocks_of : World → ℕ
 blocks_of w = w.machine.blocks
 
+-- whether a world is off, and whether memory is still a dump's then
+abbrev pub is_off : Core → Bool
+is_off (Off keeps) = true
+is_off Running = false
+is_off (BootBegun from) = false
+is_off (BootSynced from) = false
+is_off Hibernating = false
+is_off Loading = false
+
 abbrev pub IsOff : World → Type 0
-IsOff w = w.core ≡ Off
+IsOff w = is_off w.core ≡ true
+
+abbrev pub keeps_dump : Core → Bool
+keeps_dump (Off keeps) = keeps
+keeps_dump Running = false
+keeps_dump (BootBegun from) = false
+keeps_dump (BootSynced from) = false
+keeps_dump Hibernating = false
+keeps_dump Loading = false
 
 -- one that hibernates or resumes has a step to make
 pub record IsBusyIn (w : World) : Type 0 where
@@ -41,35 +58,35 @@ pub record IsBusyIn (w : World) : Type 0 where
   pub resumes : w.core ≡ Loading → resume_ready.IsBusy w.load
 
 abbrev pub activity_of : Core → Hib → Load → Activity
-activity_of Off hib load = rests
+activity_of (Off keeps) hib load = rests
 activity_of Running hib load = runs
-activity_of BootBegun hib load = boots Fresh 0
-activity_of BootSynced hib load = boots Fresh 1
+activity_of (BootBegun from) hib load = boots from 0
+activity_of (BootSynced from) hib load = boots from 1
 activity_of Hibernating hib load = hibernation.activity_of hib
 activity_of Loading hib load = resumption.activity_of load
 
 -- the block that is kept, the page frames of the copies, and the pages that wait, by page frame
 abbrev pub header_of : Core → Hib → Load → List ℕ
-header_of Off hib load = []
+header_of (Off keeps) hib load = []
 header_of Running hib load = []
-header_of BootBegun hib load = []
-header_of BootSynced hib load = []
+header_of (BootBegun from) hib load = []
+header_of (BootSynced from) hib load = []
 header_of Hibernating hib load = hib.header
 header_of Loading hib load = load.header
 
 abbrev pub copies_of : Core → Hib → List ℕ
-copies_of Off hib = []
+copies_of (Off keeps) hib = []
 copies_of Running hib = []
-copies_of BootBegun hib = []
-copies_of BootSynced hib = []
+copies_of (BootBegun from) hib = []
+copies_of (BootSynced from) hib = []
 copies_of Hibernating hib = hib.snapshot.copies
 copies_of Loading hib = []
 
 abbrev pub loaded_of : Core → Memory → Load → List (ℕ × List ℕ)
-loaded_of Off frames load = []
+loaded_of (Off keeps) frames load = []
 loaded_of Running frames load = []
-loaded_of BootBegun frames load = []
-loaded_of BootSynced frames load = []
+loaded_of (BootBegun from) frames load = []
+loaded_of (BootSynced from) frames load = []
 loaded_of Hibernating frames load = []
 loaded_of Loading frames load = zip load.waiting.originals (waiting_pages frames load.waiting)
 
@@ -77,7 +94,7 @@ loaded_of Loading frames load = zip load.waiting.originals (waiting_pages frames
 abbrev pub shown_at : Core → Machine → Memory → Hib → Load → Shown
 shown_at core machine frames hib load = record {
   activity = activity_of core hib load;
-  keeps_dump = false;
+  keeps_dump = keeps_dump core;
   held = machine.held;
   unusable = hibernation.reason_of machine.area;
   flights = no_flights;
@@ -99,7 +116,7 @@ pub record StandsFor (w : World) (c : disk.Content) (a : State) : Type 0 where
 
 -- what a world is at by what its hibernation or resume is at, and after this reply to the begin or a step of the one or the other
 abbrev pub core_at : Activity → Core
-core_at rests = Off
+core_at rests = Off false
 core_at (hibernates suspends k) = Hibernating
 core_at (undoes call k) = Hibernating
 core_at (loads k) = Loading
@@ -108,14 +125,19 @@ core_at _ = Running
 abbrev pub core_told : Reply → Core
 core_told r = core_at (hibernation.activity_told r)
 
-abbrev pub core_resumed : Reply → Core
-core_resumed r = core_at (resumption.activity_told r)
+abbrev pub core_resumed : Loader → Reply → Core
+core_resumed loader r = core_at (resumption.activity_told loader r)
 
--- A new world is off. Over a disk with one image it stands for a machine with nothing held where that isn't marked, else with
--- another's image, if taking the mark back leaves none.
-pub record IsNew (h : Hardware) (w : World) : Type 0 where
+-- memory is a dump's and fits, or nothing is kept
+abbrev pub KeepsMemory : Hardware → Memory → Bool → Option Memory → Type 0
+KeepsMemory h frames keeps None = keeps ≡ false
+KeepsMemory h frames keeps (Some m) = (keeps ≡ true) × (frames ≡ m) × Fits h m
+
+-- A new world is off, and memory is a dump's or nothing. Over a disk with one image it stands for a machine with nothing held where that
+-- isn't marked, else with another's image, if taking the mark back leaves none.
+pub record IsNew (h : Hardware) (kept : Option Memory) (w : World) : Type 0 where
   pub hardware : hardware_of w ≡ h
-  pub is_off : IsOff w
+  pub at_rest : IsOff w
   pub blocks : blocks_of w ≡ 0
-  pub unmarked : (v : disk.Image) → (Marked h v → ⊥) → StandsFor w (disk.settled v) (off nothing None)
-  pub marked : (v : disk.Image) → Marked h v → HasOriginal h v → StandsFor w (disk.settled v) (off (sure other) None)
+  pub unmarked : (v : disk.Image) → (Marked h v → ⊥) → StandsFor w (disk.settled v) (off nothing kept)
+  pub marked : (v : disk.Image) → Marked h v → HasOriginal h v → StandsFor w (disk.settled v) (off (sure other) kept)

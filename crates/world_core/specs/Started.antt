@@ -1,5 +1,5 @@
 -- The end of a boot.
-use Rattle.std.specs.Prelude.{◌≡◌, ℕ, Bool, true, false, nat_lt, if◌then◌else◌, List, Some, None, MatchResult}
+use Rattle.std.specs.Prelude.{◌≡◌, ℕ, Bool, true, false, nat_lt, if◌then◌else◌, List, Option, Some, None, Result, MatchResult}
 use Rattle.std.specs.List.{range_with_len}
 use Rattle.definitions.specs.Bytes.{zero_page}
 use Rattle.definitions.specs.Disk as disk
@@ -8,7 +8,12 @@ use Rattle.sig_header.specs.AreaKind.{area_kind}
 use Rattle.sig_header.specs.declared.area.AreaKind.{AreaKind}
 use Rattle.sig_header.specs.declared.area.AreaKind.TheVariants.{Image, Old, Other, BadArea, Swap}
 use Rattle.plain_machine.specs.Step.{with_each_entry}
-use Rattle.plain_machine.specs.UsableArea.{kind_or_fit_fault}
+use Rattle.plain_machine.specs.Machine.{Hardware, Memory}
+use Rattle.plain_machine.specs.UsableArea.{kind_or_fit_fault, bad_set_fault, first_fault}
+use Rattle.plain_machine.specs.declared.event.BootFrom.{BootFrom}
+use Rattle.plain_machine.specs.declared.event.BootFrom.TheVariants.{Fresh, Kept}
+use Rattle.plain_machine.specs.declared.no_swap.NoSwap.{NoSwap}
+use Rattle.sig_header.specs.declared.area.Area.{Area}
 use Rattle.plain_machine.specs.declared.held.Held.TheVariants.{No, Yes}
 use Rattle.machine.specs.FreshSlots.{slot_of_area}
 use Rattle.world_core.specs.declared.world.Core.TheVariants.{Running}
@@ -30,13 +35,23 @@ header_at b blocks v = if nat_lt b blocks then disk.block v b else zero_page
 abbrev pub area_kind_of : List ℕ → AreaKind
 area_kind_of header = if is_image (area_kind header) then area_kind (taken_back header) else area_kind header
 
--- A world runs as a header block says: its area and held are those of the block, and the slot table is fresh.
-pub record IsStarted (old new : World) (header : List ℕ) (image : Bool) : Type 0 where
+-- why the area can't be used, from fresh memory or a dump's
+abbrev pub fault_at_start : BootFrom → Hardware → ℕ → Memory → AreaKind → Option NoSwap
+fault_at_start Fresh h blocks m kind = kind_or_fit_fault h blocks kind
+fault_at_start Kept h blocks m kind = first_fault (kind_or_fit_fault h blocks kind) (bad_set_fault h m kind)
+
+-- the slot table is fresh, or all memory is as the dump has it
+abbrev pub memory_at_start : BootFrom → Hardware → Result Area NoSwap → Memory → Memory
+memory_at_start Fresh h area m = with_each_entry (slot_of_area area) (range_with_len 0 h.slots) h.slot_table m
+memory_at_start Kept h area m = m
+
+-- A world runs as a header block says: its area and held are those of the block.
+pub record IsStarted (from : BootFrom) (old new : World) (header : List ℕ) (image : Bool) : Type 0 where
   pub marked : image ≡ is_image (area_kind header)
   pub area : MatchResult new.machine.area
-      (λ area. (area_kind_of header ≡ Swap area) × (kind_or_fit_fault (hardware_of old) (blocks_of old) (area_kind_of header) ≡ None))
-      (λ why. kind_or_fit_fault (hardware_of old) (blocks_of old) (area_kind_of header) ≡ Some why)
-  pub frames : new.frames ≡ with_each_entry (slot_of_area new.machine.area) (range_with_len 0 (hardware_of old).slots) (hardware_of old).slot_table old.frames
+      (λ area. (area_kind_of header ≡ Swap area) × (fault_at_start from (hardware_of old) (blocks_of old) old.frames (area_kind_of header) ≡ None))
+      (λ why. fault_at_start from (hardware_of old) (blocks_of old) old.frames (area_kind_of header) ≡ Some why)
+  pub frames : new.frames ≡ memory_at_start from (hardware_of old) new.machine.area old.frames
   pub held : new.machine.held ≡ (if image then Yes else No)
   pub core : new.core ≡ Running
   pub hardware : hardware_of new ≡ hardware_of old

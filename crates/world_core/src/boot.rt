@@ -1,26 +1,32 @@
-ghost use Rattle.std.specs.Prelude.{◌≡◌, ℕ, ◌⊎◌, ◌≤◌, ◌↔◌, IsTrue, OnOk, OnErr, IfSome};
+ghost use Rattle.std.specs.Prelude.{◌≡◌, ℕ, ◌⊎◌, ◌≤◌, ◌↔◌, true, false, length, Some, None, Ok, Err, IsTrue, IfOk, IfErr, OnOk, OnErr, IfSome, MatchResult};
 ghost use Rattle.definitions.specs.Bytes.{zero_page};
 ghost use Rattle.definitions.specs.Disk.{HasRisen, raised, as_it_reads, Changes, Elapses};
-ghost use Rattle.world_core.specs.Started.{is_image, header_at};
+ghost use Rattle.definitions.specs.Zones.{top};
+ghost use Rattle.sig_header.specs.declared.area.Area.{Area as AreaValue};
+ghost use Rattle.sig_header.specs.declared.area.AreaKind.TheVariants.{Swap};
+ghost use Rattle.plain_machine.specs.Refusals.{asks_dump_to_boot};
+ghost use Rattle.plain_machine.specs.Step.{fresh_frames};
+ghost use Rattle.plain_machine.specs.UsableArea.{fit_fault, has_bad_slots_of};
+ghost use Rattle.world_core.specs.Started.{is_image, header_at, fault_at_start, memory_at_start};
 
 use crate::World;
 use crate::world::Core;
-use machine::{set_fresh, set_slots, usable};
+use frame_arena::Frames;
+use machine::{Hardware, has_bad_slots, set_fresh, set_slots, usable};
 use page_core::{Failed, Page};
-use plain_machine::{BootFrom, Held, Left, Reply};
+use plain_machine::{BootFrom, Held, Left, NoSwap, Reply};
 use sector_disk::Disk;
-use sig_header::{AreaKind, take_back};
+use sig_header::{Area, AreaKind, take_back};
 
 // Booting: fresh memory at once, then a sync, then a read of the header block (own; Linux has its memory from the firmware).
 impl World {
     ghost use Rattle.definitions.specs.Disk.{Content};
     ghost use Rattle.plain_machine.specs.declared.event.Event.TheVariants as event;
     ghost use Rattle.plain_machine.specs.declared.event.Actor.TheVariants as actor;
-    ghost use Rattle.plain_machine.specs.declared.event.BootFrom.TheVariants as from;
     ghost use Rattle.world_core.specs.declared.world.Core.TheVariants as core;
-    ghost use Rattle.world_core.specs.StandsFor.{hardware_of, blocks_of, IsOff, IsBusyIn};
+    ghost use Rattle.world_core.specs.StandsFor.{hardware_of, blocks_of, keeps_dump, IsOff, IsBusyIn};
     ghost use Rattle.plain_machine.specs.declared.reply.Reply.TheVariants as reply;
-    ghost use Rattle.world_core.specs.Row.{HasRow, IsRow, IsCalled, Restores, blocks_after};
+    ghost use Rattle.world_core.specs.Row.{HasRow, IsRow, IsCalled, Restores, TellsImage, blocks_after};
     ghost use Rattle.protocol_laws.specs.Rows.{IsNewFault};
     ghost use Rattle.world_core.specs.Started.{IsStarted};
 
@@ -35,40 +41,42 @@ impl World {
         if !self.is_off() {
             return Reply::NotOff;
         }
-        match from {
-            BootFrom::Kept => Reply::NoDump,
-            BootFrom::Fresh => self.boot_fresh(blocks),
+        if asks_dump(from) && !self.keeps_dump() {
+            return Reply::NoDump;
         }
+        self.begin_boot(blocks, from)
     }
 
     pub(crate) fn is_off(&self) -> bool
         ensures off { IsTrue result ↔ IsOff self.now }
         ensures busy { IsBusyIn self.now }
     {
-        matches!(self.core, Core::Off)
+        matches!(self.core, Core::Off { .. })
     }
 
-    /// Begins a boot from fresh memory.
-    fn boot_fresh(&mut self, blocks: u32) -> Reply
-        requires { IsOff self.old }
-        ensures row { (c : Content) → IsRow (event.Boot from.Fresh) self.old self.new result c c }
+    /// Begins a boot, from fresh memory or the dump's that is kept.
+    fn begin_boot(&mut self, blocks: u32, from: BootFrom) -> Reply
+        requires off { IsOff self.old }
+        requires dump { asks_dump_to_boot from ≡ true → keeps_dump self.old.core ≡ true }
+        ensures row { (c : Content) → IsRow (event.Boot from) self.old self.new result c c }
         ensures cause { IsNewFault result → ⊥ }
         ensures hardware { hardware_of self.new ≡ hardware_of self.old }
         ensures blocks { blocks_of self.new ≡ blocks }
         ensures reply { result ≡ reply.More 0 2 }
     {
         let hw = self.machine.hw;
-        set_fresh(&mut self.frames, &hw);
+        set_memory(&mut self.frames, &hw, from);
         self.machine.blocks = blocks;
-        self.core = Core::BootBegun;
+        self.core = Core::BootBegun(from);
         Reply::More { k: 0, of: 2 }
     }
 
     /// The first step of a boot: after it the disk has one content.
-    pub(crate) fn sync_for_boot<D: Disk>(&mut self, disk: &mut D) -> Reply
-        requires begun { self.old.core ≡ core.BootBegun }
+    pub(crate) fn sync_for_boot<D: Disk>(&mut self, disk: &mut D, from: BootFrom) -> Reply
+        requires begun { self.old.core ≡ core.BootBegun from }
         ensures row { HasRow (event.Step actor.Core) self.old self.new result (D.content disk.old) (D.content disk.new) }
         ensures restored { Restores (event.Step actor.Core) self.old self.new result (D.content disk.old) (D.content disk.new) }
+        ensures image { TellsImage (event.Step actor.Core) self.old result (D.content disk.old) }
         ensures cause { IsNewFault result → HasRisen (D.faults disk.old) (D.faults disk.new) }
         ensures faults { D.faults disk.old ≤ D.faults disk.new }
         ensures calls { IsCalled (event.Step actor.Core) result (D.calls disk.old) (D.calls disk.new) }
@@ -82,22 +90,23 @@ impl World {
     {
         match disk.sync() {
             Ok(()) => {
-                self.core = Core::BootSynced;
+                self.core = Core::BootSynced(from);
                 Reply::More { k: 1, of: 2 }
             }
             Err(Failed) => {
-                self.core = Core::Off;
+                self.core = Core::Off { keeps_dump: false };
                 Reply::SyncFault { left: Left::Same }
             }
         }
     }
 
     /// The second step of a boot: the header block says whether an image is there, and which area.
-    pub(crate) fn finish_boot<D: Disk>(&mut self, disk: &mut D) -> Reply
-        requires synced { self.old.core ≡ core.BootSynced }
+    pub(crate) fn finish_boot<D: Disk>(&mut self, disk: &mut D, from: BootFrom) -> Reply
+        requires synced { self.old.core ≡ core.BootSynced from }
         requires blocks { D.block_count disk.old ≡ blocks_of self.old }
         ensures row { HasRow (event.Step actor.Core) self.old self.new result (D.content disk.old) (D.content disk.new) }
         ensures restored { Restores (event.Step actor.Core) self.old self.new result (D.content disk.old) (D.content disk.new) }
+        ensures image { TellsImage (event.Step actor.Core) self.old result (D.content disk.old) }
         ensures cause { IsNewFault result → HasRisen (D.faults disk.old) (D.faults disk.new) }
         ensures faults { D.faults disk.old ≤ D.faults disk.new }
         ensures calls { IsCalled (event.Step actor.Core) result (D.calls disk.old) (D.calls disk.new) }
@@ -113,19 +122,19 @@ impl World {
         let block = self.machine.hw.extents().block(0);
         match read_header(disk, block, &mut header) {
             Ok(()) => Reply::Booted {
-                image: self.start(&header),
+                image: self.start(&header, from),
             },
             Err(Failed) => {
-                self.core = Core::Off;
+                self.core = Core::Off { keeps_dump: false };
                 Reply::ReadFault { left: Left::Same }
             }
         }
     }
 
     /// Runs, as the header block says. Whether it is marked.
-    fn start(&mut self, header: &Page) -> bool
-        requires synced { self.old.core ≡ core.BootSynced }
-        ensures started { IsStarted self.old self.new header.now result }
+    fn start(&mut self, header: &Page, from: BootFrom) -> bool
+        requires synced { self.old.core ≡ core.BootSynced from }
+        ensures started { IsStarted from self.old self.new header.now result }
     {
         let hw = self.machine.hw;
         let kind = AreaKind::read(header);
@@ -135,12 +144,74 @@ impl World {
         } else {
             kind
         };
-        let area = usable(&hw, self.machine.blocks, &kind);
-        set_slots(&mut self.frames, &hw, &area);
-        self.machine.area = area;
+        self.machine.area = area_at_start(&mut self.frames, &hw, self.machine.blocks, &kind, from);
         self.machine.held = if image { Held::Yes } else { Held::No };
         self.core = Core::Running;
         image
+    }
+}
+
+/// Whether a boot is from a dump's memory.
+fn asks_dump(from: BootFrom) -> bool
+    ensures { result ≡ asks_dump_to_boot from }
+{
+    matches!(from, BootFrom::Kept)
+}
+
+/// Sets fresh memory, or leaves the dump's.
+fn set_memory(frames: &mut Frames, hw: &Hardware, from: BootFrom)
+    requires { length frames.old ≡ top hw.now.zones }
+    ensures fresh { from ≡ BootFrom.Fresh → frames.new ≡ fresh_frames hw.now }
+    ensures kept { from ≡ BootFrom.Kept → frames.new ≡ frames.old }
+    ensures size { length frames.new ≡ length frames.old }
+{
+    match from {
+        BootFrom::Fresh => set_fresh(frames, hw),
+        BootFrom::Kept => {}
+    }
+}
+
+/// The area that is used from now on. Fresh memory gets its slot table, a dump's is to have just the area's bad slots.
+fn area_at_start(
+    frames: &mut Frames,
+    hw: &Hardware,
+    blocks: u32,
+    kind: &AreaKind,
+    from: BootFrom,
+) -> Result<Area, NoSwap>
+    requires { length frames.old ≡ top hw.now.zones }
+    ensures area { MatchResult result
+        (λ area. (kind.now ≡ Swap area) × (fault_at_start from hw.now blocks frames.old kind.now ≡ None))
+        (λ why. fault_at_start from hw.now blocks frames.old kind.now ≡ Some why) }
+    ensures fits { IfOk result (λ area. fit_fault hw.now blocks area ≡ None) }
+    ensures frames { frames.new ≡ memory_at_start from hw.now result frames.old }
+    ensures size { length frames.new ≡ length frames.old }
+{
+    let area = usable(hw, blocks, kind);
+    match from {
+        BootFrom::Fresh => {
+            set_slots(frames, hw, &area);
+            area
+        }
+        BootFrom::Kept => with_bad_slots(frames, hw, area),
+    }
+}
+
+/// A dump's memory can use an area only if just its bad slots are bad.
+fn with_bad_slots(
+    frames: &Frames,
+    hw: &Hardware,
+    area: Result<Area, NoSwap>,
+) -> Result<Area, NoSwap>
+    requires { length frames.now ≡ top hw.now.zones }
+    ensures ok { IfOk result (λ a. (area ≡ Ok a) × (has_bad_slots_of hw.now frames.now a ≡ true)) }
+    ensures refused { IfErr result (λ why. (area ≡ Err why) ⊎ ((a : AreaValue) × (area ≡ Ok a) × (has_bad_slots_of hw.now frames.now a ≡ false) × (why ≡ NoSwap.BadSet))) }
+{
+    let area = area?;
+    if has_bad_slots(frames, hw, &area) {
+        Ok(area)
+    } else {
+        Err(NoSwap::BadSet)
     }
 }
 

@@ -18,7 +18,7 @@ impl World {
     ghost use Rattle.protocol_laws.specs.Rows.{IsNewFault};
     ghost use Rattle.world_core.specs.declared.world.Core.TheVariants as core;
     ghost use Rattle.world_core.specs.StandsFor.{hardware_of, blocks_of, IsOff};
-    ghost use Rattle.world_core.specs.Row.{HasRow, IsRow, IsCalled, Restores};
+    ghost use Rattle.world_core.specs.Row.{HasRow, IsRow, IsCalled, Restores, TellsImage};
 
     /// Begins a hibernation, if the machine runs.
     pub(crate) fn hibernate(&mut self, format: Format) -> Reply
@@ -29,8 +29,10 @@ impl World {
         ensures off { IsOff self.old → IsOff self.new }
     {
         match self.core {
-            Core::Off => Reply::NotOn,
-            Core::BootBegun | Core::BootSynced | Core::Hibernating | Core::Loading => Reply::Frozen,
+            Core::Off { .. } => Reply::NotOn,
+            Core::BootBegun(_) | Core::BootSynced(_) | Core::Hibernating | Core::Loading => {
+                Reply::Frozen
+            }
             Core::Running => self.begin_hibernation(format),
         }
     }
@@ -64,6 +66,7 @@ impl World {
         requires blocks { D.block_count disk.old ≡ blocks_of self.old }
         ensures row { HasRow (event.Step actor.Core) self.old self.new result (D.content disk.old) (D.content disk.new) }
         ensures restored { Restores (event.Step actor.Core) self.old self.new result (D.content disk.old) (D.content disk.new) }
+        ensures image { TellsImage (event.Step actor.Core) self.old result (D.content disk.old) }
         ensures cause { IsNewFault result → HasRisen (D.faults disk.old) (D.faults disk.new) }
         ensures faults { D.faults disk.old ≤ D.faults disk.new }
         ensures calls { IsCalled (event.Step actor.Core) result (D.calls disk.old) (D.calls disk.new) }
@@ -89,7 +92,7 @@ fn core_after(reply: &Reply) -> Core
 {
     match reply {
         Reply::More { .. } | Reply::Undo { .. } => Core::Hibernating,
-        Reply::Hibernated { .. } => Core::Off,
+        Reply::Hibernated { .. } => Core::Off { keeps_dump: false },
         _ => Core::Running,
     }
 }

@@ -11,10 +11,10 @@ use sector_disk::Disk;
 impl World {
     ghost use Rattle.plain_machine.specs.declared.event.Event.TheVariants as event;
     ghost use Rattle.protocol_laws.specs.Rows.{IsNewFault};
-    ghost use Rattle.world_core.specs.StandsFor.{hardware_of, blocks_of, IsOff};
+    ghost use Rattle.world_core.specs.StandsFor.{hardware_of, blocks_of, IsOff, keeps_dump};
     ghost use Rattle.world_core.specs.Row.{HasRow};
 
-    /// The power is cut: the disk is left with one of its images, and memory is gone. Never refused.
+    /// The power is cut: the disk is left with one of its images, and memory is gone, but for a dump's that is kept. Never refused.
     pub(crate) fn cut<D: Disk>(&mut self, disk: &mut D, pick: u64) -> Reply
         ensures row { HasRow (event.Cut pick) self.old self.new result (D.content disk.old) (D.content disk.new) }
         ensures cause { IsNewFault result → ⊥ }
@@ -29,7 +29,19 @@ impl World {
     {
         cuts();
         disk.restart(pick);
-        self.core = Core::Off;
+        self.core = Core::Off {
+            keeps_dump: self.keeps_dump(),
+        };
         Reply::WasCut
+    }
+
+    /// Whether memory is still a dump's.
+    pub(crate) fn keeps_dump(&self) -> bool
+        ensures { result ≡ keeps_dump self.now.core }
+    {
+        match self.core {
+            Core::Off { keeps_dump } => keeps_dump,
+            _ => false,
+        }
     }
 }

@@ -1,11 +1,11 @@
-ghost use Rattle.std.specs.Prelude.{◌≡◌, ℕ, ◌⊎◌, ◌≤◌, IsTrue};
+ghost use Rattle.std.specs.Prelude.{◌≡◌, ℕ, ◌⊎◌, ◌≤◌, true, IsTrue};
 ghost use Rattle.definitions.specs.Disk.{HasRisen, Changes, Elapses};
+ghost use Rattle.plain_machine.specs.Refusals.{asks_dump_to_load};
 ghost use Rattle.world_core.specs.StandsFor.{core_resumed};
 
 use crate::World;
 use crate::world::Core;
-use plain_machine::{IdentCheck, Loader, Ranges, Reply};
-use resume_core::Start;
+use plain_machine::{IdentCheck, Loader, Reply};
 use sector_disk::Disk;
 
 // A resume: its begin and its steps (software_resume, kernel/power/hibernate.c).
@@ -13,14 +13,13 @@ impl World {
     ghost use Rattle.definitions.specs.Disk.{Content};
     ghost use Rattle.plain_machine.specs.declared.event.Event.TheVariants as event;
     ghost use Rattle.plain_machine.specs.declared.event.Actor.TheVariants as actor;
-    ghost use Rattle.plain_machine.specs.declared.event.Loader.TheVariants as loaders;
     ghost use Rattle.protocol_laws.specs.Rows.{IsNewFault};
     ghost use Rattle.world_core.specs.declared.world.Core.TheVariants as core;
-    ghost use Rattle.world_core.specs.StandsFor.{hardware_of, blocks_of, IsOff};
+    ghost use Rattle.world_core.specs.StandsFor.{hardware_of, blocks_of, IsOff, keeps_dump};
     ghost use Rattle.plain_machine.specs.declared.reply.Reply.TheVariants as reply;
-    ghost use Rattle.world_core.specs.Row.{HasRow, IsRow, IsCalled, Restores, blocks_after};
+    ghost use Rattle.world_core.specs.Row.{HasRow, IsRow, IsCalled, Restores, TellsImage, blocks_after};
 
-    /// Begins a resume, on a disk of so many blocks, if the machine is off. It keeps no dump yet, so a dump's loader is refused.
+    /// Begins a resume, on a disk of so many blocks, if the machine is off. A dump's loader is the memory that is kept.
     pub(crate) fn resume(&mut self, blocks: u32, loader: Loader, check: IdentCheck) -> Reply
         ensures row { (c : Content) → IsRow (event.Resume loader check) self.old self.new result c c }
         ensures cause { IsNewFault result → ⊥ }
@@ -31,25 +30,27 @@ impl World {
         if !self.is_off() {
             return Reply::NotOff;
         }
-        match loader {
-            Loader::Table => Reply::NoDump,
-            Loader::Ranges(ranges) => self.begin_resume(blocks, ranges, check),
+        if asks_dump(&loader) && !self.keeps_dump() {
+            return Reply::NoDump;
         }
+        self.begin_resume(blocks, loader, check)
     }
 
-    /// Begins it, with a scripted loader that holds these ranges of page frames.
-    fn begin_resume(&mut self, blocks: u32, ranges: Ranges, check: IdentCheck) -> Reply
-        requires { IsOff self.old }
-        ensures row { (c : Content) → IsRow (event.Resume (loaders.Ranges ranges) check) self.old self.new result c c }
+    /// Begins it. For a dump's loader memory is the dump's.
+    fn begin_resume(&mut self, blocks: u32, loader: Loader, check: IdentCheck) -> Reply
+        requires off { IsOff self.old }
+        requires dump { asks_dump_to_load loader ≡ true → keeps_dump self.old.core ≡ true }
+        ensures row { (c : Content) → IsRow (event.Resume loader check) self.old self.new result c c }
         ensures cause { IsNewFault result → ⊥ }
         ensures hardware { hardware_of self.new ≡ hardware_of self.old }
         ensures blocks { blocks_of self.new ≡ blocks }
         ensures reply { result ≡ reply.Loading 0 }
     {
         self.machine.blocks = blocks;
-        let start = Start::Resume(Loader::Ranges(ranges), check);
-        let reply = self.load.begin(&self.machine, &mut self.frames, start);
-        self.core = core_after(&reply);
+        let reply = self
+            .load
+            .begin(&self.machine, &mut self.frames, loader, check);
+        self.core = core_after(&reply, &loader);
         reply
     }
 
@@ -59,6 +60,7 @@ impl World {
         requires blocks { D.block_count disk.old ≡ blocks_of self.old }
         ensures row { HasRow (event.Step actor.Core) self.old self.new result (D.content disk.old) (D.content disk.new) }
         ensures restored { Restores (event.Step actor.Core) self.old self.new result (D.content disk.old) (D.content disk.new) }
+        ensures image { TellsImage (event.Step actor.Core) self.old result (D.content disk.old) }
         ensures cause { IsNewFault result → HasRisen (D.faults disk.old) (D.faults disk.new) }
         ensures faults { D.faults disk.old ≤ D.faults disk.new }
         ensures calls { IsCalled (event.Step actor.Core) result (D.calls disk.old) (D.calls disk.new) }
@@ -73,18 +75,25 @@ impl World {
         let reply = self
             .load
             .step(&mut self.machine, &mut self.frames, &mut self.runs, disk);
-        self.core = core_after(&reply);
+        self.core = core_after(&reply, &self.load.loader());
         reply
     }
 }
 
-/// What the machine is at after this reply to the begin or a step of a resume.
-fn core_after(reply: &Reply) -> Core
-    ensures { result ≡ core_resumed reply.now }
+/// Whether the loader is a dump's.
+fn asks_dump(loader: &Loader) -> bool
+    ensures { result ≡ asks_dump_to_load loader.now }
 {
-    match reply {
-        Reply::Loading { .. } => Core::Loading,
-        Reply::Resumed { .. } => Core::Running,
-        _ => Core::Off,
+    matches!(loader, Loader::Table)
+}
+
+/// What the machine is at after this reply to the begin or a step of a resume with this loader.
+fn core_after(reply: &Reply, loader: &Loader) -> Core
+    ensures { result ≡ core_resumed loader.now reply.now }
+{
+    match (reply, loader) {
+        (Reply::Loading { .. }, _) => Core::Loading,
+        (Reply::Resumed { .. }, Loader::Ranges(_)) => Core::Running,
+        _ => Core::Off { keeps_dump: false },
     }
 }

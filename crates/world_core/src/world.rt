@@ -1,11 +1,13 @@
-ghost use Rattle.std.specs.Prelude.{◌≡◌, ℕ, ◌⊎◌, ◌≤◌, IfOk, IsTrue};
+ghost use Rattle.std.specs.Prelude.{◌≡◌, ℕ, ◌⊎◌, ◌≤◌, length, Option, Some, None, IfOk, IsTrue};
+ghost use Rattle.definitions.specs.Zones.{top};
+ghost use Rattle.plain_machine.specs.Machine.{Memory, Fits};
 ghost use Rattle.protocol_laws.specs.Rows.{IsNewFault};
 
 use frame_arena::Frames;
 use hib_core::Hib;
-use machine::{Hardware, Machine};
+use machine::{Dump, Hardware, Machine};
 use page_core::NoMemory;
-use plain_machine::{Actor, Event, Reply, TaskOp};
+use plain_machine::{Actor, BootFrom, Event, Reply, TaskOp};
 use resume_core::Load;
 use sector_disk::Disk;
 use std::alloc::Global;
@@ -27,12 +29,13 @@ pub struct World {
 /// What the machine as a whole is at.
 #[derive(Clone, Copy, Debug, PartialEq, Eq)]
 pub(crate) enum Core {
-    Off,
+    /// Nothing, and whether memory is still a dump's.
+    Off { keeps_dump: bool },
     Running,
     /// A boot has begun.
-    BootBegun,
+    BootBegun(BootFrom),
     /// A boot has synced the disk.
-    BootSynced,
+    BootSynced(BootFrom),
     Hibernating,
     Loading,
 }
@@ -54,14 +57,37 @@ impl World {
     ghost use Rattle.definitions.specs.Disk.{Content, Image, IsMixture, HasRisen, Changes, Elapses};
     ghost use Rattle.plain_machine.specs.declared.event.Event.TheVariants as event;
     ghost use Rattle.plain_machine.specs.declared.event.Actor.TheVariants as actor;
-    ghost use Rattle.world_core.specs.StandsFor.{hardware_of, blocks_of, IsOff, IsNew};
-    ghost use Rattle.world_core.specs.Row.{HasRow, IsRow, IsCalled, IsServed, IsNoCut, RestartsAt, orders_after, blocks_after, Restores};
+    ghost use Rattle.world_core.specs.StandsFor.{hardware_of, blocks_of, IsOff, IsNew, KeepsMemory};
+    ghost use Rattle.world_core.specs.Row.{HasRow, IsRow, IsCalled, IsServed, IsNoCut, RestartsAt, orders_after, blocks_after, Restores, TellsImage};
 
     /// A machine that is off, with page frames of zeros.
     pub fn create(alloc: Global, hw: Hardware) -> Result<World, NoMemory>
-        ensures { IfOk result (IsNew hw) }
+        ensures { IfOk result (IsNew hw None) }
     {
         let frames = Frames::create(alloc, hw.zones().top())?;
+        World::over(alloc, hw, frames, false)
+    }
+
+    /// A machine that is off, and keeps the dump's memory until a boot or a resume is accepted.
+    pub fn from_dump(alloc: Global, dump: Dump) -> Result<World, NoMemory>
+        requires { Fits dump.hw dump.frames }
+        ensures new { IfOk result (IsNew dump.hw (Some dump.frames)) }
+        ensures frames { IfOk result (λ w. w.frames ≡ dump.frames) }
+    {
+        World::over(alloc, dump.hw, dump.frames, true)
+    }
+
+    /// A machine that is off, with these page frames, which are a dump's or not.
+    fn over(
+        alloc: Global,
+        hw: Hardware,
+        frames: Frames,
+        keeps_dump: bool,
+    ) -> Result<World, NoMemory>
+        requires { length frames ≡ top hw.zones }
+        ensures new { IfOk result (λ w. (kept : Option Memory) → KeepsMemory hw frames keeps_dump kept → IsNew hw kept w) }
+        ensures frames { IfOk result (λ w. w.frames ≡ frames) }
+    {
         let runs = FreeRuns::create(alloc, hw.slots())?;
         let hib = Hib::create(alloc, &hw)?;
         let load = Load::create(alloc, &hw)?;
@@ -71,7 +97,7 @@ impl World {
             runs,
             hib,
             load,
-            core: Core::Off,
+            core: Core::Off { keeps_dump },
         })
     }
 
@@ -96,6 +122,7 @@ impl World {
         requires blocks { IsOff self.old ⊎ (D.block_count disk.old ≡ blocks_of self.old) }
         ensures row { HasRow event self.old self.new result (D.content disk.old) (D.content disk.new) }
         ensures restored { Restores event self.old self.new result (D.content disk.old) (D.content disk.new) }
+        ensures image { TellsImage event self.old result (D.content disk.old) }
         ensures cause { IsNewFault result → HasRisen (D.faults disk.old) (D.faults disk.new) }
         ensures faults { D.faults disk.old ≤ D.faults disk.new }
         ensures calls { IsCalled event result (D.calls disk.old) (D.calls disk.new) }
@@ -129,8 +156,10 @@ impl World {
         ensures core { self.new.core ≡ self.old.core }
     {
         match self.core {
-            Core::Off => Reply::NotOn,
-            Core::BootBegun | Core::BootSynced | Core::Hibernating | Core::Loading => Reply::Frozen,
+            Core::Off { .. } => Reply::NotOn,
+            Core::BootBegun(_) | Core::BootSynced(_) | Core::Hibernating | Core::Loading => {
+                Reply::Frozen
+            }
             Core::Running => self.machine.task(&mut self.frames, t, op),
         }
     }
@@ -140,6 +169,7 @@ impl World {
         requires blocks { IsOff self.old ⊎ (D.block_count disk.old ≡ blocks_of self.old) }
         ensures row { HasRow (event.Step actor) self.old self.new result (D.content disk.old) (D.content disk.new) }
         ensures restored { Restores (event.Step actor) self.old self.new result (D.content disk.old) (D.content disk.new) }
+        ensures image { TellsImage (event.Step actor) self.old result (D.content disk.old) }
         ensures cause { IsNewFault result → HasRisen (D.faults disk.old) (D.faults disk.new) }
         ensures faults { D.faults disk.old ≤ D.faults disk.new }
         ensures calls { IsCalled (event.Step actor) result (D.calls disk.old) (D.calls disk.new) }
@@ -162,6 +192,7 @@ impl World {
         requires blocks { IsOff self.old ⊎ (D.block_count disk.old ≡ blocks_of self.old) }
         ensures row { HasRow (event.Step actor.Core) self.old self.new result (D.content disk.old) (D.content disk.new) }
         ensures restored { Restores (event.Step actor.Core) self.old self.new result (D.content disk.old) (D.content disk.new) }
+        ensures image { TellsImage (event.Step actor.Core) self.old result (D.content disk.old) }
         ensures cause { IsNewFault result → HasRisen (D.faults disk.old) (D.faults disk.new) }
         ensures faults { D.faults disk.old ≤ D.faults disk.new }
         ensures calls { IsCalled (event.Step actor.Core) result (D.calls disk.old) (D.calls disk.new) }
@@ -175,9 +206,9 @@ impl World {
         ensures off { IsOff self.old → IsOff self.new }
     {
         match self.core {
-            Core::Off | Core::Running => Reply::Idle,
-            Core::BootBegun => self.sync_for_boot(disk),
-            Core::BootSynced => self.finish_boot(disk),
+            Core::Off { .. } | Core::Running => Reply::Idle,
+            Core::BootBegun(from) => self.sync_for_boot(disk, from),
+            Core::BootSynced(from) => self.finish_boot(disk, from),
             Core::Hibernating => self.step_hibernation(disk),
             Core::Loading => self.step_resume(disk),
         }

@@ -2,6 +2,7 @@ use Rattle.std.proofs.Common.{refl, sym, ap, ◌∙◌, subst}
 use Rattle.plain_machine.specs.declared.reply.Reply.TheVariants as reply
 use Rattle.plain_machine.specs.declared.reply.Left.TheVariants.{Gone}
 use Rattle.image_read.specs.Answers.{Reads}
+use Rattle.resume_core.specs.Loading.{activity_told}
 use Rattle.resume_core.specs.declared.load.Load.{Load}
 use Rattle.resume_core.specs.declared.load.Stage.TheVariants as stage
 use Rattle.resume_core.proofs.Facts.{content_of, row_of}
@@ -38,7 +39,8 @@ returns-in-More g c = record {
             c.requires.ready.over.hardware c.requires.stage (list_can c.args.machine.now c.args.frames.now c.args.runs.now c.args.self.now c.requires.stage c.requires.ready).1 c.list_on.ensures.machine.hw whole
             c.read_block.ensures.load c.in-More.is (λ v t has reads. c.read_block.ensures.answers v t has (subst (Reads c.args.machine.now.hw v) (sym told) reads)) c.list_on.ensures.row,
       );
-  activity = c.list_on.ensures.activity;
+  activity = c.list_on.ensures.activity ∙ ap (λ (x : Load). activity_told x.loader c.list_on.result) c.read_block.ensures.load;
+  loader = c.list_on.ensures.loader ∙ ap (λ (x : Load). x.loader) c.read_block.ensures.load;
   works = c.list_on.ensures.works;
   ready = c.list_on.ensures.ready;
   machine = c.list_on.ensures.machine;

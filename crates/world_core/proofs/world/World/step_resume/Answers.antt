@@ -4,6 +4,8 @@ use Rattle.resume_core.specs.Loading.{is_idle}
 use Rattle.plain_machine.specs.declared.event.Event.TheVariants as event
 use Rattle.plain_machine.specs.declared.event.Actor.TheVariants as actor
 use Rattle.plain_machine.specs.Machine.{Hardware}
+use Rattle.plain_machine.specs.declared.event.Loader.{Loader}
+use Rattle.world_core.specs.StandsFor.{core_resumed}
 use Rattle.world_core.specs.World.{World}
 use Rattle.world_core.specs.Kept.{kept_world}
 use Rattle.world_core.specs.Row.{HasRow, Restores}
@@ -12,7 +14,7 @@ use Rattle.world_core.proofs.world.World.step_resume.Goals as goal
 
 pub invariant_of-self : goal.invariant_of-self
 invariant_of-self g c =
-    let after : IsAfter c.step-reply.new.self c.step-reply.result c.core_after-self-inside.result = record { core_is = c.core_after-self-inside.ensures; told = c.step-reply.ensures.activity } in
+    let after : IsAfter c.step-reply.new.self c.step-reply.result c.core_after-self-inside.result = record { loader = c.self.inside.load.loader; core_is = c.core_after-self-inside.ensures ∙ ap (λ (l : Loader). core_resumed l c.step-reply.result) (c.loader.ensures ∙ c.step-reply.ensures.loader); told = c.step-reply.ensures.activity } in
     let over = c.step-reply.ensures.ready.over in
     record {
       size = over.size;
@@ -31,14 +33,13 @@ returns-clause-row g c =
     let new = kept_world (record { machine = c.step-reply.new.machine; frames = c.step-reply.new.frames; runs = c.step-reply.new.runs; hib = c.self.inside.hib; load = c.step-reply.new.self; core = c.core_after-self-inside.result }) in
     subst (λ (old : World). HasRow (event.Step actor.Core) old new c.step-reply.result (g.D.Disk.content c.args.disk.now) (g.D.Disk.content c.step-reply.new.disk)) c.self.view_is
     (row_of_step (kept_world c.self.inside) new c.step-reply.result (g.D.Disk.content c.args.disk.now) (g.D.Disk.content c.step-reply.new.disk) (ap (λ (w : World). w.core) c.self.view_is ∙ c.requires.resumes)
-    (record { core_is = c.core_after-self-inside.ensures; told = c.step-reply.ensures.activity }) c.step-reply.ensures.row)
+    (record { loader = c.self.inside.load.loader; core_is = c.core_after-self-inside.ensures ∙ ap (λ (l : Loader). core_resumed l c.step-reply.result) (c.loader.ensures ∙ c.step-reply.ensures.loader); told = c.step-reply.ensures.activity }) c.step-reply.ensures.row)
 
 pub returns-clause-restored : goal.returns-clause-restored
 returns-clause-restored g c =
     let new = kept_world (record { machine = c.step-reply.new.machine; frames = c.step-reply.new.frames; runs = c.step-reply.new.runs; hib = c.self.inside.hib; load = c.step-reply.new.self; core = c.core_after-self-inside.result }) in
     subst (λ (old : World). Restores (event.Step actor.Core) old new c.step-reply.result (g.D.Disk.content c.args.disk.now) (g.D.Disk.content c.step-reply.new.disk)) c.self.view_is
-    (restores_at (kept_world c.self.inside) new c.step-reply.result (g.D.Disk.content c.args.disk.now) (g.D.Disk.content c.step-reply.new.disk) (ap (λ (w : World). w.core) c.self.view_is ∙ c.requires.resumes)
-    (record { core_is = c.core_after-self-inside.ensures; told = c.step-reply.ensures.activity }) c.step-reply.ensures.row)
+    (restores_at (kept_world c.self.inside) new c.step-reply.result (g.D.Disk.content c.args.disk.now) (g.D.Disk.content c.step-reply.new.disk) (ap (λ (w : World). w.core) c.self.view_is ∙ c.requires.resumes) c.step-reply.ensures.row)
 
 pub returns-clause-calls : goal.returns-clause-calls
 returns-clause-calls g c = ⊎_elim (λ same. inl same) (λ raised. inr (tt, (λ e. false≢true (sym c.step-reply.ensures.works ∙ ap is_idle e)), raised)) c.step-reply.ensures.calls

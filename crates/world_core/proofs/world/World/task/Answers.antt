@@ -1,6 +1,7 @@
 use Rattle.std.proofs.Common.{refl, sym, ap, ◌∙◌, subst}
 use Rattle.plain_machine.specs.declared.event.Event.TheVariants as event
 use Rattle.plain_machine.specs.declared.reply.Reply.TheVariants as reply
+use Rattle.world_core.specs.StandsFor.{is_off}
 use Rattle.world_core.specs.World.{World}
 use Rattle.world_core.specs.Kept.{kept_world}
 use Rattle.world_core.specs.Row.{IsRow}
@@ -11,7 +12,7 @@ use Rattle.world_core.proofs.world.World.task.Goals as goal
 pub returns-in-Off-clause-row : goal.returns-in-Off-clause-row
 returns-in-Off-clause-row c = λ k.
     row_refused (event.Task c.args.t c.args.op) c.args.self.now reply.NotOn k
-    (λ a stands. not_on c.args.self.now k a c.args.t c.args.op (sym (ap (λ (w : World). w.core) c.self.view_is) ∙ c.in-Off.is) stands)
+    (λ a stands. not_on c.args.self.now k a c.args.t c.args.op (ap is_off (sym (ap (λ (w : World). w.core) c.self.view_is) ∙ c.in-Off.is)) stands)
 
 pub returns-in-BootBegun : goal.returns-in-BootBegun
 returns-in-BootBegun c =
@@ -20,7 +21,7 @@ returns-in-BootBegun c =
     let busy = busy_in c.self.inside c.args.self.now c.self.view_is c.self.invariant in
     record {
       row = λ k. row_refused (event.Task c.args.t c.args.op) c.args.self.now reply.Frozen k
-          (λ a stands. frozen_task c.args.self.now k a c.args.t c.args.op busy (λ e. taken.0 (core ∙ e)) (λ e. taken.1 (core ∙ e)) stands);
+          (λ a stands. frozen_task c.args.self.now k a c.args.t c.args.op busy (λ e. taken.0 (ap is_off core ∙ e)) (λ e. taken.1 (core ∙ e)) stands);
       cause = λ e. e;
       hardware = refl;
       blocks = refl;
