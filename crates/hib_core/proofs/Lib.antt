@@ -10,4 +10,3 @@ pub mod BeginTables
 pub mod BeginImage
 pub mod BeginRefusals
 pub mod BeginRows
-pub mod BeginTests

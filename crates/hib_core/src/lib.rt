@@ -5,8 +5,6 @@
 mod begin;
 mod hib;
 mod mark;
-#[cfg(test)]
-mod tests;
 mod undo;
 mod write;
 

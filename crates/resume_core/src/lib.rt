@@ -10,7 +10,5 @@ mod find;
 mod list;
 mod load;
 mod read;
-#[cfg(test)]
-mod tests;
 
 pub use load::Load;

@@ -5,8 +5,6 @@ mod boot;
 mod hibernation;
 mod power;
 mod resume;
-#[cfg(test)]
-mod tests;
 mod world;
 
 pub use machine::Hardware;

@@ -2,20 +2,20 @@ ghost use Rattle.std.specs.Prelude.{◌≡◌, ◌≤◌, ◌+◌, ◌<◌, IfOk
 ghost use Rattle.hib_core.specs.Hibernation.{activity_of, activity_told};
 ghost use Rattle.hib_core.specs.Ready.{CanBegin, IsBusy};
 ghost use Rattle.hib_core.specs.declared.hib.Hib.{Hib as HibValue};
+ghost use Rattle.protocol_laws.specs.Writers.{slot_table_of};
 ghost use Rattle.sector_disk.specs.MemDisk.{block_count};
 
-use crate::write::slot_table;
-use crate::{Hib, Job};
-use definitions::Ident;
+use crate::fixtures::hardware;
 use frame_arena::Frames;
-use machine::{Hardware, Machine, Parts, set_fresh, set_slots, usable};
+use hib_core::{Hib, Job};
+use machine::{Hardware, Machine, set_fresh, set_slots, usable};
 use page_core::{Format, Page};
 use plain_machine::{Held, Reply};
 use sector_disk::{Disk, MemDisk};
 use sig_header::{AreaKind, area_page};
 use std::alloc::Global;
 use std::test::Fail;
-use swap_slots::FreeRuns;
+use swap_slots::{FreeRuns, SlotTable};
 
 #[derive(Drop)]
 struct Bench {
@@ -26,22 +26,13 @@ struct Bench {
     disk: MemDisk,
 }
 
-/// A machine with page frames 0 to 4095, the tables in the first of them, so many slots, and each on the block of its number.
-fn hardware(slots: u32) -> Result<Hardware, Fail> {
-    let parts = Parts {
-        zones: &[(0, 4096)],
-        slots,
-        frame_table: 0,
-        slot_table: 4,
-        regions: &[],
-        ident: Ident {
-            version_code: 393472,
-            names: [[0; 65]; 6],
-        },
-        hw_sig: 0,
-        extents: &[(0, slots, 0)],
-    };
-    Ok(Hardware::of(&parts).ok().ok_or("no hardware")?)
+fn slot_table(hw: &Hardware) -> SlotTable
+    ensures { result ≡ slot_table_of hw.now }
+{
+    SlotTable {
+        first: hw.slot_table(),
+        slots: hw.slots(),
+    }
 }
 
 // A machine that runs with fresh memory, over a formatted area with this last slot. The tables are saveable, all other page

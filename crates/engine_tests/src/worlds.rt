@@ -1,33 +1,14 @@
 ghost use Rattle.std.specs.Prelude.{IfOk};
 ghost use Rattle.world_core.specs.StandsFor.{IsOff};
 
-use crate::World;
-use definitions::Ident;
-use machine::{Hardware, Parts};
+use crate::fixtures::hardware;
 use page_core::Format;
 use plain_machine::{Actor, BootFrom, Event, IdentCheck, Loader, Ranges, Reply, TaskOp};
 use sector_disk::{Disk, MemDisk};
 use sig_header::area_page;
 use std::alloc::Global;
 use std::test::Fail;
-
-/// A machine with page frames 0 to 4095, the tables in the first of them, so many slots, and each on the block of its number.
-fn hardware(slots: u32) -> Result<Hardware, Fail> {
-    let parts = Parts {
-        zones: &[(0, 4096)],
-        slots,
-        frame_table: 0,
-        slot_table: 4,
-        regions: &[],
-        ident: Ident {
-            version_code: 393472,
-            names: [[0; 65]; 6],
-        },
-        hw_sig: 0,
-        extents: &[(0, slots, 0)],
-    };
-    Ok(Hardware::of(&parts).ok().ok_or("no hardware")?)
-}
+use world_core::World;
 
 /// A world of that machine with 3001 slots, which is off.
 fn world_off(alloc: Global) -> Result<World, Fail>

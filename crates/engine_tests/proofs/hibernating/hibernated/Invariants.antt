@@ -2,7 +2,7 @@ use Rattle.std.proofs.Common.{◌≡◌}
 use Rattle.sector_disk.specs.MemDisk.{block_count}
 use Rattle.hib_core.specs.Hibernation.{activity_of, activity_told}
 use Rattle.hib_core.specs.Ready.{CanStep, IsBusy}
-use Rattle.hib_core.proofs.tests.hibernated.Given as goal
+use Rattle.engine_tests.proofs.hibernating.hibernated.Given as goal
 
 abbrev pub invariant-steps : goal.invariant-steps
 invariant-steps l = record {

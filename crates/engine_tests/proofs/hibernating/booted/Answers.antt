@@ -1,10 +1,10 @@
-use Rattle.std.proofs.Common.{◌≡◌, ℕ, length, sym, ap, ◌∙◌, subst}
+use Rattle.std.proofs.Common.{◌≡◌, length, sym, ap, ◌∙◌, subst}
 use Rattle.std.proofs.lemmas.List.{length-replicate}
 use Rattle.definitions.specs.Bytes.{zero_page}
 use Rattle.definitions.specs.Zones.{top}
 use Rattle.swap_slots.specs.Table.{LiesIn}
 use Rattle.hib_core.proofs.BeginTables.{slot_table_lies}
-use Rattle.hib_core.proofs.tests.booted.Goals as goal
+use Rattle.engine_tests.proofs.hibernating.booted.Goals as goal
 
 pub rebuild-requires-clause-table : goal.rebuild-requires-clause-table
 rebuild-requires-clause-table c =
