@@ -53,7 +53,7 @@ after : {A : Type 0} (a b c d : Option A) → a ≡ b → (b ≡ None → c ≡ 
 after a None c d e f = both a None c d e (f refl)
 after a (Some x) c d e f = ap (λ o. or_else o c) e
 
-map-same : {A : Type 0} (f g : ℕ → A) (a n : ℕ) → ((j : ℕ) → a ≤ j → j < a + n → f j ≡ g j) → map f (range_with_len a n) ≡ map g (range_with_len a n)
+pub map-same : {A : Type 0} (f g : ℕ → A) (a n : ℕ) → ((j : ℕ) → a ≤ j → j < a + n → f j ≡ g j) → map f (range_with_len a n) ≡ map g (range_with_len a n)
 map-same f g a zero h = refl
 map-same f g a (suc n) h =
     ap₂ (λ x xs. x ∷ xs) (h a (omega arith) (omega arith)) (map-same f g (a + 1) n (λ j from lt. h j (omega (arith, from)) (omega (arith, lt))))

@@ -10,8 +10,13 @@ pub mod HeadZones
 pub mod Headers
 pub mod Items
 pub mod Numbers
+pub mod Places
 pub mod RecordFaults
+pub mod RoundTrip
 pub mod SixNames
 pub mod Taken
+pub mod WrittenFronts
+pub mod WrittenLayouts
+pub mod WrittenRecords
 pub mod ZoneFaults
 pub mod ZoneRecords

@@ -1,5 +1,5 @@
 -- Texts that a sink takes one after the other.
-use Rattle.std.proofs.Common.{◌≡◌, ℕ, ◌+◌, List, [], ◌++◌, length, take, drop, Option, Some, None, sym, ap, ◌∙◌, length-append, subst, arith}
+use Rattle.std.proofs.Common.{◌≡◌, ℕ, ◌+◌, true, false, List, [], ◌++◌, length, take, drop, Option, Some, None, Result, Ok, Err, IsOk, OnOk, sym, ap, ◌∙◌, length-append, subst, arith}
 use Rattle.std.proofs.lemmas.List.{take_all}
 use Rattle.std.proofs.Math.Seq.{take-append_seam, drop-append_seam}
 use Rattle.std.proofs.lemmas.List.{take-append-le}
@@ -41,3 +41,14 @@ TakesFront-second xs ys old mid new p q =
     let second : Takes q.0 (drop (length xs) (xs ++ ys)) mid new =
     subst (λ (zs : List ℕ). Takes q.0 zs mid new) (sym (drop-append_seam xs ys)) q.2 in
     (length xs + q.0, omega (arith, q.1, length-append xs ys), Takes-more (length xs) q.0 (xs ++ ys) old mid new first second)
+
+-- where a call succeeds a sink that was empty has taken just the text
+pub on_ok : {T E P : Type 0} (r : Result T E) → IsOk r → OnOk r P → P
+on_ok (Ok x) ok h = h
+on_ok (Err e) ok h = absurd (let none : false ≡ true = ok in grind (arith, none))
+
+pub taken_is : (text bytes : List ℕ) (old new : Option (List ℕ)) → TakesAll text old new → old ≡ Some [] → new ≡ Some bytes → text ≡ bytes
+taken_is text bytes old new all empty is =
+    let from_none : TakesAll text (Some []) new = subst (λ (o : Option (List ℕ)). TakesAll text o new) empty all in
+    let whole : TakesAll text (Some []) (Some bytes) = subst (λ (n : Option (List ℕ)). TakesAll text (Some []) n) is from_none in
+    sym (whole ∙ take_all (length text) text (omega arith))

@@ -3,5 +3,6 @@ pub mod Dump
 pub mod Fields
 pub mod Flushed
 pub mod Memory
+pub mod ReadBack
 pub mod Reading
 pub mod Written

@@ -3,8 +3,6 @@
 
 mod calls;
 mod dump;
-#[cfg(test)]
-mod dump_tests;
 mod extents;
 mod fill;
 mod front;
@@ -17,8 +15,6 @@ mod records;
 mod sink;
 mod source;
 mod streams;
-#[cfg(test)]
-mod tests;
 mod write;
 mod zone_list;
 

@@ -1,4 +1,4 @@
-ghost use Rattle.std.specs.Prelude.{◌≡◌, ℕ, ◌+◌, ◌*◌, ◌<◌, ◌≤◌, not, IsTrue, ◌↔◌, List, [], ◌++◌, length, filter, OnOk, OnErr, if◌then◌else◌, All};
+ghost use Rattle.std.specs.Prelude.{◌≡◌, ℕ, ◌+◌, ◌*◌, ◌<◌, ◌≤◌, not, IsTrue, ◌↔◌, List, [], ◌++◌, length, filter, IsOk, OnOk, OnErr, Some, if◌then◌else◌, All};
 ghost use Rattle.std.specs.List.{flat_map, concat, range_with_len};
 ghost use Rattle.definitions.specs.Bytes.{IsPage, zero_page};
 ghost use Rattle.definitions.specs.Disk.{HasRisen};
@@ -6,7 +6,8 @@ ghost use Rattle.definitions.specs.Streams.{TakesAll, TakesFront};
 ghost use Rattle.definitions.specs.Tables.{frame};
 ghost use Rattle.definitions.specs.Zones.{numbers, top};
 ghost use Rattle.plain_machine.specs.Image.{is_zeros};
-ghost use Rattle.plain_machine.specs.Machine.{IsHardware};
+ghost use Rattle.plain_machine.specs.Machine.{Fits, IsHardware};
+ghost use Rattle.dump_file.specs.ReadBack.{ReadsBack};
 ghost use Rattle.dump_file.specs.Written.{dump_bytes, extent_bytes, front_bytes, head_bytes, is_plain, layout_bytes, map_bytes, nonzero, record_bytes, records_bytes, zone_bytes};
 
 use crate::head::Head;
@@ -25,6 +26,10 @@ pub fn write_dump<K: Sink>(sink: &mut K, hw: &Hardware, frames: &Frames) -> Resu
     requires no_region { hw.now.regions ≡ [] }
     ensures whole { OnOk result (TakesAll (dump_bytes hw.now frames.now) (K.taken sink.old) (K.taken sink.new)) }
     ensures front { TakesFront (dump_bytes hw.now frames.now) (K.taken sink.old) (K.taken sink.new) }
+
+    // What a sink takes that was empty is a dump of this machine, where its tables are well formed.
+    ensures reads_back { (bytes : List ℕ) → Fits hw.now frames.now → K.taken sink.old ≡ Some [] → K.taken sink.new ≡ Some bytes → IsOk result → ReadsBack hw.now frames.now bytes }
+
     ensures counted { K.faults sink.old ≤ K.faults sink.new }
     ensures cause { OnErr result (HasRisen (K.faults sink.old) (K.faults sink.new)) }
 {

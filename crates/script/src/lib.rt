@@ -9,8 +9,6 @@ mod ranges;
 mod reading;
 mod replies;
 mod settings;
-#[cfg(test)]
-mod tests;
 mod texts;
 mod words;
 

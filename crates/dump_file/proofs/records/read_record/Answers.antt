@@ -48,8 +48,8 @@ returns-in_err-take_exact-clause-fault g c bytes f h e =
     (ap (is_above c.args.before) (sym is) ∙ sym c.is_above.ensures ∙ c.if-not-is_above.false)
     (subst (λ (n : ℕ). wanted bytes (c.args.at + 4 + n) ≡ Some f) c.told-page short)
 
-pub write-requires : goal.write-requires
-write-requires g c =
+pub write_bytes-requires : goal.write_bytes-requires
+write_bytes-requires g c =
     let below = below_top c.args.zones.now c.in_ok-p.p c.valid.ensures.zones.apart (c.valid.ensures.valid.0 c.if-not-valid.false) in
     omega (arith, below, c.requires.size)
 
@@ -66,7 +66,7 @@ returns-clause-none g c bytes h ok =
 pub returns-clause-frames : goal.returns-clause-frames
 returns-clause-frames g c bytes h =
     let piece : c.take_exact.new.piece ≡ bytes_at (length c.args.page.now) bytes (c.args.at + 4) = c.in_ok-take_exact.ensures.piece bytes (c.in_ok-p.ensures.left bytes h refl) refl in
-    c.write.ensures
+    c.write_bytes.ensures
     ∙ ap (with_frame c.args.frames.now c.in_ok-p.p) (piece ∙ ap (λ (n : ℕ). bytes_at n bytes (c.args.at + 4)) c.told-page)
 
 pub returns-clause-within : goal.returns-clause-within

@@ -1,4 +1,4 @@
-use crate::{MemSink, MemSource, Sink, Source, StdSink, StdSource};
+use dump_file::{MemSink, MemSource, Sink, Source, StdSink, StdSource};
 use std::fs;
 use std::test::Fail;
 

@@ -1,9 +1,9 @@
-use crate::{FaultKind, Line, ParseStop, Script, ScriptFault, line_of, parse};
 use definitions::Field;
 use page_core::Format;
 use plain_machine::{
     Actor, BootFrom, Event, IdentCheck, Left, Loader, NoSwap, Ranges, Reply, TaskOp, UndoCall,
 };
+use script::{FaultKind, Line, ParseStop, Script, ScriptFault, line_of, parse};
 use std::alloc::Global;
 use std::process::Abort;
 use std::test::Fail;
