@@ -2,16 +2,16 @@
 # Counts the instructions of the built program by valgrind's callgrind: of an empty script, of a line that claims a page frame, of
 # a line that shows a word, and of a hibernation and a resume of 1,500 page frames; and takes the time of a boot, a hibernation and a
 # resume of 15,000 page frames at a script's limits. The program is the first word, or
-# crates/swsusp_cli/out/swsusp_cli, which `rt run` leaves. Without valgrind it says so and counts nothing.
+# crates/swsusp/out/swsusp, which `rt run` leaves. Without valgrind it says so and counts nothing.
 set -u
 top=$(cd "$(dirname "$0")/.." && pwd)
-program=${1:-$top/crates/swsusp_cli/out/swsusp_cli}
+program=${1:-$top/crates/swsusp/out/swsusp}
 if ! command -v valgrind >/dev/null; then
     echo "not counted: valgrind isn't there"
     exit 0
 fi
 if [ ! -x "$program" ]; then
-    echo "$program isn't built: rt run in crates/swsusp_cli builds it"
+    echo "$program isn't built: rt run in crates/swsusp builds it"
     exit 1
 fi
 room=$(mktemp -d)

@@ -1,7 +1,7 @@
 #!/bin/sh
 # Tries the disk in a file over block devices: a loop device that nobody uses is read and written; one that the kernel swaps to,
 # one whose file system is mounted, the disk of a mounted partition and one that the device mapper holds are refused for
-# writing, and opened for reading. Then `inspect` of the built program (crates/swsusp_cli/out/swsusp_cli, where there is one)
+# writing, and opened for reading. Then `inspect` of the built program (crates/swsusp/out/swsusp, where there is one)
 # reads a device. Prints a line for each check, and ends with status 1 where one differs; skips, with status 0, without root or
 # loop devices.
 set -u
@@ -77,7 +77,7 @@ else
     status=1
 fi
 
-program=$top/crates/swsusp_cli/out/swsusp_cli
+program=$top/crates/swsusp/out/swsusp
 if [ -x "$program" ]; then
     mkswap "$free" >/dev/null
     told=$("$program" inspect "$free" 2>&1)

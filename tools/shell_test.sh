@@ -1,12 +1,12 @@
 #!/bin/sh
 # Starts the built program as a shell may start it: with a standard stream closed, over what is no swap area or no file, and
-# compares its notes, its output and its statuses. The program is the first word, or crates/swsusp_cli/out/swsusp_cli, which
+# compares its notes, its output and its statuses. The program is the first word, or crates/swsusp/out/swsusp, which
 # `rt run` leaves. Prints a line for each check, and ends with status 1 where one differs.
 set -u
 top=$(cd "$(dirname "$0")/.." && pwd)
-program=${1:-$top/crates/swsusp_cli/out/swsusp_cli}
+program=${1:-$top/crates/swsusp/out/swsusp}
 if [ ! -x "$program" ]; then
-    echo "$program isn't built: rt run in crates/swsusp_cli builds it"
+    echo "$program isn't built: rt run in crates/swsusp builds it"
     exit 1
 fi
 room=$(mktemp -d)

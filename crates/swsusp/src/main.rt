@@ -1,27 +1,6 @@
 //! `swsusp`: hibernation images in swap areas.
 #![tactic(auto)]
 
-mod answer;
-mod choosing;
-#[cfg(test)]
-mod cut_tests;
-mod formatting;
-#[cfg(test)]
-mod hardware_tests;
-mod inspection;
-mod playing;
-mod reading;
-mod replay;
-mod status;
-#[cfg(test)]
-mod tests;
-mod top;
-mod words;
-
-use crate::answer::print;
-use crate::choosing::{Choice, swap_name};
-use crate::status::Status;
-use crate::top::run;
 use dump_file::{StdSink, StdSource};
 use page_core::NoMemory;
 use sector_disk::{Disk, FileDisk, MemDisk};
@@ -29,6 +8,7 @@ use std::fs::{File, OpenOptions};
 use std::os::fd::AsRawFd;
 use std::process::ExitCode;
 use std::{env, io};
+use swsusp_cli::{Choice, Status, print, run, swap_name};
 
 /// The status of a file that can't be opened, which no run answers.
 const NOT_OPENED: u8 = 7;

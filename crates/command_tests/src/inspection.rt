@@ -1,0 +1,131 @@
+//! What `inspect` says of a header block.
+
+use crate::runs::{assert_printed, run_over};
+use page_core::Page;
+use sector_disk::{Disk, MemDisk};
+use sig_header::{area_page, mark};
+use std::alloc::Global;
+use std::test::Fail;
+use swsusp_cli::Status;
+
+const INSPECT: [&str; 3] = ["swsusp", "inspect", "s"];
+
+fn disk_of(alloc: Global, blocks: u32) -> Result<MemDisk, Fail> {
+    match MemDisk::create(alloc, blocks) {
+        Ok(disk) => Ok(disk),
+        Err(_) => Err("memory".into()),
+    }
+}
+
+/// A disk of one block that reads as this page.
+fn disk_with(alloc: Global, page: &Page) -> Result<MemDisk, Fail> {
+    let mut disk = disk_of(alloc, 1)?;
+    if disk.blocks() != 1 {
+        return Err("another disk".into());
+    }
+    match disk.write(0, page) {
+        Ok(()) => Ok(disk),
+        Err(_) => Err("a write failed".into()),
+    }
+}
+
+fn with_signature(page: &Page, sig: [u8; 10]) -> Page {
+    let mut bytes = *page.as_bytes();
+    bytes[4086..4096].copy_from_slice(&sig);
+    Page::from_bytes(&bytes)
+}
+
+fn with_bad_count(count: u32) -> Page {
+    let mut page = area_page(3000, &[]);
+    page.put_u32(1032, count);
+    page
+}
+
+/// An area whose bad pages are 1 to 630.
+fn with_all_bad_pages() -> Page {
+    let mut bad = [0; 630];
+    for i in 0..630u32 {
+        bad[i as usize] = i + 1;
+    }
+    area_page(3000, &bad)
+}
+
+#[test]
+fn areas_and_images(rt: HostRuntime) -> Result<(), Fail> {
+    let empty = area_page(3000, &[]);
+    let table = [
+        (area_page(3000, &[]), "area last 3000 bad 0 image none\n"),
+        (with_all_bad_pages(), "area last 3000 bad 630 image none\n"),
+        (
+            mark(&empty, 1, 2, 0),
+            "area last 3000 bad 0 image 1 flags 2 hw -\n",
+        ),
+        (
+            mark(&empty, 1, 2, 7),
+            "area last 3000 bad 0 image 1 flags 10 hw 7\n",
+        ),
+    ];
+    for (page, out) in &table {
+        let mut disk = disk_with(rt.alloc(), page)?;
+        let got = run_over(rt.alloc(), &INSPECT, &mut disk, &[])?;
+        assert_printed(&rt, &got, Status::Done, out, "");
+    }
+    Ok(())
+}
+
+#[test]
+fn blocks_that_are_refused(rt: HostRuntime) -> Result<(), Fail> {
+    let empty = area_page(3000, &[]);
+    let table = [
+        (
+            with_signature(&empty, *b"S1SUSPEND\x01"),
+            "no swap: signature 533153555350454e4401\n",
+        ),
+        (with_bad_count(631), "no swap: bad count 631\n"),
+        (
+            with_signature(&empty, *b"SWAP-SPACE"),
+            "no swap: old\n",
+        ),
+        (Page::zero(), "no swap: signature 00000000000000000000\n"),
+    ];
+    for (page, note) in &table {
+        let mut disk = disk_with(rt.alloc(), page)?;
+        let got = run_over(rt.alloc(), &INSPECT, &mut disk, &[])?;
+        assert_printed(&rt, &got, Status::Refused, "", note);
+    }
+    Ok(())
+}
+
+#[test]
+fn a_disk_without_blocks(rt: HostRuntime) -> Result<(), Fail> {
+    let mut disk = disk_of(rt.alloc(), 0)?;
+    let got = run_over(rt.alloc(), &INSPECT, &mut disk, &[])?;
+    assert_printed(
+        &rt,
+        &got,
+        Status::Refused,
+        "",
+        "no swap: signature 00000000000000000000\n",
+    );
+    Ok(())
+}
+
+#[test]
+fn a_read_that_fails(rt: HostRuntime) -> Result<(), Fail> {
+    let mut disk = disk_with(rt.alloc(), &area_page(3000, &[]))?;
+    disk.arm(1, 1, 0);
+    let got = run_over(rt.alloc(), &INSPECT, &mut disk, &[])?;
+    assert_printed(&rt, &got, Status::Device, "", "read fault same\n");
+    Ok(())
+}
+
+#[test]
+fn a_sink_that_fails(rt: HostRuntime) -> Result<(), Fail> {
+    for failing in [0, 1] {
+        let mut disk = disk_with(rt.alloc(), &area_page(3000, &[]))?;
+        let got = run_over(rt.alloc(), &INSPECT, &mut disk, &[failing])?;
+        assert_eq!(rt; got.status, Status::Stream);
+        assert_eq!(rt; got.note.as_bytes(), b"sink fault\n".as_slice());
+    }
+    Ok(())
+}

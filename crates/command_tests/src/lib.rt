@@ -1,0 +1,9 @@
+//! Tests of the command line: words, the disk that they ask for, and `inspect`.
+#![tactic(auto)]
+
+#[cfg(test)]
+mod inspection;
+#[cfg(test)]
+mod runs;
+#[cfg(test)]
+mod words;

@@ -1,0 +1,84 @@
+//! Cuts behind each step, by what the sectors that aren't synced keep.
+
+use crate::plays::{MARK, Play};
+use std::alloc::Global;
+use std::ops::Range;
+use std::process::Abort;
+use std::test::Fail;
+
+const PICKS: [u64; 3] = [0, u64::MAX, MARK];
+
+#[test]
+fn hibernations_that_are_cut(rt: HostRuntime) -> Result<(), Fail> {
+    let mut play = Play::new(rt.alloc())?;
+    for pick in PICKS {
+        play.hibernations(pick)?;
+    }
+    play.prints(&rt)
+}
+
+#[test]
+fn resumes_that_are_cut(rt: HostRuntime) -> Result<(), Fail> {
+    let mut play = Play::new(rt.alloc())?;
+    for pick in PICKS {
+        play.resumes(pick)?;
+    }
+    play.prints(&rt)
+}
+
+/// Of each 64 sectors one alone keeps its last bytes, each of these in turn.
+fn hibernations(rt: &impl Abort, alloc: Global, sectors: Range<u32>) -> Result<(), Fail> {
+    let mut play = Play::new(alloc)?;
+    for sector in sectors {
+        play.hibernations(1u64.wrapping_shl(sector))?;
+    }
+    play.prints(rt)
+}
+
+fn resumes(rt: &impl Abort, alloc: Global, sectors: Range<u32>) -> Result<(), Fail> {
+    let mut play = Play::new(alloc)?;
+    for sector in sectors {
+        play.resumes(1u64.wrapping_shl(sector))?;
+    }
+    play.prints(rt)
+}
+
+#[test]
+fn hibernations_that_keep_sector_0_or_one_to_15(rt: HostRuntime) -> Result<(), Fail> {
+    hibernations(&rt, rt.alloc(), 0..16)
+}
+
+#[test]
+fn hibernations_that_keep_sector_16_or_one_to_31(rt: HostRuntime) -> Result<(), Fail> {
+    hibernations(&rt, rt.alloc(), 16..32)
+}
+
+#[test]
+fn hibernations_that_keep_sector_32_or_one_to_47(rt: HostRuntime) -> Result<(), Fail> {
+    hibernations(&rt, rt.alloc(), 32..48)
+}
+
+#[test]
+fn hibernations_that_keep_sector_48_or_one_to_63(rt: HostRuntime) -> Result<(), Fail> {
+    hibernations(&rt, rt.alloc(), 48..64)
+}
+
+#[test]
+fn resumes_that_keep_sector_0_or_one_to_15(rt: HostRuntime) -> Result<(), Fail> {
+    resumes(&rt, rt.alloc(), 0..16)
+}
+
+#[test]
+fn resumes_that_keep_sector_16_or_one_to_31(rt: HostRuntime) -> Result<(), Fail> {
+    resumes(&rt, rt.alloc(), 16..32)
+}
+
+#[test]
+fn resumes_that_keep_sector_32_or_one_to_47(rt: HostRuntime) -> Result<(), Fail> {
+    resumes(&rt, rt.alloc(), 32..48)
+}
+
+#[test]
+fn resumes_that_keep_sector_48_or_one_to_63(rt: HostRuntime) -> Result<(), Fail> {
+    resumes(&rt, rt.alloc(), 48..64)
+}

@@ -1,0 +1,182 @@
+//! The bytes of images that replays leave, and what `inspect` says of their areas.
+
+ghost use Rattle.std.specs.Prelude.{IfOk};
+ghost use Rattle.world_core.specs.StandsFor.{IsOff};
+
+use crate::runs::{block_behind, block_of, disk_of, inspected, replayed};
+use dump_file::MemSink;
+use machine::Hardware;
+use page_core::Page;
+use script::parse;
+use sector_disk::{Disk, MemDisk};
+use std::alloc::Global;
+use std::process::Abort;
+use std::test::Fail;
+use swsusp_cli::{Status, play};
+use world_core::World;
+
+/// A machine with 3001 slots has booted, and its task 3 has stored 77 in page frame 10.
+const B: &str = "area 3000\nboot\nsteps core 2\nclaim 3 10\nstore 3 10 0 77\n";
+
+/// Behind it, a whole hibernation.
+const HIBERNATED: &str = "hibernate\nsteps core 15\n";
+
+const WITHOUT_ZEROS: &str = "hibernate zeros\nsteps core 13\n";
+
+const PIECES: &str = "extent 0 1 50\nextent 1 3000 100\n";
+
+#[test]
+fn what_inspect_says_behind_a_replay(rt: HostRuntime) -> Result<(), Fail> {
+    let table: [(&[&str], u32, Status, &str, &str); 6] = [
+        (
+            &[B, HIBERNATED],
+            3001,
+            Status::Done,
+            "area last 3000 bad 0 image 1 flags 2 hw -\n",
+            "",
+        ),
+        (
+            &["bad 5\nbad 5\n"],
+            3001,
+            Status::Done,
+            "area last 3000 bad 2 image none\n",
+            "",
+        ),
+        (
+            &["bad 1\n", B, HIBERNATED],
+            3001,
+            Status::Done,
+            "area last 3000 bad 1 image 2 flags 2 hw -\n",
+            "",
+        ),
+        (
+            &["hwsig 7\n", B, HIBERNATED],
+            3001,
+            Status::Done,
+            "area last 3000 bad 0 image 1 flags 10 hw 7\n",
+            "",
+        ),
+        (
+            &[B, WITHOUT_ZEROS],
+            3001,
+            Status::Done,
+            "area last 3000 bad 0 image 1 flags 258 hw -\n",
+            "",
+        ),
+        (
+            &[PIECES, B, HIBERNATED],
+            3100,
+            Status::Refused,
+            "",
+            "no swap: signature 00000000000000000000\n",
+        ),
+    ];
+    for (parts, blocks, status, out, note) in &table {
+        let got = inspected(rt.alloc(), parts, *blocks)?;
+        assert_eq!(rt; got.status, *status);
+        assert_eq!(rt; got.out.as_bytes(), out.as_bytes());
+        assert_eq!(rt; got.note.as_bytes(), note.as_bytes());
+    }
+    Ok(())
+}
+
+fn assert_words(rt: &impl Abort, page: &Page, words: &[(usize, u64)]) {
+    for (k, word) in words {
+        if *k < 512 {
+            assert_eq!(rt; page.word(*k), *word, "at {k}");
+        }
+    }
+}
+
+// The map is in block 1, the info page in block 2, the number page in block 3, and the pages of page frames 0 to 6 and 10 in
+// blocks 4 to 11.
+#[test]
+fn the_bytes_of_the_first_image(rt: HostRuntime) -> Result<(), Fail> {
+    let mut disk = disk_of(rt.alloc(), 3001)?;
+    replayed(rt.alloc(), &[B, HIBERNATED], &mut disk)?;
+    let header = block_of(&mut disk, 0)?;
+    assert_eq!(rt;
+        header.as_bytes()[4056..].iter().as_slice(),
+        b"\0\0\0\0\0\0\0\0\x01\0\0\0\0\0\0\0\x02\0\0\0SWAPSPACE2S1SUSPEND\0".as_slice()
+    );
+    let map = block_of(&mut disk, 1)?;
+    for k in 0..10 {
+        assert_eq!(rt; map.word(k), k as u64 + 2);
+    }
+    assert_words(&rt, &map, &[(10, 0), (511, 0)]);
+    let info = block_of(&mut disk, 2)?;
+    assert_eq!(rt; info.u32_at(392), 393_472);
+    assert_words(&rt, &info, &[(50, 4096), (52, 8), (53, 10), (54, 40_960)]);
+    let numbers = block_of(&mut disk, 3)?;
+    for (k, number) in [0, 1, 2, 3, 4, 5, 6, 10, u64::MAX, 0].iter().enumerate() {
+        assert_eq!(rt; numbers.word(k), *number);
+    }
+    assert_words(&rt, &block_of(&mut disk, 11)?, &[(0, 77)]);
+    Ok(())
+}
+
+#[test]
+fn the_numbers_of_an_image_without_zeros(rt: HostRuntime) -> Result<(), Fail> {
+    let numbers = block_behind(rt.alloc(), &[B, WITHOUT_ZEROS], 3001, 3)?;
+    assert_words(
+        &rt,
+        &numbers,
+        &[
+            (5, 9_223_372_036_854_775_813),
+            (6, 9_223_372_036_854_775_814),
+        ],
+    );
+    Ok(())
+}
+
+// The mark of a swap file: the block of the first map, and the flags.
+#[test]
+fn the_header_of_a_swap_file(rt: HostRuntime) -> Result<(), Fail> {
+    let header = block_behind(rt.alloc(), &[PIECES, B, HIBERNATED], 3100, 50)?;
+    assert_eq!(rt; header.word(508), 100);
+    assert_eq!(rt; header.u32_at(4072), 2);
+    Ok(())
+}
+
+/// A world of a machine, which is off.
+fn world_off(alloc: Global, hw: &Hardware) -> Result<World, Fail>
+    ensures { IfOk result IsOff }
+{
+    match World::create(alloc, *hw) {
+        Ok(world) => Ok(world),
+        Err(_) => Err("memory".into()),
+    }
+}
+
+/// The disk of an image without zeros, whose info page counts a page more than the marked numbers leave.
+fn miscounted(alloc: Global) -> Result<MemDisk, Fail> {
+    let mut disk = disk_of(alloc, 3001)?;
+    replayed(alloc, &[B, WITHOUT_ZEROS], &mut disk)?;
+    let mut info = block_of(&mut disk, 2)?;
+    if info.word(53) != 8 || disk.blocks() != 3001 {
+        return Err("another image".into());
+    }
+    info.set_word(53, 9);
+    match disk.write(2, &info) {
+        Ok(()) => Ok(disk),
+        Err(_) => Err("a write failed".into()),
+    }
+}
+
+#[test]
+fn zeros_with_a_page_too_many(rt: HostRuntime) -> Result<(), Fail> {
+    let mut disk = miscounted(rt.alloc())?;
+    let Ok(resume) = parse(rt.alloc(), b"resume\nsteps core 8\n") else {
+        return Err("no script".into());
+    };
+    let mut world = world_off(rt.alloc(), resume.hardware())?;
+    let mut out = MemSink::new(Vec::with_capacity(rt.alloc(), 256)?, Vec::new(rt.alloc()));
+    if play(&mut world, &mut disk, &mut out, resume.events()).is_err() {
+        return Err("out failed".into());
+    }
+    assert!(rt;
+        out.as_bytes()
+            .ends_with(b"loading 6\nbad counts 8 9\nidle\n")
+    );
+    Ok(())
+}

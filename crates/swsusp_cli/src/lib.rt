@@ -1,0 +1,19 @@
+//! The command line of `swsusp`: what its words ask for, and the top call.
+#![tactic(auto)]
+
+mod answer;
+mod choosing;
+mod formatting;
+mod inspection;
+mod playing;
+mod reading;
+mod replay;
+mod status;
+mod top;
+mod words;
+
+pub use answer::print;
+pub use choosing::{Choice, swap_name};
+pub use playing::play;
+pub use status::Status;
+pub use top::run;
