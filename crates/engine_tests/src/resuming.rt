@@ -15,12 +15,7 @@ fn begun(load: &mut Load, machine: &Machine, frames: &mut Frames) -> Reply
         count: 0,
         list: [(0, 0); 8],
     };
-    load.begin(
-        machine,
-        frames,
-        Loader::Ranges(ranges),
-        IdentCheck::Compare,
-    )
+    load.begin(machine, frames, Loader::Ranges(ranges), IdentCheck::Compare)
 }
 
 // A resume begins: its loader has filled each page frame with bytes of its own.

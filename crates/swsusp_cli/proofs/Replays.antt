@@ -52,7 +52,7 @@ world_blocks w before after n m c c' (inr is) size size' same =
     inr (omega arith)
 
 run_formatted : (script : ScriptValue) (old new : World) (events : List Event) (replies : List Reply) (before between now : DiskView) (c : disk.Content) → before.content ≡ Some c → disk.IsContent before.blocks c →
-    IfSome between.content (disk.IsContent between.blocks) → IfSome now.content (disk.IsContent now.blocks) → CanFormat script before.blocks → IsNew script.hardware old →
+    IfSome between.content (disk.IsContent between.blocks) → IfSome now.content (disk.IsContent now.blocks) → CanFormat script before.blocks → IsNew script.hardware None old →
     disk.Changes (Formats script.hardware script.last script.bad) before.content between.content →
     HasPlayed old new events replies between now → hardware_of new ≡ hardware_of old → IsOff new ⊎ (now.blocks ≡ boot_blocks new) → IsRun before now script events replies c
 run_formatted script old new events replies before between now c told whole whole_between whole_now can fresh formats was_played hw booted =
@@ -96,7 +96,7 @@ calls_within : (before between after steps : ℕ) → between ≡ disk.raised (d
 calls_within before between after steps two more = omega (arith, min-le_left (before + 1) disk.last_count, min-le_left (disk.raised before + 1) disk.last_count)
 
 pub replies_of : (script : ScriptValue) (old new : World) (events : List Event) (replies : List Reply) (before between now : DiskView) → IfSome before.content (disk.IsContent before.blocks) →
-    IfSome between.content (disk.IsContent between.blocks) → IfSome now.content (disk.IsContent now.blocks) → CanFormat script before.blocks → IsNew script.hardware old →
+    IfSome between.content (disk.IsContent between.blocks) → IfSome now.content (disk.IsContent now.blocks) → CanFormat script before.blocks → IsNew script.hardware None old →
     disk.Changes (Formats script.hardware script.last script.bad) before.content between.content → before.faults ≤ between.faults → between.calls ≡ disk.raised (disk.raised before.calls) → between.orders ≡ before.orders → HasPlayed old new events replies between now → hardware_of new ≡ hardware_of old → IsOff new ⊎ (now.blocks ≡ boot_blocks new) →
     AreReplies before now script events replies
 replies_of script old new events replies before between now whole whole_between whole_now can fresh formats later two same was_played hw booted = record {

@@ -1,4 +1,4 @@
-use Rattle.std.proofs.Common.{◌≡◌, inr, ◌≤◌, ◌<◌, ℕ, List, length, refl, ap, ◌∙◌, subst, arith, take}
+use Rattle.std.proofs.Common.{◌≡◌, inr, ◌≤◌, ◌<◌, ℕ, List, length, None, refl, ap, ◌∙◌, subst, arith, take}
 use Rattle.definitions.specs.Disk as disk
 use Rattle.plain_machine.specs.Machine.{Hardware, IsHardware, block_of_slot}
 use Rattle.script.specs.Grammar.{ScriptValue}
@@ -106,7 +106,7 @@ returns-in-Ok-play-clause-outcome g c =
     let between : DiskView = record { blocks = g.D.Disk.block_count c.format.new.disk; content = g.D.Disk.content c.format.new.disk; faults = g.D.Disk.faults c.format.new.disk; calls = g.D.Disk.calls c.format.new.disk; orders = g.D.Disk.orders c.format.new.disk } in
     let now : DiskView = record { blocks = g.D.Disk.block_count c.play.new.disk; content = g.D.Disk.content c.play.new.disk; faults = g.D.Disk.faults c.play.new.disk; calls = g.D.Disk.calls c.play.new.disk; orders = g.D.Disk.orders c.play.new.disk } in
     let can = can_format script c.blocks_needed-need.result before.blocks (subst IsHardware hw c.blocks_needed-need.ensures.hardware) needed (omega arith) c.in-Ok.ensures.few_bad in
-    let fresh = subst (λ (h : Hardware). IsNew h c.in-Ok-create.world) hw c.in-Ok-create.ensures in
+    let fresh = subst (λ (h : Hardware). IsNew h None c.in-Ok-create.world) hw c.in-Ok-create.ensures in
     let formats = formatted_by (λ h last bad. disk.Changes (Formats h last bad) before.content between.content) script hw c.last.ensures c.bad.ensures c.in-Ok-format.ensures.content in
     let rs = c.in-Ok-play.ensures.played.0 in
     let was = subst (λ (events : List Event). HasPlayed c.in-Ok-create.world c.play.new.world events rs between now) c.events.ensures c.in-Ok-play.ensures.played.1 in
@@ -128,7 +128,7 @@ returns-clause-outcome g c =
     let between : DiskView = record { blocks = g.D.Disk.block_count c.format.new.disk; content = g.D.Disk.content c.format.new.disk; faults = g.D.Disk.faults c.format.new.disk; calls = g.D.Disk.calls c.format.new.disk; orders = g.D.Disk.orders c.format.new.disk } in
     let now : DiskView = record { blocks = g.D.Disk.block_count c.play.new.disk; content = g.D.Disk.content c.play.new.disk; faults = g.D.Disk.faults c.play.new.disk; calls = g.D.Disk.calls c.play.new.disk; orders = g.D.Disk.orders c.play.new.disk } in
     let can = can_format script c.blocks_needed-need.result before.blocks (subst IsHardware hw c.blocks_needed-need.ensures.hardware) needed (omega arith) c.in-Ok.ensures.few_bad in
-    let fresh = subst (λ (h : Hardware). IsNew h c.in-Ok-create.world) hw c.in-Ok-create.ensures in
+    let fresh = subst (λ (h : Hardware). IsNew h None c.in-Ok-create.world) hw c.in-Ok-create.ensures in
     let formats = formatted_by (λ h last bad. disk.Changes (Formats h last bad) before.content between.content) script hw c.last.ensures c.bad.ensures c.in-Ok-format.ensures.content in
     let k = c.in-Err-play.ensures.played.0 in
     let rs = c.in-Err-play.ensures.played.1 in
