@@ -25,6 +25,7 @@ pub fn read_dump<S: Source>(alloc: Global, source: &mut S) -> Result<Dump, DumpS
     ensures fault { (bytes : List ℕ) (f : DumpFault) → S.remaining source.old ≡ Some bytes → result ≡ Err (DumpStop.Fault f) → dump_of bytes ≡ Err f }
     ensures fits { IfOk result (λ d. Fits d.hw d.frames) }
     ensures no_region { IfOk result (λ d. d.hw.regions ≡ []) }
+    ensures memory { (bytes : List ℕ) → S.remaining source.old ≡ Some bytes → result ≡ Err DumpStop.NoMemory → head_fault bytes ≡ None }
     ensures counted { S.faults source.old ≤ S.faults source.new }
     ensures cause { result ≡ Err DumpStop.SourceFault → HasRisen (S.faults source.old) (S.faults source.new) }
 {
@@ -46,6 +47,7 @@ fn read_header<S: Source>(source: &mut S) -> Result<Header, DumpStop>
     ensures left { IfOk result (λ h. (bytes : List ℕ) → S.remaining source.old ≡ Some bytes → IsReadTo bytes h.first (S.remaining source.new)) }
     ensures early { IfOk result (λ h. h.first ≤ 1332) }
     ensures no_region { IfOk result (λ h. h.hw.regions ≡ []) }
+    ensures memory { result ≢ Err DumpStop.NoMemory }
     ensures counted { S.faults source.old ≤ S.faults source.new }
     ensures cause { result ≡ Err DumpStop.SourceFault → HasRisen (S.faults source.old) (S.faults source.new) }
 {
