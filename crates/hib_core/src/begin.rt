@@ -190,6 +190,7 @@ fn lost_frame(view: &View, slots: &SlotTable) -> Option<u32>
     requires slots { LiesIn view.now.frames.now slots.now }
     ensures none { IfNone result ((p : ℕ) → IsOfTable slots.now.first slots.now.slots p → Contains (saveable_frames view.now.zones.now view.now.table view.now.frames.now) p) }
     ensures lost { IfSome result (λ p. IsOfTable slots.now.first slots.now.slots p × (Contains (saveable_frames view.now.zones.now view.now.table view.now.frames.now) p → ⊥)) }
+    ensures first { IfSome result (λ p. (q : ℕ) → IsOfTable slots.now.first slots.now.slots q → q < p → Contains (saveable_frames view.now.zones.now view.now.table view.now.frames.now) q) }
 {
     let _ = view.frames.len();
     for p in slots.first..slots.first + slots.slots.div_ceil(1024) {
