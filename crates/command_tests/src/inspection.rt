@@ -82,10 +82,7 @@ fn blocks_that_are_refused(rt: HostRuntime) -> Result<(), Fail> {
             "no swap: signature 533153555350454e4401\n",
         ),
         (with_bad_count(631), "no swap: bad count 631\n"),
-        (
-            with_signature(&empty, *b"SWAP-SPACE"),
-            "no swap: old\n",
-        ),
+        (with_signature(&empty, *b"SWAP-SPACE"), "no swap: old\n"),
         (Page::zero(), "no swap: signature 00000000000000000000\n"),
     ];
     for (page, note) in &table {
@@ -106,6 +103,41 @@ fn a_disk_without_blocks(rt: HostRuntime) -> Result<(), Fail> {
         Status::Refused,
         "",
         "no swap: signature 00000000000000000000\n",
+    );
+    Ok(())
+}
+
+// The call that is armed to fail isn't made.
+#[test]
+fn a_block_behind_the_disk(rt: HostRuntime) -> Result<(), Fail> {
+    let offsets: [&str; 3] = ["1", "2", "4294967295"];
+    for offset in offsets {
+        let mut disk = disk_with(rt.alloc(), &area_page(3000, &[]))?;
+        disk.arm(1, 1, 0);
+        let words = ["swsusp", "inspect", "--offset", offset, "s"];
+        let got = run_over(rt.alloc(), &words, &mut disk, &[])?;
+        assert_printed(
+            &rt,
+            &got,
+            Status::Refused,
+            "",
+            "no swap: signature 00000000000000000000\n",
+        );
+    }
+    Ok(())
+}
+
+#[test]
+fn the_first_block_by_its_number(rt: HostRuntime) -> Result<(), Fail> {
+    let mut disk = disk_with(rt.alloc(), &area_page(3000, &[]))?;
+    let words = ["swsusp", "inspect", "--offset", "0", "s"];
+    let got = run_over(rt.alloc(), &words, &mut disk, &[])?;
+    assert_printed(
+        &rt,
+        &got,
+        Status::Done,
+        "area last 3000 bad 0 image none\n",
+        "",
     );
     Ok(())
 }

@@ -6,23 +6,58 @@ use std::alloc::Global;
 use std::test::Fail;
 use swsusp_cli::{Choice, Status, swap_name};
 
+fn small_disk(alloc: Global) -> Result<MemDisk, Fail> {
+    match MemDisk::create(alloc, 1) {
+        Ok(disk) => Ok(disk),
+        Err(_) => Err("memory".into()),
+    }
+}
+
+// clap takes these, and yet they aren't plain.
 #[test]
-fn words_that_do_not_parse(rt: HostRuntime) -> Result<(), Fail> {
-    let lists: [&[&str]; 7] = [
-        &["swsusp"],
-        &["swsusp", "inspect"],
+fn words_that_are_not_plain(rt: HostRuntime) -> Result<(), Fail> {
+    let lists: [&[&str]; 8] = [
         &["swsusp", "inspect", ""],
         &["swsusp", "inspect", "-"],
         &["swsusp", "inspect", "--", "s"],
-        &["swsusp", "inspect", "a", "b"],
-        &["swsusp", "drill", "0"],
+        &["swsusp", "inspect", "--offset", "010", "s"],
+        &["swsusp", "inspect", "--offset", "+1", "s"],
+        &["swsusp", "inspect", "--offset=1", "s"],
+        &["swsusp", "inspect", "s", "--offset", "1"],
+        &["swsusp", "inspect", "--offset", "1", "-"],
     ];
     for list in lists {
-        let Ok(mut disk) = MemDisk::create(rt.alloc(), 1) else {
-            return Err("memory".into());
-        };
+        let mut disk = small_disk(rt.alloc())?;
         let got = run_over(rt.alloc(), list, &mut disk, &[])?;
         assert_printed(&rt, &got, Status::Words, "", "words\n");
+    }
+    Ok(())
+}
+
+// Of these clap says what is wrong, or what was asked for.
+#[test]
+fn words_that_clap_refuses(rt: HostRuntime) -> Result<(), Fail> {
+    let lists: [&[&str]; 12] = [
+        &["swsusp"],
+        &["swsusp", "inspect"],
+        &["swsusp", "inspect", "a", "b"],
+        &["swsusp", "inspect", "--offset", "s"],
+        &["swsusp", "inspect", "--offset", "x", "s"],
+        &["swsusp", "inspect", "--offset", "4294967296", "s"],
+        &["swsusp", "inspect", "--offset", "1", "--offset", "2", "s"],
+        &["swsusp", "drill", "0"],
+        &["swsusp", "hibernate", "s"],
+        &["swsusp", "replay", "s"],
+        &["swsusp", "--help"],
+        &["swsusp", "--version"],
+    ];
+    for list in lists {
+        let mut disk = small_disk(rt.alloc())?;
+        let got = run_over(rt.alloc(), list, &mut disk, &[])?;
+        assert_eq!(rt; got.status, Status::Words);
+        assert_eq!(rt; got.out.as_bytes(), b"".as_slice());
+        assert!(rt; got.note.as_bytes().ends_with(b"\n"));
+        assert!(rt; got.note.as_bytes() != b"words\n".as_slice());
     }
     Ok(())
 }
@@ -39,9 +74,15 @@ fn asked(alloc: Global, list: &[&str]) -> Result<(Option<String>, u32), Fail> {
 
 #[test]
 fn the_disk_that_words_ask_for(rt: HostRuntime) -> Result<(), Fail> {
-    let lists: [(&[&str], Option<&str>, u32); 3] = [
+    let lists: [(&[&str], Option<&str>, u32); 5] = [
         (&["swsusp", "inspect", "swap.img"], Some("swap.img"), 0),
+        (
+            &["swsusp", "inspect", "--offset", "50", "swap.img"],
+            Some("swap.img"),
+            0,
+        ),
         (&["swsusp", "inspect"], None, 1),
+        (&["swsusp", "drill", "0"], None, 1),
         (&["swsusp", "replay"], None, 16384),
     ];
     for (list, path, blocks) in lists {

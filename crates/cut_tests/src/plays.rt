@@ -31,13 +31,7 @@ impl Play {
     }
 
     /// A line for each step, the first of them the event's own, and `end` for the last step of all.
-    fn counts(
-        &mut self,
-        before: &str,
-        steps: u64,
-        behind: &str,
-        end: &str,
-    ) -> Result<(), Fail> {
+    fn counts(&mut self, before: &str, steps: u64, behind: &str, end: &str) -> Result<(), Fail> {
         for k in 0..=steps.min(STEPS - 1) {
             let line = format!(in self.alloc; "{before}{k}{behind}")?;
             self.text.push_str(line.as_str())?;
@@ -50,7 +44,9 @@ impl Play {
 
     /// A machine boots, its task stores the word, and it makes so many of a hibernation's steps.
     fn hibernates(&mut self, word: u64, steps: u64) -> Result<(), Fail> {
-        let events = format!(in self.alloc; "boot\nsteps core 2\nclaim 3 10\nstore 3 10 0 {word}\nhibernate\nsteps core {steps}\n")?;
+        let events = format!(in self.alloc;
+            "boot\nsteps core 2\nclaim 3 10\nstore 3 10 0 {word}\nhibernate\nsteps core {steps}\n"
+        )?;
         self.script.push_str(events.as_str())?;
         self.text
             .push_str("more 0 of 2\nmore 1 of 2\nbooted image no\nok\nok\n")?;

@@ -1,6 +1,6 @@
 //! What a replay says of any script, and when its disk or its output fails.
 
-use crate::runs::{Printed, all_end, disk_of, run_over, replayed};
+use crate::runs::{Printed, all_end, disk_of, replayed, run_over};
 use sector_disk::Disk;
 use std::alloc::Global;
 use std::process::Abort;
@@ -129,17 +129,26 @@ fn what_a_cut_leaves(rt: HostRuntime) -> Result<(), Fail> {
                 "\ncut\nloading 0\nloading 1\nno image\n",
             ),
             (
-                &[B, "hibernate\nsteps core 14\ncut 128\nresume\nsteps core 15\n"],
+                &[
+                    B,
+                    "hibernate\nsteps core 14\ncut 128\nresume\nsteps core 15\n",
+                ],
                 3001,
                 "\nresumed 8\n",
             ),
             (
-                &[B, "hibernate\nsteps core 15\nresume\nsteps core 3\ncut 0\nresume\nsteps core 15\n"],
+                &[
+                    B,
+                    "hibernate\nsteps core 15\nresume\nsteps core 3\ncut 0\nresume\nsteps core 15\n",
+                ],
                 3001,
                 "\nresumed 8\n",
             ),
             (
-                &[B, "hibernate\nsteps core 15\nresume\nsteps core 4\ncut 0\nresume\nsteps core 3\n"],
+                &[
+                    B,
+                    "hibernate\nsteps core 15\nresume\nsteps core 4\ncut 0\nresume\nsteps core 3\n",
+                ],
                 3001,
                 "\nloading 1\nno image\nidle\n",
             ),

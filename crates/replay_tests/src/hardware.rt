@@ -17,16 +17,8 @@ fn frames_just_enough(rt: HostRuntime) -> Result<(), Fail> {
     all_end(
         rt.alloc(),
         &[
-            (
-                &["zone 0 4024\n", rest],
-                3001,
-                "no frames 2524 need 2525\n",
-            ),
-            (
-                &["zone 0 4025\n", rest],
-                3001,
-                "image no\nmore 0 of 1511\n",
-            ),
+            (&["zone 0 4024\n", rest], 3001, "no frames 2524 need 2525\n"),
+            (&["zone 0 4025\n", rest], 3001, "image no\nmore 0 of 1511\n"),
         ],
     )
 }
@@ -134,9 +126,17 @@ fn images_that_come_back(rt: HostRuntime) -> Result<(), Fail> {
                 3001,
                 back,
             ),
-            (&["bad 1\n", B, "hibernate\nsteps core 15\n"], 3001, "hibernated 8\n"),
+            (
+                &["bad 1\n", B, "hibernate\nsteps core 15\n"],
+                3001,
+                "hibernated 8\n",
+            ),
             (&["hwsig 7\n", B, BACK], 3001, back),
-            (&[PIECES, B, "hibernate\nsteps core 15\n"], 3100, "hibernated 8\n"),
+            (
+                &[PIECES, B, "hibernate\nsteps core 15\n"],
+                3100,
+                "hibernated 8\n",
+            ),
             (&[PIECES, B, BACK], 3100, back),
         ],
     )
@@ -202,7 +202,10 @@ fn a_disk_too_small_for_a_swap_file(rt: HostRuntime) -> Result<(), Fail> {
     let mut disk = disk_of(rt.alloc(), 3001)?;
     let got = replayed(rt.alloc(), &[PIECES, B, BACK], &mut disk)?;
     assert_eq!(rt; got.status, Status::Refused);
-    assert_eq!(rt; got.note.as_bytes(), b"disk blocks 3001 need 3100\n".as_slice());
+    assert_eq!(rt;
+        got.note.as_bytes(),
+        b"disk blocks 3001 need 3100\n".as_slice()
+    );
     Ok(())
 }
 

@@ -3,7 +3,7 @@
 ghost use Rattle.std.specs.Prelude.{IfOk};
 ghost use Rattle.world_core.specs.StandsFor.{IsOff};
 
-use crate::runs::{block_behind, block_of, disk_of, inspected, replayed};
+use crate::runs::{block_behind, block_of, disk_of, replayed, run_behind};
 use dump_file::MemSink;
 use machine::Hardware;
 use page_core::Page;
@@ -27,52 +27,53 @@ const PIECES: &str = "extent 0 1 50\nextent 1 3000 100\n";
 
 #[test]
 fn what_inspect_says_behind_a_replay(rt: HostRuntime) -> Result<(), Fail> {
-    let table: [(&[&str], u32, Status, &str, &str); 6] = [
+    let table: [(&[&str], &str); 5] = [
         (
             &[B, HIBERNATED],
-            3001,
-            Status::Done,
             "area last 3000 bad 0 image 1 flags 2 hw -\n",
-            "",
         ),
-        (
-            &["bad 5\nbad 5\n"],
-            3001,
-            Status::Done,
-            "area last 3000 bad 2 image none\n",
-            "",
-        ),
+        (&["bad 5\nbad 5\n"], "area last 3000 bad 2 image none\n"),
         (
             &["bad 1\n", B, HIBERNATED],
-            3001,
-            Status::Done,
             "area last 3000 bad 1 image 2 flags 2 hw -\n",
-            "",
         ),
         (
             &["hwsig 7\n", B, HIBERNATED],
-            3001,
-            Status::Done,
             "area last 3000 bad 0 image 1 flags 10 hw 7\n",
-            "",
         ),
         (
             &[B, WITHOUT_ZEROS],
-            3001,
-            Status::Done,
             "area last 3000 bad 0 image 1 flags 258 hw -\n",
+        ),
+    ];
+    for (parts, out) in &table {
+        let got = run_behind(rt.alloc(), parts, 3001, &["swsusp", "inspect", "s"])?;
+        assert_eq!(rt; got.status, Status::Done);
+        assert_eq!(rt; got.out.as_bytes(), out.as_bytes());
+        assert_eq!(rt; got.note.as_bytes(), b"".as_slice());
+    }
+    Ok(())
+}
+
+// The header of a swap file is where the file begins.
+#[test]
+fn what_inspect_says_of_a_swap_file(rt: HostRuntime) -> Result<(), Fail> {
+    let table: [(&[&str], Status, &str, &str); 2] = [
+        (
+            &["swsusp", "inspect", "--offset", "50", "s"],
+            Status::Done,
+            "area last 3000 bad 0 image 100 flags 2 hw -\n",
             "",
         ),
         (
-            &[PIECES, B, HIBERNATED],
-            3100,
+            &["swsusp", "inspect", "s"],
             Status::Refused,
             "",
             "no swap: signature 00000000000000000000\n",
         ),
     ];
-    for (parts, blocks, status, out, note) in &table {
-        let got = inspected(rt.alloc(), parts, *blocks)?;
+    for (words, status, out, note) in &table {
+        let got = run_behind(rt.alloc(), &[PIECES, B, HIBERNATED], 3100, words)?;
         assert_eq!(rt; got.status, *status);
         assert_eq!(rt; got.out.as_bytes(), out.as_bytes());
         assert_eq!(rt; got.note.as_bytes(), note.as_bytes());

@@ -68,12 +68,16 @@ pub fn replayed(alloc: Global, parts: &[&str], disk: &mut MemDisk) -> Result<Pri
     run_over(alloc, &["swsusp", "replay"], script, disk, &[])
 }
 
-/// Replays a script over a disk of so many blocks, and then inspects the disk.
-pub fn inspected(alloc: Global, parts: &[&str], blocks: u32) -> Result<Printed, Fail> {
+/// Replays a script over a disk of so many blocks, and then runs a command over it.
+pub fn run_behind(
+    alloc: Global,
+    parts: &[&str],
+    blocks: u32,
+    command: &[&str],
+) -> Result<Printed, Fail> {
     let mut disk = disk_of(alloc, blocks)?;
     replayed(alloc, parts, &mut disk)?;
-    let nothing = Vec::new(alloc);
-    run_over(alloc, &["swsusp", "inspect", "s"], nothing, &mut disk, &[])
+    run_over(alloc, command, Vec::new(alloc), &mut disk, &[])
 }
 
 /// A block behind a script's replay over a disk of so many blocks.

@@ -17,3 +17,4 @@ pub use line::Line;
 pub use reading::{Script, parse};
 pub use replies::line_of;
 pub use texts::put_no_swap;
+pub use words::number_of;

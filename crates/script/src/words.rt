@@ -26,7 +26,7 @@ pub fn put_words<'a>(line: &'a [u8], into: &mut ArrayVec<&'a [u8], MAX_WORDS>)
     }
 }
 
-/// The number that a word of digits is.
+/// The number of at most 64 bits that a word of decimal digits is. Leading zeros are allowed.
 pub fn number_of(word: &[u8]) -> Option<u64>
     ensures { result ≡ number_of word.now }
 {

@@ -2,8 +2,8 @@
 use Rattle.std.proofs.Common.{zero, suc, ◌≢◌, inl, inr, ◌≤◌, ℕ, List, [], length, Option, Some, None, Result, Ok, Err, OnOk, OnErr, subst, arith, append-nil}
 use Rattle.definitions.specs.Streams.{Takes, TakesAll, TakesFront}
 use Rattle.dump_file.specs.Flushed.{IsFlushed}
-use Rattle.swsusp_cli.specs.Answer.{Told}
-use Rattle.swsusp_cli.specs.Outcome.{IsReplayed, no_script, out_of_memory, unread, too_small, unformatted, played, cut_off, fault_told, memory_told, small_told, unformatted_told}
+use Rattle.swsusp_cli.specs.Answer.{Told, memory_told}
+use Rattle.swsusp_cli.specs.Outcome.{IsReplayed, no_script, out_of_memory, unread, too_small, unformatted, played, cut_off, fault_told, small_told, unformatted_told}
 use Rattle.swsusp_cli.specs.Told.{IsPrinted, FailsToPrint, IsTold, IsTried}
 use Rattle.swsusp_cli.specs.View.{SinkView, View}
 use Rattle.swsusp_cli.specs.declared.status.Status.{Status}

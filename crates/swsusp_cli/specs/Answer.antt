@@ -1,7 +1,7 @@
 -- What a run ends with.
 use Rattle.std.specs.Prelude.{ℕ, List, [], ◌∷◌, ◌++◌, codes}
 use Rattle.swsusp_cli.specs.declared.status.Status.{Status}
-use Rattle.swsusp_cli.specs.declared.status.Status.TheVariants.{Done, Words, Device}
+use Rattle.swsusp_cli.specs.declared.status.Status.TheVariants.{Done, Words, Device, Memory}
 
 -- a status, the text on out and the text on note
 pub record Told : Type 0 where
@@ -17,9 +17,13 @@ line text = text ++ 10 ∷ []
 abbrev pub done : Told
 done = record { status = Done; out = []; note = [] }
 
--- the words don't parse
-abbrev pub unparsed : Told
-unparsed = record { status = Words; out = []; note = line (codes "words") }
+-- the words don't parse, which this text says
+abbrev pub unparsed : List ℕ → Told
+unparsed text = record { status = Words; out = []; note = text }
+
+-- memory was refused
+abbrev pub memory_told : Told
+memory_told = record { status = Memory; out = []; note = line (codes "no memory") }
 
 -- the header couldn't be read
 abbrev pub unread : Told

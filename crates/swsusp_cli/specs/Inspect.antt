@@ -12,9 +12,9 @@ use Rattle.plain_machine.specs.declared.no_swap.NoSwap.TheVariants as no_swap
 use Rattle.swsusp_cli.specs.declared.status.Status.TheVariants.{Done, Refused}
 use Rattle.swsusp_cli.specs.Answer.{Told, line}
 
--- block(0) as the disk reads; on a disk without blocks it counts as zeros
-abbrev pub header_page : ℕ → Content → List ℕ
-header_page blocks content = if nat_lt 0 blocks then block (as_it_reads content) 0 else zero_page
+-- a block as the disk reads; one that isn't below the disk's blocks counts as zeros
+abbrev pub header_page : ℕ → ℕ → Content → List ℕ
+header_page offset blocks content = if nat_lt offset blocks then block (as_it_reads content) offset else zero_page
 
 abbrev pub area_text : ℕ → ℕ → List ℕ
 area_text last bad = codes "area last " ++ decimal last ++ codes " bad " ++ decimal bad

@@ -1,5 +1,6 @@
 pub mod Answer
 pub mod AnswerOf
+pub mod Asked
 pub mod Choice
 pub mod ExitStatus
 pub mod Formatting

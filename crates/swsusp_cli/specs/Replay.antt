@@ -105,6 +105,3 @@ sync_note = line (codes "sync fault unsure")
 -- a source that failed
 abbrev pub unread_note : List ℕ
 unread_note = line (codes "source fault")
-
-abbrev pub memory_note : List ℕ
-memory_note = line (codes "no memory")

@@ -2,29 +2,40 @@
 use Rattle.std.specs.Prelude.{◌≡◌, ◌⊎◌, ℕ, List, Option, Some, None, IfSome, ⊤, nat_lt, if◌then◌else◌}
 use Rattle.definitions.specs.Disk.{Content, HasRisen, raised}
 use Rattle.sig_header.specs.AreaKind.{area_kind}
-use Rattle.swsusp_cli.specs.declared.words.Command.{Command}
-use Rattle.swsusp_cli.specs.declared.words.Command.TheVariants.{Inspect, Replay}
-use Rattle.swsusp_cli.specs.Answer.{Told, unparsed, unread}
+use Rattle.swsusp_cli.specs.Answer.{Told, memory_told, unparsed, unread}
 use Rattle.swsusp_cli.specs.Inspect.{header_page, inspected}
+use Rattle.swsusp_cli.specs.Words.{Asked, inspect, replay}
+
+-- what is told where the words don't parse: that, or that memory was refused
+abbrev pub IsRefusal : Told → Type 0
+IsRefusal told = ((text : List ℕ) × (told ≡ unparsed text)) ⊎ (told ≡ memory_told)
+
+-- what is told of block N of a disk of so many blocks, or that it couldn't be read
+abbrev pub IsInspected : ℕ → ℕ → Option Content → ℕ → ℕ → Told → Type 0
+IsInspected offset blocks content before after told =
+    ((page : List ℕ) × IfSome content (λ held. page ≡ header_page offset blocks held) × (told ≡ inspected (area_kind page)))
+    ⊎ ((told ≡ unread) × HasRisen before after)
 
 -- What a run tells over a disk of so many blocks, which held this where it tells its content, and whose faults counted
 -- so many before the run and after it.
-abbrev pub IsAnswer : Option Command → ℕ → Option Content → ℕ → ℕ → Told → Type 0
-IsAnswer None blocks content before after told = told ≡ unparsed
-IsAnswer (Some Inspect) blocks content before after told =
-    ((page : List ℕ) × IfSome content (λ held. page ≡ header_page blocks held) × (told ≡ inspected (area_kind page)))
-    ⊎ ((told ≡ unread) × HasRisen before after)
+abbrev pub IsAnswer : Option Asked → ℕ → Option Content → ℕ → ℕ → Told → Type 0
+IsAnswer None blocks content before after told = IsRefusal told
+IsAnswer (Some (inspect offset swap)) blocks content before after told = IsInspected offset blocks content before after told
 -- what a replay does is told by IsReplayed
-IsAnswer (Some Replay) blocks content before after told = ⊥
+IsAnswer (Some replay) blocks content before after told = ⊥
 
 -- words that ask for no replay
-abbrev pub IsNoReplay : Option Command → Type 0
+abbrev pub IsNoReplay : Option Asked → Type 0
 IsNoReplay None = ⊤
-IsNoReplay (Some Inspect) = ⊤
-IsNoReplay (Some Replay) = ⊥
+IsNoReplay (Some (inspect offset swap)) = ⊤
+IsNoReplay (Some replay) = ⊥
 
--- how many reads, writes and syncs there were after the run
-abbrev pub calls_after : Option Command → ℕ → ℕ → ℕ
+-- how many reads, writes and syncs there were after one of a block, which isn't made where the disk has no such block
+abbrev pub calls_for : ℕ → ℕ → ℕ → ℕ
+calls_for offset blocks calls = if nat_lt offset blocks then raised calls else calls
+
+-- how many there were after the run
+abbrev pub calls_after : Option Asked → ℕ → ℕ → ℕ
 calls_after None blocks calls = calls
-calls_after (Some Replay) blocks calls = calls
-calls_after (Some Inspect) blocks calls = if nat_lt 0 blocks then raised calls else calls
+calls_after (Some replay) blocks calls = calls
+calls_after (Some (inspect offset swap)) blocks calls = calls_for offset blocks calls

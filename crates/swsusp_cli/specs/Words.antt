@@ -1,19 +1,51 @@
 -- The command line.
-use Rattle.std.specs.Prelude.{ℕ, ◌==◌, ◌&&◌, List, [], ◌∷◌, Bool, false, nat_eq, not, codes, Option, Some, None, if◌then◌else◌}
+use Rattle.std.specs.Prelude.{ℕ, ◌^◌, ◌==◌, ◌&&◌, List, [], ◌∷◌, Bool, false, nat_eq, nat_lt, not, codes, Option, Some, None, option_map, if◌then◌else◌}
 use Rattle.std.specs.Cmp.Lexicographic.{pointwise}
-use Rattle.swsusp_cli.specs.declared.words.Command.{Command}
-use Rattle.swsusp_cli.specs.declared.words.Command.TheVariants.{Inspect, Replay}
+use Rattle.script.specs.Words.{number_of}
+
+-- what a plain list of words asks for, with its values
+pub data Asked : Type 0 where
+  inspect : (offset : ℕ) (swap : List ℕ) → Asked
+  replay : Asked
 
 -- whether a word names a file: it isn't empty and doesn't begin with a dash
 abbrev pub is_path : List ℕ → Bool
 is_path [] = false
 is_path (b ∷ bs) = not (b == 45)
 
--- What a plain list of words asks for. The first word is the program's name.
-abbrev pub command_of : List (List ℕ) → Option Command
+-- whether the first of several bytes is a 0
+abbrev pub has_leading_zero : List ℕ → Bool
+has_leading_zero [] = false
+has_leading_zero (b ∷ []) = false
+has_leading_zero (b ∷ c ∷ bs) = b == 48
+
+abbrev pub below : ℕ → Option ℕ → Option ℕ
+below limit None = None
+below limit (Some n) = if nat_lt n limit then Some n else None
+
+-- the number below a limit that a word of decimal digits without a leading zero is
+abbrev pub plain_number : ℕ → List ℕ → Option ℕ
+plain_number limit word = if has_leading_zero word then None else below limit (number_of word)
+
+-- replay
+abbrev pub replay_of : List (List ℕ) → Option Asked
+replay_of [] = Some replay
+replay_of (word ∷ words) = None
+
+-- inspect [--offset N] SWAP
+abbrev pub inspect_of : List (List ℕ) → Option Asked
+inspect_of [] = None
+inspect_of (swap ∷ []) = if is_path swap then Some (inspect 0 swap) else None
+inspect_of (option ∷ number ∷ []) = None
+inspect_of (option ∷ number ∷ swap ∷ []) =
+    if pointwise nat_eq option (codes "--offset") && is_path swap then option_map (λ offset. inspect offset swap) (plain_number (2 ^ 32) number) else None
+inspect_of (option ∷ number ∷ swap ∷ more ∷ words) = None
+
+-- What a plain list of words asks for: the program's name, a command, and that command's own. No other list parses.
+abbrev pub command_of : List (List ℕ) → Option Asked
 command_of [] = None
 command_of (name ∷ []) = None
-command_of (name ∷ command ∷ []) = if pointwise nat_eq command (codes "replay") then Some Replay else None
-command_of (name ∷ command ∷ swap ∷ []) =
-    if pointwise nat_eq command (codes "inspect") && is_path swap then Some Inspect else None
-command_of (name ∷ command ∷ swap ∷ more ∷ words) = None
+command_of (name ∷ command ∷ words) =
+    if pointwise nat_eq command (codes "inspect") then inspect_of words
+    else if pointwise nat_eq command (codes "replay") then replay_of words
+    else None

@@ -1,7 +1,9 @@
 ghost use Rattle.std.specs.Prelude.{◌≡◌, ◌≢◌, ◌⊎◌, ◌≤◌, length, OnOk, OnErr};
 ghost use Rattle.definitions.specs.Disk.{HasRisen};
 ghost use Rattle.definitions.specs.Streams.{TakesAll, TakesFront};
-ghost use Rattle.swsusp_cli.specs.Told.{IsPrinted, FailsToPrint};
+ghost use Rattle.swsusp_cli.specs.Answer.{memory_told};
+ghost use Rattle.swsusp_cli.specs.AnswerOf.{told_by};
+ghost use Rattle.swsusp_cli.specs.Told.{IsPrinted, IsTold, FailsToPrint};
 
 use crate::status::Status;
 use dump_file::Sink;
@@ -32,15 +34,56 @@ impl Answer {
             HasRisen (O.faults out.old) (O.faults out.new) ⊎ HasRisen (N.faults note.old) (N.faults note.new) }
         ensures status { result ≢ Status.Stream → result ≡ self.now.status }
     {
-        if print(out, self.out.as_bytes()).is_err() {
-            let _ = print(note, b"sink fault\n");
-            return Status::Stream;
-        }
-        if print(note, self.note.as_bytes()).is_err() {
-            return Status::Stream;
-        }
-        self.status
+        tell(
+            self.status,
+            self.out.as_bytes(),
+            self.note.as_bytes(),
+            out,
+            note,
+        )
     }
+}
+
+/// Memory was refused.
+pub fn no_memory() -> Answer
+    ensures told { told_by result ≡ memory_told }
+    ensures status { result.status ≡ Status.Memory }
+{
+    let mut note = Line::new();
+    note.put(b"no memory\n");
+    Answer {
+        status: Status::Memory,
+        out: Line::new(),
+        note,
+    }
+}
+
+/// Prints a text on each output. Where a sink fails the status is `Stream`, and `sink fault` is tried as a note.
+pub fn tell<O: Sink, N: Sink>(
+    status: Status,
+    text: &[u8],
+    noted: &[u8],
+    out: &mut O,
+    note: &mut N,
+) -> Status
+    requires { status ≢ Status.Stream }
+    ensures told { IsTold (record { status = status; out = text.now; note = noted.now }) result
+        (record { taken = O.taken out.old; flushed = O.flushed out.old; faults = O.faults out.old })
+        (record { taken = O.taken out.new; flushed = O.flushed out.new; faults = O.faults out.new })
+        (record { taken = N.taken note.old; flushed = N.flushed note.old; faults = N.faults note.old })
+        (record { taken = N.taken note.new; flushed = N.flushed note.new; faults = N.faults note.new }) }
+    ensures stream { result ≡ Status.Stream →
+        HasRisen (O.faults out.old) (O.faults out.new) ⊎ HasRisen (N.faults note.old) (N.faults note.new) }
+    ensures status { result ≢ Status.Stream → result ≡ status }
+{
+    if print(out, text).is_err() {
+        let _ = print(note, b"sink fault\n");
+        return Status::Stream;
+    }
+    if print(note, noted).is_err() {
+        return Status::Stream;
+    }
+    status
 }
 
 /// Writes a text to its end, and flushes.

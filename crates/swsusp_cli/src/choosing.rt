@@ -24,7 +24,7 @@ pub fn swap_name(alloc: Global, words: &[String]) -> Result<Choice, NoMemory>
     match Command::parse(words) {
         None => Ok(Choice::Memory(1)),
         Some(Command::Replay) => Ok(Choice::Memory(MEMORY_BLOCKS)),
-        Some(Command::Inspect) => match String::from_str(alloc, words[2].as_str()) {
+        Some(Command::Inspect { swap, .. }) => match String::from_str(alloc, swap) {
             Ok(path) => Ok(Choice::File(path)),
             Err(_) => Err(NoMemory),
         },

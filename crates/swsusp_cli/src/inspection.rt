@@ -1,10 +1,9 @@
 ghost use Rattle.std.specs.Prelude.{◌≡◌, ◌≢◌, ◌+◌, ◌≤◌, ◌++◌, ◌⊎◌, [], ◌∷◌, length, codes, Some, min};
 ghost use Rattle.definitions.specs.Disk.{HasRisen};
-ghost use Rattle.swsusp_cli.specs.declared.words.Command.TheVariants.{Inspect};
 ghost use Rattle.swsusp_cli.specs.Answer.{unread};
 ghost use Rattle.swsusp_cli.specs.AnswerOf.{told_by};
 ghost use Rattle.swsusp_cli.specs.Inspect.{area_text, hw_text, image_text, inspected, refused};
-ghost use Rattle.swsusp_cli.specs.Run.{IsAnswer, calls_after};
+ghost use Rattle.swsusp_cli.specs.Run.{IsInspected, calls_for};
 
 use crate::answer::Answer;
 use crate::status::Status;
@@ -14,18 +13,19 @@ use script::{Line, put_no_swap};
 use sector_disk::Disk;
 use sig_header::{AreaKind, Mark};
 
-/// Reads block 0, and tells what it says. On a disk without blocks it counts as zeros, and nothing is read.
-pub fn inspect<D: Disk>(disk: &mut D) -> Answer
-    ensures answer { IsAnswer (Some Inspect) (D.block_count disk.old) (D.content disk.old) (D.faults disk.old) (D.faults disk.new) (told_by result) }
+/// Reads a block, and tells what it says as the header of an area. One that isn't below the disk's blocks counts as zeros, and isn't
+/// read.
+pub fn inspect<D: Disk>(disk: &mut D, offset: u32) -> Answer
+    ensures answer { IsInspected offset (D.block_count disk.old) (D.content disk.old) (D.faults disk.old) (D.faults disk.new) (told_by result) }
     ensures status { result.status ≢ Status.Stream }
     ensures device { result.status ≡ Status.Device → HasRisen (D.faults disk.old) (D.faults disk.new) }
     ensures content { D.content disk.new ≡ D.content disk.old }
-    ensures calls { D.calls disk.new ≡ calls_after (Some Inspect) (D.block_count disk.old) (D.calls disk.old) }
+    ensures calls { D.calls disk.new ≡ calls_for offset (D.block_count disk.old) (D.calls disk.old) }
     ensures orders { D.orders disk.new ≡ D.orders disk.old }
 {
     let mut page = Page::zero();
-    if disk.blocks() > 0 {
-        if disk.read(0, &mut page).is_err() {
+    if offset < disk.blocks() {
+        if disk.read(offset, &mut page).is_err() {
             return unread();
         }
     }

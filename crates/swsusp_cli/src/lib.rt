@@ -10,6 +10,7 @@ mod reading;
 mod replay;
 mod status;
 mod top;
+mod unparsed;
 mod words;
 
 pub use answer::print;

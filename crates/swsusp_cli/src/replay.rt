@@ -5,14 +5,14 @@ ghost use Rattle.script.specs.Grammar.{ScriptValue};
 ghost use Rattle.plain_machine.specs.Fitting.{IsFitting};
 ghost use Rattle.script.specs.Shapes.{IsScripted};
 ghost use Rattle.swsusp_cli.specs.AnswerOf.{told_by};
-ghost use Rattle.swsusp_cli.specs.Outcome.{IsReplayed, small_told, fault_told, unformatted_told, memory_told};
+ghost use Rattle.swsusp_cli.specs.Outcome.{IsReplayed, small_told, fault_told, unformatted_told};
 ghost use Rattle.swsusp_cli.specs.Readied.{IsReadied};
 ghost use Rattle.swsusp_cli.specs.Reading.{HandsOutAtMost};
 ghost use Rattle.swsusp_cli.specs.Replay.{unread_note};
 ghost use Rattle.swsusp_cli.specs.Answer.{done};
 ghost use Rattle.swsusp_cli.specs.Told.{IsTried, sink_note};
 
-use crate::answer::{Answer, print};
+use crate::answer::{Answer, no_memory, print};
 use crate::formatting::{Unformatted, blocks_needed, format};
 use crate::playing::play;
 use crate::reading::{ReadStop, read_script};
@@ -137,19 +137,6 @@ fn done() -> Answer
         status: Status::Done,
         out: Line::new(),
         note: Line::new(),
-    }
-}
-
-fn no_memory() -> Answer
-    ensures told { told_by result ≡ memory_told }
-    ensures status { result.status ≡ Status.Memory }
-{
-    let mut note = Line::new();
-    note.put(b"no memory\n");
-    Answer {
-        status: Status::Memory,
-        out: Line::new(),
-        note,
     }
 }
 

@@ -1,37 +1,21 @@
 ghost use Rattle.std.specs.Prelude.{◌≡◌, ◌≢◌, None, Some, ◌≤◌, ◌+◌, ◌⊎◌, map, string_bytes};
 ghost use Rattle.definitions.specs.Disk.{HasRisen};
 ghost use Rattle.dump_file.specs.Flushed.{IsFlushed};
-ghost use Rattle.swsusp_cli.specs.Answer.{Told, unparsed};
-ghost use Rattle.swsusp_cli.specs.AnswerOf.{told_by};
+ghost use Rattle.swsusp_cli.specs.Answer.{Told};
 ghost use Rattle.swsusp_cli.specs.Run.{IsAnswer, IsNoReplay, calls_after};
 ghost use Rattle.swsusp_cli.specs.Told.{IsTold};
 ghost use Rattle.swsusp_cli.specs.Reading.{HandsOutAtMost};
 ghost use Rattle.swsusp_cli.specs.Outcome.{IsReplayed};
-ghost use Rattle.swsusp_cli.specs.declared.words.Command.TheVariants.{Replay};
-ghost use Rattle.swsusp_cli.specs.Words.{command_of};
+ghost use Rattle.swsusp_cli.specs.Words.{command_of, replay};
 
-use crate::answer::Answer;
 use crate::inspection::inspect;
 use crate::replay::replay;
 use crate::status::Status;
+use crate::unparsed::refuse;
 use crate::words::Command;
 use dump_file::{Sink, Source};
-use script::Line;
 use sector_disk::Disk;
 use std::alloc::Global;
-
-fn unparsed() -> Answer
-    ensures told { told_by result ≡ unparsed }
-    ensures status { result.status ≡ Status.Words }
-{
-    let mut note = Line::new();
-    note.put(b"words\n");
-    Answer {
-        status: Status::Words,
-        out: Line::new(),
-        note,
-    }
-}
 
 /// Runs the program over its words, of which the first is its name.
 pub fn run<I: Source, O: Sink, N: Sink, D: Disk>(
@@ -49,7 +33,7 @@ pub fn run<I: Source, O: Sink, N: Sink, D: Disk>(
         (record { taken = O.taken out.new; flushed = O.flushed out.new; faults = O.faults out.new })
         (record { taken = N.taken note.old; flushed = N.flushed note.old; faults = N.faults note.old })
         (record { taken = N.taken note.new; flushed = N.flushed note.new; faults = N.faults note.new }) }
-    ensures replayed { command_of (map string_bytes words.now) ≡ Some Replay → IsReplayed (record {
+    ensures replayed { command_of (map string_bytes words.now) ≡ Some replay → IsReplayed (record {
       left = I.remaining input.old;
       disk = record { blocks = D.block_count disk.old; content = D.content disk.old; faults = D.faults disk.old; calls = D.calls disk.old; orders = D.orders disk.old };
       out = record { taken = O.taken out.old; flushed = O.flushed out.old; faults = O.faults out.old };
@@ -77,8 +61,8 @@ pub fn run<I: Source, O: Sink, N: Sink, D: Disk>(
     ensures orders { IsNoReplay (command_of (map string_bytes words.now)) → D.orders disk.new ≡ D.orders disk.old }
 {
     match Command::parse(words) {
-        None => unparsed().tell(out, note),
-        Some(Command::Inspect) => inspect(disk).tell(out, note),
+        None => refuse(alloc, words, out, note),
+        Some(Command::Inspect { offset, .. }) => inspect(disk, offset).tell(out, note),
         Some(Command::Replay) => replay(alloc, input, out, note, disk),
     }
 }

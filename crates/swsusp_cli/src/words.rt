@@ -1,30 +1,70 @@
-ghost use Rattle.std.specs.Prelude.{◌≡◌};
-ghost use Rattle.swsusp_cli.specs.Words.{is_path};
+ghost use Rattle.std.specs.Prelude.{◌≡◌, ◌^◌, map, option_map, string_bytes};
+ghost use Rattle.swsusp_cli.specs.Words.{inspect_of, is_path, plain_number, replay_of};
+ghost use Rattle.swsusp_cli.specs.Asked.{asked_by};
+
+use script::number_of;
 
 /// What the program is asked to do.
 #[derive(Clone, Copy, Debug, PartialEq, Eq)]
-pub enum Command {
-    /// Tells what the header block of a swap area says.
-    Inspect,
+pub enum Command<'a> {
+    /// Tells what a block says of the swap area whose header it is.
+    Inspect {
+        /// The number of the block, the area's offset in its file.
+        offset: u32,
+        /// The path of the swap file or block device.
+        swap: &'a str,
+    },
     /// Plays a script over a disk in memory, and prints each reply.
     Replay,
 }
 
-impl Command {
-    ghost use Rattle.std.specs.Prelude.{◌≡◌, map, string_bytes};
+impl<'a> Command<'a> {
+    ghost use Rattle.std.specs.Prelude.{◌≡◌, map, option_map, string_bytes};
+    ghost use Rattle.swsusp_cli.specs.Asked.{asked_by};
     ghost use Rattle.swsusp_cli.specs.Words.{command_of};
 
     /// The command of a plain list of words, of which the first is the program's name. No other list parses.
-    pub fn parse(words: &[String]) -> Option<Command>
-        ensures { result ≡ command_of (map string_bytes words.now) }
+    pub fn parse(words: &'a [String]) -> Option<Command<'a>>
+        ensures { option_map asked_by result ≡ command_of (map string_bytes words.now) }
     {
         match words {
-            [_, name] if name.as_str() == "replay" => Some(Command::Replay),
-            [_, name, swap] if name.as_str() == "inspect" && is_path(swap.as_bytes()) => {
-                Some(Command::Inspect)
-            }
+            [_, name, rest @ ..] => match name.as_bytes() {
+                b"inspect" => inspection(rest),
+                b"replay" => a_replay(rest),
+                _ => None,
+            },
             _ => None,
         }
+    }
+}
+
+fn inspection(words: &[String]) -> Option<Command<'_>>
+    ensures { option_map asked_by result ≡ inspect_of (map string_bytes words.now) }
+{
+    match words {
+        [swap] if is_path(swap.as_bytes()) => Some(Command::Inspect {
+            offset: 0,
+            swap: swap.as_str(),
+        }),
+        [option, number, swap] if option.as_str() == "--offset" && is_path(swap.as_bytes()) => {
+            match offset_of(number.as_bytes()) {
+                Some(offset) => Some(Command::Inspect {
+                    offset,
+                    swap: swap.as_str(),
+                }),
+                None => None,
+            }
+        }
+        _ => None,
+    }
+}
+
+fn a_replay(words: &[String]) -> Option<Command<'_>>
+    ensures { option_map asked_by result ≡ replay_of (map string_bytes words.now) }
+{
+    match words {
+        [] => Some(Command::Replay),
+        _ => None,
     }
 }
 
@@ -34,5 +74,18 @@ fn is_path(word: &[u8]) -> bool
     match word {
         [] => false,
         [first, ..] => *first != b'-',
+    }
+}
+
+/// The number of a block, as decimal digits without a leading zero.
+fn offset_of(word: &[u8]) -> Option<u32>
+    ensures { result ≡ plain_number (2 ^ 32) word.now }
+{
+    match word {
+        [b'0', _, ..] => None,
+        _ => match number_of(word) {
+            Some(number) => u32::try_from(number).ok(),
+            None => None,
+        },
     }
 }

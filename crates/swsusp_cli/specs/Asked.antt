@@ -1,0 +1,8 @@
+-- A command as it is asked for.
+use Rattle.swsusp_cli.specs.Words.{Asked, inspect, replay}
+use Rattle.swsusp_cli.specs.declared.words.Command.{Command}
+use Rattle.swsusp_cli.specs.declared.words.Command.TheVariants.{Inspect, Replay}
+
+abbrev pub asked_by : Command → Asked
+asked_by (Inspect offset swap) = inspect offset swap.now
+asked_by Replay = replay

@@ -1,0 +1,86 @@
+ghost use Rattle.std.specs.Prelude.{◌≡◌, ◌≢◌, ◌⊎◌};
+ghost use Rattle.definitions.specs.Disk.{HasRisen};
+ghost use Rattle.swsusp_cli.specs.Answer.{Told};
+ghost use Rattle.swsusp_cli.specs.Run.{IsRefusal};
+ghost use Rattle.swsusp_cli.specs.Told.{IsTold};
+
+use crate::answer::{no_memory, tell};
+use crate::status::Status;
+use clap::error::ErrorKind;
+use clap::{Arg, Command, Error, value_parser};
+use dump_file::Sink;
+use page_core::NoMemory;
+use std::alloc::{AllocError, Global};
+
+/// Says that words don't parse.
+pub fn refuse<O: Sink, N: Sink>(
+    alloc: Global,
+    words: &[String],
+    out: &mut O,
+    note: &mut N,
+) -> Status
+    ensures told { (told : Told) × IsRefusal told × IsTold told result
+        (record { taken = O.taken out.old; flushed = O.flushed out.old; faults = O.faults out.old })
+        (record { taken = O.taken out.new; flushed = O.flushed out.new; faults = O.faults out.new })
+        (record { taken = N.taken note.old; flushed = N.flushed note.old; faults = N.faults note.old })
+        (record { taken = N.taken note.new; flushed = N.flushed note.new; faults = N.faults note.new }) }
+    ensures stream { result ≡ Status.Stream →
+        HasRisen (O.faults out.old) (O.faults out.new) ⊎ HasRisen (N.faults note.old) (N.faults note.new) }
+    ensures device { result ≢ Status.Device }
+{
+    match text_for(alloc, words) {
+        Ok(text) => tell(Status::Words, b"", text.as_bytes(), out, note),
+        Err(NoMemory) => no_memory().tell(out, note),
+    }
+}
+
+/// What clap says of words, or `words` where it takes them.
+fn text_for(alloc: Global, words: &[String]) -> Result<String, NoMemory> {
+    let made = match read(alloc, words) {
+        Ok(()) => String::from_str(alloc, "words\n"),
+        Err(error) => {
+            if error.kind() == ErrorKind::OutOfMemory {
+                return Err(NoMemory);
+            }
+            format!(in alloc; "{error}")
+        }
+    };
+    match made {
+        Ok(text) => Ok(text),
+        Err(_) => Err(NoMemory),
+    }
+}
+
+/// Lets clap read words.
+fn read(alloc: Global, words: &[String]) -> Result<(), Error> {
+    command_line(alloc)?.try_get_matches_from(words)?;
+    Ok(())
+}
+
+/// The commands as clap knows them.
+fn command_line<'a>(alloc: Global) -> Result<Command<'a>, AllocError> {
+    Command::new(alloc, "swsusp")
+        .about("Looks into swap areas, and plays hibernations of a simulated machine")
+        .version("0.1")
+        .subcommand_required(true)
+        .subcommand(inspection(alloc)?)?
+        .subcommand(Command::new(alloc, "replay").about(
+            "Plays a script from standard input, and prints each event's reply",
+        ))
+}
+
+fn inspection<'a>(alloc: Global) -> Result<Command<'a>, AllocError> {
+    let offset = Arg::new(alloc, "offset")
+        .long("offset")
+        .value_name("N")
+        .value_parser(value_parser!(u32))
+        .help("The block of the area's header, else 0");
+    let swap = Arg::new(alloc, "swap")
+        .value_name("SWAP")
+        .required(true)
+        .help("A swap file or a block device");
+    Command::new(alloc, "inspect")
+        .about("Tells what the header block of a swap area says")
+        .arg(offset)?
+        .arg(swap)
+}
