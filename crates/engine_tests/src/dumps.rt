@@ -114,6 +114,8 @@ fn hibernated(alloc: Global, disk: &mut MemDisk) -> Result<Reply, Fail> {
     Ok(stepped(&mut world, disk, 12))
 }
 
+const RESUME: Event = Event::Resume(Loader::Table, IdentCheck::Compare);
+
 /// A loader that has its page frames from 1000 on free, and page frame 50 filled with nines.
 fn loader(alloc: Global) -> Result<World, Fail>
     ensures { IfOk result IsOff }
@@ -167,28 +169,46 @@ fn forgets_the_dump(rt: HostRuntime) -> Result<(), Fail> {
     Ok(())
 }
 
-// The five pages of a dump's machine come back into a loader's memory, whose dump has the records 0, 1, 2, 10 and 50. The machine is
-// off then.
+/// Resumes the image on the disk into the loader. The reply to the last of so many steps.
+fn resumed(alloc: Global, disk: &mut MemDisk, steps: u32) -> Result<Reply, Fail> {
+    let mut world = loader(alloc)?;
+    world.event(disk, RESUME);
+    Ok(stepped(&mut world, disk, steps))
+}
+
+/// Resumes it, and writes down what the loader's page frames are then.
+fn restored(alloc: Global, disk: &mut MemDisk) -> Result<Vec<u8>, Fail> {
+    let mut world = loader(alloc)?;
+    world.event(disk, RESUME);
+    stepped(&mut world, disk, 12);
+    written(alloc, world.frames())
+}
+
+// The five pages of a dump's machine come back, and the machine is off then.
+#[test]
+fn steps_of_a_resume(rt: HostRuntime) -> Result<(), Fail> {
+    let table = [(11, Reply::Loading { k: 11 }), (13, Reply::Idle)];
+    for (steps, reply) in table {
+        let mut disk = disk_with(rt.alloc(), &[])?;
+        let last = hibernated(rt.alloc(), &mut disk)?;
+        assert_eq!(rt; last, Reply::Hibernated { n: 5 });
+        let last = resumed(rt.alloc(), &mut disk, steps)?;
+        assert_eq!(rt; last, reply);
+    }
+    Ok(())
+}
+
+// The loader's memory has them: its dump has the records 0, 1, 2, 10 and 50, of 4100 bytes each, after 436.
 #[test]
 fn from_dump_to_dump(rt: HostRuntime) -> Result<(), Fail> {
     let mut disk = disk_with(rt.alloc(), &[])?;
-    assert_eq!(rt;
-        hibernated(rt.alloc(), &mut disk)?,
-        Reply::Hibernated { n: 5 }
-    );
-    let mut world = loader(rt.alloc())?;
-    let resume = Event::Resume(Loader::Table, IdentCheck::Compare);
-    assert_eq!(rt; world.event(&mut disk, resume), Reply::Loading { k: 0 });
-    assert_eq!(rt;
-        stepped(&mut world, &mut disk, 11),
-        Reply::Loading { k: 11 }
-    );
-    assert_eq!(rt; stepped(&mut world, &mut disk, 1), Reply::Resumed { n: 5 });
-    assert_eq!(rt; stepped(&mut world, &mut disk, 1), Reply::Idle);
-    assert_eq!(rt; written(rt.alloc(), world.frames())?.len(), 20936);
-    assert!(rt; world.frames().len() > 50);
-    assert_eq!(rt; world.frames().word(10, 0), 77);
-    assert_eq!(rt; world.frames().word(50, 511), 0x0909_0909_0909_0909);
+    hibernated(rt.alloc(), &mut disk)?;
+    let bytes = restored(rt.alloc(), &mut disk)?;
+    assert_eq!(rt; bytes.len(), 20936);
+    assert_eq!(rt; bytes.as_slice().get(12736).copied(), Some(10));
+    assert_eq!(rt; bytes.as_slice().get(12740).copied(), Some(77));
+    assert_eq!(rt; bytes.as_slice().get(16836).copied(), Some(50));
+    assert!(rt; bytes.as_slice().ends_with(&[9; 4096]));
     Ok(())
 }
 
@@ -196,17 +216,11 @@ fn from_dump_to_dump(rt: HostRuntime) -> Result<(), Fail> {
 #[test]
 fn resumes_once(rt: HostRuntime) -> Result<(), Fail> {
     let mut disk = disk_with(rt.alloc(), &[])?;
-    assert_eq!(rt;
-        hibernated(rt.alloc(), &mut disk)?,
-        Reply::Hibernated { n: 5 }
-    );
-    let resume = Event::Resume(Loader::Table, IdentCheck::Compare);
-    let mut first = loader(rt.alloc())?;
-    first.event(&mut disk, resume);
-    assert_eq!(rt; stepped(&mut first, &mut disk, 12), Reply::Resumed { n: 5 });
-    let mut second = loader(rt.alloc())?;
-    second.event(&mut disk, resume);
-    assert_eq!(rt; stepped(&mut second, &mut disk, 2), Reply::NoImage);
+    hibernated(rt.alloc(), &mut disk)?;
+    let first = resumed(rt.alloc(), &mut disk, 12)?;
+    assert_eq!(rt; first, Reply::Resumed { n: 5 });
+    let second = resumed(rt.alloc(), &mut disk, 2)?;
+    assert_eq!(rt; second, Reply::NoImage);
     Ok(())
 }
 

@@ -4,4 +4,4 @@ use Rattle.world_core.specs.StandsFor.{IsOff, blocks_of}
 use Rattle.engine_tests.proofs.dumps.stepped.Given as goal
 
 abbrev pub invariant-loop : goal.invariant-loop
-invariant-loop g l = IsOff l.world ⊎ (block_count l.disk ≡ blocks_of l.world)
+invariant-loop l = IsOff l.world ⊎ (block_count l.disk ≡ blocks_of l.world)
