@@ -1,5 +1,6 @@
-ghost use Rattle.std.specs.Prelude.{IfOk};
-ghost use Rattle.world_core.specs.StandsFor.{IsOff};
+ghost use Rattle.std.specs.Prelude.{◌≡◌, ◌⊎◌, IfOk};
+ghost use Rattle.sector_disk.specs.MemDisk.{block_count};
+ghost use Rattle.world_core.specs.StandsFor.{IsOff, blocks_of};
 
 use crate::fixtures::hardware;
 use page_core::Format;
@@ -18,14 +19,29 @@ fn world_off(alloc: Global) -> Result<World, Fail>
     Ok(World::create(alloc, hw).ok().ok_or("memory")?)
 }
 
-// A machine boots, and task 3 claims page frame 10, stores 77 in its first word and reads it back. The tables are in page
-// frames 0 to 6.
+/// An empty area of 3001 slots on a disk of as many blocks.
+fn area(alloc: Global) -> Result<MemDisk, Fail> {
+    let mut disk = MemDisk::create(alloc, 3001)?;
+    if disk.blocks() > 0 {
+        disk.write(0, &area_page(3000, &[]))?;
+    }
+    Ok(disk)
+}
+
+/// Boots from fresh memory.
+fn boots(world: &mut World, disk: &mut MemDisk)
+    requires { IsOff world.old }
+    ensures { IsOff world.new ⊎ (block_count disk.new ≡ blocks_of world.new) }
+{
+    world.event(disk, Event::Boot(BootFrom::Fresh));
+    world.event(disk, Event::Step(Actor::Core));
+    world.event(disk, Event::Step(Actor::Core));
+}
+
+// A machine boots, and until it runs nothing else begins.
 #[test]
-fn boots_and_serves_tasks(rt: HostRuntime) -> Result<(), Fail> {
-    let mut disk = MemDisk::create(rt.alloc(), 3001).ok().ok_or("memory")?;
-    disk.write(0, &area_page(3000, &[]))
-        .ok()
-        .ok_or("a write failed")?;
+fn boots_in_two_steps(rt: HostRuntime) -> Result<(), Fail> {
+    let mut disk = area(rt.alloc())?;
     let mut world = world_off(rt.alloc())?;
     let script = [
         (Event::Task(3, TaskOp::Claim(10)), Reply::NotOn),
@@ -34,6 +50,22 @@ fn boots_and_serves_tasks(rt: HostRuntime) -> Result<(), Fail> {
         (Event::Step(Actor::Core), Reply::More { k: 1, of: 2 }),
         (Event::Task(3, TaskOp::Claim(10)), Reply::Frozen),
         (Event::Step(Actor::Core), Reply::Booted { image: false }),
+        (Event::Boot(BootFrom::Fresh), Reply::NotOff),
+    ];
+    for (event, reply) in &script {
+        assert_eq!(rt; world.event(&mut disk, *event), *reply);
+    }
+    assert_eq!(rt; world.blocks(), 3001);
+    Ok(())
+}
+
+// Task 3 claims page frame 10, stores 77 in its first word and reads it back. The tables are in page frames 0 to 6.
+#[test]
+fn serves_tasks(rt: HostRuntime) -> Result<(), Fail> {
+    let mut disk = area(rt.alloc())?;
+    let mut world = world_off(rt.alloc())?;
+    boots(&mut world, &mut disk);
+    let script = [
         (Event::Task(3, TaskOp::Claim(6)), Reply::NotFree),
         (Event::Task(3, TaskOp::Claim(10)), Reply::Done),
         (Event::Task(3, TaskOp::Store(10, 0, 77)), Reply::Done),
@@ -44,12 +76,10 @@ fn boots_and_serves_tasks(rt: HostRuntime) -> Result<(), Fail> {
         (Event::Task(4, TaskOp::Release(10)), Reply::NotOwner),
         (Event::Task(3, TaskOp::Show(4096, 0)), Reply::NoFrame),
         (Event::Step(Actor::Task(3)), Reply::Idle),
-        (Event::Boot(BootFrom::Fresh), Reply::NotOff),
     ];
     for (event, reply) in &script {
         assert_eq!(rt; world.event(&mut disk, *event), *reply);
     }
-    assert_eq!(rt; world.blocks(), 3001);
     assert!(rt; world.frames().len() > 10);
     assert_eq!(rt; world.frames().word(10, 0), 77);
     Ok(())
