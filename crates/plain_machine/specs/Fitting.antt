@@ -1,4 +1,4 @@
--- The events that are served, with numbers in the ranges of a script's lines.
+-- The events with numbers in the ranges of a script's lines.
 use Rattle.std.specs.Prelude.{ℕ, ◌<◌, ◌≤◌, All, ⊤}
 use Rattle.plain_machine.specs.declared.event.Event.{Event}
 use Rattle.plain_machine.specs.declared.event.Event.TheVariants as event
@@ -42,15 +42,21 @@ abbrev pub IsFittingLoader : Loader → Type 0
 IsFittingLoader (loader.Ranges ranges) = AreRanges ranges
 IsFittingLoader loader.Table = ⊤
 
+-- calls of the disk that are to fail are numbered from 1 to a million, and at most a million of them
+pub record AreCalls (first count : ℕ) : Type 0 where
+  pub some : 1 ≤ first
+  pub near : first ≤ 1000000
+  pub few : count ≤ 1000000
+
 abbrev pub IsFitting : Event → Type 0
 IsFitting (event.Boot from) = ⊤
 IsFitting (event.Hibernate f) = ⊤
-IsFitting (event.Suspend f) = ⊥
-IsFitting event.Wake = ⊥
-IsFitting event.Settle = ⊥
-IsFitting (event.Shrink want) = ⊥
+IsFitting (event.Suspend f) = ⊤
+IsFitting event.Wake = ⊤
+IsFitting event.Settle = ⊤
+IsFitting (event.Shrink want) = ⊤
 IsFitting (event.Resume l check) = IsFittingLoader l
 IsFitting (event.Step x) = IsFittingActor x
 IsFitting (event.Task t o) = IsTask t × IsFittingOp o
 IsFitting (event.Cut pick) = ⊤
-IsFitting (event.Arm first count pick) = ⊥
+IsFitting (event.Arm first count pick) = AreCalls first count

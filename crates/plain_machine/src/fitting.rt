@@ -4,18 +4,17 @@ impl Event {
     ghost use Rattle.std.specs.Prelude.{◌↔◌, IsTrue};
     ghost use Rattle.plain_machine.specs.Fitting.{IsFitting};
 
-    /// Whether the event is served: it is a boot, a task's claim, release, store, show or cache, a hibernation, a resume, a
-    /// cut or a step, and its numbers are in the ranges of a script's lines.
+    /// Whether the event's numbers are in the ranges of a script's lines. Tasks don't swap.
     pub fn fits(&self) -> bool
         ensures { IsTrue result ↔ IsFitting self.now }
     {
         match *self {
-            Event::Boot(_) | Event::Hibernate(_) | Event::Cut(_) => true,
+            Event::Boot(_) | Event::Hibernate(_) | Event::Suspend(_) | Event::Wake => true,
+            Event::Settle | Event::Shrink(_) | Event::Cut(_) | Event::Step(Actor::Core) => true,
             Event::Resume(loader, _) => loader.fits(),
-            Event::Step(Actor::Core) => true,
             Event::Step(Actor::Task(t)) => is_task(t),
             Event::Task(t, op) => is_task(t) && op.fits(),
-            _ => false,
+            Event::Arm { first, count, .. } => are_calls(first, count),
         }
     }
 }
@@ -66,12 +65,18 @@ impl Ranges {
 }
 
 ghost use Rattle.std.specs.Prelude.{◌<◌, ◌↔◌, ℕ, IsTrue};
-ghost use Rattle.plain_machine.specs.Fitting.{IsTask, IsRange};
+ghost use Rattle.plain_machine.specs.Fitting.{AreCalls, IsTask, IsRange};
 
 fn is_range(range: &(u32, u32)) -> bool
     ensures { IsTrue result ↔ IsRange range.now }
 {
     range.0 <= range.1 && range.1 < 65536
+}
+
+fn are_calls(first: u32, count: u32) -> bool
+    ensures { IsTrue result ↔ AreCalls first count }
+{
+    1 <= first && first <= 1_000_000 && count <= 1_000_000
 }
 
 fn is_task(t: u32) -> bool
