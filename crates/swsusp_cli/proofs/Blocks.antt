@@ -112,6 +112,11 @@ header_of_slot : (h : Hardware) (b : ℕ) → 0 < h.slots → Contains (block_of
 header_of_slot h b some (zero, lt, e) = (0, some, e)
 header_of_slot h b some (suc k, lt, e) = absurd (omega arith)
 
+-- the third step of a resume writes block(0), and no other writes
+third_of_slot : (h : Hardware) (b : ℕ) → 0 < h.slots → (third : Bool) → Contains (cond third (block_of_slot h 0 ∷ []) []) b → IsOfSlot h b
+third_of_slot h b some true in' = header_of_slot h b some in'
+third_of_slot h b some false (k, lt, e) = absurd (omega arith)
+
 image_of_slot : (h : Hardware) (a : Running) (i : Image) (b : ℕ) → 0 < h.slots → Contains (block_of_slot h 0 ∷ laid_blocks h a i) b → IsOfSlot h b
 image_of_slot h a i b some (zero, lt, e) = (0, some, e)
 image_of_slot h a i b some (suc k, lt, e) = laid_of_slot h a i b some (k, omega arith, e)
@@ -144,7 +149,7 @@ written_of_slot h shown c (hibernating suspends i a k) b stands some in' = image
 written_of_slot h shown c (undoing i call a k) b stands some in' = header_of_slot h b some in'
 written_of_slot h shown c (settling a k) b stands some in' = header_of_slot h b some in'
 written_of_slot h shown c (waking i held a k) b stands some in' = header_of_slot h b some in'
-written_of_slot h shown c (loading load k) b stands some in' = header_of_slot h b some in'
+written_of_slot h shown c (loading load k) b stands some in' = third_of_slot h b some (k == 2) in'
 written_of_slot h shown c (asleep i held a) b stands some (k, lt, e) = absurd (omega arith)
 
 -- a block on which no slot lies isn't written
