@@ -26,7 +26,8 @@ use Rattle.world_core.specs.World.{World}
 use Rattle.swsusp_cli.specs.Playing.{Played, HasPlayed}
 use Rattle.swsusp_cli.specs.Replay.{is_step, steps_of, is_cut, restarted, restarts_by, AreCounted}
 use Rattle.swsusp_cli.specs.View.{DiskView}
-use Rattle.swsusp_cli.proofs.Blocks.{leaves_then, unwritten_here}
+use Rattle.command_core.proofs.Leaving.{leaves_then}
+use Rattle.swsusp_cli.proofs.Blocks.{unwritten_here}
 
 -- a run and one step more
 pub run_more : (h : Hardware) (v : disk.Image) (a : State) (es : List Event) (rs : List Reply) (b : State) (e : Event) (r : Reply) (b' : State) → Run h v a es rs b → Step h v b e r b' → Run h v a (es ++ e ∷ []) (rs ++ r ∷ []) b'
