@@ -7,6 +7,7 @@ pub mod Slots
 pub mod Memory
 pub mod Writers
 pub mod Undo
+pub mod Settling
 pub mod Replays
 pub mod Rows
 pub mod TraceAt
