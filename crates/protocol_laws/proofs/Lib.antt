@@ -40,3 +40,4 @@ pub mod KeptTables
 pub mod Snapshots
 pub mod ReplaySteps
 pub mod PowerCuts
+pub mod Signatures

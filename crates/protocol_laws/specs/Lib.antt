@@ -17,3 +17,4 @@ pub mod LoadRows
 pub mod KeptTables
 pub mod Snapshots
 pub mod Cuts
+pub mod Headers
