@@ -34,10 +34,12 @@ HasRow e old new r before now = rows.HasRow (hardware_of old) (StandsFor old) (S
 abbrev pub IsServed : Event → Type 0
 IsServed (event.Boot from) = ⊤
 IsServed (event.Hibernate format) = ⊤
+IsServed event.Settle = ⊤
 IsServed (event.Resume loader check) = ⊤
 IsServed (event.Step x) = ⊤
 IsServed (event.Task t o) = ⊤
 IsServed (event.Cut pick) = ⊤
+IsServed (event.Arm first count pick) = ⊤
 IsServed _ = ⊥
 
 abbrev pub IsStep : Event → Type 0
@@ -48,9 +50,10 @@ abbrev pub IsNoCut : Event → Type 0
 IsNoCut (event.Cut pick) = ⊥
 IsNoCut _ = ⊤
 
--- the disk is restarted by a cut alone
+-- the disk is restarted by a cut alone, and armed by an arm alone
 abbrev pub orders_after : Event → ℕ → ℕ
 orders_after (event.Cut pick) orders = disk.raised orders
+orders_after (event.Arm first count pick) orders = disk.raised orders
 orders_after _ orders = orders
 
 -- a cut leaves one of the disk's images

@@ -5,24 +5,26 @@ ghost use Rattle.world_core.specs.StandsFor.{core_told};
 use crate::World;
 use crate::world::Core;
 use hib_core::Job;
-use page_core::Format;
 use plain_machine::Reply;
 use sector_disk::Disk;
 use swap_slots::SlotTable;
 
-// A hibernation: its begin and its steps (hibernate, kernel/power/hibernate.c).
+// A hibernation or a settling: its begin and its steps (hibernate, kernel/power/hibernate.c; swsusp_unmark, kernel/power/swap.c).
 impl World {
     ghost use Rattle.definitions.specs.Disk.{Content};
     ghost use Rattle.plain_machine.specs.declared.event.Event.TheVariants as event;
     ghost use Rattle.plain_machine.specs.declared.event.Actor.TheVariants as actor;
     ghost use Rattle.protocol_laws.specs.Rows.{IsNewFault};
+    ghost use Rattle.hib_core.specs.Ready.{IsServed};
+    ghost use Rattle.hib_core.specs.Row.{event_of};
     ghost use Rattle.world_core.specs.declared.world.Core.TheVariants as core;
     ghost use Rattle.world_core.specs.StandsFor.{hardware_of, blocks_of, IsOff};
     ghost use Rattle.world_core.specs.Row.{HasRow, IsRow, IsCalled, Restores, TellsImage};
 
-    /// Begins a hibernation, if the machine runs.
-    pub(crate) fn hibernate(&mut self, format: Format) -> Reply
-        ensures row { (c : Content) → IsRow (event.Hibernate format) self.old self.new result c c }
+    /// Begins a hibernation or a settling, if the machine runs.
+    pub(crate) fn begin(&mut self, job: Job) -> Reply
+        requires served { IsServed job }
+        ensures row { (c : Content) → IsRow (event_of job) self.old self.new result c c }
         ensures cause { IsNewFault result → ⊥ }
         ensures hardware { hardware_of self.new ≡ hardware_of self.old }
         ensures blocks { blocks_of self.new ≡ blocks_of self.old }
@@ -33,14 +35,15 @@ impl World {
             Core::BootBegun(_) | Core::BootSynced(_) | Core::Hibernating | Core::Loading => {
                 Reply::Frozen
             }
-            Core::Running => self.begin_hibernation(format),
+            Core::Running => self.begin_job(job),
         }
     }
 
     /// Begins it. Tasks don't take or give back slots, but nothing says so: the free ones are read from the slot table.
-    fn begin_hibernation(&mut self, format: Format) -> Reply
+    fn begin_job(&mut self, job: Job) -> Reply
+        requires served { IsServed job }
         requires running { self.old.core ≡ core.Running }
-        ensures row { (c : Content) → IsRow (event.Hibernate format) self.old self.new result c c }
+        ensures row { (c : Content) → IsRow (event_of job) self.old self.new result c c }
         ensures cause { IsNewFault result → ⊥ }
         ensures hardware { hardware_of self.new ≡ hardware_of self.old }
         ensures blocks { blocks_of self.new ≡ blocks_of self.old }
@@ -50,12 +53,9 @@ impl World {
             slots: self.machine.hw.slots(),
         };
         self.runs.rebuild(&self.frames, &table);
-        let reply = self.hib.begin(
-            &mut self.machine,
-            &mut self.frames,
-            &mut self.runs,
-            Job::Hibernate(format),
-        );
+        let reply = self
+            .hib
+            .begin(&mut self.machine, &mut self.frames, &mut self.runs, job);
         self.core = core_after(&reply);
         reply
     }
@@ -86,7 +86,7 @@ impl World {
     }
 }
 
-/// What the machine is at after this reply to the begin or a step of a hibernation.
+/// What the machine is at after this reply to the begin or a step of a hibernation or a settling.
 fn core_after(reply: &Reply) -> Core
     ensures { result ≡ core_told reply.now }
 {

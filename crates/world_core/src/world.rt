@@ -4,7 +4,7 @@ ghost use Rattle.plain_machine.specs.Machine.{Memory, Fits};
 ghost use Rattle.protocol_laws.specs.Rows.{IsNewFault};
 
 use frame_arena::Frames;
-use hib_core::Hib;
+use hib_core::{Hib, Job};
 use machine::{Dump, Hardware, Machine};
 use page_core::NoMemory;
 use plain_machine::{Actor, BootFrom, Event, Reply, TaskOp};
@@ -19,7 +19,7 @@ use swap_slots::FreeRuns;
 pub struct World {
     pub(crate) machine: Machine,
     pub(crate) frames: Frames,
-    /// The free slots, while the machine hibernates.
+    /// The free slots, while the machine hibernates or settles.
     pub(crate) runs: FreeRuns,
     pub(crate) hib: Hib,
     pub(crate) load: Load,
@@ -36,6 +36,7 @@ pub(crate) enum Core {
     BootBegun(BootFrom),
     /// A boot has synced the disk.
     BootSynced(BootFrom),
+    /// A hibernation, its undo or a settling is under way: `hib` knows which.
     Hibernating,
     Loading,
 }
@@ -139,9 +140,11 @@ impl World {
             Event::Boot(from) => self.boot(disk.blocks(), from),
             Event::Task(t, op) => self.task(t, op),
             Event::Step(actor) => self.step_of(disk, actor),
-            Event::Hibernate(format) => self.hibernate(format),
+            Event::Hibernate(format) => self.begin(Job::Hibernate(format)),
+            Event::Settle => self.begin(Job::Settle),
             Event::Resume(loader, check) => self.resume(disk.blocks(), loader, check),
             Event::Cut(pick) => self.cut(disk, pick),
+            Event::Arm { first, count, pick } => self.arm(disk, first, count, pick),
             _ => unreachable!(),
         }
     }
