@@ -33,7 +33,7 @@ const SLOTS_LEFT: u32 = 1026;
 
 // The begin of a hibernation (hibernation_snapshot, kernel/power/hibernate.c; enough_swap, kernel/power/swap.c).
 impl Hib {
-    ghost use Rattle.hib_core.specs.Begin.{IsRefused, IsCounted, IsTaken};
+    ghost use Rattle.hib_core.specs.Begin.{IsRefused, IsRefusedWith, LeavesFrames, IsCounted, IsTaken};
     ghost use Rattle.hib_core.specs.Hibernation.{phase_of, phase_told};
     ghost use Rattle.hib_core.specs.Ready.{CanBegin, CanStep, IsBusy, IsServed};
     ghost use Rattle.hib_core.specs.Row.{IsBegun};
@@ -58,6 +58,7 @@ impl Hib {
         ensures zones { self.new.snapshot.zones ≡ self.old.snapshot.zones }
         ensures matches { Matches frames.new (slot_table_of machine.old.hw) runs.new }
         ensures no_fault { IsNewFault result → ⊥ }
+        ensures refused { IsRefusedWith result → LeavesFrames frames.old frames.new result }
     {
         match job {
             Job::Hibernate(format) => self.hibernate(machine, frames, runs, format),
@@ -82,6 +83,7 @@ impl Hib {
         ensures zones { self.new.snapshot.zones ≡ self.old.snapshot.zones }
         ensures matches { Matches frames.new (slot_table_of machine.now.hw) runs.new }
         ensures no_fault { IsNewFault result → ⊥ }
+        ensures refused { IsRefusedWith result → LeavesFrames frames.old frames.new result }
     {
         begins();
         shows_lists();

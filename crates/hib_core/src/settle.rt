@@ -26,6 +26,7 @@ impl Hib {
     ghost use Rattle.plain_machine.specs.declared.event.Actor.TheVariants as actor;
     ghost use Rattle.hib_core.specs.declared.hib.Stage.TheVariants as stage;
     ghost use Rattle.hib_core.specs.declared.hib.Job.TheVariants as job;
+    ghost use Rattle.hib_core.specs.Begin.{IsRefusedWith, LeavesFrames};
     ghost use Rattle.hib_core.specs.Hibernation.{phase_of, phase_told};
     ghost use Rattle.hib_core.specs.Ready.{CanBegin, CanStep, IsBusy, IsSameMachine};
     ghost use Rattle.hib_core.specs.Row.{HasRow, IsBegun};
@@ -38,6 +39,7 @@ impl Hib {
         ensures ready { IsBusy self.new → CanStep machine.now frames.now runs.now self.new }
         ensures zones { self.new.snapshot.zones ≡ self.old.snapshot.zones }
         ensures no_fault { IsNewFault result → ⊥ }
+        ensures refused { IsRefusedWith result → LeavesFrames frames.now frames.now result }
     {
         // Only what is read is known to have the size of its type.
         let _blocks = machine.blocks;

@@ -1,4 +1,4 @@
-ghost use Rattle.std.specs.Prelude.{◌≡◌, ℕ, ◌≤◌, IsTrue};
+ghost use Rattle.std.specs.Prelude.{◌≡◌, ◌≢◌, ℕ, ◌≤◌, IsTrue};
 ghost use Rattle.definitions.specs.Disk.{HasRisen, Changes, Elapses};
 ghost use Rattle.world_core.specs.StandsFor.{core_told};
 
@@ -19,7 +19,8 @@ impl World {
     ghost use Rattle.hib_core.specs.Row.{event_of};
     ghost use Rattle.world_core.specs.declared.world.Core.TheVariants as core;
     ghost use Rattle.world_core.specs.StandsFor.{hardware_of, blocks_of, IsOff};
-    ghost use Rattle.world_core.specs.Row.{HasRow, IsRow, IsCalled, Restores, TellsImage};
+    ghost use Rattle.world_core.specs.Row.{HasRow, IsRow, IsCalled, IsRefused, ChangesNothing, Restores, TellsImage};
+    ghost use Rattle.plain_machine.specs.declared.reply.Reply.TheVariants as reply;
 
     /// Begins a hibernation or a settling, if the machine runs.
     pub(crate) fn begin(&mut self, job: Job) -> Reply
@@ -29,6 +30,7 @@ impl World {
         ensures hardware { hardware_of self.new ≡ hardware_of self.old }
         ensures blocks { blocks_of self.new ≡ blocks_of self.old }
         ensures off { IsOff self.old → IsOff self.new }
+        ensures refused { IsRefused (event_of job) self.old result → ChangesNothing self.old self.new }
     {
         match self.core {
             Core::Off { .. } => Reply::NotOn,
@@ -47,6 +49,7 @@ impl World {
         ensures cause { IsNewFault result → ⊥ }
         ensures hardware { hardware_of self.new ≡ hardware_of self.old }
         ensures blocks { blocks_of self.new ≡ blocks_of self.old }
+        ensures refused { IsRefused (event_of job) self.old result → ChangesNothing self.old self.new }
     {
         let table = SlotTable {
             first: self.machine.hw.slot_table(),
@@ -67,6 +70,7 @@ impl World {
         ensures row { HasRow (event.Step actor.Core) self.old self.new result (D.content disk.old) (D.content disk.new) }
         ensures restored { Restores (event.Step actor.Core) self.old self.new result (D.content disk.old) (D.content disk.new) }
         ensures image { TellsImage (event.Step actor.Core) self.old result (D.content disk.old) }
+        ensures works { result ≢ reply.Idle }
         ensures cause { IsNewFault result → HasRisen (D.faults disk.old) (D.faults disk.new) }
         ensures faults { D.faults disk.old ≤ D.faults disk.new }
         ensures calls { IsCalled (event.Step actor.Core) result (D.calls disk.old) (D.calls disk.new) }

@@ -59,7 +59,7 @@ impl World {
     ghost use Rattle.plain_machine.specs.declared.event.Event.TheVariants as event;
     ghost use Rattle.plain_machine.specs.declared.event.Actor.TheVariants as actor;
     ghost use Rattle.world_core.specs.StandsFor.{hardware_of, blocks_of, IsOff, IsNew, KeepsMemory};
-    ghost use Rattle.world_core.specs.Row.{HasRow, IsRow, IsCalled, IsServed, IsNoCut, RestartsAt, orders_after, blocks_after, Restores, TellsImage};
+    ghost use Rattle.world_core.specs.Row.{HasRow, IsRow, IsCalled, IsServed, IsNoCut, IsRefused, ChangesNothing, StopsOff, RestartsAt, orders_after, blocks_after, Restores, TellsImage};
 
     /// A machine that is off, with page frames of zeros.
     pub fn create(alloc: Global, hw: Hardware) -> Result<World, NoMemory>
@@ -135,6 +135,8 @@ impl World {
         ensures hardware { hardware_of self.new ≡ hardware_of self.old }
         ensures blocks { IsOff self.new ⊎ (D.block_count disk.new ≡ blocks_of self.new) }
         ensures kept { blocks_of self.new ≡ blocks_after event result (D.block_count disk.old) (blocks_of self.old) }
+        ensures refused { IsRefused event self.old result → ChangesNothing self.old self.new }
+        ensures stopped { StopsOff event self.old result self.new }
     {
         match event {
             Event::Boot(from) => self.boot(disk.blocks(), from),
@@ -157,6 +159,7 @@ impl World {
         ensures hardware { hardware_of self.new ≡ hardware_of self.old }
         ensures blocks { blocks_of self.new ≡ blocks_of self.old }
         ensures core { self.new.core ≡ self.old.core }
+        ensures refused { IsRefused (event.Task t op) self.old result → ChangesNothing self.old self.new }
     {
         match self.core {
             Core::Off { .. } => Reply::NotOn,
@@ -184,6 +187,8 @@ impl World {
         ensures time { IsTrue (D.tells_moments disk.old) → Changes (Elapses (D.moment disk.old) (D.moment disk.new)
             (D.left_since disk.old) (D.left_since disk.new)) (D.content disk.old) (D.content disk.new) }
         ensures off { IsOff self.old → IsOff self.new }
+        ensures refused { IsRefused (event.Step actor) self.old result → ChangesNothing self.old self.new }
+        ensures stopped { StopsOff (event.Step actor) self.old result self.new }
     {
         match actor {
             Actor::Core => self.step(disk),
@@ -207,6 +212,8 @@ impl World {
         ensures time { IsTrue (D.tells_moments disk.old) → Changes (Elapses (D.moment disk.old) (D.moment disk.new)
             (D.left_since disk.old) (D.left_since disk.new)) (D.content disk.old) (D.content disk.new) }
         ensures off { IsOff self.old → IsOff self.new }
+        ensures refused { IsRefused (event.Step actor.Core) self.old result → ChangesNothing self.old self.new }
+        ensures stopped { StopsOff (event.Step actor.Core) self.old result self.new }
     {
         match self.core {
             Core::Off { .. } | Core::Running => Reply::Idle,

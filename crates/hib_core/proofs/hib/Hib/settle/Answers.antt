@@ -25,3 +25,6 @@ pub returns-clause-ready : goal.returns-clause-ready
 returns-clause-ready c = λ busy.
     let few : c.args.machine.now.blocks < 2 ^ 32 = omega arith in
     can_settle c.args.machine.now c.args.frames.now c.args.runs.now c.args.self.now c.zones-zones.ensures.hardware few (isn't_no c.args.machine.now.held (sym c.eq.ensures ∙ c.if-eq.false)) c.requires.ready
+
+pub returns-clause-refused : goal.returns-clause-refused
+returns-clause-refused c = λ never. absurd (never 0 3 refl)

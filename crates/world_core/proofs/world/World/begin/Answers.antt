@@ -22,4 +22,5 @@ returns-in-BootBegun c =
       hardware = refl;
       blocks = refl;
       off = λ e. e;
+      refused = λ r. record { machine = refl; frames = refl; core = refl };
     }

@@ -14,7 +14,7 @@ use Rattle.world_core.proofs.world.World.step_resume.Goals as goal
 
 pub invariant_of-self : goal.invariant_of-self
 invariant_of-self g c =
-    let after : IsAfter c.step-reply.new.self c.step-reply.result c.core_after-self-inside.result = record { loader = c.self.inside.load.loader; core_is = c.core_after-self-inside.ensures ∙ ap (λ (l : Loader). core_resumed l c.step-reply.result) (c.loader.ensures ∙ c.step-reply.ensures.loader); told = c.step-reply.ensures.activity } in
+    let after : IsAfter c.step-reply.new.self c.step-reply.result c.core_after-self-inside.result = record { loader = c.self.inside.load.loader; core_is = c.core_after-self-inside.ensures.is ∙ ap (λ (l : Loader). core_resumed l c.step-reply.result) (c.loader.ensures ∙ c.step-reply.ensures.loader); told = c.step-reply.ensures.activity } in
     let over = c.step-reply.ensures.ready.over in
     record {
       size = over.size;
@@ -34,7 +34,7 @@ returns-clause-row g c =
     let new = kept_world (record { machine = c.step-reply.new.machine; frames = c.step-reply.new.frames; runs = c.step-reply.new.runs; hib = c.self.inside.hib; load = c.step-reply.new.self; core = c.core_after-self-inside.result }) in
     subst (λ (old : World). HasRow (event.Step actor.Core) old new c.step-reply.result (g.D.Disk.content c.args.disk.now) (g.D.Disk.content c.step-reply.new.disk)) c.self.view_is
     (row_of_step (kept_world c.self.inside) new c.step-reply.result (g.D.Disk.content c.args.disk.now) (g.D.Disk.content c.step-reply.new.disk) (ap (λ (w : World). w.core) c.self.view_is ∙ c.requires.resumes)
-    (record { loader = c.self.inside.load.loader; core_is = c.core_after-self-inside.ensures ∙ ap (λ (l : Loader). core_resumed l c.step-reply.result) (c.loader.ensures ∙ c.step-reply.ensures.loader); told = c.step-reply.ensures.activity }) c.step-reply.ensures.row)
+    (record { loader = c.self.inside.load.loader; core_is = c.core_after-self-inside.ensures.is ∙ ap (λ (l : Loader). core_resumed l c.step-reply.result) (c.loader.ensures ∙ c.step-reply.ensures.loader); told = c.step-reply.ensures.activity }) c.step-reply.ensures.row)
 
 pub returns-clause-restored : goal.returns-clause-restored
 returns-clause-restored g c =
