@@ -88,7 +88,7 @@ fn fault_of(rt: &impl Abort, alloc: Global, text: &[u8]) -> Option<(u32, FaultKi
 /// Scripts with a line at fault, with its number and the kind.
 #[test]
 fn faulty_scripts(rt: HostRuntime) {
-    let table: [(&str, u32, FaultKind); 31] = [
+    let table: [(&str, u32, FaultKind); 30] = [
         ("claim 65 1", 1, FaultKind::Range),
         ("claim 1", 1, FaultKind::Count),
         ("hibernate zeros x", 1, FaultKind::Count),
@@ -118,13 +118,37 @@ fn faulty_scripts(rt: HostRuntime) {
         ("# \t", 1, FaultKind::Byte),
         ("jump\nboot\r\n", 1, FaultKind::Word),
         ("out 3 10", 1, FaultKind::Word),
-        ("arm 1 1 0", 1, FaultKind::Word),
         ("region 0 1 1 1", 1, FaultKind::Count),
     ];
     for (text, line, kind) in &table {
         assert_eq!(rt;
             fault_of(&rt, rt.alloc(), text.as_bytes()),
             Some((*line, *kind)),
+            "{text}"
+        );
+    }
+}
+
+/// The lines that let calls of the disk fail, and the one that settles.
+#[test]
+fn armed_and_settled(rt: HostRuntime) {
+    let table: [(&str, Option<(u32, FaultKind)>); 11] = [
+        ("arm 1 0 0", None),
+        ("arm 1000000 1000000 18446744073709551615", None),
+        ("arm 0 1 0", Some((1, FaultKind::Range))),
+        ("arm 1000001 1 0", Some((1, FaultKind::Range))),
+        ("arm 1 1000001 0", Some((1, FaultKind::Range))),
+        ("arm 1 1 18446744073709551616", Some((1, FaultKind::Number))),
+        ("arm 1 1", Some((1, FaultKind::Count))),
+        ("arm 1 1 0 0", Some((1, FaultKind::Count))),
+        ("settle", None),
+        ("settle 1", Some((1, FaultKind::Count))),
+        ("arm 1 1 0\narea 1", Some((2, FaultKind::Late))),
+    ];
+    for (text, fault) in &table {
+        assert_eq!(rt;
+            fault_of(&rt, rt.alloc(), text.as_bytes()),
+            *fault,
             "{text}"
         );
     }

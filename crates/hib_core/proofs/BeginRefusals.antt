@@ -50,7 +50,7 @@ pub record IsSeen (h : Hardware) (frames : Memory) (f : Format) (a : Running) : 
   pub unused : unused h frames ≡ unused h a.memory
   pub slots : free_in frames (slot_table_of h) ≡ unused_slots h a.memory
 
-unheld : (held : Held) → ShowsHeld No held → held ≡ nothing
+pub unheld : (held : Held) → ShowsHeld No held → held ≡ nothing
 unheld nothing shows = refl
 unheld (sure x) shows = absurd shows
 unheld (maybe x) shows = absurd shows
@@ -74,19 +74,19 @@ seen machine frames f c a laws hw unmarked stands =
 
 -- The tests, in their order.
 
-open_at : (x y : Option Reply) → x ≡ None → or_else x y ≡ y
+pub open_at : (x y : Option Reply) → x ≡ None → or_else x y ≡ y
 open_at x y e = ap (λ (o : Option Reply). or_else o y) e
 
 stop_at : (x y : Option Reply) (r : Reply) → x ≡ Some r → or_else x y ≡ Some r
 stop_at x y r e = ap (λ (o : Option Reply). or_else o y) e
 
-test_holds : (b : Bool) (r : Reply) → b ≡ true → refused_if b r ≡ Some r
+pub test_holds : (b : Bool) (r : Reply) → b ≡ true → refused_if b r ≡ Some r
 test_holds b r e = ap (λ (t : Bool). refused_if t r) e
 
-test_fails : (b : Bool) (r : Reply) → b ≡ false → refused_if b r ≡ None
+pub test_fails : (b : Bool) (r : Reply) → b ≡ false → refused_if b r ≡ None
 test_fails b r e = ap (λ (t : Bool). refused_if t r) e
 
-not_busy : (a : Running) → ((t : ℕ) → a.flights t ≡ no_flights t) → busy a ≡ None
+pub not_busy : (a : Running) → ((t : ℕ) → a.flights t ≡ no_flights t) → busy a ≡ None
 not_busy a flights =
     let same : a.flights ≡ no_flights = λ i t. flights t i in
     ap (λ (operations : ℕ → Option Flight). busy (record a { flights = operations })) same
@@ -100,7 +100,7 @@ has_swap a (Err why) is e = absurd (false≢true is)
 
 -- The refusals.
 
-is_held_shown : (flag : HeldFlag) (held : Held) → flag ≢ No → ShowsHeld flag held → is_held held ≡ true
+pub is_held_shown : (flag : HeldFlag) (held : Held) → flag ≢ No → ShowsHeld flag held → is_held held ≡ true
 is_held_shown No held ne shows = absurd (ne refl)
 is_held_shown Yes nothing ne shows = absurd shows
 is_held_shown Yes (sure x) ne shows = refl

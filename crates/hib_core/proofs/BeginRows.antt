@@ -47,20 +47,13 @@ use Rattle.hib_core.proofs.BeginImage.{IsCountOf, counts_are, info_is, first_in_
 use Rattle.hib_core.proofs.BeginRefusals.{AreCounts, IsSeen, SeenLaws, seen, not_refused}
 use Rattle.hib_core.proofs.BeginTables.{area_of, copies_apart, free_slots_stay, image_on_disk, slot_table_lies}
 use Rattle.hib_core.proofs.Cases.{at_run}
-use Rattle.hib_core.proofs.Facts.{same_writer}
+use Rattle.hib_core.proofs.Facts.{names_same, same_writer}
 use Rattle.hib_core.proofs.Plain.{accepted_step, refused_step}
 use Rattle.hib_core.proofs.Syncing.{same_area}
 
 -- A refused hibernation.
 
-names_idle : (machine : Machine) (frames : Memory) (hib : Hib) (held : Held) → NamesHeld machine.hw (running_by machine frames) held → NamesHeld machine.hw (shown_by machine frames hib) held
-names_idle machine frames hib nothing names = names
-names_idle machine frames hib (sure (own i)) names = record { memory = names.memory; image = names.image; names = names.names }
-names_idle machine frames hib (sure other) names = names
-names_idle machine frames hib (maybe (own i)) names = record { memory = names.memory; image = names.image; names = names.names }
-names_idle machine frames hib (maybe other) names = names
-
-idle_stands : (machine : Machine) (frames : Memory) (hib : Hib) (c : disk.Content) (a : Running) → hib.stage ≡ stage.Idle → Stands machine.hw (running_by machine frames) c (on a) → Stands machine.hw (shown_by machine frames hib) c (on a)
+pub idle_stands : (machine : Machine) (frames : Memory) (hib : Hib) (c : disk.Content) (a : Running) → hib.stage ≡ stage.Idle → Stands machine.hw (running_by machine frames) c (on a) → Stands machine.hw (shown_by machine frames hib) c (on a)
 idle_stands machine frames hib c a idle stands = record {
   activity = ap (λ (s : Stage). activity_at s hib.made) idle;
   parts = (
@@ -70,7 +63,7 @@ idle_stands machine frames hib c a idle stands = record {
       task_slots = stands.parts.1.task_slots;
       flights = stands.parts.1.flights;
       slot_pages = stands.parts.1.slot_pages;
-      names = names_idle machine frames hib a.held stands.parts.1.names;
+      names = names_same machine.hw (running_by machine frames) (shown_by machine frames hib) a.held refl stands.parts.1.names;
       header = stands.parts.1.header;
       area = stands.parts.1.area;
     },
@@ -270,7 +263,6 @@ can_step machine frames frames' runs hib hib' counts laws is usable few size mat
       table = slot_table_lies h frames' is.hardware (size ∙ is.size);
       matches = matches;
       header = (usable_fits h machine.blocks area.0 area.1).1 0 (omega arith);
-      usable = is.counted.area;
       place = subst (λ (s : Stage). IsPlace s hib'.made hib'.of) (sym t.next) (first_place hib'.made hib'.of (begin.pages_of counts) t.made t.of);
       write = λ e. can_write machine frames frames' hib hib' counts laws is usable size;
     }

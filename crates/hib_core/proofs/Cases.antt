@@ -25,6 +25,7 @@ suspends_in _ = false
 abbrev steps_in : Activity → ℕ
 steps_in (hibernates suspends k) = k
 steps_in (undoes call k) = k
+steps_in (settles k) = k
 steps_in _ = 0
 
 abbrev call_in : Activity → UndoCall
@@ -66,3 +67,14 @@ at_undo (settling a k) call j e = other (undoes call j) (settles k) (λ r. omega
 at_undo (waking i held a k) call j e = other (undoes call j) (wakes k) (λ r. omega arith) e
 at_undo (loading load k) call j e = other (undoes call j) (loads k) (λ r. omega arith) e
 at_undo (asleep i held a) call j e = other (undoes call j) sleeps (λ r. omega arith) e
+
+pub at_settling : (s : State) (j : ℕ) → settles j ≡ activity_in s → (a : Running) × (s ≡ settling a j)
+at_settling (off held kept) j e = other (settles j) rests (λ r. omega arith) e
+at_settling (on a) j e = other (settles j) runs (λ r. omega arith) e
+at_settling (booting from dump held k) j e = other (settles j) (boots from k) (λ r. omega arith) e
+at_settling (hibernating suspends i a k) j e = other (settles j) (hibernates suspends k) (λ r. omega arith) e
+at_settling (undoing i call a k) j e = other (settles j) (undoes call k) (λ r. omega arith) e
+at_settling (settling a k) j e = (a, ap (λ (n : ℕ). settling a n) (sym (ap steps_in e)))
+at_settling (waking i held a k) j e = other (settles j) (wakes k) (λ r. omega arith) e
+at_settling (loading load k) j e = other (settles j) (loads k) (λ r. omega arith) e
+at_settling (asleep i held a) j e = other (settles j) sleeps (λ r. omega arith) e

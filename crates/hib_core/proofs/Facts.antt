@@ -1,16 +1,17 @@
 -- What is known of a hibernation before a step, in the state that it stands for.
-use Rattle.std.proofs.Common.{◌≡◌, ◌<◌, ℕ, ltb, arith, Bool, true, false, List, Option, Some, None, refl, sym, ap, ◌∙◌, subst}
+use Rattle.std.proofs.Common.{◌≡◌, ◌<◌, ℕ, ltb, arith, Bool, true, false, List, [], Option, Some, None, refl, sym, ap, ◌∙◌, subst}
 use Rattle.std.specs.Option.{IfSome}
 use Rattle.std.proofs.lemmas.Bool.{false≢true, cond-true, lt-ltb}
 use Rattle.definitions.specs.Bytes.{zero_page}
 use Rattle.definitions.specs.Disk as disk
 use Rattle.definitions.proofs.DiskLaws.{length-as_it_reads}
 use Rattle.swap_slots.specs.Runs.{SlotRuns}
-use Rattle.plain_machine.specs.Machine.{Hardware, Memory, block_of_slot}
+use Rattle.plain_machine.specs.Machine.{Hardware, Memory, block_of_slot, raw_slot_entry}
 use Rattle.plain_machine.specs.Chain.{header_of, blocks_of}
 use Rattle.plain_machine.specs.Image.{Image}
-use Rattle.plain_machine.specs.Shows.{hibernates, undoes}
-use Rattle.plain_machine.specs.State.{State, hibernating, undoing, Running}
+use Rattle.plain_machine.specs.Shows.{Shown, hibernates, undoes, settles}
+use Rattle.plain_machine.specs.Stands.{NamesOnly, NamesHeld, blocks_laid}
+use Rattle.plain_machine.specs.State.{State, hibernating, undoing, settling, Running, Held, nothing, sure, maybe, own, other}
 use Rattle.plain_machine.specs.declared.event.Event.{Event}
 use Rattle.plain_machine.specs.declared.event.Event.TheVariants as event
 use Rattle.plain_machine.specs.declared.event.Actor.TheVariants as actor
@@ -26,7 +27,7 @@ use Rattle.hib_core.specs.Row.{StandsFor, IsOf, IsRow}
 use Rattle.hib_core.specs.declared.hib.Hib.{Hib}
 use Rattle.hib_core.specs.declared.hib.Stage.{Stage}
 use Rattle.hib_core.specs.declared.hib.Stage.TheVariants as stage
-use Rattle.hib_core.proofs.Cases.{at_hibernation, at_undo}
+use Rattle.hib_core.proofs.Cases.{at_hibernation, at_undo, at_settling}
 
 pub whole_content : (blocks : ℕ) (told : Option disk.Content) (c : disk.Content) → told ≡ Some c → IfSome told (disk.IsContent blocks) → disk.IsContent blocks c
 whole_content blocks told c e h = subst (λ (o : Option disk.Content). IfSome o (disk.IsContent blocks)) e h
@@ -86,6 +87,28 @@ row_at_undo machine frames hib machine' frames' hib' e r c c' call k is goes s s
     let at = at_undo s call k (sym is ∙ stands.stands.activity) in
     subst (λ (t : State). (b : State) × rows.Leads machine.hw (StandsFor machine' frames' hib') e r c c' t b) (sym at.2)
     (goes at.0 at.1 (subst (StandsFor machine frames hib c) at.2 stands))
+
+-- rows of a settling
+pub row_at_settling : (machine : Machine) (frames : Memory) (hib : Hib) (machine' : Machine) (frames' : Memory) (hib' : Hib) (e : Event) (r : Reply) (c c' : disk.Content) (k : ℕ) → activity_of hib ≡ settles k →
+    ((a : Running) → StandsFor machine frames hib c (settling a k) → (b : State) × rows.Leads machine.hw (StandsFor machine' frames' hib') e r c c' (settling a k) b) →
+    IsRow machine frames hib machine' frames' hib' e r c c'
+row_at_settling machine frames hib machine' frames' hib' e r c c' k is goes s stands =
+    let at = at_settling s k (sym is ∙ stands.stands.activity) in
+    subst (λ (t : State). (b : State) × rows.Leads machine.hw (StandsFor machine' frames' hib') e r c c' t b) (sym at.1)
+    (goes at.0 (subst (StandsFor machine frames hib c) at.1 stands))
+
+-- the same page frames name the same slots
+pub names_same : (h : Hardware) (s s' : Shown) (held : Held) → s'.frames ≡ s.frames → NamesHeld h s held → NamesHeld h s' held
+names_same h s s' held same names = by_frames held names where
+  only : (blocks : List ℕ) → NamesOnly h s blocks → NamesOnly h s' blocks
+  only blocks names k lt e = names k lt (sym (ap (λ (m : Memory). raw_slot_entry h m k) same) ∙ e)
+
+  by_frames : (x : Held) → NamesHeld h s x → NamesHeld h s' x
+  by_frames nothing names = only [] names
+  by_frames (sure (own i)) names = record { memory = names.memory; image = names.image; names = only (blocks_laid h names.memory i) names.names }
+  by_frames (sure other) names = only [] names
+  by_frames (maybe (own i)) names = record { memory = names.memory; image = names.image; names = only (blocks_laid h names.memory i) names.names }
+  by_frames (maybe other) names = only [] names
 
 -- an option has one writer
 pub same_writer : (a b : Writing) → Some a ≡ Some b → a ≡ b

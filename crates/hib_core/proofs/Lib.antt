@@ -10,3 +10,5 @@ pub mod BeginTables
 pub mod BeginImage
 pub mod BeginRefusals
 pub mod BeginRows
+mod SettleBegin
+mod SettleRows

@@ -1,4 +1,4 @@
--- What the plain machine may answer in a hibernation.
+-- What the plain machine may answer in a hibernation and in a settling.
 use Rattle.std.proofs.Common.{◌≡◌, ◌<◌, ◌≤◌, ℕ, ◌+◌, ◌-◌, inl, inr, true, false, cond, eqb, ltb, List, [], ◌∷◌, Option, Some, None, refl, sym, ◌∙◌, arith, subst}
 use Rattle.std.specs.List.{Contains}
 use Rattle.std.proofs.lemmas.Bool.{cond-true, cond-false, lt-ltb, le-ltb, eq-eqb}
@@ -6,7 +6,7 @@ use Rattle.std.proofs.lemmas.Bool.Decides.{eqb_tells}
 use Rattle.definitions.specs.Disk as disk
 use Rattle.plain_machine.specs.Machine.{Hardware}
 use Rattle.plain_machine.specs.Image.{Image, n_of, hibernate_steps}
-use Rattle.plain_machine.specs.State.{State, off, on, hibernating, undoing, Running, nothing, sure, maybe, own}
+use Rattle.plain_machine.specs.State.{State, off, on, hibernating, undoing, settling, Running, nothing, sure, maybe, own, perhaps}
 use Rattle.plain_machine.specs.Step.{Outcome, Step, outcomes, accepted, refused_or, hibernate_step, hibernated, undone_fault}
 use Rattle.plain_machine.specs.Refusals.{refusal}
 use Rattle.plain_machine.specs.declared.event.Event.{Event}
@@ -158,3 +158,27 @@ may_end_undo h v i call a = accepted_step h v (undoing i call a 1) (event.Step a
 
 pub end_undo_may_fail : (h : Hardware) (v : disk.Image) (i : Image) (call : UndoCall) (a : Running) → Step h v (undoing i call a 1) (event.Step actor.Core) (undone_fault call Unsure) (on (record a { held = maybe (own i) }))
 end_undo_may_fail h v i call a = accepted_step h v (undoing i call a 1) (event.Step actor.Core) (undone_fault call Unsure) (on (record a { held = maybe (own i) })) (undo_goes h i call a 1) (1, omega arith, refl)
+
+-- Settling.
+
+settle_goes : (h : Hardware) (a : Running) (k : ℕ) → refusal h (settling a k) (event.Step actor.Core) ≡ None
+unfolding refusal
+settle_goes h a k = refl
+
+pub may_settle_read : (h : Hardware) (v : disk.Image) (a : Running) → Step h v (settling a 0) (event.Step actor.Core) (reply.More 1 3) (settling a 1)
+may_settle_read h v a = accepted_step h v (settling a 0) (event.Step actor.Core) (reply.More 1 3) (settling a 1) (settle_goes h a 0) (0, omega arith, refl)
+
+pub settle_read_may_fail : (h : Hardware) (v : disk.Image) (a : Running) → Step h v (settling a 0) (event.Step actor.Core) (reply.ReadFault Same) (on a)
+settle_read_may_fail h v a = accepted_step h v (settling a 0) (event.Step actor.Core) (reply.ReadFault Same) (on a) (settle_goes h a 0) (1, omega arith, refl)
+
+pub may_settle_write : (h : Hardware) (v : disk.Image) (a : Running) → Step h v (settling a 1) (event.Step actor.Core) (reply.More 2 3) (settling a 2)
+may_settle_write h v a = accepted_step h v (settling a 1) (event.Step actor.Core) (reply.More 2 3) (settling a 2) (settle_goes h a 1) (0, omega arith, refl)
+
+pub settle_write_may_fail : (h : Hardware) (v : disk.Image) (a : Running) → Step h v (settling a 1) (event.Step actor.Core) (reply.WriteFault Unsure) (on (record a { held = perhaps a.held }))
+settle_write_may_fail h v a = accepted_step h v (settling a 1) (event.Step actor.Core) (reply.WriteFault Unsure) (on (record a { held = perhaps a.held })) (settle_goes h a 1) (1, omega arith, refl)
+
+pub may_settle : (h : Hardware) (v : disk.Image) (a : Running) → Step h v (settling a 2) (event.Step actor.Core) reply.Settled (on (record a { held = nothing }))
+may_settle h v a = accepted_step h v (settling a 2) (event.Step actor.Core) reply.Settled (on (record a { held = nothing })) (settle_goes h a 2) (0, omega arith, refl)
+
+pub settle_sync_may_fail : (h : Hardware) (v : disk.Image) (a : Running) → Step h v (settling a 2) (event.Step actor.Core) (reply.SyncFault Unsure) (on (record a { held = perhaps a.held }))
+settle_sync_may_fail h v a = accepted_step h v (settling a 2) (event.Step actor.Core) (reply.SyncFault Unsure) (on (record a { held = perhaps a.held })) (settle_goes h a 2) (1, omega arith, refl)

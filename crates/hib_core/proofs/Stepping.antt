@@ -77,7 +77,6 @@ ready_on machine frames frames' runs runs' hib hib1 end next can size matches ot
       table = let in' = can.table in omega arith;
       matches = matches;
       header = can.header;
-      usable = can.usable;
       place = place;
       write = λ e.
           let w = subst (λ (x : Hib). CanWrite machine.hw machine.blocks frames' (record x { made = hib.made + 1 })) others (writes e) in

@@ -1,5 +1,5 @@
 -- The begin of a hibernation: why it is refused, what is counted, and what is taken.
-use Rattle.std.specs.Prelude.{◌≡◌, ◌≤◌, ◌<◌, ℕ, ◌+◌, ◌-◌, List, length, map, take, All, Contains, Some, IsOk}
+use Rattle.std.specs.Prelude.{◌≡◌, ◌≢◌, ◌≤◌, ◌<◌, ℕ, ◌+◌, ◌-◌, List, length, map, take, All, Contains, Some, IsOk}
 use Rattle.page_core.specs.declared.format.Format.{Format}
 use Rattle.definitions.specs.Bytes.{IsPage}
 use Rattle.definitions.specs.Disk as disk
@@ -18,15 +18,25 @@ use Rattle.plain_machine.specs.Stands.{Stands}
 use Rattle.plain_machine.specs.declared.event.Event.TheVariants as event
 use Rattle.plain_machine.specs.declared.held.Held.TheVariants.{No}
 use Rattle.plain_machine.specs.declared.reply.Reply.{Reply}
+use Rattle.plain_machine.specs.declared.reply.Reply.TheVariants as reply
 use Rattle.protocol_laws.specs.Writers.{slot_table_of}
 use Rattle.machine.specs.declared.machine.Machine.{Machine}
-use Rattle.hib_core.specs.Hibernation.{running_by}
+use Rattle.hib_core.specs.Hibernation.{running_by, phase_told, runs_on}
 use Rattle.hib_core.specs.declared.hib.Hib.{Hib}
 use Rattle.hib_core.specs.declared.hib.Stage.TheVariants as stage
 
 -- The hibernation is refused with this reply in every running state that a machine stands for.
 abbrev pub IsRefused : Machine → Memory → Format → Reply → Type 0
 IsRefused machine frames f r = (c : disk.Content) (a : Running) → Stands machine.hw (running_by machine frames) c (on a) → refusal machine.hw (on a) (event.Hibernate f) ≡ Some r
+
+-- A job that begins tells how many steps it has; every other reply to its begin refuses it.
+abbrev pub IsRefusedWith : Reply → Type 0
+IsRefusedWith r = (k of : ℕ) → r ≢ reply.More k of
+
+-- A refusal, whatever a disk tells: the page frames, free ones too, are as before, and the machine runs on.
+pub record LeavesFrames (frames frames' : Memory) (r : Reply) : Type 0 where
+  pub same : frames' ≡ frames
+  pub stays : phase_told r ≡ runs_on
 
 -- how many pages the stream of the image has
 abbrev pub pages_of : Counts → ℕ

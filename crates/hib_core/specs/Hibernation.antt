@@ -1,9 +1,11 @@
--- A hibernation, and what a machine shows while it is at it.
+-- A hibernation or a settling, and what a machine shows while it is at it.
 use Rattle.std.specs.Prelude.{◌≡◌, ℕ, List, [], Bool, true, false, Option, Some, None, Result, Ok, Err}
 use Rattle.sig_header.specs.declared.area.Area.{Area}
 use Rattle.plain_machine.specs.Machine.{Memory}
-use Rattle.plain_machine.specs.Shows.{Shown, Activity, rests, runs, hibernates, undoes}
+use Rattle.plain_machine.specs.Shows.{Shown, Activity, rests, runs, hibernates, undoes, settles}
 use Rattle.plain_machine.specs.Step.{no_flights}
+use Rattle.plain_machine.specs.declared.held.Held.{Held}
+use Rattle.plain_machine.specs.declared.held.Held.TheVariants.{No, Yes, Perhaps}
 use Rattle.plain_machine.specs.declared.no_swap.NoSwap.{NoSwap}
 use Rattle.plain_machine.specs.declared.reply.Reply.{Reply}
 use Rattle.plain_machine.specs.declared.reply.Reply.TheVariants as reply
@@ -28,16 +30,39 @@ activity_at stage.Mark made = hibernates false made
 activity_at stage.End made = hibernates false made
 activity_at (stage.TakeBack call) made = undoes call 0
 activity_at (stage.EndUndo call) made = undoes call 1
+activity_at stage.SettleRead made = settles 0
+activity_at stage.SettleWrite made = settles 1
+activity_at stage.SettleSync made = settles 2
 
 abbrev pub activity_of : Hib → Activity
 activity_of hib = activity_at hib.stage hib.made
 
--- what a machine is at after this reply to a step or to the begin of a hibernation
-abbrev pub activity_told : Reply → Activity
-activity_told (reply.More k of) = hibernates false k
-activity_told (reply.Undo call k) = undoes call k
-activity_told (reply.Hibernated n) = rests
-activity_told _ = runs
+-- Whether it has a step to make, or has none: then the machine runs, or is off.
+pub data Phase : Type 0 where
+  under_way : Phase
+  runs_on : Phase
+  switched_off : Phase
+
+abbrev pub phase_at : Stage → Phase
+phase_at stage.Idle = runs_on
+phase_at stage.Over = switched_off
+phase_at _ = under_way
+
+abbrev pub phase_of : Hib → Phase
+phase_of hib = phase_at hib.stage
+
+-- which of these it is after this reply to a begin or a step
+abbrev pub phase_told : Reply → Phase
+phase_told (reply.More k of) = under_way
+phase_told (reply.Undo call k) = under_way
+phase_told (reply.Hibernated n) = switched_off
+phase_told _ = runs_on
+
+-- what is held after a call that may have taken it away
+abbrev pub perhaps_held : Held → Held
+perhaps_held No = No
+perhaps_held Yes = Perhaps
+perhaps_held Perhaps = Perhaps
 
 -- whether a reply says that there was nothing to do
 abbrev pub is_idle : Reply → Bool

@@ -1,10 +1,11 @@
--- What a step of a hibernation needs of the machine, whatever its disk tells.
-use Rattle.std.specs.Prelude.{◌≡◌, ◌<◌, ◌^◌, ℕ, ◌+◌, length, All, Some, None, IsOk, IfOk, ⊤}
+-- What a step of a hibernation or a settling needs of the machine, whatever its disk tells.
+use Rattle.std.specs.Prelude.{◌≡◌, ◌≢◌, ◌<◌, ◌^◌, ℕ, ◌+◌, length, All, Some, None, IfOk, ⊤}
 use Rattle.definitions.specs.Zones.{top}
 use Rattle.swap_slots.specs.Runs.{SlotRuns}
 use Rattle.swap_slots.specs.Table.{LiesIn, Matches}
 use Rattle.plain_machine.specs.Machine.{Hardware, Memory, IsHardware, block_of_slot}
 use Rattle.plain_machine.specs.UsableArea.{fit_fault}
+use Rattle.plain_machine.specs.declared.held.Held.TheVariants.{No}
 use Rattle.hib_core.specs.declared.hib.Job.{Job}
 use Rattle.hib_core.specs.declared.hib.Job.TheVariants as job
 use Rattle.image_write.specs.Writing.{Writing, IsReady, AreOfImage, IsReading, writes_of}
@@ -17,7 +18,8 @@ use Rattle.hib_core.specs.declared.hib.Stage.TheVariants as stage
 -- the jobs that are served
 abbrev pub IsServed : Job → Type 0
 IsServed (job.Hibernate format) = ⊤
-IsServed _ = ⊥
+IsServed (job.Suspend format) = ⊥
+IsServed job.Settle = ⊤
 
 -- something is under way
 abbrev pub is_busy_at : Stage → Type 0
@@ -57,7 +59,6 @@ pub record CanStep (machine : Machine) (frames : Memory) (runs : SlotRuns) (hib 
   pub table : LiesIn frames (slot_table_of machine.hw)
   pub matches : Matches frames (slot_table_of machine.hw) runs
   pub header : block_of_slot machine.hw 0 < machine.blocks
-  pub usable : IsOk machine.area
   pub place : IsPlace hib.stage hib.made hib.of
   pub write : hib.stage ≡ stage.Write → CanWrite machine.hw machine.blocks frames hib
 
@@ -67,10 +68,11 @@ pub record IsSameMachine (old new : Machine) : Type 0 where
   pub area : new.area ≡ old.area
   pub blocks : new.blocks ≡ old.blocks
 
--- A machine that can begin: its memory has its page frames, the runs are those of the slot table, and where the area can be used
--- each slot's block is one of the disk's.
+-- A machine that can begin: its memory has its page frames, the runs are those of the slot table, where the area can be used
+-- each slot's block is one of the disk's, and where an image is held, perhaps too, the header block is.
 pub record CanBegin (machine : Machine) (frames : Memory) (runs : SlotRuns) (hib : Hib) : Type 0 where
   pub size : length frames ≡ top machine.hw.zones
   pub matches : Matches frames (slot_table_of machine.hw) runs
   pub zones : hib.snapshot.zones ≡ machine.hw.zones
   pub usable : IfOk machine.area (λ area. fit_fault machine.hw machine.blocks area ≡ None)
+  pub header : machine.held ≢ No → block_of_slot machine.hw 0 < machine.blocks

@@ -1,4 +1,4 @@
--- The rows of the plain machine that a hibernation makes.
+-- The rows of the plain machine that a hibernation or a settling makes.
 use Rattle.std.specs.Prelude.{◌≡◌, ℕ, Contains, Option, Some, ⊤}
 use Rattle.definitions.specs.Disk as disk
 use Rattle.plain_machine.specs.Machine.{Hardware, Memory, IsOfTable, unused_slots}
@@ -43,7 +43,7 @@ IsOfState h frames hib (waking i held a k) = ⊤
 IsOfState h frames hib (loading load k) = ⊤
 IsOfState h frames hib (asleep i held a) = ⊤
 
--- what a machine shows while it hibernates, and its disk, stand for a state, whose image it is at
+-- what a machine shows while it hibernates or settles, and its disk, stand for a state, whose image it is at
 pub record StandsFor (machine : Machine) (frames : Memory) (hib : Hib) (c : disk.Content) (a : State) : Type 0 where
   pub stands : Stands machine.hw (shown_by machine frames hib) c a
   pub image : IsOfState machine.hw frames hib a

@@ -7,7 +7,7 @@ ghost use Rattle.definitions.specs.NumberPages.{meta_of};
 ghost use Rattle.hib_core.specs.Begin.{pages_of, info_of};
 ghost use Rattle.plain_machine.specs.Image.{maps_of};
 ghost use Rattle.plain_machine.specs.Machine.{IsOfTable};
-ghost use Rattle.plain_machine.specs.Shows.{runs as shown_to_run};
+ghost use Rattle.hib_core.specs.Hibernation.{runs_on};
 ghost use Rattle.plain_machine.specs.declared.reply.Reply.TheVariants as reply;
 ghost use Rattle.protocol_laws.specs.Rows.{IsNewFault};
 ghost use Rattle.protocol_laws.specs.Writers.{slot_table_of};
@@ -33,8 +33,8 @@ const SLOTS_LEFT: u32 = 1026;
 
 // The begin of a hibernation (hibernation_snapshot, kernel/power/hibernate.c; enough_swap, kernel/power/swap.c).
 impl Hib {
-    ghost use Rattle.hib_core.specs.Begin.{IsRefused, IsCounted, IsTaken};
-    ghost use Rattle.hib_core.specs.Hibernation.{activity_of, activity_told};
+    ghost use Rattle.hib_core.specs.Begin.{IsRefused, IsRefusedWith, LeavesFrames, IsCounted, IsTaken};
+    ghost use Rattle.hib_core.specs.Hibernation.{phase_of, phase_told};
     ghost use Rattle.hib_core.specs.Ready.{CanBegin, CanStep, IsBusy, IsServed};
     ghost use Rattle.hib_core.specs.Row.{IsBegun};
     ghost use Rattle.hib_core.specs.declared.hib.Stage.TheVariants as stage;
@@ -51,17 +51,19 @@ impl Hib {
         requires served { IsServed job }
         requires ready { CanBegin machine.old frames.old runs.old self.old }
         ensures row { (c : Content) → IsBegun machine.old frames.old frames.new self.new job result c }
-        ensures activity { activity_of self.new ≡ activity_told result }
+        ensures phase { phase_of self.new ≡ phase_told result }
         ensures ready { IsBusy self.new → CanStep machine.new frames.new runs.new self.new }
         ensures machine { machine.new ≡ machine.old }
         ensures size { length frames.new ≡ length frames.old }
         ensures zones { self.new.snapshot.zones ≡ self.old.snapshot.zones }
         ensures matches { Matches frames.new (slot_table_of machine.old.hw) runs.new }
         ensures no_fault { IsNewFault result → ⊥ }
+        ensures refused { IsRefusedWith result → LeavesFrames frames.old frames.new result }
     {
         match job {
             Job::Hibernate(format) => self.hibernate(machine, frames, runs, format),
-            Job::Suspend(_) | Job::Settle => unreachable!(),
+            Job::Settle => self.settle(machine, frames, runs),
+            Job::Suspend(_) => unreachable!(),
         }
     }
 
@@ -75,12 +77,13 @@ impl Hib {
     ) -> Reply
         requires ready { CanBegin machine.now frames.old runs.old self.old }
         ensures row { (c : Content) → IsBegun machine.now frames.old frames.new self.new (job.Hibernate format) result c }
-        ensures activity { activity_of self.new ≡ activity_told result }
+        ensures phase { phase_of self.new ≡ phase_told result }
         ensures ready { IsBusy self.new → CanStep machine.now frames.new runs.new self.new }
         ensures size { length frames.new ≡ length frames.old }
         ensures zones { self.new.snapshot.zones ≡ self.old.snapshot.zones }
         ensures matches { Matches frames.new (slot_table_of machine.now.hw) runs.new }
         ensures no_fault { IsNewFault result → ⊥ }
+        ensures refused { IsRefusedWith result → LeavesFrames frames.old frames.new result }
     {
         begins();
         shows_lists();
@@ -107,7 +110,7 @@ impl Hib {
     ) -> Result<Counts, Reply>
         requires ready { CanBegin machine.now frames.now runs.now self.old }
         ensures refused { IfErr result (λ r. IsRefused machine.now frames.now format r) }
-        ensures stays { IfErr result (λ r. activity_told r ≡ shown_to_run) }
+        ensures stays { IfErr result (λ r. phase_told r ≡ runs_on) }
         ensures no_fault { IfErr result (λ r. IsNewFault r → ⊥) }
         ensures counted { IfOk result (λ counts. IsCounted machine.now frames.now self.new counts) }
         ensures format { IfOk result (λ counts. self.new.snapshot.format ≡ format) }

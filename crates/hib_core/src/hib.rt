@@ -19,7 +19,7 @@ pub enum Job {
     Hibernate(Format),
     /// Memory is saved, and the machine sleeps. Not served yet.
     Suspend(Format),
-    /// The mark of a held image is taken back. Not served yet.
+    /// The mark of a held image is taken back while the machine runs.
     Settle,
 }
 
@@ -44,13 +44,19 @@ pub(crate) enum Stage {
     TakeBack(UndoCall),
     /// That is synced.
     EndUndo(UndoCall),
+    /// Of a settling: the header block is read.
+    SettleRead,
+    /// It is written taken back.
+    SettleWrite,
+    /// That is synced.
+    SettleSync,
 }
 
-/// A hibernation, or none. It takes all its memory when it is created.
+/// A hibernation or a settling, or none. It takes all its memory when it is created.
 #[derive(Drop)]
 pub struct Hib {
     pub(crate) snapshot: Snapshot,
-    /// The header block, from its read on; then the marked one.
+    /// The header block, from its read on; then the marked one, or that taken back.
     pub(crate) header: Page,
     pub(crate) stage: Stage,
     /// Steps made, and steps in all.
@@ -67,7 +73,7 @@ impl Hib {
     ghost use Rattle.plain_machine.specs.declared.event.Event.TheVariants as event;
     ghost use Rattle.plain_machine.specs.declared.event.Actor.TheVariants as actor;
     ghost use Rattle.protocol_laws.specs.Rows.{IsNewFault};
-    ghost use Rattle.hib_core.specs.Hibernation.{activity_of, activity_told, is_idle};
+    ghost use Rattle.hib_core.specs.Hibernation.{phase_of, phase_told, is_idle};
     ghost use Rattle.hib_core.specs.Ready.{CanStep, IsBusy, IsSameMachine};
     ghost use Rattle.hib_core.specs.Row.{HasRow};
 
@@ -100,7 +106,7 @@ impl Hib {
         requires blocks { D.block_count disk.old ≡ machine.old.blocks }
         requires busy { IsBusy self.old }
         ensures row { HasRow machine.old frames.old self.old machine.new frames.new self.new (event.Step actor.Core) result (D.content disk.old) (D.content disk.new) }
-        ensures activity { activity_of self.new ≡ activity_told result }
+        ensures phase { phase_of self.new ≡ phase_told result }
         ensures zones { self.new.snapshot.zones ≡ self.old.snapshot.zones }
         ensures works { is_idle result ≡ false }
         ensures ready { CanStep machine.new frames.new runs.new self.new }
@@ -122,6 +128,9 @@ impl Hib {
             Stage::End => self.sync_mark(machine, frames, runs, disk),
             Stage::TakeBack(call) => self.take_back(machine, frames, runs, disk, call),
             Stage::EndUndo(call) => self.end_undo(machine, frames, runs, disk, call),
+            Stage::SettleRead => self.settle_read(machine, frames, runs, disk),
+            Stage::SettleWrite => self.settle_write(machine, frames, runs, disk),
+            Stage::SettleSync => self.settle_sync(machine, frames, runs, disk),
             Stage::Idle | Stage::Over => unreachable!(),
         }
     }

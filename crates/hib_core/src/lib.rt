@@ -1,10 +1,12 @@
 //! Hibernating: a snapshot is taken, its image written behind the free slots' blocks, and the header block marked
-//! (hibernation_snapshot, kernel/power/hibernate.c; swsusp_write and mark_swapfiles, kernel/power/swap.c).
+//! (hibernation_snapshot, kernel/power/hibernate.c; swsusp_write and mark_swapfiles, kernel/power/swap.c). Settling takes the mark of
+//! a held image back while the machine runs.
 #![tactic(auto)]
 
 mod begin;
 mod hib;
 mod mark;
+mod settle;
 mod undo;
 mod write;
 

@@ -22,7 +22,7 @@ impl Hib {
     ghost use Rattle.plain_machine.specs.declared.event.Event.TheVariants as event;
     ghost use Rattle.plain_machine.specs.declared.event.Actor.TheVariants as actor;
     ghost use Rattle.hib_core.specs.declared.hib.Stage.TheVariants as stage;
-    ghost use Rattle.hib_core.specs.Hibernation.{activity_of, activity_told};
+    ghost use Rattle.hib_core.specs.Hibernation.{phase_of, phase_told};
     ghost use Rattle.hib_core.specs.Ready.{CanStep, IsSameMachine};
     ghost use Rattle.hib_core.specs.Row.{HasRow};
 
@@ -39,7 +39,7 @@ impl Hib {
         requires blocks { D.block_count disk.old ≡ machine.old.blocks }
         requires stage { self.old.stage ≡ stage.TakeBack call }
         ensures row { HasRow machine.old frames.now self.old machine.new frames.now self.new (event.Step actor.Core) result (D.content disk.old) (D.content disk.new) }
-        ensures activity { activity_of self.new ≡ activity_told result }
+        ensures phase { phase_of self.new ≡ phase_told result }
         ensures zones { self.new.snapshot.zones ≡ self.old.snapshot.zones }
         ensures works { is_idle result ≡ false }
         ensures ready { CanStep machine.new frames.now runs.now self.new }
@@ -81,7 +81,7 @@ impl Hib {
         requires blocks { D.block_count disk.old ≡ machine.old.blocks }
         requires stage { self.old.stage ≡ stage.EndUndo call }
         ensures row { HasRow machine.old frames.old self.old machine.new frames.new self.new (event.Step actor.Core) result (D.content disk.old) (D.content disk.new) }
-        ensures activity { activity_of self.new ≡ activity_told result }
+        ensures phase { phase_of self.new ≡ phase_told result }
         ensures zones { self.new.snapshot.zones ≡ self.old.snapshot.zones }
         ensures works { is_idle result ≡ false }
         ensures ready { CanStep machine.new frames.new runs.new self.new }

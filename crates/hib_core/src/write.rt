@@ -26,7 +26,7 @@ impl Hib {
     ghost use Rattle.plain_machine.specs.declared.event.Event.TheVariants as event;
     ghost use Rattle.plain_machine.specs.declared.event.Actor.TheVariants as actor;
     ghost use Rattle.hib_core.specs.declared.hib.Stage.TheVariants as stage;
-    ghost use Rattle.hib_core.specs.Hibernation.{activity_of, activity_told, is_idle};
+    ghost use Rattle.hib_core.specs.Hibernation.{phase_of, phase_told, is_idle};
     ghost use Rattle.hib_core.specs.Ready.{CanStep, CanWrite};
     ghost use Rattle.hib_core.specs.Writes.{Writes, IsMade};
     ghost use Rattle.image_write.specs.Answers.{Succeeds, GoesOn};
@@ -45,7 +45,7 @@ impl Hib {
         requires blocks { D.block_count disk.old ≡ machine.now.blocks }
         requires stage { self.old.stage ≡ stage.Write }
         ensures row { HasRow machine.now frames.old self.old machine.now frames.new self.new (event.Step actor.Core) result (D.content disk.old) (D.content disk.new) }
-        ensures activity { activity_of self.new ≡ activity_told result }
+        ensures phase { phase_of self.new ≡ phase_told result }
         ensures zones { self.new.snapshot.zones ≡ self.old.snapshot.zones }
         ensures works { is_idle result ≡ false }
         ensures ready { CanStep machine.now frames.new runs.new self.new }
@@ -123,7 +123,7 @@ impl Hib {
         requires blocks { D.block_count disk.old ≡ machine.now.blocks }
         requires stage { self.old.stage ≡ stage.Sync }
         ensures row { HasRow machine.now frames.old self.old machine.now frames.new self.new (event.Step actor.Core) result (D.content disk.old) (D.content disk.new) }
-        ensures activity { activity_of self.new ≡ activity_told result }
+        ensures phase { phase_of self.new ≡ phase_told result }
         ensures zones { self.new.snapshot.zones ≡ self.old.snapshot.zones }
         ensures works { is_idle result ≡ false }
         ensures ready { CanStep machine.now frames.new runs.new self.new }
@@ -160,7 +160,7 @@ impl Hib {
         requires blocks { D.block_count disk.old ≡ machine.now.blocks }
         requires stage { self.old.stage ≡ stage.Read }
         ensures row { HasRow machine.now frames.old self.old machine.now frames.new self.new (event.Step actor.Core) result (D.content disk.old) (D.content disk.new) }
-        ensures activity { activity_of self.new ≡ activity_told result }
+        ensures phase { phase_of self.new ≡ phase_told result }
         ensures zones { self.new.snapshot.zones ≡ self.old.snapshot.zones }
         ensures works { is_idle result ≡ false }
         ensures ready { CanStep machine.now frames.new runs.new self.new }

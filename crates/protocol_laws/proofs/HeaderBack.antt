@@ -24,7 +24,7 @@ first_of_mark : (page : List ℕ) → IsMarked page → get_or page 4086 0 ≡ 8
 first_of_mark page marked =
     sym (get_or-take 10 (drop 4086 page) 0 0 (omega arith) ∙ get_or-drop 4086 page 0 0) ∙ ap (λ (sig : List ℕ). get_or sig 0 0) marked
 
-zeros_unmarked : IsMarked zero_page → ⊥
+pub zeros_unmarked : IsMarked zero_page → ⊥
 zeros_unmarked marked =
     let mark = first_of_mark zero_page marked in
     let none = get_or-zero_page 4086 (omega arith) in

@@ -24,8 +24,9 @@ pub mod Taking
 pub mod Sets
 pub mod Unwritten
 pub mod Writers
-pub mod Undoing
+pub mod Unmarking
 pub mod Undone
+pub mod Settling
 pub mod Stopping
 pub mod TraceAt
 pub mod Other
@@ -39,3 +40,4 @@ pub mod KeptTables
 pub mod Snapshots
 pub mod ReplaySteps
 pub mod PowerCuts
+pub mod Signatures

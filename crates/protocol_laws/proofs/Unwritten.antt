@@ -1,5 +1,5 @@
 -- Blocks that a call of the disk leaves.
-use Rattle.std.proofs.Common.{◌≡◌, ◌≢◌, ◌<◌, ◌≤◌, ◌⊎◌, inl, inr, ℕ, suc, ◌+◌, ◌-◌, ◌*◌, List, [], ◌∷◌, length, map, Contains, slice_index_or, refl, sym, ap, ◌∙◌, subst, arith}
+use Rattle.std.proofs.Common.{◌≡◌, ◌≢◌, ◌<◌, ◌≤◌, inl, inr, ℕ, suc, ◌+◌, ◌*◌, List, [], ◌∷◌, length, Contains, slice_index_or, sym, ap, ◌∙◌, subst, arith}
 use Rattle.std.proofs.lemmas.Bool.{cases_lt}
 use Rattle.std.proofs.lemmas.List.{get_or-map, length-map}
 use Rattle.std.proofs.lemmas.List.Elements.{Contains-get_or}
@@ -11,8 +11,8 @@ use Rattle.plain_machine.specs.Image.{Image, stream_of, hibernate_steps}
 use Rattle.plain_machine.specs.Laid.{laid}
 use Rattle.image_write.proofs.Done.{write_at}
 use Rattle.plain_machine.specs.Stands.{laid_writes, laid_blocks}
-use Rattle.plain_machine.specs.State.{Running, hibernating}
-use Rattle.protocol_laws.specs.Rows.{LeavesBlock, blocks_written}
+use Rattle.plain_machine.specs.State.{Running}
+use Rattle.protocol_laws.specs.Rows.{LeavesBlock}
 use Rattle.protocol_laws.specs.Steps.{write_of_step}
 use Rattle.protocol_laws.proofs.Laid.{count_of, count_is}
 

@@ -7,6 +7,7 @@ pub mod Slots
 pub mod Memory
 pub mod Writers
 pub mod Undo
+pub mod Settling
 pub mod Replays
 pub mod Rows
 pub mod TraceAt
@@ -16,3 +17,4 @@ pub mod LoadRows
 pub mod KeptTables
 pub mod Snapshots
 pub mod Cuts
+pub mod Headers

@@ -5,6 +5,7 @@ use Rattle.swap_slots.specs.Runs.{SlotRuns}
 use Rattle.swap_slots.specs.Table.{LiesIn, Matches}
 use Rattle.plain_machine.specs.Machine.{Memory, IsHardware, block_of_slot}
 use Rattle.plain_machine.specs.UsableArea.{fit_fault}
+use Rattle.plain_machine.specs.declared.held.Held.TheVariants.{No}
 use Rattle.image_read.specs.Reading.{Reading, IsReady}
 use Rattle.protocol_laws.specs.Writers.{slot_table_of}
 use Rattle.machine.specs.declared.machine.Machine.{Machine}
@@ -36,9 +37,9 @@ NoneListed load = (load.origs.members ≡ []) × (load.zeros.members ≡ [])
 abbrev pub IsUsable : Machine → Type 0
 IsUsable machine = IfOk machine.area (λ area. fit_fault machine.hw machine.blocks area ≡ None)
 
--- what the step that is next needs
+-- what the step that is next needs, and what is there behind the last one: then nothing is held
 abbrev pub CanMake : Stage → Machine → Memory → SlotRuns → Load → Type 0
-CanMake stage.Runs machine frames runs load = IsOk machine.area × IsUsable machine × Matches frames (slot_table_of machine.hw) runs
+CanMake stage.Runs machine frames runs load = IsOk machine.area × IsUsable machine × Matches frames (slot_table_of machine.hw) runs × (machine.held ≡ No)
 CanMake stage.Rest machine frames runs load = ⊤
 CanMake stage.Sync machine frames runs load = NoneListed load
 CanMake stage.Find machine frames runs load = NoneListed load

@@ -1,5 +1,5 @@
 -- The rows of lines, and the words behind the first that they read.
-use Rattle.std.proofs.Common.{◌≡◌, inl, inr, ℕ, ◌<◌, Bool, true, false, cond, List, [], ◌∷◌, length, take, get_or, Option, Some, None, Result, Ok, Err, codes, refl, sym, ap, ◌∙◌, arith, ne_eqb}
+use Rattle.std.proofs.Common.{◌≡◌, inl, inr, ℕ, ◌<◌, Bool, true, false, cond, List, [], ◌∷◌, ◌++◌, length, take, get_or, Option, Some, None, Result, Ok, Err, codes, refl, sym, ap, ◌∙◌, arith, ne_eqb}
 use Rattle.std.specs.Prelude.{⊤}
 use Rattle.std.specs.List.{find, list_all}
 use Rattle.std.specs.Str.{bytes_eq}
@@ -17,8 +17,8 @@ use Rattle.script.specs.declared.grammar.Setting.{Setting}
 use Rattle.script.specs.declared.words.Span.{Span}
 use Rattle.script.specs.Ranges.{all_ranges}
 use Rattle.script.specs.Words.{◌>>=◌, all_numbers, words_of}
-use Rattle.script.specs.Shapes.{Row, setting_rows, event_rows, region_row, hibernate_row, resume_row, with_flags, format_in, second_word, numbers_say}
-use Rattle.script.specs.Grammar.{is_printable, row_of, by_rows, setting_by, setting_in, event_by, event_in, words_item, item_of, line_item}
+use Rattle.script.specs.Shapes.{Row, setting_rows, event_rows, core_rows, task_rows, region_row, hibernate_row, resume_row, with_flags, format_in, second_word, numbers_say}
+use Rattle.script.specs.Grammar.{is_printable, row_of, by_rows, if_found, setting_in, event_by, event_in, core_event_in, task_event_in, words_item, item_of, line_item}
 use Rattle.script.proofs.NumbersLaws.{all_numbers-other}
 use Rattle.script.proofs.RangesLaws.{all_ranges-many}
 
@@ -72,7 +72,8 @@ all_events_read_nine =
     let n : (spans : List Span) (says : List ℕ → ℕ × Event) → length spans < 9 → (words : List (List ℕ)) → numbers_say spans says (take 9 words) ≡ numbers_say spans says words = λ spans says few words. numbers_front 9 spans says words few in
     let hibernate : (words : List (List ℕ)) → hibernate_row.reads (take 9 words) ≡ hibernate_row.reads words = λ words. ap (λ r. r >>= λ format. Ok (1, event.Hibernate format)) (format_front words) in
     let resume : (words : List (List ℕ)) → resume_row.reads (take 9 words) ≡ resume_row.reads words = λ words. ap (λ r. r >>= λ ranges. Ok (1, event.Resume (loader.Ranges ranges) Compare)) (ranges_front words) in
-    (n _ _ (omega arith), (hibernate, (resume, (n _ _ (omega arith), (n _ _ (omega arith), (n _ _ (omega arith), (n _ _ (omega arith), (n _ _ (omega arith), (n _ _ (omega arith), (λ ws. second_front _ _ _ ws (omega arith), (λ ws. second_front _ _ _ ws (omega arith), tt)))))))))))
+    let tasks : AllReadNine task_rows = (n _ _ (omega arith), (n _ _ (omega arith), (n _ _ (omega arith), (n _ _ (omega arith), (n _ _ (omega arith), tt))))) in
+    (n _ _ (omega arith), (hibernate, (n _ _ (omega arith), (resume, (n _ _ (omega arith), (n _ _ (omega arith), (λ ws. second_front _ _ _ ws (omega arith), (λ ws. second_front _ _ _ ws (omega arith), tasks))))))))
 
 abbrev FrontOf : {A : Type 0} → Option (Row A) → Type 0
 FrontOf None = ⊤
@@ -96,21 +97,21 @@ words_item-front begun first words = by_rows-front begun (row_of first setting_r
 
 -- what a line says, by the setting or the event that it is
 
-by_setting : (begun : Bool) (s : Option (Row Setting)) (e : Option (Row (ℕ × Event))) (words : List (List ℕ)) (x : Setting) → setting_by s words ≡ Ok (Some x) → by_rows begun s e words ≡ cond begun (Err kind.Late) (Ok (Sets x))
+by_setting : (begun : Bool) (s : Option (Row Setting)) (e : Option (Row (ℕ × Event))) (words : List (List ℕ)) (x : Setting) → if_found s words ≡ Ok (Some x) → by_rows begun s e words ≡ cond begun (Err kind.Late) (Ok (Sets x))
 by_setting begun None e words x is = absurd (cc)
 by_setting begun (Some row) e words x is = by (row.reads words) is where
   by : (r : Result Setting FaultKind) → (r >>= λ s. Ok (Some s)) ≡ Ok (Some x) → cond begun (Err kind.Late) (r >>= λ s. Ok (Sets s)) ≡ cond begun (Err kind.Late) (Ok (Sets x))
   by (Ok y) e = let same : y ≡ x = cc in rw same refl
   by (Err k) e = absurd (cc)
 
-by_fault : (begun : Bool) (s : Option (Row Setting)) (e : Option (Row (ℕ × Event))) (words : List (List ℕ)) (k : FaultKind) → setting_by s words ≡ Err k → by_rows begun s e words ≡ cond begun (Err kind.Late) (Err k)
+by_fault : (begun : Bool) (s : Option (Row Setting)) (e : Option (Row (ℕ × Event))) (words : List (List ℕ)) (k : FaultKind) → if_found s words ≡ Err k → by_rows begun s e words ≡ cond begun (Err kind.Late) (Err k)
 by_fault begun None e words k is = absurd (cc)
 by_fault begun (Some row) e words k is = by (row.reads words) is where
   by : (r : Result Setting FaultKind) → (r >>= λ s. Ok (Some s)) ≡ Err k → cond begun (Err kind.Late) (r >>= λ s. Ok (Sets s)) ≡ cond begun (Err kind.Late) (Err k)
   by (Ok y) e = absurd (cc)
   by (Err j) e = let same : j ≡ k = cc in rw same refl
 
-by_event : (begun : Bool) (s : Option (Row Setting)) (e : Option (Row (ℕ × Event))) (words : List (List ℕ)) → setting_by s words ≡ Ok None → by_rows begun s e words ≡ (event_by e words >>= λ x. Ok (Events x.0 x.1))
+by_event : (begun : Bool) (s : Option (Row Setting)) (e : Option (Row (ℕ × Event))) (words : List (List ℕ)) → if_found s words ≡ Ok None → by_rows begun s e words ≡ (event_by e words >>= λ x. Ok (Events x.0 x.1))
 by_event begun None (Some row) words is = refl
 by_event begun None None words is = refl
 by_event begun (Some row) e words is = by (row.reads words) is where
@@ -129,6 +130,55 @@ words_item-fault begun first words k is = by_fault begun (row_of first setting_r
 pub words_item-event : (begun : Bool) (first : List ℕ) (words : List (List ℕ)) → setting_in first words ≡ Ok None → words_item begun first words ≡ (event_in first words >>= λ x. Ok (Events x.0 x.1))
 unfolding words_item setting_in event_in
 words_item-event begun first words is = by_event begun (row_of first setting_rows) (row_of first event_rows) words is
+
+-- an event is of the whole machine, or it is what a task asks for
+
+abbrev or_found : {A : Type 0} → Option (Row A) → Option (Row A) → Option (Row A)
+or_found None other = other
+or_found (Some row) other = Some row
+
+found_in_both : {A : Type 0} (is : Row A → Bool) (rows others : List (Row A)) → find is (rows ++ others) ≡ or_found (find is rows) (find is others)
+found_in_both is [] others = refl
+found_in_both is (row ∷ rows) others = by (is row) (found_in_both is rows others) where
+  by : (b : Bool) → find is (rows ++ others) ≡ or_found (find is rows) (find is others) → cond b (Some row) (find is (rows ++ others)) ≡ or_found (cond b (Some row) (find is rows)) (find is others)
+  by true rest = refl
+  by false rest = rest
+
+by_either : (first : List ℕ) (words : List (List ℕ)) → event_by (row_of first event_rows) words ≡ event_by (or_found (row_of first core_rows) (row_of first task_rows)) words
+by_either first words = ap (λ row. event_by row words) (found_in_both (λ row. bytes_eq row.first first) core_rows task_rows)
+
+by_core : (row other : Option (Row (ℕ × Event))) (words : List (List ℕ)) (x : ℕ × Event) → if_found row words ≡ Ok (Some x) → event_by (or_found row other) words ≡ Ok x
+by_core None other words x is = absurd (cc)
+by_core (Some row) other words x is = by (row.reads words) is where
+  by : (r : Result (ℕ × Event) FaultKind) → (r >>= λ s. Ok (Some s)) ≡ Ok (Some x) → r ≡ Ok x
+  by (Ok y) e = cc
+  by (Err k) e = absurd (cc)
+
+by_core_fault : (row other : Option (Row (ℕ × Event))) (words : List (List ℕ)) (k : FaultKind) → if_found row words ≡ Err k → event_by (or_found row other) words ≡ Err k
+by_core_fault None other words k is = absurd (cc)
+by_core_fault (Some row) other words k is = by (row.reads words) is where
+  by : (r : Result (ℕ × Event) FaultKind) → (r >>= λ s. Ok (Some s)) ≡ Err k → r ≡ Err k
+  by (Ok y) e = absurd (cc)
+  by (Err j) e = cc
+
+by_task : (row other : Option (Row (ℕ × Event))) (words : List (List ℕ)) → if_found row words ≡ Ok None → event_by (or_found row other) words ≡ event_by other words
+by_task None other words is = refl
+by_task (Some row) other words is = by (row.reads words) is where
+  by : (r : Result (ℕ × Event) FaultKind) → (r >>= λ s. Ok (Some s)) ≡ Ok None → r ≡ event_by other words
+  by (Ok y) e = absurd (cc)
+  by (Err j) e = absurd (cc)
+
+pub event_in-core : (first : List ℕ) (words : List (List ℕ)) (x : ℕ × Event) → core_event_in first words ≡ Ok (Some x) → event_in first words ≡ Ok x
+unfolding event_in core_event_in
+event_in-core first words x is = by_either first words ∙ by_core (row_of first core_rows) (row_of first task_rows) words x is
+
+pub event_in-fault : (first : List ℕ) (words : List (List ℕ)) (k : FaultKind) → core_event_in first words ≡ Err k → event_in first words ≡ Err k
+unfolding event_in core_event_in
+event_in-fault first words k is = by_either first words ∙ by_core_fault (row_of first core_rows) (row_of first task_rows) words k is
+
+pub event_in-task : (first : List ℕ) (words : List (List ℕ)) → core_event_in first words ≡ Ok None → event_in first words ≡ task_event_in first words
+unfolding event_in core_event_in task_event_in
+event_in-task first words is = by_either first words ∙ by_task (row_of first core_rows) (row_of first task_rows) words is
 
 -- what a line says, by its first ten words
 pub line_item-words : (begun : Bool) (line first : List ℕ) (words : List (List ℕ)) → list_all is_printable line ≡ true → (get_or line 0 0 ≡ 35 → ⊥) → first ∷ words ≡ take 10 (words_of line) → words_item begun first words ≡ line_item begun line

@@ -18,7 +18,7 @@ use Rattle.script.specs.declared.grammar.Setting.TheVariants.{Zone, Last, Bad, R
 use Rattle.script.specs.declared.grammar.LineStop.{LineStop}
 use Rattle.script.specs.declared.grammar.LineStop.TheVariants as stop
 use Rattle.script.specs.Settings.{SettingsValue, hardware_by, is_faulty, with_setting, IsFittingSetting}
-use Rattle.script.specs.Shapes.{Row, setting_rows, event_rows, IsScripted}
+use Rattle.script.specs.Shapes.{Row, setting_rows, event_rows, core_rows, task_rows, IsScripted}
 use Rattle.script.specs.Words.{◌>>=◌, words_of}
 
 -- One line.
@@ -40,13 +40,14 @@ by_rows begun None None words = Err kind.Word
 unfoldable pub words_item : Bool → List ℕ → List (List ℕ) → Result Item FaultKind
 words_item begun first words = by_rows begun (row_of first setting_rows) (row_of first event_rows) words
 
--- the setting that a line is, where its first word is a setting's
-abbrev pub setting_by : Option (Row Setting) → List (List ℕ) → Result (Option Setting) FaultKind
-setting_by None words = Ok None
-setting_by (Some row) words = row.reads words >>= λ s. Ok (Some s)
+-- what a line is, where its first word has a row
+abbrev pub if_found : {A : Type 0} → Option (Row A) → List (List ℕ) → Result (Option A) FaultKind
+if_found None words = Ok None
+if_found (Some row) words = row.reads words >>= λ s. Ok (Some s)
 
+-- the setting that a line is, where its first word is a setting's
 unfoldable pub setting_in : List ℕ → List (List ℕ) → Result (Option Setting) FaultKind
-setting_in first words = setting_by (row_of first setting_rows) words
+setting_in first words = if_found (row_of first setting_rows) words
 
 -- how many times which event a line is
 abbrev pub event_by : Option (Row (ℕ × Event)) → List (List ℕ) → Result (ℕ × Event) FaultKind
@@ -55,6 +56,13 @@ event_by (Some row) words = row.reads words
 
 unfoldable pub event_in : List ℕ → List (List ℕ) → Result (ℕ × Event) FaultKind
 event_in first words = event_by (row_of first event_rows) words
+
+-- that, where it is an event of the whole machine, and where it is what a task asks for
+unfoldable pub core_event_in : List ℕ → List (List ℕ) → Result (Option (ℕ × Event)) FaultKind
+core_event_in first words = if_found (row_of first core_rows) words
+
+unfoldable pub task_event_in : List ℕ → List (List ℕ) → Result (ℕ × Event) FaultKind
+task_event_in first words = event_by (row_of first task_rows) words
 
 abbrev pub item_of : Bool → List (List ℕ) → Result Item FaultKind
 item_of begun [] = Ok Nothing

@@ -1,5 +1,5 @@
 -- The lines that a script may have, by their first word.
-use Rattle.std.specs.Prelude.{◌≡◌, ℕ, ◌%◌, ◌==◌, List, [], ◌∷◌, codes, Result, Ok, Err, slice_index, if◌then◌else◌, ⊤}
+use Rattle.std.specs.Prelude.{◌≡◌, ℕ, ◌%◌, ◌==◌, List, [], ◌∷◌, ◌++◌, codes, Result, Ok, Err, slice_index, if◌then◌else◌, ⊤}
 use Rattle.std.specs.Str.{bytes_eq}
 use Rattle.page_core.specs.declared.format.Format.{Format}
 use Rattle.page_core.specs.declared.format.Format.TheVariants.{Plain, SkipZeros}
@@ -121,21 +121,30 @@ resume_row = record {
   reads = λ line. all_ranges line >>= λ ranges. Ok (1, event.Resume (loader.Ranges ranges) Compare);
 }
 
--- a row for each first word of an event
-abbrev pub event_rows : List (Row (ℕ × Event))
-event_rows =
+-- a row for each first word of an event of the whole machine, and of what a task asks for
+abbrev pub core_rows : List (Row (ℕ × Event))
+core_rows =
     event_row (codes "boot") [] (λ n. event.Boot Fresh)
     ∷ hibernate_row
+    ∷ event_row (codes "settle") [] (λ n. event.Settle)
     ∷ resume_row
     ∷ event_row (codes "cut") (values ∷ []) (λ n. event.Cut (slice_index n 0))
-    ∷ task_row (codes "claim") (frames ∷ []) (λ n. op.Claim (slice_index n 1))
+    ∷ event_row (codes "arm") (span 1 1000000 ∷ span 0 1000000 ∷ values ∷ []) (λ n. event.Arm (slice_index n 0) (slice_index n 1) (slice_index n 2))
+    ∷ core_row (codes "step") [] (λ n. 1)
+    ∷ core_row (codes "steps") (span 1 100000 ∷ []) (λ n. slice_index n 0)
+    ∷ []
+
+abbrev pub task_rows : List (Row (ℕ × Event))
+task_rows =
+    task_row (codes "claim") (frames ∷ []) (λ n. op.Claim (slice_index n 1))
     ∷ task_row (codes "release") (frames ∷ []) (λ n. op.Release (slice_index n 1))
     ∷ task_row (codes "store") (frames ∷ words ∷ values ∷ []) (λ n. op.Store (slice_index n 1) (slice_index n 2) (slice_index n 3))
     ∷ task_row (codes "show") (frames ∷ words ∷ []) (λ n. op.Show (slice_index n 1) (slice_index n 2))
     ∷ task_row (codes "cache") (frames ∷ []) (λ n. op.Cache (slice_index n 1))
-    ∷ core_row (codes "step") [] (λ n. 1)
-    ∷ core_row (codes "steps") (span 1 100000 ∷ []) (λ n. slice_index n 0)
     ∷ []
+
+abbrev pub event_rows : List (Row (ℕ × Event))
+event_rows = core_rows ++ task_rows
 
 -- what a line lets a task ask for: no page goes to a slot or comes from one
 abbrev pub IsScriptedOp : TaskOp → Type 0
@@ -158,10 +167,10 @@ IsScripted (event.Boot from) = from ≡ Fresh
 IsScripted (event.Hibernate f) = ⊤
 IsScripted (event.Suspend f) = ⊥
 IsScripted event.Wake = ⊥
-IsScripted event.Settle = ⊥
+IsScripted event.Settle = ⊤
 IsScripted (event.Shrink want) = ⊥
 IsScripted (event.Resume l check) = IsScriptedLoader l × (check ≡ Compare)
 IsScripted (event.Step x) = ⊤
 IsScripted (event.Task t o) = IsScriptedOp o
 IsScripted (event.Cut pick) = ⊤
-IsScripted (event.Arm first count pick) = ⊥
+IsScripted (event.Arm first count pick) = ⊤

@@ -1,7 +1,7 @@
 ghost use Rattle.std.specs.Prelude.{◌≡◌, ◌<◌, ◌≤◌, IfOk, IfSome, IsOk, ◌↔◌, false, IfErr};
 ghost use Rattle.std.specs.List.{list_all};
 ghost use Rattle.script.specs.Words.{texts};
-ghost use Rattle.script.specs.Grammar.{event_in, is_printable, line_item, setting_in, words_item, IsFittingItem};
+ghost use Rattle.script.specs.Grammar.{core_event_in, event_in, is_printable, line_item, setting_in, task_event_in, words_item, IsFittingItem};
 ghost use Rattle.script.specs.Settings.{IsFittingSetting};
 ghost use Rattle.script.specs.Shapes.{format_in, region_row, second_word};
 
@@ -58,6 +58,16 @@ const VALUE: Span = Span {
 const STEPS: Span = Span {
     low: 1,
     high: 100_000,
+};
+
+const CALL: Span = Span {
+    low: 1,
+    high: 1_000_000,
+};
+
+const CALLS: Span = Span {
+    low: 0,
+    high: 1_000_000,
 };
 
 /// What a line says.
@@ -258,25 +268,64 @@ fn setting_of(first: &[u8], rest: &[&[u8]]) -> Result<Option<Setting>, FaultKind
 }
 
 /// How many times which event a line is.
-#[tactic(auto, unfolding(crate::specs::Grammar::event_in))]
 fn events_of(first: &[u8], rest: &[&[u8]]) -> Result<(u32, Event), FaultKind>
     ensures says { result ≡ event_in first.now (texts rest.now) }
     ensures fits { IfOk result (λ events. IsFittingItem (Item.Events events.0 events.1)) }
 {
+    match core_events_of(first, rest)? {
+        Some(events) => Ok(events),
+        None => task_event_of(first, rest),
+    }
+}
+
+/// How many times which event of the whole machine a line is, where its first word is such an event's.
+#[tactic(auto, unfolding(crate::specs::Grammar::core_event_in))]
+fn core_events_of(first: &[u8], rest: &[&[u8]]) -> Result<Option<(u32, Event)>, FaultKind>
+    ensures says { result ≡ core_event_in first.now (texts rest.now) }
+    ensures fits { IfOk result (λ events. IfSome events (λ e. IsFittingItem (Item.Events e.0 e.1))) }
+{
     match first {
         b"boot" => {
             let [] = numbers(rest, [])?;
-            Ok((1, Event::Boot(BootFrom::Fresh)))
+            Ok(Some((1, Event::Boot(BootFrom::Fresh))))
         }
-        b"hibernate" => Ok((1, Event::Hibernate(format(rest)?))),
+        b"hibernate" => Ok(Some((1, Event::Hibernate(format(rest)?)))),
+        b"settle" => {
+            let [] = numbers(rest, [])?;
+            Ok(Some((1, Event::Settle)))
+        }
         b"resume" => {
             let loader = Loader::Ranges(ranges(rest)?);
-            Ok((1, Event::Resume(loader, IdentCheck::Compare)))
+            Ok(Some((1, Event::Resume(loader, IdentCheck::Compare))))
         }
         b"cut" => {
             let [pick] = numbers(rest, [VALUE])?;
-            Ok((1, Event::Cut(pick)))
+            Ok(Some((1, Event::Cut(pick))))
         }
+        b"arm" => {
+            let [call, calls, pick] = numbers(rest, [CALL, CALLS, VALUE])?;
+            let (first, count) = (call as u32, calls as u32);
+            Ok(Some((1, Event::Arm { first, count, pick })))
+        }
+        b"step" => {
+            let [] = numbers(behind(b"core", rest)?, [])?;
+            Ok(Some((1, Event::Step(Actor::Core))))
+        }
+        b"steps" => {
+            let [n] = numbers(behind(b"core", rest)?, [STEPS])?;
+            Ok(Some((n as u32, Event::Step(Actor::Core))))
+        }
+        _ => Ok(None),
+    }
+}
+
+/// What a task asks for, where that is the line.
+#[tactic(auto, unfolding(crate::specs::Grammar::task_event_in))]
+fn task_event_of(first: &[u8], rest: &[&[u8]]) -> Result<(u32, Event), FaultKind>
+    ensures says { result ≡ task_event_in first.now (texts rest.now) }
+    ensures fits { IfOk result (λ events. IsFittingItem (Item.Events events.0 events.1)) }
+{
+    match first {
         b"claim" => {
             let [t, p] = numbers(rest, [TASK, FRAME])?;
             Ok(task(t, TaskOp::Claim(p as u32)))
@@ -296,14 +345,6 @@ fn events_of(first: &[u8], rest: &[&[u8]]) -> Result<(u32, Event), FaultKind>
         b"cache" => {
             let [t, p] = numbers(rest, [TASK, FRAME])?;
             Ok(task(t, TaskOp::Cache(p as u32)))
-        }
-        b"step" => {
-            let [] = numbers(behind(b"core", rest)?, [])?;
-            Ok((1, Event::Step(Actor::Core)))
-        }
-        b"steps" => {
-            let [n] = numbers(behind(b"core", rest)?, [STEPS])?;
-            Ok((n as u32, Event::Step(Actor::Core)))
         }
         _ => Err(FaultKind::Word),
     }

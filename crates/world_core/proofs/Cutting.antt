@@ -1,5 +1,5 @@
 -- The row of a power cut.
-use Rattle.protocol_laws.proofs.Unwritten.{block_cut}
+use Rattle.protocol_laws.proofs.Unwritten.{block_cut, block_same}
 use Rattle.std.proofs.Common.{◌≡◌, ℕ, Bool, true, false, Option, Some, None, refl, sym, ap, ◌∙◌, arith, subst}
 use Rattle.definitions.specs.Disk as disk
 use Rattle.plain_machine.specs.Machine.{Hardware, Memory}
@@ -19,7 +19,7 @@ use Rattle.hib_core.specs.declared.hib.Hib.{Hib}
 use Rattle.resume_core.specs.declared.load.Load.{Load}
 use Rattle.std.proofs.lemmas.Bool.{false≢true}
 use Rattle.world_core.proofs.Cases.{activity_by, activity_for}
-use Rattle.world_core.proofs.Rows.{accepted_step}
+use Rattle.world_core.proofs.Rows.{accepted_step, same_area}
 
 abbrev is_rest : Activity → Bool
 is_rest rests = true
@@ -74,3 +74,21 @@ row_of_cut old new pick blocks c c' cuts_off keeps whole restarts core frames hw
         leaves = tt;
       },
     )
+
+-- An arm changes nothing but which calls of the disk will fail.
+
+arm_goes : (h : Hardware) (a : State) (first count pick : ℕ) → refusal h a (event.Arm first count pick) ≡ None
+unfolding refusal
+arm_goes h a first count pick = refl
+
+pub row_of_arm : (w : World) (first count pick : ℕ) (c : disk.Content) → IsRow (event.Arm first count pick) w w reply.Done c c
+row_of_arm w first count pick c = λ a stands. (
+  a,
+  record {
+    step = accepted_step (hardware_of w) (disk.as_it_reads c) a (event.Arm first count pick) reply.Done a (arm_goes (hardware_of w) a first count pick) (0, omega arith, refl);
+    stands = stands;
+    area = same_area (hardware_of w) (disk.as_it_reads c) (disk.as_it_reads c) refl;
+    unwritten = λ b not_in. block_same b _;
+    leaves = tt;
+  },
+)

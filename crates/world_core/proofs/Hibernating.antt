@@ -1,14 +1,13 @@
--- What the rows of a hibernation say of the world that makes them.
+-- What the rows of a hibernation or a settling say of the world that makes them.
 use Rattle.std.proofs.Common.{◌≡◌, ℕ, Bool, true, false, List, [], Option, Some, None, Result, Ok, Err, refl, sym, ap, ◌∙◌, subst}
 use Rattle.std.specs.Result.{IfOk, MatchResult}
 use Rattle.std.proofs.lemmas.Bool.{false≢true}
 use Rattle.definitions.specs.Disk as disk
-use Rattle.page_core.specs.declared.format.Format.{Format}
 use Rattle.sig_header.specs.declared.area.Area.{Area}
 use Rattle.sig_header.specs.declared.area.AreaKind.{AreaKind}
 use Rattle.sig_header.specs.declared.area.AreaKind.TheVariants.{Swap}
 use Rattle.plain_machine.specs.Machine.{Hardware, Memory}
-use Rattle.plain_machine.specs.Shows.{Shown, Activity, rests, runs, hibernates, undoes, ShowsKept, loads}
+use Rattle.plain_machine.specs.Shows.{Shown, Activity, rests, runs, hibernates, undoes, settles, ShowsKept, loads}
 use Rattle.plain_machine.specs.State.{State, off, on, booting, hibernating, undoing, settling, waking, loading, asleep, Running, Held}
 use Rattle.plain_machine.specs.Stands.{Stands}
 use Rattle.plain_machine.specs.UsableArea.{fit_fault, kind_or_fit_fault}
@@ -19,10 +18,11 @@ use Rattle.plain_machine.specs.declared.reply.Reply.{Reply}
 use Rattle.plain_machine.specs.declared.reply.Reply.TheVariants as reply
 use Rattle.machine.specs.declared.machine.Machine.{Machine}
 use Rattle.hib_core.specs.Hibernation as hibernation
+use Rattle.hib_core.specs.Hibernation.{Phase, under_way, runs_on, switched_off}
 use Rattle.hib_core.specs.Ready.{IsBusy, is_busy_at, IsSameMachine}
 use Rattle.hib_core.specs.Row as hib_row
 use Rattle.hib_core.specs.declared.hib.Hib.{Hib}
-use Rattle.hib_core.specs.declared.hib.Job.TheVariants as job
+use Rattle.hib_core.specs.declared.hib.Job.{Job}
 use Rattle.hib_core.specs.declared.hib.Stage.{Stage}
 use Rattle.hib_core.specs.declared.hib.Stage.TheVariants as stage
 use Rattle.resume_core.specs.Row as resume_row
@@ -30,7 +30,7 @@ use Rattle.plain_machine.specs.Step.{no_flights}
 use Rattle.world_core.specs.declared.world.Core.{Core}
 use Rattle.world_core.specs.declared.world.Core.TheVariants.{Off, Running as Runs, Hibernating, Loading}
 use Rattle.world_core.specs.World.{World}
-use Rattle.world_core.specs.StandsFor.{StandsFor, hardware_of, keeps_dump, shown, shown_at, core_at, core_told}
+use Rattle.world_core.specs.StandsFor.{StandsFor, hardware_of, keeps_dump, shown, shown_at, core_at, core_in, core_told}
 use Rattle.world_core.specs.Row.{IsRow, HasRow, Restores}
 use Rattle.world_core.proofs.Cases.{activity_by}
 use Rattle.world_core.proofs.Tasks.{names_same}
@@ -42,6 +42,7 @@ is_of_hibernation rests = true
 is_of_hibernation runs = true
 is_of_hibernation (hibernates suspends k) = true
 is_of_hibernation (undoes call k) = true
+is_of_hibernation (settles k) = true
 is_of_hibernation _ = false
 
 of_hibernation : (s : Stage) (made : ℕ) → is_of_hibernation (hibernation.activity_at s made) ≡ true
@@ -54,6 +55,9 @@ of_hibernation stage.Mark made = refl
 of_hibernation stage.End made = refl
 of_hibernation (stage.TakeBack call) made = refl
 of_hibernation (stage.EndUndo call) made = refl
+of_hibernation stage.SettleRead made = refl
+of_hibernation stage.SettleWrite made = refl
+of_hibernation stage.SettleSync made = refl
 
 never_at : {A : Type 0} (hib : Hib) (x : Activity) → is_of_hibernation x ≡ false → hibernation.activity_of hib ≡ x → A
 never_at hib x not_of e = absurd (false≢true (sym not_of ∙ sym (ap is_of_hibernation e) ∙ of_hibernation hib.stage hib.made))
@@ -62,39 +66,54 @@ abbrev is_hibernating : Core → Bool
 is_hibernating Hibernating = true
 is_hibernating _ = false
 
-busy_at : (s : Stage) (made : ℕ) → core_at (hibernation.activity_at s made) ≡ Hibernating → is_busy_at s
-busy_at stage.Idle made e = absurd (false≢true (ap is_hibernating e))
-busy_at stage.Over made e = absurd (false≢true (ap is_hibernating e))
-busy_at stage.Write made e = tt
-busy_at stage.Sync made e = tt
-busy_at stage.Read made e = tt
-busy_at stage.Mark made e = tt
-busy_at stage.End made e = tt
-busy_at (stage.TakeBack call) made e = tt
-busy_at (stage.EndUndo call) made e = tt
+busy_at : (s : Stage) → core_in (hibernation.phase_at s) ≡ Hibernating → is_busy_at s
+busy_at stage.Idle e = absurd (false≢true (ap is_hibernating e))
+busy_at stage.Over e = absurd (false≢true (ap is_hibernating e))
+busy_at stage.Write e = tt
+busy_at stage.Sync e = tt
+busy_at stage.Read e = tt
+busy_at stage.Mark e = tt
+busy_at stage.End e = tt
+busy_at (stage.TakeBack call) e = tt
+busy_at (stage.EndUndo call) e = tt
+busy_at stage.SettleRead e = tt
+busy_at stage.SettleWrite e = tt
+busy_at stage.SettleSync e = tt
 
--- a world that hibernates by a reply has a hibernation that is busy
-pub busy_told : (hib : Hib) (r : Reply) (core : Core) → core ≡ core_told r → hibernation.activity_of hib ≡ hibernation.activity_told r → core ≡ Hibernating → IsBusy hib
-busy_told hib r core is told e = busy_at hib.stage hib.made (ap core_at told ∙ sym is ∙ e)
+-- a world that hibernates or settles by a reply has a step to make
+pub busy_told : (hib : Hib) (r : Reply) (core : Core) → core ≡ core_told r → hibernation.phase_of hib ≡ hibernation.phase_told r → core ≡ Hibernating → IsBusy hib
+busy_told hib r core is told e = busy_at hib.stage (ap core_in told ∙ sym is ∙ e)
 
 abbrev is_loading : Core → Bool
 is_loading Loading = true
 is_loading _ = false
 
-never_loads_at : {A : Type 0} (s : Stage) (made : ℕ) → core_at (hibernation.activity_at s made) ≡ Loading → A
-never_loads_at stage.Idle made e = absurd (false≢true (ap is_loading e))
-never_loads_at stage.Over made e = absurd (false≢true (ap is_loading e))
-never_loads_at stage.Write made e = absurd (false≢true (ap is_loading e))
-never_loads_at stage.Sync made e = absurd (false≢true (ap is_loading e))
-never_loads_at stage.Read made e = absurd (false≢true (ap is_loading e))
-never_loads_at stage.Mark made e = absurd (false≢true (ap is_loading e))
-never_loads_at stage.End made e = absurd (false≢true (ap is_loading e))
-never_loads_at (stage.TakeBack call) made e = absurd (false≢true (ap is_loading e))
-never_loads_at (stage.EndUndo call) made e = absurd (false≢true (ap is_loading e))
+never_loads_in : {A : Type 0} (phase : Phase) → core_in phase ≡ Loading → A
+never_loads_in under_way e = absurd (false≢true (ap is_loading e))
+never_loads_in runs_on e = absurd (false≢true (ap is_loading e))
+never_loads_in switched_off e = absurd (false≢true (ap is_loading e))
 
 -- it doesn't resume
-pub never_loads : {A : Type 0} (hib : Hib) (r : Reply) (core : Core) → core ≡ core_told r → hibernation.activity_of hib ≡ hibernation.activity_told r → core ≡ Loading → A
-never_loads hib r core is told e = never_loads_at hib.stage hib.made (ap core_at told ∙ sym is ∙ e)
+pub never_loads : {A : Type 0} (r : Reply) (core : Core) → core ≡ core_told r → core ≡ Loading → A
+never_loads r core is e = never_loads_in (hibernation.phase_told r) (sym is ∙ e)
+
+-- what it is at is what its activity says
+core_of_stage : (s : Stage) (made : ℕ) → core_at (hibernation.activity_at s made) ≡ core_in (hibernation.phase_at s)
+core_of_stage stage.Idle made = refl
+core_of_stage stage.Over made = refl
+core_of_stage stage.Write made = refl
+core_of_stage stage.Sync made = refl
+core_of_stage stage.Read made = refl
+core_of_stage stage.Mark made = refl
+core_of_stage stage.End made = refl
+core_of_stage (stage.TakeBack call) made = refl
+core_of_stage (stage.EndUndo call) made = refl
+core_of_stage stage.SettleRead made = refl
+core_of_stage stage.SettleWrite made = refl
+core_of_stage stage.SettleSync made = refl
+
+core_by_told : (hib : Hib) (r : Reply) (core : Core) → core ≡ core_told r → hibernation.phase_of hib ≡ hibernation.phase_told r → core ≡ core_at (hibernation.activity_of hib)
+core_by_told hib r core is told = is ∙ sym (ap core_in told) ∙ sym (core_of_stage hib.stage hib.made)
 
 -- What is shown.
 
@@ -172,28 +191,28 @@ world_stands w c (on a) core stands = then_running w c (hibernation.activity_of 
 world_stands w c (hibernating suspends i a k) core stands = still_hibernating w c (hibernating suspends i a k) (core ∙ ap core_at stands.stands.activity) stands tt
 world_stands w c (undoing i call a k) core stands = still_hibernating w c (undoing i call a k) (core ∙ ap core_at stands.stands.activity) stands tt
 world_stands w c (booting from dump held k) core stands = never_at w.hib _ refl stands.stands.activity
-world_stands w c (settling a k) core stands = never_at w.hib _ refl stands.stands.activity
+world_stands w c (settling a k) core stands = still_hibernating w c (settling a k) (core ∙ ap core_at stands.stands.activity) stands tt
 world_stands w c (waking i held a k) core stands = never_at w.hib _ refl stands.stands.activity
 world_stands w c (loading load k) core stands = never_at w.hib _ refl stands.stands.activity
 world_stands w c (asleep i held a) core stands = never_at w.hib _ refl stands.stands.activity
 
 -- The rows.
 
-pub row_of_begin : (old new : World) (f : Format) (r : Reply) (c : disk.Content) → old.core ≡ Runs → new.core ≡ core_told r → new.machine ≡ old.machine → hibernation.activity_of new.hib ≡ hibernation.activity_told r →
-    hib_row.IsBegun old.machine old.frames new.frames new.hib (job.Hibernate f) r c → IsRow (event.Hibernate f) old new r c c
-row_of_begin old new f r c core core' machine told row a stands =
+pub row_of_begin : (old new : World) (asked : Job) (r : Reply) (c : disk.Content) → old.core ≡ Runs → new.core ≡ core_told r → new.machine ≡ old.machine → hibernation.phase_of new.hib ≡ hibernation.phase_told r →
+    hib_row.IsBegun old.machine old.frames new.frames new.hib asked r c → IsRow (hib_row.event_of asked) old new r c c
+row_of_begin old new asked r c core core' machine told row a stands =
     let goes = row a (subst (λ (s : Shown). Stands (hardware_of old) s c a) (shown_running old core) stands.stands) in (
       goes.0,
       record {
         step = goes.1.step;
-        stands = world_stands new c goes.0 (core' ∙ sym (ap core_at told)) (subst (λ (m : Machine). hib_row.StandsFor m new.frames new.hib c goes.0) (sym machine) goes.1.stands);
+        stands = world_stands new c goes.0 (core_by_told new.hib r new.core core' told) (subst (λ (m : Machine). hib_row.StandsFor m new.frames new.hib c goes.0) (sym machine) goes.1.stands);
         area = goes.1.area;
         unwritten = goes.1.unwritten;
         leaves = goes.1.leaves;
       },
     )
 
-pub row_of_step : (old new : World) (r : Reply) (before now : Option disk.Content) → old.core ≡ Hibernating → new.core ≡ core_told r → hibernation.activity_of new.hib ≡ hibernation.activity_told r →
+pub row_of_step : (old new : World) (r : Reply) (before now : Option disk.Content) → old.core ≡ Hibernating → new.core ≡ core_told r → hibernation.phase_of new.hib ≡ hibernation.phase_told r →
     hib_row.HasRow old.machine old.frames old.hib new.machine new.frames new.hib (event.Step actor.Core) r before now → HasRow (event.Step actor.Core) old new r before now
 row_of_step old new r before now core core' told row k is =
     let at = row k is in (
@@ -202,7 +221,7 @@ row_of_step old new r before now core core' told row k is =
       λ a stands.
           let goes = at.2 a (hibernation_stands old k a core stands) in (
             goes.0,
-            record { step = goes.1.step; stands = world_stands new at.0 goes.0 (core' ∙ sym (ap core_at told)) goes.1.stands; area = goes.1.area; unwritten = goes.1.unwritten; leaves = goes.1.leaves },
+            record { step = goes.1.step; stands = world_stands new at.0 goes.0 (core_by_told new.hib r new.core core' told) goes.1.stands; area = goes.1.area; unwritten = goes.1.unwritten; leaves = goes.1.leaves },
           ),
     )
 

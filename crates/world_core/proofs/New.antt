@@ -24,7 +24,8 @@ use Rattle.world_core.specs.StandsFor.{StandsFor, IsNew, IsOff, KeepsMemory, har
 use Rattle.world_core.specs.Started.{IsStarted, area_kind_of, fault_at_start}
 use Rattle.world_core.proofs.Cases.{rests_by}
 use Rattle.world_core.proofs.Ending.{Ends}
-use Rattle.world_core.proofs.Headers.{IsAreaOf, IsKeptAreaOf, StartsOver, kind_read, marked_true, marked_false}
+use Rattle.protocol_laws.proofs.Signatures.{marked_true, marked_false}
+use Rattle.world_core.proofs.Headers.{IsAreaOf, IsKeptAreaOf, StartsOver, kind_read}
 
 not_true : (b : Bool) → (b ≡ true → ⊥) → b ≡ false
 not_true true never = absurd (never refl)

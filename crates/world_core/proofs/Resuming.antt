@@ -6,7 +6,7 @@ use Rattle.definitions.specs.Disk as disk
 use Rattle.sig_header.specs.declared.area.Area.{Area}
 use Rattle.plain_machine.specs.Machine.{Hardware, Memory}
 use Rattle.plain_machine.specs.Shows.{Shown, Activity, rests, runs, loads}
-use Rattle.plain_machine.specs.State.{State, off, on, booting, hibernating, undoing, settling, waking, loading, asleep, Running, Held, Load as Resume}
+use Rattle.plain_machine.specs.State.{State, off, on, booting, hibernating, undoing, settling, waking, loading, asleep, Held, Load as Resume}
 use Rattle.plain_machine.specs.Stands.{Stands}
 use Rattle.plain_machine.specs.Refusals.{refusal, asks_dump_to_load}
 use Rattle.plain_machine.specs.declared.event.Event.TheVariants as event
@@ -15,6 +15,7 @@ use Rattle.plain_machine.specs.declared.event.Loader.{Loader}
 use Rattle.plain_machine.specs.declared.event.Loader.TheVariants as loaders
 use Rattle.plain_machine.specs.declared.event.IdentCheck.{IdentCheck}
 use Rattle.plain_machine.specs.declared.no_swap.NoSwap.{NoSwap}
+use Rattle.plain_machine.specs.declared.held.Held.TheVariants.{No}
 use Rattle.plain_machine.specs.declared.reply.Reply.{Reply}
 use Rattle.plain_machine.specs.declared.reply.Reply.TheVariants as reply
 use Rattle.protocol_laws.specs.Rows as rows
@@ -126,6 +127,19 @@ usable_up machine frames runs_of load r (BootBegun from) after can up = absurd u
 usable_up machine frames runs_of load r (BootSynced from) after can up = absurd up
 usable_up machine frames runs_of load r Hibernating after can up = idle_after load r Hibernating after refl
 usable_up machine frames runs_of load r Loading after can up = absurd up
+
+-- nothing is held by a machine that runs after it
+unheld_after : (machine : Machine) (frames : Memory) (runs_of : SlotRuns) (load : Load) (r : Reply) (core : Core) → IsAfter load r core → CanStep machine frames runs_of load → core ≡ Runs → machine.held ≡ No
+unheld_after machine frames runs_of load r core is can e =
+    (subst (λ (s : Stage). CanMake s machine frames runs_of load) (runs_at load.stage load.made (sym (core_now load r core is) ∙ e)) can.next).3
+
+pub unheld_up : (machine : Machine) (frames : Memory) (runs_of : SlotRuns) (load : Load) (r : Reply) (core : Core) → IsAfter load r core → CanStep machine frames runs_of load → IsUp core → machine.held ≡ No
+unheld_up machine frames runs_of load r (Off keeps) after can up = absurd up
+unheld_up machine frames runs_of load r Runs after can up = unheld_after machine frames runs_of load r Runs after can refl
+unheld_up machine frames runs_of load r (BootBegun from) after can up = absurd up
+unheld_up machine frames runs_of load r (BootSynced from) after can up = absurd up
+unheld_up machine frames runs_of load r Hibernating after can up = idle_after load r Hibernating after refl
+unheld_up machine frames runs_of load r Loading after can up = absurd up
 
 -- What is shown.
 

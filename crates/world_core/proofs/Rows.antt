@@ -8,7 +8,11 @@ use Rattle.definitions.specs.Disk as disk
 use Rattle.plain_machine.specs.Machine.{Hardware, Memory}
 use Rattle.plain_machine.specs.State.{State, off, on, booting, hibernating, undoing, settling, waking, loading, asleep, Running, Held, Flight}
 use Rattle.plain_machine.specs.Step.{Step, outcomes, accepted, refused_or}
-use Rattle.plain_machine.specs.Refusals.{start_refusal, asks_dump_to_boot, asks_dump_to_load, refusal, refused_if, refusal_if_running, task_refusal, hibernate_refusal}
+use Rattle.plain_machine.specs.Chain.{or_else}
+use Rattle.hib_core.specs.Row.{event_of}
+use Rattle.hib_core.specs.declared.hib.Job.{Job}
+use Rattle.hib_core.specs.declared.hib.Job.TheVariants as job
+use Rattle.plain_machine.specs.Refusals.{busy, is_held, start_refusal, asks_dump_to_boot, asks_dump_to_load, refusal, refused_if, refusal_if_running, task_refusal, hibernate_refusal}
 use Rattle.plain_machine.specs.Stands.{Stands}
 use Rattle.plain_machine.specs.Shows.{Activity, rests, runs, boots, sleeps, activity_in}
 use Rattle.plain_machine.specs.declared.event.BootFrom.{BootFrom}
@@ -96,6 +100,9 @@ busy_underway stage.Mark made busy = refl
 busy_underway stage.End made busy = refl
 busy_underway (stage.TakeBack call) made busy = refl
 busy_underway (stage.EndUndo call) made busy = refl
+busy_underway stage.SettleRead made busy = refl
+busy_underway stage.SettleWrite made busy = refl
+busy_underway stage.SettleSync made busy = refl
 
 abbrev is_rest : Activity → Bool
 is_rest rests = true
@@ -180,18 +187,28 @@ pub frozen_task : (w : World) (c : disk.Content) (a : State) (t : ℕ) (o : Task
 unfolding refusal
 frozen_task w c a t o busy no_off no_run stands = frozen_by a (task_refusal (hardware_of w) t o) (underway w c a busy no_off no_run stands)
 
-pub frozen_hibernate : (w : World) (c : disk.Content) (a : State) (f : Format) → IsBusyIn w → (IsOff w → ⊥) → w.core ≢ Runs → StandsFor w c a → refusal (hardware_of w) a (event.Hibernate f) ≡ Some reply.Frozen
-unfolding refusal
-frozen_hibernate w c a f busy no_off no_run stands = frozen_by a (hibernate_refusal (hardware_of w) f) (underway w c a busy no_off no_run stands)
+-- the test of a job's event, of a machine that runs
+abbrev job_test : Hardware → Job → Running → Option Reply
+job_test h (job.Hibernate f) = hibernate_refusal h f
+job_test h (job.Suspend f) = hibernate_refusal h f
+job_test h job.Settle = λ r. or_else (busy r) (refused_if (not (is_held r.held)) reply.NothingHeld)
 
-hibernate_not_on_by : (h : Hardware) (a : State) (f : Format) → (held : Held) (kept : Option Memory) → a ≡ off held kept → refusal h a (event.Hibernate f) ≡ Some reply.NotOn
+job_refusal : (h : Hardware) (a : State) (asked : Job) → refusal h a (event_of asked) ≡ refusal_if_running a (job_test h asked)
 unfolding refusal
-hibernate_not_on_by h a f held kept e = ap (λ (b : State). refusal h b (event.Hibernate f)) e
+job_refusal h a (job.Hibernate f) = refl
+job_refusal h a (job.Suspend f) = refl
+job_refusal h a job.Settle = refl
 
-pub hibernate_not_on : (w : World) (c : disk.Content) (a : State) (f : Format) → IsOff w → StandsFor w c a → refusal (hardware_of w) a (event.Hibernate f) ≡ Some reply.NotOn
-hibernate_not_on w c a f e stands =
+pub frozen_job : (w : World) (c : disk.Content) (a : State) (asked : Job) → IsBusyIn w → (IsOff w → ⊥) → w.core ≢ Runs → StandsFor w c a → refusal (hardware_of w) a (event_of asked) ≡ Some reply.Frozen
+frozen_job w c a asked busy no_off no_run stands = job_refusal (hardware_of w) a asked ∙ frozen_by a (job_test (hardware_of w) asked) (underway w c a busy no_off no_run stands)
+
+job_not_on_by : (a : State) (test : Running → Option Reply) → (held : Held) (kept : Option Memory) → a ≡ off held kept → refusal_if_running a test ≡ Some reply.NotOn
+job_not_on_by a test held kept e = ap (λ (b : State). refusal_if_running b test) e
+
+pub job_not_on : (w : World) (c : disk.Content) (a : State) (asked : Job) → IsOff w → StandsFor w c a → refusal (hardware_of w) a (event_of asked) ≡ Some reply.NotOn
+job_not_on w c a asked e stands =
     let rest = at_rest a (sym (rests_by w e) ∙ activity_for w c a stands) in
-    hibernate_not_on_by (hardware_of w) a f rest.0 rest.1 rest.2
+    job_refusal (hardware_of w) a asked ∙ job_not_on_by a (job_test (hardware_of w) asked) rest.0 rest.1 rest.2
 
 idle_off : (h : Hardware) (a : State) (x : Actor) (held : Held) (kept : Option Memory) → a ≡ off held kept → refusal h a (event.Step x) ≡ Some reply.Idle
 unfolding refusal
@@ -272,15 +289,15 @@ pub idle_task : (w : World) (c : disk.Content) (a : State) (t : ℕ) → StandsF
 idle_task w c a t stands = idle_without_flight (hardware_of w) a t (no_flight w c a t stands)
 
 -- every event but these isn't served
-pub not_served : (e : Event) → IsServed e → ((from : BootFrom) → e ≡ event.Boot from → ⊥) → ((t : ℕ) (o : TaskOp) → e ≡ event.Task t o → ⊥) → ((x : Actor) → e ≡ event.Step x → ⊥) → ((f : Format) → e ≡ event.Hibernate f → ⊥) → ((loader : Loader) (check : IdentCheck) → e ≡ event.Resume loader check → ⊥) → ((pick : ℕ) → e ≡ event.Cut pick → ⊥) → ⊥
-not_served (event.Boot from) served b t s h l u = b from refl
-not_served (event.Hibernate f) served b t s h l u = h f refl
-not_served (event.Suspend f) served b t s h l u = served
-not_served event.Wake served b t s h l u = served
-not_served event.Settle served b t s h l u = served
-not_served (event.Shrink want) served b t s h l u = served
-not_served (event.Resume loader check) served b t s h l u = l loader check refl
-not_served (event.Step x) served b t s h l u = s x refl
-not_served (event.Task t' o) served b t s h l u = t t' o refl
-not_served (event.Cut pick) served b t s h l u = u pick refl
-not_served (event.Arm first count pick) served b t s h l u = served
+pub not_served : (e : Event) → IsServed e → ((from : BootFrom) → e ≡ event.Boot from → ⊥) → ((t : ℕ) (o : TaskOp) → e ≡ event.Task t o → ⊥) → ((x : Actor) → e ≡ event.Step x → ⊥) → ((f : Format) → e ≡ event.Hibernate f → ⊥) → (e ≡ event.Settle → ⊥) → ((loader : Loader) (check : IdentCheck) → e ≡ event.Resume loader check → ⊥) → ((pick : ℕ) → e ≡ event.Cut pick → ⊥) → ((first count pick : ℕ) → e ≡ event.Arm first count pick → ⊥) → ⊥
+not_served (event.Boot from) served b t s h x l u m = b from refl
+not_served (event.Hibernate f) served b t s h x l u m = h f refl
+not_served (event.Suspend f) served b t s h x l u m = served
+not_served event.Wake served b t s h x l u m = served
+not_served event.Settle served b t s h x l u m = x refl
+not_served (event.Shrink want) served b t s h x l u m = served
+not_served (event.Resume loader check) served b t s h x l u m = l loader check refl
+not_served (event.Step y) served b t s h x l u m = s y refl
+not_served (event.Task t' o) served b t s h x l u m = t t' o refl
+not_served (event.Cut pick) served b t s h x l u m = u pick refl
+not_served (event.Arm first count pick) served b t s h x l u m = m first count pick refl

@@ -1,7 +1,9 @@
 -- How a simulated machine is kept.
-use Rattle.std.specs.Prelude.{◌≡◌, ◌≤◌, length, None, IfOk, ⊤}
+use Rattle.std.specs.Prelude.{◌≡◌, ◌≢◌, ◌<◌, ◌≤◌, length, None, IfOk, ⊤}
 use Rattle.definitions.specs.Zones.{top}
+use Rattle.plain_machine.specs.Machine.{block_of_slot}
 use Rattle.plain_machine.specs.UsableArea.{fit_fault}
+use Rattle.plain_machine.specs.declared.held.Held.TheVariants.{No}
 use Rattle.hib_core.specs.Ready.{CanStep, IsBusy}
 use Rattle.resume_core.specs.Ready as resumption
 use Rattle.world_core.specs.declared.world.Core.{Core}
@@ -12,7 +14,7 @@ use Rattle.world_core.specs.World.{World}
 abbrev pub kept_world : Inside → World
 kept_world a = record { machine = a.machine; frames = a.frames; hib = a.hib; load = a.load; core = a.core }
 
--- a machine that runs, or hibernates, has its area
+-- a machine that runs, hibernates or settles has its area
 abbrev pub IsUp : Core → Type 0
 IsUp (Off keeps) = ⊥
 IsUp Running = ⊤
@@ -22,7 +24,8 @@ IsUp Hibernating = ⊤
 IsUp Loading = ⊥
 
 -- Memory has the machine's page frames, and hibernation and resume are over its zones, with room for its slots. Where the area can
--- be used each slot's block is one of the disk's, and a hibernation or resume can make its next step.
+-- be used each slot's block is one of the disk's, and where an image is held, perhaps too, the header block is. A hibernation, a
+-- settling or a resume can make its next step.
 pub record IsKept (a : Inside) : Type 0 where
   pub size : length a.frames ≡ top a.machine.hw.zones
   pub zones : a.hib.snapshot.zones ≡ a.machine.hw.zones
@@ -31,5 +34,6 @@ pub record IsKept (a : Inside) : Type 0 where
   pub waiting : a.load.waiting.zones ≡ a.machine.hw.zones
   pub room : a.machine.hw.slots ≤ a.runs.room
   pub usable : IsUp a.core → IfOk a.machine.area (λ area. fit_fault a.machine.hw a.machine.blocks area ≡ None)
+  pub header : IsUp a.core → a.machine.held ≢ No → block_of_slot a.machine.hw 0 < a.machine.blocks
   pub busy : a.core ≡ Hibernating → CanStep a.machine a.frames a.runs a.hib × IsBusy a.hib
   pub loads : a.core ≡ Loading → resumption.CanStep a.machine a.frames a.runs a.load × resumption.IsBusy a.load

@@ -15,9 +15,10 @@ use Rattle.plain_machine.specs.declared.event.Event.TheVariants as event
 use Rattle.plain_machine.specs.declared.reply.Reply.{Reply}
 use Rattle.plain_machine.specs.declared.reply.Reply.TheVariants as reply
 use Rattle.protocol_laws.specs.Rows as rows
-use Rattle.world_core.specs.declared.world.Core.TheVariants.{BootSynced, Loading}
+use Rattle.world_core.specs.declared.world.Core.TheVariants.{BootSynced, Loading, Running}
 use Rattle.world_core.specs.World.{World}
-use Rattle.world_core.specs.StandsFor.{hardware_of, StandsFor}
+use Rattle.hib_core.specs.Begin.{IsRefusedWith}
+use Rattle.world_core.specs.StandsFor.{hardware_of, StandsFor, IsOff}
 
 -- what the state goes on to
 abbrev pub GoesOn : Event → World → World → Reply → disk.Content → disk.Content → State → State → Type 0
@@ -34,10 +35,12 @@ HasRow e old new r before now = rows.HasRow (hardware_of old) (StandsFor old) (S
 abbrev pub IsServed : Event → Type 0
 IsServed (event.Boot from) = ⊤
 IsServed (event.Hibernate format) = ⊤
+IsServed event.Settle = ⊤
 IsServed (event.Resume loader check) = ⊤
 IsServed (event.Step x) = ⊤
 IsServed (event.Task t o) = ⊤
 IsServed (event.Cut pick) = ⊤
+IsServed (event.Arm first count pick) = ⊤
 IsServed _ = ⊥
 
 abbrev pub IsStep : Event → Type 0
@@ -48,9 +51,10 @@ abbrev pub IsNoCut : Event → Type 0
 IsNoCut (event.Cut pick) = ⊥
 IsNoCut _ = ⊤
 
--- the disk is restarted by a cut alone
+-- the disk is restarted by a cut alone, and armed by an arm alone
 abbrev pub orders_after : Event → ℕ → ℕ
 orders_after (event.Cut pick) orders = disk.raised orders
+orders_after (event.Arm first count pick) orders = disk.raised orders
 orders_after _ orders = orders
 
 -- a cut leaves one of the disk's images
@@ -92,3 +96,29 @@ TellsImage _ w r told = ⊤
 -- at most one call of the disk, and only in a step that an actor had to make
 abbrev pub IsCalled : Event → Reply → ℕ → ℕ → Type 0
 IsCalled e r before now = (now ≡ before) ⊎ (IsStep e × (r ≢ reply.Idle) × (now ≡ disk.raised before))
+
+-- An event that this world refuses. What begins an operation is refused by every reply but the count of its steps, a step by `idle`,
+-- and what a task asks where the machine doesn't run; a task's own tests are machine's. A cut and an arm are never refused.
+abbrev pub IsRefused : Event → World → Reply → Type 0
+IsRefused (event.Boot from) w r = IsRefusedWith r
+IsRefused (event.Hibernate format) w r = IsRefusedWith r
+IsRefused (event.Suspend format) w r = IsRefusedWith r
+IsRefused event.Wake w r = IsRefusedWith r
+IsRefused event.Settle w r = IsRefusedWith r
+IsRefused (event.Shrink want) w r = ⊥
+IsRefused (event.Resume loader check) w r = (k : ℕ) → r ≢ reply.Loading k
+IsRefused (event.Step x) w r = r ≡ reply.Idle
+IsRefused (event.Task t o) w r = w.core ≢ Running
+IsRefused (event.Cut pick) w r = ⊥
+IsRefused (event.Arm first count pick) w r = ⊥
+
+-- It changes nothing, whatever the disk tells: neither the machine with its numbers, nor what it is at, nor a page frame, free ones too.
+pub record ChangesNothing (old new : World) : Type 0 where
+  pub machine : new.machine ≡ old.machine
+  pub frames : new.frames ≡ old.frames
+  pub core : new.core ≡ old.core
+
+-- A step of a resume that neither goes on nor ends it, since the image was refused or a call failed, leaves the machine off.
+abbrev pub StopsOff : Event → World → Reply → World → Type 0
+StopsOff (event.Step actor.Core) old r new = old.core ≡ Loading → ((k : ℕ) → r ≢ reply.Loading k) → ((n : ℕ) → r ≢ reply.Resumed n) → IsOff new
+StopsOff _ old r new = ⊤

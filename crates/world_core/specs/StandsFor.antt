@@ -7,13 +7,14 @@ use Rattle.plain_machine.specs.Chain.{Marked}
 use Rattle.plain_machine.specs.Premises.{HasOriginal}
 use Rattle.plain_machine.specs.State.{State, off, nothing, sure, other}
 use Rattle.plain_machine.specs.Step.{no_flights}
-use Rattle.plain_machine.specs.Shows.{Shown, Activity, rests, runs, boots, hibernates, undoes, loads}
+use Rattle.plain_machine.specs.Shows.{Shown, Activity, rests, runs, boots, hibernates, undoes, settles, loads}
 use Rattle.plain_machine.specs.Stands.{Stands}
 use Rattle.plain_machine.specs.declared.event.Loader.{Loader}
 use Rattle.plain_machine.specs.declared.reply.Reply.{Reply}
 use Rattle.page_restore.specs.Waiting.{waiting_pages}
 use Rattle.machine.specs.declared.machine.Machine.{Machine}
 use Rattle.hib_core.specs.Hibernation as hibernation
+use Rattle.hib_core.specs.Hibernation.{Phase, under_way, runs_on, switched_off}
 use Rattle.hib_core.specs.Ready.{IsBusy}
 use Rattle.hib_core.specs.Row.{IsOfState}
 use Rattle.hib_core.specs.declared.hib.Hib.{Hib}
@@ -52,7 +53,7 @@ keeps_dump (BootSynced from) = false
 keeps_dump Hibernating = false
 keeps_dump Loading = false
 
--- one that hibernates or resumes has a step to make
+-- one that hibernates, settles or resumes has a step to make
 pub record IsBusyIn (w : World) : Type 0 where
   pub hibernates : w.core ≡ Hibernating → IsBusy w.hib
   pub resumes : w.core ≡ Loading → resume_ready.IsBusy w.load
@@ -90,7 +91,8 @@ loaded_of (BootSynced from) frames load = []
 loaded_of Hibernating frames load = []
 loaded_of Loading frames load = zip load.waiting.originals (waiting_pages frames load.waiting)
 
--- What is shown between two calls of the disk: a hibernation keeps a block and has copies, a resume keeps one and has loaded pages.
+-- What is shown between two calls of the disk: a hibernation keeps a block and has copies, a settling keeps one, a resume keeps one
+-- and has loaded pages.
 abbrev pub shown_at : Core → Machine → Memory → Hib → Load → Shown
 shown_at core machine frames hib load = record {
   activity = activity_of core hib load;
@@ -114,16 +116,23 @@ pub record StandsFor (w : World) (c : disk.Content) (a : State) : Type 0 where
   pub image : IsOfState (hardware_of w) w.frames w.hib a
   pub resume : resume_row.IsOfState w.machine w.frames w.load c a
 
--- what a world is at by what its hibernation or resume is at, and after this reply to the begin or a step of the one or the other
+-- what a world is at by what its hibernation, settling or resume is at
 abbrev pub core_at : Activity → Core
 core_at rests = Off false
 core_at (hibernates suspends k) = Hibernating
 core_at (undoes call k) = Hibernating
+core_at (settles k) = Hibernating
 core_at (loads k) = Loading
 core_at _ = Running
 
+-- and after this reply to the begin or a step of a hibernation or a settling, or of a resume
+abbrev pub core_in : Phase → Core
+core_in under_way = Hibernating
+core_in runs_on = Running
+core_in switched_off = Off false
+
 abbrev pub core_told : Reply → Core
-core_told r = core_at (hibernation.activity_told r)
+core_told r = core_in (hibernation.phase_told r)
 
 abbrev pub core_resumed : Loader → Reply → Core
 core_resumed loader r = core_at (resumption.activity_told loader r)

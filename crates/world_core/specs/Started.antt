@@ -1,12 +1,12 @@
 -- The end of a boot.
-use Rattle.std.specs.Prelude.{◌≡◌, ℕ, Bool, true, false, nat_lt, if◌then◌else◌, List, Option, Some, None, Result, MatchResult}
+use Rattle.std.specs.Prelude.{◌≡◌, ℕ, Bool, nat_lt, if◌then◌else◌, List, Option, Some, None, Result, MatchResult}
 use Rattle.std.specs.List.{range_with_len}
 use Rattle.definitions.specs.Bytes.{zero_page}
 use Rattle.definitions.specs.Disk as disk
 use Rattle.definitions.specs.SwapHeader.{taken_back}
 use Rattle.sig_header.specs.AreaKind.{area_kind}
 use Rattle.sig_header.specs.declared.area.AreaKind.{AreaKind}
-use Rattle.sig_header.specs.declared.area.AreaKind.TheVariants.{Image, Old, Other, BadArea, Swap}
+use Rattle.sig_header.specs.declared.area.AreaKind.TheVariants.{Swap}
 use Rattle.plain_machine.specs.Step.{with_each_entry}
 use Rattle.plain_machine.specs.Machine.{Hardware, Memory}
 use Rattle.plain_machine.specs.UsableArea.{kind_or_fit_fault, bad_set_fault, first_fault}
@@ -15,17 +15,11 @@ use Rattle.plain_machine.specs.declared.event.BootFrom.TheVariants.{Fresh, Kept}
 use Rattle.plain_machine.specs.declared.no_swap.NoSwap.{NoSwap}
 use Rattle.sig_header.specs.declared.area.Area.{Area}
 use Rattle.plain_machine.specs.declared.held.Held.TheVariants.{No, Yes}
+use Rattle.protocol_laws.specs.Headers.{is_image}
 use Rattle.machine.specs.FreshSlots.{slot_of_area}
 use Rattle.world_core.specs.declared.world.Core.TheVariants.{Running}
 use Rattle.world_core.specs.World.{World}
 use Rattle.world_core.specs.StandsFor.{hardware_of, blocks_of}
-
-abbrev pub is_image : AreaKind → Bool
-is_image (Image mark) = true
-is_image Old = false
-is_image (Other sig) = false
-is_image (BadArea why) = false
-is_image (Swap area) = false
 
 -- block b of a disk of so many blocks, zeros where it isn't below them
 abbrev pub header_at : ℕ → ℕ → disk.Image → List ℕ

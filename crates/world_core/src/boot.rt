@@ -1,13 +1,16 @@
-ghost use Rattle.std.specs.Prelude.{◌≡◌, ℕ, ◌⊎◌, ◌≤◌, ◌↔◌, true, false, length, Some, None, Ok, Err, IsTrue, IfOk, IfErr, OnOk, OnErr, IfSome, MatchResult};
+ghost use Rattle.std.specs.Prelude.{◌≡◌, ◌≢◌, ℕ, ◌⊎◌, ◌<◌, ◌≤◌, ◌↔◌, true, false, length, Some, None, Ok, Err, IsTrue, IfOk, IfErr, OnOk, OnErr, IfSome, MatchResult};
 ghost use Rattle.definitions.specs.Bytes.{zero_page};
 ghost use Rattle.definitions.specs.Disk.{HasRisen, raised, as_it_reads, Changes, Elapses};
 ghost use Rattle.definitions.specs.Zones.{top};
 ghost use Rattle.sig_header.specs.declared.area.Area.{Area as AreaValue};
 ghost use Rattle.sig_header.specs.declared.area.AreaKind.TheVariants.{Swap};
+ghost use Rattle.sig_header.specs.AreaKind.{area_kind};
+ghost use Rattle.plain_machine.specs.Machine.{block_of_slot};
 ghost use Rattle.plain_machine.specs.Refusals.{asks_dump_to_boot};
 ghost use Rattle.plain_machine.specs.Step.{fresh_frames};
 ghost use Rattle.plain_machine.specs.UsableArea.{fit_fault, has_bad_slots_of};
-ghost use Rattle.world_core.specs.Started.{is_image, header_at, fault_at_start, memory_at_start};
+ghost use Rattle.protocol_laws.specs.Headers.{is_image};
+ghost use Rattle.world_core.specs.Started.{header_at, fault_at_start, memory_at_start};
 
 use crate::World;
 use crate::world::Core;
@@ -26,7 +29,7 @@ impl World {
     ghost use Rattle.world_core.specs.declared.world.Core.TheVariants as core;
     ghost use Rattle.world_core.specs.StandsFor.{hardware_of, blocks_of, keeps_dump, IsOff, IsBusyIn};
     ghost use Rattle.plain_machine.specs.declared.reply.Reply.TheVariants as reply;
-    ghost use Rattle.world_core.specs.Row.{HasRow, IsRow, IsCalled, Restores, TellsImage, blocks_after};
+    ghost use Rattle.world_core.specs.Row.{HasRow, IsRow, IsCalled, IsRefused, ChangesNothing, Restores, TellsImage, blocks_after};
     ghost use Rattle.protocol_laws.specs.Rows.{IsNewFault};
     ghost use Rattle.world_core.specs.Started.{IsStarted};
 
@@ -37,6 +40,7 @@ impl World {
         ensures hardware { hardware_of self.new ≡ hardware_of self.old }
         ensures blocks { ((self.new.core ≡ self.old.core) × (blocks_of self.new ≡ blocks_of self.old)) ⊎ (blocks_of self.new ≡ blocks) }
         ensures kept { blocks_of self.new ≡ blocks_after (event.Boot from) result blocks (blocks_of self.old) }
+        ensures refused { IsRefused (event.Boot from) self.old result → ChangesNothing self.old self.new }
     {
         if !self.is_off() {
             return Reply::NotOff;
@@ -77,6 +81,7 @@ impl World {
         ensures row { HasRow (event.Step actor.Core) self.old self.new result (D.content disk.old) (D.content disk.new) }
         ensures restored { Restores (event.Step actor.Core) self.old self.new result (D.content disk.old) (D.content disk.new) }
         ensures image { TellsImage (event.Step actor.Core) self.old result (D.content disk.old) }
+        ensures works { result ≢ reply.Idle }
         ensures cause { IsNewFault result → HasRisen (D.faults disk.old) (D.faults disk.new) }
         ensures faults { D.faults disk.old ≤ D.faults disk.new }
         ensures calls { IsCalled (event.Step actor.Core) result (D.calls disk.old) (D.calls disk.new) }
@@ -107,6 +112,7 @@ impl World {
         ensures row { HasRow (event.Step actor.Core) self.old self.new result (D.content disk.old) (D.content disk.new) }
         ensures restored { Restores (event.Step actor.Core) self.old self.new result (D.content disk.old) (D.content disk.new) }
         ensures image { TellsImage (event.Step actor.Core) self.old result (D.content disk.old) }
+        ensures works { result ≢ reply.Idle }
         ensures cause { IsNewFault result → HasRisen (D.faults disk.old) (D.faults disk.new) }
         ensures faults { D.faults disk.old ≤ D.faults disk.new }
         ensures calls { IsCalled (event.Step actor.Core) result (D.calls disk.old) (D.calls disk.new) }
@@ -134,6 +140,7 @@ impl World {
     /// Runs, as the header block says. Whether it is marked.
     fn start(&mut self, header: &Page, from: BootFrom) -> bool
         requires synced { self.old.core ≡ core.BootSynced from }
+        requires on_disk { is_image (area_kind header.now) ≡ true → block_of_slot (hardware_of self.old) 0 < blocks_of self.old }
         ensures started { IsStarted from self.old self.new header.now result }
     {
         let hw = self.machine.hw;
@@ -225,6 +232,7 @@ fn is_image(kind: &AreaKind) -> bool
 /// Reads the header block into a page of zeros. One that isn't below the disk's blocks counts as zeros, and isn't read.
 fn read_header<D: Disk>(disk: &mut D, block: u64, into: &mut Page) -> Result<(), Failed>
     requires { into.old ≡ zero_page }
+    ensures beyond { D.block_count disk.old ≤ block → into.new ≡ zero_page }
     ensures header { OnOk result (IfSome (D.content disk.old) (λ held. into.new ≡ header_at block (D.block_count disk.old) (as_it_reads held))) }
     ensures content { D.content disk.new ≡ D.content disk.old }
     ensures cause { OnErr result (HasRisen (D.faults disk.old) (D.faults disk.new)) }

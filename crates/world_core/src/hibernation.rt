@@ -1,61 +1,64 @@
-ghost use Rattle.std.specs.Prelude.{◌≡◌, ℕ, ◌≤◌, IsTrue};
+ghost use Rattle.std.specs.Prelude.{◌≡◌, ◌≢◌, ℕ, ◌≤◌, IsTrue};
 ghost use Rattle.definitions.specs.Disk.{HasRisen, Changes, Elapses};
 ghost use Rattle.world_core.specs.StandsFor.{core_told};
 
 use crate::World;
 use crate::world::Core;
 use hib_core::Job;
-use page_core::Format;
 use plain_machine::Reply;
 use sector_disk::Disk;
 use swap_slots::SlotTable;
 
-// A hibernation: its begin and its steps (hibernate, kernel/power/hibernate.c).
+// A hibernation or a settling: its begin and its steps (hibernate, kernel/power/hibernate.c; swsusp_unmark, kernel/power/swap.c).
 impl World {
     ghost use Rattle.definitions.specs.Disk.{Content};
     ghost use Rattle.plain_machine.specs.declared.event.Event.TheVariants as event;
     ghost use Rattle.plain_machine.specs.declared.event.Actor.TheVariants as actor;
     ghost use Rattle.protocol_laws.specs.Rows.{IsNewFault};
+    ghost use Rattle.hib_core.specs.Ready.{IsServed};
+    ghost use Rattle.hib_core.specs.Row.{event_of};
     ghost use Rattle.world_core.specs.declared.world.Core.TheVariants as core;
     ghost use Rattle.world_core.specs.StandsFor.{hardware_of, blocks_of, IsOff};
-    ghost use Rattle.world_core.specs.Row.{HasRow, IsRow, IsCalled, Restores, TellsImage};
+    ghost use Rattle.world_core.specs.Row.{HasRow, IsRow, IsCalled, IsRefused, ChangesNothing, Restores, TellsImage};
+    ghost use Rattle.plain_machine.specs.declared.reply.Reply.TheVariants as reply;
 
-    /// Begins a hibernation, if the machine runs.
-    pub(crate) fn hibernate(&mut self, format: Format) -> Reply
-        ensures row { (c : Content) → IsRow (event.Hibernate format) self.old self.new result c c }
+    /// Begins a hibernation or a settling, if the machine runs.
+    pub(crate) fn begin(&mut self, job: Job) -> Reply
+        requires served { IsServed job }
+        ensures row { (c : Content) → IsRow (event_of job) self.old self.new result c c }
         ensures cause { IsNewFault result → ⊥ }
         ensures hardware { hardware_of self.new ≡ hardware_of self.old }
         ensures blocks { blocks_of self.new ≡ blocks_of self.old }
         ensures off { IsOff self.old → IsOff self.new }
+        ensures refused { IsRefused (event_of job) self.old result → ChangesNothing self.old self.new }
     {
         match self.core {
             Core::Off { .. } => Reply::NotOn,
             Core::BootBegun(_) | Core::BootSynced(_) | Core::Hibernating | Core::Loading => {
                 Reply::Frozen
             }
-            Core::Running => self.begin_hibernation(format),
+            Core::Running => self.begin_job(job),
         }
     }
 
     /// Begins it. Tasks don't take or give back slots, but nothing says so: the free ones are read from the slot table.
-    fn begin_hibernation(&mut self, format: Format) -> Reply
+    fn begin_job(&mut self, job: Job) -> Reply
+        requires served { IsServed job }
         requires running { self.old.core ≡ core.Running }
-        ensures row { (c : Content) → IsRow (event.Hibernate format) self.old self.new result c c }
+        ensures row { (c : Content) → IsRow (event_of job) self.old self.new result c c }
         ensures cause { IsNewFault result → ⊥ }
         ensures hardware { hardware_of self.new ≡ hardware_of self.old }
         ensures blocks { blocks_of self.new ≡ blocks_of self.old }
+        ensures refused { IsRefused (event_of job) self.old result → ChangesNothing self.old self.new }
     {
         let table = SlotTable {
             first: self.machine.hw.slot_table(),
             slots: self.machine.hw.slots(),
         };
         self.runs.rebuild(&self.frames, &table);
-        let reply = self.hib.begin(
-            &mut self.machine,
-            &mut self.frames,
-            &mut self.runs,
-            Job::Hibernate(format),
-        );
+        let reply = self
+            .hib
+            .begin(&mut self.machine, &mut self.frames, &mut self.runs, job);
         self.core = core_after(&reply);
         reply
     }
@@ -67,6 +70,7 @@ impl World {
         ensures row { HasRow (event.Step actor.Core) self.old self.new result (D.content disk.old) (D.content disk.new) }
         ensures restored { Restores (event.Step actor.Core) self.old self.new result (D.content disk.old) (D.content disk.new) }
         ensures image { TellsImage (event.Step actor.Core) self.old result (D.content disk.old) }
+        ensures works { result ≢ reply.Idle }
         ensures cause { IsNewFault result → HasRisen (D.faults disk.old) (D.faults disk.new) }
         ensures faults { D.faults disk.old ≤ D.faults disk.new }
         ensures calls { IsCalled (event.Step actor.Core) result (D.calls disk.old) (D.calls disk.new) }
@@ -86,7 +90,7 @@ impl World {
     }
 }
 
-/// What the machine is at after this reply to the begin or a step of a hibernation.
+/// What the machine is at after this reply to the begin or a step of a hibernation or a settling.
 fn core_after(reply: &Reply) -> Core
     ensures { result ≡ core_told reply.now }
 {

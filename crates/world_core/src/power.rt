@@ -1,5 +1,5 @@
-ghost use Rattle.std.specs.Prelude.{◌≡◌, ℕ, ◌≤◌};
-ghost use Rattle.definitions.specs.Disk.{raised, Changes, Restarts};
+ghost use Rattle.std.specs.Prelude.{◌≡◌, ℕ, ◌≤◌, IsTrue};
+ghost use Rattle.definitions.specs.Disk.{raised, Changes, Elapses, Restarts};
 
 use crate::World;
 use crate::world::Core;
@@ -7,7 +7,7 @@ use plain_machine::Reply;
 use protocol_laws::cuts;
 use sector_disk::Disk;
 
-// A power cut (own).
+// A power cut, and faults of the disk (own).
 impl World {
     ghost use Rattle.plain_machine.specs.declared.event.Event.TheVariants as event;
     ghost use Rattle.protocol_laws.specs.Rows.{IsNewFault};
@@ -33,6 +33,22 @@ impl World {
             keeps_dump: self.keeps_dump(),
         };
         Reply::WasCut
+    }
+
+    /// Calls of the disk are to fail. Nothing else changes. Never refused.
+    pub(crate) fn arm<D: Disk>(&self, disk: &mut D, first: u32, count: u32, pick: u64) -> Reply
+        ensures row { HasRow (event.Arm first count pick) self.now self.now result (D.content disk.old) (D.content disk.new) }
+        ensures cause { IsNewFault result → ⊥ }
+        ensures faults { D.faults disk.old ≤ D.faults disk.new }
+        ensures calls { D.calls disk.new ≡ D.calls disk.old }
+        ensures orders { D.orders disk.new ≡ raised (D.orders disk.old) }
+        ensures blocks { D.block_count disk.new ≡ D.block_count disk.old }
+        ensures telling { D.tells_moments disk.new ≡ D.tells_moments disk.old }
+        ensures time { IsTrue (D.tells_moments disk.old) → Changes (Elapses (D.moment disk.old) (D.moment disk.new)
+            (D.left_since disk.old) (D.left_since disk.new)) (D.content disk.old) (D.content disk.new) }
+    {
+        disk.arm(first, count, pick);
+        Reply::Done
     }
 
     /// Whether memory is still a dump's.

@@ -1,7 +1,7 @@
-ghost use Rattle.std.specs.Prelude.{◌≡◌, ℕ, ◌⊎◌, ◌≤◌, true, IsTrue};
+ghost use Rattle.std.specs.Prelude.{◌≡◌, ◌≢◌, ℕ, ◌⊎◌, ◌≤◌, true, IsTrue};
 ghost use Rattle.definitions.specs.Disk.{HasRisen, Changes, Elapses};
 ghost use Rattle.plain_machine.specs.Refusals.{asks_dump_to_load};
-ghost use Rattle.world_core.specs.StandsFor.{core_resumed};
+ghost use Rattle.world_core.specs.StandsFor.{core_resumed, is_off};
 
 use crate::World;
 use crate::world::Core;
@@ -17,7 +17,7 @@ impl World {
     ghost use Rattle.world_core.specs.declared.world.Core.TheVariants as core;
     ghost use Rattle.world_core.specs.StandsFor.{hardware_of, blocks_of, IsOff, keeps_dump};
     ghost use Rattle.plain_machine.specs.declared.reply.Reply.TheVariants as reply;
-    ghost use Rattle.world_core.specs.Row.{HasRow, IsRow, IsCalled, Restores, TellsImage, blocks_after};
+    ghost use Rattle.world_core.specs.Row.{HasRow, IsRow, IsCalled, IsRefused, ChangesNothing, Restores, TellsImage, blocks_after};
 
     /// Begins a resume, on a disk of so many blocks, if the machine is off. A dump's loader is the memory that is kept.
     pub(crate) fn resume(&mut self, blocks: u32, loader: Loader, check: IdentCheck) -> Reply
@@ -26,6 +26,7 @@ impl World {
         ensures hardware { hardware_of self.new ≡ hardware_of self.old }
         ensures blocks { ((self.new.core ≡ self.old.core) × (blocks_of self.new ≡ blocks_of self.old)) ⊎ (blocks_of self.new ≡ blocks) }
         ensures kept { blocks_of self.new ≡ blocks_after (event.Resume loader check) result blocks (blocks_of self.old) }
+        ensures refused { IsRefused (event.Resume loader check) self.old result → ChangesNothing self.old self.new }
     {
         if !self.is_off() {
             return Reply::NotOff;
@@ -61,6 +62,8 @@ impl World {
         ensures row { HasRow (event.Step actor.Core) self.old self.new result (D.content disk.old) (D.content disk.new) }
         ensures restored { Restores (event.Step actor.Core) self.old self.new result (D.content disk.old) (D.content disk.new) }
         ensures image { TellsImage (event.Step actor.Core) self.old result (D.content disk.old) }
+        ensures works { result ≢ reply.Idle }
+        ensures stopped { ((k : ℕ) → result ≢ reply.Loading k) → ((n : ℕ) → result ≢ reply.Resumed n) → IsOff self.new }
         ensures cause { IsNewFault result → HasRisen (D.faults disk.old) (D.faults disk.new) }
         ensures faults { D.faults disk.old ≤ D.faults disk.new }
         ensures calls { IsCalled (event.Step actor.Core) result (D.calls disk.old) (D.calls disk.new) }
@@ -89,7 +92,8 @@ fn asks_dump(loader: &Loader) -> bool
 
 /// What the machine is at after this reply to the begin or a step of a resume with this loader.
 fn core_after(reply: &Reply, loader: &Loader) -> Core
-    ensures { result ≡ core_resumed loader.now reply.now }
+    ensures is { result ≡ core_resumed loader.now reply.now }
+    ensures off { ((k : ℕ) → reply.now ≢ Reply.Loading k) → ((n : ℕ) → reply.now ≢ Reply.Resumed n) → is_off result ≡ true }
 {
     match (reply, loader) {
         (Reply::Loading { .. }, _) => Core::Loading,

@@ -4,7 +4,7 @@ ghost use Rattle.plain_machine.specs.Machine.{Memory, Fits};
 ghost use Rattle.protocol_laws.specs.Rows.{IsNewFault};
 
 use frame_arena::Frames;
-use hib_core::Hib;
+use hib_core::{Hib, Job};
 use machine::{Dump, Hardware, Machine};
 use page_core::NoMemory;
 use plain_machine::{Actor, BootFrom, Event, Reply, TaskOp};
@@ -19,7 +19,7 @@ use swap_slots::FreeRuns;
 pub struct World {
     pub(crate) machine: Machine,
     pub(crate) frames: Frames,
-    /// The free slots, while the machine hibernates.
+    /// The free slots, while the machine hibernates or settles.
     pub(crate) runs: FreeRuns,
     pub(crate) hib: Hib,
     pub(crate) load: Load,
@@ -36,6 +36,7 @@ pub(crate) enum Core {
     BootBegun(BootFrom),
     /// A boot has synced the disk.
     BootSynced(BootFrom),
+    /// A hibernation, its undo or a settling is under way: `hib` knows which.
     Hibernating,
     Loading,
 }
@@ -58,7 +59,7 @@ impl World {
     ghost use Rattle.plain_machine.specs.declared.event.Event.TheVariants as event;
     ghost use Rattle.plain_machine.specs.declared.event.Actor.TheVariants as actor;
     ghost use Rattle.world_core.specs.StandsFor.{hardware_of, blocks_of, IsOff, IsNew, KeepsMemory};
-    ghost use Rattle.world_core.specs.Row.{HasRow, IsRow, IsCalled, IsServed, IsNoCut, RestartsAt, orders_after, blocks_after, Restores, TellsImage};
+    ghost use Rattle.world_core.specs.Row.{HasRow, IsRow, IsCalled, IsServed, IsNoCut, IsRefused, ChangesNothing, StopsOff, RestartsAt, orders_after, blocks_after, Restores, TellsImage};
 
     /// A machine that is off, with page frames of zeros.
     pub fn create(alloc: Global, hw: Hardware) -> Result<World, NoMemory>
@@ -134,14 +135,18 @@ impl World {
         ensures hardware { hardware_of self.new ≡ hardware_of self.old }
         ensures blocks { IsOff self.new ⊎ (D.block_count disk.new ≡ blocks_of self.new) }
         ensures kept { blocks_of self.new ≡ blocks_after event result (D.block_count disk.old) (blocks_of self.old) }
+        ensures refused { IsRefused event self.old result → ChangesNothing self.old self.new }
+        ensures stopped { StopsOff event self.old result self.new }
     {
         match event {
             Event::Boot(from) => self.boot(disk.blocks(), from),
             Event::Task(t, op) => self.task(t, op),
             Event::Step(actor) => self.step_of(disk, actor),
-            Event::Hibernate(format) => self.hibernate(format),
+            Event::Hibernate(format) => self.begin(Job::Hibernate(format)),
+            Event::Settle => self.begin(Job::Settle),
             Event::Resume(loader, check) => self.resume(disk.blocks(), loader, check),
             Event::Cut(pick) => self.cut(disk, pick),
+            Event::Arm { first, count, pick } => self.arm(disk, first, count, pick),
             _ => unreachable!(),
         }
     }
@@ -154,6 +159,7 @@ impl World {
         ensures hardware { hardware_of self.new ≡ hardware_of self.old }
         ensures blocks { blocks_of self.new ≡ blocks_of self.old }
         ensures core { self.new.core ≡ self.old.core }
+        ensures refused { IsRefused (event.Task t op) self.old result → ChangesNothing self.old self.new }
     {
         match self.core {
             Core::Off { .. } => Reply::NotOn,
@@ -181,6 +187,8 @@ impl World {
         ensures time { IsTrue (D.tells_moments disk.old) → Changes (Elapses (D.moment disk.old) (D.moment disk.new)
             (D.left_since disk.old) (D.left_since disk.new)) (D.content disk.old) (D.content disk.new) }
         ensures off { IsOff self.old → IsOff self.new }
+        ensures refused { IsRefused (event.Step actor) self.old result → ChangesNothing self.old self.new }
+        ensures stopped { StopsOff (event.Step actor) self.old result self.new }
     {
         match actor {
             Actor::Core => self.step(disk),
@@ -204,6 +212,8 @@ impl World {
         ensures time { IsTrue (D.tells_moments disk.old) → Changes (Elapses (D.moment disk.old) (D.moment disk.new)
             (D.left_since disk.old) (D.left_since disk.new)) (D.content disk.old) (D.content disk.new) }
         ensures off { IsOff self.old → IsOff self.new }
+        ensures refused { IsRefused (event.Step actor.Core) self.old result → ChangesNothing self.old self.new }
+        ensures stopped { StopsOff (event.Step actor.Core) self.old result self.new }
     {
         match self.core {
             Core::Off { .. } | Core::Running => Reply::Idle,

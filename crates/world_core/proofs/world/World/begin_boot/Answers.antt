@@ -5,7 +5,7 @@ use Rattle.world_core.specs.declared.world.Core.TheVariants.{BootBegun}
 use Rattle.world_core.specs.World.{World}
 use Rattle.world_core.specs.Kept.{kept_world}
 use Rattle.world_core.specs.Row.{IsRow}
-use Rattle.world_core.specs.StandsFor.{IsOff, is_off, keeps_dump}
+use Rattle.world_core.specs.StandsFor.{is_off, keeps_dump}
 use Rattle.world_core.proofs.Booting.{boot_begins}
 use Rattle.world_core.proofs.world.World.begin_boot.Goals as goal
 

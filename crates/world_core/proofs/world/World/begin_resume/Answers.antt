@@ -5,12 +5,12 @@ use Rattle.world_core.specs.Kept.{kept_world}
 use Rattle.world_core.specs.Row.{IsRow}
 use Rattle.world_core.specs.StandsFor.{is_off, keeps_dump}
 use Rattle.machine.specs.declared.machine.Machine.{Machine}
-use Rattle.world_core.proofs.Resuming.{IsAfter, row_of_begin, busy_after, idle_after, usable_up}
+use Rattle.world_core.proofs.Resuming.{IsAfter, row_of_begin, busy_after, idle_after, usable_up, unheld_up}
 use Rattle.world_core.proofs.world.World.begin_resume.Goals as goal
 
 pub invariant_of-self : goal.invariant_of-self
 invariant_of-self c =
-    let after : IsAfter c.begin-reply.new.self c.begin-reply.result c.core_after-self-inside.result = record { loader = c.args.loader; core_is = c.core_after-self-inside.ensures; told = c.begin-reply.ensures.activity } in
+    let after : IsAfter c.begin-reply.new.self c.begin-reply.result c.core_after-self-inside.result = record { loader = c.args.loader; core_is = c.core_after-self-inside.ensures.is; told = c.begin-reply.ensures.activity } in
     let can = c.begin-reply.ensures.ready c.self.inside.runs c.self.invariant.room in
     let machine : Machine = record c.self.inside.machine { blocks = c.args.blocks } in
     record {
@@ -21,6 +21,7 @@ invariant_of-self c =
       waiting = can.over.waiting;
       room = c.self.invariant.room;
       usable = λ up. usable_up machine c.begin-reply.new.frames c.self.inside.runs c.begin-reply.new.self c.begin-reply.result c.core_after-self-inside.result after can up;
+      header = λ up some. absurd (some (unheld_up machine c.begin-reply.new.frames c.self.inside.runs c.begin-reply.new.self c.begin-reply.result c.core_after-self-inside.result after can up));
       busy = λ e. idle_after c.begin-reply.new.self c.begin-reply.result c.core_after-self-inside.result after e;
       loads = λ e. (can, busy_after c.begin-reply.new.self c.begin-reply.result c.core_after-self-inside.result after e);
     }
@@ -30,4 +31,4 @@ returns-clause-row c = λ k.
     let new = kept_world (record { machine = record c.self.inside.machine { blocks = c.args.blocks }; frames = c.begin-reply.new.frames; runs = c.self.inside.runs; hib = c.self.inside.hib; load = c.begin-reply.new.self; core = c.core_after-self-inside.result }) in
     subst (λ (old : World). IsRow (event.Resume c.args.loader c.args.check) old new c.begin-reply.result k k) c.self.view_is
     (row_of_begin (kept_world c.self.inside) new c.self.inside.frames c.args.loader c.args.check c.begin-reply.result k (ap (λ (w : World). is_off w.core) c.self.view_is ∙ c.requires.off)
-    (record { loader = c.args.loader; core_is = c.core_after-self-inside.ensures; told = c.begin-reply.ensures.activity }) refl refl (λ asks. ap (λ (w : World). keeps_dump w.core) c.self.view_is ∙ c.requires.dump asks) c.begin-reply.ensures.row)
+    (record { loader = c.args.loader; core_is = c.core_after-self-inside.ensures.is; told = c.begin-reply.ensures.activity }) refl refl (λ asks. ap (λ (w : World). keeps_dump w.core) c.self.view_is ∙ c.requires.dump asks) c.begin-reply.ensures.row)

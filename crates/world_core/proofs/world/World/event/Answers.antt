@@ -6,7 +6,7 @@ use Rattle.world_core.proofs.Rows.{not_served}
 use Rattle.world_core.proofs.world.World.event.Goals as goal
 
 pub unreachable-requires : goal.unreachable-requires
-unreachable-requires g c = not_served c.args.event c.requires.served c.in_default.not-Boot c.in_default.not-Task c.in_default.not-Step c.in_default.not-Hibernate c.in_default.not-Resume c.in_default.not-Cut
+unreachable-requires g c = not_served c.args.event c.requires.served c.in_default.not-Boot c.in_default.not-Task c.in_default.not-Step c.in_default.not-Hibernate c.in_default.not-Settle c.in_default.not-Resume c.in_default.not-Cut c.in_default.not-Arm
 
 pub returns-in-Boot-clause-row : goal.returns-in-Boot-clause-row
 returns-in-Boot-clause-row g c = λ k told. (k, told, subst (λ (e : Event). IsRow e c.args.self.now c.boot.new.self c.boot.result k k) (sym c.in-Boot.is) (c.boot.ensures.row k))
@@ -19,7 +19,14 @@ returns-in-Step-clause-row g c =
     subst (λ (e : Event). HasRow e c.args.self.now c.step_of.new.self c.step_of.result (g.D.Disk.content c.args.disk.now) (g.D.Disk.content c.step_of.new.disk)) (sym c.in-Step.is) c.step_of.ensures.row
 
 pub returns-in-Hibernate-clause-row : goal.returns-in-Hibernate-clause-row
-returns-in-Hibernate-clause-row g c = λ k told. (k, told, subst (λ (e : Event). IsRow e c.args.self.now c.hibernate.new.self c.hibernate.result k k) (sym c.in-Hibernate.is) (c.hibernate.ensures.row k))
+returns-in-Hibernate-clause-row g c = λ k told. (k, told, subst (λ (e : Event). IsRow e c.args.self.now c.begin.new.self c.begin.result k k) (sym c.in-Hibernate.is) (c.begin.ensures.row k))
+
+pub returns-in-Settle-clause-row : goal.returns-in-Settle-clause-row
+returns-in-Settle-clause-row g c = λ k told. (k, told, subst (λ (e : Event). IsRow e c.args.self.now c.begin-in-Settle.new.self c.begin-in-Settle.result k k) (sym c.in-Settle.is) (c.begin-in-Settle.ensures.row k))
+
+pub returns-in-Arm-clause-row : goal.returns-in-Arm-clause-row
+returns-in-Arm-clause-row g c =
+    subst (λ (e : Event). HasRow e c.args.self.now c.args.self.now c.arm.result (g.D.Disk.content c.args.disk.now) (g.D.Disk.content c.arm.new.disk)) (sym c.in-Arm.is) c.arm.ensures.row
 
 pub returns-in-Resume-clause-row : goal.returns-in-Resume-clause-row
 returns-in-Resume-clause-row g c = λ k told. (k, told, subst (λ (e : Event). IsRow e c.args.self.now c.resume.new.self c.resume.result k k) (sym c.in-Resume.is) (c.resume.ensures.row k))
@@ -41,6 +48,14 @@ returns-in-Hibernate-clause-inside g c = λ no tells v left. unread (g.D.Disk.mo
 
 pub returns-in-Resume-clause-inside : goal.returns-in-Resume-clause-inside
 returns-in-Resume-clause-inside g c = λ no tells v left. unread (g.D.Disk.moment c.args.disk.now) (g.D.Disk.left_since c.args.disk.now) (g.D.Disk.content c.args.disk.now) v (g.met.D.Disk.only_now c.args.disk.now v tells) left
+
+pub returns-in-Settle-clause-inside : goal.returns-in-Settle-clause-inside
+returns-in-Settle-clause-inside g c = λ no tells v left. unread (g.D.Disk.moment c.args.disk.now) (g.D.Disk.left_since c.args.disk.now) (g.D.Disk.content c.args.disk.now) v (g.met.D.Disk.only_now c.args.disk.now v tells) left
+
+pub returns-in-Arm-clause-inside : goal.returns-in-Arm-clause-inside
+returns-in-Arm-clause-inside g c = λ no tells v left.
+    inside (g.D.Disk.moment c.args.disk.now) (g.D.Disk.moment c.arm.new.disk) (g.D.Disk.left_since c.args.disk.now) (g.D.Disk.left_since c.arm.new.disk) (g.D.Disk.content c.args.disk.now) (g.D.Disk.content c.arm.new.disk) v
+    (c.arm.ensures.time tells) (g.met.D.Disk.only_now c.args.disk.now v tells) left
 
 pub returns-in-Step-clause-inside : goal.returns-in-Step-clause-inside
 returns-in-Step-clause-inside g c = λ no tells v left.

@@ -1,4 +1,8 @@
-use Rattle.std.proofs.Common.{◌≡◌, ℕ, false, List, [], Option, refl, ap, ◌∙◌, subst}
+use Rattle.std.proofs.Common.{◌≡◌, ℕ, inl, inr, false, List, Option, refl, ap, ◌∙◌, subst, arith}
+use Rattle.std.proofs.lemmas.Bool.{cases_lt}
+use Rattle.definitions.specs.SwapHeader.{IsMarked}
+use Rattle.protocol_laws.proofs.HeaderBack.{zeros_unmarked}
+use Rattle.protocol_laws.proofs.Signatures.{marked_true}
 use Rattle.std.specs.Option.{IfSome}
 use Rattle.definitions.specs.Slots.{block_of}
 use Rattle.plain_machine.specs.Machine.{Hardware, IsHardware, block_of_slot}
@@ -18,6 +22,19 @@ use Rattle.definitions.specs.Disk as disk
 use Rattle.world_core.proofs.Ending.{boot_ends, boot_read_fails, tells_mark}
 use Rattle.world_core.proofs.Disks.{whole_content}
 use Rattle.world_core.proofs.world.World.finish_boot.Goals as goal
+
+-- a marked block isn't one of zeros
+pub start-requires-clause-on_disk : goal.start-requires-clause-on_disk
+start-requires-clause-on_disk g c = λ e.
+    let h = c.self.inside.machine.hw in
+    let same = ap (λ (w : World). w.machine.hw) c.self.view_is in
+    let block_is : c.block-block.result ≡ block_of_slot h 0 = c.block-block.ensures.block ∙ ap (λ (es : List (ℕ × ℕ × ℕ)). block_of es 0) c.extents.ensures.extents in
+    let here : c.block-block.result ≡ block_of_slot c.args.self.now.machine.hw 0 = block_is ∙ ap (λ (x : Hardware). block_of_slot x 0) same in
+    let count = c.requires.blocks in
+    elim (cases_lt c.block-block.result (g.D.Disk.block_count c.args.disk.now)) [
+      | inl lt ↦ omega arith
+      | inr past ↦ absurd (zeros_unmarked (subst IsMarked (c.read_header.ensures.beyond past) (marked_true c.read_header.new.into e)))
+    ]
 
 pub returns-in-Err-clause-row : goal.returns-in-Err-clause-row
 returns-in-Err-clause-row g c = λ k told.

@@ -23,15 +23,16 @@ invariant_of-self g c =
       waiting = c.self.invariant.waiting ∙ same;
       room = c.step-reply.ensures.ready.matches.room;
       usable = λ up. usable_same c.self.inside.machine c.step-reply.new.machine c.step-reply.ensures.machine (c.self.invariant.usable (is_up c.self.inside.core core));
-      busy = λ e. (c.step-reply.ensures.ready, busy_told c.step-reply.new.self c.step-reply.result c.core_after-self-inside.result c.core_after-self-inside.ensures c.step-reply.ensures.activity e);
-      loads = λ e. never_loads c.step-reply.new.self c.step-reply.result c.core_after-self-inside.result c.core_after-self-inside.ensures c.step-reply.ensures.activity e;
+      header = λ up some. c.step-reply.ensures.ready.header;
+      busy = λ e. (c.step-reply.ensures.ready, busy_told c.step-reply.new.self c.step-reply.result c.core_after-self-inside.result c.core_after-self-inside.ensures c.step-reply.ensures.phase e);
+      loads = λ e. never_loads c.step-reply.result c.core_after-self-inside.result c.core_after-self-inside.ensures e;
     }
 
 pub returns-clause-row : goal.returns-clause-row
 returns-clause-row g c =
     let new = kept_world (record { machine = c.step-reply.new.machine; frames = c.step-reply.new.frames; runs = c.step-reply.new.runs; hib = c.step-reply.new.self; load = c.self.inside.load; core = c.core_after-self-inside.result }) in
     subst (λ (old : World). HasRow (event.Step actor.Core) old new c.step-reply.result (g.D.Disk.content c.args.disk.now) (g.D.Disk.content c.step-reply.new.disk)) c.self.view_is
-    (row_of_step (kept_world c.self.inside) new c.step-reply.result (g.D.Disk.content c.args.disk.now) (g.D.Disk.content c.step-reply.new.disk) (ap (λ (w : World). w.core) c.self.view_is ∙ c.requires.hibernates) c.core_after-self-inside.ensures c.step-reply.ensures.activity c.step-reply.ensures.row)
+    (row_of_step (kept_world c.self.inside) new c.step-reply.result (g.D.Disk.content c.args.disk.now) (g.D.Disk.content c.step-reply.new.disk) (ap (λ (w : World). w.core) c.self.view_is ∙ c.requires.hibernates) c.core_after-self-inside.ensures c.step-reply.ensures.phase c.step-reply.ensures.row)
 
 pub returns-clause-restored : goal.returns-clause-restored
 returns-clause-restored g c =

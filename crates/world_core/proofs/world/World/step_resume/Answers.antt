@@ -9,12 +9,12 @@ use Rattle.world_core.specs.StandsFor.{core_resumed}
 use Rattle.world_core.specs.World.{World}
 use Rattle.world_core.specs.Kept.{kept_world}
 use Rattle.world_core.specs.Row.{HasRow, Restores}
-use Rattle.world_core.proofs.Resuming.{IsAfter, row_of_step, busy_after, idle_after, usable_up, restores_at}
+use Rattle.world_core.proofs.Resuming.{IsAfter, row_of_step, busy_after, idle_after, usable_up, unheld_up, restores_at}
 use Rattle.world_core.proofs.world.World.step_resume.Goals as goal
 
 pub invariant_of-self : goal.invariant_of-self
 invariant_of-self g c =
-    let after : IsAfter c.step-reply.new.self c.step-reply.result c.core_after-self-inside.result = record { loader = c.self.inside.load.loader; core_is = c.core_after-self-inside.ensures ∙ ap (λ (l : Loader). core_resumed l c.step-reply.result) (c.loader.ensures ∙ c.step-reply.ensures.loader); told = c.step-reply.ensures.activity } in
+    let after : IsAfter c.step-reply.new.self c.step-reply.result c.core_after-self-inside.result = record { loader = c.self.inside.load.loader; core_is = c.core_after-self-inside.ensures.is ∙ ap (λ (l : Loader). core_resumed l c.step-reply.result) (c.loader.ensures ∙ c.step-reply.ensures.loader); told = c.step-reply.ensures.activity } in
     let over = c.step-reply.ensures.ready.over in
     record {
       size = over.size;
@@ -24,6 +24,7 @@ invariant_of-self g c =
       waiting = over.waiting;
       room = over.room;
       usable = λ up. usable_up c.step-reply.new.machine c.step-reply.new.frames c.step-reply.new.runs c.step-reply.new.self c.step-reply.result c.core_after-self-inside.result after c.step-reply.ensures.ready up;
+      header = λ up some. absurd (some (unheld_up c.step-reply.new.machine c.step-reply.new.frames c.step-reply.new.runs c.step-reply.new.self c.step-reply.result c.core_after-self-inside.result after c.step-reply.ensures.ready up));
       busy = λ e. idle_after c.step-reply.new.self c.step-reply.result c.core_after-self-inside.result after e;
       loads = λ e. (c.step-reply.ensures.ready, busy_after c.step-reply.new.self c.step-reply.result c.core_after-self-inside.result after e);
     }
@@ -33,7 +34,7 @@ returns-clause-row g c =
     let new = kept_world (record { machine = c.step-reply.new.machine; frames = c.step-reply.new.frames; runs = c.step-reply.new.runs; hib = c.self.inside.hib; load = c.step-reply.new.self; core = c.core_after-self-inside.result }) in
     subst (λ (old : World). HasRow (event.Step actor.Core) old new c.step-reply.result (g.D.Disk.content c.args.disk.now) (g.D.Disk.content c.step-reply.new.disk)) c.self.view_is
     (row_of_step (kept_world c.self.inside) new c.step-reply.result (g.D.Disk.content c.args.disk.now) (g.D.Disk.content c.step-reply.new.disk) (ap (λ (w : World). w.core) c.self.view_is ∙ c.requires.resumes)
-    (record { loader = c.self.inside.load.loader; core_is = c.core_after-self-inside.ensures ∙ ap (λ (l : Loader). core_resumed l c.step-reply.result) (c.loader.ensures ∙ c.step-reply.ensures.loader); told = c.step-reply.ensures.activity }) c.step-reply.ensures.row)
+    (record { loader = c.self.inside.load.loader; core_is = c.core_after-self-inside.ensures.is ∙ ap (λ (l : Loader). core_resumed l c.step-reply.result) (c.loader.ensures ∙ c.step-reply.ensures.loader); told = c.step-reply.ensures.activity }) c.step-reply.ensures.row)
 
 pub returns-clause-restored : goal.returns-clause-restored
 returns-clause-restored g c =

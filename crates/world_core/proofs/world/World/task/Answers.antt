@@ -26,6 +26,7 @@ returns-in-BootBegun c =
       hardware = refl;
       blocks = refl;
       core = refl;
+      refused = λ r. record { machine = refl; frames = refl; core = refl };
     }
 
 pub returns-in-Running-clause-row : goal.returns-in-Running-clause-row

@@ -1,0 +1,193 @@
+-- The rows of a settling's steps.
+use Rattle.std.proofs.Common.{◌≡◌, ℕ, List, [], All, Option, inl, inr, refl, sym, ap, ◌∙◌, subst}
+use Rattle.definitions.specs.Bytes.{IsPage}
+use Rattle.definitions.specs.Disk as disk
+use Rattle.swap_slots.specs.Runs.{SlotRuns}
+use Rattle.plain_machine.specs.Machine.{Hardware, Memory, block_of_slot, raw_slot_entry}
+use Rattle.plain_machine.specs.Chain.{header_of}
+use Rattle.plain_machine.specs.Shows.{RunsAs, ShowsHeld, seen_frames}
+use Rattle.plain_machine.specs.Stands.{NamesOnly}
+use Rattle.plain_machine.specs.State.{on, settling, Running, Held, nothing, sure, maybe, perhaps}
+use Rattle.plain_machine.specs.Step.{no_flights}
+use Rattle.plain_machine.specs.declared.event.Event.TheVariants as event
+use Rattle.plain_machine.specs.declared.event.Actor.TheVariants as actor
+use Rattle.plain_machine.specs.declared.held.Held.{Held as HeldFlag}
+use Rattle.plain_machine.specs.declared.held.Held.TheVariants.{No, Yes, Perhaps}
+use Rattle.plain_machine.specs.declared.no_swap.NoSwap.{NoSwap}
+use Rattle.plain_machine.specs.declared.reply.Left.TheVariants.{Same, Unsure}
+use Rattle.plain_machine.specs.declared.reply.Reply.TheVariants as reply
+use Rattle.protocol_laws.specs.AreaKept.{KeptBySync}
+use Rattle.protocol_laws.specs.Memory.{NoneLeft, RunsGivenBack}
+use Rattle.protocol_laws.specs.Settling.{IsOnDisk, unmarked_block}
+use Rattle.protocol_laws.specs.Slots.{IsMemoryOf}
+use Rattle.protocol_laws.specs.Undo.{with_held}
+use Rattle.protocol_laws.proofs.Settling.{settle_reads, settle_read_fails, settle_writes, settle_write_fails, settle_keeps_area, settle_syncs, settle_sync_fails}
+use Rattle.protocol_laws.proofs.Unwritten.{block_same, block_synced, unwritten_header}
+use Rattle.machine.specs.declared.machine.Machine.{Machine}
+use Rattle.hib_core.specs.Hibernation.{shown_by, activity_at, reason_of, perhaps_held}
+use Rattle.hib_core.specs.Ready.{CanStep}
+use Rattle.hib_core.specs.Row.{StandsFor, IsRow}
+use Rattle.hib_core.specs.declared.hib.Hib.{Hib}
+use Rattle.hib_core.specs.declared.hib.Stage.{Stage}
+use Rattle.hib_core.specs.declared.hib.Stage.TheVariants as stage
+use Rattle.hib_core.proofs.Facts.{row_at_settling, names_same}
+use Rattle.hib_core.proofs.Plain.{may_settle_read, settle_read_may_fail, may_settle_write, settle_write_may_fail, may_settle, settle_sync_may_fail}
+use Rattle.hib_core.proofs.Syncing.{same_area}
+use Rattle.hib_core.proofs.Undoing.{certain}
+
+-- the machine where what is held is perhaps held
+abbrev pub unsettled : Machine → Machine
+unsettled machine = record machine { held = perhaps_held machine.held }
+
+at_step : (hib : Hib) (s : Stage) → hib.stage ≡ s → activity_at hib.stage hib.made ≡ activity_at s hib.made
+at_step hib s at = ap (λ (t : Stage). activity_at t hib.made) at
+
+on_disk : (machine : Machine) (frames : Memory) (runs : SlotRuns) (hib : Hib) (c : disk.Content) → CanStep machine frames runs hib → disk.IsContent machine.blocks c → IsOnDisk machine.hw machine.blocks c
+on_disk machine frames runs hib c can whole = record { hardware = can.hardware; content = whole; header = can.header }
+
+pub settle_read_row : (machine : Machine) (frames : Memory) (hib : Hib) (header : List ℕ) (c : disk.Content) → hib.stage ≡ stage.SettleRead → header ≡ header_of machine.hw (disk.as_it_reads c) →
+    IsRow machine frames hib machine frames (record hib { header = header; stage = stage.SettleWrite }) (event.Step actor.Core) (reply.More 1 3) c c
+settle_read_row machine frames hib header c at read =
+    let new = record hib { header = header; stage = stage.SettleWrite } in
+    row_at_settling machine frames hib machine frames new (event.Step actor.Core) (reply.More 1 3) c c 0 (at_step hib stage.SettleRead at)
+    (λ a s. (
+      settling a 1,
+      record {
+        step = may_settle_read machine.hw (disk.as_it_reads c) a;
+        stands = record {
+          stands = settle_reads machine.hw (shown_by machine frames hib) (shown_by machine frames new) c a s.stands read refl
+              s.stands.parts.0.shows (names_same machine.hw (shown_by machine frames hib) (shown_by machine frames new) a.held refl s.stands.parts.1);
+          image = tt;
+        };
+        area = same_area machine.hw (disk.as_it_reads c);
+        unwritten = λ b not_in. block_same b _;
+        leaves = tt;
+      },
+    ))
+
+pub settle_read_failed_row : (machine : Machine) (frames : Memory) (hib : Hib) (header : List ℕ) (c : disk.Content) → hib.stage ≡ stage.SettleRead →
+    IsRow machine frames hib machine frames (record hib { header = header; stage = stage.Idle }) (event.Step actor.Core) (reply.ReadFault Same) c c
+settle_read_failed_row machine frames hib header c at =
+    let new = record hib { header = header; stage = stage.Idle } in
+    row_at_settling machine frames hib machine frames new (event.Step actor.Core) (reply.ReadFault Same) c c 0 (at_step hib stage.SettleRead at)
+    (λ a s. (
+      on a,
+      record {
+        step = settle_read_may_fail machine.hw (disk.as_it_reads c) a;
+        stands = record {
+          stands = settle_read_fails machine.hw (shown_by machine frames hib) (shown_by machine frames new) c a s.stands refl
+              s.stands.parts.0.shows (names_same machine.hw (shown_by machine frames hib) (shown_by machine frames new) a.held refl s.stands.parts.1);
+          image = tt;
+        };
+        area = same_area machine.hw (disk.as_it_reads c);
+        unwritten = λ b not_in. block_same b _;
+        leaves = tt;
+      },
+    ))
+
+pub settle_write_row : (machine : Machine) (frames : Memory) (runs : SlotRuns) (hib : Hib) (c c' : disk.Content) → CanStep machine frames runs hib → hib.stage ≡ stage.SettleWrite → disk.IsContent machine.blocks c → disk.IsContent machine.blocks c' →
+    disk.Writes (block_of_slot machine.hw 0) (unmarked_block hib.header) c c' → IsRow machine frames hib machine frames (record hib { header = unmarked_block hib.header; stage = stage.SettleSync }) (event.Step actor.Core) (reply.More 2 3) c c'
+settle_write_row machine frames runs hib c c' can at whole whole' writes =
+    let new = record hib { header = unmarked_block hib.header; stage = stage.SettleSync } in
+    let over = on_disk machine frames runs hib c can whole in
+    row_at_settling machine frames hib machine frames new (event.Step actor.Core) (reply.More 2 3) c c' 1 (at_step hib stage.SettleWrite at)
+    (λ a s. (
+      settling a 2,
+      record {
+        step = may_settle_write machine.hw (disk.as_it_reads c) a;
+        stands = record {
+          stands = settle_writes machine.hw (shown_by machine frames hib) (shown_by machine frames new) c c' machine.blocks a over whole' s.stands writes refl
+              s.stands.parts.0.shows (names_same machine.hw (shown_by machine frames hib) (shown_by machine frames new) a.held refl s.stands.parts.1);
+          image = tt;
+        };
+        area = settle_keeps_area machine.hw (shown_by machine frames hib) c c' machine.blocks a over s.stands (inl writes);
+        unwritten = λ b not_in. unwritten_header machine.hw [] b c c' writes.others not_in;
+        leaves = tt;
+      },
+    ))
+
+-- what is held is perhaps held
+
+shows_perhaps : (flag : HeldFlag) (held : Held) → ShowsHeld flag held → ShowsHeld (perhaps_held flag) (perhaps held)
+shows_perhaps No nothing shows = tt
+shows_perhaps No (sure x) shows = absurd shows
+shows_perhaps No (maybe x) shows = absurd shows
+shows_perhaps Yes nothing shows = absurd shows
+shows_perhaps Yes (sure x) shows = tt
+shows_perhaps Yes (maybe x) shows = absurd shows
+shows_perhaps Perhaps nothing shows = absurd shows
+shows_perhaps Perhaps (sure x) shows = absurd shows
+shows_perhaps Perhaps (maybe x) shows = tt
+
+runs_unsettled : (h : Hardware) (flag : HeldFlag) (why : Option NoSwap) (frames : Memory) (a : Running) → RunsAs h flag why no_flights frames a → RunsAs h (perhaps_held flag) why no_flights frames (with_held a (perhaps a.held))
+runs_unsettled h flag why frames a runs = record { held = shows_perhaps flag a.held runs.held; unusable = runs.unusable; flights = runs.flights; same = runs.same; fits = runs.fits }
+
+pub settle_write_failed_row : (machine : Machine) (frames : Memory) (runs : SlotRuns) (hib : Hib) (c c' : disk.Content) → CanStep machine frames runs hib → hib.stage ≡ stage.SettleWrite → disk.IsContent machine.blocks c → disk.IsContent machine.blocks c' →
+    disk.FailsToWrite (block_of_slot machine.hw 0) (unmarked_block hib.header) c c' → IsRow machine frames hib (unsettled machine) frames (record hib { header = unmarked_block hib.header; stage = stage.Idle }) (event.Step actor.Core) (reply.WriteFault Unsure) c c'
+settle_write_failed_row machine frames runs hib c c' can at whole whole' fails =
+    let new = record hib { header = unmarked_block hib.header; stage = stage.Idle } in
+    let over = on_disk machine frames runs hib c can whole in
+    row_at_settling machine frames hib (unsettled machine) frames new (event.Step actor.Core) (reply.WriteFault Unsure) c c' 1 (at_step hib stage.SettleWrite at)
+    (λ a s. (
+      on (with_held a (perhaps a.held)),
+      record {
+        step = settle_write_may_fail machine.hw (disk.as_it_reads c) a;
+        stands = record {
+          stands = settle_write_fails machine.hw (shown_by machine frames hib) (shown_by (unsettled machine) frames new) c c' machine.blocks a over whole' s.stands fails refl
+              (runs_unsettled machine.hw machine.held (reason_of machine.area) frames a s.stands.parts.0.shows)
+              (names_same machine.hw (shown_by machine frames hib) (shown_by (unsettled machine) frames new) a.held refl s.stands.parts.1);
+          image = tt;
+        };
+        area = settle_keeps_area machine.hw (shown_by machine frames hib) c c' machine.blocks a over s.stands (inr fails);
+        unwritten = λ b not_in. unwritten_header machine.hw [] b c c' fails.others not_in;
+        leaves = tt;
+      },
+    ))
+
+pub settled_row : (machine : Machine) (frames frames' : Memory) (runs : SlotRuns) (hib : Hib) (c c' : disk.Content) → KeptBySync → RunsGivenBack → NoneLeft → CanStep machine frames runs hib → All IsPage frames → hib.stage ≡ stage.SettleSync → disk.IsContent machine.blocks c →
+    disk.Syncs c c' → frames' ≡ seen_frames machine.hw frames → IsRow machine frames hib (certain machine) frames' (record hib { stage = stage.Idle }) (event.Step actor.Core) reply.Settled c c'
+settled_row machine frames frames' runs hib c c' keeps given_back none_left can pages at whole syncs given =
+    let new = record hib { stage = stage.Idle } in
+    row_at_settling machine frames hib (certain machine) frames' new (event.Step actor.Core) reply.Settled c c' 2 (at_step hib stage.SettleSync at)
+    (λ a s.
+    let memory : IsMemoryOf machine.hw frames = record { pages = pages; table = can.table } in
+    let back : RunsAs machine.hw machine.held (reason_of machine.area) no_flights frames' a =
+    subst (λ (m : Memory). RunsAs machine.hw machine.held (reason_of machine.area) no_flights m a) (sym given)
+    (given_back machine.hw machine.held (reason_of machine.area) no_flights frames a memory s.stands.parts.0.shows) in
+    let shows : RunsAs machine.hw No (reason_of machine.area) no_flights frames' (with_held a nothing) =
+    record { held = tt; unusable = back.unusable; flights = back.flights; same = back.same; fits = back.fits } in
+    let names : NamesOnly machine.hw (shown_by (certain machine) frames' new) [] =
+    λ k lt e. absurd (none_left machine.hw frames k memory lt (ap (λ (m : Memory). raw_slot_entry machine.hw m k) (sym given) ∙ e)) in (
+      on (with_held a nothing),
+      record {
+        step = may_settle machine.hw (disk.as_it_reads c) a;
+        stands = record {
+          stands = settle_syncs machine.hw (shown_by machine frames hib) (shown_by (certain machine) frames' new) c c' machine.blocks a whole s.stands syncs refl shows names;
+          image = tt;
+        };
+        area = keeps machine.hw c c' syncs;
+        unwritten = λ b not_in. block_synced machine.blocks b c c' whole syncs;
+        leaves = tt;
+      },
+    ))
+
+pub settle_sync_failed_row : (machine : Machine) (frames : Memory) (hib : Hib) (c : disk.Content) → hib.stage ≡ stage.SettleSync →
+    IsRow machine frames hib (unsettled machine) frames (record hib { stage = stage.Idle }) (event.Step actor.Core) (reply.SyncFault Unsure) c c
+settle_sync_failed_row machine frames hib c at =
+    let new = record hib { stage = stage.Idle } in
+    row_at_settling machine frames hib (unsettled machine) frames new (event.Step actor.Core) (reply.SyncFault Unsure) c c 2 (at_step hib stage.SettleSync at)
+    (λ a s. (
+      on (with_held a (perhaps a.held)),
+      record {
+        step = settle_sync_may_fail machine.hw (disk.as_it_reads c) a;
+        stands = record {
+          stands = settle_sync_fails machine.hw (shown_by machine frames hib) (shown_by (unsettled machine) frames new) c a s.stands refl
+              (runs_unsettled machine.hw machine.held (reason_of machine.area) frames a s.stands.parts.0.shows)
+              (names_same machine.hw (shown_by machine frames hib) (shown_by (unsettled machine) frames new) a.held refl s.stands.parts.1);
+          image = tt;
+        };
+        area = same_area machine.hw (disk.as_it_reads c);
+        unwritten = λ b not_in. block_same b _;
+        leaves = tt;
+      },
+    ))

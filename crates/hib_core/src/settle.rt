@@ -1,0 +1,209 @@
+ghost use Rattle.std.specs.Prelude.{◌≡◌, false, ◌≤◌, nat_eq, IsTrue};
+ghost use Rattle.std.specs.Cmp.Lexicographic.{pointwise};
+ghost use Rattle.definitions.specs.Disk.{Content, HasRisen, raised, Changes, Elapses};
+ghost use Rattle.definitions.specs.SwapHeader.{sig_of, image_signature};
+ghost use Rattle.protocol_laws.specs.Rows.{IsNewFault};
+ghost use Rattle.protocol_laws.specs.Settling.{unmarked_block};
+ghost use Rattle.hib_core.specs.Hibernation.{is_idle, perhaps_held};
+
+use crate::Hib;
+use crate::hib::Stage;
+use frame_arena::Frames;
+use machine::Machine;
+use page_core::{Failed, Page};
+use plain_machine::{Held, Left, Reply};
+use protocol_laws::{keeps_area, takes_slots};
+use sector_disk::Disk;
+use sig_header::{AreaKind, take_back};
+use swap_slots::FreeRuns;
+
+/// Steps of a settling: a read, a write and a sync.
+const STEPS: u32 = 3;
+
+// Settling: the mark of a held image is taken back while the machine runs (swsusp_unmark, kernel/power/swap.c; own as a job by itself).
+impl Hib {
+    ghost use Rattle.plain_machine.specs.declared.event.Event.TheVariants as event;
+    ghost use Rattle.plain_machine.specs.declared.event.Actor.TheVariants as actor;
+    ghost use Rattle.hib_core.specs.declared.hib.Stage.TheVariants as stage;
+    ghost use Rattle.hib_core.specs.declared.hib.Job.TheVariants as job;
+    ghost use Rattle.hib_core.specs.Begin.{IsRefusedWith, LeavesFrames};
+    ghost use Rattle.hib_core.specs.Hibernation.{phase_of, phase_told};
+    ghost use Rattle.hib_core.specs.Ready.{CanBegin, CanStep, IsBusy, IsSameMachine};
+    ghost use Rattle.hib_core.specs.Row.{HasRow, IsBegun};
+
+    /// Begins a settling, or refuses it where nothing is held.
+    pub(crate) fn settle(&mut self, machine: &Machine, frames: &Frames, runs: &FreeRuns) -> Reply
+        requires ready { CanBegin machine.now frames.now runs.now self.old }
+        ensures row { (c : Content) → IsBegun machine.now frames.now frames.now self.new job.Settle result c }
+        ensures phase { phase_of self.new ≡ phase_told result }
+        ensures ready { IsBusy self.new → CanStep machine.now frames.now runs.now self.new }
+        ensures zones { self.new.snapshot.zones ≡ self.old.snapshot.zones }
+        ensures no_fault { IsNewFault result → ⊥ }
+        ensures refused { IsRefusedWith result → LeavesFrames frames.now frames.now result }
+    {
+        // Only what is read is known to have the size of its type.
+        let _blocks = machine.blocks;
+        let _zones = machine.hw.zones();
+        if machine.held == Held::No {
+            self.stage = Stage::Idle;
+            return Reply::NothingHeld;
+        }
+        self.stage = Stage::SettleRead;
+        Reply::More { k: 0, of: STEPS }
+    }
+
+    /// Reads the header block. Where that fails the machine runs as it ran.
+    pub(crate) fn settle_read<D: Disk>(
+        &mut self,
+        machine: &Machine,
+        frames: &Frames,
+        runs: &FreeRuns,
+        disk: &mut D,
+    ) -> Reply
+        requires ready { CanStep machine.now frames.now runs.now self.old }
+        requires blocks { D.block_count disk.old ≡ machine.now.blocks }
+        requires stage { self.old.stage ≡ stage.SettleRead }
+        ensures row { HasRow machine.now frames.now self.old machine.now frames.now self.new (event.Step actor.Core) result (D.content disk.old) (D.content disk.new) }
+        ensures phase { phase_of self.new ≡ phase_told result }
+        ensures zones { self.new.snapshot.zones ≡ self.old.snapshot.zones }
+        ensures works { is_idle result ≡ false }
+        ensures ready { CanStep machine.now frames.now runs.now self.new }
+        ensures cause { IsNewFault result → HasRisen (D.faults disk.old) (D.faults disk.new) }
+        ensures faults { D.faults disk.old ≤ D.faults disk.new }
+        ensures calls { D.calls disk.new ≡ raised (D.calls disk.old) }
+        ensures orders { D.orders disk.new ≡ D.orders disk.old }
+        ensures blocks { D.block_count disk.new ≡ D.block_count disk.old }
+        ensures telling { D.tells_moments disk.new ≡ D.tells_moments disk.old }
+        ensures time { IsTrue (D.tells_moments disk.old) → Changes (Elapses (D.moment disk.old) (D.moment disk.new)
+            (D.left_since disk.old) (D.left_since disk.new)) (D.content disk.old) (D.content disk.new) }
+    {
+        let block = machine.hw.extents().block(0);
+        match disk.read(block as u32, &mut self.header) {
+            Ok(()) => {
+                self.stage = Stage::SettleWrite;
+                Reply::More { k: 1, of: STEPS }
+            }
+            Err(Failed) => {
+                self.stage = Stage::Idle;
+                Reply::ReadFault { left: Left::Same }
+            }
+        }
+    }
+
+    /// Writes it taken back where it is marked, and as it is where it isn't.
+    pub(crate) fn settle_write<D: Disk>(
+        &mut self,
+        machine: &mut Machine,
+        frames: &Frames,
+        runs: &FreeRuns,
+        disk: &mut D,
+    ) -> Reply
+        requires ready { CanStep machine.old frames.now runs.now self.old }
+        requires blocks { D.block_count disk.old ≡ machine.old.blocks }
+        requires stage { self.old.stage ≡ stage.SettleWrite }
+        ensures row { HasRow machine.old frames.now self.old machine.new frames.now self.new (event.Step actor.Core) result (D.content disk.old) (D.content disk.new) }
+        ensures phase { phase_of self.new ≡ phase_told result }
+        ensures zones { self.new.snapshot.zones ≡ self.old.snapshot.zones }
+        ensures works { is_idle result ≡ false }
+        ensures ready { CanStep machine.new frames.now runs.now self.new }
+        ensures machine { IsSameMachine machine.old machine.new }
+        ensures cause { IsNewFault result → HasRisen (D.faults disk.old) (D.faults disk.new) }
+        ensures faults { D.faults disk.old ≤ D.faults disk.new }
+        ensures calls { D.calls disk.new ≡ raised (D.calls disk.old) }
+        ensures orders { D.orders disk.new ≡ D.orders disk.old }
+        ensures blocks { D.block_count disk.new ≡ D.block_count disk.old }
+        ensures telling { D.tells_moments disk.new ≡ D.tells_moments disk.old }
+        ensures time { IsTrue (D.tells_moments disk.old) → Changes (Elapses (D.moment disk.old) (D.moment disk.new)
+            (D.left_since disk.old) (D.left_since disk.new)) (D.content disk.old) (D.content disk.new) }
+    {
+        let block = machine.hw.extents().block(0);
+        self.unmark();
+        let _ = self.header.as_bytes();
+        match disk.write(block as u32, &self.header) {
+            Ok(()) => {
+                self.stage = Stage::SettleSync;
+                Reply::More { k: 2, of: STEPS }
+            }
+            Err(Failed) => {
+                self.stop_unsure(machine);
+                Reply::WriteFault { left: Left::Unsure }
+            }
+        }
+    }
+
+    /// Syncs that: no image is there any more, and its slots are free.
+    pub(crate) fn settle_sync<D: Disk>(
+        &mut self,
+        machine: &mut Machine,
+        frames: &mut Frames,
+        runs: &mut FreeRuns,
+        disk: &mut D,
+    ) -> Reply
+        requires ready { CanStep machine.old frames.old runs.old self.old }
+        requires blocks { D.block_count disk.old ≡ machine.old.blocks }
+        requires stage { self.old.stage ≡ stage.SettleSync }
+        ensures row { HasRow machine.old frames.old self.old machine.new frames.new self.new (event.Step actor.Core) result (D.content disk.old) (D.content disk.new) }
+        ensures phase { phase_of self.new ≡ phase_told result }
+        ensures zones { self.new.snapshot.zones ≡ self.old.snapshot.zones }
+        ensures works { is_idle result ≡ false }
+        ensures ready { CanStep machine.new frames.new runs.new self.new }
+        ensures machine { IsSameMachine machine.old machine.new }
+        ensures cause { IsNewFault result → HasRisen (D.faults disk.old) (D.faults disk.new) }
+        ensures faults { D.faults disk.old ≤ D.faults disk.new }
+        ensures calls { D.calls disk.new ≡ raised (D.calls disk.old) }
+        ensures orders { D.orders disk.new ≡ D.orders disk.old }
+        ensures blocks { D.block_count disk.new ≡ D.block_count disk.old }
+        ensures telling { D.tells_moments disk.new ≡ D.tells_moments disk.old }
+        ensures time { IsTrue (D.tells_moments disk.old) → Changes (Elapses (D.moment disk.old) (D.moment disk.new)
+            (D.left_since disk.old) (D.left_since disk.new)) (D.content disk.old) (D.content disk.new) }
+    {
+        keeps_area();
+        takes_slots();
+        match disk.sync() {
+            Ok(()) => {
+                self.give_up(machine, frames, runs);
+                machine.held = Held::No;
+                Reply::Settled
+            }
+            Err(Failed) => {
+                self.stop_unsure(machine);
+                Reply::SyncFault { left: Left::Unsure }
+            }
+        }
+    }
+
+    /// Takes the header block that is kept back, where it is marked.
+    fn unmark(&mut self)
+        ensures { self.new ≡ record self.old { header = unmarked_block self.old.header } }
+    {
+        if is_marked(&self.header) {
+            self.header = take_back(&self.header);
+        }
+    }
+
+    /// The image may still be there: the machine runs, with that known, and the image's slots stay taken.
+    fn stop_unsure(&mut self, machine: &mut Machine)
+        ensures hib { self.new ≡ record self.old { stage = stage.Idle } }
+        ensures machine { machine.new ≡ record machine.old { held = perhaps_held machine.old.held } }
+    {
+        self.stage = Stage::Idle;
+        machine.held = perhaps(machine.held);
+    }
+}
+
+/// Whether a header block carries the signature of an image.
+fn is_marked(header: &Page) -> bool
+    ensures { result ≡ pointwise nat_eq (sig_of header.now) image_signature }
+{
+    matches!(AreaKind::read(header), AreaKind::Image(_))
+}
+
+/// What is held, after a call that may have taken it away.
+fn perhaps(held: Held) -> Held
+    ensures { result ≡ perhaps_held held }
+{
+    match held {
+        Held::No => Held::No,
+        Held::Yes | Held::Perhaps => Held::Perhaps,
+    }
+}

@@ -1,0 +1,70 @@
+-- What the calls of the disk of a settling make of the state: block(0) is read, written taken back where it is marked, and synced
+-- (swsusp_unmark, kernel/power/swap.c; that a machine does it while it runs is own). It doesn't matter whose the image was.
+use Rattle.std.specs.Prelude.{◌≡◌, ◌<◌, ℕ, List, [], nat_eq, if◌then◌else◌}
+use Rattle.std.specs.Cmp.Lexicographic.{pointwise}
+use Rattle.definitions.specs.Disk.{Content, IsContent, Writes, FailsToWrite, Syncs, as_it_reads}
+use Rattle.definitions.specs.SwapHeader.{sig_of, image_signature, taken_back}
+use Rattle.image_laws.specs.ImageBlocks.{Tries}
+use Rattle.plain_machine.specs.Machine.{Hardware, IsHardware, block_of_slot}
+use Rattle.plain_machine.specs.Chain.{header_of}
+use Rattle.plain_machine.specs.Shows.{Shown, runs, settles, ShowsRunning}
+use Rattle.plain_machine.specs.Stands.{Stands, NamesOnly, NamesHeld}
+use Rattle.plain_machine.specs.State.{on, settling, Running, nothing, perhaps}
+use Rattle.protocol_laws.specs.Rows.{IsSameArea}
+use Rattle.protocol_laws.specs.Undo.{with_held}
+
+-- a header block, taken back where it is marked and unchanged where it isn't
+abbrev pub unmarked_block : List ℕ → List ℕ
+unmarked_block header = if pointwise nat_eq (sig_of header) image_signature then taken_back header else header
+
+-- the machine, and a disk of so many blocks that has the header block
+pub record IsOnDisk (h : Hardware) (blocks : ℕ) (c : Content) : Type 0 where
+  pub hardware : IsHardware h
+  pub content : IsContent blocks c
+  pub header : block_of_slot h 0 < blocks
+
+-- It begins,
+abbrev pub SettleBegins : Type 0
+SettleBegins =
+    (h : Hardware) (shown shown' : Shown) (c : Content) (a : Running) → Stands h shown c (on a) →
+    shown'.activity ≡ settles 0 → ShowsRunning h shown' a → NamesHeld h shown' a.held → Stands h shown' c (settling a 0)
+
+-- and reads the header block, which is kept. Where that fails the machine runs as it ran.
+abbrev pub SettleReads : Type 0
+SettleReads =
+    (h : Hardware) (shown shown' : Shown) (c : Content) (a : Running) → Stands h shown c (settling a 0) →
+    shown'.header ≡ header_of h (as_it_reads c) → shown'.activity ≡ settles 1 → ShowsRunning h shown' a → NamesHeld h shown' a.held → Stands h shown' c (settling a 1)
+
+abbrev pub SettleReadFails : Type 0
+SettleReadFails =
+    (h : Hardware) (shown shown' : Shown) (c : Content) (a : Running) → Stands h shown c (settling a 0) →
+    shown'.activity ≡ runs → ShowsRunning h shown' a → NamesHeld h shown' a.held → Stands h shown' c (on a)
+
+-- The write: from then on the disk reads as unmarked, but a cut may still find the image. Where it fails the machine runs, and the
+-- image is there or not.
+abbrev pub SettleWrites : Type 0
+SettleWrites =
+    (h : Hardware) (shown shown' : Shown) (c c' : Content) (blocks : ℕ) (a : Running) → IsOnDisk h blocks c → IsContent blocks c' → Stands h shown c (settling a 1) →
+    Writes (block_of_slot h 0) (unmarked_block shown.header) c c' → shown'.activity ≡ settles 2 → ShowsRunning h shown' a → NamesHeld h shown' a.held → Stands h shown' c' (settling a 2)
+
+abbrev pub SettleWriteFails : Type 0
+SettleWriteFails =
+    (h : Hardware) (shown shown' : Shown) (c c' : Content) (blocks : ℕ) (a : Running) → IsOnDisk h blocks c → IsContent blocks c' → Stands h shown c (settling a 1) →
+    FailsToWrite (block_of_slot h 0) (unmarked_block shown.header) c c' → shown'.activity ≡ runs → ShowsRunning h shown' (with_held a (perhaps a.held)) → NamesHeld h shown' a.held → Stands h shown' c' (on (with_held a (perhaps a.held)))
+
+-- It leaves the area, failed or not.
+abbrev pub SettleKeepsArea : Type 0
+SettleKeepsArea =
+    (h : Hardware) (shown : Shown) (c c' : Content) (blocks : ℕ) (a : Running) → IsOnDisk h blocks c → Stands h shown c (settling a 1) →
+    Tries (block_of_slot h 0) (unmarked_block shown.header) c c' → IsSameArea h (as_it_reads c) (as_it_reads c')
+
+-- The sync: no image is there any more. Where it fails the image is there or not.
+abbrev pub SettleSyncs : Type 0
+SettleSyncs =
+    (h : Hardware) (shown shown' : Shown) (c c' : Content) (blocks : ℕ) (a : Running) → IsContent blocks c → Stands h shown c (settling a 2) → Syncs c c' →
+    shown'.activity ≡ runs → ShowsRunning h shown' (with_held a nothing) → NamesOnly h shown' [] → Stands h shown' c' (on (with_held a nothing))
+
+abbrev pub SettleSyncFails : Type 0
+SettleSyncFails =
+    (h : Hardware) (shown shown' : Shown) (c : Content) (a : Running) → Stands h shown c (settling a 2) →
+    shown'.activity ≡ runs → ShowsRunning h shown' (with_held a (perhaps a.held)) → NamesHeld h shown' a.held → Stands h shown' c (on (with_held a (perhaps a.held)))
