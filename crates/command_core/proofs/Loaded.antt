@@ -218,7 +218,7 @@ over_at_last : (steps : ℕ) (r : Reply) → (goes_on r ≡ false) ⊎ (steps �
 over_at_last steps r (inl over) few = over
 over_at_last steps r (inr most) few = absurd (omega arith)
 
-pub resumes : (h : Hardware) (m : Memory) (check : IdentCheck) (v : disk.Image) (blocks : ℕ) (world : World) (start : Point) (ended : Ended) (now : Option disk.Content) → AreZones h.zones → hardware_of world ≡ h → disk.IsContent blocks (disk.settled v) → IsUntouched v start → IsAt h m check v 0 start.reply start.state start.failed → HasGone h world start ended now → HasResumed h m check v world ended now
+pub resumes : (h : Hardware) (m : Memory) (check : IdentCheck) (v : disk.Image) (blocks : ℕ) (world : World) (start : Point) (ended : Ended) (now : Option disk.Content) → AreZones h.zones → hardware_of world ≡ h → disk.IsContent blocks (disk.settled v) → IsUntouched v start → IsAt h m check v 0 start.reply start.state start.failed → HasGone h world start ended now → HasResumed h m check v world.frames ended now
 resumes h m check v blocks world start ended now zones hw whole is at gone =
     let made = gone.made in
     let end = made.end in

@@ -10,7 +10,6 @@ use Rattle.plain_machine.specs.declared.event.Loader.TheVariants.{Table}
 use Rattle.plain_machine.specs.declared.reply.Reply.{Reply}
 use Rattle.plain_machine.specs.declared.reply.Reply.TheVariants as reply
 use Rattle.protocol_laws.specs.Rows.{LeavesBlock}
-use Rattle.world_core.specs.World.{World}
 use Rattle.command_core.specs.Turns.{IsFault}
 use Rattle.command_core.specs.declared.ending.Ended.{Ended}
 
@@ -25,11 +24,11 @@ LeavesMark r = IsFault r
 -- What the machine answers at the end over the disk v: the last reply of its trace, unless a call of the disk has failed. Where that is
 -- Resumed, the page frames are those that are restored. Then, and after each refusal but that of a compressed image, no image of the
 -- disk is marked. Of the disk block(0) alone may be written, and none where no image was found or it is compressed.
-pub record HasResumed (h : Hardware) (m : Memory) (check : IdentCheck) (v : disk.Image) (world : World) (ended : Ended) (now : Option disk.Content) : Type 0 where
+pub record HasResumed (h : Hardware) (m : Memory) (check : IdentCheck) (v : disk.Image) (frames : Memory) (ended : Ended) (now : Option disk.Content) : Type 0 where
   pub content : disk.Content
   pub told : now ≡ Some content
   pub answer : IsLast (trace h m v Table check) ended.reply ⊎ (IsFault ended.reply × (ended.failed ≡ true))
-  pub restored : (n : ℕ) → ended.reply ≡ reply.Resumed n → world.frames ≡ restored_in h m v Table
+  pub restored : (n : ℕ) → ended.reply ≡ reply.Resumed n → frames ≡ restored_in h m v Table
   pub gone : LeavesMark ended.reply ⊎ EachImage content (λ w. Marked h w → ⊥)
   pub unwritten : (b : ℕ) → b ≢ block_of_slot h 0 → LeavesBlock b (disk.settled v) content
   pub untouched : (r : Reply) → header_cause h v ≡ Some r → (b : ℕ) → LeavesBlock b (disk.settled v) content

@@ -17,7 +17,7 @@ pub fn resume<D: Disk>(world: &mut World, disk: &mut D, check: IdentCheck) -> En
     requires hardware { IsHardware (hardware_of world.old) }
     requires new { IsNew (hardware_of world.old) (Some world.old.frames) world.old }
     ensures resumed { (v : Image) → D.content disk.old ≡ Some (settled v) → (Marked (hardware_of world.old) v → HasOriginal (hardware_of world.old) v) →
-        HasResumed (hardware_of world.old) world.old.frames check v world.new result (D.content disk.new) }
+        HasResumed (hardware_of world.old) world.old.frames check v world.new.frames result (D.content disk.new) }
     ensures hardware { hardware_of world.new ≡ hardware_of world.old }
     ensures cause { IsTrue result.failed → HasRisen (D.faults disk.old) (D.faults disk.new) }
     ensures faults { D.faults disk.old ≤ D.faults disk.new }
