@@ -2,6 +2,7 @@ pub mod Answer
 pub mod AnswerOf
 pub mod Asked
 pub mod Choice
+pub mod Dumps
 pub mod ExitStatus
 pub mod Formatting
 pub mod Inspect

@@ -1,7 +1,9 @@
 ghost use Rattle.std.specs.Prelude.{◌≡◌, ◌^◌, map, option_map, string_bytes};
-ghost use Rattle.swsusp_cli.specs.Words.{inspect_of, is_path, plain_number, replay_of};
+ghost use Rattle.swsusp_cli.specs.Words.{hibernate_of, inspect_of, is_path, plain_number, replay_of, resume_of};
 ghost use Rattle.swsusp_cli.specs.Asked.{asked_by};
 
+use page_core::Format;
+use plain_machine::IdentCheck;
 use script::number_of;
 
 /// What the program is asked to do.
@@ -11,6 +13,20 @@ pub enum Command<'a> {
     Inspect {
         /// The number of the block, the area's offset in its file.
         offset: u32,
+        /// The path of the swap file or block device.
+        swap: &'a str,
+    },
+    /// Lets the machine of a memory dump hibernate.
+    Hibernate {
+        /// Which pages its image has.
+        format: Format,
+        /// The path of the swap file or block device.
+        swap: &'a str,
+    },
+    /// Resumes the image of a swap area into the machine of a memory dump.
+    Resume {
+        /// Whether the image is to be of the machine's own kernel.
+        check: IdentCheck,
         /// The path of the swap file or block device.
         swap: &'a str,
     },
@@ -30,6 +46,8 @@ impl<'a> Command<'a> {
         match words {
             [_, name, rest @ ..] => match name.as_bytes() {
                 b"inspect" => inspection(rest),
+                b"hibernate" => a_hibernation(rest),
+                b"resume" => a_resume(rest),
                 b"replay" => a_replay(rest),
                 _ => None,
             },
@@ -54,6 +72,42 @@ fn inspection(words: &[String]) -> Option<Command<'_>>
                 }),
                 None => None,
             }
+        }
+        _ => None,
+    }
+}
+
+fn a_hibernation(words: &[String]) -> Option<Command<'_>>
+    ensures { option_map asked_by result ≡ hibernate_of (map string_bytes words.now) }
+{
+    match words {
+        [swap] if is_path(swap.as_bytes()) => Some(Command::Hibernate {
+            format: Format::Plain,
+            swap: swap.as_str(),
+        }),
+        [option, swap] if option.as_str() == "--skip-zeros" && is_path(swap.as_bytes()) => {
+            Some(Command::Hibernate {
+                format: Format::SkipZeros,
+                swap: swap.as_str(),
+            })
+        }
+        _ => None,
+    }
+}
+
+fn a_resume(words: &[String]) -> Option<Command<'_>>
+    ensures { option_map asked_by result ≡ resume_of (map string_bytes words.now) }
+{
+    match words {
+        [swap] if is_path(swap.as_bytes()) => Some(Command::Resume {
+            check: IdentCheck::Compare,
+            swap: swap.as_str(),
+        }),
+        [option, swap] if option.as_str() == "--any-kernel" && is_path(swap.as_bytes()) => {
+            Some(Command::Resume {
+                check: IdentCheck::Skip,
+                swap: swap.as_str(),
+            })
         }
         _ => None,
     }
