@@ -1,22 +1,18 @@
--- How `hibernate` and `resume` may end: they read a dump, and its machine answers.
+-- How `hibernate` may end: it reads a dump, and its machine answers.
 use Rattle.std.specs.Prelude.{◌≡◌, ◌≤◌, ◌+◌, ℕ, List, [], ◌∷◌, ◌++◌, codes, decimal, Bool, true, false, if◌then◌else◌, Some, Ok, Err}
 use Rattle.page_core.specs.declared.format.Format.{Format}
 use Rattle.definitions.specs.Disk as disk
 use Rattle.definitions.specs.Streams.{IsOver}
 use Rattle.dump_file.specs.Dump.{DumpValue, dump_of}
-use Rattle.dump_file.specs.Written.{dump_bytes}
 use Rattle.dump_file.specs.declared.dump.DumpFault.{DumpFault}
 use Rattle.dump_file.specs.declared.dump.DumpKind.{DumpKind}
 use Rattle.dump_file.specs.declared.dump.DumpKind.TheVariants as kind
 use Rattle.plain_machine.specs.Chain.{Marked}
-use Rattle.plain_machine.specs.Machine.{Hardware, Memory}
 use Rattle.plain_machine.specs.Premises.{HasOriginal}
 use Rattle.plain_machine.specs.Replies.{line_of}
-use Rattle.plain_machine.specs.declared.event.IdentCheck.{IdentCheck}
 use Rattle.plain_machine.specs.declared.reply.Reply.{Reply}
 use Rattle.plain_machine.specs.declared.reply.Reply.TheVariants as reply
 use Rattle.command_core.specs.Hibernation.{HasHibernated}
-use Rattle.command_core.specs.Resumption.{HasResumed}
 use Rattle.command_core.specs.declared.ending.Ended.{Ended}
 use Rattle.swsusp_cli.specs.Answer.{Told, line}
 use Rattle.swsusp_cli.specs.Outcome.{IsOutOfMemory, IsUnread, Tells}
@@ -60,19 +56,11 @@ abbrev pub is_hibernated : Reply → Bool
 is_hibernated (reply.Hibernated n) = true
 is_hibernated _ = false
 
-abbrev pub is_resumed : Reply → Bool
-is_resumed (reply.Resumed n) = true
-is_resumed _ = false
-
 abbrev pub stopped_told : Ended → Told
 stopped_told ended = record { status = if ended.failed then Device else Refused; out = []; note = line_of ended.reply }
 
 abbrev pub hibernation_told : Ended → Told
 hibernation_told ended = if is_hibernated ended.reply then record { status = Done; out = line_of ended.reply; note = [] } else stopped_told ended
-
--- after a resume that ended well out is the dump of the memory that it restored
-abbrev pub resume_told : Hardware → Memory → Ended → Told
-resume_told h m ended = if is_resumed ended.reply then record { status = Done; out = dump_bytes h m; note = [] } else stopped_told ended
 
 -- The machine of the dump has hibernated, or has answered why it doesn't.
 pub record HasAnswered (f : Format) (x x' : View) (status : Status) (dump : DumpValue) (ended : Ended) : Type 0 where
@@ -88,17 +76,3 @@ pub data Hibernates (f : Format) (x x' : View) (status : Status) : Type 0 where
   out_of_memory : IsOutOfMemory x x' status → Hibernates f x x' status
   unread : IsUnread x x' status → Hibernates f x x' status
   answered : (dump : DumpValue) (ended : Ended) → HasAnswered f x x' status dump ended → Hibernates f x x' status
-
--- The image was resumed into the machine of the dump, which then has this memory, or it has answered why not.
-pub record HasLoaded (check : IdentCheck) (x x' : View) (status : Status) (dump : DumpValue) (memory : Memory) (ended : Ended) : Type 0 where
-  pub dump_is : IsDump x x' dump
-  pub told : Tells (resume_told dump.hw memory ended) status x x'
-  pub ends : (v : disk.Image) → x.disk.content ≡ Some (disk.settled v) → (Marked dump.hw v → HasOriginal dump.hw v) → HasResumed dump.hw dump.memory check v memory ended x'.disk.content
-  pub calls : x'.disk.calls ≤ x.disk.calls + 66000
-  pub orders : x'.disk.orders ≡ x.disk.orders
-
-pub data Resumes (check : IdentCheck) (x x' : View) (status : Status) : Type 0 where
-  no_dump : (fault : DumpFault) → IsNoDump x x' status fault → Resumes check x x' status
-  out_of_memory : IsOutOfMemory x x' status → Resumes check x x' status
-  unread : IsUnread x x' status → Resumes check x x' status
-  answered : (dump : DumpValue) (memory : Memory) (ended : Ended) → HasLoaded check x x' status dump memory ended → Resumes check x x' status

@@ -6,6 +6,7 @@ pub mod Dumps
 pub mod ExitStatus
 pub mod Formatting
 pub mod Inspect
+pub mod Loads
 pub mod Outcome
 pub mod Playing
 pub mod Readied

@@ -1,4 +1,6 @@
-ghost use Rattle.std.specs.Prelude.{◌≡◌, ◌≢◌, ◌++◌, ◌≤◌, length, true};
+ghost use Rattle.std.specs.Prelude.{◌≡◌, ◌≢◌, ◌++◌, ◌≤◌, length, true, Some, IfOk};
+ghost use Rattle.plain_machine.specs.Machine.{Fits, IsHardware};
+ghost use Rattle.world_core.specs.StandsFor.{IsNew, hardware_of};
 ghost use Rattle.swsusp_cli.specs.AnswerOf.{told_by};
 ghost use Rattle.swsusp_cli.specs.Dumps.{dump_told, kind_text, stopped_told};
 
@@ -6,7 +8,23 @@ use crate::answer::Answer;
 use crate::status::Status;
 use command_core::Ended;
 use dump_file::{DumpFault, DumpKind};
+use machine::Dump;
+use page_core::NoMemory;
 use script::{Line, line_of};
+use std::alloc::Global;
+use world_core::World;
+
+/// A new machine, which keeps the memory of its dump.
+pub fn machine_of(alloc: Global, dump: Dump) -> Result<World, NoMemory>
+    requires { Fits dump.hw dump.frames }
+    ensures hardware { IfOk result (λ world. IsHardware (hardware_of world)) }
+    ensures is { IfOk result (λ world. hardware_of world ≡ dump.hw) }
+    ensures frames { IfOk result (λ world. world.frames ≡ dump.frames) }
+    ensures new { IfOk result (λ world. IsNew (hardware_of world) (Some world.frames) world) }
+{
+    let _ = dump.hw.zones();
+    World::from_dump(alloc, dump)
+}
 
 /// The input is no dump.
 pub fn no_dump(fault: DumpFault) -> Answer

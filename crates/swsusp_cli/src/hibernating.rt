@@ -5,7 +5,7 @@ ghost use Rattle.swsusp_cli.specs.AnswerOf.{told_by};
 ghost use Rattle.swsusp_cli.specs.Dumps.{hibernation_told};
 
 use crate::answer::{Answer, no_memory};
-use crate::dump_input::{no_dump, stopped};
+use crate::dump_input::{machine_of, no_dump, stopped};
 use crate::replay::unread;
 use crate::status::Status;
 use command_core::{Ended, hibernate};
@@ -15,7 +15,6 @@ use plain_machine::Reply;
 use script::{Line, line_of};
 use sector_disk::Disk;
 use std::alloc::Global;
-use world_core::World;
 
 /// Reads a dump to its end, and lets its machine hibernate.
 pub fn hibernate_dump<I: Source, O: Sink, N: Sink, D: Disk>(
@@ -49,7 +48,7 @@ pub fn hibernate_dump<I: Source, O: Sink, N: Sink, D: Disk>(
         Err(DumpStop::NoMemory) => return no_memory().tell(out, note),
         Err(DumpStop::Fault(fault)) => return no_dump(fault).tell(out, note),
     };
-    let mut world = match World::from_dump(alloc, dump) {
+    let mut world = match machine_of(alloc, dump) {
         Ok(world) => world,
         Err(NoMemory) => return no_memory().tell(out, note),
     };

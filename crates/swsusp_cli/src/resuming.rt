@@ -1,13 +1,13 @@
 ghost use Rattle.std.specs.Prelude.{◌≡◌, ◌≢◌, ◌⊎◌, ◌≤◌, ◌+◌, length, [], true, OnOk, OnErr};
 ghost use Rattle.definitions.specs.Disk.{HasRisen};
-ghost use Rattle.swsusp_cli.specs.Dumps.{Resumes};
+ghost use Rattle.swsusp_cli.specs.Loads.{Resumes};
 ghost use Rattle.definitions.specs.Zones.{top};
 ghost use Rattle.dump_file.specs.Written.{dump_bytes};
-ghost use Rattle.swsusp_cli.specs.Dumps.{is_resumed, resume_told};
+ghost use Rattle.swsusp_cli.specs.Loads.{is_resumed, resume_told};
 ghost use Rattle.swsusp_cli.specs.Told.{FailsToPrint, IsPrinted, IsTold};
 
 use crate::answer::{no_memory, print};
-use crate::dump_input::{no_dump, stopped};
+use crate::dump_input::{machine_of, no_dump, stopped};
 use crate::replay::unread;
 use crate::status::Status;
 use command_core::{Ended, resume};
@@ -18,7 +18,6 @@ use page_core::{Failed, NoMemory};
 use plain_machine::{IdentCheck, Reply};
 use sector_disk::Disk;
 use std::alloc::Global;
-use world_core::World;
 
 /// Reads a loader's dump to its end, resumes the image on the disk into its machine, and writes the dump of what was restored.
 pub fn resume_dump<I: Source, O: Sink, N: Sink, D: Disk>(
@@ -53,7 +52,7 @@ pub fn resume_dump<I: Source, O: Sink, N: Sink, D: Disk>(
         Err(DumpStop::Fault(fault)) => return no_dump(fault).tell(out, note),
     };
     let hw = dump.hw;
-    let mut world = match World::from_dump(alloc, dump) {
+    let mut world = match machine_of(alloc, dump) {
         Ok(world) => world,
         Err(NoMemory) => return no_memory().tell(out, note),
     };

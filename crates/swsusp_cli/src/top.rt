@@ -8,7 +8,8 @@ ghost use Rattle.swsusp_cli.specs.Reading.{HandsOutAtMost};
 ghost use Rattle.swsusp_cli.specs.Outcome.{IsReplayed};
 ghost use Rattle.page_core.specs.declared.format.Format.{Format};
 ghost use Rattle.plain_machine.specs.declared.event.IdentCheck.{IdentCheck};
-ghost use Rattle.swsusp_cli.specs.Dumps.{Hibernates, Resumes};
+ghost use Rattle.swsusp_cli.specs.Dumps.{Hibernates};
+ghost use Rattle.swsusp_cli.specs.Loads.{Resumes};
 ghost use Rattle.swsusp_cli.specs.Words.{command_of, hibernate, replay, resume};
 
 use crate::hibernating::hibernate_dump;
