@@ -1,5 +1,5 @@
 ghost use Rattle.std.specs.Prelude.{◌≡◌, ◌≤◌, ◌+◌, ◌<◌, IfOk, IsTrue};
-ghost use Rattle.hib_core.specs.Hibernation.{activity_of, activity_told};
+ghost use Rattle.hib_core.specs.Hibernation.{phase_of, phase_told};
 ghost use Rattle.hib_core.specs.Ready.{CanBegin, IsBusy};
 ghost use Rattle.hib_core.specs.declared.hib.Hib.{Hib as HibValue};
 ghost use Rattle.protocol_laws.specs.Writers.{slot_table_of};
@@ -69,7 +69,7 @@ fn booted(alloc: Global, last: u32) -> Result<Bench, Fail>
 
 // Whether more steps follow.
 fn goes_on(reply: Reply) -> bool
-    ensures { (hib : HibValue) → activity_of hib ≡ activity_told reply → IsTrue result → IsBusy hib }
+    ensures { (hib : HibValue) → phase_of hib ≡ phase_told reply → IsTrue result → IsBusy hib }
 {
     match reply {
         Reply::More { .. } => true,
@@ -140,6 +140,7 @@ fn pages_of_zeros_are_left_out(rt: HostRuntime) -> Result<(), Fail> {
 #[test]
 fn an_image_that_is_held_refuses(rt: HostRuntime) -> Result<(), Fail> {
     let mut b = booted(rt.alloc(), 3000)?;
+    assert!(rt; b.machine.hw.extents().block(0) < u64::from(b.machine.blocks));
     b.machine.held = Held::Yes;
     let (begun, last) = hibernated(&mut b, Format::Plain);
     assert_eq!(rt; begun, Reply::Closed);
