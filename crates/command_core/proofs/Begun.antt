@@ -146,9 +146,9 @@ boots_second h m v w w' r blocks before now at is hw row restores whole =
     elim (boot_syncs h u held m turn.new.reply turn.new.state step) [
       | inl goes ↦ inl (ap goes_on (sym turn.reply_is ∙ goes.0), record { point = turn.new; untouched = untouched; state = goes.1; told = turn.told; stands = turn.stands })
       | inr fault ↦ (
-        let same = sym turn.reply_is ∙ fault in
-        inr (ap goes_on same, record { content = turn.new.content; told = turn.told; unwritten = untouched.unwritten; fault = subst IsFault (sym same) tt; new_fault = subst IsNewFault (sym same) tt })
-      )
+          let same = sym turn.reply_is ∙ fault in
+          inr (ap goes_on same, record { content = turn.new.content; told = turn.told; unwritten = untouched.unwritten; fault = subst IsFault (sym same) tt; new_fault = subst IsNewFault (sym same) tt })
+          )
     ]
 
 pub boots_third : (h : Hardware) (m : Memory) (v : disk.Image) (w w' : World) (r : Reply) (first blocks : ℕ) (before now : Option disk.Content) → disk.IsContent first (disk.settled v) → BootsAt h m v 1 w before → hardware_of w ≡ h → hardware_of w' ≡ hardware_of w →
@@ -163,17 +163,20 @@ boots_third h m v w w' r first blocks before now whole at is hw row restores who
     subst (λ (x : disk.Image). Step h x (booting Kept m held 1) (event.Step actor.Core) turn.new.reply turn.new.state) same
     (subst (λ (s : State). Step h u s (event.Step actor.Core) turn.new.reply turn.new.state) at.state turn.turn.step) in
     elim (boot_ends h v m (is_marked_disk h v) turn.new.reply turn.new.state step) [
-      | inl booted ↦ inl (ap is_booted (sym turn.reply_is ∙ booted.0.1), record {
-        content = turn.new.content;
-        told = turn.told;
-        blocks = untouched.blocks;
-        whole = untouched.whole;
-        same = untouched.same;
-        unwritten = untouched.unwritten;
-        stands = subst (StandsFor w' turn.new.content) booted.1 turn.stands;
-      })
-      | inr fault ↦ (
-        let same_reply = sym turn.reply_is ∙ fault in
-        inr (ap is_booted same_reply, record { content = turn.new.content; told = turn.told; unwritten = untouched.unwritten; fault = subst IsFault (sym same_reply) tt; new_fault = subst IsNewFault (sym same_reply) tt })
+      | inl booted ↦ inl (
+        ap is_booted (sym turn.reply_is ∙ booted.0.1),
+        record {
+          content = turn.new.content;
+          told = turn.told;
+          blocks = untouched.blocks;
+          whole = untouched.whole;
+          same = untouched.same;
+          unwritten = untouched.unwritten;
+          stands = subst (StandsFor w' turn.new.content) booted.1 turn.stands;
+        },
       )
+      | inr fault ↦ (
+          let same_reply = sym turn.reply_is ∙ fault in
+          inr (ap is_booted same_reply, record { content = turn.new.content; told = turn.told; unwritten = untouched.unwritten; fault = subst IsFault (sym same_reply) tt; new_fault = subst IsNewFault (sym same_reply) tt })
+          )
     ]

@@ -131,9 +131,9 @@ few_steps h i a (suc n) start end at (mid, are, goes, turn) =
     elim (few_made i a n mid.reply mid.state mid.failed (after_steps h i a n start mid at are) goes) [
       | inl few ↦ omega arith
       | inr is ↦ (
-        let v = disk.as_it_reads mid.content in
-        let step = hibernating_step h v i a n end.reply end.state (subst (λ (s : State). Step h v s (event.Step actor.Core) end.reply end.state) is turn.step) in
-        let lt = before_end i a n (end.reply, end.state) step in
-        omega arith
-      )
+          let v = disk.as_it_reads mid.content in
+          let step = hibernating_step h v i a n end.reply end.state (subst (λ (s : State). Step h v s (event.Step actor.Core) end.reply end.state) is turn.step) in
+          let lt = before_end i a n (end.reply, end.state) step in
+          omega arith
+          )
     ]

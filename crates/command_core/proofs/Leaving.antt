@@ -51,4 +51,3 @@ leaves_then blocks b c d e whole first then = record {
       subst (Contains (disk.sector c s).candidates) (get_or-set_same (disk.as_it_reads d) s x [] (omega arith))
       (first.leaves u s (with_candidate blocks s d x whole inside within) (omega arith) low high);
 }
-

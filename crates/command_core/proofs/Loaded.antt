@@ -83,7 +83,7 @@ after_more h m check v blocks n p q whole is goes turn =
     let state = goes_state h m check v n p.reply p.state p.failed is.at goes in
     record {
       at = step_more h m check v (disk.as_it_reads p.content) n p.reply q.reply p.state q.state p.failed q.failed is.at goes
-      (λ one. reads_first blocks v p whole (is.early (omega arith))) turn.step turn.noticed;
+          (λ one. reads_first blocks v p whole (is.early (omega arith))) turn.step turn.noticed;
       blocks = turn.blocks;
       whole = turn.whole;
       early = λ few. untouched_then h (event.Step actor.Core) v p q (is.early (omega arith)) turn (early_writes h m check v n p.state (omega arith) state.0);

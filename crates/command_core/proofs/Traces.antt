@@ -185,12 +185,12 @@ trace_short h dump v check are =
     let few : length read ≤ 65794 = elim (cases_Bool (are_bad_counts (format_in h v) (valid_count h) (info_in h v).image_pages pages)) [
       | inl bad ↦ (let two = bad_short h dump v check (place_count pages) (some_places pages) (bad_content h dump v check bad) in omega arith)
       | inr good ↦ (
-        let fits = fits_in (format_in h v) (valid_count h) (info_in h v) valid good in
-        let short = few_places pages fits.pages.few in
-        let size = length-map-range_with_len place 0 (place_count pages) in
-        let each = places_short h dump v check 5 (places pages) in
-        omega arith
-      )
+          let fits = fits_in (format_in h v) (valid_count h) (info_in h v) valid good in
+          let short = few_places pages fits.pages.few in
+          let size = length-map-range_with_len place 0 (place_count pages) in
+          let each = places_short h dump v check 5 (places pages) in
+          omega arith
+          )
     ] in
     let fourth = go_short (taken_back_cause h v) 4 65794 read few in
     let second = go_short (header_cause h v) 2 65796 (reply.Loading 3 ∷ back) (omega arith) in

@@ -91,11 +91,7 @@ fn the_disk_that_words_ask_for(rt: HostRuntime) -> Result<(), Fail> {
         (&["swsusp", "drill", "0"], None, 1),
         (&["swsusp", "replay"], None, 16384),
         (&["swsusp", "hibernate", "a"], Some("a"), 0),
-        (
-            &["swsusp", "hibernate", "--skip-zeros", "a"],
-            Some("a"),
-            0,
-        ),
+        (&["swsusp", "hibernate", "--skip-zeros", "a"], Some("a"), 0),
         (&["swsusp", "resume", "--any-kernel", "b"], Some("b"), 0),
     ];
     for (list, path, blocks) in lists {

@@ -31,7 +31,7 @@ use Rattle.swsusp_cli.specs.declared.formatting.Unformatted.TheVariants.{Write, 
 use Rattle.swsusp_cli.specs.declared.status.Status.{Status}
 use Rattle.run_laws.proofs.AtomicCopy.{all_restore}
 use Rattle.run_laws.proofs.Once.{resumed_once}
-use Rattle.swsusp_cli.proofs.Blocks.{leaves_then}
+use Rattle.command_core.proofs.Leaving.{leaves_then}
 use Rattle.swsusp_cli.proofs.Formatted.{CanFormat, formatted_unmarked, formats_leaves, formats_size}
 use Rattle.swsusp_cli.proofs.Prints.{printed_then, front_then, whole_front, fails_early}
 use Rattle.swsusp_cli.proofs.Turns.{counted_earlier, whole_of}

@@ -47,29 +47,39 @@ inspect_of (option ∷ number ∷ swap ∷ []) =
     if pointwise nat_eq option (codes "--offset") && is_path swap then option_map (λ offset. inspect offset swap) (plain_number (2 ^ 32) number) else None
 inspect_of (option ∷ number ∷ swap ∷ more ∷ words) = None
 
+-- this, where the word names a file
+abbrev pub over_file : List ℕ → Asked → Option Asked
+over_file swap asked = if is_path swap then Some asked else None
+
+-- this, where the word is that option
+abbrev pub with_option : List ℕ → List ℕ → Option Asked → Option Asked
+with_option word option asked = if pointwise nat_eq word option then asked else None
+
 -- hibernate [--skip-zeros] SWAP
 abbrev pub hibernate_of : List (List ℕ) → Option Asked
 hibernate_of [] = None
-hibernate_of (swap ∷ []) = if is_path swap then Some (hibernate Plain swap) else None
-hibernate_of (option ∷ swap ∷ []) =
-    if pointwise nat_eq option (codes "--skip-zeros") && is_path swap then Some (hibernate SkipZeros swap) else None
+hibernate_of (swap ∷ []) = over_file swap (hibernate Plain swap)
+hibernate_of (option ∷ swap ∷ []) = with_option option (codes "--skip-zeros") (over_file swap (hibernate SkipZeros swap))
 hibernate_of (option ∷ swap ∷ more ∷ words) = None
 
 -- resume [--any-kernel] SWAP
 abbrev pub resume_of : List (List ℕ) → Option Asked
 resume_of [] = None
-resume_of (swap ∷ []) = if is_path swap then Some (resume Compare swap) else None
-resume_of (option ∷ swap ∷ []) =
-    if pointwise nat_eq option (codes "--any-kernel") && is_path swap then Some (resume Skip swap) else None
+resume_of (swap ∷ []) = over_file swap (resume Compare swap)
+resume_of (option ∷ swap ∷ []) = with_option option (codes "--any-kernel") (over_file swap (resume Skip swap))
 resume_of (option ∷ swap ∷ more ∷ words) = None
 
--- What a plain list of words asks for: the program's name, a command, and that command's own. No other list parses.
-abbrev pub command_of : List (List ℕ) → Option Asked
-command_of [] = None
-command_of (name ∷ []) = None
-command_of (name ∷ command ∷ words) =
+-- what a command asks for with its own words
+abbrev pub command_by : List ℕ → List (List ℕ) → Option Asked
+command_by command words =
     if pointwise nat_eq command (codes "inspect") then inspect_of words
     else if pointwise nat_eq command (codes "hibernate") then hibernate_of words
     else if pointwise nat_eq command (codes "resume") then resume_of words
     else if pointwise nat_eq command (codes "replay") then replay_of words
     else None
+
+-- What a plain list of words asks for: the program's name, a command, and that command's own. No other list parses.
+abbrev pub command_of : List (List ℕ) → Option Asked
+command_of [] = None
+command_of (name ∷ []) = None
+command_of (name ∷ command ∷ words) = command_by command words

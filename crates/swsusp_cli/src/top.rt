@@ -94,9 +94,7 @@ pub fn run<I: Source, O: Sink, N: Sink, D: Disk>(
         Some(Command::Hibernate { format, .. }) => {
             hibernate_dump(alloc, format, input, out, note, disk)
         }
-        Some(Command::Resume { check, .. }) => {
-            resume_dump(alloc, check, input, out, note, disk)
-        }
+        Some(Command::Resume { check, .. }) => { resume_dump(alloc, check, input, out, note, disk) }
         Some(Command::Replay) => replay(alloc, input, out, note, disk),
     }
 }

@@ -107,7 +107,9 @@ fn resumption<'a>(alloc: Global) -> Result<Command<'a>, AllocError> {
         .action(ArgAction::SetTrue)
         .help("Take an image of another kernel too");
     Command::new(alloc, "resume")
-        .about("Reads a loader's memory dump from standard input, resumes the image, and writes the dump of the machine")
+        .about(
+            "Reads a loader's memory dump from standard input, resumes the image, and writes the dump of the machine",
+        )
         .arg(any_kernel)?
         .arg(swap_argument(alloc))
 }

@@ -45,16 +45,16 @@ returns-then-not-is_booted-clause-booted g c = λ v told original.
     (wf c.event-synced-2.new.disk)) [
       | inr fails ↦ absurd (false≢true (sym fails.0 ∙ sym c.goes_on.ensures ∙ c.if-not-goes_on.false))
       | inl goes ↦ elim (boots_third (hardware_of world) world.frames v c.event-synced-2.new.self c.event-read.new.self c.event-read.result (count c.args.disk.now) (count c.event-read.new.disk) (content c.event-synced-2.new.disk) (content c.event-read.new.disk) whole goes.1 (two.hardware ∙ one.hardware) three.hardware three.row three.restored
-      (wf c.event-read.new.disk)) [
-        | inl booted ↦ absurd (false≢true (sym c.if-not-is_booted.true ∙ c.is_booted.ensures ∙ booted.0))
-        | inr fails ↦ record {
-          content = fails.1.content;
-          told = fails.1.told;
-          unwritten = fails.1.unwritten;
-          fault = subst IsFault (sym c.after-then-not-is_booted.ensures.reply) fails.1.fault;
-          failed = c.after-then-not-is_booted.ensures.failed.1 fails.1.new_fault;
-        }
-      ]
+          (wf c.event-read.new.disk)) [
+            | inl booted ↦ absurd (false≢true (sym c.if-not-is_booted.true ∙ c.is_booted.ensures ∙ booted.0))
+            | inr fails ↦ record {
+              content = fails.1.content;
+              told = fails.1.told;
+              unwritten = fails.1.unwritten;
+              fault = subst IsFault (sym c.after-then-not-is_booted.ensures.reply) fails.1.fault;
+              failed = c.after-then-not-is_booted.ensures.failed.1 fails.1.new_fault;
+            }
+          ]
     ]
 
 pub returns-clause-booted : goal.returns-clause-booted
@@ -73,8 +73,8 @@ returns-clause-booted g c = λ v told original.
     (wf c.event-synced-2.new.disk)) [
       | inr fails ↦ absurd (false≢true (sym fails.0 ∙ sym c.goes_on.ensures ∙ c.if-not-goes_on.false))
       | inl goes ↦ elim (boots_third (hardware_of world) world.frames v c.event-synced-2.new.self c.event-read.new.self c.event-read.result (count c.args.disk.now) (count c.event-read.new.disk) (content c.event-synced-2.new.disk) (content c.event-read.new.disk) whole goes.1 (two.hardware ∙ one.hardware) three.hardware three.row three.restored
-      (wf c.event-read.new.disk)) [
-        | inl booted ↦ booted.1
-        | inr fails ↦ absurd (false≢true (sym fails.0 ∙ sym c.is_booted.ensures ∙ c.if-not-is_booted.false))
-      ]
+          (wf c.event-read.new.disk)) [
+            | inl booted ↦ booted.1
+            | inr fails ↦ absurd (false≢true (sym fails.0 ∙ sym c.is_booted.ensures ∙ c.if-not-is_booted.false))
+          ]
     ]

@@ -41,5 +41,5 @@ returns-clause-hibernated g c = λ v told original.
     elim (hibernation_begins h (disk.as_it_reads booted.content) a f turn.new.reply turn.new.state turn.turn.step) [
       | inl no' ↦ refused h m f v c.finish.new.world no'.0 start c.finish.result now untouched no'.1 (sym turn.reply_is ∙ no'.2) gone
       | inr is ↦ saves h m f v c.finish.new.world start c.finish.result now c.requires.hardware.zones (c.finish.ensures.hardware ∙ hw) untouched is.0
-      (subst (λ (r : Reply). IsAt (image_of_dump h m f v) a 0 r turn.new.state false) (sym (sym turn.reply_is ∙ is.1)) is.2) gone
+          (subst (λ (r : Reply). IsAt (image_of_dump h m f v) a 0 r turn.new.state false) (sym (sym turn.reply_is ∙ is.1)) is.2) gone
     ]
