@@ -42,7 +42,7 @@ fn main(rt: HostRuntime) -> ExitCode {
 }
 
 /// Opens the swap file: for `inspect` for reading alone.
-fn open(rt: &HostRuntime, words: &[String], path: &str) -> io::Result<FileDisk> {
+fn open(rt: &HostRuntime, words: &[String], path: &str) -> io::Result<FileDisk<File>> {
     match words {
         [_, command, ..] if command.as_str() == "inspect" => FileDisk::open_read_only(rt, path),
         _ => FileDisk::open(rt, path),
