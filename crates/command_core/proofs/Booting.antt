@@ -1,8 +1,7 @@
 -- What the plain machine answers to a boot with a dump's memory, and to the hibernation after it.
-use Rattle.std.proofs.Common.{◌≡◌, ◌⊎◌, inl, inr, ℕ, zero, suc, Bool, true, false, cond, List, ◌∷◌, [], Option, Some, None, refl, sym, ap, ◌∙◌, arith, Contains}
+use Rattle.std.proofs.Common.{◌≡◌, ◌⊎◌, inl, inr, zero, suc, Bool, true, false, cond, List, ◌∷◌, [], Option, Some, None, refl, sym, ap, arith, Contains}
 use Rattle.definitions.specs.Disk as disk
 use Rattle.page_core.specs.declared.format.Format.{Format}
-use Rattle.plain_machine.specs.Chain.{is_marked_disk}
 use Rattle.plain_machine.specs.Image.{image_of_memory, hibernate_steps}
 use Rattle.plain_machine.specs.Machine.{Hardware, Memory}
 use Rattle.plain_machine.specs.Refusals.{refusal}

@@ -1,5 +1,5 @@
 -- A hibernation step by step: what it is at after so many, and that it ends.
-use Rattle.std.proofs.Common.{◌≡◌, ◌⊎◌, inl, inr, ◌≤◌, ◌<◌, ℕ, ◌+◌, ◌-◌, zero, suc, eqb, ltb, Bool, true, false, cond, length, List, ◌∷◌, [], Option, Some, None, refl, sym, ap, ◌∙◌, subst, arith, Contains}
+use Rattle.std.proofs.Common.{◌≡◌, ◌⊎◌, inl, inr, ◌≤◌, ◌<◌, ℕ, ◌+◌, ◌-◌, zero, suc, eqb, ltb, Bool, true, false, cond, List, ◌∷◌, [], None, refl, sym, subst, arith, Contains}
 use Rattle.std.specs.List.{AllByRecursion}
 use Rattle.std.proofs.lemmas.Bool.{cases_lt, false≢true}
 use Rattle.std.proofs.lemmas.List.Elements.{All-from_recursion, All-contains}
@@ -18,7 +18,7 @@ use Rattle.plain_machine.specs.declared.reply.UndoCall.{UndoCall}
 use Rattle.plain_machine.specs.declared.reply.UndoCall.TheVariants as undo
 use Rattle.plain_machine.proofs.PastEnd.{hibernate-past}
 use Rattle.protocol_laws.specs.Rows.{IsNewFault}
-use Rattle.command_core.specs.Turns.{Point, IsTurn, AreSteps, goes_on}
+use Rattle.command_core.specs.Turns.{Point, AreSteps, goes_on}
 
 -- what a hibernation of this image is at after n steps
 abbrev pub IsAt : Image → Running → ℕ → Reply → State → Bool → Type 0

@@ -1,16 +1,16 @@
 -- A whole resume: from the world before it to what it answers at the end.
-use Rattle.std.proofs.Common.{◌≡◌, ◌≢◌, ◌⊎◌, inl, inr, ◌≤◌, ◌<◌, ℕ, ◌+◌, zero, suc, eqb, nat_eq, Bool, true, false, cond, not, length, List, ◌∷◌, [], Option, Some, None, slice_get, unwrap_or, refl, sym, ap, ◌∙◌, subst, arith, Contains}
+use Rattle.std.proofs.Common.{◌≡◌, ◌≢◌, ◌⊎◌, inl, inr, ◌≤◌, ℕ, zero, suc, eqb, nat_eq, Bool, true, false, cond, not, length, ◌∷◌, [], Option, Some, None, slice_get, unwrap_or, refl, sym, ap, ◌∙◌, subst, arith, Contains}
 use Rattle.std.specs.Cmp.Lexicographic.{pointwise}
-use Rattle.std.proofs.lemmas.Bool.{false≢true, cases_lt}
-use Rattle.std.proofs.lemmas.Option.{slice_get_within, same_Some, none-some}
+use Rattle.std.proofs.lemmas.Bool.{false≢true}
+use Rattle.std.proofs.lemmas.Option.{slice_get_within, same_Some}
 use Rattle.definitions.specs.Disk as disk
 use Rattle.definitions.specs.SwapHeader.{flags_of, sig_of, image_signature}
 use Rattle.definitions.specs.Zones.{AreZones}
 use Rattle.plain_machine.specs.Chain.{Marked, header_of}
 use Rattle.plain_machine.specs.Machine.{Hardware, Memory, block_of_slot}
 use Rattle.plain_machine.specs.Stands.{EachImage}
-use Rattle.plain_machine.specs.State.{State, off, loading, nothing, Load}
-use Rattle.plain_machine.specs.Trace.{trace, header_cause, is_set, restored_in}
+use Rattle.plain_machine.specs.State.{State, off, loading, nothing}
+use Rattle.plain_machine.specs.Trace.{header_cause, is_set, restored_in}
 use Rattle.plain_machine.specs.declared.event.Actor.TheVariants as actor
 use Rattle.plain_machine.specs.declared.event.Event.TheVariants as event
 use Rattle.plain_machine.specs.declared.event.IdentCheck.{IdentCheck}
@@ -18,13 +18,13 @@ use Rattle.plain_machine.specs.declared.event.Loader.TheVariants.{Table}
 use Rattle.plain_machine.specs.declared.reply.Reply.{Reply}
 use Rattle.plain_machine.specs.declared.reply.Reply.TheVariants as reply
 use Rattle.plain_machine.specs.Refusals.{refusal}
-use Rattle.plain_machine.specs.Step.{Step, Outcome, outcomes}
+use Rattle.plain_machine.specs.Step.{Step, outcomes}
 use Rattle.protocol_laws.specs.Rows.{LeavesBlock, blocks_written}
 use Rattle.world_core.specs.StandsFor.{StandsFor, hardware_of}
 use Rattle.world_core.specs.World.{World}
 use Rattle.command_core.specs.Hibernation.{held_at_first}
 use Rattle.command_core.specs.Resumption.{IsLast, LeavesMark, HasResumed}
-use Rattle.command_core.specs.Turns.{Point, IsTurn, IsFault, AreSteps, HaveMade, HasGone, goes_on}
+use Rattle.command_core.specs.Turns.{Point, IsTurn, IsFault, AreSteps, HasGone, goes_on}
 use Rattle.command_core.specs.declared.ending.Ended.{Ended}
 use Rattle.command_core.proofs.Begun.{IsUntouched, untouched_then, reads_first}
 use Rattle.command_core.proofs.Booting.{one_outcome}

@@ -1,5 +1,5 @@
 -- One event more, and a disk on which nothing was written.
-use Rattle.std.proofs.Common.{◌≡◌, ◌⊎◌, inl, inr, ◌<◌, ◌≤◌, ◌+◌, ◌*◌, ◌/◌, ℕ, suc, Bool, true, false, length, Option, Some, refl, sym, ap, ◌∙◌, subst, arith, min, slice_index_or, Contains}
+use Rattle.std.proofs.Common.{◌≡◌, ◌⊎◌, inl, inr, ◌≤◌, ◌+◌, ◌/◌, ℕ, suc, Bool, true, false, Option, Some, refl, sym, ap, ◌∙◌, subst, arith}
 use Rattle.std.proofs.Math.Nat.{min-le_left}
 use Rattle.std.proofs.lemmas.Bool.{cases_lt}
 use Rattle.std.specs.Option.{IfSome}

@@ -1,13 +1,12 @@
 -- A resume into a dump's memory step by step: what it is at after so many, and that it ends.
-use Rattle.std.proofs.Common.{◌≡◌, ◌⊎◌, inl, inr, ◌≤◌, ◌<◌, ℕ, ◌+◌, zero, suc, eqb, ltb, Bool, true, false, cond, ◌||◌, not, length, List, ◌∷◌, [], Option, Some, None, slice_get, unwrap_or, refl, sym, ap, ◌∙◌, subst, arith, Contains}
+use Rattle.std.proofs.Common.{◌≡◌, ◌⊎◌, inl, inr, ◌<◌, ℕ, ◌+◌, zero, suc, eqb, ltb, Bool, true, false, cond, ◌||◌, not, List, ◌∷◌, [], Option, Some, None, slice_get, unwrap_or, refl, sym, ap, ◌∙◌, subst, arith, Contains}
 use Rattle.std.specs.List.{AllByRecursion}
 use Rattle.std.proofs.lemmas.Bool.{cond-true, cond-false, ne_eqb, false≢true}
 use Rattle.std.proofs.lemmas.List.Elements.{All-from_recursion, All-contains}
-use Rattle.std.proofs.lemmas.Option.{slice_get_within, none-some}
 use Rattle.definitions.specs.Disk as disk
 use Rattle.plain_machine.specs.Chain.{is_marked_disk}
 use Rattle.plain_machine.specs.Machine.{Hardware, Memory}
-use Rattle.plain_machine.specs.State.{State, off, loading, nothing, sure, maybe, other, Load, Held, perhaps, not_yet, found_other, held_while_loading}
+use Rattle.plain_machine.specs.State.{State, off, loading, nothing, sure, other, Load, perhaps, not_yet, found_other, held_while_loading}
 use Rattle.plain_machine.specs.Refusals.{refusal}
 use Rattle.plain_machine.specs.Step.{Step, Outcome, outcomes, only, load_step, load_fault, load_answers, loaded_step, find_step, other_step, other_state, no_image, has_place}
 use Rattle.plain_machine.specs.Trace.{trace}
@@ -20,7 +19,7 @@ use Rattle.plain_machine.specs.declared.reply.Reply.{Reply}
 use Rattle.plain_machine.specs.declared.reply.Reply.TheVariants as reply
 use Rattle.protocol_laws.specs.Rows.{IsNewFault}
 use Rattle.command_core.specs.Hibernation.{held_at_first}
-use Rattle.command_core.specs.Turns.{Point, IsTurn, IsFault, AreSteps, goes_on}
+use Rattle.command_core.specs.Turns.{IsFault, goes_on}
 use Rattle.command_core.proofs.Traces.{counted_at, trace_counts}
 use Rattle.protocol_laws.specs.TraceAt.{reply_at}
 use Rattle.protocol_laws.proofs.TraceAt.{traces_at}

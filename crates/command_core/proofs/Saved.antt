@@ -1,5 +1,5 @@
 -- A whole hibernation: from the world before it to what it answers at the end.
-use Rattle.std.proofs.Common.{◌≡◌, ◌≢◌, ◌⊎◌, inl, inr, ◌≤◌, ◌<◌, ℕ, ◌+◌, zero, suc, Bool, true, false, cond, length, map, filter, List, ◌∷◌, [], flat_map, Option, Some, None, unwrap_or, refl, sym, ap, ◌∙◌, subst, arith, Contains}
+use Rattle.std.proofs.Common.{◌≡◌, ◌⊎◌, inl, inr, ◌≤◌, ℕ, ◌+◌, zero, suc, Bool, true, false, cond, length, map, filter, List, ◌∷◌, [], Option, Some, None, unwrap_or, refl, sym, ap, ◌∙◌, subst, arith, Contains}
 use Rattle.std.proofs.lemmas.Bool.{false≢true}
 use Rattle.std.proofs.lemmas.List.{length-map}
 use Rattle.std.proofs.lemmas.Option.{same_Some, none-some}
@@ -8,12 +8,11 @@ use Rattle.definitions.specs.Disk as disk
 use Rattle.definitions.specs.Tables.{frame}
 use Rattle.definitions.specs.Zones.{AreZones}
 use Rattle.plain_machine.specs.Chain.{Holds, or_else}
-use Rattle.plain_machine.specs.Image.{Image, image_of_memory, n_of, d_of, pages_of, hibernate_steps, has_data}
+use Rattle.plain_machine.specs.Image.{Image, image_of_memory, n_of, d_of, hibernate_steps, has_data}
 use Rattle.plain_machine.specs.Machine.{Hardware, Memory, block_of_slot, saveable}
 use Rattle.plain_machine.specs.Refusals.{refusal, refused_if, busy, busy_task, busy_reply, closed, no_swap, no_frames, no_slots, hibernate_refusal}
 use Rattle.plain_machine.specs.Stands.{EachImage, laid_blocks}
-use Rattle.plain_machine.specs.State.{State, Running, off, on, hibernating, undoing, nothing, sure, own}
-use Rattle.plain_machine.specs.declared.event.Actor.TheVariants as actor
+use Rattle.plain_machine.specs.State.{State, Running, off, on, hibernating, undoing, sure, own}
 use Rattle.plain_machine.specs.declared.event.Event.TheVariants as event
 use Rattle.plain_machine.specs.declared.no_swap.NoSwap.{NoSwap}
 use Rattle.plain_machine.specs.declared.reply.Reply.{Reply}
@@ -24,7 +23,7 @@ use Rattle.protocol_laws.specs.Rows.{LeavesBlock, blocks_written}
 use Rattle.world_core.specs.StandsFor.{StandsFor, hardware_of}
 use Rattle.world_core.specs.World.{World}
 use Rattle.command_core.specs.Hibernation.{machine_of_dump, image_of_dump, hibernation_answer, HasHibernated, HasFailedEarly}
-use Rattle.command_core.specs.Turns.{Point, IsTurn, IsFault, AreSteps, HaveMade, HasGone, goes_on}
+use Rattle.command_core.specs.Turns.{Point, IsFault, AreSteps, HasGone, goes_on}
 use Rattle.command_core.specs.declared.ending.Ended.{Ended}
 use Rattle.command_core.proofs.Begun.{IsUntouched}
 use Rattle.command_core.proofs.Hibernating.{IsAt, after_steps, few_steps}

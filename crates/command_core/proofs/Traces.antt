@@ -1,5 +1,5 @@
 -- The trace of a resume counts its steps, ends with a reply after which no step is left, and is short.
-use Rattle.std.proofs.Common.{◌≡◌, ◌≤◌, ◌⊎◌, ℕ, ◌+◌, ◌++◌, ◌/◌, inl, inr, zero, suc, max, Bool, true, false, cond, not, length, map, List, [], ◌∷◌, Option, Some, None, slice_get, unwrap_or, refl, sym, ap, ◌∙◌, subst, arith, nat_eq}
+use Rattle.std.proofs.Common.{◌≡◌, ◌≤◌, ◌⊎◌, ℕ, ◌+◌, inl, inr, zero, suc, Bool, true, false, cond, not, length, map, List, [], ◌∷◌, Option, Some, None, slice_get, unwrap_or, refl, sym, ap, ◌∙◌, subst, arith, nat_eq}
 use Rattle.std.specs.Cmp.Lexicographic.{pointwise}
 use Rattle.std.specs.List.{range_with_len}
 use Rattle.std.proofs.lemmas.Bool.{cases_Bool, false≢true}
@@ -7,13 +7,12 @@ use Rattle.std.proofs.lemmas.List.{take_all}
 use Rattle.std.proofs.lemmas.List.FromFn.{length-map-range_with_len}
 use Rattle.std.proofs.lemmas.Option.{same_Some, none-some}
 use Rattle.definitions.specs.Disk as disk
-use Rattle.definitions.specs.SwapHeader.{flags_of, hw_sig_of, sig_of, image_signature}
+use Rattle.definitions.specs.SwapHeader.{flags_of, sig_of, image_signature}
 use Rattle.definitions.specs.Zones.{AreZones, numbers}
 use Rattle.definitions.proofs.ZoneNumbers.{length-numbers_front}
 use Rattle.plain_machine.specs.Machine.{Hardware, Memory, valid_count}
-use Rattle.plain_machine.specs.Chain.{header_of, or_else, map_fault}
-use Rattle.plain_machine.specs.Trace.{Place, map_at, page_at, place, places, place_count, place_cause, is_set, first_map, info_in, format_in, are_bad_counts, identity_cause, memory_cause, counts_cause, info_cause, read_cause, want_cause, content_cause, header_cause, taken_back_cause, last_reply, stop_or_go, replies_from, trace}
-use Rattle.plain_machine.specs.declared.event.Loader.{Loader}
+use Rattle.plain_machine.specs.Chain.{header_of, or_else}
+use Rattle.plain_machine.specs.Trace.{Place, map_at, page_at, place, places, place_count, place_cause, is_set, info_in, format_in, are_bad_counts, identity_cause, memory_cause, counts_cause, info_cause, want_cause, content_cause, header_cause, taken_back_cause, last_reply, stop_or_go, replies_from, trace}
 use Rattle.plain_machine.specs.declared.event.Loader.TheVariants.{Table}
 use Rattle.plain_machine.specs.declared.event.IdentCheck.{IdentCheck}
 use Rattle.plain_machine.specs.declared.reply.Reply.{Reply}

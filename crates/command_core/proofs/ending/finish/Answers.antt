@@ -1,14 +1,10 @@
-use Rattle.std.proofs.Common.{◌≡◌, ◌⊎◌, inl, inr, ◌≤◌, ◌+◌, ◌∙◌, ℕ, suc, Bool, true, false, IsTrue, Some, min, arith, refl, sym, ap, subst}
-use Rattle.std.proofs.Math.Nat.{min-le_left}
+use Rattle.std.proofs.Common.{◌≡◌, ◌⊎◌, inl, inr, ◌∙◌, true, false, arith, refl, sym}
 use Rattle.std.proofs.lemmas.Bool.{false≢true}
-use Rattle.definitions.specs.Disk.{Content, HasRisen, raised, last_count}
-use Rattle.plain_machine.specs.State.{State}
 use Rattle.plain_machine.specs.declared.event.Actor.TheVariants as actor
 use Rattle.plain_machine.specs.declared.event.Event.TheVariants as event
 use Rattle.protocol_laws.specs.Rows.{IsNewFault}
-use Rattle.world_core.specs.StandsFor.{StandsFor, hardware_of}
-use Rattle.command_core.specs.Turns.{HaveMade, HasGone, Point, AreSteps, goes_on}
-use Rattle.command_core.proofs.Points.{turned, made_first, made_more, called_within, risen_then}
+use Rattle.world_core.specs.StandsFor.{hardware_of}
+use Rattle.command_core.proofs.Points.{made_first, made_more, called_within, risen_then}
 use Rattle.command_core.proofs.ending.finish.Goals as goal
 use Rattle.command_core.proofs.ending.finish.Goals.{then-failed, else-failed}
 

@@ -1,4 +1,4 @@
-use Rattle.std.proofs.Common.{◌-◌, ◌≡◌, ◌⊎◌, ◌≤◌, ◌+◌, ℕ, false, IsTrue, Some}
+use Rattle.std.proofs.Common.{◌-◌, ◌≡◌, ◌⊎◌, ◌≤◌, ◌+◌, false, IsTrue, Some}
 use Rattle.definitions.specs.Disk.{Content, HasRisen}
 use Rattle.plain_machine.specs.State.{State}
 use Rattle.world_core.specs.StandsFor.{IsOff, StandsFor, blocks_of, hardware_of}

@@ -1,7 +1,6 @@
-use Rattle.std.proofs.Common.{◌≡◌, inl, inr, true, false, refl, sym, ap, ◌∙◌, subst}
+use Rattle.std.proofs.Common.{inl, inr, sym, ◌∙◌, subst}
 use Rattle.std.proofs.lemmas.Bool.{false≢true}
 use Rattle.definitions.specs.Disk as disk
-use Rattle.protocol_laws.specs.Rows.{IsNewFault}
 use Rattle.world_core.specs.StandsFor.{hardware_of}
 use Rattle.command_core.specs.Turns.{IsFault}
 use Rattle.command_core.proofs.Begun.{told_whole, boots_first, boots_second, boots_third}

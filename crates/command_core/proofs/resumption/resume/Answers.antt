@@ -1,4 +1,4 @@
-use Rattle.std.proofs.Common.{◌≡◌, true, false, Some, refl, sym, ap, ◌∙◌, subst}
+use Rattle.std.proofs.Common.{true, false, Some, refl, sym, ◌∙◌, subst}
 use Rattle.definitions.specs.Disk as disk
 use Rattle.plain_machine.specs.Machine.{Hardware}
 use Rattle.plain_machine.specs.State.{off}
