@@ -1,11 +1,10 @@
 -- Blocks on which no slot of the area lies: no event writes them.
-use Rattle.std.proofs.Common.{zero, suc, ◌≡◌, ◌≢◌, ◌⊎◌, inl, inr, ◌<◌, ℕ, ◌+◌, ◌/◌, ◌==◌, nat_lt, Bool, true, false, ◌&&◌, cond, List, [], ◌∷◌, length, map, flat_map, eqb, Option, Some, None, set, get_or, slice_index_or, Contains, refl, sym, ◌∙◌, subst, arith}
+use Rattle.std.proofs.Common.{zero, suc, ◌≡◌, inl, inr, ◌<◌, ℕ, ◌+◌, ◌/◌, ◌==◌, nat_lt, Bool, true, false, ◌&&◌, cond, List, [], ◌∷◌, length, map, flat_map, eqb, Option, Some, None, get_or, slice_index_or, Contains, refl, sym, subst, arith}
 use Rattle.std.proofs.lemmas.Bool.{cases_lt, ltb-true}
-use Rattle.std.proofs.lemmas.List.{get_or-set_same, get_or-set_other, length-set, get_or_past, get_or_default}
+use Rattle.std.proofs.lemmas.List.{get_or_past, get_or_default}
 use Rattle.std.proofs.lemmas.List.Elements.{Contains-append_cases}
 use Rattle.std.specs.List.{range_with_len}
 use Rattle.definitions.specs.Disk as disk
-use Rattle.definitions.proofs.DiskLaws.{IsImage-as_it_reads, length-as_it_reads}
 use Rattle.definitions.proofs.FrameSets.{Contains-from_filter}
 use Rattle.definitions.proofs.ZoneNumbers.{range-bounds}
 use Rattle.plain_machine.specs.Machine.{Hardware, Memory, block_of_slot, unused_slots, slot_entry}
@@ -14,7 +13,7 @@ use Rattle.plain_machine.specs.Laid.{laid, laid_block, laid_map, laid_write, is_
 use Rattle.plain_machine.specs.Shows.{Shown}
 use Rattle.plain_machine.specs.Stands.{Stands, HasFlights, laid_blocks}
 use Rattle.plain_machine.specs.State.{State, Running, Flight, goes_out, comes_in, off, on, booting, hibernating, undoing, settling, waking, loading, asleep}
-use Rattle.protocol_laws.specs.Rows.{LeavesBlock, blocks_written, out_block}
+use Rattle.protocol_laws.specs.Rows.{blocks_written, out_block}
 use Rattle.swsusp_cli.specs.Replay.{IsNoSlot}
 
 -- Each block that an event may write is a slot's.

@@ -1,5 +1,5 @@
 -- Texts that are printed, and what is behind them.
-use Rattle.std.proofs.Common.{zero, suc, ◌≢◌, inl, inr, ◌≤◌, ℕ, List, [], length, Option, Some, None, Result, Ok, Err, OnOk, OnErr, subst, arith, append-nil}
+use Rattle.std.proofs.Common.{zero, suc, ◌≢◌, inl, inr, ◌≤◌, ℕ, List, [], Option, Some, None, Result, Ok, Err, OnOk, OnErr, subst, arith, append-nil}
 use Rattle.definitions.specs.Streams.{Takes, TakesAll, TakesFront}
 use Rattle.dump_file.specs.Flushed.{IsFlushed}
 use Rattle.swsusp_cli.specs.Answer.{Told, memory_told}
@@ -14,7 +14,7 @@ use Rattle.swsusp_cli.specs.Told.{IsPrinted, FailsToPrint, IsTold, IsTried}
 use Rattle.swsusp_cli.specs.View.{SinkView, View}
 use Rattle.swsusp_cli.specs.declared.status.Status.{Status}
 use Rattle.swsusp_cli.specs.declared.status.Status.TheVariants.{Stream}
-use Rattle.swsusp_cli.proofs.Turns.{taken_more, front_more}
+use Rattle.swsusp_cli.proofs.Turns.{taken_more}
 
 pub tried : {A E : Type 0} (r : Result A E) (text : List ℕ) (old new : SinkView) → OnOk r (IsPrinted text old new) → OnErr r (FailsToPrint text old new) → IsTried text old new
 tried (Ok x) text old new printed failed = inl printed
@@ -27,13 +27,6 @@ printed_then text old mid new whole end = record {
   flushed = end.flushed;
 }
 
-pub front_then : (text : List ℕ) (old mid new : SinkView) → TakesAll text old.taken mid.taken → FailsToPrint [] mid new → TakesFront text old.taken new.taken
-front_then text old mid new whole end =
-    subst (λ (t : List ℕ). TakesFront t old.taken new.taken) (append-nil text) (front_more text [] old.taken mid.taken new.taken whole end.front)
-
-pub whole_front : (text : List ℕ) (old new : Option (List ℕ)) → TakesAll text old new → TakesFront text old new
-whole_front text old new whole = (length text, omega arith, whole)
-
 -- a sink that fails before the first byte has taken a front of any text
 no_bytes : (k : ℕ) (text : List ℕ) (old new : Option (List ℕ)) → k ≤ 0 → Takes k [] old new → Takes 0 text old new
 no_bytes zero text None None le taken = tt
@@ -41,6 +34,13 @@ no_bytes zero text None (Some new) le taken = taken
 no_bytes zero text (Some old) None le taken = taken
 no_bytes zero text (Some old) (Some new) le taken = taken
 no_bytes (suc k) text old new le taken = absurd (omega arith)
+
+whole_then : (text : List ℕ) (old mid new : Option (List ℕ)) → TakesAll text old mid → TakesFront [] mid new → TakesAll text old new
+whole_then text old mid new whole end = subst (λ (t : List ℕ). TakesAll t old new) (append-nil text) (taken_more text [] old mid new whole (no_bytes end.0 [] mid new end.1 end.2))
+
+-- a flush that fails behind a text leaves the text
+pub whole_still : (text : List ℕ) (old mid new : SinkView) → TakesAll text old.taken mid.taken → FailsToPrint [] mid new → TakesAll text old.taken new.taken
+whole_still text old mid new whole end = whole_then text old.taken mid.taken new.taken whole end.front
 
 pub fails_early : (text : List ℕ) (old new : SinkView) → FailsToPrint [] old new → FailsToPrint text old new
 fails_early text old new end = record {

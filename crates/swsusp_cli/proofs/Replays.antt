@@ -5,7 +5,7 @@ use Rattle.std.proofs.lemmas.List.{length-take, take_all}
 use Rattle.std.proofs.lemmas.List.Sums.{count_by-le-length, length-filter}
 use Rattle.std.specs.Option.{IfSome}
 use Rattle.definitions.specs.Disk as disk
-use Rattle.definitions.specs.Streams.{TakesAll, TakesFront}
+use Rattle.definitions.specs.Streams.{TakesAll}
 use Rattle.definitions.proofs.DiskLaws.{length-as_it_reads}
 use Rattle.plain_machine.specs.Machine.{Hardware}
 use Rattle.plain_machine.specs.Chain.{blocks_of}
@@ -33,7 +33,7 @@ use Rattle.run_laws.proofs.AtomicCopy.{all_restore}
 use Rattle.run_laws.proofs.Once.{resumed_once}
 use Rattle.command_core.proofs.Leaving.{leaves_then}
 use Rattle.swsusp_cli.proofs.Formatted.{CanFormat, formatted_unmarked, formats_leaves, formats_size}
-use Rattle.swsusp_cli.proofs.Prints.{printed_then, front_then, whole_front, fails_early}
+use Rattle.swsusp_cli.proofs.Prints.{printed_then, whole_still, fails_early}
 use Rattle.swsusp_cli.proofs.Turns.{counted_earlier, whole_of}
 
 -- what a call makes of the content, where it is told
@@ -151,15 +151,15 @@ played_whole x x' status script mid replies script_is roomy are taken (inr short
   all : take (length script.events) script.events ≡ script.events
   all = take_all (length script.events) script.events (omega arith)
 
-  ended : TakesFront (text_of replies) x.out.taken x'.out.taken → IsTried sink_note x.note x'.note → IsReplayed x x' status
-  ended front note = cut_off script (record {
+  ended : TakesAll (text_of replies) x.out.taken x'.out.taken → IsTried sink_note x.note x'.note → IsReplayed x x' status
+  ended whole note = cut_off script (record {
     script_is = script_is;
     roomy = roomy;
     status_is = short.status_is;
-    prints = (length script.events, replies, subst (λ (events : List Event). AreReplies x.disk x'.disk script events replies) (sym all) are, front);
+    prints = (length script.events, replies, subst (λ (events : List Event). AreReplies x.disk x'.disk script events replies) (sym all) are, inl whole);
     note = note;
   })
 
   by_sink : AreFronts done mid x'.out x.note x'.note → IsReplayed x x' status
-  by_sink (inl out) = ended (front_then (text_of replies) x.out mid x'.out taken out.0) out.1
-  by_sink (inr note) = ended (whole_front (text_of replies) x.out.taken x'.out.taken (printed_then (text_of replies) x.out mid x'.out taken note.0).whole) (inr (fails_early sink_note x.note x'.note note.1))
+  by_sink (inl out) = ended (whole_still (text_of replies) x.out mid x'.out taken out.0) out.1
+  by_sink (inr note) = ended ((printed_then (text_of replies) x.out mid x'.out taken note.0).whole) (inr (fails_early sink_note x.note x'.note note.1))

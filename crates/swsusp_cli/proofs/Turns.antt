@@ -3,11 +3,10 @@ use Rattle.std.proofs.Common.{suc, ◌≡◌, ◌⊎◌, inl, inr, ◌≤◌, �
 use Rattle.std.proofs.lemmas.List.Elements.{filter-append}
 use Rattle.std.proofs.lemmas.Grind.{flat_map-append}
 use Rattle.std.proofs.Math.Nat.{min-le_left}
-use Rattle.std.proofs.Math.Seq.{take-append-add}
 use Rattle.std.proofs.lemmas.List.{take_all, append-nil}
 use Rattle.std.specs.Option.{IfSome}
 use Rattle.definitions.specs.Disk as disk
-use Rattle.definitions.specs.Streams.{Takes, TakesAll, TakesFront}
+use Rattle.definitions.specs.Streams.{TakesAll}
 use Rattle.plain_machine.specs.Machine.{Hardware}
 use Rattle.plain_machine.specs.Replies.{text_of, line_of}
 use Rattle.plain_machine.specs.Stands.{Stands}
@@ -214,21 +213,6 @@ taken_more t u (Some old) (Some mid) (Some new) p q =
     ∙ ap (λ (xs : List ℕ). old ++ xs ++ take (length u) u) (take_all (length t) t (omega arith))
     ∙ ap (λ (xs : List ℕ). old ++ t ++ xs) (take_all (length u) u (omega arith))
     ∙ append_assoc old t u ∙ ap (λ (xs : List ℕ). old ++ xs) (sym (take_all (length (t ++ u)) (t ++ u) (omega arith)))
-
-front_taken : (t u : List ℕ) (k : ℕ) (old mid new : Option (List ℕ)) → TakesAll t old mid → Takes k u mid new → Takes (length t + k) (t ++ u) old new
-front_taken t u k None None None p q = tt
-front_taken t u k None None (Some new) p q = q
-front_taken t u k None (Some mid) new p q = absurd p
-front_taken t u k (Some old) None new p q = absurd p
-front_taken t u k (Some old) (Some mid) None p q = q
-front_taken t u k (Some old) (Some mid) (Some new) p q =
-    q ∙ ap (λ (m : List ℕ). m ++ take k u) p
-    ∙ ap (λ (xs : List ℕ). old ++ xs ++ take k u) (take_all (length t) t (omega arith))
-    ∙ append_assoc old t (take k u) ∙ ap (λ (xs : List ℕ). old ++ xs) (sym (take-append-add t u k))
-
--- a text that was taken whole, and a front of another
-pub front_more : (t u : List ℕ) (old mid new : Option (List ℕ)) → TakesAll t old mid → TakesFront u mid new → TakesFront (t ++ u) old new
-front_more t u old mid new p (k, le, q) = (length t + k, omega (arith, length-append t u), front_taken t u k old mid new p q)
 
 pub text_more : (rs : List Reply) (r : Reply) → text_of (rs ++ r ∷ []) ≡ text_of rs ++ line_of r
 text_more rs r = flat_map-append line_of rs (r ∷ []) ∙ ap (λ (xs : List ℕ). text_of rs ++ xs) (append-nil (line_of r))

@@ -1,5 +1,5 @@
 -- How `resume` may end: it reads a loader's dump, and its machine answers.
-use Rattle.std.specs.Prelude.{◌≡◌, ◌≤◌, ◌+◌, List, [], Bool, true, false, if◌then◌else◌, Some}
+use Rattle.std.specs.Prelude.{◌≡◌, ◌≤◌, ◌+◌, [], Bool, true, false, if◌then◌else◌, Some}
 use Rattle.definitions.specs.Disk as disk
 use Rattle.dump_file.specs.Dump.{DumpValue}
 use Rattle.dump_file.specs.Written.{dump_bytes}

@@ -1,9 +1,9 @@
 -- What `replay` does: it prints a run of the plain machine.
-use Rattle.std.specs.Prelude.{zero, suc, ◌≡◌, ◌≢◌, ◌⊎◌, ◌≤◌, ◌<◌, ℕ, ◌+◌, List, [], ◌∷◌, ◌++◌, length, take, filter, Bool, true, false, codes, decimal, Some, None}
+use Rattle.std.specs.Prelude.{zero, suc, ◌≡◌, ◌≢◌, ◌⊎◌, ◌≤◌, ◌<◌, ℕ, ◌+◌, List, [], ◌∷◌, ◌++◌, length, take, filter, Bool, true, false, codes, decimal, Option, Some, None}
 use Rattle.definitions.specs.Disk as disk
-use Rattle.definitions.specs.Streams.{TakesFront}
+use Rattle.definitions.specs.Streams.{TakesAll, TakesFront}
 use Rattle.plain_machine.specs.Machine.{Hardware, block_of_slot}
-use Rattle.plain_machine.specs.Replies.{text_of}
+use Rattle.plain_machine.specs.Replies.{text_of, line_of}
 use Rattle.plain_machine.specs.State.{State, off, nothing}
 use Rattle.plain_machine.specs.Step.{Run}
 use Rattle.plain_machine.specs.declared.event.Event.{Event}
@@ -81,13 +81,19 @@ pub record AreReplies (x x' : DiskView) (script : ScriptValue) (events : List Ev
   pub faults : AreCounted replies x.faults x'.faults
   pub run : (c : disk.Content) → x.content ≡ Some c → IsRun x x' script events replies c
 
--- Out took the lines of the replies to all events; it took a front of the lines of those to some first events.
+-- Out took the lines of these replies, or those of all but the last and a front of that one's: nothing is played once out has failed.
+abbrev pub TakesToLast : List Reply → Option (List ℕ) → Option (List ℕ) → Type 0
+TakesToLast replies old new =
+    TakesAll (text_of replies) old new
+    ⊎ ((rs : List Reply) × (r : Reply) × (replies ≡ rs ++ r ∷ []) × (mid : Option (List ℕ)) × TakesAll (text_of rs) old mid × TakesFront (line_of r) mid new)
+
+-- Out took the lines of the replies to all events; it took those of the replies to some first events, up to the last.
 abbrev pub Prints : ScriptValue → View → View → Type 0
 Prints script x x' = (replies : List Reply) × AreReplies x.disk x'.disk script script.events replies × IsPrinted (text_of replies) x.out x'.out
 
 abbrev pub PrintsFront : ScriptValue → View → View → Type 0
 PrintsFront script x x' =
-    (k : ℕ) × (replies : List Reply) × AreReplies x.disk x'.disk script (take k script.events) replies × TakesFront (text_of replies) x.out.taken x'.out.taken
+    (k : ℕ) × (replies : List Reply) × AreReplies x.disk x'.disk script (take k script.events) replies × TakesToLast replies x.out.taken x'.out.taken
 
 -- Notes.
 

@@ -7,6 +7,7 @@ ghost use Rattle.plain_machine.specs.declared.reply.Reply.{Reply};
 ghost use Rattle.world_core.specs.StandsFor.{IsOff, blocks_of, hardware_of};
 ghost use Rattle.script.specs.Shapes.{IsScripted};
 ghost use Rattle.swsusp_cli.specs.Playing.{HasPlayed};
+ghost use Rattle.swsusp_cli.specs.Replay.{TakesToLast};
 
 use crate::answer::put;
 use dump_file::Sink;
@@ -35,7 +36,7 @@ pub fn play<D: Disk, O: Sink>(
         (λ _. (k : ℕ) × (replies : List Reply) × HasPlayed world.old world.new (take k events.now) replies
         (record { blocks = D.block_count disk.old; content = D.content disk.old; faults = D.faults disk.old; calls = D.calls disk.old; orders = D.orders disk.old })
         (record { blocks = D.block_count disk.new; content = D.content disk.new; faults = D.faults disk.new; calls = D.calls disk.new; orders = D.orders disk.new })
-        × TakesFront (text_of replies) (O.taken out.old) (O.taken out.new)) }
+        × TakesToLast replies (O.taken out.old) (O.taken out.new)) }
     ensures stream { OnErr result (HasRisen (O.faults out.old) (O.faults out.new)) }
     ensures stream_faults { O.faults out.old ≤ O.faults out.new }
     ensures hardware { hardware_of world.new ≡ hardware_of world.old }

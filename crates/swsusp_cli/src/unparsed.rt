@@ -1,6 +1,6 @@
-ghost use Rattle.std.specs.Prelude.{◌≡◌, ◌≢◌, ◌⊎◌};
+ghost use Rattle.std.specs.Prelude.{◌≡◌, ◌≢◌, ◌⊎◌, IfOk, IsOk, codes, string_bytes};
 ghost use Rattle.definitions.specs.Disk.{HasRisen};
-ghost use Rattle.swsusp_cli.specs.Answer.{Told};
+ghost use Rattle.swsusp_cli.specs.Answer.{Told, line};
 ghost use Rattle.swsusp_cli.specs.Run.{IsRefusal};
 ghost use Rattle.swsusp_cli.specs.Told.{IsTold};
 
@@ -28,15 +28,17 @@ pub fn refuse<O: Sink, N: Sink>(
         HasRisen (O.faults out.old) (O.faults out.new) ⊎ HasRisen (N.faults note.old) (N.faults note.new) }
     ensures device { result ≢ Status.Device }
 {
-    match text_for(alloc, words) {
+    match text_of(alloc, read(alloc, words)) {
         Ok(text) => tell(Status::Words, b"", text.as_bytes(), out, note),
         Err(NoMemory) => no_memory().tell(out, note),
     }
 }
 
-/// What clap says of words, or `words` where it takes them.
-fn text_for(alloc: Global, words: &[String]) -> Result<String, NoMemory> {
-    let made = match read(alloc, words) {
+/// `words` where clap took them, else what it says of them.
+fn text_of(alloc: Global, read: Result<(), Error>) -> Result<String, NoMemory>
+    ensures words { IsOk read → IfOk result (λ text. string_bytes text ≡ line (codes "words")) }
+{
+    let made = match read {
         Ok(()) => String::from_str(alloc, "words\n"),
         Err(error) => {
             if error.kind() == ErrorKind::OutOfMemory {

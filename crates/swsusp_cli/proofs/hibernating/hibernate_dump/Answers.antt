@@ -1,9 +1,8 @@
-use Rattle.std.proofs.Common.{◌≡◌, Ok, Err, refl, sym, ap, ◌∙◌, subst}
+use Rattle.std.proofs.Common.{◌≡◌, Err, refl, ap, ◌∙◌, subst}
 use Rattle.dump_file.specs.Dump.{DumpValue}
-use Rattle.dump_file.specs.declared.dump.DumpStop.{DumpStop}
-use Rattle.swsusp_cli.specs.Answer.{Told, memory_told}
+use Rattle.swsusp_cli.specs.Answer.{Told}
 use Rattle.swsusp_cli.specs.AnswerOf.{told_by}
-use Rattle.swsusp_cli.specs.Dumps.{dump_told, hibernation_told}
+use Rattle.swsusp_cli.specs.Dumps.{dump_told}
 use Rattle.swsusp_cli.specs.Dumps.{no_dump, out_of_memory, answered}
 use Rattle.swsusp_cli.specs.Told.{IsTold}
 use Rattle.swsusp_cli.specs.View.{DiskView, SinkView}

@@ -1,7 +1,7 @@
-use Rattle.std.proofs.Common.{◌≡◌, ◌<◌, ◌+◌, ◌++◌, ℕ, List, [], ◌∷◌, length, take, get_or, refl, sym, ◌∙◌, subst, arith}
+use Rattle.std.proofs.Common.{inr, ◌≡◌, ◌<◌, ◌+◌, ◌++◌, ℕ, List, [], ◌∷◌, length, take, get_or, refl, sym, ◌∙◌, subst, arith}
 use Rattle.std.proofs.lemmas.List.{take_more}
 use Rattle.std.proofs.lemmas.List.Elements.{All-get_or}
-use Rattle.definitions.specs.Streams.{TakesAll, TakesFront}
+use Rattle.definitions.specs.Streams.{TakesAll}
 use Rattle.definitions.proofs.Pieces.{Takes-none}
 use Rattle.plain_machine.specs.Replies.{text_of, line_of}
 use Rattle.plain_machine.specs.declared.event.Event.{Event}
@@ -10,7 +10,7 @@ use Rattle.plain_machine.specs.declared.event.BootFrom.TheVariants.{Fresh}
 use Rattle.script.specs.Shapes.{IsScripted}
 use Rattle.swsusp_cli.specs.Playing.{HasPlayed}
 use Rattle.swsusp_cli.specs.View.{DiskView}
-use Rattle.swsusp_cli.proofs.Turns.{served, played_none, played_more, taken_more, front_more, text_more}
+use Rattle.swsusp_cli.proofs.Turns.{served, played_none, played_more, taken_more, text_more}
 use Rattle.swsusp_cli.proofs.playing.play.Goals as goal
 
 one_more : (events : List Event) (i : ℕ) → i < length events → take (i + 1) events ≡ take i events ++ get_or events i (event.Boot Fresh) ∷ []
@@ -76,7 +76,7 @@ returns-in-Err-clause-played g c =
       i + 1,
       rs ++ r ∷ [],
       played,
-      subst (λ (t : List ℕ). TakesFront t old_out new_out) (sym (text_more rs r)) (front_more (text_of rs) (line_of r) old_out mid_out new_out inv.played.2 c.print_reply.ensures.front),
+      inr (rs, r, refl, mid_out, inv.played.2, c.print_reply.ensures.front),
     )
 
 pub event-reply-requires-clause-served : goal.event-reply-requires-clause-served

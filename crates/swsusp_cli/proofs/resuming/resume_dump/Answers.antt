@@ -1,7 +1,6 @@
-use Rattle.std.proofs.Common.{◌≡◌, Ok, Err, refl, sym, ap, ◌∙◌, subst, inr}
+use Rattle.std.proofs.Common.{◌≡◌, Err, refl, sym, ap, ◌∙◌, subst, inr}
 use Rattle.dump_file.specs.Dump.{DumpValue}
-use Rattle.dump_file.specs.declared.dump.DumpStop.{DumpStop}
-use Rattle.swsusp_cli.specs.Answer.{Told, memory_told}
+use Rattle.swsusp_cli.specs.Answer.{Told}
 use Rattle.swsusp_cli.specs.AnswerOf.{told_by}
 use Rattle.swsusp_cli.specs.Dumps.{dump_told}
 use Rattle.swsusp_cli.specs.Loads.{no_dump, out_of_memory, answered}
