@@ -16,7 +16,7 @@ fn small_disk(alloc: Global) -> Result<MemDisk, Fail> {
 // clap takes these, and yet they aren't plain.
 #[test]
 fn words_that_are_not_plain(rt: HostRuntime) -> Result<(), Fail> {
-    let lists: [&[&str]; 8] = [
+    let lists: [&[&str]; 10] = [
         &["swsusp", "inspect", ""],
         &["swsusp", "inspect", "-"],
         &["swsusp", "inspect", "--", "s"],
@@ -25,6 +25,8 @@ fn words_that_are_not_plain(rt: HostRuntime) -> Result<(), Fail> {
         &["swsusp", "inspect", "--offset=1", "s"],
         &["swsusp", "inspect", "s", "--offset", "1"],
         &["swsusp", "inspect", "--offset", "1", "-"],
+        &["swsusp", "hibernate", "s", "--skip-zeros"],
+        &["swsusp", "resume", "--", "s"],
     ];
     for list in lists {
         let mut disk = small_disk(rt.alloc())?;
@@ -37,7 +39,7 @@ fn words_that_are_not_plain(rt: HostRuntime) -> Result<(), Fail> {
 // Of these clap says what is wrong, or what was asked for.
 #[test]
 fn words_that_clap_refuses(rt: HostRuntime) -> Result<(), Fail> {
-    let lists: [&[&str]; 12] = [
+    let lists: [&[&str]; 16] = [
         &["swsusp"],
         &["swsusp", "inspect"],
         &["swsusp", "inspect", "a", "b"],
@@ -46,7 +48,11 @@ fn words_that_clap_refuses(rt: HostRuntime) -> Result<(), Fail> {
         &["swsusp", "inspect", "--offset", "4294967296", "s"],
         &["swsusp", "inspect", "--offset", "1", "--offset", "2", "s"],
         &["swsusp", "drill", "0"],
-        &["swsusp", "hibernate", "s"],
+        &["swsusp", "hibernate"],
+        &["swsusp", "hibernate", "--any-kernel", "s"],
+        &["swsusp", "hibernate", "--skip-zeros"],
+        &["swsusp", "resume", "--skip-zeros", "s"],
+        &["swsusp", "resume", "a", "b"],
         &["swsusp", "replay", "s"],
         &["swsusp", "--help"],
         &["swsusp", "--version"],
@@ -74,7 +80,7 @@ fn asked(alloc: Global, list: &[&str]) -> Result<(Option<String>, u32), Fail> {
 
 #[test]
 fn the_disk_that_words_ask_for(rt: HostRuntime) -> Result<(), Fail> {
-    let lists: [(&[&str], Option<&str>, u32); 5] = [
+    let lists: [(&[&str], Option<&str>, u32); 8] = [
         (&["swsusp", "inspect", "swap.img"], Some("swap.img"), 0),
         (
             &["swsusp", "inspect", "--offset", "50", "swap.img"],
@@ -84,6 +90,9 @@ fn the_disk_that_words_ask_for(rt: HostRuntime) -> Result<(), Fail> {
         (&["swsusp", "inspect"], None, 1),
         (&["swsusp", "drill", "0"], None, 1),
         (&["swsusp", "replay"], None, 16384),
+        (&["swsusp", "hibernate", "a"], Some("a"), 0),
+        (&["swsusp", "hibernate", "--skip-zeros", "a"], Some("a"), 0),
+        (&["swsusp", "resume", "--any-kernel", "b"], Some("b"), 0),
     ];
     for (list, path, blocks) in lists {
         let got = asked(rt.alloc(), list)?;

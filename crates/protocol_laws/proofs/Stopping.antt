@@ -1,4 +1,4 @@
--- What stops a resume behind block(0) is none of the replies Loading, Resumed and Compressed.
+-- What stops a resume after block(0) is none of the replies Loading, Resumed and Compressed, and none of those of a hibernation's steps.
 use Rattle.std.proofs.Common.{◌≡◌, ℕ, ◌+◌, ◌-◌, ◌*◌, ◌%◌, ◌&&◌, ◌||◌, is_none, Bool, true, false, not, cond, eqb, ltb, leb, zero, suc, List, [], ◌∷◌, length, map, min, Option, Some, None, unwrap_or, refl, sym, ap, ◌∙◌, nat_eq}
 use Rattle.std.specs.List.{range_with_len}
 use Rattle.std.specs.Cmp.Lexicographic.{pointwise}
@@ -23,6 +23,8 @@ abbrev pub is_no_stop : Reply → Bool
 is_no_stop (reply.Loading k) = true
 is_no_stop (reply.Resumed n) = true
 is_no_stop (reply.Compressed flags) = true
+is_no_stop (reply.More k of) = true
+is_no_stop (reply.Undo call k) = true
 is_no_stop r = false
 
 abbrev is_loading : Reply → Bool

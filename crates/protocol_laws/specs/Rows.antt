@@ -1,6 +1,6 @@
 -- What an event makes of something that stands for a state of the plain machine over a disk: for each state that it stood for there is
 -- one that the plain machine goes on to.
-use Rattle.std.specs.Prelude.{◌≡◌, ◌≤◌, ◌<◌, ◌+◌, ◌*◌, ℕ, zero, List, [], ◌∷◌, length, All, flat_map, Contains, slice_index_or, Option, Some, None, ⊤}
+use Rattle.std.specs.Prelude.{◌≡◌, ◌≤◌, ◌<◌, ◌+◌, ◌*◌, ◌==◌, ℕ, zero, List, [], ◌∷◌, length, All, flat_map, Contains, slice_index_or, Option, Some, None, ⊤, if◌then◌else◌}
 use Rattle.std.specs.List.{range_with_len}
 use Rattle.definitions.specs.Disk as disk
 use Rattle.plain_machine.specs.Machine.{Hardware, block_of_slot}
@@ -34,7 +34,7 @@ out_block h (Some (goes_out s p)) = block_of_slot h s ∷ []
 out_block h (Some (comes_in s p)) = []
 
 -- The blocks that may be written, by the state before an event: those of unfinished outs while the machine runs, block(0) and the
--- blocks of the image's slots in a hibernation, block(0) alone where a mark is taken back.
+-- blocks of the image's slots in a hibernation, block(0) alone where a mark is taken back (at the third step of a resume).
 abbrev pub blocks_written : Hardware → State → List ℕ
 blocks_written h (off held kept) = []
 blocks_written h (on a) = flat_map (λ t. out_block h (a.flights t)) (range_with_len 1 64)
@@ -43,7 +43,7 @@ blocks_written h (hibernating suspends i a k) = block_of_slot h 0 ∷ laid_block
 blocks_written h (undoing i call a k) = block_of_slot h 0 ∷ []
 blocks_written h (settling a k) = block_of_slot h 0 ∷ []
 blocks_written h (waking i held a k) = block_of_slot h 0 ∷ []
-blocks_written h (loading load k) = block_of_slot h 0 ∷ []
+blocks_written h (loading load k) = if k == 2 then block_of_slot h 0 ∷ [] else []
 blocks_written h (asleep i held a) = []
 
 -- Each image that a crash may leave afterwards has in this block what a crash might have left there before.

@@ -1,4 +1,4 @@
-ghost use Rattle.std.specs.Prelude.{◌≡◌, ◌≤◌, IfOk, OnErr};
+ghost use Rattle.std.specs.Prelude.{◌≡◌, ◌≤◌, ◌↔◌, ◌*◌, ◌/◌, IfOk, IfSome, IsOk, OnOk, OnErr, Some, length, min};
 ghost use Rattle.definitions.specs.Disk.{raised, HasRisen};
 ghost use Rattle.sector_disk.specs.FileDisk.{IsNew};
 
@@ -55,8 +55,10 @@ impl<F: Read + Write + Seek + OpenFile + Drop> FileDisk<F> {
 
     /// A disk over an open file, which must be the one that was found at its path. Of a device the system tells the length
     /// at its end alone.
-    fn over(mut file: F, found: &Metadata) -> io::Result<FileDisk<F>>
-        ensures { IfOk result IsNew }
+    pub(crate) fn over(mut file: F, found: &Metadata) -> io::Result<FileDisk<F>>
+        ensures new { IfOk result IsNew }
+        ensures blocks { IfSome (F.stream_position file) (λ _. IfSome (F.stream_bytes file) (λ bytes.
+            IfOk result (λ disk. disk.blocks ≡ min (length bytes / 4096) 4294967295))) }
     {
         let opened = file.metadata()?;
         if opened.dev() != found.dev() || opened.ino() != found.ino() {
@@ -76,6 +78,8 @@ impl<F: Read + Write + Seek + OpenFile + Drop> FileDisk<F> {
     fn count(&mut self, answer: io::Result<()>) -> Result<(), Failed>
         ensures calls { self.new.calls ≡ raised self.old.calls }
         ensures faults { self.old.faults ≤ self.new.faults }
+        ensures same { IsOk result ↔ IsOk answer }
+        ensures no_fault { OnOk result (self.new.faults ≡ self.old.faults) }
         ensures cause { OnErr result (HasRisen self.old.faults self.new.faults) }
         ensures orders { self.new.orders ≡ self.old.orders }
         ensures blocks { self.new.blocks ≡ self.old.blocks }
@@ -102,8 +106,16 @@ fn kind_at<R: Files>(rt: &R, path: &str) -> io::Result<Metadata> {
     }
 }
 
-fn read_block<F: Read + Seek>(file: &mut F, b: u32, into: &mut [u8]) -> io::Result<()> {
+/// Goes to the first byte of a block.
+fn seek_to_block<F: Seek>(file: &mut F, b: u32) -> io::Result<()>
+    ensures at { IfSome (F.stream_position file.old) (λ _. OnOk result (F.stream_position file.new ≡ Some (4096 * b))) }
+{
     file.seek(SeekFrom::Start(BLOCK_SIZE * u64::from(b)))?;
+    Ok(())
+}
+
+fn read_block<F: Read + Seek>(file: &mut F, b: u32, into: &mut [u8]) -> io::Result<()> {
+    seek_to_block(file, b)?;
     let mut done = 0;
     while done < into.len() {
         let count = file.read(&mut into[done..])?;
@@ -116,7 +128,7 @@ fn read_block<F: Read + Seek>(file: &mut F, b: u32, into: &mut [u8]) -> io::Resu
 }
 
 fn write_block<F: Write + Seek>(file: &mut F, b: u32, from: &[u8]) -> io::Result<()> {
-    file.seek(SeekFrom::Start(BLOCK_SIZE * u64::from(b)))?;
+    seek_to_block(file, b)?;
     let mut done = 0;
     while done < from.len() {
         let count = file.write(&from[done..])?;

@@ -2,7 +2,8 @@ use crate::in_use::{Device, mounted, swap_device};
 use crate::{Disk, FileDisk};
 use page_core::{Failed, Page};
 use std::fs;
-use std::fs::File;
+use std::fs::{File, Metadata, OpenFile};
+use std::io::{self, ErrorKind, Read, Seek, SeekFrom, Write};
 use std::process::Abort;
 use std::rt::Files;
 use std::test::Fail;
@@ -35,6 +36,84 @@ fn a_file_shorter_than_a_block_has_none(rt: HostRuntime) -> Result<(), Fail> {
     fs::File::create(&rt, path)?.set_len(4095)?;
     assert_eq!(rt; FileDisk::<File>::open_read_only(&rt, path)?.blocks(), 0);
     assert_eq!(rt; FileDisk::<File>::open(&rt, path)?.blocks(), 0);
+    fs::remove_dir_all(&rt, folder)?;
+    Ok(())
+}
+
+#[test]
+fn a_block_that_is_gone_is_a_fault(rt: HostRuntime) -> Result<(), Fail> {
+    let folder = "sector_disk_gone_test";
+    let path = "sector_disk_gone_test/gone";
+    let _ = fs::remove_dir_all(&rt, folder);
+    fs::create_dir(&rt, folder)?;
+    let file = File::create(&rt, path)?;
+    file.set_len(2 * 4096)?;
+    let mut disk = FileDisk::<File>::open_read_only(&rt, path)?;
+    assert_eq!(rt; disk.blocks(), 2);
+    file.set_len(4096)?;
+    let mut page = Page::zero();
+    disk.read(0, &mut page)?;
+    assert_eq!(rt; disk.read(1, &mut page), Err(Failed));
+    fs::remove_dir_all(&rt, folder)?;
+    Ok(())
+}
+
+// A file whose device keeps nothing: each sync fails.
+#[derive(Drop)]
+struct Unsynced(File);
+
+impl Read for Unsynced {
+    fn read(&mut self, buf: &mut [u8]) -> io::Result<usize> {
+        self.0.read(buf)
+    }
+}
+
+impl Write for Unsynced {
+    fn write(&mut self, buf: &[u8]) -> io::Result<usize> {
+        self.0.write(buf)
+    }
+
+    fn flush(&mut self) -> io::Result<()> {
+        self.0.flush()
+    }
+}
+
+impl Seek for Unsynced {
+    fn seek(&mut self, to: SeekFrom) -> io::Result<u64> {
+        self.0.seek(to)
+    }
+}
+
+impl OpenFile for Unsynced {
+    fn metadata(&self) -> io::Result<Metadata> {
+        self.0.metadata()
+    }
+
+    fn set_len(&self, size: u64) -> io::Result<()> {
+        self.0.set_len(size)
+    }
+
+    fn sync_all(&self) -> io::Result<()> {
+        Err(ErrorKind::Other.into())
+    }
+
+    fn sync_data(&self) -> io::Result<()> {
+        Err(ErrorKind::Other.into())
+    }
+}
+
+#[test]
+fn a_sync_that_fails_is_a_fault(rt: HostRuntime) -> Result<(), Fail> {
+    let folder = "sector_disk_sync_test";
+    let path = "sector_disk_sync_test/unsynced";
+    let _ = fs::remove_dir_all(&rt, folder);
+    fs::create_dir(&rt, folder)?;
+    let file = File::create(&rt, path)?;
+    file.set_len(4096)?;
+    let mut disk = FileDisk::over(Unsynced(file), &fs::metadata(&rt, path)?)?;
+    assert_eq!(rt; disk.blocks(), 1);
+    disk.write(0, &Page::from_bytes(&[7; 4096]))?;
+    assert_eq!(rt; disk.sync(), Err(Failed));
     fs::remove_dir_all(&rt, folder)?;
     Ok(())
 }

@@ -29,7 +29,7 @@ fn main(rt: HostRuntime) -> ExitCode {
             let Ok(_held) = hold_streams(&rt) else {
                 return ended(&rt, b"open fault\n", NOT_OPENED);
             };
-            match FileDisk::open_read_only(&rt, path.as_str()) {
+            match open(&rt, &words, path.as_str()) {
                 Err(_) => ended(&rt, b"open fault\n", NOT_OPENED),
                 Ok(mut disk) => run_over(&rt, &words, &mut disk),
             }
@@ -38,6 +38,14 @@ fn main(rt: HostRuntime) -> ExitCode {
             Err(NoMemory) => ended(&rt, b"no memory\n", Status::Memory.code()),
             Ok(mut disk) => run_over(&rt, &words, &mut disk),
         },
+    }
+}
+
+/// Opens the swap file: for `inspect` for reading alone.
+fn open(rt: &HostRuntime, words: &[String], path: &str) -> io::Result<FileDisk<File>> {
+    match words {
+        [_, command, ..] if command.as_str() == "inspect" => FileDisk::open_read_only(rt, path),
+        _ => FileDisk::open(rt, path),
     }
 }
 

@@ -17,54 +17,6 @@ use Rattle.plain_machine.specs.State.{State, Running, Flight, goes_out, comes_in
 use Rattle.protocol_laws.specs.Rows.{LeavesBlock, blocks_written, out_block}
 use Rattle.swsusp_cli.specs.Replay.{IsNoSlot}
 
--- Over two changes a block is left, where each leaves it.
-
-other_sector : (blocks s t : ℕ) (d : disk.Content) (x : List ℕ) → disk.IsContent blocks d → Contains (disk.sector d s).candidates x → t < length d →
-    (t ≡ s) ⊎ (t ≢ s) → s < length d → Contains (disk.sector d t).candidates (slice_index_or (set (disk.as_it_reads d) s x) t [])
-other_sector blocks s t d x whole in' lt (inl e) inside =
-    subst (λ (k : ℕ). Contains (disk.sector d k).candidates (slice_index_or (set (disk.as_it_reads d) s x) k [])) (sym e)
-    (subst (Contains (disk.sector d s).candidates) (sym (get_or-set_same (disk.as_it_reads d) s x [] (omega (arith, length-as_it_reads d)))) in')
-other_sector blocks s t d x whole in' lt (inr ne) inside =
-    subst (Contains (disk.sector d t).candidates) (sym (get_or-set_other (disk.as_it_reads d) s t x [] ne)) ((IsImage-as_it_reads blocks d whole).chosen t lt)
-
-same_or_not : (t s : ℕ) → (t ≡ s) ⊎ (t ≢ s)
-same_or_not t s = elim (cases_lt t s) [
-  | inl lt ↦ inr (λ e. omega arith)
-  | inr le ↦ elim (cases_lt s t) [
-    | inl lt ↦ inr (λ e. omega arith)
-    | inr ge ↦ inl (omega arith)
-  ]
-]
-
--- an image that reads as the disk does, but for one sector, which has one of its candidates
-with_candidate : (blocks s : ℕ) (d : disk.Content) (x : List ℕ) → disk.IsContent blocks d → s < length d → Contains (disk.sector d s).candidates x → disk.IsImage d (set (disk.as_it_reads d) s x)
-with_candidate blocks s d x whole inside in' = record {
-  size = length-set (disk.as_it_reads d) s x ∙ length-as_it_reads d;
-  chosen = λ t lt. other_sector blocks s t d x whole in' lt (same_or_not t s) inside;
-}
-
-none_in : (x : List ℕ) → Contains [] x → ⊥
-none_in x (k, lt, e) = omega arith
-
-inside_of : (s : ℕ) (d : disk.Content) (x : List ℕ) → Contains (disk.sector d s).candidates x → s < length d
-inside_of s d x in' = elim (cases_lt s (length d)) [
-  | inl lt ↦ lt
-  | inr le ↦ absurd (none_in x (subst (λ (k : disk.Sector). Contains k.candidates x) (get_or_past d s disk.no_sector le) in'))
-]
-
-pub leaves_then : (blocks b : ℕ) (c d e : disk.Content) → disk.IsContent blocks d → LeavesBlock b c d → LeavesBlock b d e → LeavesBlock b c e
-leaves_then blocks b c d e whole first then = record {
-  leaves = λ v s in' lt low high.
-      let x = slice_index_or v s [] in
-      let within = then.leaves v s in' lt low high in
-      let inside = inside_of s d x within in
-      let u = set (disk.as_it_reads d) s x in
-      let size = length-set (disk.as_it_reads d) s x in
-      let reads = length-as_it_reads d in
-      subst (Contains (disk.sector c s).candidates) (get_or-set_same (disk.as_it_reads d) s x [] (omega arith))
-      (first.leaves u s (with_candidate blocks s d x whole inside within) (omega arith) low high);
-}
-
 -- Each block that an event may write is a slot's.
 
 -- a slot of the area lies on this block
@@ -112,6 +64,11 @@ header_of_slot : (h : Hardware) (b : ℕ) → 0 < h.slots → Contains (block_of
 header_of_slot h b some (zero, lt, e) = (0, some, e)
 header_of_slot h b some (suc k, lt, e) = absurd (omega arith)
 
+-- the third step of a resume writes block(0), and no other writes
+third_of_slot : (h : Hardware) (b : ℕ) → 0 < h.slots → (third : Bool) → Contains (cond third (block_of_slot h 0 ∷ []) []) b → IsOfSlot h b
+third_of_slot h b some true in' = header_of_slot h b some in'
+third_of_slot h b some false (k, lt, e) = absurd (omega arith)
+
 image_of_slot : (h : Hardware) (a : Running) (i : Image) (b : ℕ) → 0 < h.slots → Contains (block_of_slot h 0 ∷ laid_blocks h a i) b → IsOfSlot h b
 image_of_slot h a i b some (zero, lt, e) = (0, some, e)
 image_of_slot h a i b some (suc k, lt, e) = laid_of_slot h a i b some (k, omega arith, e)
@@ -144,7 +101,7 @@ written_of_slot h shown c (hibernating suspends i a k) b stands some in' = image
 written_of_slot h shown c (undoing i call a k) b stands some in' = header_of_slot h b some in'
 written_of_slot h shown c (settling a k) b stands some in' = header_of_slot h b some in'
 written_of_slot h shown c (waking i held a k) b stands some in' = header_of_slot h b some in'
-written_of_slot h shown c (loading load k) b stands some in' = header_of_slot h b some in'
+written_of_slot h shown c (loading load k) b stands some in' = third_of_slot h b some (k == 2) in'
 written_of_slot h shown c (asleep i held a) b stands some (k, lt, e) = absurd (omega arith)
 
 -- a block on which no slot lies isn't written

@@ -5,3 +5,4 @@ pub mod Prints
 pub mod Replays
 pub mod Scripts
 pub mod Turns
+pub mod Dumped

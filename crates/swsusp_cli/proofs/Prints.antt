@@ -4,6 +4,12 @@ use Rattle.definitions.specs.Streams.{Takes, TakesAll, TakesFront}
 use Rattle.dump_file.specs.Flushed.{IsFlushed}
 use Rattle.swsusp_cli.specs.Answer.{Told, memory_told}
 use Rattle.swsusp_cli.specs.Outcome.{IsReplayed, no_script, out_of_memory, unread, too_small, unformatted, played, cut_off, fault_told, small_told, unformatted_told}
+use Rattle.page_core.specs.declared.format.Format.{Format}
+use Rattle.plain_machine.specs.declared.event.IdentCheck.{IdentCheck}
+use Rattle.swsusp_cli.specs.Dumps as dumps
+use Rattle.swsusp_cli.specs.Dumps.{Hibernates, dump_told, hibernation_told}
+use Rattle.swsusp_cli.specs.Loads as loads
+use Rattle.swsusp_cli.specs.Loads.{Resumes, resume_told}
 use Rattle.swsusp_cli.specs.Told.{IsPrinted, FailsToPrint, IsTold, IsTried}
 use Rattle.swsusp_cli.specs.View.{SinkView, View}
 use Rattle.swsusp_cli.specs.declared.status.Status.{Status}
@@ -59,3 +65,15 @@ replay_flushed x x' status (too_small script is) well = told_flushed (small_told
 replay_flushed x x' status (unformatted script call is) well = told_flushed (unformatted_told call) status x.out x'.out x.note x'.note is.told well
 replay_flushed x x' status (played script is) well = (is.prints.2.flushed, is.note.flushed)
 replay_flushed x x' status (cut_off script is) well = absurd (well is.status_is)
+
+pub hibernates_flushed : (f : Format) (x x' : View) (status : Status) → Hibernates f x x' status → status ≢ Stream → AreFlushed x'.out x'.note
+hibernates_flushed f x x' status (dumps.no_dump fault is) well = told_flushed (dump_told fault) status x.out x'.out x.note x'.note is.told well
+hibernates_flushed f x x' status (dumps.out_of_memory is) well = told_flushed memory_told status x.out x'.out x.note x'.note is.told well
+hibernates_flushed f x x' status (dumps.unread is) well = absurd (well is.status_is)
+hibernates_flushed f x x' status (dumps.answered dump ended is) well = told_flushed (hibernation_told ended) status x.out x'.out x.note x'.note is.told well
+
+pub resumes_flushed : (check : IdentCheck) (x x' : View) (status : Status) → Resumes check x x' status → status ≢ Stream → AreFlushed x'.out x'.note
+resumes_flushed check x x' status (loads.no_dump fault is) well = told_flushed (dump_told fault) status x.out x'.out x.note x'.note is.told well
+resumes_flushed check x x' status (loads.out_of_memory is) well = told_flushed memory_told status x.out x'.out x.note x'.note is.told well
+resumes_flushed check x x' status (loads.unread is) well = absurd (well is.status_is)
+resumes_flushed check x x' status (loads.answered dump memory ended is) well = told_flushed (resume_told dump.hw memory ended) status x.out x'.out x.note x'.note is.told well

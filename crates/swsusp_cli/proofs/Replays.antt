@@ -23,7 +23,7 @@ use Rattle.swsusp_cli.specs.Formatting.{Formats, LieBelow, calls_until}
 use Rattle.swsusp_cli.specs.Answer.{done}
 use Rattle.swsusp_cli.specs.Outcome.{IsScript, IsReplayed, no_script, out_of_memory, unread, too_small, unformatted, played, cut_off}
 use Rattle.swsusp_cli.specs.Playing.{HasPlayed}
-use Rattle.swsusp_cli.specs.Replay.{restarts_by, IsRun, IsNoSlot, AreReplies, is_step, steps_of}
+use Rattle.swsusp_cli.specs.Replay.{orders_by, IsRun, IsNoSlot, AreReplies, is_step, steps_of}
 use Rattle.swsusp_cli.specs.Told.{AreFronts, IsTold, IsTried, sink_note}
 use Rattle.swsusp_cli.specs.View.{View, DiskView, SinkView}
 use Rattle.swsusp_cli.specs.declared.formatting.Unformatted.{Unformatted}
@@ -31,7 +31,7 @@ use Rattle.swsusp_cli.specs.declared.formatting.Unformatted.TheVariants.{Write, 
 use Rattle.swsusp_cli.specs.declared.status.Status.{Status}
 use Rattle.run_laws.proofs.AtomicCopy.{all_restore}
 use Rattle.run_laws.proofs.Once.{resumed_once}
-use Rattle.swsusp_cli.proofs.Blocks.{leaves_then}
+use Rattle.command_core.proofs.Leaving.{leaves_then}
 use Rattle.swsusp_cli.proofs.Formatted.{CanFormat, formatted_unmarked, formats_leaves, formats_size}
 use Rattle.swsusp_cli.proofs.Prints.{printed_then, front_then, whole_front, fails_early}
 use Rattle.swsusp_cli.proofs.Turns.{counted_earlier, whole_of}
@@ -102,7 +102,7 @@ pub replies_of : (script : ScriptValue) (old new : World) (events : List Event) 
 replies_of script old new events replies before between now whole whole_between whole_now can fresh formats later two same was_played hw booted = record {
   size = was_played.size;
   calls = calls_within before.calls between.calls now.calls (steps_of events) two was_played.calls;
-  restarts = was_played.restarts ∙ ap (restarts_by events) same;
+  orders = was_played.orders ∙ ap (orders_by events) same;
   faults = counted_earlier replies before.faults between.faults now.faults later was_played.faults;
   run = λ c told. run_formatted script old new events replies before between now c told (whole_of before.blocks before.content c told whole) whole_between whole_now can fresh formats was_played hw booted;
 }

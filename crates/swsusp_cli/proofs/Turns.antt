@@ -24,9 +24,10 @@ use Rattle.world_core.specs.Row.{HasRow, IsServed, IsStep, IsCalled, orders_afte
 use Rattle.world_core.specs.StandsFor.{hardware_of, shown}
 use Rattle.world_core.specs.World.{World}
 use Rattle.swsusp_cli.specs.Playing.{Played, HasPlayed}
-use Rattle.swsusp_cli.specs.Replay.{is_step, steps_of, is_cut, restarted, restarts_by, AreCounted}
+use Rattle.swsusp_cli.specs.Replay.{is_step, steps_of, is_order, raised_times, orders_by, AreCounted}
 use Rattle.swsusp_cli.specs.View.{DiskView}
-use Rattle.swsusp_cli.proofs.Blocks.{leaves_then, unwritten_here}
+use Rattle.command_core.proofs.Leaving.{leaves_then}
+use Rattle.swsusp_cli.proofs.Blocks.{unwritten_here}
 
 -- a run and one step more
 pub run_more : (h : Hardware) (v : disk.Image) (a : State) (es : List Event) (rs : List Reply) (b : State) (e : Event) (r : Reply) (b' : State) → Run h v a es rs b → Step h v b e r b' → Run h v a (es ++ e ∷ []) (rs ++ r ∷ []) b'
@@ -83,26 +84,26 @@ same_area_then h u v w first then = record {
 
 -- Restarts of the disk.
 
-one_restart : (m n : ℕ) → restarted (m + 1) n ≡ disk.raised (restarted m n)
-one_restart m n = ap (λ (k : ℕ). restarted k n) (let s : m + 1 ≡ suc m = omega arith in s)
+one_order : (m n : ℕ) → raised_times (m + 1) n ≡ disk.raised (raised_times m n)
+one_order m n = ap (λ (k : ℕ). raised_times k n) (let s : m + 1 ≡ suc m = omega arith in s)
 
-restarts_next : (e : Event) (m n : ℕ) → restarted (m + length (filter is_cut (e ∷ []))) n ≡ orders_after e (restarted m n)
-restarts_next (event.Cut pick) m n = one_restart m n
-restarts_next (event.Boot from) m n = ap (λ (k : ℕ). restarted k n) (let s : m + 0 ≡ m = omega arith in s)
-restarts_next (event.Hibernate f) m n = ap (λ (k : ℕ). restarted k n) (let s : m + 0 ≡ m = omega arith in s)
-restarts_next (event.Suspend f) m n = ap (λ (k : ℕ). restarted k n) (let s : m + 0 ≡ m = omega arith in s)
-restarts_next event.Wake m n = ap (λ (k : ℕ). restarted k n) (let s : m + 0 ≡ m = omega arith in s)
-restarts_next event.Settle m n = ap (λ (k : ℕ). restarted k n) (let s : m + 0 ≡ m = omega arith in s)
-restarts_next (event.Shrink want) m n = ap (λ (k : ℕ). restarted k n) (let s : m + 0 ≡ m = omega arith in s)
-restarts_next (event.Resume l check) m n = ap (λ (k : ℕ). restarted k n) (let s : m + 0 ≡ m = omega arith in s)
-restarts_next (event.Step x) m n = ap (λ (k : ℕ). restarted k n) (let s : m + 0 ≡ m = omega arith in s)
-restarts_next (event.Task t o) m n = ap (λ (k : ℕ). restarted k n) (let s : m + 0 ≡ m = omega arith in s)
-restarts_next (event.Arm first count pick) m n = ap (λ (k : ℕ). restarted k n) (let s : m + 0 ≡ m = omega arith in s)
+orders_next : (e : Event) (m n : ℕ) → raised_times (m + length (filter is_order (e ∷ []))) n ≡ orders_after e (raised_times m n)
+orders_next (event.Cut pick) m n = one_order m n
+orders_next (event.Boot from) m n = ap (λ (k : ℕ). raised_times k n) (let s : m + 0 ≡ m = omega arith in s)
+orders_next (event.Hibernate f) m n = ap (λ (k : ℕ). raised_times k n) (let s : m + 0 ≡ m = omega arith in s)
+orders_next (event.Suspend f) m n = ap (λ (k : ℕ). raised_times k n) (let s : m + 0 ≡ m = omega arith in s)
+orders_next event.Wake m n = ap (λ (k : ℕ). raised_times k n) (let s : m + 0 ≡ m = omega arith in s)
+orders_next event.Settle m n = ap (λ (k : ℕ). raised_times k n) (let s : m + 0 ≡ m = omega arith in s)
+orders_next (event.Shrink want) m n = ap (λ (k : ℕ). raised_times k n) (let s : m + 0 ≡ m = omega arith in s)
+orders_next (event.Resume l check) m n = ap (λ (k : ℕ). raised_times k n) (let s : m + 0 ≡ m = omega arith in s)
+orders_next (event.Step x) m n = ap (λ (k : ℕ). raised_times k n) (let s : m + 0 ≡ m = omega arith in s)
+orders_next (event.Task t o) m n = ap (λ (k : ℕ). raised_times k n) (let s : m + 0 ≡ m = omega arith in s)
+orders_next (event.Arm first count pick) m n = one_order m n
 
-restarts_more : (es : List Event) (e : Event) (n : ℕ) → restarts_by (es ++ e ∷ []) n ≡ orders_after e (restarts_by es n)
-restarts_more es e n =
-    ap (λ (k : ℕ). restarted k n) (ap length (filter-append is_cut es (e ∷ [])) ∙ length-append (filter is_cut es) (filter is_cut (e ∷ [])))
-    ∙ restarts_next e (length (filter is_cut es)) n
+orders_more : (es : List Event) (e : Event) (n : ℕ) → orders_by (es ++ e ∷ []) n ≡ orders_after e (orders_by es n)
+orders_more es e n =
+    ap (λ (k : ℕ). raised_times k n) (ap length (filter-append is_order es (e ∷ [])) ∙ length-append (filter is_order es) (filter is_order (e ∷ [])))
+    ∙ orders_next e (length (filter is_order es)) n
 
 -- Steps.
 step_test : (e : Event) → IsStep e → is_step e ≡ true
@@ -142,7 +143,7 @@ pub played_none : (w : World) (x : DiskView) → HasPlayed w w [] [] x x
 played_none w x = record {
   size = refl;
   calls = omega arith;
-  restarts = refl;
+  orders = refl;
   faults = omega arith;
   run = λ c a told stands of. (
     c,
@@ -195,7 +196,7 @@ pub played_more : (old mid new : World) (es : List Event) (rs : List Reply) (e :
 played_more old mid new es rs e r before between now same stays whole played row hw fault later called after = record {
   size = length-append rs (r ∷ []) ∙ ap (λ (n : ℕ). n + 1) played.size ∙ sym (length-append es (e ∷ []));
   calls = calls_more es e r before.calls between.calls now.calls played.calls called;
-  restarts = after ∙ ap (orders_after e) played.restarts ∙ sym (restarts_more es e before.orders);
+  orders = after ∙ ap (orders_after e) played.orders ∙ sym (orders_more es e before.orders);
   faults = counted_then rs r before.faults between.faults now.faults fault later played.faults;
   run = λ c a told stands of. run_then old mid new es rs e r between.blocks between.content now.content c a same stays whole (played.run c a told stands of) row hw;
 }
@@ -239,10 +240,10 @@ served (event.Boot from) is = tt
 served (event.Hibernate f) is = tt
 served (event.Suspend f) is = absurd is
 served event.Wake is = absurd is
-served event.Settle is = absurd is
+served event.Settle is = tt
 served (event.Shrink want) is = absurd is
 served (event.Resume l check) is = tt
 served (event.Step x) is = tt
 served (event.Task t o) is = tt
 served (event.Cut pick) is = tt
-served (event.Arm first count pick) is = absurd is
+served (event.Arm first count pick) is = tt

@@ -1,8 +1,10 @@
 -- A command as it is asked for.
-use Rattle.swsusp_cli.specs.Words.{Asked, inspect, replay}
+use Rattle.swsusp_cli.specs.Words.{Asked, inspect, hibernate, resume, replay}
 use Rattle.swsusp_cli.specs.declared.words.Command.{Command}
-use Rattle.swsusp_cli.specs.declared.words.Command.TheVariants.{Inspect, Replay}
+use Rattle.swsusp_cli.specs.declared.words.Command.TheVariants.{Inspect, Hibernate, Resume, Replay}
 
 abbrev pub asked_by : Command → Asked
 asked_by (Inspect offset swap) = inspect offset swap.now
+asked_by (Hibernate format swap) = hibernate format swap.now
+asked_by (Resume check swap) = resume check swap.now
 asked_by Replay = replay

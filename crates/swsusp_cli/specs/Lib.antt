@@ -2,9 +2,11 @@ pub mod Answer
 pub mod AnswerOf
 pub mod Asked
 pub mod Choice
+pub mod Dumps
 pub mod ExitStatus
 pub mod Formatting
 pub mod Inspect
+pub mod Loads
 pub mod Outcome
 pub mod Playing
 pub mod Readied

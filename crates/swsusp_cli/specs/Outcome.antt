@@ -73,7 +73,7 @@ pub record IsUnformatted (x x' : View) (status : Status) (script : ScriptValue) 
   pub risen : disk.HasRisen x.disk.faults x'.disk.faults
   pub calls : x'.disk.calls ≡ calls_until call x.disk.calls
   pub content : disk.Changes (FailsToFormat script.hardware script.last script.bad call) x.disk.content x'.disk.content
-  pub restarts : x'.disk.orders ≡ x.disk.orders
+  pub orders : x'.disk.orders ≡ x.disk.orders
 
 -- all events were played: out took the lines of a run of the plain machine
 pub record IsPlayed (x x' : View) (status : Status) (script : ScriptValue) : Type 0 where

@@ -30,17 +30,18 @@ is_step _ = false
 abbrev pub steps_of : List Event → ℕ
 steps_of events = length (filter is_step events)
 
--- each cut restarts the disk, whose count of restarts stays at its last value
-abbrev pub is_cut : Event → Bool
-is_cut (event.Cut pick) = true
-is_cut _ = false
+-- each cut restarts the disk, and each arm arms it; the count of both stays at its last value
+abbrev pub is_order : Event → Bool
+is_order (event.Cut pick) = true
+is_order (event.Arm first count pick) = true
+is_order _ = false
 
-abbrev pub restarted : ℕ → ℕ → ℕ
-restarted zero orders = orders
-restarted (suc k) orders = disk.raised (restarted k orders)
+abbrev pub raised_times : ℕ → ℕ → ℕ
+raised_times zero orders = orders
+raised_times (suc k) orders = disk.raised (raised_times k orders)
 
-abbrev pub restarts_by : List Event → ℕ → ℕ
-restarts_by events orders = restarted (length (filter is_cut events)) orders
+abbrev pub orders_by : List Event → ℕ → ℕ
+orders_by events orders = raised_times (length (filter is_order events)) orders
 
 -- The disk's count of faults goes from `low` to `high` without falling, and rises at each reply that tells of a call that failed at
 -- its event: such replies are at most as many as it rose by, its last value aside.
@@ -71,12 +72,12 @@ pub record IsRun (x x' : DiskView) (script : ScriptValue) (events : List Event) 
   pub stands : StandsFor world held end
   pub unwritten : (b : ℕ) → IsNoSlot script.hardware b → LeavesBlock b c held
 
--- Each event gave a reply, each step made at most one call of the disk after the formatting's two, the cuts alone restarted it, its
--- count of faults allows for the replies, and where it tells its content the replies are a run.
+-- Each event gave a reply, each step made at most one call of the disk after the formatting's two, the cuts
+-- alone restarted it and the arms alone armed it, its count of faults allows for the replies, and where it tells its content the replies are a run.
 pub record AreReplies (x x' : DiskView) (script : ScriptValue) (events : List Event) (replies : List Reply) : Type 0 where
   pub size : length replies ≡ length events
   pub calls : x'.calls ≤ x.calls + 2 + steps_of events
-  pub restarts : x'.orders ≡ restarts_by events x.orders
+  pub orders : x'.orders ≡ orders_by events x.orders
   pub faults : AreCounted replies x.faults x'.faults
   pub run : (c : disk.Content) → x.content ≡ Some c → IsRun x x' script events replies c
 

@@ -1,11 +1,17 @@
 -- The command line.
 use Rattle.std.specs.Prelude.{ℕ, ◌^◌, ◌==◌, ◌&&◌, List, [], ◌∷◌, Bool, false, nat_eq, nat_lt, not, codes, Option, Some, None, option_map, if◌then◌else◌}
 use Rattle.std.specs.Cmp.Lexicographic.{pointwise}
+use Rattle.page_core.specs.declared.format.Format.{Format}
+use Rattle.page_core.specs.declared.format.Format.TheVariants.{Plain, SkipZeros}
+use Rattle.plain_machine.specs.declared.event.IdentCheck.{IdentCheck}
+use Rattle.plain_machine.specs.declared.event.IdentCheck.TheVariants.{Compare, Skip}
 use Rattle.script.specs.Words.{number_of}
 
 -- what a plain list of words asks for, with its values
 pub data Asked : Type 0 where
   inspect : (offset : ℕ) (swap : List ℕ) → Asked
+  hibernate : (format : Format) (swap : List ℕ) → Asked
+  resume : (check : IdentCheck) (swap : List ℕ) → Asked
   replay : Asked
 
 -- whether a word names a file: it isn't empty and doesn't begin with a dash
@@ -41,11 +47,39 @@ inspect_of (option ∷ number ∷ swap ∷ []) =
     if pointwise nat_eq option (codes "--offset") && is_path swap then option_map (λ offset. inspect offset swap) (plain_number (2 ^ 32) number) else None
 inspect_of (option ∷ number ∷ swap ∷ more ∷ words) = None
 
+-- this, where the word names a file
+abbrev pub over_file : List ℕ → Asked → Option Asked
+over_file swap asked = if is_path swap then Some asked else None
+
+-- this, where the word is that option
+abbrev pub with_option : List ℕ → List ℕ → Option Asked → Option Asked
+with_option word option asked = if pointwise nat_eq word option then asked else None
+
+-- hibernate [--skip-zeros] SWAP
+abbrev pub hibernate_of : List (List ℕ) → Option Asked
+hibernate_of [] = None
+hibernate_of (swap ∷ []) = over_file swap (hibernate Plain swap)
+hibernate_of (option ∷ swap ∷ []) = with_option option (codes "--skip-zeros") (over_file swap (hibernate SkipZeros swap))
+hibernate_of (option ∷ swap ∷ more ∷ words) = None
+
+-- resume [--any-kernel] SWAP
+abbrev pub resume_of : List (List ℕ) → Option Asked
+resume_of [] = None
+resume_of (swap ∷ []) = over_file swap (resume Compare swap)
+resume_of (option ∷ swap ∷ []) = with_option option (codes "--any-kernel") (over_file swap (resume Skip swap))
+resume_of (option ∷ swap ∷ more ∷ words) = None
+
+-- what a command asks for with its own words
+abbrev pub command_by : List ℕ → List (List ℕ) → Option Asked
+command_by command words =
+    if pointwise nat_eq command (codes "inspect") then inspect_of words
+    else if pointwise nat_eq command (codes "hibernate") then hibernate_of words
+    else if pointwise nat_eq command (codes "resume") then resume_of words
+    else if pointwise nat_eq command (codes "replay") then replay_of words
+    else None
+
 -- What a plain list of words asks for: the program's name, a command, and that command's own. No other list parses.
 abbrev pub command_of : List (List ℕ) → Option Asked
 command_of [] = None
 command_of (name ∷ []) = None
-command_of (name ∷ command ∷ words) =
-    if pointwise nat_eq command (codes "inspect") then inspect_of words
-    else if pointwise nat_eq command (codes "replay") then replay_of words
-    else None
+command_of (name ∷ command ∷ words) = command_by command words

@@ -1,5 +1,5 @@
 ghost use Rattle.std.specs.Prelude.{IfOk, map, string_bytes};
-ghost use Rattle.swsusp_cli.specs.Choice.{IsChoice};
+ghost use Rattle.swsusp_cli.specs.Choice.{IsChoice, IsFile};
 
 use crate::words::Command;
 use page_core::NoMemory;
@@ -24,9 +24,17 @@ pub fn swap_name(alloc: Global, words: &[String]) -> Result<Choice, NoMemory>
     match Command::parse(words) {
         None => Ok(Choice::Memory(1)),
         Some(Command::Replay) => Ok(Choice::Memory(MEMORY_BLOCKS)),
-        Some(Command::Inspect { swap, .. }) => match String::from_str(alloc, swap) {
-            Ok(path) => Ok(Choice::File(path)),
-            Err(_) => Err(NoMemory),
-        },
+        Some(Command::Inspect { swap, .. }) => file(alloc, swap),
+        Some(Command::Hibernate { swap, .. }) => file(alloc, swap),
+        Some(Command::Resume { swap, .. }) => file(alloc, swap),
+    }
+}
+
+fn file(alloc: Global, path: &str) -> Result<Choice, NoMemory>
+    ensures { IfOk result (IsFile path.now) }
+{
+    match String::from_str(alloc, path) {
+        Ok(path) => Ok(Choice::File(path)),
+        Err(_) => Err(NoMemory),
     }
 }

@@ -3,11 +3,14 @@
 
 mod answer;
 mod choosing;
+mod dump_input;
 mod formatting;
+mod hibernating;
 mod inspection;
 mod playing;
 mod reading;
 mod replay;
+mod resuming;
 mod status;
 mod top;
 mod unparsed;

@@ -107,7 +107,7 @@ fn ready<I: Source>(alloc: Global, input: &mut I) -> Result<Script, Stop>
 }
 
 /// The source failed: that is noted, once.
-fn unread<N: Sink>(note: &mut N) -> Status
+pub(crate) fn unread<N: Sink>(note: &mut N) -> Status
     ensures status { result ≡ Status.Stream }
     ensures note { IsTried unread_note
         (record { taken = N.taken note.old; flushed = N.flushed note.old; faults = N.faults note.old })

@@ -1,15 +1,21 @@
-ghost use Rattle.std.specs.Prelude.{◌≡◌, ◌≢◌, None, Some, ◌≤◌, ◌+◌, ◌⊎◌, map, string_bytes};
+ghost use Rattle.std.specs.Prelude.{◌≡◌, ◌≢◌, None, Some, ◌≤◌, ◌+◌, ◌⊎◌, ℕ, List, map, string_bytes};
 ghost use Rattle.definitions.specs.Disk.{HasRisen};
 ghost use Rattle.dump_file.specs.Flushed.{IsFlushed};
 ghost use Rattle.swsusp_cli.specs.Answer.{Told};
-ghost use Rattle.swsusp_cli.specs.Run.{IsAnswer, IsNoReplay, calls_after};
+ghost use Rattle.swsusp_cli.specs.Run.{IsAnswer, NoDump, NoMachine, calls_after};
 ghost use Rattle.swsusp_cli.specs.Told.{IsTold};
 ghost use Rattle.swsusp_cli.specs.Reading.{HandsOutAtMost};
 ghost use Rattle.swsusp_cli.specs.Outcome.{IsReplayed};
-ghost use Rattle.swsusp_cli.specs.Words.{command_of, replay};
+ghost use Rattle.page_core.specs.declared.format.Format.{Format};
+ghost use Rattle.plain_machine.specs.declared.event.IdentCheck.{IdentCheck};
+ghost use Rattle.swsusp_cli.specs.Dumps.{Hibernates};
+ghost use Rattle.swsusp_cli.specs.Loads.{Resumes};
+ghost use Rattle.swsusp_cli.specs.Words.{command_of, hibernate, replay, resume};
 
+use crate::hibernating::hibernate_dump;
 use crate::inspection::inspect;
 use crate::replay::replay;
+use crate::resuming::resume_dump;
 use crate::status::Status;
 use crate::unparsed::refuse;
 use crate::words::Command;
@@ -26,7 +32,7 @@ pub fn run<I: Source, O: Sink, N: Sink, D: Disk>(
     note: &mut N,
     disk: &mut D,
 ) -> Status
-    ensures answered { IsNoReplay (command_of (map string_bytes words.now)) → (told : Told)
+    ensures answered { NoMachine (command_of (map string_bytes words.now)) → (told : Told)
         × IsAnswer (command_of (map string_bytes words.now)) (D.block_count disk.old) (D.content disk.old) (D.faults disk.old) (D.faults disk.new) told
         × IsTold told result
         (record { taken = O.taken out.old; flushed = O.flushed out.old; faults = O.faults out.old })
@@ -34,6 +40,28 @@ pub fn run<I: Source, O: Sink, N: Sink, D: Disk>(
         (record { taken = N.taken note.old; flushed = N.flushed note.old; faults = N.faults note.old })
         (record { taken = N.taken note.new; flushed = N.flushed note.new; faults = N.faults note.new }) }
     ensures replayed { command_of (map string_bytes words.now) ≡ Some replay → IsReplayed (record {
+      left = I.remaining input.old;
+      disk = record { blocks = D.block_count disk.old; content = D.content disk.old; faults = D.faults disk.old; calls = D.calls disk.old; orders = D.orders disk.old };
+      out = record { taken = O.taken out.old; flushed = O.flushed out.old; faults = O.faults out.old };
+      note = record { taken = N.taken note.old; flushed = N.flushed note.old; faults = N.faults note.old };
+    }) (record {
+      left = I.remaining input.new;
+      disk = record { blocks = D.block_count disk.new; content = D.content disk.new; faults = D.faults disk.new; calls = D.calls disk.new; orders = D.orders disk.new };
+      out = record { taken = O.taken out.new; flushed = O.flushed out.new; faults = O.faults out.new };
+      note = record { taken = N.taken note.new; flushed = N.flushed note.new; faults = N.faults note.new };
+    }) result }
+    ensures hibernated { (format : Format) (swap : List ℕ) → command_of (map string_bytes words.now) ≡ Some (hibernate format swap) → Hibernates format (record {
+      left = I.remaining input.old;
+      disk = record { blocks = D.block_count disk.old; content = D.content disk.old; faults = D.faults disk.old; calls = D.calls disk.old; orders = D.orders disk.old };
+      out = record { taken = O.taken out.old; flushed = O.flushed out.old; faults = O.faults out.old };
+      note = record { taken = N.taken note.old; flushed = N.flushed note.old; faults = N.faults note.old };
+    }) (record {
+      left = I.remaining input.new;
+      disk = record { blocks = D.block_count disk.new; content = D.content disk.new; faults = D.faults disk.new; calls = D.calls disk.new; orders = D.orders disk.new };
+      out = record { taken = O.taken out.new; flushed = O.flushed out.new; faults = O.faults out.new };
+      note = record { taken = N.taken note.new; flushed = N.flushed note.new; faults = N.faults note.new };
+    }) result }
+    ensures resumed { (check : IdentCheck) (swap : List ℕ) → command_of (map string_bytes words.now) ≡ Some (resume check swap) → Resumes check (record {
       left = I.remaining input.old;
       disk = record { blocks = D.block_count disk.old; content = D.content disk.old; faults = D.faults disk.old; calls = D.calls disk.old; orders = D.orders disk.old };
       out = record { taken = O.taken out.old; flushed = O.flushed out.old; faults = O.faults out.old };
@@ -52,17 +80,21 @@ pub fn run<I: Source, O: Sink, N: Sink, D: Disk>(
     ensures flushed { result ≢ Status.Stream → IsFlushed (O.taken out.new) (O.flushed out.new) × IsFlushed (N.taken note.new) (N.flushed note.new) }
     ensures device { result ≡ Status.Device → HasRisen (D.faults disk.old) (D.faults disk.new) }
 
-    ensures read { HandsOutAtMost 1048577 (I.remaining input.old) (I.remaining input.new) }
-    ensures input { IsNoReplay (command_of (map string_bytes words.now)) → I.remaining input.new ≡ I.remaining input.old }
-    ensures content { IsNoReplay (command_of (map string_bytes words.now)) → D.content disk.new ≡ D.content disk.old }
-    ensures calls { IsNoReplay (command_of (map string_bytes words.now)) →
+    ensures read { NoDump (command_of (map string_bytes words.now)) → HandsOutAtMost 1048577 (I.remaining input.old) (I.remaining input.new) }
+    ensures input { NoMachine (command_of (map string_bytes words.now)) → I.remaining input.new ≡ I.remaining input.old }
+    ensures content { NoMachine (command_of (map string_bytes words.now)) → D.content disk.new ≡ D.content disk.old }
+    ensures calls { NoMachine (command_of (map string_bytes words.now)) →
         D.calls disk.new ≡ calls_after (command_of (map string_bytes words.now)) (D.block_count disk.old) (D.calls disk.old) }
     ensures few_calls { D.calls disk.new ≤ D.calls disk.old + 100002 }
-    ensures orders { IsNoReplay (command_of (map string_bytes words.now)) → D.orders disk.new ≡ D.orders disk.old }
+    ensures orders { NoMachine (command_of (map string_bytes words.now)) → D.orders disk.new ≡ D.orders disk.old }
 {
     match Command::parse(words) {
         None => refuse(alloc, words, out, note),
         Some(Command::Inspect { offset, .. }) => inspect(disk, offset).tell(out, note),
+        Some(Command::Hibernate { format, .. }) => {
+            hibernate_dump(alloc, format, input, out, note, disk)
+        }
+        Some(Command::Resume { check, .. }) => { resume_dump(alloc, check, input, out, note, disk) }
         Some(Command::Replay) => replay(alloc, input, out, note, disk),
     }
 }

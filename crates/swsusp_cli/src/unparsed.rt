@@ -7,7 +7,7 @@ ghost use Rattle.swsusp_cli.specs.Told.{IsTold};
 use crate::answer::{no_memory, tell};
 use crate::status::Status;
 use clap::error::ErrorKind;
-use clap::{Arg, Command, Error, value_parser};
+use clap::{Arg, ArgAction, Command, Error, value_parser};
 use dump_file::Sink;
 use page_core::NoMemory;
 use std::alloc::{AllocError, Global};
@@ -60,13 +60,22 @@ fn read(alloc: Global, words: &[String]) -> Result<(), Error> {
 /// The commands as clap knows them.
 fn command_line<'a>(alloc: Global) -> Result<Command<'a>, AllocError> {
     Command::new(alloc, "swsusp")
-        .about("Looks into swap areas, and plays hibernations of a simulated machine")
+        .about("Writes, checks and resumes hibernation images in swap areas")
         .version("0.1")
         .subcommand_required(true)
         .subcommand(inspection(alloc)?)?
+        .subcommand(hibernation(alloc)?)?
+        .subcommand(resumption(alloc)?)?
         .subcommand(Command::new(alloc, "replay").about(
             "Plays a script from standard input, and prints each event's reply",
         ))
+}
+
+fn swap_argument<'a>(alloc: Global) -> Arg<'a> {
+    Arg::new(alloc, "swap")
+        .value_name("SWAP")
+        .required(true)
+        .help("A swap file or a block device")
 }
 
 fn inspection<'a>(alloc: Global) -> Result<Command<'a>, AllocError> {
@@ -75,12 +84,32 @@ fn inspection<'a>(alloc: Global) -> Result<Command<'a>, AllocError> {
         .value_name("N")
         .value_parser(value_parser!(u32))
         .help("The block of the area's header, else 0");
-    let swap = Arg::new(alloc, "swap")
-        .value_name("SWAP")
-        .required(true)
-        .help("A swap file or a block device");
     Command::new(alloc, "inspect")
         .about("Tells what the header block of a swap area says")
         .arg(offset)?
-        .arg(swap)
+        .arg(swap_argument(alloc))
+}
+
+fn hibernation<'a>(alloc: Global) -> Result<Command<'a>, AllocError> {
+    let skip_zeros = Arg::new(alloc, "skip-zeros")
+        .long("skip-zeros")
+        .action(ArgAction::SetTrue)
+        .help("Leave out pages that are all zero");
+    Command::new(alloc, "hibernate")
+        .about("Reads a memory dump from standard input, and lets its machine hibernate")
+        .arg(skip_zeros)?
+        .arg(swap_argument(alloc))
+}
+
+fn resumption<'a>(alloc: Global) -> Result<Command<'a>, AllocError> {
+    let any_kernel = Arg::new(alloc, "any-kernel")
+        .long("any-kernel")
+        .action(ArgAction::SetTrue)
+        .help("Take an image of another kernel too");
+    Command::new(alloc, "resume")
+        .about(
+            "Reads a loader's memory dump from standard input, resumes the image, and writes the dump of the machine",
+        )
+        .arg(any_kernel)?
+        .arg(swap_argument(alloc))
 }

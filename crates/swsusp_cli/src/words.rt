@@ -1,7 +1,11 @@
-ghost use Rattle.std.specs.Prelude.{◌≡◌, ◌^◌, map, option_map, string_bytes};
-ghost use Rattle.swsusp_cli.specs.Words.{inspect_of, is_path, plain_number, replay_of};
+ghost use Rattle.std.specs.Prelude.{◌≡◌, ◌^◌, codes, map, option_map, string_bytes};
+ghost use Rattle.page_core.specs.declared.format.Format.TheVariants.{SkipZeros};
+ghost use Rattle.plain_machine.specs.declared.event.IdentCheck.TheVariants.{Skip};
+ghost use Rattle.swsusp_cli.specs.Words.{command_by, hibernate, hibernate_of, inspect_of, is_path, over_file, plain_number, replay_of, resume, resume_of, with_option};
 ghost use Rattle.swsusp_cli.specs.Asked.{asked_by};
 
+use page_core::Format;
+use plain_machine::IdentCheck;
 use script::number_of;
 
 /// What the program is asked to do.
@@ -11,6 +15,20 @@ pub enum Command<'a> {
     Inspect {
         /// The number of the block, the area's offset in its file.
         offset: u32,
+        /// The path of the swap file or block device.
+        swap: &'a str,
+    },
+    /// Lets the machine of a memory dump hibernate.
+    Hibernate {
+        /// Which pages its image has.
+        format: Format,
+        /// The path of the swap file or block device.
+        swap: &'a str,
+    },
+    /// Resumes the image of a swap area into the machine of a memory dump.
+    Resume {
+        /// Whether the image is to be of the machine's own kernel.
+        check: IdentCheck,
         /// The path of the swap file or block device.
         swap: &'a str,
     },
@@ -28,14 +46,28 @@ impl<'a> Command<'a> {
         ensures { option_map asked_by result ≡ command_of (map string_bytes words.now) }
     {
         match words {
-            [_, name, rest @ ..] => match name.as_bytes() {
-                b"inspect" => inspection(rest),
-                b"replay" => a_replay(rest),
-                _ => None,
-            },
+            [_, name, rest @ ..] => of_command(name.as_str(), rest),
             _ => None,
         }
     }
+}
+
+fn of_command<'a>(name: &str, words: &'a [String]) -> Option<Command<'a>>
+    ensures { option_map asked_by result ≡ command_by name.now (map string_bytes words.now) }
+{
+    if name == "inspect" {
+        return inspection(words);
+    }
+    if name == "hibernate" {
+        return a_hibernation(words);
+    }
+    if name == "resume" {
+        return a_resume(words);
+    }
+    if name == "replay" {
+        return a_replay(words);
+    }
+    None
 }
 
 fn inspection(words: &[String]) -> Option<Command<'_>>
@@ -56,6 +88,66 @@ fn inspection(words: &[String]) -> Option<Command<'_>>
             }
         }
         _ => None,
+    }
+}
+
+fn a_hibernation(words: &[String]) -> Option<Command<'_>>
+    ensures { option_map asked_by result ≡ hibernate_of (map string_bytes words.now) }
+{
+    match words {
+        [swap] => hibernation_onto(Format::Plain, swap.as_str()),
+        [option, swap] => hibernation_without_zeros(option.as_str(), swap.as_str()),
+        _ => None,
+    }
+}
+
+fn hibernation_without_zeros<'a>(option: &str, swap: &'a str) -> Option<Command<'a>>
+    ensures { option_map asked_by result ≡ with_option option.now (codes "--skip-zeros") (over_file swap.now (hibernate SkipZeros swap.now)) }
+{
+    if option == "--skip-zeros" {
+        hibernation_onto(Format::SkipZeros, swap)
+    } else {
+        None
+    }
+}
+
+fn hibernation_onto(format: Format, swap: &str) -> Option<Command<'_>>
+    ensures { option_map asked_by result ≡ over_file swap.now (hibernate format swap.now) }
+{
+    if is_path(swap.as_bytes()) {
+        Some(Command::Hibernate { format, swap })
+    } else {
+        None
+    }
+}
+
+fn a_resume(words: &[String]) -> Option<Command<'_>>
+    ensures { option_map asked_by result ≡ resume_of (map string_bytes words.now) }
+{
+    match words {
+        [swap] => resume_from(IdentCheck::Compare, swap.as_str()),
+        [option, swap] => resume_of_any_kernel(option.as_str(), swap.as_str()),
+        _ => None,
+    }
+}
+
+fn resume_of_any_kernel<'a>(option: &str, swap: &'a str) -> Option<Command<'a>>
+    ensures { option_map asked_by result ≡ with_option option.now (codes "--any-kernel") (over_file swap.now (resume Skip swap.now)) }
+{
+    if option == "--any-kernel" {
+        resume_from(IdentCheck::Skip, swap)
+    } else {
+        None
+    }
+}
+
+fn resume_from(check: IdentCheck, swap: &str) -> Option<Command<'_>>
+    ensures { option_map asked_by result ≡ over_file swap.now (resume check swap.now) }
+{
+    if is_path(swap.as_bytes()) {
+        Some(Command::Resume { check, swap })
+    } else {
+        None
     }
 }
 

@@ -104,7 +104,8 @@ impl World {
 
     /// The content of the page frames.
     pub fn frames(&self) -> &Frames
-        ensures { result.now ≡ self.now.frames }
+        ensures frames { result.now ≡ self.now.frames }
+        ensures size { length result.now ≡ top (hardware_of self.now).zones }
     {
         &self.frames
     }

@@ -88,7 +88,7 @@ returns-in-Err-format-clause-outcome g c =
       risen = c.in-Err-format.ensures.cause refl;
       calls = c.in-Err-format.ensures.calls;
       content = formatted_by (λ h last bad. disk.Changes (FailsToFormat h last bad c.in-Err-format.call) (g.D.Disk.content c.args.disk.now) (g.D.Disk.content c.format.new.disk)) script hw c.last.ensures c.bad.ensures c.in-Err-format.ensures.content;
-      restarts = c.format.ensures.orders;
+      orders = c.format.ensures.orders;
     })
 
 pub returns-in-Ok-play-clause-outcome : goal.returns-in-Ok-play-clause-outcome

@@ -1,0 +1,9 @@
+pub mod Leaving
+pub mod Traces
+pub mod Points
+pub mod Begun
+pub mod Booting
+pub mod Hibernating
+pub mod Resuming
+pub mod Loaded
+pub mod Saved

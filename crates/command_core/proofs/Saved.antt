@@ -1,0 +1,233 @@
+-- A whole hibernation: from the world before it to what it answers at the end.
+use Rattle.std.proofs.Common.{◌≡◌, ◌⊎◌, inl, inr, ◌≤◌, ℕ, ◌+◌, zero, suc, Bool, true, false, cond, length, map, filter, List, ◌∷◌, [], Option, Some, None, unwrap_or, refl, sym, ap, ◌∙◌, subst, arith, Contains}
+use Rattle.std.proofs.lemmas.Bool.{false≢true}
+use Rattle.std.proofs.lemmas.List.{length-map}
+use Rattle.std.proofs.lemmas.Option.{same_Some, none-some}
+use Rattle.page_core.specs.declared.format.Format.{Format}
+use Rattle.definitions.specs.Disk as disk
+use Rattle.definitions.specs.Tables.{frame}
+use Rattle.definitions.specs.Zones.{AreZones}
+use Rattle.plain_machine.specs.Chain.{Holds, or_else}
+use Rattle.plain_machine.specs.Image.{Image, image_of_memory, n_of, d_of, hibernate_steps, has_data}
+use Rattle.plain_machine.specs.Machine.{Hardware, Memory, block_of_slot, saveable}
+use Rattle.plain_machine.specs.Refusals.{refusal, refused_if, busy, busy_task, busy_reply, closed, no_swap, no_frames, no_slots, hibernate_refusal}
+use Rattle.plain_machine.specs.Stands.{EachImage, laid_blocks}
+use Rattle.plain_machine.specs.State.{State, Running, off, on, hibernating, undoing, sure, own}
+use Rattle.plain_machine.specs.declared.event.Event.TheVariants as event
+use Rattle.plain_machine.specs.declared.no_swap.NoSwap.{NoSwap}
+use Rattle.plain_machine.specs.declared.reply.Reply.{Reply}
+use Rattle.plain_machine.specs.declared.reply.Reply.TheVariants as reply
+use Rattle.plain_machine.specs.declared.reply.UndoCall.{UndoCall}
+use Rattle.image_laws.proofs.Decoding.{few_saveable}
+use Rattle.protocol_laws.specs.Rows.{LeavesBlock, blocks_written}
+use Rattle.world_core.specs.StandsFor.{StandsFor, hardware_of}
+use Rattle.world_core.specs.World.{World}
+use Rattle.command_core.specs.Hibernation.{machine_of_dump, image_of_dump, hibernation_answer, HasHibernated, HasFailedEarly}
+use Rattle.command_core.specs.Turns.{Point, IsFault, AreSteps, HasGone, goes_on}
+use Rattle.command_core.specs.declared.ending.Ended.{Ended}
+use Rattle.command_core.proofs.Begun.{IsUntouched}
+use Rattle.command_core.proofs.Hibernating.{IsAt, after_steps, few_steps}
+use Rattle.command_core.proofs.Leaving.{leaves_then}
+
+-- Refusals of a hibernation are none of the replies of its steps.
+
+abbrev Refuses : Reply → Type 0
+Refuses (reply.Busy t) = Unit {0}
+Refuses reply.Closed = Unit {0}
+Refuses (reply.NoSwap why) = Unit {0}
+Refuses (reply.NoFrames free need) = Unit {0}
+Refuses (reply.NoSlots free need) = Unit {0}
+Refuses _ = ⊥
+
+abbrev AllRefuse : Option Reply → Type 0
+AllRefuse None = Unit {0}
+AllRefuse (Some r) = Refuses r
+
+refuse_else : (o p : Option Reply) → AllRefuse o → AllRefuse p → AllRefuse (or_else o p)
+refuse_else None p first second = second
+refuse_else (Some r) p first second = first
+
+refuse_if : (b : Bool) (r : Reply) → Refuses r → AllRefuse (refused_if b r)
+refuse_if true r is = is
+refuse_if false r is = tt
+
+refuse_busy : (o : Option ℕ) → AllRefuse (busy_reply o)
+refuse_busy None = tt
+refuse_busy (Some t) = tt
+
+refuse_swap : (o : Option NoSwap) → AllRefuse (no_swap o)
+refuse_swap None = tt
+refuse_swap (Some why) = tt
+
+hibernation_refuses : (h : Hardware) (f : Format) (a : Running) → AllRefuse (hibernate_refusal h f a)
+hibernation_refuses h f a =
+    let i = image_of_memory h a.memory a.slots f in
+    let frames = no_frames h a i in
+    let slots = no_slots h a i in
+    refuse_else (busy a) (or_else (closed a) (or_else (no_swap a.unusable) (or_else frames slots))) (refuse_busy (busy_task a))
+    (refuse_else (closed a) (or_else (no_swap a.unusable) (or_else frames slots)) (refuse_if _ reply.Closed tt)
+    (refuse_else (no_swap a.unusable) (or_else frames slots) (refuse_swap a.unusable)
+    (refuse_else frames slots (refuse_if _ (reply.NoFrames _ _) tt) (refuse_if _ (reply.NoSlots _ _) tt))))
+
+refuses_of : (o : Option Reply) (r : Reply) → AllRefuse o → o ≡ Some r → Refuses r
+refuses_of None r all e = absurd (none-some r e)
+refuses_of (Some x) r all e = subst Refuses (same_Some x r e) all
+
+pub refusal_refuses : (h : Hardware) (f : Format) (a : Running) (r : Reply) → refusal h (on a) (event.Hibernate f) ≡ Some r → Refuses r
+unfolding refusal
+refusal_refuses h f a r e = refuses_of (hibernate_refusal h f a) r (hibernation_refuses h f a) e
+
+refuses_over : (r : Reply) → Refuses r → goes_on r ≡ false
+refuses_over (reply.More k of) is = absurd is
+refuses_over (reply.Undo call k) is = absurd is
+refuses_over (reply.Loading k) is = absurd is
+refuses_over _ is = refl
+
+-- No step comes after a reply that doesn't go on.
+none_after : (h : Hardware) (n : ℕ) (start end : Point) → goes_on start.reply ≡ false → AreSteps h n start end → end ≡ start
+none_after h zero start end over are = are
+none_after h (suc n) start end over (mid, are, goes, turn) =
+    absurd (false≢true (sym (ap (λ (p : Point). goes_on p.reply) (none_after h n start mid over are) ∙ over) ∙ goes))
+
+-- The blocks that its steps write.
+
+abbrev IsWrittenAt : Image → Running → State → Type 0
+IsWrittenAt i a s = ((n : ℕ) × (s ≡ hibernating false i a n)) ⊎ ((call : UndoCall) × (k : ℕ) × (s ≡ undoing i call a k))
+
+state_of : (i : Image) (a : Running) (n : ℕ) (r : Reply) (b : State) (failed : Bool) → IsAt i a n r b failed → goes_on r ≡ true → IsWrittenAt i a b
+state_of i a n (reply.More k of) b failed at goes = inl (n, at)
+state_of i a n (reply.Undo call k) b failed at goes = inr (at.0.0, k, at.0.1)
+state_of i a n (reply.Loading k) b failed at goes = absurd at
+state_of i a n _ b failed at goes = absurd (false≢true goes)
+
+in_first : (x b : ℕ) (xs : List ℕ) → Contains (x ∷ []) b → Contains (x ∷ xs) b
+in_first x b xs (zero, lt, e) = (0, omega arith, e)
+in_first x b xs (suc k, lt, e) = absurd (omega arith)
+
+written_in : (h : Hardware) (i : Image) (a : Running) (s : State) (b : ℕ) → IsWrittenAt i a s → Contains (blocks_written h s) b → Contains (block_of_slot h 0 ∷ laid_blocks h a i) b
+written_in h i a s b (inl is) in' = subst (λ (x : State). Contains (blocks_written h x) b) is.1 in'
+written_in h i a s b (inr is) in' = in_first (block_of_slot h 0) b (laid_blocks h a i) (subst (λ (x : State). Contains (blocks_written h x) b) is.2 in')
+
+pub record IsAfter (h : Hardware) (i : Image) (a : Running) (v : disk.Image) (p : Point) : Type 0 where
+  pub blocks : ℕ
+  pub whole : disk.IsContent blocks p.content
+  pub unwritten : (b : ℕ) → (Contains (block_of_slot h 0 ∷ laid_blocks h a i) b → ⊥) → LeavesBlock b (disk.settled v) p.content
+
+after_first : (h : Hardware) (i : Image) (a : Running) (v : disk.Image) (p : Point) → IsUntouched v p → IsAfter h i a v p
+after_first h i a v p is = record { blocks = is.blocks; whole = is.whole; unwritten = λ b not. is.unwritten b }
+
+all_after : (h : Hardware) (i : Image) (a : Running) (v : disk.Image) (n : ℕ) (start end : Point) → IsUntouched v start → IsAt i a 0 start.reply start.state start.failed → AreSteps h n start end → IsAfter h i a v end
+all_after h i a v zero start end is at are = subst (IsAfter h i a v) (sym are) (after_first h i a v start is)
+all_after h i a v (suc n) start end is at (mid, are, goes, turn) =
+    let before = all_after h i a v n start mid is at are in
+    let here = state_of i a n mid.reply mid.state mid.failed (after_steps h i a n start mid at are) goes in
+    record {
+      blocks = turn.blocks;
+      whole = turn.whole;
+      unwritten = λ b not. leaves_then before.blocks b (disk.settled v) mid.content end.content before.whole (before.unwritten b not) (turn.unwritten b (λ in'. not (written_in h i a mid.state b here in')));
+    }
+
+-- It has few steps.
+
+one_more : {A : Type 0} (b : Bool) (x : A) (ys : List A) (n : ℕ) → length ys ≤ n → length (cond b (x ∷ ys) ys) ≤ n + 1
+one_more true x ys n few = omega arith
+one_more false x ys n few = omega arith
+
+filter_few : {A : Type 0} (test : A → Bool) (xs : List A) → length (filter test xs) ≤ length xs
+filter_few test [] = omega arith
+filter_few test (x ∷ xs) = let few = one_more (test x) x (filter test xs) (length xs) (filter_few test xs) in omega arith
+
+few_saved : (h : Hardware) (m : Memory) (slots : _) (f : Format) → AreZones h.zones → (n_of (image_of_memory h m slots f) ≤ 65536) × (d_of (image_of_memory h m slots f) ≤ 65536)
+few_saved h m slots f zones =
+    let i = image_of_memory h m slots f in
+    let pair : ℕ → ℕ × List ℕ = λ p. (p, frame m p) in
+    let few : length (saveable h m) ≤ 65536 = few_saveable h m zones in
+    let size : length (map pair (saveable h m)) ≡ length (saveable h m) = length-map (saveable h m) pair in
+    let some : length (filter (has_data f) (map pair (saveable h m))) ≤ length (map pair (saveable h m)) = filter_few (has_data f) (map pair (saveable h m)) in
+    let n : n_of i ≤ 65536 = omega arith in
+    (n, omega arith)
+
+few_of : (i : Image) → n_of i ≤ 65536 → d_of i ≤ 65536 → hibernate_steps i ≤ 65798
+few_of i n d = omega arith
+
+-- The end.
+
+abbrev EndsAs : Image → Reply → State → Bool → Type 0
+EndsAs i r b failed = ((r ≡ reply.Hibernated (n_of i)) × (b ≡ off (sure (own i)) None)) ⊎ (IsFault r × (failed ≡ true))
+
+ends_at : (i : Image) (a : Running) (n : ℕ) (r : Reply) (b : State) (failed : Bool) → IsAt i a n r b failed → goes_on r ≡ false → EndsAs i r b failed
+ends_at i a n (reply.More k of) b failed at over = absurd (false≢true (sym over))
+ends_at i a n (reply.Undo call k) b failed at over = absurd (false≢true (sym over))
+ends_at i a n (reply.Hibernated saved) b failed at over = inl (ap reply.Hibernated at.0, at.1)
+ends_at i a n (reply.ReadFault left) b failed at over = inr (tt, at)
+ends_at i a n (reply.WriteFault left) b failed at over = inr (tt, at)
+ends_at i a n (reply.SyncFault left) b failed at over = inr (tt, at)
+ends_at i a n _ b failed at over = absurd at
+
+over_at_last : (steps n : ℕ) (r : Reply) → (goes_on r ≡ false) ⊎ (steps ≡ 66000) → steps ≤ n + 2 → n ≤ 65798 → goes_on r ≡ false
+over_at_last steps n r (inl over) few short = over
+over_at_last steps n r (inr most) few short = absurd (omega arith)
+
+holds_by : (world : World) (c : disk.Content) (b : State) (i : Image) → StandsFor world c b → b ≡ off (sure (own i)) None → EachImage c (λ w. Holds (hardware_of world) w i)
+holds_by world c b i stands is = λ w here. ((subst (StandsFor world c) is stands).stands.parts.1.0 w here).0
+
+fault_no_end : (r : Reply) (n : ℕ) → IsFault r → r ≡ reply.Hibernated n → ⊥
+fault_no_end r n is e = subst IsFault e is
+
+image_at : (h : Hardware) (world : World) (c : disk.Content) (i : Image) (r : Reply) (b : State) (failed : Bool) (n : ℕ) → hardware_of world ≡ h → StandsFor world c b → EndsAs i r b failed → r ≡ reply.Hibernated n → EachImage c (λ w. Holds h w i)
+image_at h world c i r b failed n hw stands (inl is) e = subst (λ (g : Hardware). EachImage c (λ w. Holds g w i)) hw (holds_by world c b i stands is.1)
+image_at h world c i r b failed n hw stands (inr fault) e = absurd (fault_no_end r n fault.0 e)
+
+answer_at : (h : Hardware) (m : Memory) (f : Format) (v : disk.Image) (r : Reply) (b : State) (failed : Bool) → refusal h (on (machine_of_dump h m v)) (event.Hibernate f) ≡ None → EndsAs (image_of_dump h m f v) r b failed → (r ≡ hibernation_answer h m f v) ⊎ (IsFault r × (failed ≡ true))
+answer_at h m f v r b failed none (inl is) = inl (is.0 ∙ sym (ap (λ (o : Option Reply). unwrap_or o (reply.Hibernated (n_of (image_of_dump h m f v)))) none))
+answer_at h m f v r b failed none (inr fault) = inr fault
+
+-- It was not refused.
+pub saves : (h : Hardware) (m : Memory) (f : Format) (v : disk.Image) (world : World) (start : Point) (ended : Ended) (now : Option disk.Content) → AreZones h.zones → hardware_of world ≡ h → IsUntouched v start → refusal h (on (machine_of_dump h m v)) (event.Hibernate f) ≡ None →
+    IsAt (image_of_dump h m f v) (machine_of_dump h m v) 0 start.reply start.state start.failed → HasGone h world start ended now → HasHibernated h m f v ended now
+saves h m f v world start ended now zones hw is none at gone =
+    let i = image_of_dump h m f v in
+    let a = machine_of_dump h m v in
+    let made = gone.made in
+    let end = made.end in
+    let few = few_saved h m a.slots f zones in
+    let over = over_at_last gone.steps (hibernate_steps i) ended.reply gone.over (few_steps h i a gone.steps start end at made.are) (few_of i few.0 few.1) in
+    let ends : EndsAs i end.reply end.state end.failed = ends_at i a gone.steps end.reply end.state end.failed (after_steps h i a gone.steps start end at made.are) (ap goes_on made.reply_is ∙ over) in
+    let here : EndsAs i ended.reply end.state ended.failed = subst (λ (b : Bool). EndsAs i ended.reply end.state b) made.failed_is (subst (λ (r : Reply). EndsAs i r end.state end.failed) made.reply_is ends) in
+    record {
+      content = end.content;
+      told = made.told;
+      answer = answer_at h m f v ended.reply end.state ended.failed none here;
+      image = λ n hibernated. image_at h world end.content i ended.reply end.state ended.failed n hw made.stands here hibernated;
+      unwritten = (all_after h i a v gone.steps start end is at made.are).unwritten;
+      refused = λ r refused b. absurd (none-some r (sym none ∙ refused));
+    }
+
+-- It was refused.
+pub refused : (h : Hardware) (m : Memory) (f : Format) (v : disk.Image) (world : World) (q : Reply) (start : Point) (ended : Ended) (now : Option disk.Content) → IsUntouched v start → refusal h (on (machine_of_dump h m v)) (event.Hibernate f) ≡ Some q → start.reply ≡ q → HasGone h world start ended now → HasHibernated h m f v ended now
+refused h m f v world q start ended now is says same gone =
+    let made = gone.made in
+    let refuses = refusal_refuses h f (machine_of_dump h m v) q says in
+    let over : goes_on start.reply ≡ false = ap goes_on same ∙ refuses_over q refuses in
+    let end : made.end ≡ start = none_after h gone.steps start made.end over made.are in
+    let answer : ended.reply ≡ q = sym made.reply_is ∙ ap (λ (p : Point). p.reply) end ∙ same in
+    let untouched : IsUntouched v made.end = subst (IsUntouched v) (sym end) is in
+    record {
+      content = made.end.content;
+      told = made.told;
+      answer = inl (answer ∙ sym (ap (λ (o : Option Reply). unwrap_or o (reply.Hibernated (n_of (image_of_dump h m f v)))) says));
+      image = λ n hibernated. absurd (subst Refuses (sym answer ∙ hibernated) refuses);
+      unwritten = λ b not. untouched.unwritten b;
+      refused = λ r refused b. untouched.unwritten b;
+    }
+
+-- A call failed while it booted.
+pub failed_early : (h : Hardware) (m : Memory) (f : Format) (v : disk.Image) (ended : Ended) (now : Option disk.Content) → HasFailedEarly v ended now → HasHibernated h m f v ended now
+failed_early h m f v ended now early = record {
+  content = early.content;
+  told = early.told;
+  answer = inr (early.fault, early.failed);
+  image = λ n hibernated. absurd (fault_no_end ended.reply n early.fault hibernated);
+  unwritten = λ b not. early.unwritten b;
+  refused = λ r refused b. early.unwritten b;
+}

@@ -1,0 +1,70 @@
+use Rattle.std.proofs.Common.{◌≡◌, ◌⊎◌, inl, inr, ◌∙◌, true, false, arith, refl, sym}
+use Rattle.std.proofs.lemmas.Bool.{false≢true}
+use Rattle.plain_machine.specs.declared.event.Actor.TheVariants as actor
+use Rattle.plain_machine.specs.declared.event.Event.TheVariants as event
+use Rattle.protocol_laws.specs.Rows.{IsNewFault}
+use Rattle.world_core.specs.StandsFor.{hardware_of}
+use Rattle.command_core.proofs.Points.{made_first, made_more, called_within, risen_then}
+use Rattle.command_core.proofs.ending.finish.Goals as goal
+use Rattle.command_core.proofs.ending.finish.Goals.{then-failed, else-failed}
+
+pub loop-made-init : goal.loop-made-init
+loop-made-init g c = record {
+  made = λ content a told stands. made_first (hardware_of c.args.world.now) c.args.world.now c.args.begun a content (g.D.Disk.content c.args.disk.now) told stands;
+  hardware = refl;
+  blocks = c.requires.blocks;
+  cause = λ is. absurd (false≢true is);
+  faults = omega arith;
+  calls = omega arith;
+  orders = refl;
+  few = omega arith;
+}
+
+pub loop-made-preserved : goal.loop-made-preserved
+loop-made-preserved g c =
+    let inv = c.loop-made.invariant in
+    let row = c.event-reply.ensures in
+    let r = c.event-reply.result in
+    let failed = c.if-failed.failed in
+    let noticed : IsNewFault r → failed ≡ true = elim c.if-failed.branch [
+      | then-failed w ↦ λ is. w.failed-is ∙ w.if-failed.true
+      | else-failed w ↦ λ is. w.failed-is ∙ w.is_new_fault-failed.ensures.1 is
+    ] in
+    let noted : c.loop-made.failed ≡ true → failed ≡ true = elim c.if-failed.branch [
+      | then-failed w ↦ λ is. w.failed-is ∙ w.if-failed.true
+      | else-failed w ↦ λ is. absurd (false≢true (sym w.if-failed.false ∙ is))
+    ] in
+    let either : failed ≡ true → (c.loop-made.failed ≡ true) ⊎ IsNewFault r = elim c.if-failed.branch [
+      | then-failed w ↦ λ is. inl w.if-failed.true
+      | else-failed w ↦ λ is. inr (w.is_new_fault-failed.ensures.0 (sym w.failed-is ∙ is))
+    ] in
+    let later = row.faults in
+    let so_far = inv.faults in
+    record {
+      made = λ content a told stands.
+          made_more (hardware_of c.args.world.now) (record { reply = c.args.begun; failed = false; state = a; content = content; frames = c.args.world.now.frames })
+          c.loop-made.world c.event-reply.new.self c.loop-made.made c.loop-made.reply r c.loop-made.failed failed (g.D.Disk.block_count c.event-reply.new.disk)
+          (g.D.Disk.content c.loop-made.disk) (g.D.Disk.content c.event-reply.new.disk) inv.hardware (inv.made content a told stands) (sym c.goes_on.ensures ∙ c.if-goes_on.true) row.hardware row.row row.restored
+          (g.met.D.Disk.well_formed c.event-reply.new.disk) noticed noted;
+      hardware = row.hardware ∙ inv.hardware;
+      blocks = row.blocks;
+      cause = λ is. risen_then (c.loop-made.failed ≡ true) (IsNewFault r) (g.D.Disk.faults c.args.disk.now) (g.D.Disk.faults c.loop-made.disk) (g.D.Disk.faults c.event-reply.new.disk) so_far later inv.cause row.cause (either is);
+      faults = omega arith;
+      calls = called_within (event.Step actor.Core) r (g.D.Disk.calls c.args.disk.now) (g.D.Disk.calls c.loop-made.disk) (g.D.Disk.calls c.event-reply.new.disk) c.loop-made.made inv.calls row.calls;
+      orders = row.orders ∙ inv.orders;
+      few = let lt = c.loop-made-test.true in omega arith;
+    }
+
+pub returns-else-goes_on-clause-gone : goal.returns-else-goes_on-clause-gone
+returns-else-goes_on-clause-gone g c = λ content a told stands. record {
+  steps = c.loop-made.made;
+  made = c.loop-made.invariant.made content a told stands;
+  over = inl (sym c.goes_on.ensures ∙ c.if-goes_on.false);
+}
+
+pub returns-after-loop-made-clause-gone : goal.returns-after-loop-made-clause-gone
+returns-after-loop-made-clause-gone g c = λ content a told stands. record {
+  steps = c.loop-made.made;
+  made = c.loop-made.invariant.made content a told stands;
+  over = inr (let few = c.loop-made.invariant.few in let past = c.loop-made-test.false in omega arith);
+}

@@ -1,0 +1,22 @@
+use Rattle.std.proofs.Common.{◌-◌, ◌≡◌, ◌⊎◌, ◌≤◌, ◌+◌, false, IsTrue, Some}
+use Rattle.definitions.specs.Disk.{Content, HasRisen}
+use Rattle.plain_machine.specs.State.{State}
+use Rattle.world_core.specs.StandsFor.{IsOff, StandsFor, blocks_of, hardware_of}
+use Rattle.command_core.specs.Turns.{HaveMade}
+use Rattle.command_core.proofs.ending.finish.Given as goal
+
+abbrev pub invariant-loop-made : goal.invariant-loop-made
+invariant-loop-made g l = record {
+  made : (c : Content) (a : State) → g.D.Disk.content l.fn.disk ≡ Some c → StandsFor l.fn.world c a →
+      HaveMade (hardware_of l.fn.world) l.world (record { reply = l.fn.begun; failed = false; state = a; content = c; frames = l.fn.world.frames }) l.made l.reply l.failed (g.D.Disk.content l.disk);
+  hardware : hardware_of l.world ≡ hardware_of l.fn.world;
+  blocks : IsOff l.world ⊎ (g.D.Disk.block_count l.disk ≡ blocks_of l.world);
+  cause : IsTrue l.failed → HasRisen (g.D.Disk.faults l.fn.disk) (g.D.Disk.faults l.disk);
+  faults : g.D.Disk.faults l.fn.disk ≤ g.D.Disk.faults l.disk;
+  calls : g.D.Disk.calls l.disk ≤ g.D.Disk.calls l.fn.disk + l.made;
+  orders : g.D.Disk.orders l.disk ≡ g.D.Disk.orders l.fn.disk;
+  few : l.made ≤ 66000;
+}
+
+abbrev pub decreases-loop-made : goal.decreases-loop-made
+decreases-loop-made g l = 66000 - l.made

@@ -1,0 +1,72 @@
+-- Events of a command, one after another, by what the plain machine and the disk are at between them.
+use Rattle.std.specs.Prelude.{◌≡◌, ◌⊎◌, ℕ, zero, suc, Bool, true, false, Option, Some, Contains, ⊤}
+use Rattle.definitions.specs.Disk as disk
+use Rattle.plain_machine.specs.Machine.{Hardware, Memory}
+use Rattle.plain_machine.specs.State.{State, loading, Load}
+use Rattle.plain_machine.specs.Step.{Step}
+use Rattle.plain_machine.specs.declared.event.Actor.TheVariants as actor
+use Rattle.plain_machine.specs.declared.event.Event.{Event}
+use Rattle.plain_machine.specs.declared.event.Event.TheVariants as event
+use Rattle.plain_machine.specs.declared.reply.Reply.{Reply}
+use Rattle.plain_machine.specs.declared.reply.Reply.TheVariants as reply
+use Rattle.protocol_laws.specs.Rows.{IsSameArea, LeavesBlock, blocks_written, IsNewFault}
+use Rattle.resume_core.specs.Row.{restored_by}
+use Rattle.world_core.specs.StandsFor.{StandsFor}
+use Rattle.world_core.specs.World.{World}
+use Rattle.command_core.specs.declared.ending.Ended.{Ended}
+
+-- whether an operation has a step left after this reply
+abbrev pub goes_on : Reply → Bool
+goes_on (reply.More k of) = true
+goes_on (reply.Undo call k) = true
+goes_on (reply.Loading k) = true
+goes_on _ = false
+
+-- a reply of a call of the disk that failed, at its event or before an undo
+abbrev pub IsFault : Reply → Type 0
+IsFault (reply.ReadFault left) = ⊤
+IsFault (reply.WriteFault left) = ⊤
+IsFault (reply.SyncFault left) = ⊤
+IsFault _ = ⊥
+
+-- After an event: the reply, whether a call of the disk has failed so far, the state of the plain machine, what the disk holds, and
+-- the page frames.
+pub record Point : Type 0 where
+  pub reply : Reply
+  pub failed : Bool
+  pub state : State
+  pub content : disk.Content
+  pub frames : Memory
+
+-- The plain machine gives the reply to this event, and goes on to the state. The area on the disk stays, and no other block is written
+-- than it may write. A call that failed is noticed. Where a resume has ended the page frames are those that it restores.
+pub record IsTurn (h : Hardware) (e : Event) (old new : Point) : Type 0 where
+  pub step : Step h (disk.as_it_reads old.content) old.state e new.reply new.state
+  pub area : IsSameArea h (disk.as_it_reads old.content) (disk.as_it_reads new.content)
+  pub unwritten : (b : ℕ) → (Contains (blocks_written h old.state) b → ⊥) → LeavesBlock b old.content new.content
+  pub blocks : ℕ
+  pub whole : disk.IsContent blocks new.content
+  pub noticed : IsNewFault new.reply → new.failed ≡ true
+  pub noted : old.failed ≡ true → new.failed ≡ true
+  pub restored : (load : Load) (k n : ℕ) → e ≡ event.Step actor.Core → old.state ≡ loading load k → new.reply ≡ reply.Resumed n → new.frames ≡ restored_by h load
+
+-- so many steps of the core, each after a reply that goes on
+abbrev pub AreSteps : Hardware → ℕ → Point → Point → Type 0
+AreSteps h zero old new = new ≡ old
+AreSteps h (suc n) old new = (mid : Point) × AreSteps h n old mid × (goes_on mid.reply ≡ true) × IsTurn h (event.Step actor.Core) mid new
+
+-- so many steps from this point on have led to this reply, and to what the world and the disk stand for
+pub record HaveMade (h : Hardware) (world : World) (start : Point) (steps : ℕ) (r : Reply) (failed : Bool) (now : Option disk.Content) : Type 0 where
+  pub end : Point
+  pub told : now ≡ Some end.content
+  pub reply_is : end.reply ≡ r
+  pub failed_is : end.failed ≡ failed
+  pub stands : StandsFor world end.content end.state
+  pub frames : end.frames ≡ world.frames
+  pub are : AreSteps h steps start end
+
+-- The steps from this point on have led to the end: nothing is left to do there, or it is step 66,000.
+pub record HasGone (h : Hardware) (world : World) (start : Point) (ended : Ended) (now : Option disk.Content) : Type 0 where
+  pub steps : ℕ
+  pub made : HaveMade h world start steps ended.reply ended.failed now
+  pub over : (goes_on ended.reply ≡ false) ⊎ (steps ≡ 66000)

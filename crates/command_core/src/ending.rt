@@ -1,0 +1,79 @@
+ghost use Rattle.std.specs.Prelude.{◌≡◌, ◌⊎◌, ◌≤◌, ◌<◌, ◌+◌, ◌↔◌, ℕ, true, false, IsTrue, Some};
+ghost use Rattle.definitions.specs.Disk.{Content, HasRisen};
+ghost use Rattle.plain_machine.specs.State.{State};
+ghost use Rattle.protocol_laws.specs.Rows.{IsNewFault};
+ghost use Rattle.world_core.specs.StandsFor.{IsOff, StandsFor, blocks_of, hardware_of};
+ghost use Rattle.command_core.specs.Turns.{goes_on, HasGone};
+
+use plain_machine::{Actor, Event, Left, Reply};
+use sector_disk::Disk;
+use world_core::World;
+
+/// More steps than a hibernation or a resume of 65,536 page frames has: 65,802, and two of an undo.
+pub(crate) const MOST_STEPS: u32 = 66_000;
+
+/// How an operation has ended.
+#[derive(Clone, Copy, Debug, PartialEq, Eq)]
+pub struct Ended {
+    /// The last reply.
+    pub reply: Reply,
+    /// Whether a call of the disk has failed.
+    pub failed: bool,
+}
+
+impl Ended {
+    /// The operation has ended with the reply of the only event that could fail.
+    pub(crate) fn after(reply: Reply) -> Ended
+        ensures reply { result.reply ≡ reply }
+        ensures failed { IsTrue result.failed ↔ IsNewFault reply }
+    {
+        Ended {
+            reply,
+            failed: is_new_fault(&reply),
+        }
+    }
+}
+
+/// Makes the steps of the operation that this reply began, up to a reply after which none is left.
+pub(crate) fn finish<D: Disk>(world: &mut World, disk: &mut D, begun: Reply) -> Ended
+    requires blocks { IsOff world.old ⊎ (D.block_count disk.old ≡ blocks_of world.old) }
+    ensures gone { (c : Content) (a : State) → D.content disk.old ≡ Some c → StandsFor world.old c a →
+        HasGone (hardware_of world.old) world.new (record { reply = begun; failed = false; state = a; content = c; frames = world.old.frames }) result (D.content disk.new) }
+    ensures hardware { hardware_of world.new ≡ hardware_of world.old }
+    ensures cause { IsTrue result.failed → HasRisen (D.faults disk.old) (D.faults disk.new) }
+    ensures faults { D.faults disk.old ≤ D.faults disk.new }
+    ensures calls { D.calls disk.new ≤ D.calls disk.old + 66000 }
+    ensures orders { D.orders disk.new ≡ D.orders disk.old }
+{
+    let mut reply = begun;
+    let mut failed = false;
+    let mut made = 0;
+    while made < MOST_STEPS && goes_on(&reply) {
+        reply = world.event(disk, Event::Step(Actor::Core));
+        failed = failed || is_new_fault(&reply);
+        made += 1;
+    }
+    Ended { reply, failed }
+}
+
+/// Whether an operation has a step left after this reply.
+pub(crate) fn goes_on(reply: &Reply) -> bool
+    ensures { result ≡ goes_on reply.now }
+{
+    matches!(
+        reply,
+        Reply::More { .. } | Reply::Undo { .. } | Reply::Loading { .. }
+    )
+}
+
+/// Whether a reply says that the call of the disk at its event has failed.
+pub(crate) fn is_new_fault(reply: &Reply) -> bool
+    ensures { IsTrue result ↔ IsNewFault reply.now }
+{
+    match *reply {
+        Reply::ReadFault { .. } => true,
+        Reply::WriteFault { left } | Reply::SyncFault { left } => left != Left::Gone,
+        Reply::Undo { k, .. } => k == 0,
+        _ => false,
+    }
+}

@@ -1,0 +1,63 @@
+ghost use Rattle.std.specs.Prelude.{◌≡◌, ◌⊎◌, ◌≤◌, ◌+◌, IsTrue, Some, IfErr};
+ghost use Rattle.definitions.specs.Disk.{Image, HasRisen, settled};
+ghost use Rattle.plain_machine.specs.Chain.{Marked};
+ghost use Rattle.plain_machine.specs.Machine.{IsHardware};
+ghost use Rattle.plain_machine.specs.Premises.{HasOriginal};
+ghost use Rattle.world_core.specs.StandsFor.{IsNew, IsOff, blocks_of, hardware_of};
+ghost use Rattle.command_core.specs.Hibernation.{HasHibernated, HasTriedToBoot, is_booted};
+
+use crate::ending::{Ended, finish, goes_on};
+use page_core::Format;
+use plain_machine::{Actor, BootFrom, Event, Reply};
+use sector_disk::Disk;
+use world_core::World;
+
+/// Boots a new machine with the memory of its dump, and lets it hibernate (hibernate, kernel/power/hibernate.c). What it answers last.
+pub fn hibernate<D: Disk>(world: &mut World, disk: &mut D, format: Format) -> Ended
+    requires hardware { IsHardware (hardware_of world.old) }
+    requires new { IsNew (hardware_of world.old) (Some world.old.frames) world.old }
+    ensures hibernated { (v : Image) → D.content disk.old ≡ Some (settled v) → (Marked (hardware_of world.old) v → HasOriginal (hardware_of world.old) v) →
+        HasHibernated (hardware_of world.old) world.old.frames format v result (D.content disk.new) }
+    ensures hardware { hardware_of world.new ≡ hardware_of world.old }
+    ensures cause { IsTrue result.failed → HasRisen (D.faults disk.old) (D.faults disk.new) }
+    ensures faults { D.faults disk.old ≤ D.faults disk.new }
+    ensures calls { D.calls disk.new ≤ D.calls disk.old + 66002 }
+    ensures orders { D.orders disk.new ≡ D.orders disk.old }
+{
+    match boot(world, disk) {
+        Ok(()) => {}
+        Err(ended) => return ended,
+    }
+    let begun = world.event(disk, Event::Hibernate(format));
+    finish(world, disk, begun)
+}
+
+/// Boots the machine, or tells the call of the disk that failed.
+fn boot<D: Disk>(world: &mut World, disk: &mut D) -> Result<(), Ended>
+    requires new { IsNew (hardware_of world.old) (Some world.old.frames) world.old }
+    ensures booted { (v : Image) → D.content disk.old ≡ Some (settled v) → (Marked (hardware_of world.old) v → HasOriginal (hardware_of world.old) v) →
+        HasTriedToBoot (hardware_of world.old) world.old.frames v world.new result (D.content disk.new) }
+    ensures hardware { hardware_of world.new ≡ hardware_of world.old }
+    ensures cause { IfErr result (λ ended. IsTrue ended.failed → HasRisen (D.faults disk.old) (D.faults disk.new)) }
+    ensures faults { D.faults disk.old ≤ D.faults disk.new }
+    ensures calls { D.calls disk.new ≤ D.calls disk.old + 2 }
+    ensures orders { D.orders disk.new ≡ D.orders disk.old }
+    ensures blocks { IsOff world.new ⊎ (D.block_count disk.new ≡ blocks_of world.new) }
+{
+    world.event(disk, Event::Boot(BootFrom::Kept));
+    let synced = world.event(disk, Event::Step(Actor::Core));
+    if !goes_on(&synced) {
+        return Err(Ended::after(synced));
+    }
+    let read = world.event(disk, Event::Step(Actor::Core));
+    if !is_booted(&read) {
+        return Err(Ended::after(read));
+    }
+    Ok(())
+}
+
+fn is_booted(reply: &Reply) -> bool
+    ensures { result ≡ is_booted reply.now }
+{
+    matches!(reply, Reply::Booted { .. })
+}

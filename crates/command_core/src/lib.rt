@@ -1,0 +1,10 @@
+//! A hibernation and a resume from the first event to the last reply, over a machine that was made from a memory dump.
+#![tactic(auto)]
+
+mod ending;
+mod hibernation;
+mod resumption;
+
+pub use ending::Ended;
+pub use hibernation::hibernate;
+pub use resumption::resume;

@@ -1,0 +1,29 @@
+ghost use Rattle.std.specs.Prelude.{◌≡◌, ◌≤◌, ◌+◌, IsTrue, Some};
+ghost use Rattle.definitions.specs.Disk.{Image, HasRisen, settled};
+ghost use Rattle.plain_machine.specs.Chain.{Marked};
+ghost use Rattle.plain_machine.specs.Machine.{IsHardware};
+ghost use Rattle.plain_machine.specs.Premises.{HasOriginal};
+ghost use Rattle.world_core.specs.StandsFor.{IsNew, hardware_of};
+ghost use Rattle.command_core.specs.Resumption.{HasResumed};
+
+use crate::ending::{Ended, finish};
+use plain_machine::{Event, IdentCheck, Loader};
+use sector_disk::Disk;
+use world_core::World;
+
+/// Resumes the image on a disk into a new machine, whose dump's memory is the loader's (software_resume, kernel/power/hibernate.c). What
+/// it answers last; where that is `Resumed`, its page frames are those of the machine that was saved.
+pub fn resume<D: Disk>(world: &mut World, disk: &mut D, check: IdentCheck) -> Ended
+    requires hardware { IsHardware (hardware_of world.old) }
+    requires new { IsNew (hardware_of world.old) (Some world.old.frames) world.old }
+    ensures resumed { (v : Image) → D.content disk.old ≡ Some (settled v) → (Marked (hardware_of world.old) v → HasOriginal (hardware_of world.old) v) →
+        HasResumed (hardware_of world.old) world.old.frames check v world.new.frames result (D.content disk.new) }
+    ensures hardware { hardware_of world.new ≡ hardware_of world.old }
+    ensures cause { IsTrue result.failed → HasRisen (D.faults disk.old) (D.faults disk.new) }
+    ensures faults { D.faults disk.old ≤ D.faults disk.new }
+    ensures calls { D.calls disk.new ≤ D.calls disk.old + 66000 }
+    ensures orders { D.orders disk.new ≡ D.orders disk.old }
+{
+    let begun = world.event(disk, Event::Resume(Loader::Table, check));
+    finish(world, disk, begun)
+}

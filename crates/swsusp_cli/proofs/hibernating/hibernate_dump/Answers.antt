@@ -1,0 +1,51 @@
+use Rattle.std.proofs.Common.{◌≡◌, Ok, Err, refl, sym, ap, ◌∙◌, subst}
+use Rattle.dump_file.specs.Dump.{DumpValue}
+use Rattle.dump_file.specs.declared.dump.DumpStop.{DumpStop}
+use Rattle.swsusp_cli.specs.Answer.{Told, memory_told}
+use Rattle.swsusp_cli.specs.AnswerOf.{told_by}
+use Rattle.swsusp_cli.specs.Dumps.{dump_told, hibernation_told}
+use Rattle.swsusp_cli.specs.Dumps.{no_dump, out_of_memory, answered}
+use Rattle.swsusp_cli.specs.Told.{IsTold}
+use Rattle.swsusp_cli.specs.View.{DiskView, SinkView}
+use Rattle.swsusp_cli.proofs.Dumped.{hibernated_as}
+use Rattle.swsusp_cli.proofs.hibernating.hibernate_dump.Goals as goal
+
+pub returns-in-Err-Fault-clause-outcome : goal.returns-in-Err-Fault-clause-outcome
+returns-in-Err-Fault-clause-outcome g c =
+    let tell = c.tell-in-Err-Fault in
+    let out : SinkView = record { taken = g.O.Sink.taken c.args.out.now; flushed = g.O.Sink.flushed c.args.out.now; faults = g.O.Sink.faults c.args.out.now } in
+    let note : SinkView = record { taken = g.N.Sink.taken c.args.note.now; flushed = g.N.Sink.flushed c.args.note.now; faults = g.N.Sink.faults c.args.note.now } in
+    let before : DiskView = record { blocks = g.D.Disk.block_count c.args.disk.now; content = g.D.Disk.content c.args.disk.now; faults = g.D.Disk.faults c.args.disk.now; calls = g.D.Disk.calls c.args.disk.now; orders = g.D.Disk.orders c.args.disk.now } in
+    let answer : told_by c.no_dump.result ≡ dump_told c.in-Err-Fault.fault = rw c.in-Err-Fault.field-0-is at c.no_dump.ensures.told in
+    no_dump c.in-Err-Fault.fault (record {
+      says = λ bytes left. c.read_dump.ensures.fault bytes c.in-Err-Fault.fault left (c.in-Err-Fault.is ∙ ap Err c.in-Err-Fault.field-0-is);
+      told = subst (λ (t : Told). IsTold t tell.result out (record { taken = g.O.Sink.taken tell.new.out; flushed = g.O.Sink.flushed tell.new.out; faults = g.O.Sink.faults tell.new.out }) note (record { taken = g.N.Sink.taken tell.new.note; flushed = g.N.Sink.flushed tell.new.note; faults = g.N.Sink.faults tell.new.note })) answer tell.ensures.told;
+      untouched = refl {a = before};
+    })
+
+pub returns-in-Err-clause-outcome : goal.returns-in-Err-clause-outcome
+returns-in-Err-clause-outcome g c =
+    let tell = c.tell-in-Err in
+    let out : SinkView = record { taken = g.O.Sink.taken c.args.out.now; flushed = g.O.Sink.flushed c.args.out.now; faults = g.O.Sink.faults c.args.out.now } in
+    let note : SinkView = record { taken = g.N.Sink.taken c.args.note.now; flushed = g.N.Sink.flushed c.args.note.now; faults = g.N.Sink.faults c.args.note.now } in
+    let before : DiskView = record { blocks = g.D.Disk.block_count c.args.disk.now; content = g.D.Disk.content c.args.disk.now; faults = g.D.Disk.faults c.args.disk.now; calls = g.D.Disk.calls c.args.disk.now; orders = g.D.Disk.orders c.args.disk.now } in
+    out_of_memory (record {
+      told = subst (λ (t : Told). IsTold t tell.result out (record { taken = g.O.Sink.taken tell.new.out; flushed = g.O.Sink.flushed tell.new.out; faults = g.O.Sink.faults tell.new.out }) note (record { taken = g.N.Sink.taken tell.new.note; flushed = g.N.Sink.flushed tell.new.note; faults = g.N.Sink.faults tell.new.note })) c.no_memory-in-Err.ensures.told tell.ensures.told;
+      untouched = refl {a = before};
+    })
+
+pub returns-clause-outcome : goal.returns-clause-outcome
+returns-clause-outcome g c =
+    let tell = c.tell-2 in
+    let out : SinkView = record { taken = g.O.Sink.taken c.args.out.now; flushed = g.O.Sink.flushed c.args.out.now; faults = g.O.Sink.faults c.args.out.now } in
+    let note : SinkView = record { taken = g.N.Sink.taken c.args.note.now; flushed = g.N.Sink.flushed c.args.note.now; faults = g.N.Sink.faults c.args.note.now } in
+    let dump : DumpValue = record { hw = c.in-Ok.dump.hw; memory = c.in-Ok.dump.frames } in
+    let made = c.in-Ok-machine_of.ensures in
+    let ended = c.hibernate-ended in
+    answered dump ended.result (record {
+      dump_is = record { says = λ bytes left. c.in-Ok.ensures.dump bytes left; over = c.in-Ok.ensures.end refl };
+      told = subst (λ (t : Told). IsTold t tell.result out (record { taken = g.O.Sink.taken tell.new.out; flushed = g.O.Sink.flushed tell.new.out; faults = g.O.Sink.faults tell.new.out }) note (record { taken = g.N.Sink.taken tell.new.note; flushed = g.N.Sink.flushed tell.new.note; faults = g.N.Sink.faults tell.new.note })) c.hibernation_answer.ensures.told tell.ensures.told;
+      ends = λ v told original. hibernated_as _ dump.hw _ dump.memory c.args.format v ended.result _ made.is made.frames (ended.ensures.hibernated v told) original;
+      calls = ended.ensures.calls;
+      orders = ended.ensures.orders;
+    })

@@ -1,0 +1,78 @@
+-- How `hibernate` may end: it reads a dump, and its machine answers.
+use Rattle.std.specs.Prelude.{◌≡◌, ◌≤◌, ◌+◌, ℕ, List, [], ◌∷◌, ◌++◌, codes, decimal, Bool, true, false, if◌then◌else◌, Some, Ok, Err}
+use Rattle.page_core.specs.declared.format.Format.{Format}
+use Rattle.definitions.specs.Disk as disk
+use Rattle.definitions.specs.Streams.{IsOver}
+use Rattle.dump_file.specs.Dump.{DumpValue, dump_of}
+use Rattle.dump_file.specs.declared.dump.DumpFault.{DumpFault}
+use Rattle.dump_file.specs.declared.dump.DumpKind.{DumpKind}
+use Rattle.dump_file.specs.declared.dump.DumpKind.TheVariants as kind
+use Rattle.plain_machine.specs.Chain.{Marked}
+use Rattle.plain_machine.specs.Premises.{HasOriginal}
+use Rattle.plain_machine.specs.Replies.{line_of}
+use Rattle.plain_machine.specs.declared.reply.Reply.{Reply}
+use Rattle.plain_machine.specs.declared.reply.Reply.TheVariants as reply
+use Rattle.command_core.specs.Hibernation.{HasHibernated}
+use Rattle.command_core.specs.declared.ending.Ended.{Ended}
+use Rattle.swsusp_cli.specs.Answer.{Told, line}
+use Rattle.swsusp_cli.specs.Outcome.{IsOutOfMemory, IsUnread, Tells}
+use Rattle.swsusp_cli.specs.View.{View}
+use Rattle.swsusp_cli.specs.declared.status.Status.{Status}
+use Rattle.swsusp_cli.specs.declared.status.Status.TheVariants.{Done, Refused, Input, Device}
+
+-- The input is no dump: its first fault, at a byte or, in the tables, at a page frame.
+
+abbrev pub kind_text : DumpKind → List ℕ
+kind_text kind.Short = codes "Short byte "
+kind_text kind.Magic = codes "Magic byte "
+kind_text kind.Header = codes "Header byte "
+kind_text kind.Zone = codes "Zone byte "
+kind_text kind.Extent = codes "Extent byte "
+kind_text kind.Frame = codes "Frame byte "
+kind_text kind.Order = codes "Order byte "
+kind_text kind.Extra = codes "Extra byte "
+kind_text kind.Tables = codes "Tables frame "
+
+abbrev pub dump_note : DumpFault → List ℕ
+dump_note fault = line (codes "dump " ++ kind_text fault.kind ++ decimal fault.at)
+
+abbrev pub dump_told : DumpFault → Told
+dump_told fault = record { status = Input; out = []; note = dump_note fault }
+
+pub record IsNoDump (x x' : View) (status : Status) (fault : DumpFault) : Type 0 where
+  pub says : (bytes : List ℕ) → x.left ≡ Some bytes → dump_of bytes ≡ Err fault
+  pub told : Tells (dump_told fault) status x x'
+  pub untouched : x'.disk ≡ x.disk
+
+-- what was left is this dump, and is read to its end
+pub record IsDump (x x' : View) (dump : DumpValue) : Type 0 where
+  pub says : (bytes : List ℕ) → x.left ≡ Some bytes → dump_of bytes ≡ Ok dump
+  pub over : IsOver x'.left
+
+-- What is told at the end: the line of the last reply, on out after a hibernation that ended well, else on note. The status says
+-- whether it was refused, or a call of the disk failed.
+
+abbrev pub is_hibernated : Reply → Bool
+is_hibernated (reply.Hibernated n) = true
+is_hibernated _ = false
+
+abbrev pub stopped_told : Ended → Told
+stopped_told ended = record { status = if ended.failed then Device else Refused; out = []; note = line_of ended.reply }
+
+abbrev pub hibernation_told : Ended → Told
+hibernation_told ended = if is_hibernated ended.reply then record { status = Done; out = line_of ended.reply; note = [] } else stopped_told ended
+
+-- The machine of the dump has hibernated, or has answered why it doesn't.
+pub record HasAnswered (f : Format) (x x' : View) (status : Status) (dump : DumpValue) (ended : Ended) : Type 0 where
+  pub dump_is : IsDump x x' dump
+  pub told : Tells (hibernation_told ended) status x x'
+  pub ends : (v : disk.Image) → x.disk.content ≡ Some (disk.settled v) → (Marked dump.hw v → HasOriginal dump.hw v) → HasHibernated dump.hw dump.memory f v ended x'.disk.content
+  pub calls : x'.disk.calls ≤ x.disk.calls + 66002
+  pub orders : x'.disk.orders ≡ x.disk.orders
+
+-- One of these, by what the outside told before a hibernation and after it.
+pub data Hibernates (f : Format) (x x' : View) (status : Status) : Type 0 where
+  no_dump : (fault : DumpFault) → IsNoDump x x' status fault → Hibernates f x x' status
+  out_of_memory : IsOutOfMemory x x' status → Hibernates f x x' status
+  unread : IsUnread x x' status → Hibernates f x x' status
+  answered : (dump : DumpValue) (ended : Ended) → HasAnswered f x x' status dump ended → Hibernates f x x' status

@@ -1,0 +1,42 @@
+-- How `resume` may end: it reads a loader's dump, and its machine answers.
+use Rattle.std.specs.Prelude.{◌≡◌, ◌≤◌, ◌+◌, List, [], Bool, true, false, if◌then◌else◌, Some}
+use Rattle.definitions.specs.Disk as disk
+use Rattle.dump_file.specs.Dump.{DumpValue}
+use Rattle.dump_file.specs.Written.{dump_bytes}
+use Rattle.dump_file.specs.declared.dump.DumpFault.{DumpFault}
+use Rattle.plain_machine.specs.Chain.{Marked}
+use Rattle.plain_machine.specs.Machine.{Hardware, Memory}
+use Rattle.plain_machine.specs.Premises.{HasOriginal}
+use Rattle.plain_machine.specs.declared.event.IdentCheck.{IdentCheck}
+use Rattle.plain_machine.specs.declared.reply.Reply.{Reply}
+use Rattle.plain_machine.specs.declared.reply.Reply.TheVariants as reply
+use Rattle.command_core.specs.Resumption.{HasResumed}
+use Rattle.command_core.specs.declared.ending.Ended.{Ended}
+use Rattle.swsusp_cli.specs.Answer.{Told}
+use Rattle.swsusp_cli.specs.Dumps.{IsDump, IsNoDump, stopped_told}
+use Rattle.swsusp_cli.specs.Outcome.{IsOutOfMemory, IsUnread, Tells}
+use Rattle.swsusp_cli.specs.View.{View}
+use Rattle.swsusp_cli.specs.declared.status.Status.{Status}
+use Rattle.swsusp_cli.specs.declared.status.Status.TheVariants.{Done}
+
+abbrev pub is_resumed : Reply → Bool
+is_resumed (reply.Resumed n) = true
+is_resumed _ = false
+
+-- after a resume that ended well out is the dump of the memory that it restored
+abbrev pub resume_told : Hardware → Memory → Ended → Told
+resume_told h m ended = if is_resumed ended.reply then record { status = Done; out = dump_bytes h m; note = [] } else stopped_told ended
+
+-- The image was resumed into the machine of the dump, which then has this memory, or it has answered why not.
+pub record HasLoaded (check : IdentCheck) (x x' : View) (status : Status) (dump : DumpValue) (memory : Memory) (ended : Ended) : Type 0 where
+  pub dump_is : IsDump x x' dump
+  pub told : Tells (resume_told dump.hw memory ended) status x x'
+  pub ends : (v : disk.Image) → x.disk.content ≡ Some (disk.settled v) → (Marked dump.hw v → HasOriginal dump.hw v) → HasResumed dump.hw dump.memory check v memory ended x'.disk.content
+  pub calls : x'.disk.calls ≤ x.disk.calls + 66000
+  pub orders : x'.disk.orders ≡ x.disk.orders
+
+pub data Resumes (check : IdentCheck) (x x' : View) (status : Status) : Type 0 where
+  no_dump : (fault : DumpFault) → IsNoDump x x' status fault → Resumes check x x' status
+  out_of_memory : IsOutOfMemory x x' status → Resumes check x x' status
+  unread : IsUnread x x' status → Resumes check x x' status
+  answered : (dump : DumpValue) (memory : Memory) (ended : Ended) → HasLoaded check x x' status dump memory ended → Resumes check x x' status

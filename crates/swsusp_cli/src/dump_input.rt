@@ -1,0 +1,83 @@
+ghost use Rattle.std.specs.Prelude.{◌≡◌, ◌≢◌, ◌++◌, ◌≤◌, length, true, Some, IfOk};
+ghost use Rattle.plain_machine.specs.Machine.{Fits, IsHardware};
+ghost use Rattle.world_core.specs.StandsFor.{IsNew, hardware_of};
+ghost use Rattle.swsusp_cli.specs.AnswerOf.{told_by};
+ghost use Rattle.swsusp_cli.specs.Dumps.{dump_told, kind_text, stopped_told};
+
+use crate::answer::Answer;
+use crate::status::Status;
+use command_core::Ended;
+use dump_file::{DumpFault, DumpKind};
+use machine::Dump;
+use page_core::NoMemory;
+use script::{Line, line_of};
+use std::alloc::Global;
+use world_core::World;
+
+/// A new machine, which keeps the memory of its dump.
+pub fn machine_of(alloc: Global, dump: Dump) -> Result<World, NoMemory>
+    requires { Fits dump.hw dump.frames }
+    ensures hardware { IfOk result (λ world. IsHardware (hardware_of world)) }
+    ensures is { IfOk result (λ world. hardware_of world ≡ dump.hw) }
+    ensures frames { IfOk result (λ world. world.frames ≡ dump.frames) }
+    ensures new { IfOk result (λ world. IsNew (hardware_of world) (Some world.frames) world) }
+{
+    let _ = dump.hw.zones();
+    World::from_dump(alloc, dump)
+}
+
+/// The input is no dump.
+pub fn no_dump(fault: DumpFault) -> Answer
+    ensures told { told_by result ≡ dump_told fault }
+    ensures status { result.status ≡ Status.Input }
+{
+    let mut note = Line::new();
+    note.put(b"dump ");
+    put_kind(&mut note, fault.kind);
+    note.put_number(fault.at);
+    note.put(b"\n");
+    Answer {
+        status: Status::Input,
+        out: Line::new(),
+        note,
+    }
+}
+
+/// A dump's kind of fault, and what its place counts.
+fn put_kind(line: &mut Line, kind: DumpKind)
+    requires { length line.old ≡ 5 }
+    ensures added { line.new ≡ line.old ++ kind_text kind }
+    ensures len { length line.new ≤ 20 }
+{
+    line.put(match kind {
+        DumpKind::Short => b"Short byte ",
+        DumpKind::Magic => b"Magic byte ",
+        DumpKind::Header => b"Header byte ",
+        DumpKind::Zone => b"Zone byte ",
+        DumpKind::Extent => b"Extent byte ",
+        DumpKind::Frame => b"Frame byte ",
+        DumpKind::Order => b"Order byte ",
+        DumpKind::Extra => b"Extra byte ",
+        DumpKind::Tables => b"Tables frame ",
+    });
+}
+
+/// An operation has ended otherwise than well: its last reply is noted.
+pub fn stopped(ended: &Ended) -> Answer
+    ensures told { told_by result ≡ stopped_told ended.now }
+    ensures status { result.status ≢ Status.Stream }
+    ensures words { result.status ≢ Status.Words }
+    ensures device { result.status ≡ Status.Device → ended.now.failed ≡ true }
+{
+    let mut note = Line::new();
+    line_of(&ended.reply, &mut note);
+    Answer {
+        status: if ended.failed {
+            Status::Device
+        } else {
+            Status::Refused
+        },
+        out: Line::new(),
+        note,
+    }
+}

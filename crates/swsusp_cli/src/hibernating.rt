@@ -1,0 +1,78 @@
+ghost use Rattle.std.specs.Prelude.{◌≡◌, ◌≢◌, ◌⊎◌, ◌≤◌, ◌+◌, true};
+ghost use Rattle.definitions.specs.Disk.{HasRisen};
+ghost use Rattle.swsusp_cli.specs.Dumps.{Hibernates};
+ghost use Rattle.swsusp_cli.specs.AnswerOf.{told_by};
+ghost use Rattle.swsusp_cli.specs.Dumps.{hibernation_told};
+
+use crate::answer::{Answer, no_memory};
+use crate::dump_input::{machine_of, no_dump, stopped};
+use crate::replay::unread;
+use crate::status::Status;
+use command_core::{Ended, hibernate};
+use dump_file::{DumpStop, Sink, Source, read_dump};
+use page_core::{Format, NoMemory};
+use plain_machine::Reply;
+use script::{Line, line_of};
+use sector_disk::Disk;
+use std::alloc::Global;
+
+/// Reads a dump to its end, and lets its machine hibernate.
+pub fn hibernate_dump<I: Source, O: Sink, N: Sink, D: Disk>(
+    alloc: Global,
+    format: Format,
+    input: &mut I,
+    out: &mut O,
+    note: &mut N,
+    disk: &mut D,
+) -> Status
+    ensures outcome { Hibernates format (record {
+      left = I.remaining input.old;
+      disk = record { blocks = D.block_count disk.old; content = D.content disk.old; faults = D.faults disk.old; calls = D.calls disk.old; orders = D.orders disk.old };
+      out = record { taken = O.taken out.old; flushed = O.flushed out.old; faults = O.faults out.old };
+      note = record { taken = N.taken note.old; flushed = N.flushed note.old; faults = N.faults note.old };
+    }) (record {
+      left = I.remaining input.new;
+      disk = record { blocks = D.block_count disk.new; content = D.content disk.new; faults = D.faults disk.new; calls = D.calls disk.new; orders = D.orders disk.new };
+      out = record { taken = O.taken out.new; flushed = O.flushed out.new; faults = O.faults out.new };
+      note = record { taken = N.taken note.new; flushed = N.flushed note.new; faults = N.faults note.new };
+    }) result }
+    ensures stream { result ≡ Status.Stream → HasRisen (I.faults input.old) (I.faults input.new)
+        ⊎ HasRisen (O.faults out.old) (O.faults out.new) ⊎ HasRisen (N.faults note.old) (N.faults note.new) }
+    ensures device { result ≡ Status.Device → HasRisen (D.faults disk.old) (D.faults disk.new) }
+    ensures words { result ≢ Status.Words }
+    ensures few_calls { D.calls disk.new ≤ D.calls disk.old + 100002 }
+{
+    let dump = match read_dump(alloc, input) {
+        Ok(dump) => dump,
+        Err(DumpStop::SourceFault) => return unread(note),
+        Err(DumpStop::NoMemory) => return no_memory().tell(out, note),
+        Err(DumpStop::Fault(fault)) => return no_dump(fault).tell(out, note),
+    };
+    let mut world = match machine_of(alloc, dump) {
+        Ok(world) => world,
+        Err(NoMemory) => return no_memory().tell(out, note),
+    };
+    let ended = hibernate(&mut world, disk, format);
+    hibernation_answer(&ended).tell(out, note)
+}
+
+/// What a hibernation says at its end.
+fn hibernation_answer(ended: &Ended) -> Answer
+    ensures told { told_by result ≡ hibernation_told ended.now }
+    ensures status { result.status ≢ Status.Stream }
+    ensures words { result.status ≢ Status.Words }
+    ensures device { result.status ≡ Status.Device → ended.now.failed ≡ true }
+{
+    match ended.reply {
+        Reply::Hibernated { .. } => {
+            let mut out = Line::new();
+            line_of(&ended.reply, &mut out);
+            Answer {
+                status: Status::Done,
+                out,
+                note: Line::new(),
+            }
+        }
+        _ => stopped(ended),
+    }
+}

@@ -1,0 +1,117 @@
+ghost use Rattle.std.specs.Prelude.{◌≡◌, ◌≢◌, ◌⊎◌, ◌≤◌, ◌+◌, length, [], true, OnOk, OnErr};
+ghost use Rattle.definitions.specs.Disk.{HasRisen};
+ghost use Rattle.swsusp_cli.specs.Loads.{Resumes};
+ghost use Rattle.definitions.specs.Zones.{top};
+ghost use Rattle.dump_file.specs.Written.{dump_bytes};
+ghost use Rattle.swsusp_cli.specs.Loads.{is_resumed, resume_told};
+ghost use Rattle.swsusp_cli.specs.Told.{FailsToPrint, IsPrinted, IsTold};
+
+use crate::answer::{no_memory, print};
+use crate::dump_input::{machine_of, no_dump, stopped};
+use crate::replay::unread;
+use crate::status::Status;
+use command_core::{Ended, resume};
+use dump_file::{DumpStop, Sink, Source, read_dump, write_dump};
+use frame_arena::Frames;
+use machine::Hardware;
+use page_core::{Failed, NoMemory};
+use plain_machine::{IdentCheck, Reply};
+use sector_disk::Disk;
+use std::alloc::Global;
+
+/// Reads a loader's dump to its end, resumes the image on the disk into its machine, and writes the dump of what was restored.
+pub fn resume_dump<I: Source, O: Sink, N: Sink, D: Disk>(
+    alloc: Global,
+    check: IdentCheck,
+    input: &mut I,
+    out: &mut O,
+    note: &mut N,
+    disk: &mut D,
+) -> Status
+    ensures outcome { Resumes check (record {
+      left = I.remaining input.old;
+      disk = record { blocks = D.block_count disk.old; content = D.content disk.old; faults = D.faults disk.old; calls = D.calls disk.old; orders = D.orders disk.old };
+      out = record { taken = O.taken out.old; flushed = O.flushed out.old; faults = O.faults out.old };
+      note = record { taken = N.taken note.old; flushed = N.flushed note.old; faults = N.faults note.old };
+    }) (record {
+      left = I.remaining input.new;
+      disk = record { blocks = D.block_count disk.new; content = D.content disk.new; faults = D.faults disk.new; calls = D.calls disk.new; orders = D.orders disk.new };
+      out = record { taken = O.taken out.new; flushed = O.flushed out.new; faults = O.faults out.new };
+      note = record { taken = N.taken note.new; flushed = N.flushed note.new; faults = N.faults note.new };
+    }) result }
+    ensures stream { result ≡ Status.Stream → HasRisen (I.faults input.old) (I.faults input.new)
+        ⊎ HasRisen (O.faults out.old) (O.faults out.new) ⊎ HasRisen (N.faults note.old) (N.faults note.new) }
+    ensures device { result ≡ Status.Device → HasRisen (D.faults disk.old) (D.faults disk.new) }
+    ensures words { result ≢ Status.Words }
+    ensures few_calls { D.calls disk.new ≤ D.calls disk.old + 100002 }
+{
+    let dump = match read_dump(alloc, input) {
+        Ok(dump) => dump,
+        Err(DumpStop::SourceFault) => return unread(note),
+        Err(DumpStop::NoMemory) => return no_memory().tell(out, note),
+        Err(DumpStop::Fault(fault)) => return no_dump(fault).tell(out, note),
+    };
+    let hw = dump.hw;
+    let mut world = match machine_of(alloc, dump) {
+        Ok(world) => world,
+        Err(NoMemory) => return no_memory().tell(out, note),
+    };
+    let ended = resume(&mut world, disk, check);
+    tell_end(&hw, world.frames(), &ended, out, note)
+}
+
+/// Tells how a resume has ended: where it ended well, by the dump of memory on out.
+fn tell_end<O: Sink, N: Sink>(
+    hw: &Hardware,
+    frames: &Frames,
+    ended: &Ended,
+    out: &mut O,
+    note: &mut N,
+) -> Status
+    requires frames { length frames.now ≡ top hw.now.zones }
+    requires no_region { hw.now.regions ≡ [] }
+    ensures told { IsTold (resume_told hw.now frames.now ended.now) result
+        (record { taken = O.taken out.old; flushed = O.flushed out.old; faults = O.faults out.old })
+        (record { taken = O.taken out.new; flushed = O.flushed out.new; faults = O.faults out.new })
+        (record { taken = N.taken note.old; flushed = N.flushed note.old; faults = N.faults note.old })
+        (record { taken = N.taken note.new; flushed = N.flushed note.new; faults = N.faults note.new }) }
+    ensures stream { result ≡ Status.Stream →
+        HasRisen (O.faults out.old) (O.faults out.new) ⊎ HasRisen (N.faults note.old) (N.faults note.new) }
+    ensures words { result ≢ Status.Words }
+    ensures device { result ≡ Status.Device → ended.now.failed ≡ true }
+{
+    if !is_resumed(&ended.reply) {
+        return stopped(ended).tell(out, note);
+    }
+    if print_dump(hw, frames, out).is_err() {
+        let _ = print(note, b"sink fault\n");
+        return Status::Stream;
+    }
+    if print(note, b"").is_err() {
+        return Status::Stream;
+    }
+    Status::Done
+}
+
+fn is_resumed(reply: &Reply) -> bool
+    ensures { result ≡ is_resumed reply.now }
+{
+    matches!(reply, Reply::Resumed { .. })
+}
+
+/// Writes the dump of memory to its end, and flushes.
+fn print_dump<S: Sink>(hw: &Hardware, frames: &Frames, sink: &mut S) -> Result<(), Failed>
+    requires frames { length frames.now ≡ top hw.now.zones }
+    requires no_region { hw.now.regions ≡ [] }
+    ensures printed { OnOk result (IsPrinted (dump_bytes hw.now frames.now)
+        (record { taken = S.taken sink.old; flushed = S.flushed sink.old; faults = S.faults sink.old })
+        (record { taken = S.taken sink.new; flushed = S.flushed sink.new; faults = S.faults sink.new })) }
+    ensures failed { OnErr result (FailsToPrint (dump_bytes hw.now frames.now)
+        (record { taken = S.taken sink.old; flushed = S.flushed sink.old; faults = S.faults sink.old })
+        (record { taken = S.taken sink.new; flushed = S.flushed sink.new; faults = S.faults sink.new })) }
+    ensures counted { S.faults sink.old ≤ S.faults sink.new }
+    ensures cause { OnErr result (HasRisen (S.faults sink.old) (S.faults sink.new)) }
+{
+    write_dump(sink, hw, frames)?;
+    sink.flush()
+}
