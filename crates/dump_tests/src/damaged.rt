@@ -6,7 +6,6 @@ use crate::runs::{
     HIBERNATE, INSPECT, RESUME, RESUME_ANY, assert_printed, assert_refused, assert_restored,
     run_over,
 };
-use page_core::Page;
 use sector_disk::MemDisk;
 use std::alloc::Global;
 use std::process::Abort;
@@ -172,9 +171,11 @@ fn a_hardware_signature(rt: HostRuntime) -> Result<(), Fail> {
 
 /// All bytes of the names and of the version code, 0 to 395, are 255.
 fn of_another_kernel(disk: &mut MemDisk) -> Result<(), Fail> {
-    let mut bytes = *block(disk, 2)?.as_bytes();
-    bytes[..396].fill(255);
-    write(disk, 2, &Page::from_bytes(&bytes))
+    let mut page = block(disk, 2)?;
+    for i in 0..99usize {
+        page.put_u32(4 * i, u32::MAX);
+    }
+    write(disk, 2, &page)
 }
 
 #[test]

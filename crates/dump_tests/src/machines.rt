@@ -92,7 +92,7 @@ pub fn dump(alloc: Global, shape: &Shape, records: &[(u32, Page)]) -> Result<Vec
     if !plain {
         put_extents(&mut bytes, &shape.extents)?;
     }
-    put(&mut bytes, records.len() as u32)?;
+    put(&mut bytes, records.len().min(65536) as u32)?;
     for (p, page) in records {
         put(&mut bytes, *p)?;
         bytes.extend_from_slice(page.as_bytes().as_slice())?;
