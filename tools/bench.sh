@@ -1,21 +1,58 @@
 #!/bin/sh
-# Counts the instructions of the built program by valgrind's callgrind: of an empty script, of a line that claims a page frame, of
+# Takes the time of a hibernation and of a resume of 32,000 page frames, on a machine with 65,536 of them and 131,072 slots, over
+# files, beside a copy of as many bytes that is synced (with python3), and the greatest memory of each. Then counts the
+# instructions of the built program by valgrind's callgrind: of an empty script, of a line that claims a page frame, of
 # a line that shows a word, and of a hibernation and a resume of 1,500 page frames; and takes the time of a boot, a hibernation and a
 # resume of 15,000 page frames at a script's limits. The program is the first word, or
 # crates/swsusp/out/swsusp, which `rt run` leaves. Without valgrind it says so and counts nothing.
 set -u
 top=$(cd "$(dirname "$0")/.." && pwd)
 program=${1:-$top/crates/swsusp/out/swsusp}
-if ! command -v valgrind >/dev/null; then
-    echo "not counted: valgrind isn't there"
-    exit 0
-fi
 if [ ! -x "$program" ]; then
     echo "$program isn't built: rt run in crates/swsusp builds it"
     exit 1
 fi
 room=$(mktemp -d)
 trap 'rm -rf "$room"' EXIT
+
+# The seconds that a command takes from this input to this output, and the greatest memory that it has, in MiB.
+measure() {
+    python3 -c '
+import resource, subprocess, sys, time
+begin = time.monotonic()
+with open(sys.argv[1], "rb") as source, open(sys.argv[2], "wb") as target:
+    subprocess.run(sys.argv[3:], stdin=source, stdout=target, check=True)
+seconds = time.monotonic() - begin
+print("%.2f %d" % (seconds, resource.getrusage(resource.RUSAGE_CHILDREN).ru_maxrss // 1024))
+' "$@"
+}
+
+# Tells what a command took beside a copy: its name, then the seconds and the memory of both.
+beside() {
+    awk -v name="$1" -v own="$2" -v copy="$3" 'BEGIN {
+        split(own, a); split(copy, b)
+        printf "%s: %.2f s, a copy of as many bytes %.2f s, ratio %.1f, %d MiB of memory\n", name, a[1], b[1], a[1] / (b[1] > 0.01 ? b[1] : 0.01), a[2]
+    }'
+}
+
+# The tables take 192 page frames of the 32,000.
+sh "$top/tools/make_area.sh" "$room/area" 131071
+python3 "$top/tools/make_dump.py" saved 31808 >"$room/saved"
+python3 "$top/tools/make_dump.py" loader 31808 >"$room/loader"
+sync
+copy=$(measure /dev/null "$room/line" sh -c "cp '$room/saved' '$room/copy' && sync '$room/copy'")
+own=$(measure "$room/saved" "$room/line" "$program" hibernate "$room/area")
+beside "$(cat "$room/line")" "$own" "$copy"
+own=$(measure "$room/loader" "$room/restored" "$program" resume "$room/area")
+sync
+copy=$(measure /dev/null "$room/line" sh -c "cp '$room/restored' '$room/copy' && sync '$room/copy'")
+beside "resumed, a dump of $(($(wc -c <"$room/restored"))) bytes" "$own" "$copy"
+rm -f "$room/area" "$room/saved" "$room/loader" "$room/restored" "$room/copy"
+
+if ! command -v valgrind >/dev/null; then
+    echo "not counted: valgrind isn't there"
+    exit 0
+fi
 
 # So many lines of a command, which begins with the page frame where one is named.
 lines() {

@@ -1,0 +1,101 @@
+//! Whole cycles: a machine hibernates from its dump, and is resumed into a loader's.
+
+use crate::disks::{area, bytes_of, disk_with};
+use crate::machines::{EXAMPLE, OVER_FILE, loader, saved};
+use crate::runs::{
+    HIBERNATE, HIBERNATE_ZEROS, INSPECT, RESUME, assert_gone, assert_printed, assert_refused,
+    assert_restored, hibernate, resume, run_over,
+};
+use sector_disk::{Disk, LogDisk};
+use sig_header::area_page;
+use std::test::Fail;
+use swsusp_cli::Status;
+
+#[test]
+fn from_dump_to_dump(rt: HostRuntime) -> Result<(), Fail> {
+    let alloc = rt.alloc();
+    let mut disk = area(alloc)?;
+    let got = hibernate(alloc, &mut disk)?;
+    assert_printed(&rt, &got, Status::Done, "hibernated 5\n", "");
+    let got = run_over(alloc, &INSPECT, &[], &mut disk)?;
+    let line = "area last 1599 bad 0 image 1 flags 2 hw -\n";
+    assert_printed(&rt, &got, Status::Done, line, "");
+    assert_restored(&rt, &resume(alloc, &mut disk)?, 436);
+    Ok(())
+}
+
+#[test]
+fn an_image_is_resumed_once(rt: HostRuntime) -> Result<(), Fail> {
+    let alloc = rt.alloc();
+    let mut disk = area(alloc)?;
+    hibernate(alloc, &mut disk)?;
+    resume(alloc, &mut disk)?;
+    let got = run_over(alloc, &INSPECT, &[], &mut disk)?;
+    let line = "area last 1599 bad 0 image none\n";
+    assert_printed(&rt, &got, Status::Done, line, "");
+    let before = bytes_of(alloc, &mut disk)?;
+    assert_gone(&rt, alloc, &mut disk)?;
+    assert!(rt; bytes_of(alloc, &mut disk)? == before);
+    Ok(())
+}
+
+// The area takes the next image, whatever is left of the last one.
+#[test]
+fn a_second_cycle(rt: HostRuntime) -> Result<(), Fail> {
+    let alloc = rt.alloc();
+    let mut disk = area(alloc)?;
+    for _ in 0..2 {
+        let got = hibernate(alloc, &mut disk)?;
+        assert_printed(&rt, &got, Status::Done, "hibernated 5\n", "");
+        assert_restored(&rt, &resume(alloc, &mut disk)?, 436);
+    }
+    Ok(())
+}
+
+// Page frame 3 is all zero: the image has a page less, and the dump that comes of it is the same.
+#[test]
+fn pages_of_zeros_are_left_out(rt: HostRuntime) -> Result<(), Fail> {
+    let alloc = rt.alloc();
+    let mut disk = area(alloc)?;
+    let dump = saved(alloc, &EXAMPLE)?;
+    let got = run_over(alloc, &HIBERNATE_ZEROS, &dump, &mut disk)?;
+    assert_printed(&rt, &got, Status::Done, "hibernated 5\n", "");
+    let got = run_over(alloc, &INSPECT, &[], &mut disk)?;
+    let line = "area last 1599 bad 0 image 1 flags 258 hw -\n";
+    assert_printed(&rt, &got, Status::Done, line, "");
+    assert_restored(&rt, &resume(alloc, &mut disk)?, 436);
+    assert_gone(&rt, alloc, &mut disk)
+}
+
+// The header lies in block 50, the slots from block 100 on. The dump names the two extents, in 32 bytes more.
+#[test]
+fn over_a_swap_file(rt: HostRuntime) -> Result<(), Fail> {
+    let alloc = rt.alloc();
+    let mut disk = disk_with(alloc, 1699, 50, &area_page(1599, &[]))?;
+    let dump = saved(alloc, &OVER_FILE)?;
+    let got = run_over(alloc, &HIBERNATE, &dump, &mut disk)?;
+    assert_printed(&rt, &got, Status::Done, "hibernated 5\n", "");
+    let words = ["swsusp", "inspect", "--offset", "50", "s"];
+    let got = run_over(alloc, &words, &[], &mut disk)?;
+    let line = "area last 1599 bad 0 image 100 flags 2 hw -\n";
+    assert_printed(&rt, &got, Status::Done, line, "");
+    let dump = loader(alloc, &OVER_FILE)?;
+    let got = run_over(alloc, &RESUME, &dump, &mut disk)?;
+    assert_restored(&rt, &got, 468);
+    let got = run_over(alloc, &RESUME, &dump, &mut disk)?;
+    assert_refused(&rt, &got, "no image\n");
+    Ok(())
+}
+
+// A hibernation makes 14 calls of the disk, and the area two.
+#[test]
+fn over_a_disk_that_records(rt: HostRuntime) -> Result<(), Fail> {
+    let alloc = rt.alloc();
+    let mut disk = LogDisk::create(alloc, 1600, 100)?;
+    assert!(rt; disk.blocks() == 1600);
+    disk.write(0, &area_page(1599, &[]))?;
+    let got = hibernate(alloc, &mut disk)?;
+    assert_printed(&rt, &got, Status::Done, "hibernated 5\n", "");
+    assert_restored(&rt, &resume(alloc, &mut disk)?, 436);
+    Ok(())
+}

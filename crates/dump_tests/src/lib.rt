@@ -1,0 +1,20 @@
+//! Tests of `hibernate` and `resume` over memory dumps: from dump to dump, what is refused and why, damaged images, and calls of the
+//! disk, of the input and of the output that fail.
+#![tactic(auto)]
+
+#[cfg(test)]
+mod cycle;
+#[cfg(test)]
+mod damaged;
+#[cfg(test)]
+mod disks;
+#[cfg(test)]
+mod failing;
+#[cfg(test)]
+mod machines;
+#[cfg(test)]
+mod refused;
+#[cfg(test)]
+mod runs;
+#[cfg(test)]
+mod unread;

@@ -1,0 +1,113 @@
+#!/bin/sh
+# Hibernates and resumes over real files with the built program, and compares its notes, its output and its statuses. The program is the
+# first word, or crates/swsusp/out/swsusp, which `rt run` leaves. Prints a line for each check, and ends with status 1 where one differs.
+set -u
+top=$(cd "$(dirname "$0")/.." && pwd)
+program=${1:-$top/crates/swsusp/out/swsusp}
+if [ ! -x "$program" ]; then
+    echo "$program isn't built: rt run in crates/swsusp builds it"
+    exit 1
+fi
+room=$(mktemp -d)
+trap 'rm -rf "$room"' EXIT
+failed=0
+
+# What is tried, and what came: status, output and note on one line.
+same() {
+    if [ "$2" = "$3" ]; then
+        echo "as told: $1"
+    else
+        echo "differs: $1: wanted [$2], came [$3]"
+        failed=1
+    fi
+}
+
+# Ends a command that hangs, and tells its status, output and note.
+told() {
+    status=0
+    timeout 60 "$program" "$@" >"$room/out" 2>"$room/note" || status=$?
+    echo "$status|$(tr -d '\0' <"$room/out")|$(cat "$room/note")"
+}
+
+# Resumes the image of an area into the loader's dump, and tells status, length of the output and note.
+resumed() {
+    status=0
+    timeout 60 "$program" resume "$@" <"$room/loader" >"$room/restored" 2>"$room/note" || status=$?
+    echo "$status|$(($(wc -c <"$room/restored")))|$(cat "$room/note")"
+}
+
+# The number of 4 bytes at a place of the restored dump.
+number() {
+    od -A n -t u4 -j "$1" -N 4 "$room/restored" | tr -d ' '
+}
+
+area=$room/area.img
+sh "$top/tools/make_area.sh" "$area" 1599
+python3 "$top/tools/make_dump.py" saved >"$room/saved"
+python3 "$top/tools/make_dump.py" loader >"$room/loader"
+same "a dump" "16836" "$(($(wc -c <"$room/saved")))"
+
+# From dump to dump.
+same "a hibernation" "0|hibernated 5|" "$(told hibernate "$area" <"$room/saved")"
+same "its image" "0|area last 1599 bad 0 image 1 flags 2 hw -|" "$(told inspect "$area")"
+before=$(cksum <"$area")
+same "a second hibernation" "1||closed" "$(told hibernate "$area" <"$room/saved")"
+same "a bad dump" "3||dump Magic byte 0" "$(told hibernate "$area" <"$area")"
+same "a dump that ends early" "3||dump Short byte 100" "$(head -c 100 "$room/saved" | told resume "$area")"
+same "the area, after all that" "$before" "$(cksum <"$area")"
+same "a resume" "0|20936|" "$(resumed "$area")"
+same "the restored page frames" "0 1 2 10 50" "$(echo $(number 436) $(number 4536) $(number 8636) $(number 12736) $(number 16836))"
+same "the word of page frame 10" "77" "$(number 12740)"
+tail -c 4096 "$room/loader" >"$room/nines"
+same "the loader's page frame 50" "$(cksum <"$room/nines")" "$(tail -c 4096 "$room/restored" | cksum)"
+cp "$room/restored" "$room/first"
+before=$(cksum <"$area")
+same "a second resume" "1|0|no image" "$(resumed "$area")"
+same "the area, after the second resume" "$before" "$(cksum <"$area")"
+same "its header" "0|area last 1599 bad 0 image none|" "$(told inspect "$area")"
+
+# The restored dump is of a machine that can hibernate again. The loader's has 1,000 page frames in use.
+same "a hibernation of what was restored" "0|hibernated 5|" "$(told hibernate "$area" <"$room/first")"
+same "its resume" "0|20936|" "$(resumed "$area")"
+same "what it restored" "$(cksum <"$room/first")" "$(cksum <"$room/restored")"
+same "a machine that is too full" "1||no frames 1048 need 2025" "$(told hibernate "$area" <"$room/loader")"
+
+# A dump on a pipe, and without pages of zeros.
+same "a dump on a pipe" "0|hibernated 5|" "$(cat "$room/saved" | told hibernate --skip-zeros "$area")"
+same "its image, without zeros" "0|area last 1599 bad 0 image 1 flags 258 hw -|" "$(told inspect "$area")"
+same "its resume" "0|20936|" "$(resumed "$area")"
+same "what it restored" "$(cksum <"$room/first")" "$(cksum <"$room/restored")"
+
+# A full disk behind the output: the image is gone.
+same "a hibernation, before a full disk" "0|hibernated 5|" "$(told hibernate "$area" <"$room/saved")"
+status=0
+timeout 60 "$program" resume "$area" <"$room/loader" >/dev/full 2>"$room/note" || status=$?
+same "a full disk" "4|sink fault" "$status|$(cat "$room/note")"
+same "the image, after a full disk" "1|0|no image" "$(resumed "$area")"
+
+# Standard streams that are closed.
+status=0
+timeout 60 "$program" hibernate "$area" >"$room/out" 2>"$room/note" <&- || status=$?
+same "without standard input" "4||source fault" "$status|$(cat "$room/out")|$(cat "$room/note")"
+
+# Files that can't be opened. Root may write a file that is read-only.
+same "no such file" "7||open fault" "$(told hibernate "$room/none" <"$room/saved")"
+same "no such file, and a bad dump" "7||open fault" "$(told resume "$room/none" <"$area")"
+same "a directory" "7||open fault" "$(told hibernate "$room" <"$room/saved")"
+same "a character device" "7||open fault" "$(told resume /dev/null <"$room/loader")"
+cp "$area" "$room/fixed" && chmod 444 "$room/fixed"
+if [ -w "$room/fixed" ]; then
+    echo "left out: a read-only file (this user may write it)"
+else
+    same "a read-only file" "7||open fault" "$(told hibernate "$room/fixed" <"$room/saved")"
+    same "a read-only file is looked into" "0|area last 1599 bad 0 image none|" "$(told inspect "$room/fixed")"
+fi
+
+# A file that is no area, one of another size, and one that ends early.
+head -c 6553600 /dev/zero >"$room/zeros"
+same "no area" "1||no swap: signature 00000000000000000000" "$(told hibernate "$room/zeros" <"$room/saved")"
+sh "$top/tools/make_area.sh" "$room/large" 3000
+same "another area" "1||no swap: misfit 3000 slots 1600" "$(told hibernate "$room/large" <"$room/saved")"
+head -c 409600 "$area" >"$room/cut"
+same "an area that is cut off" "1||no swap: short 1599 blocks 100" "$(told hibernate "$room/cut" <"$room/saved")"
+exit $failed
