@@ -118,6 +118,7 @@ def machine():
         "hibernating": (330, 370, ["hibernating", "pages, maps, sync,", "read, mark, sync"]),
         "loading": (330, 230, ["loading", "sync, read, take back,", "sync, read on"]),
         "undoing": (680, 370, ["undoing", "take back, sync"]),
+        "settling": (980, 230, ["settling", "read, take back, sync"]),
     }
     width, height = 170, 66
     for x, y, lines in places.values():
@@ -147,9 +148,13 @@ def machine():
     parts.append(text(508, 396, "the mark or its sync fails", "small"))
     parts.append(line([at("undoing", 0.7, 0), at("running", 0.7, 1)]))
     parts.append(text(806, 340, "gone, unsure", "small"))
-    parts.append(line([at("running", 1, 0.5), (910, 263), (910, 475), (70, 475), at("off", 0.18, 1)], "cut"))
+    parts.append(line([at("running", 1, 0.3), at("settling", 0, 0.3)]))
+    parts.append(text(896, 244, "settle", "small"))
+    parts.append(line([at("settling", 0, 0.6), at("running", 1, 0.6)]))
+    parts.append(text(870, 286, "settled, a fault", "small"))
+    parts.append(line([at("settling", 0.5, 1), (at("settling", 0.5, 1)[0], 475), (70, 475), at("off", 0.18, 1)], "cut"))
     parts.append(text(700, 468, "cut, from any state", "small"))
-    write("machine.svg", 940, 500, parts)
+    write("machine.svg", 1180, 500, parts)
 
 
 def floors():
