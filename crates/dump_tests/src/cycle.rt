@@ -20,7 +20,9 @@ fn from_dump_to_dump(rt: HostRuntime) -> Result<(), Fail> {
     let got = run_over(alloc, &INSPECT, &[], &mut disk)?;
     let line = "area last 1599 bad 0 image 1 flags 2 hw -\n";
     assert_printed(&rt, &got, Status::Done, line, "");
-    assert_restored(&rt, &resume(alloc, &mut disk)?, 436);
+    let got = resume(alloc, &mut disk)?;
+    assert_restored(&rt, alloc, &got, &EXAMPLE)?;
+    assert_eq!(rt; got.out.as_bytes().len(), 20936);
     Ok(())
 }
 
@@ -47,7 +49,7 @@ fn a_second_cycle(rt: HostRuntime) -> Result<(), Fail> {
     for _ in 0..2 {
         let got = hibernate(alloc, &mut disk)?;
         assert_printed(&rt, &got, Status::Done, "hibernated 5\n", "");
-        assert_restored(&rt, &resume(alloc, &mut disk)?, 436);
+        assert_restored(&rt, alloc, &resume(alloc, &mut disk)?, &EXAMPLE)?;
     }
     Ok(())
 }
@@ -63,7 +65,7 @@ fn pages_of_zeros_are_left_out(rt: HostRuntime) -> Result<(), Fail> {
     let got = run_over(alloc, &INSPECT, &[], &mut disk)?;
     let line = "area last 1599 bad 0 image 1 flags 258 hw -\n";
     assert_printed(&rt, &got, Status::Done, line, "");
-    assert_restored(&rt, &resume(alloc, &mut disk)?, 436);
+    assert_restored(&rt, alloc, &resume(alloc, &mut disk)?, &EXAMPLE)?;
     assert_gone(&rt, alloc, &mut disk)
 }
 
@@ -81,7 +83,8 @@ fn over_a_swap_file(rt: HostRuntime) -> Result<(), Fail> {
     assert_printed(&rt, &got, Status::Done, line, "");
     let dump = loader(alloc, &OVER_FILE)?;
     let got = run_over(alloc, &RESUME, &dump, &mut disk)?;
-    assert_restored(&rt, &got, 468);
+    assert_restored(&rt, alloc, &got, &OVER_FILE)?;
+    assert_eq!(rt; got.out.as_bytes().len(), 20968);
     let got = run_over(alloc, &RESUME, &dump, &mut disk)?;
     assert_refused(&rt, &got, "no image\n");
     Ok(())
@@ -96,6 +99,6 @@ fn over_a_disk_that_records(rt: HostRuntime) -> Result<(), Fail> {
     disk.write(0, &area_page(1599, &[]))?;
     let got = hibernate(alloc, &mut disk)?;
     assert_printed(&rt, &got, Status::Done, "hibernated 5\n", "");
-    assert_restored(&rt, &resume(alloc, &mut disk)?, 436);
+    assert_restored(&rt, alloc, &resume(alloc, &mut disk)?, &EXAMPLE)?;
     Ok(())
 }

@@ -165,7 +165,7 @@ fn a_hardware_signature(rt: HostRuntime) -> Result<(), Fail> {
     let mut disk = with_signature(&rt, alloc)?;
     let own = loader(alloc, &signed(7))?;
     let got = run_over(alloc, &RESUME, &own, &mut disk)?;
-    assert_restored(&rt, &got, 436);
+    assert_restored(&rt, alloc, &got, &signed(7))?;
     Ok(())
 }
 
@@ -192,6 +192,6 @@ fn an_image_of_another_kernel(rt: HostRuntime) -> Result<(), Fail> {
     let mut disk = with_signature(&rt, alloc)?;
     of_another_kernel(&mut disk)?;
     let got = run_over(alloc, &RESUME_ANY, &dump, &mut disk)?;
-    assert_restored(&rt, &got, 436);
+    assert_restored(&rt, alloc, &got, &signed(7))?;
     Ok(())
 }

@@ -3,6 +3,7 @@
 //! (2), the write of the mark taken back (3), its sync (4), then the image's blocks.
 
 use crate::disks::area;
+use crate::machines::EXAMPLE;
 use crate::runs::{assert_gone, assert_printed, assert_restored, hibernate, resume};
 use sector_disk::{Disk, MemDisk};
 use std::alloc::Global;
@@ -81,7 +82,7 @@ fn an_undo_that_fails(rt: HostRuntime) -> Result<(), Fail> {
     for (fault, note, image) in table {
         let mut disk = stopped_hibernation(&rt, alloc, fault, note)?;
         if image {
-            assert_restored(&rt, &resume(alloc, &mut disk)?, 436);
+            assert_restored(&rt, alloc, &resume(alloc, &mut disk)?, &EXAMPLE)?;
         }
         assert_gone(&rt, alloc, &mut disk)?;
     }
@@ -115,7 +116,7 @@ fn an_image_that_is_kept(rt: HostRuntime) -> Result<(), Fail> {
     ];
     for (fault, note) in table {
         let mut disk = stopped_resume(&rt, alloc, fault, note)?;
-        assert_restored(&rt, &resume(alloc, &mut disk)?, 436);
+        assert_restored(&rt, alloc, &resume(alloc, &mut disk)?, &EXAMPLE)?;
         assert_gone(&rt, alloc, &mut disk)?;
     }
     Ok(())
@@ -146,7 +147,7 @@ fn an_unsure_image_and_a_cut(rt: HostRuntime) -> Result<(), Fail> {
         let mut disk = stopped_resume(&rt, alloc, (4, 1, 0), "sync fault unsure\n")?;
         disk.restart(pick);
         if image {
-            assert_restored(&rt, &resume(alloc, &mut disk)?, 436);
+            assert_restored(&rt, alloc, &resume(alloc, &mut disk)?, &EXAMPLE)?;
         }
         assert_gone(&rt, alloc, &mut disk)?;
     }

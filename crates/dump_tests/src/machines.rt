@@ -121,18 +121,32 @@ pub fn slots(bad: usize) -> Page {
     page
 }
 
+/// The frame table's first page where page frame 10 is task 3's.
+fn used_entries() -> Page {
+    let mut page = entries(0, 4);
+    page.put_u32(40, 196608);
+    page
+}
+
+/// A page that begins with a number.
+fn beginning_with(number: u32) -> Page {
+    let mut page = Page::zero();
+    page.put_u32(0, number);
+    page
+}
+
+fn nines() -> Page {
+    Page::from_bytes(&[9; 4096])
+}
+
 /// The dump of the machine that hibernates, with one more bad slot, or none. Page frame 10 is task 3's, and begins with 77. Page frame 3,
 /// of the slots from 1024 on, is all zero.
 pub fn saved_with(alloc: Global, shape: &Shape, bad: usize) -> Result<Vec<u8>, Fail> {
-    let mut table = entries(0, 4);
-    table.put_u32(40, 196608);
-    let mut used = Page::zero();
-    used.put_u32(0, 77);
     let records = [
-        (0, table),
+        (0, used_entries()),
         (1, entries(1024, 4)),
         (2, slots(bad)),
-        (10, used),
+        (10, beginning_with(77)),
     ];
     dump(alloc, shape, &records)
 }
@@ -147,13 +161,25 @@ pub fn loader_with(alloc: Global, shape: &Shape, used: u32) -> Result<Vec<u8>, F
         (0, entries(0, used)),
         (1, entries(1024, used)),
         (2, slots(0)),
-        (50, Page::from_bytes(&[9; 4096])),
+        (50, nines()),
     ];
     dump(alloc, shape, &records)
 }
 
 pub fn loader(alloc: Global, shape: &Shape) -> Result<Vec<u8>, Fail> {
     loader_with(alloc, shape, 1000)
+}
+
+/// The dump of the machine that is restored: its pages, and the loader's page frame 50, which was in use.
+pub fn restored(alloc: Global, shape: &Shape) -> Result<Vec<u8>, Fail> {
+    let records = [
+        (0, used_entries()),
+        (1, entries(1024, 4)),
+        (2, slots(0)),
+        (10, beginning_with(77)),
+        (50, nines()),
+    ];
+    dump(alloc, shape, &records)
 }
 
 /// The dump of a loader of the machine of scripts: all page frames but those of the tables are free to it.

@@ -35,7 +35,7 @@ fn over_an_image(rt: HostRuntime) -> Result<(), Fail> {
     hibernate(alloc, &mut disk)?;
     let dump = saved(alloc, &EXAMPLE)?;
     assert_closed(&rt, alloc, &dump, &mut disk, "closed\n")?;
-    assert_restored(&rt, &resume(alloc, &mut disk)?, 436);
+    assert_restored(&rt, alloc, &resume(alloc, &mut disk)?, &EXAMPLE)?;
     Ok(())
 }
 
@@ -100,7 +100,7 @@ fn too_few_loader_frames(rt: HostRuntime) -> Result<(), Fail> {
     hibernate(alloc, &mut disk)?;
     let dump = loader_with(alloc, &EXAMPLE, 2041)?;
     let got = run_over(alloc, &RESUME, &dump, &mut disk)?;
-    assert_restored(&rt, &got, 436);
+    assert_restored(&rt, alloc, &got, &EXAMPLE)?;
     Ok(())
 }
 

@@ -1,6 +1,6 @@
 //! Runs of the program over disks in memory.
 
-use crate::machines::{EXAMPLE, loader, saved};
+use crate::machines::{EXAMPLE, Shape, loader, restored, saved};
 use dump_file::{MemSink, MemSource};
 use sector_disk::{Disk, MemDisk};
 use std::alloc::Global;
@@ -80,26 +80,18 @@ pub fn assert_refused(rt: &impl Abort, got: &Printed, note: &str) {
     assert_printed(rt, got, Status::Refused, "", note);
 }
 
-/// The restored dump: the records 0, 1, 2, 10 and 50, of 4100 bytes each, behind the front of so many bytes. Page frame 10 begins
-/// with 77, and page frame 50 is the loader's.
-pub fn assert_restored(rt: &impl Abort, got: &Printed, front: usize) {
+/// The output is the dump of the restored machine, byte for byte.
+pub fn assert_restored(
+    rt: &impl Abort,
+    alloc: Global,
+    got: &Printed,
+    shape: &Shape,
+) -> Result<(), Fail> {
     assert_eq!(rt; got.note.as_bytes(), b"".as_slice());
     assert_eq!(rt; got.status, Status::Done);
-    let bytes = got.out.as_bytes();
-    assert_eq!(rt; bytes.len(), front.saturating_add(5 * 4100));
-    let table: [(usize, u8); 6] = [
-        (0, 0),
-        (4100, 1),
-        (8200, 2),
-        (12300, 10),
-        (12304, 77),
-        (16400, 50),
-    ];
-    for (at, byte) in table {
-        let found = bytes.get(front.saturating_add(at)).copied();
-        assert_eq!(rt; found, Some(byte), "at {at}");
-    }
-    assert!(rt; bytes.ends_with(&[9; 4096]));
+    let whole = restored(alloc, shape)?;
+    assert!(rt; got.out.as_bytes() == whole.as_slice());
+    Ok(())
 }
 
 /// The disk has no image any more.
