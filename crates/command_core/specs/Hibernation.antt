@@ -58,6 +58,7 @@ pub record HasFailedEarly (v : disk.Image) (ended : Ended) (now : Option disk.Co
   pub fault : IsFault ended.reply
   pub failed : ended.failed ≡ true
 
+-- one of the two
 abbrev pub HasTriedToBoot : Hardware → Memory → disk.Image → World → Result (Unit {0}) Ended → Option disk.Content → Type 0
 HasTriedToBoot h m v world (Ok done) now = HasBooted h m v world now
 HasTriedToBoot h m v world (Err ended) now = HasFailedEarly v ended now

@@ -13,6 +13,7 @@ use Rattle.protocol_laws.specs.Rows.{LeavesBlock}
 use Rattle.command_core.specs.Turns.{IsFault}
 use Rattle.command_core.specs.declared.ending.Ended.{Ended}
 
+-- this is the last of the replies
 abbrev pub IsLast : List Reply → Reply → Type 0
 IsLast replies r = (front : List Reply) × (replies ≡ front ++ r ∷ [])
 

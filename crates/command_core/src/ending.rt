@@ -9,7 +9,7 @@ use plain_machine::{Actor, Event, Left, Reply};
 use sector_disk::Disk;
 use world_core::World;
 
-/// More steps than a hibernation or a resume of 65,536 page frames has: 65,802, and two of an undo.
+/// More steps than a hibernation or a resume of 65,536 page frames has: 65,798, and two of an undo.
 pub(crate) const MOST_STEPS: u32 = 66_000;
 
 /// How an operation has ended.

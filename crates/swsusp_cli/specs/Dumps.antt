@@ -39,6 +39,7 @@ dump_note fault = line (codes "dump " ++ kind_text fault.kind ++ decimal fault.a
 abbrev pub dump_told : DumpFault → Told
 dump_told fault = record { status = Input; out = []; note = dump_note fault }
 
+-- that is told, and the disk isn't called
 pub record IsNoDump (x x' : View) (status : Status) (fault : DumpFault) : Type 0 where
   pub says : (bytes : List ℕ) → x.left ≡ Some bytes → dump_of bytes ≡ Err fault
   pub told : Tells (dump_told fault) status x x'

@@ -35,6 +35,7 @@ pub record HasLoaded (check : IdentCheck) (x x' : View) (status : Status) (dump 
   pub calls : x'.disk.calls ≤ x.disk.calls + 66000
   pub orders : x'.disk.orders ≡ x.disk.orders
 
+-- One of these, by what the outside told before a resume and after it.
 pub data Resumes (check : IdentCheck) (x x' : View) (status : Status) : Type 0 where
   no_dump : (fault : DumpFault) → IsNoDump x x' status fault → Resumes check x x' status
   out_of_memory : IsOutOfMemory x x' status → Resumes check x x' status
