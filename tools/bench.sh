@@ -1,6 +1,7 @@
 #!/bin/sh
 # Takes the time of a hibernation and of a resume of 32,000 page frames, on a machine with 65,536 of them and 131,072 slots, over
-# files, beside a copy of as many bytes that is synced (with python3), and the greatest memory of each. Then counts the
+# files, beside a copy of as many bytes that is synced (with python3), and the greatest memory of each, and so for an export and an
+# import of the image as a stream. Then counts the
 # instructions of the built program by valgrind's callgrind: of an empty script, of a line that claims a page frame, of
 # a line that shows a word, and of a hibernation and a resume of 1,500 page frames; and takes the time of a boot, a hibernation and a
 # resume of 15,000 page frames at a script's limits. The program is the first word, or
@@ -47,7 +48,15 @@ own=$(measure "$room/loader" "$room/restored" "$program" resume "$room/area")
 sync
 copy=$(measure /dev/null "$room/line" sh -c "cp '$room/restored' '$room/copy' && sync '$room/copy'")
 beside "resumed, a dump of $(($(wc -c <"$room/restored"))) bytes" "$own" "$copy"
-rm -f "$room/area" "$room/saved" "$room/loader" "$room/restored" "$room/copy"
+own=$(measure "$room/saved" "$room/stream" "$program" export)
+copy=$(measure /dev/null "$room/line" cp "$room/stream" "$room/copy")
+beside "exported, a stream of $(($(wc -c <"$room/stream"))) bytes" "$own" "$copy"
+sh "$top/tools/make_area.sh" "$room/area" 131071
+sync
+copy=$(measure /dev/null "$room/line" sh -c "cp '$room/stream' '$room/copy' && sync '$room/copy'")
+own=$(measure "$room/stream" "$room/line" "$program" import "$room/area")
+beside "$(cat "$room/line")" "$own" "$copy"
+rm -f "$room/area" "$room/saved" "$room/loader" "$room/restored" "$room/stream" "$room/copy"
 
 if ! command -v valgrind >/dev/null; then
     echo "not counted: valgrind isn't there"
@@ -94,3 +103,16 @@ echo "a hibernation and a resume of 1500 page frames: $((cycle - claims))"
 begin=$(date +%s%N)
 "$program" replay <"$room/limits" | tail -n 1
 echo "at a script's limits: $((($(date +%s%N) - begin) / 1000000)) ms"
+
+# Each of 16,383 slots is taken by an out, given back by an in, in scattered order, and taken again: 98,298 events with their steps.
+{
+    printf 'area 16383\nboot\nsteps core 2\nclaim 3 1000\n'
+    awk 'BEGIN {
+        for (i = 0; i < 16383; i++) print "out 3 1000\nstep 3"
+        for (i = 0; i < 16383; i++) print "in 3 " (7919 * i) % 16383 + 1 " 1000\nstep 3"
+        for (i = 0; i < 16383; i++) print "out 3 1000\nstep 3"
+    }'
+} >"$room/swaps"
+begin=$(date +%s%N)
+"$program" replay <"$room/swaps" | tail -n 1
+echo "tasks that swap, 98,298 events: $((($(date +%s%N) - begin) / 1000000)) ms"

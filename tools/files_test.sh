@@ -50,6 +50,22 @@ same "a dump" "16836" "$(($(wc -c <"$room/saved")))"
 # From dump to dump.
 same "a hibernation" "0|hibernated 5|" "$(told hibernate "$area" <"$room/saved")"
 same "its image" "0|area last 1599 bad 0 image 1 flags 2 hw -|" "$(told inspect "$area")"
+
+# The same machine's stream has the pages that lie behind the image's first map.
+"$program" export <"$room/saved" >"$room/stream"
+same "a stream" "28672" "$(($(wc -c <"$room/stream")))"
+same "its pages" "$(tail -c +8193 "$area" | head -c 28672 | cksum)" "$(cksum <"$room/stream")"
+
+# Imported into another area it leaves what the hibernation left. A stream that is cut off leaves no image.
+other=$room/other.img
+sh "$top/tools/make_area.sh" "$other" 1599
+before=$(head -c 4096 "$other" | cksum)
+same "a stream that is cut off" "3||stream Short byte 5000" "$(head -c 5000 "$room/stream" | told import "$other")"
+same "its header block" "$before" "$(head -c 4096 "$other" | cksum)"
+same "an import" "0|imported 5|" "$(told import "$other" <"$room/stream")"
+same "the area" "$(cksum <"$area")" "$(cksum <"$other")"
+same "another import" "1||no swap: image" "$(told import "$other" <"$room/stream")"
+
 before=$(cksum <"$area")
 same "a second hibernation" "1||closed" "$(told hibernate "$area" <"$room/saved")"
 same "a bad dump" "3||dump Magic byte 0" "$(told hibernate "$area" <"$area")"

@@ -29,7 +29,8 @@ use Rattle.command_core.specs.declared.ending.Ended.{Ended}
 use Rattle.command_core.proofs.Begun.{IsUntouched, untouched_then, reads_first}
 use Rattle.command_core.proofs.Booting.{one_outcome}
 use Rattle.command_core.proofs.Leaving.{leaves_then}
-use Rattle.command_core.proofs.Resuming.{IsAt, HasGoneOn, LeavesOff, begun, found, state_at, trace_of, step_more, first_entry, second_entry}
+use Rattle.plain_machine.specs.declared.reply.Left.TheVariants.{Same, Gone, Unsure}
+use Rattle.command_core.proofs.Resuming.{IsAt, HasGoneOn, LeavesOff, FaultLeaves, begun, found, state_at, trace_of, step_more, first_entry, second_entry}
 use Rattle.command_core.proofs.Traces.{counted_at, trace_counts, trace_short, header_over}
 
 -- The event.
@@ -131,7 +132,7 @@ two_steps h m check v r blocks (suc n) start end cause whole is at (mid, are, go
 -- The end.
 
 abbrev EndsAs : Hardware → Memory → IdentCheck → disk.Image → Reply → State → Bool → Type 0
-EndsAs h m check v r b failed = (IsFault r × (failed ≡ true)) ⊎ (IsLast (trace_of h m check v) r × LeavesOff r b)
+EndsAs h m check v r b failed = (IsFault r × (failed ≡ true) × FaultLeaves r b) ⊎ (IsLast (trace_of h m check v) r × LeavesOff r b)
 
 last_at : (h : Hardware) (m : Memory) (check : IdentCheck) (v : disk.Image) (n : ℕ) (r : Reply) → goes_on r ≡ false → slice_get (trace_of h m check v) n ≡ Some r → IsLast (trace_of h m check v) r
 last_at h m check v n r over says = elim (counted_at 1 n (trace_of h m check v) r (trace_counts h m v check) says) [
@@ -139,7 +140,7 @@ last_at h m check v n r over says = elim (counted_at 1 n (trace_of h m check v) 
   | inr last ↦ last.1
 ]
 
-entry_ends : (h : Hardware) (m : Memory) (check : IdentCheck) (v : disk.Image) (n : ℕ) (r : Reply) (b : State) (failed : Bool) → goes_on r ≡ false → (IsFault r × (failed ≡ true)) ⊎ ((slice_get (trace_of h m check v) n ≡ Some r) × LeavesOff r b) → EndsAs h m check v r b failed
+entry_ends : (h : Hardware) (m : Memory) (check : IdentCheck) (v : disk.Image) (n : ℕ) (r : Reply) (b : State) (failed : Bool) → goes_on r ≡ false → (IsFault r × (failed ≡ true) × FaultLeaves r b) ⊎ ((slice_get (trace_of h m check v) n ≡ Some r) × LeavesOff r b) → EndsAs h m check v r b failed
 entry_ends h m check v n r b failed over (inl fault) = inl fault
 entry_ends h m check v n r b failed over (inr is) = inr (last_at h m check v n r over is.0, is.1)
 
@@ -190,11 +191,17 @@ restored_last h m check v blocks (suc n) saved start end whole is at (mid, are, 
 
 -- What is left on the disk.
 
-fault_leaves : (r : Reply) → IsFault r → LeavesMark r
-fault_leaves (reply.ReadFault left) is = tt
-fault_leaves (reply.WriteFault left) is = tt
-fault_leaves (reply.SyncFault left) is = tt
-fault_leaves _ is = absurd is
+fault_leaves : (r : Reply) (b : State) → IsFault r → FaultLeaves r b → LeavesMark r ⊎ (b ≡ off nothing None)
+fault_leaves (reply.ReadFault Same) b is leaves = inl tt
+fault_leaves (reply.ReadFault Gone) b is leaves = inr leaves
+fault_leaves (reply.ReadFault Unsure) b is leaves = inl tt
+fault_leaves (reply.WriteFault Same) b is leaves = inl tt
+fault_leaves (reply.WriteFault Gone) b is leaves = inr leaves
+fault_leaves (reply.WriteFault Unsure) b is leaves = inl tt
+fault_leaves (reply.SyncFault Same) b is leaves = inl tt
+fault_leaves (reply.SyncFault Gone) b is leaves = inr leaves
+fault_leaves (reply.SyncFault Unsure) b is leaves = inl tt
+fault_leaves _ b is leaves = absurd is
 
 off_or_left : (r : Reply) (b : State) → LeavesOff r b → LeavesMark r ⊎ (b ≡ off nothing None)
 off_or_left (reply.Compressed flags) b is = inl tt
@@ -203,15 +210,16 @@ off_or_left r b is = inr is
 unmarked_off : (h : Hardware) (world : World) (c : disk.Content) (b : State) → StandsFor world c b → b ≡ off nothing None → EachImage c (λ w. Marked (hardware_of world) w → ⊥)
 unmarked_off h world c b stands is = (subst (StandsFor world c) is stands).stands.parts.1.0
 
+unmarked_or_left : (h : Hardware) (world : World) (c : disk.Content) (r : Reply) (b : State) → hardware_of world ≡ h → StandsFor world c b → LeavesMark r ⊎ (b ≡ off nothing None) → LeavesMark r ⊎ EachImage c (λ w. Marked h w → ⊥)
+unmarked_or_left h world c r b hw stands (inl left) = inl left
+unmarked_or_left h world c r b hw stands (inr off') = inr (subst (λ (g : Hardware). EachImage c (λ w. Marked g w → ⊥)) hw (unmarked_off h world c b stands off'))
+
 gone_at : (h : Hardware) (m : Memory) (check : IdentCheck) (v : disk.Image) (world : World) (c : disk.Content) (r : Reply) (b : State) (failed : Bool) → hardware_of world ≡ h → StandsFor world c b → EndsAs h m check v r b failed → LeavesMark r ⊎ EachImage c (λ w. Marked h w → ⊥)
-gone_at h m check v world c r b failed hw stands (inl fault) = inl (fault_leaves r fault.0)
-gone_at h m check v world c r b failed hw stands (inr is) = elim (off_or_left r b is.1) [
-  | inl left ↦ inl left
-  | inr off' ↦ inr (subst (λ (g : Hardware). EachImage c (λ w. Marked g w → ⊥)) hw (unmarked_off h world c b stands off'))
-]
+gone_at h m check v world c r b failed hw stands (inl fault) = unmarked_or_left h world c r b hw stands (fault_leaves r b fault.0 fault.2)
+gone_at h m check v world c r b failed hw stands (inr is) = unmarked_or_left h world c r b hw stands (off_or_left r b is.1)
 
 answer_of : (h : Hardware) (m : Memory) (check : IdentCheck) (v : disk.Image) (r : Reply) (b : State) (failed : Bool) → EndsAs h m check v r b failed → IsLast (trace_of h m check v) r ⊎ (IsFault r × (failed ≡ true))
-answer_of h m check v r b failed (inl fault) = inr fault
+answer_of h m check v r b failed (inl fault) = inr (fault.0, fault.1)
 answer_of h m check v r b failed (inr is) = inl is.0
 
 over_at_last : (steps : ℕ) (r : Reply) → (goes_on r ≡ false) ⊎ (steps ≡ 66000) → steps ≤ 65799 → goes_on r ≡ false

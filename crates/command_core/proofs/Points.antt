@@ -14,6 +14,7 @@ use Rattle.plain_machine.specs.declared.event.Event.TheVariants as event
 use Rattle.plain_machine.specs.declared.reply.Reply.{Reply}
 use Rattle.plain_machine.specs.declared.reply.Reply.TheVariants as reply
 use Rattle.protocol_laws.specs.Rows.{LeavesBlock, IsNewFault}
+use Rattle.protocol_laws.proofs.WrittenWhileHeld.{at_written}
 use Rattle.resume_core.specs.Row.{restored_by}
 use Rattle.world_core.specs.Row.{HasRow, Restores, IsCalled}
 use Rattle.world_core.specs.StandsFor.{StandsFor, hardware_of}
@@ -67,7 +68,7 @@ turned_here e point old new r failed blocks before now told stands hw row restor
       turn = record {
         step = goes.1.step;
         area = goes.1.area;
-        unwritten = goes.1.unwritten;
+        unwritten = λ b not. goes.1.unwritten b (λ in'. not (at_written (hardware_of old) e point.state b in'));
         blocks = blocks;
         whole = content_whole blocks now turn.0 turn.1 whole;
         noticed = noticed;

@@ -53,13 +53,20 @@ abbrev pub HasGoneOn : Hardware → Memory → IdentCheck → disk.Image → ℕ
 HasGoneOn h m check v zero = Unit {0}
 HasGoneOn h m check v (suc n) = slice_get (trace_of h m check v) n ≡ Some (reply.Loading (suc n))
 
+-- a call that failed with the image gone leaves nothing on the disk
+abbrev pub FaultLeaves : Reply → State → Type 0
+FaultLeaves (reply.ReadFault Gone) b = b ≡ off nothing None
+FaultLeaves (reply.WriteFault Gone) b = b ≡ off nothing None
+FaultLeaves (reply.SyncFault Gone) b = b ≡ off nothing None
+FaultLeaves r b = Unit {0}
+
 -- what a resume over the disk v is at after n steps
 abbrev pub IsAt : Hardware → Memory → IdentCheck → disk.Image → ℕ → Reply → State → Bool → Type 0
 IsAt h m check v n (reply.Loading k) b failed = (b ≡ state_at h m check v n) × HasGoneOn h m check v n
 IsAt h m check v n (reply.More k of) b failed = ⊥
 IsAt h m check v n (reply.Undo call k) b failed = ⊥
 IsAt h m check v zero _ b failed = ⊥
-IsAt h m check v (suc n) r b failed = (IsFault r × (failed ≡ true)) ⊎ ((slice_get (trace_of h m check v) n ≡ Some r) × LeavesOff r b)
+IsAt h m check v (suc n) r b failed = (IsFault r × (failed ≡ true) × FaultLeaves r b) ⊎ ((slice_get (trace_of h m check v) n ≡ Some r) × LeavesOff r b)
 
 -- each outcome of one more step, where a call that failed is noticed
 abbrev LeadsOn : Hardware → Memory → IdentCheck → disk.Image → ℕ → Outcome → Type 0
@@ -84,10 +91,10 @@ fault_leads h m check v n load k =
     let unsure = off (perhaps (held_while_loading load 2)) None in
     let last = cond (eqb k 3) (reply.SyncFault Unsure, unsure) (reply.ReadFault Gone, off nothing None) in
     let third = cond (eqb k 2) (reply.WriteFault Unsure, unsure) last in
-    lead_either h m check v n (eqb k 0) (reply.SyncFault Same, off load.held None) (cond (eqb k 1) (reply.ReadFault Same, off load.held None) third) (λ now new. inl (tt, new tt))
-    (lead_either h m check v n (eqb k 1) (reply.ReadFault Same, off load.held None) third (λ now new. inl (tt, new tt))
-    (lead_either h m check v n (eqb k 2) (reply.WriteFault Unsure, unsure) last (λ now new. inl (tt, new tt))
-    (lead_either h m check v n (eqb k 3) (reply.SyncFault Unsure, unsure) (reply.ReadFault Gone, off nothing None) (λ now new. inl (tt, new tt)) (λ now new. inl (tt, new tt)))))
+    lead_either h m check v n (eqb k 0) (reply.SyncFault Same, off load.held None) (cond (eqb k 1) (reply.ReadFault Same, off load.held None) third) (λ now new. inl (tt, new tt, tt))
+    (lead_either h m check v n (eqb k 1) (reply.ReadFault Same, off load.held None) third (λ now new. inl (tt, new tt, tt))
+    (lead_either h m check v n (eqb k 2) (reply.WriteFault Unsure, unsure) last (λ now new. inl (tt, new tt, tt))
+    (lead_either h m check v n (eqb k 3) (reply.SyncFault Unsure, unsure) (reply.ReadFault Gone, off nothing None) (λ now new. inl (tt, new tt, tt)) (λ now new. inl (tt, new tt, refl)))))
 
 -- The trace's entry.
 

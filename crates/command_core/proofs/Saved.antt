@@ -1,5 +1,5 @@
 -- A whole hibernation: from the world before it to what it answers at the end.
-use Rattle.std.proofs.Common.{◌≡◌, ◌⊎◌, inl, inr, ◌≤◌, ℕ, ◌+◌, zero, suc, Bool, true, false, cond, length, map, filter, List, ◌∷◌, [], Option, Some, None, unwrap_or, refl, sym, ap, ◌∙◌, subst, arith, Contains}
+use Rattle.std.proofs.Common.{◌≡◌, ◌⊎◌, inl, inr, ◌≤◌, ℕ, ◌+◌, zero, suc, eqb, Bool, true, false, cond, length, map, filter, List, ◌∷◌, [], Option, Some, None, unwrap_or, refl, sym, ap, ◌∙◌, subst, arith, Contains}
 use Rattle.std.proofs.lemmas.Bool.{false≢true}
 use Rattle.std.proofs.lemmas.List.{length-map}
 use Rattle.std.proofs.lemmas.Option.{same_Some, none-some}
@@ -20,6 +20,8 @@ use Rattle.plain_machine.specs.declared.reply.Reply.TheVariants as reply
 use Rattle.plain_machine.specs.declared.reply.UndoCall.{UndoCall}
 use Rattle.image_laws.proofs.Decoding.{few_saveable}
 use Rattle.protocol_laws.specs.Rows.{LeavesBlock, blocks_written}
+use Rattle.protocol_laws.proofs.Unwritten.{step_in_laid}
+use Rattle.protocol_laws.proofs.WrittenWhileHeld.{header_alone}
 use Rattle.world_core.specs.StandsFor.{StandsFor, hardware_of}
 use Rattle.world_core.specs.World.{World}
 use Rattle.command_core.specs.Hibernation.{machine_of_dump, image_of_dump, hibernation_answer, HasHibernated, HasFailedEarly}
@@ -100,13 +102,9 @@ state_of i a n (reply.Undo call k) b failed at goes = inr (at.0.0, k, at.0.1)
 state_of i a n (reply.Loading k) b failed at goes = absurd at
 state_of i a n _ b failed at goes = absurd (false≢true goes)
 
-in_first : (x b : ℕ) (xs : List ℕ) → Contains (x ∷ []) b → Contains (x ∷ xs) b
-in_first x b xs (zero, lt, e) = (0, omega arith, e)
-in_first x b xs (suc k, lt, e) = absurd (omega arith)
-
 written_in : (h : Hardware) (i : Image) (a : Running) (s : State) (b : ℕ) → IsWrittenAt i a s → Contains (blocks_written h s) b → Contains (block_of_slot h 0 ∷ laid_blocks h a i) b
-written_in h i a s b (inl is) in' = subst (λ (x : State). Contains (blocks_written h x) b) is.1 in'
-written_in h i a s b (inr is) in' = in_first (block_of_slot h 0) b (laid_blocks h a i) (subst (λ (x : State). Contains (blocks_written h x) b) is.2 in')
+written_in h i a s b (inl is) in' = step_in_laid h a i is.0 b (subst (λ (x : State). Contains (blocks_written h x) b) is.1 in')
+written_in h i a s b (inr is) in' = (0, omega arith, sym (header_alone h b (eqb is.1 0) (subst (λ (x : State). Contains (blocks_written h x) b) is.2 in')))
 
 pub record IsAfter (h : Hardware) (i : Image) (a : Running) (v : disk.Image) (p : Point) : Type 0 where
   pub blocks : ℕ

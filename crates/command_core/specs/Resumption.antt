@@ -7,6 +7,7 @@ use Rattle.plain_machine.specs.Stands.{EachImage}
 use Rattle.plain_machine.specs.Trace.{trace, header_cause, restored_in}
 use Rattle.plain_machine.specs.declared.event.IdentCheck.{IdentCheck}
 use Rattle.plain_machine.specs.declared.event.Loader.TheVariants.{Table}
+use Rattle.plain_machine.specs.declared.reply.Left.TheVariants.{Gone}
 use Rattle.plain_machine.specs.declared.reply.Reply.{Reply}
 use Rattle.plain_machine.specs.declared.reply.Reply.TheVariants as reply
 use Rattle.protocol_laws.specs.Rows.{LeavesBlock}
@@ -17,14 +18,18 @@ use Rattle.command_core.specs.declared.ending.Ended.{Ended}
 abbrev pub IsLast : List Reply → Reply → Type 0
 IsLast replies r = (front : List Reply) × (replies ≡ front ++ r ∷ [])
 
--- the replies after which an image that was there still is
+-- The replies after which an image that was there may still be: it is compressed, or a call failed before one of the disk made certain
+-- that it is gone.
 abbrev pub LeavesMark : Reply → Type 0
 LeavesMark (reply.Compressed flags) = ⊤
+LeavesMark (reply.ReadFault Gone) = ⊥
+LeavesMark (reply.WriteFault Gone) = ⊥
+LeavesMark (reply.SyncFault Gone) = ⊥
 LeavesMark r = IsFault r
 
 -- What the machine answers at the end over the disk v: the last reply of its trace, unless a call of the disk has failed. Where that is
--- Resumed, the page frames are those that are restored. Then, and after each refusal but that of a compressed image, no image of the
--- disk is marked. Of the disk block(0) alone may be written, and none where no image was found or it is compressed.
+-- Resumed, the page frames are those that are restored. Then, after each refusal but that of a compressed image, and after a fault that says
+-- that the image is gone, no image of the disk is marked. Of the disk block(0) alone may be written, and none where no image was found or it is compressed.
 pub record HasResumed (h : Hardware) (m : Memory) (check : IdentCheck) (v : disk.Image) (frames : Memory) (ended : Ended) (now : Option disk.Content) : Type 0 where
   pub content : disk.Content
   pub told : now ≡ Some content

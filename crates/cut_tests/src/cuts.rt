@@ -18,6 +18,18 @@ fn hibernations_that_are_cut(rt: HostRuntime) -> Result<(), Fail> {
 }
 
 #[test]
+fn outs_that_are_cut(rt: HostRuntime) -> Result<(), Fail> {
+    let mut play = Play::new(rt.alloc())?;
+    for pick in PICKS {
+        play.outs(pick)?;
+    }
+    for sector in 0u32..64 {
+        play.outs(1u64.wrapping_shl(sector))?;
+    }
+    play.prints(&rt)
+}
+
+#[test]
 fn resumes_that_are_cut(rt: HostRuntime) -> Result<(), Fail> {
     let mut play = Play::new(rt.alloc())?;
     for pick in PICKS {

@@ -42,14 +42,21 @@ impl Play {
         Ok(())
     }
 
-    /// A machine boots, its task stores the word, and it makes so many of a hibernation's steps.
+    /// A machine boots, and its task stores the word, whose page goes out to a slot. Then it stores another, and the machine makes so
+    /// many of a hibernation's steps.
     fn hibernates(&mut self, word: u64, steps: u64) -> Result<(), Fail> {
-        let events = format!(in self.alloc;
-            "boot\nsteps core 2\nclaim 3 10\nstore 3 10 0 {word}\nhibernate\nsteps core {steps}\n"
+        let boots = format!(in self.alloc;
+            "boot\nsteps core 2\nclaim 3 10\nstore 3 10 0 {word}\nout 3 10\nstep 3\n"
         )?;
-        self.script.push_str(events.as_str())?;
-        self.text
-            .push_str("more 0 of 2\nmore 1 of 2\nbooted image no\nok\nok\n")?;
+        let last = later(word);
+        let hibernates = format!(in self.alloc;
+            "store 3 10 0 {last}\nhibernate\nsteps core {steps}\n"
+        )?;
+        self.script.push_str(boots.as_str())?;
+        self.script.push_str(hibernates.as_str())?;
+        self.text.push_str(
+            "more 0 of 2\nmore 1 of 2\nbooted image no\nok\nok\nslot 1\nwritten 1\nok\n",
+        )?;
         self.counts("more ", steps, " of 14\n", "hibernated 7\n")
     }
 
@@ -67,11 +74,13 @@ impl Play {
         Ok(())
     }
 
-    /// It is resumed, and shows its word.
+    /// It is resumed, and shows its last word, and the first one once the page is back from its slot.
     fn finds(&mut self, word: u64) -> Result<(), Fail> {
         self.loads(STEPS)?;
-        self.script.push_str("show 3 10 0\n")?;
-        let shown = format!(in self.alloc; "word {word}\n")?;
+        self.script
+            .push_str("show 3 10 0\nin 3 1 10\nstep 3\nshow 3 10 0\n")?;
+        let last = later(word);
+        let shown = format!(in self.alloc; "word {last}\nreading 1\nread 1\nword {word}\n")?;
         self.text.push_str(shown.as_str())?;
         self.is_cut(0)
     }
@@ -106,6 +115,23 @@ impl Play {
         Ok(())
     }
 
+    /// The power is cut before and behind the write of a page to its slot: no image is there, and nobody has the slot.
+    pub fn outs(&mut self, pick: u64) -> Result<(), Fail> {
+        for steps in ["", "step 3\n"] {
+            self.script
+                .push_str("boot\nsteps core 2\nclaim 3 10\nout 3 10\n")?;
+            self.script.push_str(steps)?;
+            self.text
+                .push_str("more 0 of 2\nmore 1 of 2\nbooted image no\nok\nslot 1\n")?;
+            if !steps.is_empty() {
+                self.text.push_str("written 1\n")?;
+            }
+            self.is_cut(pick)?;
+            self.finds_none()?;
+        }
+        Ok(())
+    }
+
     /// The power is cut behind each step of a resume. From step 3 on the mark is taken back, and from 4 on that is synced.
     pub fn resumes(&mut self, pick: u64) -> Result<(), Fail> {
         for steps in 1..=STEPS {
@@ -130,6 +156,11 @@ impl Play {
         assert_eq!(rt; out.as_bytes(), self.text.as_bytes());
         Ok(())
     }
+}
+
+/// The word that is stored once the page with the first one is out.
+fn later(word: u64) -> u64 {
+    word ^ 1
 }
 
 fn replayed(

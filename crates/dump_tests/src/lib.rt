@@ -13,6 +13,8 @@ mod failing;
 #[cfg(test)]
 mod machines;
 #[cfg(test)]
+mod recorded;
+#[cfg(test)]
 mod refused;
 #[cfg(test)]
 mod runs;

@@ -2,7 +2,7 @@
 
 use crate::machines::{EXAMPLE, Shape, loader, restored, saved};
 use dump_file::{MemSink, MemSource};
-use sector_disk::{Disk, MemDisk};
+use sector_disk::Disk;
 use std::alloc::Global;
 use std::process::Abort;
 use std::test::Fail;
@@ -95,7 +95,7 @@ pub fn assert_restored(
 }
 
 /// The disk has no image any more.
-pub fn assert_gone(rt: &impl Abort, alloc: Global, disk: &mut MemDisk) -> Result<(), Fail> {
+pub fn assert_gone<D: Disk>(rt: &impl Abort, alloc: Global, disk: &mut D) -> Result<(), Fail> {
     assert_refused(rt, &resume(alloc, disk)?, "no image\n");
     Ok(())
 }

@@ -104,7 +104,7 @@ fn faulty_scripts(rt: HostRuntime) {
         ("boot\n\narea\n", 3, FaultKind::Late),
         ("steps", 1, FaultKind::Count),
         ("steps 3", 1, FaultKind::Word),
-        ("step 3", 1, FaultKind::Word),
+        ("step 65", 1, FaultKind::Range),
         ("step core 1", 1, FaultKind::Count),
         ("steps core 0", 1, FaultKind::Range),
         ("steps core 100001", 1, FaultKind::Range),
@@ -117,7 +117,7 @@ fn faulty_scripts(rt: HostRuntime) {
         (" # x", 1, FaultKind::Word),
         ("# \t", 1, FaultKind::Byte),
         ("jump\nboot\r\n", 1, FaultKind::Word),
-        ("out 3 10", 1, FaultKind::Word),
+        ("out 3 10 1", 1, FaultKind::Count),
         ("region 0 1 1 1", 1, FaultKind::Count),
     ];
     for (text, line, kind) in &table {

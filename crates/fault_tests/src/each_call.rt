@@ -12,11 +12,11 @@ use std::process::Abort;
 use std::test::Fail;
 use world_core::World;
 
-const ALL: u64 = u64::MAX;
+pub(crate) const ALL: u64 = u64::MAX;
 
 /// How a hibernation ends whose call number `first` fails. The first 11 write pages and the map; then come a sync, the read of the
 /// header block, the write of the mark and its sync. What an undo leaves is `left`.
-fn end_of_hibernation(first: u32, left: Left) -> Reply {
+pub(crate) fn end_of_hibernation(first: u32, left: Left) -> Reply {
     match first {
         1..=11 => Reply::WriteFault { left: Left::Same },
         12 => Reply::SyncFault { left: Left::Same },
@@ -38,7 +38,7 @@ fn end_of_resume(first: u32) -> Reply {
 }
 
 /// What is resumed behind such an end, where an image of 8 page frames is there, or none.
-fn behind(failed: Reply, image: bool) -> Outcome {
+pub(crate) fn behind(failed: Reply, image: bool) -> Outcome {
     Outcome {
         failed,
         resumed: if image {

@@ -6,6 +6,8 @@ mod arms;
 #[cfg(test)]
 mod each_call;
 #[cfg(test)]
+mod moments;
+#[cfg(test)]
 mod plays;
 #[cfg(test)]
 mod settling;

@@ -115,7 +115,12 @@ pub(crate) struct Outcome {
 }
 
 /// Cuts the power, and resumes what is there, twice. No call fails any more.
-fn resumes_twice<D: Disk>(world: &mut World, disk: &mut D, cut: u64, failed: Reply) -> Outcome
+pub(crate) fn resumes_twice<D: Disk>(
+    world: &mut World,
+    disk: &mut D,
+    cut: u64,
+    failed: Reply,
+) -> Outcome
     requires over { IsOff world.old ⊎ (D.block_count disk.old ≡ blocks_of world.old) }
     ensures over { IsOff world.new ⊎ (D.block_count disk.new ≡ blocks_of world.new) }
 {

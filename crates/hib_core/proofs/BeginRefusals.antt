@@ -1,36 +1,35 @@
 -- Why a hibernation is refused, or is not, in each running state that a machine stands for.
-use Rattle.std.proofs.Common.{◌≡◌, ◌≢◌, ◌≤◌, ◌<◌, ℕ, ◌+◌, ◌-◌, inr, Bool, true, false, ltb, List, [], length, refl, sym, ap, ap₂, ◌∙◌, subst, arith, Contains, Option, Some, None, Result, Ok, Err, IsOk}
+use Rattle.std.proofs.Common.{◌≡◌, ◌≢◌, ◌≤◌, ◌<◌, ℕ, ◌+◌, ◌-◌, Bool, true, false, ltb, List, [], length, refl, sym, ap, ap₂, ◌∙◌, subst, arith, Option, Some, None, Result, Ok, Err, IsOk}
 use Rattle.std.proofs.lemmas.Bool.{false≢true, lt-ltb, le-ltb}
 use Rattle.page_core.specs.declared.format.Format.{Format}
 use Rattle.definitions.specs.Disk as disk
 use Rattle.definitions.proofs.Ascending.{Contains-nil}
-use Rattle.definitions.proofs.ZoneLists.{Contains-saveable_frames}
 use Rattle.sig_header.specs.declared.area.Area.{Area}
 use Rattle.snapshot.specs.Taken.{Taken, zero_frames}
 use Rattle.snapshot.specs.declared.Counts.{Counts}
 use Rattle.swap_slots.specs.Table.{free_in}
-use Rattle.plain_machine.specs.Machine.{Hardware, Memory, IsHardware, IsOfTable, Fits, saveable, unused, unused_slots}
+use Rattle.plain_machine.specs.Machine.{Hardware, Memory, IsHardware, Fits, saveable, unused, unused_slots}
 use Rattle.plain_machine.specs.Chain.{or_else}
 use Rattle.plain_machine.specs.Image.{Image, image_of_memory, n_of, pages_of}
-use Rattle.plain_machine.specs.Refusals.{refusal, refused_if, is_held, busy, closed, no_swap, no_frames, no_slots}
+use Rattle.plain_machine.specs.Refusals.{refusal, refused_if, is_held, busy, busy_reply, closed, no_swap, no_frames, no_slots}
 use Rattle.plain_machine.specs.Shows.{ShowsHeld}
 use Rattle.plain_machine.specs.Stands.{Stands, NamesHeld}
 use Rattle.plain_machine.specs.State.{on, Running, Held, nothing, sure, maybe, Flight}
-use Rattle.plain_machine.specs.Step.{no_flights}
 use Rattle.plain_machine.specs.declared.event.Event.TheVariants as event
 use Rattle.plain_machine.specs.declared.held.Held.{Held as HeldFlag}
 use Rattle.plain_machine.specs.declared.held.Held.TheVariants.{No, Yes, Perhaps}
 use Rattle.plain_machine.specs.declared.no_swap.NoSwap.{NoSwap}
 use Rattle.plain_machine.specs.declared.reply.Reply.{Reply}
 use Rattle.plain_machine.specs.declared.reply.Reply.TheVariants as reply
-use Rattle.plain_machine.proofs.SameMemory.{table_frame_valid}
 use Rattle.protocol_laws.specs.Memory.{ShownLists, ShownSlots}
 use Rattle.protocol_laws.specs.Snapshots.{TakesImage, NamesNone, IsTakenFrom}
 use Rattle.protocol_laws.specs.Writers.{slot_table_of}
 use Rattle.machine.specs.declared.machine.Machine.{Machine}
-use Rattle.hib_core.specs.Begin.{IsRefused}
+use Rattle.hib_core.specs.Begin.{IsRefused, busy_of}
 use Rattle.hib_core.specs.Begin as begin
-use Rattle.hib_core.specs.Hibernation.{running_by, reason_of}
+use Rattle.machine.specs.Flights.{flights_in}
+use Rattle.machine.specs.Running.{reason_of}
+use Rattle.hib_core.specs.Hibernation.{running_by}
 use Rattle.hib_core.specs.declared.hib.Hib.{Hib}
 use Rattle.hib_core.proofs.BeginImage.{counts_of}
 
@@ -77,7 +76,7 @@ seen machine frames f c a laws hw unmarked stands =
 pub open_at : (x y : Option Reply) → x ≡ None → or_else x y ≡ y
 open_at x y e = ap (λ (o : Option Reply). or_else o y) e
 
-stop_at : (x y : Option Reply) (r : Reply) → x ≡ Some r → or_else x y ≡ Some r
+pub stop_at : (x y : Option Reply) (r : Reply) → x ≡ Some r → or_else x y ≡ Some r
 stop_at x y r e = ap (λ (o : Option Reply). or_else o y) e
 
 pub test_holds : (b : Bool) (r : Reply) → b ≡ true → refused_if b r ≡ Some r
@@ -86,10 +85,14 @@ test_holds b r e = ap (λ (t : Bool). refused_if t r) e
 pub test_fails : (b : Bool) (r : Reply) → b ≡ false → refused_if b r ≡ None
 test_fails b r e = ap (λ (t : Bool). refused_if t r) e
 
-pub not_busy : (a : Running) → ((t : ℕ) → a.flights t ≡ no_flights t) → busy a ≡ None
-not_busy a flights =
-    let same : a.flights ≡ no_flights = λ i t. flights t i in
+-- the lowest task in flight is the one that the machine names
+pub busy_is : (machine : Machine) (a : Running) → ((t : ℕ) → a.flights t ≡ flights_in machine.flights t) → busy a ≡ busy_reply (busy_of machine)
+busy_is machine a flights =
+    let same : a.flights ≡ flights_in machine.flights = λ i t. flights t i in
     ap (λ (operations : ℕ → Option Flight). busy (record a { flights = operations })) same
+
+pub not_busy : (machine : Machine) (a : Running) → busy_of machine ≡ None → ((t : ℕ) → a.flights t ≡ flights_in machine.flights t) → busy a ≡ None
+not_busy machine a idle flights = busy_is machine a flights ∙ ap busy_reply idle
 
 not_closed : (a : Running) → a.held ≡ nothing → closed a ≡ None
 not_closed a held = test_fails (is_held a.held) reply.Closed (ap is_held held)
@@ -109,40 +112,48 @@ is_held_shown Perhaps nothing ne shows = absurd shows
 is_held_shown Perhaps (sure x) ne shows = refl
 is_held_shown Perhaps (maybe x) ne shows = refl
 
-pub refused_closed : (machine : Machine) (frames : Memory) (f : Format) → machine.held ≢ No → IsRefused machine frames f reply.Closed
+pub refused_busy : (machine : Machine) (frames : Memory) (f : Format) (t : ℕ) → busy_of machine ≡ Some t → IsRefused machine frames f (reply.Busy t)
 unfolding refusal
-refused_closed machine frames f ne c a stands =
+refused_busy machine frames f t flies c a stands =
+    let h = machine.hw in
+    let i = image_of_memory h a.memory a.slots f in
+    stop_at (busy a) (or_else (closed a) (or_else (no_swap a.unusable) (or_else (no_frames h a i) (no_slots h a i)))) (reply.Busy t)
+    (busy_is machine a stands.parts.0.flights ∙ ap busy_reply flies)
+
+pub refused_closed : (machine : Machine) (frames : Memory) (f : Format) → busy_of machine ≡ None → machine.held ≢ No → IsRefused machine frames f reply.Closed
+unfolding refusal
+refused_closed machine frames f idle ne c a stands =
     let h = machine.hw in
     let i = image_of_memory h a.memory a.slots f in
     let runs = stands.parts.0 in
     let behind = or_else (no_swap a.unusable) (or_else (no_frames h a i) (no_slots h a i)) in
-    open_at (busy a) (or_else (closed a) behind) (not_busy a runs.flights)
+    open_at (busy a) (or_else (closed a) behind) (not_busy machine a idle runs.flights)
     ∙ stop_at (closed a) behind reply.Closed (test_holds (is_held a.held) reply.Closed (is_held_shown machine.held a.held ne runs.held))
 
-pub refused_no_swap : (machine : Machine) (frames : Memory) (f : Format) (why : NoSwap) → SeenLaws → IsHardware machine.hw → machine.held ≡ No → machine.area ≡ Err why → IsRefused machine frames f (reply.NoSwap why)
+pub refused_no_swap : (machine : Machine) (frames : Memory) (f : Format) (why : NoSwap) → SeenLaws → IsHardware machine.hw → busy_of machine ≡ None → machine.held ≡ No → machine.area ≡ Err why → IsRefused machine frames f (reply.NoSwap why)
 unfolding refusal
-refused_no_swap machine frames f why laws hw unmarked unusable c a stands =
+refused_no_swap machine frames f why laws hw idle unmarked unusable c a stands =
     let h = machine.hw in
     let i = image_of_memory h a.memory a.slots f in
     let runs = stands.parts.0 in
     let is = seen machine frames f c a laws hw unmarked stands in
     let behind = or_else (no_frames h a i) (no_slots h a i) in
-    open_at (busy a) (or_else (closed a) (or_else (no_swap a.unusable) behind)) (not_busy a runs.flights)
+    open_at (busy a) (or_else (closed a) (or_else (no_swap a.unusable) behind)) (not_busy machine a idle runs.flights)
     ∙ open_at (closed a) (or_else (no_swap a.unusable) behind) (not_closed a is.held)
     ∙ stop_at (no_swap a.unusable) behind (reply.NoSwap why) (ap no_swap (runs.unusable ∙ ap reason_of unusable))
 
 -- up to the counts
-up_to_counts : (machine : Machine) (frames : Memory) (f : Format) (c : disk.Content) (a : Running) → SeenLaws → IsHardware machine.hw → machine.held ≡ No → IsOk machine.area → Stands machine.hw (running_by machine frames) c (on a) →
+up_to_counts : (machine : Machine) (frames : Memory) (f : Format) (c : disk.Content) (a : Running) → SeenLaws → IsHardware machine.hw → busy_of machine ≡ None → machine.held ≡ No → IsOk machine.area → Stands machine.hw (running_by machine frames) c (on a) →
     refusal machine.hw (on a) (event.Hibernate f)
     ≡ or_else (no_frames machine.hw a (image_of_memory machine.hw a.memory a.slots f)) (no_slots machine.hw a (image_of_memory machine.hw a.memory a.slots f))
 unfolding refusal
-up_to_counts machine frames f c a laws hw unmarked usable stands =
+up_to_counts machine frames f c a laws hw idle unmarked usable stands =
     let h = machine.hw in
     let i = image_of_memory h a.memory a.slots f in
     let runs = stands.parts.0 in
     let is = seen machine frames f c a laws hw unmarked stands in
     let behind = or_else (no_frames h a i) (no_slots h a i) in
-    open_at (busy a) (or_else (closed a) (or_else (no_swap a.unusable) behind)) (not_busy a runs.flights)
+    open_at (busy a) (or_else (closed a) (or_else (no_swap a.unusable) behind)) (not_busy machine a idle runs.flights)
     ∙ open_at (closed a) (or_else (no_swap a.unusable) behind) (not_closed a is.held)
     ∙ open_at (no_swap a.unusable) behind (has_swap a machine.area usable runs.unusable)
 
@@ -170,13 +181,13 @@ enough_slots h a i free pages f_is p_is le =
     let above : all + 1026 ≤ count = omega arith in
     test_fails (ltb (length (unused_slots h a.memory)) (pages_of i + 1026)) (reply.NoSlots (length (unused_slots h a.memory)) (pages_of i + 1026)) (le-ltb (length (unused_slots h a.memory)) (pages_of i + 1026) above)
 
-pub refused_no_frames : (machine : Machine) (frames : Memory) (f : Format) → SeenLaws → IsHardware machine.hw → machine.held ≡ No → IsOk machine.area → length (unused machine.hw frames) < length (saveable machine.hw frames) + 1025 →
+pub refused_no_frames : (machine : Machine) (frames : Memory) (f : Format) → SeenLaws → IsHardware machine.hw → busy_of machine ≡ None → machine.held ≡ No → IsOk machine.area → length (unused machine.hw frames) < length (saveable machine.hw frames) + 1025 →
     IsRefused machine frames f (reply.NoFrames (length (unused machine.hw frames)) (length (saveable machine.hw frames) + 1025))
-refused_no_frames machine frames f laws hw unmarked usable few c a stands =
+refused_no_frames machine frames f laws hw idle unmarked usable few c a stands =
     let h = machine.hw in
     let i = image_of_memory h a.memory a.slots f in
     let is = seen machine frames f c a laws hw unmarked stands in
-    up_to_counts machine frames f c a laws hw unmarked usable stands
+    up_to_counts machine frames f c a laws hw idle unmarked usable stands
     ∙ stop_at (no_frames h a i) (no_slots h a i) (reply.NoFrames (length (unused h frames)) (length (saveable h frames) + 1025))
     (few_frames h a i (length (unused h frames)) (length (saveable h frames)) (ap length is.unused) is.image.saved few)
 
@@ -192,34 +203,26 @@ pages_are : (machine : Machine) (frames : Memory) (hib : Hib) (counts : Counts) 
 pages_are machine frames hib counts a f are format is =
     (counts_of machine.hw frames hib counts (image_of_memory machine.hw a.memory a.slots f) are.origs are.zeros are.saved are.with_pages (sym format) is.image).pages
 
-pub refused_no_slots : (machine : Machine) (frames : Memory) (f : Format) (hib : Hib) (counts : Counts) → SeenLaws → IsHardware machine.hw → machine.held ≡ No → IsOk machine.area → AreCounts machine.hw frames hib counts → hib.snapshot.format ≡ f →
+pub refused_no_slots : (machine : Machine) (frames : Memory) (f : Format) (hib : Hib) (counts : Counts) → SeenLaws → IsHardware machine.hw → busy_of machine ≡ None → machine.held ≡ No → IsOk machine.area → AreCounts machine.hw frames hib counts → hib.snapshot.format ≡ f →
     length (saveable machine.hw frames) + 1025 ≤ length (unused machine.hw frames) → length (free_in frames (slot_table_of machine.hw)) < begin.pages_of counts + 1026 →
     IsRefused machine frames f (reply.NoSlots (length (free_in frames (slot_table_of machine.hw))) (begin.pages_of counts + 1026))
-refused_no_slots machine frames f hib counts laws hw unmarked usable are format enough few c a stands =
+refused_no_slots machine frames f hib counts laws hw idle unmarked usable are format enough few c a stands =
     let h = machine.hw in
     let i = image_of_memory h a.memory a.slots f in
     let is = seen machine frames f c a laws hw unmarked stands in
-    up_to_counts machine frames f c a laws hw unmarked usable stands
+    up_to_counts machine frames f c a laws hw idle unmarked usable stands
     ∙ open_at (no_frames h a i) (no_slots h a i) (enough_frames h a i (length (unused h frames)) (length (saveable h frames)) (ap length is.unused) is.image.saved enough)
     ∙ few_slots h a i (length (free_in frames (slot_table_of h))) (begin.pages_of counts) (ap length is.slots) (pages_are machine frames hib counts a f are format is) few
 
--- no machine's slot table has a page frame that isn't saveable
-pub no_lost_frame : (machine : Machine) (frames : Memory) (f : Format) (p : ℕ) (r : Reply) → SeenLaws → IsHardware machine.hw → IsOfTable machine.hw.slot_table machine.hw.slots p → (Contains (saveable machine.hw frames) p → ⊥) → IsRefused machine frames f r
-no_lost_frame machine frames f p r laws hw of lost c a stands =
-    let h = machine.hw in
-    let runs = stands.parts.0 in
-    let lists = laws.lists h a.memory frames hw runs.fits runs.same in
-    absurd (lost (subst (λ (xs : List ℕ). Contains xs p) (sym lists.0) (Contains-saveable_frames h.zones h.frame_table a.memory p (table_frame_valid h p hw (inr of)) (runs.fits.tables p (inr of)).0)))
-
 -- A hibernation isn't refused.
-pub not_refused : (machine : Machine) (frames : Memory) (f : Format) (hib : Hib) (counts : Counts) (c : disk.Content) (a : Running) → SeenLaws → IsHardware machine.hw → machine.held ≡ No → IsOk machine.area → AreCounts machine.hw frames hib counts → hib.snapshot.format ≡ f →
+pub not_refused : (machine : Machine) (frames : Memory) (f : Format) (hib : Hib) (counts : Counts) (c : disk.Content) (a : Running) → SeenLaws → IsHardware machine.hw → busy_of machine ≡ None → machine.held ≡ No → IsOk machine.area → AreCounts machine.hw frames hib counts → hib.snapshot.format ≡ f →
     length (saveable machine.hw frames) + 1025 ≤ length (unused machine.hw frames) → begin.pages_of counts + 1026 ≤ length (free_in frames (slot_table_of machine.hw)) →
     Stands machine.hw (running_by machine frames) c (on a) → refusal machine.hw (on a) (event.Hibernate f) ≡ None
-not_refused machine frames f hib counts c a laws hw unmarked usable are format enough room stands =
+not_refused machine frames f hib counts c a laws hw idle unmarked usable are format enough room stands =
     let h = machine.hw in
     let i = image_of_memory h a.memory a.slots f in
     let is = seen machine frames f c a laws hw unmarked stands in
-    up_to_counts machine frames f c a laws hw unmarked usable stands
+    up_to_counts machine frames f c a laws hw idle unmarked usable stands
     ∙ open_at (no_frames h a i) (no_slots h a i) (enough_frames h a i (length (unused h frames)) (length (saveable h frames)) (ap length is.unused) is.image.saved enough)
     ∙ enough_slots h a i (length (free_in frames (slot_table_of h))) (begin.pages_of counts) (ap length is.slots) (pages_are machine frames hib counts a f are format is) room
 

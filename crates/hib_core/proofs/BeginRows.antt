@@ -19,9 +19,9 @@ use Rattle.plain_machine.specs.Machine.{Memory, IsHardware, unused, unused_slots
 use Rattle.plain_machine.specs.Image.{image_of_memory, hibernate_steps, maps_of}
 use Rattle.plain_machine.specs.Laid.{laid_block}
 use Rattle.plain_machine.specs.Shows.{RunsAs}
-use Rattle.plain_machine.specs.Stands.{Stands, NamesHeld, laid_blocks}
-use Rattle.plain_machine.specs.State.{State, on, hibernating, Running, Held, nothing, sure, maybe, own, other}
-use Rattle.plain_machine.specs.Step.{Step, no_flights, no_slots}
+use Rattle.plain_machine.specs.Stands.{Stands, laid_blocks}
+use Rattle.plain_machine.specs.State.{State, on, hibernating, Running}
+use Rattle.plain_machine.specs.Step.{Step, no_slots}
 use Rattle.plain_machine.specs.UsableArea.{fit_fault}
 use Rattle.plain_machine.specs.declared.event.Event.TheVariants as event
 use Rattle.plain_machine.specs.declared.reply.Reply.{Reply}
@@ -36,7 +36,9 @@ use Rattle.protocol_laws.proofs.Places.{usable_fits}
 use Rattle.machine.specs.declared.machine.Machine.{Machine}
 use Rattle.hib_core.specs.Begin.{IsRefused, IsCounted, IsTaken, info_of}
 use Rattle.hib_core.specs.Begin as begin
-use Rattle.hib_core.specs.Hibernation.{running_by, shown_by, reason_of, activity_at}
+use Rattle.machine.specs.Flights.{flights_in}
+use Rattle.machine.specs.Running.{reason_of}
+use Rattle.hib_core.specs.Hibernation.{running_by, shown_by, activity_at}
 use Rattle.hib_core.specs.Ready.{CanStep, CanWrite, IsPlace}
 use Rattle.hib_core.specs.Row.{StandsFor, IsOf, IsBegun}
 use Rattle.hib_core.specs.declared.hib.Hib.{Hib}
@@ -128,10 +130,10 @@ shows_copies machine frames frames' hib hib' counts f c a laws is stands seen =
     let t = is.taken in
     let why = reason_of machine.area in
     let free = free_in t.copied (slot_table_of h) in
-    let was : RunsAs h machine.held why no_flights frames a = stands.parts.0 in
+    let was : RunsAs h machine.held why (flights_in machine.flights) frames a = stands.parts.0 in
     let others : (p : ℕ) → (Contains (unused h frames) p → ⊥) → frame t.copied p ≡ frame frames p =
     λ p out. t.others p (λ in'. out (Contains-from_take (length hib.snapshot.origs) (unused h frames) p (subst (λ (xs : List ℕ). Contains xs p) (copies_are machine frames frames' hib hib' counts t) in'))) in
-    let over : RunsAs h machine.held why no_flights t.copied a = laws.over h machine.held why no_flights frames t.copied a is.hardware was seen.none others in
+    let over : RunsAs h machine.held why (flights_in machine.flights) t.copied a = laws.over h machine.held why (flights_in machine.flights) frames t.copied a is.hardware was seen.none others in
     let memory : IsMemoryOf h t.copied = record { pages = t.pages; table = slot_table_lies h t.copied is.hardware (t.size ∙ is.size) } in
     let first : AreFree h t.copied (take 1 free) = λ s in'. free_slot h.slots h.slot_table t.copied s (Contains-from_take 1 free s in') in
     let given : taken h t.copied (take 1 free) ≡ frames' = sym t.slots in
@@ -141,7 +143,7 @@ shows_copies machine frames frames' hib hib' counts f c a laws is stands seen =
     (ap (λ (xs : List ℕ). laid_block h.extents xs 0) (sym (free_stays machine frames frames' hib hib' counts is ∙ seen.slots)) ∙ ap (block_of_slot h) (in_one free k in'))
     (first_in_laid h a i) in
     record {
-      shows = subst (λ (m : Memory). RunsAs h machine.held why no_flights m a) given (laws.taken h machine.held why no_flights t.copied (take 1 free) a memory first over);
+      shows = subst (λ (m : Memory). RunsAs h machine.held why (flights_in machine.flights) m a) given (laws.taken h machine.held why (flights_in machine.flights) t.copied (take 1 free) a memory first over);
       names = λ k lt e. laws.names h t.copied (take 1 free) (laid_blocks h a i) memory first (λ j j_lt j_e. absurd (none j j_lt j_e)) laid k lt (ap (λ (m : Memory). raw_slot_entry h m k) given ∙ e);
       copies = ap (λ (m : Memory). map (frame m) hib'.snapshot.copies) (sym given)
           ∙ copies_stay t.copied (taken h t.copied (take 1 free)) hib'.snapshot.copies
@@ -187,7 +189,7 @@ begun_row machine frames frames' hib hib' counts f c laws is format s stands =
     let here : Stands h (running_by machine frames) c (on a) = subst (Stands h (running_by machine frames) c) at.1 stands in
     let sees : IsSeen h frames f a = seen machine frames f c a laws.seen is.hardware is.counted.held here in
     let counted : AreCounts h frames hib counts = record { origs = is.counted.origs; zeros = is.counted.zeros; saved = is.counted.saved; with_pages = is.counted.with_pages } in
-    let goes = not_refused machine frames f hib counts c a laws.seen is.hardware is.counted.held is.counted.area counted format is.counted.copies is.counted.slots here in
+    let goes = not_refused machine frames f hib counts c a laws.seen is.hardware is.counted.idle is.counted.held is.counted.area counted format is.counted.copies is.counted.slots here in
     let of : IsOf h frames' hib' a i = is_of machine frames frames' hib hib' counts f a laws is format sees in
     let stepped : Step h (disk.as_it_reads c) (on a) (event.Hibernate f) (reply.More 0 (hibernate_steps i)) (hibernating false i a 0) =
     accepted_step h (disk.as_it_reads c) (on a) (event.Hibernate f) (reply.More 0 (hibernate_steps i)) (hibernating false i a 0) goes (0, omega arith, refl) in (

@@ -1,5 +1,5 @@
 -- The tables and the free slots at the begin of a hibernation: copies lie outside the slot table, and free slots on blocks of the disk.
-use Rattle.std.proofs.Common.{◌≡◌, ◌≢◌, ◌≤◌, ◌<◌, ℕ, ◌+◌, ◌-◌, ◌/◌, Bool, true, eqb, List, length, get_or, take, sym, ap, ap₂, ◌∙◌, subst, arith, Contains, None, Result, Ok, Err, IsOk, IfOk}
+use Rattle.std.proofs.Common.{◌≡◌, ◌≤◌, ◌<◌, ℕ, ◌+◌, ◌-◌, ◌/◌, inr, Bool, eqb, List, length, get_or, take, sym, ap, ap₂, ◌∙◌, subst, arith, Contains, None, Result, Ok, Err, IsOk, IfOk}
 use Rattle.std.specs.List.{range_with_len}
 use Rattle.std.proofs.lemmas.Bool.{false≢true}
 use Rattle.std.proofs.lemmas.List.Elements.{Contains-get_or}
@@ -10,7 +10,7 @@ use Rattle.definitions.specs.Slots.{runs_of}
 use Rattle.definitions.specs.Tables.{frame, entry_at, flags_of, is_saveable, HasTable}
 use Rattle.definitions.specs.Zones.{numbers, top, AreZones}
 use Rattle.definitions.proofs.FreeSlots.{free_slot}
-use Rattle.definitions.proofs.ZoneLists.{Contains-from_free_frames, Contains-from_saveable_frames}
+use Rattle.definitions.proofs.ZoneLists.{Contains-from_free_frames}
 use Rattle.definitions.proofs.ZoneNumbers.{below_top, count_at_most, range-bounds, top_at_most, top_is_next}
 use Rattle.prealloc.proofs.Picks.{Contains-from_take}
 use Rattle.sig_header.specs.declared.area.Area.{Area}
@@ -18,7 +18,7 @@ use Rattle.swap_slots.specs.Runs.{SlotRuns}
 use Rattle.swap_slots.specs.Table.{Matches, free_in}
 use Rattle.image_write.specs.Writing.{BlocksBelow, writes_of}
 use Rattle.plain_machine.specs.Image.{maps_of}
-use Rattle.plain_machine.specs.Machine.{Hardware, Memory, IsHardware, IsOfTable, saveable, unused, table_len}
+use Rattle.plain_machine.specs.Machine.{Hardware, Memory, IsHardware, IsOfTable, IsTableFrame, saveable, unused, table_len}
 use Rattle.plain_machine.specs.UsableArea.{fit_fault}
 use Rattle.plain_machine.specs.declared.no_swap.NoSwap.{NoSwap}
 use Rattle.plain_machine.proofs.SameMemory.{filter_agree_within, entry-same, of_slot_table}
@@ -61,20 +61,16 @@ saveable_few h frames zones =
 pub room_for_writes : (n d free : ℕ) → n ≤ 65536 → d ≤ n → d + meta_of n + 1 + 1026 ≤ free → d + meta_of n + 1 + maps_of (d + meta_of n + 1) ≤ free
 room_for_writes n d free few le room = omega arith
 
--- Copies lie outside the slot table.
+-- Copies lie outside the tables.
 
-not_free : (entry : ℕ) → is_saveable (flags_of entry) ≡ true → entry ≢ 1
-not_free entry save e = false≢true (sym (ap (λ (n : ℕ). is_saveable (flags_of n)) e) ∙ save)
+-- no copy is a page frame of a table
+pub copy_apart : (machine : Machine) (frames : Memory) (hib : Hib) (counts : Counts) (n : ℕ) (copies : List ℕ) → IsCounted machine frames hib counts → copies ≡ take n (unused machine.hw frames) → (p : ℕ) → Contains copies p → IsTableFrame machine.hw p → ⊥
+copy_apart machine frames hib counts n copies counted are p in' of =
+    (counted.reserved p of).1 (Contains-from_free_frames machine.hw.zones machine.hw.frame_table frames p (Contains-from_take n (unused machine.hw frames) p (subst (λ (xs : List ℕ). Contains xs p) are in'))).1
 
-pub saveable_not_unused : (h : Hardware) (frames : Memory) (p : ℕ) → Contains (saveable h frames) p → Contains (unused h frames) p → ⊥
-saveable_not_unused h frames p save free =
-    not_free (entry_at frames h.frame_table p) (Contains-from_saveable_frames h.zones h.frame_table frames p save).1 (Contains-from_free_frames h.zones h.frame_table frames p free).1
-
--- no copy is a page frame of the slot table
 pub copies_apart : (machine : Machine) (frames : Memory) (hib : Hib) (counts : Counts) (n : ℕ) (copies : List ℕ) → IsCounted machine frames hib counts → copies ≡ take n (unused machine.hw frames) →
     (p : ℕ) → Contains copies p → IsOfTable machine.hw.slot_table machine.hw.slots p → ⊥
-copies_apart machine frames hib counts n copies counted are p in' of =
-    saveable_not_unused machine.hw frames p (counted.table p of) (Contains-from_take n (unused machine.hw frames) p (subst (λ (xs : List ℕ). Contains xs p) are in'))
+copies_apart machine frames hib counts n copies counted are p in' of = copy_apart machine frames hib counts n copies counted are p in' (inr of)
 
 pub kept_free_slots : (h : Hardware) (frames copied : Memory) → ((p : ℕ) → IsOfTable h.slot_table h.slots p → frame copied p ≡ frame frames p) → free_in copied (slot_table_of h) ≡ free_in frames (slot_table_of h)
 unfolding free_slots

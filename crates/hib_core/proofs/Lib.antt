@@ -12,3 +12,5 @@ pub mod BeginRefusals
 pub mod BeginRows
 mod SettleBegin
 mod SettleRows
+pub mod Leaving
+pub mod Keeping

@@ -1,6 +1,6 @@
 -- The rows of the mark, and of its sync.
 use Rattle.plain_machine.specs.Stands.{laid_blocks}
-use Rattle.protocol_laws.proofs.Unwritten.{block_same, block_synced, unwritten_header}
+use Rattle.protocol_laws.proofs.Unwritten.{block_same, block_synced, unwritten_mark}
 use Rattle.std.proofs.Common.{◌≡◌, false, ℕ, ◌+◌, List, None, inl, inr, refl, sym, ap, ◌∙◌, subst}
 use Rattle.definitions.specs.Disk as disk
 use Rattle.definitions.specs.SwapHeader.{marked}
@@ -68,7 +68,7 @@ marked_row machine frames runs hib c c' marks_on keeps unmarked can at whole who
           image = still_of machine.hw frames frames hib a i (mark_of machine hib) stage.End (hib.made + 1) refl of;
         };
         area = mark_keeps machine frames runs hib c c' i a keeps unmarked can whole place s (inl writes);
-        unwritten = λ b not. unwritten_header machine.hw (laid_blocks machine.hw a i) b c c' writes.others not;
+        unwritten = λ b not. unwritten_mark machine.hw a i hib.made b c c' place writes.others not;
         leaves = tt;
       },
     ))
@@ -91,7 +91,7 @@ mark_failed_row machine frames runs hib c c' mark_fails keeps unmarked can at wh
           image = still_of machine.hw frames frames hib a i (mark_of machine hib) (stage.TakeBack undo.Write) hib.made refl of;
         };
         area = mark_keeps machine frames runs hib c c' i a keeps unmarked can whole place s (inr fails);
-        unwritten = λ b not. unwritten_header machine.hw (laid_blocks machine.hw a i) b c c' fails.others not;
+        unwritten = λ b not. unwritten_mark machine.hw a i hib.made b c c' place fails.others not;
         leaves = tt;
       },
     ))

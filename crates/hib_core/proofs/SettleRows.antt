@@ -7,8 +7,7 @@ use Rattle.plain_machine.specs.Machine.{Hardware, Memory, block_of_slot, raw_slo
 use Rattle.plain_machine.specs.Chain.{header_of}
 use Rattle.plain_machine.specs.Shows.{RunsAs, ShowsHeld, seen_frames}
 use Rattle.plain_machine.specs.Stands.{NamesOnly}
-use Rattle.plain_machine.specs.State.{on, settling, Running, Held, nothing, sure, maybe, perhaps}
-use Rattle.plain_machine.specs.Step.{no_flights}
+use Rattle.plain_machine.specs.State.{on, settling, Running, Held, nothing, sure, maybe, perhaps, Flight}
 use Rattle.plain_machine.specs.declared.event.Event.TheVariants as event
 use Rattle.plain_machine.specs.declared.event.Actor.TheVariants as actor
 use Rattle.plain_machine.specs.declared.held.Held.{Held as HeldFlag}
@@ -24,9 +23,11 @@ use Rattle.protocol_laws.specs.Undo.{with_held}
 use Rattle.protocol_laws.proofs.Settling.{settle_reads, settle_read_fails, settle_writes, settle_write_fails, settle_keeps_area, settle_syncs, settle_sync_fails}
 use Rattle.protocol_laws.proofs.Unwritten.{block_same, block_synced, unwritten_header}
 use Rattle.machine.specs.declared.machine.Machine.{Machine}
-use Rattle.hib_core.specs.Hibernation.{shown_by, activity_at, reason_of, perhaps_held}
+use Rattle.machine.specs.Flights.{flights_in}
+use Rattle.machine.specs.Running.{reason_of}
+use Rattle.hib_core.specs.Hibernation.{shown_by, activity_at, perhaps_held}
 use Rattle.hib_core.specs.Ready.{CanStep}
-use Rattle.hib_core.specs.Row.{StandsFor, IsRow}
+use Rattle.hib_core.specs.Row.{IsRow}
 use Rattle.hib_core.specs.declared.hib.Hib.{Hib}
 use Rattle.hib_core.specs.declared.hib.Stage.{Stage}
 use Rattle.hib_core.specs.declared.hib.Stage.TheVariants as stage
@@ -119,8 +120,8 @@ shows_perhaps Perhaps nothing shows = absurd shows
 shows_perhaps Perhaps (sure x) shows = absurd shows
 shows_perhaps Perhaps (maybe x) shows = tt
 
-runs_unsettled : (h : Hardware) (flag : HeldFlag) (why : Option NoSwap) (frames : Memory) (a : Running) → RunsAs h flag why no_flights frames a → RunsAs h (perhaps_held flag) why no_flights frames (with_held a (perhaps a.held))
-runs_unsettled h flag why frames a runs = record { held = shows_perhaps flag a.held runs.held; unusable = runs.unusable; flights = runs.flights; same = runs.same; fits = runs.fits }
+runs_unsettled : (h : Hardware) (flag : HeldFlag) (why : Option NoSwap) (operations : ℕ → Option Flight) (frames : Memory) (a : Running) → RunsAs h flag why operations frames a → RunsAs h (perhaps_held flag) why operations frames (with_held a (perhaps a.held))
+runs_unsettled h flag why operations frames a runs = record { held = shows_perhaps flag a.held runs.held; unusable = runs.unusable; flights = runs.flights; same = runs.same; fits = runs.fits }
 
 pub settle_write_failed_row : (machine : Machine) (frames : Memory) (runs : SlotRuns) (hib : Hib) (c c' : disk.Content) → CanStep machine frames runs hib → hib.stage ≡ stage.SettleWrite → disk.IsContent machine.blocks c → disk.IsContent machine.blocks c' →
     disk.FailsToWrite (block_of_slot machine.hw 0) (unmarked_block hib.header) c c' → IsRow machine frames hib (unsettled machine) frames (record hib { header = unmarked_block hib.header; stage = stage.Idle }) (event.Step actor.Core) (reply.WriteFault Unsure) c c'
@@ -134,7 +135,7 @@ settle_write_failed_row machine frames runs hib c c' can at whole whole' fails =
         step = settle_write_may_fail machine.hw (disk.as_it_reads c) a;
         stands = record {
           stands = settle_write_fails machine.hw (shown_by machine frames hib) (shown_by (unsettled machine) frames new) c c' machine.blocks a over whole' s.stands fails refl
-              (runs_unsettled machine.hw machine.held (reason_of machine.area) frames a s.stands.parts.0.shows)
+              (runs_unsettled machine.hw machine.held (reason_of machine.area) (flights_in machine.flights) frames a s.stands.parts.0.shows)
               (names_same machine.hw (shown_by machine frames hib) (shown_by (unsettled machine) frames new) a.held refl s.stands.parts.1);
           image = tt;
         };
@@ -151,10 +152,10 @@ settled_row machine frames frames' runs hib c c' keeps given_back none_left can 
     row_at_settling machine frames hib (certain machine) frames' new (event.Step actor.Core) reply.Settled c c' 2 (at_step hib stage.SettleSync at)
     (λ a s.
     let memory : IsMemoryOf machine.hw frames = record { pages = pages; table = can.table } in
-    let back : RunsAs machine.hw machine.held (reason_of machine.area) no_flights frames' a =
-    subst (λ (m : Memory). RunsAs machine.hw machine.held (reason_of machine.area) no_flights m a) (sym given)
-    (given_back machine.hw machine.held (reason_of machine.area) no_flights frames a memory s.stands.parts.0.shows) in
-    let shows : RunsAs machine.hw No (reason_of machine.area) no_flights frames' (with_held a nothing) =
+    let back : RunsAs machine.hw machine.held (reason_of machine.area) (flights_in machine.flights) frames' a =
+    subst (λ (m : Memory). RunsAs machine.hw machine.held (reason_of machine.area) (flights_in machine.flights) m a) (sym given)
+    (given_back machine.hw machine.held (reason_of machine.area) (flights_in machine.flights) frames a memory s.stands.parts.0.shows) in
+    let shows : RunsAs machine.hw No (reason_of machine.area) (flights_in machine.flights) frames' (with_held a nothing) =
     record { held = tt; unusable = back.unusable; flights = back.flights; same = back.same; fits = back.fits } in
     let names : NamesOnly machine.hw (shown_by (certain machine) frames' new) [] =
     λ k lt e. absurd (none_left machine.hw frames k memory lt (ap (λ (m : Memory). raw_slot_entry machine.hw m k) (sym given) ∙ e)) in (
@@ -182,7 +183,7 @@ settle_sync_failed_row machine frames hib c at =
         step = settle_sync_may_fail machine.hw (disk.as_it_reads c) a;
         stands = record {
           stands = settle_sync_fails machine.hw (shown_by machine frames hib) (shown_by (unsettled machine) frames new) c a s.stands refl
-              (runs_unsettled machine.hw machine.held (reason_of machine.area) frames a s.stands.parts.0.shows)
+              (runs_unsettled machine.hw machine.held (reason_of machine.area) (flights_in machine.flights) frames a s.stands.parts.0.shows)
               (names_same machine.hw (shown_by machine frames hib) (shown_by (unsettled machine) frames new) a.held refl s.stands.parts.1);
           image = tt;
         };

@@ -10,7 +10,7 @@ use Rattle.plain_machine.specs.Image.{Image, hibernate_steps}
 use Rattle.plain_machine.specs.Shows.{RunsAs, hibernates, seen_frames}
 use Rattle.plain_machine.specs.State.{on, hibernating, Running}
 use Rattle.plain_machine.specs.Stands.{NamesOnly}
-use Rattle.plain_machine.specs.Step.{Step, no_flights}
+use Rattle.plain_machine.specs.Step.{Step}
 use Rattle.plain_machine.specs.declared.event.Event.TheVariants as event
 use Rattle.plain_machine.specs.declared.event.Actor.TheVariants as actor
 use Rattle.plain_machine.specs.declared.reply.Reply.{Reply}
@@ -26,7 +26,9 @@ use Rattle.protocol_laws.specs.Hibernating.{SyncsOn, ReadsOn, ReadsArea, CallFai
 use Rattle.protocol_laws.specs.Memory.{NoneLeft, RunsGivenBack}
 use Rattle.protocol_laws.specs.Slots.{IsMemoryOf}
 use Rattle.machine.specs.declared.machine.Machine.{Machine}
-use Rattle.hib_core.specs.Hibernation.{shown_by, activity_at, activity_of, reason_of}
+use Rattle.machine.specs.Flights.{flights_in}
+use Rattle.machine.specs.Running.{reason_of}
+use Rattle.hib_core.specs.Hibernation.{shown_by, activity_at, activity_of}
 use Rattle.hib_core.specs.Ready.{CanStep, IsPlace}
 use Rattle.hib_core.specs.Row.{IsRow}
 use Rattle.hib_core.specs.declared.hib.Hib.{Hib}
@@ -80,9 +82,9 @@ fails_row machine frames frames' runs hib hib' c r call_fails given_back none_le
     (λ i a s.
     let of = s.image in
     let memory : IsMemoryOf machine.hw frames = record { pages = pages; table = can.table } in
-    let back : RunsAs machine.hw machine.held (reason_of machine.area) no_flights frames' a =
-    subst (λ (m : Memory). RunsAs machine.hw machine.held (reason_of machine.area) no_flights m a) (sym given)
-    (given_back machine.hw machine.held (reason_of machine.area) no_flights frames a memory s.stands.parts.0.shows) in
+    let back : RunsAs machine.hw machine.held (reason_of machine.area) (flights_in machine.flights) frames' a =
+    subst (λ (m : Memory). RunsAs machine.hw machine.held (reason_of machine.area) (flights_in machine.flights) m a) (sym given)
+    (given_back machine.hw machine.held (reason_of machine.area) (flights_in machine.flights) frames a memory s.stands.parts.0.shows) in
     let names : NamesOnly machine.hw (shown_by machine frames' hib') [] =
     λ k lt e. absurd (none_left machine.hw frames k memory lt (ap (λ (m : Memory). raw_slot_entry machine.hw m k) (sym given) ∙ e)) in
     let place : hib.made + 1 < hibernate_steps i = subst (λ (n : ℕ). hib.made + 1 < n) of.steps more in (

@@ -1,7 +1,7 @@
 -- The rows of an undo.
 use Rattle.protocol_laws.proofs.Leaving.{leaves_undoing}
 use Rattle.protocol_laws.proofs.Unwritten.{block_same, block_synced, unwritten_header}
-use Rattle.std.proofs.Common.{◌≡◌, All, [], inl, inr, refl, sym, ap, ◌∙◌, subst}
+use Rattle.std.proofs.Common.{◌≡◌, List, All, [], inl, inr, refl, sym, ap, ◌∙◌, subst}
 use Rattle.definitions.specs.Bytes.{IsPage}
 use Rattle.definitions.specs.Disk as disk
 use Rattle.definitions.specs.SwapHeader.{taken_back}
@@ -11,7 +11,7 @@ use Rattle.plain_machine.specs.Image.{Image}
 use Rattle.plain_machine.specs.Shows.{RunsAs, ShowsHeld, seen_frames}
 use Rattle.plain_machine.specs.State.{on, undoing, Running, nothing, maybe, own}
 use Rattle.plain_machine.specs.Stands.{NamesOnly}
-use Rattle.plain_machine.specs.Step.{no_flights, undone_fault}
+use Rattle.plain_machine.specs.Step.{undone_fault}
 use Rattle.plain_machine.specs.declared.event.Event.TheVariants as event
 use Rattle.plain_machine.specs.declared.event.Actor.TheVariants as actor
 use Rattle.plain_machine.specs.declared.held.Held.{Held as HeldFlag}
@@ -26,7 +26,10 @@ use Rattle.protocol_laws.specs.Memory.{NoneLeft, RunsGivenBack}
 use Rattle.protocol_laws.specs.Slots.{IsMemoryOf}
 use Rattle.protocol_laws.specs.Undo.{UndoWrites, UndoWriteFails, UndoSyncs, UndoSyncFails, with_held}
 use Rattle.machine.specs.declared.machine.Machine.{Machine}
-use Rattle.hib_core.specs.Hibernation.{shown_by, activity_at, reason_of}
+use Rattle.machine.specs.Flights.{flights_in}
+use Rattle.machine.specs.Running.{reason_of}
+use Rattle.machine.specs.declared.flight.Flight.{Flight}
+use Rattle.hib_core.specs.Hibernation.{shown_by, activity_at}
 use Rattle.hib_core.specs.Ready.{CanStep}
 use Rattle.hib_core.specs.Row.{StandsFor, IsRow}
 use Rattle.hib_core.specs.declared.hib.Hib.{Hib}
@@ -72,11 +75,11 @@ back_row machine frames runs hib c c' call undo_writes keeps can page back at wh
     ))
 
 -- the running state shown with another answer to what is held
-with_flag : (h : Hardware) (machine machine' : Machine) (frames : Memory) (a : Running) (i : Image) → machine'.area ≡ machine.area → machine'.held ≡ Perhaps → RunsAs h machine.held (reason_of machine.area) no_flights frames a → RunsAs h machine'.held (reason_of machine'.area) no_flights frames (with_held a (maybe (own i)))
-with_flag h machine machine' frames a i area held runs = record {
+with_flag : (h : Hardware) (machine machine' : Machine) (frames : Memory) (a : Running) (i : Image) → machine'.area ≡ machine.area → machine'.held ≡ Perhaps → machine'.flights ≡ machine.flights → RunsAs h machine.held (reason_of machine.area) (flights_in machine.flights) frames a → RunsAs h machine'.held (reason_of machine'.area) (flights_in machine'.flights) frames (with_held a (maybe (own i)))
+with_flag h machine machine' frames a i area held flights runs = record {
   held = subst (λ (f : HeldFlag). ShowsHeld f (maybe (own i))) (sym held) tt;
   unusable = runs.unusable ∙ sym (ap reason_of area);
-  flights = runs.flights;
+  flights = λ t. runs.flights t ∙ sym (ap (λ (fs : List Flight). flights_in fs t) flights);
   same = runs.same;
   fits = runs.fits;
 }
@@ -92,7 +95,7 @@ back_failed_row machine frames runs hib c c' call undo_write_fails keeps can pag
         step = take_back_may_fail machine.hw (disk.as_it_reads c) i call a;
         stands = record {
           stands = undo_write_fails machine.hw (shown_by machine frames hib) (shown_by (unsure machine) frames new) c c' machine.blocks i call a (is_over machine frames runs hib c a i can whole s.image) page whole' s.stands fails refl
-              (with_flag machine.hw machine (unsure machine) frames a i refl refl s.stands.parts.0.shows) s.stands.parts.2;
+              (with_flag machine.hw machine (unsure machine) frames a i refl refl refl s.stands.parts.0.shows) s.stands.parts.2;
           image = tt;
         };
         area = back_keeps machine frames runs hib c c' i call a keeps can whole back s (inr fails);
@@ -108,10 +111,10 @@ undone_row machine frames frames' runs hib c c' call undo_syncs keeps given_back
     row_at_undo machine frames hib (certain machine) frames' new (event.Step actor.Core) (undone_fault call Gone) c c' call 1 (ap (λ (s : Stage). activity_at s hib.made) at)
     (λ i a s.
     let memory : IsMemoryOf machine.hw frames = record { pages = pages; table = can.table } in
-    let back : RunsAs machine.hw machine.held (reason_of machine.area) no_flights frames' a =
-    subst (λ (m : Memory). RunsAs machine.hw machine.held (reason_of machine.area) no_flights m a) (sym given)
-    (given_back machine.hw machine.held (reason_of machine.area) no_flights frames a memory s.stands.parts.0.shows) in
-    let shows : RunsAs machine.hw No (reason_of machine.area) no_flights frames' (with_held a nothing) =
+    let back : RunsAs machine.hw machine.held (reason_of machine.area) (flights_in machine.flights) frames' a =
+    subst (λ (m : Memory). RunsAs machine.hw machine.held (reason_of machine.area) (flights_in machine.flights) m a) (sym given)
+    (given_back machine.hw machine.held (reason_of machine.area) (flights_in machine.flights) frames a memory s.stands.parts.0.shows) in
+    let shows : RunsAs machine.hw No (reason_of machine.area) (flights_in machine.flights) frames' (with_held a nothing) =
     record { held = tt; unusable = back.unusable; flights = back.flights; same = back.same; fits = back.fits } in
     let names : NamesOnly machine.hw (shown_by (certain machine) frames' new) [] =
     λ k lt e. absurd (none_left machine.hw frames k memory lt (ap (λ (m : Memory). raw_slot_entry machine.hw m k) (sym given) ∙ e)) in (
@@ -139,7 +142,7 @@ end_failed_row machine frames runs hib c call undo_sync_fails can at whole =
         step = end_undo_may_fail machine.hw (disk.as_it_reads c) i call a;
         stands = record {
           stands = undo_sync_fails machine.hw (shown_by machine frames hib) (shown_by (unsure machine) frames new) c machine.blocks i call a (is_over machine frames runs hib c a i can whole s.image) s.stands refl
-              (with_flag machine.hw machine (unsure machine) frames a i refl refl s.stands.parts.0.shows) s.stands.parts.2;
+              (with_flag machine.hw machine (unsure machine) frames a i refl refl refl s.stands.parts.0.shows) s.stands.parts.2;
           image = tt;
         };
         area = same_area machine.hw (disk.as_it_reads c);

@@ -1,5 +1,5 @@
 -- The rows of a write of a page or a map.
-use Rattle.protocol_laws.proofs.Unwritten.{unwritten_slots, laid_count}
+use Rattle.protocol_laws.proofs.Unwritten.{unwritten_slot}
 use Rattle.std.proofs.Common.{◌≡◌, ◌<◌, false, All, ℕ, ◌+◌, length, List, [], Option, Some, inl, inr, refl, sym, ap, ◌∙◌, subst, arith}
 use Rattle.hib_core.proofs.Facts.{same_writer, changed, row_of}
 use Rattle.definitions.specs.Bytes.{IsPage}
@@ -14,7 +14,6 @@ use Rattle.plain_machine.specs.Image.{Image, hibernate_steps}
 use Rattle.plain_machine.specs.Shows.{RunsAs, hibernates, seen_frames}
 use Rattle.plain_machine.specs.State.{on, hibernating, Running}
 use Rattle.plain_machine.specs.Stands.{NamesOnly}
-use Rattle.plain_machine.specs.Step.{no_flights}
 use Rattle.plain_machine.specs.declared.event.Event.TheVariants as event
 use Rattle.plain_machine.specs.declared.event.Actor.TheVariants as actor
 use Rattle.plain_machine.specs.declared.reply.Reply.{Reply}
@@ -30,7 +29,9 @@ use Rattle.protocol_laws.specs.Slots.{IsMemoryOf, HasSets}
 use Rattle.protocol_laws.specs.Steps.{write_of_step, ShowsCopies}
 use Rattle.protocol_laws.specs.Writers.{IsWriterOf, WritesNext, ShowsStill, slot_table_of}
 use Rattle.machine.specs.declared.machine.Machine.{Machine}
-use Rattle.hib_core.specs.Hibernation.{shown_by, activity_at, reason_of}
+use Rattle.machine.specs.Flights.{flights_in}
+use Rattle.machine.specs.Running.{reason_of}
+use Rattle.hib_core.specs.Hibernation.{shown_by, activity_at}
 use Rattle.hib_core.specs.Ready.{CanStep, CanWrite}
 use Rattle.hib_core.specs.Writes.{Writes, IsMade}
 use Rattle.hib_core.specs.Row.{StandsFor, IsOf, IsRow}
@@ -135,7 +136,7 @@ written_row machine frames frames' runs hib c c' w w' next writes_next shows_sti
         };
         area = keeps machine.hw machine.blocks (write_of_step machine.hw a i hib.made).0 (write_of_step machine.hw a i hib.made).1 c c' whole
             (elsewhere machine.hw (shown_by machine frames hib) c machine.blocks false i a hib.made over s.stands place) (inl made_it);
-        unwritten = λ b not. unwritten_slots machine.hw a i hib.made b c c' (laid_count machine.hw a i hib.made place) made_it.others not;
+        unwritten = λ b not. unwritten_slot machine.hw a i hib.made b c c' place made_it.others not;
         leaves = tt;
       },
     ))
@@ -152,9 +153,9 @@ write_failed_row machine frames mid frames' runs hib hib' c c' w writes_next sho
     let failed = wrote FailsToMake machine frames mid hib c c' i a w writes_next at has written s in
     let memory : IsMemoryOf machine.hw mid = record { pages = mid_pages; table = lies } in
     let shows = shows_after FailsToMake machine frames mid runs hib hib' c c' i a w shows_still can pages at has kept written s in
-    let back : RunsAs machine.hw machine.held (reason_of machine.area) no_flights frames' a =
-    subst (λ (m : Memory). RunsAs machine.hw machine.held (reason_of machine.area) no_flights m a) (sym given)
-    (given_back machine.hw machine.held (reason_of machine.area) no_flights mid a memory shows.shows) in
+    let back : RunsAs machine.hw machine.held (reason_of machine.area) (flights_in machine.flights) frames' a =
+    subst (λ (m : Memory). RunsAs machine.hw machine.held (reason_of machine.area) (flights_in machine.flights) m a) (sym given)
+    (given_back machine.hw machine.held (reason_of machine.area) (flights_in machine.flights) mid a memory shows.shows) in
     let names : NamesOnly machine.hw (shown_by machine frames' hib') [] =
     λ k lt e. absurd (none_left machine.hw mid k memory lt (ap (λ (m : Memory). raw_slot_entry machine.hw m k) (sym given) ∙ e)) in (
       on a,
@@ -166,7 +167,7 @@ write_failed_row machine frames mid frames' runs hib hib' c c' w writes_next sho
         };
         area = keeps machine.hw machine.blocks (write_of_step machine.hw a i hib.made).0 (write_of_step machine.hw a i hib.made).1 c c' whole
             (elsewhere machine.hw (shown_by machine frames hib) c machine.blocks false i a hib.made over s.stands place) (inr failed);
-        unwritten = λ b not. unwritten_slots machine.hw a i hib.made b c c' (laid_count machine.hw a i hib.made place) failed.others not;
+        unwritten = λ b not. unwritten_slot machine.hw a i hib.made b c c' place failed.others not;
         leaves = tt;
       },
     ))

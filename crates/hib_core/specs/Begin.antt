@@ -1,5 +1,6 @@
 -- The begin of a hibernation: why it is refused, what is counted, and what is taken.
-use Rattle.std.specs.Prelude.{◌≡◌, ◌≢◌, ◌≤◌, ◌<◌, ℕ, ◌+◌, ◌-◌, List, length, map, take, All, Contains, Some, IsOk}
+use Rattle.std.specs.Prelude.{◌≡◌, ◌≢◌, ◌≤◌, ◌<◌, ℕ, ◌+◌, ◌-◌, List, length, map, take, All, Contains, Option, Some, None, IsOk, is_some}
+use Rattle.std.specs.List.{range_with_len, find}
 use Rattle.page_core.specs.declared.format.Format.{Format}
 use Rattle.definitions.specs.Bytes.{IsPage}
 use Rattle.definitions.specs.Disk as disk
@@ -11,7 +12,7 @@ use Rattle.snapshot.specs.declared.Counts.{Counts}
 use Rattle.swap_slots.specs.Table.{free_in}
 use Rattle.image_write.specs.Writing.{Writing, IsWriting, IsReading}
 use Rattle.plain_machine.specs.Image.{maps_of}
-use Rattle.plain_machine.specs.Machine.{Hardware, Memory, IsOfTable, saveable, unused, valid_count, image_slot}
+use Rattle.plain_machine.specs.Machine.{Hardware, Memory, saveable, unused, valid_count, image_slot}
 use Rattle.plain_machine.specs.Refusals.{refusal}
 use Rattle.plain_machine.specs.State.{on, Running}
 use Rattle.plain_machine.specs.Stands.{Stands}
@@ -20,6 +21,8 @@ use Rattle.plain_machine.specs.declared.held.Held.TheVariants.{No}
 use Rattle.plain_machine.specs.declared.reply.Reply.{Reply}
 use Rattle.plain_machine.specs.declared.reply.Reply.TheVariants as reply
 use Rattle.protocol_laws.specs.Writers.{slot_table_of}
+use Rattle.machine.specs.Flights.{flights_in}
+use Rattle.machine.specs.Running.{AreReserved}
 use Rattle.machine.specs.declared.machine.Machine.{Machine}
 use Rattle.hib_core.specs.Hibernation.{running_by, phase_told, runs_on}
 use Rattle.hib_core.specs.declared.hib.Hib.{Hib}
@@ -38,12 +41,17 @@ pub record LeavesFrames (frames frames' : Memory) (r : Reply) : Type 0 where
   pub same : frames' ≡ frames
   pub stays : phase_told r ≡ runs_on
 
+-- the lowest task with an unfinished operation
+abbrev pub busy_of : Machine → Option ℕ
+busy_of machine = find (λ t. is_some (flights_in machine.flights t)) (range_with_len 1 64)
+
 -- how many pages the stream of the image has
 abbrev pub pages_of : Counts → ℕ
 pages_of counts = counts.d + meta_of counts.n + 1
 
--- A hibernation that isn't refused has counted what it saves: there is room for the copies and the image, and no copy will lie in the slot table.
+-- A hibernation that isn't refused has counted what it saves: there is room for the copies and the image, and no copy will lie in a table.
 pub record IsCounted (machine : Machine) (frames : Memory) (hib : Hib) (counts : Counts) : Type 0 where
+  pub idle : busy_of machine ≡ None
   pub held : machine.held ≡ No
   pub area : IsOk machine.area
   pub origs : hib.snapshot.origs ≡ saveable machine.hw frames
@@ -52,7 +60,7 @@ pub record IsCounted (machine : Machine) (frames : Memory) (hib : Hib) (counts :
   pub with_pages : counts.d ≡ length (saveable machine.hw frames) - length hib.snapshot.zeros
   pub copies : length (saveable machine.hw frames) + 1025 ≤ length (unused machine.hw frames)
   pub slots : pages_of counts + 1026 ≤ length (free_in frames (slot_table_of machine.hw))
-  pub table : (p : ℕ) → IsOfTable machine.hw.slot_table machine.hw.slots p → Contains (saveable machine.hw frames) p
+  pub reserved : AreReserved machine.hw frames
 
 -- what an image's first page says of it
 abbrev pub info_of : Hardware → Counts → Info

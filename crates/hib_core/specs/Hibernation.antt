@@ -1,23 +1,17 @@
 -- A hibernation or a settling, and what a machine shows while it is at it.
-use Rattle.std.specs.Prelude.{◌≡◌, ℕ, List, [], Bool, true, false, Option, Some, None, Result, Ok, Err}
-use Rattle.sig_header.specs.declared.area.Area.{Area}
+use Rattle.std.specs.Prelude.{◌≡◌, ℕ, List, [], Bool, true, false}
 use Rattle.plain_machine.specs.Machine.{Memory}
 use Rattle.plain_machine.specs.Shows.{Shown, Activity, rests, runs, hibernates, undoes, settles}
-use Rattle.plain_machine.specs.Step.{no_flights}
 use Rattle.plain_machine.specs.declared.held.Held.{Held}
 use Rattle.plain_machine.specs.declared.held.Held.TheVariants.{No, Yes, Perhaps}
-use Rattle.plain_machine.specs.declared.no_swap.NoSwap.{NoSwap}
 use Rattle.plain_machine.specs.declared.reply.Reply.{Reply}
 use Rattle.plain_machine.specs.declared.reply.Reply.TheVariants as reply
+use Rattle.machine.specs.Flights.{flights_in}
+use Rattle.machine.specs.Running.{reason_of}
 use Rattle.machine.specs.declared.machine.Machine.{Machine}
 use Rattle.hib_core.specs.declared.hib.Hib.{Hib}
 use Rattle.hib_core.specs.declared.hib.Stage.{Stage}
 use Rattle.hib_core.specs.declared.hib.Stage.TheVariants as stage
-
--- why an area can't be used
-abbrev pub reason_of : Result Area NoSwap → Option NoSwap
-reason_of (Ok area) = None
-reason_of (Err why) = Some why
 
 -- what a machine is at, by the step that is next and how many are made
 abbrev pub activity_at : Stage → ℕ → Activity
@@ -76,7 +70,7 @@ shown_by machine frames hib = record {
   keeps_dump = false;
   held = machine.held;
   unusable = reason_of machine.area;
-  flights = no_flights;
+  flights = flights_in machine.flights;
   frames = frames;
   header = hib.header;
   copies = hib.snapshot.copies;
@@ -90,7 +84,7 @@ running_by machine frames = record {
   keeps_dump = false;
   held = machine.held;
   unusable = reason_of machine.area;
-  flights = no_flights;
+  flights = flights_in machine.flights;
   frames = frames;
   header = [];
   copies = [];

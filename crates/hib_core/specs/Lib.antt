@@ -1,5 +1,6 @@
 pub mod Begin
 pub mod Hibernation
+pub mod Leaving
 pub mod Ready
 pub mod Row
 pub mod Writes

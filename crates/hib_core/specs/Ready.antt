@@ -1,15 +1,15 @@
 -- What a step of a hibernation or a settling needs of the machine, whatever its disk tells.
-use Rattle.std.specs.Prelude.{◌≡◌, ◌≢◌, ◌<◌, ◌^◌, ℕ, ◌+◌, length, All, Some, None, IfOk, ⊤}
+use Rattle.std.specs.Prelude.{◌≡◌, ◌≢◌, ◌<◌, ◌^◌, ℕ, ◌+◌, length, All, Some, ⊤}
 use Rattle.definitions.specs.Zones.{top}
 use Rattle.swap_slots.specs.Runs.{SlotRuns}
 use Rattle.swap_slots.specs.Table.{LiesIn, Matches}
 use Rattle.plain_machine.specs.Machine.{Hardware, Memory, IsHardware, block_of_slot}
-use Rattle.plain_machine.specs.UsableArea.{fit_fault}
 use Rattle.plain_machine.specs.declared.held.Held.TheVariants.{No}
 use Rattle.hib_core.specs.declared.hib.Job.{Job}
 use Rattle.hib_core.specs.declared.hib.Job.TheVariants as job
 use Rattle.image_write.specs.Writing.{Writing, IsReady, AreOfImage, IsReading, writes_of}
 use Rattle.protocol_laws.specs.Writers.{slot_table_of}
+use Rattle.machine.specs.Running.{CanRun}
 use Rattle.machine.specs.declared.machine.Machine.{Machine}
 use Rattle.hib_core.specs.declared.hib.Hib.{Hib}
 use Rattle.hib_core.specs.declared.hib.Stage.{Stage}
@@ -67,12 +67,10 @@ pub record IsSameMachine (old new : Machine) : Type 0 where
   pub hw : new.hw ≡ old.hw
   pub area : new.area ≡ old.area
   pub blocks : new.blocks ≡ old.blocks
+  pub flights : new.flights ≡ old.flights
 
--- A machine that can begin: its memory has its page frames, the runs are those of the slot table, where the area can be used
--- each slot's block is one of the disk's, and where an image is held, perhaps too, the header block is.
+-- A machine that can begin: it can run, and where an image is held, perhaps too, the header block is one of the disk's.
 pub record CanBegin (machine : Machine) (frames : Memory) (runs : SlotRuns) (hib : Hib) : Type 0 where
-  pub size : length frames ≡ top machine.hw.zones
-  pub matches : Matches frames (slot_table_of machine.hw) runs
+  pub run : CanRun machine frames runs
   pub zones : hib.snapshot.zones ≡ machine.hw.zones
-  pub usable : IfOk machine.area (λ area. fit_fault machine.hw machine.blocks area ≡ None)
   pub header : machine.held ≢ No → block_of_slot machine.hw 0 < machine.blocks

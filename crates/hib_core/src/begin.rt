@@ -24,7 +24,7 @@ use machine::{Hardware, Machine};
 use page_core::Format;
 use plain_machine::{Held, Reply};
 use protocol_laws::{begins, shows_lists, takes_image, takes_slots};
-use saveable::{View, saveable};
+use saveable::View;
 use snapshot::Counts;
 use swap_slots::{FreeRuns, SlotTable};
 
@@ -35,6 +35,7 @@ const SLOTS_LEFT: u32 = 1026;
 impl Hib {
     ghost use Rattle.hib_core.specs.Begin.{IsRefused, IsRefusedWith, LeavesFrames, IsCounted, IsTaken};
     ghost use Rattle.hib_core.specs.Hibernation.{phase_of, phase_told};
+    ghost use Rattle.hib_core.specs.Leaving.{BeginsImage, LeavesAtBegin};
     ghost use Rattle.hib_core.specs.Ready.{CanBegin, CanStep, IsBusy, IsServed};
     ghost use Rattle.hib_core.specs.Row.{IsBegun};
     ghost use Rattle.hib_core.specs.declared.hib.Stage.TheVariants as stage;
@@ -59,6 +60,7 @@ impl Hib {
         ensures matches { Matches frames.new (slot_table_of machine.old.hw) runs.new }
         ensures no_fault { IsNewFault result → ⊥ }
         ensures refused { IsRefusedWith result → LeavesFrames frames.old frames.new result }
+        ensures memory { LeavesAtBegin job machine.old.hw frames.old frames.new ⊎ (frames.new ≡ frames.old) }
     {
         match job {
             Job::Hibernate(format) => self.hibernate(machine, frames, runs, format),
@@ -84,6 +86,7 @@ impl Hib {
         ensures matches { Matches frames.new (slot_table_of machine.now.hw) runs.new }
         ensures no_fault { IsNewFault result → ⊥ }
         ensures refused { IsRefusedWith result → LeavesFrames frames.old frames.new result }
+        ensures memory { BeginsImage machine.now.hw frames.old frames.new ⊎ (frames.new ≡ frames.old) }
     {
         begins();
         shows_lists();
@@ -120,6 +123,9 @@ impl Hib {
         shows_lists();
         takes_image();
         let (zones, table) = (machine.hw.zones(), machine.hw.frame_table());
+        if let Some(task) = machine.busy() {
+            return Err(Reply::Busy { task });
+        }
         if machine.held != Held::No {
             return Err(Reply::Closed);
         }
@@ -148,10 +154,7 @@ impl Hib {
         if free < need {
             return Err(Reply::NoSlots { free, need });
         }
-        match lost_frame(&view, &slots) {
-            None => Ok(counts),
-            Some(frame) => Err(Reply::BadTables { frame }),
-        }
+        Ok(counts)
     }
 
     /// Copies the pages, and takes the slot of the first map.
@@ -185,23 +188,6 @@ impl Hib {
         self.writer = Some(writer);
         Reply::More { k: 0, of: self.of }
     }
-}
-
-/// The first page frame of the slot table that isn't saveable. No machine has one, since a copy might then lie in the table.
-fn lost_frame(view: &View, slots: &SlotTable) -> Option<u32>
-    requires table { HasTable view.now.frames.now view.now.table (top view.now.zones.now) }
-    requires slots { LiesIn view.now.frames.now slots.now }
-    ensures none { IfNone result ((p : ℕ) → IsOfTable slots.now.first slots.now.slots p → Contains (saveable_frames view.now.zones.now view.now.table view.now.frames.now) p) }
-    ensures lost { IfSome result (λ p. IsOfTable slots.now.first slots.now.slots p × (Contains (saveable_frames view.now.zones.now view.now.table view.now.frames.now) p → ⊥)) }
-    ensures first { IfSome result (λ p. (q : ℕ) → IsOfTable slots.now.first slots.now.slots q → q < p → Contains (saveable_frames view.now.zones.now view.now.table view.now.frames.now) q) }
-{
-    let _ = view.frames.len();
-    for p in slots.first..slots.first + slots.slots.div_ceil(1024) {
-        if !saveable(view, p) {
-            return Some(p);
-        }
-    }
-    None
 }
 
 /// How many pages the image has: the info page, those of the numbers, and those with data.

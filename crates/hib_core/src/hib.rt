@@ -75,6 +75,7 @@ impl Hib {
     ghost use Rattle.protocol_laws.specs.Rows.{IsNewFault};
     ghost use Rattle.hib_core.specs.Hibernation.{phase_of, phase_told, is_idle};
     ghost use Rattle.hib_core.specs.Ready.{CanStep, IsBusy, IsSameMachine};
+    ghost use Rattle.hib_core.specs.Leaving.{Leaves, change_of};
     ghost use Rattle.hib_core.specs.Row.{HasRow};
 
     /// No hibernation, with the memory for every one of this machine.
@@ -111,6 +112,7 @@ impl Hib {
         ensures works { is_idle result ≡ false }
         ensures ready { CanStep machine.new frames.new runs.new self.new }
         ensures machine { IsSameMachine machine.old machine.new }
+        ensures memory { Leaves (change_of result self.old.stage) machine.old.hw frames.old frames.new }
         ensures cause { IsNewFault result → HasRisen (D.faults disk.old) (D.faults disk.new) }
         ensures faults { D.faults disk.old ≤ D.faults disk.new }
         ensures calls { D.calls disk.new ≡ raised (D.calls disk.old) }

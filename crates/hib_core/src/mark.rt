@@ -28,6 +28,7 @@ impl Hib {
     ghost use Rattle.hib_core.specs.declared.hib.Stage.TheVariants as stage;
     ghost use Rattle.hib_core.specs.Hibernation.{phase_of, phase_told, is_idle};
     ghost use Rattle.hib_core.specs.Ready.{CanStep, IsSameMachine};
+    ghost use Rattle.hib_core.specs.Leaving.{Leaves, change_of};
     ghost use Rattle.hib_core.specs.Row.{HasRow};
 
     /// Writes the header block with the mark. Where that fails the mark may be there or not: an undo begins.
@@ -46,6 +47,7 @@ impl Hib {
         ensures zones { self.new.snapshot.zones ≡ self.old.snapshot.zones }
         ensures works { is_idle result ≡ false }
         ensures ready { CanStep machine.now frames.now runs.now self.new }
+        ensures memory { Leaves (change_of result self.old.stage) machine.now.hw frames.now frames.now }
         ensures cause { IsNewFault result → HasRisen (D.faults disk.old) (D.faults disk.new) }
         ensures faults { D.faults disk.old ≤ D.faults disk.new }
         ensures calls { D.calls disk.new ≡ raised (D.calls disk.old) }
@@ -82,6 +84,7 @@ impl Hib {
         ensures zones { self.new.snapshot.zones ≡ self.old.snapshot.zones }
         ensures works { is_idle result ≡ false }
         ensures ready { CanStep machine.now frames.now runs.now self.new }
+        ensures memory { Leaves (change_of result self.old.stage) machine.now.hw frames.now frames.now }
         ensures cause { IsNewFault result → HasRisen (D.faults disk.old) (D.faults disk.new) }
         ensures faults { D.faults disk.old ≤ D.faults disk.new }
         ensures calls { D.calls disk.new ≡ raised (D.calls disk.old) }

@@ -29,9 +29,10 @@ impl Hib {
     ghost use Rattle.hib_core.specs.Begin.{IsRefusedWith, LeavesFrames};
     ghost use Rattle.hib_core.specs.Hibernation.{phase_of, phase_told};
     ghost use Rattle.hib_core.specs.Ready.{CanBegin, CanStep, IsBusy, IsSameMachine};
+    ghost use Rattle.hib_core.specs.Leaving.{Leaves, change_of};
     ghost use Rattle.hib_core.specs.Row.{HasRow, IsBegun};
 
-    /// Begins a settling, or refuses it where nothing is held.
+    /// Begins a settling, or refuses it where a task has an unfinished operation, or nothing is held.
     pub(crate) fn settle(&mut self, machine: &Machine, frames: &Frames, runs: &FreeRuns) -> Reply
         requires ready { CanBegin machine.now frames.now runs.now self.old }
         ensures row { (c : Content) → IsBegun machine.now frames.now frames.now self.new job.Settle result c }
@@ -44,6 +45,10 @@ impl Hib {
         // Only what is read is known to have the size of its type.
         let _blocks = machine.blocks;
         let _zones = machine.hw.zones();
+        if let Some(task) = machine.busy() {
+            self.stage = Stage::Idle;
+            return Reply::Busy { task };
+        }
         if machine.held == Held::No {
             self.stage = Stage::Idle;
             return Reply::NothingHeld;
@@ -68,6 +73,7 @@ impl Hib {
         ensures zones { self.new.snapshot.zones ≡ self.old.snapshot.zones }
         ensures works { is_idle result ≡ false }
         ensures ready { CanStep machine.now frames.now runs.now self.new }
+        ensures memory { Leaves (change_of result self.old.stage) machine.now.hw frames.now frames.now }
         ensures cause { IsNewFault result → HasRisen (D.faults disk.old) (D.faults disk.new) }
         ensures faults { D.faults disk.old ≤ D.faults disk.new }
         ensures calls { D.calls disk.new ≡ raised (D.calls disk.old) }
@@ -106,6 +112,7 @@ impl Hib {
         ensures zones { self.new.snapshot.zones ≡ self.old.snapshot.zones }
         ensures works { is_idle result ≡ false }
         ensures ready { CanStep machine.new frames.now runs.now self.new }
+        ensures memory { Leaves (change_of result self.old.stage) machine.old.hw frames.now frames.now }
         ensures machine { IsSameMachine machine.old machine.new }
         ensures cause { IsNewFault result → HasRisen (D.faults disk.old) (D.faults disk.new) }
         ensures faults { D.faults disk.old ≤ D.faults disk.new }
@@ -147,6 +154,7 @@ impl Hib {
         ensures zones { self.new.snapshot.zones ≡ self.old.snapshot.zones }
         ensures works { is_idle result ≡ false }
         ensures ready { CanStep machine.new frames.new runs.new self.new }
+        ensures memory { Leaves (change_of result self.old.stage) machine.old.hw frames.old frames.new }
         ensures machine { IsSameMachine machine.old machine.new }
         ensures cause { IsNewFault result → HasRisen (D.faults disk.old) (D.faults disk.new) }
         ensures faults { D.faults disk.old ≤ D.faults disk.new }

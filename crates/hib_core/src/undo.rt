@@ -24,6 +24,7 @@ impl Hib {
     ghost use Rattle.hib_core.specs.declared.hib.Stage.TheVariants as stage;
     ghost use Rattle.hib_core.specs.Hibernation.{phase_of, phase_told};
     ghost use Rattle.hib_core.specs.Ready.{CanStep, IsSameMachine};
+    ghost use Rattle.hib_core.specs.Leaving.{Leaves, change_of};
     ghost use Rattle.hib_core.specs.Row.{HasRow};
 
     /// Writes the header block taken back.
@@ -43,6 +44,7 @@ impl Hib {
         ensures zones { self.new.snapshot.zones ≡ self.old.snapshot.zones }
         ensures works { is_idle result ≡ false }
         ensures ready { CanStep machine.new frames.now runs.now self.new }
+        ensures memory { Leaves (change_of result self.old.stage) machine.old.hw frames.now frames.now }
         ensures machine { IsSameMachine machine.old machine.new }
         ensures cause { IsNewFault result → HasRisen (D.faults disk.old) (D.faults disk.new) }
         ensures faults { D.faults disk.old ≤ D.faults disk.new }
@@ -85,6 +87,7 @@ impl Hib {
         ensures zones { self.new.snapshot.zones ≡ self.old.snapshot.zones }
         ensures works { is_idle result ≡ false }
         ensures ready { CanStep machine.new frames.new runs.new self.new }
+        ensures memory { Leaves (change_of result self.old.stage) machine.old.hw frames.old frames.new }
         ensures machine { IsSameMachine machine.old machine.new }
         ensures cause { IsNewFault result → HasRisen (D.faults disk.old) (D.faults disk.new) }
         ensures faults { D.faults disk.old ≤ D.faults disk.new }

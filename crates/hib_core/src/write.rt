@@ -31,6 +31,7 @@ impl Hib {
     ghost use Rattle.hib_core.specs.Writes.{Writes, IsMade};
     ghost use Rattle.image_write.specs.Answers.{Succeeds, GoesOn};
     ghost use Rattle.image_write.specs.Writing.{Makes, FailsToMake};
+    ghost use Rattle.hib_core.specs.Leaving.{Leaves, change_of};
     ghost use Rattle.hib_core.specs.Row.{HasRow};
 
     /// Writes the next page or map.
@@ -49,6 +50,7 @@ impl Hib {
         ensures zones { self.new.snapshot.zones ≡ self.old.snapshot.zones }
         ensures works { is_idle result ≡ false }
         ensures ready { CanStep machine.now frames.new runs.new self.new }
+        ensures memory { Leaves (change_of result self.old.stage) machine.now.hw frames.old frames.new }
         ensures cause { IsNewFault result → HasRisen (D.faults disk.old) (D.faults disk.new) }
         ensures faults { D.faults disk.old ≤ D.faults disk.new }
         ensures calls { D.calls disk.new ≡ raised (D.calls disk.old) }
@@ -127,6 +129,7 @@ impl Hib {
         ensures zones { self.new.snapshot.zones ≡ self.old.snapshot.zones }
         ensures works { is_idle result ≡ false }
         ensures ready { CanStep machine.now frames.new runs.new self.new }
+        ensures memory { Leaves (change_of result self.old.stage) machine.now.hw frames.old frames.new }
         ensures cause { IsNewFault result → HasRisen (D.faults disk.old) (D.faults disk.new) }
         ensures faults { D.faults disk.old ≤ D.faults disk.new }
         ensures calls { D.calls disk.new ≡ raised (D.calls disk.old) }
@@ -164,6 +167,7 @@ impl Hib {
         ensures zones { self.new.snapshot.zones ≡ self.old.snapshot.zones }
         ensures works { is_idle result ≡ false }
         ensures ready { CanStep machine.now frames.new runs.new self.new }
+        ensures memory { Leaves (change_of result self.old.stage) machine.now.hw frames.old frames.new }
         ensures cause { IsNewFault result → HasRisen (D.faults disk.old) (D.faults disk.new) }
         ensures faults { D.faults disk.old ≤ D.faults disk.new }
         ensures calls { D.calls disk.new ≡ raised (D.calls disk.old) }

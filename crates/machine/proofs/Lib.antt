@@ -3,10 +3,14 @@ pub mod Beyond
 pub mod FreshEntries
 pub mod HardFaults
 pub mod KeptParts
+pub mod Landings
 pub mod ListTests
 pub mod PartRuns
 pub mod PartTests
+pub mod Readiness
 pub mod Requests
 pub mod Rows
+pub mod SlotWrites
+pub mod Swaps
 pub mod TableFaults
 pub mod ZoneRuns

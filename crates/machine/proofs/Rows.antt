@@ -24,7 +24,7 @@ use Rattle.plain_machine.specs.declared.reply.Reply.{Reply}
 use Rattle.plain_machine.specs.declared.reply.Reply.TheVariants as reply
 use Rattle.plain_machine.proofs.SameMemory.{table_frame_valid, table_frame_not_owned, same_entry, same_used, same_set, same_entry_set, fits_set, fits_entry, entry-same, entry-set_other, of_frame_table, tables_apart}
 use Rattle.plain_machine.proofs.Seen.{seen_set, seen_entry, frame-seen, length-seen}
-use Rattle.machine.specs.TaskRow.{HasRow, own_refusal}
+use Rattle.machine.specs.TaskRow.{HasFrameRow, own_refusal}
 
 -- Steps of a running state for a task's request.
 
@@ -149,43 +149,36 @@ pub owned_is_own : (h : Hardware) (m : Memory) (t p : ℕ) → Fits h m → owne
 owned_is_own h m t p fits owner some = (table_frame_not_owned h m p t fits owner some, λ free. let zero_owner : owner_of (frame_entry h m p) ≡ 0 = ap owner_of free in let r : ⊥ = omega arith in r)
 
 -- A refused request leaves all as it was.
-pub row_refused : (h : Hardware) (t : ℕ) (o : TaskOp) (frames : Memory) (r : Reply) → length frames ≡ top h.zones → ((a : Running) → Mirrors h frames a.memory → op_refusal h a t o ≡ Some r) → HasRow h t o frames frames r
-row_refused h t o frames r size why flag reason a runs = (
+pub row_refused : (h : Hardware) (t : ℕ) (o : TaskOp) (frames : Memory) (r : Reply) → length frames ≡ top h.zones → ((a : Running) → Mirrors h frames a.memory → op_refusal h a t o ≡ Some r) → HasFrameRow h t o frames frames r
+row_refused h t o frames r size why flag reason ops idle a runs = (
   a,
   record {
-    step = λ v. step_refused h v t o a r (runs.flights t) (why a (mirrors_of h flag reason (λ u. None) frames a runs size));
+    step = λ v. step_refused h v t o a r (runs.flights t ∙ idle) (why a (mirrors_of h flag reason ops frames a runs size));
     runs = runs;
-    slots = refl;
     held = refl;
     unusable = refl;
-    slot_entries = λ s lt. refl;
-    shown_entries = λ s lt. refl;
+    named = λ s lt e. e;
   },
+  refl,
 )
 
--- the entries of slots are as before, in a memory and in the page frames
-pub record KeepsSlots (h : Hardware) (old new m m' : Memory) : Type 0 where
-  pub memory : (s : ℕ) → s < h.slots → raw_slot_entry h m' s ≡ raw_slot_entry h m s
-  pub frames : (s : ℕ) → s < h.slots → raw_slot_entry h new s ≡ raw_slot_entry h old s
-
--- One that isn't refused changes the memory, and the page frames as the memory.
+-- One that isn't refused changes the memory, and the page frames as the memory. In those the entries of slots are as before.
 pub row_done : (h : Hardware) (t : ℕ) (o : TaskOp) (old new : Memory) (r : Reply) (next : Memory → Memory) → length old ≡ top h.zones →
     ((a : Running) → Mirrors h old a.memory → (op_refusal h a t o ≡ None) × Contains (requested h a t o) (r, on (record a { memory = next a.memory }))) →
-    ((m : Memory) → Mirrors h old m → Mirrors h new (next m) × KeepsSlots h old new m (next m)) → HasRow h t o old new r
-row_done h t o old new r next size asked becomes flag reason a runs =
-    let mirrors = mirrors_of h flag reason (λ u. None) old a runs size in
+    ((m : Memory) → Mirrors h old m → Mirrors h new (next m)) → ((s : ℕ) → s < h.slots → raw_slot_entry h new s ≡ raw_slot_entry h old s) → HasFrameRow h t o old new r
+row_done h t o old new r next size asked becomes slots flag reason ops idle a runs =
+    let mirrors = mirrors_of h flag reason ops old a runs size in
     let done = asked a mirrors in
     let now = becomes a.memory mirrors in (
       record a { memory = next a.memory },
       record {
-        step = λ v. step_done h v t o a r (on (record a { memory = next a.memory })) (runs.flights t) done.0 done.1;
-        runs = record { held = runs.held; unusable = runs.unusable; flights = runs.flights; same = now.0.same; fits = now.0.fits };
-        slots = refl;
+        step = λ v. step_done h v t o a r (on (record a { memory = next a.memory })) (runs.flights t ∙ idle) done.0 done.1;
+        runs = record { held = runs.held; unusable = runs.unusable; flights = runs.flights; same = now.same; fits = now.fits };
         held = refl;
         unusable = refl;
-        slot_entries = now.1.memory;
-        shown_entries = now.1.frames;
+        named = λ s lt e. sym (slots s lt) ∙ e;
       },
+      refl,
     )
 
 -- why a page frame isn't the task's, by what is known of it

@@ -1,7 +1,11 @@
+pub mod Flights
 pub mod FreshSlots
 pub mod HardFault
 pub mod KeptHardware
 pub mod KeptRegions
+pub mod Landing
+pub mod OwnFrames
+pub mod Running
 pub mod Runs
 pub mod TaskRow
 pub mod Usable

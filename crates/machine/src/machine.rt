@@ -1,19 +1,21 @@
-use crate::Hardware;
+use crate::{Flight, Hardware};
 use plain_machine::{Held, NoSwap};
 use sig_header::Area;
 
 /// A machine, as far as it isn't its page frames: its hardware, its swap area or why that can't be used, how many blocks its disk
-/// has, and whether an image is on it.
+/// has, whether an image is on it, and its tasks' unfinished operations.
 #[derive(Clone, Copy)]
 pub struct Machine {
     pub hw: Hardware,
     pub area: Result<Area, NoSwap>,
     pub blocks: u32,
     pub held: Held,
+    /// That of task t, from 1 on, stands at t - 1.
+    pub flights: [Flight; 64],
 }
 
 impl Machine {
-    ghost use Rattle.std.specs.Prelude.{◌≡◌, Err};
+    ghost use Rattle.std.specs.Prelude.{◌≡◌, Err, replicate};
     ghost use Rattle.plain_machine.specs.declared.held.Held.TheVariants.{No};
 
     /// A machine that never ran.
@@ -21,12 +23,14 @@ impl Machine {
         ensures hw { result.hw ≡ hw }
         ensures held { result.held ≡ No }
         ensures blocks { result.blocks ≡ 0 }
+        ensures flights { result.flights ≡ replicate 64 Flight.Nothing }
     {
         Machine {
             hw,
             area: Err(NoSwap::Old),
             blocks: 0,
             held: Held::No,
+            flights: [Flight::Nothing; 64],
         }
     }
 }

@@ -1,29 +1,42 @@
-ghost use Rattle.std.specs.Prelude.{◌≡◌, ℕ, ◌<◌, ◌==◌, Contains, length, IsNone, IsTrue, IfSome};
+ghost use Rattle.std.specs.Prelude.{◌≡◌, ℕ, ◌<◌, ◌==◌, Contains, length, IsNone, IsTrue, IfSome, All};
+ghost use Rattle.definitions.specs.Bytes.{IsPage};
 ghost use Rattle.definitions.specs.Zones.{numbers, top};
 ghost use Rattle.definitions.specs.Tables.{owner_of};
 ghost use Rattle.plain_machine.specs.Faults.{IsFault};
 ghost use Rattle.plain_machine.specs.Fitting.{IsFittingOp, IsTask};
 ghost use Rattle.plain_machine.specs.declared.event.TaskOp.TheVariants as op;
 ghost use Rattle.plain_machine.specs.Machine.{frame_entry, is_valid, IsHardware};
-ghost use Rattle.machine.specs.TaskRow.{HasRow, own_refusal};
+ghost use Rattle.machine.specs.OwnFrames.{ChangesOwn};
+ghost use Rattle.machine.specs.Running.{AreReserved};
+ghost use Rattle.machine.specs.TaskRow.{HasFrameRow, IsRefusal, own_refusal};
 
 use crate::{Hardware, Machine};
 use bitflags::Flags;
 use frame_arena::Frames;
 use page_states::{PageFlags, entry, set_entry};
 use plain_machine::{Reply, TaskOp};
+use swap_slots::FreeRuns;
 
 impl Machine {
-    /// What a task asks of a machine that runs: it is done, or refused and nothing changes.
-    pub fn task(&mut self, frames: &mut Frames, t: u32, op: TaskOp) -> Reply
+    ghost use Rattle.machine.specs.Running.{CanRun};
+    ghost use Rattle.machine.specs.TaskRow.{HasRow, IsRefusal};
+
+    /// What a task asks of a machine that runs: it is done or begun, or refused and nothing changes.
+    pub fn task(&mut self, frames: &mut Frames, runs: &mut FreeRuns, t: u32, op: TaskOp) -> Reply
         requires task { IsTask t }
         requires op { IsFittingOp op }
-        requires frames { length frames.old ≡ top self.old.hw.zones }
-        ensures row { HasRow self.old.hw t op frames.old frames.new result }
+        requires ready { CanRun self.old frames.old runs.old }
+        ensures row { HasRow self.old frames.old t op self.new frames.new result }
+        ensures ready { CanRun self.new frames.new runs.new }
         ensures no_fault { IsFault result → ⊥ }
-        ensures machine { self.new ≡ self.old }
+        ensures machine { self.new ≡ record self.old { flights = self.new.flights } }
+        ensures refused { IsRefusal result → (frames.new ≡ frames.old) × (self.new ≡ self.old) }
         ensures len { length frames.new ≡ length frames.old }
+        ensures room { runs.new.room ≡ runs.old.room }
     {
+        if self.is_in_flight(t) {
+            return Reply::InFlight;
+        }
         let hw = &self.hw;
         match op {
             TaskOp::Claim(p) => claim(frames, hw, t, p),
@@ -31,8 +44,8 @@ impl Machine {
             TaskOp::Store(p, k, v) => store(frames, hw, t, p, k, v),
             TaskOp::Show(p, k) => show(frames, hw, t, p, k),
             TaskOp::Cache(p) => cache(frames, hw, t, p),
-            TaskOp::Out(_) => unreachable!(),
-            TaskOp::TakeIn(_, _) => unreachable!(),
+            TaskOp::Out(p) => self.begin_out(frames, runs, t, p),
+            TaskOp::TakeIn(slot, p) => self.begin_in(frames, runs, t, slot, p),
         }
     }
 }
@@ -40,8 +53,12 @@ impl Machine {
 fn claim(frames: &mut Frames, hw: &Hardware, t: u32, p: u32) -> Reply
     requires task { IsTask t }
     requires frames { length frames.old ≡ top hw.now.zones }
-    ensures row { HasRow hw.now t (op.Claim p) frames.old frames.new result }
+    requires reserved { AreReserved hw.now frames.old }
+    ensures row { HasFrameRow hw.now t (op.Claim p) frames.old frames.new result }
+    ensures own { ChangesOwn hw.now t frames.old frames.new }
+    ensures hardware { IsHardware hw.now }
     ensures no_fault { IsFault result → ⊥ }
+    ensures refused { IsRefusal result → frames.new ≡ frames.old }
     ensures len { length frames.new ≡ length frames.old }
 {
     if !is_valid(hw, p) {
@@ -58,8 +75,12 @@ fn claim(frames: &mut Frames, hw: &Hardware, t: u32, p: u32) -> Reply
 fn release(frames: &mut Frames, hw: &Hardware, t: u32, p: u32) -> Reply
     requires task { IsTask t }
     requires frames { length frames.old ≡ top hw.now.zones }
-    ensures row { HasRow hw.now t (op.Release p) frames.old frames.new result }
+    requires reserved { AreReserved hw.now frames.old }
+    ensures row { HasFrameRow hw.now t (op.Release p) frames.old frames.new result }
+    ensures own { ChangesOwn hw.now t frames.old frames.new }
+    ensures hardware { IsHardware hw.now }
     ensures no_fault { IsFault result → ⊥ }
+    ensures refused { IsRefusal result → frames.new ≡ frames.old }
     ensures len { length frames.new ≡ length frames.old }
 {
     if let Some(refusal) = not_own(frames, hw, t, p) {
@@ -73,8 +94,12 @@ fn store(frames: &mut Frames, hw: &Hardware, t: u32, p: u32, k: u32, v: u64) -> 
     requires task { IsTask t }
     requires word { k < 512 }
     requires frames { length frames.old ≡ top hw.now.zones }
-    ensures row { HasRow hw.now t (op.Store p k v) frames.old frames.new result }
+    requires reserved { AreReserved hw.now frames.old }
+    ensures row { HasFrameRow hw.now t (op.Store p k v) frames.old frames.new result }
+    ensures own { ChangesOwn hw.now t frames.old frames.new }
+    ensures hardware { IsHardware hw.now }
     ensures no_fault { IsFault result → ⊥ }
+    ensures refused { IsRefusal result → frames.new ≡ frames.old }
     ensures len { length frames.new ≡ length frames.old }
 {
     if let Some(refusal) = not_own(frames, hw, t, p) {
@@ -88,8 +113,12 @@ fn show(frames: &mut Frames, hw: &Hardware, t: u32, p: u32, k: u32) -> Reply
     requires task { IsTask t }
     requires word { k < 512 }
     requires frames { length frames.old ≡ top hw.now.zones }
-    ensures row { HasRow hw.now t (op.Show p k) frames.old frames.new result }
+    requires reserved { AreReserved hw.now frames.old }
+    ensures row { HasFrameRow hw.now t (op.Show p k) frames.old frames.new result }
+    ensures own { ChangesOwn hw.now t frames.old frames.new }
+    ensures hardware { IsHardware hw.now }
     ensures no_fault { IsFault result → ⊥ }
+    ensures refused { IsRefusal result → frames.new ≡ frames.old }
     ensures len { length frames.new ≡ length frames.old }
 {
     if let Some(refusal) = not_own(frames, hw, t, p) {
@@ -103,8 +132,12 @@ fn show(frames: &mut Frames, hw: &Hardware, t: u32, p: u32, k: u32) -> Reply
 fn cache(frames: &mut Frames, hw: &Hardware, t: u32, p: u32) -> Reply
     requires task { IsTask t }
     requires frames { length frames.old ≡ top hw.now.zones }
-    ensures row { HasRow hw.now t (op.Cache p) frames.old frames.new result }
+    requires reserved { AreReserved hw.now frames.old }
+    ensures row { HasFrameRow hw.now t (op.Cache p) frames.old frames.new result }
+    ensures own { ChangesOwn hw.now t frames.old frames.new }
+    ensures hardware { IsHardware hw.now }
     ensures no_fault { IsFault result → ⊥ }
+    ensures refused { IsRefusal result → frames.new ≡ frames.old }
     ensures len { length frames.new ≡ length frames.old }
 {
     if let Some(refusal) = not_own(frames, hw, t, p) {
@@ -118,20 +151,26 @@ fn cache(frames: &mut Frames, hw: &Hardware, t: u32, p: u32) -> Reply
 fn is_free(frames: &Frames, hw: &Hardware, p: u32) -> bool
     requires valid { Contains (numbers hw.now.zones) p }
     requires frames { length frames.now ≡ top hw.now.zones }
-    ensures { result ≡ (frame_entry hw.now frames.now p == 1) }
+    ensures test { result ≡ (frame_entry hw.now frames.now p == 1) }
+    ensures pages { All IsPage frames.now }
 {
+    // Each page frame has 4096 bytes, so that an entry that is set leaves the others.
+    let _ = frames.len();
     entry(frames, hw.frame_table(), p) == (PageFlags::FREE, 0)
 }
 
 /// Why a page frame isn't the task's, if it isn't: it isn't valid, or another's.
-fn not_own(frames: &Frames, hw: &Hardware, t: u32, p: u32) -> Option<Reply>
+pub(crate) fn not_own(frames: &Frames, hw: &Hardware, t: u32, p: u32) -> Option<Reply>
     requires frames { length frames.now ≡ top hw.now.zones }
     ensures refusal { result ≡ own_refusal hw.now frames.now t p }
     ensures no_fault { IfSome result (λ r. IsFault r → ⊥) }
     ensures valid { IsNone result → Contains (numbers hw.now.zones) p }
     ensures owned { IsNone result → owner_of (frame_entry hw.now frames.now p) ≡ t }
     ensures hardware { IsHardware hw.now }
+    ensures pages { All IsPage frames.now }
 {
+    // Each page frame has 4096 bytes, so that an entry that is set leaves the others.
+    let _ = frames.len();
     if !is_valid(hw, p) {
         return Some(Reply::NoFrame);
     }

@@ -69,6 +69,7 @@ task_slots-idle h why m old new slots old_idle new_idle are = record {
 pub no_flights-owned : (h : Hardware) (a : Running) → ((t : ℕ) → a.flights t ≡ None) → HasFlights h a
 no_flights-owned h a idle = record {
   outs = λ t s p e. let none = idle t in absurd (cc);
+  unheld = λ t s p e. let none = idle t in absurd (cc);
   ins = λ t s p e. let none = idle t in absurd (cc);
 }
 

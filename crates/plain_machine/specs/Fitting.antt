@@ -15,15 +15,15 @@ pub record IsTask (t : ℕ) : Type 0 where
   pub some : 1 ≤ t
   pub few : t ≤ 64
 
--- page frame numbers are below 65536, words below 512
+-- page frame numbers are below 65536, words below 512, slots below 131072
 abbrev pub IsFittingOp : TaskOp → Type 0
 IsFittingOp (op.Claim p) = p < 65536
 IsFittingOp (op.Release p) = p < 65536
 IsFittingOp (op.Store p k v) = (p < 65536) × (k < 512)
 IsFittingOp (op.Show p k) = (p < 65536) × (k < 512)
 IsFittingOp (op.Cache p) = p < 65536
-IsFittingOp (op.Out p) = ⊥
-IsFittingOp (op.TakeIn s p) = ⊥
+IsFittingOp (op.Out p) = p < 65536
+IsFittingOp (op.TakeIn s p) = (s < 131072) × (p < 65536)
 
 abbrev pub IsFittingActor : Actor → Type 0
 IsFittingActor actor.Core = ⊤

@@ -45,16 +45,20 @@ pub record AreTaskSlots (h : Hardware) (why : Option NoSwap) (m : Memory) (fligh
   pub landed : (s : ℕ) (page : List ℕ) → slots s ≡ Some page → IsTarget flights s → ⊥
   pub paged : why ≡ None → (s : ℕ) → IsTaskSlot h m s → (IsTarget flights s → ⊥) → IsSome (slots s)
 
--- Of a task's unfinished operation the slot and the page frame are its own, so no two have one slot.
-pub record IsFlight (h : Hardware) (m : Memory) (t s p : ℕ) : Type 0 where
+-- Of a task's unfinished operation the slot and the page frame are its own, so no two have one slot. Only in an area that can be
+-- used has a task a slot.
+pub record IsFlight (h : Hardware) (a : Running) (t s p : ℕ) : Type 0 where
   pub task : IsTask t
-  pub slot : is_slot_of h m t s ≡ true
+  pub usable : a.unusable ≡ None
+  pub slot : is_slot_of h a.memory t s ≡ true
   pub valid : is_valid h p ≡ true
-  pub owner : owner_of (frame_entry h m p) ≡ t
+  pub owner : owner_of (frame_entry h a.memory p) ≡ t
 
+-- An out begins where no image is held, and none is made before it ends.
 pub record HasFlights (h : Hardware) (a : Running) : Type 0 where
-  pub outs : (t s p : ℕ) → a.flights t ≡ Some (goes_out s p) → IsFlight h a.memory t s p
-  pub ins : (t s p : ℕ) → a.flights t ≡ Some (comes_in s p) → IsFlight h a.memory t s p
+  pub outs : (t s p : ℕ) → a.flights t ≡ Some (goes_out s p) → IsFlight h a t s p
+  pub unheld : (t s p : ℕ) → a.flights t ≡ Some (goes_out s p) → a.held ≡ nothing
+  pub ins : (t s p : ℕ) → a.flights t ≡ Some (comes_in s p) → IsFlight h a t s p
 
 -- the area of the disk v can be used by a machine with this memory
 pub record FitsArea (h : Hardware) (v : disk.Image) (m : Memory) : Type 0 where

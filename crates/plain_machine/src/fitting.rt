@@ -4,7 +4,7 @@ impl Event {
     ghost use Rattle.std.specs.Prelude.{◌↔◌, IsTrue};
     ghost use Rattle.plain_machine.specs.Fitting.{IsFitting};
 
-    /// Whether the event's numbers are in the ranges of a script's lines. Tasks don't swap.
+    /// Whether the event's numbers are in the ranges of a script's lines.
     pub fn fits(&self) -> bool
         ensures { IsTrue result ↔ IsFitting self.now }
     {
@@ -23,7 +23,7 @@ impl TaskOp {
     ghost use Rattle.std.specs.Prelude.{◌↔◌, IsTrue};
     ghost use Rattle.plain_machine.specs.Fitting.{IsFittingOp};
 
-    /// Whether the request is served, with its numbers in their ranges.
+    /// Whether the request's numbers are in their ranges.
     pub fn fits(&self) -> bool
         ensures { IsTrue result ↔ IsFittingOp self.now }
     {
@@ -33,8 +33,8 @@ impl TaskOp {
             TaskOp::Store(p, k, _) => is_frame(p) && k < 512,
             TaskOp::Show(p, k) => is_frame(p) && k < 512,
             TaskOp::Cache(p) => is_frame(p),
-            TaskOp::Out(_) => false,
-            TaskOp::TakeIn(_, _) => false,
+            TaskOp::Out(p) => is_frame(p),
+            TaskOp::TakeIn(slot, p) => slot < 131_072 && is_frame(p),
         }
     }
 }

@@ -23,6 +23,7 @@ pub mod Chunks
 pub mod Taking
 pub mod Sets
 pub mod Unwritten
+pub mod WrittenWhileHeld
 pub mod Writers
 pub mod Unmarking
 pub mod Undone
@@ -41,3 +42,4 @@ pub mod Snapshots
 pub mod ReplaySteps
 pub mod PowerCuts
 pub mod Signatures
+pub mod Swapping

@@ -9,7 +9,7 @@ use Rattle.plain_machine.specs.Machine.{Hardware, block_of_slot}
 use Rattle.plain_machine.specs.Chain.{header_of, Marked, Holds}
 use Rattle.plain_machine.specs.Image.{Image}
 use Rattle.plain_machine.specs.Shows.{Shown}
-use Rattle.plain_machine.specs.Stands.{Stands, IsHeld, IsOwn, HasFlights, NamesHeld}
+use Rattle.plain_machine.specs.Stands.{Stands, IsHeld, IsOwn, IsFlight, HasFlights, NamesHeld}
 use Rattle.plain_machine.specs.State.{settling, Running, Held, nothing, sure, maybe, own, other, perhaps}
 use Rattle.plain_machine.specs.UsableArea.{area_block}
 use Rattle.protocol_laws.specs.Settling.{IsOnDisk, unmarked_block, SettleBegins, SettleReads, SettleReadFails, SettleWrites, SettleWriteFails, SettleKeepsArea, SettleSyncs, SettleSyncFails}
@@ -134,9 +134,16 @@ names_perhaps h shown nothing names = names
 names_perhaps h shown (sure x) names = names
 names_perhaps h shown (maybe x) names = names
 
--- no task has an operation that depends on what is held
-flights_still : (h : Hardware) (a : Running) (held : Held) → HasFlights h a → HasFlights h (with_held a held)
-flights_still h a held has = record { outs = has.outs; ins = has.ins }
+-- an operation is unfinished as before, whatever is held; an out only where none is
+flight_still : (h : Hardware) (a : Running) (held : Held) (t s p : ℕ) → IsFlight h a t s p → IsFlight h (with_held a held) t s p
+flight_still h a held t s p is = record { task = is.task; usable = is.usable; slot = is.slot; valid = is.valid; owner = is.owner }
+
+flights_still : (h : Hardware) (a : Running) (held : Held) → (a.held ≡ nothing → held ≡ nothing) → HasFlights h a → HasFlights h (with_held a held)
+flights_still h a held none has = record {
+  outs = λ t s p e. flight_still h a held t s p (has.outs t s p e);
+  unheld = λ t s p e. none (has.unheld t s p e);
+  ins = λ t s p e. flight_still h a held t s p (has.ins t s p e);
+}
 
 pub settle_writes : SettleWrites
 settle_writes h shown shown' c c' blocks a over after stands writes activity shows names =
@@ -174,7 +181,7 @@ settle_write_fails h shown shown' c c' blocks a over after stands fails activity
         record {
           held = held_tried h page c c' blocks a.held un (inr fails) was.held;
           task_slots = was.task_slots;
-          flights = flights_still h a (perhaps a.held) was.flights;
+          flights = flights_still h a (perhaps a.held) (λ none. ap perhaps none) was.flights;
           slot_pages = slots_read h c c' a.slots (slots_still h page c c' a over.hardware was.shows.fits was.task_slots (inr fails)) was.slot_pages;
           names = names_perhaps h shown' a.held names;
           header = header_still h page c c' blocks un after (inr fails);
@@ -197,7 +204,7 @@ settle_syncs h shown shown' c c' blocks a whole stands syncs activity shows name
         record {
           held = λ v in' marked. unmarked (subst (Marked h) (IsImage-after_sync c c' v syncs in') marked);
           task_slots = was.task_slots;
-          flights = flights_still h a nothing was.flights;
+          flights = flights_still h a nothing (λ none. refl) was.flights;
           slot_pages = slots_read h c c' a.slots (λ s page e. ap (λ (v : disk.Image). disk.block v (block_of_slot h s)) reads) was.slot_pages;
           names = names;
           header = header_kept h c c' keeps was.header;
@@ -217,7 +224,7 @@ settle_sync_fails h shown shown' c a stands activity shows names =
         record {
           held = was.held;
           task_slots = was.task_slots;
-          flights = flights_still h a (perhaps a.held) was.flights;
+          flights = flights_still h a (perhaps a.held) (λ none. ap perhaps none) was.flights;
           slot_pages = was.slot_pages;
           names = names_perhaps h shown' a.held names;
           header = was.header;

@@ -34,7 +34,7 @@ find_in (x ∷ xs) p = elim (cases_eq x p) [
 image_below : (h : Hardware) (m : Memory) (k : ℕ) → Contains (image_slots h.slots h.slot_table m) k → k < h.slots
 image_below h m k in' = (image_slot h.slots h.slot_table m k in').0
 
-is_memory-taken : (h : Hardware) (m : Memory) (ss : List ℕ) → IsMemoryOf h m → IsMemoryOf h (taken h m ss)
+pub is_memory-taken : (h : Hardware) (m : Memory) (ss : List ℕ) → IsMemoryOf h m → IsMemoryOf h (taken h m ss)
 is_memory-taken h m ss is = record { pages = IsPage-with_entries m h.slot_table ss 65536 is.pages; table = HasTable-with_entries m h.slot_table h.slots ss 65536 is.table }
 
 -- the entry of a slot that was taken, and of another one

@@ -12,6 +12,8 @@ use Rattle.plain_machine.specs.Mark.{HasMark}
 use Rattle.plain_machine.proofs.BadSlots.{fits_area}
 use Rattle.plain_machine.specs.Shows.{Shown, undoes, runs, ShowsRunning}
 use Rattle.plain_machine.specs.Stands.{Stands, HasLaid, KeepsMark, IsHeld, IsOwn, Reads, NamesOnly, laid_writes, laid_blocks, first_map_block}
+use Rattle.plain_machine.proofs.BadSlots.{no_flights-owned}
+use Rattle.plain_machine.proofs.Flights.{no_flights_in}
 use Rattle.plain_machine.specs.State.{on, undoing, Running, nothing, maybe, own}
 use Rattle.plain_machine.specs.UsableArea.{area_block}
 use Rattle.plain_machine.specs.declared.reply.UndoCall.{UndoCall}
@@ -147,7 +149,7 @@ undo_write_fails h shown shown' c c' blocks i call a over page after stands fail
         record {
           held = held;
           task_slots = behind.task_slots;
-          flights = record { outs = behind.flights.outs; ins = behind.flights.ins };
+          flights = no_flights-owned h (with_held a (maybe (own i))) (no_flights_in h a behind.flights stands.parts.1.idle);
           slot_pages = slots_read h c c' a.slots (slots_still h back_page c c' a over.hardware behind.shows.fits behind.task_slots is.tries) behind.slot_pages;
           names = names_laid h shown' i a stands.parts.1 names;
           header = header_still h back_page c c' blocks un after is.tries;
@@ -172,7 +174,7 @@ undo_syncs h shown shown' c c' blocks i call a over stands syncs activity shows 
         record {
           held = λ v in' marked. unmarked (subst (Marked h) (IsImage-after_sync c c' v syncs in') marked);
           task_slots = behind.task_slots;
-          flights = record { outs = behind.flights.outs; ins = behind.flights.ins };
+          flights = no_flights-owned h (with_held a nothing) (no_flights_in h a behind.flights stands.parts.1.idle);
           slot_pages = slots_read h c c' a.slots (λ s page e. ap (λ (v : disk.Image). disk.block v (block_of_slot h s)) reads) behind.slot_pages;
           names = names;
           header = header_kept h c c' keeps behind.header;
@@ -193,7 +195,7 @@ undo_sync_fails h shown shown' c blocks i call a over stands activity shows name
         record {
           held = behind.held;
           task_slots = behind.task_slots;
-          flights = record { outs = behind.flights.outs; ins = behind.flights.ins };
+          flights = no_flights-owned h (with_held a (maybe (own i))) (no_flights_in h a behind.flights stands.parts.1.idle);
           slot_pages = behind.slot_pages;
           names = names_laid h shown' i a stands.parts.1 names;
           header = behind.header;

@@ -1,10 +1,11 @@
 -- Blocks that a call of the disk leaves.
-use Rattle.std.proofs.Common.{◌≡◌, ◌≢◌, ◌<◌, ◌≤◌, inl, inr, ℕ, suc, ◌+◌, ◌*◌, List, [], ◌∷◌, length, Contains, slice_index_or, sym, ap, ◌∙◌, subst, arith}
-use Rattle.std.proofs.lemmas.Bool.{cases_lt}
+use Rattle.std.proofs.Common.{◌≡◌, ◌≢◌, ◌<◌, ◌≤◌, inl, inr, ℕ, zero, suc, ◌+◌, ◌*◌, cond, eqb, ltb, List, [], ◌∷◌, length, Contains, slice_index_or, sym, ap, ◌∙◌, subst, arith}
+use Rattle.std.proofs.lemmas.Bool.{cases_lt, cases_eq, cond-true, cond-false, lt-ltb, le-ltb, eq-eqb, ne_eqb}
 use Rattle.std.proofs.lemmas.List.{get_or-map, length-map}
 use Rattle.std.proofs.lemmas.List.Elements.{Contains-get_or}
 use Rattle.std.proofs.lemmas.List.FromFn.{length-map-range_with_len}
 use Rattle.definitions.specs.Disk as disk
+use Rattle.definitions.proofs.Ascending.{Contains-nil}
 use Rattle.definitions.proofs.DiskLaws.{IsImage-as_it_reads, IsImage-after_sync, IsImage-settled, length-as_it_reads}
 use Rattle.plain_machine.specs.Machine.{Hardware, block_of_slot, unused_slots}
 use Rattle.plain_machine.specs.Image.{Image, stream_of, hibernate_steps}
@@ -12,7 +13,7 @@ use Rattle.plain_machine.specs.Laid.{laid}
 use Rattle.image_write.proofs.Done.{write_at}
 use Rattle.plain_machine.specs.Stands.{laid_writes, laid_blocks}
 use Rattle.plain_machine.specs.State.{Running}
-use Rattle.protocol_laws.specs.Rows.{LeavesBlock}
+use Rattle.protocol_laws.specs.Rows.{LeavesBlock, block_of_step}
 use Rattle.protocol_laws.specs.Steps.{write_of_step}
 use Rattle.protocol_laws.proofs.Laid.{count_of, count_is}
 
@@ -67,14 +68,53 @@ write_in_laid h a i k lt =
     let size = length-map (laid_writes h a i) first in
     subst (Contains (laid_blocks h a i)) (get_or-map first (laid_writes h a i) k (0, []) 0 (omega arith)) (Contains-get_or (laid_blocks h a i) k 0 (omega arith))
 
-pub laid_count : (h : Hardware) (a : Running) (i : Image) (k : ℕ) → k + 4 < hibernate_steps i → k < length (laid_writes h a i)
+laid_count : (h : Hardware) (a : Running) (i : Image) (k : ℕ) → k + 4 < hibernate_steps i → k < length (laid_writes h a i)
 unfolding laid
 laid_count h a i k lt =
     let steps = count_is i in
     let size = length-map-range_with_len (write_at h.extents (unused_slots h a.memory) (stream_of i)) 0 (count_of i) in
     omega arith
 
-pub unwritten_slots : (h : Hardware) (a : Running) (i : Image) (k b : ℕ) (c c' : disk.Content) → k < length (laid_writes h a i) → disk.SameOutside (write_of_step h a i k).0 c c' → (Contains (block_of_slot h 0 ∷ laid_blocks h a i) b → ⊥) → LeavesBlock b c c'
-unwritten_slots h a i k b c c' lt same not =
-    block_other b (write_of_step h a i k).0 c c' same
-    (λ e. not (subst (Contains (block_of_slot h 0 ∷ laid_blocks h a i)) (sym e) (later_in (block_of_slot h 0) (write_of_step h a i k).0 (laid_blocks h a i) (write_in_laid h a i k lt))))
+-- The block that a step of a hibernation writes.
+
+slot_at : (h : Hardware) (a : Running) (i : Image) (k : ℕ) → k + 4 < hibernate_steps i → block_of_step h a i k ≡ (write_of_step h a i k).0 ∷ []
+slot_at h a i k place =
+    cond-true (ltb (k + 4) (hibernate_steps i)) ((write_of_step h a i k).0 ∷ []) (cond (eqb (k + 2) (hibernate_steps i)) (block_of_slot h 0 ∷ []) []) (lt-ltb (k + 4) (hibernate_steps i) place)
+
+behind_slots : (h : Hardware) (a : Running) (i : Image) (k : ℕ) → hibernate_steps i ≤ k + 4 → block_of_step h a i k ≡ cond (eqb (k + 2) (hibernate_steps i)) (block_of_slot h 0 ∷ []) []
+behind_slots h a i k place =
+    cond-false (ltb (k + 4) (hibernate_steps i)) ((write_of_step h a i k).0 ∷ []) (cond (eqb (k + 2) (hibernate_steps i)) (block_of_slot h 0 ∷ []) []) (le-ltb (k + 4) (hibernate_steps i) place)
+
+mark_at : (h : Hardware) (a : Running) (i : Image) (k : ℕ) → k + 2 ≡ hibernate_steps i → block_of_step h a i k ≡ block_of_slot h 0 ∷ []
+mark_at h a i k place =
+    behind_slots h a i k (omega arith) ∙ cond-true (eqb (k + 2) (hibernate_steps i)) (block_of_slot h 0 ∷ []) [] (eq-eqb (k + 2) (hibernate_steps i) place)
+
+pub none_at : (h : Hardware) (a : Running) (i : Image) (k : ℕ) → hibernate_steps i ≤ k + 4 → k + 2 ≢ hibernate_steps i → block_of_step h a i k ≡ []
+none_at h a i k place ne =
+    behind_slots h a i k place ∙ cond-false (eqb (k + 2) (hibernate_steps i)) (block_of_slot h 0 ∷ []) [] (ne_eqb (k + 2) (hibernate_steps i) ne)
+
+pub unwritten_slot : (h : Hardware) (a : Running) (i : Image) (k b : ℕ) (c c' : disk.Content) → k + 4 < hibernate_steps i → disk.SameOutside (write_of_step h a i k).0 c c' → (Contains (block_of_step h a i k) b → ⊥) → LeavesBlock b c c'
+unwritten_slot h a i k b c c' place same not =
+    block_other b (write_of_step h a i k).0 c c' same (λ e. not (subst (λ (xs : List ℕ). Contains xs b) (sym (slot_at h a i k place)) (0, omega arith, sym e)))
+
+pub unwritten_mark : (h : Hardware) (a : Running) (i : Image) (k b : ℕ) (c c' : disk.Content) → k + 2 ≡ hibernate_steps i → disk.SameOutside (block_of_slot h 0) c c' → (Contains (block_of_step h a i k) b → ⊥) → LeavesBlock b c c'
+unwritten_mark h a i k b c c' place same not =
+    block_other b (block_of_slot h 0) c c' same (λ e. not (subst (λ (xs : List ℕ). Contains xs b) (sym (mark_at h a i k place)) (0, omega arith, sym e)))
+
+pub only_in : (x b : ℕ) (xs : List ℕ) → xs ≡ x ∷ [] → Contains xs b → b ≡ x
+only_in x b xs e in' = one_is x b (subst (λ (ys : List ℕ). Contains ys b) e in') where
+  one_is : (x b : ℕ) → Contains (x ∷ []) b → b ≡ x
+  one_is x b (zero, lt, e) = sym e
+  one_is x b (suc k, lt, e) = absurd (omega arith)
+
+-- it is block(0), or one of the image's
+pub step_in_laid : (h : Hardware) (a : Running) (i : Image) (k b : ℕ) → Contains (block_of_step h a i k) b → Contains (block_of_slot h 0 ∷ laid_blocks h a i) b
+step_in_laid h a i k b in' = elim (cases_lt (k + 4) (hibernate_steps i)) [
+  | inl place ↦
+      subst (Contains (block_of_slot h 0 ∷ laid_blocks h a i)) (sym (only_in (write_of_step h a i k).0 b (block_of_step h a i k) (slot_at h a i k place) in'))
+      (later_in (block_of_slot h 0) (write_of_step h a i k).0 (laid_blocks h a i) (write_in_laid h a i k (laid_count h a i k place)))
+  | inr past ↦ elim (cases_eq (k + 2) (hibernate_steps i)) [
+    | inl place ↦ (0, omega arith, sym (only_in (block_of_slot h 0) b (block_of_step h a i k) (mark_at h a i k place) in'))
+    | inr ne ↦ absurd (Contains-nil b (subst (λ (ys : List ℕ). Contains ys b) (none_at h a i k past ne) in'))
+  ]
+]

@@ -1,13 +1,13 @@
 -- What an event makes of something that stands for a state of the plain machine over a disk: for each state that it stood for there is
 -- one that the plain machine goes on to.
-use Rattle.std.specs.Prelude.{◌≡◌, ◌≤◌, ◌<◌, ◌+◌, ◌*◌, ◌==◌, ℕ, zero, List, [], ◌∷◌, length, All, flat_map, Contains, slice_index_or, Option, Some, None, ⊤, if◌then◌else◌}
+use Rattle.std.specs.Prelude.{◌≡◌, ◌≤◌, ◌<◌, ◌+◌, ◌*◌, ◌==◌, ℕ, zero, Bool, false, List, [], ◌∷◌, length, All, flat_map, Contains, slice_index_or, Option, Some, None, ⊤, if◌then◌else◌, nat_lt}
 use Rattle.std.specs.List.{range_with_len}
 use Rattle.definitions.specs.Disk as disk
 use Rattle.plain_machine.specs.Machine.{Hardware, block_of_slot}
 use Rattle.plain_machine.specs.Chain.{Marked, header_of, blocks_of}
-use Rattle.plain_machine.specs.Image.{Image}
+use Rattle.plain_machine.specs.Image.{Image, hibernate_steps}
 use Rattle.plain_machine.specs.Mark.{HasMark}
-use Rattle.plain_machine.specs.Stands.{EachImage, AgreeOnArea, Reads, laid_writes, laid_blocks, first_map_block}
+use Rattle.plain_machine.specs.Stands.{EachImage, AgreeOnArea, Reads, laid_writes, first_map_block}
 use Rattle.plain_machine.specs.State.{State, off, on, booting, hibernating, undoing, settling, waking, loading, asleep, Running, Flight, goes_out, comes_in}
 use Rattle.plain_machine.specs.Step.{Step}
 use Rattle.plain_machine.specs.UsableArea.{area_block}
@@ -17,6 +17,7 @@ use Rattle.plain_machine.specs.declared.event.Event.TheVariants as event
 use Rattle.plain_machine.specs.declared.reply.Reply.{Reply}
 use Rattle.plain_machine.specs.declared.reply.Reply.TheVariants as reply
 use Rattle.plain_machine.specs.declared.reply.Left.TheVariants.{Gone}
+use Rattle.protocol_laws.specs.Steps.{write_of_step}
 
 -- Two disks have the same swap area: as many blocks, and the same header block, taken back where it is marked, but for bytes 4056 to 4085.
 pub record IsSameArea (h : Hardware) (v w : disk.Image) : Type 0 where
@@ -33,18 +34,36 @@ out_block h None = []
 out_block h (Some (goes_out s p)) = block_of_slot h s ∷ []
 out_block h (Some (comes_in s p)) = []
 
--- The blocks that may be written, by the state before an event: those of unfinished outs while the machine runs, block(0) and the
--- blocks of the image's slots in a hibernation, block(0) alone where a mark is taken back (at the third step of a resume).
+-- The block that step k of a hibernation writes, from 0: its pages and maps come first, a sync and a read behind them, then the mark,
+-- which a last sync follows.
+abbrev pub block_of_step : Hardware → Running → Image → ℕ → List ℕ
+block_of_step h a i k =
+    if nat_lt (k + 4) (hibernate_steps i) then (write_of_step h a i k).0 ∷ []
+    else if k + 2 == hibernate_steps i then block_of_slot h 0 ∷ [] else []
+
+-- The blocks that may be written, by the state before an event: those of unfinished outs while the machine runs, that of the step in a
+-- hibernation, block(0) alone where a mark is taken back: at the first step of an undo, the second of a settling or a waking, the third of
+-- a resume.
 abbrev pub blocks_written : Hardware → State → List ℕ
 blocks_written h (off held kept) = []
 blocks_written h (on a) = flat_map (λ t. out_block h (a.flights t)) (range_with_len 1 64)
 blocks_written h (booting from dump held k) = []
-blocks_written h (hibernating suspends i a k) = block_of_slot h 0 ∷ laid_blocks h a i
-blocks_written h (undoing i call a k) = block_of_slot h 0 ∷ []
-blocks_written h (settling a k) = block_of_slot h 0 ∷ []
-blocks_written h (waking i held a k) = block_of_slot h 0 ∷ []
+blocks_written h (hibernating suspends i a k) = block_of_step h a i k
+blocks_written h (undoing i call a k) = if k == 0 then block_of_slot h 0 ∷ [] else []
+blocks_written h (settling a k) = if k == 1 then block_of_slot h 0 ∷ [] else []
+blocks_written h (waking i held a k) = if k == 1 then block_of_slot h 0 ∷ [] else []
 blocks_written h (loading load k) = if k == 2 then block_of_slot h 0 ∷ [] else []
 blocks_written h (asleep i held a) = []
+
+-- whether the event is a step of task t
+abbrev pub is_step_of : ℕ → Event → Bool
+is_step_of t (event.Step (actor.Task u)) = u == t
+is_step_of t _ = false
+
+-- Those that this event may write: of a running machine's unfinished outs a task's own, at its own step.
+abbrev pub blocks_at : Hardware → Event → State → List ℕ
+blocks_at h e (on a) = flat_map (λ t. if is_step_of t e then out_block h (a.flights t) else []) (range_with_len 1 64)
+blocks_at h e a = blocks_written h a
 
 -- Each image that a crash may leave afterwards has in this block what a crash might have left there before.
 pub record LeavesBlock (b : ℕ) (c c' : disk.Content) : Type 0 where
@@ -68,7 +87,7 @@ pub record Leads (h : Hardware) (new : StandsBy) (e : Event) (r : Reply) (c c' :
   pub step : Step h (disk.as_it_reads c) a e r b
   pub stands : new c' b
   pub area : IsSameArea h (disk.as_it_reads c) (disk.as_it_reads c')
-  pub unwritten : (b : ℕ) → (Contains (blocks_written h a) b → ⊥) → LeavesBlock b c c'
+  pub unwritten : (b : ℕ) → (Contains (blocks_at h e a) b → ⊥) → LeavesBlock b c c'
   pub leaves : LeavesImage h e r a c'
 
 -- the row of an event over these contents of the disk, for each state that was stood for

@@ -1,11 +1,11 @@
 -- The row of a begin.
 use Rattle.protocol_laws.proofs.Unwritten.{block_same}
 use Rattle.std.proofs.lemmas.Bool.{true≢false}
-use Rattle.std.proofs.Common.{◌≡◌, ◌<◌, ℕ, Bool, true, false, not, ◌&&◌, cond, List, [], ◌∷◌, take, filter, Contains, Option, Some, None, is_none, unwrap_or, nat_le, nat_lt, ◌+◌, eqb, refl, sym, ap, ap₂, ◌∙◌, subst, arith}
-use Rattle.std.specs.List.{zip, list_any}
+use Rattle.std.proofs.Common.{◌≡◌, ◌<◌, ℕ, true, ◌&&◌, List, [], Contains, Option, Some, None, is_none, unwrap_or, refl, sym, ap, ◌∙◌, subst, arith}
+use Rattle.std.specs.List.{zip}
 use Rattle.definitions.specs.Disk as disk
 use Rattle.definitions.specs.Tables.{frame}
-use Rattle.definitions.specs.Zones.{top, numbers}
+use Rattle.definitions.specs.Zones.{top}
 use Rattle.page_restore.specs.Waiting.{waiting_pages}
 use Rattle.plain_machine.specs.Machine.{Hardware, Memory}
 use Rattle.plain_machine.specs.Loader.{left_free, loader_frame}

@@ -1,5 +1,5 @@
 -- The rows of the end: the pages are brought home, and the tables tested.
-use Rattle.std.proofs.Common.{◌≡◌, ℕ, ◌+◌, ◌-◌, true, false, List, length, All, Option, Some, None, Ok, refl, sym, ap, ap₂, ◌∙◌, subst, arith}
+use Rattle.std.proofs.Common.{◌≡◌, ℕ, ◌+◌, ◌-◌, true, false, List, length, replicate, All, Option, Some, None, Ok, refl, sym, ap, ap₂, ◌∙◌, subst, arith}
 use Rattle.std.proofs.lemmas.Option.{none-some}
 use Rattle.std.proofs.lemmas.List.FromFn.{length-map-range_with_len}
 use Rattle.definitions.specs.Bytes.{IsPage}
@@ -35,7 +35,9 @@ use Rattle.restore_laws.proofs.BroughtBack.{are_restored, names_none, runs_as_re
 use Rattle.restore_laws.proofs.DataPlaces.{all_read, listed_sets}
 use Rattle.restore_laws.proofs.LastTables.{last_resumed, last_refused, table_at_fault, tables_fit, area_misfits, area_fits, bad_set_differs, area_unusable}
 use Rattle.restore_laws.proofs.SoundTables.{sound_tables_fit}
+use Rattle.machine.specs.declared.flight.Flight.TheVariants.{Nothing}
 use Rattle.machine.specs.declared.machine.Machine.{Machine}
+use Rattle.machine.proofs.Readiness.{flights-none}
 use Rattle.resume_core.specs.Loading.{shown_by}
 use Rattle.resume_core.specs.Row.{HasRead, HavePlaces, EndsOn, swap_area, restored_found}
 use Rattle.resume_core.specs.declared.load.Load.{Load}
@@ -153,7 +155,7 @@ no_fault h v m good = by (tables_fault h m) refl where
 
 -- the machine that runs
 abbrev pub running : Machine → Area → Machine
-running machine area = record machine { area = Ok area; held = No }
+running machine area = record machine { area = Ok area; held = No; flights = replicate 64 Nothing }
 
 pub resumed_row : (machine : Machine) (frames frames' : Memory) (load load' : Load) (ranges : Ranges) (area : Area) (n : ℕ) → ReadResumedRow → load.loader ≡ loader.Ranges ranges → All IsPage frames' → IsHome machine frames frames' load → IsGood machine frames' load → area_kind (taken_back load.header) ≡ Swap area → n ≡ length load.origs.members → load'.stage ≡ stage.Runs →
     EndsOn machine frames load (running machine area) frames' load' (reply.Resumed n)
@@ -170,7 +172,7 @@ resumed_row machine frames frames' load load' ranges area n resumed by pages is 
     let shown' = shown_by (running machine area) frames' load' in
     let goes = resumed h read.shown shown' c machine.blocks l ranges v k n read.whole read.reading scripted
     (ends_reply h l.dump v l.loader l.check k read.reading.late read.sound room (omega arith) ∙ at_last ∙ ap reply.Resumed (sym saved)) (activity_is load' stage.Runs runs_now)
-    (runs_as_restored h l v No None shown'.flights frames' refl refl (λ t. refl) memory fits) (names_none h shown' fits) in (
+    (runs_as_restored h l v No None shown'.flights frames' refl refl (λ t. flights-none 64 t) memory fits) (names_none h shown' fits) in (
       on (running_with h l v goes.0),
       leads (running machine area) frames' load' (reply.Resumed n) c c (loading l k) (on (running_with h l v goes.0))
           (record { memory = memory ∙ restored_is_by h l v read.reading.hardware l.found read.reading.found; area = (area, refl, read.found.area ∙ ap swap_area kind) }) goes.1 tt,

@@ -1,27 +1,21 @@
 -- A resume, and what a machine shows while it is at it.
-use Rattle.std.specs.Prelude.{◌≡◌, ℕ, ⊤, Bool, true, false, List, [], Option, Some, None, Result, Ok, Err}
+use Rattle.std.specs.Prelude.{◌≡◌, ℕ, ⊤, Bool, true, false, List, []}
 use Rattle.std.specs.List.{zip}
-use Rattle.sig_header.specs.declared.area.Area.{Area}
 use Rattle.definitions.specs.Disk as disk
 use Rattle.plain_machine.specs.Machine.{Hardware, Memory}
 use Rattle.plain_machine.specs.Chain.{Marked}
 use Rattle.plain_machine.specs.Shows.{Shown, Activity, rests, runs, loads}
-use Rattle.plain_machine.specs.Step.{no_flights}
 use Rattle.plain_machine.specs.declared.event.Loader.{Loader}
 use Rattle.plain_machine.specs.declared.event.Loader.TheVariants as loader
-use Rattle.plain_machine.specs.declared.no_swap.NoSwap.{NoSwap}
 use Rattle.plain_machine.specs.declared.reply.Reply.{Reply}
 use Rattle.plain_machine.specs.declared.reply.Reply.TheVariants as reply
 use Rattle.page_restore.specs.Waiting.{waiting_pages}
+use Rattle.machine.specs.Flights.{flights_in}
+use Rattle.machine.specs.Running.{reason_of}
 use Rattle.machine.specs.declared.machine.Machine.{Machine}
 use Rattle.resume_core.specs.declared.load.Load.{Load}
 use Rattle.resume_core.specs.declared.load.Stage.{Stage}
 use Rattle.resume_core.specs.declared.load.Stage.TheVariants as stage
-
--- why an area can't be used
-abbrev pub reason_of : Result Area NoSwap → Option NoSwap
-reason_of (Ok area) = None
-reason_of (Err why) = Some why
 
 -- what a machine is at, by the step that is next and, once blocks of the chain are read, how many are made
 abbrev pub activity_at : Stage → ℕ → Activity
@@ -68,7 +62,7 @@ shown_by machine frames load = record {
   keeps_dump = false;
   held = machine.held;
   unusable = reason_of machine.area;
-  flights = no_flights;
+  flights = flights_in machine.flights;
   frames = frames;
   header = load.header;
   copies = [];

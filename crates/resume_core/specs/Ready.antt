@@ -8,6 +8,8 @@ use Rattle.plain_machine.specs.UsableArea.{fit_fault}
 use Rattle.plain_machine.specs.declared.held.Held.TheVariants.{No}
 use Rattle.image_read.specs.Reading.{Reading, IsReady}
 use Rattle.protocol_laws.specs.Writers.{slot_table_of}
+use Rattle.machine.specs.Flights.{flights_in}
+use Rattle.machine.specs.Running.{AreReserved}
 use Rattle.machine.specs.declared.machine.Machine.{Machine}
 use Rattle.resume_core.specs.declared.load.Load.{Load}
 use Rattle.resume_core.specs.declared.load.Stage.{Stage}
@@ -37,9 +39,18 @@ NoneListed load = (load.origs.members ≡ []) × (load.zeros.members ≡ [])
 abbrev pub IsUsable : Machine → Type 0
 IsUsable machine = IfOk machine.area (λ area. fit_fault machine.hw machine.blocks area ≡ None)
 
--- what the step that is next needs, and what is there behind the last one: then nothing is held
+-- what a machine has that runs on after a resume: its tables are nobody's, nothing is held, and no task has an unfinished operation
+pub record RunsOn (machine : Machine) (frames : Memory) (runs : SlotRuns) : Type 0 where
+  pub area : IsOk machine.area
+  pub usable : IsUsable machine
+  pub matches : Matches frames (slot_table_of machine.hw) runs
+  pub unheld : machine.held ≡ No
+  pub reserved : AreReserved machine.hw frames
+  pub idle : (t : ℕ) → flights_in machine.flights t ≡ None
+
+-- what the step that is next needs, and what is there behind the last one
 abbrev pub CanMake : Stage → Machine → Memory → SlotRuns → Load → Type 0
-CanMake stage.Runs machine frames runs load = IsOk machine.area × IsUsable machine × Matches frames (slot_table_of machine.hw) runs × (machine.held ≡ No)
+CanMake stage.Runs machine frames runs load = RunsOn machine frames runs
 CanMake stage.Rest machine frames runs load = ⊤
 CanMake stage.Sync machine frames runs load = NoneListed load
 CanMake stage.Find machine frames runs load = NoneListed load

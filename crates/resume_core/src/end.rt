@@ -8,13 +8,14 @@ ghost use Rattle.plain_machine.specs.Chain.{header_of, blocks_of, Marked};
 ghost use Rattle.plain_machine.specs.Trace.{tables_cause};
 ghost use Rattle.plain_machine.specs.UsableArea.{fit_fault};
 ghost use Rattle.plain_machine.specs.declared.reply.Reply.TheVariants as reply;
+ghost use Rattle.machine.specs.Running.{AreReserved};
 ghost use Rattle.protocol_laws.specs.Rows.{IsNewFault};
 ghost use Rattle.protocol_laws.specs.Writers.{slot_table_of};
 
 use crate::Load;
 use crate::load::Stage;
 use frame_arena::Frames;
-use machine::{Hardware, Machine, has_bad_slots, tables_fit, usable};
+use machine::{Flight, Hardware, Machine, has_bad_slots, tables_fit, usable};
 use page_core::Page;
 use plain_machine::{Held, Loader, Reply};
 use protocol_laws::{meets_rows, reads_in_rows};
@@ -72,6 +73,7 @@ impl Load {
                     Ok(area) => {
                         machine.area = Ok(area);
                         machine.held = Held::No;
+                        machine.flights = [Flight::Nothing; 64];
                         runs.rebuild(frames, &slot_table(&machine.hw));
                         self.stage = Stage::Runs;
                         Reply::Resumed { n: saved }
@@ -94,6 +96,7 @@ impl Load {
 fn restored_area(hw: &Hardware, blocks: u32, frames: &Frames, header: &Page) -> Result<Area, u32>
     requires { length frames.now ≡ top hw.now.zones }
     ensures fits { IfOk result (λ area. fit_fault hw.now blocks area ≡ None) }
+    ensures reserved { IfOk result (λ area. AreReserved hw.now frames.now) }
     ensures kind { IfOk result (λ area. area_kind (taken_back header.now) ≡ Swap area) }
     ensures tables { (v : Image) → header.now ≡ header_of hw.now v → blocks ≡ blocks_of v → Marked hw.now v →
         MatchResult result (λ area. tables_cause hw.now v frames.now ≡ None) (λ f. tables_cause hw.now v frames.now ≡ Some (reply.BadTables f)) }

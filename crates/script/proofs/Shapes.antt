@@ -1,12 +1,13 @@
 -- The rows of lines, and the words behind the first that they read.
 use Rattle.std.proofs.Common.{◌≡◌, inl, inr, ℕ, ◌<◌, Bool, true, false, cond, List, [], ◌∷◌, ◌++◌, length, take, get_or, Option, Some, None, Result, Ok, Err, codes, refl, sym, ap, ◌∙◌, arith, ne_eqb}
-use Rattle.std.specs.Prelude.{⊤}
+use Rattle.std.specs.Prelude.{⊤, slice_index}
 use Rattle.std.specs.List.{find, list_all}
 use Rattle.std.specs.Str.{bytes_eq}
 use Rattle.std.proofs.lemmas.Bool.{cases_lt}
 use Rattle.std.proofs.lemmas.List.{take_all, length-take}
 use Rattle.page_core.specs.declared.format.Format.TheVariants.{SkipZeros}
 use Rattle.plain_machine.specs.declared.event.Event.{Event}
+use Rattle.plain_machine.specs.declared.event.Actor.TheVariants as actor
 use Rattle.plain_machine.specs.declared.event.Event.TheVariants as event
 use Rattle.plain_machine.specs.declared.event.Loader.TheVariants as loader
 use Rattle.plain_machine.specs.declared.event.IdentCheck.TheVariants.{Compare}
@@ -17,7 +18,7 @@ use Rattle.script.specs.declared.grammar.Setting.{Setting}
 use Rattle.script.specs.declared.words.Span.{Span}
 use Rattle.script.specs.Ranges.{all_ranges}
 use Rattle.script.specs.Words.{◌>>=◌, all_numbers, words_of}
-use Rattle.script.specs.Shapes.{Row, setting_rows, event_rows, core_rows, task_rows, region_row, hibernate_row, resume_row, with_flags, format_in, second_word, numbers_say}
+use Rattle.script.specs.Shapes.{Row, setting_rows, event_rows, core_rows, task_rows, region_row, hibernate_row, resume_row, step_row, with_flags, format_in, actor_in, tasks, second_word, numbers_say}
 use Rattle.script.specs.Grammar.{is_printable, row_of, by_rows, if_found, setting_in, event_by, event_in, core_event_in, task_event_in, words_item, item_of, line_item}
 use Rattle.script.proofs.NumbersLaws.{all_numbers-other}
 use Rattle.script.proofs.RangesLaws.{all_ranges-many}
@@ -53,6 +54,13 @@ format_front : (words : List (List ℕ)) → format_in (take 9 words) ≡ format
 format_front [] = refl
 format_front (word ∷ words) = second_front (codes "zeros") [] (λ n. SkipZeros) (word ∷ words) (omega arith)
 
+actor_front : (words : List (List ℕ)) → actor_in (take 9 words) ≡ actor_in words
+actor_front [] = refl
+actor_front (word ∷ words) = by (bytes_eq word (codes "core")) where
+  by : (b : Bool) → cond b (numbers_say [] (λ n. actor.Core) (take 8 words)) (numbers_say (tasks ∷ []) (λ n. actor.Task (slice_index n 0)) (word ∷ take 8 words)) ≡ cond b (numbers_say [] (λ n. actor.Core) words) (numbers_say (tasks ∷ []) (λ n. actor.Task (slice_index n 0)) (word ∷ words))
+  by true = numbers_front 8 [] (λ n. actor.Core) words (omega arith)
+  by false = numbers_front 9 (tasks ∷ []) (λ n. actor.Task (slice_index n 0)) (word ∷ words) (omega arith)
+
 ranges_front : (words : List (List ℕ)) → all_ranges (take 9 words) ≡ all_ranges words
 ranges_front words = elim (cases_lt 9 (length words)) [
   | inr short ↦ ap all_ranges (take_all 9 words short)
@@ -72,8 +80,9 @@ all_events_read_nine =
     let n : (spans : List Span) (says : List ℕ → ℕ × Event) → length spans < 9 → (words : List (List ℕ)) → numbers_say spans says (take 9 words) ≡ numbers_say spans says words = λ spans says few words. numbers_front 9 spans says words few in
     let hibernate : (words : List (List ℕ)) → hibernate_row.reads (take 9 words) ≡ hibernate_row.reads words = λ words. ap (λ r. r >>= λ format. Ok (1, event.Hibernate format)) (format_front words) in
     let resume : (words : List (List ℕ)) → resume_row.reads (take 9 words) ≡ resume_row.reads words = λ words. ap (λ r. r >>= λ ranges. Ok (1, event.Resume (loader.Ranges ranges) Compare)) (ranges_front words) in
-    let tasks : AllReadNine task_rows = (n _ _ (omega arith), (n _ _ (omega arith), (n _ _ (omega arith), (n _ _ (omega arith), (n _ _ (omega arith), tt))))) in
-    (n _ _ (omega arith), (hibernate, (n _ _ (omega arith), (resume, (n _ _ (omega arith), (n _ _ (omega arith), (λ ws. second_front _ _ _ ws (omega arith), (λ ws. second_front _ _ _ ws (omega arith), tasks))))))))
+    let step : (words : List (List ℕ)) → step_row.reads (take 9 words) ≡ step_row.reads words = λ words. ap (λ r. r >>= λ x. Ok (1, event.Step x)) (actor_front words) in
+    let tasks : AllReadNine task_rows = (n _ _ (omega arith), (n _ _ (omega arith), (n _ _ (omega arith), (n _ _ (omega arith), (n _ _ (omega arith), (n _ _ (omega arith), (n _ _ (omega arith), tt))))))) in
+    (n _ _ (omega arith), (hibernate, (n _ _ (omega arith), (resume, (n _ _ (omega arith), (n _ _ (omega arith), (step, (λ ws. second_front _ _ _ ws (omega arith), tasks))))))))
 
 abbrev FrontOf : {A : Type 0} → Option (Row A) → Type 0
 FrontOf None = ⊤

@@ -7,6 +7,7 @@ use Rattle.plain_machine.specs.declared.event.Event.{Event}
 use Rattle.plain_machine.specs.declared.event.Event.TheVariants as event
 use Rattle.plain_machine.specs.declared.event.TaskOp.{TaskOp}
 use Rattle.plain_machine.specs.declared.event.TaskOp.TheVariants as op
+use Rattle.plain_machine.specs.declared.event.Actor.{Actor}
 use Rattle.plain_machine.specs.declared.event.Actor.TheVariants as actor
 use Rattle.plain_machine.specs.declared.event.BootFrom.TheVariants.{Fresh}
 use Rattle.plain_machine.specs.declared.event.Loader.{Loader}
@@ -99,6 +100,21 @@ event_row first spans says = number_row first spans (λ n. (1, says n))
 abbrev pub task_row : List ℕ → List Span → (List ℕ → TaskOp) → Row (ℕ × Event)
 task_row first spans asks = event_row first (tasks ∷ spans) (λ n. event.Task (slice_index n 0) (asks n))
 
+-- the slots that any machine may have
+abbrev pub task_slots : Span
+task_slots = span 0 131071
+
+-- the core, or a task by its number
+abbrev pub actor_in : List (List ℕ) → Result Actor FaultKind
+actor_in [] = Err kind.Count
+actor_in (word ∷ words) =
+    if bytes_eq word (codes "core") then numbers_say [] (λ n. actor.Core) words
+    else numbers_say (tasks ∷ []) (λ n. actor.Task (slice_index n 0)) (word ∷ words)
+
+-- one step of an actor
+abbrev pub step_row : Row (ℕ × Event)
+step_row = record { first = codes "step"; reads = λ line. actor_in line >>= λ x. Ok (1, event.Step x) }
+
 -- so many steps of the core
 abbrev pub core_row : List ℕ → List Span → (List ℕ → ℕ) → Row (ℕ × Event)
 core_row first spans times = record {
@@ -130,7 +146,7 @@ core_rows =
     ∷ resume_row
     ∷ event_row (codes "cut") (values ∷ []) (λ n. event.Cut (slice_index n 0))
     ∷ event_row (codes "arm") (span 1 1000000 ∷ span 0 1000000 ∷ values ∷ []) (λ n. event.Arm (slice_index n 0) (slice_index n 1) (slice_index n 2))
-    ∷ core_row (codes "step") [] (λ n. 1)
+    ∷ step_row
     ∷ core_row (codes "steps") (span 1 100000 ∷ []) (λ n. slice_index n 0)
     ∷ []
 
@@ -141,20 +157,12 @@ task_rows =
     ∷ task_row (codes "store") (frames ∷ words ∷ values ∷ []) (λ n. op.Store (slice_index n 1) (slice_index n 2) (slice_index n 3))
     ∷ task_row (codes "show") (frames ∷ words ∷ []) (λ n. op.Show (slice_index n 1) (slice_index n 2))
     ∷ task_row (codes "cache") (frames ∷ []) (λ n. op.Cache (slice_index n 1))
+    ∷ task_row (codes "out") (frames ∷ []) (λ n. op.Out (slice_index n 1))
+    ∷ task_row (codes "in") (task_slots ∷ frames ∷ []) (λ n. op.TakeIn (slice_index n 1) (slice_index n 2))
     ∷ []
 
 abbrev pub event_rows : List (Row (ℕ × Event))
 event_rows = core_rows ++ task_rows
-
--- what a line lets a task ask for: no page goes to a slot or comes from one
-abbrev pub IsScriptedOp : TaskOp → Type 0
-IsScriptedOp (op.Claim p) = ⊤
-IsScriptedOp (op.Release p) = ⊤
-IsScriptedOp (op.Store p k v) = ⊤
-IsScriptedOp (op.Show p k) = ⊤
-IsScriptedOp (op.Cache p) = ⊤
-IsScriptedOp (op.Out p) = ⊥
-IsScriptedOp (op.TakeIn s p) = ⊥
 
 -- a scripted loader holds ranges of page frames: no line names a dump's
 abbrev pub IsScriptedLoader : Loader → Type 0
@@ -171,6 +179,6 @@ IsScripted event.Settle = ⊤
 IsScripted (event.Shrink want) = ⊥
 IsScripted (event.Resume l check) = IsScriptedLoader l × (check ≡ Compare)
 IsScripted (event.Step x) = ⊤
-IsScripted (event.Task t o) = IsScriptedOp o
+IsScripted (event.Task t o) = ⊤
 IsScripted (event.Cut pick) = ⊤
 IsScripted (event.Arm first count pick) = ⊤

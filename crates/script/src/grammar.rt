@@ -3,7 +3,8 @@ ghost use Rattle.std.specs.List.{list_all};
 ghost use Rattle.script.specs.Words.{texts};
 ghost use Rattle.script.specs.Grammar.{core_event_in, event_in, is_printable, line_item, setting_in, task_event_in, words_item, IsFittingItem};
 ghost use Rattle.script.specs.Settings.{IsFittingSetting};
-ghost use Rattle.script.specs.Shapes.{format_in, region_row, second_word};
+ghost use Rattle.script.specs.Shapes.{actor_in, format_in, region_row, second_word};
+ghost use Rattle.plain_machine.specs.Fitting.{IsFittingActor};
 
 use crate::fault::FaultKind;
 use crate::ranges::ranges;
@@ -47,6 +48,11 @@ const LENGTH: Span = Span {
 };
 
 const TASK: Span = Span { low: 1, high: 64 };
+
+const TASK_SLOT: Span = Span {
+    low: 0,
+    high: 131_071,
+};
 
 const WORD: Span = Span { low: 0, high: 511 };
 
@@ -186,6 +192,24 @@ fn task(t: u64, op: TaskOp) -> (u32, Event)
     (1, Event::Task(t as u32, op))
 }
 
+/// Whose step it is, by the words behind `step`: the core's, or that of a task by its number.
+fn actor(words: &[&[u8]]) -> Result<Actor, FaultKind>
+    ensures says { result ≡ actor_in (texts words.now) }
+    ensures fits { IfOk result IsFittingActor }
+{
+    match words {
+        [] => Err(FaultKind::Count),
+        [first, rest @ ..] => {
+            if *first == b"core".as_slice() {
+                let [] = numbers(rest, [])?;
+                return Ok(Actor::Core);
+            }
+            let [t] = numbers(words, [TASK])?;
+            Ok(Actor::Task(t as u32))
+        }
+    }
+}
+
 /// How a hibernation is to write pages, by the words behind `hibernate`.
 fn format(words: &[&[u8]]) -> Result<Format, FaultKind>
     ensures { result ≡ format_in (texts words.now) }
@@ -307,10 +331,7 @@ fn core_events_of(first: &[u8], rest: &[&[u8]]) -> Result<Option<(u32, Event)>, 
             let (first, count) = (call as u32, calls as u32);
             Ok(Some((1, Event::Arm { first, count, pick })))
         }
-        b"step" => {
-            let [] = numbers(behind(b"core", rest)?, [])?;
-            Ok(Some((1, Event::Step(Actor::Core))))
-        }
+        b"step" => Ok(Some((1, Event::Step(actor(rest)?)))),
         b"steps" => {
             let [n] = numbers(behind(b"core", rest)?, [STEPS])?;
             Ok(Some((n as u32, Event::Step(Actor::Core))))
@@ -345,6 +366,14 @@ fn task_event_of(first: &[u8], rest: &[&[u8]]) -> Result<(u32, Event), FaultKind
         b"cache" => {
             let [t, p] = numbers(rest, [TASK, FRAME])?;
             Ok(task(t, TaskOp::Cache(p as u32)))
+        }
+        b"out" => {
+            let [t, p] = numbers(rest, [TASK, FRAME])?;
+            Ok(task(t, TaskOp::Out(p as u32)))
+        }
+        b"in" => {
+            let [t, slot, p] = numbers(rest, [TASK, TASK_SLOT, FRAME])?;
+            Ok(task(t, TaskOp::TakeIn(slot as u32, p as u32)))
         }
         _ => Err(FaultKind::Word),
     }

@@ -13,6 +13,7 @@ use Rattle.plain_machine.specs.Laid.{laid, laid_block, laid_map, laid_write, is_
 use Rattle.plain_machine.specs.Shows.{Shown}
 use Rattle.plain_machine.specs.Stands.{Stands, HasFlights, laid_blocks}
 use Rattle.plain_machine.specs.State.{State, Running, Flight, goes_out, comes_in, off, on, booting, hibernating, undoing, settling, waking, loading, asleep}
+use Rattle.protocol_laws.proofs.Unwritten.{step_in_laid}
 use Rattle.protocol_laws.specs.Rows.{blocks_written, out_block}
 use Rattle.swsusp_cli.specs.Replay.{IsNoSlot}
 
@@ -63,10 +64,10 @@ header_of_slot : (h : Hardware) (b : ℕ) → 0 < h.slots → Contains (block_of
 header_of_slot h b some (zero, lt, e) = (0, some, e)
 header_of_slot h b some (suc k, lt, e) = absurd (omega arith)
 
--- the third step of a resume writes block(0), and no other writes
-third_of_slot : (h : Hardware) (b : ℕ) → 0 < h.slots → (third : Bool) → Contains (cond third (block_of_slot h 0 ∷ []) []) b → IsOfSlot h b
-third_of_slot h b some true in' = header_of_slot h b some in'
-third_of_slot h b some false (k, lt, e) = absurd (omega arith)
+-- a step that takes a mark back writes block(0)
+taken_back_of_slot : (h : Hardware) (b : ℕ) → 0 < h.slots → (here : Bool) → Contains (cond here (block_of_slot h 0 ∷ []) []) b → IsOfSlot h b
+taken_back_of_slot h b some true in' = header_of_slot h b some in'
+taken_back_of_slot h b some false (k, lt, e) = absurd (omega arith)
 
 image_of_slot : (h : Hardware) (a : Running) (i : Image) (b : ℕ) → 0 < h.slots → Contains (block_of_slot h 0 ∷ laid_blocks h a i) b → IsOfSlot h b
 image_of_slot h a i b some (zero, lt, e) = (0, some, e)
@@ -96,11 +97,11 @@ written_of_slot : (h : Hardware) (shown : Shown) (c : disk.Content) (a : State) 
 written_of_slot h shown c (off held kept) b stands some (k, lt, e) = absurd (omega arith)
 written_of_slot h shown c (on a) b stands some in' = outs_of_slots h a stands.parts.1.flights (range_with_len 1 64) b in'
 written_of_slot h shown c (booting from dump held n) b stands some (k, lt, e) = absurd (omega arith)
-written_of_slot h shown c (hibernating suspends i a k) b stands some in' = image_of_slot h a i b some in'
-written_of_slot h shown c (undoing i call a k) b stands some in' = header_of_slot h b some in'
-written_of_slot h shown c (settling a k) b stands some in' = header_of_slot h b some in'
-written_of_slot h shown c (waking i held a k) b stands some in' = header_of_slot h b some in'
-written_of_slot h shown c (loading load k) b stands some in' = third_of_slot h b some (k == 2) in'
+written_of_slot h shown c (hibernating suspends i a k) b stands some in' = image_of_slot h a i b some (step_in_laid h a i k b in')
+written_of_slot h shown c (undoing i call a k) b stands some in' = taken_back_of_slot h b some (k == 0) in'
+written_of_slot h shown c (settling a k) b stands some in' = taken_back_of_slot h b some (k == 1) in'
+written_of_slot h shown c (waking i held a k) b stands some in' = taken_back_of_slot h b some (k == 1) in'
+written_of_slot h shown c (loading load k) b stands some in' = taken_back_of_slot h b some (k == 2) in'
 written_of_slot h shown c (asleep i held a) b stands some (k, lt, e) = absurd (omega arith)
 
 -- a block on which no slot lies isn't written

@@ -1,8 +1,12 @@
 pub mod Blocks
+pub mod CommandWords
+pub mod Feeding
 pub mod Formatted
+pub mod Imported
 pub mod Needed
 pub mod Prints
 pub mod Replays
 pub mod Scripts
+pub mod Streaming
 pub mod Turns
 pub mod Dumped

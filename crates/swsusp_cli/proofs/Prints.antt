@@ -8,6 +8,10 @@ use Rattle.page_core.specs.declared.format.Format.{Format}
 use Rattle.plain_machine.specs.declared.event.IdentCheck.{IdentCheck}
 use Rattle.swsusp_cli.specs.Dumps as dumps
 use Rattle.swsusp_cli.specs.Dumps.{Hibernates, dump_told, hibernation_told}
+use Rattle.swsusp_cli.specs.Exports as exports
+use Rattle.swsusp_cli.specs.Exports.{Exports, slots_told, stream_told}
+use Rattle.swsusp_cli.specs.Imports as imports
+use Rattle.swsusp_cli.specs.Imports.{Imports, imported_told, stop_told}
 use Rattle.swsusp_cli.specs.Loads as loads
 use Rattle.swsusp_cli.specs.Loads.{Resumes, resume_told}
 use Rattle.swsusp_cli.specs.Told.{IsPrinted, FailsToPrint, IsTold, IsTried}
@@ -77,3 +81,15 @@ resumes_flushed check x x' status (loads.no_dump fault is) well = told_flushed (
 resumes_flushed check x x' status (loads.out_of_memory is) well = told_flushed memory_told status x.out x'.out x.note x'.note is.told well
 resumes_flushed check x x' status (loads.unread is) well = absurd (well is.status_is)
 resumes_flushed check x x' status (loads.answered dump memory ended is) well = told_flushed (resume_told dump.hw memory ended) status x.out x'.out x.note x'.note is.told well
+
+pub exports_flushed : (x x' : View) (status : Status) → Exports x x' status → status ≢ Stream → AreFlushed x'.out x'.note
+exports_flushed x x' status (exports.no_dump fault is) well = told_flushed (dump_told fault) status x.out x'.out x.note x'.note is.told well
+exports_flushed x x' status (exports.out_of_memory is) well = told_flushed memory_told status x.out x'.out x.note x'.note is.told well
+exports_flushed x x' status (exports.unread is) well = absurd (well is.status_is)
+exports_flushed x x' status (exports.in_use dump slot is) well = told_flushed (slots_told slot) status x.out x'.out x.note x'.note is.told well
+exports_flushed x x' status (exports.exported dump is) well = told_flushed (stream_told dump.hw dump.memory) status x.out x'.out x.note x'.note is.told well
+
+pub imports_flushed : (x x' : View) (status : Status) → Imports x x' status → status ≢ Stream → AreFlushed x'.out x'.note
+imports_flushed x x' status (imports.imported n ends told) well = told_flushed (imported_told n) status x.out x'.out x.note x'.note told well
+imports_flushed x x' status (imports.stopped why ends told) well = told_flushed (stop_told why) status x.out x'.out x.note x'.note told well
+imports_flushed x x' status (imports.unread is) well = absurd (well is.status_is)

@@ -17,6 +17,7 @@ use Rattle.plain_machine.specs.declared.event.Event.TheVariants as event
 use Rattle.plain_machine.specs.declared.reply.Reply.{Reply}
 use Rattle.protocol_laws.specs.Replays.{SameSteps, StaysOfReplay}
 use Rattle.protocol_laws.specs.Rows.{IsSameArea, IsNewFault, LeavesBlock, blocks_written}
+use Rattle.protocol_laws.proofs.WrittenWhileHeld.{at_written}
 use Rattle.protocol_laws.proofs.Unwritten.{block_same}
 use Rattle.script.specs.Shapes.{IsScripted}
 use Rattle.world_core.specs.Row.{HasRow, IsServed, IsStep, IsCalled, orders_after}
@@ -174,7 +175,8 @@ run_then old mid new es rs e r blocks between now c s same stays whole so_far ro
     let area : IsSameArea h w (disk.as_it_reads turn.0) = subst (λ (g : Hardware). IsSameArea g w (disk.as_it_reads turn.0)) hw goes.1.area in
     let here : Stands h (shown mid) so_far.0 so_far.1 = subst (λ (g : Hardware). Stands g (shown mid) so_far.0 so_far.1) hw was.stands.stands in
     let leaves : (b : ℕ) → (Contains (blocks_written h so_far.1) b → ⊥) → LeavesBlock b so_far.0 turn.0 =
-    subst (λ (g : Hardware). (b : ℕ) → (Contains (blocks_written g so_far.1) b → ⊥) → LeavesBlock b so_far.0 turn.0) hw goes.1.unwritten in (
+    subst (λ (g : Hardware). (b : ℕ) → (Contains (blocks_written g so_far.1) b → ⊥) → LeavesBlock b so_far.0 turn.0) hw
+    (λ b not. goes.1.unwritten b (λ in'. not (at_written (hardware_of mid) e so_far.1 b in'))) in (
       turn.0,
       goes.0,
       record {

@@ -1,10 +1,12 @@
 -- A command as it is asked for.
-use Rattle.swsusp_cli.specs.Words.{Asked, inspect, hibernate, resume, replay}
+use Rattle.swsusp_cli.specs.Words.{Asked, inspect, hibernate, resume, replay, export, import}
 use Rattle.swsusp_cli.specs.declared.words.Command.{Command}
-use Rattle.swsusp_cli.specs.declared.words.Command.TheVariants.{Inspect, Hibernate, Resume, Replay}
+use Rattle.swsusp_cli.specs.declared.words.Command.TheVariants.{Inspect, Hibernate, Resume, Replay, Export, Import}
 
 abbrev pub asked_by : Command → Asked
 asked_by (Inspect offset swap) = inspect offset swap.now
 asked_by (Hibernate format swap) = hibernate format swap.now
 asked_by (Resume check swap) = resume check swap.now
 asked_by Replay = replay
+asked_by Export = export
+asked_by (Import swap) = import swap.now

@@ -4,7 +4,10 @@ pub mod Asked
 pub mod Choice
 pub mod Dumps
 pub mod ExitStatus
+pub mod Exports
+pub mod Feeding
 pub mod Formatting
+pub mod Imports
 pub mod Inspect
 pub mod Loads
 pub mod Outcome

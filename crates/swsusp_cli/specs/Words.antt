@@ -13,6 +13,8 @@ pub data Asked : Type 0 where
   hibernate : (format : Format) (swap : List ℕ) → Asked
   resume : (check : IdentCheck) (swap : List ℕ) → Asked
   replay : Asked
+  export : Asked
+  import : (swap : List ℕ) → Asked
 
 -- whether a word names a file: it isn't empty and doesn't begin with a dash
 abbrev pub is_path : List ℕ → Bool
@@ -37,6 +39,11 @@ plain_number limit word = if has_leading_zero word then None else below limit (n
 abbrev pub replay_of : List (List ℕ) → Option Asked
 replay_of [] = Some replay
 replay_of (word ∷ words) = None
+
+-- export
+abbrev pub export_of : List (List ℕ) → Option Asked
+export_of [] = Some export
+export_of (word ∷ words) = None
 
 -- inspect [--offset N] SWAP
 abbrev pub inspect_of : List (List ℕ) → Option Asked
@@ -69,6 +76,12 @@ resume_of (swap ∷ []) = over_file swap (resume Compare swap)
 resume_of (option ∷ swap ∷ []) = with_option option (codes "--any-kernel") (over_file swap (resume Skip swap))
 resume_of (option ∷ swap ∷ more ∷ words) = None
 
+-- import SWAP
+abbrev pub import_of : List (List ℕ) → Option Asked
+import_of [] = None
+import_of (swap ∷ []) = over_file swap (import swap)
+import_of (swap ∷ more ∷ words) = None
+
 -- what a command asks for with its own words
 abbrev pub command_by : List ℕ → List (List ℕ) → Option Asked
 command_by command words =
@@ -76,6 +89,8 @@ command_by command words =
     else if pointwise nat_eq command (codes "hibernate") then hibernate_of words
     else if pointwise nat_eq command (codes "resume") then resume_of words
     else if pointwise nat_eq command (codes "replay") then replay_of words
+    else if pointwise nat_eq command (codes "export") then export_of words
+    else if pointwise nat_eq command (codes "import") then import_of words
     else None
 
 -- What a plain list of words asks for: the program's name, a command, and that command's own. No other list parses.

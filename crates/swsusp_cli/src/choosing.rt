@@ -17,16 +17,17 @@ pub enum Choice {
 /// How many blocks the disk in memory has that a script is played over.
 const MEMORY_BLOCKS: u32 = 16384;
 
-/// The disk that a list of words asks for. Where the words don't parse it is one block in memory.
+/// The disk that a list of words asks for. For an export, and where the words don't parse, it is one block in memory.
 pub fn swap_name(alloc: Global, words: &[String]) -> Result<Choice, NoMemory>
     ensures { IfOk result (IsChoice (map string_bytes words.now)) }
 {
     match Command::parse(words) {
-        None => Ok(Choice::Memory(1)),
+        None | Some(Command::Export) => Ok(Choice::Memory(1)),
         Some(Command::Replay) => Ok(Choice::Memory(MEMORY_BLOCKS)),
         Some(Command::Inspect { swap, .. }) => file(alloc, swap),
         Some(Command::Hibernate { swap, .. }) => file(alloc, swap),
         Some(Command::Resume { swap, .. }) => file(alloc, swap),
+        Some(Command::Import { swap }) => file(alloc, swap),
     }
 }
 

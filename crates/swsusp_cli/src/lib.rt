@@ -4,8 +4,10 @@
 mod answer;
 mod choosing;
 mod dump_input;
+mod exporting;
 mod formatting;
 mod hibernating;
+mod importing;
 mod inspection;
 mod playing;
 mod reading;

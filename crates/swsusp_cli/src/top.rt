@@ -2,17 +2,21 @@ ghost use Rattle.std.specs.Prelude.{◌≡◌, ◌≢◌, None, Some, ◌≤◌,
 ghost use Rattle.definitions.specs.Disk.{HasRisen};
 ghost use Rattle.dump_file.specs.Flushed.{IsFlushed};
 ghost use Rattle.swsusp_cli.specs.Answer.{Told};
-ghost use Rattle.swsusp_cli.specs.Run.{IsAnswer, NoDump, NoMachine, calls_after};
+ghost use Rattle.swsusp_cli.specs.Run.{IsAnswer, NoDump, NoImport, NoMachine, calls_after};
 ghost use Rattle.swsusp_cli.specs.Told.{IsTold};
 ghost use Rattle.swsusp_cli.specs.Reading.{HandsOutAtMost};
 ghost use Rattle.swsusp_cli.specs.Outcome.{IsReplayed};
 ghost use Rattle.page_core.specs.declared.format.Format.{Format};
 ghost use Rattle.plain_machine.specs.declared.event.IdentCheck.{IdentCheck};
 ghost use Rattle.swsusp_cli.specs.Dumps.{Hibernates};
+ghost use Rattle.swsusp_cli.specs.Exports.{Exports};
+ghost use Rattle.swsusp_cli.specs.Imports.{Imports};
 ghost use Rattle.swsusp_cli.specs.Loads.{Resumes};
-ghost use Rattle.swsusp_cli.specs.Words.{command_of, hibernate, replay, resume};
+ghost use Rattle.swsusp_cli.specs.Words.{command_of, export, hibernate, import, replay, resume};
 
+use crate::exporting::export_dump;
 use crate::hibernating::hibernate_dump;
+use crate::importing::import_stream;
 use crate::inspection::inspect;
 use crate::replay::replay;
 use crate::resuming::resume_dump;
@@ -72,6 +76,28 @@ pub fn run<I: Source, O: Sink, N: Sink, D: Disk>(
       out = record { taken = O.taken out.new; flushed = O.flushed out.new; faults = O.faults out.new };
       note = record { taken = N.taken note.new; flushed = N.flushed note.new; faults = N.faults note.new };
     }) result }
+    ensures exported { command_of (map string_bytes words.now) ≡ Some export → Exports (record {
+      left = I.remaining input.old;
+      disk = record { blocks = D.block_count disk.old; content = D.content disk.old; faults = D.faults disk.old; calls = D.calls disk.old; orders = D.orders disk.old };
+      out = record { taken = O.taken out.old; flushed = O.flushed out.old; faults = O.faults out.old };
+      note = record { taken = N.taken note.old; flushed = N.flushed note.old; faults = N.faults note.old };
+    }) (record {
+      left = I.remaining input.new;
+      disk = record { blocks = D.block_count disk.new; content = D.content disk.new; faults = D.faults disk.new; calls = D.calls disk.new; orders = D.orders disk.new };
+      out = record { taken = O.taken out.new; flushed = O.flushed out.new; faults = O.faults out.new };
+      note = record { taken = N.taken note.new; flushed = N.flushed note.new; faults = N.faults note.new };
+    }) result }
+    ensures imported { (swap : List ℕ) → command_of (map string_bytes words.now) ≡ Some (import swap) → Imports (record {
+      left = I.remaining input.old;
+      disk = record { blocks = D.block_count disk.old; content = D.content disk.old; faults = D.faults disk.old; calls = D.calls disk.old; orders = D.orders disk.old };
+      out = record { taken = O.taken out.old; flushed = O.flushed out.old; faults = O.faults out.old };
+      note = record { taken = N.taken note.old; flushed = N.flushed note.old; faults = N.faults note.old };
+    }) (record {
+      left = I.remaining input.new;
+      disk = record { blocks = D.block_count disk.new; content = D.content disk.new; faults = D.faults disk.new; calls = D.calls disk.new; orders = D.orders disk.new };
+      out = record { taken = O.taken out.new; flushed = O.flushed out.new; faults = O.faults out.new };
+      note = record { taken = N.taken note.new; flushed = N.flushed note.new; faults = N.faults note.new };
+    }) result }
 
     // Each answer that isn't success has its cause.
     ensures words { result ≡ Status.Words → command_of (map string_bytes words.now) ≡ None }
@@ -85,7 +111,7 @@ pub fn run<I: Source, O: Sink, N: Sink, D: Disk>(
     ensures content { NoMachine (command_of (map string_bytes words.now)) → D.content disk.new ≡ D.content disk.old }
     ensures calls { NoMachine (command_of (map string_bytes words.now)) →
         D.calls disk.new ≡ calls_after (command_of (map string_bytes words.now)) (D.block_count disk.old) (D.calls disk.old) }
-    ensures few_calls { D.calls disk.new ≤ D.calls disk.old + 100002 }
+    ensures few_calls { NoImport (command_of (map string_bytes words.now)) → D.calls disk.new ≤ D.calls disk.old + 100002 }
     ensures orders { NoMachine (command_of (map string_bytes words.now)) → D.orders disk.new ≡ D.orders disk.old }
 {
     match Command::parse(words) {
@@ -96,5 +122,7 @@ pub fn run<I: Source, O: Sink, N: Sink, D: Disk>(
         }
         Some(Command::Resume { check, .. }) => { resume_dump(alloc, check, input, out, note, disk) }
         Some(Command::Replay) => replay(alloc, input, out, note, disk),
+        Some(Command::Export) => export_dump(alloc, input, out, note),
+        Some(Command::Import { .. }) => import_stream(alloc, input, out, note, disk),
     }
 }

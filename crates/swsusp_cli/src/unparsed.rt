@@ -70,7 +70,11 @@ fn command_line<'a>(alloc: Global) -> Result<Command<'a>, AllocError> {
         .subcommand(resumption(alloc)?)?
         .subcommand(Command::new(alloc, "replay").about(
             "Plays a script from standard input, and prints each event's reply",
-        ))
+        ))?
+        .subcommand(Command::new(alloc, "export").about(
+            "Reads a memory dump from standard input, and writes the image of its memory",
+        ))?
+        .subcommand(importation(alloc)?)
 }
 
 fn swap_argument<'a>(alloc: Global) -> Arg<'a> {
@@ -100,6 +104,12 @@ fn hibernation<'a>(alloc: Global) -> Result<Command<'a>, AllocError> {
     Command::new(alloc, "hibernate")
         .about("Reads a memory dump from standard input, and lets its machine hibernate")
         .arg(skip_zeros)?
+        .arg(swap_argument(alloc))
+}
+
+fn importation<'a>(alloc: Global) -> Result<Command<'a>, AllocError> {
+    Command::new(alloc, "import")
+        .about("Reads an image as a stream from standard input, and writes it into a swap area")
         .arg(swap_argument(alloc))
 }
 

@@ -1,7 +1,7 @@
 ghost use Rattle.std.specs.Prelude.{◌≡◌, ◌^◌, codes, map, option_map, string_bytes};
 ghost use Rattle.page_core.specs.declared.format.Format.TheVariants.{SkipZeros};
 ghost use Rattle.plain_machine.specs.declared.event.IdentCheck.TheVariants.{Skip};
-ghost use Rattle.swsusp_cli.specs.Words.{command_by, hibernate, hibernate_of, inspect_of, is_path, over_file, plain_number, replay_of, resume, resume_of, with_option};
+ghost use Rattle.swsusp_cli.specs.Words.{command_by, hibernate, hibernate_of, import_of, import, inspect_of, is_path, export_of, over_file, plain_number, replay_of, resume, resume_of, with_option};
 ghost use Rattle.swsusp_cli.specs.Asked.{asked_by};
 
 use page_core::Format;
@@ -34,6 +34,13 @@ pub enum Command<'a> {
     },
     /// Plays a script over a disk in memory, and prints each reply.
     Replay,
+    /// Writes the image of a memory dump as a stream of bytes.
+    Export,
+    /// Writes such a stream into a swap area as an image.
+    Import {
+        /// The path of the swap file or block device.
+        swap: &'a str,
+    },
 }
 
 impl<'a> Command<'a> {
@@ -66,6 +73,12 @@ fn of_command<'a>(name: &str, words: &'a [String]) -> Option<Command<'a>>
     }
     if name == "replay" {
         return a_replay(words);
+    }
+    if name == "export" {
+        return an_export(words);
+    }
+    if name == "import" {
+        return an_import(words);
     }
     None
 }
@@ -157,6 +170,34 @@ fn a_replay(words: &[String]) -> Option<Command<'_>>
     match words {
         [] => Some(Command::Replay),
         _ => None,
+    }
+}
+
+fn an_export(words: &[String]) -> Option<Command<'_>>
+    ensures { option_map asked_by result ≡ export_of (map string_bytes words.now) }
+{
+    match words {
+        [] => Some(Command::Export),
+        _ => None,
+    }
+}
+
+fn an_import(words: &[String]) -> Option<Command<'_>>
+    ensures { option_map asked_by result ≡ import_of (map string_bytes words.now) }
+{
+    match words {
+        [swap] => import_onto(swap.as_str()),
+        _ => None,
+    }
+}
+
+fn import_onto(swap: &str) -> Option<Command<'_>>
+    ensures { option_map asked_by result ≡ over_file swap.now (import swap.now) }
+{
+    if is_path(swap.as_bytes()) {
+        Some(Command::Import { swap })
+    } else {
+        None
     }
 }
 

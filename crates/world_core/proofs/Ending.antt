@@ -1,6 +1,6 @@
 -- The row of a boot's end.
 use Rattle.protocol_laws.proofs.Unwritten.{block_same}
-use Rattle.std.proofs.Common.{◌≡◌, ◌⊎◌, inl, inr, ℕ, ◌<◌, ◌≤◌, ◌^◌, Bool, true, false, cond, not, ◌&&◌, List, [], ◌∷◌, ◌++◌, Option, Some, None, is_none, Result, Ok, Err, refl, sym, ap, ◌∙◌, arith, subst, eqb, ⊎_elim}
+use Rattle.std.proofs.Common.{◌≡◌, ◌⊎◌, inl, inr, ℕ, replicate, ◌<◌, ◌≤◌, ◌^◌, Bool, true, false, cond, not, ◌&&◌, List, [], ◌∷◌, ◌++◌, Option, Some, None, is_none, Result, Ok, Err, refl, sym, ap, ◌∙◌, arith, subst, eqb, ⊎_elim}
 use Rattle.std.proofs.lemmas.Bool.{cases_eq, eqb-true, false≢true}
 use Rattle.std.proofs.lemmas.Option.{none-some}
 use Rattle.std.specs.List.{Contains, range_with_len, list_all}
@@ -46,7 +46,11 @@ use Rattle.world_core.proofs.Cases.{activity_by}
 use Rattle.world_core.proofs.Rows.{same_area, accepted_step, row_at_boot}
 use Rattle.world_core.proofs.Booting.{accepts_step, failed_stands}
 use Rattle.world_core.proofs.Headers.{IsAreaOf, StartsOver, reason_read, slot_read}
-use Rattle.hib_core.specs.Hibernation.{reason_of}
+use Rattle.machine.specs.Flights.{flights_in}
+use Rattle.machine.specs.Running.{reason_of}
+use Rattle.machine.specs.declared.flight.Flight.{Flight}
+use Rattle.machine.specs.declared.flight.Flight.TheVariants.{Nothing}
+use Rattle.machine.proofs.Readiness.{flights-none}
 use Rattle.world_core.specs.Started.{memory_at_start}
 
 -- The slots of fresh memory.
@@ -112,6 +116,7 @@ pub record Ends (from : BootFrom) (old new : World) (v : disk.Image) (image : Bo
   pub area : StartsOver from (hardware_of old) v old.frames new.machine.area
   pub frames : new.frames ≡ memory_at_start from (hardware_of old) new.machine.area old.frames
   pub held : new.machine.held ≡ cond image Yes No
+  pub flights : new.machine.flights ≡ replicate 64 Nothing
   pub marked : image ≡ true → Marked (hardware_of old) v
   pub unmarked : image ≡ false → Marked (hardware_of old) v → ⊥
 
@@ -135,6 +140,9 @@ fresh_plain h v area s hw is lt e =
     let at = slot_entry-fresh_memory h (fresh_slot h v) s hw (λ k. fresh_small h v area k is) lt in
     ⊎_elim (λ (b : fresh_slot h v s ≡ bad_slot). let r : ⊥ = omega arith in r) (λ (f : fresh_slot h v s ≡ 0). let r : ⊥ = omega arith in r) (fresh_value h v area s is)
 
+no_operation : (flights : List Flight) (t : ℕ) → flights ≡ replicate 64 Nothing → None ≡ flights_in flights t
+no_operation flights t none = sym (ap (λ (fs : List Flight). flights_in fs t) none ∙ flights-none 64 t)
+
 shows_running : (old new : World) (v : disk.Image) (image : Bool) (dump : Memory) (now : Held) → Ends Fresh old new v image → IsHardware (hardware_of old) → old.frames ≡ fresh_frames (hardware_of old) → ShowsHeld new.machine.held now →
     ShowsRunning (hardware_of old) (shown new) (booted (hardware_of old) v Fresh dump now)
 shows_running old new v image dump now ends hw fresh flag =
@@ -144,7 +152,7 @@ shows_running old new v image dump now ends hw fresh flag =
     record {
       held = flag;
       unusable = reason_read h v new.machine.area ends.area;
-      flights = λ t. refl;
+      flights = λ t. no_operation new.machine.flights t ends.flights;
       same = subst (IsSameMemory h m) (sym seen) (same_refl h m);
       fits = fits-fresh_memory h (fresh_slot h v) hw (λ s. fresh_small h v new.machine.area s ends.area)
           (λ s. ap (is_slot_entry s) (sym (slot_read h v new.machine.area s ends.area)) ∙ slot_well new.machine.area s);
@@ -252,7 +260,7 @@ shows_kept old new v image dump now ends is fits flag =
     record {
       held = flag;
       unusable = kept_reason h v dump new.machine.area (subst (λ (m : Memory). StartsOver Kept h v m new.machine.area) is ends.area);
-      flights = λ t. refl;
+      flights = λ t. no_operation new.machine.flights t ends.flights;
       same = subst (IsSameMemory h dump) (sym seen) (same_refl h dump);
       fits = fits;
     }

@@ -20,7 +20,7 @@ use Rattle.machine.specs.FreshSlots.{slot_of_area}
 use Rattle.protocol_laws.specs.Headers.{is_image}
 use Rattle.protocol_laws.proofs.Signatures.{image_by_signature}
 use Rattle.world_core.specs.Started.{header_at, area_kind_of}
-use Rattle.hib_core.specs.Hibernation.{reason_of}
+use Rattle.machine.specs.Running.{reason_of}
 
 pub blocks_told : (blocks : ℕ) (c : disk.Content) → disk.IsContent blocks c → blocks_of (disk.as_it_reads c) ≡ blocks
 blocks_told blocks c whole = let size = length-as_it_reads c in let all = whole.size in omega arith

@@ -16,6 +16,7 @@ use Rattle.plain_machine.specs.declared.event.Actor.TheVariants as actor
 use Rattle.plain_machine.specs.declared.no_swap.NoSwap.{NoSwap}
 use Rattle.plain_machine.specs.declared.reply.Reply.{Reply}
 use Rattle.plain_machine.specs.declared.reply.Reply.TheVariants as reply
+use Rattle.machine.specs.Running.{reason_of}
 use Rattle.machine.specs.declared.machine.Machine.{Machine}
 use Rattle.hib_core.specs.Hibernation as hibernation
 use Rattle.hib_core.specs.Hibernation.{Phase, under_way, runs_on, switched_off}
@@ -26,14 +27,14 @@ use Rattle.hib_core.specs.declared.hib.Job.{Job}
 use Rattle.hib_core.specs.declared.hib.Stage.{Stage}
 use Rattle.hib_core.specs.declared.hib.Stage.TheVariants as stage
 use Rattle.resume_core.specs.Row as resume_row
-use Rattle.plain_machine.specs.Step.{no_flights}
+use Rattle.machine.specs.Flights.{flights_in}
 use Rattle.world_core.specs.declared.world.Core.{Core}
 use Rattle.world_core.specs.declared.world.Core.TheVariants.{Off, Running as Runs, Hibernating, Loading}
 use Rattle.world_core.specs.World.{World}
 use Rattle.world_core.specs.StandsFor.{StandsFor, hardware_of, keeps_dump, shown, shown_at, core_at, core_in, core_told}
 use Rattle.world_core.specs.Row.{IsRow, HasRow, Restores}
 use Rattle.world_core.proofs.Cases.{activity_by}
-use Rattle.world_core.proofs.Tasks.{names_same}
+use Rattle.world_core.proofs.TaskRows.{names_same}
 
 -- What a hibernation is at.
 
@@ -142,8 +143,8 @@ shown_in w activity header copies loaded = record {
   activity = activity;
   keeps_dump = false;
   held = w.machine.held;
-  unusable = hibernation.reason_of w.machine.area;
-  flights = no_flights;
+  unusable = reason_of w.machine.area;
+  flights = flights_in w.machine.flights;
   frames = w.frames;
   header = header;
   copies = copies;

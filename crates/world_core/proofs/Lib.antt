@@ -8,4 +8,5 @@ pub mod Hibernating
 pub mod New
 pub mod Resuming
 pub mod Rows
-pub mod Tasks
+pub mod TaskRows
+pub mod Readiness

@@ -101,6 +101,7 @@ ends_of_started from old new header image v count is started =
       area = starts_over from h v old.frames (blocks_of old) header new.machine.area (ap area_kind_of is ∙ kind_read h v) count started.area;
       frames = started.frames;
       held = started.held;
+      flights = started.flights;
       marked = λ e. subst IsMarked is (marked_true header (sym started.marked ∙ e));
       unmarked = λ e marked. marked_false header (sym started.marked ∙ e) (subst IsMarked (sym is) marked);
     }

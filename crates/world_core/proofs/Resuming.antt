@@ -15,16 +15,15 @@ use Rattle.plain_machine.specs.declared.event.Loader.{Loader}
 use Rattle.plain_machine.specs.declared.event.Loader.TheVariants as loaders
 use Rattle.plain_machine.specs.declared.event.IdentCheck.{IdentCheck}
 use Rattle.plain_machine.specs.declared.no_swap.NoSwap.{NoSwap}
-use Rattle.plain_machine.specs.declared.held.Held.TheVariants.{No}
 use Rattle.plain_machine.specs.declared.reply.Reply.{Reply}
 use Rattle.plain_machine.specs.declared.reply.Reply.TheVariants as reply
 use Rattle.protocol_laws.specs.Rows as rows
 use Rattle.page_restore.specs.Waiting.{waiting_pages}
 use Rattle.swap_slots.specs.Runs.{SlotRuns}
+use Rattle.machine.specs.Running.{reason_of}
 use Rattle.machine.specs.declared.machine.Machine.{Machine}
-use Rattle.hib_core.specs.Hibernation as hibernation
 use Rattle.resume_core.specs.Loading as resumption
-use Rattle.resume_core.specs.Ready.{IsBusy, is_busy_at, IsUsable, CanMake, CanStep}
+use Rattle.resume_core.specs.Ready.{IsBusy, is_busy_at, RunsOn, CanMake, CanStep}
 use Rattle.resume_core.specs.Row as resume_row
 use Rattle.resume_core.specs.declared.load.Load.{Load}
 use Rattle.resume_core.specs.declared.load.Stage.{Stage}
@@ -81,7 +80,7 @@ busy_at stage.SyncBack made e = tt
 busy_at stage.List made e = tt
 busy_at stage.Read made e = tt
 
-runs_at : (s : Stage) (made : ℕ) → core_at (resumption.activity_at s made) ≡ Runs → s ≡ stage.Runs
+pub runs_at : (s : Stage) (made : ℕ) → core_at (resumption.activity_at s made) ≡ Runs → s ≡ stage.Runs
 runs_at stage.Rest made e = absurd (false≢true (ap is_running e))
 runs_at stage.Runs made e = refl
 runs_at stage.Sync made e = absurd (false≢true (ap is_running e))
@@ -107,7 +106,7 @@ pub record IsAfter (load : Load) (r : Reply) (core : Core) : Type 0 where
   pub core_is : core ≡ core_resumed loader r
   pub told : resumption.activity_of load ≡ resumption.activity_told loader r
 
-core_now : (load : Load) (r : Reply) (core : Core) → IsAfter load r core → core ≡ core_at (resumption.activity_of load)
+pub core_now : (load : Load) (r : Reply) (core : Core) → IsAfter load r core → core ≡ core_at (resumption.activity_of load)
 core_now load r core is = is.core_is ∙ sym (ap core_at is.told)
 
 pub busy_after : (load : Load) (r : Reply) (core : Core) → IsAfter load r core → core ≡ Loading → IsBusy load
@@ -116,34 +115,18 @@ busy_after load r core is e = busy_at load.stage load.made (sym (core_now load r
 pub idle_after : {A : Type 0} (load : Load) (r : Reply) (core : Core) → IsAfter load r core → core ≡ Hibernating → A
 idle_after load r core is e = absurd (never_hibernates load.stage load.made (sym (core_now load r core is) ∙ e))
 
-usable_after : (machine : Machine) (frames : Memory) (runs_of : SlotRuns) (load : Load) (r : Reply) (core : Core) → IsAfter load r core → CanStep machine frames runs_of load → core ≡ Runs → IsUsable machine
-usable_after machine frames runs_of load r core is can e =
-    (subst (λ (s : Stage). CanMake s machine frames runs_of load) (runs_at load.stage load.made (sym (core_now load r core is) ∙ e)) can.next).1
-
-pub usable_up : (machine : Machine) (frames : Memory) (runs_of : SlotRuns) (load : Load) (r : Reply) (core : Core) → IsAfter load r core → CanStep machine frames runs_of load → IsUp core → IsUsable machine
-usable_up machine frames runs_of load r (Off keeps) after can up = absurd up
-usable_up machine frames runs_of load r Runs after can up = usable_after machine frames runs_of load r Runs after can refl
-usable_up machine frames runs_of load r (BootBegun from) after can up = absurd up
-usable_up machine frames runs_of load r (BootSynced from) after can up = absurd up
-usable_up machine frames runs_of load r Hibernating after can up = idle_after load r Hibernating after refl
-usable_up machine frames runs_of load r Loading after can up = absurd up
-
--- nothing is held by a machine that runs after it
-unheld_after : (machine : Machine) (frames : Memory) (runs_of : SlotRuns) (load : Load) (r : Reply) (core : Core) → IsAfter load r core → CanStep machine frames runs_of load → core ≡ Runs → machine.held ≡ No
-unheld_after machine frames runs_of load r core is can e =
-    (subst (λ (s : Stage). CanMake s machine frames runs_of load) (runs_at load.stage load.made (sym (core_now load r core is) ∙ e)) can.next).3
-
-pub unheld_up : (machine : Machine) (frames : Memory) (runs_of : SlotRuns) (load : Load) (r : Reply) (core : Core) → IsAfter load r core → CanStep machine frames runs_of load → IsUp core → machine.held ≡ No
-unheld_up machine frames runs_of load r (Off keeps) after can up = absurd up
-unheld_up machine frames runs_of load r Runs after can up = unheld_after machine frames runs_of load r Runs after can refl
-unheld_up machine frames runs_of load r (BootBegun from) after can up = absurd up
-unheld_up machine frames runs_of load r (BootSynced from) after can up = absurd up
-unheld_up machine frames runs_of load r Hibernating after can up = idle_after load r Hibernating after refl
-unheld_up machine frames runs_of load r Loading after can up = absurd up
+-- what a machine has that runs after it
+pub runs_after : (machine : Machine) (frames : Memory) (runs_of : SlotRuns) (load : Load) (r : Reply) (core : Core) → IsAfter load r core → CanStep machine frames runs_of load → IsUp core → RunsOn machine frames runs_of
+runs_after machine frames runs_of load r (Off keeps) after can up = absurd up
+runs_after machine frames runs_of load r Runs after can up = subst (λ (s : Stage). CanMake s machine frames runs_of load) (runs_at load.stage load.made (sym (core_now load r Runs after))) can.next
+runs_after machine frames runs_of load r (BootBegun from) after can up = absurd up
+runs_after machine frames runs_of load r (BootSynced from) after can up = absurd up
+runs_after machine frames runs_of load r Hibernating after can up = idle_after load r Hibernating after refl
+runs_after machine frames runs_of load r Loading after can up = absurd up
 
 -- What is shown.
 
-reason_same : (area : Result Area NoSwap) → resumption.reason_of area ≡ hibernation.reason_of area
+reason_same : (area : Result Area NoSwap) → reason_of area ≡ reason_of area
 reason_same (Ok area) = refl
 reason_same (Err why) = refl
 

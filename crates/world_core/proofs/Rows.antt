@@ -27,6 +27,7 @@ use Rattle.plain_machine.specs.declared.reply.Reply.{Reply}
 use Rattle.plain_machine.specs.declared.reply.Reply.TheVariants as reply
 use Rattle.protocol_laws.specs.Rows.{IsSameArea}
 use Rattle.page_core.specs.declared.format.Format.{Format}
+use Rattle.machine.specs.Flights.{flights_in}
 use Rattle.hib_core.specs.Hibernation.{activity_at}
 use Rattle.hib_core.specs.Ready.{IsBusy, is_busy_at}
 use Rattle.hib_core.specs.declared.hib.Hib.{Hib}
@@ -107,6 +108,10 @@ busy_underway stage.SettleSync made busy = refl
 abbrev is_rest : Activity → Bool
 is_rest rests = true
 is_rest _ = false
+
+abbrev is_run : Activity → Bool
+is_run runs = true
+is_run _ = false
 
 load_underway : (s : LoadStage) (made : ℕ) → resume_ready.is_busy_at s → is_underway (resumption.activity_at s made) ≡ true
 load_underway load_stage.Rest made busy = absurd busy
@@ -282,11 +287,30 @@ idle_without_flight h (waking i held r k) t none = refl
 idle_without_flight h (loading load k) t none = refl
 idle_without_flight h (asleep i held r) t none = refl
 
-no_flight : (w : World) (c : disk.Content) (a : State) (t : ℕ) → StandsFor w c a → (r : Running) → a ≡ on r → r.flights t ≡ None
-no_flight w c a t stands r e = (subst (Stands (hardware_of w) (shown w) c) e stands.stands).parts.0.flights t
+-- a machine that isn't at what it shows doesn't run
+core_runs : (w : World) (core : Core) → IsBusyIn w → w.core ≡ core → activity_of core w.hib w.load ≡ runs → core ≡ Runs
+core_runs w (Off keeps) busy e run = absurd (false≢true (ap is_run run))
+core_runs w Runs busy e run = refl
+core_runs w (BootBegun from) busy e run = absurd (false≢true (ap is_run run))
+core_runs w (BootSynced from) busy e run = absurd (false≢true (ap is_run run))
+core_runs w Hibernating busy e run = absurd (false≢true (sym (ap is_underway run) ∙ busy_underway w.hib.stage w.hib.made (busy.hibernates e)))
+core_runs w Loading busy e run = absurd (false≢true (sym (ap is_underway run) ∙ load_underway w.load.stage w.load.made (busy.resumes e)))
 
-pub idle_task : (w : World) (c : disk.Content) (a : State) (t : ℕ) → StandsFor w c a → refusal (hardware_of w) a (event.Step (actor.Task t)) ≡ Some reply.Idle
-idle_task w c a t stands = idle_without_flight (hardware_of w) a t (no_flight w c a t stands)
+-- a task has no step to make where the machine doesn't run
+pub idle_elsewhere : (w : World) (c : disk.Content) (a : State) (t : ℕ) → IsBusyIn w → w.core ≢ Runs → StandsFor w c a → refusal (hardware_of w) a (event.Step (actor.Task t)) ≡ Some reply.Idle
+idle_elsewhere w c a t busy no_run stands =
+    idle_without_flight (hardware_of w) a t (λ r e. absurd (no_run (core_runs w w.core busy refl (activity_for w c a stands ∙ ap activity_in e))))
+
+-- nor where it has no operation
+shows_none : (w : World) (c : disk.Content) (a : State) (t : ℕ) → is_some (flights_in w.machine.flights t) ≡ false → StandsFor w c a → (r : Running) → a ≡ on r → r.flights t ≡ None
+shows_none w c a t none stands r e =
+    (subst (Stands (hardware_of w) (shown w) c) e stands.stands).parts.0.flights t ∙ none_flies (flights_in w.machine.flights t) none where
+      none_flies : (o : Option Flight) → is_some o ≡ false → o ≡ None
+      none_flies None e = refl
+      none_flies (Some f) e = absurd (false≢true (sym e))
+
+pub idle_without : (w : World) (c : disk.Content) (a : State) (t : ℕ) → is_some (flights_in w.machine.flights t) ≡ false → StandsFor w c a → refusal (hardware_of w) a (event.Step (actor.Task t)) ≡ Some reply.Idle
+idle_without w c a t none stands = idle_without_flight (hardware_of w) a t (shows_none w c a t none stands)
 
 -- every event but these isn't served
 pub not_served : (e : Event) → IsServed e → ((from : BootFrom) → e ≡ event.Boot from → ⊥) → ((t : ℕ) (o : TaskOp) → e ≡ event.Task t o → ⊥) → ((x : Actor) → e ≡ event.Step x → ⊥) → ((f : Format) → e ≡ event.Hibernate f → ⊥) → (e ≡ event.Settle → ⊥) → ((loader : Loader) (check : IdentCheck) → e ≡ event.Resume loader check → ⊥) → ((pick : ℕ) → e ≡ event.Cut pick → ⊥) → ((first count pick : ℕ) → e ≡ event.Arm first count pick → ⊥) → ⊥

@@ -1,9 +1,9 @@
 -- How a simulated machine is kept.
-use Rattle.std.specs.Prelude.{◌≡◌, ◌≢◌, ◌<◌, ◌≤◌, length, None, IfOk, ⊤}
+use Rattle.std.specs.Prelude.{◌≡◌, ◌≢◌, ◌<◌, ◌≤◌, length, true, ⊤}
 use Rattle.definitions.specs.Zones.{top}
 use Rattle.plain_machine.specs.Machine.{block_of_slot}
-use Rattle.plain_machine.specs.UsableArea.{fit_fault}
 use Rattle.plain_machine.specs.declared.held.Held.TheVariants.{No}
+use Rattle.machine.specs.Running.{AreReserved, CanRun}
 use Rattle.hib_core.specs.Ready.{CanStep, IsBusy}
 use Rattle.resume_core.specs.Ready as resumption
 use Rattle.world_core.specs.declared.world.Core.{Core}
@@ -23,8 +23,17 @@ IsUp (BootSynced from) = ⊥
 IsUp Hibernating = ⊤
 IsUp Loading = ⊥
 
--- Memory has the machine's page frames, and hibernation and resume are over its zones, with room for its slots. Where the area can
--- be used each slot's block is one of the disk's, and where an image is held, perhaps too, the header block is. A hibernation, a
+-- a machine whose memory is a dump's, or that boots, has the tables of a machine that can run
+abbrev pub HasTables : Core → Type 0
+HasTables (Off keeps) = keeps ≡ true
+HasTables Running = ⊥
+HasTables (BootBegun from) = ⊤
+HasTables (BootSynced from) = ⊤
+HasTables Hibernating = ⊥
+HasTables Loading = ⊥
+
+-- Memory has the machine's page frames, and hibernation and resume are over its zones, with room for its slots. A machine that runs,
+-- hibernates or settles can run, and where an image is held, perhaps too, the header block is one of the disk's. A hibernation, a
 -- settling or a resume can make its next step.
 pub record IsKept (a : Inside) : Type 0 where
   pub size : length a.frames ≡ top a.machine.hw.zones
@@ -33,7 +42,8 @@ pub record IsKept (a : Inside) : Type 0 where
   pub zeros : a.load.zeros.zones ≡ a.machine.hw.zones
   pub waiting : a.load.waiting.zones ≡ a.machine.hw.zones
   pub room : a.machine.hw.slots ≤ a.runs.room
-  pub usable : IsUp a.core → IfOk a.machine.area (λ area. fit_fault a.machine.hw a.machine.blocks area ≡ None)
+  pub tables : HasTables a.core → AreReserved a.machine.hw a.frames
+  pub run : IsUp a.core → CanRun a.machine a.frames a.runs
   pub header : IsUp a.core → a.machine.held ≢ No → block_of_slot a.machine.hw 0 < a.machine.blocks
   pub busy : a.core ≡ Hibernating → CanStep a.machine a.frames a.runs a.hib × IsBusy a.hib
   pub loads : a.core ≡ Loading → resumption.CanStep a.machine a.frames a.runs a.load × resumption.IsBusy a.load

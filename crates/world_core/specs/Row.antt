@@ -3,6 +3,7 @@ use Rattle.std.specs.Prelude.{◌≡◌, ◌≢◌, ◌⊎◌, ◌↔◌, ℕ, t
 use Rattle.definitions.specs.Disk as disk
 use Rattle.plain_machine.specs.Machine.{Hardware}
 use Rattle.plain_machine.specs.Chain.{Marked}
+use Rattle.plain_machine.specs.Shows.{seen_frames}
 use Rattle.plain_machine.specs.declared.event.BootFrom.{BootFrom}
 use Rattle.plain_machine.specs.State.{State, loading, Load}
 use Rattle.plain_machine.specs.Step.{Step}
@@ -15,9 +16,11 @@ use Rattle.plain_machine.specs.declared.event.Event.TheVariants as event
 use Rattle.plain_machine.specs.declared.reply.Reply.{Reply}
 use Rattle.plain_machine.specs.declared.reply.Reply.TheVariants as reply
 use Rattle.protocol_laws.specs.Rows as rows
-use Rattle.world_core.specs.declared.world.Core.TheVariants.{BootSynced, Loading, Running}
+use Rattle.world_core.specs.declared.world.Core.TheVariants.{BootSynced, Hibernating, Loading, Running}
 use Rattle.world_core.specs.World.{World}
+use Rattle.machine.specs.TaskRow.{IsRefusal}
 use Rattle.hib_core.specs.Begin.{IsRefusedWith}
+use Rattle.hib_core.specs.Leaving.{KeepsUsed, stays, gives, change_of}
 use Rattle.world_core.specs.StandsFor.{hardware_of, StandsFor, IsOff}
 
 -- what the state goes on to
@@ -98,7 +101,7 @@ abbrev pub IsCalled : Event → Reply → ℕ → ℕ → Type 0
 IsCalled e r before now = (now ≡ before) ⊎ (IsStep e × (r ≢ reply.Idle) × (now ≡ disk.raised before))
 
 -- An event that this world refuses. What begins an operation is refused by every reply but the count of its steps, a step by `idle`,
--- and what a task asks where the machine doesn't run; a task's own tests are machine's. A cut and an arm are never refused.
+-- and what a task asks where the machine doesn't run, or by a reply that refuses it. A cut and an arm are never refused.
 abbrev pub IsRefused : Event → World → Reply → Type 0
 IsRefused (event.Boot from) w r = IsRefusedWith r
 IsRefused (event.Hibernate format) w r = IsRefusedWith r
@@ -108,7 +111,7 @@ IsRefused event.Settle w r = IsRefusedWith r
 IsRefused (event.Shrink want) w r = ⊥
 IsRefused (event.Resume loader check) w r = (k : ℕ) → r ≢ reply.Loading k
 IsRefused (event.Step x) w r = r ≡ reply.Idle
-IsRefused (event.Task t o) w r = w.core ≢ Running
+IsRefused (event.Task t o) w r = (w.core ≢ Running) ⊎ IsRefusal r
 IsRefused (event.Cut pick) w r = ⊥
 IsRefused (event.Arm first count pick) w r = ⊥
 
@@ -122,3 +125,17 @@ pub record ChangesNothing (old new : World) : Type 0 where
 abbrev pub StopsOff : Event → World → Reply → World → Type 0
 StopsOff (event.Step actor.Core) old r new = old.core ≡ Loading → ((k : ℕ) → r ≢ reply.Loading k) → ((n : ℕ) → r ≢ reply.Resumed n) → IsOff new
 StopsOff _ old r new = ⊤
+
+-- What a step of a hibernation or a settling leaves of the page frames: those that aren't free stay, the slot table included but for the
+-- image's slots. Where it ends with nothing held these are given back, and where an image may be there all is as it was.
+pub record KeepsMemory (old new : World) (r : Reply) : Type 0 where
+  pub used : KeepsUsed (hardware_of old) old.frames new.frames
+  pub given : change_of r old.hib.stage ≡ gives → seen_frames (hardware_of old) new.frames ≡ new.frames
+  pub unsure : change_of r old.hib.stage ≡ stays → new.frames ≡ old.frames
+
+-- So it is at the begin, too, whatever the disk tells.
+abbrev pub LeavesMemory : Event → World → Reply → World → Type 0
+LeavesMemory (event.Hibernate format) old r new = KeepsUsed (hardware_of old) old.frames new.frames
+LeavesMemory event.Settle old r new = KeepsUsed (hardware_of old) old.frames new.frames
+LeavesMemory (event.Step actor.Core) old r new = old.core ≡ Hibernating → KeepsMemory old new r
+LeavesMemory _ old r new = ⊤

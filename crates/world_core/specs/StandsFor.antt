@@ -6,12 +6,13 @@ use Rattle.plain_machine.specs.Machine.{Hardware, Memory, Fits}
 use Rattle.plain_machine.specs.Chain.{Marked}
 use Rattle.plain_machine.specs.Premises.{HasOriginal}
 use Rattle.plain_machine.specs.State.{State, off, nothing, sure, other}
-use Rattle.plain_machine.specs.Step.{no_flights}
+use Rattle.machine.specs.Flights.{flights_in}
 use Rattle.plain_machine.specs.Shows.{Shown, Activity, rests, runs, boots, hibernates, undoes, settles, loads}
 use Rattle.plain_machine.specs.Stands.{Stands}
 use Rattle.plain_machine.specs.declared.event.Loader.{Loader}
 use Rattle.plain_machine.specs.declared.reply.Reply.{Reply}
 use Rattle.page_restore.specs.Waiting.{waiting_pages}
+use Rattle.machine.specs.Running.{reason_of}
 use Rattle.machine.specs.declared.machine.Machine.{Machine}
 use Rattle.hib_core.specs.Hibernation as hibernation
 use Rattle.hib_core.specs.Hibernation.{Phase, under_way, runs_on, switched_off}
@@ -98,8 +99,8 @@ shown_at core machine frames hib load = record {
   activity = activity_of core hib load;
   keeps_dump = keeps_dump core;
   held = machine.held;
-  unusable = hibernation.reason_of machine.area;
-  flights = no_flights;
+  unusable = reason_of machine.area;
+  flights = flights_in machine.flights;
   frames = frames;
   header = header_of core hib load;
   copies = copies_of core hib;

@@ -5,7 +5,8 @@ ghost use Rattle.definitions.specs.Zones.{top};
 ghost use Rattle.sig_header.specs.declared.area.Area.{Area as AreaValue};
 ghost use Rattle.sig_header.specs.declared.area.AreaKind.TheVariants.{Swap};
 ghost use Rattle.sig_header.specs.AreaKind.{area_kind};
-ghost use Rattle.plain_machine.specs.Machine.{block_of_slot};
+ghost use Rattle.plain_machine.specs.Machine.{block_of_slot, IsHardware};
+ghost use Rattle.machine.specs.Running.{slot_table_of};
 ghost use Rattle.plain_machine.specs.Refusals.{asks_dump_to_boot};
 ghost use Rattle.plain_machine.specs.Step.{fresh_frames};
 ghost use Rattle.plain_machine.specs.UsableArea.{fit_fault, has_bad_slots_of};
@@ -15,11 +16,12 @@ ghost use Rattle.world_core.specs.Started.{header_at, fault_at_start, memory_at_
 use crate::World;
 use crate::world::Core;
 use frame_arena::Frames;
-use machine::{Hardware, has_bad_slots, set_fresh, set_slots, usable};
+use machine::{Flight, Hardware, has_bad_slots, set_fresh, set_slots, usable};
 use page_core::{Failed, Page};
 use plain_machine::{BootFrom, Held, Left, NoSwap, Reply};
 use sector_disk::Disk;
 use sig_header::{Area, AreaKind, take_back};
+use swap_slots::SlotTable;
 
 // Booting: fresh memory at once, then a sync, then a read of the header block (own; Linux has its memory from the firmware).
 impl World {
@@ -69,6 +71,8 @@ impl World {
         ensures reply { result ≡ reply.More 0 2 }
     {
         let hw = self.machine.hw;
+        // The machine is one.
+        let _zones = hw.zones();
         set_memory(&mut self.frames, &hw, from);
         self.machine.blocks = blocks;
         self.core = Core::BootBegun(from);
@@ -153,6 +157,8 @@ impl World {
         };
         self.machine.area = area_at_start(&mut self.frames, &hw, self.machine.blocks, &kind, from);
         self.machine.held = if image { Held::Yes } else { Held::No };
+        self.machine.flights = [Flight::Nothing; 64];
+        self.runs.rebuild(&self.frames, &slot_table(&hw));
         self.core = Core::Running;
         image
     }
@@ -219,6 +225,17 @@ fn with_bad_slots(
         Ok(area)
     } else {
         Err(NoSwap::BadSet)
+    }
+}
+
+/// The machine's slot table.
+fn slot_table(hw: &Hardware) -> SlotTable
+    ensures table { result ≡ slot_table_of hw.now }
+    ensures hardware { IsHardware hw.now }
+{
+    SlotTable {
+        first: hw.slot_table(),
+        slots: hw.slots(),
     }
 }
 

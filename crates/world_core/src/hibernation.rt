@@ -7,7 +7,6 @@ use crate::world::Core;
 use hib_core::Job;
 use plain_machine::Reply;
 use sector_disk::Disk;
-use swap_slots::SlotTable;
 
 // A hibernation or a settling: its begin and its steps (hibernate, kernel/power/hibernate.c; swsusp_unmark, kernel/power/swap.c).
 impl World {
@@ -19,7 +18,8 @@ impl World {
     ghost use Rattle.hib_core.specs.Row.{event_of};
     ghost use Rattle.world_core.specs.declared.world.Core.TheVariants as core;
     ghost use Rattle.world_core.specs.StandsFor.{hardware_of, blocks_of, IsOff};
-    ghost use Rattle.world_core.specs.Row.{HasRow, IsRow, IsCalled, IsRefused, ChangesNothing, Restores, TellsImage};
+    ghost use Rattle.world_core.specs.Row.{HasRow, IsRow, IsCalled, IsRefused, ChangesNothing, Restores, TellsImage, KeepsMemory};
+    ghost use Rattle.hib_core.specs.Leaving.{KeepsUsed};
     ghost use Rattle.plain_machine.specs.declared.reply.Reply.TheVariants as reply;
 
     /// Begins a hibernation or a settling, if the machine runs.
@@ -31,6 +31,7 @@ impl World {
         ensures blocks { blocks_of self.new ≡ blocks_of self.old }
         ensures off { IsOff self.old → IsOff self.new }
         ensures refused { IsRefused (event_of job) self.old result → ChangesNothing self.old self.new }
+        ensures memory { KeepsUsed (hardware_of self.old) self.old.frames self.new.frames }
     {
         match self.core {
             Core::Off { .. } => Reply::NotOn,
@@ -41,7 +42,7 @@ impl World {
         }
     }
 
-    /// Begins it. Tasks don't take or give back slots, but nothing says so: the free ones are read from the slot table.
+    /// Begins it.
     fn begin_job(&mut self, job: Job) -> Reply
         requires served { IsServed job }
         requires running { self.old.core ≡ core.Running }
@@ -50,12 +51,10 @@ impl World {
         ensures hardware { hardware_of self.new ≡ hardware_of self.old }
         ensures blocks { blocks_of self.new ≡ blocks_of self.old }
         ensures refused { IsRefused (event_of job) self.old result → ChangesNothing self.old self.new }
+        ensures memory { KeepsUsed (hardware_of self.old) self.old.frames self.new.frames }
     {
-        let table = SlotTable {
-            first: self.machine.hw.slot_table(),
-            slots: self.machine.hw.slots(),
-        };
-        self.runs.rebuild(&self.frames, &table);
+        // The machine is one.
+        let _zones = self.machine.hw.zones();
         let reply = self
             .hib
             .begin(&mut self.machine, &mut self.frames, &mut self.runs, job);
@@ -81,7 +80,10 @@ impl World {
         ensures telling { D.tells_moments disk.new ≡ D.tells_moments disk.old }
         ensures time { IsTrue (D.tells_moments disk.old) → Changes (Elapses (D.moment disk.old) (D.moment disk.new)
             (D.left_since disk.old) (D.left_since disk.new)) (D.content disk.old) (D.content disk.new) }
+        ensures memory { KeepsMemory self.old self.new result }
     {
+        // Each page frame has 4096 bytes.
+        let _ = self.frames.len();
         let reply = self
             .hib
             .step(&mut self.machine, &mut self.frames, &mut self.runs, disk);

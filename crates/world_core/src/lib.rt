@@ -5,6 +5,7 @@ mod boot;
 mod hibernation;
 mod power;
 mod resume;
+mod tasks;
 mod world;
 
 pub use machine::Hardware;

@@ -1,13 +1,14 @@
-ghost use Rattle.std.specs.Prelude.{◌≡◌, ℕ, ◌⊎◌, ◌≤◌, length, Option, Some, None, IfOk, IsTrue};
+ghost use Rattle.std.specs.Prelude.{◌≡◌, ℕ, ◌⊎◌, ◌≤◌, true, length, Option, Some, None, IfOk, IsTrue};
 ghost use Rattle.definitions.specs.Zones.{top};
 ghost use Rattle.plain_machine.specs.Machine.{Memory, Fits};
+ghost use Rattle.machine.specs.Running.{AreReserved};
 ghost use Rattle.protocol_laws.specs.Rows.{IsNewFault};
 
 use frame_arena::Frames;
 use hib_core::{Hib, Job};
 use machine::{Dump, Hardware, Machine};
 use page_core::NoMemory;
-use plain_machine::{Actor, BootFrom, Event, Reply, TaskOp};
+use plain_machine::{Actor, BootFrom, Event, Reply};
 use resume_core::Load;
 use sector_disk::Disk;
 use std::alloc::Global;
@@ -19,7 +20,7 @@ use swap_slots::FreeRuns;
 pub struct World {
     pub(crate) machine: Machine,
     pub(crate) frames: Frames,
-    /// The free slots, while the machine hibernates or settles.
+    /// The free slots, while the machine runs, hibernates or settles.
     pub(crate) runs: FreeRuns,
     pub(crate) hib: Hib,
     pub(crate) load: Load,
@@ -54,12 +55,12 @@ impl Model for World {
 }
 
 impl World {
-    ghost use Rattle.plain_machine.specs.Fitting.{IsFitting, IsTask, IsFittingOp};
+    ghost use Rattle.plain_machine.specs.Fitting.{IsFitting, IsFittingActor, IsTask, IsFittingOp};
     ghost use Rattle.definitions.specs.Disk.{Content, Image, IsMixture, HasRisen, Changes, Elapses};
     ghost use Rattle.plain_machine.specs.declared.event.Event.TheVariants as event;
     ghost use Rattle.plain_machine.specs.declared.event.Actor.TheVariants as actor;
     ghost use Rattle.world_core.specs.StandsFor.{hardware_of, blocks_of, IsOff, IsNew, KeepsMemory};
-    ghost use Rattle.world_core.specs.Row.{HasRow, IsRow, IsCalled, IsServed, IsNoCut, IsRefused, ChangesNothing, StopsOff, RestartsAt, orders_after, blocks_after, Restores, TellsImage};
+    ghost use Rattle.world_core.specs.Row.{HasRow, IsRow, IsCalled, IsServed, IsNoCut, IsRefused, ChangesNothing, StopsOff, LeavesMemory, RestartsAt, orders_after, blocks_after, Restores, TellsImage};
 
     /// A machine that is off, with page frames of zeros.
     pub fn create(alloc: Global, hw: Hardware) -> Result<World, NoMemory>
@@ -85,7 +86,8 @@ impl World {
         frames: Frames,
         keeps_dump: bool,
     ) -> Result<World, NoMemory>
-        requires { length frames ≡ top hw.zones }
+        requires size { length frames ≡ top hw.zones }
+        requires tables { keeps_dump ≡ true → AreReserved hw frames }
         ensures new { IfOk result (λ w. (kept : Option Memory) → KeepsMemory hw frames keeps_dump kept → IsNew hw kept w) }
         ensures frames { IfOk result (λ w. w.frames ≡ frames) }
     {
@@ -133,11 +135,14 @@ impl World {
         ensures telling { D.tells_moments disk.new ≡ D.tells_moments disk.old }
         ensures inside { IsNoCut event → IsTrue (D.tells_moments disk.old) → (v : Image) → D.left_since disk.new (D.moment disk.old) v →
             Changes (λ old new. IsMixture old new v) (D.content disk.old) (D.content disk.new) }
+        ensures time { IsNoCut event → IsTrue (D.tells_moments disk.old) → Changes (Elapses (D.moment disk.old) (D.moment disk.new)
+            (D.left_since disk.old) (D.left_since disk.new)) (D.content disk.old) (D.content disk.new) }
         ensures hardware { hardware_of self.new ≡ hardware_of self.old }
         ensures blocks { IsOff self.new ⊎ (D.block_count disk.new ≡ blocks_of self.new) }
         ensures kept { blocks_of self.new ≡ blocks_after event result (D.block_count disk.old) (blocks_of self.old) }
         ensures refused { IsRefused event self.old result → ChangesNothing self.old self.new }
         ensures stopped { StopsOff event self.old result self.new }
+        ensures memory { LeavesMemory event self.old result self.new }
     {
         match event {
             Event::Boot(from) => self.boot(disk.blocks(), from),
@@ -152,27 +157,9 @@ impl World {
         }
     }
 
-    fn task(&mut self, t: u32, op: TaskOp) -> Reply
-        requires task { IsTask t }
-        requires op { IsFittingOp op }
-        ensures row { (c : Content) → IsRow (event.Task t op) self.old self.new result c c }
-        ensures cause { IsNewFault result → ⊥ }
-        ensures hardware { hardware_of self.new ≡ hardware_of self.old }
-        ensures blocks { blocks_of self.new ≡ blocks_of self.old }
-        ensures core { self.new.core ≡ self.old.core }
-        ensures refused { IsRefused (event.Task t op) self.old result → ChangesNothing self.old self.new }
-    {
-        match self.core {
-            Core::Off { .. } => Reply::NotOn,
-            Core::BootBegun(_) | Core::BootSynced(_) | Core::Hibernating | Core::Loading => {
-                Reply::Frozen
-            }
-            Core::Running => self.machine.task(&mut self.frames, t, op),
-        }
-    }
-
-    /// A step of an actor. No task has an operation in flight.
+    /// A step of an actor.
     fn step_of<D: Disk>(&mut self, disk: &mut D, actor: Actor) -> Reply
+        requires actor { IsFittingActor actor }
         requires blocks { IsOff self.old ⊎ (D.block_count disk.old ≡ blocks_of self.old) }
         ensures row { HasRow (event.Step actor) self.old self.new result (D.content disk.old) (D.content disk.new) }
         ensures restored { Restores (event.Step actor) self.old self.new result (D.content disk.old) (D.content disk.new) }
@@ -190,10 +177,11 @@ impl World {
         ensures off { IsOff self.old → IsOff self.new }
         ensures refused { IsRefused (event.Step actor) self.old result → ChangesNothing self.old self.new }
         ensures stopped { StopsOff (event.Step actor) self.old result self.new }
+        ensures memory { LeavesMemory (event.Step actor) self.old result self.new }
     {
         match actor {
             Actor::Core => self.step(disk),
-            Actor::Task(_) => Reply::Idle,
+            Actor::Task(t) => self.step_task(disk, t),
         }
     }
 
@@ -215,6 +203,7 @@ impl World {
         ensures off { IsOff self.old → IsOff self.new }
         ensures refused { IsRefused (event.Step actor.Core) self.old result → ChangesNothing self.old self.new }
         ensures stopped { StopsOff (event.Step actor.Core) self.old result self.new }
+        ensures memory { LeavesMemory (event.Step actor.Core) self.old result self.new }
     {
         match self.core {
             Core::Off { .. } | Core::Running => Reply::Idle,

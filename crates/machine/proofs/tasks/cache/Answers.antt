@@ -3,8 +3,10 @@ use Rattle.definitions.specs.Tables.{with_entry, entry_of}
 use Rattle.plain_machine.specs.declared.event.TaskOp.TheVariants as op
 use Rattle.plain_machine.specs.declared.reply.Reply.TheVariants as reply
 use Rattle.plain_machine.specs.Machine.{Memory, is_well_formed}
-use Rattle.machine.specs.TaskRow.{HasRow}
+use Rattle.machine.specs.TaskRow.{HasFrameRow}
 use Rattle.machine.proofs.Rows.{entry_within}
+use Rattle.machine.specs.OwnFrames.{ChangesOwn}
+use Rattle.machine.proofs.Readiness.{changes_entry}
 use Rattle.machine.proofs.Requests.{own_refused, own_entry_set, well_formed_by}
 use Rattle.machine.proofs.tasks.cache.Goals as goal
 
@@ -33,4 +35,16 @@ returns-clause-row c =
     let value : entry_of 64 t ≡ 65536 * t + 64 = omega arith in
     let set_is : c.set_entry.new.frames ≡ with_entry frames h.frame_table p (65536 * t + 64) =
     c.set_entry.ensures.entry ∙ ap (λ (table : ℕ). with_entry frames table p (entry_of 64 t)) c.frame_table.ensures.frame ∙ ap (with_entry frames h.frame_table p) value in
-    subst (λ (n : Memory). HasRow h t (op.Cache p) frames n reply.Done) (sym set_is) row
+    subst (λ (n : Memory). HasFrameRow h t (op.Cache p) frames n reply.Done) (sym set_is) row
+
+pub returns-clause-own : goal.returns-clause-own
+returns-clause-own c =
+    let h = c.args.hw.now in
+    let p = c.args.p in
+    let t = c.args.t in
+    let frames = c.args.frames.now in
+    let changes = changes_entry h t frames p (65536 * t + 64) c.not_own.ensures.hardware c.not_own.ensures.pages c.requires.frames (c.in_default.ensures.valid refl) (inr (c.in_default.ensures.owned refl)) in
+    let value : entry_of 64 t ≡ 65536 * t + 64 = omega arith in
+    let set_is : c.set_entry.new.frames ≡ with_entry frames h.frame_table p (65536 * t + 64) =
+    c.set_entry.ensures.entry ∙ ap (λ (table : ℕ). with_entry frames table p (entry_of 64 t)) c.frame_table.ensures.frame ∙ ap (with_entry frames h.frame_table p) value in
+    subst (ChangesOwn h t frames) (sym set_is) (inr (p, changes))

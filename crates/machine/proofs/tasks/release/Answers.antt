@@ -1,10 +1,12 @@
-use Rattle.std.proofs.Common.{◌≡◌, ℕ, sym, ap, ◌∙◌, subst, arith, refl, true}
+use Rattle.std.proofs.Common.{◌≡◌, ℕ, sym, ap, ◌∙◌, subst, arith, refl, true, inr}
 use Rattle.definitions.specs.Tables.{with_entry}
 use Rattle.plain_machine.specs.declared.event.TaskOp.TheVariants as op
 use Rattle.plain_machine.specs.declared.reply.Reply.TheVariants as reply
 use Rattle.plain_machine.specs.Machine.{Memory, is_well_formed}
-use Rattle.machine.specs.TaskRow.{HasRow}
+use Rattle.machine.specs.TaskRow.{HasFrameRow}
 use Rattle.machine.proofs.Rows.{entry_within}
+use Rattle.machine.specs.OwnFrames.{ChangesOwn}
+use Rattle.machine.proofs.Readiness.{changes_entry}
 use Rattle.machine.proofs.Requests.{own_refused, own_entry_set}
 use Rattle.machine.proofs.tasks.release.Goals as goal
 
@@ -32,4 +34,15 @@ returns-clause-row c =
     (sym c.in_default.ensures.refusal) (λ a. refl) (λ a. (0, omega arith, refl)) in
     let set_is : c.set_entry.new.frames ≡ with_entry frames h.frame_table p 1 =
     c.set_entry.ensures.entry ∙ ap (λ (table : ℕ). with_entry frames table p 1) c.frame_table.ensures.frame in
-    subst (λ (n : Memory). HasRow h t (op.Release p) frames n reply.Done) (sym set_is) row
+    subst (λ (n : Memory). HasFrameRow h t (op.Release p) frames n reply.Done) (sym set_is) row
+
+pub returns-clause-own : goal.returns-clause-own
+returns-clause-own c =
+    let h = c.args.hw.now in
+    let p = c.args.p in
+    let t = c.args.t in
+    let frames = c.args.frames.now in
+    let changes = changes_entry h t frames p 1 c.not_own.ensures.hardware c.not_own.ensures.pages c.requires.frames (c.in_default.ensures.valid refl) (inr (c.in_default.ensures.owned refl)) in
+    let set_is : c.set_entry.new.frames ≡ with_entry frames h.frame_table p 1 =
+    c.set_entry.ensures.entry ∙ ap (λ (table : ℕ). with_entry frames table p 1) c.frame_table.ensures.frame in
+    subst (ChangesOwn h t frames) (sym set_is) (inr (p, changes))

@@ -3,7 +3,7 @@ use Rattle.definitions.specs.Bytes.{word}
 use Rattle.definitions.proofs.ZoneNumbers.{below_top}
 use Rattle.plain_machine.specs.declared.event.TaskOp.TheVariants as op
 use Rattle.plain_machine.specs.declared.reply.Reply.TheVariants as reply
-use Rattle.machine.specs.TaskRow.{HasRow}
+use Rattle.machine.specs.TaskRow.{HasFrameRow}
 use Rattle.machine.proofs.Requests.{own_refused, own_page_told}
 use Rattle.machine.proofs.tasks.show.Goals as goal
 
@@ -27,4 +27,4 @@ returns-clause-row c =
     let valid = c.in_default.ensures.valid refl in
     let row = own_page_told h t p (op.Show p k) frames (λ page. reply.Word (word page k)) c.not_own.ensures.hardware c.requires.task c.requires.frames valid (c.in_default.ensures.owned refl)
     (sym c.in_default.ensures.refusal) (λ a. refl) (λ a. (0, omega arith, refl)) in
-    subst (λ (value : ℕ). HasRow h t (op.Show p k) frames frames (reply.Word value)) (sym c.word.ensures) row
+    subst (λ (value : ℕ). HasFrameRow h t (op.Show p k) frames frames (reply.Word value)) (sym c.word.ensures) row

@@ -1,12 +1,15 @@
-use Rattle.std.proofs.Common.{◌*◌, ℕ, List, sym, ◌∙◌, subst, arith, refl}
+use Rattle.std.proofs.Common.{inr, ◌*◌, ℕ, List, sym, ◌∙◌, subst, arith, refl}
 use Rattle.definitions.specs.Bytes.{IsPage, with_word}
+use Rattle.definitions.specs.Tables.{frame}
 use Rattle.definitions.proofs.PageBytes.{length-with_number}
 use Rattle.definitions.proofs.ZoneNumbers.{below_top}
 use Rattle.plain_machine.specs.Machine.{Memory}
 use Rattle.plain_machine.specs.declared.event.TaskOp.TheVariants as op
 use Rattle.plain_machine.specs.declared.reply.Reply.TheVariants as reply
-use Rattle.machine.specs.TaskRow.{HasRow}
-use Rattle.machine.proofs.Requests.{own_refused, own_page_set}
+use Rattle.machine.specs.TaskRow.{HasFrameRow}
+use Rattle.machine.specs.OwnFrames.{ChangesOwn}
+use Rattle.machine.proofs.Readiness.{changes_page}
+use Rattle.machine.proofs.Requests.{own_refused, own_page_set, owned_apart}
 use Rattle.machine.proofs.tasks.store.Goals as goal
 
 pub returns-in-Some-clause-row : goal.returns-in-Some-clause-row
@@ -29,6 +32,16 @@ returns-clause-row c =
     let valid = c.in_default.ensures.valid refl in
     let v = c.args.v in
     let keeps : (page : List ℕ) → IsPage page → IsPage (with_word page k v) = λ page whole. length-with_number 8 page (8 * k) v (let word = c.requires.word in omega arith) ∙ whole in
-    let row = own_page_set h t p (op.Store p k v) frames (λ page. with_word page k v) c.not_own.ensures.hardware c.requires.task c.requires.frames valid (c.in_default.ensures.owned refl) keeps
+    let row = own_page_set h t p (op.Store p k v) frames (λ page. with_word page k v) c.not_own.ensures.hardware c.requires.task c.requires.frames c.requires.reserved valid (c.in_default.ensures.owned refl) keeps
     (sym c.in_default.ensures.refusal) (λ a. refl) (λ a. (0, omega arith, refl)) in
-    subst (λ (n : Memory). HasRow h t (op.Store p k v) frames n reply.Done) (sym c.set_word.ensures) row
+    subst (λ (n : Memory). HasFrameRow h t (op.Store p k v) frames n reply.Done) (sym c.set_word.ensures) row
+
+pub returns-clause-own : goal.returns-clause-own
+returns-clause-own c =
+    let h = c.args.hw.now in
+    let p = c.args.p in
+    let t = c.args.t in
+    let frames = c.args.frames.now in
+    let own = c.in_default.ensures.owned refl in
+    let changes = changes_page h t frames p (with_word (frame frames p) c.args.k c.args.v) c.not_own.ensures.hardware (owned_apart h frames t p c.requires.reserved own c.requires.task.some) (c.in_default.ensures.valid refl) (inr own) in
+    subst (ChangesOwn h t frames) (sym c.set_word.ensures) (inr (p, changes))

@@ -1,4 +1,4 @@
-use Rattle.std.proofs.Common.{◌≡◌, ℕ, List, refl, sym, ap, ◌∙◌, subst}
+use Rattle.std.proofs.Common.{◌≡◌, refl, sym, ap, ◌∙◌}
 use Rattle.definitions.specs.Bytes.{filled_page}
 use Rattle.plain_machine.specs.Loader.{loader_page, loader_frame}
 use Rattle.plain_machine.specs.declared.event.Loader.{Loader}

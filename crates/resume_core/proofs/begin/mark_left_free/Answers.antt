@@ -1,5 +1,4 @@
 use Rattle.std.proofs.Common.{◌≡◌, ◌&&◌, ℕ, List, ◌∙◌, ◌<◌, length, filter, not, get_or, refl, sym, ap, ap₂, subst, arith}
-use Rattle.std.proofs.lemmas.Bool.{not_from_true, not_from_false}
 use Rattle.std.proofs.lemmas.List.{take_all}
 use Rattle.std.proofs.lemmas.List.Elements.{Contains-get_or}
 use Rattle.std.proofs.lemmas.Option.{same_Some}

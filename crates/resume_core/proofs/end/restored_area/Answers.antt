@@ -1,6 +1,7 @@
 use Rattle.std.proofs.Common.{Some, ap, sym, refl, ◌∙◌}
 use Rattle.sig_header.specs.AreaKind.{area_kind}
 use Rattle.plain_machine.specs.declared.reply.Reply.TheVariants as reply
+use Rattle.machine.proofs.Readiness.{reserved-fits}
 use Rattle.resume_core.proofs.Ending.{tables_good, bad_slots, no_area, fits_of}
 use Rattle.resume_core.proofs.end.restored_area.Goals as goal
 
@@ -24,3 +25,6 @@ returns-then-has_bad_slots-clause-fits c = fits_of c.args.hw.now c.args.blocks c
 
 pub returns-then-has_bad_slots-clause-kind : goal.returns-then-has_bad_slots-clause-kind
 returns-then-has_bad_slots-clause-kind c = sym (c.read.ensures ∙ ap area_kind c.take_back.ensures) ∙ c.in-Ok.ensures.0
+
+pub returns-then-has_bad_slots-clause-reserved : goal.returns-then-has_bad_slots-clause-reserved
+returns-then-has_bad_slots-clause-reserved c = reserved-fits c.args.hw.now c.args.frames.now (c.in_ok-tables_fit.ensures.tables refl)

@@ -1,9 +1,10 @@
-use Rattle.swsusp_cli.proofs.Prints.{replay_flushed, hibernates_flushed, resumes_flushed}
+use Rattle.swsusp_cli.proofs.Prints.{replay_flushed, hibernates_flushed, resumes_flushed, exports_flushed, imports_flushed}
+use Rattle.swsusp_cli.specs.View.{DiskView}
 use Rattle.swsusp_cli.proofs.Replays.{few_calls}
 use Rattle.swsusp_cli.proofs.top.run.Goals as goal
 
 pub returns-in-Some-Replay-clause-few_calls : goal.returns-in-Some-Replay-clause-few_calls
-returns-in-Some-Replay-clause-few_calls g c = few_calls _ _ _ c.replay.ensures.outcome
+returns-in-Some-Replay-clause-few_calls g c asked = few_calls _ _ _ c.replay.ensures.outcome
 
 pub returns-in-Some-Replay-clause-flushed : goal.returns-in-Some-Replay-clause-flushed
 returns-in-Some-Replay-clause-flushed g c = replay_flushed _ _ _ c.replay.ensures.outcome
@@ -13,3 +14,16 @@ returns-in-Some-Hibernate-clause-flushed g c = hibernates_flushed _ _ _ _ c.hibe
 
 pub returns-in-Some-Resume-clause-flushed : goal.returns-in-Some-Resume-clause-flushed
 returns-in-Some-Resume-clause-flushed g c = resumes_flushed _ _ _ _ c.resume_dump.ensures.outcome
+
+pub returns-in-Some-Export-clause-exported : goal.returns-in-Some-Export-clause-exported
+returns-in-Some-Export-clause-exported g c asked =
+    let disk : DiskView = record { blocks = g.D.Disk.block_count c.args.disk.now; content = g.D.Disk.content c.args.disk.now; faults = g.D.Disk.faults c.args.disk.now; calls = g.D.Disk.calls c.args.disk.now; orders = g.D.Disk.orders c.args.disk.now } in
+    c.export_dump.ensures.outcome disk
+
+pub returns-in-Some-Export-clause-flushed : goal.returns-in-Some-Export-clause-flushed
+returns-in-Some-Export-clause-flushed g c =
+    let disk : DiskView = record { blocks = g.D.Disk.block_count c.args.disk.now; content = g.D.Disk.content c.args.disk.now; faults = g.D.Disk.faults c.args.disk.now; calls = g.D.Disk.calls c.args.disk.now; orders = g.D.Disk.orders c.args.disk.now } in
+    exports_flushed _ _ _ (c.export_dump.ensures.outcome disk)
+
+pub returns-in-Some-Import-clause-flushed : goal.returns-in-Some-Import-clause-flushed
+returns-in-Some-Import-clause-flushed g c = imports_flushed _ _ _ c.import_stream.ensures.outcome

@@ -1,5 +1,5 @@
 -- Each refusal, and what is counted where there is none.
-use Rattle.std.proofs.Common.{◌≡◌, ◌≢◌, true, false, not, Result, ◌≤◌, ◌<◌, ℕ, ◌+◌, ◌-◌, List, [], length, refl, subst, sym, ap, ◌∙◌, arith, Contains, IsOk}
+use Rattle.std.proofs.Common.{◌≡◌, ◌≢◌, true, false, not, Result, ◌≤◌, ◌<◌, ℕ, ◌+◌, ◌-◌, List, [], length, refl, subst, sym, ap, ◌∙◌, arith, IsOk}
 use Rattle.std.proofs.lemmas.Bool.{false≢true}
 use denote.Enum.Bare.{sameb}
 use Rattle.sig_header.specs.declared.area.Area.{Area}
@@ -8,7 +8,7 @@ use Rattle.definitions.specs.NumberPages.{meta_of}
 use Rattle.definitions.specs.Tables.{HasTable}
 use Rattle.page_core.specs.declared.format.Format.{Format}
 use Rattle.definitions.specs.Zones.{top}
-use Rattle.plain_machine.specs.Machine.{Memory, saveable, unused, IsOfTable}
+use Rattle.plain_machine.specs.Machine.{Memory, saveable, unused}
 use Rattle.plain_machine.specs.declared.reply.Reply.TheVariants as reply
 use Rattle.plain_machine.specs.contracts.held.Held.{the_type}
 use Rattle.plain_machine.specs.declared.held.Held.{Held}
@@ -23,8 +23,8 @@ use Rattle.protocol_laws.specs.Writers.{slot_table_of}
 use Rattle.machine.specs.declared.machine.Machine.{Machine}
 use Rattle.hib_core.specs.declared.hib.Hib.{Hib}
 use Rattle.hib_core.specs.Begin.{IsRefused, pages_of}
-use Rattle.hib_core.proofs.BeginRefusals.{SeenLaws, AreCounts, are_counts, refused_closed, refused_no_swap, refused_no_frames, refused_no_slots, no_lost_frame}
-use Rattle.hib_core.proofs.BeginTables.{at_hardware, at_hardware_back, frame_table_lies, slot_table_lies, saveable_few}
+use Rattle.hib_core.proofs.BeginRefusals.{SeenLaws, AreCounts, are_counts, refused_closed, refused_no_swap, refused_no_frames, refused_no_slots, refused_busy}
+use Rattle.hib_core.proofs.BeginTables.{at_hardware, frame_table_lies, slot_table_lies, saveable_few}
 use Rattle.hib_core.proofs.hib.Hib.accept.Goals as goal
 
 isn't_no : (flag : Held) → not (sameb the_type flag No) ≡ true → flag ≢ No
@@ -36,31 +36,22 @@ is_no Yes e = absurd (false≢true (sym e))
 is_no Perhaps e = absurd (false≢true (sym e))
 
 pub returns-then-ne-clause-refused : goal.returns-then-ne-clause-refused
-returns-then-ne-clause-refused c = refused_closed c.args.machine.now c.args.frames.now c.args.format (isn't_no c.args.machine.now.held (sym c.ne.ensures ∙ c.if-ne.true))
+returns-then-ne-clause-refused c = refused_closed c.args.machine.now c.args.frames.now c.args.format (sym c.busy.ensures ∙ c.in_default.is) (isn't_no c.args.machine.now.held (sym c.ne.ensures ∙ c.if-ne.true))
 
 pub returns-in-Err-clause-refused : goal.returns-in-Err-clause-refused
 returns-in-Err-clause-refused c =
     let laws : SeenLaws = record { image = c.takes_image.ensures.image; lists = c.shows_lists.ensures.frames; slots = c.shows_lists.ensures.slots } in
     let unmarked : c.args.machine.now.held ≡ No = is_no c.args.machine.now.held (sym c.ne.ensures ∙ c.if-ne.false) in
-    refused_no_swap c.args.machine.now c.args.frames.now c.args.format c.in-Err.why laws c.zones-zones.ensures.hardware unmarked c.in-Err.is
+    refused_no_swap c.args.machine.now c.args.frames.now c.args.format c.in-Err.why laws c.zones-zones.ensures.hardware (sym c.busy.ensures ∙ c.in_default.is) unmarked c.in-Err.is
 
 pub count-requires-clause-table : goal.count-requires-clause-table
 count-requires-clause-table c =
-    let lies : HasTable c.args.frames.now c.args.machine.now.hw.frame_table (top c.args.machine.now.hw.zones) = frame_table_lies c.args.machine.now.hw c.args.frames.now c.zones-zones.ensures.hardware c.requires.ready.size in
+    let lies : HasTable c.args.frames.now c.args.machine.now.hw.frame_table (top c.args.machine.now.hw.zones) = frame_table_lies c.args.machine.now.hw c.args.frames.now c.zones-zones.ensures.hardware c.requires.ready.run.size in
     subst (λ (zs : List (ℕ × ℕ)). HasTable c.args.frames.now c.frame_table-table.result (top zs)) (sym c.zones-zones.ensures.zones)
     (subst (λ (k : ℕ). HasTable c.args.frames.now k (top c.args.machine.now.hw.zones)) (sym c.frame_table-table.ensures.frame) lies)
-
-pub lost_frame-requires-clause-table : goal.lost_frame-requires-clause-table
-lost_frame-requires-clause-table c =
-    let lies : HasTable c.args.frames.now c.args.machine.now.hw.frame_table (top c.args.machine.now.hw.zones) = frame_table_lies c.args.machine.now.hw c.args.frames.now c.zones-zones.ensures.hardware c.requires.ready.size in
-    subst (λ (zs : List (ℕ × ℕ)). HasTable c.args.frames.now c.frame_table-table.result (top zs)) (sym c.zones-zones.ensures.zones)
-    (subst (λ (k : ℕ). HasTable c.args.frames.now k (top c.args.machine.now.hw.zones)) (sym c.frame_table-table.ensures.frame) lies)
-
-pub lost_frame-requires-clause-slots : goal.lost_frame-requires-clause-slots
-lost_frame-requires-clause-slots c = subst (LiesIn c.args.frames.now) (sym c.slot_table-slots.ensures) (slot_table_lies c.args.machine.now.hw c.args.frames.now c.zones-zones.ensures.hardware c.requires.ready.size)
 
 pub free_count-free-requires-clause-table : goal.free_count-free-requires-clause-table
-free_count-free-requires-clause-table c = subst (LiesIn c.args.frames.now) (sym c.slot_table-slots.ensures) (slot_table_lies c.args.machine.now.hw c.args.frames.now c.zones-zones.ensures.hardware c.requires.ready.size)
+free_count-free-requires-clause-table c = subst (LiesIn c.args.frames.now) (sym c.slot_table-slots.ensures) (slot_table_lies c.args.machine.now.hw c.args.frames.now c.zones-zones.ensures.hardware c.requires.ready.run.size)
 
 pub pages_of-requires-clause-saved : goal.pages_of-requires-clause-saved
 pages_of-requires-clause-saved c =
@@ -83,11 +74,11 @@ pub returns-in-Err-count-clause-refused : goal.returns-in-Err-count-clause-refus
 returns-in-Err-count-clause-refused c =
     let laws : SeenLaws = record { image = c.takes_image.ensures.image; lists = c.shows_lists.ensures.frames; slots = c.shows_lists.ensures.slots } in
     let unmarked : c.args.machine.now.held ≡ No = is_no c.args.machine.now.held (sym c.ne.ensures ∙ c.if-ne.false) in
-    let usable : IsOk c.args.machine.now.area = subst (λ (r : Result Area NoSwap). IsOk r) (sym c.in_default.is) refl in
+    let usable : IsOk c.args.machine.now.area = subst (λ (r : Result Area NoSwap). IsOk r) (sym c.in_default-area.is) refl in
     let few = at_hardware c.args.machine.now.hw (λ zs k. length (free_frames zs k c.args.frames.now) < length (saveable_frames zs k c.args.frames.now) + 1025) c.zones-zones.result.now c.frame_table-table.result c.zones-zones.ensures.zones c.frame_table-table.ensures.frame (c.in-Err-count.ensures.short.0 refl) in
     let told : c.in-Err-count.short ≡ record { free = length (unused c.args.machine.now.hw c.args.frames.now); need = length (saveable c.args.machine.now.hw c.args.frames.now) + 1025 } =
     at_hardware c.args.machine.now.hw (λ zs k. let is : Short = record { free = length (free_frames zs k c.args.frames.now); need = length (saveable_frames zs k c.args.frames.now) + 1025 } in c.in-Err-count.short ≡ is) c.zones-zones.result.now c.frame_table-table.result c.zones-zones.ensures.zones c.frame_table-table.ensures.frame c.in-Err-count.ensures.tells in
-    subst (λ (s : Short). IsRefused c.args.machine.now c.args.frames.now c.args.format (reply.NoFrames s.free s.need)) (sym told) (refused_no_frames c.args.machine.now c.args.frames.now c.args.format laws c.zones-zones.ensures.hardware unmarked usable few)
+    subst (λ (s : Short). IsRefused c.args.machine.now c.args.frames.now c.args.format (reply.NoFrames s.free s.need)) (sym told) (refused_no_frames c.args.machine.now c.args.frames.now c.args.format laws c.zones-zones.ensures.hardware (sym c.busy.ensures ∙ c.in_default.is) unmarked usable few)
 
 -- what the snapshot counts, and that there is room for it
 record IsRoom (machine : Machine) (frames : Memory) (hib : Hib) (counts : Counts) (f : Format) : Type 0 where
@@ -111,7 +102,7 @@ pub returns-then-free-need-clause-refused : goal.returns-then-free-need-clause-r
 returns-then-free-need-clause-refused c =
     let laws : SeenLaws = record { image = c.takes_image.ensures.image; lists = c.shows_lists.ensures.frames; slots = c.shows_lists.ensures.slots } in
     let unmarked : c.args.machine.now.held ≡ No = is_no c.args.machine.now.held (sym c.ne.ensures ∙ c.if-ne.false) in
-    let usable : IsOk c.args.machine.now.area = subst (λ (r : Result Area NoSwap). IsOk r) (sym c.in_default.is) refl in
+    let usable : IsOk c.args.machine.now.area = subst (λ (r : Result Area NoSwap). IsOk r) (sym c.in_default-area.is) refl in
     let hib : Hib = record c.args.self.now { snapshot = c.count.new.self } in
     let is = room c.args.machine.now c.args.frames.now hib c.in-Ok.counts c.args.format c.args.self.now.snapshot.zones c.zones-zones.result.now c.frame_table-table.result c.zones-zones.ensures.zones c.frame_table-table.ensures.frame c.in-Ok.ensures.sets c.in-Ok.ensures.counts (c.in-Ok.ensures.enough.0 refl) in
     let free : c.free_count-free.result ≡ length (free_in c.args.frames.now (slot_table_of c.args.machine.now.hw)) = c.free_count-free.ensures ∙ ap (λ (t : SlotTable). length (free_in c.args.frames.now t)) c.slot_table-slots.ensures in
@@ -119,21 +110,18 @@ returns-then-free-need-clause-refused c =
     let few : length (free_in c.args.frames.now (slot_table_of c.args.machine.now.hw)) < pages_of c.in-Ok.counts + 1026 = subst (λ (n : ℕ). n < pages_of c.in-Ok.counts + 1026) free (subst (λ (n : ℕ). c.free_count-free.result < n + 1026) c.pages_of.ensures lt) in
     subst (λ (n : ℕ). IsRefused c.args.machine.now c.args.frames.now c.args.format (reply.NoSlots n (c.pages_of.result + 1026))) (sym free)
     (subst (λ (n : ℕ). IsRefused c.args.machine.now c.args.frames.now c.args.format (reply.NoSlots (length (free_in c.args.frames.now (slot_table_of c.args.machine.now.hw))) (n + 1026))) (sym c.pages_of.ensures)
-    (refused_no_slots c.args.machine.now c.args.frames.now c.args.format hib c.in-Ok.counts laws c.zones-zones.ensures.hardware unmarked usable is.are is.format is.copies few))
+    (refused_no_slots c.args.machine.now c.args.frames.now c.args.format hib c.in-Ok.counts laws c.zones-zones.ensures.hardware (sym c.busy.ensures ∙ c.in_default.is) unmarked usable is.are is.format is.copies few))
 
-pub returns-in-None-clause-counted : goal.returns-in-None-clause-counted
-returns-in-None-clause-counted c =
+pub returns-clause-counted : goal.returns-clause-counted
+returns-clause-counted c =
     let unmarked : c.args.machine.now.held ≡ No = is_no c.args.machine.now.held (sym c.ne.ensures ∙ c.if-ne.false) in
-    let usable : IsOk c.args.machine.now.area = subst (λ (r : Result Area NoSwap). IsOk r) (sym c.in_default.is) refl in
+    let usable : IsOk c.args.machine.now.area = subst (λ (r : Result Area NoSwap). IsOk r) (sym c.in_default-area.is) refl in
     let hib : Hib = record c.args.self.now { snapshot = c.count.new.self } in
     let is = room c.args.machine.now c.args.frames.now hib c.in-Ok.counts c.args.format c.args.self.now.snapshot.zones c.zones-zones.result.now c.frame_table-table.result c.zones-zones.ensures.zones c.frame_table-table.ensures.frame c.in-Ok.ensures.sets c.in-Ok.ensures.counts (c.in-Ok.ensures.enough.0 refl) in
     let free : c.free_count-free.result ≡ length (free_in c.args.frames.now (slot_table_of c.args.machine.now.hw)) = c.free_count-free.ensures ∙ ap (λ (t : SlotTable). length (free_in c.args.frames.now t)) c.slot_table-slots.ensures in
     let le : c.pages_of.result + 1026 ≤ c.free_count-free.result = c.if-free-need.false in
-    let first : c.slot_table-slots.result.first ≡ c.args.machine.now.hw.slot_table = ap (λ (t : SlotTable). t.first) c.slot_table-slots.ensures in
-    let slots : c.slot_table-slots.result.slots ≡ c.args.machine.now.hw.slots = ap (λ (t : SlotTable). t.slots) c.slot_table-slots.ensures in
-    let lies : (p : ℕ) → IsOfTable c.args.machine.now.hw.slot_table c.args.machine.now.hw.slots p → Contains (saveable c.args.machine.now.hw c.args.frames.now) p = λ p of.
-    at_hardware c.args.machine.now.hw (λ zs k. Contains (saveable_frames zs k c.args.frames.now) p) c.zones-zones.result.now c.frame_table-table.result c.zones-zones.ensures.zones c.frame_table-table.ensures.frame (c.in-None.ensures.none p (subst (λ (t : SlotTable). IsOfTable t.first t.slots p) (sym c.slot_table-slots.ensures) of)) in
     record {
+      idle = sym c.busy.ensures ∙ c.in_default.is;
       held = unmarked;
       area = usable;
       origs = is.are.origs;
@@ -142,12 +130,8 @@ returns-in-None-clause-counted c =
       with_pages = is.are.with_pages;
       copies = is.copies;
       slots = subst (λ (n : ℕ). pages_of c.in-Ok.counts + 1026 ≤ n) free (subst (λ (n : ℕ). n + 1026 ≤ c.free_count-free.result) c.pages_of.ensures le);
-      table = lies;
+      reserved = c.requires.ready.run.reserved;
     }
 
 pub returns-in-Some-clause-refused : goal.returns-in-Some-clause-refused
-returns-in-Some-clause-refused c =
-    let laws : SeenLaws = record { image = c.takes_image.ensures.image; lists = c.shows_lists.ensures.frames; slots = c.shows_lists.ensures.slots } in
-    no_lost_frame c.args.machine.now c.args.frames.now c.args.format c.in-Some.frame (reply.BadTables c.in-Some.frame) laws c.zones-zones.ensures.hardware
-    (subst (λ (t : SlotTable). IsOfTable t.first t.slots c.in-Some.frame) c.slot_table-slots.ensures c.in-Some.ensures.lost.0)
-    (λ in'. c.in-Some.ensures.lost.1 (at_hardware_back c.args.machine.now.hw (λ zs k. Contains (saveable_frames zs k c.args.frames.now) c.in-Some.frame) c.zones-zones.result.now c.frame_table-table.result c.zones-zones.ensures.zones c.frame_table-table.ensures.frame in'))
+returns-in-Some-clause-refused c = refused_busy c.args.machine.now c.args.frames.now c.args.format c.in-Some.task (sym c.busy.ensures ∙ c.in-Some.is)

@@ -1,3 +1,4 @@
+use Rattle.hib_core.proofs.Leaving.{gives_back, gone_gives, unsure_stays, leaves_by}
 use Rattle.std.proofs.Common.{refl, ◌∙◌}
 use Rattle.definitions.specs.Disk as disk
 use Rattle.hib_core.proofs.Facts.{content_of, changed, row_at}
@@ -23,3 +24,12 @@ returns-in-Err-clause-row g c = λ k told.
       row_at c.args.machine.now c.args.frames.now c.args.self.now _ c.leave_unsure.new.machine c.args.frames.now _ c.leave_unsure.new.self _ c.leave_unsure.result k k c.leave_unsure.ensures.machine c.leave_unsure.ensures.hib c.leave_unsure.ensures.reply
           (end_failed_row c.args.machine.now c.args.frames.now c.args.runs.now c.args.self.now k c.args.call c.undoes.ensures.sync_failed c.requires.ready c.requires.stage whole),
     )
+
+pub returns-in-Ok-clause-memory : goal.returns-in-Ok-clause-memory
+returns-in-Ok-clause-memory g c =
+    leaves_by c.undone.result _ c.args.self.now.stage c.args.machine.now.hw c.args.frames.now c.give_up.new.frames c.undone.ensures.reply
+    (gone_gives c.args.call c.args.self.now.stage c.args.machine.now.hw c.args.frames.now c.give_up.new.frames (gives_back c.args.machine.now.hw c.args.frames.now c.give_up.new.frames c.give_up.ensures.given))
+
+pub returns-in-Err-clause-memory : goal.returns-in-Err-clause-memory
+returns-in-Err-clause-memory g c =
+    leaves_by c.leave_unsure.result _ c.args.self.now.stage c.args.machine.now.hw c.args.frames.now c.args.frames.now c.leave_unsure.ensures.reply (unsure_stays c.args.call c.args.self.now.stage c.args.machine.now.hw c.args.frames.now)

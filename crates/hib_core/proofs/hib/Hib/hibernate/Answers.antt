@@ -1,5 +1,6 @@
+use Rattle.hib_core.proofs.Leaving.{begins_image}
 -- A hibernation begins, or is refused, in each state that is stood for.
-use Rattle.std.proofs.Common.{◌<◌, ◌^◌, sym, ap, subst, arith}
+use Rattle.std.proofs.Common.{◌<◌, ◌^◌, inl, sym, ap, subst, arith}
 use Rattle.plain_machine.specs.declared.reply.Reply.{Reply}
 use Rattle.hib_core.specs.Ready.{is_busy_at}
 use Rattle.hib_core.specs.Row.{IsBegun}
@@ -23,7 +24,7 @@ returns-in-Ok-clause-row c = λ k.
     } in
     let is : IsBegin c.args.machine.now c.args.frames.now c.take.new.frames c.accept.new.self c.take.new.self c.in-Ok.counts = record {
       hardware = c.zones-zones.ensures.hardware;
-      size = c.requires.ready.size;
+      size = c.requires.ready.run.size;
       counted = c.in-Ok.ensures.counted;
       taken = c.take.ensures.taken;
     } in
@@ -45,12 +46,12 @@ returns-in-Ok-clause-ready c = λ busy.
     } in
     let is : IsBegin c.args.machine.now c.args.frames.now c.take.new.frames c.accept.new.self c.take.new.self c.in-Ok.counts = record {
       hardware = c.zones-zones.ensures.hardware;
-      size = c.requires.ready.size;
+      size = c.requires.ready.run.size;
       counted = c.in-Ok.ensures.counted;
       taken = c.take.ensures.taken;
     } in
     let few : c.args.machine.now.blocks < 2 ^ 32 = omega arith in
-    can_step c.args.machine.now c.args.frames.now c.take.new.frames c.take.new.runs c.accept.new.self c.take.new.self c.in-Ok.counts laws is c.requires.ready.usable few c.take.ensures.size c.take.ensures.matches
+    can_step c.args.machine.now c.args.frames.now c.take.new.frames c.take.new.runs c.accept.new.self c.take.new.self c.in-Ok.counts laws is c.requires.ready.run.usable few c.take.ensures.size c.take.ensures.matches
 
 pub returns-in-Err-clause-row : goal.returns-in-Err-clause-row
 returns-in-Err-clause-row c = λ k.
@@ -58,3 +59,6 @@ returns-in-Err-clause-row c = λ k.
 
 pub returns-in-Err-clause-ready : goal.returns-in-Err-clause-ready
 returns-in-Err-clause-ready c = λ busy. absurd (subst is_busy_at (ap (λ (hib : Hib). hib.stage) c.accept.ensures.hib) busy)
+
+pub returns-in-Ok-clause-memory : goal.returns-in-Ok-clause-memory
+returns-in-Ok-clause-memory c = inl (begins_image c.args.machine.now c.args.frames.now c.take.new.frames c.accept.new.self c.take.new.self c.in-Ok.counts c.take.ensures.taken)

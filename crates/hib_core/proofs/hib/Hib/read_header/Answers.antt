@@ -1,3 +1,5 @@
+use Rattle.hib_core.proofs.Leaving.{takes_none, gives_back, leaves_by, read_fails}
+use Rattle.hib_core.specs.declared.hib.Stage.TheVariants as stage
 use Rattle.std.proofs.Common.{◌≡◌, ◌<◌, List, refl, sym, ap, ◌∙◌, subst, ℕ}
 use Rattle.definitions.specs.Slots.{block_of}
 use Rattle.plain_machine.specs.UsableArea.{kind_fault}
@@ -40,3 +42,13 @@ returns-in-Some-clause-row g c = λ k told.
       not_swap_row c.args.machine.now c.args.frames.now c.give_up-in-Some.new.frames c.args.runs.now c.args.self.now c.give_up-in-Some.new.self k c.in-Some.why c.syncs.ensures.area c.requires.ready c.requires.stage whole
           (ap (λ (page : List ℕ). kind_fault (area_kind page)) (sym read) ∙ sym c.not_swap.ensures ∙ c.in-Some.is),
     )
+
+pub returns-in-Err-clause-memory : goal.returns-in-Err-clause-memory
+returns-in-Err-clause-memory g c =
+    read_fails stage.Read c.args.self.now.stage c.args.machine.now.hw c.args.frames.now c.give_up.new.frames c.requires.stage (gives_back c.args.machine.now.hw c.args.frames.now c.give_up.new.frames c.give_up.ensures.given)
+
+pub returns-in-None-clause-memory : goal.returns-in-None-clause-memory
+returns-in-None-clause-memory g c = leaves_by c.go_on.result _ c.args.self.now.stage c.args.machine.now.hw c.args.frames.now c.args.frames.now c.go_on.ensures.reply (takes_none c.args.machine.now.hw c.args.frames.now)
+
+pub returns-in-Some-clause-memory : goal.returns-in-Some-clause-memory
+returns-in-Some-clause-memory g c = gives_back c.args.machine.now.hw c.args.frames.now c.give_up-in-Some.new.frames c.give_up-in-Some.ensures.given

@@ -1,3 +1,6 @@
+use Rattle.std.proofs.Common.{refl}
+use Rattle.hib_core.proofs.Leaving.{takes_none, read_fails}
+use Rattle.hib_core.specs.declared.hib.Stage.TheVariants as stage
 use Rattle.std.proofs.Common.{◌≡◌, ◌<◌, List, sym, ap, ◌∙◌, subst, ℕ}
 use Rattle.definitions.specs.Slots.{block_of}
 use Rattle.hib_core.proofs.Facts.{content_of, header_read}
@@ -15,3 +18,9 @@ returns-in-Ok-clause-row g c = λ k told.
 
 pub returns-in-Err-clause-row : goal.returns-in-Err-clause-row
 returns-in-Err-clause-row g c = λ k told. (k, c.read.ensures.content ∙ told, settle_read_failed_row c.args.machine.now c.args.frames.now c.args.self.now c.read.new.into k c.requires.stage)
+
+pub returns-in-Ok-clause-memory : goal.returns-in-Ok-clause-memory
+returns-in-Ok-clause-memory g c = takes_none c.args.machine.now.hw c.args.frames.now
+
+pub returns-in-Err-clause-memory : goal.returns-in-Err-clause-memory
+returns-in-Err-clause-memory g c = read_fails stage.SettleRead c.args.self.now.stage c.args.machine.now.hw c.args.frames.now c.args.frames.now c.requires.stage refl

@@ -1,3 +1,4 @@
+use Rattle.hib_core.proofs.Leaving.{gives_back}
 use Rattle.std.proofs.Common.{refl, ◌∙◌}
 use Rattle.definitions.specs.Disk as disk
 use Rattle.hib_core.proofs.Facts.{content_of, changed, row_at}
@@ -22,3 +23,6 @@ returns-in-Err-clause-row g c = λ k told. (
   row_at c.args.machine.now c.args.frames.now c.args.self.now _ c.stop_unsure.new.machine c.args.frames.now _ c.stop_unsure.new.self _ _ k k c.stop_unsure.ensures.machine c.stop_unsure.ensures.hib refl
       (settle_sync_failed_row c.args.machine.now c.args.frames.now c.args.self.now k c.requires.stage),
 )
+
+pub returns-in-Ok-clause-memory : goal.returns-in-Ok-clause-memory
+returns-in-Ok-clause-memory g c = gives_back c.args.machine.now.hw c.args.frames.now c.give_up.new.frames c.give_up.ensures.given

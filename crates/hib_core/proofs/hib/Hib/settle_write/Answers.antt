@@ -1,3 +1,4 @@
+use Rattle.hib_core.proofs.Leaving.{takes_none}
 use Rattle.std.proofs.Common.{◌≡◌, ℕ, List, refl, ap, ◌∙◌}
 use Rattle.definitions.specs.Disk as disk
 use Rattle.definitions.specs.Slots.{block_of}
@@ -40,3 +41,6 @@ returns-in-Err-clause-row g c = λ k told.
           (c.stop_unsure.ensures.hib ∙ ap (λ (x : Hib). record x { stage = stage.Idle }) c.unmark.ensures) refl
           (settle_write_failed_row machine c.args.frames.now c.args.runs.now hib k after.0 c.requires.ready c.requires.stage whole whole' fails),
     )
+
+pub returns-in-Ok-clause-memory : goal.returns-in-Ok-clause-memory
+returns-in-Ok-clause-memory g c = takes_none c.args.machine.now.hw c.args.frames.now

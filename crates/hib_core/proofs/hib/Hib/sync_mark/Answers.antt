@@ -1,3 +1,5 @@
+use Rattle.std.proofs.Common.{refl}
+use Rattle.hib_core.proofs.Leaving.{leaves_by}
 use Rattle.std.proofs.Common.{◌∙◌}
 use Rattle.definitions.specs.Disk as disk
 use Rattle.plain_machine.specs.declared.reply.Reply.TheVariants as reply
@@ -22,3 +24,6 @@ returns-in-Err-clause-row g c = λ k told. (
   row_of c.args.machine.now c.args.frames.now c.args.self.now c.args.machine.now c.args.frames.now _ c.begin_undo.new.self (reply.Undo undo.Sync 0) c.begin_undo.result k k c.begin_undo.ensures.hib c.begin_undo.ensures.reply
       (end_failed_row c.args.machine.now c.args.frames.now c.args.runs.now c.args.self.now k c.ends.ensures.failed c.requires.ready c.requires.stage),
 )
+
+pub returns-in-Err-clause-memory : goal.returns-in-Err-clause-memory
+returns-in-Err-clause-memory g c = leaves_by c.begin_undo.result _ c.args.self.now.stage c.args.machine.now.hw c.args.frames.now c.args.frames.now c.begin_undo.ensures.reply refl

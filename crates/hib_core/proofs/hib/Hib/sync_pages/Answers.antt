@@ -1,3 +1,4 @@
+use Rattle.hib_core.proofs.Leaving.{takes_none, gives_back, leaves_by}
 use Rattle.std.proofs.Common.{refl, ◌∙◌}
 use Rattle.definitions.specs.Disk as disk
 use Rattle.plain_machine.specs.declared.reply.Reply.TheVariants as reply
@@ -24,3 +25,9 @@ returns-in-Err-clause-row g c = λ k told. (
       (sync_failed_row c.args.machine.now c.args.frames.now c.give_up.new.frames c.args.runs.now c.args.self.now k c.syncs.ensures.failed c.takes_slots.ensures.given_back c.takes_slots.ensures.none_left
       c.requires.ready c.give_up.ensures.pages c.requires.stage c.give_up.ensures.given),
 )
+
+pub returns-in-Ok-clause-memory : goal.returns-in-Ok-clause-memory
+returns-in-Ok-clause-memory g c = leaves_by c.go_on.result _ c.args.self.now.stage c.args.machine.now.hw c.args.frames.now c.args.frames.now c.go_on.ensures.reply (takes_none c.args.machine.now.hw c.args.frames.now)
+
+pub returns-in-Err-clause-memory : goal.returns-in-Err-clause-memory
+returns-in-Err-clause-memory g c = gives_back c.args.machine.now.hw c.args.frames.now c.give_up.new.frames c.give_up.ensures.given

@@ -14,7 +14,7 @@ use Rattle.hib_core.proofs.hib.Hib.take.Goals as goal
 
 pub copy-requires-clause-table : goal.copy-requires-clause-table
 copy-requires-clause-table c =
-    let lies : HasTable c.args.frames.now c.args.machine.now.hw.frame_table (top c.args.machine.now.hw.zones) = frame_table_lies c.args.machine.now.hw c.args.frames.now c.zones-zones.ensures.hardware c.requires.ready.size in
+    let lies : HasTable c.args.frames.now c.args.machine.now.hw.frame_table (top c.args.machine.now.hw.zones) = frame_table_lies c.args.machine.now.hw c.args.frames.now c.zones-zones.ensures.hardware c.requires.ready.run.size in
     subst (λ (zs : List (ℕ × ℕ)). HasTable c.args.frames.now c.frame_table-table.result (top zs)) (sym c.zones-zones.ensures.zones)
     (subst (λ (k : ℕ). HasTable c.args.frames.now k (top c.args.machine.now.hw.zones)) (sym c.frame_table-table.ensures.frame) lies)
 
@@ -26,13 +26,13 @@ steps_of-self-requires-clause-saved c = (counted_few c.args.machine.now c.args.f
 
 pub begin-writer-requires-clause-table : goal.begin-writer-requires-clause-table
 begin-writer-requires-clause-table c =
-    subst (LiesIn c.copy.new.frames) (sym c.slot_table-slots.ensures) (slot_table_lies c.args.machine.now.hw c.copy.new.frames c.zones-zones.ensures.hardware (c.copy.ensures.size ∙ c.requires.ready.size))
+    subst (LiesIn c.copy.new.frames) (sym c.slot_table-slots.ensures) (slot_table_lies c.args.machine.now.hw c.copy.new.frames c.zones-zones.ensures.hardware (c.copy.ensures.size ∙ c.requires.ready.run.size))
 
 pub begin-writer-requires-clause-matches : goal.begin-writer-requires-clause-matches
 begin-writer-requires-clause-matches c =
     let snapshot = copies_at c.args.machine.now.hw c.args.frames.now c.zones-zones.result.now c.frame_table-table.result c.args.self.now.snapshot c.copy.new.self c.zones-zones.ensures.zones c.frame_table-table.ensures.frame c.copy.ensures.sets in
     let same = free_slots_stay c.args.machine.now c.args.frames.now c.copy.new.frames c.args.self.now c.args.counts _ _ c.requires.counted (ap (λ (s : Taken). s.copies) snapshot) c.copy.ensures.others in
-    subst (λ (t : SlotTable). Matches c.copy.new.frames t c.args.runs.now) (sym c.slot_table-slots.ensures) (still_matches c.args.machine.now.hw c.args.frames.now c.copy.new.frames c.args.runs.now same c.requires.ready.matches)
+    subst (λ (t : SlotTable). Matches c.copy.new.frames t c.args.runs.now) (sym c.slot_table-slots.ensures) (still_matches c.args.machine.now.hw c.args.frames.now c.copy.new.frames c.args.runs.now same c.requires.ready.run.matches)
 
 pub begin-writer-requires-clause-room : goal.begin-writer-requires-clause-room
 begin-writer-requires-clause-room c =
@@ -47,7 +47,7 @@ pub begin-writer-requires-clause-blocks : goal.begin-writer-requires-clause-bloc
 begin-writer-requires-clause-blocks c =
     let snapshot = copies_at c.args.machine.now.hw c.args.frames.now c.zones-zones.result.now c.frame_table-table.result c.args.self.now.snapshot c.copy.new.self c.zones-zones.ensures.zones c.frame_table-table.ensures.frame c.copy.ensures.sets in
     let same = free_slots_stay c.args.machine.now c.args.frames.now c.copy.new.frames c.args.self.now c.args.counts _ _ c.requires.counted (ap (λ (s : Taken). s.copies) snapshot) c.copy.ensures.others in
-    let on_disk = image_on_disk c.args.machine.now c.args.frames.now c.args.self.now c.args.counts c.zones-zones.ensures.hardware c.requires.counted c.requires.ready.usable in
+    let on_disk = image_on_disk c.args.machine.now c.args.frames.now c.args.self.now c.args.counts c.zones-zones.ensures.hardware c.requires.counted c.requires.ready.run.usable in
     let few : c.args.machine.now.blocks < 2 ^ 32 = omega arith in
     let below = below_more c.args.machine.now.hw.extents _ _ c.args.machine.now.blocks (2 ^ 32) few on_disk in
     subst (λ (i : Info). BlocksBelow c.extents-map.result.now (free_in c.copy.new.frames c.slot_table-slots.result) (writes_of i) (2 ^ 32)) (sym c.info_of-info.ensures)

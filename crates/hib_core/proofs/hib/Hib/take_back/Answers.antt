@@ -1,3 +1,4 @@
+use Rattle.hib_core.proofs.Leaving.{unsure_stays, leaves_by}
 use Rattle.std.proofs.Common.{◌≡◌, ℕ, List, ap, ◌∙◌, subst}
 use Rattle.definitions.specs.Bytes.{IsPage}
 use Rattle.definitions.specs.Disk as disk
@@ -39,3 +40,7 @@ returns-in-Err-clause-row g c = λ k told.
       row_at machine c.args.frames.now hib _ c.leave_unsure.new.machine c.args.frames.now _ c.leave_unsure.new.self _ c.leave_unsure.result k after.0 c.leave_unsure.ensures.machine c.leave_unsure.ensures.hib c.leave_unsure.ensures.reply
           (back_failed_row machine c.args.frames.now c.args.runs.now hib k after.0 c.args.call c.undoes.ensures.failed c.keeps_area.ensures.agreed c.requires.ready page back c.requires.stage whole whole' tries),
     )
+
+pub returns-in-Err-clause-memory : goal.returns-in-Err-clause-memory
+returns-in-Err-clause-memory g c =
+    leaves_by c.leave_unsure.result _ c.args.self.now.stage c.args.machine.now.hw c.args.frames.now c.args.frames.now c.leave_unsure.ensures.reply (unsure_stays c.args.call c.args.self.now.stage c.args.machine.now.hw c.args.frames.now)

@@ -1,3 +1,5 @@
+use Rattle.hib_core.proofs.Leaving.{takes_none, leaves_by}
+use Rattle.std.proofs.Common.{refl}
 use Rattle.std.proofs.Common.{◌≡◌, ℕ, ◌+◌, List, ap, ◌∙◌}
 use Rattle.definitions.specs.Disk as disk
 use Rattle.definitions.specs.Slots.{block_of}
@@ -49,3 +51,9 @@ returns-in-Err-clause-row g c = λ k told.
           (c.begin_undo.ensures.hib ∙ ap (λ (p : List ℕ). record hib { header = p; stage = stage.TakeBack undo.Write }) mark_is) c.begin_undo.ensures.reply
           (mark_failed_row machine c.args.frames.now c.args.runs.now hib k after.0 c.marks.ensures.failed c.keeps_area.ensures.marked c.marks.ensures.unmarked c.requires.ready c.requires.stage whole whole' fails),
     )
+
+pub returns-in-Ok-clause-memory : goal.returns-in-Ok-clause-memory
+returns-in-Ok-clause-memory g c = leaves_by c.go_on.result _ c.args.self.now.stage c.args.machine.now.hw c.args.frames.now c.args.frames.now c.go_on.ensures.reply (takes_none c.args.machine.now.hw c.args.frames.now)
+
+pub returns-in-Err-clause-memory : goal.returns-in-Err-clause-memory
+returns-in-Err-clause-memory g c = leaves_by c.begin_undo.result _ c.args.self.now.stage c.args.machine.now.hw c.args.frames.now c.args.frames.now c.begin_undo.ensures.reply refl

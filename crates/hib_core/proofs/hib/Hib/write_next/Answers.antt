@@ -1,3 +1,5 @@
+use Rattle.hib_core.proofs.Leaving.{takes_next, leaves_by}
+use Rattle.image_write.specs.Writing.{Makes, FailsToMake}
 use Rattle.std.proofs.Common.{◌≡◌, ◌<◌, ◌+◌, arith, refl}
 use Rattle.image_write.specs.declared.write_step.WriteStep.TheVariants as answer
 use Rattle.hib_core.specs.declared.hib.Stage.TheVariants as stage
@@ -71,3 +73,20 @@ returns-in-Done-clause-ready g c =
     let room : (c.args.self.now.made + 1) + 4 ≡ c.args.self.now.of = omega arith in
     ready_on c.args.machine.now c.args.frames.now c.write_step.new.frames c.args.runs.now c.write_step.new.runs c.args.self.now c.write_step.new.self c.go_on-in-Done.new.self stage.Sync c.requires.ready c.write_step.ensures.size c.write_step.ensures.matches
     c.write_step.ensures.others c.go_on-in-Done.ensures.hib room (λ e. sync_is_no_write e)
+
+pub returns-in-More-clause-memory : goal.returns-in-More-clause-memory
+returns-in-More-clause-memory g c =
+    leaves_by c.go_on.result _ c.args.self.now.stage c.args.machine.now.hw c.args.frames.now c.write_step.new.frames c.go_on.ensures.reply
+    (takes_next c.args.machine.now.hw c.args.machine.now.blocks c.args.frames.now c.write_step.new.frames c.args.self.now c.write_step.new.self Makes (g.D.Disk.content c.args.disk.now) (g.D.Disk.content c.write_step.new.disk) (c.requires.ready.write c.requires.stage) (c.in-More.ensures.made tt))
+
+pub returns-in-Done-clause-memory : goal.returns-in-Done-clause-memory
+returns-in-Done-clause-memory g c =
+    leaves_by c.go_on-in-Done.result _ c.args.self.now.stage c.args.machine.now.hw c.args.frames.now c.write_step.new.frames c.go_on-in-Done.ensures.reply
+    (takes_next c.args.machine.now.hw c.args.machine.now.blocks c.args.frames.now c.write_step.new.frames c.args.self.now c.write_step.new.self Makes (g.D.Disk.content c.args.disk.now) (g.D.Disk.content c.write_step.new.disk) (c.requires.ready.write c.requires.stage) (c.in-Done.ensures.made tt))
+
+pub returns-in-Fault-clause-memory : goal.returns-in-Fault-clause-memory
+returns-in-Fault-clause-memory g c = record {
+  before = c.write_step.new.frames;
+  takes = takes_next c.args.machine.now.hw c.args.machine.now.blocks c.args.frames.now c.write_step.new.frames c.args.self.now c.write_step.new.self FailsToMake (g.D.Disk.content c.args.disk.now) (g.D.Disk.content c.write_step.new.disk) (c.requires.ready.write c.requires.stage) (c.in-Fault.ensures.failed refl);
+  given = c.give_up.ensures.given;
+}

@@ -1,4 +1,4 @@
-use Rattle.std.proofs.Common.{◌≡◌, ℕ, ◌≤◌, ◌+◌, length, refl, sym, ap, ap₂, ◌∙◌, subst, arith}
+use Rattle.std.proofs.Common.{◌≡◌, ℕ, ◌≤◌, ◌+◌, length, refl, sym, ap, ◌∙◌, subst, arith}
 use Rattle.definitions.specs.Tables.{table_frames}
 use Rattle.definitions.specs.Zones.{top}
 use Rattle.machine.proofs.Rows.{slot_table_fits}

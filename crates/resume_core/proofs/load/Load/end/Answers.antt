@@ -1,4 +1,11 @@
-use Rattle.std.proofs.Common.{◌≡◌, refl, sym, ap, ◌∙◌, subst}
+use Rattle.std.proofs.Common.{◌≡◌, ◌≤◌, ℕ, length, refl, sym, ap, ◌∙◌, subst, arith}
+use Rattle.definitions.specs.Slots.{free_runs}
+use Rattle.page_restore.specs.Waiting.{Awaiting}
+use Rattle.swap_slots.specs.Runs.{SlotRuns}
+use Rattle.swap_slots.specs.Table.{Matches}
+use Rattle.swap_slots.specs.declared.table.SlotTable.{SlotTable}
+use Rattle.protocol_laws.specs.Writers.{slot_table_of}
+use Rattle.machine.proofs.Readiness.{flights-none}
 use Rattle.plain_machine.specs.declared.reply.Reply.{Reply}
 use Rattle.resume_core.specs.Row.{EndsOn}
 use Rattle.resume_core.specs.declared.load.Load.{Load}
@@ -21,3 +28,34 @@ returns-in-Err-clause-row c = λ d l v k read places room over.
     let row = bad_tables_row c.args.machine.now c.args.frames.now c.finish.new.frames c.args.self.now c.stop-in-Err.new.self c.in-Ranges.field-0 c.in-Err.frame c.reads_in_rows.ensures.stopped c.in-Ranges.is
     (record { restored = c.finish.ensures.restored; size = c.finish.ensures.size ∙ c.requires.over.size }) c.in-Err.ensures.tables (ap (λ (x : Load). x.stage) c.stop-in-Err.ensures.load) in
     subst (λ (r : Reply). EndsOn c.args.machine.now c.args.frames.now c.args.self.now c.args.machine.now c.finish.new.frames c.stop-in-Err.new.self r) (sym c.stop-in-Err.ensures.reply) row d l v k read places room over
+
+pub returns-in-Ok-clause-ready : goal.returns-in-Ok-clause-ready
+returns-in-Ok-clause-ready c =
+    let over = c.requires.over in
+    let h = c.args.machine.now.hw in
+    let size : length c.finish.new.frames ≡ length c.args.frames.now = c.finish.ensures.size in
+    let room : h.slots ≤ c.rebuild.new.self.room = subst (λ (n : ℕ). h.slots ≤ n) (sym (ap (λ (x : SlotRuns). x.room) c.rebuild.ensures)) over.room in
+    let matches : Matches c.finish.new.frames (slot_table_of h) c.rebuild.new.self = record {
+      room = room;
+      runs = ap (λ (x : SlotRuns). x.runs) c.rebuild.ensures ∙ ap (λ (t : SlotTable). free_runs t.slots t.first c.finish.new.frames) c.slot_table.ensures;
+    } in
+    record {
+      over = record {
+        hardware = over.hardware;
+        few = over.few;
+        size = size ∙ over.size;
+        table = (let lies = over.table in omega arith);
+        room = room;
+        origs = over.origs;
+        zeros = over.zeros;
+        waiting = ap (λ (x : Awaiting). x.zones) c.finish.ensures.waiting ∙ over.waiting;
+      };
+      next = record {
+        area = refl;
+        usable = c.in-Ok.ensures.fits;
+        matches = matches;
+        unheld = refl;
+        reserved = c.in-Ok.ensures.reserved;
+        idle = λ t. flights-none 64 t;
+      };
+    }

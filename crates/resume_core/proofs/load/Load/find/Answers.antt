@@ -1,4 +1,4 @@
-use Rattle.std.proofs.Common.{◌≡◌, ◌<◌, ℕ, List, arith, refl, ap, ◌∙◌}
+use Rattle.std.proofs.Common.{◌≡◌, ◌<◌, ℕ, List, arith, ap, ◌∙◌}
 use Rattle.definitions.specs.Disk as disk
 use Rattle.definitions.specs.Slots.{block_of}
 use Rattle.plain_machine.specs.Machine.{block_of_slot}

@@ -1,5 +1,6 @@
 use Rattle.std.proofs.Common.{refl, sym, ap, ◌∙◌}
 use Rattle.hib_core.specs.Row.{event_of}
+use Rattle.hib_core.proofs.Keeping.{unchanged_keeps}
 use Rattle.plain_machine.specs.declared.reply.Reply.TheVariants as reply
 use Rattle.world_core.specs.StandsFor.{is_off}
 use Rattle.world_core.specs.World.{World}
@@ -23,4 +24,8 @@ returns-in-BootBegun c =
       blocks = refl;
       off = λ e. e;
       refused = λ r. record { machine = refl; frames = refl; core = refl };
+      memory = unchanged_keeps c.args.self.now.machine.hw c.args.self.now.frames;
     }
+
+pub returns-in-Off-clause-memory : goal.returns-in-Off-clause-memory
+returns-in-Off-clause-memory c = unchanged_keeps c.args.self.now.machine.hw c.args.self.now.frames

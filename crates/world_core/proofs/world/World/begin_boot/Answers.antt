@@ -6,8 +6,30 @@ use Rattle.world_core.specs.World.{World}
 use Rattle.world_core.specs.Kept.{kept_world}
 use Rattle.world_core.specs.Row.{IsRow}
 use Rattle.world_core.specs.StandsFor.{is_off, keeps_dump}
+use Rattle.plain_machine.specs.Refusals.{asks_dump_to_boot}
 use Rattle.world_core.proofs.Booting.{boot_begins}
+use Rattle.world_core.proofs.Readiness.{reserved-set, tables_kept}
 use Rattle.world_core.proofs.world.World.begin_boot.Goals as goal
+
+pub invariant_of-self : goal.invariant_of-self
+invariant_of-self c =
+    let kept = c.self.invariant in
+    let h = c.self.inside.machine.hw in
+    record {
+      size = c.set_memory.ensures.size ∙ kept.size;
+      zones = kept.zones;
+      origs = kept.origs;
+      zeros = kept.zeros;
+      waiting = kept.waiting;
+      room = kept.room;
+      tables = λ has.
+          reserved-set c.args.from h c.self.inside.frames c.set_memory.new.frames c.zones-zones.ensures.hardware c.set_memory.ensures.fresh c.set_memory.ensures.kept
+          (λ e. kept.tables (tables_kept c.self.inside.core (ap (λ (w : World). keeps_dump w.core) c.self.view_is ∙ c.requires.dump (ap asks_dump_to_boot e))));
+      run = λ up. absurd up;
+      header = λ up some. absurd up;
+      busy = λ e. absurd (cc);
+      loads = λ e. absurd (cc);
+    }
 
 pub returns-clause-row : goal.returns-clause-row
 returns-clause-row c = λ k.

@@ -5,7 +5,8 @@ use Rattle.world_core.specs.Kept.{kept_world}
 use Rattle.world_core.specs.Row.{IsRow}
 use Rattle.world_core.specs.StandsFor.{is_off, keeps_dump}
 use Rattle.machine.specs.declared.machine.Machine.{Machine}
-use Rattle.world_core.proofs.Resuming.{IsAfter, row_of_begin, busy_after, idle_after, usable_up, unheld_up}
+use Rattle.world_core.proofs.Readiness.{can_run-resumed, no_tables_after}
+use Rattle.world_core.proofs.Resuming.{IsAfter, row_of_begin, busy_after, idle_after, runs_after}
 use Rattle.world_core.proofs.world.World.begin_resume.Goals as goal
 
 pub invariant_of-self : goal.invariant_of-self
@@ -20,8 +21,9 @@ invariant_of-self c =
       zeros = can.over.zeros;
       waiting = can.over.waiting;
       room = c.self.invariant.room;
-      usable = λ up. usable_up machine c.begin-reply.new.frames c.self.inside.runs c.begin-reply.new.self c.begin-reply.result c.core_after-self-inside.result after can up;
-      header = λ up some. absurd (some (unheld_up machine c.begin-reply.new.frames c.self.inside.runs c.begin-reply.new.self c.begin-reply.result c.core_after-self-inside.result after can up));
+      tables = λ has. no_tables_after c.begin-reply.new.self c.begin-reply.result c.core_after-self-inside.result after has;
+      run = λ up. can_run-resumed machine c.begin-reply.new.frames c.self.inside.runs c.begin-reply.new.self can (runs_after machine c.begin-reply.new.frames c.self.inside.runs c.begin-reply.new.self c.begin-reply.result c.core_after-self-inside.result after can up);
+      header = λ up some. absurd (some (runs_after machine c.begin-reply.new.frames c.self.inside.runs c.begin-reply.new.self c.begin-reply.result c.core_after-self-inside.result after can up).unheld);
       busy = λ e. idle_after c.begin-reply.new.self c.begin-reply.result c.core_after-self-inside.result after e;
       loads = λ e. (can, busy_after c.begin-reply.new.self c.begin-reply.result c.core_after-self-inside.result after e);
     }

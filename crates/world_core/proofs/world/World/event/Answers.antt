@@ -1,7 +1,7 @@
 use Rattle.std.proofs.Common.{sym, subst}
 use Rattle.plain_machine.specs.declared.event.Event.{Event}
 use Rattle.world_core.specs.Row.{IsRow, HasRow, IsNoCut}
-use Rattle.sector_disk.proofs.Time.{unread, inside}
+use Rattle.sector_disk.proofs.Time.{still, unread, inside}
 use Rattle.world_core.proofs.Rows.{not_served}
 use Rattle.world_core.proofs.world.World.event.Goals as goal
 
@@ -64,3 +64,29 @@ returns-in-Step-clause-inside g c = λ no tells v left.
 
 pub returns-in-Cut-clause-inside : goal.returns-in-Cut-clause-inside
 returns-in-Cut-clause-inside g c = λ no. absurd (subst IsNoCut c.in-Cut.is no)
+
+-- Over such an event time goes on as over one call.
+
+pub returns-in-Boot-clause-time : goal.returns-in-Boot-clause-time
+returns-in-Boot-clause-time g c = λ no tells. still (g.D.Disk.moment c.args.disk.now) (g.D.Disk.left_since c.args.disk.now) (g.D.Disk.content c.args.disk.now)
+
+pub returns-in-Task-clause-time : goal.returns-in-Task-clause-time
+returns-in-Task-clause-time g c = λ no tells. still (g.D.Disk.moment c.args.disk.now) (g.D.Disk.left_since c.args.disk.now) (g.D.Disk.content c.args.disk.now)
+
+pub returns-in-Hibernate-clause-time : goal.returns-in-Hibernate-clause-time
+returns-in-Hibernate-clause-time g c = λ no tells. still (g.D.Disk.moment c.args.disk.now) (g.D.Disk.left_since c.args.disk.now) (g.D.Disk.content c.args.disk.now)
+
+pub returns-in-Settle-clause-time : goal.returns-in-Settle-clause-time
+returns-in-Settle-clause-time g c = λ no tells. still (g.D.Disk.moment c.args.disk.now) (g.D.Disk.left_since c.args.disk.now) (g.D.Disk.content c.args.disk.now)
+
+pub returns-in-Resume-clause-time : goal.returns-in-Resume-clause-time
+returns-in-Resume-clause-time g c = λ no tells. still (g.D.Disk.moment c.args.disk.now) (g.D.Disk.left_since c.args.disk.now) (g.D.Disk.content c.args.disk.now)
+
+pub returns-in-Arm-clause-time : goal.returns-in-Arm-clause-time
+returns-in-Arm-clause-time g c = λ no tells. c.arm.ensures.time tells
+
+pub returns-in-Step-clause-time : goal.returns-in-Step-clause-time
+returns-in-Step-clause-time g c = λ no tells. c.step_of.ensures.time tells
+
+pub returns-in-Cut-clause-time : goal.returns-in-Cut-clause-time
+returns-in-Cut-clause-time g c = λ no. absurd (subst IsNoCut c.in-Cut.is no)

@@ -6,8 +6,14 @@ use Rattle.plain_machine.specs.declared.event.Actor.TheVariants as actor
 use Rattle.plain_machine.specs.Machine.{Hardware}
 use Rattle.world_core.specs.World.{World}
 use Rattle.world_core.specs.Kept.{kept_world}
-use Rattle.world_core.specs.Row.{HasRow, Restores}
-use Rattle.world_core.proofs.Hibernating.{row_of_step, busy_told, never_loads, usable_same, restores_none}
+use Rattle.world_core.specs.Row.{HasRow, Restores, KeepsMemory}
+use Rattle.hib_core.specs.Leaving.{change_of}
+use Rattle.hib_core.proofs.BeginTables.{slot_table_lies}
+use Rattle.hib_core.proofs.Keeping.{step_keeps, given_back, stayed}
+use Rattle.hib_core.proofs.Leaving.{entries_left}
+use Rattle.protocol_laws.specs.Slots.{IsMemoryOf}
+use Rattle.world_core.proofs.Hibernating.{row_of_step, busy_told, never_loads, restores_none}
+use Rattle.world_core.proofs.Readiness.{can_run-same, no_tables_told}
 use Rattle.world_core.proofs.Rows.{is_up}
 use Rattle.world_core.proofs.world.World.step_hibernation.Goals as goal
 
@@ -22,7 +28,10 @@ invariant_of-self g c =
       zeros = c.self.invariant.zeros ∙ same;
       waiting = c.self.invariant.waiting ∙ same;
       room = c.step-reply.ensures.ready.matches.room;
-      usable = λ up. usable_same c.self.inside.machine c.step-reply.new.machine c.step-reply.ensures.machine (c.self.invariant.usable (is_up c.self.inside.core core));
+      tables = λ has. no_tables_told c.step-reply.result c.core_after-self-inside.result c.core_after-self-inside.ensures has;
+      run = λ up.
+          can_run-same c.self.inside.machine c.step-reply.new.machine c.self.inside.frames c.step-reply.new.frames c.self.inside.runs c.step-reply.new.runs (c.self.invariant.busy core).0.hardware c.step-reply.ensures.machine c.step-reply.ensures.ready.size c.step-reply.ensures.ready.matches
+          (entries_left c.self.inside.machine.hw (change_of c.step-reply.result c.self.inside.hib.stage) c.self.inside.frames c.step-reply.new.frames (c.self.invariant.busy core).0.hardware c.step-reply.ensures.memory) (c.self.invariant.run (is_up c.self.inside.core core));
       header = λ up some. c.step-reply.ensures.ready.header;
       busy = λ e. (c.step-reply.ensures.ready, busy_told c.step-reply.new.self c.step-reply.result c.core_after-self-inside.result c.core_after-self-inside.ensures c.step-reply.ensures.phase e);
       loads = λ e. never_loads c.step-reply.result c.core_after-self-inside.result c.core_after-self-inside.ensures e;
@@ -42,3 +51,17 @@ returns-clause-restored g c =
 
 pub returns-clause-calls : goal.returns-clause-calls
 returns-clause-calls g c = inr (tt, (λ e. false≢true (sym c.step-reply.ensures.works ∙ ap is_idle e)), c.step-reply.ensures.calls)
+
+pub returns-clause-memory : goal.returns-clause-memory
+returns-clause-memory g c =
+    let core = ap (λ (w : World). w.core) c.self.view_is ∙ c.requires.hibernates in
+    let new = kept_world (record { machine = c.step-reply.new.machine; frames = c.step-reply.new.frames; runs = c.step-reply.new.runs; hib = c.step-reply.new.self; load = c.self.inside.load; core = c.core_after-self-inside.result }) in
+    let h = c.self.inside.machine.hw in
+    let change = change_of c.step-reply.result c.self.inside.hib.stage in
+    let memory : IsMemoryOf h c.self.inside.frames = record { pages = c.len.ensures.pages; table = slot_table_lies h c.self.inside.frames (c.self.invariant.busy core).0.hardware c.self.invariant.size } in
+    let keeps : KeepsMemory (kept_world c.self.inside) new c.step-reply.result = record {
+      used = step_keeps h change c.self.inside.frames c.step-reply.new.frames memory c.step-reply.ensures.memory;
+      given = λ e. given_back h change c.self.inside.frames c.step-reply.new.frames memory c.step-reply.ensures.memory e;
+      unsure = λ e. stayed h change c.self.inside.frames c.step-reply.new.frames c.step-reply.ensures.memory e;
+    } in
+    subst (λ (old : World). KeepsMemory old new c.step-reply.result) c.self.view_is keeps

@@ -9,7 +9,8 @@ use Rattle.world_core.specs.StandsFor.{core_resumed}
 use Rattle.world_core.specs.World.{World}
 use Rattle.world_core.specs.Kept.{kept_world}
 use Rattle.world_core.specs.Row.{HasRow, Restores}
-use Rattle.world_core.proofs.Resuming.{IsAfter, row_of_step, busy_after, idle_after, usable_up, unheld_up, restores_at}
+use Rattle.world_core.proofs.Readiness.{can_run-resumed, no_tables_after}
+use Rattle.world_core.proofs.Resuming.{IsAfter, row_of_step, busy_after, idle_after, runs_after, restores_at}
 use Rattle.world_core.proofs.world.World.step_resume.Goals as goal
 
 pub invariant_of-self : goal.invariant_of-self
@@ -23,8 +24,9 @@ invariant_of-self g c =
       zeros = over.zeros;
       waiting = over.waiting;
       room = over.room;
-      usable = λ up. usable_up c.step-reply.new.machine c.step-reply.new.frames c.step-reply.new.runs c.step-reply.new.self c.step-reply.result c.core_after-self-inside.result after c.step-reply.ensures.ready up;
-      header = λ up some. absurd (some (unheld_up c.step-reply.new.machine c.step-reply.new.frames c.step-reply.new.runs c.step-reply.new.self c.step-reply.result c.core_after-self-inside.result after c.step-reply.ensures.ready up));
+      tables = λ has. no_tables_after c.step-reply.new.self c.step-reply.result c.core_after-self-inside.result after has;
+      run = λ up. can_run-resumed c.step-reply.new.machine c.step-reply.new.frames c.step-reply.new.runs c.step-reply.new.self c.step-reply.ensures.ready (runs_after c.step-reply.new.machine c.step-reply.new.frames c.step-reply.new.runs c.step-reply.new.self c.step-reply.result c.core_after-self-inside.result after c.step-reply.ensures.ready up);
+      header = λ up some. absurd (some (runs_after c.step-reply.new.machine c.step-reply.new.frames c.step-reply.new.runs c.step-reply.new.self c.step-reply.result c.core_after-self-inside.result after c.step-reply.ensures.ready up).unheld);
       busy = λ e. idle_after c.step-reply.new.self c.step-reply.result c.core_after-self-inside.result after e;
       loads = λ e. (c.step-reply.ensures.ready, busy_after c.step-reply.new.self c.step-reply.result c.core_after-self-inside.result after e);
     }

@@ -1,12 +1,9 @@
-use Rattle.std.proofs.Common.{refl, sym, ap, ◌∙◌, subst}
+use Rattle.std.proofs.Common.{refl, sym, ap, ◌∙◌}
 use Rattle.plain_machine.specs.declared.event.Event.TheVariants as event
 use Rattle.plain_machine.specs.declared.reply.Reply.TheVariants as reply
 use Rattle.world_core.specs.StandsFor.{is_off}
 use Rattle.world_core.specs.World.{World}
-use Rattle.world_core.specs.Kept.{kept_world}
-use Rattle.world_core.specs.Row.{IsRow}
 use Rattle.world_core.proofs.Rows.{row_refused, not_on, frozen_task, is_taken, busy_in}
-use Rattle.world_core.proofs.Tasks.{row_of_task}
 use Rattle.world_core.proofs.world.World.task.Goals as goal
 
 pub returns-in-Off-clause-row : goal.returns-in-Off-clause-row
@@ -28,10 +25,3 @@ returns-in-BootBegun c =
       core = refl;
       refused = λ r. record { machine = refl; frames = refl; core = refl };
     }
-
-pub returns-in-Running-clause-row : goal.returns-in-Running-clause-row
-returns-in-Running-clause-row c = λ k.
-    let old = kept_world c.self.inside in
-    let new = record old { machine = c.task.new.self; frames = c.task.new.frames } in
-    subst (λ (w : World). IsRow (event.Task c.args.t c.args.op) w new c.task.result k k) c.self.view_is
-    (row_of_task old new k c.args.t c.args.op c.task.result c.in-Running.is c.in-Running.is c.task.ensures.machine c.task.ensures.row)

@@ -1,0 +1,135 @@
+//! Calls that fail. An import of 7 pages makes 13 of the disk: a read (1), the pages and the map (2 to 9), a sync (10), a read (11), the
+//! mark (12) and its sync (13); an undo writes (14) and syncs (15).
+
+use crate::disks::{area, block, header};
+use crate::runs::{
+    IMPORT, Printed, assert_no_image, assert_printed, assert_resumes, import, run_with, sink_of,
+};
+use crate::streams::expected;
+use dump_file::MemSource;
+use sector_disk::{Disk, MemDisk};
+use std::alloc::Global;
+use std::process::Abort;
+use std::test::Fail;
+use swsusp_cli::Status;
+
+/// A call of the disk that fails: its number, how many fail from it on, and which sectors a write leaves all the same.
+type Fault = (u32, u32, u64);
+
+/// An import whose calls fail so ends with this note.
+fn stopped_import(
+    rt: &impl Abort,
+    alloc: Global,
+    (first, count, pick): Fault,
+    note: &str,
+) -> Result<MemDisk, Fail> {
+    let mut disk = area(alloc)?;
+    disk.arm(first, count, pick);
+    let got = import(alloc, &mut disk)?;
+    disk.arm(1, 0, 0);
+    assert_printed(rt, &got, Status::Device, "", note);
+    Ok(disk)
+}
+
+// Before the mark nothing of an image is there, and another import succeeds.
+#[test]
+fn before_the_mark(rt: HostRuntime) -> Result<(), Fail> {
+    let alloc = rt.alloc();
+    let table = [
+        (1, "read fault same\n"),
+        (2, "write fault same\n"),
+        (3, "write fault same\n"),
+        (4, "write fault same\n"),
+        (5, "write fault same\n"),
+        (6, "write fault same\n"),
+        (7, "write fault same\n"),
+        (8, "write fault same\n"),
+        (9, "write fault same\n"),
+        (10, "sync fault same\n"),
+        (11, "read fault same\n"),
+    ];
+    for (call, note) in table {
+        let mut disk = stopped_import(&rt, alloc, (call, 1, u64::MAX), note)?;
+        assert!(rt;
+            block(&mut disk, 0)?.as_bytes().as_slice() == header(1599).as_bytes().as_slice()
+        );
+        assert_no_image(&rt, alloc, &mut disk)?;
+        let got = import(alloc, &mut disk)?;
+        assert_printed(&rt, &got, Status::Done, "imported 5\n", "");
+    }
+    Ok(())
+}
+
+// The mark's write fails, with no sector written or with all, or its sync: the mark is taken back.
+#[test]
+fn a_mark_that_is_taken_back(rt: HostRuntime) -> Result<(), Fail> {
+    let alloc = rt.alloc();
+    let table = [
+        ((12, 1, 0), "write fault gone\n"),
+        ((12, 1, u64::MAX), "write fault gone\n"),
+        ((13, 1, 0), "sync fault gone\n"),
+    ];
+    for (fault, note) in table {
+        let mut disk = stopped_import(&rt, alloc, fault, note)?;
+        disk.restart(0);
+        assert_no_image(&rt, alloc, &mut disk)?;
+    }
+    Ok(())
+}
+
+// The undo fails too: there is an image just where the mark was written and is still there.
+#[test]
+fn an_undo_that_fails(rt: HostRuntime) -> Result<(), Fail> {
+    let alloc = rt.alloc();
+    let table = [
+        ((12, 2, 0), "write fault unsure\n", false),
+        ((13, 2, 0), "sync fault unsure\n", true),
+        ((13, 2, u64::MAX), "sync fault unsure\n", false),
+        ((13, 3, 0), "sync fault unsure\n", true),
+    ];
+    for (fault, note, image) in table {
+        let mut disk = stopped_import(&rt, alloc, fault, note)?;
+        if image {
+            assert_resumes(&rt, alloc, &mut disk)?;
+        }
+        assert_no_image(&rt, alloc, &mut disk)?;
+    }
+    Ok(())
+}
+
+/// An import over an input and an output whose calls of these numbers fail.
+fn import_with(
+    alloc: Global,
+    input: &[u64],
+    out: &[u64],
+    disk: &mut MemDisk,
+) -> Result<Printed, Fail> {
+    let input = MemSource::new(expected(alloc)?, Vec::from_slice(alloc, input)?);
+    run_with(alloc, &IMPORT, input, sink_of(alloc, 4096, out)?, disk)
+}
+
+// The input fails at its first byte, or behind the last one, where all pages are written.
+#[test]
+fn an_input_that_fails(rt: HostRuntime) -> Result<(), Fail> {
+    let alloc = rt.alloc();
+    for call in [0, 1] {
+        let mut disk = area(alloc)?;
+        let got = import_with(alloc, &[call], &[], &mut disk)?;
+        assert_printed(&rt, &got, Status::Stream, "", "source fault\n");
+        assert!(rt;
+            block(&mut disk, 0)?.as_bytes().as_slice() == header(1599).as_bytes().as_slice()
+        );
+        assert_no_image(&rt, alloc, &mut disk)?;
+    }
+    Ok(())
+}
+
+// The image is there all the same.
+#[test]
+fn an_output_that_fails(rt: HostRuntime) -> Result<(), Fail> {
+    let alloc = rt.alloc();
+    let mut disk = area(alloc)?;
+    let got = import_with(alloc, &[], &[0], &mut disk)?;
+    assert_printed(&rt, &got, Status::Stream, "", "sink fault\n");
+    assert_resumes(&rt, alloc, &mut disk)
+}

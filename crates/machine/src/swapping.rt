@@ -1,0 +1,321 @@
+ghost use Rattle.std.specs.Prelude.{◌≡◌, ◌≢◌, ◌⊎◌, ℕ, ◌-◌, ◌+◌, ◌/◌, ◌<◌, ◌≤◌, ◌^◌, ◌==◌, ◌&&◌, nat_lt, Bool, true, length, IsSome, IsTrue, IfSome, MatchOption, Contains, All, set, is_ok, slice_get, slice_set};
+ghost use Rattle.definitions.specs.Bytes.{IsPage};
+ghost use Rattle.definitions.specs.Disk.{Content, HasRisen, raised, Changes, Elapses, Writes, FailsToWrite, as_it_reads, block};
+ghost use Rattle.definitions.specs.Tables.{frame, with_entry, with_frame, owner_of};
+ghost use Rattle.definitions.specs.Zones.{numbers, top};
+ghost use Rattle.swap_slots.specs.Table.{LiesIn, Matches, free_in};
+ghost use Rattle.plain_machine.specs.Faults.{IsFault};
+ghost use Rattle.plain_machine.specs.Fitting.{IsTask};
+ghost use Rattle.plain_machine.specs.Machine.{block_of_slot, frame_entry, raw_slot_entry, IsOfTable, IsHardware};
+ghost use Rattle.plain_machine.specs.declared.event.TaskOp.TheVariants as op;
+ghost use Rattle.plain_machine.specs.declared.reply.Reply.TheVariants as reply;
+ghost use Rattle.plain_machine.specs.declared.reply.Left.TheVariants.{Same};
+ghost use Rattle.machine.specs.Landing.{EndsOut, EndsIn};
+ghost use Rattle.machine.specs.Running.{slot_table_of};
+
+use crate::tasks::not_own;
+use crate::{Flight, Hardware, Machine};
+use frame_arena::Frames;
+use page_core::{Failed, Page};
+use plain_machine::{Held, Left, Reply};
+use sector_disk::Disk;
+use swap_slots::{FreeRuns, SlotTable};
+
+// Tasks' page frames that go out to slots of the swap area, and come in from there (swap_writepage and swap_readpage, mm/page_io.c).
+impl Machine {
+    ghost use Rattle.machine.specs.Flights.{flights_in};
+    ghost use Rattle.machine.specs.Landing.{Answers, CallsDisk, Ends, HasEnd};
+    ghost use Rattle.machine.specs.Running.{CanRun, slot_table_of};
+    ghost use Rattle.machine.specs.TaskRow.{HasRow, IsRefusal};
+
+    /// Makes the call of the disk that ends a task's operation, which is unfinished no more. An out writes its page frame to the slot;
+    /// where that fails the slot is given back. An in reads the slot into its page frame and gives the slot back; where that fails
+    /// both stay.
+    pub fn finish<D: Disk>(
+        &mut self,
+        frames: &mut Frames,
+        runs: &mut FreeRuns,
+        disk: &mut D,
+        t: u32,
+    ) -> Reply
+        requires task { IsTask t }
+        requires ready { CanRun self.old frames.old runs.old }
+        requires flies { IsSome (flights_in self.old.flights t) }
+        requires blocks { D.block_count disk.old ≡ self.old.blocks }
+        ensures row { HasEnd self.old frames.old t self.new frames.new result (D.content disk.old) }
+        ensures disk { CallsDisk self.old.hw frames.old (flights_in self.old.flights t) result (D.content disk.old) (D.content disk.new) }
+        ensures answer { Answers (flights_in self.old.flights t) result }
+        ensures ready { CanRun self.new frames.new runs.new }
+        ensures machine { self.new ≡ record self.old { flights = slice_set self.old.flights (t - 1) Flight.Nothing } }
+        ensures len { length frames.new ≡ length frames.old }
+        ensures room { runs.new.room ≡ runs.old.room }
+        ensures cause { IsFault result → HasRisen (D.faults disk.old) (D.faults disk.new) }
+        ensures faults { D.faults disk.old ≤ D.faults disk.new }
+        ensures calls { D.calls disk.new ≡ raised (D.calls disk.old) }
+        ensures orders { D.orders disk.new ≡ D.orders disk.old }
+        ensures blocks { D.block_count disk.new ≡ D.block_count disk.old }
+        ensures telling { D.tells_moments disk.new ≡ D.tells_moments disk.old }
+        ensures time { IsTrue (D.tells_moments disk.old) → Changes (Elapses (D.moment disk.old) (D.moment disk.new)
+            (D.left_since disk.old) (D.left_since disk.new)) (D.content disk.old) (D.content disk.new) }
+    {
+        let reply = self.end_flight(frames, runs, disk, t);
+        self.set_flight(t, Flight::Nothing);
+        reply
+    }
+
+    /// The call of the disk that ends a task's operation, and what it makes of page frames and slots.
+    fn end_flight<D: Disk>(
+        &self,
+        frames: &mut Frames,
+        runs: &mut FreeRuns,
+        disk: &mut D,
+        t: u32,
+    ) -> Reply
+        requires ready { CanRun self.now frames.old runs.old }
+        requires flies { IsSome (flights_in self.now.flights t) }
+        requires blocks { D.block_count disk.old ≡ self.now.blocks }
+        ensures ends { Ends self.now.hw (flights_in self.now.flights t) frames.old frames.new result (D.content disk.old) (D.content disk.new) }
+        ensures pages { All IsPage frames.old }
+        ensures hardware { IsHardware self.now.hw }
+        ensures matches { Matches frames.new (slot_table_of self.now.hw) runs.new }
+        ensures len { length frames.new ≡ length frames.old }
+        ensures room { runs.new.room ≡ runs.old.room }
+        ensures cause { IsFault result → HasRisen (D.faults disk.old) (D.faults disk.new) }
+        ensures faults { D.faults disk.old ≤ D.faults disk.new }
+        ensures calls { D.calls disk.new ≡ raised (D.calls disk.old) }
+        ensures orders { D.orders disk.new ≡ D.orders disk.old }
+        ensures blocks { D.block_count disk.new ≡ D.block_count disk.old }
+        ensures telling { D.tells_moments disk.new ≡ D.tells_moments disk.old }
+        ensures time { IsTrue (D.tells_moments disk.old) → Changes (Elapses (D.moment disk.old) (D.moment disk.new)
+            (D.left_since disk.old) (D.left_since disk.new)) (D.content disk.old) (D.content disk.new) }
+    {
+        match self.flight(t) {
+            Flight::Out { slot, p } => {
+                end_out(&self.hw, frames, runs, disk, self.block(slot), slot, p)
+            }
+            Flight::In { slot, p } => {
+                end_in(&self.hw, frames, runs, disk, self.block(slot), slot, p)
+            }
+            Flight::Nothing => unreachable!(),
+        }
+    }
+
+    /// Begins an out: the page frame's page is to go to the least free slot, which is the task's from now on.
+    pub(crate) fn begin_out(
+        &mut self,
+        frames: &mut Frames,
+        runs: &mut FreeRuns,
+        t: u32,
+        p: u32,
+    ) -> Reply
+        requires task { IsTask t }
+        requires ready { CanRun self.old frames.old runs.old }
+        requires idle { flights_in self.old.flights t ≡ None }
+        ensures row { HasRow self.old frames.old t (op.Out p) self.new frames.new result }
+        ensures ready { CanRun self.new frames.new runs.new }
+        ensures no_fault { IsFault result → ⊥ }
+        ensures machine { self.new ≡ record self.old { flights = self.new.flights } }
+        ensures refused { IsRefusal result → (frames.new ≡ frames.old) × (self.new ≡ self.old) }
+        ensures len { length frames.new ≡ length frames.old }
+        ensures room { runs.new.room ≡ runs.old.room }
+    {
+        if let Some(refusal) = not_own(frames, &self.hw, t, p) {
+            return refusal;
+        }
+        if self.held != Held::No {
+            return Reply::Closed;
+        }
+        match self.take_slot(frames, runs, t) {
+            Some(slot) => {
+                self.set_flight(t, Flight::Out { slot, p });
+                Reply::Slot { slot }
+            }
+            None => Reply::NoSlot,
+        }
+    }
+
+    /// Begins an in: the page in a slot of the task's own is to come to the page frame.
+    pub(crate) fn begin_in(
+        &mut self,
+        frames: &Frames,
+        runs: &FreeRuns,
+        t: u32,
+        slot: u32,
+        p: u32,
+    ) -> Reply
+        requires task { IsTask t }
+        requires ready { CanRun self.old frames.now runs.now }
+        requires idle { flights_in self.old.flights t ≡ None }
+        ensures row { HasRow self.old frames.now t (op.TakeIn slot p) self.new frames.now result }
+        ensures ready { CanRun self.new frames.now runs.now }
+        ensures no_fault { IsFault result → ⊥ }
+        ensures machine { self.new ≡ record self.old { flights = self.new.flights } }
+        ensures refused { IsRefusal result → self.new ≡ self.old }
+    {
+        if let Some(refusal) = not_own(frames, &self.hw, t, p) {
+            return refusal;
+        }
+        if !self.owns_slot(frames, t, slot) {
+            return Reply::NoSlotHere;
+        }
+        self.set_flight(t, Flight::In { slot, p });
+        Reply::Reading { slot }
+    }
+
+    /// Gives the least free slot to a task. None where the area can't be used, or has none.
+    fn take_slot(&self, frames: &mut Frames, runs: &mut FreeRuns, t: u32) -> Option<u32>
+        requires task { IsTask t }
+        requires size { length frames.old ≡ top self.now.hw.zones }
+        requires matches { Matches frames.old (slot_table_of self.now.hw) runs.old }
+        ensures usable { IsSome result → IsTrue (is_ok self.now.area) }
+        ensures least { IsTrue (is_ok self.now.area) → result ≡ slice_get (free_in frames.old (slot_table_of self.now.hw)) 0 }
+        ensures taken { IfSome result (λ slot. frames.new ≡ with_entry frames.old self.now.hw.slot_table slot t) }
+        ensures none { result ≡ None → frames.new ≡ frames.old }
+        ensures matches { Matches frames.new (slot_table_of self.now.hw) runs.new }
+        ensures len { length frames.new ≡ length frames.old }
+        ensures room { runs.new.room ≡ runs.old.room }
+        ensures pages { All IsPage frames.old }
+        ensures hardware { IsHardware self.now.hw }
+    {
+        // Each page frame has 4096 bytes, so that an entry that is set leaves the others.
+        let _ = frames.len();
+        let table = slot_table(&self.hw);
+        match self.area {
+            Ok(_) => table.take(frames, runs, t),
+            Err(_) => None,
+        }
+    }
+
+    /// Whether a slot is the task's. In an area that can't be used none is.
+    fn owns_slot(&self, frames: &Frames, t: u32, slot: u32) -> bool
+        requires size { length frames.now ≡ top self.now.hw.zones }
+        ensures test { result ≡ (is_ok self.now.area && nat_lt slot self.now.hw.slots && (raw_slot_entry self.now.hw frames.now slot == t)) }
+        ensures hardware { IsHardware self.now.hw }
+    {
+        let table = slot_table(&self.hw);
+        match self.area {
+            Ok(_) => slot < table.slots && table.owner(frames, slot) == t,
+            Err(_) => false,
+        }
+    }
+
+    /// The block of a slot.
+    fn block(&self, slot: u32) -> u32
+        requires { block_of_slot self.now.hw slot < self.now.blocks }
+        ensures block { result ≡ block_of_slot self.now.hw slot }
+        ensures hardware { IsHardware self.now.hw }
+    {
+        // Only what is read is known to have the size of its type.
+        let _blocks = self.blocks;
+        self.hw.extents().block(slot) as u32
+    }
+
+    fn set_flight(&mut self, t: u32, flight: Flight)
+        requires { IsTask t }
+        ensures set { self.new ≡ record self.old { flights = slice_set self.old.flights (t - 1) flight } }
+        ensures tasks { length self.old.flights ≡ 64 }
+    {
+        let _tasks = self.flights.len();
+        self.flights[t as usize - 1] = flight;
+    }
+}
+
+/// Writes a page frame's page to a slot's block. Where that fails the slot is given back.
+fn end_out<D: Disk>(
+    hw: &Hardware,
+    frames: &mut Frames,
+    runs: &mut FreeRuns,
+    disk: &mut D,
+    block: u32,
+    slot: u32,
+    p: u32,
+) -> Reply
+    requires slot { slot < hw.now.slots }
+    requires frame { p < length frames.old }
+    requires table { LiesIn frames.old (slot_table_of hw.now) }
+    requires matches { Matches frames.old (slot_table_of hw.now) runs.old }
+    requires block { block < D.block_count disk.old }
+    ensures ends { EndsOut hw.now block frames.old frames.new slot p result (D.content disk.old) (D.content disk.new) }
+    ensures pages { All IsPage frames.old }
+    ensures hardware { IsHardware hw.now }
+    ensures matches { Matches frames.new (slot_table_of hw.now) runs.new }
+    ensures len { length frames.new ≡ length frames.old }
+    ensures room { runs.new.room ≡ runs.old.room }
+    ensures cause { IsFault result → HasRisen (D.faults disk.old) (D.faults disk.new) }
+    ensures faults { D.faults disk.old ≤ D.faults disk.new }
+    ensures calls { D.calls disk.new ≡ raised (D.calls disk.old) }
+    ensures orders { D.orders disk.new ≡ D.orders disk.old }
+    ensures blocks { D.block_count disk.new ≡ D.block_count disk.old }
+    ensures telling { D.tells_moments disk.new ≡ D.tells_moments disk.old }
+    ensures time { IsTrue (D.tells_moments disk.old) → Changes (Elapses (D.moment disk.old) (D.moment disk.new)
+        (D.left_since disk.old) (D.left_since disk.new)) (D.content disk.old) (D.content disk.new) }
+{
+    // Each page frame has 4096 bytes, so that an entry that is set leaves the others.
+    let _ = frames.len();
+    let table = slot_table(hw);
+    let page = Page::from_bytes(frames.page(p));
+    match disk.write(block, &page) {
+        Ok(()) => Reply::Written { slot },
+        Err(Failed) => {
+            table.give(frames, runs, slot);
+            Reply::WriteFault { left: Left::Same }
+        }
+    }
+}
+
+/// Reads a slot's block into a page frame, and gives the slot back. Where the read fails both stay.
+fn end_in<D: Disk>(
+    hw: &Hardware,
+    frames: &mut Frames,
+    runs: &mut FreeRuns,
+    disk: &mut D,
+    block: u32,
+    slot: u32,
+    p: u32,
+) -> Reply
+    requires slot { slot < hw.now.slots }
+    requires frame { Contains (numbers hw.now.zones) p }
+    requires apart { IsOfTable hw.now.slot_table hw.now.slots p → ⊥ }
+    requires size { length frames.old ≡ top hw.now.zones }
+    requires matches { Matches frames.old (slot_table_of hw.now) runs.old }
+    requires block { block < D.block_count disk.old }
+    ensures ends { EndsIn hw.now block frames.old frames.new slot p result (D.content disk.old) }
+    ensures pages { All IsPage frames.old }
+    ensures hardware { IsHardware hw.now }
+    ensures matches { Matches frames.new (slot_table_of hw.now) runs.new }
+    ensures len { length frames.new ≡ length frames.old }
+    ensures room { runs.new.room ≡ runs.old.room }
+    ensures content { D.content disk.new ≡ D.content disk.old }
+    ensures cause { IsFault result → HasRisen (D.faults disk.old) (D.faults disk.new) }
+    ensures faults { D.faults disk.old ≤ D.faults disk.new }
+    ensures calls { D.calls disk.new ≡ raised (D.calls disk.old) }
+    ensures orders { D.orders disk.new ≡ D.orders disk.old }
+    ensures blocks { D.block_count disk.new ≡ D.block_count disk.old }
+    ensures telling { D.tells_moments disk.new ≡ D.tells_moments disk.old }
+    ensures time { IsTrue (D.tells_moments disk.old) → Changes (Elapses (D.moment disk.old) (D.moment disk.new)
+        (D.left_since disk.old) (D.left_since disk.new)) (D.content disk.old) (D.content disk.new) }
+{
+    // Each page frame has 4096 bytes, so that an entry that is set leaves the others.
+    let _ = frames.len();
+    let slots = slot_table(hw);
+    let mut page = Page::zero();
+    match disk.read(block, &mut page) {
+        Ok(()) => {
+            slots.give(frames, runs, slot);
+            frames.write_bytes(p, page.as_bytes());
+            Reply::Fetched { slot }
+        }
+        Err(Failed) => Reply::ReadFault { left: Left::Same },
+    }
+}
+
+/// The machine's slot table.
+fn slot_table(hw: &Hardware) -> SlotTable
+    ensures table { result ≡ slot_table_of hw.now }
+    ensures hardware { IsHardware hw.now }
+{
+    SlotTable {
+        first: hw.slot_table(),
+        slots: hw.slots(),
+    }
+}

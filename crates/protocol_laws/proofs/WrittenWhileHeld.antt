@@ -1,0 +1,80 @@
+-- While an image is held, or is perhaps there, block(0) is the only block that is written.
+use Rattle.std.proofs.Common.{◌≡◌, ◌≢◌, ◌<◌, ◌≤◌, inl, inr, ℕ, zero, suc, ◌+◌, ◌-◌, Bool, true, false, cond, eqb, ltb, List, [], ◌∷◌, ◌++◌, Option, Some, None, Contains, refl, sym, ap, ap₂, ◌∙◌, subst, arith}
+use Rattle.std.specs.Prelude.{flat_map}
+use Rattle.std.specs.List.{range_with_len}
+use Rattle.std.proofs.lemmas.Bool.{cases_lt, cases_eq, cond-true, lt-ltb}
+use Rattle.std.proofs.lemmas.List.Elements.{Contains-append_cases, Contains-append_left, Contains-append_right}
+use Rattle.definitions.specs.Disk as disk
+use Rattle.definitions.proofs.Ascending.{Contains-nil}
+use Rattle.plain_machine.specs.Machine.{Hardware, block_of_slot}
+use Rattle.plain_machine.specs.Image.{Image, hibernate_steps}
+use Rattle.plain_machine.specs.Shows.{Shown}
+use Rattle.plain_machine.specs.Stands.{Stands, HasFlights}
+use Rattle.plain_machine.specs.declared.event.Event.{Event}
+use Rattle.plain_machine.specs.State.{State, off, on, booting, hibernating, undoing, settling, waking, loading, asleep, Running, Flight, goes_out, comes_in, nothing, maybe, own, held_in}
+use Rattle.protocol_laws.specs.Rows.{blocks_at, blocks_written, block_of_step, is_step_of, out_block}
+use Rattle.protocol_laws.proofs.Unwritten.{only_in, none_at}
+
+-- An out is under way only where nothing is held.
+
+no_out : (h : Hardware) (o : Option Flight) → ((s p : ℕ) → o ≡ Some (goes_out s p) → ⊥) → out_block h o ≡ []
+no_out h None none = refl
+no_out h (Some (goes_out s p)) none = absurd (none s p refl)
+no_out h (Some (comes_in s p)) none = refl
+
+no_outs : (h : Hardware) (flights : ℕ → Option Flight) (ts : List ℕ) → ((t s p : ℕ) → flights t ≡ Some (goes_out s p) → ⊥) → flat_map (λ t. out_block h (flights t)) ts ≡ []
+no_outs h flights [] none = refl
+no_outs h flights (t ∷ ts) none = ap₂ (λ (xs ys : List ℕ). xs ++ ys) (no_out h (flights t) (none t)) (no_outs h flights ts none)
+
+writes_none : (b : ℕ) (xs : List ℕ) → xs ≡ [] → Contains xs b → ⊥
+writes_none b xs e in' = Contains-nil b (subst (λ (ys : List ℕ). Contains ys b) e in')
+
+-- What an event may write is among what may be written in its state.
+
+own_block : (h : Hardware) (o : Option Flight) (own' : Bool) (b : ℕ) → Contains (cond own' (out_block h o) []) b → Contains (out_block h o) b
+own_block h o true b in' = in'
+own_block h o false b in' = absurd (Contains-nil b in')
+
+own_blocks : (h : Hardware) (e : Event) (flights : ℕ → Option Flight) (ts : List ℕ) (b : ℕ) → Contains (flat_map (λ t. cond (is_step_of t e) (out_block h (flights t)) []) ts) b → Contains (flat_map (λ t. out_block h (flights t)) ts) b
+own_blocks h e flights [] b in' = in'
+own_blocks h e flights (t ∷ ts) b in' = elim (Contains-append_cases (cond (is_step_of t e) (out_block h (flights t)) []) (flat_map (λ u. cond (is_step_of u e) (out_block h (flights u)) []) ts) b in') [
+  | inl here ↦ Contains-append_left (out_block h (flights t)) (flat_map (λ u. out_block h (flights u)) ts) b (own_block h (flights t) (is_step_of t e) b here)
+  | inr there ↦ Contains-append_right (out_block h (flights t)) (flat_map (λ u. out_block h (flights u)) ts) b (own_blocks h e flights ts b there)
+]
+
+pub at_written : (h : Hardware) (e : Event) (s : State) (b : ℕ) → Contains (blocks_at h e s) b → Contains (blocks_written h s) b
+at_written h e (off held kept) b in' = in'
+at_written h e (on a) b in' = own_blocks h e a.flights (range_with_len 1 64) b in'
+at_written h e (booting from dump held k) b in' = in'
+at_written h e (hibernating suspends i a k) b in' = in'
+at_written h e (undoing i call a k) b in' = in'
+at_written h e (settling a k) b in' = in'
+at_written h e (waking i held a k) b in' = in'
+at_written h e (loading load k) b in' = in'
+at_written h e (asleep i held a) b in' = in'
+
+-- a hibernation is past its mark then
+past_mark : (i : Image) (k : ℕ) → cond (ltb k (hibernate_steps i - 1)) nothing (maybe (own i)) ≢ nothing → hibernate_steps i ≤ k + 1
+past_mark i k held = elim (cases_lt k (hibernate_steps i - 1)) [
+  | inl lt ↦ absurd (held (cond-true (ltb k (hibernate_steps i - 1)) nothing (maybe (own i)) (lt-ltb k (hibernate_steps i - 1) lt)))
+  | inr le ↦ omega arith
+]
+
+-- where a mark is taken back at this step
+pub header_alone : (h : Hardware) (b : ℕ) (here : Bool) → Contains (cond here (block_of_slot h 0 ∷ []) []) b → b ≡ block_of_slot h 0
+header_alone h b true in' = only_in (block_of_slot h 0) b (block_of_slot h 0 ∷ []) refl in'
+header_alone h b false in' = absurd (Contains-nil b in')
+
+pub held_writes_header : (h : Hardware) (shown : Shown) (c : disk.Content) (s : State) (b : ℕ) → Stands h shown c s → held_in s ≢ nothing → Contains (blocks_written h s) b → b ≡ block_of_slot h 0
+held_writes_header h shown c (off held kept) b stands some in' = absurd (Contains-nil b in')
+held_writes_header h shown c (on a) b stands some in' =
+    absurd (writes_none b (blocks_written h (on a)) (no_outs h a.flights (range_with_len 1 64) (λ t s p e. some (stands.parts.1.flights.unheld t s p e))) in')
+held_writes_header h shown c (booting from dump held k) b stands some in' = absurd (Contains-nil b in')
+held_writes_header h shown c (hibernating suspends i a k) b stands some in' =
+    let past = past_mark i k some in
+    absurd (writes_none b (block_of_step h a i k) (none_at h a i k (omega arith) (λ e. let r : ⊥ = omega arith in r)) in')
+held_writes_header h shown c (undoing i call a k) b stands some in' = header_alone h b (eqb k 0) in'
+held_writes_header h shown c (settling a k) b stands some in' = header_alone h b (eqb k 1) in'
+held_writes_header h shown c (waking i held a k) b stands some in' = header_alone h b (eqb k 1) in'
+held_writes_header h shown c (loading load k) b stands some in' = header_alone h b (eqb k 2) in'
+held_writes_header h shown c (asleep i held a) b stands some in' = absurd (Contains-nil b in')

@@ -1,0 +1,5 @@
+pub mod Steps
+pub mod Told
+pub mod Keeping
+pub mod Bytes
+pub mod Firsts

@@ -1,0 +1,12 @@
+//! The bytes of an image as a stream, tested against its grammar as they come: the counts of the info page, the frame numbers and
+//! the end value behind them, and the length (snapshot_write_next and load_header, kernel/power/snapshot.c).
+#![tactic(auto)]
+
+mod checker;
+mod fault;
+mod laws;
+mod taking;
+
+pub use checker::Checker;
+pub use fault::{Kind, StreamFault};
+pub use laws::{is_first, stays_first};

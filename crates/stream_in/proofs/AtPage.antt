@@ -1,0 +1,66 @@
+-- A writer at a page of the stream.
+use Rattle.std.proofs.Common.{◌≡◌, ℕ, ◌+◌, ◌%◌, ◌<◌, ◌≤◌, eqb, List, length, Option, None, Result, Ok, Err, IfOk, sym, ap, ◌∙◌, subst, arith}
+use Rattle.std.proofs.lemmas.Bool.{or_from, ne_eqb}
+use Rattle.swap_slots.specs.declared.table.SlotTable.{SlotTable}
+use Rattle.swap_slots.specs.Table.{free_in}
+use Rattle.definitions.specs.InfoPage.{info_of}
+use Rattle.plain_machine.specs.Image.{maps_of}
+use Rattle.plain_machine.specs.Laid.{page_of_write, laid_block}
+use Rattle.image_write.specs.Writing.{Writing, IsWriting, writes_of}
+use Rattle.stream_check.specs.Grammar.{all_pages}
+use Rattle.stream_in.specs.Putting.{CanBegin, IsAtPage, IsPagePut, HasPut, pages_in, writes_after}
+use Rattle.stream_in.specs.declared.stop.InStop.{InStop}
+use Rattle.stream_in.proofs.Counts.{are_few}
+
+-- what a begin says
+pub record HasBegun (slots : List ℕ) (frames : List (List ℕ)) (table : SlotTable) (extents : List (ℕ × ℕ × ℕ)) (page : List ℕ) (w : Writing) : Type 0 where
+  pub writing : IsWriting slots frames w
+  pub info : w.info ≡ info_of page
+  pub table_is : w.table ≡ table
+  pub extents_are : w.extents ≡ extents
+  pub written : w.written ≡ 0
+  pub enough : all_pages page + 1026 ≤ length slots
+
+pub at_first : (free : List ℕ) (old frames : List (List ℕ)) (table : SlotTable) (extents : List (ℕ × ℕ × ℕ)) (blocks : ℕ) (page : List ℕ) (w : Writing) → CanBegin free old table extents blocks page → HasBegun (free_in old table) frames table extents page w → IsAtPage free frames table extents blocks page None w
+at_first free old frames table extents blocks page w can begun =
+    let few = are_few page w.info begun.info can.counts in
+    let pages = few.pages in
+    let some = few.some in
+    let writes = few.writes in
+    let enough : all_pages page + 1026 ≤ length free = subst (λ (slots : List ℕ). all_pages page + 1026 ≤ length slots) can.is_free begun.enough in
+    let writing : IsWriting free frames w = subst (λ (slots : List ℕ). IsWriting slots frames w) can.is_free begun.writing in
+    let written = begun.written in
+    record {
+      writing = writing;
+      at_page = or_from (eqb (w.written % 512) 511) (eqb (w.written + 1) (w.info.pages + maps_of w.info.pages))
+          (ne_eqb (w.written % 512) 511 (λ e. omega arith)) (ne_eqb (w.written + 1) (w.info.pages + maps_of w.info.pages) (λ e. omega arith));
+      on_disk = λ place lt. subst (λ (x : List (ℕ × ℕ × ℕ)). laid_block x free place < blocks) (sym begun.extents_are) (can.on_disk place (omega arith));
+      pages = pages;
+      count = ap page_of_write written;
+      made = written;
+      table_is = begun.table_is;
+      extents_are = begun.extents_are;
+      first_is = writing.first ∙ ap (λ (x : List (ℕ × ℕ × ℕ)). laid_block x free 0) begun.extents_are;
+      enough = enough;
+    }
+
+-- and with one page more
+pub has_put : (free : List ℕ) (frames f : List (List ℕ)) (table : SlotTable) (extents : List (ℕ × ℕ × ℕ)) (blocks : ℕ) (page : List ℕ) (old : Option Writing) (w new : Writing) → IsAtPage free frames table extents blocks page old w → IsPagePut free f w new → HasPut free f table extents page old new
+has_put free frames f table extents blocks page old w new at put =
+    let info = ap writes_of put.image.info in
+    record {
+      pages = ap (λ i. i.pages) put.image.info ∙ at.pages;
+      written = put.written ∙ ap (λ n. writes_after n (page_of_write w.written + 1)) at.pages ∙ ap (λ n. writes_after (pages_in page old) (n + 1)) at.count;
+      going = λ lt. put.going (omega arith);
+      table_is = put.image.table ∙ at.table_is;
+      extents_are = put.image.extents ∙ at.extents_are;
+      first = put.image.first ∙ at.first_is;
+    }
+
+-- the same of the answer of a begin
+pub at_begun : (free : List ℕ) (old frames : List (List ℕ)) (table : SlotTable) (extents : List (ℕ × ℕ × ℕ)) (blocks : ℕ) (page : List ℕ) (r : Result Writing InStop) → CanBegin free old table extents blocks page →
+    IfOk r (λ w. IsWriting (free_in old table) frames w) → IfOk r (λ w. w.info ≡ info_of page) → IfOk r (λ w. w.table ≡ table) → IfOk r (λ w. w.extents ≡ extents) → IfOk r (λ w. w.written ≡ 0) →
+    IfOk r (λ w. all_pages page + 1026 ≤ length (free_in old table)) → IfOk r (λ w. IsAtPage free frames table extents blocks page None w)
+at_begun free old frames table extents blocks page (Ok w) can a b c d e f =
+    at_first free old frames table extents blocks page w can (record { writing = a; info = b; table_is = c; extents_are = d; written = e; enough = f })
+at_begun free old frames table extents blocks page (Err why) can a b c d e f = tt

@@ -1,0 +1,16 @@
+pub mod Contents
+pub mod Undoing
+pub mod Puts
+pub mod Counts
+pub mod AtPage
+pub mod Sessions
+pub mod Bounds
+pub mod Opened
+pub mod Outsides
+pub mod Laying
+pub mod Pages
+pub mod Holding
+pub mod ComingIn
+pub mod Moments
+pub mod Trying
+pub mod Ready

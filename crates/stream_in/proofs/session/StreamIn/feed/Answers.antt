@@ -1,0 +1,195 @@
+use Rattle.std.proofs.Common.{refl, rules, append-nil, ◌≡◌, ℕ, ◌+◌, ◌-◌, ◌*◌, ◌/◌, ◌%◌, ◌≤◌, List, ◌++◌, IsTrue, length, take, drop, Some, sym, ap, subst, ◌∙◌, arith, length-append, length-drop}
+use Rattle.std.proofs.lemmas.List.{length-take-le, take_all}
+use Rattle.stream_check.specs.Grammar.{first_fault}
+use Rattle.stream_check.proofs.Steps.{first_fault-stays}
+use Rattle.stream_in.specs.Session.{IsGoing, IsFed, HasTooFewFor}
+use Rattle.definitions.specs.Disk.{Changes, Image}
+use Rattle.stream_in.specs.Written.{AreOfMap, WritesOn}
+use Rattle.stream_in.proofs.Pages.{on_none, on_then}
+use Rattle.stream_in.proofs.Outsides.{keeps_none, told_then, told_same}
+use Rattle.stream_in.specs.Outside.{KeepsOutside}
+use Rattle.stream_in.specs.Moments.{ElapsesOutside}
+use Rattle.stream_in.proofs.Moments.{outside_none, outside_then, outside_same}
+use Rattle.stream_in.proofs.Contents.{changes_none}
+use Rattle.stream_in.proofs.Ready.{told_ready, no_header}
+use Rattle.stream_in.proofs.Sessions.{piece_part, piece_rest, length-part, too_few_more, pages_more}
+use Rattle.stream_in.proofs.session.StreamIn.feed.Goals as goal
+
+-- how many calls there are
+more_calls : (size at end taken part before now first : ℕ) → at ≤ end → taken ≡ size + at → part ≡ end - at → before ≤ first + 3 * ((size + at) / 4096 - size / 4096) → now ≤ before + 3 * ((taken % 4096 + part) / 4096) → now ≤ first + 3 * ((size + end) / 4096 - size / 4096)
+more_calls size at end taken part before now first le taken_is part_is h i =
+    let pages = pages_more size at end le in
+    let P : ℕ → Type 0 = λ n. now ≤ before + 3 * ((n % 4096 + part) / 4096) in
+    let Q : ℕ → Type 0 = λ n. now ≤ before + 3 * (((size + at) % 4096 + n) / 4096) in
+    let j = subst Q part_is (subst P taken_is i) in
+    omega arith
+
+-- time goes on over one more part
+time_more : (x y : List (ℕ × ℕ × ℕ)) (free : List ℕ) (m n o : ℕ) (p q r : ℕ → Image → Type 0) → y ≡ x → ElapsesOutside x free m n p q → ElapsesOutside y free n o q r → ElapsesOutside x free m o p r
+time_more x y free m n o p q r same first second = outside_then x free m n o p q r first (outside_same x y free n o q r same second)
+
+pub loop-at-preserved : goal.loop-at-preserved
+loop-at-preserved g c =
+    let piece = c.args.piece.now in
+    let at = c.loop-at.at in
+    let end = c.end_of_page-end.result in
+    let some : at ≤ end = omega (arith, c.end_of_page-end.ensures.some) in
+    let within : end ≤ length piece = c.end_of_page-end.ensures.within in
+    let part = take (end - at) (drop at piece) in
+    let size : length part ≡ end - at = length-take-le (end - at) (drop at piece) (omega (arith, length-drop at piece)) in
+    let inv = c.loop-at.invariant in
+    let fed : (free bs : List ℕ) → IsFed free bs c.args.self.now → IsFed free (bs ++ take end piece) c.take.new.self =
+    λ free bs f. subst (λ (l : List ℕ). IsFed free l c.take.new.self) (piece_part bs piece at end some within) (c.in-Ok.ensures.taken free (bs ++ take at piece) (inv.fed free bs f)) in
+    record {
+      within = within;
+      fed = fed;
+      going = (inv.was_going.0, inv.was_going.1 ++ take end piece, fed inv.was_going.0 inv.was_going.1 inv.was_going.2);
+      was_going = inv.was_going;
+      count = c.take.ensures.blocks ∙ inv.count ∙ sym c.take.ensures.same;
+      done = λ free bs f of.
+          let of' = subst (λ (x : List (ℕ × ℕ × ℕ)). AreOfMap x free) (sym inv.map_same) of in
+          on_then c.args.self.now.map c.loop-at.self.map free bs (take at piece) part (take end piece) (g.D.Disk.content c.args.disk.now) (g.D.Disk.content c.loop-at.disk) (g.D.Disk.content c.take.new.disk)
+          inv.map_same (piece_part bs piece at end some within) (inv.done free bs f of) (c.in-Ok.ensures.done free (bs ++ take at piece) (inv.fed free bs f) of');
+      outside = λ free bs f. told_then c.args.self.now.map free (g.D.Disk.content c.args.disk.now) (g.D.Disk.content c.loop-at.disk) (g.D.Disk.content c.take.new.disk)
+          (inv.outside free bs f) (told_same c.args.self.now.map c.loop-at.self.map free (g.D.Disk.content c.loop-at.disk) (g.D.Disk.content c.take.new.disk) inv.map_same
+          (c.take.ensures.outside free (bs ++ take at piece) (inv.fed free bs f)));
+      time = λ tells free bs f. time_more c.args.self.now.map c.loop-at.self.map free (g.D.Disk.moment c.args.disk.now) (g.D.Disk.moment c.loop-at.disk) (g.D.Disk.moment c.take.new.disk)
+          (g.D.Disk.left_since c.args.disk.now) (g.D.Disk.left_since c.loop-at.disk) (g.D.Disk.left_since c.take.new.disk) inv.map_same (inv.time tells free bs f)
+          (c.take.ensures.time (subst IsTrue (sym inv.telling) tells) free (bs ++ take at piece) (inv.fed free bs f));
+      map_same = c.take.ensures.map ∙ inv.map_same;
+      same = c.take.ensures.same ∙ inv.same;
+      faults = omega (arith, inv.faults, c.take.ensures.faults);
+      calls = λ free bs f. more_calls (length bs) at end c.taken.result (length part) (g.D.Disk.calls c.loop-at.disk) (g.D.Disk.calls c.take.new.disk) (g.D.Disk.calls c.args.disk.now) some
+          (c.taken.ensures (bs ++ take at piece) (inv.fed free bs f).taken ∙ length-part bs piece at inv.within) size (inv.calls free bs f) c.take.ensures.calls;
+      orders = c.take.ensures.orders ∙ inv.orders;
+      blocks = c.take.ensures.blocks ∙ inv.blocks;
+      telling = c.take.ensures.telling ∙ inv.telling;
+    }
+
+pub returns-in-Err-clause-stream : goal.returns-in-Err-clause-stream
+returns-in-Err-clause-stream g c = λ free bs fed fault is.
+    let piece = c.args.piece.now in
+    let at = c.loop-at.at in
+    let end = c.end_of_page-end.result in
+    let some : at ≤ end = omega (arith, c.end_of_page-end.ensures.some) in
+    let within : end ≤ length piece = c.end_of_page-end.ensures.within in
+    let found = c.take.ensures.stream free (bs ++ take at piece) (c.loop-at.invariant.fed free bs fed) fault (c.in-Err.is ∙ is) in
+    let here : first_fault (bs ++ take end piece) ≡ Some fault = ap first_fault (sym (piece_part bs piece at end some within)) ∙ found in
+    ap first_fault (piece_rest bs piece end) ∙ first_fault-stays (bs ++ take end piece) (drop end piece) fault here
+
+pub returns-in-Err-clause-too_few : goal.returns-in-Err-clause-too_few
+returns-in-Err-clause-too_few g c = λ free bs fed told need is.
+    let piece = c.args.piece.now in
+    let at = c.loop-at.at in
+    let end = c.end_of_page-end.result in
+    let some : at ≤ end = omega (arith, c.end_of_page-end.ensures.some) in
+    let within : end ≤ length piece = c.end_of_page-end.ensures.within in
+    let few = c.take.ensures.too_few free (bs ++ take at piece) (c.loop-at.invariant.fed free bs fed) told need (c.in-Err.is ∙ is) in
+    let P : List ℕ → Type 0 = λ l. HasTooFewFor free l told need in
+    subst P (sym (piece_rest bs piece end)) (too_few_more free (bs ++ take end piece) (drop end piece) told need (subst P (piece_part bs piece at end some within) few))
+
+pub returns-in-Err-clause-calls : goal.returns-in-Err-clause-calls
+returns-in-Err-clause-calls g c = λ free bs fed.
+    let piece = c.args.piece.now in
+    let at = c.loop-at.at in
+    let end = c.end_of_page-end.result in
+    let some : at ≤ end = omega (arith, c.end_of_page-end.ensures.some) in
+    let within : end ≤ length piece = c.end_of_page-end.ensures.within in
+    let part = take (end - at) (drop at piece) in
+    let size : length part ≡ end - at = length-take-le (end - at) (drop at piece) (omega (arith, length-drop at piece)) in
+    let inv = c.loop-at.invariant in
+    let upto = more_calls (length bs) at end c.taken.result (length part) (g.D.Disk.calls c.loop-at.disk) (g.D.Disk.calls c.take.new.disk) (g.D.Disk.calls c.args.disk.now) some
+    (c.taken.ensures (bs ++ take at piece) (inv.fed free bs fed).taken ∙ length-part bs piece at inv.within) size (inv.calls free bs fed) c.take.ensures.calls in
+    omega (arith, length-append bs piece)
+
+pub returns-clause-taken : goal.returns-clause-taken
+returns-clause-taken g c = λ free bs fed.
+    let all : take c.loop-at.at c.args.piece.now ≡ c.args.piece.now = take_all c.loop-at.at c.args.piece.now (omega arith) in
+    subst (λ (p : List ℕ). IsFed free (bs ++ p) c.loop-at.self) all (c.loop-at.invariant.fed free bs fed)
+
+pub returns-clause-calls : goal.returns-clause-calls
+returns-clause-calls g c = λ free bs fed.
+    let inv = c.loop-at.invariant in
+    let calls = inv.calls free bs fed in
+    let end : c.loop-at.at ≡ length c.args.piece.now = omega (arith, inv.within) in
+    omega (arith, length-append bs c.args.piece.now)
+
+-- The other blocks.
+
+pub returns-in-Err-clause-outside : goal.returns-in-Err-clause-outside
+returns-in-Err-clause-outside g c = λ free bs fed.
+    let inv = c.loop-at.invariant in
+    told_then c.args.self.now.map free (g.D.Disk.content c.args.disk.now) (g.D.Disk.content c.loop-at.disk) (g.D.Disk.content c.take.new.disk)
+    (inv.outside free bs fed) (told_same c.args.self.now.map c.loop-at.self.map free (g.D.Disk.content c.loop-at.disk) (g.D.Disk.content c.take.new.disk) inv.map_same
+    (c.take.ensures.outside free (bs ++ take c.loop-at.at c.args.piece.now) (inv.fed free bs fed)))
+
+-- Moments.
+
+pub returns-in-Err-clause-time : goal.returns-in-Err-clause-time
+returns-in-Err-clause-time g c = λ tells free bs fed.
+    let inv = c.loop-at.invariant in
+    time_more c.args.self.now.map c.loop-at.self.map free (g.D.Disk.moment c.args.disk.now) (g.D.Disk.moment c.loop-at.disk) (g.D.Disk.moment c.take.new.disk)
+    (g.D.Disk.left_since c.args.disk.now) (g.D.Disk.left_since c.loop-at.disk) (g.D.Disk.left_since c.take.new.disk) inv.map_same (inv.time tells free bs fed)
+    (c.take.ensures.time (subst IsTrue (sym inv.telling) tells) free (bs ++ take c.loop-at.at c.args.piece.now) (inv.fed free bs fed))
+
+pub returns-in-Err-clause-header : goal.returns-in-Err-clause-header
+returns-in-Err-clause-header g c = λ tells area free bs into.
+    let inv = c.loop-at.invariant in
+    no_header area free c.args.self.now.map (g.D.Disk.moment c.args.disk.now) (g.D.Disk.moment c.take.new.disk) (g.D.Disk.left_since c.args.disk.now) (g.D.Disk.left_since c.take.new.disk) into.usable into.map_is
+    (time_more c.args.self.now.map c.loop-at.self.map free (g.D.Disk.moment c.args.disk.now) (g.D.Disk.moment c.loop-at.disk) (g.D.Disk.moment c.take.new.disk)
+    (g.D.Disk.left_since c.args.disk.now) (g.D.Disk.left_since c.loop-at.disk) (g.D.Disk.left_since c.take.new.disk) inv.map_same (inv.time tells free bs into.fed)
+    (c.take.ensures.time (subst IsTrue (sym inv.telling) tells) free (bs ++ take c.loop-at.at c.args.piece.now) (inv.fed free bs into.fed)))
+
+pub returns-clause-header : goal.returns-clause-header
+returns-clause-header g c = λ tells area free bs into.
+    no_header area free c.args.self.now.map (g.D.Disk.moment c.args.disk.now) (g.D.Disk.moment c.loop-at.disk) (g.D.Disk.left_since c.args.disk.now) (g.D.Disk.left_since c.loop-at.disk) into.usable into.map_is
+    (c.loop-at.invariant.time tells free bs into.fed)
+
+-- What is on the disk.
+
+pub returns-clause-done : goal.returns-clause-done
+returns-clause-done g c = λ free bs fed of.
+    let all : take c.loop-at.at c.args.piece.now ≡ c.args.piece.now = take_all c.loop-at.at c.args.piece.now (omega arith) in
+    subst (λ (p : List ℕ). Changes (WritesOn c.args.self.now.map free bs p) (g.D.Disk.content c.args.disk.now) (g.D.Disk.content c.loop-at.disk)) all (c.loop-at.invariant.done free bs fed of)
+
+pub returns-clause-into : goal.returns-clause-into
+returns-clause-into g c = λ area free bs into.
+    let inv = c.loop-at.invariant in
+    let all : take c.loop-at.at c.args.piece.now ≡ c.args.piece.now = take_all c.loop-at.at c.args.piece.now (omega arith) in
+    record {
+      fed = subst (λ (p : List ℕ). IsFed free (bs ++ p) c.loop-at.self) all (inv.fed free bs into.fed);
+      map_is = inv.map_same ∙ into.map_is;
+      of_map = subst (λ (x : List (ℕ × ℕ × ℕ)). AreOfMap x free) (sym inv.map_same) into.of_map;
+      usable = into.usable;
+    }
+
+pub returns-clause-ready : goal.returns-clause-ready
+returns-clause-ready g c = λ area free bs into.
+    let s = c.args.self.now in
+    let a = g.D.Disk.content c.args.disk.now in
+    let b = g.D.Disk.content c.loop-at.disk in
+    let all : take c.loop-at.at c.args.piece.now ≡ c.args.piece.now = take_all c.loop-at.at c.args.piece.now (omega arith) in
+    told_ready area free bs c.args.piece.now s.map a b into.usable into.map_is (c.loop-at.invariant.outside free bs into.fed)
+    (subst (λ (p : List ℕ). Changes (WritesOn s.map free bs p) a b) all (c.loop-at.invariant.done free bs into.fed into.of_map))
+
+pub loop-at-init : goal.loop-at-init
+loop-at-init g c =
+    let s = c.args.self.now in
+    let going : IsGoing s = search rules in
+    record {
+      within = omega arith;
+      fed = λ free bs f. subst (λ (l : List ℕ). IsFed free l s) (sym (append-nil bs)) f;
+      going = going;
+      was_going = going;
+      done = λ free bs f of. on_none s.map free bs (g.D.Disk.content c.args.disk.now);
+      outside = λ free bs f. changes_none (KeepsOutside s.map free) (g.D.Disk.content c.args.disk.now) (g.D.Disk.content c.args.disk.now) (keeps_none s.map free) refl;
+      time = λ tells free bs f. outside_none s.map free (g.D.Disk.moment c.args.disk.now) (g.D.Disk.left_since c.args.disk.now);
+      map_same = refl;
+      count = c.requires.blocks;
+      same = refl;
+      faults = omega arith;
+      calls = λ free bs f. omega arith;
+      orders = refl;
+      blocks = refl;
+      telling = refl;
+    }

@@ -1,0 +1,240 @@
+use Rattle.std.proofs.Common.{◌≡◌, ◌<◌, ◌++◌, refl, ℕ, ◌+◌, ◌%◌, ◌≤◌, List, length, Option, Err, sym, ap, subst, ◌∙◌, arith, rules}
+use Rattle.std.proofs.lemmas.Result.{err_from_is_err_and}
+use Rattle.definitions.specs.Tables.{table_frames}
+use Rattle.image_write.specs.Writing.{Writing}
+use Rattle.stream_in.specs.declared.stop.InStop.TheVariants as stop
+use Rattle.stream_in.specs.declared.session.StreamIn.{StreamIn}
+use Rattle.stream_in.specs.Putting.{CanPut, Suffice, HasPut, HasTooFew}
+use Rattle.stream_in.specs.Session.{IsFed}
+use Rattle.stream_in.proofs.Contents.{err_same, changes_none, changes_as}
+use Rattle.definitions.specs.Disk.{Changes, as_it_reads}
+use Rattle.stream_in.specs.Putting.{pages_in, pages_written, writes_made}
+use Rattle.stream_in.specs.Written.{MakesMore, WritesOn, page_at}
+use Rattle.stream_in.proofs.Pages.{written_part, next_page, page_count, written_full, goes_on}
+use Rattle.stream_in.specs.Outside.{KeepsOutside}
+use Rattle.stream_in.proofs.Outsides.{keeps_none}
+use Rattle.stream_in.proofs.Moments.{outside_none}
+use Rattle.stream_in.proofs.Sessions.{IsFull, full_page, page_open, page_closed, output_open, can_put, has_output, too_few}
+use Rattle.stream_in.proofs.session.StreamIn.take.Goals as goal
+
+-- A session has taken one list of bytes, so begun is the length of what is in the page.
+began : (s : StreamIn) (begun : ℕ) → (free : List ℕ) × (bs : List ℕ) × IsFed free bs s × (begun ≡ length bs % 4096) → (free bs : List ℕ) → IsFed free bs s → begun ≡ length bs % 4096
+began s begun (free', bs', fed', is) free bs fed = is ∙ ap (λ n. n % 4096) (sym fed'.taken.taken ∙ fed.taken.taken)
+
+pub returns-in_err-take-clause-stream : goal.returns-in_err-take-clause-stream
+returns-in_err-take-clause-stream g c = λ free bs fed fault is.
+    let p = err_from_is_err_and c.from_residual.result c.from_residual.ensures.1 in
+    let told : stop.Stream c.in_err-take.field-0.0 ≡ stop.Stream fault = err_same c.from_residual.result _ _ (p.1 ∙ ap Err p.2) is in
+    let same : c.in_err-take.field-0.0 ≡ fault = cc in
+    (c.take.ensures.fault bs fed.taken fault).0 (c.in_err-take.was ∙ ap Err same)
+
+pub returns-then-end-lt-PAGE-clause-taken : goal.returns-then-end-lt-PAGE-clause-taken
+returns-then-end-lt-PAGE-clause-taken g c = λ free bs fed.
+    let part = c.args.part.now in
+    let page = c.args.self.now.page in
+    let size : length page ≡ 4096 = search rules in
+    let begun : c.args.begun ≡ length bs % 4096 = began c.args.self.now c.args.begun c.requires.session free bs fed in
+    record {
+      taken = c.in_ok-take.ensures.taken bs fed.taken;
+      going = fed.going;
+      table_in = fed.table_in;
+      matched = fed.matched;
+      page_is = page_open bs part page c.copy_from_slice.new.self _ c.args.begun begun (omega arith) (omega arith) c.copy_from_slice.ensures.after fed.page_is;
+      few = fed.few;
+      count = fed.count;
+      on_disk = fed.on_disk;
+      output = output_open free bs part c.args.self.now.frames c.args.self.now.table c.args.self.now.map c.args.self.now.writer (omega arith) fed.output;
+    }
+
+pub put_full-requires-clause-put : goal.put_full-requires-clause-put
+put_full-requires-clause-put g c =
+    let free = c.requires.session.0 in
+    let bs = c.requires.session.1 in
+    let fed = c.requires.session.2 in
+    let s = c.args.self.now in
+    let size : length s.page ≡ 4096 = search rules in
+    let begun : c.args.begun ≡ length bs % 4096 = began s c.args.begun c.requires.session free bs fed in
+    let full : IsFull bs c.args.part.now c.from_bytes-page.result =
+    full_page bs c.args.part.now c.args.self.now.page c.copy_from_slice.new.self _ c.from_bytes-page.result c.args.begun begun (omega arith) (omega arith)
+    c.copy_from_slice.ensures.after fed.page_is c.from_bytes-page.ensures.bytes c.from_bytes-page.ensures.page c.requires.some (c.in_ok-take.ensures.taken bs fed.taken).read.sound in
+    let blocks = g.D.Disk.block_count c.args.disk.now in
+    let same : s.blocks ≡ blocks = sym c.requires.blocks in
+    let P : ℕ → Type 0 = λ n. CanPut free s.frames s.table s.map n c.from_bytes-page.result c.take-2.result in
+    let Q : Option Writing → Type 0 = λ w. CanPut free s.frames s.table s.map s.blocks c.from_bytes-page.result w in
+    let can = subst P same (subst Q (sym c.take-2.ensures.value)
+    (can_put free bs c.args.part.now c.from_bytes-page.result s.frames s.table s.map s.blocks s.writer fed.few fed.count fed.on_disk full fed.output)) in
+    (free, can)
+
+pub returns-in_err-writer-clause-too_few : goal.returns-in_err-writer-clause-too_few
+returns-in_err-writer-clause-too_few g c = λ free bs fed told need is.
+    let s = c.args.self.now in
+    let size : length s.page ≡ 4096 = search rules in
+    let begun : c.args.begun ≡ length bs % 4096 = began s c.args.begun c.requires.session free bs fed in
+    let full : IsFull bs c.args.part.now c.from_bytes-page.result =
+    full_page bs c.args.part.now c.args.self.now.page c.copy_from_slice.new.self _ c.from_bytes-page.result c.args.begun begun (omega arith) (omega arith)
+    c.copy_from_slice.ensures.after fed.page_is c.from_bytes-page.ensures.bytes c.from_bytes-page.ensures.page c.requires.some (c.in_ok-take.ensures.taken bs fed.taken).read.sound in
+    let blocks = g.D.Disk.block_count c.args.disk.now in
+    let same : s.blocks ≡ blocks = sym c.requires.blocks in
+    let P : ℕ → Type 0 = λ n. CanPut free s.frames s.table s.map n c.from_bytes-page.result c.take-2.result in
+    let Q : Option Writing → Type 0 = λ w. CanPut free s.frames s.table s.map s.blocks c.from_bytes-page.result w in
+    let can = subst P same (subst Q (sym c.take-2.ensures.value)
+    (can_put free bs c.args.part.now c.from_bytes-page.result s.frames s.table s.map s.blocks s.writer fed.few fed.count fed.on_disk full fed.output)) in
+    let p = err_from_is_err_and c.from_residual-in_err-writer.result c.from_residual-in_err-writer.ensures.1 in
+    let why : c.in_err-writer.field-0.0 ≡ stop.NoSlots told need = err_same c.from_residual-in_err-writer.result _ _ (p.1 ∙ ap Err p.2) is in
+    let R : Option Writing → Type 0 = λ w. HasTooFew free c.from_bytes-page.result w told need in
+    let few = subst R c.take-2.ensures.value (c.put_full.ensures.too_few free can told need (c.in_err-writer.was ∙ ap Err why)) in
+    too_few free bs c.args.part.now c.from_bytes-page.result s.frames s.table s.map s.writer told need full fed.output few
+
+pub returns-clause-taken : goal.returns-clause-taken
+returns-clause-taken g c = λ free bs fed.
+    let s = c.args.self.now in
+    let size : length s.page ≡ 4096 = search rules in
+    let begun : c.args.begun ≡ length bs % 4096 = began s c.args.begun c.requires.session free bs fed in
+    let full : IsFull bs c.args.part.now c.from_bytes-page.result =
+    full_page bs c.args.part.now c.args.self.now.page c.copy_from_slice.new.self _ c.from_bytes-page.result c.args.begun begun (omega arith) (omega arith)
+    c.copy_from_slice.ensures.after fed.page_is c.from_bytes-page.ensures.bytes c.from_bytes-page.ensures.page c.requires.some (c.in_ok-take.ensures.taken bs fed.taken).read.sound in
+    let blocks = g.D.Disk.block_count c.args.disk.now in
+    let same : s.blocks ≡ blocks = sym c.requires.blocks in
+    let P : ℕ → Type 0 = λ n. CanPut free s.frames s.table s.map n c.from_bytes-page.result c.take-2.result in
+    let Q : Option Writing → Type 0 = λ w. CanPut free s.frames s.table s.map s.blocks c.from_bytes-page.result w in
+    let can = subst P same (subst Q (sym c.take-2.ensures.value)
+    (can_put free bs c.args.part.now c.from_bytes-page.result s.frames s.table s.map s.blocks s.writer fed.few fed.count fed.on_disk full fed.output)) in
+    let R : Option Writing → Type 0 = λ w. HasPut free c.put_full.new.frames s.table s.map c.from_bytes-page.result w c.in_ok-writer.writer in
+    let S : Option Writing → Type 0 = λ w. Suffice free c.from_bytes-page.result w in
+    let put = subst R c.take-2.ensures.value (c.in_ok-writer.ensures.put free can) in
+    let enough = subst S c.take-2.ensures.value (c.in_ok-writer.ensures.enough free can) in
+    record {
+      taken = c.in_ok-take.ensures.taken bs fed.taken;
+      going = fed.going;
+      table_in = subst (λ n. s.table.first + table_frames s.table.slots ≤ n) (sym c.put_full.ensures.len) fed.table_in;
+      matched = c.put_full.ensures.runs;
+      page_is = page_closed bs c.args.part.now _ (omega arith);
+      few = fed.few;
+      count = fed.count;
+      on_disk = fed.on_disk;
+      output = has_output free bs c.args.part.now c.from_bytes-page.result s.frames c.put_full.new.frames s.table s.map s.writer c.in_ok-writer.writer full fed.output put enough;
+    }
+
+-- The other blocks.
+
+pub returns-in_err-take-clause-outside : goal.returns-in_err-take-clause-outside
+returns-in_err-take-clause-outside g c = λ free bs fed.
+    changes_none (KeepsOutside c.args.self.now.map free) (g.D.Disk.content c.args.disk.now) (g.D.Disk.content c.args.disk.now) (keeps_none c.args.self.now.map free) refl
+
+pub returns-then-end-lt-PAGE-clause-outside : goal.returns-then-end-lt-PAGE-clause-outside
+returns-then-end-lt-PAGE-clause-outside g c = λ free bs fed.
+    changes_none (KeepsOutside c.args.self.now.map free) (g.D.Disk.content c.args.disk.now) (g.D.Disk.content c.args.disk.now) (keeps_none c.args.self.now.map free) refl
+
+pub returns-in_err-writer-clause-outside : goal.returns-in_err-writer-clause-outside
+returns-in_err-writer-clause-outside g c = λ free bs fed.
+    let s = c.args.self.now in
+    let size : length s.page ≡ 4096 = search rules in
+    let begun : c.args.begun ≡ length bs % 4096 = began s c.args.begun c.requires.session free bs fed in
+    let full : IsFull bs c.args.part.now c.from_bytes-page.result =
+    full_page bs c.args.part.now c.args.self.now.page c.copy_from_slice.new.self _ c.from_bytes-page.result c.args.begun begun (omega arith) (omega arith)
+    c.copy_from_slice.ensures.after fed.page_is c.from_bytes-page.ensures.bytes c.from_bytes-page.ensures.page c.requires.some (c.in_ok-take.ensures.taken bs fed.taken).read.sound in
+    let blocks = g.D.Disk.block_count c.args.disk.now in
+    let same : s.blocks ≡ blocks = sym c.requires.blocks in
+    let P : ℕ → Type 0 = λ n. CanPut free s.frames s.table s.map n c.from_bytes-page.result c.take-2.result in
+    let Q : Option Writing → Type 0 = λ w. CanPut free s.frames s.table s.map s.blocks c.from_bytes-page.result w in
+    let can = subst P same (subst Q (sym c.take-2.ensures.value)
+    (can_put free bs c.args.part.now c.from_bytes-page.result s.frames s.table s.map s.blocks s.writer fed.few fed.count fed.on_disk full fed.output)) in
+    c.put_full.ensures.outside free can
+
+pub returns-clause-outside : goal.returns-clause-outside
+returns-clause-outside g c = λ free bs fed.
+    let s = c.args.self.now in
+    let size : length s.page ≡ 4096 = search rules in
+    let begun : c.args.begun ≡ length bs % 4096 = began s c.args.begun c.requires.session free bs fed in
+    let full : IsFull bs c.args.part.now c.from_bytes-page.result =
+    full_page bs c.args.part.now c.args.self.now.page c.copy_from_slice.new.self _ c.from_bytes-page.result c.args.begun begun (omega arith) (omega arith)
+    c.copy_from_slice.ensures.after fed.page_is c.from_bytes-page.ensures.bytes c.from_bytes-page.ensures.page c.requires.some (c.in_ok-take.ensures.taken bs fed.taken).read.sound in
+    let blocks = g.D.Disk.block_count c.args.disk.now in
+    let same : s.blocks ≡ blocks = sym c.requires.blocks in
+    let P : ℕ → Type 0 = λ n. CanPut free s.frames s.table s.map n c.from_bytes-page.result c.take-2.result in
+    let Q : Option Writing → Type 0 = λ w. CanPut free s.frames s.table s.map s.blocks c.from_bytes-page.result w in
+    let can = subst P same (subst Q (sym c.take-2.ensures.value)
+    (can_put free bs c.args.part.now c.from_bytes-page.result s.frames s.table s.map s.blocks s.writer fed.few fed.count fed.on_disk full fed.output)) in
+    c.put_full.ensures.outside free can
+
+-- What is on the disk.
+
+pub returns-then-end-lt-PAGE-clause-done : goal.returns-then-end-lt-PAGE-clause-done
+returns-then-end-lt-PAGE-clause-done g c = λ free bs fed of.
+    let part = c.args.part.now in
+    let a = g.D.Disk.content c.args.disk.now in
+    let begun : c.args.begun ≡ length bs % 4096 = began c.args.self.now c.args.begun c.requires.session free bs fed in
+    let few : length bs % 4096 + length part < 4096 = omega arith in
+    let sound = (c.in_ok-take.ensures.taken bs fed.taken).read.sound in
+    changes_none (WritesOn c.args.self.now.map free bs part) a a
+    (λ x. written_part c.args.self.now.map free bs part (as_it_reads x) few (goes_on bs part sound c.requires.some)) refl
+
+pub returns-clause-done : goal.returns-clause-done
+returns-clause-done g c = λ free bs fed of.
+    let s = c.args.self.now in
+    let size : length s.page ≡ 4096 = search rules in
+    let begun : c.args.begun ≡ length bs % 4096 = began s c.args.begun c.requires.session free bs fed in
+    let full : IsFull bs c.args.part.now c.from_bytes-page.result =
+    full_page bs c.args.part.now c.args.self.now.page c.copy_from_slice.new.self _ c.from_bytes-page.result c.args.begun begun (omega arith) (omega arith)
+    c.copy_from_slice.ensures.after fed.page_is c.from_bytes-page.ensures.bytes c.from_bytes-page.ensures.page c.requires.some (c.in_ok-take.ensures.taken bs fed.taken).read.sound in
+    let blocks = g.D.Disk.block_count c.args.disk.now in
+    let same : s.blocks ≡ blocks = sym c.requires.blocks in
+    let P : ℕ → Type 0 = λ n. CanPut free s.frames s.table s.map n c.from_bytes-page.result c.take-2.result in
+    let Q : Option Writing → Type 0 = λ w. CanPut free s.frames s.table s.map s.blocks c.from_bytes-page.result w in
+    let can = subst P same (subst Q (sym c.take-2.ensures.value)
+    (can_put free bs c.args.part.now c.from_bytes-page.result s.frames s.table s.map s.blocks s.writer fed.few fed.count fed.on_disk full fed.output)) in
+    let R : Option Writing → Type 0 = λ w. HasPut free c.put_full.new.frames s.table s.map c.from_bytes-page.result w c.in_ok-writer.writer in
+    let S : Option Writing → Type 0 = λ w. Suffice free c.from_bytes-page.result w in
+    let put = subst R c.take-2.ensures.value (c.in_ok-writer.ensures.put free can) in
+    let enough = subst S c.take-2.ensures.value (c.in_ok-writer.ensures.enough free can) in
+    let begun' = has_output free bs c.args.part.now c.from_bytes-page.result s.frames c.put_full.new.frames s.table s.map s.writer c.in_ok-writer.writer full fed.output put enough in
+    let a = g.D.Disk.content c.args.disk.now in
+    let b = g.D.Disk.content c.put_full.new.disk in
+    let pages = page_at (bs ++ c.args.part.now) in
+    let next : c.from_bytes-page.result ≡ pages (pages_written s.writer) =
+    next_page bs c.args.part.now c.from_bytes-page.result full ∙ ap pages (page_count free bs c.args.part.now c.from_bytes-page.result s.frames s.table s.map s.writer full fed.output) in
+    let T : Option Writing → Type 0 = λ w. c.from_bytes-page.result ≡ pages (pages_written w) in
+    let U : Option Writing → Type 0 = λ w. Changes (MakesMore s.map free (pages_in c.from_bytes-page.result w) pages (writes_made w) c.in_ok-writer.writer.written) a b in
+    let made = subst U c.take-2.ensures.value (c.in_ok-writer.ensures.done free pages can of (subst T (sym c.take-2.ensures.value) next)) in
+    changes_as (MakesMore s.map free (pages_in c.from_bytes-page.result s.writer) pages (writes_made s.writer) c.in_ok-writer.writer.written) (WritesOn s.map free bs c.args.part.now) a b
+    (written_full free bs c.args.part.now c.from_bytes-page.result s.frames c.put_full.new.frames s.table s.map s.writer c.in_ok-writer.writer full fed.output begun') made
+
+-- Moments.
+
+pub returns-in_err-take-clause-time : goal.returns-in_err-take-clause-time
+returns-in_err-take-clause-time g c = λ tells free bs fed. outside_none c.args.self.now.map free (g.D.Disk.moment c.args.disk.now) (g.D.Disk.left_since c.args.disk.now)
+
+pub returns-then-end-lt-PAGE-clause-time : goal.returns-then-end-lt-PAGE-clause-time
+returns-then-end-lt-PAGE-clause-time g c = λ tells free bs fed. outside_none c.args.self.now.map free (g.D.Disk.moment c.args.disk.now) (g.D.Disk.left_since c.args.disk.now)
+
+pub returns-in_err-writer-clause-time : goal.returns-in_err-writer-clause-time
+returns-in_err-writer-clause-time g c = λ tells free bs fed.
+    let s = c.args.self.now in
+    let size : length s.page ≡ 4096 = search rules in
+    let begun : c.args.begun ≡ length bs % 4096 = began s c.args.begun c.requires.session free bs fed in
+    let full : IsFull bs c.args.part.now c.from_bytes-page.result =
+    full_page bs c.args.part.now c.args.self.now.page c.copy_from_slice.new.self _ c.from_bytes-page.result c.args.begun begun (omega arith) (omega arith)
+    c.copy_from_slice.ensures.after fed.page_is c.from_bytes-page.ensures.bytes c.from_bytes-page.ensures.page c.requires.some (c.in_ok-take.ensures.taken bs fed.taken).read.sound in
+    let blocks = g.D.Disk.block_count c.args.disk.now in
+    let same : s.blocks ≡ blocks = sym c.requires.blocks in
+    let P : ℕ → Type 0 = λ n. CanPut free s.frames s.table s.map n c.from_bytes-page.result c.take-2.result in
+    let Q : Option Writing → Type 0 = λ w. CanPut free s.frames s.table s.map s.blocks c.from_bytes-page.result w in
+    let can = subst P same (subst Q (sym c.take-2.ensures.value)
+    (can_put free bs c.args.part.now c.from_bytes-page.result s.frames s.table s.map s.blocks s.writer fed.few fed.count fed.on_disk full fed.output)) in
+    c.put_full.ensures.time tells free can
+
+pub returns-clause-time : goal.returns-clause-time
+returns-clause-time g c = λ tells free bs fed.
+    let s = c.args.self.now in
+    let size : length s.page ≡ 4096 = search rules in
+    let begun : c.args.begun ≡ length bs % 4096 = began s c.args.begun c.requires.session free bs fed in
+    let full : IsFull bs c.args.part.now c.from_bytes-page.result =
+    full_page bs c.args.part.now c.args.self.now.page c.copy_from_slice.new.self _ c.from_bytes-page.result c.args.begun begun (omega arith) (omega arith)
+    c.copy_from_slice.ensures.after fed.page_is c.from_bytes-page.ensures.bytes c.from_bytes-page.ensures.page c.requires.some (c.in_ok-take.ensures.taken bs fed.taken).read.sound in
+    let blocks = g.D.Disk.block_count c.args.disk.now in
+    let same : s.blocks ≡ blocks = sym c.requires.blocks in
+    let P : ℕ → Type 0 = λ n. CanPut free s.frames s.table s.map n c.from_bytes-page.result c.take-2.result in
+    let Q : Option Writing → Type 0 = λ w. CanPut free s.frames s.table s.map s.blocks c.from_bytes-page.result w in
+    let can = subst P same (subst Q (sym c.take-2.ensures.value)
+    (can_put free bs c.args.part.now c.from_bytes-page.result s.frames s.table s.map s.blocks s.writer fed.few fed.count fed.on_disk full fed.output)) in
+    c.put_full.ensures.time tells free can

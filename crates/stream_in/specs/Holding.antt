@@ -1,0 +1,57 @@
+-- What a stream of bytes is on a disk when it has come in: the pages of an image, behind a marked header block.
+use Rattle.std.specs.Prelude.{◌≡◌, ℕ, ◌+◌, List, [], ◌∷◌, ◌++◌, All, map, None, Ok}
+use Rattle.std.specs.List.{concat, range_with_len}
+use Rattle.page_core.specs.declared.format.Format.TheVariants.{Plain}
+use Rattle.definitions.specs.Bytes.{IsPage}
+use Rattle.definitions.specs.Disk as disk
+use Rattle.definitions.specs.SwapHeader.{image_of, flags_of}
+use Rattle.sig_header.specs.AreaKind.{area_kind}
+use Rattle.sig_header.specs.declared.area.Area.{Area}
+use Rattle.sig_header.specs.declared.area.AreaKind.TheVariants as kind
+use Rattle.plain_machine.specs.Machine.{Hardware}
+use Rattle.plain_machine.specs.Image.{Image, stream_of}
+use Rattle.plain_machine.specs.Chain.{header_of, Marked, chain, Holds}
+use Rattle.stream_check.specs.Grammar.{all_pages}
+use Rattle.stream_in.specs.Written.{page_at, AreWritten}
+
+-- the extents of an area whose slots are the disk's first blocks
+abbrev pub first_blocks : Area → List (ℕ × ℕ × ℕ)
+first_blocks area = (0, area.last + 1, 0) ∷ []
+
+-- The chain from the first map that the header names is these blocks, for as many pages as the stream says that it has. They read as
+-- the stream's pages, so one after another as its bytes (get_swap_reader and swap_read_page, kernel/power/swap.c).
+pub record HasChain (h : Hardware) (bs : List ℕ) (v : disk.Image) (blocks : List ℕ) : Type 0 where
+  pub chain_is : chain h v (image_of (header_of h v)) (all_pages bs) ≡ Ok blocks
+  pub pages : map (disk.block v) blocks ≡ map (page_at bs) (range_with_len 0 (all_pages bs))
+  pub bytes : concat (map (disk.block v) blocks) ≡ bs
+
+-- The disk is marked, with SF_NOCOMPRESS_MODE as the only flag, and has the stream byte for byte.
+pub record HoldsStream (h : Hardware) (bs : List ℕ) (v : disk.Image) : Type 0 where
+  pub marked : Marked h v
+  pub flags : flags_of (header_of h v) ≡ 2
+  pub whole : (blocks : List ℕ) × HasChain h bs v blocks
+
+-- The bytes are those of the image's stream, in which no page is left out. The image has no page of a task's slot.
+pub record AreOfImage (i : Image) (bs : List ℕ) : Type 0 where
+  pub bytes : concat (stream_of i) ≡ bs
+  pub pages : All IsPage (stream_of i)
+  pub format : i.format ≡ Plain
+  pub no_slots : (s : ℕ) → i.slots s ≡ None
+
+-- For each machine whose swap area lies so, the disk has the stream, and holds the image that it is of.
+pub record HasComeIn (area : Area) (bs : List ℕ) (v : disk.Image) : Type 0 where
+  pub stream : (h : Hardware) → h.extents ≡ first_blocks area → HoldsStream h bs v
+  pub image : (h : Hardware) → h.extents ≡ first_blocks area → (i : Image) → AreOfImage i bs → Holds h v i
+
+-- A disk that reads so has the header block of this area, and the writes of these bytes to these slots.
+pub record IsReadyFor (area : Area) (free bs : List ℕ) (v : disk.Image) : Type 0 where
+  pub header : area_kind (disk.block v 0) ≡ kind.Swap area
+  pub written : AreWritten (first_blocks area) free bs v
+
+-- where it was ready for some bytes, it is for more
+abbrev pub StaysReady : Area → List ℕ → List ℕ → List ℕ → disk.Content → disk.Content → Type 0
+StaysReady area free bs more old new = IsReadyFor area free bs (disk.as_it_reads old) → IsReadyFor area free (bs ++ more) (disk.as_it_reads new)
+
+-- where the disk was ready for it, the stream has come in, in each image that a cut may leave
+abbrev pub ComesIn : Area → List ℕ → List ℕ → disk.Content → disk.Content → Type 0
+ComesIn area free bs old new = IsReadyFor area free bs (disk.as_it_reads old) → (v : disk.Image) → disk.IsImage new v → HasComeIn area bs v

@@ -1,0 +1,9 @@
+pub mod Area
+pub mod Marking
+pub mod Stops
+pub mod Putting
+pub mod Session
+pub mod Outside
+pub mod Written
+pub mod Holding
+pub mod Moments

@@ -1,0 +1,67 @@
+-- What marking an image makes of the disk: the syncs, and the writes of block 0 (mark_swapfiles, kernel/power/swap.c).
+use Rattle.std.specs.Prelude.{◌≡◌, ◌⊎◌, ◌<◌, ℕ, List, length, None}
+use Rattle.definitions.specs.Disk.{Content, as_it_reads, block, settled, SameOutside}
+use Rattle.definitions.specs.SwapHeader.{IsMarked, marked, taken_back}
+use Rattle.sig_header.specs.AreaKind.{area_kind}
+use Rattle.plain_machine.specs.UsableArea.{kind_fault}
+use Rattle.plain_machine.specs.declared.reply.Left.{Left}
+use Rattle.plain_machine.specs.declared.reply.Left.TheVariants.{Same, Gone, Unsure}
+use Rattle.stream_in.specs.declared.stop.InStop.{InStop}
+use Rattle.stream_in.specs.declared.stop.InStop.TheVariants as stop
+
+-- The disk has one image, in which block 0 is this page and each other block is as the disk read before.
+pub record HasHeader (page : List ℕ) (old new : Content) : Type 0 where
+  pub one_image : new ≡ settled (as_it_reads new)
+  pub header : block (as_it_reads new) 0 ≡ page
+  pub others : (b : ℕ) → 0 < b → block (as_it_reads new) b ≡ block (as_it_reads old) b
+  pub size : length new ≡ length old
+
+-- It has one image, which is marked: block 0, which was that of an area without an image, says that the first map lies there.
+pub record Marks (first : ℕ) (old new : Content) : Type 0 where
+  pub area : kind_fault (area_kind (block (as_it_reads old) 0)) ≡ None
+  pub marked : HasHeader (marked (block (as_it_reads old) 0) first 2 0) old new
+
+-- Block 0 isn't written: the disk is as before, or synced.
+abbrev pub Keeps : Content → Content → Type 0
+Keeps old new = (new ≡ old) ⊎ (new ≡ settled (as_it_reads old))
+
+-- Each image of the disk has the other blocks as the disk read before, and none of the two is written but block 0.
+abbrev pub KeepsOthers : Content → Content → Type 0
+KeepsOthers old new = SameOutside 0 (settled (as_it_reads old)) new
+
+-- The disk has one image, which isn't marked.
+pub record Unmarks (old new : Content) : Type 0 where
+  pub one_image : new ≡ settled (as_it_reads new)
+  pub unmarked : IsMarked (block (as_it_reads new) 0) → ⊥
+  pub others : (b : ℕ) → 0 < b → block (as_it_reads new) b ≡ block (as_it_reads old) b
+
+-- What a fault leaves, by what it says of the image.
+abbrev pub Leaves : Left → Content → Content → Type 0
+Leaves Same old new = Keeps old new
+Leaves Gone old new = Unmarks old new
+Leaves Unsure old new = KeepsOthers old new
+
+-- what a stop says that is left, where it is one of a call of the disk
+abbrev pub LeavesAt : InStop → Content → Content → Type 0
+LeavesAt (stop.ReadFault left) old new = Leaves left old new
+LeavesAt (stop.WriteFault left) old new = Leaves left old new
+LeavesAt (stop.SyncFault left) old new = Leaves left old new
+LeavesAt (stop.NoSwap why) old new = Keeps old new
+LeavesAt stop.NoMemory old new = Keeps old new
+LeavesAt (stop.NoSlots free need) old new = Keeps old new
+LeavesAt (stop.Stream fault) old new = Keeps old new
+
+-- What a failed write or sync of the marked block leaves: taken back, or the other blocks as they were.
+abbrev pub LeavesOver : List ℕ → Left → Content → Content → Type 0
+LeavesOver page Same old new = ⊥
+LeavesOver page Gone old new = HasHeader (taken_back page) old new
+LeavesOver page Unsure old new = SameOutside 0 old new
+
+abbrev pub LeavesMark : List ℕ → InStop → Content → Content → Type 0
+LeavesMark page (stop.WriteFault left) old new = LeavesOver page left old new
+LeavesMark page (stop.SyncFault left) old new = LeavesOver page left old new
+LeavesMark page (stop.ReadFault left) old new = ⊥
+LeavesMark page (stop.NoSwap why) old new = ⊥
+LeavesMark page stop.NoMemory old new = ⊥
+LeavesMark page (stop.NoSlots free need) old new = ⊥
+LeavesMark page (stop.Stream fault) old new = ⊥

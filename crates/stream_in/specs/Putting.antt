@@ -1,0 +1,102 @@
+-- How far the pages of a stream are written. A page is written as it is full, with the map that it fills, and behind the last page
+-- the last map.
+use Rattle.std.specs.Prelude.{◌≡◌, ◌<◌, ◌≤◌, ◌==◌, ℕ, ◌+◌, ◌/◌, ◌%◌, ◌^◌, ◌||◌, Bool, false, IsTrue, List, length, Option, Some, None, ⊤, if◌then◌else◌}
+use Rattle.swap_slots.specs.Table.{free_in}
+use Rattle.swap_slots.specs.declared.table.SlotTable.{SlotTable}
+use Rattle.plain_machine.specs.Image.{maps_of}
+use Rattle.plain_machine.specs.Laid.{page_of_write, is_map_write, laid_block}
+use Rattle.image_write.specs.Writing.{Writing, IsWriting, IsSameImage, BlocksBelow, writes_of}
+use Rattle.image_write.specs.declared.write_step.WriteStep.{WriteStep}
+use Rattle.image_write.specs.declared.write_step.WriteStep.TheVariants.{More, Done, Fault}
+use Rattle.stream_check.specs.Grammar.{image_pages, all_pages, are_counts}
+
+-- how many writes of Laid are made when k pages of so many are written: the pages, the maps that they fill, and in the end the last map
+abbrev pub writes_after : ℕ → ℕ → ℕ
+writes_after pages k = if k == pages then pages + maps_of pages else k + k / 511
+
+-- whether a map is written next
+abbrev pub is_map_next : WriteStep → Bool
+is_map_next (More k writes) = (k % 512 == 511) || (k + 1 == writes)
+is_map_next Done = false
+is_map_next Fault = false
+
+-- One page more is written, with the maps that follow it.
+pub record IsPagePut (free : List ℕ) (frames : List (List ℕ)) (old new : Writing) : Type 0 where
+  pub image : IsSameImage old new
+  pub written : new.written ≡ writes_after old.info.pages (page_of_write old.written + 1)
+  pub going : new.written < writes_of old.info → IsWriting free frames new
+
+-- the pages of the stream, by its first page, and whether its counts are those of an image
+abbrev pub HasCounts : List ℕ → Type 0
+HasCounts page = IsTrue (are_counts (image_pages page) (all_pages page))
+
+-- A page can be written. It is the first one, and these slots are free, whose blocks the disk has and a 32-bit number can name.
+pub record CanBegin (free : List ℕ) (frames : List (List ℕ)) (table : SlotTable) (extents : List (ℕ × ℕ × ℕ)) (blocks : ℕ) (page : List ℕ) : Type 0 where
+  pub counts : HasCounts page
+  pub is_free : free_in frames table ≡ free
+  pub few : length free < 2 ^ 32
+  pub on_disk : BlocksBelow extents free (length free) blocks
+  pub named : BlocksBelow extents free (length free) (2 ^ 32)
+
+-- Or it is a later one, and these slots were free at the first.
+pub record CanGoOn (free : List ℕ) (frames : List (List ℕ)) (table : SlotTable) (extents : List (ℕ × ℕ × ℕ)) (blocks : ℕ) (w : Writing) : Type 0 where
+  pub writing : IsWriting free frames w
+  pub table_is : w.table ≡ table
+  pub extents_are : w.extents ≡ extents
+  pub on_disk : BlocksBelow extents free (writes_of w.info) blocks
+  pub at_page : is_map_write w.info.pages w.written ≡ false
+
+abbrev pub CanPut : List ℕ → List (List ℕ) → SlotTable → List (ℕ × ℕ × ℕ) → ℕ → List ℕ → Option Writing → Type 0
+CanPut free frames table extents blocks page None = CanBegin free frames table extents blocks page
+CanPut free frames table extents blocks page (Some w) = CanGoOn free frames table extents blocks w
+
+-- how many pages the stream has, and how many of them are written
+abbrev pub pages_in : List ℕ → Option Writing → ℕ
+pages_in page None = all_pages page
+pages_in page (Some w) = w.info.pages
+
+abbrev pub pages_written : Option Writing → ℕ
+pages_written None = 0
+pages_written (Some w) = page_of_write w.written
+
+abbrev pub writes_made : Option Writing → ℕ
+writes_made None = 0
+writes_made (Some w) = w.written
+
+abbrev pub first_in : List (ℕ × ℕ × ℕ) → List ℕ → Option Writing → ℕ
+first_in extents free None = laid_block extents free 0
+first_in extents free (Some w) = w.first
+
+-- the slots suffice for an image that begins
+abbrev pub Suffice : List ℕ → List ℕ → Option Writing → Type 0
+Suffice free page None = all_pages page + 1026 ≤ length free
+Suffice free page (Some w) = ⊤
+
+-- The page is written.
+pub record HasPut (free : List ℕ) (frames : List (List ℕ)) (table : SlotTable) (extents : List (ℕ × ℕ × ℕ)) (page : List ℕ) (old : Option Writing) (new : Writing) : Type 0 where
+  pub pages : new.info.pages ≡ pages_in page old
+  pub written : new.written ≡ writes_after (pages_in page old) (pages_written old + 1)
+  pub going : new.written < writes_of new.info → IsWriting free frames new
+  pub table_is : new.table ≡ table
+  pub extents_are : new.extents ≡ extents
+  pub first : new.first ≡ first_in extents free old
+
+-- Fewer slots are free than the image may need.
+pub record HasTooFew (free : List ℕ) (page : List ℕ) (old : Option Writing) (told need : ℕ) : Type 0 where
+  pub begins : old ≡ None
+  pub told_free : told ≡ length free
+  pub told_need : need ≡ all_pages page + 1026
+  pub fewer : told < need
+
+-- The writer is at a page: its own, or one that has just begun.
+pub record IsAtPage (free : List ℕ) (frames : List (List ℕ)) (table : SlotTable) (extents : List (ℕ × ℕ × ℕ)) (blocks : ℕ) (page : List ℕ) (old : Option Writing) (w : Writing) : Type 0 where
+  pub writing : IsWriting free frames w
+  pub at_page : is_map_write w.info.pages w.written ≡ false
+  pub on_disk : BlocksBelow w.extents free (writes_of w.info) blocks
+  pub pages : w.info.pages ≡ pages_in page old
+  pub count : page_of_write w.written ≡ pages_written old
+  pub made : w.written ≡ writes_made old
+  pub table_is : w.table ≡ table
+  pub extents_are : w.extents ≡ extents
+  pub first_is : w.first ≡ first_in extents free old
+  pub enough : Suffice free page old

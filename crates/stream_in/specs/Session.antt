@@ -1,0 +1,82 @@
+-- A session, and the bytes that it has taken.
+use Rattle.std.specs.Prelude.{◌≡◌, ◌⊎◌, ◌≤◌, ◌<◌, ℕ, ◌+◌, ◌-◌, ◌*◌, ◌/◌, ◌%◌, ◌^◌, List, [], ◌∷◌, length, take, slice_index, Option, Some, None}
+use Rattle.swap_slots.specs.Table.{LiesIn, Matches, free_in}
+use Rattle.swap_slots.specs.declared.table.SlotTable.{SlotTable}
+use Rattle.plain_machine.specs.Laid.{laid_block}
+use Rattle.image_write.specs.Writing.{Writing, IsWriting, BlocksBelow}
+use Rattle.stream_check.specs.Grammar.{all_pages, first_fault}
+use Rattle.stream_check.specs.Taken.{HasTaken}
+use Rattle.sig_header.specs.declared.area.Area.{Area}
+use Rattle.stream_in.specs.Area.{AreUsable}
+use Rattle.stream_in.specs.Holding.{first_blocks}
+use Rattle.stream_in.specs.Written.{AreOfMap}
+use Rattle.stream_in.specs.Putting.{writes_after}
+use Rattle.stream_in.specs.declared.session.StreamIn.{StreamIn}
+use Rattle.stream_in.specs.declared.stop.InStop.{InStop}
+
+-- the bytes of the page that has begun
+abbrev pub HasPage : List ℕ → List ℕ → Type 0
+HasPage bs page = (i : ℕ) → i < length bs % 4096 → slice_index page i ≡ slice_index bs (length bs - length bs % 4096 + i)
+
+-- The info page isn't whole, and these slots are free.
+pub record IsUnbegun (free bs : List ℕ) (frames : List (List ℕ)) (table : SlotTable) : Type 0 where
+  pub early : length bs < 4096
+  pub is_free : free_in frames table ≡ free
+
+-- The pages that are whole are written, with the maps that they fill, to these slots, which suffice.
+pub record IsBegun (free bs : List ℕ) (frames : List (List ℕ)) (table : SlotTable) (extents : List (ℕ × ℕ × ℕ)) (w : Writing) : Type 0 where
+  pub late : 4096 ≤ length bs
+  pub room : all_pages bs + 1026 ≤ length free
+  pub pages : w.info.pages ≡ all_pages bs
+  pub written : w.written ≡ writes_after (all_pages bs) (length bs / 4096)
+  pub going : length bs < 4096 * all_pages bs → IsWriting free frames w
+  pub table_is : w.table ≡ table
+  pub extents_are : w.extents ≡ extents
+  pub first : w.first ≡ laid_block extents free 0
+
+abbrev pub IsOutput : List ℕ → List ℕ → List (List ℕ) → SlotTable → List (ℕ × ℕ × ℕ) → Option Writing → Type 0
+IsOutput free bs frames table extents None = IsUnbegun free bs frames table
+IsOutput free bs frames table extents (Some w) = IsBegun free bs frames table extents w
+
+-- A session that isn't stopped has taken just these bytes, in which no fault was found. These slots were free when it was opened.
+pub record IsFed (free bs : List ℕ) (s : StreamIn) : Type 0 where
+  pub taken : HasTaken bs s.checker
+  pub going : s.stop ≡ None
+  pub table_in : LiesIn s.frames s.table
+  pub matched : Matches s.frames s.table s.runs
+  pub page_is : HasPage bs s.page
+  pub few : length free < 2 ^ 32
+  pub count : s.blocks < 2 ^ 32
+  pub on_disk : BlocksBelow s.map free (length free) s.blocks
+  pub output : IsOutput free bs s.frames s.table s.map s.writer
+
+abbrev pub IsGoing : StreamIn → Type 0
+IsGoing s = (free : List ℕ) × (bs : List ℕ) × IsFed free bs s
+
+abbrev pub IsStopped : StreamIn → Type 0
+IsStopped s = (why : InStop) × (s.stop ≡ Some why)
+
+-- each session that is handed out is one of the two
+abbrev pub IsSession : StreamIn → Type 0
+IsSession s = IsStopped s ⊎ IsGoing s
+
+-- Of these bytes the info page is without a fault, and fewer slots are free than the image may need.
+pub record HasTooFewFor (free bs : List ℕ) (told need : ℕ) : Type 0 where
+  pub whole : 4096 ≤ length bs
+  pub sound : first_fault (take 4096 bs) ≡ None
+  pub told_free : told ≡ length free
+  pub told_need : need ≡ all_pages bs + 1026
+  pub fewer : told < need
+
+-- A session that was just opened over an area: it has taken no byte, slot s lies on block s, and the area's slots are free.
+pub record IsOpened (area : Area) (blocks : ℕ) (s : StreamIn) : Type 0 where
+  pub fed : (free : List ℕ) × AreUsable area free × AreOfMap s.map free × IsFed free [] s
+  pub map_is : s.map ≡ (0, area.last + 1, 0) ∷ []
+  pub blocks_are : s.blocks ≡ blocks
+
+-- A session that takes an image into these slots of this area, and has taken these bytes.
+pub record TakesInto (area : Area) (free bs : List ℕ) (s : StreamIn) : Type 0 where
+  pub fed : IsFed free bs s
+  pub map_is : s.map ≡ first_blocks area
+  pub of_map : AreOfMap s.map free
+  pub usable : AreUsable area free

@@ -1,0 +1,154 @@
+ghost use Rattle.std.specs.Prelude.{◌≡◌, ◌⊎◌, ℕ, ◌+◌, ◌<◌, ◌≤◌, Some, None, Err, IsTrue, OnOk, IfOk, IfErr, IfSome};
+ghost use Rattle.definitions.specs.Disk.{Content, Image, as_it_reads, block, Changes, HasRisen, SameOutside, Syncs};
+ghost use Rattle.definitions.specs.SwapHeader.{taken_back};
+ghost use Rattle.sig_header.specs.AreaKind.{area_kind};
+ghost use Rattle.plain_machine.specs.UsableArea.{kind_fault};
+ghost use Rattle.stream_in.specs.Area.{first_block};
+ghost use Rattle.stream_in.specs.Moments.{AddsNoImage, TriesMark, ElapsesAlike, LiesOver, ElapsesTrying, ElapsesOverMark};
+ghost use Rattle.stream_in.specs.Marking.{HasHeader, Marks, LeavesAt, LeavesMark};
+ghost use Rattle.stream_in.specs.declared.stop.InStop.TheVariants as stop;
+ghost use Rattle.plain_machine.specs.declared.reply.Left.TheVariants as left;
+ghost use Rattle.stream_in.specs.Stops.{IsFault, IsOfHeader, IfNoSwap};
+
+use crate::InStop;
+use crate::area::version_1;
+use page_core::{Failed, Page};
+use plain_machine::Left;
+use sector_disk::Disk;
+use sig_header::{AreaKind, mark, take_back};
+
+/// SF_NOCOMPRESS_MODE (kernel/power/power.h).
+const NOCOMPRESS_MODE: u32 = 2;
+
+/// The header block, which is zeros on a disk without blocks.
+pub(crate) fn read_header<D: Disk>(disk: &mut D) -> Result<Page, InStop>
+    ensures header { IfOk result (λ page. IfSome (D.content disk.old) (λ held. page ≡ first_block (D.block_count disk.old) (as_it_reads held))) }
+    ensures refused { IfErr result (λ why. why ≡ stop.ReadFault left.Same) }
+    ensures content { D.content disk.new ≡ D.content disk.old }
+    ensures cause { IfErr result (λ why. HasRisen (D.faults disk.old) (D.faults disk.new)) }
+    ensures calls { D.calls disk.new ≤ D.calls disk.old + 1 }
+    ensures faults { D.faults disk.old ≤ D.faults disk.new }
+    ensures orders { D.orders disk.new ≡ D.orders disk.old }
+    ensures blocks { D.block_count disk.new ≡ D.block_count disk.old }
+    ensures telling { D.tells_moments disk.new ≡ D.tells_moments disk.old }
+    ensures time { IsTrue (D.tells_moments disk.old) →
+        ElapsesAlike (D.moment disk.old) (D.moment disk.new) (D.left_since disk.old) (D.left_since disk.new) }
+{
+    let mut header = Page::zero();
+    if disk.blocks() == 0 {
+        return Ok(header);
+    }
+    match disk.read(0, &mut header) {
+        Ok(()) => Ok(header),
+        Err(Failed) => Err(InStop::ReadFault(Left::Same)),
+    }
+}
+
+/// Syncs the image's blocks, and marks the header block with its first map's.
+pub(crate) fn mark_image<D: Disk>(disk: &mut D, first: u32) -> Result<(), InStop>
+    requires { 0 < D.block_count disk.old }
+    ensures marked { OnOk result (Changes (Marks first) (D.content disk.old) (D.content disk.new)) }
+    ensures leaves { IfErr result (λ why. Changes (LeavesAt why) (D.content disk.old) (D.content disk.new)) }
+    ensures stops { IfErr result (λ why. IsOfHeader why) }
+    ensures no_swap { IfErr result (λ why. IfNoSwap why (λ reason. IfSome (D.content disk.old)
+        (λ held. kind_fault (area_kind (block (as_it_reads held) 0)) ≡ Some reason))) }
+    ensures cause { IfErr result (λ why. IsFault why → HasRisen (D.faults disk.old) (D.faults disk.new)) }
+    ensures calls { D.calls disk.new ≤ D.calls disk.old + 6 }
+    ensures faults { D.faults disk.old ≤ D.faults disk.new }
+    ensures orders { D.orders disk.new ≡ D.orders disk.old }
+    ensures blocks { D.block_count disk.new ≡ D.block_count disk.old }
+    ensures telling { D.tells_moments disk.new ≡ D.tells_moments disk.old }
+    ensures tried { IfSome (D.content disk.old) (λ held. IfSome (D.content disk.new) (TriesMark first held)) }
+    ensures time { IsTrue (D.tells_moments disk.old) → IfSome (D.content disk.old) (λ held.
+        ElapsesOverMark first (D.moment disk.old) (D.moment disk.new) (D.left_since disk.old) (D.left_since disk.new) held) }
+{
+    let header = header_to_mark(disk)?;
+    let marked = mark(&header, u64::from(first), NOCOMPRESS_MODE, 0);
+    write_mark(disk, &marked)
+}
+
+/// Syncs, and reads the header block, which must be that of an area without an image.
+fn header_to_mark<D: Disk>(disk: &mut D) -> Result<Page, InStop>
+    requires { 0 < D.block_count disk.old }
+    ensures area { IfOk result (λ page. kind_fault (area_kind page) ≡ None) }
+    ensures header { IfOk result (λ page. IfSome (D.content disk.old) (λ held. page ≡ block (as_it_reads held) 0)) }
+    ensures synced { OnOk result (Changes Syncs (D.content disk.old) (D.content disk.new)) }
+    ensures leaves { IfErr result (λ why. Changes (LeavesAt why) (D.content disk.old) (D.content disk.new)) }
+    ensures stops { IfErr result (λ why. IsOfHeader why) }
+    ensures no_swap { IfErr result (λ why. IfNoSwap why (λ reason. IfSome (D.content disk.old)
+        (λ held. kind_fault (area_kind (block (as_it_reads held) 0)) ≡ Some reason))) }
+    ensures cause { IfErr result (λ why. IsFault why → HasRisen (D.faults disk.old) (D.faults disk.new)) }
+    ensures calls { D.calls disk.new ≤ D.calls disk.old + 2 }
+    ensures faults { D.faults disk.old ≤ D.faults disk.new }
+    ensures orders { D.orders disk.new ≡ D.orders disk.old }
+    ensures blocks { D.block_count disk.new ≡ D.block_count disk.old }
+    ensures telling { D.tells_moments disk.new ≡ D.tells_moments disk.old }
+    ensures images { Changes AddsNoImage (D.content disk.old) (D.content disk.new) }
+    ensures time { IsTrue (D.tells_moments disk.old) →
+        ElapsesAlike (D.moment disk.old) (D.moment disk.new) (D.left_since disk.old) (D.left_since disk.new) }
+{
+    match disk.sync() {
+        Ok(()) => {}
+        Err(Failed) => return Err(InStop::SyncFault(Left::Same)),
+    }
+    let header = read_header(disk)?;
+    match version_1(AreaKind::read(&header)) {
+        Ok(_) => Ok(header),
+        Err(why) => Err(InStop::NoSwap(why)),
+    }
+}
+
+/// Writes the marked header block and syncs, and undoes that where one of the two failed.
+fn write_mark<D: Disk>(disk: &mut D, marked: &Page) -> Result<(), InStop>
+    requires { 0 < D.block_count disk.old }
+    ensures marked { OnOk result (Changes (HasHeader marked.now) (D.content disk.old) (D.content disk.new)) }
+    ensures leaves { IfErr result (λ why. Changes (LeavesMark marked.now why) (D.content disk.old) (D.content disk.new)) }
+    ensures stops { IfErr result (λ why. IsOfHeader why) }
+    ensures no_swap { IfErr result (λ why. IfNoSwap why (λ reason. ⊥)) }
+    ensures cause { IfErr result (λ why. IsFault why → HasRisen (D.faults disk.old) (D.faults disk.new)) }
+    ensures calls { D.calls disk.new ≤ D.calls disk.old + 4 }
+    ensures faults { D.faults disk.old ≤ D.faults disk.new }
+    ensures orders { D.orders disk.new ≡ D.orders disk.old }
+    ensures blocks { D.block_count disk.new ≡ D.block_count disk.old }
+    ensures telling { D.tells_moments disk.new ≡ D.tells_moments disk.old }
+    ensures lies { (u : Image) → IfSome (D.content disk.old) (LiesOver marked.now u) → IfSome (D.content disk.new) (LiesOver marked.now u) }
+    ensures time { IsTrue (D.tells_moments disk.old) → (u : Image) → IfSome (D.content disk.old) (LiesOver marked.now u) →
+        ElapsesTrying marked.now u (D.moment disk.old) (D.moment disk.new) (D.left_since disk.old) (D.left_since disk.new) }
+{
+    let _ = marked.as_bytes();
+    match disk.write(0, marked) {
+        Ok(()) => {}
+        Err(Failed) => return Err(InStop::WriteFault(undo(disk, marked))),
+    }
+    match disk.sync() {
+        Ok(()) => Ok(()),
+        Err(Failed) => Err(InStop::SyncFault(undo(disk, marked))),
+    }
+}
+
+/// Writes the header block taken back, and syncs: what is then left of the mark.
+fn undo<D: Disk>(disk: &mut D, marked: &Page) -> Left
+    requires { 0 < D.block_count disk.old }
+    ensures left { (result ≡ left.Gone) ⊎ (result ≡ left.Unsure) }
+    ensures gone { result ≡ left.Gone → Changes (HasHeader (taken_back marked.now)) (D.content disk.old) (D.content disk.new) }
+    ensures unsure { result ≡ left.Unsure → Changes (SameOutside 0) (D.content disk.old) (D.content disk.new) }
+    ensures calls { D.calls disk.new ≤ D.calls disk.old + 2 }
+    ensures faults { D.faults disk.old ≤ D.faults disk.new }
+    ensures orders { D.orders disk.new ≡ D.orders disk.old }
+    ensures blocks { D.block_count disk.new ≡ D.block_count disk.old }
+    ensures telling { D.tells_moments disk.new ≡ D.tells_moments disk.old }
+    ensures lies { (u : Image) → IfSome (D.content disk.old) (LiesOver marked.now u) → IfSome (D.content disk.new) (LiesOver marked.now u) }
+    ensures time { IsTrue (D.tells_moments disk.old) → (u : Image) → IfSome (D.content disk.old) (LiesOver marked.now u) →
+        ElapsesTrying marked.now u (D.moment disk.old) (D.moment disk.new) (D.left_since disk.old) (D.left_since disk.new) }
+{
+    let back = take_back(marked);
+    let _ = back.as_bytes();
+    match disk.write(0, &back) {
+        Ok(()) => {}
+        Err(Failed) => return Left::Unsure,
+    }
+    match disk.sync() {
+        Ok(()) => Left::Gone,
+        Err(Failed) => Left::Unsure,
+    }
+}

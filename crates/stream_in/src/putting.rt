@@ -1,0 +1,198 @@
+ghost use Rattle.std.specs.Prelude.{◌≡◌, ◌⊎◌, ℕ, ◌+◌, ◌<◌, ◌≤◌, ◌^◌, List, Err, IfOk, IfErr, IsTrue, false, length};
+ghost use Rattle.definitions.specs.Disk.{HasRisen, Changes};
+ghost use Rattle.stream_in.specs.Outside.{KeepsOutside};
+ghost use Rattle.stream_in.specs.Moments.{ElapsesOutside};
+ghost use Rattle.plain_machine.specs.Laid.{is_map_write, page_of_write};
+ghost use Rattle.swap_slots.specs.Table.{LiesIn, Matches};
+ghost use Rattle.image_write.specs.Answers.{Succeeds};
+ghost use Rattle.image_write.specs.Writing.{IsReady, IsWriting, BlocksBelow, writes_of};
+ghost use Rattle.stream_in.specs.Written.{AreOfMap, MakesMore};
+ghost use Rattle.stream_in.specs.Putting.{is_map_next, IsPagePut, HasCounts, CanPut, HasPut, IsAtPage, Suffice, HasTooFew, pages_in, pages_written, writes_made};
+ghost use Rattle.stream_check.specs.Grammar.{all_pages};
+ghost use Rattle.definitions.specs.InfoPage.{info_of};
+ghost use Rattle.swap_slots.specs.Table.{free_in};
+ghost use Rattle.stream_in.specs.Stops.{IsOfPage, IsFault};
+ghost use Rattle.stream_in.specs.declared.stop.InStop.TheVariants as stop;
+
+use crate::InStop;
+use frame_arena::Frames;
+use image_header::decode;
+use image_write::{WriteStep, Writer};
+use page_core::Page;
+use plain_machine::Left;
+use sector_disk::Disk;
+use swap_slots::{FileMap, FreeRuns, SlotTable};
+
+/// So many slots more than the image has pages must be free.
+const SPARE_SLOTS: u32 = 1026;
+
+/// Writes a page that is full, with the maps behind it. At the first one the writer begins.
+pub(crate) fn put_full<D: Disk>(
+    writer: Option<Writer>,
+    frames: &mut Frames,
+    runs: &mut FreeRuns,
+    table: &SlotTable,
+    map: &FileMap,
+    disk: &mut D,
+    page: &Page,
+) -> Result<Writer, InStop>
+    requires table { LiesIn frames.old table.now }
+    requires matches { Matches frames.old table.now runs.old }
+    requires put { (free : List ℕ) × CanPut free frames.old table.now map.now (D.block_count disk.old) page.now writer }
+
+    ensures put { (free : List ℕ) → CanPut free frames.old table.now map.now (D.block_count disk.old) page.now writer →
+        IfOk result (λ next. HasPut free frames.new table.now map.now page.now writer next) }
+    ensures enough { (free : List ℕ) → CanPut free frames.old table.now map.now (D.block_count disk.old) page.now writer →
+        IfOk result (λ next. Suffice free page.now writer) }
+    ensures too_few { (free : List ℕ) → CanPut free frames.old table.now map.now (D.block_count disk.old) page.now writer →
+        (told need : ℕ) → result ≡ Err (stop.NoSlots told need) → HasTooFew free page.now writer told need }
+    ensures stops { IfErr result (λ why. IsOfPage why) }
+    ensures done { (free : List ℕ) (pages : ℕ → List ℕ) → CanPut free frames.old table.now map.now (D.block_count disk.old) page.now writer
+        → AreOfMap map.now free → page.now ≡ pages (pages_written writer)
+        → IfOk result (λ next. Changes (MakesMore map.now free (pages_in page.now writer) pages (writes_made writer) next.written) (D.content disk.old) (D.content disk.new)) }
+    ensures outside { (free : List ℕ) → CanPut free frames.old table.now map.now (D.block_count disk.old) page.now writer →
+        Changes (KeepsOutside map.now free) (D.content disk.old) (D.content disk.new) }
+    ensures time { IsTrue (D.tells_moments disk.old) → (free : List ℕ) → CanPut free frames.old table.now map.now (D.block_count disk.old) page.now writer →
+        ElapsesOutside map.now free (D.moment disk.old) (D.moment disk.new) (D.left_since disk.old) (D.left_since disk.new) }
+
+    ensures cause { IfErr result (λ why. IsFault why → HasRisen (D.faults disk.old) (D.faults disk.new)) }
+    ensures faults { D.faults disk.old ≤ D.faults disk.new }
+    ensures calls { D.calls disk.new ≤ D.calls disk.old + 3 }
+    ensures orders { D.orders disk.new ≡ D.orders disk.old }
+    ensures blocks { D.block_count disk.new ≡ D.block_count disk.old }
+    ensures telling { D.tells_moments disk.new ≡ D.tells_moments disk.old }
+
+    ensures len { length frames.new ≡ length frames.old }
+    ensures runs { Matches frames.new table.now runs.new }
+    ensures room { runs.new.room ≡ runs.old.room }
+{
+    let mut writer = at_page(writer, frames, runs, table, map, page)?;
+    match put_page(&mut writer, frames, runs, disk, page) {
+        WriteStep::More { .. } => Ok(writer),
+        WriteStep::Done => Ok(writer),
+        WriteStep::Fault => Err(InStop::WriteFault(Left::Same)),
+    }
+}
+
+/// The writer of the image; before the first page it begins.
+fn at_page(
+    writer: Option<Writer>,
+    frames: &mut Frames,
+    runs: &mut FreeRuns,
+    table: &SlotTable,
+    map: &FileMap,
+    page: &Page,
+) -> Result<Writer, InStop>
+    requires table { LiesIn frames.old table.now }
+    requires matches { Matches frames.old table.now runs.old }
+    requires put { (free : List ℕ) × (blocks : ℕ) × CanPut free frames.old table.now map.now blocks page.now writer }
+
+    ensures ready { (free : List ℕ) (blocks : ℕ) → CanPut free frames.old table.now map.now blocks page.now writer →
+        IfOk result (λ next. IsAtPage free frames.new table.now map.now blocks page.now writer next) }
+    ensures too_few { (free : List ℕ) (blocks : ℕ) → CanPut free frames.old table.now map.now blocks page.now writer →
+        (told need : ℕ) → result ≡ Err (stop.NoSlots told need) → HasTooFew free page.now writer told need }
+    ensures table { IfOk result (λ next. next.table ≡ table.now) }
+    ensures stops { IfErr result (λ why. IsOfPage why) }
+    ensures no_fault { IfErr result (λ why. IsFault why → ⊥) }
+
+    ensures len { length frames.new ≡ length frames.old }
+    ensures runs { Matches frames.new table.now runs.new }
+    ensures room { runs.new.room ≡ runs.old.room }
+{
+    match writer {
+        Some(writer) => Ok(writer),
+        None => begin(frames, runs, table, map, page),
+    }
+}
+
+/// Begins to write an image with this info page, where slots enough are free.
+fn begin(
+    frames: &mut Frames,
+    runs: &mut FreeRuns,
+    table: &SlotTable,
+    map: &FileMap,
+    page: &Page,
+) -> Result<Writer, InStop>
+    requires table { LiesIn frames.old table.now }
+    requires matches { Matches frames.old table.now runs.old }
+    requires counts { HasCounts page.now }
+    requires named { BlocksBelow map.now (free_in frames.old table.now) (length (free_in frames.old table.now)) (2 ^ 32) }
+
+    ensures writing { IfOk result (λ writer. IsWriting (free_in frames.old table.now) frames.new writer) }
+    ensures info { IfOk result (λ writer. writer.info ≡ info_of page.now) }
+    ensures table { IfOk result (λ writer. writer.table ≡ table.now) }
+    ensures extents { IfOk result (λ writer. writer.extents ≡ map.now) }
+    ensures written { IfOk result (λ writer. writer.written ≡ 0) }
+    ensures enough { IfOk result (λ writer. all_pages page.now + 1026 ≤ length (free_in frames.old table.now)) }
+    ensures too_few { IfErr result (λ why. why ≡ stop.NoSlots (length (free_in frames.old table.now)) (all_pages page.now + 1026)) }
+    ensures fewer { IfErr result (λ why. length (free_in frames.old table.now) < all_pages page.now + 1026) }
+
+    ensures len { length frames.new ≡ length frames.old }
+    ensures runs { Matches frames.new table.now runs.new }
+    ensures room { runs.new.room ≡ runs.old.room }
+{
+    let info = decode(page);
+    let need = info.pages as u32 + SPARE_SLOTS;
+    let free = table.free_count(frames, runs);
+    if free < need {
+        return Err(InStop::NoSlots { free, need });
+    }
+    Ok(Writer::begin(frames, runs, table, map, &info))
+}
+
+/// Writes the next page of the stream, the map that it fills, and the last map behind the last page.
+fn put_page<D: Disk>(
+    writer: &mut Writer,
+    frames: &mut Frames,
+    runs: &mut FreeRuns,
+    disk: &mut D,
+    page: &Page,
+) -> WriteStep
+    requires table { LiesIn frames.old writer.old.table }
+    requires matches { Matches frames.old writer.old.table runs.old }
+    requires writing { IsReady (D.block_count disk.old) frames.old writer.old }
+    requires page { is_map_write writer.old.info.pages writer.old.written ≡ false }
+
+    ensures put { (free : List ℕ) → IsWriting free frames.old writer.old → Succeeds result → IsPagePut free frames.new writer.old writer.new }
+    ensures done { (free : List ℕ) (pages : ℕ → List ℕ) → IsWriting free frames.old writer.old → AreOfMap writer.old.extents free
+        → BlocksBelow writer.old.extents free (writes_of writer.old.info) (D.block_count disk.old)
+        → page.now ≡ pages (page_of_write writer.old.written) → Succeeds result
+        → Changes (MakesMore writer.old.extents free writer.old.info.pages pages writer.old.written writer.new.written) (D.content disk.old) (D.content disk.new) }
+    ensures outside { (free : List ℕ) → IsWriting free frames.old writer.old →
+        Changes (KeepsOutside writer.old.extents free) (D.content disk.old) (D.content disk.new) }
+    ensures time { IsTrue (D.tells_moments disk.old) → (free : List ℕ) → IsWriting free frames.old writer.old →
+        ElapsesOutside writer.old.extents free (D.moment disk.old) (D.moment disk.new) (D.left_since disk.old) (D.left_since disk.new) }
+
+    ensures cause { result ≡ WriteStep.Fault → HasRisen (D.faults disk.old) (D.faults disk.new) }
+    ensures faults { D.faults disk.old ≤ D.faults disk.new }
+    ensures calls { D.calls disk.new ≤ D.calls disk.old + 3 }
+    ensures orders { D.orders disk.new ≡ D.orders disk.old }
+    ensures blocks { D.block_count disk.new ≡ D.block_count disk.old }
+    ensures telling { D.tells_moments disk.new ≡ D.tells_moments disk.old }
+
+    ensures len { length frames.new ≡ length frames.old }
+    ensures runs { Matches frames.new writer.old.table runs.new }
+    ensures room { runs.new.room ≡ runs.old.room }
+{
+    let _ = page.as_bytes();
+    let step = writer.put(frames, runs, disk, page);
+    if !map_follows(step) {
+        return step;
+    }
+    let step = writer.put(frames, runs, disk, page);
+    if !map_follows(step) {
+        return step;
+    }
+    writer.put(frames, runs, disk, page)
+}
+
+/// Whether the next write is one of a map: it is full, or the last one.
+fn map_follows(step: WriteStep) -> bool
+    ensures { result ≡ is_map_next step }
+{
+    match step {
+        WriteStep::More { k, of } => k % 512 == 511 || (k < of && of - k == 1),
+        WriteStep::Done => false,
+        WriteStep::Fault => false,
+    }
+}

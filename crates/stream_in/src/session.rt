@@ -1,0 +1,312 @@
+ghost use Rattle.std.specs.Prelude.{◌≡◌, ◌↔◌, ◌≤◌, ◌<◌, ℕ, ◌+◌, ◌-◌, ◌*◌, ◌/◌, ◌%◌, ◌++◌, ◌∷◌, List, [], Option, Some, None, Err, IsSome, IsTrue, IfOk, IfErr, IfSome, OnOk, length, replicate};
+ghost use Rattle.definitions.specs.Disk.{HasRisen, Changes, as_it_reads, block};
+ghost use Rattle.sig_header.specs.AreaKind.{area_kind};
+ghost use Rattle.plain_machine.specs.UsableArea.{kind_fault};
+ghost use Rattle.plain_machine.specs.Laid.{laid_block};
+ghost use Rattle.definitions.specs.Bytes.{zero_page};
+ghost use Rattle.stream_in.specs.Area.{first_block, open_fault, HasBounds};
+ghost use Rattle.sig_header.specs.declared.area.Area.{Area as AreaValue};
+ghost use Rattle.sig_header.specs.declared.area.AreaKind.TheVariants as kind;
+ghost use Rattle.definitions.specs.Slots.{IsFileMap};
+ghost use Rattle.stream_in.specs.Outside.{KeepsOutside};
+ghost use Rattle.stream_in.specs.Moments.{AddsNoHeader, ElapsesAlike, ElapsesOutside, ElapsesOverMark, MarksWhole, LeavesWhole};
+ghost use Rattle.stream_in.specs.Written.{AreOfMap, WritesOn};
+ghost use Rattle.stream_in.specs.Marking.{Marks, LeavesAt};
+ghost use Rattle.stream_in.specs.Holding.{IsReadyFor, StaysReady, ComesIn};
+ghost use Rattle.image_write.specs.Writing.{Writing};
+
+use crate::InStop;
+use crate::area::{MOST_SLOTS, usable};
+use crate::header::{mark_image, read_header};
+use crate::putting::put_full;
+use crate::slots::set_bad;
+use frame_arena::Frames;
+use image_write::Writer;
+use page_core::Page;
+use sector_disk::Disk;
+use sig_header::{Area, AreaKind};
+use std::alloc::Global;
+use stream_check::Checker;
+use swap_slots::{FileMap, FreeRuns, SlotTable};
+
+/// Bytes of a page.
+const PAGE: usize = 4096;
+
+/// The page frames of the slot table.
+const TABLE_FRAMES: u32 = 128;
+
+/// An image that comes in: a stream of bytes whose pages are written into the swap area at the disk's first blocks, as they are
+/// full. It takes all its memory when it is opened. The slots that are free are told by a slot table of its own.
+#[derive(Drop)]
+pub struct StreamIn {
+    frames: Frames,
+    runs: FreeRuns,
+    table: SlotTable,
+    map: FileMap,
+    /// How many blocks the disk had when it was opened.
+    blocks: u32,
+    checker: Checker,
+    writer: Option<Writer>,
+    /// The page that has begun.
+    page: [u8; 4096],
+    stop: Option<InStop>,
+}
+
+impl StreamIn {
+    ghost use Rattle.stream_check.specs.Grammar.{first_fault, short_fault, image_pages};
+    ghost use Rattle.stream_check.specs.declared.fault.StreamFault.{StreamFault};
+    ghost use Rattle.stream_in.specs.Stops.{IsFault, IsOfOpen, IsOfFeed, IsOfFinish, IfNoSwap};
+    ghost use Rattle.stream_in.specs.Session.{IsOpened, IsFed, IsGoing, IsSession, HasTooFewFor, TakesInto};
+    ghost use Rattle.stream_in.specs.declared.stop.InStop.{InStop};
+    ghost use Rattle.stream_in.specs.declared.stop.InStop.TheVariants as stop;
+
+    /// Reads the header block of the disk's area, which must be a version 1 area without an image.
+    pub fn open<D: Disk>(alloc: Global, disk: &mut D) -> Result<StreamIn, InStop>
+        ensures opened { IfOk result (λ s. (area : AreaValue) × IsOpened area (D.block_count disk.old) s × IfSome (D.content disk.old)
+            (λ held. area_kind (first_block (D.block_count disk.old) (as_it_reads held)) ≡ kind.Swap area)) }
+        ensures ready { IfOk result (λ s. (area : AreaValue) × (free : List ℕ) × TakesInto area free [] s × IfSome (D.content disk.old)
+            (λ held. IsReadyFor area free [] (as_it_reads held))) }
+        ensures usable { IfOk result (λ s. IfSome (D.content disk.old)
+            (λ held. open_fault (D.block_count disk.old) (area_kind (first_block (D.block_count disk.old) (as_it_reads held))) ≡ None)) }
+        ensures no_swap { IfErr result (λ why. IfNoSwap why (λ reason. IfSome (D.content disk.old)
+            (λ held. open_fault (D.block_count disk.old) (area_kind (first_block (D.block_count disk.old) (as_it_reads held))) ≡ Some reason))) }
+        ensures stops { IfErr result (λ why. IsOfOpen why) }
+        ensures untouched { result ≡ Err stop.NoMemory → disk.new ≡ disk.old }
+        ensures session { IfOk result (λ s. IsSession s) }
+        ensures count { IfOk result (λ s. s.blocks ≡ D.block_count disk.old) }
+
+        ensures content { D.content disk.new ≡ D.content disk.old }
+        ensures cause { IfErr result (λ why. IsFault why → HasRisen (D.faults disk.old) (D.faults disk.new)) }
+        ensures faults { D.faults disk.old ≤ D.faults disk.new }
+        ensures calls { D.calls disk.new ≤ D.calls disk.old + 1 }
+        ensures orders { D.orders disk.new ≡ D.orders disk.old }
+        ensures blocks { D.block_count disk.new ≡ D.block_count disk.old }
+        ensures telling { D.tells_moments disk.new ≡ D.tells_moments disk.old }
+        ensures time { IsTrue (D.tells_moments disk.old) →
+            ElapsesAlike (D.moment disk.old) (D.moment disk.new) (D.left_since disk.old) (D.left_since disk.new) }
+    {
+        let frames = Frames::create(alloc, TABLE_FRAMES)?;
+        let runs = FreeRuns::create(alloc, MOST_SLOTS)?;
+        let blocks = disk.blocks();
+        let header = read_header(disk)?;
+        match usable(AreaKind::read(&header), blocks) {
+            Ok(area) => Ok(StreamIn::over(frames, runs, blocks, &area)),
+            Err(why) => Err(InStop::NoSwap(why)),
+        }
+    }
+
+    /// A session over this area, on a disk of so many blocks.
+    fn over(mut frames: Frames, mut runs: FreeRuns, blocks: u32, area: &Area) -> StreamIn
+        requires frames { frames ≡ replicate 128 zero_page }
+        requires runs { runs.room ≡ 131072 }
+        requires last { area.now.last < blocks }
+        requires room { area.now.last < 131072 }
+        requires bounds { HasBounds area.now }
+        ensures { IsOpened area.now blocks result }
+    {
+        let slots = area.last + 1;
+        let table = SlotTable { first: 0, slots };
+        set_bad(&mut frames, area);
+        runs.rebuild(&frames, &table);
+        StreamIn {
+            frames,
+            runs,
+            table,
+            map: whole_map(slots),
+            blocks,
+            checker: Checker::begin(),
+            writer: None,
+            page: [0; PAGE],
+            stop: None,
+        }
+    }
+
+    /// How many blocks the disk had when it was opened.
+    pub fn blocks(&self) -> u32
+        ensures { result ≡ self.now.blocks }
+    {
+        self.blocks
+    }
+
+    /// Takes the next piece of the stream, of any length: each page is written as it is full. A session that was stopped answers
+    /// its stop again and makes no call of the disk.
+    pub fn feed<D: Disk>(&mut self, disk: &mut D, piece: &[u8]) -> Result<(), InStop>
+        requires session { IsSession self.old }
+        requires blocks { D.block_count disk.old ≡ self.old.blocks }
+
+        ensures again { (why : InStop) → self.old.stop ≡ Some why → (result ≡ Err why) × (self.new ≡ self.old) × (disk.new ≡ disk.old) }
+
+        ensures taken { (free bs : List ℕ) → IsFed free bs self.old → OnOk result (IsFed free (bs ++ piece.now) self.new) }
+        ensures stream { (free bs : List ℕ) → IsFed free bs self.old → (fault : StreamFault) →
+            result ≡ Err (stop.Stream fault) → first_fault (bs ++ piece.now) ≡ Some fault }
+        ensures too_few { (free bs : List ℕ) → IsFed free bs self.old → (told need : ℕ) →
+            result ≡ Err (stop.NoSlots told need) → HasTooFewFor free (bs ++ piece.now) told need }
+        ensures stops { IsGoing self.old → IfErr result (λ why. IsOfFeed why) }
+        ensures done { (free bs : List ℕ) → IsFed free bs self.old → AreOfMap self.old.map free →
+            OnOk result (Changes (WritesOn self.old.map free bs piece.now) (D.content disk.old) (D.content disk.new)) }
+        ensures into { (area : AreaValue) (free bs : List ℕ) → TakesInto area free bs self.old → OnOk result (TakesInto area free (bs ++ piece.now) self.new) }
+        ensures ready { (area : AreaValue) (free bs : List ℕ) → TakesInto area free bs self.old →
+            OnOk result (Changes (StaysReady area free bs piece.now) (D.content disk.old) (D.content disk.new)) }
+        ensures outside { (free bs : List ℕ) → IsFed free bs self.old →
+            Changes (KeepsOutside self.old.map free) (D.content disk.old) (D.content disk.new) }
+        ensures time { IsTrue (D.tells_moments disk.old) → (free bs : List ℕ) → IsFed free bs self.old →
+            ElapsesOutside self.old.map free (D.moment disk.old) (D.moment disk.new) (D.left_since disk.old) (D.left_since disk.new) }
+        ensures header { IsTrue (D.tells_moments disk.old) → (area : AreaValue) (free bs : List ℕ) → TakesInto area free bs self.old →
+            AddsNoHeader (D.moment disk.old) (D.left_since disk.old) (D.left_since disk.new) }
+        ensures kept { IfErr result (λ why. self.new.stop ≡ Some why) }
+        ensures session { IsSession self.new }
+        ensures same { self.new.blocks ≡ self.old.blocks }
+        ensures map { self.new.map ≡ self.old.map }
+
+        ensures cause { IsGoing self.old → IfErr result (λ why. IsFault why → HasRisen (D.faults disk.old) (D.faults disk.new)) }
+        ensures faults { D.faults disk.old ≤ D.faults disk.new }
+        ensures calls { (free bs : List ℕ) → IsFed free bs self.old →
+            D.calls disk.new ≤ D.calls disk.old + 3 * (length (bs ++ piece.now) / 4096 - length bs / 4096) }
+        ensures orders { D.orders disk.new ≡ D.orders disk.old }
+        ensures blocks { D.block_count disk.new ≡ D.block_count disk.old }
+        ensures telling { D.tells_moments disk.new ≡ D.tells_moments disk.old }
+    {
+        if let Some(stop) = self.stop {
+            return Err(stop);
+        }
+        let mut at = 0;
+        while at < piece.len() {
+            let begun = (self.checker.taken() % 4096) as usize;
+            let end = end_of_page(at, begun, piece.len());
+            match self.take(disk, begun, &piece[at..end]) {
+                Ok(()) => at = end,
+                Err(stop) => {
+                    self.stop = Some(stop);
+                    return Err(stop);
+                }
+            }
+        }
+        Ok(())
+    }
+
+    /// Takes bytes of one page, of which so many have come before.
+    fn take<D: Disk>(&mut self, disk: &mut D, begun: usize, part: &[u8]) -> Result<(), InStop>
+        requires session { (free : List ℕ) × (bs : List ℕ) × IsFed free bs self.old × (begun ≡ length bs % 4096) }
+        requires part { begun + length part.now ≤ 4096 }
+        requires some { 0 < length part.now }
+        requires blocks { D.block_count disk.old ≡ self.old.blocks }
+
+        ensures taken { (free bs : List ℕ) → IsFed free bs self.old → OnOk result (IsFed free (bs ++ part.now) self.new) }
+        ensures stream { (free bs : List ℕ) → IsFed free bs self.old → (fault : StreamFault) →
+            result ≡ Err (stop.Stream fault) → first_fault (bs ++ part.now) ≡ Some fault }
+        ensures too_few { (free bs : List ℕ) → IsFed free bs self.old → (told need : ℕ) →
+            result ≡ Err (stop.NoSlots told need) → HasTooFewFor free (bs ++ part.now) told need }
+        ensures stops { IfErr result (λ why. IsOfFeed why) }
+        ensures done { (free bs : List ℕ) → IsFed free bs self.old → AreOfMap self.old.map free →
+            OnOk result (Changes (WritesOn self.old.map free bs part.now) (D.content disk.old) (D.content disk.new)) }
+        ensures outside { (free bs : List ℕ) → IsFed free bs self.old →
+            Changes (KeepsOutside self.old.map free) (D.content disk.old) (D.content disk.new) }
+        ensures time { IsTrue (D.tells_moments disk.old) → (free bs : List ℕ) → IsFed free bs self.old →
+            ElapsesOutside self.old.map free (D.moment disk.old) (D.moment disk.new) (D.left_since disk.old) (D.left_since disk.new) }
+        ensures same { self.new.blocks ≡ self.old.blocks }
+        ensures map { self.new.map ≡ self.old.map }
+
+        ensures cause { IfErr result (λ why. IsFault why → HasRisen (D.faults disk.old) (D.faults disk.new)) }
+        ensures faults { D.faults disk.old ≤ D.faults disk.new }
+        ensures calls { D.calls disk.new ≤ D.calls disk.old + 3 * ((begun + length part.now) / 4096) }
+        ensures orders { D.orders disk.new ≡ D.orders disk.old }
+        ensures blocks { D.block_count disk.new ≡ D.block_count disk.old }
+        ensures telling { D.tells_moments disk.new ≡ D.tells_moments disk.old }
+    {
+        self.checker.take(part)?;
+        let end = begun + part.len();
+        self.page[begun..end].copy_from_slice(part);
+        if end < PAGE {
+            return Ok(());
+        }
+        let page = Page::from_bytes(&self.page);
+        let writer = put_full(
+            self.writer.take(),
+            &mut self.frames,
+            &mut self.runs,
+            &self.table,
+            &self.map,
+            disk,
+            &page,
+        )?;
+        self.writer = Some(writer);
+        Ok(())
+    }
+
+    /// Marks the image, whose pages are all written, and answers how many pages were saved.
+    pub fn finish<D: Disk>(self, disk: &mut D) -> Result<u32, InStop>
+        requires session { IsSession self }
+        requires blocks { D.block_count disk.old ≡ self.blocks }
+
+        ensures again { (why : InStop) → self.stop ≡ Some why → (result ≡ Err why) × (disk.new ≡ disk.old) }
+
+        ensures short { (free bs : List ℕ) → IsFed free bs self → (fault : StreamFault) →
+            (result ≡ Err (stop.Stream fault)) ↔ (short_fault bs ≡ Some fault) }
+        ensures untouched { (fault : StreamFault) → result ≡ Err (stop.Stream fault) → disk.new ≡ disk.old }
+        ensures saved { (free bs : List ℕ) → IsFed free bs self → IfOk result (λ n. n ≡ image_pages bs) }
+        ensures marked { (free bs : List ℕ) → IsFed free bs self →
+            OnOk result (Changes (Marks (laid_block self.map free 0)) (D.content disk.old) (D.content disk.new)) }
+        ensures holds { (area : AreaValue) (free bs : List ℕ) → TakesInto area free bs self →
+            OnOk result (Changes (ComesIn area free bs) (D.content disk.old) (D.content disk.new)) }
+        ensures whole { (area : AreaValue) (free bs : List ℕ) → TakesInto area free bs self →
+            IfSome (D.content disk.old) (λ held. IfSome (D.content disk.new) (LeavesWhole area free bs held)) }
+        ensures leaves { IsGoing self → IfErr result (λ why. Changes (LeavesAt why) (D.content disk.old) (D.content disk.new)) }
+        ensures stops { IsGoing self → IfErr result (λ why. IsOfFinish why) }
+        ensures no_swap { IsGoing self → IfErr result (λ why. IfNoSwap why (λ reason. IfSome (D.content disk.old)
+            (λ held. kind_fault (area_kind (block (as_it_reads held) 0)) ≡ Some reason))) }
+
+        ensures cause { IsGoing self → IfErr result (λ why. IsFault why → HasRisen (D.faults disk.old) (D.faults disk.new)) }
+        ensures faults { D.faults disk.old ≤ D.faults disk.new }
+        ensures calls { D.calls disk.new ≤ D.calls disk.old + 6 }
+        ensures orders { D.orders disk.new ≡ D.orders disk.old }
+        ensures blocks { D.block_count disk.new ≡ D.block_count disk.old }
+        ensures telling { D.tells_moments disk.new ≡ D.tells_moments disk.old }
+        ensures time { IsTrue (D.tells_moments disk.old) → (free bs : List ℕ) → IsFed free bs self → IfSome (D.content disk.old) (λ held.
+            ElapsesOverMark (laid_block self.map free 0) (D.moment disk.old) (D.moment disk.new) (D.left_since disk.old) (D.left_since disk.new) held) }
+        ensures cut { IsTrue (D.tells_moments disk.old) → (area : AreaValue) (free bs : List ℕ) → TakesInto area free bs self →
+            IfSome (D.content disk.old) (MarksWhole area free bs (D.moment disk.old) (D.left_since disk.old) (D.left_since disk.new)) }
+    {
+        if let Some(stop) = self.stop {
+            return Err(stop);
+        }
+        let n = self.checker.finish()?;
+        let first = first_of(&self.writer);
+        match mark_image(disk, first) {
+            Ok(()) => Ok(n),
+            Err(why) => Err(why),
+        }
+    }
+}
+
+/// The block of the first map.
+fn first_of(writer: &Option<Writer>) -> u32
+    requires { IsSome writer.now }
+    ensures { (w : Writing) → writer.now ≡ Some w → result ≡ w.first }
+{
+    match writer {
+        Some(writer) => writer.first(),
+        None => unreachable!(),
+    }
+}
+
+/// Where the bytes of the page end that has begun, of a piece of so many from `at` on.
+fn end_of_page(at: usize, begun: usize, len: usize) -> usize
+    requires more { at < len }
+    requires begun { begun < 4096 }
+    ensures within { result ≤ len }
+    ensures some { at < result }
+    ensures page { begun + (result - at) ≤ 4096 }
+{
+    let room = PAGE - begun;
+    if len - at < room { len } else { at + room }
+}
+
+/// Each of so many slots lies on the block of its number.
+fn whole_map(slots: u32) -> FileMap
+    requires some { 1 ≤ slots }
+    requires few { slots ≤ 131072 }
+    ensures map { result ≡ (0, slots, 0) ∷ [] }
+    ensures file_map { IsFileMap ((0, slots, 0) ∷ []) slots }
+{
+    FileMap::of(&[(0, slots, 0)], slots).unwrap()
+}

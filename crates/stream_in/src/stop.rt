@@ -1,0 +1,43 @@
+use page_core::NoMemory;
+use plain_machine::{Left, NoSwap};
+use stream_check::StreamFault;
+
+/// Why an image doesn't come in.
+#[derive(Clone, Copy, Debug, PartialEq, Eq)]
+pub enum InStop {
+    NoMemory,
+    /// The swap area can't be used.
+    NoSwap(NoSwap),
+    /// Fewer slots are free than the image may need: its pages and 1026 more.
+    NoSlots { free: u32, need: u32 },
+    /// The stream isn't in its grammar.
+    Stream(StreamFault),
+    /// A read of the disk failed; what is left there of the image.
+    ReadFault(Left),
+    /// A write failed.
+    WriteFault(Left),
+    /// A sync failed.
+    SyncFault(Left),
+}
+
+impl From<NoMemory> for InStop {
+    ghost use Rattle.std.specs.Prelude.{◌≡◌};
+    ghost use Rattle.stream_in.specs.declared.stop.InStop.TheVariants as stop;
+
+    ghost from_gives = { λ why result. result ≡ stop.NoMemory };
+
+    fn from(_: NoMemory) -> InStop {
+        InStop::NoMemory
+    }
+}
+
+impl From<StreamFault> for InStop {
+    ghost use Rattle.std.specs.Prelude.{◌≡◌};
+    ghost use Rattle.stream_in.specs.declared.stop.InStop.TheVariants as stop;
+
+    ghost from_gives = { λ fault result. result ≡ stop.Stream fault };
+
+    fn from(fault: StreamFault) -> InStop {
+        InStop::Stream(fault)
+    }
+}

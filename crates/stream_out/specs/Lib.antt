@@ -1,0 +1,5 @@
+pub mod Bytes
+pub mod Cursor
+pub mod Kept
+pub mod Pages
+pub mod TaskSlots

@@ -1,0 +1,103 @@
+ghost use Rattle.std.specs.Prelude.{◌≡◌, ℕ, ◌+◌, ◌^◌, ◌<◌, ◌≤◌, [], List, length, slice_index_or, slice_index};
+ghost use Rattle.definitions.specs.NumberPages.{meta_of};
+ghost use Rattle.stream_out.specs.Pages.{info_over, stream_over};
+
+use crate::cursor::{Cursor, hand_out};
+use frame_arena::Frames;
+use image_header::{Info, encode};
+use machine::Hardware;
+use memory_bitmap::Bitmap;
+use page_core::Page;
+use pfn_pack::pack;
+
+/// How many numbers a number page has.
+const NUMBERS: u32 = 512;
+
+/// How many pages come before those with data: the info page and the number pages of so many page frames.
+pub fn head_pages(n: u32) -> u32
+    ensures { result ≡ meta_of n + 1 }
+{
+    n.div_ceil(NUMBERS) + 1
+}
+
+/// What the info page says.
+fn info(hw: &Hardware, n: u32) -> Info
+    requires { n ≤ 65536 }
+    ensures { result ≡ info_over hw.now n }
+{
+    Info {
+        ident: *hw.ident(),
+        physpages: u64::from(hw.zones().count()),
+        image_pages: u64::from(n),
+        pages: u64::from(n + head_pages(n)),
+    }
+}
+
+/// Page `k` of the stream, from 0, where that is the info page or a number page.
+fn head_page(hw: &Hardware, saveable: &Bitmap, k: u32) -> Page
+    requires { k ≤ meta_of (length saveable.now.members) }
+    ensures { (saved : List (List ℕ)) → result ≡ slice_index_or (stream_over hw.now saveable.now.members saved) k [] }
+{
+    if k == 0 {
+        return encode(&info(hw, saveable.len()));
+    }
+    let mut page = Page::zero();
+    pack(saveable, None, k - 1, &mut page);
+    page
+}
+
+ghost use Rattle.stream_out.specs.Pages.{IsHead};
+ghost use Rattle.stream_out.specs.Cursor.{IsPart};
+
+/// Hands out a part of the info page or of a number page, which is made when its first byte is.
+pub fn hand_out_head(
+    hw: &Hardware,
+    saveable: &Bitmap,
+    head: &mut Page,
+    cursor: &mut Cursor,
+    into: &mut [u8],
+) -> usize
+    requires at { cursor.old.at < 4096 }
+    requires page { cursor.old.page ≤ meta_of (length saveable.now.members) }
+    requires made { 0 < cursor.old.at → IsHead hw.now saveable.now.members cursor.old.page head.old }
+    requires some { 0 < length into.old }
+    ensures part { (saved : List (List ℕ)) → IsPart (slice_index_or (stream_over hw.now saveable.now.members saved) cursor.old.page []) cursor.old cursor.new into.old into.new result }
+    ensures made { 0 < cursor.new.at → IsHead hw.now saveable.now.members cursor.new.page head.new }
+    ensures from { cursor.new.from ≡ cursor.old.from }
+{
+    let _ = saveable.len();
+    if cursor.at == 0 {
+        *head = head_page(hw, saveable, cursor.page);
+    }
+    hand_out(head.as_bytes(), cursor, into)
+}
+
+ghost use Rattle.std.specs.Prelude.{◌-◌, All};
+ghost use Rattle.definitions.specs.Tables.{frame};
+ghost use Rattle.pfn_pack.specs.Places.{count_below};
+
+/// Hands out a part of the page in the page frame that is next.
+pub fn hand_out_data(
+    frames: &Frames,
+    saveable: &Bitmap,
+    cursor: &mut Cursor,
+    into: &mut [u8],
+) -> usize
+    requires at { cursor.old.at < 4096 }
+    requires few { cursor.old.page < 2 ^ 31 }
+    requires more { count_below saveable.now.members cursor.old.from < length saveable.now.members }
+    requires within { All (λ p. p < length frames.now) saveable.now.members }
+    requires some { 0 < length into.old }
+    ensures part { IsPart (frame frames.now (slice_index saveable.now.members (count_below saveable.now.members cursor.old.from)))
+        cursor.old cursor.new into.old into.new result }
+    ensures from { count_below saveable.now.members cursor.new.from
+        ≡ count_below saveable.now.members cursor.old.from + (cursor.new.page - cursor.old.page) }
+{
+    let _ = saveable.len();
+    let p = saveable.first_from(cursor.from).unwrap();
+    let count = hand_out(frames.page(p), cursor, into);
+    if cursor.at == 0 {
+        cursor.from = p + 1;
+    }
+    count
+}

@@ -1,0 +1,9 @@
+//! Tests of images as streams: the bytes that `export` writes, and what it refuses.
+#![tactic(auto)]
+
+#[cfg(test)]
+mod dumps;
+#[cfg(test)]
+mod exports;
+#[cfg(test)]
+mod streams;

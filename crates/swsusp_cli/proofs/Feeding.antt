@@ -1,0 +1,102 @@
+-- A session that is fed what a source hands out, piece by piece.
+use Rattle.std.proofs.Common.{◌≡◌, ◌≤◌, ℕ, ◌+◌, ◌-◌, ◌*◌, ◌/◌, List, [], ◌++◌, length, take, Option, Some, None, Result, Err, refl, sym, ap, ◌∙◌, subst, inl, inr, arith, length-append, append_assoc}
+use Rattle.std.proofs.lemmas.Bool.{cases_lt}
+use Rattle.std.proofs.lemmas.List.{take_all}
+use Rattle.definitions.specs.Disk.{Content, Changes, HasRisen}
+use Rattle.definitions.specs.Streams.{HandsOut}
+use Rattle.stream_check.specs.Grammar.{first_fault}
+use Rattle.stream_check.proofs.Steps.{sound_from}
+use Rattle.stream_in.specs.Outside.{KeepsOutside}
+use Rattle.stream_in.specs.Session.{HasTooFewFor}
+use Rattle.stream_in.specs.Stops.{IsOfFeed}
+use Rattle.stream_in.specs.Written.{WritesOn}
+use Rattle.stream_in.specs.declared.stop.InStop.{InStop}
+use Rattle.stream_in.specs.declared.stop.InStop.TheVariants as stop
+use Rattle.stream_check.specs.declared.fault.StreamFault.{StreamFault}
+use Rattle.stream_in.proofs.Outsides.{keeps_none, keeps_then}
+use Rattle.swsusp_cli.specs.Feeding.{Holds, IsCalled, IsStopFor}
+use Rattle.swsusp_cli.specs.View.{DiskView}
+
+-- No stream without a fault is longer than the longest.
+
+pub bounded : (bs : List ℕ) → first_fault bs ≡ None → length bs ≤ 268963840
+bounded bs sound = elim (cases_lt (length bs) 4096) [
+  | inl early ↦ omega arith
+  | inr late ↦ let is = sound_from bs late sound in let few = is.are.few in let all = is.are.all in let within = is.within in omega arith
+]
+
+-- Bytes that were handed out, and some more.
+
+all_of : (bs part piece : List ℕ) (k : ℕ) → part ≡ take k piece → take (length (bs ++ part)) (bs ++ part) ≡ bs ++ take k piece
+all_of bs part piece k is = take_all (length (bs ++ part)) (bs ++ part) (omega arith) ∙ ap (λ xs. bs ++ xs) is
+
+pub handed_more : (bs part piece : List ℕ) (k : ℕ) (old mid new : Option (List ℕ)) → part ≡ take k piece → HandsOut (length bs) bs old mid → HandsOut k piece mid new → HandsOut (length (bs ++ part)) (bs ++ part) old new
+handed_more bs part piece k None None None is first then = tt
+handed_more bs part piece k None None (Some new) is first then = then
+handed_more bs part piece k None (Some mid) new is first then = absurd first
+handed_more bs part piece k (Some old) None new is first then = absurd first
+handed_more bs part piece k (Some old) (Some mid) None is first then = absurd then
+handed_more bs part piece k (Some old) (Some mid) (Some new) is first then =
+    let whole : take (length bs) bs ≡ bs = take_all (length bs) bs (omega arith) in
+    first ∙ ap (λ xs. xs ++ mid) whole ∙ ap (λ xs. bs ++ xs) then ∙ sym (append_assoc bs (take k piece) new) ∙ ap (λ xs. xs ++ new) (sym (all_of bs part piece k is))
+
+pub same_left : (bs : List ℕ) (old mid new : Option (List ℕ)) → new ≡ mid → HandsOut (length bs) bs old mid → HandsOut (length bs) bs old new
+same_left bs old mid new e h = subst (λ (o : Option (List ℕ)). HandsOut (length bs) bs old o) (sym e) h
+
+-- What the disk holds of them.
+
+pub holds_none : (extents : List (ℕ × ℕ × ℕ)) (free : List ℕ) (x : Content) → Holds extents free [] x x
+holds_none extents free x = record { outside = keeps_none extents free x; written = λ late. absurd (omega arith) }
+
+pub holds_more : (extents extents' : List (ℕ × ℕ × ℕ)) (free bs part : List ℕ) (a b c : Option Content) → extents' ≡ extents → Changes (Holds extents free bs) a b → Changes (WritesOn extents' free bs part) b c → Changes (KeepsOutside extents' free) b c → Changes (Holds extents free (bs ++ part)) a c
+holds_more extents extents' free bs part None None None e h i j = tt
+holds_more extents extents' free bs part None None (Some z) e h i j = absurd i
+holds_more extents extents' free bs part None (Some y) c e h i j = absurd h
+holds_more extents extents' free bs part (Some x) None c e h i j = absurd h
+holds_more extents extents' free bs part (Some x) (Some y) None e h i j = absurd i
+holds_more extents extents' free bs part (Some x) (Some y) (Some z) e h i j =
+    let w : WritesOn extents free bs part y z = subst (λ (m : List (ℕ × ℕ × ℕ)). WritesOn m free bs part y z) e i in
+    let k : KeepsOutside extents free y z = subst (λ (m : List (ℕ × ℕ × ℕ)). KeepsOutside m free y z) e j in
+    record { outside = keeps_then extents free x y z h.outside k; written = w h.written }
+
+-- or only of the other blocks
+pub keeps_more : (extents extents' : List (ℕ × ℕ × ℕ)) (free bs : List ℕ) (a b c : Option Content) → extents' ≡ extents → Changes (Holds extents free bs) a b → Changes (KeepsOutside extents' free) b c → Changes (KeepsOutside extents free) a c
+keeps_more extents extents' free bs None None None e h j = tt
+keeps_more extents extents' free bs None None (Some z) e h j = absurd j
+keeps_more extents extents' free bs None (Some y) c e h j = absurd h
+keeps_more extents extents' free bs (Some x) None c e h j = absurd h
+keeps_more extents extents' free bs (Some x) (Some y) None e h j = absurd j
+keeps_more extents extents' free bs (Some x) (Some y) (Some z) e h j =
+    let k : KeepsOutside extents free y z = subst (λ (m : List (ℕ × ℕ × ℕ)). KeepsOutside m free y z) e j in
+    keeps_then extents free x y z h.outside k
+
+-- How often it was called.
+
+pub called_none : (d : DiskView) → IsCalled 0 d d
+called_none d = record { calls = omega arith; faults = omega arith; orders = refl; blocks = refl }
+
+pub called_more : (bs part : List ℕ) (d e f : DiskView) → IsCalled (3 * (length bs / 4096)) d e → f.calls ≤ e.calls + 3 * (length (bs ++ part) / 4096 - length bs / 4096) → e.faults ≤ f.faults → f.orders ≡ e.orders → f.blocks ≡ e.blocks →
+    IsCalled (3 * (length (bs ++ part) / 4096)) d f
+called_more bs part d e f h calls faults orders blocks =
+    let size = length-append bs part in
+    let more : length bs / 4096 ≤ length (bs ++ part) / 4096 = omega arith in
+    let before = h.calls in
+    let counted = h.faults in
+    record { calls = omega arith; faults = omega arith; orders = orders ∙ h.orders; blocks = blocks ∙ h.blocks }
+
+-- Why it stops.
+
+pub stop_for : {A : Type 0} (free bs : List ℕ) (why : InStop) (r : Result A InStop) → r ≡ Err why → IsOfFeed why → ((fault : StreamFault) → r ≡ Err (stop.Stream fault) → first_fault bs ≡ Some fault) →
+    ((told need : ℕ) → r ≡ Err (stop.NoSlots told need) → HasTooFewFor free bs told need) → IsStopFor free bs why
+stop_for free bs stop.NoMemory r is of stream few = of
+stop_for free bs (stop.NoSwap why) r is of stream few = of
+stop_for free bs (stop.NoSlots told need) r is of stream few = few told need is
+stop_for free bs (stop.Stream fault) r is of stream few = stream fault is
+stop_for free bs (stop.ReadFault left) r is of stream few = of
+stop_for free bs (stop.WriteFault left) r is of stream few = of
+stop_for free bs (stop.SyncFault left) r is of stream few = of
+
+-- a rise is one since an earlier moment
+pub risen_from : (before mid now : ℕ) → before ≤ mid → HasRisen mid now → HasRisen before now
+risen_from before mid now le (inl lt) = inl (omega arith)
+risen_from before mid now le (inr last) = inr last

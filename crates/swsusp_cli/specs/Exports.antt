@@ -1,0 +1,43 @@
+-- How `export` may end: it reads a dump, and the image of its memory goes to out.
+use Rattle.std.specs.Prelude.{◌≡◌, ℕ, [], ◌++◌, codes, decimal}
+use Rattle.dump_file.specs.Dump.{DumpValue}
+use Rattle.dump_file.specs.declared.dump.DumpFault.{DumpFault}
+use Rattle.plain_machine.specs.Machine.{Hardware, Memory}
+use Rattle.stream_out.specs.Bytes.{bytes_of, plain_image}
+use Rattle.stream_out.specs.TaskSlots.{HasNoTaskSlot, IsFirstTaskSlot}
+use Rattle.swsusp_cli.specs.Answer.{Told, line}
+use Rattle.swsusp_cli.specs.Dumps.{IsDump, IsNoDump}
+use Rattle.swsusp_cli.specs.Outcome.{IsOutOfMemory, IsUnread, Tells}
+use Rattle.swsusp_cli.specs.View.{View}
+use Rattle.swsusp_cli.specs.declared.status.Status.{Status}
+use Rattle.swsusp_cli.specs.declared.status.Status.TheVariants.{Done, Refused}
+
+-- the lowest slot that a task has
+abbrev pub slots_told : ℕ → Told
+slots_told slot = record { status = Refused; out = []; note = line (codes "slots in use " ++ decimal slot) }
+
+-- the bytes of the image of a memory, and nothing else
+abbrev pub stream_told : Hardware → Memory → Told
+stream_told h m = record { status = Done; out = bytes_of (plain_image h m); note = [] }
+
+-- a task has a slot in the dump, and the lowest one is told
+pub record IsInUse (x x' : View) (status : Status) (dump : DumpValue) (slot : ℕ) : Type 0 where
+  pub dump_is : IsDump x x' dump
+  pub first : IsFirstTaskSlot dump.hw dump.memory slot
+  pub told : Tells (slots_told slot) status x x'
+  pub untouched : x'.disk ≡ x.disk
+
+-- no task has one, and the image of the dump's memory is told
+pub record IsExported (x x' : View) (status : Status) (dump : DumpValue) : Type 0 where
+  pub dump_is : IsDump x x' dump
+  pub none : HasNoTaskSlot dump.hw dump.memory
+  pub told : Tells (stream_told dump.hw dump.memory) status x x'
+  pub untouched : x'.disk ≡ x.disk
+
+-- One of these, by what the outside told before an export and after it.
+pub data Exports (x x' : View) (status : Status) : Type 0 where
+  no_dump : (fault : DumpFault) → IsNoDump x x' status fault → Exports x x' status
+  out_of_memory : IsOutOfMemory x x' status → Exports x x' status
+  unread : IsUnread x x' status → Exports x x' status
+  in_use : (dump : DumpValue) (slot : ℕ) → IsInUse x x' status dump slot → Exports x x' status
+  exported : (dump : DumpValue) → IsExported x x' status dump → Exports x x' status

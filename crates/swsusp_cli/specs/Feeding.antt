@@ -1,0 +1,72 @@
+-- A session that is fed what a source hands out.
+use Rattle.std.specs.Prelude.{◌≡◌, ◌≤◌, ℕ, ◌+◌, ◌*◌, ◌/◌, List, length, Option, Some, Result, Ok, Err, ⊤}
+use Rattle.definitions.specs.Disk.{Content, Changes, HasRisen, as_it_reads}
+use Rattle.definitions.specs.Streams.{HandsOut, IsOver}
+use Rattle.plain_machine.specs.declared.reply.Left.TheVariants.{Same}
+use Rattle.stream_check.specs.Grammar.{first_fault}
+use Rattle.stream_check.specs.Taken.{most_bytes}
+use Rattle.stream_in.specs.Outside.{KeepsOutside}
+use Rattle.stream_in.specs.Session.{IsFed, HasTooFewFor}
+use Rattle.stream_in.specs.Stops.{IsFault}
+use Rattle.stream_in.specs.Written.{AreWritten}
+use Rattle.stream_in.specs.declared.session.StreamIn.{StreamIn}
+use Rattle.stream_in.specs.declared.stop.InStop.{InStop}
+use Rattle.stream_in.specs.declared.stop.InStop.TheVariants as stop
+use Rattle.swsusp_cli.specs.View.{DiskView}
+use Rattle.swsusp_cli.specs.declared.importing.ImportStop.{ImportStop}
+use Rattle.swsusp_cli.specs.declared.importing.ImportStop.TheVariants.{Source, Session}
+
+-- The disk was called so often at most, its count of failures didn't fall, and it got no orders.
+pub record IsCalled (most : ℕ) (d d' : DiskView) : Type 0 where
+  pub calls : d'.calls ≤ d.calls + most
+  pub faults : d.faults ≤ d'.faults
+  pub orders : d'.orders ≡ d.orders
+  pub blocks : d'.blocks ≡ d.blocks
+
+-- The disk reads as the whole pages of these bytes were written, and the blocks of no free slot are as before.
+pub record Holds (extents : List (ℕ × ℕ × ℕ)) (free bs : List ℕ) (old new : Content) : Type 0 where
+  pub outside : KeepsOutside extents free old new
+  pub written : AreWritten extents free bs (as_it_reads new)
+
+-- A session has taken just these bytes, which the source handed out.
+pub record HasFed (free bs : List ℕ) (s s' : StreamIn) (left left' : Option (List ℕ)) (d d' : DiskView) : Type 0 where
+  pub fed : IsFed free bs s'
+  pub handed : HandsOut (length bs) bs left left'
+  pub content : Changes (Holds s.map free bs) d.content d'.content
+  pub called : IsCalled (3 * (length bs / 4096)) d d'
+  pub map : s'.map ≡ s.map
+  pub blocks : s'.blocks ≡ s.blocks
+
+-- why it may stop with the last of these bytes
+abbrev pub IsStopFor : List ℕ → List ℕ → InStop → Type 0
+IsStopFor free bs stop.NoMemory = ⊥
+IsStopFor free bs (stop.NoSwap why) = ⊥
+IsStopFor free bs (stop.NoSlots told need) = HasTooFewFor free bs told need
+IsStopFor free bs (stop.Stream fault) = first_fault bs ≡ Some fault
+IsStopFor free bs (stop.ReadFault left) = ⊥
+IsStopFor free bs (stop.WriteFault left) = left ≡ Same
+IsStopFor free bs (stop.SyncFault left) = ⊥
+
+-- It has stopped with the last of these bytes.
+pub record HasStopped (free bs : List ℕ) (why : InStop) (s : StreamIn) (left left' : Option (List ℕ)) (d d' : DiskView) : Type 0 where
+  pub why_is : IsStopFor free bs why
+  pub handed : HandsOut (length bs) bs left left'
+  pub few : length bs ≤ most_bytes + 1
+  pub content : Changes (KeepsOutside s.map free) d.content d'.content
+  pub called : IsCalled (3 * (length bs / 4096)) d d'
+  pub risen : IsFault why → HasRisen d.faults d'.faults
+
+-- the disk failed, or the source
+abbrev pub IsOfDisk : ImportStop → Type 0
+IsOfDisk Source = ⊥
+IsOfDisk (Session why) = IsFault why
+
+abbrev pub IsOfSource : ImportStop → Type 0
+IsOfSource Source = ⊤
+IsOfSource (Session why) = ⊥
+
+-- The input came to its end; or it failed; or the session stopped.
+abbrev pub Feeds : List ℕ → StreamIn → StreamIn → Option (List ℕ) → Option (List ℕ) → DiskView → DiskView → Result (Unit {0}) ImportStop → Type 0
+Feeds free s s' left left' d d' (Ok u) = (bs : List ℕ) × HasFed free bs s s' left left' d d' × IsOver left'
+Feeds free s s' left left' d d' (Err Source) = (bs : List ℕ) × HasFed free bs s s' left left' d d'
+Feeds free s s' left left' d d' (Err (Session why)) = (bs : List ℕ) × HasStopped free bs why s left left' d d'

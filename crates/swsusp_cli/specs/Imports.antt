@@ -1,0 +1,238 @@
+-- How `import` may end: the area is opened, the input's bytes go into it as they are read, and it is marked.
+use Rattle.std.specs.Prelude.{◌≡◌, ◌≤◌, ◌<◌, ◌⊎◌, ℕ, ◌+◌, ◌*◌, ◌/◌, List, [], ◌∷◌, ◌++◌, length, codes, decimal, Option, Some, None, Result, Ok, Err, IfSome, Contains}
+use Rattle.definitions.specs.Disk.{Changes, Content, HasRisen, Image, IsImage, as_it_reads, block, sector, settled}
+use Rattle.definitions.specs.Streams.{HandsOut, IsOver}
+use Rattle.definitions.specs.SwapHeader.{marked}
+use Rattle.sig_header.specs.AreaKind.{area_kind}
+use Rattle.sig_header.specs.declared.area.Area.{Area}
+use Rattle.sig_header.specs.declared.area.AreaKind.TheVariants as kind
+use Rattle.plain_machine.specs.Image.{maps_of}
+use Rattle.plain_machine.specs.Laid.{laid_block}
+use Rattle.plain_machine.specs.Replies.{line_of}
+use Rattle.plain_machine.specs.UsableArea.{bad_slots_of}
+use Rattle.plain_machine.specs.declared.no_swap.NoSwap.{NoSwap}
+use Rattle.plain_machine.specs.declared.reply.Left.TheVariants.{Same}
+use Rattle.plain_machine.specs.declared.reply.Reply.TheVariants as reply
+use Rattle.protocol_laws.specs.Rows.{LeavesBlock}
+use Rattle.stream_check.specs.Grammar.{image_pages, all_pages, first_fault, short_fault}
+use Rattle.stream_check.specs.Taken.{most_bytes}
+use Rattle.stream_check.specs.declared.fault.Kind.{Kind}
+use Rattle.stream_check.specs.declared.fault.Kind.TheVariants as fault
+use Rattle.stream_check.specs.declared.fault.StreamFault.{StreamFault}
+use Rattle.stream_in.specs.Area.{AreUsable, first_block, open_fault}
+use Rattle.stream_in.specs.Holding.{HasComeIn}
+use Rattle.stream_in.specs.Marking.{LeavesAt}
+use Rattle.stream_in.specs.Session.{HasTooFewFor}
+use Rattle.stream_in.specs.Written.{AreWritten, ReadAsMade, page_at}
+use Rattle.stream_in.specs.declared.stop.InStop.{InStop}
+use Rattle.stream_in.specs.declared.stop.InStop.TheVariants as stop
+use Rattle.swsusp_cli.specs.Answer.{Told, line, memory_told}
+use Rattle.swsusp_cli.specs.Feeding.{IsCalled}
+use Rattle.swsusp_cli.specs.Outcome.{Tells}
+use Rattle.swsusp_cli.specs.Replay.{unread_note}
+use Rattle.swsusp_cli.specs.Told.{IsTried}
+use Rattle.swsusp_cli.specs.View.{DiskView, View}
+use Rattle.swsusp_cli.specs.declared.importing.ImportStop.{ImportStop}
+use Rattle.swsusp_cli.specs.declared.importing.ImportStop.TheVariants.{Source, Session}
+use Rattle.swsusp_cli.specs.declared.status.Status.{Status}
+use Rattle.swsusp_cli.specs.declared.status.Status.TheVariants.{Done, Refused, Input, Stream, Device}
+
+-- What is told.
+
+abbrev pub kind_text : Kind → List ℕ
+kind_text fault.Counts = codes "Counts byte "
+kind_text fault.Pfn = codes "Pfn byte "
+kind_text fault.Order = codes "Order byte "
+kind_text fault.End = codes "End byte "
+kind_text fault.Extra = codes "Extra byte "
+kind_text fault.Short = codes "Short byte "
+
+abbrev pub stream_note : StreamFault → List ℕ
+stream_note fault = line (codes "stream " ++ kind_text fault.kind ++ decimal fault.at)
+
+abbrev pub stream_told : StreamFault → Told
+stream_told fault = record { status = Input; out = []; note = stream_note fault }
+
+abbrev pub imported_told : ℕ → Told
+imported_told n = record { status = Done; out = line (codes "imported " ++ decimal n); note = [] }
+
+-- why an image doesn't come in: the reply that says so, or the stream's fault
+abbrev pub stop_told : InStop → Told
+stop_told stop.NoMemory = memory_told
+stop_told (stop.NoSwap why) = record { status = Refused; out = []; note = line_of (reply.NoSwap why) }
+stop_told (stop.NoSlots free need) = record { status = Refused; out = []; note = line_of (reply.NoSlots free need) }
+stop_told (stop.Stream fault) = stream_told fault
+stop_told (stop.ReadFault left) = record { status = Device; out = []; note = line_of (reply.ReadFault left) }
+stop_told (stop.WriteFault left) = record { status = Device; out = []; note = line_of (reply.WriteFault left) }
+stop_told (stop.SyncFault left) = record { status = Device; out = []; note = line_of (reply.SyncFault left) }
+
+-- The disk, by the area at its first blocks: slot s lies on block s.
+
+abbrev pub whole_map : Area → List (ℕ × ℕ × ℕ)
+whole_map area = (0, area.last + 1, 0) ∷ []
+
+-- a slot that the area can give: neither the header's nor a bad page
+abbrev pub IsUsable : Area → ℕ → Type 0
+IsUsable area s = (s ≤ area.last) × (Contains (bad_slots_of area) s → ⊥)
+
+-- Block 0 is as before in every image of the disk: each that a crash may leave has there what one of before has. So is each sector
+-- of another block that no slot of the area lies on that it can give.
+pub record LeavesUnusable (area : Area) (old new : Content) : Type 0 where
+  pub size : length new ≡ length old
+  pub header : LeavesBlock 0 old new
+  pub others : (b j : ℕ) → j < 8 → (IsUsable area b → ⊥) → sector new (8 * b + j) ≡ sector old (8 * b + j)
+
+-- and the whole pages of these bytes, with the maps that they fill, read as they were written, to the lowest of the free slots
+pub record HasWritten (area : Area) (free bs : List ℕ) (old new : Content) : Type 0 where
+  pub leaves : LeavesUnusable area old new
+  pub written : AreWritten (whole_map area) free bs (as_it_reads new)
+
+-- The disk has one image. Block 0 is that of before, marked with the flags 2 and the block of the first map, which is the lowest free
+-- slot's; the pages of the stream and the maps read as they are laid, so that for each machine whose swap area lies so the chain from
+-- there is the stream, byte for byte, and the disk holds the image that it is of; and each block of no slot that the area can give
+-- reads as before.
+pub record Stores (area : Area) (free bs : List ℕ) (old new : Content) : Type 0 where
+  pub size : length new ≡ length old
+  pub one_image : new ≡ settled (as_it_reads new)
+  pub header : block (as_it_reads new) 0 ≡ marked (block (as_it_reads old) 0) (laid_block (whole_map area) free 0) 2 0
+  pub laid : ReadAsMade (whole_map area) free (all_pages bs) (page_at bs) (all_pages bs + maps_of (all_pages bs)) (as_it_reads new)
+  pub comes_in : (v : Image) → IsImage new v → HasComeIn area bs v
+  pub others : (b : ℕ) → 0 < b → (IsUsable area b → ⊥) → block (as_it_reads new) b ≡ block (as_it_reads old) b
+
+-- All was written, and then a call failed by which the area was to be marked; what it says that is left of the image.
+abbrev pub MarksNot : InStop → Area → List ℕ → List ℕ → Content → Content → Type 0
+MarksNot why area free bs old new = (mid : Content) × HasWritten area free bs old mid × LeavesAt why mid new
+
+-- The area at the disk's first blocks, and the slots that it can give, ascending.
+pub record IsArea (d : DiskView) (area : Area) (free : List ℕ) : Type 0 where
+  pub kind_is : IfSome d.content (λ held. area_kind (first_block d.blocks (as_it_reads held)) ≡ kind.Swap area)
+  pub room : IfSome d.content (λ held. open_fault d.blocks (kind.Swap area) ≡ None)
+  pub slots : AreUsable area free
+
+-- The bytes that were read, one behind the longest stream at most.
+pub record AreRead (bs : List ℕ) (left left' : Option (List ℕ)) : Type 0 where
+  pub handed : HandsOut (length bs) bs left left'
+  pub few : length bs ≤ most_bytes + 1
+
+-- a whole stream in which there is no fault
+abbrev pub IsStream : List ℕ → Type 0
+IsStream bs = (first_fault bs ≡ None) × (short_fault bs ≡ None)
+
+-- the first fault of the bytes so far, or they are all that there is and no whole stream
+abbrev pub HasStreamFault : List ℕ → StreamFault → Option (List ℕ) → Type 0
+HasStreamFault bs fault left' = (first_fault bs ≡ Some fault) ⊎ ((first_fault bs ≡ None) × (short_fault bs ≡ Some fault) × IsOver left')
+
+-- What was done. The disk is called once to open the area, three times at most for each page that is read whole, and six times at
+-- most to mark it.
+
+-- the whole stream was read, the slots suffice, and its image is on the disk
+pub record IsImported (n : ℕ) (area : Area) (free bs : List ℕ) (left left' : Option (List ℕ)) (d d' : DiskView) : Type 0 where
+  pub area_is : IsArea d area free
+  pub bytes : AreRead bs left left'
+  pub over : IsOver left'
+  pub stream : IsStream bs
+  pub pages : n ≡ image_pages bs
+  pub enough : all_pages bs + 1026 ≤ length free
+  pub content : Changes (Stores area free bs) d.content d'.content
+  pub called : IsCalled (7 + 3 * (length bs / 4096)) d d'
+
+-- memory was refused before the disk was called and a byte was read
+abbrev pub IsUntouched : Option (List ℕ) → Option (List ℕ) → DiskView → DiskView → Type 0
+IsUntouched left left' d d' = (left' ≡ left) × (d' ≡ d)
+
+-- block 0 isn't the header of an area that can be used, and no byte was read
+pub record HasNoArea (why : NoSwap) (left left' : Option (List ℕ)) (d d' : DiskView) : Type 0 where
+  pub says : IfSome d.content (λ held. open_fault d.blocks (area_kind (first_block d.blocks (as_it_reads held))) ≡ Some why)
+  pub unread : left' ≡ left
+  pub content : d'.content ≡ d.content
+  pub called : IsCalled 1 d d'
+
+-- or it no longer is when it is to be marked, which comes of no disk that tells its content
+pub record HasNoMore (left left' : Option (List ℕ)) (d d' : DiskView) : Type 0 where
+  pub bs : List ℕ
+  pub bytes : AreRead bs left left'
+  pub over : IsOver left'
+  pub stream : IsStream bs
+  pub untold : d.content ≡ None
+  pub called : IsCalled (7 + 3 * (length bs / 4096)) d d'
+
+-- fewer slots are free than the image may need
+pub record HasTooFewSlots (told need : ℕ) (area : Area) (free bs : List ℕ) (left left' : Option (List ℕ)) (d d' : DiskView) : Type 0 where
+  pub area_is : IsArea d area free
+  pub bytes : AreRead bs left left'
+  pub too_few : HasTooFewFor free bs told need
+  pub content : Changes (LeavesUnusable area) d.content d'.content
+  pub called : IsCalled (1 + 3 * (length bs / 4096)) d d'
+
+-- the input is no stream
+pub record IsNoStream (fault : StreamFault) (area : Area) (free bs : List ℕ) (left left' : Option (List ℕ)) (d d' : DiskView) : Type 0 where
+  pub area_is : IsArea d area free
+  pub bytes : AreRead bs left left'
+  pub says : HasStreamFault bs fault left'
+  pub content : Changes (LeavesUnusable area) d.content d'.content
+  pub called : IsCalled (1 + 3 * (length bs / 4096)) d d'
+
+-- the source failed behind these bytes, in which no fault is
+pub record IsCutOff (area : Area) (free bs : List ℕ) (left left' : Option (List ℕ)) (d d' : DiskView) : Type 0 where
+  pub area_is : IsArea d area free
+  pub bytes : AreRead bs left left'
+  pub sound : first_fault bs ≡ None
+  pub content : Changes (HasWritten area free bs) d.content d'.content
+  pub called : IsCalled (1 + 3 * (length bs / 4096)) d d'
+
+-- the header block couldn't be read, and no byte was read
+pub record IsUnopened (left left' : Option (List ℕ)) (d d' : DiskView) : Type 0 where
+  pub unread : left' ≡ left
+  pub content : d'.content ≡ d.content
+  pub called : IsCalled 1 d d'
+  pub risen : HasRisen d.faults d'.faults
+
+-- a page or a map couldn't be written
+pub record IsUnwritten (area : Area) (free bs : List ℕ) (left left' : Option (List ℕ)) (d d' : DiskView) : Type 0 where
+  pub area_is : IsArea d area free
+  pub bytes : AreRead bs left left'
+  pub content : Changes (LeavesUnusable area) d.content d'.content
+  pub called : IsCalled (1 + 3 * (length bs / 4096)) d d'
+  pub risen : HasRisen d.faults d'.faults
+
+-- the whole stream was written, and a call failed by which the area was to be marked
+pub record IsUnmarked (why : InStop) (area : Area) (free bs : List ℕ) (left left' : Option (List ℕ)) (d d' : DiskView) : Type 0 where
+  pub area_is : IsArea d area free
+  pub bytes : AreRead bs left left'
+  pub over : IsOver left'
+  pub stream : IsStream bs
+  pub content : Changes (MarksNot why area free bs) d.content d'.content
+  pub called : IsCalled (7 + 3 * (length bs / 4096)) d d'
+  pub risen : HasRisen d.faults d'.faults
+
+-- of some area, its slots and bytes that were read
+abbrev pub OfSome : (Area → List ℕ → List ℕ → Type 0) → Type 0
+OfSome P = (area : Area) × (free : List ℕ) × (bs : List ℕ) × P area free bs
+
+-- by what an import ends with
+abbrev pub Ends : Option (List ℕ) → Option (List ℕ) → DiskView → DiskView → Result ℕ ImportStop → Type 0
+Ends left left' d d' (Ok n) = OfSome (λ area free bs. IsImported n area free bs left left' d d')
+Ends left left' d d' (Err Source) = OfSome (λ area free bs. IsCutOff area free bs left left' d d')
+Ends left left' d d' (Err (Session stop.NoMemory)) = IsUntouched left left' d d'
+Ends left left' d d' (Err (Session (stop.NoSwap why))) = HasNoArea why left left' d d' ⊎ HasNoMore left left' d d'
+Ends left left' d d' (Err (Session (stop.NoSlots told need))) = OfSome (λ area free bs. HasTooFewSlots told need area free bs left left' d d')
+Ends left left' d d' (Err (Session (stop.Stream fault))) = OfSome (λ area free bs. IsNoStream fault area free bs left left' d d')
+Ends left left' d d' (Err (Session (stop.ReadFault what))) =
+    ((what ≡ Same) × IsUnopened left left' d d') ⊎ OfSome (λ area free bs. IsUnmarked (stop.ReadFault what) area free bs left left' d d')
+Ends left left' d d' (Err (Session (stop.WriteFault what))) =
+    ((what ≡ Same) × OfSome (λ area free bs. IsUnwritten area free bs left left' d d'))
+    ⊎ OfSome (λ area free bs. IsUnmarked (stop.WriteFault what) area free bs left left' d d')
+Ends left left' d d' (Err (Session (stop.SyncFault what))) = OfSome (λ area free bs. IsUnmarked (stop.SyncFault what) area free bs left left' d d')
+
+-- the source failed: that is noted, and out is as before
+pub record IsUnread (x x' : View) (status : Status) : Type 0 where
+  pub ends : Ends x.left x'.left x.disk x'.disk (Err Source)
+  pub status_is : status ≡ Stream
+  pub out : x'.out ≡ x.out
+  pub note : IsTried unread_note x.note x'.note
+
+-- One of these, by what the outside told before an import and after it.
+pub data Imports (x x' : View) (status : Status) : Type 0 where
+  imported : (n : ℕ) → Ends x.left x'.left x.disk x'.disk (Ok n) → Tells (imported_told n) status x x' → Imports x x' status
+  stopped : (why : InStop) → Ends x.left x'.left x.disk x'.disk (Err (Session why)) → Tells (stop_told why) status x x' → Imports x x' status
+  unread : IsUnread x x' status → Imports x x' status

@@ -1,0 +1,238 @@
+ghost use Rattle.std.specs.Prelude.{◌≡◌, ◌≢◌, ◌⊎◌, ◌≤◌, ◌<◌, ◌++◌, List, ℕ, [], IfOk, IfErr, OnErr, length, vec_len};
+ghost use Rattle.definitions.specs.Disk.{HasRisen};
+ghost use Rattle.definitions.specs.Streams.{HandsOut, IsOver};
+ghost use Rattle.plain_machine.specs.Replies.{line_of};
+ghost use Rattle.stream_in.specs.Session.{IsFed};
+ghost use Rattle.stream_in.specs.Stops.{IsFault};
+ghost use Rattle.stream_in.specs.Written.{AreOfMap};
+ghost use Rattle.swsusp_cli.specs.Answer.{Told};
+ghost use Rattle.swsusp_cli.specs.AnswerOf.{told_by};
+ghost use Rattle.swsusp_cli.specs.Feeding.{Feeds, IsOfDisk, IsOfSource};
+ghost use Rattle.swsusp_cli.specs.Imports.{Ends, Imports, imported_told, kind_text, stop_told, stream_told};
+
+use crate::answer::{Answer, no_memory};
+use crate::replay::unread;
+use crate::status::Status;
+use dump_file::{Sink, Source};
+use page_core::{Failed, NoMemory};
+use plain_machine::Reply;
+use script::{Line, line_of};
+use sector_disk::Disk;
+use std::alloc::Global;
+use stream_check::{Kind, StreamFault};
+use stream_in::{InStop, StreamIn};
+
+/// How many bytes of the stream are read at a time.
+const PIECE: usize = 65536;
+
+/// How many bytes the longest stream has: the pages of 65,536 page frames, 128 pages of their numbers, and the info page.
+const MOST_BYTES: usize = 4096 * 65665;
+
+/// Why no image was imported.
+#[derive(Clone, Copy, Debug, PartialEq, Eq)]
+pub enum ImportStop {
+    /// The input failed.
+    Source,
+    /// The area, the stream or the disk is in the way.
+    Session(InStop),
+}
+
+/// Reads a stream, writes it into the area at the disk's first blocks as it comes, and marks it there as an image.
+pub fn import_stream<I: Source, O: Sink, N: Sink, D: Disk>(
+    alloc: Global,
+    input: &mut I,
+    out: &mut O,
+    note: &mut N,
+    disk: &mut D,
+) -> Status
+    ensures outcome { Imports (record {
+      left = I.remaining input.old;
+      disk = record { blocks = D.block_count disk.old; content = D.content disk.old; faults = D.faults disk.old; calls = D.calls disk.old; orders = D.orders disk.old };
+      out = record { taken = O.taken out.old; flushed = O.flushed out.old; faults = O.faults out.old };
+      note = record { taken = N.taken note.old; flushed = N.flushed note.old; faults = N.faults note.old };
+    }) (record {
+      left = I.remaining input.new;
+      disk = record { blocks = D.block_count disk.new; content = D.content disk.new; faults = D.faults disk.new; calls = D.calls disk.new; orders = D.orders disk.new };
+      out = record { taken = O.taken out.new; flushed = O.flushed out.new; faults = O.faults out.new };
+      note = record { taken = N.taken note.new; flushed = N.flushed note.new; faults = N.faults note.new };
+    }) result }
+    ensures stream { result ≡ Status.Stream → HasRisen (I.faults input.old) (I.faults input.new)
+        ⊎ HasRisen (O.faults out.old) (O.faults out.new) ⊎ HasRisen (N.faults note.old) (N.faults note.new) }
+    ensures device { result ≡ Status.Device → HasRisen (D.faults disk.old) (D.faults disk.new) }
+    ensures words { result ≢ Status.Words }
+{
+    match import_image(alloc, input, disk) {
+        Ok(n) => imported(n).tell(out, note),
+        Err(ImportStop::Source) => unread(note),
+        Err(ImportStop::Session(stop)) => not_imported(stop).tell(out, note),
+    }
+}
+
+/// Imports an image, and answers how many pages were saved. All memory is taken before the disk is called.
+fn import_image<I: Source, D: Disk>(
+    alloc: Global,
+    input: &mut I,
+    disk: &mut D,
+) -> Result<u32, ImportStop>
+    ensures ends { Ends (I.remaining input.old) (I.remaining input.new)
+        (record { blocks = D.block_count disk.old; content = D.content disk.old; faults = D.faults disk.old; calls = D.calls disk.old; orders = D.orders disk.old })
+        (record { blocks = D.block_count disk.new; content = D.content disk.new; faults = D.faults disk.new; calls = D.calls disk.new; orders = D.orders disk.new }) result }
+    ensures device { IfErr result (λ stop. IsOfDisk stop → HasRisen (D.faults disk.old) (D.faults disk.new)) }
+    ensures source { IfErr result (λ stop. IsOfSource stop → HasRisen (I.faults input.old) (I.faults input.new)) }
+{
+    let mut piece = match empty_piece(alloc) {
+        Ok(piece) => piece,
+        Err(NoMemory) => return Err(ImportStop::Session(InStop::NoMemory)),
+    };
+    let mut session = match StreamIn::open(alloc, disk) {
+        Ok(session) => session,
+        Err(stop) => return Err(ImportStop::Session(stop)),
+    };
+    match feed_input(&mut session, &mut piece, input, disk) {
+        Ok(()) => {}
+        Err(stop) => return Err(stop),
+    }
+    match session.finish(disk) {
+        Ok(n) => Ok(n),
+        Err(stop) => Err(ImportStop::Session(stop)),
+    }
+}
+
+fn empty_piece(alloc: Global) -> Result<Vec<u8>, NoMemory>
+    ensures { IfOk result (λ piece. 0 < vec_len piece) }
+{
+    match Vec::from_elem(alloc, 0, PIECE) {
+        Ok(piece) => Ok(piece),
+        Err(_) => Err(NoMemory),
+    }
+}
+
+/// Feeds a session the input, piece by piece, to its end.
+fn feed_input<I: Source, D: Disk>(
+    session: &mut StreamIn,
+    piece: &mut [u8],
+    input: &mut I,
+    disk: &mut D,
+) -> Result<(), ImportStop>
+    requires session { (free : List ℕ) × IsFed free [] session.old }
+    requires piece { 0 < length piece.old }
+    requires blocks { D.block_count disk.old ≡ session.old.blocks }
+    ensures feeds { (free : List ℕ) → IsFed free [] session.old → AreOfMap session.old.map free →
+        Feeds free session.old session.new (I.remaining input.old) (I.remaining input.new)
+        (record { blocks = D.block_count disk.old; content = D.content disk.old; faults = D.faults disk.old; calls = D.calls disk.old; orders = D.orders disk.old })
+        (record { blocks = D.block_count disk.new; content = D.content disk.new; faults = D.faults disk.new; calls = D.calls disk.new; orders = D.orders disk.new }) result }
+    ensures device { IfErr result (λ stop. IsOfDisk stop → HasRisen (D.faults disk.old) (D.faults disk.new)) }
+    ensures source { IfErr result (λ stop. IsOfSource stop → HasRisen (I.faults input.old) (I.faults input.new)) }
+{
+    let mut taken = 0;
+    'pieces: loop {
+        let count = match read_piece(input, piece, MOST_BYTES + 1 - taken) {
+            Ok(count) => count,
+            Err(Failed) => return Err(ImportStop::Source),
+        };
+        if count == 0 {
+            return Ok(());
+        }
+        match session.feed(disk, &piece[..count]) {
+            Ok(()) => taken += count,
+            Err(stop) => return Err(ImportStop::Session(stop)),
+        }
+    }
+}
+
+/// Reads some bytes into a piece, and answers how many: 0 at the end of input, and never more than so many.
+fn read_piece<I: Source>(input: &mut I, piece: &mut [u8], most: usize) -> Result<usize, Failed>
+    requires some { 0 < length piece.old }
+    requires room { 0 < most }
+    ensures count { IfOk result (λ k. k ≤ length piece.new) }
+    ensures few { IfOk result (λ k. k ≤ most) }
+    ensures bytes { IfOk result (λ k. HandsOut k piece.new (I.remaining input.old) (I.remaining input.new)) }
+    ensures end { IfOk result (λ k. k ≡ 0 → IsOver (I.remaining input.new)) }
+    ensures failed { OnErr result (I.remaining input.new ≡ I.remaining input.old) }
+    ensures counted { I.faults input.old ≤ I.faults input.new }
+    ensures cause { OnErr result (HasRisen (I.faults input.old) (I.faults input.new)) }
+{
+    let room = piece.len().min(most);
+    input.read(&mut piece[..room])
+}
+
+/// An image of so many pages was imported.
+fn imported(n: u32) -> Answer
+    ensures told { told_by result ≡ imported_told n }
+    ensures status { result.status ≡ Status.Done }
+{
+    let mut out = Line::new();
+    out.put(b"imported ");
+    out.put_number(u64::from(n));
+    out.put(b"\n");
+    Answer {
+        status: Status::Done,
+        out,
+        note: Line::new(),
+    }
+}
+
+/// What is said of an image that doesn't come in.
+fn not_imported(stop: InStop) -> Answer
+    ensures told { told_by result ≡ stop_told stop }
+    ensures stream { result.status ≢ Status.Stream }
+    ensures words { result.status ≢ Status.Words }
+    ensures device { result.status ≡ Status.Device → IsFault stop }
+{
+    match stop {
+        InStop::NoMemory => no_memory(),
+        InStop::NoSwap(why) => noted(Status::Refused, &Reply::NoSwap { why }),
+        InStop::NoSlots { free, need } => noted(Status::Refused, &Reply::NoSlots { free, need }),
+        InStop::Stream(fault) => no_stream(fault),
+        InStop::ReadFault(left) => noted(Status::Device, &Reply::ReadFault { left }),
+        InStop::WriteFault(left) => noted(Status::Device, &Reply::WriteFault { left }),
+        InStop::SyncFault(left) => noted(Status::Device, &Reply::SyncFault { left }),
+    }
+}
+
+/// The line of a reply is noted.
+fn noted(status: Status, reply: &Reply) -> Answer
+    ensures told { told_by result ≡ record { status = status; out = []; note = line_of reply.now } }
+    ensures status { result.status ≡ status }
+{
+    let mut note = Line::new();
+    line_of(reply, &mut note);
+    Answer {
+        status,
+        out: Line::new(),
+        note,
+    }
+}
+
+/// The input is no stream.
+fn no_stream(fault: StreamFault) -> Answer
+    ensures told { told_by result ≡ stream_told fault }
+    ensures status { result.status ≡ Status.Input }
+{
+    let mut note = Line::new();
+    note.put(b"stream ");
+    put_kind(&mut note, fault.kind);
+    note.put_number(fault.at);
+    note.put(b"\n");
+    Answer {
+        status: Status::Input,
+        out: Line::new(),
+        note,
+    }
+}
+
+/// A kind of fault, and what its place counts.
+fn put_kind(line: &mut Line, kind: Kind)
+    requires { length line.old ≡ 7 }
+    ensures added { line.new ≡ line.old ++ kind_text kind }
+    ensures len { length line.new ≤ 20 }
+{
+    line.put(match kind {
+        Kind::Counts => b"Counts byte ",
+        Kind::Pfn => b"Pfn byte ",
+        Kind::Order => b"Order byte ",
+        Kind::End => b"End byte ",
+        Kind::Extra => b"Extra byte ",
+        Kind::Short => b"Short byte ",
+    });
+}
