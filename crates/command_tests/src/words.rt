@@ -47,7 +47,7 @@ fn words_that_clap_refuses(rt: HostRuntime) -> Result<(), Fail> {
         &["swsusp", "inspect", "--offset", "x", "s"],
         &["swsusp", "inspect", "--offset", "4294967296", "s"],
         &["swsusp", "inspect", "--offset", "1", "--offset", "2", "s"],
-        &["swsusp", "drill", "0"],
+        &["swsusp", "drill", "x"],
         &["swsusp", "hibernate"],
         &["swsusp", "hibernate", "--any-kernel", "s"],
         &["swsusp", "hibernate", "--skip-zeros"],
@@ -80,7 +80,7 @@ fn asked(alloc: Global, list: &[&str]) -> Result<(Option<String>, u32), Fail> {
 
 #[test]
 fn the_disk_that_words_ask_for(rt: HostRuntime) -> Result<(), Fail> {
-    let lists: [(&[&str], Option<&str>, u32); 8] = [
+    let lists: [(&[&str], Option<&str>, u32); 9] = [
         (&["swsusp", "inspect", "swap.img"], Some("swap.img"), 0),
         (
             &["swsusp", "inspect", "--offset", "50", "swap.img"],
@@ -89,6 +89,7 @@ fn the_disk_that_words_ask_for(rt: HostRuntime) -> Result<(), Fail> {
         ),
         (&["swsusp", "inspect"], None, 1),
         (&["swsusp", "drill", "0"], None, 1),
+        (&["swsusp", "drill", "2000"], None, 16384),
         (&["swsusp", "replay"], None, 16384),
         (&["swsusp", "hibernate", "a"], Some("a"), 0),
         (&["swsusp", "hibernate", "--skip-zeros", "a"], Some("a"), 0),

@@ -1,3 +1,4 @@
+pub mod DrillLaws
 pub mod NumbersLaws
 pub mod RangesLaws
 pub mod ScriptLaws
@@ -5,4 +6,5 @@ pub mod SettingsLaws
 pub mod Shapes
 mod DigitLaws
 mod TablesLaws
+mod TallyLaws
 mod WordsLaws

@@ -1,3 +1,4 @@
+pub mod Drill
 pub mod Grammar
 pub mod Ident
 pub mod Kinds

@@ -23,10 +23,10 @@ const MAX_EVENTS: usize = 100_000;
 /// A script: the machine that its settings describe, and its events.
 #[derive(Drop)]
 pub struct Script {
-    hardware: Hardware,
-    last: u32,
-    bad: Vec<u32>,
-    events: Vec<Event>,
+    pub(crate) hardware: Hardware,
+    pub(crate) last: u32,
+    pub(crate) bad: Vec<u32>,
+    pub(crate) events: Vec<Event>,
 }
 
 impl Model for Script {

@@ -9,4 +9,5 @@ pub mod Replays
 pub mod Scripts
 pub mod Streaming
 pub mod Turns
+pub mod Drilled
 pub mod Dumped

@@ -65,8 +65,8 @@ pub replay_flushed : (x x' : View) (status : Status) → IsReplayed x x' status 
 replay_flushed x x' status (no_script fault is) well = told_flushed (fault_told fault) status x.out x'.out x.note x'.note is.told well
 replay_flushed x x' status (out_of_memory is) well = told_flushed memory_told status x.out x'.out x.note x'.note is.told well
 replay_flushed x x' status (unread is) well = absurd (well is.status_is)
-replay_flushed x x' status (too_small script is) well = told_flushed (small_told x.disk.blocks is.need) status x.out x'.out x.note x'.note is.told well
-replay_flushed x x' status (unformatted script call is) well = told_flushed (unformatted_told call) status x.out x'.out x.note x'.note is.told well
+replay_flushed x x' status (too_small script of is) well = told_flushed (small_told x.disk.blocks is.need) status x.out x'.out x.note x'.note is.told well
+replay_flushed x x' status (unformatted script call of is) well = told_flushed (unformatted_told call) status x.out x'.out x.note x'.note is.told well
 replay_flushed x x' status (played script is) well = (is.prints.2.flushed, is.note.flushed)
 replay_flushed x x' status (cut_off script is) well = absurd (well is.status_is)
 

@@ -7,7 +7,7 @@ use Rattle.std.specs.Option.{IfSome}
 use Rattle.definitions.specs.Disk as disk
 use Rattle.definitions.specs.Streams.{TakesAll}
 use Rattle.definitions.proofs.DiskLaws.{length-as_it_reads}
-use Rattle.plain_machine.specs.Machine.{Hardware}
+use Rattle.plain_machine.specs.Machine.{Hardware, IsHardware}
 use Rattle.plain_machine.specs.Chain.{blocks_of}
 use Rattle.plain_machine.specs.Replies.{text_of}
 use Rattle.plain_machine.specs.State.{off, nothing}
@@ -21,13 +21,16 @@ use Rattle.world_core.specs.StandsFor.{blocks_of as boot_blocks}
 use Rattle.world_core.specs.World.{World}
 use Rattle.swsusp_cli.specs.Formatting.{Formats, LieBelow, calls_until}
 use Rattle.swsusp_cli.specs.Answer.{done}
-use Rattle.swsusp_cli.specs.Outcome.{IsScript, IsReplayed, no_script, out_of_memory, unread, too_small, unformatted, played, cut_off}
+use Rattle.swsusp_cli.specs.Outcome.{IsScript, IsReplayed, IsTooSmall, IsUnformatted, Tells, no_script, out_of_memory, unread, too_small, unformatted, played, cut_off, small_told, unformatted_told}
 use Rattle.swsusp_cli.specs.Playing.{HasPlayed}
 use Rattle.swsusp_cli.specs.Replay.{orders_by, IsRun, IsNoSlot, AreReplies, is_step, steps_of}
+use Rattle.swsusp_cli.specs.SettingUp.{FailsToSetUp, HasTooFew, IsNotSetUp, IsSetUp, unready_told}
 use Rattle.swsusp_cli.specs.Told.{AreFronts, IsTold, IsTried, sink_note}
 use Rattle.swsusp_cli.specs.View.{View, DiskView, SinkView}
 use Rattle.swsusp_cli.specs.declared.formatting.Unformatted.{Unformatted}
 use Rattle.swsusp_cli.specs.declared.formatting.Unformatted.TheVariants.{Write, Sync}
+use Rattle.swsusp_cli.specs.declared.setting_up.Unready.{Unready}
+use Rattle.swsusp_cli.specs.declared.setting_up.Unready.TheVariants.{Memory, Small, Unformatted as NotFormatted}
 use Rattle.swsusp_cli.specs.declared.status.Status.{Status}
 use Rattle.run_laws.proofs.AtomicCopy.{all_restore}
 use Rattle.run_laws.proofs.Once.{resumed_once}
@@ -50,6 +53,25 @@ world_blocks w before after n m c c' (inr is) size size' same =
     let reads = length-as_it_reads c in
     let reads' = length-as_it_reads c' in
     inr (omega arith)
+
+pub small_disk : (x x' : View) (status : Status) (script : ScriptValue) (blocks need : ℕ) → HasTooFew script x.disk x'.disk blocks need → Tells (small_told blocks need) status x x' → IsTooSmall x x' status script
+small_disk x x' status script blocks need few told = record {
+  need = need;
+  needed = few.needed;
+  small = few.small;
+  told = subst (λ (b : ℕ). Tells (small_told b need) status x x') few.has told;
+  untouched = few.untouched;
+}
+
+pub not_formatted : (x x' : View) (status : Status) (script : ScriptValue) (call : Unformatted) → FailsToSetUp script x.disk x'.disk call → Tells (unformatted_told call) status x x' → IsUnformatted x x' status script call
+not_formatted x x' status script call fails told = record {
+  roomy = fails.roomy;
+  told = told;
+  risen = fails.risen;
+  calls = fails.calls;
+  content = fails.content;
+  orders = fails.orders;
+}
 
 run_formatted : (script : ScriptValue) (old new : World) (events : List Event) (replies : List Reply) (before between now : DiskView) (c : disk.Content) → before.content ≡ Some c → disk.IsContent before.blocks c →
     IfSome between.content (disk.IsContent between.blocks) → IfSome now.content (disk.IsContent now.blocks) → CanFormat script before.blocks → IsNew script.hardware None old →
@@ -95,29 +117,37 @@ run_formatted script old new events replies before between now c told whole whol
 calls_within : (before between after steps : ℕ) → between ≡ disk.raised (disk.raised before) → after ≤ between + steps → after ≤ before + 2 + steps
 calls_within before between after steps two more = omega (arith, min-le_left (before + 1) disk.last_count, min-le_left (disk.raised before + 1) disk.last_count)
 
+can_format : (script : ScriptValue) (blocks : ℕ) → IsHardware script.hardware → LieBelow script.hardware blocks → length script.bad ≤ 630 → CanFormat script blocks
+can_format script blocks hw roomy few = let some = hw.some_slots in record { some_slots = omega arith; header = roomy 0 (omega arith); few = few }
+
 pub replies_of : (script : ScriptValue) (old new : World) (events : List Event) (replies : List Reply) (before between now : DiskView) → IfSome before.content (disk.IsContent before.blocks) →
-    IfSome between.content (disk.IsContent between.blocks) → IfSome now.content (disk.IsContent now.blocks) → CanFormat script before.blocks → IsNew script.hardware None old →
-    disk.Changes (Formats script.hardware script.last script.bad) before.content between.content → before.faults ≤ between.faults → between.calls ≡ disk.raised (disk.raised before.calls) → between.orders ≡ before.orders → HasPlayed old new events replies between now → hardware_of new ≡ hardware_of old → IsOff new ⊎ (now.blocks ≡ boot_blocks new) →
-    AreReplies before now script events replies
-replies_of script old new events replies before between now whole whole_between whole_now can fresh formats later two same was_played hw booted = record {
+    IfSome between.content (disk.IsContent between.blocks) → IfSome now.content (disk.IsContent now.blocks) → IsSetUp script before between old → length script.bad ≤ 630 → HasPlayed old new events replies between now →
+    hardware_of new ≡ hardware_of old → IsOff new ⊎ (now.blocks ≡ boot_blocks new) → AreReplies before now script events replies
+replies_of script old new events replies before between now whole whole_between whole_now set few was_played hw booted = record {
   size = was_played.size;
-  calls = calls_within before.calls between.calls now.calls (steps_of events) two was_played.calls;
-  orders = was_played.orders ∙ ap (orders_by events) same;
-  faults = counted_earlier replies before.faults between.faults now.faults later was_played.faults;
-  run = λ c told. run_formatted script old new events replies before between now c told (whole_of before.blocks before.content c told whole) whole_between whole_now can fresh formats was_played hw booted;
+  calls = calls_within before.calls between.calls now.calls (steps_of events) set.calls was_played.calls;
+  orders = was_played.orders ∙ ap (orders_by events) set.orders;
+  faults = counted_earlier replies before.faults between.faults now.faults set.faults was_played.faults;
+  run = λ c told. run_formatted script old new events replies before between now c told (whole_of before.blocks before.content c told whole) whole_between whole_now (can_format script before.blocks set.hardware set.roomy few) set.new set.formats was_played hw booted;
 }
 
+-- A script whose machine isn't set up, as it is told.
+pub not_set_up : (x x' : View) (status : Status) (script : ScriptValue) (why : Unready) → IsScript x x' script → IsNotSetUp script x.disk x'.disk why → Tells (unready_told why) status x x' → IsReplayed x x' status
+not_set_up x x' status script Memory is untouched told = out_of_memory (record { told = told; untouched = untouched })
+not_set_up x x' status script (Small blocks need) is few told = too_small script is (small_disk x x' status script blocks need few told)
+not_set_up x x' status script (NotFormatted call) is fails told = unformatted script call is (not_formatted x x' status script call fails told)
+
 -- there are at most as many steps as events
-steps_few : (events : List Event) (n : ℕ) → length events ≤ n → steps_of events ≤ n
+pub steps_few : (events : List Event) (n : ℕ) → length events ≤ n → steps_of events ≤ n
 steps_few events n few = let count = length-filter is_step events in let part = count_by-le-length is_step events in omega arith
 
 first_few : (k : ℕ) (events : List Event) (n : ℕ) → length events ≤ n → steps_of (take k events) ≤ n
 first_few k events n few = steps_few (take k events) n (let part = length-take k events in let least = min-le_right k (length events) in omega arith)
 
-calls_untouched : (x x' : View) → x'.disk ≡ x.disk → x'.disk.calls ≤ x.disk.calls + 100002
+pub calls_untouched : (x x' : View) → x'.disk ≡ x.disk → x'.disk.calls ≤ x.disk.calls + 100002
 calls_untouched x x' same = let e = ap (λ (d : DiskView). d.calls) same in omega arith
 
-until_few : (call : Unformatted) (before after : ℕ) → after ≡ calls_until call before → after ≤ before + 100002
+pub until_few : (call : Unformatted) (before after : ℕ) → after ≡ calls_until call before → after ≤ before + 100002
 until_few Write before after is = omega (arith, min-le_left (before + 1) disk.last_count)
 until_few Sync before after is = omega (arith, min-le_left (before + 1) disk.last_count, min-le_left (disk.raised before + 1) disk.last_count)
 
@@ -126,8 +156,8 @@ pub few_calls : (x x' : View) (status : Status) → IsReplayed x x' status → x
 few_calls x x' status (no_script fault is) = calls_untouched x x' is.untouched
 few_calls x x' status (out_of_memory is) = calls_untouched x x' is.untouched
 few_calls x x' status (unread is) = calls_untouched x x' is.untouched
-few_calls x x' status (too_small script is) = calls_untouched x x' is.untouched
-few_calls x x' status (unformatted script call is) = until_few call x.disk.calls x'.disk.calls is.calls
+few_calls x x' status (too_small script of is) = calls_untouched x x' is.untouched
+few_calls x x' status (unformatted script call of is) = until_few call x.disk.calls x'.disk.calls is.calls
 few_calls x x' status (played script is) =
     let few = steps_few script.events 100000 is.script_is.few in
     let calls = is.prints.1.calls in

@@ -1,9 +1,9 @@
 -- Events played one after another: what one more makes.
-use Rattle.std.proofs.Common.{suc, ◌≡◌, ◌⊎◌, inl, inr, ◌≤◌, ℕ, ◌+◌, Contains, List, [], ◌∷◌, ◌++◌, length, take, filter, cond, Bool, true, false, Option, Some, None, refl, sym, ap, ◌∙◌, arith, subst, append_assoc, length-append}
+use Rattle.std.proofs.Common.{suc, ◌≡◌, ◌⊎◌, inl, inr, ◌≤◌, ◌<◌, ℕ, ◌+◌, Contains, List, [], ◌∷◌, ◌++◌, length, take, get_or, filter, cond, Bool, true, false, Option, Some, None, refl, sym, ap, ◌∙◌, arith, subst, append_assoc, length-append}
 use Rattle.std.proofs.lemmas.List.Elements.{filter-append}
 use Rattle.std.proofs.lemmas.Grind.{flat_map-append}
 use Rattle.std.proofs.Math.Nat.{min-le_left}
-use Rattle.std.proofs.lemmas.List.{take_all, append-nil}
+use Rattle.std.proofs.lemmas.List.{take_all, take_more, append-nil}
 use Rattle.std.specs.Option.{IfSome}
 use Rattle.definitions.specs.Disk as disk
 use Rattle.definitions.specs.Streams.{TakesAll}
@@ -14,6 +14,7 @@ use Rattle.plain_machine.specs.State.{State}
 use Rattle.plain_machine.specs.Step.{Step, Run}
 use Rattle.plain_machine.specs.declared.event.Event.{Event}
 use Rattle.plain_machine.specs.declared.event.Event.TheVariants as event
+use Rattle.plain_machine.specs.declared.event.BootFrom.TheVariants.{Fresh}
 use Rattle.plain_machine.specs.declared.reply.Reply.{Reply}
 use Rattle.protocol_laws.specs.Replays.{SameSteps, StaysOfReplay}
 use Rattle.protocol_laws.specs.Rows.{IsSameArea, IsNewFault, LeavesBlock, blocks_written}
@@ -51,7 +52,7 @@ pub counted_earlier : (rs : List Reply) (low mid high : ℕ) → low ≤ mid →
 counted_earlier [] low mid high a le = omega arith
 counted_earlier (r ∷ rs) low mid high a (m, le, f, rest) = (m, omega arith, λ fault. risen_earlier low mid m a (f fault), rest)
 
-counted_later : (rs : List Reply) (low high : ℕ) → AreCounted rs low high → low ≤ high
+pub counted_later : (rs : List Reply) (low high : ℕ) → AreCounted rs low high → low ≤ high
 counted_later [] low high le = le
 counted_later (r ∷ rs) low high (m, le, f, rest) = let later = counted_later rs m high rest in omega arith
 
@@ -218,6 +219,10 @@ taken_more t u (Some old) (Some mid) (Some new) p q =
 
 pub text_more : (rs : List Reply) (r : Reply) → text_of (rs ++ r ∷ []) ≡ text_of rs ++ line_of r
 text_more rs r = flat_map-append line_of rs (r ∷ []) ∙ ap (λ (xs : List ℕ). text_of rs ++ xs) (append-nil (line_of r))
+
+-- one event more
+pub one_more : (events : List Event) (i : ℕ) → i < length events → take (i + 1) events ≡ take i events ++ get_or events i (event.Boot Fresh) ∷ []
+one_more events i lt = take_more events i (event.Boot Fresh) lt
 
 -- What a script's lines give is served.
 

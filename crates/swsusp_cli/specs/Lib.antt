@@ -2,6 +2,7 @@ pub mod Answer
 pub mod AnswerOf
 pub mod Asked
 pub mod Choice
+pub mod Drills
 pub mod Dumps
 pub mod ExitStatus
 pub mod Exports
@@ -16,6 +17,7 @@ pub mod Readied
 pub mod Reading
 pub mod Replay
 pub mod Run
+pub mod SettingUp
 pub mod Told
 pub mod View
 pub mod Words

@@ -58,7 +58,6 @@ pub record IsUnread (x x' : View) (status : Status) : Type 0 where
 
 -- the disk has too few blocks for the script's area, and isn't called
 pub record IsTooSmall (x x' : View) (status : Status) (script : ScriptValue) : Type 0 where
-  pub script_is : IsScript x x' script
   pub need : ℕ
   pub needed : IsNeeded script.hardware need
   pub small : x.disk.blocks < need
@@ -67,7 +66,6 @@ pub record IsTooSmall (x x' : View) (status : Status) (script : ScriptValue) : T
 
 -- a call of the disk failed while the area was formatted: only the header block may have changed
 pub record IsUnformatted (x x' : View) (status : Status) (script : ScriptValue) (call : Unformatted) : Type 0 where
-  pub script_is : IsScript x x' script
   pub roomy : LieBelow script.hardware x.disk.blocks
   pub told : Tells (unformatted_told call) status x x'
   pub risen : disk.HasRisen x.disk.faults x'.disk.faults
@@ -96,7 +94,7 @@ pub data IsReplayed (x x' : View) (status : Status) : Type 0 where
   no_script : (fault : ScriptFault) → IsNoScript x x' status fault → IsReplayed x x' status
   out_of_memory : IsOutOfMemory x x' status → IsReplayed x x' status
   unread : IsUnread x x' status → IsReplayed x x' status
-  too_small : (script : ScriptValue) → IsTooSmall x x' status script → IsReplayed x x' status
-  unformatted : (script : ScriptValue) (call : Unformatted) → IsUnformatted x x' status script call → IsReplayed x x' status
+  too_small : (script : ScriptValue) → IsScript x x' script → IsTooSmall x x' status script → IsReplayed x x' status
+  unformatted : (script : ScriptValue) (call : Unformatted) → IsScript x x' script → IsUnformatted x x' status script call → IsReplayed x x' status
   played : (script : ScriptValue) → IsPlayed x x' status script → IsReplayed x x' status
   cut_off : (script : ScriptValue) → IsCutOff x x' status script → IsReplayed x x' status

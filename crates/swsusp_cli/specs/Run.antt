@@ -4,7 +4,7 @@ use Rattle.definitions.specs.Disk.{Content, HasRisen, raised}
 use Rattle.sig_header.specs.AreaKind.{area_kind}
 use Rattle.swsusp_cli.specs.Answer.{Told, memory_told, unparsed, unread}
 use Rattle.swsusp_cli.specs.Inspect.{header_page, inspected}
-use Rattle.swsusp_cli.specs.Words.{Asked, inspect, hibernate, resume, replay, export, import}
+use Rattle.swsusp_cli.specs.Words.{Asked, inspect, hibernate, resume, replay, drill, export, import}
 
 -- what is told where the words don't parse: that, or that memory was refused
 abbrev pub IsRefusal : Told → Type 0
@@ -21,22 +21,35 @@ IsInspected offset blocks content before after told =
 abbrev pub IsAnswer : Option Asked → ℕ → Option Content → ℕ → ℕ → Told → Type 0
 IsAnswer None blocks content before after told = IsRefusal told
 IsAnswer (Some (inspect offset swap)) blocks content before after told = IsInspected offset blocks content before after told
--- what these do is told by IsReplayed, Hibernates, Resumes, Exports and Imports
+-- what these do is told by IsReplayed, IsDrilled, Hibernates, Resumes, Exports and Imports
 IsAnswer (Some replay) blocks content before after told = ⊥
+IsAnswer (Some (drill number)) blocks content before after told = ⊥
 IsAnswer (Some (hibernate format swap)) blocks content before after told = ⊥
 IsAnswer (Some (resume check swap)) blocks content before after told = ⊥
 IsAnswer (Some export) blocks content before after told = ⊥
 IsAnswer (Some (import swap)) blocks content before after told = ⊥
 
--- words after which nothing is read, and no machine is made
+-- words after which no machine is made, and no stream is read or written
 abbrev pub NoMachine : Option Asked → Type 0
 NoMachine None = ⊤
 NoMachine (Some (inspect offset swap)) = ⊤
 NoMachine (Some (hibernate format swap)) = ⊥
 NoMachine (Some (resume check swap)) = ⊥
 NoMachine (Some replay) = ⊥
+NoMachine (Some (drill number)) = ⊥
 NoMachine (Some export) = ⊥
 NoMachine (Some (import swap)) = ⊥
+
+-- words after which nothing is read
+abbrev pub NoInput : Option Asked → Type 0
+NoInput None = ⊤
+NoInput (Some (inspect offset swap)) = ⊤
+NoInput (Some (hibernate format swap)) = ⊥
+NoInput (Some (resume check swap)) = ⊥
+NoInput (Some replay) = ⊥
+NoInput (Some (drill number)) = ⊤
+NoInput (Some export) = ⊥
+NoInput (Some (import swap)) = ⊥
 
 -- words after which no dump is read, and no stream
 abbrev pub NoDump : Option Asked → Type 0
@@ -45,6 +58,7 @@ NoDump (Some (inspect offset swap)) = ⊤
 NoDump (Some (hibernate format swap)) = ⊥
 NoDump (Some (resume check swap)) = ⊥
 NoDump (Some replay) = ⊤
+NoDump (Some (drill number)) = ⊤
 NoDump (Some export) = ⊥
 NoDump (Some (import swap)) = ⊥
 
@@ -55,6 +69,7 @@ NoImport (Some (inspect offset swap)) = ⊤
 NoImport (Some (hibernate format swap)) = ⊤
 NoImport (Some (resume check swap)) = ⊤
 NoImport (Some replay) = ⊤
+NoImport (Some (drill number)) = ⊤
 NoImport (Some export) = ⊤
 NoImport (Some (import swap)) = ⊥
 
@@ -66,6 +81,7 @@ calls_for offset blocks calls = if nat_lt offset blocks then raised calls else c
 abbrev pub calls_after : Option Asked → ℕ → ℕ → ℕ
 calls_after None blocks calls = calls
 calls_after (Some replay) blocks calls = calls
+calls_after (Some (drill number)) blocks calls = calls
 calls_after (Some export) blocks calls = calls
 calls_after (Some (import swap)) blocks calls = calls
 calls_after (Some (hibernate format swap)) blocks calls = calls

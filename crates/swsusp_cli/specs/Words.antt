@@ -13,6 +13,7 @@ pub data Asked : Type 0 where
   hibernate : (format : Format) (swap : List ℕ) → Asked
   resume : (check : IdentCheck) (swap : List ℕ) → Asked
   replay : Asked
+  drill : (number : ℕ) → Asked
   export : Asked
   import : (swap : List ℕ) → Asked
 
@@ -39,6 +40,17 @@ plain_number limit word = if has_leading_zero word then None else below limit (n
 abbrev pub replay_of : List (List ℕ) → Option Asked
 replay_of [] = Some replay
 replay_of (word ∷ words) = None
+
+-- the drill of a number that isn't 0
+abbrev pub drill_by : Option ℕ → Option Asked
+drill_by None = None
+drill_by (Some number) = if nat_lt 0 number then Some (drill number) else None
+
+-- drill NUMBER, from 1 to 2000
+abbrev pub drill_of : List (List ℕ) → Option Asked
+drill_of [] = None
+drill_of (number ∷ []) = drill_by (plain_number 2001 number)
+drill_of (number ∷ more ∷ words) = None
 
 -- export
 abbrev pub export_of : List (List ℕ) → Option Asked
@@ -89,6 +101,7 @@ command_by command words =
     else if pointwise nat_eq command (codes "hibernate") then hibernate_of words
     else if pointwise nat_eq command (codes "resume") then resume_of words
     else if pointwise nat_eq command (codes "replay") then replay_of words
+    else if pointwise nat_eq command (codes "drill") then drill_of words
     else if pointwise nat_eq command (codes "export") then export_of words
     else if pointwise nat_eq command (codes "import") then import_of words
     else None

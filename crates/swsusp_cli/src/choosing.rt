@@ -14,7 +14,7 @@ pub enum Choice {
     Memory(u32),
 }
 
-/// How many blocks the disk in memory has that a script is played over.
+/// How many blocks the disk in memory has that a script or a drill is played over.
 const MEMORY_BLOCKS: u32 = 16384;
 
 /// The disk that a list of words asks for. For an export, and where the words don't parse, it is one block in memory.
@@ -23,7 +23,7 @@ pub fn swap_name(alloc: Global, words: &[String]) -> Result<Choice, NoMemory>
 {
     match Command::parse(words) {
         None | Some(Command::Export) => Ok(Choice::Memory(1)),
-        Some(Command::Replay) => Ok(Choice::Memory(MEMORY_BLOCKS)),
+        Some(Command::Replay | Command::Drill(_)) => Ok(Choice::Memory(MEMORY_BLOCKS)),
         Some(Command::Inspect { swap, .. }) => file(alloc, swap),
         Some(Command::Hibernate { swap, .. }) => file(alloc, swap),
         Some(Command::Resume { swap, .. }) => file(alloc, swap),

@@ -3,6 +3,7 @@
 
 mod answer;
 mod choosing;
+mod drilling;
 mod dump_input;
 mod exporting;
 mod formatting;
@@ -13,6 +14,7 @@ mod playing;
 mod reading;
 mod replay;
 mod resuming;
+mod setting_up;
 mod status;
 mod top;
 mod unparsed;

@@ -5,7 +5,7 @@ ghost use Rattle.script.specs.Grammar.{ScriptValue};
 ghost use Rattle.plain_machine.specs.Fitting.{IsFitting};
 ghost use Rattle.script.specs.Shapes.{IsScripted};
 ghost use Rattle.swsusp_cli.specs.AnswerOf.{told_by};
-ghost use Rattle.swsusp_cli.specs.Outcome.{IsReplayed, small_told, fault_told, unformatted_told};
+ghost use Rattle.swsusp_cli.specs.Outcome.{IsReplayed, fault_told};
 ghost use Rattle.swsusp_cli.specs.Readied.{IsReadied};
 ghost use Rattle.swsusp_cli.specs.Reading.{HandsOutAtMost};
 ghost use Rattle.swsusp_cli.specs.Replay.{unread_note};
@@ -13,16 +13,15 @@ ghost use Rattle.swsusp_cli.specs.Answer.{done};
 ghost use Rattle.swsusp_cli.specs.Told.{IsTried, sink_note};
 
 use crate::answer::{Answer, no_memory, print};
-use crate::formatting::{Unformatted, blocks_needed, format};
 use crate::playing::play;
 use crate::reading::{ReadStop, read_script};
+use crate::setting_up::set_up;
 use crate::status::Status;
 use dump_file::{Sink, Source};
-use page_core::{Failed, NoMemory};
+use page_core::Failed;
 use script::{Line, ParseStop, Script, ScriptFault, parse};
 use sector_disk::Disk;
 use std::alloc::Global;
-use world_core::World;
 
 /// Why a replay doesn't begin.
 #[derive(Clone, Copy, Debug, PartialEq, Eq)]
@@ -63,20 +62,10 @@ pub fn replay<I: Source, O: Sink, N: Sink, D: Disk>(
         Err(Stop::Memory) => return no_memory().tell(out, note),
         Err(Stop::Script(fault)) => return no_script(fault).tell(out, note),
     };
-    let hw = script.hardware();
-    let mut world = match World::create(alloc, *hw) {
+    let mut world = match set_up(alloc, &script, disk) {
         Ok(world) => world,
-        Err(NoMemory) => return no_memory().tell(out, note),
+        Err(why) => return why.answer().tell(out, note),
     };
-    let blocks = disk.blocks();
-    let need = blocks_needed(hw);
-    if blocks < need {
-        return too_small(blocks, need).tell(out, note);
-    }
-    match format(disk, hw, script.last(), script.bad()) {
-        Ok(()) => {}
-        Err(call) => return unformatted(call).tell(out, note),
-    }
     match play(&mut world, disk, out, script.events()) {
         Ok(()) => done().tell(out, note),
         Err(Failed) => cut_off(note),
@@ -152,39 +141,6 @@ fn no_script(fault: ScriptFault) -> Answer
     note.put(b"\n");
     Answer {
         status: Status::Input,
-        out: Line::new(),
-        note,
-    }
-}
-
-fn too_small(blocks: u32, need: u32) -> Answer
-    ensures told { told_by result ≡ small_told blocks need }
-    ensures status { result.status ≡ Status.Refused }
-{
-    let mut note = Line::new();
-    note.put(b"disk blocks ");
-    note.put_number(u64::from(blocks));
-    note.put(b" need ");
-    note.put_number(u64::from(need));
-    note.put(b"\n");
-    Answer {
-        status: Status::Refused,
-        out: Line::new(),
-        note,
-    }
-}
-
-fn unformatted(call: Unformatted) -> Answer
-    ensures told { told_by result ≡ unformatted_told call }
-    ensures status { result.status ≡ Status.Device }
-{
-    let mut note = Line::new();
-    note.put(match call {
-        Unformatted::Write => b"write fault unsure\n",
-        Unformatted::Sync => b"sync fault unsure\n",
-    });
-    Answer {
-        status: Status::Device,
         out: Line::new(),
         note,
     }

@@ -2,18 +2,20 @@ ghost use Rattle.std.specs.Prelude.{◌≡◌, ◌≢◌, None, Some, ◌≤◌,
 ghost use Rattle.definitions.specs.Disk.{HasRisen};
 ghost use Rattle.dump_file.specs.Flushed.{IsFlushed};
 ghost use Rattle.swsusp_cli.specs.Answer.{Told};
-ghost use Rattle.swsusp_cli.specs.Run.{IsAnswer, NoDump, NoImport, NoMachine, calls_after};
+ghost use Rattle.swsusp_cli.specs.Run.{IsAnswer, NoDump, NoImport, NoInput, NoMachine, calls_after};
 ghost use Rattle.swsusp_cli.specs.Told.{IsTold};
 ghost use Rattle.swsusp_cli.specs.Reading.{HandsOutAtMost};
 ghost use Rattle.swsusp_cli.specs.Outcome.{IsReplayed};
 ghost use Rattle.page_core.specs.declared.format.Format.{Format};
 ghost use Rattle.plain_machine.specs.declared.event.IdentCheck.{IdentCheck};
+ghost use Rattle.swsusp_cli.specs.Drills.{IsDrilled};
 ghost use Rattle.swsusp_cli.specs.Dumps.{Hibernates};
 ghost use Rattle.swsusp_cli.specs.Exports.{Exports};
 ghost use Rattle.swsusp_cli.specs.Imports.{Imports};
 ghost use Rattle.swsusp_cli.specs.Loads.{Resumes};
-ghost use Rattle.swsusp_cli.specs.Words.{command_of, export, hibernate, import, replay, resume};
+ghost use Rattle.swsusp_cli.specs.Words.{command_of, drill, export, hibernate, import, replay, resume};
 
+use crate::drilling::drill;
 use crate::exporting::export_dump;
 use crate::hibernating::hibernate_dump;
 use crate::importing::import_stream;
@@ -44,6 +46,17 @@ pub fn run<I: Source, O: Sink, N: Sink, D: Disk>(
         (record { taken = N.taken note.old; flushed = N.flushed note.old; faults = N.faults note.old })
         (record { taken = N.taken note.new; flushed = N.flushed note.new; faults = N.faults note.new }) }
     ensures replayed { command_of (map string_bytes words.now) ≡ Some replay → IsReplayed (record {
+      left = I.remaining input.old;
+      disk = record { blocks = D.block_count disk.old; content = D.content disk.old; faults = D.faults disk.old; calls = D.calls disk.old; orders = D.orders disk.old };
+      out = record { taken = O.taken out.old; flushed = O.flushed out.old; faults = O.faults out.old };
+      note = record { taken = N.taken note.old; flushed = N.flushed note.old; faults = N.faults note.old };
+    }) (record {
+      left = I.remaining input.new;
+      disk = record { blocks = D.block_count disk.new; content = D.content disk.new; faults = D.faults disk.new; calls = D.calls disk.new; orders = D.orders disk.new };
+      out = record { taken = O.taken out.new; flushed = O.flushed out.new; faults = O.faults out.new };
+      note = record { taken = N.taken note.new; flushed = N.flushed note.new; faults = N.faults note.new };
+    }) result }
+    ensures drilled { (number : ℕ) → command_of (map string_bytes words.now) ≡ Some (drill number) → IsDrilled number (record {
       left = I.remaining input.old;
       disk = record { blocks = D.block_count disk.old; content = D.content disk.old; faults = D.faults disk.old; calls = D.calls disk.old; orders = D.orders disk.old };
       out = record { taken = O.taken out.old; flushed = O.flushed out.old; faults = O.faults out.old };
@@ -107,7 +120,7 @@ pub fn run<I: Source, O: Sink, N: Sink, D: Disk>(
     ensures device { result ≡ Status.Device → HasRisen (D.faults disk.old) (D.faults disk.new) }
 
     ensures read { NoDump (command_of (map string_bytes words.now)) → HandsOutAtMost 1048577 (I.remaining input.old) (I.remaining input.new) }
-    ensures input { NoMachine (command_of (map string_bytes words.now)) → I.remaining input.new ≡ I.remaining input.old }
+    ensures input { NoInput (command_of (map string_bytes words.now)) → I.remaining input.new ≡ I.remaining input.old }
     ensures content { NoMachine (command_of (map string_bytes words.now)) → D.content disk.new ≡ D.content disk.old }
     ensures calls { NoMachine (command_of (map string_bytes words.now)) →
         D.calls disk.new ≡ calls_after (command_of (map string_bytes words.now)) (D.block_count disk.old) (D.calls disk.old) }
@@ -122,6 +135,7 @@ pub fn run<I: Source, O: Sink, N: Sink, D: Disk>(
         }
         Some(Command::Resume { check, .. }) => { resume_dump(alloc, check, input, out, note, disk) }
         Some(Command::Replay) => replay(alloc, input, out, note, disk),
+        Some(Command::Drill(number)) => drill(alloc, number, out, note, disk),
         Some(Command::Export) => export_dump(alloc, input, out, note),
         Some(Command::Import { .. }) => import_stream(alloc, input, out, note, disk),
     }

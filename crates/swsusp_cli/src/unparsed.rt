@@ -71,6 +71,7 @@ fn command_line<'a>(alloc: Global) -> Result<Command<'a>, AllocError> {
         .subcommand(Command::new(alloc, "replay").about(
             "Plays a script from standard input, and prints each event's reply",
         ))?
+        .subcommand(drill(alloc)?)?
         .subcommand(Command::new(alloc, "export").about(
             "Reads a memory dump from standard input, and writes the image of its memory",
         ))?
@@ -105,6 +106,17 @@ fn hibernation<'a>(alloc: Global) -> Result<Command<'a>, AllocError> {
         .about("Reads a memory dump from standard input, and lets its machine hibernate")
         .arg(skip_zeros)?
         .arg(swap_argument(alloc))
+}
+
+fn drill<'a>(alloc: Global) -> Result<Command<'a>, AllocError> {
+    let number = Arg::new(alloc, "number")
+        .value_name("NUMBER")
+        .required(true)
+        .value_parser(value_parser!(u32))
+        .help("How many page frames the run claims, 1 to 2000");
+    Command::new(alloc, "drill")
+        .about("Plays the run that is made from a number, and sums its replies up in a line")
+        .arg(number)
 }
 
 fn importation<'a>(alloc: Global) -> Result<Command<'a>, AllocError> {

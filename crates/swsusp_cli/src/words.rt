@@ -1,8 +1,8 @@
-ghost use Rattle.std.specs.Prelude.{◌≡◌, ◌^◌, codes, map, option_map, string_bytes};
+ghost use Rattle.std.specs.Prelude.{◌≡◌, ◌^◌, IfSome, codes, map, option_map, string_bytes};
 ghost use Rattle.page_core.specs.declared.format.Format.TheVariants.{SkipZeros};
 ghost use Rattle.plain_machine.specs.declared.event.IdentCheck.TheVariants.{Skip};
-ghost use Rattle.swsusp_cli.specs.Words.{command_by, hibernate, hibernate_of, import_of, import, inspect_of, is_path, export_of, over_file, plain_number, replay_of, resume, resume_of, with_option};
-ghost use Rattle.swsusp_cli.specs.Asked.{asked_by};
+ghost use Rattle.swsusp_cli.specs.Words.{command_by, hibernate, hibernate_of, drill_by, drill_of, import_of, import, inspect_of, is_path, export_of, over_file, plain_number, replay_of, resume, resume_of, with_option};
+ghost use Rattle.swsusp_cli.specs.Asked.{HasNumber, asked_by};
 
 use page_core::Format;
 use plain_machine::IdentCheck;
@@ -34,6 +34,8 @@ pub enum Command<'a> {
     },
     /// Plays a script over a disk in memory, and prints each reply.
     Replay,
+    /// Plays the run that is made from a number, 1 to 2000, over a disk in memory, and sums its replies up.
+    Drill(u32),
     /// Writes the image of a memory dump as a stream of bytes.
     Export,
     /// Writes such a stream into a swap area as an image.
@@ -44,13 +46,14 @@ pub enum Command<'a> {
 }
 
 impl<'a> Command<'a> {
-    ghost use Rattle.std.specs.Prelude.{◌≡◌, map, option_map, string_bytes};
-    ghost use Rattle.swsusp_cli.specs.Asked.{asked_by};
+    ghost use Rattle.std.specs.Prelude.{◌≡◌, IfSome, map, option_map, string_bytes};
+    ghost use Rattle.swsusp_cli.specs.Asked.{HasNumber, asked_by};
     ghost use Rattle.swsusp_cli.specs.Words.{command_of};
 
     /// The command of a plain list of words, of which the first is the program's name. No other list parses.
     pub fn parse(words: &'a [String]) -> Option<Command<'a>>
-        ensures { option_map asked_by result ≡ command_of (map string_bytes words.now) }
+        ensures asks { option_map asked_by result ≡ command_of (map string_bytes words.now) }
+        ensures number { IfSome result HasNumber }
     {
         match words {
             [_, name, rest @ ..] => of_command(name.as_str(), rest),
@@ -60,7 +63,8 @@ impl<'a> Command<'a> {
 }
 
 fn of_command<'a>(name: &str, words: &'a [String]) -> Option<Command<'a>>
-    ensures { option_map asked_by result ≡ command_by name.now (map string_bytes words.now) }
+    ensures asks { option_map asked_by result ≡ command_by name.now (map string_bytes words.now) }
+    ensures number { IfSome result HasNumber }
 {
     if name == "inspect" {
         return inspection(words);
@@ -74,6 +78,9 @@ fn of_command<'a>(name: &str, words: &'a [String]) -> Option<Command<'a>>
     if name == "replay" {
         return a_replay(words);
     }
+    if name == "drill" {
+        return a_drill(words);
+    }
     if name == "export" {
         return an_export(words);
     }
@@ -84,7 +91,8 @@ fn of_command<'a>(name: &str, words: &'a [String]) -> Option<Command<'a>>
 }
 
 fn inspection(words: &[String]) -> Option<Command<'_>>
-    ensures { option_map asked_by result ≡ inspect_of (map string_bytes words.now) }
+    ensures asks { option_map asked_by result ≡ inspect_of (map string_bytes words.now) }
+    ensures number { IfSome result HasNumber }
 {
     match words {
         [swap] if is_path(swap.as_bytes()) => Some(Command::Inspect {
@@ -92,7 +100,7 @@ fn inspection(words: &[String]) -> Option<Command<'_>>
             swap: swap.as_str(),
         }),
         [option, number, swap] if option.as_str() == "--offset" && is_path(swap.as_bytes()) => {
-            match offset_of(number.as_bytes()) {
+            match plain_number(number.as_bytes()) {
                 Some(offset) => Some(Command::Inspect {
                     offset,
                     swap: swap.as_str(),
@@ -105,7 +113,8 @@ fn inspection(words: &[String]) -> Option<Command<'_>>
 }
 
 fn a_hibernation(words: &[String]) -> Option<Command<'_>>
-    ensures { option_map asked_by result ≡ hibernate_of (map string_bytes words.now) }
+    ensures asks { option_map asked_by result ≡ hibernate_of (map string_bytes words.now) }
+    ensures number { IfSome result HasNumber }
 {
     match words {
         [swap] => hibernation_onto(Format::Plain, swap.as_str()),
@@ -115,7 +124,8 @@ fn a_hibernation(words: &[String]) -> Option<Command<'_>>
 }
 
 fn hibernation_without_zeros<'a>(option: &str, swap: &'a str) -> Option<Command<'a>>
-    ensures { option_map asked_by result ≡ with_option option.now (codes "--skip-zeros") (over_file swap.now (hibernate SkipZeros swap.now)) }
+    ensures asks { option_map asked_by result ≡ with_option option.now (codes "--skip-zeros") (over_file swap.now (hibernate SkipZeros swap.now)) }
+    ensures number { IfSome result HasNumber }
 {
     if option == "--skip-zeros" {
         hibernation_onto(Format::SkipZeros, swap)
@@ -125,7 +135,8 @@ fn hibernation_without_zeros<'a>(option: &str, swap: &'a str) -> Option<Command<
 }
 
 fn hibernation_onto(format: Format, swap: &str) -> Option<Command<'_>>
-    ensures { option_map asked_by result ≡ over_file swap.now (hibernate format swap.now) }
+    ensures asks { option_map asked_by result ≡ over_file swap.now (hibernate format swap.now) }
+    ensures number { IfSome result HasNumber }
 {
     if is_path(swap.as_bytes()) {
         Some(Command::Hibernate { format, swap })
@@ -135,7 +146,8 @@ fn hibernation_onto(format: Format, swap: &str) -> Option<Command<'_>>
 }
 
 fn a_resume(words: &[String]) -> Option<Command<'_>>
-    ensures { option_map asked_by result ≡ resume_of (map string_bytes words.now) }
+    ensures asks { option_map asked_by result ≡ resume_of (map string_bytes words.now) }
+    ensures number { IfSome result HasNumber }
 {
     match words {
         [swap] => resume_from(IdentCheck::Compare, swap.as_str()),
@@ -145,7 +157,8 @@ fn a_resume(words: &[String]) -> Option<Command<'_>>
 }
 
 fn resume_of_any_kernel<'a>(option: &str, swap: &'a str) -> Option<Command<'a>>
-    ensures { option_map asked_by result ≡ with_option option.now (codes "--any-kernel") (over_file swap.now (resume Skip swap.now)) }
+    ensures asks { option_map asked_by result ≡ with_option option.now (codes "--any-kernel") (over_file swap.now (resume Skip swap.now)) }
+    ensures number { IfSome result HasNumber }
 {
     if option == "--any-kernel" {
         resume_from(IdentCheck::Skip, swap)
@@ -155,7 +168,8 @@ fn resume_of_any_kernel<'a>(option: &str, swap: &'a str) -> Option<Command<'a>>
 }
 
 fn resume_from(check: IdentCheck, swap: &str) -> Option<Command<'_>>
-    ensures { option_map asked_by result ≡ over_file swap.now (resume check swap.now) }
+    ensures asks { option_map asked_by result ≡ over_file swap.now (resume check swap.now) }
+    ensures number { IfSome result HasNumber }
 {
     if is_path(swap.as_bytes()) {
         Some(Command::Resume { check, swap })
@@ -165,7 +179,8 @@ fn resume_from(check: IdentCheck, swap: &str) -> Option<Command<'_>>
 }
 
 fn a_replay(words: &[String]) -> Option<Command<'_>>
-    ensures { option_map asked_by result ≡ replay_of (map string_bytes words.now) }
+    ensures asks { option_map asked_by result ≡ replay_of (map string_bytes words.now) }
+    ensures number { IfSome result HasNumber }
 {
     match words {
         [] => Some(Command::Replay),
@@ -173,8 +188,29 @@ fn a_replay(words: &[String]) -> Option<Command<'_>>
     }
 }
 
+fn a_drill(words: &[String]) -> Option<Command<'_>>
+    ensures asks { option_map asked_by result ≡ drill_of (map string_bytes words.now) }
+    ensures number { IfSome result HasNumber }
+{
+    match words {
+        [number] => drill_of(number.as_bytes()),
+        _ => None,
+    }
+}
+
+fn drill_of<'a>(word: &[u8]) -> Option<Command<'a>>
+    ensures asks { option_map asked_by result ≡ drill_by (plain_number 2001 word.now) }
+    ensures number { IfSome result HasNumber }
+{
+    match plain_number(word) {
+        Some(number) if 1 <= number && number <= 2000 => Some(Command::Drill(number)),
+        _ => None,
+    }
+}
+
 fn an_export(words: &[String]) -> Option<Command<'_>>
-    ensures { option_map asked_by result ≡ export_of (map string_bytes words.now) }
+    ensures asks { option_map asked_by result ≡ export_of (map string_bytes words.now) }
+    ensures number { IfSome result HasNumber }
 {
     match words {
         [] => Some(Command::Export),
@@ -183,7 +219,8 @@ fn an_export(words: &[String]) -> Option<Command<'_>>
 }
 
 fn an_import(words: &[String]) -> Option<Command<'_>>
-    ensures { option_map asked_by result ≡ import_of (map string_bytes words.now) }
+    ensures asks { option_map asked_by result ≡ import_of (map string_bytes words.now) }
+    ensures number { IfSome result HasNumber }
 {
     match words {
         [swap] => import_onto(swap.as_str()),
@@ -192,7 +229,8 @@ fn an_import(words: &[String]) -> Option<Command<'_>>
 }
 
 fn import_onto(swap: &str) -> Option<Command<'_>>
-    ensures { option_map asked_by result ≡ over_file swap.now (import swap.now) }
+    ensures asks { option_map asked_by result ≡ over_file swap.now (import swap.now) }
+    ensures number { IfSome result HasNumber }
 {
     if is_path(swap.as_bytes()) {
         Some(Command::Import { swap })
@@ -210,8 +248,8 @@ fn is_path(word: &[u8]) -> bool
     }
 }
 
-/// The number of a block, as decimal digits without a leading zero.
-fn offset_of(word: &[u8]) -> Option<u32>
+/// The number that decimal digits without a leading zero are.
+fn plain_number(word: &[u8]) -> Option<u32>
     ensures { result ≡ plain_number (2 ^ 32) word.now }
 {
     match word {

@@ -1,5 +1,4 @@
-use Rattle.std.proofs.Common.{inr, ◌≡◌, ◌<◌, ◌+◌, ◌++◌, ℕ, List, [], ◌∷◌, length, take, get_or, refl, sym, ◌∙◌, subst, arith}
-use Rattle.std.proofs.lemmas.List.{take_more}
+use Rattle.std.proofs.Common.{inr, ◌<◌, ◌+◌, ◌++◌, ℕ, List, [], ◌∷◌, length, take, get_or, refl, sym, ◌∙◌, subst, arith}
 use Rattle.std.proofs.lemmas.List.Elements.{All-get_or}
 use Rattle.definitions.specs.Streams.{TakesAll}
 use Rattle.definitions.proofs.Pieces.{Takes-none}
@@ -10,11 +9,8 @@ use Rattle.plain_machine.specs.declared.event.BootFrom.TheVariants.{Fresh}
 use Rattle.script.specs.Shapes.{IsScripted}
 use Rattle.swsusp_cli.specs.Playing.{HasPlayed}
 use Rattle.swsusp_cli.specs.View.{DiskView}
-use Rattle.swsusp_cli.proofs.Turns.{served, played_none, played_more, taken_more, text_more}
+use Rattle.swsusp_cli.proofs.Turns.{one_more, served, played_none, played_more, taken_more, text_more}
 use Rattle.swsusp_cli.proofs.playing.play.Goals as goal
-
-one_more : (events : List Event) (i : ℕ) → i < length events → take (i + 1) events ≡ take i events ++ get_or events i (event.Boot Fresh) ∷ []
-one_more events i lt = take_more events i (event.Boot Fresh) lt
 
 pub loop-event-init : goal.loop-event-init
 loop-event-init g c = record {

@@ -1,6 +1,8 @@
 use Rattle.swsusp_cli.proofs.Prints.{replay_flushed, hibernates_flushed, resumes_flushed, exports_flushed, imports_flushed}
 use Rattle.swsusp_cli.specs.View.{DiskView}
+use Rattle.swsusp_cli.proofs.Drilled.{drill_flushed, drilled_as}
 use Rattle.swsusp_cli.proofs.Replays.{few_calls}
+use Rattle.std.proofs.Common.{◌∙◌}
 use Rattle.swsusp_cli.proofs.top.run.Goals as goal
 
 pub returns-in-Some-Replay-clause-few_calls : goal.returns-in-Some-Replay-clause-few_calls
@@ -27,3 +29,11 @@ returns-in-Some-Export-clause-flushed g c =
 
 pub returns-in-Some-Import-clause-flushed : goal.returns-in-Some-Import-clause-flushed
 returns-in-Some-Import-clause-flushed g c = imports_flushed _ _ _ c.import_stream.ensures.outcome
+
+pub returns-in-Some-Drill-clause-drilled : goal.returns-in-Some-Drill-clause-drilled
+returns-in-Some-Drill-clause-drilled g c = λ number asked.
+    let asks = rw c.in-Some-Drill.field-0-is at c.in-Some-Drill.ensures.asks in
+    drilled_as c.in-Some-Drill.number number _ _ _ (asks ∙ asked) (c.drill.ensures.outcome (g.I.Source.remaining c.args.input.now))
+
+pub returns-in-Some-Drill-clause-flushed : goal.returns-in-Some-Drill-clause-flushed
+returns-in-Some-Drill-clause-flushed g c = drill_flushed _ _ _ _ (c.drill.ensures.outcome (g.I.Source.remaining c.args.input.now))

@@ -1,0 +1,67 @@
+use Rattle.std.proofs.Common.{◌≡◌, ◌≤◌, List, [], None, length, refl, ◌∙◌, subst, ap}
+use Rattle.plain_machine.specs.declared.event.Event.{Event}
+use Rattle.script.specs.Drill.{drill_script, summary}
+use Rattle.script.specs.Grammar.{ScriptValue}
+use Rattle.script.specs.declared.tally.Tally.{Tally}
+use Rattle.swsusp_cli.specs.Answer.{Told}
+use Rattle.swsusp_cli.specs.AnswerOf.{told_by}
+use Rattle.swsusp_cli.specs.Drills.{out_of_memory, summed, summary_told}
+use Rattle.swsusp_cli.specs.Playing.{HasPlayed}
+use Rattle.swsusp_cli.specs.SettingUp.{IsNotSetUp, IsSetUp}
+use Rattle.swsusp_cli.specs.Told.{IsTold}
+use Rattle.swsusp_cli.specs.View.{DiskView, SinkView}
+use Rattle.swsusp_cli.specs.declared.status.Status.TheVariants.{Done}
+use Rattle.swsusp_cli.proofs.Drilled.{drill_few_calls, drill_not_set_up, none_failed}
+use Rattle.swsusp_cli.proofs.Replays.{replies_of}
+use Rattle.swsusp_cli.proofs.drilling.drill.Goals as goal
+
+pub returns-in-Err-set_up-clause-outcome : goal.returns-in-Err-set_up-clause-outcome
+returns-in-Err-set_up-clause-outcome g c = λ left.
+    let tell = c.tell-in-Err-set_up in
+    let out : SinkView = record { taken = g.O.Sink.taken c.args.out.now; flushed = g.O.Sink.flushed c.args.out.now; faults = g.O.Sink.faults c.args.out.now } in
+    let note : SinkView = record { taken = g.N.Sink.taken c.args.note.now; flushed = g.N.Sink.flushed c.args.note.now; faults = g.N.Sink.faults c.args.note.now } in
+    let before : DiskView = record { blocks = g.D.Disk.block_count c.args.disk.now; content = g.D.Disk.content c.args.disk.now; faults = g.D.Disk.faults c.args.disk.now; calls = g.D.Disk.calls c.args.disk.now; orders = g.D.Disk.orders c.args.disk.now } in
+    let now : DiskView = record { blocks = g.D.Disk.block_count c.set_up.new.disk; content = g.D.Disk.content c.set_up.new.disk; faults = g.D.Disk.faults c.set_up.new.disk; calls = g.D.Disk.calls c.set_up.new.disk; orders = g.D.Disk.orders c.set_up.new.disk } in
+    drill_not_set_up c.args.number _ _ tell.result c.in-Err-set_up.why (subst (λ (s : ScriptValue). IsNotSetUp s before now c.in-Err-set_up.why) c.in-Ok.ensures.script c.in-Err-set_up.ensures.outcome)
+    (subst (λ (t : Told). IsTold t tell.result out (record { taken = g.O.Sink.taken tell.new.out; flushed = g.O.Sink.flushed tell.new.out; faults = g.O.Sink.faults tell.new.out }) note (record { taken = g.N.Sink.taken tell.new.note; flushed = g.N.Sink.flushed tell.new.note; faults = g.N.Sink.faults tell.new.note })) c.answer.ensures.told tell.ensures.told)
+
+pub returns-clause-outcome : goal.returns-clause-outcome
+returns-clause-outcome g c = λ left.
+    let tell = c.tell-2 in
+    let number = c.args.number in
+    let script = c.in-Ok.script in
+    let script_is = c.in-Ok.ensures.script in
+    let out : SinkView = record { taken = g.O.Sink.taken c.args.out.now; flushed = g.O.Sink.flushed c.args.out.now; faults = g.O.Sink.faults c.args.out.now } in
+    let note : SinkView = record { taken = g.N.Sink.taken c.args.note.now; flushed = g.N.Sink.flushed c.args.note.now; faults = g.N.Sink.faults c.args.note.now } in
+    let before : DiskView = record { blocks = g.D.Disk.block_count c.args.disk.now; content = g.D.Disk.content c.args.disk.now; faults = g.D.Disk.faults c.args.disk.now; calls = g.D.Disk.calls c.args.disk.now; orders = g.D.Disk.orders c.args.disk.now } in
+    let between : DiskView = record { blocks = g.D.Disk.block_count c.set_up.new.disk; content = g.D.Disk.content c.set_up.new.disk; faults = g.D.Disk.faults c.set_up.new.disk; calls = g.D.Disk.calls c.set_up.new.disk; orders = g.D.Disk.orders c.set_up.new.disk } in
+    let now : DiskView = record { blocks = g.D.Disk.block_count c.play_through-tally.new.disk; content = g.D.Disk.content c.play_through-tally.new.disk; faults = g.D.Disk.faults c.play_through-tally.new.disk; calls = g.D.Disk.calls c.play_through-tally.new.disk; orders = g.D.Disk.orders c.play_through-tally.new.disk } in
+    let set = subst (λ (s : ScriptValue). IsSetUp s before between c.in-Ok-set_up.world) script_is c.in-Ok-set_up.ensures.outcome in
+    let rs = c.play_through-tally.ensures.played.0 in
+    let was = subst (λ (events : List Event). HasPlayed c.in-Ok-set_up.world c.play_through-tally.new.world events rs between now) (c.events.ensures ∙ ap (λ (s : ScriptValue). s.events) script_is) c.play_through-tally.ensures.played.1 in
+    let few = subst (λ (s : ScriptValue). length s.bad ≤ 630) script_is c.in-Ok.ensures.few_bad in
+    let replies = replies_of (drill_script number) c.in-Ok-set_up.world c.play_through-tally.new.world (drill_script number).events rs before between now
+    (g.met.D.Disk.well_formed c.args.disk.now) (g.met.D.Disk.well_formed c.set_up.new.disk) (g.met.D.Disk.well_formed c.play_through-tally.new.disk) set few was c.play_through-tally.ensures.hardware c.play_through-tally.ensures.blocks in
+    let answer : told_by c.summed.result ≡ summary_told number rs = c.summed.ensures.told ∙ ap (λ (t : Tally). record { status = Done; out = summary number t; note = [] }) c.play_through-tally.ensures.played.2 in
+    summed (record {
+      roomy = set.roomy;
+      replies = rs;
+      are = replies;
+      faultless = none_failed rs before.faults now.faults replies.faults;
+      told = subst (λ (t : Told). IsTold t tell.result out (record { taken = g.O.Sink.taken tell.new.out; flushed = g.O.Sink.flushed tell.new.out; faults = g.O.Sink.faults tell.new.out }) note (record { taken = g.N.Sink.taken tell.new.note; flushed = g.N.Sink.flushed tell.new.note; faults = g.N.Sink.faults tell.new.note })) answer tell.ensures.told;
+    })
+
+pub returns-in-Err-clause-outcome : goal.returns-in-Err-clause-outcome
+returns-in-Err-clause-outcome g c = λ left.
+    let tell = c.tell in
+    let out : SinkView = record { taken = g.O.Sink.taken c.args.out.now; flushed = g.O.Sink.flushed c.args.out.now; faults = g.O.Sink.faults c.args.out.now } in
+    let note : SinkView = record { taken = g.N.Sink.taken c.args.note.now; flushed = g.N.Sink.flushed c.args.note.now; faults = g.N.Sink.faults c.args.note.now } in
+    let before : DiskView = record { blocks = g.D.Disk.block_count c.args.disk.now; content = g.D.Disk.content c.args.disk.now; faults = g.D.Disk.faults c.args.disk.now; calls = g.D.Disk.calls c.args.disk.now; orders = g.D.Disk.orders c.args.disk.now } in
+    out_of_memory (record {
+      told = subst (λ (t : Told). IsTold t tell.result out (record { taken = g.O.Sink.taken tell.new.out; flushed = g.O.Sink.flushed tell.new.out; faults = g.O.Sink.faults tell.new.out }) note (record { taken = g.N.Sink.taken tell.new.note; flushed = g.N.Sink.flushed tell.new.note; faults = g.N.Sink.faults tell.new.note })) c.no_memory.ensures.told tell.ensures.told;
+      untouched = refl {a = before};
+    })
+
+pub returns-clause-few_calls : goal.returns-clause-few_calls
+returns-clause-few_calls g c =
+    drill_few_calls c.args.number _ _ c.tell-2.result (subst (λ (s : ScriptValue). length s.events ≤ 100000) c.in-Ok.ensures.script c.in-Ok.ensures.few_events) (returns-clause-outcome g c None)

@@ -1,0 +1,33 @@
+-- How `drill` may end: the machine that is made from a number plays, and one line sums its replies up.
+use Rattle.std.specs.Prelude.{ℕ, List, [], All}
+use Rattle.definitions.specs.Disk as disk
+use Rattle.plain_machine.specs.declared.reply.Reply.{Reply}
+use Rattle.protocol_laws.specs.Rows.{IsNewFault}
+use Rattle.script.specs.Drill.{drill_events, drill_hardware, drill_script, summary, tally_of}
+use Rattle.swsusp_cli.specs.Answer.{Told}
+use Rattle.swsusp_cli.specs.Formatting.{LieBelow}
+use Rattle.swsusp_cli.specs.Outcome.{IsOutOfMemory, IsTooSmall, IsUnformatted, Tells}
+use Rattle.swsusp_cli.specs.Replay.{AreReplies}
+use Rattle.swsusp_cli.specs.View.{View}
+use Rattle.swsusp_cli.specs.declared.formatting.Unformatted.{Unformatted}
+use Rattle.swsusp_cli.specs.declared.status.Status.{Status}
+use Rattle.swsusp_cli.specs.declared.status.Status.TheVariants.{Done}
+
+abbrev pub summary_told : ℕ → List Reply → Told
+summary_told number replies = record { status = Done; out = summary number (tally_of replies); note = [] }
+
+-- All events were played, and the line is that of a run of the plain machine, as in a replay. None of its replies tells of a call of the
+-- disk that failed where the disk's count didn't rise.
+pub record IsSummed (number : ℕ) (x x' : View) (status : Status) : Type 0 where
+  pub roomy : LieBelow drill_hardware x.disk.blocks
+  pub replies : List Reply
+  pub are : AreReplies x.disk x'.disk (drill_script number) (drill_events number) replies
+  pub faultless : (disk.HasRisen x.disk.faults x'.disk.faults → ⊥) → All (λ r. IsNewFault r → ⊥) replies
+  pub told : Tells (summary_told number replies) status x x'
+
+-- One of these, by what the outside told before a drill and after it.
+pub data IsDrilled (number : ℕ) (x x' : View) (status : Status) : Type 0 where
+  out_of_memory : IsOutOfMemory x x' status → IsDrilled number x x' status
+  too_small : IsTooSmall x x' status (drill_script number) → IsDrilled number x x' status
+  unformatted : (call : Unformatted) → IsUnformatted x x' status (drill_script number) call → IsDrilled number x x' status
+  summed : IsSummed number x x' status → IsDrilled number x x' status

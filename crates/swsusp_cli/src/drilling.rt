@@ -1,0 +1,98 @@
+ghost use Rattle.std.specs.Prelude.{◌≡◌, ◌≢◌, ◌⊎◌, ◌≤◌, ◌+◌, ℕ, All, List, [], Option, length};
+ghost use Rattle.definitions.specs.Disk.{HasRisen};
+ghost use Rattle.plain_machine.specs.Fitting.{IsFitting};
+ghost use Rattle.plain_machine.specs.declared.reply.Reply.{Reply};
+ghost use Rattle.script.specs.Drill.{summary, tally_of};
+ghost use Rattle.script.specs.Shapes.{IsScripted};
+ghost use Rattle.swsusp_cli.specs.AnswerOf.{told_by};
+ghost use Rattle.swsusp_cli.specs.Drills.{IsDrilled};
+ghost use Rattle.swsusp_cli.specs.Playing.{HasPlayed};
+ghost use Rattle.swsusp_cli.specs.declared.status.Status.TheVariants.{Done};
+ghost use Rattle.world_core.specs.StandsFor.{IsOff, blocks_of, hardware_of};
+
+use crate::answer::{Answer, no_memory};
+use crate::setting_up::set_up;
+use crate::status::Status;
+use dump_file::Sink;
+use page_core::NoMemory;
+use plain_machine::Event;
+use protocol_laws::replays;
+use script::{Line, Tally, generate, put_summary};
+use sector_disk::Disk;
+use std::alloc::Global;
+use world_core::World;
+
+/// Plays the run of drill `number`, and prints a line that sums its replies up.
+pub fn drill<O: Sink, N: Sink, D: Disk>(
+    alloc: Global,
+    number: u32,
+    out: &mut O,
+    note: &mut N,
+    disk: &mut D,
+) -> Status
+    requires some { 1 ≤ number }
+    requires few { number ≤ 2000 }
+    ensures outcome { (left : Option (List ℕ)) → IsDrilled number (record {
+      left = left;
+      disk = record { blocks = D.block_count disk.old; content = D.content disk.old; faults = D.faults disk.old; calls = D.calls disk.old; orders = D.orders disk.old };
+      out = record { taken = O.taken out.old; flushed = O.flushed out.old; faults = O.faults out.old };
+      note = record { taken = N.taken note.old; flushed = N.flushed note.old; faults = N.faults note.old };
+    }) (record {
+      left = left;
+      disk = record { blocks = D.block_count disk.new; content = D.content disk.new; faults = D.faults disk.new; calls = D.calls disk.new; orders = D.orders disk.new };
+      out = record { taken = O.taken out.new; flushed = O.flushed out.new; faults = O.faults out.new };
+      note = record { taken = N.taken note.new; flushed = N.flushed note.new; faults = N.faults note.new };
+    }) result }
+    ensures stream { result ≡ Status.Stream →
+        HasRisen (O.faults out.old) (O.faults out.new) ⊎ HasRisen (N.faults note.old) (N.faults note.new) }
+    ensures device { result ≡ Status.Device → HasRisen (D.faults disk.old) (D.faults disk.new) }
+    ensures words { result ≢ Status.Words }
+    ensures few_calls { D.calls disk.new ≤ D.calls disk.old + 100002 }
+{
+    let script = match generate(alloc, number) {
+        Ok(script) => script,
+        Err(NoMemory) => return no_memory().tell(out, note),
+    };
+    let mut world = match set_up(alloc, &script, disk) {
+        Ok(world) => world,
+        Err(why) => return why.answer().tell(out, note),
+    };
+    let tally = play_through(&mut world, disk, script.events());
+    summed(number, &tally).tell(out, note)
+}
+
+/// Plays events, and tallies their replies.
+fn play_through<D: Disk>(world: &mut World, disk: &mut D, events: &[Event]) -> Tally
+    requires fits { All IsFitting events.now }
+    requires scripted { All IsScripted events.now }
+    requires few { length events.now ≤ 100000 }
+    requires blocks { IsOff world.old ⊎ (D.block_count disk.old ≡ blocks_of world.old) }
+    ensures played { (replies : List Reply) × HasPlayed world.old world.new events.now replies
+        (record { blocks = D.block_count disk.old; content = D.content disk.old; faults = D.faults disk.old; calls = D.calls disk.old; orders = D.orders disk.old })
+        (record { blocks = D.block_count disk.new; content = D.content disk.new; faults = D.faults disk.new; calls = D.calls disk.new; orders = D.orders disk.new })
+        × (result ≡ tally_of replies) }
+    ensures hardware { hardware_of world.new ≡ hardware_of world.old }
+    ensures blocks { IsOff world.new ⊎ (D.block_count disk.new ≡ blocks_of world.new) }
+{
+    replays();
+    let mut tally = Tally::new();
+    for event in events {
+        let reply = world.event(disk, *event);
+        tally.add(&reply);
+    }
+    tally
+}
+
+/// All is played: the summary is left to say.
+fn summed(number: u32, tally: &Tally) -> Answer
+    ensures told { told_by result ≡ record { status = Done; out = summary number tally.now; note = [] } }
+    ensures status { result.status ≡ Done }
+{
+    let mut out = Line::new();
+    put_summary(number, tally, &mut out);
+    Answer {
+        status: Status::Done,
+        out,
+        note: Line::new(),
+    }
+}

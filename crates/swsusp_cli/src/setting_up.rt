@@ -1,0 +1,102 @@
+ghost use Rattle.std.specs.Prelude.{◌≡◌, ◌≤◌, MatchResult, length};
+ghost use Rattle.swsusp_cli.specs.AnswerOf.{told_by};
+ghost use Rattle.swsusp_cli.specs.Outcome.{small_told, unformatted_told};
+ghost use Rattle.swsusp_cli.specs.SettingUp.{IsNotSetUp, IsSetUp};
+
+use crate::answer::{Answer, no_memory};
+use crate::formatting::{Unformatted, blocks_needed, format};
+use crate::status::Status;
+use page_core::NoMemory;
+use script::{Line, Script};
+use sector_disk::Disk;
+use std::alloc::Global;
+use world_core::World;
+
+/// Why the events of a script aren't played.
+#[derive(Clone, Copy, Debug, PartialEq, Eq)]
+pub enum Unready {
+    Memory,
+    /// The disk has so many blocks, and needs so many.
+    Small(u32, u32),
+    Unformatted(Unformatted),
+}
+
+impl Unready {
+    ghost use Rattle.std.specs.Prelude.{◌≡◌, ◌≢◌};
+    ghost use Rattle.swsusp_cli.specs.AnswerOf.{told_by};
+    ghost use Rattle.swsusp_cli.specs.SettingUp.{IsUnformatted, unready_told};
+
+    /// What is told of it.
+    pub fn answer(self) -> Answer
+        ensures told { told_by result ≡ unready_told self }
+        ensures stream { result.status ≢ Status.Stream }
+        ensures words { result.status ≢ Status.Words }
+        ensures device { result.status ≡ Status.Device → IsUnformatted self }
+    {
+        match self {
+            Unready::Memory => no_memory(),
+            Unready::Small(blocks, need) => too_small(blocks, need),
+            Unready::Unformatted(call) => unformatted(call),
+        }
+    }
+}
+
+/// Makes the machine of a script, and formats its swap area at the block of its first slot.
+pub fn set_up<D: Disk>(alloc: Global, script: &Script, disk: &mut D) -> Result<World, Unready>
+    requires few_bad { length script.now.bad ≤ 630 }
+    ensures outcome { MatchResult result
+        (IsSetUp script.now
+        (record { blocks = D.block_count disk.old; content = D.content disk.old; faults = D.faults disk.old; calls = D.calls disk.old; orders = D.orders disk.old })
+        (record { blocks = D.block_count disk.new; content = D.content disk.new; faults = D.faults disk.new; calls = D.calls disk.new; orders = D.orders disk.new }))
+        (IsNotSetUp script.now
+        (record { blocks = D.block_count disk.old; content = D.content disk.old; faults = D.faults disk.old; calls = D.calls disk.old; orders = D.orders disk.old })
+        (record { blocks = D.block_count disk.new; content = D.content disk.new; faults = D.faults disk.new; calls = D.calls disk.new; orders = D.orders disk.new })) }
+{
+    let hw = script.hardware();
+    let world = match World::create(alloc, *hw) {
+        Ok(world) => world,
+        Err(NoMemory) => return Err(Unready::Memory),
+    };
+    let blocks = disk.blocks();
+    let need = blocks_needed(hw);
+    if blocks < need {
+        return Err(Unready::Small(blocks, need));
+    }
+    match format(disk, hw, script.last(), script.bad()) {
+        Ok(()) => Ok(world),
+        Err(call) => Err(Unready::Unformatted(call)),
+    }
+}
+
+fn too_small(blocks: u32, need: u32) -> Answer
+    ensures told { told_by result ≡ small_told blocks need }
+    ensures status { result.status ≡ Status.Refused }
+{
+    let mut note = Line::new();
+    note.put(b"disk blocks ");
+    note.put_number(u64::from(blocks));
+    note.put(b" need ");
+    note.put_number(u64::from(need));
+    note.put(b"\n");
+    Answer {
+        status: Status::Refused,
+        out: Line::new(),
+        note,
+    }
+}
+
+fn unformatted(call: Unformatted) -> Answer
+    ensures told { told_by result ≡ unformatted_told call }
+    ensures status { result.status ≡ Status.Device }
+{
+    let mut note = Line::new();
+    note.put(match call {
+        Unformatted::Write => b"write fault unsure\n",
+        Unformatted::Sync => b"sync fault unsure\n",
+    });
+    Answer {
+        status: Status::Device,
+        out: Line::new(),
+        note,
+    }
+}
