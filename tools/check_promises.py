@@ -1,5 +1,5 @@
 #!/usr/bin/env python3
-"""Checks docs/PROOFS.md: each file that a table names is there, and each name in its clauses stands in one of the row's files.
+"""Checks docs/PROOFS.md: each file and edit that a table names is there, and each name in a row stands in one of the row's files.
 
 A file without a folder of its own is one of the crate that the row has named before it. Says what it misses, and ends with status 1.
 """
@@ -12,6 +12,7 @@ TOP = pathlib.Path(__file__).resolve().parent.parent
 PAGE = TOP / "docs" / "PROOFS.md"
 PATH = re.compile(r"[\w/]+(?:\.antt|\.rt)|crates/[\w/]+|(?:src|specs|proofs|definitions/specs|run_laws/specs)(?:/[\w/]+)?")
 NAME = re.compile(r"`([\w\[\]-]+)`")
+EDIT = re.compile(r"(\w+)/must-fail/([\w-]+)\.edit")
 
 
 def rows():
@@ -50,15 +51,18 @@ def main():
     wrong = 0
     checked = 0
     for number, cells in rows():
-        if len(cells) < 3 or cells[0] in ("Words", "Promise", "Name"):
+        if len(cells) < 3 or cells[0] in ("Words", "Promise", "Name", "Wrong body"):
             continue
         clause, where = cells[1], cells[2]
         found, missing = files_of(where + " " + clause)
+        edits = EDIT.findall(where)
+        checked += len(edits)
+        missing += [f"{crate}/must-fail/{name}.edit" for crate, name in edits if not (TOP / "crates" / crate / "must-fail" / f"{name}.edit").exists()]
         for word in missing:
             print(f"docs/PROOFS.md:{number}: {word} isn't there")
             wrong += 1
         text = "\n".join(text_of(p) for p in found)
-        for name in NAME.findall(clause):
+        for name in NAME.findall(clause + " " + where):
             checked += 1
             if not re.search(r"(?<![\w-])" + re.escape(name) + r"(?![\w-])", text):
                 print(f"docs/PROOFS.md:{number}: no {name} in {', '.join(str(p.relative_to(TOP)) for p in found) or 'no file'}")

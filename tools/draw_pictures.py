@@ -119,6 +119,8 @@ def machine():
         "loading": (330, 230, ["loading", "sync, read, take back,", "sync, read on"]),
         "undoing": (680, 370, ["undoing", "take back, sync"]),
         "settling": (980, 230, ["settling", "read, take back, sync"]),
+        "asleep": (980, 370, ["asleep", "tasks wait, memory stays"]),
+        "waking": (980, 90, ["waking", "read, take back, sync"]),
     }
     width, height = 170, 66
     for x, y, lines in places.values():
@@ -139,7 +141,7 @@ def machine():
     parts.append(line([at("loading", 0, 0.6), at("off", 1, 0.6)]))
     parts.append(text(218, 284, "a cause, a fault", "small"))
     parts.append(line([at("running", 0.15, 1), (at("running", 0.15, 1)[0], 320), (at("hibernating", 0.6, 0)[0], 320), at("hibernating", 0.6, 0)]))
-    parts.append(text(540, 314, "hibernate", "small"))
+    parts.append(text(540, 314, "hibernate, suspend", "small"))
     parts.append(line([at("hibernating", 0.8, 0), (at("hibernating", 0.8, 0)[0], 346), (at("running", 0.35, 1)[0], 346), at("running", 0.35, 1)]))
     parts.append(text(520, 360, "a fault before the mark: same", "small"))
     parts.append(line([at("hibernating", 0, 0.5), (at("off", 0.3, 1)[0], 403), at("off", 0.3, 1)]))
@@ -152,9 +154,17 @@ def machine():
     parts.append(text(896, 244, "settle", "small"))
     parts.append(line([at("settling", 0, 0.6), at("running", 1, 0.6)]))
     parts.append(text(870, 286, "settled, a fault", "small"))
-    parts.append(line([at("settling", 0.5, 1), (at("settling", 0.5, 1)[0], 475), (70, 475), at("off", 0.18, 1)], "cut"))
-    parts.append(text(700, 468, "cut, from any state", "small"))
-    write("machine.svg", 1180, 500, parts)
+    parts.append(line([at("hibernating", 0.7, 1), (at("hibernating", 0.7, 1)[0], 460), (at("asleep", 0.3, 1)[0], 460), at("asleep", 0.3, 1)]))
+    parts.append(text(560, 454, "asleep, of a suspend", "small"))
+    parts.append(line([at("asleep", 1, 0.7), (1215, at("asleep", 1, 0.7)[1]), (1215, at("waking", 1, 0.3)[1]), at("waking", 1, 0.3)]))
+    parts.append(text(1220, 200, "wake", "small"))
+    parts.append(line([at("waking", 1, 0.7), (1180, at("waking", 1, 0.7)[1]), (1180, at("asleep", 1, 0.3)[1]), at("asleep", 1, 0.3)]))
+    parts.append(text(1174, 340, "a fault", "small", "end"))
+    parts.append(line([at("waking", 0, 0.5), (at("running", 0.85, 0)[0], 123), at("running", 0.85, 0)]))
+    parts.append(text(900, 116, "woken", "small"))
+    parts.append(line([at("asleep", 0.7, 1), (at("asleep", 0.7, 1)[0], 485), (70, 485), at("off", 0.18, 1)], "cut"))
+    parts.append(text(700, 478, "cut, from any state", "small"))
+    write("machine.svg", 1270, 510, parts)
 
 
 def floors():
@@ -169,22 +179,33 @@ def floors():
     return found
 
 
+def lines_of(names, width):
+    """The boxes of a floor by their lines, each with its place from the left and its width."""
+    lines, x = [[]], 0
+    for crate in names:
+        size = 7.2 * len(crate) + 18
+        if x + size > width:
+            lines.append([])
+            x = 0
+        lines[-1].append((x, size, crate))
+        x += size + 6
+    return lines
+
+
 def crates():
     rows = floors()
-    width, tall = 1240, 58
+    width = 1240
     parts = [text(20, 28, "The crates by floor", "title")]
     parts.append(text(20, 48, "Code uses crates below it by their public contracts. The way of an image to the disk and back goes through the floors from the top down.", "small"))
     y = 70
     for name, names in reversed(rows):
+        lines = lines_of(names, width - 180)
+        tall = 18 + 40 * len(lines)
         parts.append(box(20, y, width - 40, tall))
         parts.append(text(30, y + 24, name))
-        x = 150
-        for k, crate in enumerate(names):
-            size = 7.2 * len(crate) + 18
-            if x + size > width - 30:
-                break
-            parts.append(labelled(x, y + 12, size, 34, [crate], "numbers" if crate.endswith("_tests") else "page"))
-            x += size + 6
+        for k, boxes in enumerate(lines):
+            for x, size, crate in boxes:
+                parts.append(labelled(150 + x, y + 12 + 40 * k, size, 34, [crate], "numbers" if crate.endswith("_tests") else "page"))
         y += tall + 8
     write("crates.svg", width, y + 12, parts)
 

@@ -1,5 +1,5 @@
 -- A new machine over a dump's memory, its boot, and what is left on the disk so far.
-use Rattle.std.proofs.Common.{◌≡◌, ◌⊎◌, inl, inr, ℕ, Bool, true, false, cond, List, [], ◌∷◌, flat_map, Option, Some, refl, sym, ap, ◌∙◌, subst, arith, Contains}
+use Rattle.std.proofs.Common.{◌≡◌, ◌⊎◌, inl, inr, ℕ, Bool, true, false, cond, List, [], ◌∷◌, flat_map, Option, Some, None, refl, sym, ap, ◌∙◌, subst, arith, Contains}
 use Rattle.std.specs.Cmp.Lexicographic.{same_text, other_text}
 use Rattle.std.specs.List.{range_with_len}
 use Rattle.std.specs.Option.{IfSome}
@@ -22,9 +22,9 @@ use Rattle.protocol_laws.proofs.Unwritten.{block_same}
 use Rattle.world_core.specs.Row.{HasRow, Restores}
 use Rattle.world_core.specs.StandsFor.{StandsFor, IsNew, hardware_of}
 use Rattle.world_core.specs.World.{World}
-use Rattle.command_core.specs.Hibernation.{held_at_first, machine_of_dump, is_booted, HasBooted}
+use Rattle.command_core.specs.Hibernation.{held_at_first, machine_of_dump, is_booted, IsUp, machine_to_save}
 use Rattle.command_core.specs.Turns.{Point, IsTurn, IsFault, goes_on}
-use Rattle.command_core.proofs.Booting.{boot_begins, boot_syncs, boot_ends}
+use Rattle.command_core.proofs.Booting.{boot_begins, boot_syncs, boot_ends, shrinks}
 use Rattle.command_core.proofs.Leaving.{leaves_then}
 use Rattle.command_core.proofs.Points.{Turned, turned, reads_same}
 
@@ -80,6 +80,11 @@ no_blocks h (t ∷ ts) = no_blocks h ts
 
 pub on_writes : (h : Hardware) (m : Memory) (v : disk.Image) (b : ℕ) → Contains (blocks_written h (on (machine_of_dump h m v))) b → ⊥
 on_writes h m v b in' = none_in b (subst (λ (xs : List ℕ). Contains xs b) (no_blocks h (range_with_len 1 64)) in')
+
+-- nor does it where cached page frames are dropped
+pub save_writes : (h : Hardware) (m : Memory) (size : Option ℕ) (v : disk.Image) (b : ℕ) → Contains (blocks_written h (on (machine_to_save h m size v))) b → ⊥
+save_writes h m None v b in' = on_writes h m v b in'
+save_writes h m (Some want) v b in' = on_writes h m v b in'
 
 pub untouched_at : (v : disk.Image) (p q : Point) → q.content ≡ p.content → IsUntouched v p → IsUntouched v q
 untouched_at v p q same is = record {
@@ -152,7 +157,7 @@ boots_second h m v w w' r blocks before now at is hw row restores whole =
     ]
 
 pub boots_third : (h : Hardware) (m : Memory) (v : disk.Image) (w w' : World) (r : Reply) (first blocks : ℕ) (before now : Option disk.Content) → disk.IsContent first (disk.settled v) → BootsAt h m v 1 w before → hardware_of w ≡ h → hardware_of w' ≡ hardware_of w →
-    HasRow (event.Step actor.Core) w w' r before now → Restores (event.Step actor.Core) w w' r before now → IfSome now (disk.IsContent blocks) → ((is_booted r ≡ true) × HasBooted h m v w' now) ⊎ ((is_booted r ≡ false) × FailsAt v r now)
+    HasRow (event.Step actor.Core) w w' r before now → Restores (event.Step actor.Core) w w' r before now → IfSome now (disk.IsContent blocks) → ((is_booted r ≡ true) × IsUp h (machine_of_dump h m v) v w' now) ⊎ ((is_booted r ≡ false) × FailsAt v r now)
 boots_third h m v w w' r first blocks before now whole at is hw row restores whole' =
     let turn = boot_turn h m v 1 w w' r blocks before now at is hw row restores whole' in
     let held = held_at_first h v in
@@ -180,3 +185,22 @@ boots_third h m v w w' r first blocks before now whole at is hw row restores who
           inr (ap is_booted same_reply, record { content = turn.new.content; told = turn.told; unwritten = untouched.unwritten; fault = subst IsFault (sym same_reply) tt; new_fault = subst IsNewFault (sym same_reply) tt })
           )
     ]
+
+-- Cached page frames are dropped of a machine that has booted, over the same disk.
+pub up_shrunk : (h : Hardware) (m : Memory) (v : disk.Image) (want : ℕ) (w w' : World) (r : Reply) (blocks : ℕ) (before now : Option disk.Content) → IsUp h (machine_of_dump h m v) v w before → hardware_of w ≡ h → hardware_of w' ≡ hardware_of w →
+    HasRow (event.Shrink want) w w' r before now → Restores (event.Shrink want) w w' r before now → IfSome now (disk.IsContent blocks) → IsUp h (machine_to_save h m (Some want) v) v w' now
+up_shrunk h m v want w w' r blocks before now up hw same row restores whole =
+    let a = machine_of_dump h m v in
+    let p : Point = record { reply = reply.Idle; failed = true; state = on a; content = up.content; frames = w.frames } in
+    let turn = turned h (event.Shrink want) p w w' r true blocks before now hw up.told up.stands same row restores whole (λ x. refl) (λ x. refl) in
+    let is = shrinks h (disk.as_it_reads up.content) a want turn.new.reply turn.new.state refl turn.turn.step in
+    let untouched = untouched_then h (event.Shrink want) v p turn.new (record { blocks = up.blocks; whole = up.whole; same = up.same; unwritten = up.unwritten }) turn.turn (on_writes h m v) in
+    record {
+      content = turn.new.content;
+      told = turn.told;
+      blocks = untouched.blocks;
+      whole = untouched.whole;
+      same = untouched.same;
+      unwritten = untouched.unwritten;
+      stands = subst (StandsFor w' turn.new.content) is turn.stands;
+    }

@@ -1,12 +1,12 @@
 -- What the plain machine answers to a boot with a dump's memory, and to the hibernation after it.
-use Rattle.std.proofs.Common.{◌≡◌, ◌⊎◌, inl, inr, zero, suc, Bool, true, false, cond, List, ◌∷◌, [], Option, Some, None, refl, sym, ap, arith, Contains}
+use Rattle.std.proofs.Common.{◌≡◌, ◌⊎◌, inl, inr, zero, suc, Bool, true, false, cond, List, ◌∷◌, [], Option, Some, None, length, ◌-◌, ℕ, refl, sym, ap, subst, arith, Contains}
 use Rattle.definitions.specs.Disk as disk
 use Rattle.page_core.specs.declared.format.Format.{Format}
 use Rattle.plain_machine.specs.Image.{image_of_memory, hibernate_steps}
-use Rattle.plain_machine.specs.Machine.{Hardware, Memory}
-use Rattle.plain_machine.specs.Refusals.{refusal}
+use Rattle.plain_machine.specs.Machine.{Hardware, Memory, saveable}
+use Rattle.plain_machine.specs.Refusals.{busy, refusal}
 use Rattle.plain_machine.specs.State.{State, Held, Running, off, on, booting, hibernating, nothing, sure, other}
-use Rattle.plain_machine.specs.Step.{Step, Outcome, outcomes, refused_or, booted, boot_step}
+use Rattle.plain_machine.specs.Step.{Step, Outcome, outcomes, refused_or, booted, boot_step, drop_memory, dropped_by}
 use Rattle.plain_machine.specs.declared.event.Actor.TheVariants as actor
 use Rattle.plain_machine.specs.declared.event.BootFrom.TheVariants.{Kept}
 use Rattle.plain_machine.specs.declared.event.Event.TheVariants as event
@@ -70,3 +70,12 @@ hibernation_begins h v a f r b step =
       | inl refused ↦ inl refused
       | inr begun ↦ (let is = one_outcome (reply.More 0 (hibernate_steps i)) r (hibernating false i a 0) b begun.1 in inr (begun.0, is.0, is.1))
     ]
+
+-- A machine of which no task has an operation drops what is cached.
+pub shrinks : (h : Hardware) (v : disk.Image) (a : Running) (want : ℕ) (r : Reply) (b : State) → busy a ≡ None → Step h v (on a) (event.Shrink want) r b → b ≡ on (record a { memory = drop_memory h a.memory want })
+unfolding outcomes refusal
+shrinks h v a want r b idle step =
+    let D = dropped_by h a.memory want in
+    let outcomes_of : Option Reply → List Outcome = λ why. refused_or (on a) why ((reply.Shrunk (length D) (length (saveable h a.memory) - length D), on (record a { memory = drop_memory h a.memory want })) ∷ []) in
+    (one_outcome (reply.Shrunk (length D) (length (saveable h a.memory) - length D)) r (on (record a { memory = drop_memory h a.memory want })) b
+    (subst (λ (why : Option Reply). Contains (outcomes_of why) (r, b)) idle step)).1

@@ -24,7 +24,7 @@ use Rattle.protocol_laws.proofs.Unwritten.{step_in_laid}
 use Rattle.protocol_laws.proofs.WrittenWhileHeld.{header_alone}
 use Rattle.world_core.specs.StandsFor.{StandsFor, hardware_of}
 use Rattle.world_core.specs.World.{World}
-use Rattle.command_core.specs.Hibernation.{machine_of_dump, image_of_dump, hibernation_answer, HasHibernated, HasFailedEarly}
+use Rattle.command_core.specs.Hibernation.{image_to_save, hibernation_answer, HasHibernated, HasFailedEarly}
 use Rattle.command_core.specs.Turns.{Point, IsFault, AreSteps, HasGone, goes_on}
 use Rattle.command_core.specs.declared.ending.Ended.{Ended}
 use Rattle.command_core.proofs.Begun.{IsUntouched}
@@ -176,36 +176,35 @@ image_at : (h : Hardware) (world : World) (c : disk.Content) (i : Image) (r : Re
 image_at h world c i r b failed n hw stands (inl is) e = subst (λ (g : Hardware). EachImage c (λ w. Holds g w i)) hw (holds_by world c b i stands is.1)
 image_at h world c i r b failed n hw stands (inr fault) e = absurd (fault_no_end r n fault.0 e)
 
-answer_at : (h : Hardware) (m : Memory) (f : Format) (v : disk.Image) (r : Reply) (b : State) (failed : Bool) → refusal h (on (machine_of_dump h m v)) (event.Hibernate f) ≡ None → EndsAs (image_of_dump h m f v) r b failed → (r ≡ hibernation_answer h m f v) ⊎ (IsFault r × (failed ≡ true))
-answer_at h m f v r b failed none (inl is) = inl (is.0 ∙ sym (ap (λ (o : Option Reply). unwrap_or o (reply.Hibernated (n_of (image_of_dump h m f v)))) none))
-answer_at h m f v r b failed none (inr fault) = inr fault
+answer_at : (h : Hardware) (a : Running) (f : Format) (v : disk.Image) (r : Reply) (b : State) (failed : Bool) → refusal h (on a) (event.Hibernate f) ≡ None → EndsAs (image_to_save h a f) r b failed → (r ≡ hibernation_answer h a f) ⊎ (IsFault r × (failed ≡ true))
+answer_at h a f v r b failed none (inl is) = inl (is.0 ∙ sym (ap (λ (o : Option Reply). unwrap_or o (reply.Hibernated (n_of (image_to_save h a f)))) none))
+answer_at h a f v r b failed none (inr fault) = inr fault
 
 -- It was not refused.
-pub saves : (h : Hardware) (m : Memory) (f : Format) (v : disk.Image) (world : World) (start : Point) (ended : Ended) (now : Option disk.Content) → AreZones h.zones → hardware_of world ≡ h → IsUntouched v start → refusal h (on (machine_of_dump h m v)) (event.Hibernate f) ≡ None →
-    IsAt (image_of_dump h m f v) (machine_of_dump h m v) 0 start.reply start.state start.failed → HasGone h world start ended now → HasHibernated h m f v ended now
-saves h m f v world start ended now zones hw is none at gone =
-    let i = image_of_dump h m f v in
-    let a = machine_of_dump h m v in
+pub saves : (h : Hardware) (a : Running) (f : Format) (v : disk.Image) (world : World) (start : Point) (ended : Ended) (now : Option disk.Content) → AreZones h.zones → hardware_of world ≡ h → IsUntouched v start → refusal h (on a) (event.Hibernate f) ≡ None →
+    IsAt (image_to_save h a f) a 0 start.reply start.state start.failed → HasGone h world start ended now → HasHibernated h a f v ended now
+saves h a f v world start ended now zones hw is none at gone =
+    let i = image_to_save h a f in
     let made = gone.made in
     let end = made.end in
-    let few = few_saved h m a.slots f zones in
+    let few = few_saved h a.memory a.slots f zones in
     let over = over_at_last gone.steps (hibernate_steps i) ended.reply gone.over (few_steps h i a gone.steps start end at made.are) (few_of i few.0 few.1) in
     let ends : EndsAs i end.reply end.state end.failed = ends_at i a gone.steps end.reply end.state end.failed (after_steps h i a gone.steps start end at made.are) (ap goes_on made.reply_is ∙ over) in
     let here : EndsAs i ended.reply end.state ended.failed = subst (λ (b : Bool). EndsAs i ended.reply end.state b) made.failed_is (subst (λ (r : Reply). EndsAs i r end.state end.failed) made.reply_is ends) in
     record {
       content = end.content;
       told = made.told;
-      answer = answer_at h m f v ended.reply end.state ended.failed none here;
+      answer = answer_at h a f v ended.reply end.state ended.failed none here;
       image = λ n hibernated. image_at h world end.content i ended.reply end.state ended.failed n hw made.stands here hibernated;
       unwritten = (all_after h i a v gone.steps start end is at made.are).unwritten;
       refused = λ r refused b. absurd (none-some r (sym none ∙ refused));
     }
 
 -- It was refused.
-pub refused : (h : Hardware) (m : Memory) (f : Format) (v : disk.Image) (world : World) (q : Reply) (start : Point) (ended : Ended) (now : Option disk.Content) → IsUntouched v start → refusal h (on (machine_of_dump h m v)) (event.Hibernate f) ≡ Some q → start.reply ≡ q → HasGone h world start ended now → HasHibernated h m f v ended now
-refused h m f v world q start ended now is says same gone =
+pub refused : (h : Hardware) (a : Running) (f : Format) (v : disk.Image) (world : World) (q : Reply) (start : Point) (ended : Ended) (now : Option disk.Content) → IsUntouched v start → refusal h (on a) (event.Hibernate f) ≡ Some q → start.reply ≡ q → HasGone h world start ended now → HasHibernated h a f v ended now
+refused h a f v world q start ended now is says same gone =
     let made = gone.made in
-    let refuses = refusal_refuses h f (machine_of_dump h m v) q says in
+    let refuses = refusal_refuses h f a q says in
     let over : goes_on start.reply ≡ false = ap goes_on same ∙ refuses_over q refuses in
     let end : made.end ≡ start = none_after h gone.steps start made.end over made.are in
     let answer : ended.reply ≡ q = sym made.reply_is ∙ ap (λ (p : Point). p.reply) end ∙ same in
@@ -213,15 +212,15 @@ refused h m f v world q start ended now is says same gone =
     record {
       content = made.end.content;
       told = made.told;
-      answer = inl (answer ∙ sym (ap (λ (o : Option Reply). unwrap_or o (reply.Hibernated (n_of (image_of_dump h m f v)))) says));
+      answer = inl (answer ∙ sym (ap (λ (o : Option Reply). unwrap_or o (reply.Hibernated (n_of (image_to_save h a f)))) says));
       image = λ n hibernated. absurd (subst Refuses (sym answer ∙ hibernated) refuses);
       unwritten = λ b not. untouched.unwritten b;
       refused = λ r refused b. untouched.unwritten b;
     }
 
 -- A call failed while it booted.
-pub failed_early : (h : Hardware) (m : Memory) (f : Format) (v : disk.Image) (ended : Ended) (now : Option disk.Content) → HasFailedEarly v ended now → HasHibernated h m f v ended now
-failed_early h m f v ended now early = record {
+pub failed_early : (h : Hardware) (a : Running) (f : Format) (v : disk.Image) (ended : Ended) (now : Option disk.Content) → HasFailedEarly v ended now → HasHibernated h a f v ended now
+failed_early h a f v ended now early = record {
   content = early.content;
   told = early.told;
   answer = inr (early.fault, early.failed);

@@ -1,5 +1,6 @@
--- A whole hibernation of the machine that a dump tells: it boots with that memory, and hibernates.
-use Rattle.std.specs.Prelude.{◌≡◌, ◌⊎◌, ℕ, ◌∷◌, Bool, true, false, if◌then◌else◌, Option, Some, Result, Ok, Err, unwrap_or, Contains}
+-- A whole hibernation of the machine that a dump tells: it boots with that memory, drops cached page frames where a size is asked for,
+-- and hibernates.
+use Rattle.std.specs.Prelude.{◌≡◌, ◌⊎◌, ℕ, ◌∷◌, Bool, true, false, if◌then◌else◌, Option, Some, None, Result, Ok, Err, unwrap_or, Contains}
 use Rattle.page_core.specs.declared.format.Format.{Format}
 use Rattle.definitions.specs.Disk as disk
 use Rattle.plain_machine.specs.Chain.{Holds, is_marked_disk, blocks_of}
@@ -8,7 +9,7 @@ use Rattle.plain_machine.specs.Machine.{Hardware, Memory, block_of_slot}
 use Rattle.plain_machine.specs.Refusals.{refusal}
 use Rattle.plain_machine.specs.Stands.{EachImage, laid_blocks}
 use Rattle.plain_machine.specs.State.{Held, Running, on, nothing, sure, other}
-use Rattle.plain_machine.specs.Step.{booted}
+use Rattle.plain_machine.specs.Step.{booted, drop_memory}
 use Rattle.plain_machine.specs.declared.event.BootFrom.TheVariants.{Kept}
 use Rattle.plain_machine.specs.declared.event.Event.TheVariants as event
 use Rattle.plain_machine.specs.declared.reply.Reply.{Reply}
@@ -27,28 +28,37 @@ held_at_first h v = if is_marked_disk h v then sure other else nothing
 abbrev pub machine_of_dump : Hardware → Memory → disk.Image → Running
 machine_of_dump h m v = booted h v Kept m (held_at_first h v)
 
+-- a running machine whose cached page frames are dropped until so many saveable ones are left, where a size is asked for
+abbrev pub shrunk_to : Hardware → Option ℕ → Running → Running
+shrunk_to h None a = a
+shrunk_to h (Some want) a = record a { memory = drop_memory h a.memory want }
+
+-- the machine that hibernates
+abbrev pub machine_to_save : Hardware → Memory → Option ℕ → disk.Image → Running
+machine_to_save h m size v = shrunk_to h size (machine_of_dump h m v)
+
 -- the image that it saves
-abbrev pub image_of_dump : Hardware → Memory → Format → disk.Image → Image
-image_of_dump h m f v = image_of_memory h m (machine_of_dump h m v).slots f
+abbrev pub image_to_save : Hardware → Running → Format → Image
+image_to_save h a f = image_of_memory h a.memory a.slots f
 
 -- what it answers at the end, where no call of the disk fails: why it is refused, or how many page frames are saved
-abbrev pub hibernation_answer : Hardware → Memory → Format → disk.Image → Reply
-hibernation_answer h m f v = unwrap_or (refusal h (on (machine_of_dump h m v)) (event.Hibernate f)) (reply.Hibernated (n_of (image_of_dump h m f v)))
+abbrev pub hibernation_answer : Hardware → Running → Format → Reply
+hibernation_answer h a f = unwrap_or (refusal h (on a) (event.Hibernate f)) (reply.Hibernated (n_of (image_to_save h a f)))
 
 -- whether a boot has ended well
 abbrev pub is_booted : Reply → Bool
 is_booted (reply.Booted image) = true
 is_booted _ = false
 
--- The machine has booted over the disk v, which is as it was.
-pub record HasBooted (h : Hardware) (m : Memory) (v : disk.Image) (world : World) (now : Option disk.Content) : Type 0 where
+-- The machine runs as this state says, over the disk v, which is as it was.
+pub record IsUp (h : Hardware) (a : Running) (v : disk.Image) (world : World) (now : Option disk.Content) : Type 0 where
   pub content : disk.Content
   pub told : now ≡ Some content
   pub blocks : ℕ
   pub whole : disk.IsContent blocks content
   pub same : blocks_of (disk.as_it_reads content) ≡ blocks_of v
   pub unwritten : (b : ℕ) → LeavesBlock b (disk.settled v) content
-  pub stands : StandsFor world content (on (machine_of_dump h m v))
+  pub stands : StandsFor world content (on a)
 
 -- A call of the disk has failed before any was to write: the disk v is as it was.
 pub record HasFailedEarly (v : disk.Image) (ended : Ended) (now : Option disk.Content) : Type 0 where
@@ -59,16 +69,16 @@ pub record HasFailedEarly (v : disk.Image) (ended : Ended) (now : Option disk.Co
   pub failed : ended.failed ≡ true
 
 -- one of the two
-abbrev pub HasTriedToBoot : Hardware → Memory → disk.Image → World → Result (Unit {0}) Ended → Option disk.Content → Type 0
-HasTriedToBoot h m v world (Ok done) now = HasBooted h m v world now
-HasTriedToBoot h m v world (Err ended) now = HasFailedEarly v ended now
+abbrev pub IsUpOrFails : Hardware → Running → disk.Image → World → Result (Unit {0}) Ended → Option disk.Content → Type 0
+IsUpOrFails h a v world (Ok done) now = IsUp h a v world now
+IsUpOrFails h a v world (Err ended) now = HasFailedEarly v ended now
 
--- What the machine answers at the end over the disk v, unless a call of the disk has failed. Where that is Hibernated each image of the disk
--- holds the dump's image. No other block is written than block(0) and those of the image's slots, and none where it is refused.
-pub record HasHibernated (h : Hardware) (m : Memory) (f : Format) (v : disk.Image) (ended : Ended) (now : Option disk.Content) : Type 0 where
+-- What the machine a answers at the end over the disk v, unless a call of the disk has failed. Where that is Hibernated each image of the
+-- disk holds the machine's image. No other block is written than block(0) and those of the image's slots, and none where it is refused.
+pub record HasHibernated (h : Hardware) (a : Running) (f : Format) (v : disk.Image) (ended : Ended) (now : Option disk.Content) : Type 0 where
   pub content : disk.Content
   pub told : now ≡ Some content
-  pub answer : (ended.reply ≡ hibernation_answer h m f v) ⊎ (IsFault ended.reply × (ended.failed ≡ true))
-  pub image : (n : ℕ) → ended.reply ≡ reply.Hibernated n → EachImage content (λ w. Holds h w (image_of_dump h m f v))
-  pub unwritten : (b : ℕ) → (Contains (block_of_slot h 0 ∷ laid_blocks h (machine_of_dump h m v) (image_of_dump h m f v)) b → ⊥) → LeavesBlock b (disk.settled v) content
-  pub refused : (r : Reply) → refusal h (on (machine_of_dump h m v)) (event.Hibernate f) ≡ Some r → (b : ℕ) → LeavesBlock b (disk.settled v) content
+  pub answer : (ended.reply ≡ hibernation_answer h a f) ⊎ (IsFault ended.reply × (ended.failed ≡ true))
+  pub image : (n : ℕ) → ended.reply ≡ reply.Hibernated n → EachImage content (λ w. Holds h w (image_to_save h a f))
+  pub unwritten : (b : ℕ) → (Contains (block_of_slot h 0 ∷ laid_blocks h a (image_to_save h a f)) b → ⊥) → LeavesBlock b (disk.settled v) content
+  pub refused : (r : Reply) → refusal h (on a) (event.Hibernate f) ≡ Some r → (b : ℕ) → LeavesBlock b (disk.settled v) content

@@ -4,7 +4,7 @@ ghost use Rattle.plain_machine.specs.Chain.{Marked};
 ghost use Rattle.plain_machine.specs.Machine.{IsHardware};
 ghost use Rattle.plain_machine.specs.Premises.{HasOriginal};
 ghost use Rattle.world_core.specs.StandsFor.{IsNew, IsOff, blocks_of, hardware_of};
-ghost use Rattle.command_core.specs.Hibernation.{HasHibernated, HasTriedToBoot, is_booted};
+ghost use Rattle.command_core.specs.Hibernation.{HasHibernated, IsUpOrFails, is_booted, machine_of_dump, machine_to_save};
 
 use crate::ending::{Ended, finish, goes_on};
 use page_core::Format;
@@ -12,19 +12,25 @@ use plain_machine::{Actor, BootFrom, Event, Reply};
 use sector_disk::Disk;
 use world_core::World;
 
-/// Boots a new machine with the memory of its dump, and lets it hibernate (hibernate, kernel/power/hibernate.c). What it answers last.
-pub fn hibernate<D: Disk>(world: &mut World, disk: &mut D, format: Format) -> Ended
+/// Boots a new machine with the memory of its dump, drops cached page frames until so many saveable ones are left, where a size is asked
+/// for, and lets it hibernate (hibernate, kernel/power/hibernate.c). What it answers last.
+pub fn hibernate<D: Disk>(
+    world: &mut World,
+    disk: &mut D,
+    format: Format,
+    size: Option<u64>,
+) -> Ended
     requires hardware { IsHardware (hardware_of world.old) }
     requires new { IsNew (hardware_of world.old) (Some world.old.frames) world.old }
     ensures hibernated { (v : Image) → D.content disk.old ≡ Some (settled v) → (Marked (hardware_of world.old) v → HasOriginal (hardware_of world.old) v) →
-        HasHibernated (hardware_of world.old) world.old.frames format v result (D.content disk.new) }
+        HasHibernated (hardware_of world.old) (machine_to_save (hardware_of world.old) world.old.frames size v) format v result (D.content disk.new) }
     ensures hardware { hardware_of world.new ≡ hardware_of world.old }
     ensures cause { IsTrue result.failed → HasRisen (D.faults disk.old) (D.faults disk.new) }
     ensures faults { D.faults disk.old ≤ D.faults disk.new }
     ensures calls { D.calls disk.new ≤ D.calls disk.old + 66002 }
     ensures orders { D.orders disk.new ≡ D.orders disk.old }
 {
-    match boot(world, disk) {
+    match start(world, disk, size) {
         Ok(()) => {}
         Err(ended) => return ended,
     }
@@ -32,11 +38,33 @@ pub fn hibernate<D: Disk>(world: &mut World, disk: &mut D, format: Format) -> En
     finish(world, disk, begun)
 }
 
+/// Boots the machine, and drops cached page frames where a size is asked for; or tells the call of the disk that failed.
+fn start<D: Disk>(world: &mut World, disk: &mut D, size: Option<u64>) -> Result<(), Ended>
+    requires new { IsNew (hardware_of world.old) (Some world.old.frames) world.old }
+    ensures up { (v : Image) → D.content disk.old ≡ Some (settled v) → (Marked (hardware_of world.old) v → HasOriginal (hardware_of world.old) v) →
+        IsUpOrFails (hardware_of world.old) (machine_to_save (hardware_of world.old) world.old.frames size v) v world.new result (D.content disk.new) }
+    ensures hardware { hardware_of world.new ≡ hardware_of world.old }
+    ensures cause { IfErr result (λ ended. IsTrue ended.failed → HasRisen (D.faults disk.old) (D.faults disk.new)) }
+    ensures faults { D.faults disk.old ≤ D.faults disk.new }
+    ensures calls { D.calls disk.new ≤ D.calls disk.old + 2 }
+    ensures orders { D.orders disk.new ≡ D.orders disk.old }
+    ensures blocks { IsOff world.new ⊎ (D.block_count disk.new ≡ blocks_of world.new) }
+{
+    match boot(world, disk) {
+        Ok(()) => {}
+        Err(ended) => return Err(ended),
+    }
+    if let Some(want) = size {
+        world.event(disk, Event::Shrink(want));
+    }
+    Ok(())
+}
+
 /// Boots the machine, or tells the call of the disk that failed.
 fn boot<D: Disk>(world: &mut World, disk: &mut D) -> Result<(), Ended>
     requires new { IsNew (hardware_of world.old) (Some world.old.frames) world.old }
     ensures booted { (v : Image) → D.content disk.old ≡ Some (settled v) → (Marked (hardware_of world.old) v → HasOriginal (hardware_of world.old) v) →
-        HasTriedToBoot (hardware_of world.old) world.old.frames v world.new result (D.content disk.new) }
+        IsUpOrFails (hardware_of world.old) (machine_of_dump (hardware_of world.old) world.old.frames v) v world.new result (D.content disk.new) }
     ensures hardware { hardware_of world.new ≡ hardware_of world.old }
     ensures cause { IfErr result (λ ended. IsTrue ended.failed → HasRisen (D.faults disk.old) (D.faults disk.new)) }
     ensures faults { D.faults disk.old ≤ D.faults disk.new }

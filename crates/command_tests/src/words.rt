@@ -16,7 +16,7 @@ fn small_disk(alloc: Global) -> Result<MemDisk, Fail> {
 // clap takes these, and yet they aren't plain.
 #[test]
 fn words_that_are_not_plain(rt: HostRuntime) -> Result<(), Fail> {
-    let lists: [&[&str]; 10] = [
+    let lists: [&[&str]; 12] = [
         &["swsusp", "inspect", ""],
         &["swsusp", "inspect", "-"],
         &["swsusp", "inspect", "--", "s"],
@@ -26,6 +26,8 @@ fn words_that_are_not_plain(rt: HostRuntime) -> Result<(), Fail> {
         &["swsusp", "inspect", "s", "--offset", "1"],
         &["swsusp", "inspect", "--offset", "1", "-"],
         &["swsusp", "hibernate", "s", "--skip-zeros"],
+        &["swsusp", "hibernate", "--image-size", "010", "s"],
+        &["swsusp", "hibernate", "--image-size=1", "s"],
         &["swsusp", "resume", "--", "s"],
     ];
     for list in lists {
@@ -39,7 +41,7 @@ fn words_that_are_not_plain(rt: HostRuntime) -> Result<(), Fail> {
 // Of these clap says what is wrong, or what was asked for.
 #[test]
 fn words_that_clap_refuses(rt: HostRuntime) -> Result<(), Fail> {
-    let lists: [&[&str]; 16] = [
+    let lists: [&[&str]; 19] = [
         &["swsusp"],
         &["swsusp", "inspect"],
         &["swsusp", "inspect", "a", "b"],
@@ -51,6 +53,15 @@ fn words_that_clap_refuses(rt: HostRuntime) -> Result<(), Fail> {
         &["swsusp", "hibernate"],
         &["swsusp", "hibernate", "--any-kernel", "s"],
         &["swsusp", "hibernate", "--skip-zeros"],
+        &["swsusp", "hibernate", "--image-size", "s"],
+        &["swsusp", "hibernate", "--image-size", "x", "s"],
+        &[
+            "swsusp",
+            "hibernate",
+            "--image-size",
+            "18446744073709551616",
+            "s",
+        ],
         &["swsusp", "resume", "--skip-zeros", "s"],
         &["swsusp", "resume", "a", "b"],
         &["swsusp", "replay", "s"],
@@ -80,7 +91,7 @@ fn asked(alloc: Global, list: &[&str]) -> Result<(Option<String>, u32), Fail> {
 
 #[test]
 fn the_disk_that_words_ask_for(rt: HostRuntime) -> Result<(), Fail> {
-    let lists: [(&[&str], Option<&str>, u32); 9] = [
+    let lists: [(&[&str], Option<&str>, u32); 12] = [
         (&["swsusp", "inspect", "swap.img"], Some("swap.img"), 0),
         (
             &["swsusp", "inspect", "--offset", "50", "swap.img"],
@@ -93,6 +104,35 @@ fn the_disk_that_words_ask_for(rt: HostRuntime) -> Result<(), Fail> {
         (&["swsusp", "replay"], None, 16384),
         (&["swsusp", "hibernate", "a"], Some("a"), 0),
         (&["swsusp", "hibernate", "--skip-zeros", "a"], Some("a"), 0),
+        (
+            &["swsusp", "hibernate", "--image-size", "0", "a"],
+            Some("a"),
+            0,
+        ),
+        (
+            &[
+                "swsusp",
+                "hibernate",
+                "--skip-zeros",
+                "--image-size",
+                "18446744073709551615",
+                "a",
+            ],
+            Some("a"),
+            0,
+        ),
+        (
+            &[
+                "swsusp",
+                "hibernate",
+                "--image-size",
+                "9",
+                "--skip-zeros",
+                "a",
+            ],
+            Some("a"),
+            0,
+        ),
         (&["swsusp", "resume", "--any-kernel", "b"], Some("b"), 0),
     ];
     for (list, path, blocks) in lists {

@@ -20,6 +20,7 @@ mod zone_list;
 
 pub use dump::{DumpFault, DumpKind, DumpStop};
 pub use memory::{MemSink, MemSource};
+pub use put::put_all;
 pub use read::read_dump;
 pub use sink::Sink;
 pub use source::Source;

@@ -8,7 +8,7 @@ use byteorder::{ByteOrder, LittleEndian};
 use page_core::Failed;
 
 /// Writes a text to its end.
-pub(crate) fn put_all<K: Sink>(sink: &mut K, text: &[u8]) -> Result<(), Failed>
+pub fn put_all<K: Sink>(sink: &mut K, text: &[u8]) -> Result<(), Failed>
     ensures whole { OnOk result (TakesAll text.now (K.taken sink.old) (K.taken sink.new)) }
     ensures front { TakesFront text.now (K.taken sink.old) (K.taken sink.new) }
     ensures counted { K.faults sink.old ≤ K.faults sink.new }

@@ -18,17 +18,16 @@ use machine::Hardware;
 use page_core::{Failed, Page};
 use zones::Zones;
 
-/// Writes the dump of a machine without regions: its hardware, and a record for each valid page frame that isn't all zero.
+/// Writes the dump of a machine: its hardware without its regions, and a record for each valid page frame that isn't all zero.
 /// Nothing is flushed.
 #[tactic(auto, unfolding(crate::specs::Written::dump_bytes))]
 pub fn write_dump<K: Sink>(sink: &mut K, hw: &Hardware, frames: &Frames) -> Result<(), Failed>
     requires frames { length frames.now ≡ top hw.now.zones }
-    requires no_region { hw.now.regions ≡ [] }
     ensures whole { OnOk result (TakesAll (dump_bytes hw.now frames.now) (K.taken sink.old) (K.taken sink.new)) }
     ensures front { TakesFront (dump_bytes hw.now frames.now) (K.taken sink.old) (K.taken sink.new) }
 
-    // What a sink takes that was empty is a dump of this machine, where its tables are well formed.
-    ensures reads_back { (bytes : List ℕ) → Fits hw.now frames.now → K.taken sink.old ≡ Some [] → K.taken sink.new ≡ Some bytes → IsOk result → ReadsBack hw.now frames.now bytes }
+    // What a sink takes that was empty is a dump of this machine, where that has no regions and its tables are well formed.
+    ensures reads_back { (bytes : List ℕ) → hw.now.regions ≡ [] → Fits hw.now frames.now → K.taken sink.old ≡ Some [] → K.taken sink.new ≡ Some bytes → IsOk result → ReadsBack hw.now frames.now bytes }
 
     ensures counted { K.faults sink.old ≤ K.faults sink.new }
     ensures cause { OnErr result (HasRisen (K.faults sink.old) (K.faults sink.new)) }

@@ -1,5 +1,5 @@
-//! Tests of `hibernate` and `resume` over memory dumps: from dump to dump, what is refused and why, damaged images, and calls of the
-//! disk, of the input and of the output that fail.
+//! Tests of `hibernate` and `resume`, and of the commands of `swsusp_machine`, over memory dumps: from dump to dump, what is refused and
+//! why, damaged images, and calls of the disk, of the input and of the output that fail.
 #![tactic(auto)]
 
 #[cfg(test)]
@@ -18,5 +18,9 @@ mod recorded;
 mod refused;
 #[cfg(test)]
 mod runs;
+#[cfg(test)]
+mod sizes;
+#[cfg(test)]
+mod tools;
 #[cfg(test)]
 mod unread;

@@ -128,6 +128,15 @@ fn used_entries() -> Page {
     page
 }
 
+/// It, where page frames 20 to 29 are cached and nobody's.
+fn cached_entries() -> Page {
+    let mut page = used_entries();
+    for p in 20..30 {
+        page.put_u32(4 * p, 64);
+    }
+    page
+}
+
 /// A page that begins with a number.
 fn beginning_with(number: u32) -> Page {
     let mut page = Page::zero();
@@ -153,6 +162,19 @@ pub fn saved_with(alloc: Global, shape: &Shape, bad: usize) -> Result<Vec<u8>, F
 
 pub fn saved(alloc: Global, shape: &Shape) -> Result<Vec<u8>, Fail> {
     saved_with(alloc, shape, 0)
+}
+
+/// The dump of the machine that hibernates, with ten page frames that are cached besides: each begins with its number.
+pub fn saved_with_cache(alloc: Global, shape: &Shape) -> Result<Vec<u8>, Fail> {
+    let mut records = Vec::with_capacity(alloc, 14)?;
+    records.push((0, cached_entries()))?;
+    records.push((1, entries(1024, 4)))?;
+    records.push((2, slots(0)))?;
+    records.push((10, beginning_with(77)))?;
+    for p in 20..30 {
+        records.push((p, beginning_with(p)))?;
+    }
+    dump(alloc, shape, &records)
 }
 
 /// The dump of a loader that has its page frames from `used` on free, and page frame 50 filled with nines.

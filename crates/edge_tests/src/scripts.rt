@@ -94,7 +94,7 @@ fn faulty_scripts(rt: HostRuntime) {
         ("hibernate zeros x", 1, FaultKind::Count),
         ("hibernate x zeros", 1, FaultKind::Word),
         ("hibernate zero", 1, FaultKind::Word),
-        ("boot\nsuspend", 2, FaultKind::Word),
+        ("boot\nsleep", 2, FaultKind::Word),
         ("cut", 1, FaultKind::Count),
         ("cut 18446744073709551616", 1, FaultKind::Number),
         ("claim x 1", 1, FaultKind::Number),
@@ -144,6 +144,78 @@ fn armed_and_settled(rt: HostRuntime) {
         ("settle", None),
         ("settle 1", Some((1, FaultKind::Count))),
         ("arm 1 1 0\narea 1", Some((2, FaultKind::Late))),
+    ];
+    for (text, fault) in &table {
+        assert_eq!(rt;
+            fault_of(&rt, rt.alloc(), text.as_bytes()),
+            *fault,
+            "{text}"
+        );
+    }
+}
+
+/// The lines that send a machine to sleep, and the one that wakes it.
+#[test]
+fn sent_to_sleep_and_woken(rt: HostRuntime) {
+    let table: [(&str, Option<(u32, FaultKind)>); 11] = [
+        ("suspend", None),
+        ("suspend zeros", None),
+        ("wake", None),
+        ("suspend zeros x", Some((1, FaultKind::Count))),
+        ("suspend x zeros", Some((1, FaultKind::Word))),
+        ("suspend zero", Some((1, FaultKind::Word))),
+        ("suspends", Some((1, FaultKind::Word))),
+        ("wake 1", Some((1, FaultKind::Count))),
+        ("wake zeros", Some((1, FaultKind::Count))),
+        ("suspend\narea 1", Some((2, FaultKind::Late))),
+        ("wake\narea 1", Some((2, FaultKind::Late))),
+    ];
+    for (text, fault) in &table {
+        assert_eq!(rt;
+            fault_of(&rt, rt.alloc(), text.as_bytes()),
+            *fault,
+            "{text}"
+        );
+    }
+}
+
+/// What they are read as, and how their replies print.
+#[test]
+fn events_and_replies_of_sleep(rt: HostRuntime) {
+    let text = b"suspend\n suspend  zeros \nwake";
+    let script = parse(rt.alloc(), text).expect(&rt, "read");
+    assert_eq!(rt;
+        script.events(),
+        [
+            Event::Suspend(Format::Plain),
+            Event::Suspend(Format::SkipZeros),
+            Event::Wake,
+        ]
+        .as_slice()
+    );
+    let table: [(Reply, &str); 4] = [
+        (Reply::Sleeping, "sleeping\n"),
+        (Reply::Asleep { n: 8 }, "asleep 8\n"),
+        (Reply::NotAsleep, "not asleep\n"),
+        (Reply::Woken, "woken\n"),
+    ];
+    for (reply, text) in &table {
+        let mut line = Line::new();
+        line_of(reply, &mut line);
+        assert_eq!(rt; line.as_bytes(), text.as_bytes());
+    }
+}
+
+/// The line that drops cached page frames.
+#[test]
+fn shrunk(rt: HostRuntime) {
+    let table: [(&str, Option<(u32, FaultKind)>); 6] = [
+        ("shrink 0", None),
+        ("shrink 18446744073709551615", None),
+        ("shrink 18446744073709551616", Some((1, FaultKind::Number))),
+        ("shrink", Some((1, FaultKind::Count))),
+        ("shrink 1 2", Some((1, FaultKind::Count))),
+        ("shrinks 1", Some((1, FaultKind::Word))),
     ];
     for (text, fault) in &table {
         assert_eq!(rt;

@@ -8,6 +8,7 @@ use Rattle.hib_core.specs.declared.hib.Stage.TheVariants as stage
 pub busy_at : (s : Stage) → phase_at s ≡ under_way → is_busy_at s
 busy_at stage.Idle e = absurd (cc)
 busy_at stage.Over e = absurd (cc)
+busy_at stage.Asleep e = absurd (cc)
 busy_at stage.Write e = tt
 busy_at stage.Sync e = tt
 busy_at stage.Read e = tt

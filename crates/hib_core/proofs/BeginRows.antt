@@ -1,6 +1,6 @@
 -- The rows of the begin of a hibernation, and what its next step needs.
 use Rattle.protocol_laws.proofs.Unwritten.{block_same}
-use Rattle.std.proofs.Common.{◌≡◌, ◌<◌, ◌^◌, ℕ, ◌+◌, inl, inr, false, List, [], ◌∷◌, length, get_or, map, take, refl, sym, ap, ap₂, ◌∙◌, subst, arith, All, Contains, None, IfOk}
+use Rattle.std.proofs.Common.{◌≡◌, ◌<◌, ◌^◌, ℕ, ◌+◌, inl, inr, true, false, List, [], ◌∷◌, length, get_or, map, take, refl, sym, ap, ap₂, ◌∙◌, subst, arith, All, Contains, Some, None, IfOk}
 use Rattle.page_core.specs.declared.format.Format.{Format}
 use Rattle.definitions.specs.Disk as disk
 use Rattle.definitions.specs.Tables.{frame}
@@ -15,10 +15,11 @@ use Rattle.swap_slots.specs.Runs.{SlotRuns}
 use Rattle.swap_slots.specs.Table.{Matches, free_in}
 use Rattle.image_laws.specs.Decoding.{MemoriesAreSayable}
 use Rattle.image_write.specs.Writing.{IsWriting, AreOfImage, BlocksBelow, writes_of}
-use Rattle.plain_machine.specs.Machine.{Memory, IsHardware, unused, unused_slots, raw_slot_entry, block_of_slot}
+use Rattle.plain_machine.specs.Machine.{Hardware, Memory, IsHardware, unused, unused_slots, raw_slot_entry, block_of_slot}
 use Rattle.plain_machine.specs.Image.{image_of_memory, hibernate_steps, maps_of}
 use Rattle.plain_machine.specs.Laid.{laid_block}
-use Rattle.plain_machine.specs.Shows.{RunsAs}
+use Rattle.plain_machine.specs.Refusals.{refusal}
+use Rattle.plain_machine.specs.Shows.{RunsAs, hibernates}
 use Rattle.plain_machine.specs.Stands.{Stands, laid_blocks}
 use Rattle.plain_machine.specs.State.{State, on, hibernating, Running}
 use Rattle.plain_machine.specs.Step.{Step, no_slots}
@@ -27,6 +28,8 @@ use Rattle.plain_machine.specs.declared.event.Event.TheVariants as event
 use Rattle.plain_machine.specs.declared.reply.Reply.{Reply}
 use Rattle.plain_machine.specs.declared.reply.Reply.TheVariants as reply
 use Rattle.protocol_laws.specs.Hibernating.{Begins}
+use Rattle.protocol_laws.specs.Rows.{LeavesImage}
+use Rattle.protocol_laws.proofs.Leaving.{leaves_refused}
 use Rattle.protocol_laws.specs.Memory.{RunsTaken, FrameTaken, NamesTaken, WritesStream}
 use Rattle.protocol_laws.specs.Slots.{IsMemoryOf, AreFree, taken, HasSets}
 use Rattle.protocol_laws.specs.Snapshots.{NamesNone, RunsOverCopies, SlotsOverCopies}
@@ -38,11 +41,12 @@ use Rattle.hib_core.specs.Begin.{IsRefused, IsCounted, IsTaken, info_of}
 use Rattle.hib_core.specs.Begin as begin
 use Rattle.machine.specs.Flights.{flights_in}
 use Rattle.machine.specs.Running.{reason_of}
-use Rattle.hib_core.specs.Hibernation.{running_by, shown_by, activity_at}
+use Rattle.hib_core.specs.Hibernation.{running_by, shown_by, suspends_at, activity_at, activity_of}
 use Rattle.hib_core.specs.Ready.{CanStep, CanWrite, IsPlace}
-use Rattle.hib_core.specs.Row.{StandsFor, IsOf, IsBegun}
+use Rattle.hib_core.specs.Row.{StandsFor, IsOf, IsBegun, event_of, saving}
+use Rattle.hib_core.specs.declared.hib.Ending.{Ending}
+use Rattle.hib_core.specs.declared.hib.Ending.TheVariants as ending
 use Rattle.hib_core.specs.declared.hib.Hib.{Hib}
-use Rattle.hib_core.specs.declared.hib.Job.TheVariants as job
 use Rattle.hib_core.specs.declared.hib.Stage.{Stage}
 use Rattle.hib_core.specs.declared.hib.Stage.TheVariants as stage
 use Rattle.hib_core.proofs.BeginImage.{IsCountOf, counts_are, info_is, first_in_laid, taken_from_frames}
@@ -57,7 +61,7 @@ use Rattle.hib_core.proofs.Syncing.{same_area}
 
 pub idle_stands : (machine : Machine) (frames : Memory) (hib : Hib) (c : disk.Content) (a : Running) → hib.stage ≡ stage.Idle → Stands machine.hw (running_by machine frames) c (on a) → Stands machine.hw (shown_by machine frames hib) c (on a)
 idle_stands machine frames hib c a idle stands = record {
-  activity = ap (λ (s : Stage). activity_at s hib.made) idle;
+  activity = ap (λ (s : Stage). activity_at hib.ending s hib.made) idle;
   parts = (
     stands.parts.0,
     record {
@@ -72,18 +76,25 @@ idle_stands machine frames hib c a idle stands = record {
   );
 }
 
-pub refused_row : (machine : Machine) (frames : Memory) (hib : Hib) (f : Format) (r : Reply) (c : disk.Content) → IsRefused machine frames f r → hib.stage ≡ stage.Idle → IsBegun machine frames frames hib (job.Hibernate f) r c
-refused_row machine frames hib f r c refused idle s stands =
+-- a suspend is refused as a hibernation is
+refusal_same : (h : Hardware) (a : State) (last : Ending) (f : Format) → refusal h a (event_of (saving last f)) ≡ refusal h a (event.Hibernate f)
+unfolding refusal
+refusal_same h a ending.SwitchesOff f = refl
+refusal_same h a ending.Sleeps f = refl
+
+pub refused_row : (machine : Machine) (frames : Memory) (hib : Hib) (last : Ending) (f : Format) (r : Reply) (c : disk.Content) → IsRefused machine frames f r → hib.stage ≡ stage.Idle → IsBegun machine frames frames hib (saving last f) r c
+refused_row machine frames hib last f r c refused idle s stands =
     let at = at_run s stands.activity in
     let a : Running = at.0 in
-    let here : Stands machine.hw (running_by machine frames) c (on a) = subst (Stands machine.hw (running_by machine frames) c) at.1 stands in (
+    let here : Stands machine.hw (running_by machine frames) c (on a) = subst (Stands machine.hw (running_by machine frames) c) at.1 stands in
+    let why : refusal machine.hw (on a) (event_of (saving last f)) ≡ Some r = refusal_same machine.hw (on a) last f ∙ refused c a here in (
       s,
       record {
-        step = subst (λ (t : State). Step machine.hw (disk.as_it_reads c) t (event.Hibernate f) r t) (sym at.1) (refused_step machine.hw (disk.as_it_reads c) (on a) (event.Hibernate f) r (refused c a here));
+        step = subst (λ (t : State). Step machine.hw (disk.as_it_reads c) t (event_of (saving last f)) r t) (sym at.1) (refused_step machine.hw (disk.as_it_reads c) (on a) (event_of (saving last f)) r why);
         stands = subst (StandsFor machine frames hib c) (sym at.1) (record { stands = idle_stands machine frames hib c a idle here; image = tt });
         area = same_area machine.hw (disk.as_it_reads c);
         unwritten = λ b not. block_same b _;
-        leaves = tt;
+        leaves = subst (λ (t : State). LeavesImage machine.hw (event_of (saving last f)) r t c) (sym at.1) (leaves_refused machine.hw (event_of (saving last f)) r (on a) c why);
       },
     )
 
@@ -180,8 +191,27 @@ is_of machine frames frames' hib hib' counts f a laws is format seen =
       writing = λ e w has. subst (IsWriterOf h a i hib'.made frames') (same_writer t.writer w (sym t.has ∙ has)) writer;
     }
 
-pub begun_row : (machine : Machine) (frames frames' : Memory) (hib hib' : Hib) (counts : Counts) (f : Format) (c : disk.Content) → BeginLaws → IsBegin machine frames frames' hib hib' counts → hib.snapshot.format ≡ f → IsBegun machine frames frames' hib' (job.Hibernate f) (reply.More 0 hib'.of) c
-begun_row machine frames frames' hib hib' counts f c laws is format s stands =
+-- it is accepted, and leaves no image yet
+begun_step : (h : Hardware) (v : disk.Image) (last : Ending) (f : Format) (a : Running) → refusal h (on a) (event.Hibernate f) ≡ None →
+    Step h v (on a) (event_of (saving last f)) (reply.More 0 (hibernate_steps (image_of_memory h a.memory a.slots f))) (hibernating (suspends_at last) (image_of_memory h a.memory a.slots f) a 0)
+begun_step h v ending.SwitchesOff f a goes =
+    accepted_step h v (on a) (event.Hibernate f) (reply.More 0 (hibernate_steps (image_of_memory h a.memory a.slots f))) (hibernating false (image_of_memory h a.memory a.slots f) a 0) goes (0, omega arith, refl)
+begun_step h v ending.Sleeps f a goes =
+    accepted_step h v (on a) (event.Suspend f) (reply.More 0 (hibernate_steps (image_of_memory h a.memory a.slots f))) (hibernating true (image_of_memory h a.memory a.slots f) a 0)
+    (refusal_same h (on a) ending.Sleeps f ∙ goes) (0, omega arith, refl)
+
+leaves_begun : (h : Hardware) (last : Ending) (f : Format) (r : Reply) (s : State) (c : disk.Content) → LeavesImage h (event_of (saving last f)) r s c
+leaves_begun h ending.SwitchesOff f r s c = tt
+leaves_begun h ending.Sleeps f r s c = tt
+
+-- what it is at: its first write
+at_first : (hib : Hib) (last : Ending) → hib.ending ≡ last → hib.stage ≡ stage.Write → hib.made ≡ 0 → activity_of hib ≡ hibernates (suspends_at last) 0
+at_first hib last ends next made =
+    ap (λ (s : Stage). activity_at hib.ending s hib.made) next ∙ ap₂ (λ (e : Ending) (k : ℕ). hibernates (suspends_at e) k) ends made
+
+pub begun_row : (machine : Machine) (frames frames' : Memory) (hib hib' : Hib) (counts : Counts) (last : Ending) (f : Format) (c : disk.Content) → BeginLaws → IsBegin machine frames frames' hib hib' counts → hib.ending ≡ last → hib.snapshot.format ≡ f →
+    IsBegun machine frames frames' hib' (saving last f) (reply.More 0 hib'.of) c
+begun_row machine frames frames' hib hib' counts last f c laws is ends format s stands =
     let h = machine.hw in
     let at = at_run s stands.activity in
     let a : Running = at.0 in
@@ -191,19 +221,18 @@ begun_row machine frames frames' hib hib' counts f c laws is format s stands =
     let counted : AreCounts h frames hib counts = record { origs = is.counted.origs; zeros = is.counted.zeros; saved = is.counted.saved; with_pages = is.counted.with_pages } in
     let goes = not_refused machine frames f hib counts c a laws.seen is.hardware is.counted.idle is.counted.held is.counted.area counted format is.counted.copies is.counted.slots here in
     let of : IsOf h frames' hib' a i = is_of machine frames frames' hib hib' counts f a laws is format sees in
-    let stepped : Step h (disk.as_it_reads c) (on a) (event.Hibernate f) (reply.More 0 (hibernate_steps i)) (hibernating false i a 0) =
-    accepted_step h (disk.as_it_reads c) (on a) (event.Hibernate f) (reply.More 0 (hibernate_steps i)) (hibernating false i a 0) goes (0, omega arith, refl) in (
-      hibernating false i a 0,
+    let stepped : Step h (disk.as_it_reads c) (on a) (event_of (saving last f)) (reply.More 0 (hibernate_steps i)) (hibernating (suspends_at last) i a 0) = begun_step h (disk.as_it_reads c) last f a goes in (
+      hibernating (suspends_at last) i a 0,
       record {
-        step = subst (λ (t : State). Step h (disk.as_it_reads c) t (event.Hibernate f) (reply.More 0 hib'.of) (hibernating false i a 0)) (sym at.1)
-            (subst (λ (n : ℕ). Step h (disk.as_it_reads c) (on a) (event.Hibernate f) (reply.More 0 n) (hibernating false i a 0)) (sym of.steps) stepped);
+        step = subst (λ (t : State). Step h (disk.as_it_reads c) t (event_of (saving last f)) (reply.More 0 hib'.of) (hibernating (suspends_at last) i a 0)) (sym at.1)
+            (subst (λ (n : ℕ). Step h (disk.as_it_reads c) (on a) (event_of (saving last f)) (reply.More 0 n) (hibernating (suspends_at last) i a 0)) (sym of.steps) stepped);
         stands = record {
-          stands = laws.begun h (running_by machine frames) (shown_by machine frames' hib') c a f false is.hardware here goes (ap₂ activity_at is.taken.next is.taken.made) (shows_copies machine frames frames' hib hib' counts f c a laws is here sees);
+          stands = laws.begun h (running_by machine frames) (shown_by machine frames' hib') c a f (suspends_at last) is.hardware here goes (at_first hib' last (is.taken.ending ∙ ends) is.taken.next is.taken.made) (shows_copies machine frames frames' hib hib' counts f c a laws is here sees);
           image = of;
         };
         area = same_area h (disk.as_it_reads c);
         unwritten = λ b not. block_same b _;
-        leaves = tt;
+        leaves = leaves_begun h last f (reply.More 0 hib'.of) s c;
       },
     )
 

@@ -46,16 +46,16 @@ at_run (waking i held a k) e = other runs (wakes k) (λ r. omega arith) e
 at_run (loading load k) e = other runs (loads k) (λ r. omega arith) e
 at_run (asleep i held a) e = other runs sleeps (λ r. omega arith) e
 
-pub at_hibernation : (s : State) (j : ℕ) → hibernates false j ≡ activity_in s → (i : Image) × (a : Running) × (s ≡ hibernating false i a j)
-at_hibernation (off held kept) j e = other (hibernates false j) rests (λ r. omega arith) e
-at_hibernation (on a) j e = other (hibernates false j) runs (λ r. omega arith) e
-at_hibernation (booting from dump held k) j e = other (hibernates false j) (boots from k) (λ r. omega arith) e
-at_hibernation (hibernating suspends i a k) j e = (i, a, ap₂ (λ (b : Bool) (n : ℕ). hibernating b i a n) (sym (ap suspends_in e)) (sym (ap steps_in e)))
-at_hibernation (undoing i call a k) j e = other (hibernates false j) (undoes call k) (λ r. omega arith) e
-at_hibernation (settling a k) j e = other (hibernates false j) (settles k) (λ r. omega arith) e
-at_hibernation (waking i held a k) j e = other (hibernates false j) (wakes k) (λ r. omega arith) e
-at_hibernation (loading load k) j e = other (hibernates false j) (loads k) (λ r. omega arith) e
-at_hibernation (asleep i held a) j e = other (hibernates false j) sleeps (λ r. omega arith) e
+pub at_hibernation : (s : State) (suspends : Bool) (j : ℕ) → hibernates suspends j ≡ activity_in s → (i : Image) × (a : Running) × (s ≡ hibernating suspends i a j)
+at_hibernation (off held kept) suspends j e = other (hibernates suspends j) rests (λ r. omega arith) e
+at_hibernation (on a) suspends j e = other (hibernates suspends j) runs (λ r. omega arith) e
+at_hibernation (booting from dump held k) suspends j e = other (hibernates suspends j) (boots from k) (λ r. omega arith) e
+at_hibernation (hibernating suspended i a k) suspends j e = (i, a, ap₂ (λ (b : Bool) (n : ℕ). hibernating b i a n) (sym (ap suspends_in e)) (sym (ap steps_in e)))
+at_hibernation (undoing i call a k) suspends j e = other (hibernates suspends j) (undoes call k) (λ r. omega arith) e
+at_hibernation (settling a k) suspends j e = other (hibernates suspends j) (settles k) (λ r. omega arith) e
+at_hibernation (waking i held a k) suspends j e = other (hibernates suspends j) (wakes k) (λ r. omega arith) e
+at_hibernation (loading load k) suspends j e = other (hibernates suspends j) (loads k) (λ r. omega arith) e
+at_hibernation (asleep i held a) suspends j e = other (hibernates suspends j) sleeps (λ r. omega arith) e
 
 pub at_undo : (s : State) (call : UndoCall) (j : ℕ) → undoes call j ≡ activity_in s → (i : Image) × (a : Running) × (s ≡ undoing i call a j)
 at_undo (off held kept) call j e = other (undoes call j) rests (λ r. omega arith) e

@@ -72,11 +72,11 @@ is_over machine frames runs hib c a i can whole of = record {
 }
 
 -- rows of a hibernation, and of an undo
-pub row_at_hibernation : (machine : Machine) (frames : Memory) (hib : Hib) (machine' : Machine) (frames' : Memory) (hib' : Hib) (e : Event) (r : Reply) (c c' : disk.Content) → activity_of hib ≡ hibernates false hib.made →
-    ((i : Image) (a : Running) → StandsFor machine frames hib c (hibernating false i a hib.made) → (b : State) × rows.Leads machine.hw (StandsFor machine' frames' hib') e r c c' (hibernating false i a hib.made) b) →
+pub row_at_hibernation : (machine : Machine) (frames : Memory) (hib : Hib) (machine' : Machine) (frames' : Memory) (hib' : Hib) (e : Event) (r : Reply) (c c' : disk.Content) (suspends : Bool) → activity_of hib ≡ hibernates suspends hib.made →
+    ((i : Image) (a : Running) → StandsFor machine frames hib c (hibernating suspends i a hib.made) → (b : State) × rows.Leads machine.hw (StandsFor machine' frames' hib') e r c c' (hibernating suspends i a hib.made) b) →
     IsRow machine frames hib machine' frames' hib' e r c c'
-row_at_hibernation machine frames hib machine' frames' hib' e r c c' is goes s stands =
-    let at = at_hibernation s hib.made (sym is ∙ stands.stands.activity) in
+row_at_hibernation machine frames hib machine' frames' hib' e r c c' suspends is goes s stands =
+    let at = at_hibernation s suspends hib.made (sym is ∙ stands.stands.activity) in
     subst (λ (t : State). (b : State) × rows.Leads machine.hw (StandsFor machine' frames' hib') e r c c' t b) (sym at.2)
     (goes at.0 at.1 (subst (StandsFor machine frames hib c) at.2 stands))
 

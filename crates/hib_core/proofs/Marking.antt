@@ -1,7 +1,7 @@
 -- The rows of the mark, and of its sync.
 use Rattle.plain_machine.specs.Stands.{laid_blocks}
 use Rattle.protocol_laws.proofs.Unwritten.{block_same, block_synced, unwritten_mark}
-use Rattle.std.proofs.Common.{◌≡◌, false, ℕ, ◌+◌, List, None, inl, inr, refl, sym, ap, ◌∙◌, subst}
+use Rattle.std.proofs.Common.{◌≡◌, true, false, ℕ, ◌+◌, List, None, inl, inr, refl, sym, ap, ◌∙◌, subst}
 use Rattle.definitions.specs.Disk as disk
 use Rattle.definitions.specs.SwapHeader.{marked}
 use Rattle.swap_slots.specs.Runs.{SlotRuns}
@@ -9,7 +9,8 @@ use Rattle.page_core.specs.declared.format.Format.{Format}
 use Rattle.plain_machine.specs.Machine.{Memory, block_of_slot, unused_slots}
 use Rattle.plain_machine.specs.Image.{Image, hibernate_steps}
 use Rattle.plain_machine.specs.Laid.{laid_block}
-use Rattle.plain_machine.specs.State.{off, hibernating, undoing, Running, sure, own}
+use Rattle.plain_machine.specs.Shows.{hibernates}
+use Rattle.plain_machine.specs.State.{off, hibernating, undoing, asleep, Running, sure, own}
 use Rattle.plain_machine.specs.Step.{Step}
 use Rattle.plain_machine.specs.declared.event.Event.TheVariants as event
 use Rattle.plain_machine.specs.declared.event.Actor.TheVariants as actor
@@ -21,16 +22,19 @@ use Rattle.protocol_laws.specs.AreaKept.{KeptBySync, KeptByMark}
 use Rattle.protocol_laws.specs.Hibernating.{MarksOn, MarkFails, MarksUnmarked, Ends, EndFails}
 use Rattle.protocol_laws.specs.Steps.{marked_header}
 use Rattle.plain_machine.specs.Mark.{mark_flags}
-use Rattle.protocol_laws.proofs.Ending.{end_leaves}
+use Rattle.protocol_laws.proofs.Back.{names_laid}
+use Rattle.protocol_laws.proofs.Ending.{ends_asleep, end_leaves}
 use Rattle.machine.specs.declared.machine.Machine.{Machine}
-use Rattle.hib_core.specs.Hibernation.{shown_by, activity_at}
+use Rattle.hib_core.specs.Hibernation.{shown_by, suspends_at, activity_at, activity_of}
 use Rattle.hib_core.specs.Ready.{CanStep}
 use Rattle.hib_core.specs.Row.{StandsFor, IsOf, IsRow}
+use Rattle.hib_core.specs.declared.hib.Ending.{Ending}
+use Rattle.hib_core.specs.declared.hib.Ending.TheVariants as ending
 use Rattle.hib_core.specs.declared.hib.Hib.{Hib}
 use Rattle.hib_core.specs.declared.hib.Stage.{Stage}
 use Rattle.hib_core.specs.declared.hib.Stage.TheVariants as stage
 use Rattle.hib_core.proofs.Facts.{is_over, row_at_hibernation, still_of}
-use Rattle.hib_core.proofs.Plain.{may_mark, mark_may_fail, may_end, end_may_fail}
+use Rattle.hib_core.proofs.Plain.{may_mark, mark_may_fail, may_end, may_sleep, end_may_fail}
 use Rattle.hib_core.proofs.Syncing.{place_at, more_of, same_area}
 
 -- the header block with the mark of the hibernation's image
@@ -44,9 +48,9 @@ mark_is machine frames hib a i of =
 
 -- the write of the mark leaves the area, failed or not
 mark_keeps : (machine : Machine) (frames : Memory) (runs : SlotRuns) (hib : Hib) (c c' : disk.Content) (i : Image) (a : Running) → KeptByMark → MarksUnmarked → CanStep machine frames runs hib → disk.IsContent machine.blocks c → hib.made + 2 ≡ hibernate_steps i →
-    StandsFor machine frames hib c (hibernating false i a hib.made) → Tries (block_of_slot machine.hw 0) (mark_of machine hib) c c' → IsSameArea machine.hw (disk.as_it_reads c) (disk.as_it_reads c')
+    StandsFor machine frames hib c (hibernating (suspends_at hib.ending) i a hib.made) → Tries (block_of_slot machine.hw 0) (mark_of machine hib) c c' → IsSameArea machine.hw (disk.as_it_reads c) (disk.as_it_reads c')
 mark_keeps machine frames runs hib c c' i a keeps unmarked can whole place s tries =
-    let before = unmarked machine.hw (shown_by machine frames hib) c machine.blocks false i a hib.made whole s.stands place in
+    let before = unmarked machine.hw (shown_by machine frames hib) c machine.blocks (suspends_at hib.ending) i a hib.made whole s.stands place in
     keeps machine.hw machine.blocks hib.first (mark_flags hib.snapshot.format) machine.hw.hw_sig c c' whole can.header before.1
     (subst (λ (p : List ℕ). Tries (block_of_slot machine.hw 0) (marked p hib.first (mark_flags hib.snapshot.format) machine.hw.hw_sig) c c') before.0 tries)
 
@@ -54,16 +58,16 @@ pub marked_row : (machine : Machine) (frames : Memory) (runs : SlotRuns) (hib : 
     IsRow machine frames hib machine frames (record hib { header = mark_of machine hib; stage = stage.End; made = hib.made + 1 }) (event.Step actor.Core) (reply.More (hib.made + 1) hib.of) c c'
 marked_row machine frames runs hib c c' marks_on keeps unmarked can at whole whole' writes =
     let new = record hib { header = mark_of machine hib; stage = stage.End; made = hib.made + 1 } in
-    row_at_hibernation machine frames hib machine frames new (event.Step actor.Core) (reply.More (hib.made + 1) hib.of) c c' (ap (λ (s : Stage). activity_at s hib.made) at)
+    row_at_hibernation machine frames hib machine frames new (event.Step actor.Core) (reply.More (hib.made + 1) hib.of) c c' (suspends_at hib.ending) (ap (λ (s : Stage). activity_at hib.ending s hib.made) at)
     (λ i a s.
     let of = s.image in
     let place : hib.made + 2 ≡ hibernate_steps i = place_at hib stage.Mark at can.place ∙ of.steps in
     let is = mark_is machine frames hib a i of in (
-      hibernating false i a (hib.made + 1),
+      hibernating (suspends_at hib.ending) i a (hib.made + 1),
       record {
-        step = more_of machine.hw (disk.as_it_reads c) i a hib.made hib.of of.steps (may_mark machine.hw (disk.as_it_reads c) i a hib.made place);
+        step = more_of machine.hw (disk.as_it_reads c) (suspends_at hib.ending) i a hib.made hib.of of.steps (may_mark machine.hw (disk.as_it_reads c) (suspends_at hib.ending) i a hib.made place);
         stands = record {
-          stands = marks_on machine.hw (shown_by machine frames hib) (shown_by machine frames new) c c' machine.blocks false i a hib.made (is_over machine frames runs hib c a i can whole of) whole' s.stands place
+          stands = marks_on machine.hw (shown_by machine frames hib) (shown_by machine frames new) c c' machine.blocks (suspends_at hib.ending) i a hib.made (is_over machine frames runs hib c a i can whole of) whole' s.stands place
               (subst (λ (p : List ℕ). disk.Writes (block_of_slot machine.hw 0) p c c') is writes) is refl (record { shows = s.stands.parts.0.shows; names = s.stands.parts.2; copies = s.stands.parts.3.copies });
           image = still_of machine.hw frames frames hib a i (mark_of machine hib) stage.End (hib.made + 1) refl of;
         };
@@ -77,16 +81,16 @@ pub mark_failed_row : (machine : Machine) (frames : Memory) (runs : SlotRuns) (h
     IsRow machine frames hib machine frames (record hib { header = mark_of machine hib; stage = stage.TakeBack undo.Write }) (event.Step actor.Core) (reply.Undo undo.Write 0) c c'
 mark_failed_row machine frames runs hib c c' mark_fails keeps unmarked can at whole whole' fails =
     let new = record hib { header = mark_of machine hib; stage = stage.TakeBack undo.Write } in
-    row_at_hibernation machine frames hib machine frames new (event.Step actor.Core) (reply.Undo undo.Write 0) c c' (ap (λ (s : Stage). activity_at s hib.made) at)
+    row_at_hibernation machine frames hib machine frames new (event.Step actor.Core) (reply.Undo undo.Write 0) c c' (suspends_at hib.ending) (ap (λ (s : Stage). activity_at hib.ending s hib.made) at)
     (λ i a s.
     let of = s.image in
     let place : hib.made + 2 ≡ hibernate_steps i = place_at hib stage.Mark at can.place ∙ of.steps in
     let is = mark_is machine frames hib a i of in (
       undoing i undo.Write a 0,
       record {
-        step = mark_may_fail machine.hw (disk.as_it_reads c) i a hib.made place;
+        step = mark_may_fail machine.hw (disk.as_it_reads c) (suspends_at hib.ending) i a hib.made place;
         stands = record {
-          stands = mark_fails machine.hw (shown_by machine frames hib) (shown_by machine frames new) c c' machine.blocks false i a hib.made (is_over machine frames runs hib c a i can whole of) whole' s.stands place
+          stands = mark_fails machine.hw (shown_by machine frames hib) (shown_by machine frames new) c c' machine.blocks (suspends_at hib.ending) i a hib.made (is_over machine frames runs hib c a i can whole of) whole' s.stands place
               (subst (λ (p : List ℕ). disk.FailsToWrite (block_of_slot machine.hw 0) p c c') is fails) is refl (record { shows = s.stands.parts.0.shows; names = s.stands.parts.2; copies = s.stands.parts.3.copies });
           image = still_of machine.hw frames frames hib a i (mark_of machine hib) (stage.TakeBack undo.Write) hib.made refl of;
         };
@@ -96,11 +100,15 @@ mark_failed_row machine frames runs hib c c' mark_fails keeps unmarked can at wh
       },
     ))
 
-pub ended_row : (machine : Machine) (frames : Memory) (runs : SlotRuns) (hib : Hib) (c c' : disk.Content) → Ends → KeptBySync → CanStep machine frames runs hib → hib.stage ≡ stage.End → disk.IsContent machine.blocks c → disk.Syncs c c' →
+-- what a hibernation that ends so is at before its last step
+at_last : (hib : Hib) (last : Ending) → hib.stage ≡ stage.End → hib.ending ≡ last → activity_of hib ≡ hibernates (suspends_at last) hib.made
+at_last hib last at ends = ap (λ (s : Stage). activity_at hib.ending s hib.made) at ∙ ap (λ (e : Ending). hibernates (suspends_at e) hib.made) ends
+
+pub ended_row : (machine : Machine) (frames : Memory) (runs : SlotRuns) (hib : Hib) (c c' : disk.Content) → Ends → KeptBySync → CanStep machine frames runs hib → hib.stage ≡ stage.End → hib.ending ≡ ending.SwitchesOff → disk.IsContent machine.blocks c → disk.Syncs c c' →
     IsRow machine frames hib machine frames (record hib { stage = stage.Over }) (event.Step actor.Core) (reply.Hibernated hib.n) c c'
-ended_row machine frames runs hib c c' ends keeps can at whole syncs =
+ended_row machine frames runs hib c c' ends keeps can at off_then whole syncs =
     let new = record hib { stage = stage.Over } in
-    row_at_hibernation machine frames hib machine frames new (event.Step actor.Core) (reply.Hibernated hib.n) c c' (ap (λ (s : Stage). activity_at s hib.made) at)
+    row_at_hibernation machine frames hib machine frames new (event.Step actor.Core) (reply.Hibernated hib.n) c c' false (at_last hib ending.SwitchesOff at off_then)
     (λ i a s.
     let of = s.image in
     let place : hib.made + 1 ≡ hibernate_steps i = place_at hib stage.End at can.place ∙ of.steps in (
@@ -117,19 +125,42 @@ ended_row machine frames runs hib c c' ends keeps can at whole syncs =
       },
     ))
 
+-- of a suspend: the machine sleeps, and shows the running state that it had
+pub asleep_row : (machine : Machine) (frames : Memory) (runs : SlotRuns) (hib : Hib) (c c' : disk.Content) → KeptBySync → CanStep machine frames runs hib → hib.stage ≡ stage.End → hib.ending ≡ ending.Sleeps → disk.IsContent machine.blocks c → disk.Syncs c c' →
+    IsRow machine frames hib machine frames (record hib { stage = stage.Asleep }) (event.Step actor.Core) (reply.Asleep hib.n) c c'
+asleep_row machine frames runs hib c c' keeps can at sleeps_then whole syncs =
+    let new = record hib { stage = stage.Asleep } in
+    row_at_hibernation machine frames hib machine frames new (event.Step actor.Core) (reply.Asleep hib.n) c c' true (at_last hib ending.Sleeps at sleeps_then)
+    (λ i a s.
+    let of = s.image in
+    let place : hib.made + 1 ≡ hibernate_steps i = place_at hib stage.End at can.place ∙ of.steps in
+    let names = names_laid machine.hw (shown_by machine frames new) i a s.stands.parts.1 s.stands.parts.2 in (
+      asleep i (sure (own i)) a,
+      record {
+        step = subst (λ (n : ℕ). Step machine.hw (disk.as_it_reads c) (hibernating true i a hib.made) (event.Step actor.Core) (reply.Asleep n) (asleep i (sure (own i)) a)) (sym of.saved) (may_sleep machine.hw (disk.as_it_reads c) i a hib.made place);
+        stands = record {
+          stands = ends_asleep machine.hw (shown_by machine frames hib) (shown_by machine frames new) c c' machine.blocks true i a hib.made (is_over machine frames runs hib c a i can whole of) s.stands place syncs refl s.stands.parts.0.shows names;
+          image = tt;
+        };
+        area = keeps machine.hw c c' syncs;
+        unwritten = λ b not. block_synced machine.blocks b c c' whole syncs;
+        leaves = end_leaves machine.hw (shown_by machine frames hib) c c' machine.blocks true i a hib.made (is_over machine frames runs hib c a i can whole of) s.stands place syncs;
+      },
+    ))
+
 pub end_failed_row : (machine : Machine) (frames : Memory) (runs : SlotRuns) (hib : Hib) (c : disk.Content) → EndFails → CanStep machine frames runs hib → hib.stage ≡ stage.End →
     IsRow machine frames hib machine frames (record hib { stage = stage.TakeBack undo.Sync }) (event.Step actor.Core) (reply.Undo undo.Sync 0) c c
 end_failed_row machine frames runs hib c end_fails can at =
     let new = record hib { stage = stage.TakeBack undo.Sync } in
-    row_at_hibernation machine frames hib machine frames new (event.Step actor.Core) (reply.Undo undo.Sync 0) c c (ap (λ (s : Stage). activity_at s hib.made) at)
+    row_at_hibernation machine frames hib machine frames new (event.Step actor.Core) (reply.Undo undo.Sync 0) c c (suspends_at hib.ending) (ap (λ (s : Stage). activity_at hib.ending s hib.made) at)
     (λ i a s.
     let of = s.image in
     let place : hib.made + 1 ≡ hibernate_steps i = place_at hib stage.End at can.place ∙ of.steps in (
       undoing i undo.Sync a 0,
       record {
-        step = end_may_fail machine.hw (disk.as_it_reads c) i a hib.made place;
+        step = end_may_fail machine.hw (disk.as_it_reads c) (suspends_at hib.ending) i a hib.made place;
         stands = record {
-          stands = end_fails machine.hw (shown_by machine frames hib) (shown_by machine frames new) c false i a hib.made s.stands place refl refl (record { shows = s.stands.parts.0.shows; names = s.stands.parts.2; copies = s.stands.parts.3.copies });
+          stands = end_fails machine.hw (shown_by machine frames hib) (shown_by machine frames new) c (suspends_at hib.ending) i a hib.made s.stands place refl refl (record { shows = s.stands.parts.0.shows; names = s.stands.parts.2; copies = s.stands.parts.3.copies });
           image = still_of machine.hw frames frames hib a i hib.header (stage.TakeBack undo.Sync) hib.made refl of;
         };
         area = same_area machine.hw (disk.as_it_reads c);

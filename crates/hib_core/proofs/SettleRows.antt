@@ -40,8 +40,8 @@ use Rattle.hib_core.proofs.Undoing.{certain}
 abbrev pub unsettled : Machine → Machine
 unsettled machine = record machine { held = perhaps_held machine.held }
 
-at_step : (hib : Hib) (s : Stage) → hib.stage ≡ s → activity_at hib.stage hib.made ≡ activity_at s hib.made
-at_step hib s at = ap (λ (t : Stage). activity_at t hib.made) at
+at_step : (hib : Hib) (s : Stage) → hib.stage ≡ s → activity_at hib.ending hib.stage hib.made ≡ activity_at hib.ending s hib.made
+at_step hib s at = ap (λ (t : Stage). activity_at hib.ending t hib.made) at
 
 on_disk : (machine : Machine) (frames : Memory) (runs : SlotRuns) (hib : Hib) (c : disk.Content) → CanStep machine frames runs hib → disk.IsContent machine.blocks c → IsOnDisk machine.hw machine.blocks c
 on_disk machine frames runs hib c can whole = record { hardware = can.hardware; content = whole; header = can.header }

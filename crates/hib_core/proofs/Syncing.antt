@@ -1,6 +1,6 @@
 -- The rows of the sync behind the writes, and of the read of the header block.
 use Rattle.protocol_laws.proofs.Unwritten.{block_same, block_synced}
-use Rattle.std.proofs.Common.{◌≡◌, ◌<◌, false, All, ℕ, ◌+◌, List, [], Some, refl, sym, ap, ◌∙◌, subst, arith}
+use Rattle.std.proofs.Common.{◌≡◌, ◌<◌, Bool, All, ℕ, ◌+◌, List, [], Some, refl, sym, ap, ◌∙◌, subst, arith}
 use Rattle.definitions.specs.Disk as disk
 use Rattle.definitions.specs.Bytes.{IsPage}
 use Rattle.swap_slots.specs.Runs.{SlotRuns}
@@ -28,7 +28,7 @@ use Rattle.protocol_laws.specs.Slots.{IsMemoryOf}
 use Rattle.machine.specs.declared.machine.Machine.{Machine}
 use Rattle.machine.specs.Flights.{flights_in}
 use Rattle.machine.specs.Running.{reason_of}
-use Rattle.hib_core.specs.Hibernation.{shown_by, activity_at, activity_of}
+use Rattle.hib_core.specs.Hibernation.{shown_by, suspends_at, activity_at, activity_of}
 use Rattle.hib_core.specs.Ready.{CanStep, IsPlace}
 use Rattle.hib_core.specs.Row.{IsRow}
 use Rattle.hib_core.specs.declared.hib.Hib.{Hib}
@@ -49,21 +49,22 @@ idle hib = record hib { stage = stage.Idle }
 pub place_at : (hib : Hib) (s : Stage) → hib.stage ≡ s → IsPlace hib.stage hib.made hib.of → IsPlace s hib.made hib.of
 place_at hib s e p = subst (λ (t : Stage). IsPlace t hib.made hib.of) e p
 
-pub more_of : (h : Hardware) (v : disk.Image) (i : Image) (a : Running) (k of : ℕ) → of ≡ hibernate_steps i → Step h v (hibernating false i a k) (event.Step actor.Core) (reply.More (k + 1) (hibernate_steps i)) (hibernating false i a (k + 1)) → Step h v (hibernating false i a k) (event.Step actor.Core) (reply.More (k + 1) of) (hibernating false i a (k + 1))
-more_of h v i a k of steps step = subst (λ (n : ℕ). Step h v (hibernating false i a k) (event.Step actor.Core) (reply.More (k + 1) n) (hibernating false i a (k + 1))) (sym steps) step
+pub more_of : (h : Hardware) (v : disk.Image) (suspends : Bool) (i : Image) (a : Running) (k of : ℕ) → of ≡ hibernate_steps i → Step h v (hibernating suspends i a k) (event.Step actor.Core) (reply.More (k + 1) (hibernate_steps i)) (hibernating suspends i a (k + 1)) →
+    Step h v (hibernating suspends i a k) (event.Step actor.Core) (reply.More (k + 1) of) (hibernating suspends i a (k + 1))
+more_of h v suspends i a k of steps step = subst (λ (n : ℕ). Step h v (hibernating suspends i a k) (event.Step actor.Core) (reply.More (k + 1) n) (hibernating suspends i a (k + 1))) (sym steps) step
 
 pub synced_row : (machine : Machine) (frames : Memory) (runs : SlotRuns) (hib : Hib) (c c' : disk.Content) → SyncsOn → KeptBySync → CanStep machine frames runs hib → hib.stage ≡ stage.Sync → disk.IsContent machine.blocks c → disk.Syncs c c' →
     IsRow machine frames hib machine frames (gone_on hib stage.Read) (event.Step actor.Core) (reply.More (hib.made + 1) hib.of) c c'
 synced_row machine frames runs hib c c' syncs_on keeps can at whole syncs =
-    row_at_hibernation machine frames hib machine frames (gone_on hib stage.Read) (event.Step actor.Core) (reply.More (hib.made + 1) hib.of) c c' (ap (λ (s : Stage). activity_at s hib.made) at)
+    row_at_hibernation machine frames hib machine frames (gone_on hib stage.Read) (event.Step actor.Core) (reply.More (hib.made + 1) hib.of) c c' (suspends_at hib.ending) (ap (λ (s : Stage). activity_at hib.ending s hib.made) at)
     (λ i a s.
     let of = s.image in
     let place : hib.made + 4 ≡ hibernate_steps i = place_at hib stage.Sync at can.place ∙ of.steps in (
-      hibernating false i a (hib.made + 1),
+      hibernating (suspends_at hib.ending) i a (hib.made + 1),
       record {
-        step = more_of machine.hw (disk.as_it_reads c) i a hib.made hib.of of.steps (may_sync machine.hw (disk.as_it_reads c) i a hib.made place);
+        step = more_of machine.hw (disk.as_it_reads c) (suspends_at hib.ending) i a hib.made hib.of of.steps (may_sync machine.hw (disk.as_it_reads c) (suspends_at hib.ending) i a hib.made place);
         stands = record {
-          stands = syncs_on machine.hw (shown_by machine frames hib) (shown_by machine frames (gone_on hib stage.Read)) c c' machine.blocks false i a hib.made (is_over machine frames runs hib c a i can whole of) s.stands place syncs refl
+          stands = syncs_on machine.hw (shown_by machine frames hib) (shown_by machine frames (gone_on hib stage.Read)) c c' machine.blocks (suspends_at hib.ending) i a hib.made (is_over machine frames runs hib c a i can whole of) s.stands place syncs refl
               (record { shows = s.stands.parts.0.shows; names = s.stands.parts.2; copies = s.stands.parts.3.copies });
           image = still_of machine.hw frames frames hib a i hib.header stage.Read (hib.made + 1) refl of;
         };
@@ -74,11 +75,11 @@ synced_row machine frames runs hib c c' syncs_on keeps can at whole syncs =
     ))
 
 -- a call that fails, before the mark: the image's slots are given back
-pub fails_row : (machine : Machine) (frames frames' : Memory) (runs : SlotRuns) (hib hib' : Hib) (c : disk.Content) (r : Reply) → CallFails → RunsGivenBack → NoneLeft → CanStep machine frames runs hib → All IsPage frames → activity_of hib ≡ hibernates false hib.made → hib.made + 1 < hib.of →
-    ((i : Image) (a : Running) → hib.of ≡ hibernate_steps i → Step machine.hw (disk.as_it_reads c) (hibernating false i a hib.made) (event.Step actor.Core) r (on a)) →
-    ((i : Image) (a : Running) → LeavesImage machine.hw (event.Step actor.Core) r (hibernating false i a hib.made) c) → frames' ≡ seen_frames machine.hw frames → hib'.stage ≡ stage.Idle → IsRow machine frames hib machine frames' hib' (event.Step actor.Core) r c c
+pub fails_row : (machine : Machine) (frames frames' : Memory) (runs : SlotRuns) (hib hib' : Hib) (c : disk.Content) (r : Reply) → CallFails → RunsGivenBack → NoneLeft → CanStep machine frames runs hib → All IsPage frames → activity_of hib ≡ hibernates (suspends_at hib.ending) hib.made → hib.made + 1 < hib.of →
+    ((i : Image) (a : Running) → hib.of ≡ hibernate_steps i → Step machine.hw (disk.as_it_reads c) (hibernating (suspends_at hib.ending) i a hib.made) (event.Step actor.Core) r (on a)) →
+    ((i : Image) (a : Running) → LeavesImage machine.hw (event.Step actor.Core) r (hibernating (suspends_at hib.ending) i a hib.made) c) → frames' ≡ seen_frames machine.hw frames → hib'.stage ≡ stage.Idle → IsRow machine frames hib machine frames' hib' (event.Step actor.Core) r c c
 fails_row machine frames frames' runs hib hib' c r call_fails given_back none_left can pages is more may leaves given idle_now =
-    row_at_hibernation machine frames hib machine frames' hib' (event.Step actor.Core) r c c is
+    row_at_hibernation machine frames hib machine frames' hib' (event.Step actor.Core) r c c (suspends_at hib.ending) is
     (λ i a s.
     let of = s.image in
     let memory : IsMemoryOf machine.hw frames = record { pages = pages; table = can.table } in
@@ -92,7 +93,7 @@ fails_row machine frames frames' runs hib hib' c r call_fails given_back none_le
       record {
         step = may i a of.steps;
         stands = record {
-          stands = call_fails machine.hw (shown_by machine frames hib) (shown_by machine frames' hib') c false i a hib.made s.stands place (ap (λ (t : Stage). activity_at t hib'.made) idle_now) back names;
+          stands = call_fails machine.hw (shown_by machine frames hib) (shown_by machine frames' hib') c (suspends_at hib.ending) i a hib.made s.stands place (ap (λ (t : Stage). activity_at hib'.ending t hib'.made) idle_now) back names;
           image = tt;
         };
         area = same_area machine.hw (disk.as_it_reads c);
@@ -105,29 +106,29 @@ pub sync_failed_row : (machine : Machine) (frames frames' : Memory) (runs : Slot
     frames' ≡ seen_frames machine.hw frames → IsRow machine frames hib machine frames' (idle hib) (event.Step actor.Core) (reply.SyncFault Same) c c
 sync_failed_row machine frames frames' runs hib c call_fails given_back none_left can pages at given =
     let place = place_at hib stage.Sync at can.place in
-    fails_row machine frames frames' runs hib (idle hib) c (reply.SyncFault Same) call_fails given_back none_left can pages (ap (λ (s : Stage). activity_at s hib.made) at) (omega arith)
-    (λ i a steps. sync_may_fail machine.hw (disk.as_it_reads c) i a hib.made (place ∙ steps)) (λ i a. tt) given refl
+    fails_row machine frames frames' runs hib (idle hib) c (reply.SyncFault Same) call_fails given_back none_left can pages (ap (λ (s : Stage). activity_at hib.ending s hib.made) at) (omega arith)
+    (λ i a steps. sync_may_fail machine.hw (disk.as_it_reads c) (suspends_at hib.ending) i a hib.made (place ∙ steps)) (λ i a. tt) given refl
 
 pub read_failed_row : (machine : Machine) (frames frames' : Memory) (runs : SlotRuns) (hib : Hib) (header : List ℕ) (c : disk.Content) → CallFails → RunsGivenBack → NoneLeft → CanStep machine frames runs hib → All IsPage frames → hib.stage ≡ stage.Read →
     frames' ≡ seen_frames machine.hw frames → IsRow machine frames hib machine frames' (idle (record hib { header = header })) (event.Step actor.Core) (reply.ReadFault Same) c c
 read_failed_row machine frames frames' runs hib header c call_fails given_back none_left can pages at given =
     let place = place_at hib stage.Read at can.place in
-    fails_row machine frames frames' runs hib (idle (record hib { header = header })) c (reply.ReadFault Same) call_fails given_back none_left can pages (ap (λ (s : Stage). activity_at s hib.made) at) (omega arith)
-    (λ i a steps. read_may_fail machine.hw (disk.as_it_reads c) i a hib.made (place ∙ steps)) (λ i a. tt) given refl
+    fails_row machine frames frames' runs hib (idle (record hib { header = header })) c (reply.ReadFault Same) call_fails given_back none_left can pages (ap (λ (s : Stage). activity_at hib.ending s hib.made) at) (omega arith)
+    (λ i a steps. read_may_fail machine.hw (disk.as_it_reads c) (suspends_at hib.ending) i a hib.made (place ∙ steps)) (λ i a. tt) given refl
 
 pub read_row : (machine : Machine) (frames : Memory) (runs : SlotRuns) (hib : Hib) (header : List ℕ) (c : disk.Content) → ReadsOn → CanStep machine frames runs hib → hib.stage ≡ stage.Read → disk.IsContent machine.blocks c → header ≡ header_of machine.hw (disk.as_it_reads c) →
     IsRow machine frames hib machine frames (record hib { header = header; stage = stage.Mark; made = hib.made + 1 }) (event.Step actor.Core) (reply.More (hib.made + 1) hib.of) c c
 read_row machine frames runs hib header c reads_on can at whole read =
     let new = record hib { header = header; stage = stage.Mark; made = hib.made + 1 } in
-    row_at_hibernation machine frames hib machine frames new (event.Step actor.Core) (reply.More (hib.made + 1) hib.of) c c (ap (λ (s : Stage). activity_at s hib.made) at)
+    row_at_hibernation machine frames hib machine frames new (event.Step actor.Core) (reply.More (hib.made + 1) hib.of) c c (suspends_at hib.ending) (ap (λ (s : Stage). activity_at hib.ending s hib.made) at)
     (λ i a s.
     let of = s.image in
     let place : hib.made + 3 ≡ hibernate_steps i = place_at hib stage.Read at can.place ∙ of.steps in (
-      hibernating false i a (hib.made + 1),
+      hibernating (suspends_at hib.ending) i a (hib.made + 1),
       record {
-        step = more_of machine.hw (disk.as_it_reads c) i a hib.made hib.of of.steps (may_read machine.hw (disk.as_it_reads c) i a hib.made place);
+        step = more_of machine.hw (disk.as_it_reads c) (suspends_at hib.ending) i a hib.made hib.of of.steps (may_read machine.hw (disk.as_it_reads c) (suspends_at hib.ending) i a hib.made place);
         stands = record {
-          stands = reads_on machine.hw (shown_by machine frames hib) (shown_by machine frames new) c machine.blocks false i a hib.made (is_over machine frames runs hib c a i can whole of) s.stands place read refl
+          stands = reads_on machine.hw (shown_by machine frames hib) (shown_by machine frames new) c machine.blocks (suspends_at hib.ending) i a hib.made (is_over machine frames runs hib c a i can whole of) s.stands place read refl
               (record { shows = s.stands.parts.0.shows; names = s.stands.parts.2; copies = s.stands.parts.3.copies });
           image = still_of machine.hw frames frames hib a i header stage.Mark (hib.made + 1) refl of;
         };
@@ -141,7 +142,7 @@ read_row machine frames runs hib header c reads_on can at whole read =
 pub not_swap_row : (machine : Machine) (frames frames' : Memory) (runs : SlotRuns) (hib hib' : Hib) (c : disk.Content) (why : NoSwap) → ReadsArea → CanStep machine frames runs hib → hib.stage ≡ stage.Read → disk.IsContent machine.blocks c →
     kind_fault (area_kind (header_of machine.hw (disk.as_it_reads c))) ≡ Some why → IsRow machine frames hib machine frames' hib' (event.Step actor.Core) (reply.NoSwap why) c c
 not_swap_row machine frames frames' runs hib hib' c why reads_area can at whole fault =
-    row_at_hibernation machine frames hib machine frames' hib' (event.Step actor.Core) (reply.NoSwap why) c c (ap (λ (s : Stage). activity_at s hib.made) at)
+    row_at_hibernation machine frames hib machine frames' hib' (event.Step actor.Core) (reply.NoSwap why) c c (suspends_at hib.ending) (ap (λ (s : Stage). activity_at hib.ending s hib.made) at)
     (λ i a s.
     let place : hib.made + 3 ≡ hibernate_steps i = place_at hib stage.Read at can.place ∙ s.image.steps in
-    absurd (none-some why (sym (reads_area machine.hw (shown_by machine frames hib) c machine.blocks false i a hib.made whole s.stands place) ∙ fault)))
+    absurd (none-some why (sym (reads_area machine.hw (shown_by machine frames hib) c machine.blocks (suspends_at hib.ending) i a hib.made whole s.stands place) ∙ fault)))

@@ -57,7 +57,7 @@ pub back_row : (machine : Machine) (frames : Memory) (runs : SlotRuns) (hib : Hi
     disk.Writes (block_of_slot machine.hw 0) (taken_back hib.header) c c' → IsRow machine frames hib machine frames (record hib { stage = stage.EndUndo call }) (event.Step actor.Core) (reply.Undo call 1) c c'
 back_row machine frames runs hib c c' call undo_writes keeps can page back at whole whole' writes =
     let new = record hib { stage = stage.EndUndo call } in
-    row_at_undo machine frames hib machine frames new (event.Step actor.Core) (reply.Undo call 1) c c' call 0 (ap (λ (s : Stage). activity_at s hib.made) at)
+    row_at_undo machine frames hib machine frames new (event.Step actor.Core) (reply.Undo call 1) c c' call 0 (ap (λ (s : Stage). activity_at hib.ending s hib.made) at)
     (λ i a s.
     let of = s.image in (
       undoing i call a 1,
@@ -88,7 +88,7 @@ pub back_failed_row : (machine : Machine) (frames : Memory) (runs : SlotRuns) (h
     disk.FailsToWrite (block_of_slot machine.hw 0) (taken_back hib.header) c c' → IsRow machine frames hib (unsure machine) frames (record hib { stage = stage.Idle }) (event.Step actor.Core) (undone_fault call Unsure) c c'
 back_failed_row machine frames runs hib c c' call undo_write_fails keeps can page back at whole whole' fails =
     let new = record hib { stage = stage.Idle } in
-    row_at_undo machine frames hib (unsure machine) frames new (event.Step actor.Core) (undone_fault call Unsure) c c' call 0 (ap (λ (s : Stage). activity_at s hib.made) at)
+    row_at_undo machine frames hib (unsure machine) frames new (event.Step actor.Core) (undone_fault call Unsure) c c' call 0 (ap (λ (s : Stage). activity_at hib.ending s hib.made) at)
     (λ i a s. (
       on (with_held a (maybe (own i))),
       record {
@@ -108,7 +108,7 @@ pub undone_row : (machine : Machine) (frames frames' : Memory) (runs : SlotRuns)
     disk.Syncs c c' → frames' ≡ seen_frames machine.hw frames → IsRow machine frames hib (certain machine) frames' (record hib { stage = stage.Idle }) (event.Step actor.Core) (undone_fault call Gone) c c'
 undone_row machine frames frames' runs hib c c' call undo_syncs keeps given_back none_left can pages at whole syncs given =
     let new = record hib { stage = stage.Idle } in
-    row_at_undo machine frames hib (certain machine) frames' new (event.Step actor.Core) (undone_fault call Gone) c c' call 1 (ap (λ (s : Stage). activity_at s hib.made) at)
+    row_at_undo machine frames hib (certain machine) frames' new (event.Step actor.Core) (undone_fault call Gone) c c' call 1 (ap (λ (s : Stage). activity_at hib.ending s hib.made) at)
     (λ i a s.
     let memory : IsMemoryOf machine.hw frames = record { pages = pages; table = can.table } in
     let back : RunsAs machine.hw machine.held (reason_of machine.area) (flights_in machine.flights) frames' a =
@@ -135,7 +135,7 @@ pub end_failed_row : (machine : Machine) (frames : Memory) (runs : SlotRuns) (hi
     IsRow machine frames hib (unsure machine) frames (record hib { stage = stage.Idle }) (event.Step actor.Core) (undone_fault call Unsure) c c
 end_failed_row machine frames runs hib c call undo_sync_fails can at whole =
     let new = record hib { stage = stage.Idle } in
-    row_at_undo machine frames hib (unsure machine) frames new (event.Step actor.Core) (undone_fault call Unsure) c c call 1 (ap (λ (s : Stage). activity_at s hib.made) at)
+    row_at_undo machine frames hib (unsure machine) frames new (event.Step actor.Core) (undone_fault call Unsure) c c call 1 (ap (λ (s : Stage). activity_at hib.ending s hib.made) at)
     (λ i a s. (
       on (with_held a (maybe (own i))),
       record {

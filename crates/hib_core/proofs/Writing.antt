@@ -1,6 +1,6 @@
 -- The rows of a write of a page or a map.
 use Rattle.protocol_laws.proofs.Unwritten.{unwritten_slot}
-use Rattle.std.proofs.Common.{◌≡◌, ◌<◌, false, All, ℕ, ◌+◌, length, List, [], Option, Some, inl, inr, refl, sym, ap, ◌∙◌, subst, arith}
+use Rattle.std.proofs.Common.{◌≡◌, ◌<◌, All, ℕ, ◌+◌, length, List, [], Option, Some, inl, inr, refl, sym, ap, ◌∙◌, subst, arith}
 use Rattle.hib_core.proofs.Facts.{same_writer, changed, row_of}
 use Rattle.definitions.specs.Bytes.{IsPage}
 use Rattle.definitions.specs.Disk as disk
@@ -31,7 +31,7 @@ use Rattle.protocol_laws.specs.Writers.{IsWriterOf, WritesNext, ShowsStill, slot
 use Rattle.machine.specs.declared.machine.Machine.{Machine}
 use Rattle.machine.specs.Flights.{flights_in}
 use Rattle.machine.specs.Running.{reason_of}
-use Rattle.hib_core.specs.Hibernation.{shown_by, activity_at}
+use Rattle.hib_core.specs.Hibernation.{shown_by, suspends_at, activity_at}
 use Rattle.hib_core.specs.Ready.{CanStep, CanWrite}
 use Rattle.hib_core.specs.Writes.{Writes, IsMade}
 use Rattle.hib_core.specs.Row.{StandsFor, IsOf, IsRow}
@@ -52,12 +52,12 @@ abbrev pub written_on : Hib → Writing → Stage → Hib
 written_on hib w next = record hib { stage = next; made = hib.made + 1; writer = Some w }
 
 -- the writer of the image before a write
-writer_of : (machine : Machine) (frames : Memory) (hib : Hib) (c : disk.Content) (i : Image) (a : Running) (w : Writing) → hib.stage ≡ stage.Write → hib.writer ≡ Some w → StandsFor machine frames hib c (hibernating false i a hib.made) → IsWriterOf machine.hw a i hib.made frames w
+writer_of : (machine : Machine) (frames : Memory) (hib : Hib) (c : disk.Content) (i : Image) (a : Running) (w : Writing) → hib.stage ≡ stage.Write → hib.writer ≡ Some w → StandsFor machine frames hib c (hibernating (suspends_at hib.ending) i a hib.made) → IsWriterOf machine.hw a i hib.made frames w
 writer_of machine frames hib c i a w at has s = s.image.writing at w has
 
 -- what it writes is the write of the next step
 wrote : (R : ℕ × List ℕ → disk.Content → disk.Content → Type 0) (machine : Machine) (frames frames' : Memory) (hib : Hib) (c c' : disk.Content) (i : Image) (a : Running) (w : Writing) → WritesNext → hib.stage ≡ stage.Write → hib.writer ≡ Some w → HasWritten R frames frames' hib w c c' →
-    StandsFor machine frames hib c (hibernating false i a hib.made) → R (write_of_step machine.hw a i hib.made) c c'
+    StandsFor machine frames hib c (hibernating (suspends_at hib.ending) i a hib.made) → R (write_of_step machine.hw a i hib.made) c c'
 wrote R machine frames frames' hib c c' i a w writes_next at has written s =
     let of = s.image in
     let writer = writer_of machine frames hib c i a w at has s in
@@ -75,7 +75,7 @@ took machine frames frames' hib i a w R c c' writer written =
 
 -- what is shown afterwards, at any stage
 shows_after : (R : ℕ × List ℕ → disk.Content → disk.Content → Type 0) (machine : Machine) (frames frames' : Memory) (runs : SlotRuns) (hib hib' : Hib) (c c' : disk.Content) (i : Image) (a : Running) (w : Writing) → ShowsStill → CanStep machine frames runs hib → All IsPage frames →
-    hib.stage ≡ stage.Write → hib.writer ≡ Some w → hib'.snapshot ≡ hib.snapshot → HasWritten R frames frames' hib w c c' → StandsFor machine frames hib c (hibernating false i a hib.made) → ShowsCopies machine.hw (shown_by machine frames' hib') a i
+    hib.stage ≡ stage.Write → hib.writer ≡ Some w → hib'.snapshot ≡ hib.snapshot → HasWritten R frames frames' hib w c c' → StandsFor machine frames hib c (hibernating (suspends_at hib.ending) i a hib.made) → ShowsCopies machine.hw (shown_by machine frames' hib') a i
 shows_after R machine frames frames' runs hib hib' c c' i a w shows_still can pages at has same written s =
     let writer = writer_of machine frames hib c i a w at has s in
     shows_still machine.hw a i hib.made w (shown_by machine frames hib) (shown_by machine frames' hib') can.hardware s.stands.parts.1 writer (record { pages = pages; table = can.table }) s.image.apart
@@ -90,7 +90,7 @@ shows_after R machine frames frames' runs hib hib' c c' i a w shows_still can pa
 
 -- the writer afterwards, where it has more to write
 writer_after : (R : ℕ × List ℕ → disk.Content → disk.Content → Type 0) (machine : Machine) (frames frames' : Memory) (hib : Hib) (c : disk.Content) (i : Image) (a : Running) (w w' : Writing) → hib.stage ≡ stage.Write → hib.writer ≡ Some w → IsSameImage w w' → w'.written ≡ w.written + 1 →
-    ((free : List ℕ) → IsWriting free frames w → IsWriting free frames' w') → StandsFor machine frames hib c (hibernating false i a hib.made) → IsWriterOf machine.hw a i (hib.made + 1) frames' w'
+    ((free : List ℕ) → IsWriting free frames w → IsWriting free frames' w') → StandsFor machine frames hib c (hibernating (suspends_at hib.ending) i a hib.made) → IsWriterOf machine.hw a i (hib.made + 1) frames' w'
 writer_after R machine frames frames' hib c i a w w' at has same made writing s =
     let writer = writer_of machine frames hib c i a w at has s in
     record {
@@ -116,26 +116,26 @@ of_after h frames frames' hib a i w next writer of = record {
 }
 
 pub written_row : (machine : Machine) (frames frames' : Memory) (runs : SlotRuns) (hib : Hib) (c c' : disk.Content) (w w' : Writing) (next : Stage) → WritesNext → ShowsStill → WritesOn → WritesElsewhere → KeptByOtherWrite → CanStep machine frames runs hib → All IsPage frames →
-    hib.stage ≡ stage.Write → hib.writer ≡ Some w → disk.IsContent machine.blocks c → IsSameImage w w' → w'.written ≡ w.written + 1 → (next ≡ stage.Write → (free : List ℕ) → IsWriting free frames w → IsWriting free frames' w') → activity_at next (hib.made + 1) ≡ hibernates false (hib.made + 1) →
+    hib.stage ≡ stage.Write → hib.writer ≡ Some w → disk.IsContent machine.blocks c → IsSameImage w w' → w'.written ≡ w.written + 1 → (next ≡ stage.Write → (free : List ℕ) → IsWriting free frames w → IsWriting free frames' w') → activity_at hib.ending next (hib.made + 1) ≡ hibernates (suspends_at hib.ending) (hib.made + 1) →
     HasWritten Makes frames frames' hib w c c' → IsRow machine frames hib machine frames' (written_on hib w' next) (event.Step actor.Core) (reply.More (hib.made + 1) hib.of) c c'
 written_row machine frames frames' runs hib c c' w w' next writes_next shows_still writes_on elsewhere keeps can pages at has whole same made writing goes written =
     let new = written_on hib w' next in
-    row_at_hibernation machine frames hib machine frames' new (event.Step actor.Core) (reply.More (hib.made + 1) hib.of) c c' (ap (λ (s : Stage). activity_at s hib.made) at)
+    row_at_hibernation machine frames hib machine frames' new (event.Step actor.Core) (reply.More (hib.made + 1) hib.of) c c' (suspends_at hib.ending) (ap (λ (s : Stage). activity_at hib.ending s hib.made) at)
     (λ i a s.
     let of = s.image in
     let place : hib.made + 4 < hibernate_steps i = subst (λ (n : ℕ). hib.made + 4 < n) of.steps (place_at hib stage.Write at can.place) in
     let over = is_over machine frames runs hib c a i can whole of in
     let made_it = wrote Makes machine frames frames' hib c c' i a w writes_next at has written s in (
-      hibernating false i a (hib.made + 1),
+      hibernating (suspends_at hib.ending) i a (hib.made + 1),
       record {
-        step = more_of machine.hw (disk.as_it_reads c) i a hib.made hib.of of.steps (may_write machine.hw (disk.as_it_reads c) i a hib.made place);
+        step = more_of machine.hw (disk.as_it_reads c) (suspends_at hib.ending) i a hib.made hib.of of.steps (may_write machine.hw (disk.as_it_reads c) (suspends_at hib.ending) i a hib.made place);
         stands = record {
-          stands = writes_on machine.hw (shown_by machine frames hib) (shown_by machine frames' new) c c' machine.blocks false i a hib.made over s.stands place made_it goes
+          stands = writes_on machine.hw (shown_by machine frames hib) (shown_by machine frames' new) c c' machine.blocks (suspends_at hib.ending) i a hib.made over s.stands place made_it goes
               (shows_after Makes machine frames frames' runs hib new c c' i a w shows_still can pages at has refl written s);
           image = of_after machine.hw frames frames' hib a i w' next (λ e. writer_after Makes machine frames frames' hib c i a w w' at has same made (writing e) s) of;
         };
         area = keeps machine.hw machine.blocks (write_of_step machine.hw a i hib.made).0 (write_of_step machine.hw a i hib.made).1 c c' whole
-            (elsewhere machine.hw (shown_by machine frames hib) c machine.blocks false i a hib.made over s.stands place) (inl made_it);
+            (elsewhere machine.hw (shown_by machine frames hib) c machine.blocks (suspends_at hib.ending) i a hib.made over s.stands place) (inl made_it);
         unwritten = λ b not. unwritten_slot machine.hw a i hib.made b c c' place made_it.others not;
         leaves = tt;
       },
@@ -145,7 +145,7 @@ pub write_failed_row : (machine : Machine) (frames mid frames' : Memory) (runs :
     hib.stage ≡ stage.Write → hib.writer ≡ Some w → disk.IsContent machine.blocks c → HasWritten FailsToMake frames mid hib w c c' → frames' ≡ seen_frames machine.hw mid → hib'.stage ≡ stage.Idle → hib'.snapshot ≡ hib.snapshot →
     IsRow machine frames hib machine frames' hib' (event.Step actor.Core) (reply.WriteFault Same) c c'
 write_failed_row machine frames mid frames' runs hib hib' c c' w writes_next shows_still write_fails elsewhere keeps given_back none_left can pages mid_pages lies at has whole written given idle_now kept =
-    row_at_hibernation machine frames hib machine frames' hib' (event.Step actor.Core) (reply.WriteFault Same) c c' (ap (λ (s : Stage). activity_at s hib.made) at)
+    row_at_hibernation machine frames hib machine frames' hib' (event.Step actor.Core) (reply.WriteFault Same) c c' (suspends_at hib.ending) (ap (λ (s : Stage). activity_at hib.ending s hib.made) at)
     (λ i a s.
     let of = s.image in
     let place : hib.made + 4 < hibernate_steps i = subst (λ (n : ℕ). hib.made + 4 < n) of.steps (place_at hib stage.Write at can.place) in
@@ -160,13 +160,13 @@ write_failed_row machine frames mid frames' runs hib hib' c c' w writes_next sho
     λ k lt e. absurd (none_left machine.hw mid k memory lt (ap (λ (m : Memory). raw_slot_entry machine.hw m k) (sym given) ∙ e)) in (
       on a,
       record {
-        step = write_may_fail machine.hw (disk.as_it_reads c) i a hib.made place;
+        step = write_may_fail machine.hw (disk.as_it_reads c) (suspends_at hib.ending) i a hib.made place;
         stands = record {
-          stands = write_fails machine.hw (shown_by machine frames hib) (shown_by machine frames' hib') c c' machine.blocks false i a hib.made over s.stands place failed (ap (λ (t : Stage). activity_at t hib'.made) idle_now) back names;
+          stands = write_fails machine.hw (shown_by machine frames hib) (shown_by machine frames' hib') c c' machine.blocks (suspends_at hib.ending) i a hib.made over s.stands place failed (ap (λ (t : Stage). activity_at hib'.ending t hib'.made) idle_now) back names;
           image = tt;
         };
         area = keeps machine.hw machine.blocks (write_of_step machine.hw a i hib.made).0 (write_of_step machine.hw a i hib.made).1 c c' whole
-            (elsewhere machine.hw (shown_by machine frames hib) c machine.blocks false i a hib.made over s.stands place) (inr failed);
+            (elsewhere machine.hw (shown_by machine frames hib) c machine.blocks (suspends_at hib.ending) i a hib.made over s.stands place) (inr failed);
         unwritten = λ b not. unwritten_slot machine.hw a i hib.made b c c' place failed.others not;
         leaves = tt;
       },
@@ -210,7 +210,7 @@ pub record WriteLaws : Type 0 where
   pub none_left : NoneLeft
 
 pub row_made : (machine : Machine) (frames frames' : Memory) (runs : SlotRuns) (hib hib1 end : Hib) (answer : WriteStep) (next : Stage) (reply_is : Reply) (before now : Option disk.Content) (c : disk.Content) → WriteLaws → CanStep machine frames runs hib → All IsPage frames → hib.stage ≡ stage.Write →
-    disk.IsContent machine.blocks c → Writes Makes frames frames' hib hib1 before now → IsMade frames frames' hib hib1 answer → hib1 ≡ record hib { writer = hib1.writer } → (next ≡ stage.Write → GoesOn answer) → activity_at next (hib.made + 1) ≡ hibernates false (hib.made + 1) →
+    disk.IsContent machine.blocks c → Writes Makes frames frames' hib hib1 before now → IsMade frames frames' hib hib1 answer → hib1 ≡ record hib { writer = hib1.writer } → (next ≡ stage.Write → GoesOn answer) → activity_at hib.ending next (hib.made + 1) ≡ hibernates (suspends_at hib.ending) (hib.made + 1) →
     end ≡ record hib1 { stage = next; made = hib1.made + 1 } → reply_is ≡ reply.More (hib1.made + 1) hib1.of → before ≡ Some c →
     (c' : disk.Content) × (now ≡ Some c') × IsRow machine frames hib machine frames' end (event.Step actor.Core) reply_is c c'
 row_made machine frames frames' runs hib hib1 end answer next reply_is before now c laws can pages at whole writes is_made others goes act ends told_reply told =

@@ -28,7 +28,7 @@ use Rattle.hib_core.specs.Hibernation.{running_by, phase_told, runs_on}
 use Rattle.hib_core.specs.declared.hib.Hib.{Hib}
 use Rattle.hib_core.specs.declared.hib.Stage.TheVariants as stage
 
--- The hibernation is refused with this reply in every running state that a machine stands for.
+-- The hibernation is refused with this reply in every running state that a machine stands for; a suspend would be with the same one.
 abbrev pub IsRefused : Machine → Memory → Format → Reply → Type 0
 IsRefused machine frames f r = (c : disk.Content) (a : Running) → Stands machine.hw (running_by machine frames) c (on a) → refusal machine.hw (on a) (event.Hibernate f) ≡ Some r
 
@@ -88,4 +88,5 @@ pub record IsTaken (machine : Machine) (frames frames' : Memory) (hib hib' : Hib
   pub of : hib'.of ≡ pages_of counts + maps_of (pages_of counts) + 4
   pub first : hib'.first ≡ writer.first
   pub next : hib'.stage ≡ stage.Write
+  pub ending : hib'.ending ≡ hib.ending
   pub has : hib'.writer ≡ Some writer

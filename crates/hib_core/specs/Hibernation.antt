@@ -1,7 +1,7 @@
 -- A hibernation or a settling, and what a machine shows while it is at it.
 use Rattle.std.specs.Prelude.{◌≡◌, ℕ, List, [], Bool, true, false}
 use Rattle.plain_machine.specs.Machine.{Memory}
-use Rattle.plain_machine.specs.Shows.{Shown, Activity, rests, runs, hibernates, undoes, settles}
+use Rattle.plain_machine.specs.Shows.{Shown, Activity, rests, runs, hibernates, undoes, settles, sleeps}
 use Rattle.plain_machine.specs.declared.held.Held.{Held}
 use Rattle.plain_machine.specs.declared.held.Held.TheVariants.{No, Yes, Perhaps}
 use Rattle.plain_machine.specs.declared.reply.Reply.{Reply}
@@ -9,37 +9,47 @@ use Rattle.plain_machine.specs.declared.reply.Reply.TheVariants as reply
 use Rattle.machine.specs.Flights.{flights_in}
 use Rattle.machine.specs.Running.{reason_of}
 use Rattle.machine.specs.declared.machine.Machine.{Machine}
+use Rattle.hib_core.specs.declared.hib.Ending.{Ending}
+use Rattle.hib_core.specs.declared.hib.Ending.TheVariants as ending
 use Rattle.hib_core.specs.declared.hib.Hib.{Hib}
 use Rattle.hib_core.specs.declared.hib.Stage.{Stage}
 use Rattle.hib_core.specs.declared.hib.Stage.TheVariants as stage
 
--- what a machine is at, by the step that is next and how many are made
-abbrev pub activity_at : Stage → ℕ → Activity
-activity_at stage.Idle made = runs
-activity_at stage.Over made = rests
-activity_at stage.Write made = hibernates false made
-activity_at stage.Sync made = hibernates false made
-activity_at stage.Read made = hibernates false made
-activity_at stage.Mark made = hibernates false made
-activity_at stage.End made = hibernates false made
-activity_at (stage.TakeBack call) made = undoes call 0
-activity_at (stage.EndUndo call) made = undoes call 1
-activity_at stage.SettleRead made = settles 0
-activity_at stage.SettleWrite made = settles 1
-activity_at stage.SettleSync made = settles 2
+-- whether a hibernation that ends so is of a suspend
+abbrev pub suspends_at : Ending → Bool
+suspends_at ending.SwitchesOff = false
+suspends_at ending.Sleeps = true
+
+-- what a machine is at, by how a hibernation ends, the step that is next and how many are made
+abbrev pub activity_at : Ending → Stage → ℕ → Activity
+activity_at last stage.Idle made = runs
+activity_at last stage.Over made = rests
+activity_at last stage.Asleep made = sleeps
+activity_at last stage.Write made = hibernates (suspends_at last) made
+activity_at last stage.Sync made = hibernates (suspends_at last) made
+activity_at last stage.Read made = hibernates (suspends_at last) made
+activity_at last stage.Mark made = hibernates (suspends_at last) made
+activity_at last stage.End made = hibernates (suspends_at last) made
+activity_at last (stage.TakeBack call) made = undoes call 0
+activity_at last (stage.EndUndo call) made = undoes call 1
+activity_at last stage.SettleRead made = settles 0
+activity_at last stage.SettleWrite made = settles 1
+activity_at last stage.SettleSync made = settles 2
 
 abbrev pub activity_of : Hib → Activity
-activity_of hib = activity_at hib.stage hib.made
+activity_of hib = activity_at hib.ending hib.stage hib.made
 
--- Whether it has a step to make, or has none: then the machine runs, or is off.
+-- Whether it has a step to make, or has none: then the machine runs, is off, or sleeps.
 pub data Phase : Type 0 where
   under_way : Phase
   runs_on : Phase
   switched_off : Phase
+  asleep : Phase
 
 abbrev pub phase_at : Stage → Phase
 phase_at stage.Idle = runs_on
 phase_at stage.Over = switched_off
+phase_at stage.Asleep = asleep
 phase_at _ = under_way
 
 abbrev pub phase_of : Hib → Phase
@@ -50,6 +60,7 @@ abbrev pub phase_told : Reply → Phase
 phase_told (reply.More k of) = under_way
 phase_told (reply.Undo call k) = under_way
 phase_told (reply.Hibernated n) = switched_off
+phase_told (reply.Asleep n) = asleep
 phase_told _ = runs_on
 
 -- what is held after a call that may have taken it away

@@ -5,8 +5,6 @@ use Rattle.swap_slots.specs.Runs.{SlotRuns}
 use Rattle.swap_slots.specs.Table.{LiesIn, Matches}
 use Rattle.plain_machine.specs.Machine.{Hardware, Memory, IsHardware, block_of_slot}
 use Rattle.plain_machine.specs.declared.held.Held.TheVariants.{No}
-use Rattle.hib_core.specs.declared.hib.Job.{Job}
-use Rattle.hib_core.specs.declared.hib.Job.TheVariants as job
 use Rattle.image_write.specs.Writing.{Writing, IsReady, AreOfImage, IsReading, writes_of}
 use Rattle.protocol_laws.specs.Writers.{slot_table_of}
 use Rattle.machine.specs.Running.{CanRun}
@@ -15,16 +13,11 @@ use Rattle.hib_core.specs.declared.hib.Hib.{Hib}
 use Rattle.hib_core.specs.declared.hib.Stage.{Stage}
 use Rattle.hib_core.specs.declared.hib.Stage.TheVariants as stage
 
--- the jobs that are served
-abbrev pub IsServed : Job → Type 0
-IsServed (job.Hibernate format) = ⊤
-IsServed (job.Suspend format) = ⊥
-IsServed job.Settle = ⊤
-
 -- something is under way
 abbrev pub is_busy_at : Stage → Type 0
 is_busy_at stage.Idle = ⊥
 is_busy_at stage.Over = ⊥
+is_busy_at stage.Asleep = ⊥
 is_busy_at _ = ⊤
 
 abbrev pub IsBusy : Hib → Type 0

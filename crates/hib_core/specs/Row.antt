@@ -1,5 +1,6 @@
 -- The rows of the plain machine that a hibernation or a settling makes.
 use Rattle.std.specs.Prelude.{◌≡◌, ℕ, Contains, Option, Some, ⊤}
+use Rattle.page_core.specs.declared.format.Format.{Format}
 use Rattle.definitions.specs.Disk as disk
 use Rattle.plain_machine.specs.Machine.{Hardware, Memory, IsOfTable, unused_slots}
 use Rattle.plain_machine.specs.Image.{Image, n_of, numbers_of, without_data, hibernate_steps}
@@ -15,6 +16,8 @@ use Rattle.protocol_laws.specs.Rows as rows
 use Rattle.protocol_laws.specs.Writers.{IsWriterOf}
 use Rattle.machine.specs.declared.machine.Machine.{Machine}
 use Rattle.hib_core.specs.Hibernation.{shown_by, running_by}
+use Rattle.hib_core.specs.declared.hib.Ending.{Ending}
+use Rattle.hib_core.specs.declared.hib.Ending.TheVariants as ending
 use Rattle.hib_core.specs.declared.hib.Hib.{Hib}
 use Rattle.hib_core.specs.declared.hib.Job.{Job}
 use Rattle.hib_core.specs.declared.hib.Job.TheVariants as job
@@ -56,6 +59,11 @@ IsRow machine frames hib machine' frames' hib' e r c c' =
 abbrev pub HasRow : Machine → Memory → Hib → Machine → Memory → Hib → Event → Reply → Option disk.Content → Option disk.Content → Type 0
 HasRow machine frames hib machine' frames' hib' e r before now =
     rows.HasRow machine.hw (StandsFor machine frames hib) (StandsFor machine' frames' hib') e r before now
+
+-- the job that saves memory and ends so
+abbrev pub saving : Ending → Format → Job
+saving ending.SwitchesOff format = job.Hibernate format
+saving ending.Sleeps format = job.Suspend format
 
 -- what a job asks the plain machine for
 abbrev pub event_of : Job → Event

@@ -7,13 +7,13 @@ ghost use Rattle.definitions.specs.NumberPages.{meta_of};
 ghost use Rattle.hib_core.specs.Begin.{pages_of, info_of};
 ghost use Rattle.plain_machine.specs.Image.{maps_of};
 ghost use Rattle.plain_machine.specs.Machine.{IsOfTable};
-ghost use Rattle.hib_core.specs.Hibernation.{runs_on};
+ghost use Rattle.hib_core.specs.Hibernation.{under_way, runs_on};
 ghost use Rattle.plain_machine.specs.declared.reply.Reply.TheVariants as reply;
 ghost use Rattle.protocol_laws.specs.Rows.{IsNewFault};
 ghost use Rattle.protocol_laws.specs.Writers.{slot_table_of};
 ghost use Rattle.swap_slots.specs.Table.{LiesIn, Matches};
 
-use crate::hib::Stage;
+use crate::hib::{Ending, Stage};
 use crate::write::slot_table;
 use crate::{Hib, Job};
 use frame_arena::Frames;
@@ -36,10 +36,9 @@ impl Hib {
     ghost use Rattle.hib_core.specs.Begin.{IsRefused, IsRefusedWith, LeavesFrames, IsCounted, IsTaken};
     ghost use Rattle.hib_core.specs.Hibernation.{phase_of, phase_told};
     ghost use Rattle.hib_core.specs.Leaving.{BeginsImage, LeavesAtBegin};
-    ghost use Rattle.hib_core.specs.Ready.{CanBegin, CanStep, IsBusy, IsServed};
-    ghost use Rattle.hib_core.specs.Row.{IsBegun};
+    ghost use Rattle.hib_core.specs.Ready.{CanBegin, CanStep, IsBusy};
+    ghost use Rattle.hib_core.specs.Row.{IsBegun, saving};
     ghost use Rattle.hib_core.specs.declared.hib.Stage.TheVariants as stage;
-    ghost use Rattle.hib_core.specs.declared.hib.Job.TheVariants as job;
 
     /// Begins a job, or refuses it and changes nothing. Saveable page frames are copied into free ones. No call of a disk is made.
     pub fn begin(
@@ -49,10 +48,10 @@ impl Hib {
         runs: &mut FreeRuns,
         job: Job,
     ) -> Reply
-        requires served { IsServed job }
         requires ready { CanBegin machine.old frames.old runs.old self.old }
         ensures row { (c : Content) → IsBegun machine.old frames.old frames.new self.new job result c }
         ensures phase { phase_of self.new ≡ phase_told result }
+        ensures begun { (phase_told result ≡ under_way) ⊎ (phase_told result ≡ runs_on) }
         ensures ready { IsBusy self.new → CanStep machine.new frames.new runs.new self.new }
         ensures machine { machine.new ≡ machine.old }
         ensures size { length frames.new ≡ length frames.old }
@@ -63,23 +62,29 @@ impl Hib {
         ensures memory { LeavesAtBegin job machine.old.hw frames.old frames.new ⊎ (frames.new ≡ frames.old) }
     {
         match job {
-            Job::Hibernate(format) => self.hibernate(machine, frames, runs, format),
+            Job::Hibernate(format) => {
+                self.hibernate(machine, frames, runs, format, Ending::SwitchesOff)
+            }
+            Job::Suspend(format) => {
+                self.hibernate(machine, frames, runs, format, Ending::Sleeps)
+            }
             Job::Settle => self.settle(machine, frames, runs),
-            Job::Suspend(_) => unreachable!(),
         }
     }
 
-    /// Begins a hibernation, or refuses it.
+    /// Begins a hibernation that ends so, or refuses it.
     fn hibernate(
         &mut self,
         machine: &Machine,
         frames: &mut Frames,
         runs: &mut FreeRuns,
         format: Format,
+        ending: Ending,
     ) -> Reply
         requires ready { CanBegin machine.now frames.old runs.old self.old }
-        ensures row { (c : Content) → IsBegun machine.now frames.old frames.new self.new (job.Hibernate format) result c }
+        ensures row { (c : Content) → IsBegun machine.now frames.old frames.new self.new (saving ending format) result c }
         ensures phase { phase_of self.new ≡ phase_told result }
+        ensures begun { (phase_told result ≡ under_way) ⊎ (phase_told result ≡ runs_on) }
         ensures ready { IsBusy self.new → CanStep machine.now frames.new runs.new self.new }
         ensures size { length frames.new ≡ length frames.old }
         ensures zones { self.new.snapshot.zones ≡ self.old.snapshot.zones }
@@ -97,6 +102,7 @@ impl Hib {
         let _blocks = machine.blocks;
         let _zones = machine.hw.zones();
         self.stage = Stage::Idle;
+        self.ending = ending;
         match self.accept(machine, frames, runs, format) {
             Ok(counts) => self.take(machine, frames, runs, counts),
             Err(reply) => reply,

@@ -17,10 +17,17 @@ use swap_slots::FreeRuns;
 pub enum Job {
     /// Memory is saved, and the machine switched off.
     Hibernate(Format),
-    /// Memory is saved, and the machine sleeps. Not served yet.
+    /// Memory is saved, and the machine sleeps with all of it kept.
     Suspend(Format),
     /// The mark of a held image is taken back while the machine runs.
     Settle,
+}
+
+/// What the last step of a hibernation does with the machine.
+#[derive(Clone, Copy, Debug, PartialEq, Eq)]
+pub(crate) enum Ending {
+    SwitchesOff,
+    Sleeps,
 }
 
 /// What is done next.
@@ -30,6 +37,8 @@ pub(crate) enum Stage {
     Idle,
     /// Nothing: the image is on the disk, and the machine is off.
     Over,
+    /// Nothing: the image is on the disk, and the machine sleeps.
+    Asleep,
     /// A page or a map is written.
     Write,
     /// What was written is synced.
@@ -59,6 +68,7 @@ pub struct Hib {
     /// The header block, from its read on; then the marked one, or that taken back.
     pub(crate) header: Page,
     pub(crate) stage: Stage,
+    pub(crate) ending: Ending,
     /// Steps made, and steps in all.
     pub(crate) made: u32,
     pub(crate) of: u32,
@@ -87,6 +97,7 @@ impl Hib {
             snapshot,
             header: Page::zero(),
             stage: Stage::Idle,
+            ending: Ending::SwitchesOff,
             made: 0,
             of: 0,
             n: 0,
@@ -133,7 +144,7 @@ impl Hib {
             Stage::SettleRead => self.settle_read(machine, frames, runs, disk),
             Stage::SettleWrite => self.settle_write(machine, frames, runs, disk),
             Stage::SettleSync => self.settle_sync(machine, frames, runs, disk),
-            Stage::Idle | Stage::Over => unreachable!(),
+            Stage::Idle | Stage::Over | Stage::Asleep => unreachable!(),
         }
     }
 }

@@ -5,7 +5,7 @@ ghost use Rattle.plain_machine.specs.declared.reply.Reply.TheVariants as reply;
 ghost use Rattle.plain_machine.specs.Mark.{mark_flags};
 
 use crate::Hib;
-use crate::hib::Stage;
+use crate::hib::{Ending, Stage};
 use frame_arena::Frames;
 use machine::Machine;
 use page_core::Failed;
@@ -68,7 +68,7 @@ impl Hib {
         }
     }
 
-    /// Syncs the mark: the hibernation is over.
+    /// Syncs the mark: the hibernation is over, and of a suspend the machine sleeps.
     pub(crate) fn sync_mark<D: Disk>(
         &mut self,
         machine: &Machine,
@@ -97,10 +97,16 @@ impl Hib {
         ends();
         keeps_area();
         match disk.sync() {
-            Ok(()) => {
-                self.stage = Stage::Over;
-                Reply::Hibernated { n: self.n }
-            }
+            Ok(()) => match self.ending {
+                Ending::SwitchesOff => {
+                    self.stage = Stage::Over;
+                    Reply::Hibernated { n: self.n }
+                }
+                Ending::Sleeps => {
+                    self.stage = Stage::Asleep;
+                    Reply::Asleep { n: self.n }
+                }
+            },
             Err(Failed) => self.begin_undo(UndoCall::Sync),
         }
     }

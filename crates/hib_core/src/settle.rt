@@ -1,10 +1,10 @@
-ghost use Rattle.std.specs.Prelude.{◌≡◌, false, ◌≤◌, nat_eq, IsTrue};
+ghost use Rattle.std.specs.Prelude.{◌≡◌, false, ◌≤◌, ◌⊎◌, nat_eq, IsTrue};
 ghost use Rattle.std.specs.Cmp.Lexicographic.{pointwise};
 ghost use Rattle.definitions.specs.Disk.{Content, HasRisen, raised, Changes, Elapses};
 ghost use Rattle.definitions.specs.SwapHeader.{sig_of, image_signature};
 ghost use Rattle.protocol_laws.specs.Rows.{IsNewFault};
 ghost use Rattle.protocol_laws.specs.Settling.{unmarked_block};
-ghost use Rattle.hib_core.specs.Hibernation.{is_idle, perhaps_held};
+ghost use Rattle.hib_core.specs.Hibernation.{is_idle, perhaps_held, under_way, runs_on};
 
 use crate::Hib;
 use crate::hib::Stage;
@@ -37,6 +37,7 @@ impl Hib {
         requires ready { CanBegin machine.now frames.now runs.now self.old }
         ensures row { (c : Content) → IsBegun machine.now frames.now frames.now self.new job.Settle result c }
         ensures phase { phase_of self.new ≡ phase_told result }
+        ensures begun { (phase_told result ≡ under_way) ⊎ (phase_told result ≡ runs_on) }
         ensures ready { IsBusy self.new → CanStep machine.now frames.now runs.now self.new }
         ensures zones { self.new.snapshot.zones ≡ self.old.snapshot.zones }
         ensures no_fault { IsNewFault result → ⊥ }

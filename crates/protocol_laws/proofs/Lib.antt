@@ -27,7 +27,9 @@ pub mod WrittenWhileHeld
 pub mod Writers
 pub mod Unmarking
 pub mod Undone
+pub mod Behind
 pub mod Settling
+pub mod Waking
 pub mod Stopping
 pub mod TraceAt
 pub mod Other
@@ -42,4 +44,5 @@ pub mod Snapshots
 pub mod ReplaySteps
 pub mod PowerCuts
 pub mod Signatures
-pub mod Swapping
+pub mod SwapRequests
+pub mod SwapEnds

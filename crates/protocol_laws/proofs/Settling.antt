@@ -1,24 +1,13 @@
 -- The steps that take a mark back while the machine runs.
-use Rattle.std.proofs.Common.{◌≡◌, ℕ, ◌/◌, ◌⊎◌, inl, inr, List, take, refl, sym, ap, ◌∙◌, subst, arith}
-use Rattle.definitions.specs.Bytes.{IsPage}
+use Rattle.std.proofs.Common.{ℕ, inl, inr, refl, arith}
 use Rattle.definitions.specs.Disk as disk
-use Rattle.definitions.specs.SwapHeader.{IsMarked, sig_of}
-use Rattle.definitions.proofs.DiskLaws.{as_it_reads-settled, IsImage-after_sync, IsImage-as_it_reads}
-use Rattle.image_laws.specs.ImageBlocks.{Tries}
-use Rattle.plain_machine.specs.Machine.{Hardware, block_of_slot}
-use Rattle.plain_machine.specs.Chain.{header_of, Marked, Holds}
-use Rattle.plain_machine.specs.Image.{Image}
+use Rattle.plain_machine.specs.Machine.{Hardware}
 use Rattle.plain_machine.specs.Shows.{Shown}
-use Rattle.plain_machine.specs.Stands.{Stands, IsHeld, IsOwn, IsFlight, HasFlights, NamesHeld}
-use Rattle.plain_machine.specs.State.{settling, Running, Held, nothing, sure, maybe, own, other, perhaps}
-use Rattle.plain_machine.specs.UsableArea.{area_block}
+use Rattle.plain_machine.specs.Stands.{Stands}
+use Rattle.plain_machine.specs.State.{settling, Running, perhaps}
 use Rattle.protocol_laws.specs.Settling.{IsOnDisk, unmarked_block, SettleBegins, SettleReads, SettleReadFails, SettleWrites, SettleWriteFails, SettleKeepsArea, SettleSyncs, SettleSyncFails}
-use Rattle.protocol_laws.specs.Undo.{with_held}
-use Rattle.protocol_laws.proofs.AreaKept.{kept_by_header}
-use Rattle.protocol_laws.proofs.Back.{slots_read}
-use Rattle.protocol_laws.proofs.Marking.{header_is, length-block, image_blocks}
-use Rattle.protocol_laws.proofs.Same.{header_kept, area_kept, by_sync}
-use Rattle.protocol_laws.proofs.Unmarking.{IsUnmarking, Torn, still, back, torn, kind_torn, own_torn, area_page, header_still, area_still, slots_still, reads_unmarked}
+use Rattle.protocol_laws.proofs.Behind.{waits_on, unmarking, area_tried, waits_tried, runs_unsure, runs_synced}
+use Rattle.protocol_laws.proofs.Unmarking.{IsUnmarking, reads_unmarked}
 
 pub settle_begins : SettleBegins
 settle_begins h shown shown' c a stands activity shows names =
@@ -42,25 +31,10 @@ settle_begins h shown shown' c a stands activity shows names =
     }
 
 pub settle_reads : SettleReads
-settle_reads h shown shown' c a stands header activity shows names =
-    let was = stands.parts.0 in
-    record {
-      activity = activity;
-      parts = (
-        record {
-          held = was.held;
-          shows = shows;
-          task_slots = was.task_slots;
-          flights = was.flights;
-          slot_pages = was.slot_pages;
-          header = was.header;
-          area = was.area;
-        },
-        names,
-        (λ e. header),
-        (λ e. absurd (omega arith)),
-      );
-    }
+settle_reads h shown shown' c a stands header activity shows names = record {
+  activity = activity;
+  parts = (waits_on h shown shown' c a a.held stands.parts.0 shows, names, (λ e. header), (λ e. absurd (omega arith)));
+}
 
 pub settle_read_fails : SettleReadFails
 settle_read_fails h shown shown' c a stands activity shows names =
@@ -81,87 +55,20 @@ settle_read_fails h shown shown' c a stands activity shows names =
       );
     }
 
--- What is written is the block that says of the area what each image says.
-
-block_kept : (h : Hardware) (shown : Shown) (c : disk.Content) (a : Running) → Stands h shown c (settling a 1) → unmarked_block shown.header ≡ area_block h (disk.as_it_reads c)
-block_kept h shown c a stands = ap unmarked_block (stands.parts.2 refl)
-
-unmarking : (h : Hardware) (shown : Shown) (c : disk.Content) (blocks : ℕ) (a : Running) → IsOnDisk h blocks c → Stands h shown c (settling a 1) → IsUnmarking h (unmarked_block shown.header) c blocks
-unmarking h shown c blocks a over stands =
-    let v = disk.as_it_reads c in
-    let here = IsImage-as_it_reads blocks c over.content in
-    let n = image_blocks blocks c v over.content here in
-    let lt = over.header in
-    let header : IsPage (header_of h v) = subst IsPage (sym (header_is h v (omega arith))) (length-block blocks c v (block_of_slot h 0) over.content here lt) in
-    let block = block_kept h shown c a stands in
-    record {
-      content = over.content;
-      on_disk = lt;
-      whole = subst IsPage (sym block) (area_page h v header);
-      unmarked = λ m. stands.parts.0.header.unmarked v here (subst IsMarked block m);
-      area = record { front = ap (λ (p : List ℕ). take 4056 p) block; signature = ap sig_of block };
-      header = stands.parts.0.header;
-    }
+unmarking_settled : (h : Hardware) (shown : Shown) (c : disk.Content) (blocks : ℕ) (a : Running) → IsOnDisk h blocks c → Stands h shown c (settling a 1) → IsUnmarking h (unmarked_block shown.header) c blocks
+unmarking_settled h shown c blocks a over stands = unmarking h shown c blocks a a.held over stands.parts.0 (stands.parts.2 refl)
 
 pub settle_keeps_area : SettleKeepsArea
-settle_keeps_area h shown c c' blocks a over stands tries =
-    let un = unmarking h shown c blocks a over stands in
-    kept_by_header h blocks (unmarked_block shown.header) c c' over.content over.header un.whole un.unmarked un.area tries
-
--- What is held is perhaps there from then on.
-
-own_held : (h : Hardware) (page : List ℕ) (c : disk.Content) (blocks : ℕ) (i : Image) (v : disk.Image) → IsUnmarking h page c blocks → IsHeld h c (maybe (own i)) → Torn h page c v → ((Marked h v → ⊥) ⊎ Holds h v i) × IsOwn h v i
-own_held h page c blocks i v un held (still was) = held v was
-own_held h page c blocks i v un held (back w in_w same header) =
-    let never : Marked h v → ⊥ = λ m. un.unmarked (subst IsMarked header m) in
-    let kind = kind_torn h page c blocks v un (back w in_w same header) ∙ sym (kind_torn h page c blocks w un (still in_w)) in
-    (inl never, own_torn h i v w (held w in_w).1 (ap (λ (n : ℕ). n / 8) same.size) kind never)
-
-none_held : (h : Hardware) (page : List ℕ) (c : disk.Content) (blocks : ℕ) (v : disk.Image) → IsUnmarking h page c blocks → IsHeld h c nothing → Torn h page c v → Marked h v → ⊥
-none_held h page c blocks v un held (still was) = held v was
-none_held h page c blocks v un held (back w in_w same header) = λ m. un.unmarked (subst IsMarked header m)
-
-held_tried : (h : Hardware) (page : List ℕ) (c c' : disk.Content) (blocks : ℕ) (held : Held) → IsUnmarking h page c blocks → Tries (block_of_slot h 0) page c c' → IsHeld h c held → IsHeld h c' (perhaps held)
-held_tried h page c c' blocks nothing un tries is = λ v in'. none_held h page c blocks v un is (torn h page c c' blocks v un tries in')
-held_tried h page c c' blocks (sure (own i)) un tries is =
-    λ v in'. own_held h page c blocks i v un (λ w in_w. let it = is w in_w in (inr it.0, it.1)) (torn h page c c' blocks v un tries in')
-held_tried h page c c' blocks (maybe (own i)) un tries is = λ v in'. own_held h page c blocks i v un is (torn h page c c' blocks v un tries in')
-held_tried h page c c' blocks (sure other) un tries is = tt
-held_tried h page c c' blocks (maybe other) un tries is = tt
-
-pub names_perhaps : (h : Hardware) (shown : Shown) (held : Held) → NamesHeld h shown held → NamesHeld h shown (perhaps held)
-names_perhaps h shown nothing names = names
-names_perhaps h shown (sure x) names = names
-names_perhaps h shown (maybe x) names = names
-
--- an operation is unfinished as before, whatever is held; an out only where none is
-flight_still : (h : Hardware) (a : Running) (held : Held) (t s p : ℕ) → IsFlight h a t s p → IsFlight h (with_held a held) t s p
-flight_still h a held t s p is = record { task = is.task; usable = is.usable; slot = is.slot; valid = is.valid; owner = is.owner }
-
-flights_still : (h : Hardware) (a : Running) (held : Held) → (a.held ≡ nothing → held ≡ nothing) → HasFlights h a → HasFlights h (with_held a held)
-flights_still h a held none has = record {
-  outs = λ t s p e. flight_still h a held t s p (has.outs t s p e);
-  unheld = λ t s p e. none (has.unheld t s p e);
-  ins = λ t s p e. flight_still h a held t s p (has.ins t s p e);
-}
+settle_keeps_area h shown c c' blocks a over stands tries = area_tried h (unmarked_block shown.header) c c' blocks (unmarking_settled h shown c blocks a over stands) tries
 
 pub settle_writes : SettleWrites
 settle_writes h shown shown' c c' blocks a over after stands writes activity shows names =
-    let was = stands.parts.0 in
     let page = unmarked_block shown.header in
-    let un = unmarking h shown c blocks a over stands in
+    let un = unmarking_settled h shown c blocks a over stands in
     record {
       activity = activity;
       parts = (
-        record {
-          held = held_tried h page c c' blocks a.held un (inl writes) was.held;
-          shows = shows;
-          task_slots = was.task_slots;
-          flights = was.flights;
-          slot_pages = slots_read h c c' a.slots (slots_still h page c c' a over.hardware was.shows.fits was.task_slots (inl writes)) was.slot_pages;
-          header = header_still h page c c' blocks un after (inl writes);
-          area = area_still h page c c' blocks a un after (inl writes) was.area;
-        },
+        waits_tried h shown shown' page c c' blocks a a.held over.hardware un after (inl writes) stands.parts.0 shows,
         names,
         (λ e. absurd (omega arith)),
         (λ e. reads_unmarked h page c c' blocks un after writes),
@@ -170,65 +77,15 @@ settle_writes h shown shown' c c' blocks a over after stands writes activity sho
 
 pub settle_write_fails : SettleWriteFails
 settle_write_fails h shown shown' c c' blocks a over after stands fails activity shows names =
-    let was = stands.parts.0 in
-    let page = unmarked_block shown.header in
-    let un = unmarking h shown c blocks a over stands in
-    let area = area_still h page c c' blocks a un after (inr fails) was.area in
-    record {
-      activity = activity;
-      parts = (
-        shows,
-        record {
-          held = held_tried h page c c' blocks a.held un (inr fails) was.held;
-          task_slots = was.task_slots;
-          flights = flights_still h a (perhaps a.held) (λ none. ap perhaps none) was.flights;
-          slot_pages = slots_read h c c' a.slots (slots_still h page c c' a over.hardware was.shows.fits was.task_slots (inr fails)) was.slot_pages;
-          names = names_perhaps h shown' a.held names;
-          header = header_still h page c c' blocks un after (inr fails);
-          area = area;
-        },
-      );
-    }
+    let un = unmarking_settled h shown c blocks a over stands in
+    let waits = waits_tried h shown shown (unmarked_block shown.header) c c' blocks a a.held over.hardware un after (inr fails) stands.parts.0 stands.parts.0.shows in
+    record { activity = activity; parts = (shows, runs_unsure h shown shown' c' a waits names) }
 
 pub settle_syncs : SettleSyncs
-settle_syncs h shown shown' c c' blocks a whole stands syncs activity shows names =
-    let was = stands.parts.0 in
-    let keeps = by_sync h blocks c c' whole syncs in
-    let unmarked : Marked h (disk.as_it_reads c) → ⊥ = stands.parts.3 refl in
-    let reads : disk.as_it_reads c' ≡ disk.as_it_reads c = ap disk.as_it_reads syncs ∙ as_it_reads-settled (disk.as_it_reads c) in
-    let area = area_kept h c c' a keeps was.area in
-    record {
-      activity = activity;
-      parts = (
-        shows,
-        record {
-          held = λ v in' marked. unmarked (subst (Marked h) (IsImage-after_sync c c' v syncs in') marked);
-          task_slots = was.task_slots;
-          flights = flights_still h a nothing (λ none. refl) was.flights;
-          slot_pages = slots_read h c c' a.slots (λ s page e. ap (λ (v : disk.Image). disk.block v (block_of_slot h s)) reads) was.slot_pages;
-          names = names;
-          header = header_kept h c c' keeps was.header;
-          area = area;
-        },
-      );
-    }
+settle_syncs h shown shown' c c' blocks a whole stands syncs activity shows names = record {
+  activity = activity;
+  parts = (shows, runs_synced h shown shown' c c' blocks a (perhaps a.held) whole syncs (stands.parts.3 refl) stands.parts.0 names);
+}
 
 pub settle_sync_fails : SettleSyncFails
-settle_sync_fails h shown shown' c a stands activity shows names =
-    let was = stands.parts.0 in
-    let area = was.area in
-    record {
-      activity = activity;
-      parts = (
-        shows,
-        record {
-          held = was.held;
-          task_slots = was.task_slots;
-          flights = flights_still h a (perhaps a.held) (λ none. ap perhaps none) was.flights;
-          slot_pages = was.slot_pages;
-          names = names_perhaps h shown' a.held names;
-          header = was.header;
-          area = area;
-        },
-      );
-    }
+settle_sync_fails h shown shown' c a stands activity shows names = record { activity = activity; parts = (shows, runs_unsure h shown shown' c a stands.parts.0 names) }

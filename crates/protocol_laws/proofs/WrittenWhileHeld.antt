@@ -1,17 +1,17 @@
 -- While an image is held, or is perhaps there, block(0) is the only block that is written.
-use Rattle.std.proofs.Common.{◌≡◌, ◌≢◌, ◌<◌, ◌≤◌, inl, inr, ℕ, zero, suc, ◌+◌, ◌-◌, Bool, true, false, cond, eqb, ltb, List, [], ◌∷◌, ◌++◌, Option, Some, None, Contains, refl, sym, ap, ap₂, ◌∙◌, subst, arith}
+use Rattle.std.proofs.Common.{◌≡◌, ◌≢◌, ◌≤◌, inl, inr, ℕ, ◌+◌, ◌-◌, Bool, true, false, cond, eqb, ltb, List, [], ◌∷◌, ◌++◌, Option, Some, None, Contains, refl, ap₂, subst, arith}
 use Rattle.std.specs.Prelude.{flat_map}
 use Rattle.std.specs.List.{range_with_len}
-use Rattle.std.proofs.lemmas.Bool.{cases_lt, cases_eq, cond-true, lt-ltb}
+use Rattle.std.proofs.lemmas.Bool.{cases_lt, cond-true, lt-ltb}
 use Rattle.std.proofs.lemmas.List.Elements.{Contains-append_cases, Contains-append_left, Contains-append_right}
 use Rattle.definitions.specs.Disk as disk
 use Rattle.definitions.proofs.Ascending.{Contains-nil}
 use Rattle.plain_machine.specs.Machine.{Hardware, block_of_slot}
 use Rattle.plain_machine.specs.Image.{Image, hibernate_steps}
 use Rattle.plain_machine.specs.Shows.{Shown}
-use Rattle.plain_machine.specs.Stands.{Stands, HasFlights}
+use Rattle.plain_machine.specs.Stands.{Stands}
 use Rattle.plain_machine.specs.declared.event.Event.{Event}
-use Rattle.plain_machine.specs.State.{State, off, on, booting, hibernating, undoing, settling, waking, loading, asleep, Running, Flight, goes_out, comes_in, nothing, maybe, own, held_in}
+use Rattle.plain_machine.specs.State.{State, off, on, booting, hibernating, undoing, settling, waking, loading, asleep, Flight, goes_out, comes_in, nothing, maybe, own, held_in}
 use Rattle.protocol_laws.specs.Rows.{blocks_at, blocks_written, block_of_step, is_step_of, out_block}
 use Rattle.protocol_laws.proofs.Unwritten.{only_in, none_at}
 

@@ -9,9 +9,9 @@ use Rattle.plain_machine.specs.UsableArea.{kind_fault}
 use Rattle.plain_machine.specs.Chain.{header_of, Marked}
 use Rattle.plain_machine.specs.Image.{Image, image_of_memory, hibernate_steps}
 use Rattle.plain_machine.specs.Refusals.{refusal}
-use Rattle.plain_machine.specs.Shows.{Shown, rests, runs, hibernates, undoes, ShowsRunning}
-use Rattle.plain_machine.specs.Stands.{Stands, EachImage, IsAccepted, NamesOnly}
-use Rattle.plain_machine.specs.State.{off, on, hibernating, undoing, Running, sure, own}
+use Rattle.plain_machine.specs.Shows.{Shown, rests, runs, hibernates, undoes, sleeps, ShowsRunning}
+use Rattle.plain_machine.specs.Stands.{Stands, EachImage, IsAccepted, NamesOnly, NamesHeld}
+use Rattle.plain_machine.specs.State.{off, on, hibernating, undoing, asleep, Running, sure, own}
 use Rattle.plain_machine.specs.declared.event.Event.TheVariants.{Hibernate}
 use Rattle.plain_machine.specs.declared.reply.UndoCall.TheVariants as undo
 use Rattle.protocol_laws.specs.Rows.{HasImage}
@@ -87,6 +87,12 @@ abbrev pub Ends : Type 0
 Ends =
     (h : Hardware) (shown shown' : Shown) (c c' : Content) (blocks : ℕ) (suspends : Bool) (i : Image) (a : Running) (k : ℕ) → IsOver h i blocks c → Stands h shown c (hibernating suspends i a k) → k + 1 ≡ hibernate_steps i →
     Syncs c c' → shown'.activity ≡ rests → shown'.keeps_dump ≡ false → Stands h shown' c' (off (sure (own i)) None)
+
+-- Where it is a suspend's the machine sleeps, as it ran before, and the slots of the image stay named.
+abbrev pub EndsAsleep : Type 0
+EndsAsleep =
+    (h : Hardware) (shown shown' : Shown) (c c' : Content) (blocks : ℕ) (suspends : Bool) (i : Image) (a : Running) (k : ℕ) → IsOver h i blocks c → Stands h shown c (hibernating suspends i a k) → k + 1 ≡ hibernate_steps i →
+    Syncs c c' → shown'.activity ≡ sleeps → ShowsRunning h shown' a → NamesHeld h shown' (sure (own i)) → Stands h shown' c' (asleep i (sure (own i)) a)
 
 -- It has left the mark and the blocks in every image.
 abbrev pub EndLeaves : Type 0

@@ -8,6 +8,7 @@ pub mod Memory
 pub mod Writers
 pub mod Undo
 pub mod Settling
+pub mod Waking
 pub mod Replays
 pub mod Rows
 pub mod TraceAt

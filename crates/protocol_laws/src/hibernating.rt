@@ -1,5 +1,5 @@
 ghost use Rattle.protocol_laws.specs.Writers.{WritesNext, ShowsStill};
-ghost use Rattle.protocol_laws.specs.Hibernating.{IsAcceptedUnlessRefused, Begins, WritesOn, WriteFails, WritesElsewhere, SyncsOn, ReadsOn, ReadsArea, CallFails, MarksOn, MarkFails, MarksUnmarked, Ends, EndLeaves, EndFails};
+ghost use Rattle.protocol_laws.specs.Hibernating.{IsAcceptedUnlessRefused, Begins, WritesOn, WriteFails, WritesElsewhere, SyncsOn, ReadsOn, ReadsArea, CallFails, MarksOn, MarkFails, MarksUnmarked, Ends, EndsAsleep, EndLeaves, EndFails};
 ghost use Rattle.protocol_laws.specs.Undo.{UndoWrites, UndoWriteFails, UndoSyncs, UndoSyncFails};
 
 /// The begin of a hibernation.
@@ -39,6 +39,7 @@ pub fn marks()
 /// The last sync.
 pub fn ends()
     ensures made { Ends }
+    ensures asleep { EndsAsleep }
     ensures leaves { EndLeaves }
     ensures failed { EndFails }
 {}

@@ -10,9 +10,11 @@ abbrev pub IsResumed : Reply → Type 0
 IsResumed (reply.Resumed n) = ⊤
 IsResumed _ = ⊥
 
--- the reply ends a resume or tells of a step that was made: no refusal does
+-- the reply ends a resume, a sleep or the way to it, or tells of a step that was made: no refusal does
 abbrev pub GoesOn : Reply → Type 0
 GoesOn (reply.Resumed n) = ⊤
+GoesOn (reply.Asleep n) = ⊤
+GoesOn reply.Woken = ⊤
 GoesOn (reply.More k of) = ⊤
 GoesOn _ = ⊥
 

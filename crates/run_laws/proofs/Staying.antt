@@ -150,7 +150,7 @@ either_nothing : (b : Bool) (x y : Held) → x ≡ nothing → y ≡ nothing →
 either_nothing true x y p q = p
 either_nothing false x y p q = q
 
-holds_nothing : (a : State) → IsSpent a → held_in a ≡ nothing
+pub holds_nothing : (a : State) → IsSpent a → held_in a ≡ nothing
 holds_nothing (off held kept) spent = spent
 holds_nothing (on a) spent = spent
 holds_nothing (booting from dump held k) spent = spent

@@ -5,6 +5,7 @@ use Rattle.std.specs.List.{find, list_all}
 use Rattle.std.specs.Str.{bytes_eq}
 use Rattle.std.proofs.lemmas.Bool.{cases_lt}
 use Rattle.std.proofs.lemmas.List.{take_all, length-take}
+use Rattle.page_core.specs.declared.format.Format.{Format}
 use Rattle.page_core.specs.declared.format.Format.TheVariants.{SkipZeros}
 use Rattle.plain_machine.specs.declared.event.Event.{Event}
 use Rattle.plain_machine.specs.declared.event.Actor.TheVariants as actor
@@ -18,8 +19,8 @@ use Rattle.script.specs.declared.grammar.Setting.{Setting}
 use Rattle.script.specs.declared.words.Span.{Span}
 use Rattle.script.specs.Ranges.{all_ranges}
 use Rattle.script.specs.Words.{◌>>=◌, all_numbers, words_of}
-use Rattle.script.specs.Shapes.{Row, setting_rows, event_rows, core_rows, task_rows, region_row, hibernate_row, resume_row, step_row, with_flags, format_in, actor_in, tasks, second_word, numbers_say}
-use Rattle.script.specs.Grammar.{is_printable, row_of, by_rows, if_found, setting_in, event_by, event_in, core_event_in, task_event_in, words_item, item_of, line_item}
+use Rattle.script.specs.Shapes.{Row, setting_rows, event_rows, core_rows, machine_rows, outside_rows, task_rows, region_row, saving_row, resume_row, step_row, with_flags, format_in, actor_in, tasks, second_word, numbers_say}
+use Rattle.script.specs.Grammar.{is_printable, row_of, by_rows, if_found, setting_in, event_by, event_in, core_event_in, machine_event_in, outside_event_in, task_event_in, words_item, item_of, line_item}
 use Rattle.script.proofs.NumbersLaws.{all_numbers-other}
 use Rattle.script.proofs.RangesLaws.{all_ranges-many}
 
@@ -78,11 +79,11 @@ all_settings_read_nine =
 all_events_read_nine : AllReadNine event_rows
 all_events_read_nine =
     let n : (spans : List Span) (says : List ℕ → ℕ × Event) → length spans < 9 → (words : List (List ℕ)) → numbers_say spans says (take 9 words) ≡ numbers_say spans says words = λ spans says few words. numbers_front 9 spans says words few in
-    let hibernate : (words : List (List ℕ)) → hibernate_row.reads (take 9 words) ≡ hibernate_row.reads words = λ words. ap (λ r. r >>= λ format. Ok (1, event.Hibernate format)) (format_front words) in
+    let saving : (first : List ℕ) (saves : Format → Event) (words : List (List ℕ)) → (saving_row first saves).reads (take 9 words) ≡ (saving_row first saves).reads words = λ first saves words. ap (λ r. r >>= λ format. Ok (1, saves format)) (format_front words) in
     let resume : (words : List (List ℕ)) → resume_row.reads (take 9 words) ≡ resume_row.reads words = λ words. ap (λ r. r >>= λ ranges. Ok (1, event.Resume (loader.Ranges ranges) Compare)) (ranges_front words) in
     let step : (words : List (List ℕ)) → step_row.reads (take 9 words) ≡ step_row.reads words = λ words. ap (λ r. r >>= λ x. Ok (1, event.Step x)) (actor_front words) in
     let tasks : AllReadNine task_rows = (n _ _ (omega arith), (n _ _ (omega arith), (n _ _ (omega arith), (n _ _ (omega arith), (n _ _ (omega arith), (n _ _ (omega arith), (n _ _ (omega arith), tt))))))) in
-    (n _ _ (omega arith), (hibernate, (n _ _ (omega arith), (resume, (n _ _ (omega arith), (n _ _ (omega arith), (step, (λ ws. second_front _ _ _ ws (omega arith), tasks))))))))
+    (n _ _ (omega arith), (saving (codes "hibernate") (λ format. event.Hibernate format), (saving (codes "suspend") (λ format. event.Suspend format), (n _ _ (omega arith), (n _ _ (omega arith), (n _ _ (omega arith), (resume, (n _ _ (omega arith), (n _ _ (omega arith), (step, (λ ws. second_front _ _ _ ws (omega arith), tasks)))))))))))
 
 abbrev FrontOf : {A : Type 0} → Option (Row A) → Type 0
 FrontOf None = ⊤
@@ -152,6 +153,37 @@ found_in_both is (row ∷ rows) others = by (is row) (found_in_both is rows othe
   by : (b : Bool) → find is (rows ++ others) ≡ or_found (find is rows) (find is others) → cond b (Some row) (find is (rows ++ others)) ≡ or_found (cond b (Some row) (find is rows)) (find is others)
   by true rest = refl
   by false rest = rest
+
+-- an event of the whole machine is one that it is to do, or one from outside
+if_machine : {A : Type 0} (row other : Option (Row A)) (words : List (List ℕ)) (x : A) → if_found row words ≡ Ok (Some x) → if_found (or_found row other) words ≡ Ok (Some x)
+if_machine None other words x is = absurd (cc)
+if_machine (Some row) other words x is = is
+
+if_machine_fault : {A : Type 0} (row other : Option (Row A)) (words : List (List ℕ)) (k : FaultKind) → if_found row words ≡ Err k → if_found (or_found row other) words ≡ Err k
+if_machine_fault None other words k is = absurd (cc)
+if_machine_fault (Some row) other words k is = is
+
+if_outside : {A : Type 0} (row other : Option (Row A)) (words : List (List ℕ)) → if_found row words ≡ Ok None → if_found (or_found row other) words ≡ if_found other words
+if_outside None other words is = refl
+if_outside (Some row) other words is = by (row.reads words) is where
+  by : (r : Result _ FaultKind) → (r >>= λ s. Ok (Some s)) ≡ Ok None → (r >>= λ s. Ok (Some s)) ≡ if_found other words
+  by (Ok y) e = absurd (cc)
+  by (Err k) e = absurd (cc)
+
+found_core : (first : List ℕ) (words : List (List ℕ)) → if_found (row_of first core_rows) words ≡ if_found (or_found (row_of first machine_rows) (row_of first outside_rows)) words
+found_core first words = ap (λ row. if_found row words) (found_in_both (λ row. bytes_eq row.first first) machine_rows outside_rows)
+
+pub core_event_in-machine : (first : List ℕ) (words : List (List ℕ)) (x : ℕ × Event) → machine_event_in first words ≡ Ok (Some x) → core_event_in first words ≡ Ok (Some x)
+unfolding core_event_in machine_event_in
+core_event_in-machine first words x is = found_core first words ∙ if_machine (row_of first machine_rows) (row_of first outside_rows) words x is
+
+pub core_event_in-fault : (first : List ℕ) (words : List (List ℕ)) (k : FaultKind) → machine_event_in first words ≡ Err k → core_event_in first words ≡ Err k
+unfolding core_event_in machine_event_in
+core_event_in-fault first words k is = found_core first words ∙ if_machine_fault (row_of first machine_rows) (row_of first outside_rows) words k is
+
+pub core_event_in-outside : (first : List ℕ) (words : List (List ℕ)) → machine_event_in first words ≡ Ok None → core_event_in first words ≡ outside_event_in first words
+unfolding core_event_in machine_event_in outside_event_in
+core_event_in-outside first words is = found_core first words ∙ if_outside (row_of first machine_rows) (row_of first outside_rows) words is
 
 by_either : (first : List ℕ) (words : List (List ℕ)) → event_by (row_of first event_rows) words ≡ event_by (or_found (row_of first core_rows) (row_of first task_rows)) words
 by_either first words = ap (λ row. event_by row words) (found_in_both (λ row. bytes_eq row.first first) core_rows task_rows)

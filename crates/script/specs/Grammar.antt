@@ -18,7 +18,7 @@ use Rattle.script.specs.declared.grammar.Setting.TheVariants.{Zone, Last, Bad, R
 use Rattle.script.specs.declared.grammar.LineStop.{LineStop}
 use Rattle.script.specs.declared.grammar.LineStop.TheVariants as stop
 use Rattle.script.specs.Settings.{SettingsValue, hardware_by, is_faulty, with_setting, IsFittingSetting}
-use Rattle.script.specs.Shapes.{Row, setting_rows, event_rows, core_rows, task_rows, IsScripted}
+use Rattle.script.specs.Shapes.{Row, setting_rows, event_rows, core_rows, machine_rows, outside_rows, task_rows, IsScripted}
 use Rattle.script.specs.Words.{◌>>=◌, words_of}
 
 -- One line.
@@ -60,6 +60,13 @@ event_in first words = event_by (row_of first event_rows) words
 -- that, where it is an event of the whole machine, and where it is what a task asks for
 unfoldable pub core_event_in : List ℕ → List (List ℕ) → Result (Option (ℕ × Event)) FaultKind
 core_event_in first words = if_found (row_of first core_rows) words
+
+-- of these, one of the machine, and one from outside or a step
+unfoldable pub machine_event_in : List ℕ → List (List ℕ) → Result (Option (ℕ × Event)) FaultKind
+machine_event_in first words = if_found (row_of first machine_rows) words
+
+unfoldable pub outside_event_in : List ℕ → List (List ℕ) → Result (Option (ℕ × Event)) FaultKind
+outside_event_in first words = if_found (row_of first outside_rows) words
 
 unfoldable pub task_event_in : List ℕ → List (List ℕ) → Result (ℕ × Event) FaultKind
 task_event_in first words = event_by (row_of first task_rows) words

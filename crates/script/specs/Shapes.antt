@@ -127,8 +127,9 @@ abbrev pub format_in : List (List ℕ) → Result Format FaultKind
 format_in [] = Ok Plain
 format_in (word ∷ words) = second_word (codes "zeros") (word ∷ words) >>= numbers_say [] (λ n. SkipZeros)
 
-abbrev pub hibernate_row : Row (ℕ × Event)
-hibernate_row = record { first = codes "hibernate"; reads = λ line. format_in line >>= λ format. Ok (1, event.Hibernate format) }
+-- an event that saves memory, in a format
+abbrev pub saving_row : List ℕ → (Format → Event) → Row (ℕ × Event)
+saving_row first saves = record { first = first; reads = λ line. format_in line >>= λ format. Ok (1, saves format) }
 
 -- a resume compares the identity, and its loader holds the page frames of the ranges
 abbrev pub resume_row : Row (ℕ × Event)
@@ -137,18 +138,29 @@ resume_row = record {
   reads = λ line. all_ranges line >>= λ ranges. Ok (1, event.Resume (loader.Ranges ranges) Compare);
 }
 
--- a row for each first word of an event of the whole machine, and of what a task asks for
-abbrev pub core_rows : List (Row (ℕ × Event))
-core_rows =
+-- a row for each first word of an event of the whole machine, of what happens to it from outside or step by step, and of what a task asks
+-- for
+abbrev pub machine_rows : List (Row (ℕ × Event))
+machine_rows =
     event_row (codes "boot") [] (λ n. event.Boot Fresh)
-    ∷ hibernate_row
+    ∷ saving_row (codes "hibernate") (λ format. event.Hibernate format)
+    ∷ saving_row (codes "suspend") (λ format. event.Suspend format)
+    ∷ event_row (codes "wake") [] (λ n. event.Wake)
     ∷ event_row (codes "settle") [] (λ n. event.Settle)
+    ∷ event_row (codes "shrink") (values ∷ []) (λ n. event.Shrink (slice_index n 0))
     ∷ resume_row
-    ∷ event_row (codes "cut") (values ∷ []) (λ n. event.Cut (slice_index n 0))
+    ∷ []
+
+abbrev pub outside_rows : List (Row (ℕ × Event))
+outside_rows =
+    event_row (codes "cut") (values ∷ []) (λ n. event.Cut (slice_index n 0))
     ∷ event_row (codes "arm") (span 1 1000000 ∷ span 0 1000000 ∷ values ∷ []) (λ n. event.Arm (slice_index n 0) (slice_index n 1) (slice_index n 2))
     ∷ step_row
     ∷ core_row (codes "steps") (span 1 100000 ∷ []) (λ n. slice_index n 0)
     ∷ []
+
+abbrev pub core_rows : List (Row (ℕ × Event))
+core_rows = machine_rows ++ outside_rows
 
 abbrev pub task_rows : List (Row (ℕ × Event))
 task_rows =
@@ -172,13 +184,5 @@ IsScriptedLoader loader.Table = ⊥
 -- the events that lines give: a boot with fresh memory, and a resume that compares the identity
 abbrev pub IsScripted : Event → Type 0
 IsScripted (event.Boot from) = from ≡ Fresh
-IsScripted (event.Hibernate f) = ⊤
-IsScripted (event.Suspend f) = ⊥
-IsScripted event.Wake = ⊥
-IsScripted event.Settle = ⊤
-IsScripted (event.Shrink want) = ⊥
 IsScripted (event.Resume l check) = IsScriptedLoader l × (check ≡ Compare)
-IsScripted (event.Step x) = ⊤
-IsScripted (event.Task t o) = ⊤
-IsScripted (event.Cut pick) = ⊤
-IsScripted (event.Arm first count pick) = ⊤
+IsScripted _ = ⊤

@@ -1,7 +1,7 @@
 ghost use Rattle.std.specs.Prelude.{◌≡◌, ◌<◌, ◌≤◌, IfOk, IfSome, IsOk, ◌↔◌, false, IfErr};
 ghost use Rattle.std.specs.List.{list_all};
 ghost use Rattle.script.specs.Words.{texts};
-ghost use Rattle.script.specs.Grammar.{core_event_in, event_in, is_printable, line_item, setting_in, task_event_in, words_item, IsFittingItem};
+ghost use Rattle.script.specs.Grammar.{core_event_in, event_in, machine_event_in, outside_event_in, is_printable, line_item, setting_in, task_event_in, words_item, IsFittingItem};
 ghost use Rattle.script.specs.Settings.{IsFittingSetting};
 ghost use Rattle.script.specs.Shapes.{actor_in, format_in, region_row, second_word};
 ghost use Rattle.plain_machine.specs.Fitting.{IsFittingActor};
@@ -210,7 +210,7 @@ fn actor(words: &[&[u8]]) -> Result<Actor, FaultKind>
     }
 }
 
-/// How a hibernation is to write pages, by the words behind `hibernate`.
+/// How pages are to be written, by the words behind `hibernate` or `suspend`.
 fn format(words: &[&[u8]]) -> Result<Format, FaultKind>
     ensures { result ≡ format_in (texts words.now) }
 {
@@ -303,9 +303,20 @@ fn events_of(first: &[u8], rest: &[&[u8]]) -> Result<(u32, Event), FaultKind>
 }
 
 /// How many times which event of the whole machine a line is, where its first word is such an event's.
-#[tactic(auto, unfolding(crate::specs::Grammar::core_event_in))]
 fn core_events_of(first: &[u8], rest: &[&[u8]]) -> Result<Option<(u32, Event)>, FaultKind>
     ensures says { result ≡ core_event_in first.now (texts rest.now) }
+    ensures fits { IfOk result (λ events. IfSome events (λ e. IsFittingItem (Item.Events e.0 e.1))) }
+{
+    match machine_events_of(first, rest)? {
+        Some(events) => Ok(Some(events)),
+        None => outside_events_of(first, rest),
+    }
+}
+
+/// What the machine as a whole is to do.
+#[tactic(auto, unfolding(crate::specs::Grammar::machine_event_in))]
+fn machine_events_of(first: &[u8], rest: &[&[u8]]) -> Result<Option<(u32, Event)>, FaultKind>
+    ensures says { result ≡ machine_event_in first.now (texts rest.now) }
     ensures fits { IfOk result (λ events. IfSome events (λ e. IsFittingItem (Item.Events e.0 e.1))) }
 {
     match first {
@@ -314,14 +325,34 @@ fn core_events_of(first: &[u8], rest: &[&[u8]]) -> Result<Option<(u32, Event)>, 
             Ok(Some((1, Event::Boot(BootFrom::Fresh))))
         }
         b"hibernate" => Ok(Some((1, Event::Hibernate(format(rest)?)))),
+        b"suspend" => Ok(Some((1, Event::Suspend(format(rest)?)))),
+        b"wake" => {
+            let [] = numbers(rest, [])?;
+            Ok(Some((1, Event::Wake)))
+        }
         b"settle" => {
             let [] = numbers(rest, [])?;
             Ok(Some((1, Event::Settle)))
+        }
+        b"shrink" => {
+            let [want] = numbers(rest, [VALUE])?;
+            Ok(Some((1, Event::Shrink(want))))
         }
         b"resume" => {
             let loader = Loader::Ranges(ranges(rest)?);
             Ok(Some((1, Event::Resume(loader, IdentCheck::Compare))))
         }
+        _ => Ok(None),
+    }
+}
+
+/// What happens to it from outside, and its steps and those of tasks.
+#[tactic(auto, unfolding(crate::specs::Grammar::outside_event_in))]
+fn outside_events_of(first: &[u8], rest: &[&[u8]]) -> Result<Option<(u32, Event)>, FaultKind>
+    ensures says { result ≡ outside_event_in first.now (texts rest.now) }
+    ensures fits { IfOk result (λ events. IfSome events (λ e. IsFittingItem (Item.Events e.0 e.1))) }
+{
+    match first {
         b"cut" => {
             let [pick] = numbers(rest, [VALUE])?;
             Ok(Some((1, Event::Cut(pick))))

@@ -1,7 +1,10 @@
-//! Tests of tasks that swap: pages on their way to slots and back, beside hibernations, resumes, faults and cuts.
+//! Tests of tasks that swap, and of memory that shrinks: pages on their way to slots and back, and cached ones that are dropped, beside
+//! hibernations, resumes, faults and cuts.
 #![tactic(auto)]
 
 #[cfg(test)]
 mod examples;
+#[cfg(test)]
+mod sizes;
 #[cfg(test)]
 mod turns;

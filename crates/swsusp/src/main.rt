@@ -4,8 +4,7 @@
 use dump_file::{StdSink, StdSource};
 use page_core::NoMemory;
 use sector_disk::{Disk, FileDisk, MemDisk};
-use std::fs::{File, OpenOptions};
-use std::os::fd::AsRawFd;
+use std::fs::File;
 use std::process::ExitCode;
 use std::{env, io};
 use swsusp_cli::{Choice, Status, print, run, swap_name};
@@ -13,20 +12,19 @@ use swsusp_cli::{Choice, Status, print, run, swap_name};
 /// The status of a file that can't be opened, which no run answers.
 const NOT_OPENED: u8 = 7;
 
-/// The file that stands for a standard stream that is closed.
-const NO_STREAM: &str = "/dev/null";
-
 fn main(rt: HostRuntime) -> ExitCode {
-    let Ok(words) = env::args(&rt) else {
-        return ended(&rt, b"words\n", Status::Words.code());
+    let words = match env::args(&rt) {
+        Ok(words) => words,
+        Err(error) if error.kind() == io::ErrorKind::OutOfMemory => return no_memory(&rt),
+        Err(_) => return ended(&rt, b"words\n", Status::Words.code()),
     };
     let Ok(words) = words.collect::<Vec<String>>(rt.alloc()) else {
-        return ended(&rt, b"no memory\n", Status::Memory.code());
+        return no_memory(&rt);
     };
     match swap_name(rt.alloc(), &words) {
-        Err(NoMemory) => ended(&rt, b"no memory\n", Status::Memory.code()),
+        Err(NoMemory) => no_memory(&rt),
         Ok(Choice::File(path)) => {
-            let Ok(_held) = hold_streams(&rt) else {
+            let Ok(_held) = standard_streams::hold(&rt) else {
                 return ended(&rt, b"open fault\n", NOT_OPENED);
             };
             match open(&rt, &words, path.as_str()) {
@@ -35,7 +33,7 @@ fn main(rt: HostRuntime) -> ExitCode {
             }
         }
         Ok(Choice::Memory(blocks)) => match MemDisk::create(rt.alloc(), blocks) {
-            Err(NoMemory) => ended(&rt, b"no memory\n", Status::Memory.code()),
+            Err(NoMemory) => no_memory(&rt),
             Ok(mut disk) => run_over(&rt, &words, &mut disk),
         },
     }
@@ -47,22 +45,6 @@ fn open(rt: &HostRuntime, words: &[String], path: &str) -> io::Result<FileDisk<F
         [_, command, ..] if command.as_str() == "inspect" => FileDisk::open_read_only(rt, path),
         _ => FileDisk::open(rt, path),
     }
-}
-
-/// Takes the places of standard streams that are closed, so that no file which is opened later becomes one. Standard input's is
-/// open for writing alone and those of the outputs for reading alone, so that they fail as closed ones do.
-fn hold_streams(rt: &HostRuntime) -> io::Result<(Option<File>, File, File)> {
-    let first = OpenOptions::new().write(true).open(rt, NO_STREAM)?;
-    let input = if first.as_raw_fd() == 0 {
-        Some(first)
-    } else {
-        None
-    };
-    Ok((
-        input,
-        File::open(rt, NO_STREAM)?,
-        File::open(rt, NO_STREAM)?,
-    ))
 }
 
 /// Runs over a disk, with the standard streams.
@@ -78,4 +60,9 @@ fn run_over<D: Disk>(rt: &HostRuntime, words: &[String], disk: &mut D) -> ExitCo
 fn ended(rt: &HostRuntime, text: &[u8], code: u8) -> ExitCode {
     let _ = print(&mut StdSink::new(rt.stderr()), text);
     ExitCode::from(code)
+}
+
+/// Ends before a run, where memory was refused.
+fn no_memory(rt: &HostRuntime) -> ExitCode {
+    ended(rt, b"no memory\n", Status::Memory.code())
 }

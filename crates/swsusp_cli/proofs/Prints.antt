@@ -70,11 +70,11 @@ replay_flushed x x' status (unformatted script call of is) well = told_flushed (
 replay_flushed x x' status (played script is) well = (is.prints.2.flushed, is.note.flushed)
 replay_flushed x x' status (cut_off script is) well = absurd (well is.status_is)
 
-pub hibernates_flushed : (f : Format) (x x' : View) (status : Status) → Hibernates f x x' status → status ≢ Stream → AreFlushed x'.out x'.note
-hibernates_flushed f x x' status (dumps.no_dump fault is) well = told_flushed (dump_told fault) status x.out x'.out x.note x'.note is.told well
-hibernates_flushed f x x' status (dumps.out_of_memory is) well = told_flushed memory_told status x.out x'.out x.note x'.note is.told well
-hibernates_flushed f x x' status (dumps.unread is) well = absurd (well is.status_is)
-hibernates_flushed f x x' status (dumps.answered dump ended is) well = told_flushed (hibernation_told ended) status x.out x'.out x.note x'.note is.told well
+pub hibernates_flushed : (f : Format) (size : Option ℕ) (x x' : View) (status : Status) → Hibernates f size x x' status → status ≢ Stream → AreFlushed x'.out x'.note
+hibernates_flushed f size x x' status (dumps.no_dump fault is) well = told_flushed (dump_told fault) status x.out x'.out x.note x'.note is.told well
+hibernates_flushed f size x x' status (dumps.out_of_memory is) well = told_flushed memory_told status x.out x'.out x.note x'.note is.told well
+hibernates_flushed f size x x' status (dumps.unread is) well = absurd (well is.status_is)
+hibernates_flushed f size x x' status (dumps.answered dump ended is) well = told_flushed (hibernation_told ended) status x.out x'.out x.note x'.note is.told well
 
 pub resumes_flushed : (check : IdentCheck) (x x' : View) (status : Status) → Resumes check x x' status → status ≢ Stream → AreFlushed x'.out x'.note
 resumes_flushed check x x' status (loads.no_dump fault is) well = told_flushed (dump_told fault) status x.out x'.out x.note x'.note is.told well

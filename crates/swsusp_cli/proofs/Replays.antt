@@ -34,6 +34,7 @@ use Rattle.swsusp_cli.specs.declared.setting_up.Unready.TheVariants.{Memory, Sma
 use Rattle.swsusp_cli.specs.declared.status.Status.{Status}
 use Rattle.run_laws.proofs.AtomicCopy.{all_restore}
 use Rattle.run_laws.proofs.Once.{resumed_once}
+use Rattle.run_laws.proofs.Sleeps.{never_both}
 use Rattle.command_core.proofs.Leaving.{leaves_then}
 use Rattle.swsusp_cli.proofs.Formatted.{CanFormat, formatted_unmarked, formats_leaves, formats_size}
 use Rattle.swsusp_cli.proofs.Prints.{printed_then, whole_still, fails_early}
@@ -100,6 +101,7 @@ run_formatted script old new events replies before between now c told whole whol
       end = end.1;
       run = run;
       once = resumed_once h (disk.as_it_reads c1) None events replies end.1 run;
+      sleeps = never_both h (disk.as_it_reads c1) None events replies end.1 run;
       restores = all_restore h (disk.as_it_reads c1) None events replies end.1 run;
       world = new;
       hardware = hw ∙ fresh.hardware;
@@ -130,6 +132,13 @@ replies_of script old new events replies before between now whole whole_between 
   faults = counted_earlier replies before.faults between.faults now.faults set.faults was_played.faults;
   run = λ c told. run_formatted script old new events replies before between now c told (whole_of before.blocks before.content c told whole) whole_between whole_now (can_format script before.blocks set.hardware set.roomy few) set.new set.formats was_played hw booted;
 }
+
+-- the world that stands for the state where the run ends is the one that played
+pub world_at_end : (script : ScriptValue) (old new : World) (events : List Event) (replies : List Reply) (before between now : DiskView) (whole : IfSome before.content (disk.IsContent before.blocks)) (whole_between : IfSome between.content (disk.IsContent between.blocks))
+    (whole_now : IfSome now.content (disk.IsContent now.blocks)) (set : IsSetUp script before between old) (few : length script.bad ≤ 630) (was_played : HasPlayed old new events replies between now) (hw : hardware_of new ≡ hardware_of old) (booted : IsOff new ⊎ (now.blocks ≡ boot_blocks new))
+    (c : disk.Content) (told : before.content ≡ Some c) → ((replies_of script old new events replies before between now whole whole_between whole_now set few was_played hw booted).run c told).world ≡ new
+unfolding replies_of run_formatted
+world_at_end script old new events replies before between now whole whole_between whole_now set few was_played hw booted c told = refl
 
 -- A script whose machine isn't set up, as it is told.
 pub not_set_up : (x x' : View) (status : Status) (script : ScriptValue) (why : Unready) → IsScript x x' script → IsNotSetUp script x.disk x'.disk why → Tells (unready_told why) status x x' → IsReplayed x x' status

@@ -20,8 +20,7 @@ use Rattle.protocol_laws.specs.Replays.{SameSteps, StaysOfReplay}
 use Rattle.protocol_laws.specs.Rows.{IsSameArea, IsNewFault, LeavesBlock, blocks_written}
 use Rattle.protocol_laws.proofs.WrittenWhileHeld.{at_written}
 use Rattle.protocol_laws.proofs.Unwritten.{block_same}
-use Rattle.script.specs.Shapes.{IsScripted}
-use Rattle.world_core.specs.Row.{HasRow, IsServed, IsStep, IsCalled, orders_after}
+use Rattle.world_core.specs.Row.{HasRow, IsStep, IsCalled, orders_after}
 use Rattle.world_core.specs.StandsFor.{hardware_of, shown}
 use Rattle.world_core.specs.World.{World}
 use Rattle.swsusp_cli.specs.Playing.{Played, HasPlayed}
@@ -223,18 +222,3 @@ text_more rs r = flat_map-append line_of rs (r ∷ []) ∙ ap (λ (xs : List ℕ
 -- one event more
 pub one_more : (events : List Event) (i : ℕ) → i < length events → take (i + 1) events ≡ take i events ++ get_or events i (event.Boot Fresh) ∷ []
 one_more events i lt = take_more events i (event.Boot Fresh) lt
-
--- What a script's lines give is served.
-
-pub served : (e : Event) → IsScripted e → IsServed e
-served (event.Boot from) is = tt
-served (event.Hibernate f) is = tt
-served (event.Suspend f) is = absurd is
-served event.Wake is = absurd is
-served event.Settle is = tt
-served (event.Shrink want) is = absurd is
-served (event.Resume l check) is = tt
-served (event.Step x) is = tt
-served (event.Task t o) is = tt
-served (event.Cut pick) is = tt
-served (event.Arm first count pick) is = tt

@@ -6,7 +6,7 @@ use Rattle.swsusp_cli.specs.declared.words.Command.TheVariants.{Inspect, Hiberna
 
 abbrev pub asked_by : Command → Asked
 asked_by (Inspect offset swap) = inspect offset swap.now
-asked_by (Hibernate format swap) = hibernate format swap.now
+asked_by (Hibernate format size swap) = hibernate format size swap.now
 asked_by (Resume check swap) = resume check swap.now
 asked_by Replay = replay
 asked_by (Drill number) = drill number

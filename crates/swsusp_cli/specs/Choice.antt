@@ -7,7 +7,7 @@ use Rattle.swsusp_cli.specs.Words.{Asked, inspect, hibernate, resume, replay, dr
 -- the file that a command works on
 abbrev pub file_of : Asked → Option (List ℕ)
 file_of (inspect offset swap) = Some swap
-file_of (hibernate format swap) = Some swap
+file_of (hibernate format size swap) = Some swap
 file_of (resume check swap) = Some swap
 file_of replay = None
 file_of (drill number) = None

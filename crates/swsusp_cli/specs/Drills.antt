@@ -17,7 +17,7 @@ abbrev pub summary_told : ℕ → List Reply → Told
 summary_told number replies = record { status = Done; out = summary number (tally_of replies); note = [] }
 
 -- All events were played, and the line is that of a run of the plain machine, as in a replay. None of its replies tells of a call of the
--- disk that failed where the disk's count didn't rise.
+-- disk that failed at its own event, where the disk's count didn't rise.
 pub record IsSummed (number : ℕ) (x x' : View) (status : Status) : Type 0 where
   pub roomy : LieBelow drill_hardware x.disk.blocks
   pub replies : List Reply

@@ -1,5 +1,5 @@
 -- How `hibernate` may end: it reads a dump, and its machine answers.
-use Rattle.std.specs.Prelude.{◌≡◌, ◌≤◌, ◌+◌, ℕ, List, [], ◌++◌, codes, decimal, Bool, true, false, if◌then◌else◌, Some, Ok, Err}
+use Rattle.std.specs.Prelude.{◌≡◌, ◌≤◌, ◌+◌, ℕ, List, [], ◌++◌, codes, decimal, Bool, true, false, if◌then◌else◌, Option, Some, Ok, Err}
 use Rattle.page_core.specs.declared.format.Format.{Format}
 use Rattle.definitions.specs.Disk as disk
 use Rattle.definitions.specs.Streams.{IsOver}
@@ -12,7 +12,7 @@ use Rattle.plain_machine.specs.Premises.{HasOriginal}
 use Rattle.plain_machine.specs.Replies.{line_of}
 use Rattle.plain_machine.specs.declared.reply.Reply.{Reply}
 use Rattle.plain_machine.specs.declared.reply.Reply.TheVariants as reply
-use Rattle.command_core.specs.Hibernation.{HasHibernated}
+use Rattle.command_core.specs.Hibernation.{HasHibernated, machine_to_save}
 use Rattle.command_core.specs.declared.ending.Ended.{Ended}
 use Rattle.swsusp_cli.specs.Answer.{Told, line}
 use Rattle.swsusp_cli.specs.Outcome.{IsOutOfMemory, IsUnread, Tells}
@@ -63,17 +63,18 @@ stopped_told ended = record { status = if ended.failed then Device else Refused;
 abbrev pub hibernation_told : Ended → Told
 hibernation_told ended = if is_hibernated ended.reply then record { status = Done; out = line_of ended.reply; note = [] } else stopped_told ended
 
--- The machine of the dump has hibernated, or has answered why it doesn't.
-pub record HasAnswered (f : Format) (x x' : View) (status : Status) (dump : DumpValue) (ended : Ended) : Type 0 where
+-- The machine of the dump has hibernated, or has answered why it doesn't; cached page frames were dropped before where a size was asked
+-- for.
+pub record HasAnswered (f : Format) (size : Option ℕ) (x x' : View) (status : Status) (dump : DumpValue) (ended : Ended) : Type 0 where
   pub dump_is : IsDump x x' dump
   pub told : Tells (hibernation_told ended) status x x'
-  pub ends : (v : disk.Image) → x.disk.content ≡ Some (disk.settled v) → (Marked dump.hw v → HasOriginal dump.hw v) → HasHibernated dump.hw dump.memory f v ended x'.disk.content
+  pub ends : (v : disk.Image) → x.disk.content ≡ Some (disk.settled v) → (Marked dump.hw v → HasOriginal dump.hw v) → HasHibernated dump.hw (machine_to_save dump.hw dump.memory size v) f v ended x'.disk.content
   pub calls : x'.disk.calls ≤ x.disk.calls + 66002
   pub orders : x'.disk.orders ≡ x.disk.orders
 
 -- One of these, by what the outside told before a hibernation and after it.
-pub data Hibernates (f : Format) (x x' : View) (status : Status) : Type 0 where
-  no_dump : (fault : DumpFault) → IsNoDump x x' status fault → Hibernates f x x' status
-  out_of_memory : IsOutOfMemory x x' status → Hibernates f x x' status
-  unread : IsUnread x x' status → Hibernates f x x' status
-  answered : (dump : DumpValue) (ended : Ended) → HasAnswered f x x' status dump ended → Hibernates f x x' status
+pub data Hibernates (f : Format) (size : Option ℕ) (x x' : View) (status : Status) : Type 0 where
+  no_dump : (fault : DumpFault) → IsNoDump x x' status fault → Hibernates f size x x' status
+  out_of_memory : IsOutOfMemory x x' status → Hibernates f size x x' status
+  unread : IsUnread x x' status → Hibernates f size x x' status
+  answered : (dump : DumpValue) (ended : Ended) → HasAnswered f size x x' status dump ended → Hibernates f size x x' status

@@ -23,9 +23,13 @@ abbrev pub is_resumed : Reply → Bool
 is_resumed (reply.Resumed n) = true
 is_resumed _ = false
 
+-- the dump of a machine with this memory
+abbrev pub written_told : Hardware → Memory → Told
+written_told h m = record { status = Done; out = dump_bytes h m; note = [] }
+
 -- after a resume that ended well out is the dump of the memory that it restored
 abbrev pub resume_told : Hardware → Memory → Ended → Told
-resume_told h m ended = if is_resumed ended.reply then record { status = Done; out = dump_bytes h m; note = [] } else stopped_told ended
+resume_told h m ended = if is_resumed ended.reply then written_told h m else stopped_told ended
 
 -- The image was resumed into the machine of the dump, which then has this memory, or it has answered why not.
 pub record HasLoaded (check : IdentCheck) (x x' : View) (status : Status) (dump : DumpValue) (memory : Memory) (ended : Ended) : Type 0 where

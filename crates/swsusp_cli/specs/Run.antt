@@ -24,7 +24,7 @@ IsAnswer (Some (inspect offset swap)) blocks content before after told = IsInspe
 -- what these do is told by IsReplayed, IsDrilled, Hibernates, Resumes, Exports and Imports
 IsAnswer (Some replay) blocks content before after told = ⊥
 IsAnswer (Some (drill number)) blocks content before after told = ⊥
-IsAnswer (Some (hibernate format swap)) blocks content before after told = ⊥
+IsAnswer (Some (hibernate format size swap)) blocks content before after told = ⊥
 IsAnswer (Some (resume check swap)) blocks content before after told = ⊥
 IsAnswer (Some export) blocks content before after told = ⊥
 IsAnswer (Some (import swap)) blocks content before after told = ⊥
@@ -33,7 +33,7 @@ IsAnswer (Some (import swap)) blocks content before after told = ⊥
 abbrev pub NoMachine : Option Asked → Type 0
 NoMachine None = ⊤
 NoMachine (Some (inspect offset swap)) = ⊤
-NoMachine (Some (hibernate format swap)) = ⊥
+NoMachine (Some (hibernate format size swap)) = ⊥
 NoMachine (Some (resume check swap)) = ⊥
 NoMachine (Some replay) = ⊥
 NoMachine (Some (drill number)) = ⊥
@@ -44,7 +44,7 @@ NoMachine (Some (import swap)) = ⊥
 abbrev pub NoInput : Option Asked → Type 0
 NoInput None = ⊤
 NoInput (Some (inspect offset swap)) = ⊤
-NoInput (Some (hibernate format swap)) = ⊥
+NoInput (Some (hibernate format size swap)) = ⊥
 NoInput (Some (resume check swap)) = ⊥
 NoInput (Some replay) = ⊥
 NoInput (Some (drill number)) = ⊤
@@ -55,7 +55,7 @@ NoInput (Some (import swap)) = ⊥
 abbrev pub NoDump : Option Asked → Type 0
 NoDump None = ⊤
 NoDump (Some (inspect offset swap)) = ⊤
-NoDump (Some (hibernate format swap)) = ⊥
+NoDump (Some (hibernate format size swap)) = ⊥
 NoDump (Some (resume check swap)) = ⊥
 NoDump (Some replay) = ⊤
 NoDump (Some (drill number)) = ⊤
@@ -66,7 +66,7 @@ NoDump (Some (import swap)) = ⊥
 abbrev pub NoImport : Option Asked → Type 0
 NoImport None = ⊤
 NoImport (Some (inspect offset swap)) = ⊤
-NoImport (Some (hibernate format swap)) = ⊤
+NoImport (Some (hibernate format size swap)) = ⊤
 NoImport (Some (resume check swap)) = ⊤
 NoImport (Some replay) = ⊤
 NoImport (Some (drill number)) = ⊤
@@ -84,6 +84,6 @@ calls_after (Some replay) blocks calls = calls
 calls_after (Some (drill number)) blocks calls = calls
 calls_after (Some export) blocks calls = calls
 calls_after (Some (import swap)) blocks calls = calls
-calls_after (Some (hibernate format swap)) blocks calls = calls
+calls_after (Some (hibernate format size swap)) blocks calls = calls
 calls_after (Some (resume check swap)) blocks calls = calls
 calls_after (Some (inspect offset swap)) blocks calls = calls_for offset blocks calls

@@ -10,7 +10,7 @@ use Rattle.script.specs.Words.{number_of}
 -- what a plain list of words asks for, with its values
 pub data Asked : Type 0 where
   inspect : (offset : ℕ) (swap : List ℕ) → Asked
-  hibernate : (format : Format) (swap : List ℕ) → Asked
+  hibernate : (format : Format) (size : Option ℕ) (swap : List ℕ) → Asked
   resume : (check : IdentCheck) (swap : List ℕ) → Asked
   replay : Asked
   drill : (number : ℕ) → Asked
@@ -74,12 +74,24 @@ over_file swap asked = if is_path swap then Some asked else None
 abbrev pub with_option : List ℕ → List ℕ → Option Asked → Option Asked
 with_option word option asked = if pointwise nat_eq word option then asked else None
 
--- hibernate [--skip-zeros] SWAP
+-- this, with the size that a plain number of 64 bits is, where the word behind it names a file
+abbrev pub sized : List ℕ → List ℕ → (ℕ → Asked) → Option Asked
+sized number swap asked = if is_path swap then option_map asked (plain_number (2 ^ 64) number) else None
+
+-- --skip-zeros --image-size N, or the other way round
+abbrev pub both_options : List ℕ → List ℕ → List ℕ → List ℕ → Option Asked
+both_options a b c swap =
+    if pointwise nat_eq a (codes "--skip-zeros") then with_option b (codes "--image-size") (sized c swap (λ want. hibernate SkipZeros (Some want) swap))
+    else with_option c (codes "--skip-zeros") (with_option a (codes "--image-size") (sized b swap (λ want. hibernate SkipZeros (Some want) swap)))
+
+-- hibernate [--skip-zeros] [--image-size N] SWAP, the options in either order
 abbrev pub hibernate_of : List (List ℕ) → Option Asked
 hibernate_of [] = None
-hibernate_of (swap ∷ []) = over_file swap (hibernate Plain swap)
-hibernate_of (option ∷ swap ∷ []) = with_option option (codes "--skip-zeros") (over_file swap (hibernate SkipZeros swap))
-hibernate_of (option ∷ swap ∷ more ∷ words) = None
+hibernate_of (swap ∷ []) = over_file swap (hibernate Plain None swap)
+hibernate_of (option ∷ swap ∷ []) = with_option option (codes "--skip-zeros") (over_file swap (hibernate SkipZeros None swap))
+hibernate_of (option ∷ number ∷ swap ∷ []) = with_option option (codes "--image-size") (sized number swap (λ want. hibernate Plain (Some want) swap))
+hibernate_of (a ∷ b ∷ c ∷ swap ∷ []) = both_options a b c swap
+hibernate_of (a ∷ b ∷ c ∷ d ∷ more ∷ words) = None
 
 -- resume [--any-kernel] SWAP
 abbrev pub resume_of : List (List ℕ) → Option Asked

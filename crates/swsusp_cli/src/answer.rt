@@ -1,12 +1,11 @@
 ghost use Rattle.std.specs.Prelude.{◌≡◌, ◌≢◌, ◌⊎◌, ◌≤◌, length, OnOk, OnErr};
 ghost use Rattle.definitions.specs.Disk.{HasRisen};
-ghost use Rattle.definitions.specs.Streams.{TakesAll, TakesFront};
 ghost use Rattle.swsusp_cli.specs.Answer.{memory_told};
 ghost use Rattle.swsusp_cli.specs.AnswerOf.{told_by};
 ghost use Rattle.swsusp_cli.specs.Told.{IsPrinted, IsTold, FailsToPrint};
 
 use crate::status::Status;
-use dump_file::Sink;
+use dump_file::{Sink, put_all};
 use page_core::Failed;
 use script::Line;
 
@@ -97,21 +96,6 @@ pub fn print<S: Sink>(sink: &mut S, text: &[u8]) -> Result<(), Failed>
     ensures counted { S.faults sink.old ≤ S.faults sink.new }
     ensures cause { OnErr result (HasRisen (S.faults sink.old) (S.faults sink.new)) }
 {
-    put(sink, text)?;
+    put_all(sink, text)?;
     sink.flush()
-}
-
-/// Writes a text to its end.
-pub fn put<S: Sink>(sink: &mut S, text: &[u8]) -> Result<(), Failed>
-    ensures whole { OnOk result (TakesAll text.now (S.taken sink.old) (S.taken sink.new)) }
-    ensures front { TakesFront text.now (S.taken sink.old) (S.taken sink.new) }
-    ensures counted { S.faults sink.old ≤ S.faults sink.new }
-    ensures cause { OnErr result (HasRisen (S.faults sink.old) (S.faults sink.new)) }
-{
-    let mut at = 0;
-    while at < text.len() {
-        let count = sink.write(&text[at..])?;
-        at += count;
-    }
-    Ok(())
 }

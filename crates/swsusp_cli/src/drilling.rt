@@ -3,7 +3,6 @@ ghost use Rattle.definitions.specs.Disk.{HasRisen};
 ghost use Rattle.plain_machine.specs.Fitting.{IsFitting};
 ghost use Rattle.plain_machine.specs.declared.reply.Reply.{Reply};
 ghost use Rattle.script.specs.Drill.{summary, tally_of};
-ghost use Rattle.script.specs.Shapes.{IsScripted};
 ghost use Rattle.swsusp_cli.specs.AnswerOf.{told_by};
 ghost use Rattle.swsusp_cli.specs.Drills.{IsDrilled};
 ghost use Rattle.swsusp_cli.specs.Playing.{HasPlayed};
@@ -62,9 +61,8 @@ pub fn drill<O: Sink, N: Sink, D: Disk>(
 }
 
 /// Plays events, and tallies their replies.
-fn play_through<D: Disk>(world: &mut World, disk: &mut D, events: &[Event]) -> Tally
+pub fn play_through<D: Disk>(world: &mut World, disk: &mut D, events: &[Event]) -> Tally
     requires fits { All IsFitting events.now }
-    requires scripted { All IsScripted events.now }
     requires few { length events.now ≤ 100000 }
     requires blocks { IsOff world.old ⊎ (D.block_count disk.old ≡ blocks_of world.old) }
     ensures played { (replies : List Reply) × HasPlayed world.old world.new events.now replies

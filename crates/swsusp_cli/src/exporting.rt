@@ -3,11 +3,11 @@ ghost use Rattle.definitions.specs.Disk.{HasRisen};
 ghost use Rattle.swsusp_cli.specs.Exports.{Exports};
 ghost use Rattle.swsusp_cli.specs.View.{DiskView};
 
-use crate::answer::{Answer, no_memory, print, put};
+use crate::answer::{Answer, no_memory, print};
 use crate::dump_input::no_dump;
 use crate::replay::unread;
 use crate::status::Status;
-use dump_file::{DumpStop, Sink, Source, read_dump};
+use dump_file::{DumpStop, Sink, Source, put_all, read_dump};
 use machine::Dump;
 use memory_bitmap::Bitmap;
 use page_core::{Failed, NoMemory};
@@ -178,6 +178,6 @@ fn put_stream<S: Sink>(
         if count == 0 {
             return Ok(());
         }
-        put(sink, &piece[..count])?;
+        put_all(sink, &piece[..count])?;
     }
 }

@@ -16,16 +16,18 @@ use script::{Line, line_of};
 use sector_disk::Disk;
 use std::alloc::Global;
 
-/// Reads a dump to its end, and lets its machine hibernate.
+/// Reads a dump to its end, and lets its machine hibernate; before, its cached page frames are dropped until so many saveable ones are left,
+/// where a size is asked for.
 pub fn hibernate_dump<I: Source, O: Sink, N: Sink, D: Disk>(
     alloc: Global,
     format: Format,
+    size: Option<u64>,
     input: &mut I,
     out: &mut O,
     note: &mut N,
     disk: &mut D,
 ) -> Status
-    ensures outcome { Hibernates format (record {
+    ensures outcome { Hibernates format size (record {
       left = I.remaining input.old;
       disk = record { blocks = D.block_count disk.old; content = D.content disk.old; faults = D.faults disk.old; calls = D.calls disk.old; orders = D.orders disk.old };
       out = record { taken = O.taken out.old; flushed = O.flushed out.old; faults = O.faults out.old };
@@ -52,7 +54,7 @@ pub fn hibernate_dump<I: Source, O: Sink, N: Sink, D: Disk>(
         Ok(world) => world,
         Err(NoMemory) => return no_memory().tell(out, note),
     };
-    let ended = hibernate(&mut world, disk, format);
+    let ended = hibernate(&mut world, disk, format, size);
     hibernation_answer(&ended).tell(out, note)
 }
 

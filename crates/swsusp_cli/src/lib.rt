@@ -20,8 +20,14 @@ mod top;
 mod unparsed;
 mod words;
 
-pub use answer::print;
+pub use answer::{Answer, no_memory, print, tell};
 pub use choosing::{Choice, swap_name};
+pub use drilling::play_through;
+pub use dump_input::{machine_of, no_dump, stopped};
 pub use playing::play;
+pub use replay::{Stop, no_script, parse_input, unread};
+pub use resuming::tell_dump;
+pub use setting_up::{Unready, set_up};
 pub use status::Status;
 pub use top::run;
+pub use words::is_path;

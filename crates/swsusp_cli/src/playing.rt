@@ -5,12 +5,10 @@ ghost use Rattle.plain_machine.specs.Fitting.{IsFitting};
 ghost use Rattle.plain_machine.specs.Replies.{text_of, line_of};
 ghost use Rattle.plain_machine.specs.declared.reply.Reply.{Reply};
 ghost use Rattle.world_core.specs.StandsFor.{IsOff, blocks_of, hardware_of};
-ghost use Rattle.script.specs.Shapes.{IsScripted};
 ghost use Rattle.swsusp_cli.specs.Playing.{HasPlayed};
 ghost use Rattle.swsusp_cli.specs.Replay.{TakesToLast};
 
-use crate::answer::put;
-use dump_file::Sink;
+use dump_file::{Sink, put_all};
 use page_core::Failed;
 use plain_machine::{Event, Reply};
 use protocol_laws::replays;
@@ -26,7 +24,6 @@ pub fn play<D: Disk, O: Sink>(
     events: &[Event],
 ) -> Result<(), Failed>
     requires fits { All IsFitting events.now }
-    requires scripted { All IsScripted events.now }
     requires blocks { IsOff world.old ⊎ (D.block_count disk.old ≡ blocks_of world.old) }
     ensures played { MatchResult result
         (λ _. (replies : List Reply) × HasPlayed world.old world.new events.now replies
@@ -61,5 +58,5 @@ fn print_reply<O: Sink>(out: &mut O, reply: &Reply) -> Result<(), Failed>
 {
     let mut line = Line::new();
     line_of(reply, &mut line);
-    put(out, line.as_bytes())
+    put_all(out, line.as_bytes())
 }

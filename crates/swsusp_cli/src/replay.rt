@@ -3,7 +3,6 @@ ghost use Rattle.definitions.specs.Disk.{HasRisen};
 ghost use Rattle.definitions.specs.Streams.{IsOver};
 ghost use Rattle.script.specs.Grammar.{ScriptValue};
 ghost use Rattle.plain_machine.specs.Fitting.{IsFitting};
-ghost use Rattle.script.specs.Shapes.{IsScripted};
 ghost use Rattle.swsusp_cli.specs.AnswerOf.{told_by};
 ghost use Rattle.swsusp_cli.specs.Outcome.{IsReplayed, fault_told};
 ghost use Rattle.swsusp_cli.specs.Readied.{IsReadied};
@@ -23,7 +22,7 @@ use script::{Line, ParseStop, Script, ScriptFault, parse};
 use sector_disk::Disk;
 use std::alloc::Global;
 
-/// Why a replay doesn't begin.
+/// Why there is no script to play.
 #[derive(Clone, Copy, Debug, PartialEq, Eq)]
 pub enum Stop {
     Source,
@@ -56,7 +55,7 @@ pub fn replay<I: Source, O: Sink, N: Sink, D: Disk>(
     ensures words { result ≢ Status.Words }
     ensures read { HandsOutAtMost 1048577 (I.remaining input.old) (I.remaining input.new) }
 {
-    let script = match ready(alloc, input) {
+    let script = match parse_input(alloc, input) {
         Ok(script) => script,
         Err(Stop::Source) => return unread(note),
         Err(Stop::Memory) => return no_memory().tell(out, note),
@@ -72,12 +71,11 @@ pub fn replay<I: Source, O: Sink, N: Sink, D: Disk>(
     }
 }
 
-/// Reads and parses a script.
-fn ready<I: Source>(alloc: Global, input: &mut I) -> Result<Script, Stop>
+/// Reads a script to its end, and parses it.
+pub fn parse_input<I: Source>(alloc: Global, input: &mut I) -> Result<Script, Stop>
     ensures ready { IsReadied (I.remaining input.old) (I.remaining input.new) result }
     ensures few_bad { IfOk result (λ script. length script.bad ≤ 630) }
     ensures fits { IfOk result (λ script. All IsFitting script.events) }
-    ensures scripted { IfOk result (λ script. All IsScripted script.events) }
     ensures few { IfOk result (λ script. length script.events ≤ 100000) }
     ensures read { HandsOutAtMost 1048577 (I.remaining input.old) (I.remaining input.new) }
     ensures stream { result ≡ Err Stop.Source → HasRisen (I.faults input.old) (I.faults input.new) }
@@ -96,7 +94,7 @@ fn ready<I: Source>(alloc: Global, input: &mut I) -> Result<Script, Stop>
 }
 
 /// The source failed: that is noted, once.
-pub(crate) fn unread<N: Sink>(note: &mut N) -> Status
+pub fn unread<N: Sink>(note: &mut N) -> Status
     ensures status { result ≡ Status.Stream }
     ensures note { IsTried unread_note
         (record { taken = N.taken note.old; flushed = N.flushed note.old; faults = N.faults note.old })
@@ -129,7 +127,8 @@ fn done() -> Answer
     }
 }
 
-fn no_script(fault: ScriptFault) -> Answer
+/// The input is no script.
+pub fn no_script(fault: ScriptFault) -> Answer
     ensures told { told_by result ≡ fault_told fault }
     ensures status { result.status ≡ Status.Input }
 {

@@ -3,7 +3,7 @@ ghost use Rattle.definitions.specs.Disk.{HasRisen};
 ghost use Rattle.swsusp_cli.specs.Loads.{Resumes};
 ghost use Rattle.definitions.specs.Zones.{top};
 ghost use Rattle.dump_file.specs.Written.{dump_bytes};
-ghost use Rattle.swsusp_cli.specs.Loads.{is_resumed, resume_told};
+ghost use Rattle.swsusp_cli.specs.Loads.{is_resumed, resume_told, written_told};
 ghost use Rattle.swsusp_cli.specs.Told.{FailsToPrint, IsPrinted, IsTold};
 
 use crate::answer::{no_memory, print};
@@ -69,7 +69,6 @@ fn tell_end<O: Sink, N: Sink>(
     note: &mut N,
 ) -> Status
     requires frames { length frames.now ≡ top hw.now.zones }
-    requires no_region { hw.now.regions ≡ [] }
     ensures told { IsTold (resume_told hw.now frames.now ended.now) result
         (record { taken = O.taken out.old; flushed = O.flushed out.old; faults = O.faults out.old })
         (record { taken = O.taken out.new; flushed = O.flushed out.new; faults = O.faults out.new })
@@ -83,6 +82,26 @@ fn tell_end<O: Sink, N: Sink>(
     if !is_resumed(&ended.reply) {
         return stopped(ended).tell(out, note);
     }
+    tell_dump(hw, frames, out, note)
+}
+
+/// Prints the dump of a machine, and nothing as a note. Where a sink fails the status is `Stream`, and `sink fault` is tried as a note.
+pub fn tell_dump<O: Sink, N: Sink>(
+    hw: &Hardware,
+    frames: &Frames,
+    out: &mut O,
+    note: &mut N,
+) -> Status
+    requires frames { length frames.now ≡ top hw.now.zones }
+    ensures told { IsTold (written_told hw.now frames.now) result
+        (record { taken = O.taken out.old; flushed = O.flushed out.old; faults = O.faults out.old })
+        (record { taken = O.taken out.new; flushed = O.flushed out.new; faults = O.faults out.new })
+        (record { taken = N.taken note.old; flushed = N.flushed note.old; faults = N.faults note.old })
+        (record { taken = N.taken note.new; flushed = N.flushed note.new; faults = N.faults note.new }) }
+    ensures stream { result ≡ Status.Stream →
+        HasRisen (O.faults out.old) (O.faults out.new) ⊎ HasRisen (N.faults note.old) (N.faults note.new) }
+    ensures status { result ≢ Status.Stream → result ≡ Status.Done }
+{
     if print_dump(hw, frames, out).is_err() {
         let _ = print(note, b"sink fault\n");
         return Status::Stream;
@@ -102,7 +121,6 @@ fn is_resumed(reply: &Reply) -> bool
 /// Writes the dump of memory to its end, and flushes.
 fn print_dump<S: Sink>(hw: &Hardware, frames: &Frames, sink: &mut S) -> Result<(), Failed>
     requires frames { length frames.now ≡ top hw.now.zones }
-    requires no_region { hw.now.regions ≡ [] }
     ensures printed { OnOk result (IsPrinted (dump_bytes hw.now frames.now)
         (record { taken = S.taken sink.old; flushed = S.flushed sink.old; faults = S.faults sink.old })
         (record { taken = S.taken sink.new; flushed = S.flushed sink.new; faults = S.faults sink.new })) }

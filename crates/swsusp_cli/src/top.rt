@@ -1,4 +1,4 @@
-ghost use Rattle.std.specs.Prelude.{◌≡◌, ◌≢◌, None, Some, ◌≤◌, ◌+◌, ◌⊎◌, ℕ, List, map, string_bytes};
+ghost use Rattle.std.specs.Prelude.{◌≡◌, ◌≢◌, None, Option, Some, ◌≤◌, ◌+◌, ◌⊎◌, ℕ, List, map, string_bytes};
 ghost use Rattle.definitions.specs.Disk.{HasRisen};
 ghost use Rattle.dump_file.specs.Flushed.{IsFlushed};
 ghost use Rattle.swsusp_cli.specs.Answer.{Told};
@@ -67,7 +67,7 @@ pub fn run<I: Source, O: Sink, N: Sink, D: Disk>(
       out = record { taken = O.taken out.new; flushed = O.flushed out.new; faults = O.faults out.new };
       note = record { taken = N.taken note.new; flushed = N.flushed note.new; faults = N.faults note.new };
     }) result }
-    ensures hibernated { (format : Format) (swap : List ℕ) → command_of (map string_bytes words.now) ≡ Some (hibernate format swap) → Hibernates format (record {
+    ensures hibernated { (format : Format) (size : Option ℕ) (swap : List ℕ) → command_of (map string_bytes words.now) ≡ Some (hibernate format size swap) → Hibernates format size (record {
       left = I.remaining input.old;
       disk = record { blocks = D.block_count disk.old; content = D.content disk.old; faults = D.faults disk.old; calls = D.calls disk.old; orders = D.orders disk.old };
       out = record { taken = O.taken out.old; flushed = O.flushed out.old; faults = O.faults out.old };
@@ -130,8 +130,8 @@ pub fn run<I: Source, O: Sink, N: Sink, D: Disk>(
     match Command::parse(words) {
         None => refuse(alloc, words, out, note),
         Some(Command::Inspect { offset, .. }) => inspect(disk, offset).tell(out, note),
-        Some(Command::Hibernate { format, .. }) => {
-            hibernate_dump(alloc, format, input, out, note, disk)
+        Some(Command::Hibernate { format, size, .. }) => {
+            hibernate_dump(alloc, format, size, input, out, note, disk)
         }
         Some(Command::Resume { check, .. }) => { resume_dump(alloc, check, input, out, note, disk) }
         Some(Command::Replay) => replay(alloc, input, out, note, disk),

@@ -102,9 +102,15 @@ fn hibernation<'a>(alloc: Global) -> Result<Command<'a>, AllocError> {
         .long("skip-zeros")
         .action(ArgAction::SetTrue)
         .help("Leave out pages that are all zero");
+    let image_size = Arg::new(alloc, "image-size")
+        .long("image-size")
+        .value_name("N")
+        .value_parser(value_parser!(u64))
+        .help("Drop cached page frames first, until N saveable ones are left");
     Command::new(alloc, "hibernate")
         .about("Reads a memory dump from standard input, and lets its machine hibernate")
         .arg(skip_zeros)?
+        .arg(image_size)?
         .arg(swap_argument(alloc))
 }
 

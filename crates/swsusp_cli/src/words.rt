@@ -1,7 +1,7 @@
-ghost use Rattle.std.specs.Prelude.{◌≡◌, ◌^◌, IfSome, codes, map, option_map, string_bytes};
+ghost use Rattle.std.specs.Prelude.{◌≡◌, ◌^◌, IfSome, None, Some, codes, map, option_map, string_bytes};
 ghost use Rattle.page_core.specs.declared.format.Format.TheVariants.{SkipZeros};
 ghost use Rattle.plain_machine.specs.declared.event.IdentCheck.TheVariants.{Skip};
-ghost use Rattle.swsusp_cli.specs.Words.{command_by, hibernate, hibernate_of, drill_by, drill_of, import_of, import, inspect_of, is_path, export_of, over_file, plain_number, replay_of, resume, resume_of, with_option};
+ghost use Rattle.swsusp_cli.specs.Words.{command_by, hibernate, hibernate_of, both_options, sized, drill_by, drill_of, import_of, import, inspect_of, is_path, export_of, over_file, plain_number, replay_of, resume, resume_of, with_option};
 ghost use Rattle.swsusp_cli.specs.Asked.{HasNumber, asked_by};
 
 use page_core::Format;
@@ -22,6 +22,8 @@ pub enum Command<'a> {
     Hibernate {
         /// Which pages its image has.
         format: Format,
+        /// How many saveable page frames are wanted at most.
+        size: Option<u64>,
         /// The path of the swap file or block device.
         swap: &'a str,
     },
@@ -100,7 +102,7 @@ fn inspection(words: &[String]) -> Option<Command<'_>>
             swap: swap.as_str(),
         }),
         [option, number, swap] if option.as_str() == "--offset" && is_path(swap.as_bytes()) => {
-            match plain_number(number.as_bytes()) {
+            match small_number(number.as_bytes()) {
                 Some(offset) => Some(Command::Inspect {
                     offset,
                     swap: swap.as_str(),
@@ -119,12 +121,34 @@ fn a_hibernation(words: &[String]) -> Option<Command<'_>>
     match words {
         [swap] => hibernation_onto(Format::Plain, swap.as_str()),
         [option, swap] => hibernation_without_zeros(option.as_str(), swap.as_str()),
+        [option, number, swap] => hibernation_of_size(
+            Format::Plain,
+            option.as_str(),
+            number.as_bytes(),
+            swap.as_str(),
+        ),
+        [a, b, c, swap] => hibernation_with_both(a, b, c, swap.as_str()),
         _ => None,
     }
 }
 
+fn hibernation_onto(format: Format, swap: &str) -> Option<Command<'_>>
+    ensures asks { option_map asked_by result ≡ over_file swap.now (hibernate format None swap.now) }
+    ensures number { IfSome result HasNumber }
+{
+    if is_path(swap.as_bytes()) {
+        Some(Command::Hibernate {
+            format,
+            size: None,
+            swap,
+        })
+    } else {
+        None
+    }
+}
+
 fn hibernation_without_zeros<'a>(option: &str, swap: &'a str) -> Option<Command<'a>>
-    ensures asks { option_map asked_by result ≡ with_option option.now (codes "--skip-zeros") (over_file swap.now (hibernate SkipZeros swap.now)) }
+    ensures asks { option_map asked_by result ≡ with_option option.now (codes "--skip-zeros") (over_file swap.now (hibernate SkipZeros None swap.now)) }
     ensures number { IfSome result HasNumber }
 {
     if option == "--skip-zeros" {
@@ -134,15 +158,57 @@ fn hibernation_without_zeros<'a>(option: &str, swap: &'a str) -> Option<Command<
     }
 }
 
-fn hibernation_onto(format: Format, swap: &str) -> Option<Command<'_>>
-    ensures asks { option_map asked_by result ≡ over_file swap.now (hibernate format swap.now) }
+/// `--image-size N`.
+fn hibernation_of_size<'a>(
+    format: Format,
+    option: &str,
+    number: &[u8],
+    swap: &'a str,
+) -> Option<Command<'a>>
+    ensures asks { option_map asked_by result ≡ with_option option.now (codes "--image-size") (sized number.now swap.now (λ want. hibernate format (Some want) swap.now)) }
     ensures number { IfSome result HasNumber }
 {
-    if is_path(swap.as_bytes()) {
-        Some(Command::Hibernate { format, swap })
+    if option == "--image-size" {
+        hibernation_sized(format, number, swap)
     } else {
         None
     }
+}
+
+fn hibernation_sized<'a>(format: Format, number: &[u8], swap: &'a str) -> Option<Command<'a>>
+    ensures asks { option_map asked_by result ≡ sized number.now swap.now (λ want. hibernate format (Some want) swap.now) }
+    ensures number { IfSome result HasNumber }
+{
+    if !is_path(swap.as_bytes()) {
+        return None;
+    }
+    match plain_number(number) {
+        Some(want) => Some(Command::Hibernate {
+            format,
+            size: Some(want),
+            swap,
+        }),
+        None => None,
+    }
+}
+
+/// Both options, in either order.
+fn hibernation_with_both<'a>(
+    a: &String,
+    b: &String,
+    c: &String,
+    swap: &'a str,
+) -> Option<Command<'a>>
+    ensures asks { option_map asked_by result ≡ both_options (string_bytes a.now) (string_bytes b.now) (string_bytes c.now) swap.now }
+    ensures number { IfSome result HasNumber }
+{
+    if a.as_str() == "--skip-zeros" {
+        return hibernation_of_size(Format::SkipZeros, b.as_str(), c.as_bytes(), swap);
+    }
+    if c.as_str() == "--skip-zeros" {
+        return hibernation_of_size(Format::SkipZeros, a.as_str(), b.as_bytes(), swap);
+    }
+    None
 }
 
 fn a_resume(words: &[String]) -> Option<Command<'_>>
@@ -202,7 +268,7 @@ fn drill_of<'a>(word: &[u8]) -> Option<Command<'a>>
     ensures asks { option_map asked_by result ≡ drill_by (plain_number 2001 word.now) }
     ensures number { IfSome result HasNumber }
 {
-    match plain_number(word) {
+    match small_number(word) {
         Some(number) if 1 <= number && number <= 2000 => Some(Command::Drill(number)),
         _ => None,
     }
@@ -239,7 +305,8 @@ fn import_onto(swap: &str) -> Option<Command<'_>>
     }
 }
 
-fn is_path(word: &[u8]) -> bool
+/// Whether a word names a file: it isn't empty and doesn't begin with a dash.
+pub fn is_path(word: &[u8]) -> bool
     ensures { result ≡ is_path word.now }
 {
     match word {
@@ -248,8 +315,8 @@ fn is_path(word: &[u8]) -> bool
     }
 }
 
-/// The number that decimal digits without a leading zero are.
-fn plain_number(word: &[u8]) -> Option<u32>
+/// The number that decimal digits without a leading zero are, if it has 32 bits.
+fn small_number(word: &[u8]) -> Option<u32>
     ensures { result ≡ plain_number (2 ^ 32) word.now }
 {
     match word {
@@ -258,5 +325,15 @@ fn plain_number(word: &[u8]) -> Option<u32>
             Some(number) => u32::try_from(number).ok(),
             None => None,
         },
+    }
+}
+
+/// The number that decimal digits without a leading zero are, if it has 64 bits.
+fn plain_number(word: &[u8]) -> Option<u64>
+    ensures { result ≡ plain_number (2 ^ 64) word.now }
+{
+    match word {
+        [b'0', _, ..] => None,
+        _ => number_of(word),
     }
 }

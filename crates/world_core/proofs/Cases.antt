@@ -2,6 +2,7 @@
 use Rattle.std.proofs.Common.{◌≡◌, ◌≢◌, ℕ, true, Option, refl, sym, ap, ap₂, arith}
 use Rattle.std.proofs.lemmas.Bool.{false≢true}
 use Rattle.definitions.specs.Disk as disk
+use Rattle.plain_machine.specs.Image.{Image}
 use Rattle.plain_machine.specs.Machine.{Memory}
 use Rattle.plain_machine.specs.State.{State, off, on, booting, hibernating, undoing, settling, waking, loading, asleep, Running as Run, Held}
 use Rattle.plain_machine.specs.Shows.{Activity, rests, runs, boots, hibernates, undoes, settles, wakes, loads, sleeps, activity_in}
@@ -9,8 +10,9 @@ use Rattle.plain_machine.specs.declared.event.BootFrom.{BootFrom}
 use Rattle.plain_machine.specs.declared.event.BootFrom.TheVariants.{Fresh}
 use Rattle.hib_core.specs.declared.hib.Hib.{Hib}
 use Rattle.resume_core.specs.declared.load.Load.{Load}
+use Rattle.sleep_core.specs.declared.waker.Waker.{Waker}
 use Rattle.world_core.specs.declared.world.Core.{Core}
-use Rattle.world_core.specs.declared.world.Core.TheVariants.{Off, Running, BootBegun, BootSynced, Hibernating, Loading}
+use Rattle.world_core.specs.declared.world.Core.TheVariants.{Off, Running, BootBegun, BootSynced, Hibernating, Asleep, Waking, Loading}
 use Rattle.world_core.specs.World.{World}
 use Rattle.world_core.specs.StandsFor.{StandsFor, IsOff, activity_of, is_off}
 
@@ -34,11 +36,11 @@ abbrev steps_of : Activity → ℕ
 steps_of (boots from k) = k
 steps_of _ = 0
 
-pub activity_for : (w : World) (c : disk.Content) (a : State) → StandsFor w c a → activity_of w.core w.hib w.load ≡ activity_in a
+pub activity_for : (w : World) (c : disk.Content) (a : State) → StandsFor w c a → activity_of w.core w.hib w.load w.waker ≡ activity_in a
 activity_for w c a stands = stands.stands.activity
 
-pub activity_by : (w : World) (core : Core) → w.core ≡ core → activity_of w.core w.hib w.load ≡ activity_of core w.hib w.load
-activity_by w core e = ap (λ (x : Core). activity_of x w.hib w.load) e
+pub activity_by : (w : World) (core : Core) → w.core ≡ core → activity_of w.core w.hib w.load w.waker ≡ activity_of core w.hib w.load w.waker
+activity_by w core e = ap (λ (x : Core). activity_of x w.hib w.load w.waker) e
 
 other : {A : Type 0} (x y : Activity) → rank x ≢ rank y → x ≡ y → A
 other x y ne e = absurd (ne (ap rank e))
@@ -76,14 +78,27 @@ at_boot (waking i held r k) from j e = other (boots from j) (wakes k) (λ r. ome
 at_boot (loading load k) from j e = other (boots from j) (loads k) (λ r. omega arith) e
 at_boot (asleep i held r) from j e = other (boots from j) sleeps (λ r. omega arith) e
 
--- a world that is off is at rest
-off_rests : (core : Core) (hib : Hib) (load : Load) → is_off core ≡ true → activity_of core hib load ≡ rests
-off_rests (Off keeps) hib load e = refl
-off_rests Running hib load e = absurd (false≢true e)
-off_rests (BootBegun from) hib load e = absurd (false≢true e)
-off_rests (BootSynced from) hib load e = absurd (false≢true e)
-off_rests Hibernating hib load e = absurd (false≢true e)
-off_rests Loading hib load e = absurd (false≢true e)
+pub at_sleep : (a : State) → sleeps ≡ activity_in a → (i : Image) × (held : Held) × (r : Run) × (a ≡ asleep i held r)
+at_sleep (off held kept) e = other sleeps rests (λ r. omega arith) e
+at_sleep (on r) e = other sleeps runs (λ r. omega arith) e
+at_sleep (booting from dump held k) e = other sleeps (boots from k) (λ r. omega arith) e
+at_sleep (hibernating suspends i r k) e = other sleeps (hibernates suspends k) (λ r. omega arith) e
+at_sleep (undoing i call r k) e = other sleeps (undoes call k) (λ r. omega arith) e
+at_sleep (settling r k) e = other sleeps (settles k) (λ r. omega arith) e
+at_sleep (waking i held r k) e = other sleeps (wakes k) (λ r. omega arith) e
+at_sleep (loading load k) e = other sleeps (loads k) (λ r. omega arith) e
+at_sleep (asleep i held r) e = (i, held, r, refl)
 
-pub rests_by : (w : World) → IsOff w → activity_of w.core w.hib w.load ≡ rests
-rests_by w e = off_rests w.core w.hib w.load e
+-- a world that is off is at rest
+off_rests : (core : Core) (hib : Hib) (load : Load) (waker : Waker) → is_off core ≡ true → activity_of core hib load waker ≡ rests
+off_rests (Off keeps) hib load waker e = refl
+off_rests Running hib load waker e = absurd (false≢true e)
+off_rests (BootBegun from) hib load waker e = absurd (false≢true e)
+off_rests (BootSynced from) hib load waker e = absurd (false≢true e)
+off_rests Hibernating hib load waker e = absurd (false≢true e)
+off_rests Asleep hib load waker e = absurd (false≢true e)
+off_rests Waking hib load waker e = absurd (false≢true e)
+off_rests Loading hib load waker e = absurd (false≢true e)
+
+pub rests_by : (w : World) → IsOff w → activity_of w.core w.hib w.load w.waker ≡ rests
+rests_by w e = off_rests w.core w.hib w.load w.waker e

@@ -11,12 +11,13 @@ use Rattle.plain_machine.specs.declared.event.Event.TheVariants as event
 use Rattle.plain_machine.specs.declared.reply.Reply.TheVariants as reply
 use Rattle.protocol_laws.specs.Cuts.{CutsOff, CutKeepsArea}
 use Rattle.world_core.specs.declared.world.Core.{Core}
-use Rattle.world_core.specs.declared.world.Core.TheVariants.{Off, Running, BootBegun, BootSynced, Hibernating, Loading}
+use Rattle.world_core.specs.declared.world.Core.TheVariants.{Off, Running, BootBegun, BootSynced, Hibernating, Asleep, Waking, Loading}
 use Rattle.world_core.specs.World.{World}
 use Rattle.world_core.specs.StandsFor.{StandsFor, activity_of, hardware_of, keeps_dump, shown}
 use Rattle.world_core.specs.Row.{IsRow}
 use Rattle.hib_core.specs.declared.hib.Hib.{Hib}
 use Rattle.resume_core.specs.declared.load.Load.{Load}
+use Rattle.sleep_core.specs.declared.waker.Waker.{Waker}
 use Rattle.std.proofs.lemmas.Bool.{false≢true}
 use Rattle.world_core.proofs.Cases.{activity_by, activity_for}
 use Rattle.world_core.proofs.Rows.{accepted_step, same_area}
@@ -26,16 +27,18 @@ is_rest rests = true
 is_rest _ = false
 
 -- a world that isn't off keeps no dump
-keeps_off : (core : Core) (hib : Hib) (load : Load) → is_rest (activity_of core hib load) ≡ false → keeps_dump core ≡ false
-keeps_off (Off keeps) hib load e = absurd (false≢true (sym e))
-keeps_off Running hib load e = refl
-keeps_off (BootBegun from) hib load e = refl
-keeps_off (BootSynced from) hib load e = refl
-keeps_off Hibernating hib load e = refl
-keeps_off Loading hib load e = refl
+keeps_off : (core : Core) (hib : Hib) (load : Load) (waker : Waker) → is_rest (activity_of core hib load waker) ≡ false → keeps_dump core ≡ false
+keeps_off (Off keeps) hib load waker e = absurd (false≢true (sym e))
+keeps_off Running hib load waker e = refl
+keeps_off (BootBegun from) hib load waker e = refl
+keeps_off (BootSynced from) hib load waker e = refl
+keeps_off Hibernating hib load waker e = refl
+keeps_off Asleep hib load waker e = refl
+keeps_off Waking hib load waker e = refl
+keeps_off Loading hib load waker e = refl
 
 keeps_none : (w : World) (c : disk.Content) (a : State) (x : Activity) → activity_in a ≡ x → is_rest x ≡ false → StandsFor w c a → keeps_dump w.core ≡ false
-keeps_none w c a x is no_rest stands = keeps_off w.core w.hib w.load (ap is_rest (activity_for w c a stands ∙ is) ∙ no_rest)
+keeps_none w c a x is no_rest stands = keeps_off w.core w.hib w.load w.waker (ap is_rest (activity_for w c a stands ∙ is) ∙ no_rest)
 
 -- memory that is kept stays, and what isn't kept isn't
 kept_still : (old new : World) (c : disk.Content) (a : State) → new.core ≡ Off (keeps_dump old.core) → new.frames ≡ old.frames → StandsFor old c a → ShowsKept (hardware_of old) (shown new) (kept_in a)

@@ -1,14 +1,15 @@
 -- What the rows of a hibernation or a settling say of the world that makes them.
-use Rattle.std.proofs.Common.{◌≡◌, ℕ, Bool, true, false, List, [], Option, Some, None, Result, Ok, Err, refl, sym, ap, ◌∙◌, subst}
+use Rattle.std.proofs.Common.{◌≡◌, ◌⊎◌, inl, inr, ℕ, Bool, true, false, List, [], Option, Some, None, Result, Ok, Err, refl, sym, ap, ◌∙◌, subst}
 use Rattle.std.specs.Result.{IfOk, MatchResult}
 use Rattle.std.proofs.lemmas.Bool.{false≢true}
 use Rattle.definitions.specs.Disk as disk
 use Rattle.sig_header.specs.declared.area.Area.{Area}
 use Rattle.sig_header.specs.declared.area.AreaKind.{AreaKind}
 use Rattle.sig_header.specs.declared.area.AreaKind.TheVariants.{Swap}
+use Rattle.plain_machine.specs.Image.{Image}
 use Rattle.plain_machine.specs.Machine.{Hardware, Memory}
-use Rattle.plain_machine.specs.Shows.{Shown, Activity, rests, runs, hibernates, undoes, settles, ShowsKept, loads}
-use Rattle.plain_machine.specs.State.{State, off, on, booting, hibernating, undoing, settling, waking, loading, asleep, Running, Held}
+use Rattle.plain_machine.specs.Shows.{Shown, Activity, rests, runs, hibernates, undoes, settles, sleeps, ShowsKept, loads}
+use Rattle.plain_machine.specs.State.{State, off, on, booting, hibernating, undoing, settling, waking, loading, asleep as sleeping, Running, Held}
 use Rattle.plain_machine.specs.Stands.{Stands}
 use Rattle.plain_machine.specs.UsableArea.{fit_fault, kind_or_fit_fault}
 use Rattle.plain_machine.specs.declared.event.Event.TheVariants as event
@@ -19,9 +20,10 @@ use Rattle.plain_machine.specs.declared.reply.Reply.TheVariants as reply
 use Rattle.machine.specs.Running.{reason_of}
 use Rattle.machine.specs.declared.machine.Machine.{Machine}
 use Rattle.hib_core.specs.Hibernation as hibernation
-use Rattle.hib_core.specs.Hibernation.{Phase, under_way, runs_on, switched_off}
+use Rattle.hib_core.specs.Hibernation.{Phase, under_way, runs_on, switched_off, asleep}
 use Rattle.hib_core.specs.Ready.{IsBusy, is_busy_at, IsSameMachine}
 use Rattle.hib_core.specs.Row as hib_row
+use Rattle.hib_core.specs.declared.hib.Ending.{Ending}
 use Rattle.hib_core.specs.declared.hib.Hib.{Hib}
 use Rattle.hib_core.specs.declared.hib.Job.{Job}
 use Rattle.hib_core.specs.declared.hib.Stage.{Stage}
@@ -29,8 +31,9 @@ use Rattle.hib_core.specs.declared.hib.Stage.TheVariants as stage
 use Rattle.resume_core.specs.Row as resume_row
 use Rattle.machine.specs.Flights.{flights_in}
 use Rattle.world_core.specs.declared.world.Core.{Core}
-use Rattle.world_core.specs.declared.world.Core.TheVariants.{Off, Running as Runs, Hibernating, Loading}
+use Rattle.world_core.specs.declared.world.Core.TheVariants.{Off, Running as Runs, Hibernating, Asleep, Waking, Loading}
 use Rattle.world_core.specs.World.{World}
+use Rattle.world_core.specs.Kept.{IsDown}
 use Rattle.world_core.specs.StandsFor.{StandsFor, hardware_of, keeps_dump, shown, shown_at, core_at, core_in, core_told}
 use Rattle.world_core.specs.Row.{IsRow, HasRow, Restores}
 use Rattle.world_core.proofs.Cases.{activity_by}
@@ -44,24 +47,26 @@ is_of_hibernation runs = true
 is_of_hibernation (hibernates suspends k) = true
 is_of_hibernation (undoes call k) = true
 is_of_hibernation (settles k) = true
+is_of_hibernation sleeps = true
 is_of_hibernation _ = false
 
-of_hibernation : (s : Stage) (made : ℕ) → is_of_hibernation (hibernation.activity_at s made) ≡ true
-of_hibernation stage.Idle made = refl
-of_hibernation stage.Over made = refl
-of_hibernation stage.Write made = refl
-of_hibernation stage.Sync made = refl
-of_hibernation stage.Read made = refl
-of_hibernation stage.Mark made = refl
-of_hibernation stage.End made = refl
-of_hibernation (stage.TakeBack call) made = refl
-of_hibernation (stage.EndUndo call) made = refl
-of_hibernation stage.SettleRead made = refl
-of_hibernation stage.SettleWrite made = refl
-of_hibernation stage.SettleSync made = refl
+of_hibernation : (last : Ending) (s : Stage) (made : ℕ) → is_of_hibernation (hibernation.activity_at last s made) ≡ true
+of_hibernation last stage.Idle made = refl
+of_hibernation last stage.Over made = refl
+of_hibernation last stage.Asleep made = refl
+of_hibernation last stage.Write made = refl
+of_hibernation last stage.Sync made = refl
+of_hibernation last stage.Read made = refl
+of_hibernation last stage.Mark made = refl
+of_hibernation last stage.End made = refl
+of_hibernation last (stage.TakeBack call) made = refl
+of_hibernation last (stage.EndUndo call) made = refl
+of_hibernation last stage.SettleRead made = refl
+of_hibernation last stage.SettleWrite made = refl
+of_hibernation last stage.SettleSync made = refl
 
 never_at : {A : Type 0} (hib : Hib) (x : Activity) → is_of_hibernation x ≡ false → hibernation.activity_of hib ≡ x → A
-never_at hib x not_of e = absurd (false≢true (sym not_of ∙ sym (ap is_of_hibernation e) ∙ of_hibernation hib.stage hib.made))
+never_at hib x not_of e = absurd (false≢true (sym not_of ∙ sym (ap is_of_hibernation e) ∙ of_hibernation hib.ending hib.stage hib.made))
 
 abbrev is_hibernating : Core → Bool
 is_hibernating Hibernating = true
@@ -70,6 +75,7 @@ is_hibernating _ = false
 busy_at : (s : Stage) → core_in (hibernation.phase_at s) ≡ Hibernating → is_busy_at s
 busy_at stage.Idle e = absurd (false≢true (ap is_hibernating e))
 busy_at stage.Over e = absurd (false≢true (ap is_hibernating e))
+busy_at stage.Asleep e = absurd (false≢true (ap is_hibernating e))
 busy_at stage.Write e = tt
 busy_at stage.Sync e = tt
 busy_at stage.Read e = tt
@@ -93,36 +99,57 @@ never_loads_in : {A : Type 0} (phase : Phase) → core_in phase ≡ Loading → 
 never_loads_in under_way e = absurd (false≢true (ap is_loading e))
 never_loads_in runs_on e = absurd (false≢true (ap is_loading e))
 never_loads_in switched_off e = absurd (false≢true (ap is_loading e))
+never_loads_in asleep e = absurd (false≢true (ap is_loading e))
 
 -- it doesn't resume
 pub never_loads : {A : Type 0} (r : Reply) (core : Core) → core ≡ core_told r → core ≡ Loading → A
 never_loads r core is e = never_loads_in (hibernation.phase_told r) (sym is ∙ e)
 
+abbrev is_waking : Core → Bool
+is_waking Waking = true
+is_waking _ = false
+
+never_wakes_in : {A : Type 0} (phase : Phase) → core_in phase ≡ Waking → A
+never_wakes_in under_way e = absurd (false≢true (ap is_waking e))
+never_wakes_in runs_on e = absurd (false≢true (ap is_waking e))
+never_wakes_in switched_off e = absurd (false≢true (ap is_waking e))
+never_wakes_in asleep e = absurd (false≢true (ap is_waking e))
+
+-- and it doesn't wake
+pub never_wakes : {A : Type 0} (r : Reply) (core : Core) → core ≡ core_told r → core ≡ Waking → A
+never_wakes r core is e = never_wakes_in (hibernation.phase_told r) (sym is ∙ e)
+
+-- nor sleeps, where it has just begun or was refused
+pub never_sleeps : {A : Type 0} (r : Reply) (core : Core) → core ≡ core_told r → (hibernation.phase_told r ≡ under_way) ⊎ (hibernation.phase_told r ≡ runs_on) → IsDown core → A
+never_sleeps r core is (inl begun) down = absurd (subst IsDown (is ∙ ap core_in begun) down)
+never_sleeps r core is (inr refused) down = absurd (subst IsDown (is ∙ ap core_in refused) down)
+
 -- what it is at is what its activity says
-core_of_stage : (s : Stage) (made : ℕ) → core_at (hibernation.activity_at s made) ≡ core_in (hibernation.phase_at s)
-core_of_stage stage.Idle made = refl
-core_of_stage stage.Over made = refl
-core_of_stage stage.Write made = refl
-core_of_stage stage.Sync made = refl
-core_of_stage stage.Read made = refl
-core_of_stage stage.Mark made = refl
-core_of_stage stage.End made = refl
-core_of_stage (stage.TakeBack call) made = refl
-core_of_stage (stage.EndUndo call) made = refl
-core_of_stage stage.SettleRead made = refl
-core_of_stage stage.SettleWrite made = refl
-core_of_stage stage.SettleSync made = refl
+core_of_stage : (last : Ending) (s : Stage) (made : ℕ) → core_at (hibernation.activity_at last s made) ≡ core_in (hibernation.phase_at s)
+core_of_stage last stage.Idle made = refl
+core_of_stage last stage.Over made = refl
+core_of_stage last stage.Asleep made = refl
+core_of_stage last stage.Write made = refl
+core_of_stage last stage.Sync made = refl
+core_of_stage last stage.Read made = refl
+core_of_stage last stage.Mark made = refl
+core_of_stage last stage.End made = refl
+core_of_stage last (stage.TakeBack call) made = refl
+core_of_stage last (stage.EndUndo call) made = refl
+core_of_stage last stage.SettleRead made = refl
+core_of_stage last stage.SettleWrite made = refl
+core_of_stage last stage.SettleSync made = refl
 
 core_by_told : (hib : Hib) (r : Reply) (core : Core) → core ≡ core_told r → hibernation.phase_of hib ≡ hibernation.phase_told r → core ≡ core_at (hibernation.activity_of hib)
-core_by_told hib r core is told = is ∙ sym (ap core_in told) ∙ sym (core_of_stage hib.stage hib.made)
+core_by_told hib r core is told = is ∙ sym (ap core_in told) ∙ sym (core_of_stage hib.ending hib.stage hib.made)
 
 -- What is shown.
 
 shown_running : (w : World) → w.core ≡ Runs → shown w ≡ hibernation.running_by w.machine w.frames
-shown_running w e = ap (λ (core : Core). shown_at core w.machine w.frames w.hib w.load) e
+shown_running w e = ap (λ (core : Core). shown_at core w.machine w.frames w.hib w.load w.waker) e
 
 shown_hibernating : (w : World) → w.core ≡ Hibernating → shown w ≡ hibernation.shown_by w.machine w.frames w.hib
-shown_hibernating w e = ap (λ (core : Core). shown_at core w.machine w.frames w.hib w.load) e
+shown_hibernating w e = ap (λ (core : Core). shown_at core w.machine w.frames w.hib w.load w.waker) e
 
 hibernation_stands : (w : World) (c : disk.Content) (a : State) → w.core ≡ Hibernating → StandsFor w c a → hib_row.StandsFor w.machine w.frames w.hib c a
 hibernation_stands w c a core stands = record {
@@ -185,6 +212,30 @@ then_running w c activity header copies loaded a core stands =
       resume = tt;
     }
 
+pub then_asleep : (w : World) (c : disk.Content) (activity : Activity) (header copies : List ℕ) (loaded : List (ℕ × List ℕ)) (i : Image) (held : Held) (a : Running) → w.core ≡ Asleep → Stands (hardware_of w) (shown_in w activity header copies loaded) c (sleeping i held a) → StandsFor w c (sleeping i held a)
+then_asleep w c activity header copies loaded i held a core stands =
+    let behind = stands.parts.0 in
+    record {
+      stands = record {
+        activity = activity_by w Asleep core;
+        parts = (
+          record {
+            held = behind.held;
+            shows = behind.shows;
+            task_slots = behind.task_slots;
+            flights = behind.flights;
+            slot_pages = behind.slot_pages;
+            header = behind.header;
+            area = behind.area;
+          },
+          names_same (hardware_of w) (shown_in w activity header copies loaded) (shown w) held (λ k lt. refl) stands.parts.1,
+          stands.parts.2,
+        );
+      };
+      image = tt;
+      resume = tt;
+    }
+
 -- the states of a hibernation are those of the world that is at what it is at
 world_stands : (w : World) (c : disk.Content) (b : State) → w.core ≡ core_at (hibernation.activity_of w.hib) → hib_row.StandsFor w.machine w.frames w.hib c b → StandsFor w c b
 world_stands w c (off held kept) core stands = then_off w c (hibernation.activity_of w.hib) w.hib.header w.hib.snapshot.copies [] held kept (core ∙ ap core_at stands.stands.activity) stands.stands
@@ -195,7 +246,7 @@ world_stands w c (booting from dump held k) core stands = never_at w.hib _ refl 
 world_stands w c (settling a k) core stands = still_hibernating w c (settling a k) (core ∙ ap core_at stands.stands.activity) stands tt
 world_stands w c (waking i held a k) core stands = never_at w.hib _ refl stands.stands.activity
 world_stands w c (loading load k) core stands = never_at w.hib _ refl stands.stands.activity
-world_stands w c (asleep i held a) core stands = never_at w.hib _ refl stands.stands.activity
+world_stands w c (sleeping i held a) core stands = then_asleep w c (hibernation.activity_of w.hib) w.hib.header w.hib.snapshot.copies [] i held a (core ∙ ap core_at stands.stands.activity) stands.stands
 
 -- The rows.
 

@@ -8,5 +8,7 @@ pub mod Hibernating
 pub mod New
 pub mod Resuming
 pub mod Rows
+pub mod CacheDrops
 pub mod TaskRows
+pub mod Wakes
 pub mod Readiness

@@ -19,7 +19,7 @@ use Rattle.plain_machine.specs.declared.no_swap.NoSwap.{NoSwap}
 use Rattle.plain_machine.specs.declared.reply.Reply.{Reply}
 use Rattle.plain_machine.proofs.Fresh.{fresh_entry-table, table_frame-test, frame_entry-fresh_memory}
 use Rattle.plain_machine.proofs.SameMemory.{table_frame_valid}
-use Rattle.protocol_laws.proofs.Swapping.{frame_entry-slot_entry_set}
+use Rattle.protocol_laws.proofs.SwapRequests.{frame_entry-slot_entry_set}
 use Rattle.machine.specs.Flights.{flights_in}
 use Rattle.machine.specs.FreshSlots.{slot_of_area}
 use Rattle.machine.specs.Running.{AreReserved, AreInFlight, CanRun, slot_table_of}
@@ -28,7 +28,7 @@ use Rattle.machine.specs.declared.flight.Flight.TheVariants.{Nothing}
 use Rattle.machine.specs.declared.machine.Machine.{Machine}
 use Rattle.machine.proofs.Readiness.{reserved-same, in_flight-none, in_flight-same, flights-none}
 use Rattle.hib_core.specs.Hibernation as hibernation
-use Rattle.hib_core.specs.Hibernation.{Phase, under_way, runs_on, switched_off}
+use Rattle.hib_core.specs.Hibernation.{Phase, under_way, runs_on, switched_off, asleep}
 use Rattle.hib_core.specs.Leaving.{LeavesAtBegin}
 use Rattle.hib_core.specs.Ready.{IsSameMachine}
 use Rattle.hib_core.specs.declared.hib.Job.{Job}
@@ -40,7 +40,7 @@ use Rattle.resume_core.specs.declared.load.Load.{Load}
 use Rattle.resume_core.specs.declared.load.Stage.{Stage}
 use Rattle.resume_core.specs.declared.load.Stage.TheVariants as stage
 use Rattle.world_core.specs.declared.world.Core.{Core}
-use Rattle.world_core.specs.declared.world.Core.TheVariants.{Off, Running, BootBegun, BootSynced, Hibernating, Loading}
+use Rattle.world_core.specs.declared.world.Core.TheVariants.{Off, Running, BootBegun, BootSynced, Hibernating, Asleep, Waking, Loading}
 use Rattle.world_core.specs.Kept.{HasTables}
 use Rattle.world_core.specs.Started.{memory_at_start}
 use Rattle.world_core.specs.StandsFor.{keeps_dump, core_at, core_in, core_told}
@@ -86,6 +86,8 @@ tables_kept Running e = absurd (false≢true e)
 tables_kept (BootBegun from) e = tt
 tables_kept (BootSynced from) e = tt
 tables_kept Hibernating e = absurd (false≢true e)
+tables_kept Asleep e = absurd (false≢true e)
+tables_kept Waking e = absurd (false≢true e)
 tables_kept Loading e = absurd (false≢true e)
 
 -- A machine that is started can run.
@@ -124,6 +126,7 @@ no_tables_in : {A : Type 0} (phase : Phase) → HasTables (core_in phase) → A
 no_tables_in under_way has = absurd has
 no_tables_in runs_on has = absurd has
 no_tables_in switched_off has = absurd (false≢true has)
+no_tables_in asleep has = absurd has
 
 pub no_tables_told : {A : Type 0} (r : Reply) (core : Core) → core ≡ core_told r → HasTables core → A
 no_tables_told r core is has = no_tables_in (hibernation.phase_told r) (subst HasTables is has)

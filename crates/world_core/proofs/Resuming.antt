@@ -29,9 +29,9 @@ use Rattle.resume_core.specs.declared.load.Load.{Load}
 use Rattle.resume_core.specs.declared.load.Stage.{Stage}
 use Rattle.resume_core.specs.declared.load.Stage.TheVariants as stage
 use Rattle.world_core.specs.declared.world.Core.{Core}
-use Rattle.world_core.specs.declared.world.Core.TheVariants.{Off, Running as Runs, BootBegun, BootSynced, Hibernating, Loading}
+use Rattle.world_core.specs.declared.world.Core.TheVariants.{Off, Running as Runs, BootBegun, BootSynced, Hibernating, Asleep, Waking, Loading}
 use Rattle.world_core.specs.World.{World}
-use Rattle.world_core.specs.Kept.{IsUp}
+use Rattle.world_core.specs.Kept.{IsDown, IsUp}
 use Rattle.world_core.specs.StandsFor.{StandsFor, IsOff, hardware_of, keeps_dump, shown, shown_at, core_at, core_resumed}
 use Rattle.world_core.specs.Row.{IsRow, HasRow, Restores}
 use Rattle.world_core.proofs.Hibernating.{shown_in, then_off, then_running}
@@ -100,6 +100,16 @@ never_hibernates stage.SyncBack made e = false≢true (ap is_hibernating e)
 never_hibernates stage.List made e = false≢true (ap is_hibernating e)
 never_hibernates stage.Read made e = false≢true (ap is_hibernating e)
 
+never_sleeps : (s : Stage) (made : ℕ) → IsDown (core_at (resumption.activity_at s made)) → ⊥
+never_sleeps stage.Rest made down = down
+never_sleeps stage.Runs made down = down
+never_sleeps stage.Sync made down = down
+never_sleeps stage.Find made down = down
+never_sleeps stage.TakeBack made down = down
+never_sleeps stage.SyncBack made down = down
+never_sleeps stage.List made down = down
+never_sleeps stage.Read made down = down
+
 -- a world by what it has answered to a step of its resume
 pub record IsAfter (load : Load) (r : Reply) (core : Core) : Type 0 where
   pub loader : Loader
@@ -115,6 +125,9 @@ busy_after load r core is e = busy_at load.stage load.made (sym (core_now load r
 pub idle_after : {A : Type 0} (load : Load) (r : Reply) (core : Core) → IsAfter load r core → core ≡ Hibernating → A
 idle_after load r core is e = absurd (never_hibernates load.stage load.made (sym (core_now load r core is) ∙ e))
 
+pub awake_after : {A : Type 0} (load : Load) (r : Reply) (core : Core) → IsAfter load r core → IsDown core → A
+awake_after load r core is down = absurd (never_sleeps load.stage load.made (subst IsDown (core_now load r core is) down))
+
 -- what a machine has that runs after it
 pub runs_after : (machine : Machine) (frames : Memory) (runs_of : SlotRuns) (load : Load) (r : Reply) (core : Core) → IsAfter load r core → CanStep machine frames runs_of load → IsUp core → RunsOn machine frames runs_of
 runs_after machine frames runs_of load r (Off keeps) after can up = absurd up
@@ -122,6 +135,8 @@ runs_after machine frames runs_of load r Runs after can up = subst (λ (s : Stag
 runs_after machine frames runs_of load r (BootBegun from) after can up = absurd up
 runs_after machine frames runs_of load r (BootSynced from) after can up = absurd up
 runs_after machine frames runs_of load r Hibernating after can up = idle_after load r Hibernating after refl
+runs_after machine frames runs_of load r Asleep after can up = awake_after load r Asleep after tt
+runs_after machine frames runs_of load r Waking after can up = awake_after load r Waking after tt
 runs_after machine frames runs_of load r Loading after can up = absurd up
 
 -- What is shown.
@@ -142,7 +157,7 @@ unfolding with_reason
 loading_is w = ap (with_reason w) (reason_same w.machine.area)
 
 shown_at_load : (w : World) → w.core ≡ Loading → shown w ≡ shown_loading w
-shown_at_load w e = ap (λ (core : Core). shown_at core w.machine w.frames w.hib w.load) e
+shown_at_load w e = ap (λ (core : Core). shown_at core w.machine w.frames w.hib w.load w.waker) e
 
 resume_stands : (w : World) (c : disk.Content) (a : State) → w.core ≡ Loading → StandsFor w c a → resume_row.StandsFor w.machine w.frames w.load c a
 resume_stands w c a core stands = record {

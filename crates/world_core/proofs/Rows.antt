@@ -5,6 +5,7 @@ use Rattle.std.proofs.Common.{◌≡◌, ◌≢◌, ℕ, Bool, true, false, Opti
 use Rattle.std.specs.List.{Contains}
 use Rattle.std.proofs.lemmas.Bool.{false≢true}
 use Rattle.definitions.specs.Disk as disk
+use Rattle.plain_machine.specs.Image.{Image}
 use Rattle.plain_machine.specs.Machine.{Hardware, Memory}
 use Rattle.plain_machine.specs.State.{State, off, on, booting, hibernating, undoing, settling, waking, loading, asleep, Running, Held, Flight}
 use Rattle.plain_machine.specs.Step.{Step, outcomes, accepted, refused_or}
@@ -14,7 +15,7 @@ use Rattle.hib_core.specs.declared.hib.Job.{Job}
 use Rattle.hib_core.specs.declared.hib.Job.TheVariants as job
 use Rattle.plain_machine.specs.Refusals.{busy, is_held, start_refusal, asks_dump_to_boot, asks_dump_to_load, refusal, refused_if, refusal_if_running, task_refusal, hibernate_refusal}
 use Rattle.plain_machine.specs.Stands.{Stands}
-use Rattle.plain_machine.specs.Shows.{Activity, rests, runs, boots, sleeps, activity_in}
+use Rattle.plain_machine.specs.Shows.{Activity, rests, runs, boots, hibernates, undoes, settles, wakes, loads, sleeps, activity_in}
 use Rattle.plain_machine.specs.declared.event.BootFrom.{BootFrom}
 use Rattle.plain_machine.specs.declared.event.Event.{Event}
 use Rattle.plain_machine.specs.declared.event.Loader.{Loader}
@@ -30,6 +31,7 @@ use Rattle.page_core.specs.declared.format.Format.{Format}
 use Rattle.machine.specs.Flights.{flights_in}
 use Rattle.hib_core.specs.Hibernation.{activity_at}
 use Rattle.hib_core.specs.Ready.{IsBusy, is_busy_at}
+use Rattle.hib_core.specs.declared.hib.Ending.{Ending}
 use Rattle.hib_core.specs.declared.hib.Hib.{Hib}
 use Rattle.hib_core.specs.declared.hib.Stage.{Stage}
 use Rattle.hib_core.specs.declared.hib.Stage.TheVariants as stage
@@ -38,14 +40,15 @@ use Rattle.resume_core.specs.Ready as resume_ready
 use Rattle.resume_core.specs.declared.load.Load.{Load}
 use Rattle.resume_core.specs.declared.load.Stage.{Stage as LoadStage}
 use Rattle.resume_core.specs.declared.load.Stage.TheVariants as load_stage
+use Rattle.sleep_core.specs.declared.waker.Waker.{Waker}
 use Rattle.world_core.specs.declared.world.Core.{Core}
-use Rattle.world_core.specs.declared.world.Core.TheVariants.{Off, Running as Runs, BootBegun, BootSynced, Hibernating, Loading}
+use Rattle.world_core.specs.declared.world.Core.TheVariants.{Off, Running as Runs, BootBegun, BootSynced, Hibernating, Asleep, Waking, Loading}
 use Rattle.world_core.specs.declared.world.World.TheInside.{Inside}
 use Rattle.world_core.specs.World.{World}
 use Rattle.world_core.specs.Kept.{kept_world, IsKept, IsUp}
 use Rattle.world_core.specs.StandsFor.{StandsFor, IsBusyIn, IsOff, activity_of, is_off, hardware_of, shown}
-use Rattle.world_core.specs.Row.{GoesOn, IsRow, IsServed}
-use Rattle.world_core.proofs.Cases.{activity_for, activity_by, rests_by, at_rest, at_run, at_boot}
+use Rattle.world_core.specs.Row.{GoesOn, IsRow}
+use Rattle.world_core.proofs.Cases.{activity_for, activity_by, rests_by, at_rest, at_run, at_boot, at_sleep}
 
 pub refused_step : (h : Hardware) (v : disk.Image) (a : State) (e : Event) (r : Reply) → refusal h a e ≡ Some r → Step h v a e r a
 unfolding outcomes
@@ -91,19 +94,20 @@ is_underway runs = false
 is_underway sleeps = false
 is_underway _ = true
 
-busy_underway : (s : Stage) (made : ℕ) → is_busy_at s → is_underway (activity_at s made) ≡ true
-busy_underway stage.Idle made busy = absurd busy
-busy_underway stage.Over made busy = absurd busy
-busy_underway stage.Write made busy = refl
-busy_underway stage.Sync made busy = refl
-busy_underway stage.Read made busy = refl
-busy_underway stage.Mark made busy = refl
-busy_underway stage.End made busy = refl
-busy_underway (stage.TakeBack call) made busy = refl
-busy_underway (stage.EndUndo call) made busy = refl
-busy_underway stage.SettleRead made busy = refl
-busy_underway stage.SettleWrite made busy = refl
-busy_underway stage.SettleSync made busy = refl
+busy_underway : (last : Ending) (s : Stage) (made : ℕ) → is_busy_at s → is_underway (activity_at last s made) ≡ true
+busy_underway last stage.Idle made busy = absurd busy
+busy_underway last stage.Over made busy = absurd busy
+busy_underway last stage.Asleep made busy = absurd busy
+busy_underway last stage.Write made busy = refl
+busy_underway last stage.Sync made busy = refl
+busy_underway last stage.Read made busy = refl
+busy_underway last stage.Mark made busy = refl
+busy_underway last stage.End made busy = refl
+busy_underway last (stage.TakeBack call) made busy = refl
+busy_underway last (stage.EndUndo call) made busy = refl
+busy_underway last stage.SettleRead made busy = refl
+busy_underway last stage.SettleWrite made busy = refl
+busy_underway last stage.SettleSync made busy = refl
 
 abbrev is_rest : Activity → Bool
 is_rest rests = true
@@ -129,22 +133,28 @@ is_idle Runs = true
 is_idle (BootBegun from) = false
 is_idle (BootSynced from) = false
 is_idle Hibernating = false
+is_idle Asleep = true
+is_idle Waking = false
 is_idle Loading = false
 
-core_underway : (core : Core) (hib : Hib) (load : Load) → (core ≡ Hibernating → IsBusy hib) → (core ≡ Loading → resume_ready.IsBusy load) → is_idle core ≡ false → is_underway (activity_of core hib load) ≡ true
-core_underway (Off keeps) hib load busy loads no_idle = absurd (false≢true (sym no_idle))
-core_underway Runs hib load busy loads no_idle = absurd (false≢true (sym no_idle))
-core_underway (BootBegun from) hib load busy loads no_idle = refl
-core_underway (BootSynced from) hib load busy loads no_idle = refl
-core_underway Hibernating hib load busy loads no_idle = busy_underway hib.stage hib.made (busy refl)
-core_underway Loading hib load busy loads no_idle = load_underway load.stage load.made (loads refl)
+core_underway : (core : Core) (hib : Hib) (load : Load) (waker : Waker) → (core ≡ Hibernating → IsBusy hib) → (core ≡ Loading → resume_ready.IsBusy load) → is_idle core ≡ false → is_underway (activity_of core hib load waker) ≡ true
+core_underway (Off keeps) hib load waker busy resumes no_idle = absurd (false≢true (sym no_idle))
+core_underway Runs hib load waker busy resumes no_idle = absurd (false≢true (sym no_idle))
+core_underway (BootBegun from) hib load waker busy resumes no_idle = refl
+core_underway (BootSynced from) hib load waker busy resumes no_idle = refl
+core_underway Hibernating hib load waker busy resumes no_idle = busy_underway hib.ending hib.stage hib.made (busy refl)
+core_underway Asleep hib load waker busy resumes no_idle = absurd (false≢true (sym no_idle))
+core_underway Waking hib load waker busy resumes no_idle = refl
+core_underway Loading hib load waker busy resumes no_idle = load_underway load.stage load.made (resumes refl)
 
-core_off : (w : World) (core : Core) → IsBusyIn w → w.core ≡ core → activity_of core w.hib w.load ≡ rests → is_off core ≡ true
+core_off : (w : World) (core : Core) → IsBusyIn w → w.core ≡ core → activity_of core w.hib w.load w.waker ≡ rests → is_off core ≡ true
 core_off w (Off keeps) busy e rest = refl
 core_off w Runs busy e rest = absurd (false≢true (ap is_rest rest))
 core_off w (BootBegun from) busy e rest = absurd (false≢true (ap is_rest rest))
 core_off w (BootSynced from) busy e rest = absurd (false≢true (ap is_rest rest))
-core_off w Hibernating busy e rest = absurd (false≢true (sym (ap is_underway rest) ∙ busy_underway w.hib.stage w.hib.made (busy.hibernates e)))
+core_off w Hibernating busy e rest = absurd (false≢true (sym (ap is_underway rest) ∙ busy_underway w.hib.ending w.hib.stage w.hib.made (busy.hibernates e)))
+core_off w Asleep busy e rest = absurd (false≢true (ap is_rest rest))
+core_off w Waking busy e rest = absurd (false≢true (ap is_rest rest))
 core_off w Loading busy e rest = absurd (false≢true (sym (ap is_underway rest) ∙ load_underway w.load.stage w.load.made (busy.resumes e)))
 
 never_off : (w : World) (c : disk.Content) (a : State) → IsBusyIn w → (IsOff w → ⊥) → StandsFor w c a → (held : Held) (kept : Option Memory) → a ≡ off held kept → ⊥
@@ -177,20 +187,23 @@ frozen_by (waking i held r k) test e = refl
 frozen_by (loading load k) test e = refl
 frozen_by (asleep i held r) test e = absurd (false≢true e)
 
-taken_not_idle : (core : Core) → (is_off core ≡ true → ⊥) → core ≢ Runs → is_idle core ≡ false
-taken_not_idle (Off keeps) no_off no_run = absurd (no_off refl)
-taken_not_idle Runs no_off no_run = absurd (no_run refl)
-taken_not_idle (BootBegun from) no_off no_run = refl
-taken_not_idle (BootSynced from) no_off no_run = refl
-taken_not_idle Hibernating no_off no_run = refl
-taken_not_idle Loading no_off no_run = refl
+-- A world at something that goes on: it isn't off, doesn't run and doesn't sleep.
+abbrev pub IsTaken : Core → Type 0
+IsTaken core = is_idle core ≡ false
 
-underway : (w : World) (c : disk.Content) (a : State) → IsBusyIn w → (IsOff w → ⊥) → w.core ≢ Runs → StandsFor w c a → is_underway (activity_in a) ≡ true
-underway w c a busy no_off no_run stands = sym (ap is_underway (activity_for w c a stands)) ∙ core_underway w.core w.hib w.load busy.hibernates busy.resumes (taken_not_idle w.core no_off no_run)
+pub is_taken : (core : Core) → ((from : BootFrom) × (core ≡ BootBegun from)) ⊎ (((from : BootFrom) × (core ≡ BootSynced from)) ⊎ ((core ≡ Hibernating) ⊎ ((core ≡ Waking) ⊎ (core ≡ Loading)))) → IsTaken core
+is_taken core (inl e) = ap is_idle e.1
+is_taken core (inr (inl e)) = ap is_idle e.1
+is_taken core (inr (inr (inl e))) = ap is_idle e
+is_taken core (inr (inr (inr (inl e)))) = ap is_idle e
+is_taken core (inr (inr (inr (inr e)))) = ap is_idle e
 
-pub frozen_task : (w : World) (c : disk.Content) (a : State) (t : ℕ) (o : TaskOp) → IsBusyIn w → (IsOff w → ⊥) → w.core ≢ Runs → StandsFor w c a → refusal (hardware_of w) a (event.Task t o) ≡ Some reply.Frozen
+underway : (w : World) (c : disk.Content) (a : State) → IsBusyIn w → IsTaken w.core → StandsFor w c a → is_underway (activity_in a) ≡ true
+underway w c a busy taken stands = sym (ap is_underway (activity_for w c a stands)) ∙ core_underway w.core w.hib w.load w.waker busy.hibernates busy.resumes taken
+
+pub frozen_task : (w : World) (c : disk.Content) (a : State) (t : ℕ) (o : TaskOp) → IsBusyIn w → IsTaken w.core → StandsFor w c a → refusal (hardware_of w) a (event.Task t o) ≡ Some reply.Frozen
 unfolding refusal
-frozen_task w c a t o busy no_off no_run stands = frozen_by a (task_refusal (hardware_of w) t o) (underway w c a busy no_off no_run stands)
+frozen_task w c a t o busy taken stands = frozen_by a (task_refusal (hardware_of w) t o) (underway w c a busy taken stands)
 
 -- the test of a job's event, of a machine that runs
 abbrev job_test : Hardware → Job → Running → Option Reply
@@ -204,8 +217,8 @@ job_refusal h a (job.Hibernate f) = refl
 job_refusal h a (job.Suspend f) = refl
 job_refusal h a job.Settle = refl
 
-pub frozen_job : (w : World) (c : disk.Content) (a : State) (asked : Job) → IsBusyIn w → (IsOff w → ⊥) → w.core ≢ Runs → StandsFor w c a → refusal (hardware_of w) a (event_of asked) ≡ Some reply.Frozen
-frozen_job w c a asked busy no_off no_run stands = job_refusal (hardware_of w) a asked ∙ frozen_by a (job_test (hardware_of w) asked) (underway w c a busy no_off no_run stands)
+pub frozen_job : (w : World) (c : disk.Content) (a : State) (asked : Job) → IsBusyIn w → IsTaken w.core → StandsFor w c a → refusal (hardware_of w) a (event_of asked) ≡ Some reply.Frozen
+frozen_job w c a asked busy taken stands = job_refusal (hardware_of w) a asked ∙ frozen_by a (job_test (hardware_of w) asked) (underway w c a busy taken stands)
 
 job_not_on_by : (a : State) (test : Running → Option Reply) → (held : Held) (kept : Option Memory) → a ≡ off held kept → refusal_if_running a test ≡ Some reply.NotOn
 job_not_on_by a test held kept e = ap (λ (b : State). refusal_if_running b test) e
@@ -215,6 +228,76 @@ job_not_on w c a asked e stands =
     let rest = at_rest a (sym (rests_by w e) ∙ activity_for w c a stands) in
     job_refusal (hardware_of w) a asked ∙ job_not_on_by a (job_test (hardware_of w) asked) rest.0 rest.1 rest.2
 
+-- A shrinking asks of a machine that runs alone whether a task is busy.
+shrink_refusal : (h : Hardware) (a : State) (want : ℕ) → refusal h a (event.Shrink want) ≡ refusal_if_running a busy
+unfolding refusal
+shrink_refusal h a want = refl
+
+pub shrink_not_on : (w : World) (c : disk.Content) (a : State) (want : ℕ) → IsOff w → StandsFor w c a → refusal (hardware_of w) a (event.Shrink want) ≡ Some reply.NotOn
+shrink_not_on w c a want e stands =
+    let rest = at_rest a (sym (rests_by w e) ∙ activity_for w c a stands) in
+    shrink_refusal (hardware_of w) a want ∙ job_not_on_by a busy rest.0 rest.1 rest.2
+
+pub frozen_shrink : (w : World) (c : disk.Content) (a : State) (want : ℕ) → IsBusyIn w → IsTaken w.core → StandsFor w c a → refusal (hardware_of w) a (event.Shrink want) ≡ Some reply.Frozen
+frozen_shrink w c a want busy_in taken stands = shrink_refusal (hardware_of w) a want ∙ frozen_by a busy (underway w c a busy_in taken stands)
+
+-- One that sleeps isn't disturbed either.
+sleeping_by : (w : World) (c : disk.Content) (a : State) (test : Running → Option Reply) → w.core ≡ Asleep → StandsFor w c a → refusal_if_running a test ≡ Some reply.Sleeping
+sleeping_by w c a test core stands =
+    let sleep = at_sleep a (sym (activity_by w Asleep core) ∙ activity_for w c a stands) in
+    ap (λ (b : State). refusal_if_running b test) sleep.3
+
+pub sleeping_task : (w : World) (c : disk.Content) (a : State) (t : ℕ) (o : TaskOp) → w.core ≡ Asleep → StandsFor w c a → refusal (hardware_of w) a (event.Task t o) ≡ Some reply.Sleeping
+unfolding refusal
+sleeping_task w c a t o core stands = sleeping_by w c a (task_refusal (hardware_of w) t o) core stands
+
+pub sleeping_job : (w : World) (c : disk.Content) (a : State) (asked : Job) → w.core ≡ Asleep → StandsFor w c a → refusal (hardware_of w) a (event_of asked) ≡ Some reply.Sleeping
+sleeping_job w c a asked core stands = job_refusal (hardware_of w) a asked ∙ sleeping_by w c a (job_test (hardware_of w) asked) core stands
+
+pub sleeping_shrink : (w : World) (c : disk.Content) (a : State) (want : ℕ) → w.core ≡ Asleep → StandsFor w c a → refusal (hardware_of w) a (event.Shrink want) ≡ Some reply.Sleeping
+sleeping_shrink w c a want core stands = shrink_refusal (hardware_of w) a want ∙ sleeping_by w c a busy core stands
+
+-- and only one that sleeps wakes
+abbrev is_sleep : Activity → Bool
+is_sleep sleeps = true
+is_sleep _ = false
+
+awake_if_underway : (x : Activity) → is_underway x ≡ true → is_sleep x ≡ false
+awake_if_underway rests e = refl
+awake_if_underway runs e = refl
+awake_if_underway (boots from k) e = refl
+awake_if_underway (hibernates suspends k) e = refl
+awake_if_underway (undoes call k) e = refl
+awake_if_underway (settles k) e = refl
+awake_if_underway (wakes k) e = refl
+awake_if_underway (loads k) e = refl
+awake_if_underway sleeps e = absurd (false≢true e)
+
+core_awake : (w : World) (core : Core) → IsBusyIn w → w.core ≡ core → core ≢ Asleep → is_sleep (activity_of core w.hib w.load w.waker) ≡ false
+core_awake w (Off keeps) busy e awake = refl
+core_awake w Runs busy e awake = refl
+core_awake w (BootBegun from) busy e awake = refl
+core_awake w (BootSynced from) busy e awake = refl
+core_awake w Hibernating busy e awake = awake_if_underway (activity_of Hibernating w.hib w.load w.waker) (busy_underway w.hib.ending w.hib.stage w.hib.made (busy.hibernates e))
+core_awake w Asleep busy e awake = absurd (awake refl)
+core_awake w Waking busy e awake = refl
+core_awake w Loading busy e awake = awake_if_underway (activity_of Loading w.hib w.load w.waker) (load_underway w.load.stage w.load.made (busy.resumes e))
+
+not_asleep_by : (h : Hardware) (a : State) → is_sleep (activity_in a) ≡ false → refusal h a event.Wake ≡ Some reply.NotAsleep
+unfolding refusal
+not_asleep_by h (off held kept) e = refl
+not_asleep_by h (on r) e = refl
+not_asleep_by h (booting from dump held k) e = refl
+not_asleep_by h (hibernating suspends i r k) e = refl
+not_asleep_by h (undoing i call r k) e = refl
+not_asleep_by h (settling r k) e = refl
+not_asleep_by h (waking i held r k) e = refl
+not_asleep_by h (loading load k) e = refl
+not_asleep_by h (asleep i held r) e = absurd (false≢true (sym e))
+
+pub not_asleep : (w : World) (c : disk.Content) (a : State) → IsBusyIn w → w.core ≢ Asleep → StandsFor w c a → refusal (hardware_of w) a event.Wake ≡ Some reply.NotAsleep
+not_asleep w c a busy awake stands = not_asleep_by (hardware_of w) a (sym (ap is_sleep (activity_for w c a stands)) ∙ core_awake w w.core busy refl awake)
+
 idle_off : (h : Hardware) (a : State) (x : Actor) (held : Held) (kept : Option Memory) → a ≡ off held kept → refusal h a (event.Step x) ≡ Some reply.Idle
 unfolding refusal
 idle_off h a x held kept e = ap (λ (b : State). refusal h b (event.Step x)) e
@@ -223,33 +306,20 @@ idle_on : (h : Hardware) (a : State) (r : Running) → a ≡ on r → refusal h 
 unfolding refusal
 idle_on h a r e = ap (λ (b : State). refusal h b (event.Step actor.Core)) e
 
-pub idle_core : (w : World) (c : disk.Content) (a : State) → StandsFor w c a → IsOff w ⊎ (w.core ≡ Runs) → refusal (hardware_of w) a (event.Step actor.Core) ≡ Some reply.Idle
+idle_asleep : (h : Hardware) (a : State) (i : Image) (held : Held) (r : Running) → a ≡ asleep i held r → refusal h a (event.Step actor.Core) ≡ Some reply.Idle
+unfolding refusal
+idle_asleep h a i held r e = ap (λ (b : State). refusal h b (event.Step actor.Core)) e
+
+pub idle_core : (w : World) (c : disk.Content) (a : State) → StandsFor w c a → IsOff w ⊎ ((w.core ≡ Runs) ⊎ (w.core ≡ Asleep)) → refusal (hardware_of w) a (event.Step actor.Core) ≡ Some reply.Idle
 idle_core w c a stands (inl e) =
     let rest = at_rest a (sym (rests_by w e) ∙ activity_for w c a stands) in
     idle_off (hardware_of w) a actor.Core rest.0 rest.1 rest.2
-idle_core w c a stands (inr e) =
+idle_core w c a stands (inr (inl e)) =
     let run = at_run a (sym (activity_by w Runs e) ∙ activity_for w c a stands) in
     idle_on (hardware_of w) a run.0 run.1
-
--- what a world is at, by its fields
-abbrev pub IsTaken : Core → Type 0
-IsTaken core = (is_off core ≡ true → ⊥) × (core ≢ Runs)
-
-taken_by : (core : Core) → is_idle core ≡ false → IsTaken core
-taken_by core busy = (λ e. idle_off_core core e busy, λ e. false≢true (sym busy ∙ ap is_idle e)) where
-  idle_off_core : (x : Core) → is_off x ≡ true → is_idle x ≡ false → ⊥
-  idle_off_core (Off keeps) e idle = false≢true (sym idle)
-  idle_off_core Runs e idle = false≢true e
-  idle_off_core (BootBegun from) e idle = false≢true e
-  idle_off_core (BootSynced from) e idle = false≢true e
-  idle_off_core Hibernating e idle = false≢true e
-  idle_off_core Loading e idle = false≢true e
-
-pub is_taken : (core : Core) → ((from : BootFrom) × (core ≡ BootBegun from)) ⊎ (((from : BootFrom) × (core ≡ BootSynced from)) ⊎ ((core ≡ Hibernating) ⊎ (core ≡ Loading))) → IsTaken core
-is_taken core (inl e) = taken_by core (ap is_idle e.1)
-is_taken core (inr (inl e)) = taken_by core (ap is_idle e.1)
-is_taken core (inr (inr (inl e))) = taken_by core (ap is_idle e)
-is_taken core (inr (inr (inr e))) = taken_by core (ap is_idle e)
+idle_core w c a stands (inr (inr e)) =
+    let sleep = at_sleep a (sym (activity_by w Asleep e) ∙ activity_for w c a stands) in
+    idle_asleep (hardware_of w) a sleep.0 sleep.1 sleep.2 sleep.3
 
 pub busy_in : (inside : Inside) (w : World) → kept_world inside ≡ w → IsKept inside → IsBusyIn w
 busy_in inside w is kept = subst IsBusyIn is (record { hibernates = λ e. (kept.busy e).1; resumes = λ e. (kept.loads e).1 })
@@ -269,7 +339,7 @@ row_at_run e old new r c c' core goes a stands =
     let run = at_run a (sym (activity_by old Runs core) ∙ activity_for old c a stands) in
     subst (λ (s : State). (b : State) × GoesOn e old new r c c' s b) (sym run.1) (goes run.0 (subst (StandsFor old c) run.1 stands))
 
-pub row_at_boot : (e : Event) (old new : World) (r : Reply) (c c' : disk.Content) (from : BootFrom) (k : ℕ) → activity_of old.core old.hib old.load ≡ boots from k → ((dump : Memory) (held : Held) → StandsFor old c (booting from dump held k) → (b : State) × GoesOn e old new r c c' (booting from dump held k) b) → IsRow e old new r c c'
+pub row_at_boot : (e : Event) (old new : World) (r : Reply) (c c' : disk.Content) (from : BootFrom) (k : ℕ) → activity_of old.core old.hib old.load old.waker ≡ boots from k → ((dump : Memory) (held : Held) → StandsFor old c (booting from dump held k) → (b : State) × GoesOn e old new r c c' (booting from dump held k) b) → IsRow e old new r c c'
 row_at_boot e old new r c c' from k core goes a stands =
     let boot = at_boot a from k (sym core ∙ activity_for old c a stands) in
     subst (λ (s : State). (b : State) × GoesOn e old new r c c' s b) (sym boot.2) (goes boot.0 boot.1 (subst (StandsFor old c) boot.2 stands))
@@ -288,18 +358,23 @@ idle_without_flight h (loading load k) t none = refl
 idle_without_flight h (asleep i held r) t none = refl
 
 -- a machine that isn't at what it shows doesn't run
-core_runs : (w : World) (core : Core) → IsBusyIn w → w.core ≡ core → activity_of core w.hib w.load ≡ runs → core ≡ Runs
+core_runs : (w : World) (core : Core) → IsBusyIn w → w.core ≡ core → activity_of core w.hib w.load w.waker ≡ runs → core ≡ Runs
 core_runs w (Off keeps) busy e run = absurd (false≢true (ap is_run run))
 core_runs w Runs busy e run = refl
 core_runs w (BootBegun from) busy e run = absurd (false≢true (ap is_run run))
 core_runs w (BootSynced from) busy e run = absurd (false≢true (ap is_run run))
-core_runs w Hibernating busy e run = absurd (false≢true (sym (ap is_underway run) ∙ busy_underway w.hib.stage w.hib.made (busy.hibernates e)))
+core_runs w Hibernating busy e run = absurd (false≢true (sym (ap is_underway run) ∙ busy_underway w.hib.ending w.hib.stage w.hib.made (busy.hibernates e)))
+core_runs w Asleep busy e run = absurd (false≢true (ap is_run run))
+core_runs w Waking busy e run = absurd (false≢true (ap is_run run))
 core_runs w Loading busy e run = absurd (false≢true (sym (ap is_underway run) ∙ load_underway w.load.stage w.load.made (busy.resumes e)))
+
+pub runs_nowhere : (w : World) → IsBusyIn w → w.core ≢ Runs → (c : disk.Content) (a : State) → StandsFor w c a → activity_in a ≢ runs
+runs_nowhere w busy no_run c a stands e = no_run (core_runs w w.core busy refl (activity_for w c a stands ∙ e))
 
 -- a task has no step to make where the machine doesn't run
 pub idle_elsewhere : (w : World) (c : disk.Content) (a : State) (t : ℕ) → IsBusyIn w → w.core ≢ Runs → StandsFor w c a → refusal (hardware_of w) a (event.Step (actor.Task t)) ≡ Some reply.Idle
 idle_elsewhere w c a t busy no_run stands =
-    idle_without_flight (hardware_of w) a t (λ r e. absurd (no_run (core_runs w w.core busy refl (activity_for w c a stands ∙ ap activity_in e))))
+    idle_without_flight (hardware_of w) a t (λ r e. absurd (runs_nowhere w busy no_run c a stands (ap activity_in e)))
 
 -- nor where it has no operation
 shows_none : (w : World) (c : disk.Content) (a : State) (t : ℕ) → is_some (flights_in w.machine.flights t) ≡ false → StandsFor w c a → (r : Running) → a ≡ on r → r.flights t ≡ None
@@ -311,17 +386,3 @@ shows_none w c a t none stands r e =
 
 pub idle_without : (w : World) (c : disk.Content) (a : State) (t : ℕ) → is_some (flights_in w.machine.flights t) ≡ false → StandsFor w c a → refusal (hardware_of w) a (event.Step (actor.Task t)) ≡ Some reply.Idle
 idle_without w c a t none stands = idle_without_flight (hardware_of w) a t (shows_none w c a t none stands)
-
--- every event but these isn't served
-pub not_served : (e : Event) → IsServed e → ((from : BootFrom) → e ≡ event.Boot from → ⊥) → ((t : ℕ) (o : TaskOp) → e ≡ event.Task t o → ⊥) → ((x : Actor) → e ≡ event.Step x → ⊥) → ((f : Format) → e ≡ event.Hibernate f → ⊥) → (e ≡ event.Settle → ⊥) → ((loader : Loader) (check : IdentCheck) → e ≡ event.Resume loader check → ⊥) → ((pick : ℕ) → e ≡ event.Cut pick → ⊥) → ((first count pick : ℕ) → e ≡ event.Arm first count pick → ⊥) → ⊥
-not_served (event.Boot from) served b t s h x l u m = b from refl
-not_served (event.Hibernate f) served b t s h x l u m = h f refl
-not_served (event.Suspend f) served b t s h x l u m = served
-not_served event.Wake served b t s h x l u m = served
-not_served event.Settle served b t s h x l u m = x refl
-not_served (event.Shrink want) served b t s h x l u m = served
-not_served (event.Resume loader check) served b t s h x l u m = l loader check refl
-not_served (event.Step y) served b t s h x l u m = s y refl
-not_served (event.Task t' o) served b t s h x l u m = t t' o refl
-not_served (event.Cut pick) served b t s h x l u m = u pick refl
-not_served (event.Arm first count pick) served b t s h x l u m = m first count pick refl

@@ -26,7 +26,8 @@ use Rattle.plain_machine.specs.declared.reply.Reply.TheVariants as reply
 use Rattle.protocol_laws.specs.Rows.{IsSameArea, LeavesBlock, blocks_at}
 use Rattle.protocol_laws.specs.Rows as rows
 use Rattle.protocol_laws.proofs.Same.{SameHeader, same_area_block}
-use Rattle.protocol_laws.proofs.Swapping.{request_stands, ends, written_is, write_failed_is, fetched_is, read_failed_is, out_written, out_fails, in_read, in_fails, in_page, out_block, tries_out, valid_in}
+use Rattle.protocol_laws.proofs.SwapEnds.{written_is, write_failed_is, fetched_is, read_failed_is, out_written, out_fails, in_read, in_fails, in_page, out_block, tries_out}
+use Rattle.protocol_laws.proofs.SwapRequests.{request_stands, ends, valid_in}
 use Rattle.protocol_laws.proofs.Unwritten.{block_same, block_other}
 use Rattle.machine.specs.Flights.{flights_in}
 use Rattle.machine.specs.Landing.{Answers, CallsDisk, HasEnd}
@@ -52,10 +53,10 @@ names_same h s s' (maybe other) same names = λ k lt e. names k lt (sym (same k 
 
 -- A world that runs.
 
-on_parts : (w : World) (c : disk.Content) (a : Running) → StandsFor w c (on a) → ShowsRunning (hardware_of w) (shown w) a × StandsOn (hardware_of w) (shown w) c a
+pub on_parts : (w : World) (c : disk.Content) (a : Running) → StandsFor w c (on a) → ShowsRunning (hardware_of w) (shown w) a × StandsOn (hardware_of w) (shown w) c a
 on_parts w c a stands = stands.stands.parts
 
-runs_on : (h : Hardware) (w : World) (c : disk.Content) (b : Running) → w.core ≡ Runs → hardware_of w ≡ h → ShowsRunning h (shown w) b → StandsOn h (shown w) c b → StandsFor w c (on b)
+pub runs_on : (h : Hardware) (w : World) (c : disk.Content) (b : Running) → w.core ≡ Runs → hardware_of w ≡ h → ShowsRunning h (shown w) b → StandsOn h (shown w) c b → StandsFor w c (on b)
 runs_on h w c b core hw runs on' = record {
   stands = subst (λ (g : Hardware). Stands g (shown w) c (on b)) (sym hw) (record { activity = activity_by w Runs core; parts = (runs, on') });
   image = tt;
@@ -77,7 +78,7 @@ pub record IsSameBut (old new : World) : Type 0 where
   pub held : new.machine.held ≡ old.machine.held
   pub area : new.machine.area ≡ old.machine.area
 
-shows_after : (old new : World) (b : Running) → IsSameBut old new → RunsAs (hardware_of old) old.machine.held (reason_of old.machine.area) (flights_in new.machine.flights) new.frames b → ShowsRunning (hardware_of old) (shown new) b
+pub shows_after : (old new : World) (b : Running) → IsSameBut old new → RunsAs (hardware_of old) old.machine.held (reason_of old.machine.area) (flights_in new.machine.flights) new.frames b → ShowsRunning (hardware_of old) (shown new) b
 shows_after old new b same runs = record {
   held = subst (λ (flag : HeldFlag). ShowsHeld flag b.held) (sym same.held) runs.held;
   unusable = runs.unusable ∙ sym (ap reason_of same.area);

@@ -1,12 +1,12 @@
 -- What an event makes of a world and its disk.
-use Rattle.std.specs.Prelude.{◌≡◌, ◌≢◌, ◌⊎◌, ◌↔◌, ℕ, true, Option, Some, ⊤}
+use Rattle.std.specs.Prelude.{◌≡◌, ◌≢◌, ◌⊎◌, ◌↔◌, ℕ, true, length, Option, Some, ⊤}
 use Rattle.definitions.specs.Disk as disk
-use Rattle.plain_machine.specs.Machine.{Hardware}
+use Rattle.plain_machine.specs.Machine.{Hardware, Memory, saveable}
 use Rattle.plain_machine.specs.Chain.{Marked}
 use Rattle.plain_machine.specs.Shows.{seen_frames}
 use Rattle.plain_machine.specs.declared.event.BootFrom.{BootFrom}
 use Rattle.plain_machine.specs.State.{State, loading, Load}
-use Rattle.plain_machine.specs.Step.{Step}
+use Rattle.plain_machine.specs.Step.{Step, drop_memory, dropped_by}
 use Rattle.plain_machine.specs.declared.event.Actor.TheVariants as actor
 use Rattle.resume_core.specs.Loading.{FindsMark}
 use Rattle.resume_core.specs.Row.{HasResumed}
@@ -16,7 +16,7 @@ use Rattle.plain_machine.specs.declared.event.Event.TheVariants as event
 use Rattle.plain_machine.specs.declared.reply.Reply.{Reply}
 use Rattle.plain_machine.specs.declared.reply.Reply.TheVariants as reply
 use Rattle.protocol_laws.specs.Rows as rows
-use Rattle.world_core.specs.declared.world.Core.TheVariants.{BootSynced, Hibernating, Loading, Running}
+use Rattle.world_core.specs.declared.world.Core.TheVariants.{BootSynced, Hibernating, Loading, Running, Waking}
 use Rattle.world_core.specs.World.{World}
 use Rattle.machine.specs.TaskRow.{IsRefusal}
 use Rattle.hib_core.specs.Begin.{IsRefusedWith}
@@ -33,18 +33,6 @@ IsRow e old new r c c' = rows.IsRow (hardware_of old) (StandsFor old) (StandsFor
 
 abbrev pub HasRow : Event → World → World → Reply → Option disk.Content → Option disk.Content → Type 0
 HasRow e old new r before now = rows.HasRow (hardware_of old) (StandsFor old) (StandsFor new) e r before now
-
--- the events that are served
-abbrev pub IsServed : Event → Type 0
-IsServed (event.Boot from) = ⊤
-IsServed (event.Hibernate format) = ⊤
-IsServed event.Settle = ⊤
-IsServed (event.Resume loader check) = ⊤
-IsServed (event.Step x) = ⊤
-IsServed (event.Task t o) = ⊤
-IsServed (event.Cut pick) = ⊤
-IsServed (event.Arm first count pick) = ⊤
-IsServed _ = ⊥
 
 abbrev pub IsStep : Event → Type 0
 IsStep (event.Step x) = ⊤
@@ -108,7 +96,7 @@ IsRefused (event.Hibernate format) w r = IsRefusedWith r
 IsRefused (event.Suspend format) w r = IsRefusedWith r
 IsRefused event.Wake w r = IsRefusedWith r
 IsRefused event.Settle w r = IsRefusedWith r
-IsRefused (event.Shrink want) w r = ⊥
+IsRefused (event.Shrink want) w r = (dropped left : ℕ) → r ≢ reply.Shrunk dropped left
 IsRefused (event.Resume loader check) w r = (k : ℕ) → r ≢ reply.Loading k
 IsRefused (event.Step x) w r = r ≡ reply.Idle
 IsRefused (event.Task t o) w r = (w.core ≢ Running) ⊎ IsRefusal r
@@ -133,9 +121,23 @@ pub record KeepsMemory (old new : World) (r : Reply) : Type 0 where
   pub given : change_of r old.hib.stage ≡ gives → seen_frames (hardware_of old) new.frames ≡ new.frames
   pub unsure : change_of r old.hib.stage ≡ stays → new.frames ≡ old.frames
 
--- So it is at the begin, too, whatever the disk tells.
+-- A shrinking has made just the dropped page frames free, and tells how many they are, and how many saveable ones are left.
+pub record HasDropped (h : Hardware) (want : ℕ) (old : Memory) (dropped left : ℕ) (new : Memory) : Type 0 where
+  pub frames : new ≡ drop_memory h old want
+  pub dropped_is : dropped ≡ length (dropped_by h old want)
+  pub left_is : left ≡ length (saveable h new)
+
+-- What a step of a waking leaves of the page frames, whatever the disk tells: once the machine runs the image's slots are given back, and
+-- before all is as it was.
+abbrev pub WakesWith : World → World → Reply → Type 0
+WakesWith old new reply.Woken = new.frames ≡ seen_frames (hardware_of old) old.frames
+WakesWith old new _ = new.frames ≡ old.frames
+
+-- What an event leaves of memory, whatever the disk tells.
 abbrev pub LeavesMemory : Event → World → Reply → World → Type 0
 LeavesMemory (event.Hibernate format) old r new = KeepsUsed (hardware_of old) old.frames new.frames
+LeavesMemory (event.Suspend format) old r new = KeepsUsed (hardware_of old) old.frames new.frames
 LeavesMemory event.Settle old r new = KeepsUsed (hardware_of old) old.frames new.frames
-LeavesMemory (event.Step actor.Core) old r new = old.core ≡ Hibernating → KeepsMemory old new r
+LeavesMemory (event.Shrink want) old (reply.Shrunk dropped left) new = HasDropped (hardware_of old) want old.frames dropped left new.frames
+LeavesMemory (event.Step actor.Core) old r new = (old.core ≡ Hibernating → KeepsMemory old new r) × (old.core ≡ Waking → WakesWith old new r)
 LeavesMemory _ old r new = ⊤

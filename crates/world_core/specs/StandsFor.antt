@@ -7,15 +7,16 @@ use Rattle.plain_machine.specs.Chain.{Marked}
 use Rattle.plain_machine.specs.Premises.{HasOriginal}
 use Rattle.plain_machine.specs.State.{State, off, nothing, sure, other}
 use Rattle.machine.specs.Flights.{flights_in}
-use Rattle.plain_machine.specs.Shows.{Shown, Activity, rests, runs, boots, hibernates, undoes, settles, loads}
+use Rattle.plain_machine.specs.Shows.{Shown, Activity, rests, runs, boots, hibernates, undoes, settles, wakes, sleeps, loads}
 use Rattle.plain_machine.specs.Stands.{Stands}
 use Rattle.plain_machine.specs.declared.event.Loader.{Loader}
 use Rattle.plain_machine.specs.declared.reply.Reply.{Reply}
+use Rattle.plain_machine.specs.declared.reply.Reply.TheVariants as reply
 use Rattle.page_restore.specs.Waiting.{waiting_pages}
 use Rattle.machine.specs.Running.{reason_of}
 use Rattle.machine.specs.declared.machine.Machine.{Machine}
 use Rattle.hib_core.specs.Hibernation as hibernation
-use Rattle.hib_core.specs.Hibernation.{Phase, under_way, runs_on, switched_off}
+use Rattle.hib_core.specs.Hibernation.{Phase, under_way, runs_on, switched_off, asleep}
 use Rattle.hib_core.specs.Ready.{IsBusy}
 use Rattle.hib_core.specs.Row.{IsOfState}
 use Rattle.hib_core.specs.declared.hib.Hib.{Hib}
@@ -23,8 +24,10 @@ use Rattle.resume_core.specs.Loading as resumption
 use Rattle.resume_core.specs.Ready as resume_ready
 use Rattle.resume_core.specs.Row as resume_row
 use Rattle.resume_core.specs.declared.load.Load.{Load}
+use Rattle.sleep_core.specs.Waking as waking
+use Rattle.sleep_core.specs.declared.waker.Waker.{Waker}
 use Rattle.world_core.specs.declared.world.Core.{Core}
-use Rattle.world_core.specs.declared.world.Core.TheVariants.{Off, Running, BootBegun, BootSynced, Hibernating, Loading}
+use Rattle.world_core.specs.declared.world.Core.TheVariants.{Off, Running, BootBegun, BootSynced, Hibernating, Asleep, Waking, Loading}
 use Rattle.world_core.specs.World.{World}
 
 abbrev pub hardware_of : World → Hardware
@@ -41,6 +44,8 @@ is_off Running = false
 is_off (BootBegun from) = false
 is_off (BootSynced from) = false
 is_off Hibernating = false
+is_off Asleep = false
+is_off Waking = false
 is_off Loading = false
 
 abbrev pub IsOff : World → Type 0
@@ -52,29 +57,35 @@ keeps_dump Running = false
 keeps_dump (BootBegun from) = false
 keeps_dump (BootSynced from) = false
 keeps_dump Hibernating = false
+keeps_dump Asleep = false
+keeps_dump Waking = false
 keeps_dump Loading = false
 
--- one that hibernates, settles or resumes has a step to make
+-- one that hibernates, settles, wakes or resumes has a step to make
 pub record IsBusyIn (w : World) : Type 0 where
   pub hibernates : w.core ≡ Hibernating → IsBusy w.hib
   pub resumes : w.core ≡ Loading → resume_ready.IsBusy w.load
 
-abbrev pub activity_of : Core → Hib → Load → Activity
-activity_of (Off keeps) hib load = rests
-activity_of Running hib load = runs
-activity_of (BootBegun from) hib load = boots from 0
-activity_of (BootSynced from) hib load = boots from 1
-activity_of Hibernating hib load = hibernation.activity_of hib
-activity_of Loading hib load = resumption.activity_of load
+abbrev pub activity_of : Core → Hib → Load → Waker → Activity
+activity_of (Off keeps) hib load waker = rests
+activity_of Running hib load waker = runs
+activity_of (BootBegun from) hib load waker = boots from 0
+activity_of (BootSynced from) hib load waker = boots from 1
+activity_of Hibernating hib load waker = hibernation.activity_of hib
+activity_of Asleep hib load waker = sleeps
+activity_of Waking hib load waker = waking.activity_of waker
+activity_of Loading hib load waker = resumption.activity_of load
 
 -- the block that is kept, the page frames of the copies, and the pages that wait, by page frame
-abbrev pub header_of : Core → Hib → Load → List ℕ
-header_of (Off keeps) hib load = []
-header_of Running hib load = []
-header_of (BootBegun from) hib load = []
-header_of (BootSynced from) hib load = []
-header_of Hibernating hib load = hib.header
-header_of Loading hib load = load.header
+abbrev pub header_of : Core → Hib → Load → Waker → List ℕ
+header_of (Off keeps) hib load waker = []
+header_of Running hib load waker = []
+header_of (BootBegun from) hib load waker = []
+header_of (BootSynced from) hib load waker = []
+header_of Hibernating hib load waker = hib.header
+header_of Asleep hib load waker = []
+header_of Waking hib load waker = waker.header
+header_of Loading hib load waker = load.header
 
 abbrev pub copies_of : Core → Hib → List ℕ
 copies_of (Off keeps) hib = []
@@ -82,6 +93,8 @@ copies_of Running hib = []
 copies_of (BootBegun from) hib = []
 copies_of (BootSynced from) hib = []
 copies_of Hibernating hib = hib.snapshot.copies
+copies_of Asleep hib = []
+copies_of Waking hib = []
 copies_of Loading hib = []
 
 abbrev pub loaded_of : Core → Memory → Load → List (ℕ × List ℕ)
@@ -90,25 +103,27 @@ loaded_of Running frames load = []
 loaded_of (BootBegun from) frames load = []
 loaded_of (BootSynced from) frames load = []
 loaded_of Hibernating frames load = []
+loaded_of Asleep frames load = []
+loaded_of Waking frames load = []
 loaded_of Loading frames load = zip load.waiting.originals (waiting_pages frames load.waiting)
 
--- What is shown between two calls of the disk: a hibernation keeps a block and has copies, a settling keeps one, a resume keeps one
+-- What is shown between two calls of the disk: a hibernation keeps a block and has copies, a settling or a waking keeps one, a resume keeps one
 -- and has loaded pages.
-abbrev pub shown_at : Core → Machine → Memory → Hib → Load → Shown
-shown_at core machine frames hib load = record {
-  activity = activity_of core hib load;
+abbrev pub shown_at : Core → Machine → Memory → Hib → Load → Waker → Shown
+shown_at core machine frames hib load waker = record {
+  activity = activity_of core hib load waker;
   keeps_dump = keeps_dump core;
   held = machine.held;
   unusable = reason_of machine.area;
   flights = flights_in machine.flights;
   frames = frames;
-  header = header_of core hib load;
+  header = header_of core hib load waker;
   copies = copies_of core hib;
   loaded = loaded_of core frames load;
 }
 
 abbrev pub shown : World → Shown
-shown w = shown_at w.core w.machine w.frames w.hib w.load
+shown w = shown_at w.core w.machine w.frames w.hib w.load w.waker
 
 -- A world and its disk stand for a state. Where the world hibernates, its numbers and sets are those of the state's image; where it
 -- resumes, its resume is the state's.
@@ -123,6 +138,8 @@ core_at rests = Off false
 core_at (hibernates suspends k) = Hibernating
 core_at (undoes call k) = Hibernating
 core_at (settles k) = Hibernating
+core_at (wakes k) = Waking
+core_at sleeps = Asleep
 core_at (loads k) = Loading
 core_at _ = Running
 
@@ -131,9 +148,16 @@ abbrev pub core_in : Phase → Core
 core_in under_way = Hibernating
 core_in runs_on = Running
 core_in switched_off = Off false
+core_in asleep = Asleep
 
 abbrev pub core_told : Reply → Core
 core_told r = core_in (hibernation.phase_told r)
+
+-- after a step of a waking the machine wakes on, runs or sleeps again
+abbrev pub core_woken : Reply → Core
+core_woken (reply.More k of) = Waking
+core_woken reply.Woken = Running
+core_woken _ = Asleep
 
 abbrev pub core_resumed : Loader → Reply → Core
 core_resumed loader r = core_at (resumption.activity_told loader r)

@@ -3,12 +3,14 @@ use Rattle.plain_machine.specs.Machine.{Memory}
 use Rattle.machine.specs.declared.machine.Machine.{Machine}
 use Rattle.hib_core.specs.declared.hib.Hib.{Hib}
 use Rattle.resume_core.specs.declared.load.Load.{Load}
+use Rattle.sleep_core.specs.declared.waker.Waker.{Waker}
 use Rattle.world_core.specs.declared.world.Core.{Core}
 
--- what it is but for its page frames, those, its hibernation and its resume, and what it is at
+-- what it is but for its page frames, those, its hibernation, its resume and its waking, and what it is at
 pub record World : Type 0 where
   pub machine : Machine
   pub frames : Memory
   pub hib : Hib
   pub load : Load
+  pub waker : Waker
   pub core : Core

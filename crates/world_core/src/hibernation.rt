@@ -8,13 +8,12 @@ use hib_core::Job;
 use plain_machine::Reply;
 use sector_disk::Disk;
 
-// A hibernation or a settling: its begin and its steps (hibernate, kernel/power/hibernate.c; swsusp_unmark, kernel/power/swap.c).
+// A hibernation, a suspend or a settling: its begin and its steps (hibernate, kernel/power/hibernate.c; swsusp_unmark, kernel/power/swap.c).
 impl World {
     ghost use Rattle.definitions.specs.Disk.{Content};
     ghost use Rattle.plain_machine.specs.declared.event.Event.TheVariants as event;
     ghost use Rattle.plain_machine.specs.declared.event.Actor.TheVariants as actor;
     ghost use Rattle.protocol_laws.specs.Rows.{IsNewFault};
-    ghost use Rattle.hib_core.specs.Ready.{IsServed};
     ghost use Rattle.hib_core.specs.Row.{event_of};
     ghost use Rattle.world_core.specs.declared.world.Core.TheVariants as core;
     ghost use Rattle.world_core.specs.StandsFor.{hardware_of, blocks_of, IsOff};
@@ -24,7 +23,6 @@ impl World {
 
     /// Begins a hibernation or a settling, if the machine runs.
     pub(crate) fn begin(&mut self, job: Job) -> Reply
-        requires served { IsServed job }
         ensures row { (c : Content) → IsRow (event_of job) self.old self.new result c c }
         ensures cause { IsNewFault result → ⊥ }
         ensures hardware { hardware_of self.new ≡ hardware_of self.old }
@@ -35,16 +33,18 @@ impl World {
     {
         match self.core {
             Core::Off { .. } => Reply::NotOn,
-            Core::BootBegun(_) | Core::BootSynced(_) | Core::Hibernating | Core::Loading => {
-                Reply::Frozen
-            }
+            Core::Asleep => Reply::Sleeping,
+            Core::BootBegun(_)
+            | Core::BootSynced(_)
+            | Core::Hibernating
+            | Core::Waking
+            | Core::Loading => Reply::Frozen,
             Core::Running => self.begin_job(job),
         }
     }
 
     /// Begins it.
     fn begin_job(&mut self, job: Job) -> Reply
-        requires served { IsServed job }
         requires running { self.old.core ≡ core.Running }
         ensures row { (c : Content) → IsRow (event_of job) self.old self.new result c c }
         ensures cause { IsNewFault result → ⊥ }
@@ -99,6 +99,7 @@ fn core_after(reply: &Reply) -> Core
     match reply {
         Reply::More { .. } | Reply::Undo { .. } => Core::Hibernating,
         Reply::Hibernated { .. } => Core::Off { keeps_dump: false },
+        Reply::Asleep { .. } => Core::Asleep,
         _ => Core::Running,
     }
 }

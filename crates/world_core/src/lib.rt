@@ -5,7 +5,9 @@ mod boot;
 mod hibernation;
 mod power;
 mod resume;
+mod shrinking;
 mod tasks;
+mod waking;
 mod world;
 
 pub use machine::Hardware;

@@ -31,9 +31,12 @@ impl World {
     {
         match self.core {
             Core::Off { .. } => Reply::NotOn,
-            Core::BootBegun(_) | Core::BootSynced(_) | Core::Hibernating | Core::Loading => {
-                Reply::Frozen
-            }
+            Core::Asleep => Reply::Sleeping,
+            Core::BootBegun(_)
+            | Core::BootSynced(_)
+            | Core::Hibernating
+            | Core::Waking
+            | Core::Loading => Reply::Frozen,
             Core::Running => self.ask(t, op),
         }
     }

@@ -1,4 +1,4 @@
-ghost use Rattle.std.specs.Prelude.{◌≡◌, ℕ, ◌⊎◌, ◌≤◌, true, length, Option, Some, None, IfOk, IsTrue};
+ghost use Rattle.std.specs.Prelude.{◌≡◌, ◌≢◌, ◌↔◌, ℕ, ◌⊎◌, ◌≤◌, true, length, Option, Some, None, IfOk, IfSome, IsNone, IsSome, IsTrue};
 ghost use Rattle.definitions.specs.Zones.{top};
 ghost use Rattle.plain_machine.specs.Machine.{Memory, Fits};
 ghost use Rattle.machine.specs.Running.{AreReserved};
@@ -11,11 +11,12 @@ use page_core::NoMemory;
 use plain_machine::{Actor, BootFrom, Event, Reply};
 use resume_core::Load;
 use sector_disk::Disk;
+use sleep_core::Waker;
 use std::alloc::Global;
 use std::marker::Model;
-use swap_slots::FreeRuns;
+use swap_slots::{FreeRuns, SlotTable};
 
-/// A simulated machine: what it is at, its page frames, its hibernation and its resume. It takes all its memory when it is created.
+/// A simulated machine: what it is at, its page frames, its hibernation, its waking and its resume. It takes all its memory when it is created.
 #[derive(Drop)]
 pub struct World {
     pub(crate) machine: Machine,
@@ -24,6 +25,7 @@ pub struct World {
     pub(crate) runs: FreeRuns,
     pub(crate) hib: Hib,
     pub(crate) load: Load,
+    pub(crate) waker: Waker,
     pub(crate) core: Core,
 }
 
@@ -39,6 +41,9 @@ pub(crate) enum Core {
     BootSynced(BootFrom),
     /// A hibernation, its undo or a settling is under way: `hib` knows which.
     Hibernating,
+    /// Nothing: memory is kept, and its image is on the disk.
+    Asleep,
+    Waking,
     Loading,
 }
 
@@ -59,8 +64,11 @@ impl World {
     ghost use Rattle.definitions.specs.Disk.{Content, Image, IsMixture, HasRisen, Changes, Elapses};
     ghost use Rattle.plain_machine.specs.declared.event.Event.TheVariants as event;
     ghost use Rattle.plain_machine.specs.declared.event.Actor.TheVariants as actor;
-    ghost use Rattle.world_core.specs.StandsFor.{hardware_of, blocks_of, IsOff, IsNew, KeepsMemory};
-    ghost use Rattle.world_core.specs.Row.{HasRow, IsRow, IsCalled, IsServed, IsNoCut, IsRefused, ChangesNothing, StopsOff, LeavesMemory, RestartsAt, orders_after, blocks_after, Restores, TellsImage};
+    ghost use Rattle.plain_machine.specs.State.{State};
+    ghost use Rattle.plain_machine.specs.Shows.{activity_in, runs, seen_frames};
+    ghost use Rattle.world_core.specs.declared.world.Core.TheVariants as core;
+    ghost use Rattle.world_core.specs.StandsFor.{StandsFor, hardware_of, blocks_of, IsOff, IsNew, KeepsMemory};
+    ghost use Rattle.world_core.specs.Row.{HasRow, IsRow, IsCalled, IsNoCut, IsRefused, ChangesNothing, StopsOff, LeavesMemory, RestartsAt, orders_after, blocks_after, Restores, TellsImage};
 
     /// A machine that is off, with page frames of zeros.
     pub fn create(alloc: Global, hw: Hardware) -> Result<World, NoMemory>
@@ -100,6 +108,7 @@ impl World {
             runs,
             hib,
             load,
+            waker: Waker::begin(),
             core: Core::Off { keeps_dump },
         })
     }
@@ -112,6 +121,29 @@ impl World {
         &self.frames
     }
 
+    /// The machine as it runs, with the slots of an image given back, if it runs.
+    pub fn into_dump(mut self) -> Option<Dump>
+        ensures runs { IsSome result ↔ (self.core ≡ core.Running) }
+        ensures idle { IsNone result → (c : Content) (a : State) → StandsFor self c a → activity_in a ≢ runs }
+        ensures hardware { IfSome result (λ dump. dump.hw ≡ hardware_of self) }
+        ensures frames { IfSome result (λ dump. dump.frames ≡ seen_frames (hardware_of self) self.frames) }
+        ensures size { IfSome result (λ dump. length dump.frames ≡ top dump.hw.zones) }
+    {
+        if self.core != Core::Running {
+            return None;
+        }
+        let hw = self.machine.hw;
+        let table = SlotTable {
+            first: hw.slot_table(),
+            slots: hw.slots(),
+        };
+        table.give_image(&mut self.frames, &mut self.runs);
+        Some(Dump {
+            hw,
+            frames: self.frames,
+        })
+    }
+
     /// How many blocks the disk had at the last boot that was accepted, 0 before any.
     pub fn blocks(&self) -> u32
         ensures { result ≡ blocks_of self.now }
@@ -122,7 +154,6 @@ impl World {
     /// What happens to the machine, and what it answers. It makes at most one call of the disk.
     pub fn event<D: Disk>(&mut self, disk: &mut D, event: Event) -> Reply
         requires fits { IsFitting event }
-        requires served { IsServed event }
         requires blocks { IsOff self.old ⊎ (D.block_count disk.old ≡ blocks_of self.old) }
         ensures row { HasRow event self.old self.new result (D.content disk.old) (D.content disk.new) }
         ensures restored { Restores event self.old self.new result (D.content disk.old) (D.content disk.new) }
@@ -149,11 +180,13 @@ impl World {
             Event::Task(t, op) => self.task(t, op),
             Event::Step(actor) => self.step_of(disk, actor),
             Event::Hibernate(format) => self.begin(Job::Hibernate(format)),
+            Event::Suspend(format) => self.begin(Job::Suspend(format)),
+            Event::Wake => self.wake(),
             Event::Settle => self.begin(Job::Settle),
+            Event::Shrink(want) => self.shrink(want),
             Event::Resume(loader, check) => self.resume(disk.blocks(), loader, check),
             Event::Cut(pick) => self.cut(disk, pick),
             Event::Arm { first, count, pick } => self.arm(disk, first, count, pick),
-            _ => unreachable!(),
         }
     }
 
@@ -206,10 +239,11 @@ impl World {
         ensures memory { LeavesMemory (event.Step actor.Core) self.old result self.new }
     {
         match self.core {
-            Core::Off { .. } | Core::Running => Reply::Idle,
+            Core::Off { .. } | Core::Running | Core::Asleep => Reply::Idle,
             Core::BootBegun(from) => self.sync_for_boot(disk, from),
             Core::BootSynced(from) => self.finish_boot(disk, from),
             Core::Hibernating => self.step_hibernation(disk),
+            Core::Waking => self.step_wake(disk),
             Core::Loading => self.step_resume(disk),
         }
     }

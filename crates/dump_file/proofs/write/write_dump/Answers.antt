@@ -22,7 +22,7 @@ returns-clause-front g c =
 
 pub returns-clause-reads_back : goal.returns-clause-reads_back
 unfolding dump_bytes
-returns-clause-reads_back g c bytes fits empty is ok =
+returns-clause-reads_back g c bytes no_region fits empty is ok =
     let taken = g.K.Sink.taken in
     let h = c.args.hw.now in
     let m = c.args.frames.now in
@@ -33,4 +33,4 @@ returns-clause-reads_back g c bytes fits empty is ok =
     let head : TakesAll (head_bytes h m) old mid = subst (λ (text : List ℕ). TakesAll text old mid) (c.as_bytes.ensures ∙ c.head_of-head.ensures) c.in_ok-put_all.ensures.whole in
     let rest : TakesAll records mid new = subst (λ (zones : List (ℕ × ℕ)). TakesAll (records_bytes m (numbers zones)) mid new) c.zones.ensures.zones (on_ok c.put_records.result ok c.put_records.ensures.whole) in
     let text : dump_bytes h m ≡ bytes = taken_is (head_bytes h m ++ records) bytes old new (TakesAll-both (head_bytes h m) records old mid new head rest) empty is in
-    subst (ReadsBack h m) text (reads_back h m c.zones.ensures.hardware c.requires.no_region fits)
+    subst (ReadsBack h m) text (reads_back h m c.zones.ensures.hardware no_region fits)

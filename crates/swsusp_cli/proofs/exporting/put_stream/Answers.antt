@@ -22,16 +22,16 @@ pieces-preserved g c =
     let count = c.next-count.result in
     let old = g.S.Sink.taken c.args.sink.now in
     let now = g.S.Sink.taken c.pieces.sink in
-    let new = g.S.Sink.taken c.put.new.sink in
+    let new = g.S.Sink.taken c.put_all.new.sink in
     record {
       some = let size = c.next-count.auto.into in let before = so_far.some in omega arith;
       written =
           subst (λ (left : List ℕ). IsWritten c.args.stream.now left old new) (sym c.next-count.ensures.left)
-          (part_written c.args.stream.now c.pieces.stream c.pieces.piece c.next-count.new.into count old now new so_far.written c.next-count.ensures.count c.next-count.ensures.bytes c.in_ok-put.ensures.whole);
-      counted = omega (arith, so_far.counted, c.put.ensures.counted);
+          (part_written c.args.stream.now c.pieces.stream c.pieces.piece c.next-count.new.into count old now new so_far.written c.next-count.ensures.count c.next-count.ensures.bytes c.in_ok-put_all.ensures.whole);
+      counted = omega (arith, so_far.counted, c.put_all.ensures.counted);
     }
 
-pub returns-in_err-put-clause-front : goal.returns-in_err-put-clause-front
-returns-in_err-put-clause-front g c =
-    part_front c.args.stream.now c.pieces.stream c.pieces.piece c.next-count.new.into c.next-count.result (g.S.Sink.taken c.args.sink.now) (g.S.Sink.taken c.pieces.sink) (g.S.Sink.taken c.put.new.sink)
-    c.pieces.invariant.written c.next-count.ensures.count c.next-count.ensures.bytes c.put.ensures.front
+pub returns-in_err-put_all-clause-front : goal.returns-in_err-put_all-clause-front
+returns-in_err-put_all-clause-front g c =
+    part_front c.args.stream.now c.pieces.stream c.pieces.piece c.next-count.new.into c.next-count.result (g.S.Sink.taken c.args.sink.now) (g.S.Sink.taken c.pieces.sink) (g.S.Sink.taken c.put_all.new.sink)
+    c.pieces.invariant.written c.next-count.ensures.count c.next-count.ensures.bytes c.put_all.ensures.front

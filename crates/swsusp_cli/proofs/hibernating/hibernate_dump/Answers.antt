@@ -44,7 +44,7 @@ returns-clause-outcome g c =
     answered dump ended.result (record {
       dump_is = record { says = λ bytes left. c.in-Ok.ensures.dump bytes left; over = c.in-Ok.ensures.end refl };
       told = subst (λ (t : Told). IsTold t tell.result out (record { taken = g.O.Sink.taken tell.new.out; flushed = g.O.Sink.flushed tell.new.out; faults = g.O.Sink.faults tell.new.out }) note (record { taken = g.N.Sink.taken tell.new.note; flushed = g.N.Sink.flushed tell.new.note; faults = g.N.Sink.faults tell.new.note })) c.hibernation_answer.ensures.told tell.ensures.told;
-      ends = λ v told original. hibernated_as _ dump.hw _ dump.memory c.args.format v ended.result _ made.is made.frames (ended.ensures.hibernated v told) original;
+      ends = λ v told original. hibernated_as _ dump.hw _ dump.memory c.args.format c.args.size v ended.result _ made.is made.frames (ended.ensures.hibernated v told) original;
       calls = ended.ensures.calls;
       orders = ended.ensures.orders;
     })

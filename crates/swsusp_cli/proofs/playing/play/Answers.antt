@@ -6,10 +6,9 @@ use Rattle.plain_machine.specs.Replies.{text_of, line_of}
 use Rattle.plain_machine.specs.declared.event.Event.{Event}
 use Rattle.plain_machine.specs.declared.event.Event.TheVariants as event
 use Rattle.plain_machine.specs.declared.event.BootFrom.TheVariants.{Fresh}
-use Rattle.script.specs.Shapes.{IsScripted}
 use Rattle.swsusp_cli.specs.Playing.{HasPlayed}
 use Rattle.swsusp_cli.specs.View.{DiskView}
-use Rattle.swsusp_cli.proofs.Turns.{one_more, served, played_none, played_more, taken_more, text_more}
+use Rattle.swsusp_cli.proofs.Turns.{one_more, played_none, played_more, taken_more, text_more}
 use Rattle.swsusp_cli.proofs.playing.play.Goals as goal
 
 pub loop-event-init : goal.loop-event-init
@@ -74,9 +73,3 @@ returns-in-Err-clause-played g c =
       played,
       inr (rs, r, refl, mid_out, inv.played.2, c.print_reply.ensures.front),
     )
-
-pub event-reply-requires-clause-served : goal.event-reply-requires-clause-served
-event-reply-requires-clause-served g c =
-    let i = c.loop-event.event-index in
-    let lt : i < length c.args.events.now = let below = c.loop-event-test.true in omega arith in
-    served (get_or c.args.events.now i (event.Boot Fresh)) (All-get_or IsScripted c.args.events.now i (event.Boot Fresh) lt c.requires.scripted)

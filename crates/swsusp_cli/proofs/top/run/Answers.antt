@@ -12,7 +12,7 @@ pub returns-in-Some-Replay-clause-flushed : goal.returns-in-Some-Replay-clause-f
 returns-in-Some-Replay-clause-flushed g c = replay_flushed _ _ _ c.replay.ensures.outcome
 
 pub returns-in-Some-Hibernate-clause-flushed : goal.returns-in-Some-Hibernate-clause-flushed
-returns-in-Some-Hibernate-clause-flushed g c = hibernates_flushed _ _ _ _ c.hibernate_dump.ensures.outcome
+returns-in-Some-Hibernate-clause-flushed g c = hibernates_flushed _ _ _ _ _ c.hibernate_dump.ensures.outcome
 
 pub returns-in-Some-Resume-clause-flushed : goal.returns-in-Some-Resume-clause-flushed
 returns-in-Some-Resume-clause-flushed g c = resumes_flushed _ _ _ _ c.resume_dump.ensures.outcome

@@ -3,9 +3,8 @@ use Rattle.hib_core.proofs.Leaving.{begins_image}
 use Rattle.std.proofs.Common.{◌<◌, ◌^◌, inl, sym, ap, subst, arith}
 use Rattle.plain_machine.specs.declared.reply.Reply.{Reply}
 use Rattle.hib_core.specs.Ready.{is_busy_at}
-use Rattle.hib_core.specs.Row.{IsBegun}
+use Rattle.hib_core.specs.Row.{IsBegun, saving}
 use Rattle.hib_core.specs.declared.hib.Hib.{Hib}
-use Rattle.hib_core.specs.declared.hib.Job.TheVariants as job
 use Rattle.hib_core.proofs.BeginRows.{BeginLaws, IsBegin, begun_row, can_step, refused_row}
 use Rattle.hib_core.proofs.hib.Hib.hibernate.Goals as goal
 
@@ -28,8 +27,8 @@ returns-in-Ok-clause-row c = λ k.
       counted = c.in-Ok.ensures.counted;
       taken = c.take.ensures.taken;
     } in
-    subst (λ (r : Reply). IsBegun c.args.machine.now c.args.frames.now c.take.new.frames c.take.new.self (job.Hibernate c.args.format) r k) (sym c.take.ensures.reply)
-    (begun_row c.args.machine.now c.args.frames.now c.take.new.frames c.accept.new.self c.take.new.self c.in-Ok.counts c.args.format k laws is c.in-Ok.ensures.format)
+    subst (λ (r : Reply). IsBegun c.args.machine.now c.args.frames.now c.take.new.frames c.take.new.self (saving c.args.ending c.args.format) r k) (sym c.take.ensures.reply)
+    (begun_row c.args.machine.now c.args.frames.now c.take.new.frames c.accept.new.self c.take.new.self c.in-Ok.counts c.args.ending c.args.format k laws is (ap (λ (hib : Hib). hib.ending) c.accept.ensures.hib) c.in-Ok.ensures.format)
 
 pub returns-in-Ok-clause-ready : goal.returns-in-Ok-clause-ready
 returns-in-Ok-clause-ready c = λ busy.
@@ -55,7 +54,7 @@ returns-in-Ok-clause-ready c = λ busy.
 
 pub returns-in-Err-clause-row : goal.returns-in-Err-clause-row
 returns-in-Err-clause-row c = λ k.
-    refused_row c.args.machine.now c.args.frames.now c.accept.new.self c.args.format c.in-Err.reply k c.in-Err.ensures.refused (ap (λ (hib : Hib). hib.stage) c.accept.ensures.hib)
+    refused_row c.args.machine.now c.args.frames.now c.accept.new.self c.args.ending c.args.format c.in-Err.reply k c.in-Err.ensures.refused (ap (λ (hib : Hib). hib.stage) c.accept.ensures.hib)
 
 pub returns-in-Err-clause-ready : goal.returns-in-Err-clause-ready
 returns-in-Err-clause-ready c = λ busy. absurd (subst is_busy_at (ap (λ (hib : Hib). hib.stage) c.accept.ensures.hib) busy)

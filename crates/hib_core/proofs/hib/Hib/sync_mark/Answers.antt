@@ -5,16 +5,25 @@ use Rattle.definitions.specs.Disk as disk
 use Rattle.plain_machine.specs.declared.reply.Reply.TheVariants as reply
 use Rattle.plain_machine.specs.declared.reply.UndoCall.TheVariants as undo
 use Rattle.hib_core.proofs.Facts.{content_of, changed, row_of}
-use Rattle.hib_core.proofs.Marking.{ended_row, end_failed_row}
+use Rattle.hib_core.proofs.Marking.{ended_row, asleep_row, end_failed_row}
 use Rattle.hib_core.proofs.hib.Hib.sync_mark.Goals as goal
 
-pub returns-in-Ok-clause-row : goal.returns-in-Ok-clause-row
-returns-in-Ok-clause-row g c = λ k told.
+pub returns-in-SwitchesOff-clause-row : goal.returns-in-SwitchesOff-clause-row
+returns-in-SwitchesOff-clause-row g c = λ k told.
     let whole = content_of (g.D.Disk.block_count c.args.disk.now) c.args.machine.now.blocks (g.D.Disk.content c.args.disk.now) k told c.requires.blocks (g.met.D.Disk.well_formed c.args.disk.now) in
     let synced = changed disk.Syncs (g.D.Disk.content c.args.disk.now) (g.D.Disk.content c.sync.new.self) k told c.in-Ok.ensures.synced in (
       synced.0,
       synced.1,
-      ended_row c.args.machine.now c.args.frames.now c.args.runs.now c.args.self.now k synced.0 c.ends.ensures.made c.keeps_area.ensures.synced c.requires.ready c.requires.stage whole synced.2,
+      ended_row c.args.machine.now c.args.frames.now c.args.runs.now c.args.self.now k synced.0 c.ends.ensures.made c.keeps_area.ensures.synced c.requires.ready c.requires.stage c.in-SwitchesOff.is whole synced.2,
+    )
+
+pub returns-in-Sleeps-clause-row : goal.returns-in-Sleeps-clause-row
+returns-in-Sleeps-clause-row g c = λ k told.
+    let whole = content_of (g.D.Disk.block_count c.args.disk.now) c.args.machine.now.blocks (g.D.Disk.content c.args.disk.now) k told c.requires.blocks (g.met.D.Disk.well_formed c.args.disk.now) in
+    let synced = changed disk.Syncs (g.D.Disk.content c.args.disk.now) (g.D.Disk.content c.sync.new.self) k told c.in-Ok.ensures.synced in (
+      synced.0,
+      synced.1,
+      asleep_row c.args.machine.now c.args.frames.now c.args.runs.now c.args.self.now k synced.0 c.keeps_area.ensures.synced c.requires.ready c.requires.stage c.in-Sleeps.is whole synced.2,
     )
 
 pub returns-in-Err-clause-row : goal.returns-in-Err-clause-row

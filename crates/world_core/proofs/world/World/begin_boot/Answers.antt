@@ -27,6 +27,8 @@ invariant_of-self c =
           (λ e. kept.tables (tables_kept c.self.inside.core (ap (λ (w : World). keeps_dump w.core) c.self.view_is ∙ c.requires.dump (ap asks_dump_to_boot e))));
       run = λ up. absurd up;
       header = λ up some. absurd up;
+      place = λ down. absurd down;
+      wakes = λ e. absurd (cc);
       busy = λ e. absurd (cc);
       loads = λ e. absurd (cc);
     }

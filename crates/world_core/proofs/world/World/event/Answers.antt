@@ -2,11 +2,7 @@ use Rattle.std.proofs.Common.{sym, subst}
 use Rattle.plain_machine.specs.declared.event.Event.{Event}
 use Rattle.world_core.specs.Row.{IsRow, HasRow, IsNoCut}
 use Rattle.sector_disk.proofs.Time.{still, unread, inside}
-use Rattle.world_core.proofs.Rows.{not_served}
 use Rattle.world_core.proofs.world.World.event.Goals as goal
-
-pub unreachable-requires : goal.unreachable-requires
-unreachable-requires g c = not_served c.args.event c.requires.served c.in_default.not-Boot c.in_default.not-Task c.in_default.not-Step c.in_default.not-Hibernate c.in_default.not-Settle c.in_default.not-Resume c.in_default.not-Cut c.in_default.not-Arm
 
 pub returns-in-Boot-clause-row : goal.returns-in-Boot-clause-row
 returns-in-Boot-clause-row g c = λ k told. (k, told, subst (λ (e : Event). IsRow e c.args.self.now c.boot.new.self c.boot.result k k) (sym c.in-Boot.is) (c.boot.ensures.row k))
@@ -21,8 +17,17 @@ returns-in-Step-clause-row g c =
 pub returns-in-Hibernate-clause-row : goal.returns-in-Hibernate-clause-row
 returns-in-Hibernate-clause-row g c = λ k told. (k, told, subst (λ (e : Event). IsRow e c.args.self.now c.begin.new.self c.begin.result k k) (sym c.in-Hibernate.is) (c.begin.ensures.row k))
 
+pub returns-in-Suspend-clause-row : goal.returns-in-Suspend-clause-row
+returns-in-Suspend-clause-row g c = λ k told. (k, told, subst (λ (e : Event). IsRow e c.args.self.now c.begin-in-Suspend.new.self c.begin-in-Suspend.result k k) (sym c.in-Suspend.is) (c.begin-in-Suspend.ensures.row k))
+
+pub returns-in-Wake-clause-row : goal.returns-in-Wake-clause-row
+returns-in-Wake-clause-row g c = λ k told. (k, told, subst (λ (e : Event). IsRow e c.args.self.now c.wake.new.self c.wake.result k k) (sym c.in-Wake.is) (c.wake.ensures.row k))
+
 pub returns-in-Settle-clause-row : goal.returns-in-Settle-clause-row
 returns-in-Settle-clause-row g c = λ k told. (k, told, subst (λ (e : Event). IsRow e c.args.self.now c.begin-in-Settle.new.self c.begin-in-Settle.result k k) (sym c.in-Settle.is) (c.begin-in-Settle.ensures.row k))
+
+pub returns-in-Shrink-clause-row : goal.returns-in-Shrink-clause-row
+returns-in-Shrink-clause-row g c = λ k told. (k, told, subst (λ (e : Event). IsRow e c.args.self.now c.shrink.new.self c.shrink.result k k) (sym c.in-Shrink.is) (c.shrink.ensures.row k))
 
 pub returns-in-Arm-clause-row : goal.returns-in-Arm-clause-row
 returns-in-Arm-clause-row g c =
@@ -49,8 +54,17 @@ returns-in-Hibernate-clause-inside g c = λ no tells v left. unread (g.D.Disk.mo
 pub returns-in-Resume-clause-inside : goal.returns-in-Resume-clause-inside
 returns-in-Resume-clause-inside g c = λ no tells v left. unread (g.D.Disk.moment c.args.disk.now) (g.D.Disk.left_since c.args.disk.now) (g.D.Disk.content c.args.disk.now) v (g.met.D.Disk.only_now c.args.disk.now v tells) left
 
+pub returns-in-Suspend-clause-inside : goal.returns-in-Suspend-clause-inside
+returns-in-Suspend-clause-inside g c = λ no tells v left. unread (g.D.Disk.moment c.args.disk.now) (g.D.Disk.left_since c.args.disk.now) (g.D.Disk.content c.args.disk.now) v (g.met.D.Disk.only_now c.args.disk.now v tells) left
+
+pub returns-in-Wake-clause-inside : goal.returns-in-Wake-clause-inside
+returns-in-Wake-clause-inside g c = λ no tells v left. unread (g.D.Disk.moment c.args.disk.now) (g.D.Disk.left_since c.args.disk.now) (g.D.Disk.content c.args.disk.now) v (g.met.D.Disk.only_now c.args.disk.now v tells) left
+
 pub returns-in-Settle-clause-inside : goal.returns-in-Settle-clause-inside
 returns-in-Settle-clause-inside g c = λ no tells v left. unread (g.D.Disk.moment c.args.disk.now) (g.D.Disk.left_since c.args.disk.now) (g.D.Disk.content c.args.disk.now) v (g.met.D.Disk.only_now c.args.disk.now v tells) left
+
+pub returns-in-Shrink-clause-inside : goal.returns-in-Shrink-clause-inside
+returns-in-Shrink-clause-inside g c = λ no tells v left. unread (g.D.Disk.moment c.args.disk.now) (g.D.Disk.left_since c.args.disk.now) (g.D.Disk.content c.args.disk.now) v (g.met.D.Disk.only_now c.args.disk.now v tells) left
 
 pub returns-in-Arm-clause-inside : goal.returns-in-Arm-clause-inside
 returns-in-Arm-clause-inside g c = λ no tells v left.
@@ -76,8 +90,17 @@ returns-in-Task-clause-time g c = λ no tells. still (g.D.Disk.moment c.args.dis
 pub returns-in-Hibernate-clause-time : goal.returns-in-Hibernate-clause-time
 returns-in-Hibernate-clause-time g c = λ no tells. still (g.D.Disk.moment c.args.disk.now) (g.D.Disk.left_since c.args.disk.now) (g.D.Disk.content c.args.disk.now)
 
+pub returns-in-Suspend-clause-time : goal.returns-in-Suspend-clause-time
+returns-in-Suspend-clause-time g c = λ no tells. still (g.D.Disk.moment c.args.disk.now) (g.D.Disk.left_since c.args.disk.now) (g.D.Disk.content c.args.disk.now)
+
+pub returns-in-Wake-clause-time : goal.returns-in-Wake-clause-time
+returns-in-Wake-clause-time g c = λ no tells. still (g.D.Disk.moment c.args.disk.now) (g.D.Disk.left_since c.args.disk.now) (g.D.Disk.content c.args.disk.now)
+
 pub returns-in-Settle-clause-time : goal.returns-in-Settle-clause-time
 returns-in-Settle-clause-time g c = λ no tells. still (g.D.Disk.moment c.args.disk.now) (g.D.Disk.left_since c.args.disk.now) (g.D.Disk.content c.args.disk.now)
+
+pub returns-in-Shrink-clause-time : goal.returns-in-Shrink-clause-time
+returns-in-Shrink-clause-time g c = λ no tells. still (g.D.Disk.moment c.args.disk.now) (g.D.Disk.left_since c.args.disk.now) (g.D.Disk.content c.args.disk.now)
 
 pub returns-in-Resume-clause-time : goal.returns-in-Resume-clause-time
 returns-in-Resume-clause-time g c = λ no tells. still (g.D.Disk.moment c.args.disk.now) (g.D.Disk.left_since c.args.disk.now) (g.D.Disk.content c.args.disk.now)

@@ -50,6 +50,8 @@ invariant_of-self c =
                 (c.requires.on_disk (ap is_image (sym c.read-kind.ensures) ∙ sym c.is_image-image.ensures ∙ w.if-image-2.true))
             | else-image-2 w ↦ absurd (some w.self-is)
           ];
+      place = λ down. absurd down;
+      wakes = λ e. absurd (cc);
       busy = λ e. absurd (cc);
       loads = λ e. absurd (cc);
     }

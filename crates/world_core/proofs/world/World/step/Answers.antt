@@ -10,7 +10,7 @@ use Rattle.world_core.proofs.world.World.step.Goals as goal
 
 pub returns-in-Off-clause-row : goal.returns-in-Off-clause-row
 returns-in-Off-clause-row g c = λ k told.
-    (k, told, row_refused (event.Step actor.Core) c.args.self.now reply.Idle k (λ a stands. idle_core c.args.self.now k a stands (⊎_elim (λ e. inl (ap is_off (sym (ap (λ (w : World). w.core) c.self.view_is) ∙ e.1))) (λ e. inr (sym (ap (λ (w : World). w.core) c.self.view_is) ∙ e)) c.in-Off.is)))
+    (k, told, row_refused (event.Step actor.Core) c.args.self.now reply.Idle k (λ a stands. idle_core c.args.self.now k a stands (⊎_elim (λ e. inl (ap is_off (sym (ap (λ (w : World). w.core) c.self.view_is) ∙ e.1))) (λ e. inr (⊎_elim (λ run. inl (sym (ap (λ (w : World). w.core) c.self.view_is) ∙ run)) (λ sleep. inr (sym (ap (λ (w : World). w.core) c.self.view_is) ∙ sleep)) e)) c.in-Off.is)))
 
 pub returns-in-Off-clause-time : goal.returns-in-Off-clause-time
 returns-in-Off-clause-time g c = λ tells. still (g.D.Disk.moment c.args.disk.now) (g.D.Disk.left_since c.args.disk.now) (g.D.Disk.content c.args.disk.now)

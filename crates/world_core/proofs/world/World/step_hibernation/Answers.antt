@@ -12,7 +12,7 @@ use Rattle.hib_core.proofs.BeginTables.{slot_table_lies}
 use Rattle.hib_core.proofs.Keeping.{step_keeps, given_back, stayed}
 use Rattle.hib_core.proofs.Leaving.{entries_left}
 use Rattle.protocol_laws.specs.Slots.{IsMemoryOf}
-use Rattle.world_core.proofs.Hibernating.{row_of_step, busy_told, never_loads, restores_none}
+use Rattle.world_core.proofs.Hibernating.{row_of_step, busy_told, never_loads, never_wakes, restores_none}
 use Rattle.world_core.proofs.Readiness.{can_run-same, no_tables_told}
 use Rattle.world_core.proofs.Rows.{is_up}
 use Rattle.world_core.proofs.world.World.step_hibernation.Goals as goal
@@ -33,19 +33,21 @@ invariant_of-self g c =
           can_run-same c.self.inside.machine c.step-reply.new.machine c.self.inside.frames c.step-reply.new.frames c.self.inside.runs c.step-reply.new.runs (c.self.invariant.busy core).0.hardware c.step-reply.ensures.machine c.step-reply.ensures.ready.size c.step-reply.ensures.ready.matches
           (entries_left c.self.inside.machine.hw (change_of c.step-reply.result c.self.inside.hib.stage) c.self.inside.frames c.step-reply.new.frames (c.self.invariant.busy core).0.hardware c.step-reply.ensures.memory) (c.self.invariant.run (is_up c.self.inside.core core));
       header = λ up some. c.step-reply.ensures.ready.header;
+      place = λ down. c.step-reply.ensures.ready.header;
+      wakes = λ e. never_wakes c.step-reply.result c.core_after-self-inside.result c.core_after-self-inside.ensures e;
       busy = λ e. (c.step-reply.ensures.ready, busy_told c.step-reply.new.self c.step-reply.result c.core_after-self-inside.result c.core_after-self-inside.ensures c.step-reply.ensures.phase e);
       loads = λ e. never_loads c.step-reply.result c.core_after-self-inside.result c.core_after-self-inside.ensures e;
     }
 
 pub returns-clause-row : goal.returns-clause-row
 returns-clause-row g c =
-    let new = kept_world (record { machine = c.step-reply.new.machine; frames = c.step-reply.new.frames; runs = c.step-reply.new.runs; hib = c.step-reply.new.self; load = c.self.inside.load; core = c.core_after-self-inside.result }) in
+    let new = kept_world (record { machine = c.step-reply.new.machine; frames = c.step-reply.new.frames; runs = c.step-reply.new.runs; hib = c.step-reply.new.self; load = c.self.inside.load; waker = c.self.inside.waker; core = c.core_after-self-inside.result }) in
     subst (λ (old : World). HasRow (event.Step actor.Core) old new c.step-reply.result (g.D.Disk.content c.args.disk.now) (g.D.Disk.content c.step-reply.new.disk)) c.self.view_is
     (row_of_step (kept_world c.self.inside) new c.step-reply.result (g.D.Disk.content c.args.disk.now) (g.D.Disk.content c.step-reply.new.disk) (ap (λ (w : World). w.core) c.self.view_is ∙ c.requires.hibernates) c.core_after-self-inside.ensures c.step-reply.ensures.phase c.step-reply.ensures.row)
 
 pub returns-clause-restored : goal.returns-clause-restored
 returns-clause-restored g c =
-    let new = kept_world (record { machine = c.step-reply.new.machine; frames = c.step-reply.new.frames; runs = c.step-reply.new.runs; hib = c.step-reply.new.self; load = c.self.inside.load; core = c.core_after-self-inside.result }) in
+    let new = kept_world (record { machine = c.step-reply.new.machine; frames = c.step-reply.new.frames; runs = c.step-reply.new.runs; hib = c.step-reply.new.self; load = c.self.inside.load; waker = c.self.inside.waker; core = c.core_after-self-inside.result }) in
     subst (λ (old : World). Restores (event.Step actor.Core) old new c.step-reply.result (g.D.Disk.content c.args.disk.now) (g.D.Disk.content c.step-reply.new.disk)) c.self.view_is
     (restores_none (kept_world c.self.inside) new c.step-reply.result (g.D.Disk.content c.args.disk.now) (g.D.Disk.content c.step-reply.new.disk) (ap (λ (w : World). w.core) c.self.view_is ∙ c.requires.hibernates))
 
@@ -55,7 +57,7 @@ returns-clause-calls g c = inr (tt, (λ e. false≢true (sym c.step-reply.ensure
 pub returns-clause-memory : goal.returns-clause-memory
 returns-clause-memory g c =
     let core = ap (λ (w : World). w.core) c.self.view_is ∙ c.requires.hibernates in
-    let new = kept_world (record { machine = c.step-reply.new.machine; frames = c.step-reply.new.frames; runs = c.step-reply.new.runs; hib = c.step-reply.new.self; load = c.self.inside.load; core = c.core_after-self-inside.result }) in
+    let new = kept_world (record { machine = c.step-reply.new.machine; frames = c.step-reply.new.frames; runs = c.step-reply.new.runs; hib = c.step-reply.new.self; load = c.self.inside.load; waker = c.self.inside.waker; core = c.core_after-self-inside.result }) in
     let h = c.self.inside.machine.hw in
     let change = change_of c.step-reply.result c.self.inside.hib.stage in
     let memory : IsMemoryOf h c.self.inside.frames = record { pages = c.len.ensures.pages; table = slot_table_lies h c.self.inside.frames (c.self.invariant.busy core).0.hardware c.self.invariant.size } in

@@ -7,10 +7,10 @@ use Rattle.plain_machine.specs.Machine.{Hardware}
 use Rattle.plain_machine.specs.declared.event.Loader.{Loader}
 use Rattle.world_core.specs.StandsFor.{core_resumed}
 use Rattle.world_core.specs.World.{World}
-use Rattle.world_core.specs.Kept.{kept_world}
+use Rattle.world_core.specs.Kept.{IsDown, kept_world}
 use Rattle.world_core.specs.Row.{HasRow, Restores}
 use Rattle.world_core.proofs.Readiness.{can_run-resumed, no_tables_after}
-use Rattle.world_core.proofs.Resuming.{IsAfter, row_of_step, busy_after, idle_after, runs_after, restores_at}
+use Rattle.world_core.proofs.Resuming.{IsAfter, row_of_step, awake_after, busy_after, idle_after, runs_after, restores_at}
 use Rattle.world_core.proofs.world.World.step_resume.Goals as goal
 
 pub invariant_of-self : goal.invariant_of-self
@@ -27,20 +27,22 @@ invariant_of-self g c =
       tables = λ has. no_tables_after c.step-reply.new.self c.step-reply.result c.core_after-self-inside.result after has;
       run = λ up. can_run-resumed c.step-reply.new.machine c.step-reply.new.frames c.step-reply.new.runs c.step-reply.new.self c.step-reply.ensures.ready (runs_after c.step-reply.new.machine c.step-reply.new.frames c.step-reply.new.runs c.step-reply.new.self c.step-reply.result c.core_after-self-inside.result after c.step-reply.ensures.ready up);
       header = λ up some. absurd (some (runs_after c.step-reply.new.machine c.step-reply.new.frames c.step-reply.new.runs c.step-reply.new.self c.step-reply.result c.core_after-self-inside.result after c.step-reply.ensures.ready up).unheld);
+      place = λ down. awake_after c.step-reply.new.self c.step-reply.result c.core_after-self-inside.result after down;
+      wakes = λ e. awake_after c.step-reply.new.self c.step-reply.result c.core_after-self-inside.result after (subst IsDown (sym e) tt);
       busy = λ e. idle_after c.step-reply.new.self c.step-reply.result c.core_after-self-inside.result after e;
       loads = λ e. (c.step-reply.ensures.ready, busy_after c.step-reply.new.self c.step-reply.result c.core_after-self-inside.result after e);
     }
 
 pub returns-clause-row : goal.returns-clause-row
 returns-clause-row g c =
-    let new = kept_world (record { machine = c.step-reply.new.machine; frames = c.step-reply.new.frames; runs = c.step-reply.new.runs; hib = c.self.inside.hib; load = c.step-reply.new.self; core = c.core_after-self-inside.result }) in
+    let new = kept_world (record { machine = c.step-reply.new.machine; frames = c.step-reply.new.frames; runs = c.step-reply.new.runs; hib = c.self.inside.hib; load = c.step-reply.new.self; waker = c.self.inside.waker; core = c.core_after-self-inside.result }) in
     subst (λ (old : World). HasRow (event.Step actor.Core) old new c.step-reply.result (g.D.Disk.content c.args.disk.now) (g.D.Disk.content c.step-reply.new.disk)) c.self.view_is
     (row_of_step (kept_world c.self.inside) new c.step-reply.result (g.D.Disk.content c.args.disk.now) (g.D.Disk.content c.step-reply.new.disk) (ap (λ (w : World). w.core) c.self.view_is ∙ c.requires.resumes)
     (record { loader = c.self.inside.load.loader; core_is = c.core_after-self-inside.ensures.is ∙ ap (λ (l : Loader). core_resumed l c.step-reply.result) (c.loader.ensures ∙ c.step-reply.ensures.loader); told = c.step-reply.ensures.activity }) c.step-reply.ensures.row)
 
 pub returns-clause-restored : goal.returns-clause-restored
 returns-clause-restored g c =
-    let new = kept_world (record { machine = c.step-reply.new.machine; frames = c.step-reply.new.frames; runs = c.step-reply.new.runs; hib = c.self.inside.hib; load = c.step-reply.new.self; core = c.core_after-self-inside.result }) in
+    let new = kept_world (record { machine = c.step-reply.new.machine; frames = c.step-reply.new.frames; runs = c.step-reply.new.runs; hib = c.self.inside.hib; load = c.step-reply.new.self; waker = c.self.inside.waker; core = c.core_after-self-inside.result }) in
     subst (λ (old : World). Restores (event.Step actor.Core) old new c.step-reply.result (g.D.Disk.content c.args.disk.now) (g.D.Disk.content c.step-reply.new.disk)) c.self.view_is
     (restores_at (kept_world c.self.inside) new c.step-reply.result (g.D.Disk.content c.args.disk.now) (g.D.Disk.content c.step-reply.new.disk) (ap (λ (w : World). w.core) c.self.view_is ∙ c.requires.resumes) c.step-reply.ensures.row)
 

@@ -1,9 +1,9 @@
-use Rattle.std.proofs.Common.{refl, sym, ap, ◌∙◌}
+use Rattle.std.proofs.Common.{refl, sym, ap, ◌∙◌, subst}
 use Rattle.plain_machine.specs.declared.event.Event.TheVariants as event
 use Rattle.plain_machine.specs.declared.reply.Reply.TheVariants as reply
 use Rattle.world_core.specs.StandsFor.{is_off}
 use Rattle.world_core.specs.World.{World}
-use Rattle.world_core.proofs.Rows.{row_refused, not_on, frozen_task, is_taken, busy_in}
+use Rattle.world_core.proofs.Rows.{row_refused, not_on, frozen_task, sleeping_task, is_taken, busy_in, IsTaken}
 use Rattle.world_core.proofs.world.World.task.Goals as goal
 
 pub returns-in-Off-clause-row : goal.returns-in-Off-clause-row
@@ -18,10 +18,13 @@ returns-in-BootBegun c =
     let busy = busy_in c.self.inside c.args.self.now c.self.view_is c.self.invariant in
     record {
       row = λ k. row_refused (event.Task c.args.t c.args.op) c.args.self.now reply.Frozen k
-          (λ a stands. frozen_task c.args.self.now k a c.args.t c.args.op busy (λ e. taken.0 (ap is_off core ∙ e)) (λ e. taken.1 (core ∙ e)) stands);
+          (λ a stands. frozen_task c.args.self.now k a c.args.t c.args.op busy (subst IsTaken core taken) stands);
       cause = λ e. e;
       hardware = refl;
       blocks = refl;
       core = refl;
       refused = λ r. record { machine = refl; frames = refl; core = refl };
     }
+
+pub returns-in-Asleep-clause-row : goal.returns-in-Asleep-clause-row
+returns-in-Asleep-clause-row c = λ k. row_refused (event.Task c.args.t c.args.op) c.args.self.now reply.Sleeping k (λ a stands. sleeping_task c.args.self.now k a c.args.t c.args.op (sym (ap (λ (w : World). w.core) c.self.view_is) ∙ c.in-Asleep.is) stands)

@@ -1,0 +1,3 @@
+pub mod Agreeing
+pub mod NextFrames
+pub mod SameHardware

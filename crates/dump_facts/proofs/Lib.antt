@@ -1,0 +1,4 @@
+pub mod Images
+pub mod Joined
+pub mod Owners
+pub mod PageCounts

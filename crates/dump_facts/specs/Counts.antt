@@ -1,0 +1,28 @@
+-- What is counted of a machine's memory.
+use Rattle.std.specs.Prelude.{ℕ, ◌==◌, ◌&&◌, Bool, not, List, filter, if◌then◌else◌}
+use Rattle.std.specs.List.{range_with_len}
+use Rattle.definitions.specs.Tables.{frame, owner_of}
+use Rattle.definitions.specs.Zones.{numbers}
+use Rattle.plain_machine.specs.Image.{is_zeros}
+use Rattle.plain_machine.specs.Machine.{Hardware, Memory, frame_entry, image_slot, slot_entry}
+use Rattle.saveable.specs.Tests.{saveable_by_entry}
+use Rattle.dump_facts.specs.declared.counting.Kind.{Kind}
+use Rattle.dump_facts.specs.declared.counting.Kind.TheVariants.{Saveable, WithData, OwnedBy}
+
+-- whether page frame p is of a kind
+abbrev pub is_of : Hardware → Memory → Kind → ℕ → Bool
+is_of h m Saveable p = saveable_by_entry h.frame_table m p
+is_of h m WithData p = saveable_by_entry h.frame_table m p && not (is_zeros (frame m p))
+is_of h m (OwnedBy t) p = owner_of (frame_entry h m p) == t
+
+-- the page frames of a kind
+abbrev pub frames_of : Hardware → Memory → Kind → List ℕ
+frames_of h m kind = filter (is_of h m kind) (numbers h.zones)
+
+-- a slot's entry as it is seen: a slot of the image counts as free
+abbrev pub seen : ℕ → ℕ
+seen entry = if entry == image_slot then 0 else entry
+
+-- the slots with this entry
+abbrev pub slots_of : Hardware → Memory → ℕ → List ℕ
+slots_of h m entry = filter (λ s. slot_entry h m s == entry) (range_with_len 0 h.slots)

@@ -1,0 +1,136 @@
+ghost use Rattle.std.specs.Prelude.{◌≡◌, ℕ, ◌<◌, ◌≤◌, length, filter};
+ghost use Rattle.std.specs.List.{Contains, range_with_len};
+ghost use Rattle.definitions.specs.Zones.{numbers, top, IsZone, zone_end};
+ghost use Rattle.plain_machine.specs.Image.{is_zeros};
+ghost use Rattle.definitions.specs.Tables.{frame};
+ghost use Rattle.definitions.specs.Bytes.{zero_page};
+ghost use Rattle.plain_machine.specs.Machine.{unused};
+ghost use Rattle.saveable.specs.Tests.{saveable_by_entry};
+ghost use Rattle.dump_facts.specs.Counts.{frames_of, is_of, seen, slots_of};
+
+use frame_arena::Frames;
+use machine::Dump;
+use page_core::Page;
+use page_states::entry;
+use saveable::{View, count_free, saveable};
+use swap_slots::SlotTable;
+
+/// The page frames that are counted together.
+#[derive(Clone, Copy, Debug, PartialEq, Eq)]
+pub enum Kind {
+    Saveable,
+    /// Saveable, and not all zero.
+    WithData,
+    /// A task's.
+    OwnedBy(u16),
+}
+
+/// How many page frames are of a kind.
+pub(crate) fn count_frames(dump: &Dump, kind: Kind) -> u32
+    requires { length dump.now.frames ≡ top dump.now.hw.zones }
+    ensures count { result ≡ length (frames_of dump.now.hw dump.now.frames kind) }
+    ensures few { result ≤ 65536 }
+{
+    let zones = dump.hw.zones();
+    let mut total = 0;
+    let mut j = 0;
+    while let Some(zone) = zones.zone(j) {
+        total += count_in_zone(dump, kind, zone);
+        j += 1;
+    }
+    total
+}
+
+/// How many page frames of a zone are of a kind.
+fn count_in_zone(dump: &Dump, kind: Kind, zone: (u32, u32)) -> u32
+    requires size { length dump.now.frames ≡ top dump.now.hw.zones }
+    requires zone { IsZone zone }
+    requires valid { (p : ℕ) → zone.0 ≤ p → p < zone_end zone → Contains (numbers dump.now.hw.zones) p }
+    ensures { result ≡ length (filter (is_of dump.now.hw dump.now.frames kind) (range_with_len zone.0 zone.1)) }
+{
+    let (start, count) = zone;
+    let mut total = 0;
+    for p in start..start + count {
+        if is_of(dump, kind, p) {
+            total += 1;
+        }
+    }
+    total
+}
+
+/// Whether a page frame is of a kind.
+fn is_of(dump: &Dump, kind: Kind, p: u32) -> bool
+    requires size { length dump.now.frames ≡ top dump.now.hw.zones }
+    requires valid { Contains (numbers dump.now.hw.zones) p }
+    ensures { result ≡ is_of dump.now.hw dump.now.frames kind p }
+{
+    // Only what is read is known to be hardware.
+    let _ = dump.hw.zones();
+    match kind {
+        Kind::Saveable => is_saveable(dump, p),
+        Kind::WithData => is_saveable(dump, p) && !is_zeros(&dump.frames, p),
+        Kind::OwnedBy(task) => entry(&dump.frames, dump.hw.frame_table(), p).1 == task,
+    }
+}
+
+/// Whether a valid page frame is saveable.
+fn is_saveable(dump: &Dump, p: u32) -> bool
+    requires size { length dump.now.frames ≡ top dump.now.hw.zones }
+    requires valid { Contains (numbers dump.now.hw.zones) p }
+    ensures { result ≡ saveable_by_entry dump.now.hw.frame_table dump.now.frames p }
+{
+    let view = View {
+        frames: &dump.frames,
+        zones: dump.hw.zones(),
+        table: dump.hw.frame_table(),
+    };
+    saveable(&view, p)
+}
+
+/// Whether each byte of a page frame is zero.
+fn is_zeros(frames: &Frames, p: u32) -> bool
+    requires { p < length frames.now }
+    ensures { result ≡ is_zeros (frame frames.now p) }
+{
+    frames.page(p) == Page::zero().as_bytes()
+}
+
+/// How many page frames are free.
+pub(crate) fn count_free_frames(dump: &Dump) -> u32
+    requires { length dump.now.frames ≡ top dump.now.hw.zones }
+    ensures { result ≡ length (unused dump.now.hw dump.now.frames) }
+{
+    count_free(&View {
+        frames: &dump.frames,
+        zones: dump.hw.zones(),
+        table: dump.hw.frame_table(),
+    })
+}
+
+/// The slot table's entry of a slot of the image, which is seen as a free one.
+const IMAGE_SLOT: u32 = 65536;
+
+/// How many slots have this entry, as it is seen.
+pub(crate) fn count_slots(dump: &Dump, entry: u32) -> u32
+    requires { length dump.now.frames ≡ top dump.now.hw.zones }
+    ensures { result ≡ length (slots_of dump.now.hw dump.now.frames entry) }
+{
+    let table = SlotTable {
+        first: dump.hw.slot_table(),
+        slots: dump.hw.slots(),
+    };
+    let mut total = 0;
+    for slot in 0..table.slots {
+        if seen(table.owner(&dump.frames, slot)) == entry {
+            total += 1;
+        }
+    }
+    total
+}
+
+/// A slot's entry as it is seen.
+fn seen(entry: u32) -> u32
+    ensures { result ≡ seen entry }
+{
+    if entry == IMAGE_SLOT { 0 } else { entry }
+}

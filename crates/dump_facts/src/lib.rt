@@ -1,0 +1,34 @@
+//! What a dump says of its machine, as a list of facts: the hardware, who has the page frames and the slots, and what a hibernation
+//! would take.
+#![tactic(auto)]
+
+mod counting;
+mod fact;
+mod facts;
+mod layout;
+mod memory;
+
+ghost use Rattle.std.specs.Prelude.{◌≡◌, length};
+ghost use Rattle.definitions.specs.Zones.{top};
+ghost use Rattle.dump_facts.specs.Facts.{facts_of};
+
+pub use fact::{Fact, Name};
+pub use facts::Facts;
+use layout::{add_identity, add_layout};
+use machine::Dump;
+use memory::{add_frames, add_images, add_slots};
+
+/// The facts of a dump.
+#[tactic(auto, unfolding(crate::specs::Facts::facts_of))]
+pub fn facts_of(dump: &Dump) -> Facts
+    requires { length dump.now.frames ≡ top dump.now.hw.zones }
+    ensures { result ≡ facts_of dump.now.hw dump.now.frames }
+{
+    let mut facts = Facts::new();
+    add_layout(&mut facts, &dump.hw);
+    add_identity(&mut facts, &dump.hw);
+    add_frames(&mut facts, dump);
+    add_slots(&mut facts, dump);
+    add_images(&mut facts, dump);
+    facts
+}

@@ -1,0 +1,92 @@
+//! What a boot makes of a machine's memory, without a disk: a dump into which an image can be resumed.
+#![tactic(auto)]
+
+ghost use Rattle.std.specs.Prelude.{◌≡◌, ℕ, ◌+◌, ◌<◌, ◌/◌, length, IfOk, OnOk, OnErr};
+ghost use Rattle.std.specs.List.{range_with_len};
+ghost use Rattle.definitions.specs.Tables.{with_entry};
+ghost use Rattle.definitions.specs.Zones.{top};
+ghost use Rattle.plain_machine.specs.Machine.{Fits, IsHardware};
+ghost use Rattle.plain_machine.specs.Step.{fresh_memory, with_each_entry};
+ghost use Rattle.fresh_dump.specs.KeptSlots.{kept_entry, kept_slot};
+
+use frame_arena::Frames;
+use machine::{Dump, Hardware, set_fresh};
+use page_core::NoMemory;
+use std::alloc::Global;
+use swap_slots::SlotTable;
+
+/// The slot table's entry of a free slot, and of a bad one.
+const FREE: u32 = 0;
+
+const BAD: u32 = 131072;
+
+/// How many entries of 4 bytes a page frame has.
+const ENTRIES: u32 = 1024;
+
+/// Makes a dump's memory that of the same machine when it has just booted: no task has a page frame or a slot, and the bad slots
+/// are those that were bad. Where memory is refused nothing changes.
+pub fn make_fresh(alloc: Global, dump: &mut Dump) -> Result<(), NoMemory>
+    requires { length dump.old.frames ≡ top dump.old.hw.zones }
+    ensures fresh { OnOk result (dump.new.frames ≡ fresh_memory dump.old.hw (kept_slot dump.old.hw dump.old.frames)) }
+    ensures fits { OnOk result (Fits dump.new.hw dump.new.frames) }
+    ensures hardware { dump.new.hw ≡ dump.old.hw }
+    ensures err { OnErr result (dump.new.frames ≡ dump.old.frames) }
+{
+    dump.frames = fresh_frames(alloc, &dump.hw, &dump.frames)?;
+    Ok(())
+}
+
+/// The fresh memory of a machine that had this memory.
+#[tactic(auto, unfolding(plain_machine::specs::Step::fresh_memory))]
+fn fresh_frames(alloc: Global, hw: &Hardware, before: &Frames) -> Result<Frames, NoMemory>
+    requires { length before.now ≡ top hw.now.zones }
+    ensures fresh { IfOk result (λ frames. frames ≡ fresh_memory hw.now (kept_slot hw.now before.now)) }
+    ensures hardware { IsHardware hw.now }
+{
+    let mut frames = Frames::create(alloc, hw.zones().top())?;
+    set_fresh(&mut frames, hw);
+    keep_bad_slots(&mut frames, hw, before);
+    Ok(frames)
+}
+
+/// Sets the slot table's entries: slot 0 and the slots that were bad are bad, and all others free.
+fn keep_bad_slots(frames: &mut Frames, hw: &Hardware, before: &Frames)
+    requires before { length before.now ≡ top hw.now.zones }
+    requires size { length frames.old ≡ top hw.now.zones }
+    ensures { frames.new ≡ with_each_entry (kept_slot hw.now before.now) (range_with_len 0 hw.now.slots) hw.now.slot_table frames.old }
+{
+    let table = SlotTable {
+        first: hw.slot_table(),
+        slots: hw.slots(),
+    };
+    for slot in 0..table.slots {
+        let entry = kept_entry(slot, table.owner(before, slot));
+        set_entry(frames, table.first, slot, entry);
+    }
+}
+
+/// The entry in fresh memory of a slot that had this one.
+fn kept_entry(slot: u32, before: u32) -> u32
+    ensures { result ≡ kept_entry slot before }
+{
+    if slot == 0 || before == BAD {
+        BAD
+    } else {
+        FREE
+    }
+}
+
+/// Sets a slot's entry in the slot table that begins at page frame `first`.
+#[tactic(auto, unfolding(definitions::specs::Tables::with_entry))]
+fn set_entry(frames: &mut Frames, first: u32, slot: u32, entry: u32)
+    requires { first + slot / 1024 < length frames.old }
+    ensures { frames.new ≡ with_entry frames.old first slot entry }
+{
+    // The page frames of the table are below this, so their numbers fit.
+    let _ = frames.len();
+    frames.put_u32(
+        first + slot / ENTRIES,
+        (4 * (slot % ENTRIES)) as usize,
+        entry,
+    );
+}

@@ -1,0 +1,49 @@
+-- How `check` may end: it reads a loader's dump, and tells what a resume of the image on the disk would answer.
+use Rattle.std.specs.Prelude.{◌≡◌, ◌≤◌, ◌+◌, [], Some, if◌then◌else◌}
+use Rattle.definitions.specs.Disk as disk
+use Rattle.command_core.specs.declared.ending.Ended.{Ended}
+use Rattle.dry_resume.specs.Foretold.{Foretells}
+use Rattle.dump_file.specs.Dump.{DumpValue}
+use Rattle.dump_file.specs.declared.dump.DumpFault.{DumpFault}
+use Rattle.plain_machine.specs.Chain.{Marked}
+use Rattle.plain_machine.specs.Machine.{Memory}
+use Rattle.plain_machine.specs.Premises.{HasOriginal}
+use Rattle.plain_machine.specs.Replies.{line_of}
+use Rattle.plain_machine.specs.declared.event.IdentCheck.TheVariants.{Compare}
+use Rattle.swsusp_cli.specs.Answer.{Told, memory_told}
+use Rattle.swsusp_cli.specs.Dumps.{IsDump, IsNoDump, stopped_told}
+use Rattle.swsusp_cli.specs.Loads.{is_resumed}
+use Rattle.swsusp_cli.specs.Outcome.{IsOutOfMemory, IsUnread, Tells}
+use Rattle.swsusp_cli.specs.View.{DiskView, View}
+use Rattle.swsusp_cli.specs.declared.status.Status.{Status}
+use Rattle.swsusp_cli.specs.declared.status.Status.TheVariants.{Done}
+
+-- a resume that would end well is told on out, and why it wouldn't as a note
+abbrev pub foretold_told : Ended → Told
+foretold_told ended = if is_resumed ended.reply then record { status = Done; out = line_of ended.reply; note = [] } else stopped_told ended
+
+-- the disk was only read
+pub record IsOnlyRead (x x' : DiskView) : Type 0 where
+  pub content : x'.content ≡ x.content
+  pub orders : x'.orders ≡ x.orders
+  pub calls : x'.calls ≤ x.calls + 66000
+
+-- What is told is the last reply of a resume's trace over the disk as it reads, unless a call of the disk has failed.
+pub record IsForetold (x x' : View) (status : Status) (dump : DumpValue) (memory : Memory) (ended : Ended) : Type 0 where
+  pub dump_is : IsDump x x' dump
+  pub told : Tells (foretold_told ended) status x x'
+  pub foretells : (c : disk.Content) → x.disk.content ≡ Some c → (Marked dump.hw (disk.as_it_reads c) → HasOriginal dump.hw (disk.as_it_reads c)) →
+      Foretells dump.hw dump.memory Compare (disk.as_it_reads c) memory ended
+  pub only_read : IsOnlyRead x.disk x'.disk
+
+-- memory was refused, before the disk was read or for a page that the resume would write
+pub record IsShort (x x' : View) (status : Status) : Type 0 where
+  pub told : Tells memory_told status x x'
+  pub only_read : IsOnlyRead x.disk x'.disk
+
+-- One of these, by what the outside told before and after.
+pub data Checks (x x' : View) (status : Status) : Type 0 where
+  no_dump : (fault : DumpFault) → IsNoDump x x' status fault → Checks x x' status
+  out_of_memory : IsShort x x' status → Checks x x' status
+  unread : IsUnread x x' status → Checks x x' status
+  foretold : (dump : DumpValue) (memory : Memory) (ended : Ended) → IsForetold x x' status dump memory ended → Checks x x' status

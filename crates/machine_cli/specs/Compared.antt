@@ -1,0 +1,46 @@
+-- How `differ` may end: it reads two dumps, and tells where they differ first.
+use Rattle.std.specs.Prelude.{◌≡◌, ◌≢◌, ℕ, List, [], ◌++◌, codes, decimal, Option, Some, None, Ok, Err, IsNone, IfSome, ◌↔◌}
+use Rattle.dump_differ.specs.Differences.{AreSame, IsFirst}
+use Rattle.dump_differ.specs.declared.Difference.{Difference}
+use Rattle.dump_differ.specs.declared.Difference.TheVariants.{Hardware, Saveable, Page}
+use Rattle.dump_file.specs.Dump.{DumpValue, dump_of}
+use Rattle.dump_file.specs.declared.dump.DumpFault.{DumpFault}
+use Rattle.machine.specs.declared.dump.Dump.{Dump}
+use Rattle.swsusp_cli.specs.Answer.{Told, line, memory_told}
+use Rattle.swsusp_cli.specs.Dumps.{dump_told}
+use Rattle.swsusp_cli.specs.Replay.{unread_note}
+use Rattle.swsusp_cli.specs.Told.{IsTold, IsTried}
+use Rattle.swsusp_cli.specs.View.{SinkView}
+use Rattle.swsusp_cli.specs.declared.status.Status.{Status}
+use Rattle.swsusp_cli.specs.declared.status.Status.TheVariants.{Done, Refused, Stream}
+
+-- what is told: `same` with status 0, or with status 1 the first difference, a page frame with its number
+abbrev pub difference_told : Option Difference → Told
+difference_told None = record { status = Done; out = line (codes "same"); note = [] }
+difference_told (Some Hardware) = record { status = Refused; out = line (codes "hardware"); note = [] }
+difference_told (Some (Saveable p)) = record { status = Refused; out = line (codes "saveable " ++ decimal p); note = [] }
+difference_told (Some (Page p)) = record { status = Refused; out = line (codes "page " ++ decimal p); note = [] }
+
+-- the machine of a dump
+abbrev pub machine_of : DumpValue → Dump
+machine_of dump = record { hw = dump.hw; frames = dump.memory }
+
+-- this is the first difference of two dumps
+pub record IsDifference (a b : DumpValue) (difference : Option Difference) : Type 0 where
+  pub none : IsNone difference ↔ AreSame (machine_of a) (machine_of b)
+  pub first : IfSome difference (IsFirst (machine_of a) (machine_of b))
+
+-- where the bytes are told, they are this dump, or none, with this fault
+abbrev pub IsOf : Option (List ℕ) → DumpValue → Type 0
+IsOf left dump = (bytes : List ℕ) → left ≡ Some bytes → dump_of bytes ≡ Ok dump
+
+abbrev pub HasFault : Option (List ℕ) → DumpFault → Type 0
+HasFault left fault = (bytes : List ℕ) → left ≡ Some bytes → dump_of bytes ≡ Err fault
+
+-- One of these, by the bytes of the two inputs and what the outputs told before and after.
+pub data Compares (first second : Option (List ℕ)) (status : Status) (out out' note note' : SinkView) : Type 0 where
+  no_first : (fault : DumpFault) → HasFault first fault → IsTold (dump_told fault) status out out' note note' → Compares first second status out out' note note'
+  no_second : (a : DumpValue) (fault : DumpFault) → IsOf first a → HasFault second fault → IsTold (dump_told fault) status out out' note note' → Compares first second status out out' note note'
+  out_of_memory : IsTold memory_told status out out' note note' → Compares first second status out out' note note'
+  unread : status ≡ Stream → out' ≡ out → IsTried unread_note note note' → Compares first second status out out' note note'
+  compared : (a b : DumpValue) (difference : Option Difference) → IsOf first a → IsOf second b → IsDifference a b difference → IsTold (difference_told difference) status out out' note note' → Compares first second status out out' note note'

@@ -1,0 +1,18 @@
+-- How `loader` may end: it reads a dump, and writes that of its machine freshly booted.
+use Rattle.std.specs.Prelude.{◌≡◌}
+use Rattle.dump_file.specs.Dump.{DumpValue}
+use Rattle.dump_file.specs.declared.dump.DumpFault.{DumpFault}
+use Rattle.fresh_dump.specs.KeptSlots.{kept_slot}
+use Rattle.plain_machine.specs.Step.{fresh_memory}
+use Rattle.swsusp_cli.specs.Dumps.{IsDump, IsNoDump}
+use Rattle.swsusp_cli.specs.Loads.{written_told}
+use Rattle.swsusp_cli.specs.Outcome.{IsOutOfMemory, IsUnread, Tells}
+use Rattle.swsusp_cli.specs.View.{View}
+use Rattle.swsusp_cli.specs.declared.status.Status.{Status}
+
+-- One of these, by what the outside told before and after.
+pub data Freshens (x x' : View) (status : Status) : Type 0 where
+  no_dump : (fault : DumpFault) → IsNoDump x x' status fault → Freshens x x' status
+  out_of_memory : IsOutOfMemory x x' status → Freshens x x' status
+  unread : IsUnread x x' status → Freshens x x' status
+  freshened : (dump : DumpValue) → IsDump x x' dump → Tells (written_told dump.hw (fresh_memory dump.hw (kept_slot dump.hw dump.memory))) status x x' → Freshens x x' status

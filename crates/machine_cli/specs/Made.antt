@@ -1,0 +1,48 @@
+-- How `make` may end: a script is played, and the memory of the machine that runs at its end is written as a dump.
+use Rattle.std.specs.Prelude.{◌≡◌, ℕ, List, [], codes, Some}
+use Rattle.definitions.specs.Disk as disk
+use Rattle.plain_machine.specs.Machine.{Hardware, Memory, IsSameMemory}
+use Rattle.plain_machine.specs.State.{State, Running, on}
+use Rattle.plain_machine.specs.declared.reply.Reply.{Reply}
+use Rattle.script.specs.Grammar.{ScriptValue}
+use Rattle.script.specs.declared.fault.ScriptFault.{ScriptFault}
+use Rattle.swsusp_cli.specs.Answer.{Told, line}
+use Rattle.swsusp_cli.specs.Formatting.{LieBelow}
+use Rattle.swsusp_cli.specs.Loads.{written_told}
+use Rattle.swsusp_cli.specs.Outcome.{IsNoScript, IsOutOfMemory, IsScript, IsTooSmall, IsUnformatted, IsUnread, Tells}
+use Rattle.swsusp_cli.specs.Replay.{AreReplies, IsRun}
+use Rattle.swsusp_cli.specs.View.{View}
+use Rattle.swsusp_cli.specs.declared.formatting.Unformatted.{Unformatted}
+use Rattle.swsusp_cli.specs.declared.status.Status.{Status}
+use Rattle.swsusp_cli.specs.declared.status.Status.TheVariants.{Refused}
+
+-- no machine runs
+abbrev pub idle_told : Told
+idle_told = record { status = Refused; out = []; note = line (codes "no machine runs") }
+
+-- the machine runs, and this is its memory, but for what free page frames hold
+abbrev pub RunsWith : Hardware → Memory → State → Type 0
+RunsWith h m state = (a : Running) × (state ≡ on a) × IsSameMemory h a.memory m
+
+-- it doesn't run
+abbrev pub RunsNot : State → Type 0
+RunsNot state = (a : Running) → state ≡ on a → ⊥
+
+-- All events were played, and their replies are those of a run of the plain machine, as in a replay; where the disk tells its content the
+-- run ends in a machine that runs, or doesn't.
+pub record HasPlayedTo (x x' : View) (script : ScriptValue) (Ends : State → Type 0) : Type 0 where
+  pub script_is : IsScript x x' script
+  pub roomy : LieBelow script.hardware x.disk.blocks
+  pub replies : List Reply
+  pub are : AreReplies x.disk x'.disk script script.events replies
+  pub ends : (c : disk.Content) (told : x.disk.content ≡ Some c) → Ends (are.run c told).end
+
+-- One of these, by what the outside told before and after.
+pub data IsMade (x x' : View) (status : Status) : Type 0 where
+  no_script : (fault : ScriptFault) → IsNoScript x x' status fault → IsMade x x' status
+  out_of_memory : IsOutOfMemory x x' status → IsMade x x' status
+  unread : IsUnread x x' status → IsMade x x' status
+  too_small : (script : ScriptValue) → IsScript x x' script → IsTooSmall x x' status script → IsMade x x' status
+  unformatted : (script : ScriptValue) (call : Unformatted) → IsScript x x' script → IsUnformatted x x' status script call → IsMade x x' status
+  idle : (script : ScriptValue) → HasPlayedTo x x' script RunsNot → Tells idle_told status x x' → IsMade x x' status
+  written : (script : ScriptValue) (m : Memory) → HasPlayedTo x x' script (RunsWith script.hardware m) → Tells (written_told script.hardware m) status x x' → IsMade x x' status

@@ -1,0 +1,22 @@
+-- How `show` may end: it reads a dump, and prints its facts.
+use Rattle.std.specs.Prelude.{◌≡◌, []}
+use Rattle.dump_file.specs.Dump.{DumpValue}
+use Rattle.dump_file.specs.declared.dump.DumpFault.{DumpFault}
+use Rattle.machine_facts.specs.Texts.{facts_text}
+use Rattle.plain_machine.specs.Machine.{Hardware, Memory}
+use Rattle.swsusp_cli.specs.Answer.{Told}
+use Rattle.swsusp_cli.specs.Dumps.{IsDump, IsNoDump}
+use Rattle.swsusp_cli.specs.Outcome.{IsOutOfMemory, IsUnread, Tells}
+use Rattle.swsusp_cli.specs.View.{View}
+use Rattle.swsusp_cli.specs.declared.status.Status.{Status}
+use Rattle.swsusp_cli.specs.declared.status.Status.TheVariants.{Done}
+
+abbrev pub facts_told : Hardware → Memory → Told
+facts_told h m = record { status = Done; out = facts_text h m; note = [] }
+
+-- One of these, by what the outside told before and after.
+pub data Shows (x x' : View) (status : Status) : Type 0 where
+  no_dump : (fault : DumpFault) → IsNoDump x x' status fault → Shows x x' status
+  out_of_memory : IsOutOfMemory x x' status → Shows x x' status
+  unread : IsUnread x x' status → Shows x x' status
+  shown : (dump : DumpValue) → IsDump x x' dump → Tells (facts_told dump.hw dump.memory) status x x' → Shows x x' status

@@ -1,0 +1,76 @@
+ghost use Rattle.std.specs.Prelude.{◌≡◌, ◌≢◌, ◌⊎◌, ◌≤◌, ◌+◌, true};
+ghost use Rattle.definitions.specs.Disk.{HasRisen};
+ghost use Rattle.machine_cli.specs.Checked.{Checks, foretold_told};
+ghost use Rattle.swsusp_cli.specs.AnswerOf.{told_by};
+
+use command_core::Ended;
+use dry_resume::would_resume;
+use dump_file::{DumpStop, Sink, Source, read_dump};
+use page_core::NoMemory;
+use plain_machine::{IdentCheck, Reply};
+use script::{Line, line_of};
+use sector_disk::Disk;
+use std::alloc::Global;
+use swsusp_cli::{Answer, Status, machine_of, no_dump, no_memory, stopped, unread};
+
+/// Reads a loader's dump to its end, and tells what a resume of the image on the disk into its machine would answer. The disk is only
+/// read.
+pub fn check<I: Source, O: Sink, N: Sink, D: Disk>(
+    alloc: Global,
+    input: &mut I,
+    out: &mut O,
+    note: &mut N,
+    disk: &mut D,
+) -> Status
+    ensures outcome { Checks (record {
+      left = I.remaining input.old;
+      disk = record { blocks = D.block_count disk.old; content = D.content disk.old; faults = D.faults disk.old; calls = D.calls disk.old; orders = D.orders disk.old };
+      out = record { taken = O.taken out.old; flushed = O.flushed out.old; faults = O.faults out.old };
+      note = record { taken = N.taken note.old; flushed = N.flushed note.old; faults = N.faults note.old };
+    }) (record {
+      left = I.remaining input.new;
+      disk = record { blocks = D.block_count disk.new; content = D.content disk.new; faults = D.faults disk.new; calls = D.calls disk.new; orders = D.orders disk.new };
+      out = record { taken = O.taken out.new; flushed = O.flushed out.new; faults = O.faults out.new };
+      note = record { taken = N.taken note.new; flushed = N.flushed note.new; faults = N.faults note.new };
+    }) result }
+    ensures stream { result ≡ Status.Stream → HasRisen (I.faults input.old) (I.faults input.new)
+        ⊎ HasRisen (O.faults out.old) (O.faults out.new) ⊎ HasRisen (N.faults note.old) (N.faults note.new) }
+    ensures device { result ≡ Status.Device → HasRisen (D.faults disk.old) (D.faults disk.new) }
+    ensures words { result ≢ Status.Words }
+{
+    let dump = match read_dump(alloc, input) {
+        Ok(dump) => dump,
+        Err(DumpStop::SourceFault) => return unread(note),
+        Err(DumpStop::NoMemory) => return no_memory().tell(out, note),
+        Err(DumpStop::Fault(fault)) => return no_dump(fault).tell(out, note),
+    };
+    let mut world = match machine_of(alloc, dump) {
+        Ok(world) => world,
+        Err(NoMemory) => return no_memory().tell(out, note),
+    };
+    match would_resume(&mut world, disk, IdentCheck::Compare) {
+        Ok(ended) => foretold(&ended).tell(out, note),
+        Err(NoMemory) => no_memory().tell(out, note),
+    }
+}
+
+/// What a resume would say at its end: where it would end well, on out.
+fn foretold(ended: &Ended) -> Answer
+    ensures told { told_by result ≡ foretold_told ended.now }
+    ensures status { result.status ≢ Status.Stream }
+    ensures words { result.status ≢ Status.Words }
+    ensures device { result.status ≡ Status.Device → ended.now.failed ≡ true }
+{
+    match ended.reply {
+        Reply::Resumed { .. } => {
+            let mut out = Line::new();
+            line_of(&ended.reply, &mut out);
+            Answer {
+                status: Status::Done,
+                out,
+                note: Line::new(),
+            }
+        }
+        _ => stopped(ended),
+    }
+}

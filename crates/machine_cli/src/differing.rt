@@ -1,0 +1,86 @@
+ghost use Rattle.std.specs.Prelude.{◌≡◌, ◌≢◌, ◌⊎◌, ◌≤◌, ◌+◌, ◌++◌, ◌∷◌, [], decimal, length};
+ghost use Rattle.definitions.specs.Disk.{HasRisen};
+ghost use Rattle.machine_cli.specs.Compared.{Compares, difference_told};
+ghost use Rattle.swsusp_cli.specs.AnswerOf.{told_by};
+
+use dump_differ::{Difference, first_difference};
+use dump_file::{DumpStop, Sink, Source, read_dump};
+use script::Line;
+use std::alloc::Global;
+use swsusp_cli::{Answer, Status, no_dump, no_memory, unread};
+
+/// Reads two dumps, one after the other, and tells where they differ first, or that an image would save the same of both machines.
+pub fn differ<I: Source, J: Source, O: Sink, N: Sink>(
+    alloc: Global,
+    first: &mut I,
+    second: &mut J,
+    out: &mut O,
+    note: &mut N,
+) -> Status
+    ensures outcome { Compares (I.remaining first.old) (J.remaining second.old) result
+        (record { taken = O.taken out.old; flushed = O.flushed out.old; faults = O.faults out.old })
+        (record { taken = O.taken out.new; flushed = O.flushed out.new; faults = O.faults out.new })
+        (record { taken = N.taken note.old; flushed = N.flushed note.old; faults = N.faults note.old })
+        (record { taken = N.taken note.new; flushed = N.flushed note.new; faults = N.faults note.new }) }
+    ensures stream { result ≡ Status.Stream → HasRisen (I.faults first.old) (I.faults first.new)
+        ⊎ HasRisen (J.faults second.old) (J.faults second.new)
+        ⊎ HasRisen (O.faults out.old) (O.faults out.new) ⊎ HasRisen (N.faults note.old) (N.faults note.new) }
+    ensures device { result ≢ Status.Device }
+    ensures words { result ≢ Status.Words }
+{
+    let a = match read_dump(alloc, first) {
+        Ok(dump) => dump,
+        Err(DumpStop::SourceFault) => return unread(note),
+        Err(DumpStop::NoMemory) => return no_memory().tell(out, note),
+        Err(DumpStop::Fault(fault)) => return no_dump(fault).tell(out, note),
+    };
+    let b = match read_dump(alloc, second) {
+        Ok(dump) => dump,
+        Err(DumpStop::SourceFault) => return unread(note),
+        Err(DumpStop::NoMemory) => return no_memory().tell(out, note),
+        Err(DumpStop::Fault(fault)) => return no_dump(fault).tell(out, note),
+    };
+    told_of(first_difference(&a, &b)).tell(out, note)
+}
+
+/// What is told of the first difference of two dumps.
+fn told_of(difference: Option<Difference>) -> Answer
+    ensures told { told_by result ≡ difference_told difference }
+    ensures status { result.status ≢ Status.Stream }
+    ensures device { result.status ≢ Status.Device }
+    ensures words { result.status ≢ Status.Words }
+{
+    let mut out = Line::new();
+    let status = match difference {
+        None => {
+            out.put(b"same\n");
+            Status::Done
+        }
+        Some(Difference::Hardware) => {
+            out.put(b"hardware\n");
+            Status::Refused
+        }
+        Some(Difference::Saveable(p)) => {
+            put_frame(&mut out, b"saveable ", p);
+            Status::Refused
+        }
+        Some(Difference::Page(p)) => {
+            put_frame(&mut out, b"page ", p);
+            Status::Refused
+        }
+    };
+    Answer {
+        status,
+        out,
+        note: Line::new(),
+    }
+}
+
+fn put_frame(line: &mut Line, text: &[u8], p: u32)
+    requires { length line.old + length text.now ≤ 100 }
+    ensures added { line.new ≡ line.old ++ text.now ++ decimal p ++ 10 ∷ [] }
+{
+    line.put(text);
+    line.put_number(u64::from(p));
+    line.put(b"\n");
+}

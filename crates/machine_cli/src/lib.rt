@@ -1,0 +1,16 @@
+//! The commands of `swsusp_machine`: machines to try `swsusp` on, in memory dumps.
+#![tactic(auto)]
+
+mod checking;
+mod differing;
+mod loading;
+mod making;
+mod showing;
+mod words;
+
+pub use checking::check;
+pub use differing::differ;
+pub use loading::loader;
+pub use making::make;
+pub use showing::show_facts;
+pub use words::Command;

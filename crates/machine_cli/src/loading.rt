@@ -1,0 +1,46 @@
+ghost use Rattle.std.specs.Prelude.{◌≡◌, ◌≢◌, ◌⊎◌};
+ghost use Rattle.definitions.specs.Disk.{HasRisen};
+ghost use Rattle.machine_cli.specs.Freshened.{Freshens};
+ghost use Rattle.swsusp_cli.specs.View.{DiskView};
+
+use dump_file::{DumpStop, Sink, Source, read_dump};
+use fresh_dump::make_fresh;
+use page_core::NoMemory;
+use std::alloc::Global;
+use swsusp_cli::{Status, no_dump, no_memory, tell_dump, unread};
+
+/// Reads a dump to its end, and writes the dump of its machine when it has just booted: a loader, into which an image can be resumed. No
+/// disk is used.
+pub fn loader<I: Source, O: Sink, N: Sink>(
+    alloc: Global,
+    input: &mut I,
+    out: &mut O,
+    note: &mut N,
+) -> Status
+    ensures outcome { (disk : DiskView) → Freshens (record {
+      left = I.remaining input.old;
+      disk = disk;
+      out = record { taken = O.taken out.old; flushed = O.flushed out.old; faults = O.faults out.old };
+      note = record { taken = N.taken note.old; flushed = N.flushed note.old; faults = N.faults note.old };
+    }) (record {
+      left = I.remaining input.new;
+      disk = disk;
+      out = record { taken = O.taken out.new; flushed = O.flushed out.new; faults = O.faults out.new };
+      note = record { taken = N.taken note.new; flushed = N.flushed note.new; faults = N.faults note.new };
+    }) result }
+    ensures stream { result ≡ Status.Stream → HasRisen (I.faults input.old) (I.faults input.new)
+        ⊎ HasRisen (O.faults out.old) (O.faults out.new) ⊎ HasRisen (N.faults note.old) (N.faults note.new) }
+    ensures device { result ≢ Status.Device }
+    ensures words { result ≢ Status.Words }
+{
+    let mut dump = match read_dump(alloc, input) {
+        Ok(dump) => dump,
+        Err(DumpStop::SourceFault) => return unread(note),
+        Err(DumpStop::NoMemory) => return no_memory().tell(out, note),
+        Err(DumpStop::Fault(fault)) => return no_dump(fault).tell(out, note),
+    };
+    match make_fresh(alloc, &mut dump) {
+        Ok(()) => tell_dump(&dump.hw, &dump.frames, out, note),
+        Err(NoMemory) => no_memory().tell(out, note),
+    }
+}

@@ -1,0 +1,70 @@
+ghost use Rattle.std.specs.Prelude.{◌≡◌, ◌≢◌, ◌⊎◌, ◌≤◌, ◌+◌};
+ghost use Rattle.definitions.specs.Disk.{HasRisen};
+ghost use Rattle.machine_cli.specs.Made.{IsMade, idle_told};
+ghost use Rattle.swsusp_cli.specs.AnswerOf.{told_by};
+ghost use Rattle.swsusp_cli.specs.Reading.{HandsOutAtMost};
+
+use dump_file::{Sink, Source};
+use script::Line;
+use sector_disk::Disk;
+use std::alloc::Global;
+use swsusp_cli::{
+    Answer, Status, Stop, no_memory, no_script, parse_input, play_through, set_up, tell_dump,
+    unread,
+};
+
+/// Plays a script over a disk, and writes the memory of the machine that runs at its end as a dump. Where none runs, that is noted.
+pub fn make<I: Source, O: Sink, N: Sink, D: Disk>(
+    alloc: Global,
+    input: &mut I,
+    out: &mut O,
+    note: &mut N,
+    disk: &mut D,
+) -> Status
+    ensures outcome { IsMade (record {
+      left = I.remaining input.old;
+      disk = record { blocks = D.block_count disk.old; content = D.content disk.old; faults = D.faults disk.old; calls = D.calls disk.old; orders = D.orders disk.old };
+      out = record { taken = O.taken out.old; flushed = O.flushed out.old; faults = O.faults out.old };
+      note = record { taken = N.taken note.old; flushed = N.flushed note.old; faults = N.faults note.old };
+    }) (record {
+      left = I.remaining input.new;
+      disk = record { blocks = D.block_count disk.new; content = D.content disk.new; faults = D.faults disk.new; calls = D.calls disk.new; orders = D.orders disk.new };
+      out = record { taken = O.taken out.new; flushed = O.flushed out.new; faults = O.faults out.new };
+      note = record { taken = N.taken note.new; flushed = N.flushed note.new; faults = N.faults note.new };
+    }) result }
+    ensures stream { result ≡ Status.Stream → HasRisen (I.faults input.old) (I.faults input.new)
+        ⊎ HasRisen (O.faults out.old) (O.faults out.new) ⊎ HasRisen (N.faults note.old) (N.faults note.new) }
+    ensures device { result ≡ Status.Device → HasRisen (D.faults disk.old) (D.faults disk.new) }
+    ensures words { result ≢ Status.Words }
+    ensures read { HandsOutAtMost 1048577 (I.remaining input.old) (I.remaining input.new) }
+{
+    let script = match parse_input(alloc, input) {
+        Ok(script) => script,
+        Err(Stop::Source) => return unread(note),
+        Err(Stop::Memory) => return no_memory().tell(out, note),
+        Err(Stop::Script(fault)) => return no_script(fault).tell(out, note),
+    };
+    let mut world = match set_up(alloc, &script, disk) {
+        Ok(world) => world,
+        Err(why) => return why.answer().tell(out, note),
+    };
+    let _ = play_through(&mut world, disk, script.events());
+    match world.into_dump() {
+        Some(dump) => tell_dump(&dump.hw, &dump.frames, out, note),
+        None => idle().tell(out, note),
+    }
+}
+
+/// No machine runs.
+fn idle() -> Answer
+    ensures told { told_by result ≡ idle_told }
+    ensures status { result.status ≡ Status.Refused }
+{
+    let mut note = Line::new();
+    note.put(b"no machine runs\n");
+    Answer {
+        status: Status::Refused,
+        out: Line::new(),
+        note,
+    }
+}

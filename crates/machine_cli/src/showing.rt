@@ -1,0 +1,84 @@
+ghost use Rattle.std.specs.Prelude.{◌≡◌, ◌≢◌, ◌⊎◌, ◌≤◌, length, OnOk, OnErr};
+ghost use Rattle.definitions.specs.Disk.{HasRisen};
+ghost use Rattle.definitions.specs.Zones.{top};
+ghost use Rattle.machine_cli.specs.Shown.{Shows, facts_told};
+ghost use Rattle.machine_facts.specs.Texts.{facts_text};
+ghost use Rattle.swsusp_cli.specs.Told.{FailsToPrint, IsPrinted, IsTold};
+ghost use Rattle.swsusp_cli.specs.View.{DiskView};
+
+use dump_file::{DumpStop, Sink, Source, read_dump};
+use machine::Dump;
+use machine_facts::show;
+use page_core::Failed;
+use std::alloc::Global;
+use swsusp_cli::{Status, no_dump, no_memory, print, unread};
+
+/// Reads a dump to its end, and prints its facts: hardware, and who has the page frames and the slots. No disk is used.
+pub fn show_facts<I: Source, O: Sink, N: Sink>(
+    alloc: Global,
+    input: &mut I,
+    out: &mut O,
+    note: &mut N,
+) -> Status
+    ensures outcome { (disk : DiskView) → Shows (record {
+      left = I.remaining input.old;
+      disk = disk;
+      out = record { taken = O.taken out.old; flushed = O.flushed out.old; faults = O.faults out.old };
+      note = record { taken = N.taken note.old; flushed = N.flushed note.old; faults = N.faults note.old };
+    }) (record {
+      left = I.remaining input.new;
+      disk = disk;
+      out = record { taken = O.taken out.new; flushed = O.flushed out.new; faults = O.faults out.new };
+      note = record { taken = N.taken note.new; flushed = N.flushed note.new; faults = N.faults note.new };
+    }) result }
+    ensures stream { result ≡ Status.Stream → HasRisen (I.faults input.old) (I.faults input.new)
+        ⊎ HasRisen (O.faults out.old) (O.faults out.new) ⊎ HasRisen (N.faults note.old) (N.faults note.new) }
+    ensures device { result ≢ Status.Device }
+    ensures words { result ≢ Status.Words }
+{
+    let dump = match read_dump(alloc, input) {
+        Ok(dump) => dump,
+        Err(DumpStop::SourceFault) => return unread(note),
+        Err(DumpStop::NoMemory) => return no_memory().tell(out, note),
+        Err(DumpStop::Fault(fault)) => return no_dump(fault).tell(out, note),
+    };
+    tell_facts(&dump, out, note)
+}
+
+/// Prints the facts of a dump, and nothing as a note. Where a sink fails the status is `Stream`, and `sink fault` is tried as a note.
+fn tell_facts<O: Sink, N: Sink>(dump: &Dump, out: &mut O, note: &mut N) -> Status
+    requires frames { length dump.now.frames ≡ top dump.now.hw.zones }
+    ensures told { IsTold (facts_told dump.now.hw dump.now.frames) result
+        (record { taken = O.taken out.old; flushed = O.flushed out.old; faults = O.faults out.old })
+        (record { taken = O.taken out.new; flushed = O.flushed out.new; faults = O.faults out.new })
+        (record { taken = N.taken note.old; flushed = N.flushed note.old; faults = N.faults note.old })
+        (record { taken = N.taken note.new; flushed = N.flushed note.new; faults = N.faults note.new }) }
+    ensures stream { result ≡ Status.Stream →
+        HasRisen (O.faults out.old) (O.faults out.new) ⊎ HasRisen (N.faults note.old) (N.faults note.new) }
+    ensures status { result ≢ Status.Stream → result ≡ Status.Done }
+{
+    if print_facts(dump, out).is_err() {
+        let _ = print(note, b"sink fault\n");
+        return Status::Stream;
+    }
+    if print(note, b"").is_err() {
+        return Status::Stream;
+    }
+    Status::Done
+}
+
+/// Prints them to their end, and flushes.
+fn print_facts<S: Sink>(dump: &Dump, sink: &mut S) -> Result<(), Failed>
+    requires frames { length dump.now.frames ≡ top dump.now.hw.zones }
+    ensures printed { OnOk result (IsPrinted (facts_text dump.now.hw dump.now.frames)
+        (record { taken = S.taken sink.old; flushed = S.flushed sink.old; faults = S.faults sink.old })
+        (record { taken = S.taken sink.new; flushed = S.flushed sink.new; faults = S.faults sink.new })) }
+    ensures failed { OnErr result (FailsToPrint (facts_text dump.now.hw dump.now.frames)
+        (record { taken = S.taken sink.old; flushed = S.flushed sink.old; faults = S.faults sink.old })
+        (record { taken = S.taken sink.new; flushed = S.flushed sink.new; faults = S.faults sink.new })) }
+    ensures counted { S.faults sink.old ≤ S.faults sink.new }
+    ensures cause { OnErr result (HasRisen (S.faults sink.old) (S.faults sink.new)) }
+{
+    show(sink, dump)?;
+    sink.flush()
+}

@@ -1,0 +1,23 @@
+-- What a disk is at a moment.
+use Rattle.std.specs.Prelude.{◌≡◌, ◌≢◌, ◌<◌, ℕ, Option}
+use Rattle.definitions.specs.Disk.{Content, last_count}
+
+-- which disk it is, its number of blocks, its content where it tells that, and how many calls failed, were made, and were restarts or arms
+pub record DiskState : Type 0 where
+  pub which : ℕ
+  pub blocks : ℕ
+  pub content : Option Content
+  pub faults : ℕ
+  pub calls : ℕ
+  pub orders : ℕ
+
+-- It is the same disk, and holds the same: no write, no sync, no restart and no arm was made in between.
+pub record IsSame (old new : DiskState) : Type 0 where
+  pub which : new.which ≡ old.which
+  pub blocks : new.blocks ≡ old.blocks
+  pub content : new.content ≡ old.content
+  pub orders : new.orders ≡ old.orders
+
+-- the count has risen, unless it stands at its last value
+abbrev pub RisesBelowLast : ℕ → ℕ → Type 0
+RisesBelowLast before now = now ≢ last_count → before < now

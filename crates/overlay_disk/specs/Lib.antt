@@ -1,0 +1,3 @@
+pub mod DiskState
+pub mod Overlaid
+pub mod OverlaidLaws

@@ -1,0 +1,4 @@
+mod Cases
+mod Plain
+mod Facts
+pub mod Rows

@@ -1,0 +1,183 @@
+-- The rows of a waking's begin and of its steps.
+use Rattle.std.proofs.Common.{◌≡◌, ℕ, List, [], inl, inr, refl, sym, ap, ◌∙◌, subst}
+use Rattle.definitions.specs.Disk as disk
+use Rattle.plain_machine.specs.Machine.{Memory, block_of_slot}
+use Rattle.plain_machine.specs.Chain.{header_of}
+use Rattle.plain_machine.specs.Image.{Image}
+use Rattle.plain_machine.specs.Shows.{RunsAs, wakes, seen_frames}
+use Rattle.plain_machine.specs.Stands.{NamesOnly}
+use Rattle.plain_machine.specs.State.{State, on, waking, asleep, Running, Held, nothing, perhaps}
+use Rattle.plain_machine.specs.Step.{Step}
+use Rattle.plain_machine.specs.declared.event.Actor.TheVariants as actor
+use Rattle.plain_machine.specs.declared.event.Event.TheVariants as event
+use Rattle.plain_machine.specs.declared.held.Held.TheVariants.{No}
+use Rattle.plain_machine.specs.declared.reply.Left.TheVariants.{Same, Unsure}
+use Rattle.plain_machine.specs.declared.reply.Reply.{Reply}
+use Rattle.plain_machine.specs.declared.reply.Reply.TheVariants as reply
+use Rattle.protocol_laws.specs.Rows as rows
+use Rattle.protocol_laws.specs.Settling.{IsOnDisk, unmarked_block}
+use Rattle.protocol_laws.specs.Slots.{IsMemoryOf}
+use Rattle.protocol_laws.specs.Undo.{with_held}
+use Rattle.protocol_laws.proofs.AreaKept.{kept_by_sync}
+use Rattle.protocol_laws.proofs.Taking.{none_left, runs_given_back}
+use Rattle.protocol_laws.proofs.Unwritten.{block_same, block_synced, unwritten_header}
+use Rattle.protocol_laws.proofs.Waking.{wake_begins, wake_reads, wake_read_fails, wake_writes, wake_write_fails, wake_keeps_area, wake_syncs, wake_sync_fails}
+use Rattle.machine.specs.Flights.{flights_in}
+use Rattle.machine.specs.Running.{reason_of}
+use Rattle.machine.specs.declared.machine.Machine.{Machine}
+use Rattle.sleep_core.specs.Row.{StandsFor, Sleeps, Runs, IsBegun}
+use Rattle.sleep_core.specs.Waking.{steps_before, shown_by, asleep_by, running_by}
+use Rattle.sleep_core.specs.declared.waker.Stage.{Stage}
+use Rattle.sleep_core.specs.declared.waker.Stage.TheVariants as stage
+use Rattle.sleep_core.specs.declared.waker.Waker.{Waker}
+use Rattle.sleep_core.proofs.Cases.{at_waking, at_sleep}
+use Rattle.sleep_core.proofs.Facts.{same_area, names_same}
+use Rattle.sleep_core.proofs.Plain.{may_wake, may_read, read_may_fail, may_write, write_may_fail, may_end, end_may_fail}
+
+-- The row of a step, to what stands after it.
+abbrev pub IsStepRow : Machine → Memory → Waker → rows.StandsBy → Reply → disk.Content → disk.Content → Type 0
+IsStepRow machine frames waker new r c c' = rows.IsRow machine.hw (StandsFor machine frames waker) new (event.Step actor.Core) r c c'
+
+-- it is that of the machine and the page frames that the caller leaves
+pub as_left : (machine : Machine) (frames : Memory) (waker : Waker) (new : Machine → Memory → rows.StandsBy) (last machine' : Machine) (left frames' : Memory) (r : Reply) (c c' : disk.Content) → machine' ≡ last → frames' ≡ left →
+    IsStepRow machine frames waker (new last left) r c c' → IsStepRow machine frames waker (new machine' frames') r c c'
+as_left machine frames waker new last machine' left frames' r c c' same kept row =
+    subst (λ (m : Machine). IsStepRow machine frames waker (new m frames') r c c') (sym same)
+    (subst (λ (m : Memory). IsStepRow machine frames waker (new last m) r c c') (sym kept) row)
+
+row_at : (machine : Machine) (frames : Memory) (waker : Waker) (new : rows.StandsBy) (r : Reply) (c c' : disk.Content) (now : Stage) → waker.stage ≡ now →
+    ((i : Image) (held : Held) (a : Running) → StandsFor machine frames waker c (waking i held a (steps_before now)) → (b : State) × rows.Leads machine.hw new (event.Step actor.Core) r c c' (waking i held a (steps_before now)) b) →
+    IsStepRow machine frames waker new r c c'
+row_at machine frames waker new r c c' now at goes s stands =
+    let it = at_waking s (steps_before now) (sym (ap (λ (t : Stage). wakes (steps_before t)) at) ∙ stands.activity) in
+    subst (λ (t : State). (b : State) × rows.Leads machine.hw new (event.Step actor.Core) r c c' t b) (sym it.3)
+    (goes it.0 it.1 it.2 (subst (StandsFor machine frames waker c) it.3 stands))
+
+-- Wake.
+pub begun_row : (waker : Waker) → waker.stage ≡ stage.Read → IsBegun waker
+begun_row waker at machine frames c s stands =
+    let it = at_sleep s stands.activity in
+    let i : Image = it.0 in
+    let held : Held = it.1 in
+    let a : Running = it.2 in
+    let here : Sleeps machine frames c (asleep i held a) = subst (Sleeps machine frames c) it.3 stands in (
+      waking i held a 0,
+      record {
+        step = subst (λ (t : State). Step machine.hw (disk.as_it_reads c) t event.Wake (reply.More 0 3) (waking i held a 0)) (sym it.3) (may_wake machine.hw (disk.as_it_reads c) i held a);
+        stands = wake_begins machine.hw (asleep_by machine frames) (shown_by machine frames waker) c i held a here (ap (λ (t : Stage). wakes (steps_before t)) at)
+            here.parts.0.shows (names_same machine.hw (asleep_by machine frames) (shown_by machine frames waker) held refl here.parts.1);
+        area = same_area machine.hw (disk.as_it_reads c);
+        unwritten = λ b not_in. block_same b _;
+        leaves = tt;
+      },
+    )
+
+-- The read.
+pub read_row : (machine : Machine) (frames : Memory) (waker : Waker) (header : List ℕ) (c : disk.Content) → waker.stage ≡ stage.Read → header ≡ header_of machine.hw (disk.as_it_reads c) →
+    IsStepRow machine frames waker (StandsFor machine frames (record waker { stage = stage.Write; header = header })) (reply.More 1 3) c c
+read_row machine frames waker header c at read =
+    let new = record waker { stage = stage.Write; header = header } in
+    row_at machine frames waker (StandsFor machine frames new) (reply.More 1 3) c c stage.Read at
+    (λ i held a stands. (
+      waking i held a 1,
+      record {
+        step = may_read machine.hw (disk.as_it_reads c) i held a;
+        stands = wake_reads machine.hw (shown_by machine frames waker) (shown_by machine frames new) c i held a stands read refl
+            stands.parts.0.shows (names_same machine.hw (shown_by machine frames waker) (shown_by machine frames new) held refl stands.parts.1);
+        area = same_area machine.hw (disk.as_it_reads c);
+        unwritten = λ b not_in. block_same b _;
+        leaves = tt;
+      },
+    ))
+
+pub read_failed_row : (machine : Machine) (frames : Memory) (waker : Waker) (c : disk.Content) → waker.stage ≡ stage.Read → IsStepRow machine frames waker (Sleeps machine frames) (reply.ReadFault Same) c c
+read_failed_row machine frames waker c at =
+    row_at machine frames waker (Sleeps machine frames) (reply.ReadFault Same) c c stage.Read at
+    (λ i held a stands. (
+      asleep i held a,
+      record {
+        step = read_may_fail machine.hw (disk.as_it_reads c) i held a;
+        stands = wake_read_fails machine.hw (shown_by machine frames waker) (asleep_by machine frames) c i held a stands refl
+            stands.parts.0.shows (names_same machine.hw (shown_by machine frames waker) (asleep_by machine frames) held refl stands.parts.1);
+        area = same_area machine.hw (disk.as_it_reads c);
+        unwritten = λ b not_in. block_same b _;
+        leaves = tt;
+      },
+    ))
+
+-- The write.
+pub write_row : (machine : Machine) (frames : Memory) (waker : Waker) (c c' : disk.Content) → IsOnDisk machine.hw machine.blocks c → waker.stage ≡ stage.Write → disk.IsContent machine.blocks c' →
+    disk.Writes (block_of_slot machine.hw 0) (unmarked_block waker.header) c c' → IsStepRow machine frames waker (StandsFor machine frames (record waker { stage = stage.Sync; header = unmarked_block waker.header })) (reply.More 2 3) c c'
+write_row machine frames waker c c' over at whole writes =
+    let new = record waker { stage = stage.Sync; header = unmarked_block waker.header } in
+    row_at machine frames waker (StandsFor machine frames new) (reply.More 2 3) c c' stage.Write at
+    (λ i held a stands. (
+      waking i held a 2,
+      record {
+        step = may_write machine.hw (disk.as_it_reads c) i held a;
+        stands = wake_writes machine.hw (shown_by machine frames waker) (shown_by machine frames new) c c' machine.blocks i held a over whole stands writes refl
+            stands.parts.0.shows (names_same machine.hw (shown_by machine frames waker) (shown_by machine frames new) held refl stands.parts.1);
+        area = wake_keeps_area machine.hw (shown_by machine frames waker) c c' machine.blocks i held a over stands (inl writes);
+        unwritten = λ b not_in. unwritten_header machine.hw [] b c c' writes.others not_in;
+        leaves = tt;
+      },
+    ))
+
+pub write_failed_row : (machine : Machine) (frames : Memory) (waker : Waker) (c c' : disk.Content) → IsOnDisk machine.hw machine.blocks c → waker.stage ≡ stage.Write → disk.IsContent machine.blocks c' →
+    disk.FailsToWrite (block_of_slot machine.hw 0) (unmarked_block waker.header) c c' → IsStepRow machine frames waker (Sleeps machine frames) (reply.WriteFault Unsure) c c'
+write_failed_row machine frames waker c c' over at whole fails =
+    row_at machine frames waker (Sleeps machine frames) (reply.WriteFault Unsure) c c' stage.Write at
+    (λ i held a stands. (
+      asleep i (perhaps held) a,
+      record {
+        step = write_may_fail machine.hw (disk.as_it_reads c) i held a;
+        stands = wake_write_fails machine.hw (shown_by machine frames waker) (asleep_by machine frames) c c' machine.blocks i held a over whole stands fails refl
+            stands.parts.0.shows (names_same machine.hw (shown_by machine frames waker) (asleep_by machine frames) held refl stands.parts.1);
+        area = wake_keeps_area machine.hw (shown_by machine frames waker) c c' machine.blocks i held a over stands (inr fails);
+        unwritten = λ b not_in. unwritten_header machine.hw [] b c c' fails.others not_in;
+        leaves = tt;
+      },
+    ))
+
+-- The sync.
+abbrev pub woken : Machine → Machine
+woken machine = record machine { held = No }
+
+runs_woken : (machine : Machine) (frames : Memory) (a : Running) → IsMemoryOf machine.hw frames → RunsAs machine.hw machine.held (reason_of machine.area) (flights_in machine.flights) frames a →
+    RunsAs machine.hw No (reason_of machine.area) (flights_in machine.flights) (seen_frames machine.hw frames) (with_held a nothing)
+runs_woken machine frames a memory shows =
+    let back = runs_given_back machine.hw machine.held (reason_of machine.area) (flights_in machine.flights) frames a memory shows in
+    record { held = tt; unusable = back.unusable; flights = back.flights; same = back.same; fits = back.fits }
+
+pub woken_row : (machine : Machine) (frames : Memory) (waker : Waker) (c c' : disk.Content) → IsMemoryOf machine.hw frames → waker.stage ≡ stage.Sync → disk.IsContent machine.blocks c → disk.Syncs c c' →
+    IsStepRow machine frames waker (Runs (woken machine) (seen_frames machine.hw frames)) reply.Woken c c'
+woken_row machine frames waker c c' memory at whole syncs =
+    let frames' = seen_frames machine.hw frames in
+    let names : NamesOnly machine.hw (running_by (woken machine) frames') [] = λ k lt e. absurd (none_left machine.hw frames k memory lt e) in
+    row_at machine frames waker (Runs (woken machine) frames') reply.Woken c c' stage.Sync at
+    (λ i held a stands. (
+      on (with_held a nothing),
+      record {
+        step = may_end machine.hw (disk.as_it_reads c) i held a;
+        stands = wake_syncs machine.hw (shown_by machine frames waker) (running_by (woken machine) frames') c c' machine.blocks i held a whole stands syncs refl
+            (runs_woken machine frames a memory stands.parts.0.shows) names;
+        area = kept_by_sync machine.hw c c' syncs;
+        unwritten = λ b not_in. block_synced machine.blocks b c c' whole syncs;
+        leaves = tt;
+      },
+    ))
+
+pub sync_failed_row : (machine : Machine) (frames : Memory) (waker : Waker) (c : disk.Content) → waker.stage ≡ stage.Sync → IsStepRow machine frames waker (Sleeps machine frames) (reply.SyncFault Unsure) c c
+sync_failed_row machine frames waker c at =
+    row_at machine frames waker (Sleeps machine frames) (reply.SyncFault Unsure) c c stage.Sync at
+    (λ i held a stands. (
+      asleep i (perhaps held) a,
+      record {
+        step = end_may_fail machine.hw (disk.as_it_reads c) i held a;
+        stands = wake_sync_fails machine.hw (shown_by machine frames waker) (asleep_by machine frames) c i held a stands refl
+            stands.parts.0.shows (names_same machine.hw (shown_by machine frames waker) (asleep_by machine frames) held refl stands.parts.1);
+        area = same_area machine.hw (disk.as_it_reads c);
+        unwritten = λ b not_in. block_same b _;
+        leaves = tt;
+      },
+    ))

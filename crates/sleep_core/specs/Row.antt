@@ -1,0 +1,50 @@
+-- The rows of the plain machine that a waking makes, over whatever machine and page frames its caller has and leaves by its replies.
+use Rattle.std.specs.Prelude.{◌≡◌, Option}
+use Rattle.definitions.specs.Disk as disk
+use Rattle.plain_machine.specs.Machine.{Memory}
+use Rattle.plain_machine.specs.Shows.{seen_frames}
+use Rattle.plain_machine.specs.Stands.{Stands}
+use Rattle.plain_machine.specs.State.{State}
+use Rattle.plain_machine.specs.declared.event.Actor.TheVariants as actor
+use Rattle.plain_machine.specs.declared.event.Event.TheVariants as event
+use Rattle.plain_machine.specs.declared.held.Held.TheVariants.{No}
+use Rattle.plain_machine.specs.declared.reply.Reply.{Reply}
+use Rattle.plain_machine.specs.declared.reply.Reply.TheVariants as reply
+use Rattle.protocol_laws.specs.Rows as rows
+use Rattle.protocol_laws.specs.Slots.{IsMemoryOf}
+use Rattle.machine.specs.declared.machine.Machine.{Machine}
+use Rattle.sleep_core.specs.Waking.{shown_by, asleep_by, running_by}
+use Rattle.sleep_core.specs.declared.waker.Waker.{Waker}
+
+-- A machine that wakes, sleeps or runs, and its disk, stand for a state.
+abbrev pub StandsFor : Machine → Memory → Waker → disk.Content → State → Type 0
+StandsFor machine frames waker c a = Stands machine.hw (shown_by machine frames waker) c a
+
+abbrev pub Sleeps : Machine → Memory → disk.Content → State → Type 0
+Sleeps machine frames c a = Stands machine.hw (asleep_by machine frames) c a
+
+abbrev pub Runs : Machine → Memory → disk.Content → State → Type 0
+Runs machine frames c a = Stands machine.hw (running_by machine frames) c a
+
+-- what stands after a step, by its reply
+abbrev pub StandsAfter : Reply → Machine → Memory → Waker → disk.Content → State → Type 0
+StandsAfter (reply.More k of) machine frames waker = StandsFor machine frames waker
+StandsAfter reply.Woken machine frames waker = Runs machine frames
+StandsAfter _ machine frames waker = Sleeps machine frames
+
+-- What the caller leaves by the reply: woken, the machine holds nothing, and the image's slots are given back. After any other reply all
+-- is as it was: that an image is only perhaps there, after a fault, is the state's to know.
+abbrev pub IsLeft : Reply → Machine → Memory → Machine → Memory → Type 0
+IsLeft reply.Woken machine frames machine' frames' = (machine' ≡ record machine { held = No }) × (frames' ≡ seen_frames machine.hw frames)
+IsLeft _ machine frames machine' frames' = (machine' ≡ machine) × (frames' ≡ frames)
+
+-- the row of a step, over a disk that tells its content
+abbrev pub HasRow : Machine → Waker → Waker → Reply → Option disk.Content → Option disk.Content → Type 0
+HasRow machine waker waker' r before now =
+    (frames : Memory) → IsMemoryOf machine.hw frames → (machine' : Machine) (frames' : Memory) → IsLeft r machine frames machine' frames' →
+    rows.HasRow machine.hw (StandsFor machine frames waker) (StandsAfter r machine' frames' waker') (event.Step actor.Core) r before now
+
+-- the row of Wake, whose event calls no disk
+abbrev pub IsBegun : Waker → Type 0
+IsBegun waker =
+    (machine : Machine) (frames : Memory) (c : disk.Content) → rows.IsRow machine.hw (Sleeps machine frames) (StandsFor machine frames waker) event.Wake (reply.More 0 3) c c

@@ -1,0 +1,69 @@
+-- A waking, and what a machine shows while it is at it, while it sleeps, and when it runs.
+use Rattle.std.specs.Prelude.{◌≡◌, ◌⊎◌, ℕ, Bool, true, false, List, []}
+use Rattle.plain_machine.specs.Machine.{Memory}
+use Rattle.plain_machine.specs.Shows.{Shown, Activity, runs, sleeps, wakes}
+use Rattle.plain_machine.specs.declared.reply.Left.TheVariants.{Same, Unsure}
+use Rattle.plain_machine.specs.declared.reply.Reply.{Reply}
+use Rattle.plain_machine.specs.declared.reply.Reply.TheVariants as reply
+use Rattle.machine.specs.Flights.{flights_in}
+use Rattle.machine.specs.Running.{reason_of}
+use Rattle.machine.specs.declared.machine.Machine.{Machine}
+use Rattle.sleep_core.specs.declared.waker.Stage.{Stage}
+use Rattle.sleep_core.specs.declared.waker.Stage.TheVariants as stage
+use Rattle.sleep_core.specs.declared.waker.Waker.{Waker}
+
+-- how many steps are made before each
+abbrev pub steps_before : Stage → ℕ
+steps_before stage.Read = 0
+steps_before stage.Write = 1
+steps_before stage.Sync = 2
+steps_before stage.Over = 3
+
+abbrev pub activity_of : Waker → Activity
+activity_of waker = wakes (steps_before waker.stage)
+
+-- whether it has no step to make
+abbrev pub is_over_at : Stage → Bool
+is_over_at stage.Read = false
+is_over_at stage.Write = false
+is_over_at stage.Sync = false
+is_over_at stage.Over = true
+
+abbrev pub is_over : Waker → Bool
+is_over waker = is_over_at waker.stage
+
+-- whether a step follows this reply
+abbrev pub is_last : Reply → Bool
+is_last (reply.More k of) = false
+is_last _ = true
+
+-- what each step answers
+abbrev pub IsReplyAt : Stage → Reply → Type 0
+IsReplyAt stage.Read r = (r ≡ reply.More 1 3) ⊎ (r ≡ reply.ReadFault Same)
+IsReplyAt stage.Write r = (r ≡ reply.More 2 3) ⊎ (r ≡ reply.WriteFault Unsure)
+IsReplyAt stage.Sync r = (r ≡ reply.Woken) ⊎ (r ≡ reply.SyncFault Unsure)
+IsReplyAt stage.Over r = ⊥
+
+-- What is shown at something, with the block that is kept. A machine that sleeps or wakes shows what it held before the suspend, which is
+-- nothing: what is held now is the state's.
+abbrev pub shown_at : Machine → Memory → Activity → List ℕ → Shown
+shown_at machine frames activity header = record {
+  activity = activity;
+  keeps_dump = false;
+  held = machine.held;
+  unusable = reason_of machine.area;
+  flights = flights_in machine.flights;
+  frames = frames;
+  header = header;
+  copies = [];
+  loaded = [];
+}
+
+abbrev pub shown_by : Machine → Memory → Waker → Shown
+shown_by machine frames waker = shown_at machine frames (activity_of waker) waker.header
+
+abbrev pub asleep_by : Machine → Memory → Shown
+asleep_by machine frames = shown_at machine frames sleeps []
+
+abbrev pub running_by : Machine → Memory → Shown
+running_by machine frames = shown_at machine frames runs []

@@ -1,0 +1,187 @@
+ghost use Rattle.std.specs.Prelude.{◌≡◌, false, ◌≤◌, ◌<◌, nat_eq, IsTrue};
+ghost use Rattle.std.specs.Cmp.Lexicographic.{pointwise};
+ghost use Rattle.definitions.specs.Disk.{Content, HasRisen, raised, Changes, Elapses};
+ghost use Rattle.definitions.specs.SwapHeader.{sig_of, image_signature};
+ghost use Rattle.plain_machine.specs.Machine.{Memory, IsHardware, block_of_slot};
+ghost use Rattle.protocol_laws.specs.Rows.{IsNewFault};
+ghost use Rattle.protocol_laws.specs.Settling.{unmarked_block};
+ghost use Rattle.sleep_core.specs.Waking.{is_over, is_last, IsReplyAt};
+ghost use Rattle.sleep_core.specs.Row.{HasRow, IsBegun};
+
+use machine::Machine;
+use page_core::{Failed, Page};
+use plain_machine::{Left, Reply};
+use sector_disk::Disk;
+use sig_header::{AreaKind, take_back};
+
+/// Steps of a waking: a read, a write and a sync.
+const STEPS: u32 = 3;
+
+/// What is done next.
+#[derive(Clone, Copy, Debug, PartialEq, Eq)]
+pub(crate) enum Stage {
+    /// The header block is read.
+    Read,
+    /// It is written taken back.
+    Write,
+    /// That is synced.
+    Sync,
+    /// Nothing: the machine runs, or sleeps again.
+    Over,
+}
+
+/// A waking. It changes neither the machine nor its page frames: whoever calls it does that by its replies.
+#[derive(Drop)]
+pub struct Waker {
+    pub(crate) stage: Stage,
+    /// The header block, from its read on; then taken back.
+    pub(crate) header: Page,
+}
+
+impl Waker {
+    ghost use Rattle.sleep_core.specs.declared.waker.Stage.TheVariants as stage;
+    ghost use Rattle.machine.specs.declared.machine.Machine.{Machine as MachineState};
+
+    /// Begins to wake a machine that sleeps.
+    pub fn begin() -> Waker
+        ensures row { IsBegun result }
+        ensures begun { is_over result ≡ false }
+    {
+        Waker {
+            stage: Stage::Read,
+            header: Page::zero(),
+        }
+    }
+
+    /// Makes the next step: one call of the disk. After `Woken` the machine holds nothing any more, and the image's slots are given
+    /// back; after any other reply it is as it was.
+    pub fn step<D: Disk>(&mut self, machine: &Machine, disk: &mut D) -> Reply
+        requires under_way { is_over self.old ≡ false }
+        requires blocks { D.block_count disk.old ≡ machine.now.blocks }
+        requires hardware { IsHardware machine.now.hw }
+        requires header { block_of_slot machine.now.hw 0 < machine.now.blocks }
+        ensures row { HasRow machine.now self.old self.new result (D.content disk.old) (D.content disk.new) }
+        ensures reply { IsReplyAt self.old.stage result }
+        ensures finished { is_over self.new ≡ is_last result }
+        ensures cause { IsNewFault result → HasRisen (D.faults disk.old) (D.faults disk.new) }
+        ensures faults { D.faults disk.old ≤ D.faults disk.new }
+        ensures calls { D.calls disk.new ≡ raised (D.calls disk.old) }
+        ensures orders { D.orders disk.new ≡ D.orders disk.old }
+        ensures blocks { D.block_count disk.new ≡ D.block_count disk.old }
+        ensures telling { D.tells_moments disk.new ≡ D.tells_moments disk.old }
+        ensures time { IsTrue (D.tells_moments disk.old) → Changes (Elapses (D.moment disk.old) (D.moment disk.new)
+            (D.left_since disk.old) (D.left_since disk.new)) (D.content disk.old) (D.content disk.new) }
+    {
+        match self.stage {
+            Stage::Read => self.read_header(machine, disk),
+            Stage::Write => self.write_back(machine, disk),
+            Stage::Sync => self.sync_back(machine, disk),
+            Stage::Over => unreachable!(),
+        }
+    }
+
+    /// Reads the header block. Where that fails the machine sleeps as before.
+    fn read_header<D: Disk>(&mut self, machine: &Machine, disk: &mut D) -> Reply
+        requires stage { self.old.stage ≡ stage.Read }
+        requires blocks { D.block_count disk.old ≡ machine.now.blocks }
+        requires header { block_of_slot machine.now.hw 0 < machine.now.blocks }
+        ensures row { HasRow machine.now self.old self.new result (D.content disk.old) (D.content disk.new) }
+        ensures reply { IsReplyAt stage.Read result }
+        ensures finished { is_over self.new ≡ is_last result }
+        ensures cause { IsNewFault result → HasRisen (D.faults disk.old) (D.faults disk.new) }
+        ensures faults { D.faults disk.old ≤ D.faults disk.new }
+        ensures calls { D.calls disk.new ≡ raised (D.calls disk.old) }
+        ensures orders { D.orders disk.new ≡ D.orders disk.old }
+        ensures blocks { D.block_count disk.new ≡ D.block_count disk.old }
+        ensures telling { D.tells_moments disk.new ≡ D.tells_moments disk.old }
+        ensures time { IsTrue (D.tells_moments disk.old) → Changes (Elapses (D.moment disk.old) (D.moment disk.new)
+            (D.left_since disk.old) (D.left_since disk.new)) (D.content disk.old) (D.content disk.new) }
+    {
+        // Only what is read is known to have the size of its type.
+        let _blocks = machine.blocks;
+        let block = machine.hw.extents().block(0);
+        match disk.read(block as u32, &mut self.header) {
+            Ok(()) => {
+                self.stage = Stage::Write;
+                Reply::More { k: 1, of: STEPS }
+            }
+            Err(Failed) => {
+                self.stage = Stage::Over;
+                Reply::ReadFault { left: Left::Same }
+            }
+        }
+    }
+
+    /// Writes it taken back where it is marked, and as it is where it isn't. Where that fails the image is perhaps there.
+    fn write_back<D: Disk>(&mut self, machine: &Machine, disk: &mut D) -> Reply
+        requires stage { self.old.stage ≡ stage.Write }
+        requires blocks { D.block_count disk.old ≡ machine.now.blocks }
+        requires hardware { IsHardware machine.now.hw }
+        requires header { block_of_slot machine.now.hw 0 < machine.now.blocks }
+        ensures row { HasRow machine.now self.old self.new result (D.content disk.old) (D.content disk.new) }
+        ensures reply { IsReplyAt stage.Write result }
+        ensures finished { is_over self.new ≡ is_last result }
+        ensures cause { IsNewFault result → HasRisen (D.faults disk.old) (D.faults disk.new) }
+        ensures faults { D.faults disk.old ≤ D.faults disk.new }
+        ensures calls { D.calls disk.new ≡ raised (D.calls disk.old) }
+        ensures orders { D.orders disk.new ≡ D.orders disk.old }
+        ensures blocks { D.block_count disk.new ≡ D.block_count disk.old }
+        ensures telling { D.tells_moments disk.new ≡ D.tells_moments disk.old }
+        ensures time { IsTrue (D.tells_moments disk.old) → Changes (Elapses (D.moment disk.old) (D.moment disk.new)
+            (D.left_since disk.old) (D.left_since disk.new)) (D.content disk.old) (D.content disk.new) }
+    {
+        let _blocks = machine.blocks;
+        let block = machine.hw.extents().block(0);
+        self.unmark();
+        let _ = self.header.as_bytes();
+        match disk.write(block as u32, &self.header) {
+            Ok(()) => {
+                self.stage = Stage::Sync;
+                Reply::More { k: 2, of: STEPS }
+            }
+            Err(Failed) => {
+                self.stage = Stage::Over;
+                Reply::WriteFault { left: Left::Unsure }
+            }
+        }
+    }
+
+    /// Syncs that: no image is there any more. Where it fails one is perhaps there.
+    fn sync_back<D: Disk>(&mut self, machine: &Machine, disk: &mut D) -> Reply
+        requires stage { self.old.stage ≡ stage.Sync }
+        requires blocks { D.block_count disk.old ≡ machine.now.blocks }
+        ensures row { HasRow machine.now self.old self.new result (D.content disk.old) (D.content disk.new) }
+        ensures reply { IsReplyAt stage.Sync result }
+        ensures finished { is_over self.new ≡ is_last result }
+        ensures cause { IsNewFault result → HasRisen (D.faults disk.old) (D.faults disk.new) }
+        ensures faults { D.faults disk.old ≤ D.faults disk.new }
+        ensures calls { D.calls disk.new ≡ raised (D.calls disk.old) }
+        ensures orders { D.orders disk.new ≡ D.orders disk.old }
+        ensures blocks { D.block_count disk.new ≡ D.block_count disk.old }
+        ensures telling { D.tells_moments disk.new ≡ D.tells_moments disk.old }
+        ensures time { IsTrue (D.tells_moments disk.old) → Changes (Elapses (D.moment disk.old) (D.moment disk.new)
+            (D.left_since disk.old) (D.left_since disk.new)) (D.content disk.old) (D.content disk.new) }
+    {
+        self.stage = Stage::Over;
+        match disk.sync() {
+            Ok(()) => Reply::Woken,
+            Err(Failed) => Reply::SyncFault { left: Left::Unsure },
+        }
+    }
+
+    /// Takes the header block that is kept back, where it is marked.
+    fn unmark(&mut self)
+        ensures { self.new ≡ record self.old { header = unmarked_block self.old.header } }
+    {
+        if is_marked(&self.header) {
+            self.header = take_back(&self.header);
+        }
+    }
+}
+
+/// Whether a header block carries the signature of an image.
+fn is_marked(header: &Page) -> bool
+    ensures { result ≡ pointwise nat_eq (sig_of header.now) image_signature }
+{
+    matches!(AreaKind::read(header), AreaKind::Image(_))
+}

@@ -1,0 +1,87 @@
+ghost use Rattle.std.specs.Prelude.{◌≡◌, ◌-◌, All, length};
+ghost use Rattle.definitions.specs.Bytes.{IsPage};
+ghost use Rattle.definitions.specs.Zones.{top};
+ghost use Rattle.plain_machine.specs.Machine.{IsHardware, saveable};
+ghost use Rattle.plain_machine.specs.Step.{drop_memory, dropped_by};
+ghost use Rattle.protocol_laws.specs.Rows.{IsNewFault};
+
+use crate::World;
+use crate::world::Core;
+use frame_arena::Frames;
+use machine::Hardware;
+use plain_machine::Reply;
+use reclaim::shrink;
+
+/// A page frame of a table has so many entries of 4 bytes.
+const ENTRIES: u32 = 1024;
+
+// Dropping cached page frames, so that an image becomes as small as is wanted (own policy; in Linux hibernate_preallocate_memory,
+// kernel/power/snapshot.c).
+impl World {
+    ghost use Rattle.definitions.specs.Disk.{Content};
+    ghost use Rattle.plain_machine.specs.declared.event.Event.TheVariants as event;
+    ghost use Rattle.world_core.specs.declared.world.Core.TheVariants as core;
+    ghost use Rattle.world_core.specs.StandsFor.{hardware_of, blocks_of};
+    ghost use Rattle.world_core.specs.Row.{IsRow, IsRefused, ChangesNothing, LeavesMemory};
+
+    /// Drops cached page frames until so many saveable ones are left, if the machine runs.
+    pub(crate) fn shrink(&mut self, want: u64) -> Reply
+        ensures row { (c : Content) → IsRow (event.Shrink want) self.old self.new result c c }
+        ensures cause { IsNewFault result → ⊥ }
+        ensures hardware { hardware_of self.new ≡ hardware_of self.old }
+        ensures blocks { blocks_of self.new ≡ blocks_of self.old }
+        ensures core { self.new.core ≡ self.old.core }
+        ensures refused { IsRefused (event.Shrink want) self.old result → ChangesNothing self.old self.new }
+        ensures memory { LeavesMemory (event.Shrink want) self.old result self.new }
+    {
+        match self.core {
+            Core::Off { .. } => Reply::NotOn,
+            Core::Asleep => Reply::Sleeping,
+            Core::BootBegun(_)
+            | Core::BootSynced(_)
+            | Core::Hibernating
+            | Core::Waking
+            | Core::Loading => Reply::Frozen,
+            Core::Running => self.drop_cached(want),
+        }
+    }
+
+    /// Drops them, if no task has an unfinished operation.
+    fn drop_cached(&mut self, want: u64) -> Reply
+        requires running { self.old.core ≡ core.Running }
+        ensures row { (c : Content) → IsRow (event.Shrink want) self.old self.new result c c }
+        ensures cause { IsNewFault result → ⊥ }
+        ensures hardware { hardware_of self.new ≡ hardware_of self.old }
+        ensures blocks { blocks_of self.new ≡ blocks_of self.old }
+        ensures core { self.new.core ≡ self.old.core }
+        ensures refused { IsRefused (event.Shrink want) self.old result → ChangesNothing self.old self.new }
+        ensures memory { LeavesMemory (event.Shrink want) self.old result self.new }
+    {
+        if let Some(task) = self.machine.busy() {
+            return Reply::Busy { task };
+        }
+        let (dropped, left) = drop_of(&mut self.frames, &self.machine.hw, want);
+        Reply::Shrunk { dropped, left }
+    }
+}
+
+/// Drops cached page frames of a machine, but for those of its tables: how many, and how many saveable ones are left.
+fn drop_of(frames: &mut Frames, hw: &Hardware, want: u64) -> (u32, u32)
+    requires size { length frames.old ≡ top hw.now.zones }
+    ensures hardware { IsHardware hw.now }
+    ensures frames { frames.new ≡ drop_memory hw.now frames.old want }
+    ensures dropped { result.0 ≡ length (dropped_by hw.now frames.old want) }
+    ensures left { result.1 ≡ length (saveable hw.now frames.new) }
+    ensures rest { result.1 ≡ length (saveable hw.now frames.old) - length (dropped_by hw.now frames.old want) }
+    ensures pages { All IsPage frames.old }
+    ensures len { length frames.new ≡ length frames.old }
+{
+    // Each page frame has 4096 bytes.
+    let _ = frames.len();
+    let zones = hw.zones();
+    let tables = [
+        (hw.frame_table(), zones.top().div_ceil(ENTRIES)),
+        (hw.slot_table(), hw.slots().div_ceil(ENTRIES)),
+    ];
+    shrink(frames, zones, hw.frame_table(), &tables, want)
+}

@@ -1,0 +1,114 @@
+ghost use Rattle.std.specs.Prelude.{◌≡◌, ◌≢◌, ◌≤◌, IsTrue, length};
+ghost use Rattle.definitions.specs.Disk.{HasRisen, Changes, Elapses};
+ghost use Rattle.machine.specs.Running.{slot_table_of};
+ghost use Rattle.sleep_core.specs.Row.{IsLeft};
+ghost use Rattle.swap_slots.specs.Table.{LiesIn, Matches};
+ghost use Rattle.world_core.specs.StandsFor.{core_woken};
+
+use crate::World;
+use crate::world::Core;
+use frame_arena::Frames;
+use machine::Machine;
+use plain_machine::{Held, Reply};
+use sector_disk::Disk;
+use sleep_core::Waker;
+use swap_slots::{FreeRuns, SlotTable};
+
+// Waking after a suspend to both: the mark of the image is taken back before the machine runs (swsusp_unmark, kernel/power/swap.c, after
+// the sleep in hibernate of kernel/power/hibernate.c).
+impl World {
+    ghost use Rattle.definitions.specs.Disk.{Content};
+    ghost use Rattle.plain_machine.specs.declared.event.Event.TheVariants as event;
+    ghost use Rattle.plain_machine.specs.declared.event.Actor.TheVariants as actor;
+    ghost use Rattle.plain_machine.specs.declared.reply.Reply.TheVariants as reply;
+    ghost use Rattle.protocol_laws.specs.Rows.{IsNewFault};
+    ghost use Rattle.world_core.specs.declared.world.Core.TheVariants as core;
+    ghost use Rattle.world_core.specs.StandsFor.{hardware_of, blocks_of, IsOff};
+    ghost use Rattle.world_core.specs.Row.{HasRow, IsRow, IsCalled, IsRefused, ChangesNothing, Restores, TellsImage, WakesWith};
+
+    /// Begins to wake, if the machine is asleep.
+    pub(crate) fn wake(&mut self) -> Reply
+        ensures row { (c : Content) → IsRow event.Wake self.old self.new result c c }
+        ensures cause { IsNewFault result → ⊥ }
+        ensures hardware { hardware_of self.new ≡ hardware_of self.old }
+        ensures blocks { blocks_of self.new ≡ blocks_of self.old }
+        ensures off { IsOff self.old → IsOff self.new }
+        ensures refused { IsRefused event.Wake self.old result → ChangesNothing self.old self.new }
+    {
+        match self.core {
+            Core::Asleep => self.begin_wake(),
+            _ => Reply::NotAsleep,
+        }
+    }
+
+    fn begin_wake(&mut self) -> Reply
+        requires asleep { self.old.core ≡ core.Asleep }
+        ensures row { (c : Content) → IsRow event.Wake self.old self.new result c c }
+        ensures reply { result ≡ reply.More 0 3 }
+        ensures hardware { hardware_of self.new ≡ hardware_of self.old }
+        ensures blocks { blocks_of self.new ≡ blocks_of self.old }
+    {
+        self.waker = Waker::begin();
+        self.core = Core::Waking;
+        Reply::More { k: 0, of: 3 }
+    }
+
+    /// Makes the next step of it. When the mark is taken back the image's slots are given back, and the machine runs.
+    pub(crate) fn step_wake<D: Disk>(&mut self, disk: &mut D) -> Reply
+        requires wakes { self.old.core ≡ core.Waking }
+        requires blocks { D.block_count disk.old ≡ blocks_of self.old }
+        ensures row { HasRow (event.Step actor.Core) self.old self.new result (D.content disk.old) (D.content disk.new) }
+        ensures restored { Restores (event.Step actor.Core) self.old self.new result (D.content disk.old) (D.content disk.new) }
+        ensures image { TellsImage (event.Step actor.Core) self.old result (D.content disk.old) }
+        ensures works { result ≢ reply.Idle }
+        ensures cause { IsNewFault result → HasRisen (D.faults disk.old) (D.faults disk.new) }
+        ensures faults { D.faults disk.old ≤ D.faults disk.new }
+        ensures calls { IsCalled (event.Step actor.Core) result (D.calls disk.old) (D.calls disk.new) }
+        ensures orders { D.orders disk.new ≡ D.orders disk.old }
+        ensures hardware { hardware_of self.new ≡ hardware_of self.old }
+        ensures blocks { blocks_of self.new ≡ blocks_of self.old }
+        ensures disk_blocks { D.block_count disk.new ≡ D.block_count disk.old }
+        ensures telling { D.tells_moments disk.new ≡ D.tells_moments disk.old }
+        ensures time { IsTrue (D.tells_moments disk.old) → Changes (Elapses (D.moment disk.old) (D.moment disk.new)
+            (D.left_since disk.old) (D.left_since disk.new)) (D.content disk.old) (D.content disk.new) }
+        ensures memory { WakesWith self.old self.new result }
+    {
+        // Each page frame has 4096 bytes.
+        let _ = self.frames.len();
+        // The machine is one.
+        let _zones = self.machine.hw.zones();
+        let reply = self.waker.step(&self.machine, disk);
+        leave(&mut self.machine, &mut self.frames, &mut self.runs, &reply);
+        self.core = core_after(&reply);
+        reply
+    }
+}
+
+/// What a step of waking leaves of the machine by its reply: once it runs it holds nothing, and the image's slots are given back.
+fn leave(machine: &mut Machine, frames: &mut Frames, runs: &mut FreeRuns, reply: &Reply)
+    requires table { LiesIn frames.old (slot_table_of machine.old.hw) }
+    requires matches { Matches frames.old (slot_table_of machine.old.hw) runs.old }
+    ensures left { IsLeft reply.now machine.old frames.old machine.new frames.new }
+    ensures matches { Matches frames.new (slot_table_of machine.new.hw) runs.new }
+    ensures size { length frames.new ≡ length frames.old }
+{
+    if let Reply::Woken = reply {
+        machine.held = Held::No;
+        let table = SlotTable {
+            first: machine.hw.slot_table(),
+            slots: machine.hw.slots(),
+        };
+        table.give_image(frames, runs);
+    }
+}
+
+/// What the machine is at after this reply to a step of waking.
+fn core_after(reply: &Reply) -> Core
+    ensures { result ≡ core_woken reply.now }
+{
+    match reply {
+        Reply::More { .. } => Core::Waking,
+        Reply::Woken => Core::Running,
+        _ => Core::Asleep,
+    }
+}

@@ -1,0 +1,34 @@
+#!/bin/sh
+# A machine's story on real files: it is made, hibernates, is checked and resumed, and is compared with what it was. Each command is printed
+# and then what it prints. The words are the programs `swsusp` and `swsusp_machine`, or without them those that `rt run` or `rt ci` leaves.
+set -eu
+top=$(cd "$(dirname "$0")/.." && pwd)
+swsusp=${1:-$top/crates/swsusp/out/swsusp}
+machine=${2:-$top/crates/swsusp_machine/out/swsusp_machine}
+room=$(mktemp -d)
+trap 'rm -rf "$room"' EXIT
+mkdir "$room/bin"
+cp "$swsusp" "$room/bin/swsusp"
+cp "$machine" "$room/bin/swsusp_machine"
+chmod +x "$room/bin/swsusp" "$room/bin/swsusp_machine"
+PATH=$room/bin:$PATH
+cd "$room"
+cp "$top/examples/story.txt" story.txt
+sh "$top/tools/make_area.sh" area.img 1599
+
+# Prints a command, what it prints, and its status where that isn't 0.
+tell() {
+    echo "\$ $1"
+    sh -c "$1" 2>&1 || echo "status $?"
+}
+
+tell 'swsusp_machine make < story.txt > saved.dump'
+tell 'swsusp_machine loader < saved.dump > loader.dump'
+tell 'swsusp_machine differ saved.dump loader.dump'
+tell 'swsusp hibernate area.img < saved.dump'
+tell 'swsusp inspect area.img'
+tell 'swsusp_machine check area.img < loader.dump'
+tell 'swsusp resume area.img < loader.dump > restored.dump'
+tell 'swsusp_machine differ saved.dump restored.dump'
+tell 'swsusp_machine check area.img < loader.dump'
+tell 'swsusp resume area.img < loader.dump'

@@ -1,0 +1,130 @@
+#!/bin/sh
+# Refuses each growth of memory in turn, one a run, in each command of the built program: the status is 6, the note `no memory`, nothing
+# is printed, and every byte of the disk is as before. Behind the last growth the command does what it does with ample memory, and so it
+# does without the room that is asked for beforehand for its list of words, before the command begins. The program
+# is the first word, or crates/swsusp/out/swsusp, which `rt run` leaves. It is run with a library that is loaded before it, made
+# here by cc (over glibc), whose malloc and realloc fail at the call that is asked for (`rt try --fail-alloc N` does so too, but builds the program
+# anew for each N). Prints a line for each command, and ends with status 1 where one differs; skips, with status 0, without cc.
+set -u
+top=$(cd "$(dirname "$0")/.." && pwd)
+program=${1:-$top/crates/swsusp/out/swsusp}
+if [ ! -x "$program" ]; then
+    echo "$program isn't built: rt run in crates/swsusp builds it"
+    exit 1
+fi
+if ! command -v cc >/dev/null; then
+    echo "skipped: no cc"
+    exit 0
+fi
+room=$(mktemp -d)
+trap 'rm -rf "$room"' EXIT
+failed=0
+
+# Call REFUSED of malloc and realloc finds no memory. At the end the number of calls goes into the file GROWTHS.
+cat >"$room/refuse.c" <<'EOF'
+#include <fcntl.h>
+#include <stdio.h>
+#include <stdlib.h>
+#include <unistd.h>
+
+extern void *__libc_malloc(size_t size);
+extern void *__libc_realloc(void *block, size_t size);
+
+static long refused = -1, calls;
+
+static int refuses(void) {
+    if (refused < 0) {
+        const char *text = getenv("REFUSED");
+        refused = text ? atol(text) : 0;
+    }
+    return ++calls == refused;
+}
+
+void *malloc(size_t size) { return refuses() ? NULL : __libc_malloc(size); }
+
+void *realloc(void *block, size_t size) { return refuses() ? NULL : __libc_realloc(block, size); }
+
+__attribute__((destructor)) static void tell(void) {
+    char text[32];
+    int size = snprintf(text, sizeof text, "%ld\n", calls);
+    int file = open(getenv("GROWTHS"), O_WRONLY | O_CREAT | O_TRUNC, 0600);
+    if (file < 0 || write(file, text, size) != size)
+        _exit(99);
+}
+EOF
+cc -O1 -shared -fPIC -o "$room/refuse.so" "$room/refuse.c" || exit 1
+
+# Runs the program with call $1 refused, over a fresh copy of the disk: its status, note, and whether output and disk are as before.
+told() {
+    call=$1
+    shift
+    cp "$room/before" "$room/disk"
+    status=0
+    timeout 60 env "REFUSED=$call" "GROWTHS=$room/growths" "LD_PRELOAD=$room/refuse.so" "$program" "$@" \
+        <"$room/input" >"$room/out" 2>"$room/note" || status=$?
+    disk=changed
+    cmp -s "$room/before" "$room/disk" && disk=same
+    echo "$status|$(head -c 200 "$room/note")|$(($(wc -c <"$room/out")))|$disk"
+}
+
+# Refuses each growth of a command over this disk and input: the name, the disk, the input and the words.
+each() {
+    name=$1
+    cp "$2" "$room/before"
+    cp "$3" "$room/input"
+    shift 3
+    ample=$(told 0 "$@")
+    growths=$(cat "$room/growths")
+    wrong=0 without=0
+    call=1
+    while [ "$call" -le "$growths" ]; do
+        came=$(told "$call" "$@")
+        if [ "$came" = "$ample" ] && [ "$without" = 0 ] && [ "$call" -le $(($# + 5)) ]; then
+            without=$call
+        elif [ "$came" != "6|no memory|0|same" ]; then
+            case "$name:$came" in
+            words*":2|"*"|0|same") ;;
+            *)
+                echo "differs: $name, growth $call of $growths: [$came]"
+                wrong=1
+                ;;
+            esac
+        fi
+        call=$((call + 1))
+    done
+    behind=$(told "$call" "$@")
+    if [ "$behind" != "$ample" ]; then
+        echo "differs: $name, behind its $growths growths: wanted [$ample], came [$behind]"
+        wrong=1
+    fi
+    if [ "$growths" -lt 2 ]; then
+        echo "differs: $name has $growths growths: is the library loaded?"
+        wrong=1
+    fi
+    [ "$wrong" = 0 ] && echo "as told: $name, each of $growths growths refused, number $without done without; else [$(echo "$ample" | head -n 1)]"
+    [ "$wrong" = 0 ] || failed=1
+}
+
+sh "$top/tools/make_area.sh" "$room/area" 1599
+python3 "$top/tools/make_dump.py" saved >"$room/saved"
+python3 "$top/tools/make_dump.py" loader >"$room/loader"
+cp "$room/area" "$room/image"
+"$program" hibernate "$room/image" <"$room/saved" >"$room/line" || exit 1
+"$program" export <"$room/saved" >"$room/stream" || exit 1
+: >"$room/nothing"
+
+each inspect "$room/area" "$room/nothing" inspect "$room/disk"
+each hibernate "$room/area" "$room/saved" hibernate "$room/disk"
+each "hibernate --skip-zeros" "$room/area" "$room/saved" hibernate --skip-zeros "$room/disk"
+each "hibernate --image-size" "$room/area" "$room/saved" hibernate --image-size 10 "$room/disk"
+each "hibernate over an image" "$room/image" "$room/saved" hibernate "$room/disk"
+each resume "$room/image" "$room/loader" resume "$room/disk"
+each "resume --any-kernel" "$room/image" "$room/loader" resume --any-kernel "$room/disk"
+each import "$room/area" "$room/stream" import "$room/disk"
+each export "$room/area" "$room/saved" export
+each replay "$room/area" "$top/examples/swap.txt" replay
+each drill "$room/area" "$room/nothing" drill 10
+# The text that tells what is wrong with words leaves out what there is no memory for.
+each "words that aren't plain" "$room/area" "$room/nothing" inspect -- "$room/disk"
+each "words that don't parse" "$room/area" "$room/nothing" hibernate --fast "$room/disk"
+exit $failed
