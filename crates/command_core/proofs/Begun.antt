@@ -103,6 +103,7 @@ told_whole blocks told c e is = subst (λ (o : Option disk.Content). IfSome o (d
 -- it has made k of its two
 pub record BootsAt (h : Hardware) (m : Memory) (v : disk.Image) (k : ℕ) (world : World) (now : Option disk.Content) : Type 0 where
   pub point : Point
+  pub failed : point.failed ≡ true
   pub untouched : IsUntouched v point
   pub state : point.state ≡ booting Kept m (held_at_first h v) k
   pub told : now ≡ Some point.content
@@ -123,10 +124,11 @@ boots_first w w' v r blocks blocks' before now told new original whole hw row re
     let m = w.frames in
     let held = held_at_first h v in
     let p : Point = record { reply = reply.Idle; failed = true; state = off held (Some m); content = disk.settled v; frames = m } in
-    let turn = turned h (event.Boot Kept) p w w' r true blocks' before now refl told (new_stands h m w v new original) hw row restores whole' (λ is. refl) (λ is. refl) in
+    let turn = turned h (event.Boot Kept) p w w' r true blocks' before now refl told (new_stands h m w v new original) hw row restores whole' (λ is. refl) (λ is. refl) (λ is. inl refl) in
     let is = boot_begins h (disk.as_it_reads (disk.settled v)) held m turn.new.reply turn.new.state turn.turn.step in
     record {
       point = turn.new;
+      failed = turn.failed_is;
       untouched = untouched_then h (event.Boot Kept) v p turn.new (untouched_first blocks v p refl (told_whole blocks before (disk.settled v) told whole)) turn.turn (off_writes h held (Some m));
       state = is.1;
       told = turn.told;
@@ -135,7 +137,7 @@ boots_first w w' v r blocks blocks' before now told new original whole hw row re
 
 boot_turn : (h : Hardware) (m : Memory) (v : disk.Image) (k : ℕ) (w w' : World) (r : Reply) (blocks : ℕ) (before now : Option disk.Content) (at : BootsAt h m v k w before) → hardware_of w ≡ h → hardware_of w' ≡ hardware_of w →
     HasRow (event.Step actor.Core) w w' r before now → Restores (event.Step actor.Core) w w' r before now → IfSome now (disk.IsContent blocks) → Turned h (event.Step actor.Core) at.point w' r true now
-boot_turn h m v k w w' r blocks before now at is hw row restores whole = turned h (event.Step actor.Core) at.point w w' r true blocks before now is at.told at.stands hw row restores whole (λ x. refl) (λ x. refl)
+boot_turn h m v k w w' r blocks before now at is hw row restores whole = turned h (event.Step actor.Core) at.point w w' r true blocks before now is at.told at.stands hw row restores whole (λ x. refl) (λ x. refl) (λ x. inl at.failed)
 
 still_untouched : (h : Hardware) (m : Memory) (v : disk.Image) (k : ℕ) (w w' : World) (r : Reply) (before now : Option disk.Content) (at : BootsAt h m v k w before) (turn : Turned h (event.Step actor.Core) at.point w' r true now) → IsUntouched v turn.new
 still_untouched h m v k w w' r before now at turn = untouched_then h (event.Step actor.Core) v at.point turn.new at.untouched turn.turn (boot_writes h m (held_at_first h v) k at.point.state at.state)
@@ -149,7 +151,7 @@ boots_second h m v w w' r blocks before now at is hw row restores whole =
     let untouched = still_untouched h m v 0 w w' r before now at turn in
     let step : Step h u (booting Kept m held 0) (event.Step actor.Core) turn.new.reply turn.new.state = subst (λ (s : State). Step h u s (event.Step actor.Core) turn.new.reply turn.new.state) at.state turn.turn.step in
     elim (boot_syncs h u held m turn.new.reply turn.new.state step) [
-      | inl goes ↦ inl (ap goes_on (sym turn.reply_is ∙ goes.0), record { point = turn.new; untouched = untouched; state = goes.1; told = turn.told; stands = turn.stands })
+      | inl goes ↦ inl (ap goes_on (sym turn.reply_is ∙ goes.0), record { point = turn.new; failed = turn.failed_is; untouched = untouched; state = goes.1; told = turn.told; stands = turn.stands })
       | inr fault ↦ (
           let same = sym turn.reply_is ∙ fault in
           inr (ap goes_on same, record { content = turn.new.content; told = turn.told; unwritten = untouched.unwritten; fault = subst IsFault (sym same) tt; new_fault = subst IsNewFault (sym same) tt })
@@ -192,7 +194,7 @@ pub up_shrunk : (h : Hardware) (m : Memory) (v : disk.Image) (want : ℕ) (w w' 
 up_shrunk h m v want w w' r blocks before now up hw same row restores whole =
     let a = machine_of_dump h m v in
     let p : Point = record { reply = reply.Idle; failed = true; state = on a; content = up.content; frames = w.frames } in
-    let turn = turned h (event.Shrink want) p w w' r true blocks before now hw up.told up.stands same row restores whole (λ x. refl) (λ x. refl) in
+    let turn = turned h (event.Shrink want) p w w' r true blocks before now hw up.told up.stands same row restores whole (λ x. refl) (λ x. refl) (λ x. inl refl) in
     let is = shrinks h (disk.as_it_reads up.content) a want turn.new.reply turn.new.state refl turn.turn.step in
     let untouched = untouched_then h (event.Shrink want) v p turn.new (record { blocks = up.blocks; whole = up.whole; same = up.same; unwritten = up.unwritten }) turn.turn (on_writes h m v) in
     record {

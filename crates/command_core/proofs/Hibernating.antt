@@ -75,11 +75,11 @@ undo_leads i a n (suc zero) call few made =
     (undone_leads i a n call (on (record a { held = nothing })), (unsure_leads i a n call (on (record a { held = maybe (own i) })), tt))
 undo_leads i a n (suc (suc k)) call few made = absurd (omega arith)
 
-hibernating_step : (h : Hardware) (v : disk.Image) (i : Image) (a : Running) (n : ℕ) (r : Reply) (b : State) → Step h v (hibernating false i a n) (event.Step actor.Core) r b → Contains (hibernate_step false i a n) (r, b)
+pub hibernating_step : (h : Hardware) (v : disk.Image) (i : Image) (a : Running) (n : ℕ) (r : Reply) (b : State) → Step h v (hibernating false i a n) (event.Step actor.Core) r b → Contains (hibernate_step false i a n) (r, b)
 unfolding outcomes refusal
 hibernating_step h v i a n r b step = step
 
-undoing_step : (h : Hardware) (v : disk.Image) (i : Image) (call : UndoCall) (a : Running) (k : ℕ) (r : Reply) (b : State) → Step h v (undoing i call a k) (event.Step actor.Core) r b → Contains (undo_step i call a k) (r, b)
+pub undoing_step : (h : Hardware) (v : disk.Image) (i : Image) (call : UndoCall) (a : Running) (k : ℕ) (r : Reply) (b : State) → Step h v (undoing i call a k) (event.Step actor.Core) r b → Contains (undo_step i call a k) (r, b)
 unfolding outcomes refusal
 undoing_step h v i call a k r b step = step
 
@@ -87,7 +87,7 @@ none_in : (x : Outcome) → Contains [] x → ⊥
 none_in x (k, lt, e) = omega arith
 
 -- a step is made before the last
-before_end : (i : Image) (a : Running) (n : ℕ) (x : Outcome) → Contains (hibernate_step false i a n) x → n < hibernate_steps i
+pub before_end : (i : Image) (a : Running) (n : ℕ) (x : Outcome) → Contains (hibernate_step false i a n) x → n < hibernate_steps i
 before_end i a n x is = elim (cases_lt n (hibernate_steps i)) [
   | inl lt ↦ lt
   | inr le ↦ absurd (none_in x (subst (λ (os : List Outcome). Contains os x) (hibernate-past false i a n le) is))

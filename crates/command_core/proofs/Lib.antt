@@ -5,5 +5,6 @@ pub mod Begun
 pub mod Booting
 pub mod Hibernating
 pub mod Resuming
-pub mod Loaded
 pub mod Saved
+pub mod Loaded
+pub mod Crashes

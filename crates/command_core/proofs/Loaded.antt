@@ -19,7 +19,7 @@ use Rattle.plain_machine.specs.declared.reply.Reply.{Reply}
 use Rattle.plain_machine.specs.declared.reply.Reply.TheVariants as reply
 use Rattle.plain_machine.specs.Refusals.{refusal}
 use Rattle.plain_machine.specs.Step.{Step, outcomes}
-use Rattle.protocol_laws.specs.Rows.{LeavesBlock, blocks_written}
+use Rattle.protocol_laws.specs.Rows.{LeavesBlock, blocks_written, IsNewFault}
 use Rattle.world_core.specs.StandsFor.{StandsFor, hardware_of}
 use Rattle.world_core.specs.World.{World}
 use Rattle.command_core.specs.Hibernation.{held_at_first}
@@ -31,6 +31,7 @@ use Rattle.command_core.proofs.Booting.{one_outcome}
 use Rattle.command_core.proofs.Leaving.{leaves_then}
 use Rattle.plain_machine.specs.declared.reply.Left.TheVariants.{Same, Gone, Unsure}
 use Rattle.command_core.proofs.Resuming.{IsAt, HasGoneOn, LeavesOff, FaultLeaves, begun, found, state_at, trace_of, step_more, first_entry, second_entry}
+use Rattle.command_core.proofs.Saved.{exactly, faults_stop}
 use Rattle.command_core.proofs.Traces.{counted_at, trace_counts, trace_short, header_over}
 
 -- The event.
@@ -44,7 +45,7 @@ begins_at h m check v r b failed reply state = subst (λ (x : Reply). IsAt h m c
 
 -- The steps.
 
-goes_state : (h : Hardware) (m : Memory) (check : IdentCheck) (v : disk.Image) (n : ℕ) (r : Reply) (b : State) (failed : Bool) → IsAt h m check v n r b failed → goes_on r ≡ true → (b ≡ state_at h m check v n) × HasGoneOn h m check v n
+pub goes_state : (h : Hardware) (m : Memory) (check : IdentCheck) (v : disk.Image) (n : ℕ) (r : Reply) (b : State) (failed : Bool) → IsAt h m check v n r b failed → goes_on r ≡ true → (b ≡ state_at h m check v n) × HasGoneOn h m check v n
 goes_state h m check v n (reply.Loading k) b failed at goes = at
 goes_state h m check v n (reply.More k of) b failed at goes = absurd at
 goes_state h m check v n (reply.Undo call k) b failed at goes = absurd at
@@ -53,7 +54,7 @@ goes_state h m check v n _ b failed at goes = absurd (false≢true goes)
 none_in : (b : ℕ) → Contains [] b → ⊥
 none_in b (k, lt, e) = omega arith
 
-early_writes : (h : Hardware) (m : Memory) (check : IdentCheck) (v : disk.Image) (n : ℕ) (s : State) → n ≤ 1 → s ≡ state_at h m check v n → (b : ℕ) → Contains (blocks_written h s) b → ⊥
+pub early_writes : (h : Hardware) (m : Memory) (check : IdentCheck) (v : disk.Image) (n : ℕ) (s : State) → n ≤ 1 → s ≡ state_at h m check v n → (b : ℕ) → Contains (blocks_written h s) b → ⊥
 early_writes h m check v zero s few is b in' = none_in b (subst (λ (x : State). Contains (blocks_written h x) b) is in')
 early_writes h m check v (suc zero) s few is b in' = none_in b (subst (λ (x : State). Contains (blocks_written h x) b) is in')
 early_writes h m check v (suc (suc n)) s few is b in' = absurd (omega arith)
@@ -63,7 +64,7 @@ in_third x b true (zero, lt, e) = sym e
 in_third x b true (suc k, lt, e) = absurd (omega arith)
 in_third x b false in' = absurd (none_in b in')
 
-header_alone : (h : Hardware) (m : Memory) (check : IdentCheck) (v : disk.Image) (n : ℕ) (s : State) → s ≡ state_at h m check v n → (b : ℕ) → b ≢ block_of_slot h 0 → Contains (blocks_written h s) b → ⊥
+pub header_alone : (h : Hardware) (m : Memory) (check : IdentCheck) (v : disk.Image) (n : ℕ) (s : State) → s ≡ state_at h m check v n → (b : ℕ) → b ≢ block_of_slot h 0 → Contains (blocks_written h s) b → ⊥
 header_alone h m check v zero s is b other in' = early_writes h m check v 0 s (omega arith) is b in'
 header_alone h m check v (suc zero) s is b other in' = early_writes h m check v 1 s (omega arith) is b in'
 header_alone h m check v (suc (suc n)) s is b other in' = other (in_third (block_of_slot h 0) b (eqb (suc (suc n)) 2) (subst (λ (x : State). Contains (blocks_written h x) b) is in'))
@@ -226,8 +227,23 @@ over_at_last : (steps : ℕ) (r : Reply) → (goes_on r ≡ false) ⊎ (steps �
 over_at_last steps r (inl over) few = over
 over_at_last steps r (inr most) few = absurd (omega arith)
 
-pub resumes : (h : Hardware) (m : Memory) (check : IdentCheck) (v : disk.Image) (blocks : ℕ) (world : World) (start : Point) (ended : Ended) (now : Option disk.Content) → AreZones h.zones → hardware_of world ≡ h → disk.IsContent blocks (disk.settled v) → IsUntouched v start → IsAt h m check v 0 start.reply start.state start.failed → HasGone h world start ended now → HasResumed h m check v world.frames ended now
-resumes h m check v blocks world start ended now zones hw whole is at gone =
+-- A call that failed shows in the reply, since no step comes after it.
+new_fault : (h : Hardware) (m : Memory) (check : IdentCheck) (v : disk.Image) (n : ℕ) (r : Reply) (b : State) (failed : Bool) → IsAt h m check v n r b failed → IsNewFault r → IsFault r
+new_fault h m check v n (reply.ReadFault left) b failed at is = tt
+new_fault h m check v n (reply.WriteFault left) b failed at is = tt
+new_fault h m check v n (reply.SyncFault left) b failed at is = tt
+new_fault h m check v n (reply.Undo call k) b failed at is = absurd at
+new_fault h m check v n _ b failed at is = absurd is
+
+shows_fault : (h : Hardware) (m : Memory) (check : IdentCheck) (v : disk.Image) (blocks n : ℕ) (start end : Point) → disk.IsContent blocks (disk.settled v) → start.failed ≡ false → IsUntouched v start → IsAt h m check v 0 start.reply start.state start.failed → AreSteps h n start end → end.failed ≡ true → IsFault end.reply
+shows_fault h m check v blocks zero start end whole none is at are failed = absurd (false≢true (sym none ∙ sym (ap (λ (p : Point). p.failed) are) ∙ failed))
+shows_fault h m check v blocks (suc n) start end whole none is at (mid, are, goes, turn) failed = elim (turn.no_other failed) [
+  | inr new ↦ new_fault h m check v (suc n) end.reply end.state end.failed (after_steps h m check v blocks (suc n) start end whole is at (mid, are, goes, turn)).at new
+  | inl earlier ↦ absurd (false≢true (sym (faults_stop mid.reply (shows_fault h m check v blocks n start mid whole none is at are earlier)) ∙ goes))
+]
+
+pub resumes : (h : Hardware) (m : Memory) (check : IdentCheck) (v : disk.Image) (blocks : ℕ) (world : World) (start : Point) (ended : Ended) (now : Option disk.Content) → AreZones h.zones → hardware_of world ≡ h → disk.IsContent blocks (disk.settled v) → start.failed ≡ false → IsUntouched v start → IsAt h m check v 0 start.reply start.state start.failed → HasGone h world start ended now → HasResumed h m check v world.frames ended now
+resumes h m check v blocks world start ended now zones hw whole unfailed is at gone =
     let made = gone.made in
     let end = made.end in
     let after = after_steps h m check v blocks gone.steps start end whole is at made.are in
@@ -239,7 +255,8 @@ resumes h m check v blocks world start ended now zones hw whole is at gone =
     record {
       content = end.content;
       told = made.told;
-      answer = answer_of h m check v ended.reply end.state ended.failed here;
+      answer = exactly (IsLast (trace_of h m check v) ended.reply) ended.reply ended.failed (answer_of h m check v ended.reply end.state ended.failed here)
+          (λ failed. subst IsFault made.reply_is (shows_fault h m check v blocks gone.steps start end whole unfailed is at made.are (made.failed_is ∙ failed)));
       restored = λ n resumed. sym made.frames ∙ restored_last h m check v blocks gone.steps n start end whole is at made.are (made.reply_is ∙ resumed);
       gone = gone_at h m check v world end.content ended.reply end.state ended.failed hw made.stands here;
       unwritten = after.unwritten;

@@ -7,6 +7,7 @@ use Rattle.definitions.specs.Disk as disk
 use Rattle.definitions.proofs.DiskLaws.{IsImage-as_it_reads, IsImage-settled, length-as_it_reads, length-settled}
 use Rattle.plain_machine.specs.Machine.{Hardware}
 use Rattle.plain_machine.specs.Chain.{blocks_of}
+use Rattle.plain_machine.specs.Stands.{Stands}
 use Rattle.plain_machine.specs.State.{State, loading, Load}
 use Rattle.plain_machine.specs.declared.event.Actor.TheVariants as actor
 use Rattle.plain_machine.specs.declared.event.Event.{Event}
@@ -17,9 +18,9 @@ use Rattle.protocol_laws.specs.Rows.{LeavesBlock, IsNewFault}
 use Rattle.protocol_laws.proofs.WrittenWhileHeld.{at_written}
 use Rattle.resume_core.specs.Row.{restored_by}
 use Rattle.world_core.specs.Row.{HasRow, Restores, IsCalled}
-use Rattle.world_core.specs.StandsFor.{StandsFor, hardware_of}
+use Rattle.world_core.specs.StandsFor.{StandsFor, hardware_of, shown}
 use Rattle.world_core.specs.World.{World}
-use Rattle.command_core.specs.Turns.{Point, IsTurn, AreSteps, HaveMade, goes_on}
+use Rattle.command_core.specs.Turns.{Point, IsTurn, AreSteps, HaveMade, Elapsed, goes_on}
 
 -- Where no block is written, the one image stays.
 
@@ -59,8 +60,8 @@ restored_here h e old new r before now c load k n hw told restores step resumed 
     subst (λ (g : Hardware). new.frames ≡ restored_by g load) hw ended.2.2.memory
 
 turned_here : (e : Event) (point : Point) (old new : World) (r : Reply) (failed : Bool) (blocks : ℕ) (before now : Option disk.Content) → before ≡ Some point.content → StandsFor old point.content point.state → hardware_of new ≡ hardware_of old →
-    HasRow e old new r before now → Restores e old new r before now → IfSome now (disk.IsContent blocks) → (IsNewFault r → failed ≡ true) → (point.failed ≡ true → failed ≡ true) → Turned (hardware_of old) e point new r failed now
-turned_here e point old new r failed blocks before now told stands hw row restores whole noticed noted =
+    HasRow e old new r before now → Restores e old new r before now → IfSome now (disk.IsContent blocks) → (IsNewFault r → failed ≡ true) → (point.failed ≡ true → failed ≡ true) → (failed ≡ true → (point.failed ≡ true) ⊎ IsNewFault r) → Turned (hardware_of old) e point new r failed now
+turned_here e point old new r failed blocks before now told stands hw row restores whole noticed noted no_other =
     let turn = row point.content told in
     let goes = turn.2 point.state stands in
     record {
@@ -69,10 +70,13 @@ turned_here e point old new r failed blocks before now told stands hw row restor
         step = goes.1.step;
         area = goes.1.area;
         unwritten = λ b not. goes.1.unwritten b (λ in'. not (at_written (hardware_of old) e point.state b in'));
+        header = goes.1.header;
+        stands = (shown new, subst (λ (g : Hardware). Stands g (shown new) turn.0 goes.0) hw goes.1.stands.stands);
         blocks = blocks;
         whole = content_whole blocks now turn.0 turn.1 whole;
         noticed = noticed;
         noted = noted;
+        no_other = no_other;
         restored = λ load k n step state resumed.
             restored_here (hardware_of old) e old new r before now point.content load k n hw told restores step resumed (subst (StandsFor old point.content) state stands);
       };
@@ -84,11 +88,14 @@ turned_here e point old new r failed blocks before now told stands hw row restor
     }
 
 pub turned : (h : Hardware) (e : Event) (point : Point) (old new : World) (r : Reply) (failed : Bool) (blocks : ℕ) (before now : Option disk.Content) → hardware_of old ≡ h → before ≡ Some point.content → StandsFor old point.content point.state → hardware_of new ≡ hardware_of old →
-    HasRow e old new r before now → Restores e old new r before now → IfSome now (disk.IsContent blocks) → (IsNewFault r → failed ≡ true) → (point.failed ≡ true → failed ≡ true) → Turned h e point new r failed now
-turned h e point old new r failed blocks before now is told stands hw row restores whole noticed noted =
-    subst (λ (g : Hardware). Turned g e point new r failed now) is (turned_here e point old new r failed blocks before now told stands hw row restores whole noticed noted)
+    HasRow e old new r before now → Restores e old new r before now → IfSome now (disk.IsContent blocks) → (IsNewFault r → failed ≡ true) → (point.failed ≡ true → failed ≡ true) → (failed ≡ true → (point.failed ≡ true) ⊎ IsNewFault r) → Turned h e point new r failed now
+turned h e point old new r failed blocks before now is told stands hw row restores whole noticed noted no_other =
+    subst (λ (g : Hardware). Turned g e point new r failed now) is (turned_here e point old new r failed blocks before now told stands hw row restores whole noticed noted no_other)
 
 -- Steps, and one more.
+
+earlier_or : (r' : Reply) (failed failed' : Bool) (p : Point) → p.failed ≡ failed → (failed' ≡ true → (failed ≡ true) ⊎ IsNewFault r') → failed' ≡ true → (p.failed ≡ true) ⊎ IsNewFault r'
+earlier_or r' failed failed' p is no_other now = subst (λ (b : Bool). (b ≡ true) ⊎ IsNewFault r') (sym is) (no_other now)
 
 pub made_first : (h : Hardware) (world : World) (r : Reply) (a : State) (c : disk.Content) (now : Option disk.Content) → now ≡ Some c → StandsFor world c a →
     HaveMade h world (record { reply = r; failed = false; state = a; content = c; frames = world.frames }) 0 r false now
@@ -103,9 +110,9 @@ made_first h world r a c now told stands = record {
 }
 
 pub made_more : (h : Hardware) (start : Point) (old new : World) (n : ℕ) (r r' : Reply) (failed failed' : Bool) (blocks : ℕ) (before now : Option disk.Content) → hardware_of old ≡ h → HaveMade h old start n r failed before → goes_on r ≡ true → hardware_of new ≡ hardware_of old →
-    HasRow (event.Step actor.Core) old new r' before now → Restores (event.Step actor.Core) old new r' before now → IfSome now (disk.IsContent blocks) → (IsNewFault r' → failed' ≡ true) → (failed ≡ true → failed' ≡ true) → HaveMade h new start (n + 1) r' failed' now
-made_more h start old new n r r' failed failed' blocks before now is made goes hw row restores whole noticed noted =
-    let turn = turned h (event.Step actor.Core) made.end old new r' failed' blocks before now is made.told made.stands hw row restores whole noticed (λ e. noted (sym made.failed_is ∙ e)) in
+    HasRow (event.Step actor.Core) old new r' before now → Restores (event.Step actor.Core) old new r' before now → IfSome now (disk.IsContent blocks) → (IsNewFault r' → failed' ≡ true) → (failed ≡ true → failed' ≡ true) → (failed' ≡ true → (failed ≡ true) ⊎ IsNewFault r') → HaveMade h new start (n + 1) r' failed' now
+made_more h start old new n r r' failed failed' blocks before now is made goes hw row restores whole noticed noted no_other =
+    let turn = turned h (event.Step actor.Core) made.end old new r' failed' blocks before now is made.told made.stands hw row restores whole noticed (λ e. noted (sym made.failed_is ∙ e)) (earlier_or r' failed failed' made.end made.failed_is no_other) in
     record {
       end = turn.new;
       told = turn.told;
@@ -114,6 +121,30 @@ made_more h start old new n r r' failed failed' blocks before now is made goes h
       stands = turn.stands;
       frames = turn.frames;
       are = subst (λ (k : ℕ). AreSteps h k start turn.new) (let e : suc n ≡ n + 1 = omega arith in e) (made.end, made.are, ap goes_on made.reply_is ∙ goes, turn.turn);
+    }
+
+-- Moments.
+
+pub told_both : (R : disk.Content → disk.Content → Type 0) (a b : Option disk.Content) (x y : disk.Content) → a ≡ Some x → b ≡ Some y → disk.Changes R a b → R x y
+told_both R a b x y is at changes = subst (λ (o : Option disk.Content). disk.Changes R (Some x) o) at (subst (λ (o : Option disk.Content). disk.Changes R o b) is changes)
+
+pub elapsed_first : (h : Hardware) (start : Point) (m : ℕ) (past : ℕ → disk.Image → Type 0) → Elapsed h start m m past past
+elapsed_first h start m past = record { later = omega arith; nothing_else = λ t w le left. inl left }
+
+pub elapsed_more : (h : Hardware) (start : Point) (old new : World) (n : ℕ) (r r' : Reply) (failed failed' : Bool) (blocks : ℕ) (before now : Option disk.Content) (m0 m m' : ℕ) (first past since : ℕ → disk.Image → Type 0) → hardware_of old ≡ h → HaveMade h old start n r failed before → goes_on r ≡ true → hardware_of new ≡ hardware_of old →
+    HasRow (event.Step actor.Core) old new r' before now → Restores (event.Step actor.Core) old new r' before now → IfSome now (disk.IsContent blocks) → (IsNewFault r' → failed' ≡ true) → (failed ≡ true → failed' ≡ true) → (failed' ≡ true → (failed ≡ true) ⊎ IsNewFault r') →
+    Elapsed h start m0 m first past → disk.Changes (disk.Elapses m m' past since) before now → Elapsed h start m0 m' first since
+elapsed_more h start old new n r r' failed failed' blocks before now m0 m m' first past since is made goes hw row restores whole noticed noted no_other so_far changes =
+    let turn = turned h (event.Step actor.Core) made.end old new r' failed' blocks before now is made.told made.stands hw row restores whole noticed (λ e. noted (sym made.failed_is ∙ e)) (earlier_or r' failed failed' made.end made.failed_is no_other) in
+    let step = told_both (disk.Elapses m m' past since) before now made.end.content turn.new.content made.told turn.told changes in
+    let earlier = so_far.later in
+    let later = step.later in
+    record {
+      later = omega arith;
+      nothing_else = λ t w le left. elim (step.nothing_else t w (omega arith) left) [
+        | inl was ↦ so_far.nothing_else t w le was
+        | inr mixed ↦ inr (record { steps = n; before = made.end; after = turn.new; are = made.are; goes = ap goes_on made.reply_is ∙ goes; turn = turn.turn; mixed = mixed })
+      ];
     }
 
 -- Counts.

@@ -1,6 +1,8 @@
 -- A whole hibernation: from the world before it to what it answers at the end.
 use Rattle.std.proofs.Common.{◌≡◌, ◌⊎◌, inl, inr, ◌≤◌, ℕ, ◌+◌, zero, suc, eqb, Bool, true, false, cond, length, map, filter, List, ◌∷◌, [], Option, Some, None, unwrap_or, refl, sym, ap, ◌∙◌, subst, arith, Contains}
+use Rattle.std.specs.List.{AllByRecursion}
 use Rattle.std.proofs.lemmas.Bool.{false≢true}
+use Rattle.std.proofs.lemmas.List.Elements.{All-from_recursion, All-contains}
 use Rattle.std.proofs.lemmas.List.{length-map}
 use Rattle.std.proofs.lemmas.Option.{same_Some, none-some}
 use Rattle.page_core.specs.declared.format.Format.{Format}
@@ -18,8 +20,11 @@ use Rattle.plain_machine.specs.declared.no_swap.NoSwap.{NoSwap}
 use Rattle.plain_machine.specs.declared.reply.Reply.{Reply}
 use Rattle.plain_machine.specs.declared.reply.Reply.TheVariants as reply
 use Rattle.plain_machine.specs.declared.reply.UndoCall.{UndoCall}
+use Rattle.plain_machine.specs.declared.reply.UndoCall.TheVariants as undo
+use Rattle.plain_machine.specs.declared.event.Actor.TheVariants as actor
+use Rattle.plain_machine.specs.Step.{Step, Outcome, undo_step}
 use Rattle.image_laws.proofs.Decoding.{few_saveable}
-use Rattle.protocol_laws.specs.Rows.{LeavesBlock, blocks_written}
+use Rattle.protocol_laws.specs.Rows.{LeavesBlock, blocks_written, IsNewFault}
 use Rattle.protocol_laws.proofs.Unwritten.{step_in_laid}
 use Rattle.protocol_laws.proofs.WrittenWhileHeld.{header_alone}
 use Rattle.world_core.specs.StandsFor.{StandsFor, hardware_of}
@@ -28,7 +33,7 @@ use Rattle.command_core.specs.Hibernation.{image_to_save, hibernation_answer, Ha
 use Rattle.command_core.specs.Turns.{Point, IsFault, AreSteps, HasGone, goes_on}
 use Rattle.command_core.specs.declared.ending.Ended.{Ended}
 use Rattle.command_core.proofs.Begun.{IsUntouched}
-use Rattle.command_core.proofs.Hibernating.{IsAt, after_steps, few_steps}
+use Rattle.command_core.proofs.Hibernating.{IsAt, after_steps, few_steps, undoing_step}
 use Rattle.command_core.proofs.Leaving.{leaves_then}
 
 -- Refusals of a hibernation are none of the replies of its steps.
@@ -79,24 +84,24 @@ pub refusal_refuses : (h : Hardware) (f : Format) (a : Running) (r : Reply) → 
 unfolding refusal
 refusal_refuses h f a r e = refuses_of (hibernate_refusal h f a) r (hibernation_refuses h f a) e
 
-refuses_over : (r : Reply) → Refuses r → goes_on r ≡ false
+pub refuses_over : (r : Reply) → Refuses r → goes_on r ≡ false
 refuses_over (reply.More k of) is = absurd is
 refuses_over (reply.Undo call k) is = absurd is
 refuses_over (reply.Loading k) is = absurd is
 refuses_over _ is = refl
 
 -- No step comes after a reply that doesn't go on.
-none_after : (h : Hardware) (n : ℕ) (start end : Point) → goes_on start.reply ≡ false → AreSteps h n start end → end ≡ start
+pub none_after : (h : Hardware) (n : ℕ) (start end : Point) → goes_on start.reply ≡ false → AreSteps h n start end → end ≡ start
 none_after h zero start end over are = are
 none_after h (suc n) start end over (mid, are, goes, turn) =
     absurd (false≢true (sym (ap (λ (p : Point). goes_on p.reply) (none_after h n start mid over are) ∙ over) ∙ goes))
 
 -- The blocks that its steps write.
 
-abbrev IsWrittenAt : Image → Running → State → Type 0
+abbrev pub IsWrittenAt : Image → Running → State → Type 0
 IsWrittenAt i a s = ((n : ℕ) × (s ≡ hibernating false i a n)) ⊎ ((call : UndoCall) × (k : ℕ) × (s ≡ undoing i call a k))
 
-state_of : (i : Image) (a : Running) (n : ℕ) (r : Reply) (b : State) (failed : Bool) → IsAt i a n r b failed → goes_on r ≡ true → IsWrittenAt i a b
+pub state_of : (i : Image) (a : Running) (n : ℕ) (r : Reply) (b : State) (failed : Bool) → IsAt i a n r b failed → goes_on r ≡ true → IsWrittenAt i a b
 state_of i a n (reply.More k of) b failed at goes = inl (n, at)
 state_of i a n (reply.Undo call k) b failed at goes = inr (at.0.0, k, at.0.1)
 state_of i a n (reply.Loading k) b failed at goes = absurd at
@@ -114,7 +119,7 @@ pub record IsAfter (h : Hardware) (i : Image) (a : Running) (v : disk.Image) (p 
 after_first : (h : Hardware) (i : Image) (a : Running) (v : disk.Image) (p : Point) → IsUntouched v p → IsAfter h i a v p
 after_first h i a v p is = record { blocks = is.blocks; whole = is.whole; unwritten = λ b not. is.unwritten b }
 
-all_after : (h : Hardware) (i : Image) (a : Running) (v : disk.Image) (n : ℕ) (start end : Point) → IsUntouched v start → IsAt i a 0 start.reply start.state start.failed → AreSteps h n start end → IsAfter h i a v end
+pub all_after : (h : Hardware) (i : Image) (a : Running) (v : disk.Image) (n : ℕ) (start end : Point) → IsUntouched v start → IsAt i a 0 start.reply start.state start.failed → AreSteps h n start end → IsAfter h i a v end
 all_after h i a v zero start end is at are = subst (IsAfter h i a v) (sym are) (after_first h i a v start is)
 all_after h i a v (suc n) start end is at (mid, are, goes, turn) =
     let before = all_after h i a v n start mid is at are in
@@ -124,6 +129,67 @@ all_after h i a v (suc n) start end is at (mid, are, goes, turn) =
       whole = turn.whole;
       unwritten = λ b not. leaves_then before.blocks b (disk.settled v) mid.content end.content before.whole (before.unwritten b not) (turn.unwritten b (λ in'. not (written_in h i a mid.state b here in')));
     }
+
+-- A call that failed shows in the reply: after it comes an undo, or nothing.
+
+abbrev IsUndo : Reply → Type 0
+IsUndo (reply.Undo call k) = Unit {0}
+IsUndo _ = ⊥
+
+abbrev ShowsFault : Reply → Type 0
+ShowsFault r = IsFault r ⊎ IsUndo r
+
+new_shows : (r : Reply) → IsNewFault r → ShowsFault r
+new_shows (reply.ReadFault left) is = inl tt
+new_shows (reply.WriteFault left) is = inl tt
+new_shows (reply.SyncFault left) is = inl tt
+new_shows (reply.Undo call k) is = inr tt
+new_shows _ is = absurd is
+
+pub faults_stop : (r : Reply) → IsFault r → goes_on r ≡ false
+faults_stop (reply.ReadFault left) is = refl
+faults_stop (reply.WriteFault left) is = refl
+faults_stop (reply.SyncFault left) is = refl
+faults_stop _ is = absurd is
+
+undo_shows : (i : Image) (call : UndoCall) (a : Running) (k : ℕ) → k ≤ 1 → AllByRecursion (λ (o : Outcome). ShowsFault o.0) (undo_step i call a k)
+undo_shows i undo.Write a zero few = (inr tt, (inl tt, tt))
+undo_shows i undo.Write a (suc zero) few = (inl tt, (inl tt, tt))
+undo_shows i undo.Write a (suc (suc k)) few = absurd (omega arith)
+undo_shows i undo.Sync a zero few = (inr tt, (inl tt, tt))
+undo_shows i undo.Sync a (suc zero) few = (inl tt, (inl tt, tt))
+undo_shows i undo.Sync a (suc (suc k)) few = absurd (omega arith)
+
+undo_goes : (h : Hardware) (v : disk.Image) (i : Image) (a : Running) (n : ℕ) (r r' : Reply) (b b' : State) (failed : Bool) → IsAt i a n r b failed → IsUndo r → Step h v b (event.Step actor.Core) r' b' → ShowsFault r'
+undo_goes h v i a n (reply.Undo call k) r' b b' failed at is step =
+    let os = undo_step i at.0.0 a k in
+    All-contains (λ (o : Outcome). ShowsFault o.0) os (r', b') (All-from_recursion (λ (o : Outcome). ShowsFault o.0) os (undo_shows i at.0.0 a k at.1))
+    (undoing_step h v i at.0.0 a k r' b' (subst (λ (s : State). Step h v s (event.Step actor.Core) r' b') at.0.1 step))
+undo_goes h v i a n _ r' b b' failed at is step = absurd is
+
+shows_fault : (h : Hardware) (i : Image) (a : Running) (n : ℕ) (start end : Point) → start.failed ≡ false → IsAt i a 0 start.reply start.state start.failed → AreSteps h n start end → end.failed ≡ true → ShowsFault end.reply
+shows_fault h i a zero start end none at are failed = absurd (false≢true (sym none ∙ sym (ap (λ (p : Point). p.failed) are) ∙ failed))
+shows_fault h i a (suc n) start end none at (mid, are, goes, turn) failed = elim (turn.no_other failed) [
+  | inr is ↦ new_shows end.reply is
+  | inl earlier ↦ elim (shows_fault h i a n start mid none at are earlier) [
+    | inl stopped ↦ absurd (false≢true (sym (faults_stop mid.reply stopped) ∙ goes))
+    | inr undo ↦ undo_goes h (disk.as_it_reads mid.content) i a n mid.reply end.reply mid.state end.state mid.failed (after_steps h i a n start mid at are) undo turn.step
+  ]
+]
+
+undo_on : (r : Reply) → IsUndo r → goes_on r ≡ true
+undo_on (reply.Undo call k) is = refl
+undo_on _ is = absurd is
+
+-- at the end it shows as a fault
+fault_at_end : (r : Reply) → goes_on r ≡ false → ShowsFault r → IsFault r
+fault_at_end r over (inl is) = is
+fault_at_end r over (inr undo) = absurd (false≢true (sym over ∙ undo_on r undo))
+
+pub exactly : (A : Type 0) (r : Reply) (failed : Bool) → A ⊎ (IsFault r × (failed ≡ true)) → (failed ≡ true → IsFault r) → (A × (failed ≡ false)) ⊎ (IsFault r × (failed ≡ true))
+exactly A r true (inl is) shows = inr (shows refl, refl)
+exactly A r false (inl is) shows = inl (is, refl)
+exactly A r failed (inr fault) shows = inr fault
 
 -- It has few steps.
 
@@ -181,9 +247,9 @@ answer_at h a f v r b failed none (inl is) = inl (is.0 ∙ sym (ap (λ (o : Opti
 answer_at h a f v r b failed none (inr fault) = inr fault
 
 -- It was not refused.
-pub saves : (h : Hardware) (a : Running) (f : Format) (v : disk.Image) (world : World) (start : Point) (ended : Ended) (now : Option disk.Content) → AreZones h.zones → hardware_of world ≡ h → IsUntouched v start → refusal h (on a) (event.Hibernate f) ≡ None →
+pub saves : (h : Hardware) (a : Running) (f : Format) (v : disk.Image) (world : World) (start : Point) (ended : Ended) (now : Option disk.Content) → AreZones h.zones → hardware_of world ≡ h → start.failed ≡ false → IsUntouched v start → refusal h (on a) (event.Hibernate f) ≡ None →
     IsAt (image_to_save h a f) a 0 start.reply start.state start.failed → HasGone h world start ended now → HasHibernated h a f v ended now
-saves h a f v world start ended now zones hw is none at gone =
+saves h a f v world start ended now zones hw unfailed is none at gone =
     let i = image_to_save h a f in
     let made = gone.made in
     let end = made.end in
@@ -194,15 +260,16 @@ saves h a f v world start ended now zones hw is none at gone =
     record {
       content = end.content;
       told = made.told;
-      answer = answer_at h a f v ended.reply end.state ended.failed none here;
+      answer = exactly (ended.reply ≡ hibernation_answer h a f) ended.reply ended.failed (answer_at h a f v ended.reply end.state ended.failed none here)
+          (λ failed. fault_at_end ended.reply over (subst ShowsFault made.reply_is (shows_fault h i a gone.steps start end unfailed at made.are (made.failed_is ∙ failed))));
       image = λ n hibernated. image_at h world end.content i ended.reply end.state ended.failed n hw made.stands here hibernated;
       unwritten = (all_after h i a v gone.steps start end is at made.are).unwritten;
       refused = λ r refused b. absurd (none-some r (sym none ∙ refused));
     }
 
 -- It was refused.
-pub refused : (h : Hardware) (a : Running) (f : Format) (v : disk.Image) (world : World) (q : Reply) (start : Point) (ended : Ended) (now : Option disk.Content) → IsUntouched v start → refusal h (on a) (event.Hibernate f) ≡ Some q → start.reply ≡ q → HasGone h world start ended now → HasHibernated h a f v ended now
-refused h a f v world q start ended now is says same gone =
+pub refused : (h : Hardware) (a : Running) (f : Format) (v : disk.Image) (world : World) (q : Reply) (start : Point) (ended : Ended) (now : Option disk.Content) → start.failed ≡ false → IsUntouched v start → refusal h (on a) (event.Hibernate f) ≡ Some q → start.reply ≡ q → HasGone h world start ended now → HasHibernated h a f v ended now
+refused h a f v world q start ended now unfailed is says same gone =
     let made = gone.made in
     let refuses = refusal_refuses h f a q says in
     let over : goes_on start.reply ≡ false = ap goes_on same ∙ refuses_over q refuses in
@@ -212,7 +279,7 @@ refused h a f v world q start ended now is says same gone =
     record {
       content = made.end.content;
       told = made.told;
-      answer = inl (answer ∙ sym (ap (λ (o : Option Reply). unwrap_or o (reply.Hibernated (n_of (image_to_save h a f)))) says));
+      answer = inl (answer ∙ sym (ap (λ (o : Option Reply). unwrap_or o (reply.Hibernated (n_of (image_to_save h a f)))) says), sym made.failed_is ∙ ap (λ (p : Point). p.failed) end ∙ unfailed);
       image = λ n hibernated. absurd (subst Refuses (sym answer ∙ hibernated) refuses);
       unwritten = λ b not. untouched.unwritten b;
       refused = λ r refused b. untouched.unwritten b;

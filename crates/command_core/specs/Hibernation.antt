@@ -3,7 +3,7 @@
 use Rattle.std.specs.Prelude.{◌≡◌, ◌⊎◌, ℕ, ◌∷◌, Bool, true, false, if◌then◌else◌, Option, Some, None, Result, Ok, Err, unwrap_or, Contains}
 use Rattle.page_core.specs.declared.format.Format.{Format}
 use Rattle.definitions.specs.Disk as disk
-use Rattle.plain_machine.specs.Chain.{Holds, is_marked_disk, blocks_of}
+use Rattle.plain_machine.specs.Chain.{Holds, Marked, is_marked_disk, blocks_of}
 use Rattle.plain_machine.specs.Image.{Image, image_of_memory, n_of}
 use Rattle.plain_machine.specs.Machine.{Hardware, Memory, block_of_slot}
 use Rattle.plain_machine.specs.Refusals.{refusal}
@@ -78,7 +78,11 @@ IsUpOrFails h a v world (Err ended) now = HasFailedEarly v ended now
 pub record HasHibernated (h : Hardware) (a : Running) (f : Format) (v : disk.Image) (ended : Ended) (now : Option disk.Content) : Type 0 where
   pub content : disk.Content
   pub told : now ≡ Some content
-  pub answer : (ended.reply ≡ hibernation_answer h a f) ⊎ (IsFault ended.reply × (ended.failed ≡ true))
+  pub answer : ((ended.reply ≡ hibernation_answer h a f) × (ended.failed ≡ false)) ⊎ (IsFault ended.reply × (ended.failed ≡ true))
   pub image : (n : ℕ) → ended.reply ≡ reply.Hibernated n → EachImage content (λ w. Holds h w (image_to_save h a f))
   pub unwritten : (b : ℕ) → (Contains (block_of_slot h 0 ∷ laid_blocks h a (image_to_save h a f)) b → ⊥) → LeavesBlock b (disk.settled v) content
   pub refused : (r : Reply) → refusal h (on a) (event.Hibernate f) ≡ Some r → (b : ℕ) → LeavesBlock b (disk.settled v) content
+
+-- An image that isn't marked, or holds this one.
+abbrev pub IsUnmarkedOrHolds : Hardware → Image → disk.Image → Type 0
+IsUnmarkedOrHolds h i w = (Marked h w → ⊥) ⊎ Holds h w i

@@ -1,5 +1,5 @@
 -- A whole resume into the memory of a loader's dump.
-use Rattle.std.specs.Prelude.{◌≡◌, ◌≢◌, ◌⊎◌, ◌++◌, ◌∷◌, [], ℕ, true, List, Option, Some, ⊤}
+use Rattle.std.specs.Prelude.{◌≡◌, ◌≢◌, ◌⊎◌, ◌++◌, ◌∷◌, [], ℕ, true, false, List, Option, Some, ⊤}
 use Rattle.definitions.specs.Disk as disk
 use Rattle.plain_machine.specs.Chain.{Marked}
 use Rattle.plain_machine.specs.Machine.{Hardware, Memory, block_of_slot}
@@ -33,7 +33,7 @@ LeavesMark r = IsFault r
 pub record HasResumed (h : Hardware) (m : Memory) (check : IdentCheck) (v : disk.Image) (frames : Memory) (ended : Ended) (now : Option disk.Content) : Type 0 where
   pub content : disk.Content
   pub told : now ≡ Some content
-  pub answer : IsLast (trace h m v Table check) ended.reply ⊎ (IsFault ended.reply × (ended.failed ≡ true))
+  pub answer : (IsLast (trace h m v Table check) ended.reply × (ended.failed ≡ false)) ⊎ (IsFault ended.reply × (ended.failed ≡ true))
   pub restored : (n : ℕ) → ended.reply ≡ reply.Resumed n → frames ≡ restored_in h m v Table
   pub gone : LeavesMark ended.reply ⊎ EachImage content (λ w. Marked h w → ⊥)
   pub unwritten : (b : ℕ) → b ≢ block_of_slot h 0 → LeavesBlock b (disk.settled v) content

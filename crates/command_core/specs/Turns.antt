@@ -1,7 +1,9 @@
 -- Events of a command, one after another, by what the plain machine and the disk are at between them.
-use Rattle.std.specs.Prelude.{◌≡◌, ◌⊎◌, ℕ, zero, suc, Bool, true, false, Option, Some, Contains, ⊤}
+use Rattle.std.specs.Prelude.{◌≡◌, ◌⊎◌, ◌≤◌, ℕ, zero, suc, Bool, true, false, Option, Some, Contains, ⊤}
 use Rattle.definitions.specs.Disk as disk
 use Rattle.plain_machine.specs.Machine.{Hardware, Memory}
+use Rattle.plain_machine.specs.Shows.{Shown}
+use Rattle.plain_machine.specs.Stands.{Stands}
 use Rattle.plain_machine.specs.State.{State, loading, Load}
 use Rattle.plain_machine.specs.Step.{Step}
 use Rattle.plain_machine.specs.declared.event.Actor.TheVariants as actor
@@ -9,7 +11,7 @@ use Rattle.plain_machine.specs.declared.event.Event.{Event}
 use Rattle.plain_machine.specs.declared.event.Event.TheVariants as event
 use Rattle.plain_machine.specs.declared.reply.Reply.{Reply}
 use Rattle.plain_machine.specs.declared.reply.Reply.TheVariants as reply
-use Rattle.protocol_laws.specs.Rows.{IsSameArea, LeavesBlock, blocks_written, IsNewFault}
+use Rattle.protocol_laws.specs.Rows.{IsSameArea, LeavesBlock, LeavesHeader, blocks_written, IsNewFault}
 use Rattle.resume_core.specs.Row.{restored_by}
 use Rattle.world_core.specs.StandsFor.{StandsFor}
 use Rattle.world_core.specs.World.{World}
@@ -38,22 +40,50 @@ pub record Point : Type 0 where
   pub content : disk.Content
   pub frames : Memory
 
--- The plain machine gives the reply to this event, and goes on to the state. The area on the disk stays, and no other block is written
--- than it may write. A call that failed is noticed. Where a resume has ended the page frames are those that it restores.
+-- something stands for the state over that disk
+abbrev pub StandsAt : Hardware → Point → Type 0
+StandsAt h p = (shown : Shown) × Stands h shown p.content p.state
+
+-- The plain machine gives the reply to this event, and goes on to the state, for which the disk stands. The area on the disk stays, no
+-- other block is written than it may write, and block(0) is left so. A call that failed is noticed, and none else. Where a resume has ended
+-- the page frames are those that it restores.
 pub record IsTurn (h : Hardware) (e : Event) (old new : Point) : Type 0 where
   pub step : Step h (disk.as_it_reads old.content) old.state e new.reply new.state
   pub area : IsSameArea h (disk.as_it_reads old.content) (disk.as_it_reads new.content)
   pub unwritten : (b : ℕ) → (Contains (blocks_written h old.state) b → ⊥) → LeavesBlock b old.content new.content
+  pub header : LeavesHeader h old.state old.content new.content
+  pub stands : StandsAt h new
   pub blocks : ℕ
   pub whole : disk.IsContent blocks new.content
   pub noticed : IsNewFault new.reply → new.failed ≡ true
   pub noted : old.failed ≡ true → new.failed ≡ true
+  pub no_other : new.failed ≡ true → (old.failed ≡ true) ⊎ IsNewFault new.reply
   pub restored : (load : Load) (k n : ℕ) → e ≡ event.Step actor.Core → old.state ≡ loading load k → new.reply ≡ reply.Resumed n → new.frames ≡ restored_by h load
 
 -- so many steps of the core, each after a reply that goes on
 abbrev pub AreSteps : Hardware → ℕ → Point → Point → Type 0
 AreSteps h zero old new = new ≡ old
 AreSteps h (suc n) old new = (mid : Point) × AreSteps h n old mid × (goes_on mid.reply ≡ true) × IsTurn h (event.Step actor.Core) mid new
+
+-- A crash inside a step from this point on may leave this image: it has each sector from before the step or after it.
+pub record IsLeftInside (h : Hardware) (start : Point) (w : disk.Image) : Type 0 where
+  pub steps : ℕ
+  pub before : Point
+  pub after : Point
+  pub are : AreSteps h steps start before
+  pub goes : goes_on before.reply ≡ true
+  pub turn : IsTurn h (event.Step actor.Core) before after
+  pub mixed : disk.IsMixture before.content after.content w
+
+-- So time goes on over such steps: `past` and `since` are what a crash since a moment might have left, before them and after.
+pub record Elapsed (h : Hardware) (start : Point) (before now : ℕ) (past since : ℕ → disk.Image → Type 0) : Type 0 where
+  pub later : before ≤ now
+  pub nothing_else : (t : ℕ) (w : disk.Image) → t ≤ before → since t w → past t w ⊎ IsLeftInside h start w
+
+-- A crash since that moment leaves this image, and no other.
+pub record IsStill (before now : ℕ) (since : ℕ → disk.Image → Type 0) (v : disk.Image) : Type 0 where
+  pub later : before ≤ now
+  pub same : (w : disk.Image) → since before w → w ≡ v
 
 -- so many steps from this point on have led to this reply, and to what the world and the disk stand for
 pub record HaveMade (h : Hardware) (world : World) (start : Point) (steps : ℕ) (r : Reply) (failed : Bool) (now : Option disk.Content) : Type 0 where

@@ -4,7 +4,8 @@ ghost use Rattle.plain_machine.specs.Chain.{Marked};
 ghost use Rattle.plain_machine.specs.Machine.{IsHardware};
 ghost use Rattle.plain_machine.specs.Premises.{HasOriginal};
 ghost use Rattle.world_core.specs.StandsFor.{IsNew, IsOff, blocks_of, hardware_of};
-ghost use Rattle.command_core.specs.Hibernation.{HasHibernated, IsUpOrFails, is_booted, machine_of_dump, machine_to_save};
+ghost use Rattle.command_core.specs.Turns.{IsStill};
+ghost use Rattle.command_core.specs.Hibernation.{HasHibernated, IsUnmarkedOrHolds, IsUpOrFails, image_to_save, is_booted, machine_of_dump, machine_to_save};
 
 use crate::ending::{Ended, finish, goes_on};
 use page_core::Format;
@@ -24,6 +25,8 @@ pub fn hibernate<D: Disk>(
     requires new { IsNew (hardware_of world.old) (Some world.old.frames) world.old }
     ensures hibernated { (v : Image) → D.content disk.old ≡ Some (settled v) → (Marked (hardware_of world.old) v → HasOriginal (hardware_of world.old) v) →
         HasHibernated (hardware_of world.old) (machine_to_save (hardware_of world.old) world.old.frames size v) format v result (D.content disk.new) }
+    ensures inside { IsTrue (D.tells_moments disk.old) → (v : Image) → D.content disk.old ≡ Some (settled v) → (Marked (hardware_of world.old) v → ⊥) → (w : Image) → D.left_since disk.new (D.moment disk.old) w →
+        IsUnmarkedOrHolds (hardware_of world.old) (image_to_save (hardware_of world.old) (machine_to_save (hardware_of world.old) world.old.frames size v) format) w }
     ensures hardware { hardware_of world.new ≡ hardware_of world.old }
     ensures cause { IsTrue result.failed → HasRisen (D.faults disk.old) (D.faults disk.new) }
     ensures faults { D.faults disk.old ≤ D.faults disk.new }
@@ -43,6 +46,9 @@ fn start<D: Disk>(world: &mut World, disk: &mut D, size: Option<u64>) -> Result<
     requires new { IsNew (hardware_of world.old) (Some world.old.frames) world.old }
     ensures up { (v : Image) → D.content disk.old ≡ Some (settled v) → (Marked (hardware_of world.old) v → HasOriginal (hardware_of world.old) v) →
         IsUpOrFails (hardware_of world.old) (machine_to_save (hardware_of world.old) world.old.frames size v) v world.new result (D.content disk.new) }
+    ensures still { IsTrue (D.tells_moments disk.old) → (v : Image) → D.content disk.old ≡ Some (settled v) → (Marked (hardware_of world.old) v → HasOriginal (hardware_of world.old) v) →
+        IsStill (D.moment disk.old) (D.moment disk.new) (D.left_since disk.new) v }
+    ensures telling { D.tells_moments disk.new ≡ D.tells_moments disk.old }
     ensures hardware { hardware_of world.new ≡ hardware_of world.old }
     ensures cause { IfErr result (λ ended. IsTrue ended.failed → HasRisen (D.faults disk.old) (D.faults disk.new)) }
     ensures faults { D.faults disk.old ≤ D.faults disk.new }
@@ -65,6 +71,9 @@ fn boot<D: Disk>(world: &mut World, disk: &mut D) -> Result<(), Ended>
     requires new { IsNew (hardware_of world.old) (Some world.old.frames) world.old }
     ensures booted { (v : Image) → D.content disk.old ≡ Some (settled v) → (Marked (hardware_of world.old) v → HasOriginal (hardware_of world.old) v) →
         IsUpOrFails (hardware_of world.old) (machine_of_dump (hardware_of world.old) world.old.frames v) v world.new result (D.content disk.new) }
+    ensures still { IsTrue (D.tells_moments disk.old) → (v : Image) → D.content disk.old ≡ Some (settled v) → (Marked (hardware_of world.old) v → HasOriginal (hardware_of world.old) v) →
+        IsStill (D.moment disk.old) (D.moment disk.new) (D.left_since disk.new) v }
+    ensures telling { D.tells_moments disk.new ≡ D.tells_moments disk.old }
     ensures hardware { hardware_of world.new ≡ hardware_of world.old }
     ensures cause { IfErr result (λ ended. IsTrue ended.failed → HasRisen (D.faults disk.old) (D.faults disk.new)) }
     ensures faults { D.faults disk.old ≤ D.faults disk.new }

@@ -1,5 +1,5 @@
 -- What a resume that isn't made would answer.
-use Rattle.std.specs.Prelude.{◌≡◌, ◌⊎◌, ℕ, true}
+use Rattle.std.specs.Prelude.{◌≡◌, ◌⊎◌, ℕ, true, false}
 use Rattle.definitions.specs.Disk as disk
 use Rattle.plain_machine.specs.Machine.{Hardware, Memory}
 use Rattle.plain_machine.specs.Trace.{trace, restored_in}
@@ -13,5 +13,5 @@ use Rattle.command_core.specs.declared.ending.Ended.{Ended}
 -- The answer over a disk that reads as v: the last reply of a resume's trace, unless a call of the disk has failed. Where that is Resumed,
 -- the page frames are those that it would restore.
 pub record Foretells (h : Hardware) (m : Memory) (check : IdentCheck) (v : disk.Image) (frames : Memory) (ended : Ended) : Type 0 where
-  pub answer : IsLast (trace h m v Table check) ended.reply ⊎ (IsFault ended.reply × (ended.failed ≡ true))
+  pub answer : (IsLast (trace h m v Table check) ended.reply × (ended.failed ≡ false)) ⊎ (IsFault ended.reply × (ended.failed ≡ true))
   pub restored : (n : ℕ) → ended.reply ≡ reply.Resumed n → frames ≡ restored_in h m v Table

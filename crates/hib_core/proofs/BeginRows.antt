@@ -1,4 +1,5 @@
 -- The rows of the begin of a hibernation, and what its next step needs.
+use Rattle.protocol_laws.proofs.HeaderLeft.{left_same}
 use Rattle.protocol_laws.proofs.Unwritten.{block_same}
 use Rattle.std.proofs.Common.{◌≡◌, ◌<◌, ◌^◌, ℕ, ◌+◌, inl, inr, true, false, List, [], ◌∷◌, length, get_or, map, take, refl, sym, ap, ap₂, ◌∙◌, subst, arith, All, Contains, Some, None, IfOk}
 use Rattle.page_core.specs.declared.format.Format.{Format}
@@ -95,6 +96,7 @@ refused_row machine frames hib last f r c refused idle s stands =
         area = same_area machine.hw (disk.as_it_reads c);
         unwritten = λ b not. block_same b _;
         leaves = subst (λ (t : State). LeavesImage machine.hw (event_of (saving last f)) r t c) (sym at.1) (leaves_refused machine.hw (event_of (saving last f)) r (on a) c why);
+        header = left_same machine.hw s c;
       },
     )
 
@@ -233,6 +235,7 @@ begun_row machine frames frames' hib hib' counts last f c laws is ends format s 
         area = same_area h (disk.as_it_reads c);
         unwritten = λ b not. block_same b _;
         leaves = leaves_begun h last f (reply.More 0 hib'.of) s c;
+        header = left_same h s c;
       },
     )
 

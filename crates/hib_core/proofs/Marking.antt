@@ -74,6 +74,7 @@ marked_row machine frames runs hib c c' marks_on keeps unmarked can at whole who
         area = mark_keeps machine frames runs hib c c' i a keeps unmarked can whole place s (inl writes);
         unwritten = λ b not. unwritten_mark machine.hw a i hib.made b c c' place writes.others not;
         leaves = tt;
+        header = tt;
       },
     ))
 
@@ -97,6 +98,7 @@ mark_failed_row machine frames runs hib c c' mark_fails keeps unmarked can at wh
         area = mark_keeps machine frames runs hib c c' i a keeps unmarked can whole place s (inr fails);
         unwritten = λ b not. unwritten_mark machine.hw a i hib.made b c c' place fails.others not;
         leaves = tt;
+        header = tt;
       },
     ))
 
@@ -122,6 +124,7 @@ ended_row machine frames runs hib c c' ends keeps can at off_then whole syncs =
         area = keeps machine.hw c c' syncs;
         unwritten = λ b not. block_synced machine.blocks b c c' whole syncs;
         leaves = end_leaves machine.hw (shown_by machine frames hib) c c' machine.blocks false i a hib.made (is_over machine frames runs hib c a i can whole of) s.stands place syncs;
+        header = tt;
       },
     ))
 
@@ -145,6 +148,7 @@ asleep_row machine frames runs hib c c' keeps can at sleeps_then whole syncs =
         area = keeps machine.hw c c' syncs;
         unwritten = λ b not. block_synced machine.blocks b c c' whole syncs;
         leaves = end_leaves machine.hw (shown_by machine frames hib) c c' machine.blocks true i a hib.made (is_over machine frames runs hib c a i can whole of) s.stands place syncs;
+        header = tt;
       },
     ))
 
@@ -166,5 +170,6 @@ end_failed_row machine frames runs hib c end_fails can at =
         area = same_area machine.hw (disk.as_it_reads c);
         unwritten = λ b not. block_same b _;
         leaves = tt;
+        header = tt;
       },
     ))

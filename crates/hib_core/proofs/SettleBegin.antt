@@ -14,6 +14,7 @@ use Rattle.plain_machine.specs.declared.held.Held.{Held as HeldFlag}
 use Rattle.plain_machine.specs.declared.held.Held.TheVariants.{No}
 use Rattle.plain_machine.specs.declared.reply.Reply.{Reply}
 use Rattle.plain_machine.specs.declared.reply.Reply.TheVariants as reply
+use Rattle.protocol_laws.proofs.HeaderLeft.{left_same}
 use Rattle.protocol_laws.proofs.Settling.{settle_begins}
 use Rattle.protocol_laws.proofs.Unwritten.{block_same}
 use Rattle.machine.specs.declared.machine.Machine.{Machine}
@@ -67,6 +68,7 @@ refused_settle_row machine frames hib r c refused s stands =
         area = same_area machine.hw (disk.as_it_reads c);
         unwritten = λ b not_in. block_same b _;
         leaves = tt;
+        header = left_same machine.hw s c;
       },
     )
 
@@ -92,6 +94,7 @@ settle_begun_row machine frames hib c idle some s stands =
         area = same_area machine.hw (disk.as_it_reads c);
         unwritten = λ b not_in. block_same b _;
         leaves = tt;
+        header = left_same machine.hw s c;
       },
     )
 

@@ -63,6 +63,7 @@ settle_read_row machine frames hib header c at read =
         area = same_area machine.hw (disk.as_it_reads c);
         unwritten = λ b not_in. block_same b _;
         leaves = tt;
+        header = tt;
       },
     ))
 
@@ -83,6 +84,7 @@ settle_read_failed_row machine frames hib header c at =
         area = same_area machine.hw (disk.as_it_reads c);
         unwritten = λ b not_in. block_same b _;
         leaves = tt;
+        header = tt;
       },
     ))
 
@@ -104,6 +106,7 @@ settle_write_row machine frames runs hib c c' can at whole whole' writes =
         area = settle_keeps_area machine.hw (shown_by machine frames hib) c c' machine.blocks a over s.stands (inl writes);
         unwritten = λ b not_in. unwritten_header machine.hw [] b c c' writes.others not_in;
         leaves = tt;
+        header = tt;
       },
     ))
 
@@ -142,6 +145,7 @@ settle_write_failed_row machine frames runs hib c c' can at whole whole' fails =
         area = settle_keeps_area machine.hw (shown_by machine frames hib) c c' machine.blocks a over s.stands (inr fails);
         unwritten = λ b not_in. unwritten_header machine.hw [] b c c' fails.others not_in;
         leaves = tt;
+        header = tt;
       },
     ))
 
@@ -169,6 +173,7 @@ settled_row machine frames frames' runs hib c c' keeps given_back none_left can 
         area = keeps machine.hw c c' syncs;
         unwritten = λ b not_in. block_synced machine.blocks b c c' whole syncs;
         leaves = tt;
+        header = tt;
       },
     ))
 
@@ -190,5 +195,6 @@ settle_sync_failed_row machine frames hib c at =
         area = same_area machine.hw (disk.as_it_reads c);
         unwritten = λ b not_in. block_same b _;
         leaves = tt;
+        header = tt;
       },
     ))

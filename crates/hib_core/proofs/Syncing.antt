@@ -71,6 +71,7 @@ synced_row machine frames runs hib c c' syncs_on keeps can at whole syncs =
         area = keeps machine.hw c c' syncs;
         unwritten = λ b not. block_synced machine.blocks b c c' whole syncs;
         leaves = tt;
+        header = tt;
       },
     ))
 
@@ -99,6 +100,7 @@ fails_row machine frames frames' runs hib hib' c r call_fails given_back none_le
         area = same_area machine.hw (disk.as_it_reads c);
         unwritten = λ b not. block_same b _;
         leaves = leaves i a;
+        header = tt;
       },
     ))
 
@@ -135,6 +137,7 @@ read_row machine frames runs hib header c reads_on can at whole read =
         area = same_area machine.hw (disk.as_it_reads c);
         unwritten = λ b not. block_same b _;
         leaves = tt;
+        header = tt;
       },
     ))
 

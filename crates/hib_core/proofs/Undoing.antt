@@ -1,6 +1,8 @@
 -- The rows of an undo.
 use Rattle.protocol_laws.proofs.Leaving.{leaves_undoing}
 use Rattle.protocol_laws.proofs.Unwritten.{block_same, block_synced, unwritten_header}
+use Rattle.protocol_laws.proofs.HeaderLeft.{marks_same, marks_synced}
+use Rattle.protocol_laws.proofs.Undone.{undo_adds_no_mark}
 use Rattle.std.proofs.Common.{◌≡◌, List, All, [], inl, inr, refl, sym, ap, ◌∙◌, subst}
 use Rattle.definitions.specs.Bytes.{IsPage}
 use Rattle.definitions.specs.Disk as disk
@@ -71,6 +73,7 @@ back_row machine frames runs hib c c' call undo_writes keeps can page back at wh
         area = back_keeps machine frames runs hib c c' i call a keeps can whole back s (inl writes);
         unwritten = λ b not. unwritten_header machine.hw [] b c c' writes.others not;
         leaves = tt;
+        header = undo_adds_no_mark machine.hw (shown_by machine frames hib) c c' machine.blocks i call a (is_over machine frames runs hib c a i can whole of) page s.stands (inl writes);
       },
     ))
 
@@ -101,6 +104,7 @@ back_failed_row machine frames runs hib c c' call undo_write_fails keeps can pag
         area = back_keeps machine frames runs hib c c' i call a keeps can whole back s (inr fails);
         unwritten = λ b not. unwritten_header machine.hw [] b c c' fails.others not;
         leaves = leaves_undoing machine.hw (undone_fault call Unsure) i call a 0 c';
+        header = undo_adds_no_mark machine.hw (shown_by machine frames hib) c c' machine.blocks i call a (is_over machine frames runs hib c a i can whole s.image) page s.stands (inr fails);
       },
     ))
 
@@ -128,6 +132,7 @@ undone_row machine frames frames' runs hib c c' call undo_syncs keeps given_back
         area = keeps machine.hw c c' syncs;
         unwritten = λ b not. block_synced machine.blocks b c c' whole syncs;
         leaves = leaves_undoing machine.hw (undone_fault call Gone) i call a 1 c';
+        header = marks_synced machine.hw machine.blocks c c' whole syncs;
       },
     ))
 
@@ -148,5 +153,6 @@ end_failed_row machine frames runs hib c call undo_sync_fails can at whole =
         area = same_area machine.hw (disk.as_it_reads c);
         unwritten = λ b not. block_same b _;
         leaves = leaves_undoing machine.hw (undone_fault call Unsure) i call a 1 c;
+        header = marks_same machine.hw c;
       },
     ))

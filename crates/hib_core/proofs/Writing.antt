@@ -138,6 +138,7 @@ written_row machine frames frames' runs hib c c' w w' next writes_next shows_sti
             (elsewhere machine.hw (shown_by machine frames hib) c machine.blocks (suspends_at hib.ending) i a hib.made over s.stands place) (inl made_it);
         unwritten = λ b not. unwritten_slot machine.hw a i hib.made b c c' place made_it.others not;
         leaves = tt;
+        header = tt;
       },
     ))
 
@@ -169,6 +170,7 @@ write_failed_row machine frames mid frames' runs hib hib' c c' w writes_next sho
             (elsewhere machine.hw (shown_by machine frames hib) c machine.blocks (suspends_at hib.ending) i a hib.made over s.stands place) (inr failed);
         unwritten = λ b not. unwritten_slot machine.hw a i hib.made b c c' place failed.others not;
         leaves = tt;
+        header = tt;
       },
     ))
 

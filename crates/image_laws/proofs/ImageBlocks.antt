@@ -72,7 +72,7 @@ long blocks c v s whole is lt =
     All-contains (λ bytes. length bytes ≡ 512) (sector c s).candidates (get_or v s []) (whole.sectors s no_sector lt).each (is.chosen s lt)
 
 -- an image with another candidate in one sector is an image
-changed_image : (c : Content) (v : Image) (s : ℕ) (x : List ℕ) → IsImage c v → s < length c → Contains (sector c s).candidates x → IsImage c (set v s x)
+pub changed_image : (c : Content) (v : Image) (s : ℕ) (x : List ℕ) → IsImage c v → s < length c → Contains (sector c s).candidates x → IsImage c (set v s x)
 changed_image c v s x is lt candidate = record {
   size = length-set v s x ∙ is.size;
   chosen = λ i i_lt. elim (cases_eq i s) [
@@ -160,7 +160,7 @@ same_sector p q k j agree apart =
     ])
 
 -- Where p and q differ within sector k alone, a block whose sectors are p's or q's is p or q.
-either_whole : (v : Image) (b k : ℕ) (p q : List ℕ) → IsPage p → IsPage q → k < 8 → AgreeBut (512 * k) (512 * k + 512) p q → 8 * b + 8 ≤ length v → ((j : ℕ) → j < 8 → AreEither v b p q j) → (block v b ≡ p) ⊎ (block v b ≡ q)
+pub either_whole : (v : Image) (b k : ℕ) (p q : List ℕ) → IsPage p → IsPage q → k < 8 → AgreeBut (512 * k) (512 * k + 512) p q → 8 * b + 8 ≤ length v → ((j : ℕ) → j < 8 → AreEither v b p q j) → (block v b ≡ p) ⊎ (block v b ≡ q)
 either_whole v b k p q p_whole q_whole k_lt agree within each =
     let apart_p : (j : ℕ) → j < 8 → j ≢ k → get_or v (8 * b + j) [] ≡ sector_bytes p j = λ j few apart.
     elim (each j few) [ inl old_bytes ↦ old_bytes | inr new_bytes ↦ new_bytes ∙ sym (same_sector p q k j agree apart) ] in

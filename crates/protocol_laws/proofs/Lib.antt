@@ -12,6 +12,8 @@ pub mod Ending
 pub mod Beginning
 pub mod Finding
 pub mod HeaderBack
+pub mod HeaderLeft
+pub mod Inside
 pub mod TakingBack
 pub mod Resumed
 pub mod OwnChain

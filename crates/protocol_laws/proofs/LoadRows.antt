@@ -34,10 +34,12 @@ use Rattle.protocol_laws.specs.LoadRows.{IsFoundOn, IsFoundIn, with_finding, Goe
 use Rattle.protocol_laws.specs.Resuming.{IsHeldOwn, with_found}
 use Rattle.protocol_laws.specs.ResumingOther.{IsHeldOther, with_found_other}
 use Rattle.protocol_laws.specs.OwnTrace.{own_reply}
-use Rattle.protocol_laws.specs.Rows.{IsSameArea}
+use Rattle.protocol_laws.specs.Rows.{IsSameArea, KeepsHeaderOrTakesBack}
 use Rattle.protocol_laws.specs.TraceAt.{reply_at}
 use Rattle.protocol_laws.proofs.AreaKept.{kept_by_sync, kept_by_taking_back}
 use Rattle.protocol_laws.proofs.Finding.{load_syncs, finds_none, finds_own}
+use Rattle.protocol_laws.proofs.HeaderBack.{is_before}
+use Rattle.protocol_laws.proofs.HeaderLeft.{header_same, header_synced, header_written}
 use Rattle.protocol_laws.proofs.LoadReplies.{differ, no_header, traced_at, own_within, own_answers, no_mark, a_mark, stop_late, cause_stops, stop_kind, stops_cause, tables_fit}
 use Rattle.protocol_laws.proofs.LoadSteps.{IsThere, there_own, there_other, by_core, fault_step, late_fault, own_goes, own_outcome, other_goes, stopped_off, find_goes, finds_traced}
 use Rattle.protocol_laws.proofs.Other.{finds_other, stops_at_other, takes_other_back, take_other_back_fails}
@@ -65,6 +67,7 @@ load_sync_row h shown shown' c c' blocks load whole stands syncs shows = record 
   stands = load_syncs h shown shown' c c' blocks load whole stands syncs shows;
   area = kept_by_sync h c c' syncs;
   unwritten = λ b not. block_synced blocks b c c' whole syncs;
+  header = header_synced h blocks c c' whole syncs;
   leaves = tt;
 }
 
@@ -76,6 +79,7 @@ early_fault h shown shown' c load k r there held fault stands rest = record {
   stands = load_fails h shown shown' c load k held stands rest.0 rest.1;
   area = same_area h (disk.as_it_reads c);
   unwritten = λ b not. block_same b _;
+  header = header_same h c;
   leaves = leaves_loading h r load k c;
 }
 
@@ -108,6 +112,7 @@ find_none_row h shown shown' c blocks load whole stands says rest =
       stands = finds_none h shown shown' c blocks load whole stands (no_mark h v says) rest.0 rest.1;
       area = same_area h v;
       unwritten = λ b not. block_same b _;
+      header = header_same h c;
       leaves = tt;
     }
 
@@ -143,6 +148,7 @@ find_compressed_row h shown shown' c blocks flags load whole stands says rest =
       stands = stops_at_other h shown shown' c blocks load whole stands held (a_mark h v (Some (reply.Compressed flags)) says (not_no_image flags)) rest.0 rest.1;
       area = same_area h v;
       unwritten = λ b not. block_same b _;
+      header = header_same h c;
       leaves = tt;
     }
 
@@ -160,7 +166,7 @@ finds_it_own : (h : Hardware) (shown shown' : Shown) (c : disk.Content) (blocks 
 finds_it_own h shown shown' c blocks load i hw whole stands marked header held holds is step = (
   found_own i,
   (holds, is),
-  λ shows. record { step = step; stands = finds_own h shown shown' c blocks load i whole stands held marked header shows; unwritten = λ b not. block_same b _; area = same_area h (disk.as_it_reads c); leaves = tt },
+  λ shows. record { step = step; stands = finds_own h shown shown' c blocks load i whole stands held marked header shows; unwritten = λ b not. block_same b _; area = same_area h (disk.as_it_reads c); leaves = tt; header = header_same h c },
 )
 
 finds_it_other : (h : Hardware) (shown shown' : Shown) (c : disk.Content) (blocks : ℕ) (load : Load) → disk.IsContent blocks c → Stands h shown c (loading load 1) → Marked h (disk.as_it_reads c) →
@@ -174,6 +180,7 @@ finds_it_other h shown shown' c blocks load whole stands marked header says held
         stands = finds_other h shown shown' c blocks load whole stands held marked header shows;
         area = same_area h v;
         unwritten = λ b not. block_same b _;
+        header = header_same h c;
         leaves = tt;
       },
     )
@@ -236,6 +243,10 @@ back_area h shown c c' blocks load v whole stands is tries =
     kept_by_taking_back h blocks c c' whole stands.parts.0.1 (marked_before h shown c blocks load v load.found whole stands is)
     (subst (λ (page : List ℕ). Tries (block_of_slot h 0) (taken_back page) c c') (stands.parts.3 refl) tries)
 
+header_tried : (h : Hardware) (shown : Shown) (c c' : disk.Content) (blocks : ℕ) (load : Load) (v : disk.Image) → disk.IsContent blocks c → Stands h shown c (loading load 2) → IsFoundIn h load v → Tries (block_of_slot h 0) (taken_back shown.header) c c' → KeepsHeaderOrTakesBack h c c'
+header_tried h shown c c' blocks load v whole stands is tries =
+    header_written h shown c c' blocks (is_before h shown c blocks whole (stands.parts.2 (inr refl)) (stands.parts.3 refl) (marked_before h shown c blocks load v load.found whole stands is) stands.parts.0.1) tries
+
 back_stands : (h : Hardware) (shown shown' : Shown) (c c' : disk.Content) (blocks : ℕ) (load : Load) (v : disk.Image) (found : Found) → IsHardware h → disk.IsContent blocks c → disk.IsContent blocks c' → Stands h shown c (loading (with_finding load found) 2) →
     IsFoundOn h v found → disk.Writes (block_of_slot h 0) (taken_back shown.header) c c' → ShowsLoad h shown' (with_finding load found) 3 → Stands h shown' c' (loading (with_finding load found) 3)
 back_stands h shown shown' c c' blocks load v not_yet hw whole after stands is writes shows = absurd is
@@ -249,6 +260,7 @@ take_back_row h shown shown' c c' blocks load v hw whole after stands is gone wr
   stands = back_stands h shown shown' c c' blocks load v load.found hw whole after stands is writes shows;
   area = back_area h shown c c' blocks load v whole stands is (inl writes);
   unwritten = λ b not. unwritten_header h [] b c c' writes.others not;
+  header = header_tried h shown c c' blocks load v whole stands is (inl writes);
   leaves = tt;
 }
 
@@ -265,6 +277,7 @@ take_back_fault_row h shown shown' c c' blocks load v hw whole after stands is f
   stands = back_fails h shown shown' c c' blocks load v load.found hw whole after stands is fails rest;
   area = back_area h shown c c' blocks load v whole stands is (inr fails);
   unwritten = λ b not. unwritten_header h [] b c c' fails.others not;
+  header = header_tried h shown c c' blocks load v whole stands is (inr fails);
   leaves = tt;
 }
 
@@ -277,6 +290,7 @@ back_sync_row h shown shown' c c' blocks load v hw whole stands is gone syncs no
   stands = unmarked_synced h shown shown' c c' blocks load whole stands syncs shows;
   area = kept_by_sync h c c' syncs;
   unwritten = λ b not. block_synced blocks b c c' whole syncs;
+  header = header_synced h blocks c c' whole syncs;
   leaves = tt;
 }
 
@@ -301,6 +315,7 @@ back_sync_stop_row h shown shown' c c' blocks load v r hw whole stands is gone s
       };
       area = kept_by_sync h c c' syncs;
       unwritten = λ b not. block_synced blocks b c c' whole syncs;
+      header = header_synced h blocks c c' whole syncs;
       leaves = leaves_loading h r load 3 c';
     }
 
@@ -310,6 +325,7 @@ back_sync_fault_row h shown shown' c load stands rest = record {
   stands = record { activity = rest.0; parts = (rest.1, stands.parts.0) };
   area = same_area h (disk.as_it_reads c);
   unwritten = λ b not. block_same b _;
+  header = header_same h c;
   leaves = tt;
 }
 
@@ -324,6 +340,7 @@ read_row h shown shown' c load v k reads says shows =
       stands = page_read h shown shown' c load k late reads.stands shows;
       area = same_area h (disk.as_it_reads c);
       unwritten = λ b not. block_same b _;
+      header = header_same h c;
       leaves = tt;
     }
 
@@ -354,6 +371,7 @@ read_stop_row h shown shown' c load v k r reads says stop rest = record {
   stands = load_stops h shown shown' c load k reads.late reads.stands rest.0 rest.1;
   area = same_area h (disk.as_it_reads c);
   unwritten = λ b not. block_same b _;
+  header = header_same h c;
   leaves = leaves_loading h r load k c;
 }
 
@@ -371,6 +389,7 @@ read_fault_row h shown shown' c load v k reads rest = record {
   stands = load_stops h shown shown' c load k reads.late reads.stands rest.0 rest.1;
   area = same_area h (disk.as_it_reads c);
   unwritten = λ b not. block_same b _;
+  header = header_same h c;
   leaves = tt;
 }
 
@@ -416,6 +435,7 @@ own_ends h shown shown' c blocks load ranges v i k n whole reads scripted says a
             (resumes h shown shown' c blocks load i k reads.hardware whole late reads.stands activity (shows_memory h shown' m (restored h load.dump load.loader i) no_slots i.slots same shows) names);
         area = same_area h (disk.as_it_reads c);
         unwritten = λ b not. block_same b _;
+        header = header_same h c;
         leaves = tt;
       },
     )
@@ -436,6 +456,7 @@ other_ends h shown shown' c blocks load ranges v k n whole reads scripted says a
         stands = resumes_other h shown shown' c blocks load v k reads.hardware whole late reads.stands marked fit activity (shows_memory h shown' m m no_slots slots refl shows) names;
         area = same_area h (disk.as_it_reads c);
         unwritten = λ b not. block_same b _;
+        header = header_same h c;
         leaves = tt;
       },
     )
@@ -473,6 +494,7 @@ read_resumed_off_row h shown shown' c load v k n reads from says rest =
       stands = load_stops h shown shown' c load k late reads.stands rest.0 rest.1;
       area = same_area h (disk.as_it_reads c);
       unwritten = λ b not. block_same b _;
+      header = header_same h c;
       leaves = tt;
     }
 

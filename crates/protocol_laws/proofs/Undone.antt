@@ -22,6 +22,8 @@ use Rattle.image_laws.proofs.ImageBlocks.{length-taken_back}
 use Rattle.image_write.proofs.Done.{write_at, all_done}
 use Rattle.protocol_laws.specs.Steps.{IsOver}
 use Rattle.protocol_laws.specs.Undo.{with_held}
+use Rattle.protocol_laws.specs.Rows.{AddsNoMark}
+use Rattle.protocol_laws.proofs.HeaderLeft.{marks_written}
 use Rattle.protocol_laws.proofs.Same.{header_kept, area_kept, by_sync}
 use Rattle.protocol_laws.proofs.Places.{IsUsable, usable_area, free_not_header, task_not_header}
 use Rattle.protocol_laws.proofs.Laid.{count_of, slot_of_write, done_of_take}
@@ -104,6 +106,12 @@ still_laid h shown c c' blocks i call a is = record {
   slots = λ s page e v in'. slots_torn h shown c blocks i call a v s page is.undoing_is e (each_torn h shown c c' blocks i call a v is in');
   mark = λ v in' marked. says_torn h shown c blocks i call a v is.undoing_is (each_torn h shown c c' blocks i call a v is in') marked;
 }
+
+-- A mark that a crash may leave afterwards it might have left before.
+pub undo_adds_no_mark : (h : Hardware) (shown : Shown) (c c' : disk.Content) (blocks : ℕ) (i : Image) (call : UndoCall) (a : Running) → IsOver h i blocks c → IsPage shown.header → Stands h shown c (undoing i call a 0) →
+    Tries (block_of_slot h 0) (taken_back shown.header) c c' → AddsNoMark h c c'
+undo_adds_no_mark h shown c c' blocks i call a over page stands =
+    marks_written h (taken_back shown.header) c c' blocks (unmarking h shown c blocks i call a (record { over = over; page = page; stands = stands }))
 
 pub takes_mark_back : (h : Hardware) (shown shown' : Shown) (c c' : disk.Content) (blocks : ℕ) (i : Image) (call : UndoCall) (a : Running) → IsOver h i blocks c → IsPage shown.header → disk.IsContent blocks c' → Stands h shown c (undoing i call a 0) →
     disk.Writes (block_of_slot h 0) (taken_back shown.header) c c' → shown'.activity ≡ undoes call 1 → ShowsRunning h shown' a → NamesOnly h shown' (laid_blocks h a i) → Stands h shown' c' (undoing i call a 1)

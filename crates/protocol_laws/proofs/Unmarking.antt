@@ -60,10 +60,10 @@ area_front_by : (header : List ℕ) (b : Bool) → IsPage header → take 4056 (
 area_front_by header true whole = back_front header whole
 area_front_by header false whole = refl
 
-area_front : (h : Hardware) (v : disk.Image) → IsPage (header_of h v) → take 4056 (area_block h v) ≡ take 4056 (header_of h v)
+pub area_front : (h : Hardware) (v : disk.Image) → IsPage (header_of h v) → take 4056 (area_block h v) ≡ take 4056 (header_of h v)
 area_front h v whole = area_front_by (header_of h v) (pointwise nat_eq (sig_of (header_of h v)) image_signature) whole
 
-same_front : (p q : List ℕ) → IsPage p → IsPage q → take 4056 p ≡ take 4056 q → AgreeBut 3584 4096 p q
+pub same_front : (p q : List ℕ) → IsPage p → IsPage q → take 4056 p ≡ take 4056 q → AgreeBut 3584 4096 p q
 same_front p q a b front = record {
   size = a ∙ sym b;
   before = λ i lt. sym (get_or-take 4056 p i 0 (omega arith)) ∙ ap (λ (xs : List ℕ). get_or xs i 0) front ∙ get_or-take 4056 q i 0 (omega arith);

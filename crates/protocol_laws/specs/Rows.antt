@@ -1,8 +1,9 @@
 -- What an event makes of something that stands for a state of the plain machine over a disk: for each state that it stood for there is
 -- one that the plain machine goes on to.
-use Rattle.std.specs.Prelude.{◌≡◌, ◌≤◌, ◌<◌, ◌+◌, ◌*◌, ◌==◌, ℕ, zero, Bool, false, List, [], ◌∷◌, length, All, flat_map, Contains, slice_index_or, Option, Some, None, ⊤, if◌then◌else◌, nat_lt}
+use Rattle.std.specs.Prelude.{◌≡◌, ◌⊎◌, ◌≤◌, ◌<◌, ◌+◌, ◌*◌, ◌==◌, ℕ, zero, Bool, false, List, [], ◌∷◌, length, All, flat_map, Contains, slice_index_or, Option, Some, None, ⊤, if◌then◌else◌, nat_lt}
 use Rattle.std.specs.List.{range_with_len}
 use Rattle.definitions.specs.Disk as disk
+use Rattle.definitions.specs.SwapHeader.{taken_back}
 use Rattle.plain_machine.specs.Machine.{Hardware, block_of_slot}
 use Rattle.plain_machine.specs.Chain.{Marked, header_of, blocks_of}
 use Rattle.plain_machine.specs.Image.{Image, hibernate_steps}
@@ -81,14 +82,30 @@ LeavesImage h (event.Step actor.Core) (reply.Hibernated n) (hibernating suspends
 LeavesImage h (event.Step actor.Core) (reply.Asleep n) (hibernating suspends i a k) c = EachImage c (HasImage h i a)
 LeavesImage h _ _ _ c = ⊤
 
+-- Each image that a crash may leave afterwards has in block(0) what a crash might have left there before, or that block taken back.
+abbrev pub KeepsHeaderOrTakesBack : Hardware → disk.Content → disk.Content → Type 0
+KeepsHeaderOrTakesBack h c c' =
+    (w : disk.Image) → disk.IsImage c' w → (v : disk.Image) × disk.IsImage c v × ((header_of h w ≡ header_of h v) ⊎ (header_of h w ≡ taken_back (header_of h v)))
+
+-- Each marked block(0) that a crash may leave afterwards it might have left before.
+abbrev pub AddsNoMark : Hardware → disk.Content → disk.Content → Type 0
+AddsNoMark h c c' = (w : disk.Image) → disk.IsImage c' w → Marked h w → (v : disk.Image) × disk.IsImage c v × (header_of h w ≡ header_of h v)
+
+-- what a step leaves of block(0) in a resume and in an undo
+abbrev pub LeavesHeader : Hardware → State → disk.Content → disk.Content → Type 0
+LeavesHeader h (loading load k) c c' = KeepsHeaderOrTakesBack h c c'
+LeavesHeader h (undoing i call a k) c c' = AddsNoMark h c c'
+LeavesHeader h _ c c' = ⊤
+
 -- The reply is one that the plain machine may give, and what is there afterwards stands for the state that it goes on to. The
--- area on the disk stays, and no other block than those is written.
+-- area on the disk stays, no other block than those is written, and block(0) is left so.
 pub record Leads (h : Hardware) (new : StandsBy) (e : Event) (r : Reply) (c c' : disk.Content) (a b : State) : Type 0 where
   pub step : Step h (disk.as_it_reads c) a e r b
   pub stands : new c' b
   pub area : IsSameArea h (disk.as_it_reads c) (disk.as_it_reads c')
   pub unwritten : (b : ℕ) → (Contains (blocks_at h e a) b → ⊥) → LeavesBlock b c c'
   pub leaves : LeavesImage h e r a c'
+  pub header : LeavesHeader h a c c'
 
 -- the row of an event over these contents of the disk, for each state that was stood for
 abbrev pub IsRow : Hardware → StandsBy → StandsBy → Event → Reply → disk.Content → disk.Content → Type 0

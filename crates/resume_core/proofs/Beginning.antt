@@ -88,5 +88,6 @@ begun_row machine frames frames' load x check begins none_read is shown c held k
         area = record { blocks = refl; header = record { front = refl; signature = refl } };
         unwritten = λ b not. block_same b _;
         leaves = tt;
+        header = tt;
       },
     )

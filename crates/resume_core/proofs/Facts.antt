@@ -62,7 +62,7 @@ row_at_load machine frames load machine' frames' load' e r c c' k is goes s stan
 -- a step that goes on to a state whose resume it is at
 pub leads : (machine : Machine) (frames : Memory) (load : Load) (r : Reply) (c c' : disk.Content) (a b : State) → HasEnded machine frames c' r a b → Goes machine.hw (shown_by machine frames load) r c c' a b → IsOfState machine frames load c' b →
     rows.Leads machine.hw (StandsAfter machine frames load r a) (event.Step actor.Core) r c c' a b
-leads machine frames load r c c' a b ended goes is = record { step = goes.step; stands = record { stands = goes.stands; resume = is; ended = ended }; area = goes.area; unwritten = goes.unwritten; leaves = goes.leaves }
+leads machine frames load r c c' a b ended goes is = record { step = goes.step; stands = record { stands = goes.stands; resume = is; ended = ended }; area = goes.area; unwritten = goes.unwritten; leaves = goes.leaves; header = goes.header }
 
 -- a resume that ends early leaves nothing to say of memory
 pub stopped_early : (machine : Machine) (frames : Memory) (c : disk.Content) (r : Reply) (a b : State) → IsStop r → HasEnded machine frames c r a b

@@ -18,6 +18,7 @@ use Rattle.protocol_laws.specs.Rows as rows
 use Rattle.protocol_laws.specs.Settling.{IsOnDisk, unmarked_block}
 use Rattle.protocol_laws.specs.Slots.{IsMemoryOf}
 use Rattle.protocol_laws.specs.Undo.{with_held}
+use Rattle.protocol_laws.proofs.HeaderLeft.{left_same}
 use Rattle.protocol_laws.proofs.AreaKept.{kept_by_sync}
 use Rattle.protocol_laws.proofs.Taking.{none_left, runs_given_back}
 use Rattle.protocol_laws.proofs.Unwritten.{block_same, block_synced, unwritten_header}
@@ -69,6 +70,7 @@ begun_row waker at machine frames c s stands =
         area = same_area machine.hw (disk.as_it_reads c);
         unwritten = λ b not_in. block_same b _;
         leaves = tt;
+        header = left_same machine.hw s c;
       },
     )
 
@@ -87,6 +89,7 @@ read_row machine frames waker header c at read =
         area = same_area machine.hw (disk.as_it_reads c);
         unwritten = λ b not_in. block_same b _;
         leaves = tt;
+        header = tt;
       },
     ))
 
@@ -102,6 +105,7 @@ read_failed_row machine frames waker c at =
         area = same_area machine.hw (disk.as_it_reads c);
         unwritten = λ b not_in. block_same b _;
         leaves = tt;
+        header = tt;
       },
     ))
 
@@ -120,6 +124,7 @@ write_row machine frames waker c c' over at whole writes =
         area = wake_keeps_area machine.hw (shown_by machine frames waker) c c' machine.blocks i held a over stands (inl writes);
         unwritten = λ b not_in. unwritten_header machine.hw [] b c c' writes.others not_in;
         leaves = tt;
+        header = tt;
       },
     ))
 
@@ -136,6 +141,7 @@ write_failed_row machine frames waker c c' over at whole fails =
         area = wake_keeps_area machine.hw (shown_by machine frames waker) c c' machine.blocks i held a over stands (inr fails);
         unwritten = λ b not_in. unwritten_header machine.hw [] b c c' fails.others not_in;
         leaves = tt;
+        header = tt;
       },
     ))
 
@@ -164,6 +170,7 @@ woken_row machine frames waker c c' memory at whole syncs =
         area = kept_by_sync machine.hw c c' syncs;
         unwritten = λ b not_in. block_synced machine.blocks b c c' whole syncs;
         leaves = tt;
+        header = tt;
       },
     ))
 
@@ -179,5 +186,6 @@ sync_failed_row machine frames waker c at =
         area = same_area machine.hw (disk.as_it_reads c);
         unwritten = λ b not_in. block_same b _;
         leaves = tt;
+        header = tt;
       },
     ))

@@ -12,7 +12,7 @@ use Rattle.plain_machine.specs.Premises.{HasOriginal}
 use Rattle.plain_machine.specs.Replies.{line_of}
 use Rattle.plain_machine.specs.declared.reply.Reply.{Reply}
 use Rattle.plain_machine.specs.declared.reply.Reply.TheVariants as reply
-use Rattle.command_core.specs.Hibernation.{HasHibernated, machine_to_save}
+use Rattle.command_core.specs.Hibernation.{HasHibernated, IsUnmarkedOrHolds, image_to_save, machine_to_save}
 use Rattle.command_core.specs.declared.ending.Ended.{Ended}
 use Rattle.swsusp_cli.specs.Answer.{Told, line}
 use Rattle.swsusp_cli.specs.Outcome.{IsOutOfMemory, IsUnread, Tells}
@@ -78,3 +78,9 @@ pub data Hibernates (f : Format) (size : Option ℕ) (x x' : View) (status : Sta
   out_of_memory : IsOutOfMemory x x' status → Hibernates f size x x' status
   unread : IsUnread x x' status → Hibernates f size x x' status
   answered : (dump : DumpValue) (ended : Ended) → HasAnswered f size x x' status dump ended → Hibernates f size x x' status
+
+-- A crash since the command began leaves no image that is marked and doesn't hold the image of the dump that was read, over a disk that had
+-- one image, which wasn't marked. `left` is what the input had, `told` what the disk held, and `since` what a crash may leave.
+pub record SavesInside (f : Format) (size : Option ℕ) (left : Option (List ℕ)) (told : Option disk.Content) (since : disk.Image → Type 0) : Type 0 where
+  pub leaves : (bytes : List ℕ) (dump : DumpValue) (v w : disk.Image) → left ≡ Some bytes → dump_of bytes ≡ Ok dump → told ≡ Some (disk.settled v) → (Marked dump.hw v → ⊥) →
+      since w → IsUnmarkedOrHolds dump.hw (image_to_save dump.hw (machine_to_save dump.hw dump.memory size v) f) w

@@ -1,12 +1,13 @@
 -- How `resume` may end: it reads a loader's dump, and its machine answers.
-use Rattle.std.specs.Prelude.{◌≡◌, ◌≤◌, ◌+◌, [], Bool, true, false, if◌then◌else◌, Some}
+use Rattle.std.specs.Prelude.{◌≡◌, ◌≤◌, ◌+◌, ℕ, List, [], Bool, true, false, if◌then◌else◌, Option, Some, Ok}
 use Rattle.definitions.specs.Disk as disk
-use Rattle.dump_file.specs.Dump.{DumpValue}
+use Rattle.dump_file.specs.Dump.{DumpValue, dump_of}
 use Rattle.dump_file.specs.Written.{dump_bytes}
 use Rattle.dump_file.specs.declared.dump.DumpFault.{DumpFault}
 use Rattle.plain_machine.specs.Chain.{Marked}
 use Rattle.plain_machine.specs.Machine.{Hardware, Memory}
 use Rattle.plain_machine.specs.Premises.{HasOriginal}
+use Rattle.plain_machine.specs.Stands.{IsTakenBack}
 use Rattle.plain_machine.specs.declared.event.IdentCheck.{IdentCheck}
 use Rattle.plain_machine.specs.declared.reply.Reply.{Reply}
 use Rattle.plain_machine.specs.declared.reply.Reply.TheVariants as reply
@@ -45,3 +46,8 @@ pub data Resumes (check : IdentCheck) (x x' : View) (status : Status) : Type 0 w
   out_of_memory : IsOutOfMemory x x' status → Resumes check x x' status
   unread : IsUnread x x' status → Resumes check x x' status
   answered : (dump : DumpValue) (memory : Memory) (ended : Ended) → HasLoaded check x x' status dump memory ended → Resumes check x x' status
+
+-- A crash since the command began leaves the disk as it was, but for block(0), which is as it was or taken back.
+pub record LoadsInside (left : Option (List ℕ)) (told : Option disk.Content) (since : disk.Image → Type 0) : Type 0 where
+  pub leaves : (bytes : List ℕ) (dump : DumpValue) (v w : disk.Image) → left ≡ Some bytes → dump_of bytes ≡ Ok dump → told ≡ Some (disk.settled v) → (Marked dump.hw v → HasOriginal dump.hw v) →
+      since w → IsTakenBack dump.hw v w

@@ -56,8 +56,9 @@ IsNoSlot h b = (s : ℕ) → s < h.slots → block_of_slot h s ≢ b
 
 -- Over a disk that held c the script's area was formatted, and the replies are a run of the plain machine over these events, which
 -- begins off with nothing held. A hibernation stands before each resume and between any two of them, each resume restores what was there at
--- the last one, and a machine that is woken and the image that it left never both go on. A world of the script's machine, over this disk, and what the disk holds stand for the state that the run ends
--- in. Blocks on which no slot lies have kept their bytes in every image of the disk.
+-- the last one, and a machine that is woken and the image that it left never both go on. A world of the script's machine, over this disk,
+-- and what the disk holds stand for the state that the run ends in. Blocks on which no slot lies have kept their bytes in every image of the
+-- disk.
 pub record IsRun (x x' : DiskView) (script : ScriptValue) (events : List Event) (replies : List Reply) (c : disk.Content) : Type 0 where
   pub formatted : disk.Content
   pub formats : Formats script.hardware script.last script.bad c formatted

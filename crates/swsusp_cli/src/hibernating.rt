@@ -1,6 +1,6 @@
-ghost use Rattle.std.specs.Prelude.{◌≡◌, ◌≢◌, ◌⊎◌, ◌≤◌, ◌+◌, true};
+ghost use Rattle.std.specs.Prelude.{◌≡◌, ◌≢◌, ◌⊎◌, ◌≤◌, ◌+◌, true, IsTrue};
 ghost use Rattle.definitions.specs.Disk.{HasRisen};
-ghost use Rattle.swsusp_cli.specs.Dumps.{Hibernates};
+ghost use Rattle.swsusp_cli.specs.Dumps.{Hibernates, SavesInside};
 ghost use Rattle.swsusp_cli.specs.AnswerOf.{told_by};
 ghost use Rattle.swsusp_cli.specs.Dumps.{hibernation_told};
 
@@ -43,6 +43,7 @@ pub fn hibernate_dump<I: Source, O: Sink, N: Sink, D: Disk>(
     ensures device { result ≡ Status.Device → HasRisen (D.faults disk.old) (D.faults disk.new) }
     ensures words { result ≢ Status.Words }
     ensures few_calls { D.calls disk.new ≤ D.calls disk.old + 100002 }
+    ensures inside { IsTrue (D.tells_moments disk.old) → SavesInside format size (I.remaining input.old) (D.content disk.old) (D.left_since disk.new (D.moment disk.old)) }
 {
     let dump = match read_dump(alloc, input) {
         Ok(dump) => dump,

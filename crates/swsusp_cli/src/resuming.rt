@@ -1,6 +1,6 @@
-ghost use Rattle.std.specs.Prelude.{◌≡◌, ◌≢◌, ◌⊎◌, ◌≤◌, ◌+◌, length, [], true, OnOk, OnErr};
+ghost use Rattle.std.specs.Prelude.{◌≡◌, ◌≢◌, ◌⊎◌, ◌≤◌, ◌+◌, length, [], true, IsTrue, OnOk, OnErr};
 ghost use Rattle.definitions.specs.Disk.{HasRisen};
-ghost use Rattle.swsusp_cli.specs.Loads.{Resumes};
+ghost use Rattle.swsusp_cli.specs.Loads.{LoadsInside, Resumes};
 ghost use Rattle.definitions.specs.Zones.{top};
 ghost use Rattle.dump_file.specs.Written.{dump_bytes};
 ghost use Rattle.swsusp_cli.specs.Loads.{is_resumed, resume_told, written_told};
@@ -44,6 +44,7 @@ pub fn resume_dump<I: Source, O: Sink, N: Sink, D: Disk>(
     ensures device { result ≡ Status.Device → HasRisen (D.faults disk.old) (D.faults disk.new) }
     ensures words { result ≢ Status.Words }
     ensures few_calls { D.calls disk.new ≤ D.calls disk.old + 100002 }
+    ensures inside { IsTrue (D.tells_moments disk.old) → LoadsInside (I.remaining input.old) (D.content disk.old) (D.left_since disk.new (D.moment disk.old)) }
 {
     let dump = match read_dump(alloc, input) {
         Ok(dump) => dump,

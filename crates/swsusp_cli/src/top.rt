@@ -1,4 +1,4 @@
-ghost use Rattle.std.specs.Prelude.{◌≡◌, ◌≢◌, None, Option, Some, ◌≤◌, ◌+◌, ◌⊎◌, ℕ, List, map, string_bytes};
+ghost use Rattle.std.specs.Prelude.{◌≡◌, ◌≢◌, None, Option, Some, ◌≤◌, ◌+◌, ◌⊎◌, ℕ, List, IsTrue, map, string_bytes};
 ghost use Rattle.definitions.specs.Disk.{HasRisen};
 ghost use Rattle.dump_file.specs.Flushed.{IsFlushed};
 ghost use Rattle.swsusp_cli.specs.Answer.{Told};
@@ -9,10 +9,10 @@ ghost use Rattle.swsusp_cli.specs.Outcome.{IsReplayed};
 ghost use Rattle.page_core.specs.declared.format.Format.{Format};
 ghost use Rattle.plain_machine.specs.declared.event.IdentCheck.{IdentCheck};
 ghost use Rattle.swsusp_cli.specs.Drills.{IsDrilled};
-ghost use Rattle.swsusp_cli.specs.Dumps.{Hibernates};
+ghost use Rattle.swsusp_cli.specs.Dumps.{Hibernates, SavesInside};
 ghost use Rattle.swsusp_cli.specs.Exports.{Exports};
 ghost use Rattle.swsusp_cli.specs.Imports.{Imports};
-ghost use Rattle.swsusp_cli.specs.Loads.{Resumes};
+ghost use Rattle.swsusp_cli.specs.Loads.{LoadsInside, Resumes};
 ghost use Rattle.swsusp_cli.specs.Words.{command_of, drill, export, hibernate, import, replay, resume};
 
 use crate::drilling::drill;
@@ -111,6 +111,12 @@ pub fn run<I: Source, O: Sink, N: Sink, D: Disk>(
       out = record { taken = O.taken out.new; flushed = O.flushed out.new; faults = O.faults out.new };
       note = record { taken = N.taken note.new; flushed = N.flushed note.new; faults = N.faults note.new };
     }) result }
+
+    // What a crash inside may leave, where the disk tells moments.
+    ensures saves_inside { (format : Format) (size : Option ℕ) (swap : List ℕ) → command_of (map string_bytes words.now) ≡ Some (hibernate format size swap) → IsTrue (D.tells_moments disk.old) →
+        SavesInside format size (I.remaining input.old) (D.content disk.old) (D.left_since disk.new (D.moment disk.old)) }
+    ensures loads_inside { (check : IdentCheck) (swap : List ℕ) → command_of (map string_bytes words.now) ≡ Some (resume check swap) → IsTrue (D.tells_moments disk.old) →
+        LoadsInside (I.remaining input.old) (D.content disk.old) (D.left_since disk.new (D.moment disk.old)) }
 
     // Each answer that isn't success has its cause.
     ensures words { result ≡ Status.Words → command_of (map string_bytes words.now) ≡ None }

@@ -77,6 +77,7 @@ no_dump e w c core none refused =
         area = same_area (hardware_of w) (disk.as_it_reads c) (disk.as_it_reads c) refl;
         unwritten = λ b not. block_same b _;
         leaves = leaves_refused (hardware_of w) e reply.NoDump (off held kept) c why;
+        header = tt;
       },
     ))
 
@@ -126,6 +127,7 @@ boot_begins old new c from begins =
         area = same_area (hardware_of old) (disk.as_it_reads c) (disk.as_it_reads c) refl;
         unwritten = λ b not. block_same b _;
         leaves = tt;
+        header = tt;
       },
     ))
 
@@ -167,6 +169,7 @@ boot_syncs old new blocks c c' from whole syncs core core' hw frames =
         area = same_area (hardware_of old) (disk.as_it_reads c) (disk.as_it_reads c') (reads_after_sync c c' syncs);
         unwritten = λ b not. block_synced blocks b c c' whole syncs;
         leaves = tt;
+        header = tt;
       },
     ))
 
@@ -192,5 +195,6 @@ boot_sync_fails old new c from core core' hw =
         area = same_area (hardware_of old) (disk.as_it_reads c) (disk.as_it_reads c) refl;
         unwritten = λ b not. block_same b _;
         leaves = tt;
+        header = tt;
       },
     ))

@@ -195,6 +195,7 @@ row_shrunk old new want dropped left c hw size core idle same flights drops =
         area = same_area h (disk.as_it_reads c) (disk.as_it_reads c) refl;
         unwritten = λ k not. block_same k c;
         leaves = tt;
+        header = tt;
       },
     ))
 

@@ -1,4 +1,5 @@
 -- The row of a power cut.
+use Rattle.protocol_laws.proofs.HeaderLeft.{left_same, left_cut}
 use Rattle.protocol_laws.proofs.Unwritten.{block_cut, block_same}
 use Rattle.std.proofs.Common.{◌≡◌, ℕ, Bool, true, false, Option, Some, None, refl, sym, ap, ◌∙◌, arith, subst}
 use Rattle.definitions.specs.Disk as disk
@@ -75,6 +76,7 @@ row_of_cut old new pick blocks c c' cuts_off keeps whole restarts core frames hw
         area = keeps h (shown old) c c' blocks a whole stands.stands restarts;
         unwritten = λ b not. block_cut b c c' restarts;
         leaves = tt;
+        header = left_cut h a c c' restarts;
       },
     )
 
@@ -93,5 +95,6 @@ row_of_arm w first count pick c = λ a stands. (
     area = same_area (hardware_of w) (disk.as_it_reads c) (disk.as_it_reads c) refl;
     unwritten = λ b not_in. block_same b _;
     leaves = tt;
+    header = left_same (hardware_of w) a c;
   },
 )

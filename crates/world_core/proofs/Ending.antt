@@ -322,6 +322,7 @@ boot_ends old new blocks c from image whole core ends hw =
         area = same_area (hardware_of old) (disk.as_it_reads c) (disk.as_it_reads c) refl;
         unwritten = λ b not. block_same b _;
         leaves = tt;
+        header = tt;
       },
     ))
 
@@ -341,6 +342,7 @@ boot_read_fails old new c from core core' hw =
         area = same_area (hardware_of old) (disk.as_it_reads c) (disk.as_it_reads c) refl;
         unwritten = λ b not. block_same b _;
         leaves = tt;
+        header = tt;
       },
     ))
 

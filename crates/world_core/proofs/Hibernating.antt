@@ -261,6 +261,7 @@ row_of_begin old new asked r c core core' machine told row a stands =
         area = goes.1.area;
         unwritten = goes.1.unwritten;
         leaves = goes.1.leaves;
+        header = goes.1.header;
       },
     )
 
@@ -273,7 +274,7 @@ row_of_step old new r before now core core' told row k is =
       λ a stands.
           let goes = at.2 a (hibernation_stands old k a core stands) in (
             goes.0,
-            record { step = goes.1.step; stands = world_stands new at.0 goes.0 (core_by_told new.hib r new.core core' told) goes.1.stands; area = goes.1.area; unwritten = goes.1.unwritten; leaves = goes.1.leaves },
+            record { step = goes.1.step; stands = world_stands new at.0 goes.0 (core_by_told new.hib r new.core core' told) goes.1.stands; area = goes.1.area; unwritten = goes.1.unwritten; leaves = goes.1.leaves; header = goes.1.header },
           ),
     )
 

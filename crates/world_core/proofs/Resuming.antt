@@ -213,7 +213,7 @@ row_of_begin old new frames loader check r c resting after hw same dump row =
     let led = row (shown old) c held kept (loader_memory old frames loader same dump) (subst (λ (h : Hardware). Stands h (shown old) c (off held kept)) (sym hw) stands.stands) in (
       led.0,
       subst (λ (h : Hardware). rows.Leads h (StandsFor new) (event.Resume loader check) r c c (off held kept) led.0) hw
-          (record { step = led.1.step; stands = world_stands new c led.0 (core_now new.load r new.core after) (standing new.machine new.frames new.load r (off held kept) c led.0 led.1.stands); area = led.1.area; unwritten = led.1.unwritten; leaves = led.1.leaves }),
+          (record { step = led.1.step; stands = world_stands new c led.0 (core_now new.load r new.core after) (standing new.machine new.frames new.load r (off held kept) c led.0 led.1.stands); area = led.1.area; unwritten = led.1.unwritten; leaves = led.1.leaves; header = led.1.header }),
     ))
 
 pub row_of_step : (old new : World) (r : Reply) (before now : Option disk.Content) → old.core ≡ Loading → IsAfter new.load r new.core →
@@ -225,7 +225,7 @@ row_of_step old new r before now core after row k is =
       λ a stands.
           let goes = at.2 a (resume_stands old k a core stands) in (
             goes.0,
-            record { step = goes.1.step; stands = world_stands new at.0 goes.0 (core_now new.load r new.core after) (standing new.machine new.frames new.load r a at.0 goes.0 goes.1.stands); area = goes.1.area; unwritten = goes.1.unwritten; leaves = goes.1.leaves },
+            record { step = goes.1.step; stands = world_stands new at.0 goes.0 (core_now new.load r new.core after) (standing new.machine new.frames new.load r a at.0 goes.0 goes.1.stands); area = goes.1.area; unwritten = goes.1.unwritten; leaves = goes.1.leaves; header = goes.1.header },
           ),
     )
 

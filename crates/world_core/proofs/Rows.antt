@@ -1,4 +1,5 @@
 -- Rows of the plain machine for whole worlds.
+use Rattle.protocol_laws.proofs.HeaderLeft.{left_same}
 use Rattle.protocol_laws.proofs.Leaving.{leaves_refused}
 use Rattle.protocol_laws.proofs.Unwritten.{block_same}
 use Rattle.std.proofs.Common.{◌≡◌, ◌≢◌, ℕ, Bool, true, false, Option, Some, None, refl, sym, ap, ◌∙◌, arith, subst, ◌⊎◌, inl, inr, not, is_some}
@@ -64,7 +65,7 @@ same_area h v w e = subst (IsSameArea h v) (sym e) (record { blocks = refl; head
 
 -- a refused event leaves the world
 pub row_refused : (e : Event) (w : World) (r : Reply) (c : disk.Content) → ((a : State) → StandsFor w c a → refusal (hardware_of w) a e ≡ Some r) → IsRow e w w r c c
-row_refused e w r c why a stands = (a, record { step = refused_step (hardware_of w) (disk.as_it_reads c) a e r (why a stands); stands = stands; area = same_area (hardware_of w) (disk.as_it_reads c) (disk.as_it_reads c) refl; unwritten = λ b not. block_same b _; leaves = leaves_refused (hardware_of w) e r a c (why a stands) })
+row_refused e w r c why a stands = (a, record { step = refused_step (hardware_of w) (disk.as_it_reads c) a e r (why a stands); stands = stands; area = same_area (hardware_of w) (disk.as_it_reads c) (disk.as_it_reads c) refl; unwritten = λ b not. block_same b _; leaves = leaves_refused (hardware_of w) e r a c (why a stands); header = left_same (hardware_of w) a c })
 
 -- Refusals by what the world is at.
 

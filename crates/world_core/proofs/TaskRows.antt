@@ -106,6 +106,7 @@ row_of_task old new c t o r hw task core same row =
         area = same_area h (disk.as_it_reads c) (disk.as_it_reads c) refl;
         unwritten = λ k not. block_same k c;
         leaves = tt;
+        header = tt;
       },
     ))
 
@@ -207,6 +208,7 @@ written_row old new t s p r blocks before now c c' is flies told done writes =
         area = area_of_header h (disk.as_it_reads c) (disk.as_it_reads c') keeps.reads;
         unwritten = λ k not. block_other k (block_of_slot h s) c c' wrote.others (λ same. not (subst (λ (x : ℕ). Contains (blocks_at h (event.Step (actor.Task t)) (on a)) x) (sym same) (out_of_flight h a t s p is.task e.flight)));
         leaves = tt;
+        header = tt;
       },
     ))
 
@@ -230,6 +232,7 @@ write_failed_row old new t s p r blocks before now c c' is flies told failed fai
         area = area_of_header h (disk.as_it_reads c) (disk.as_it_reads c') keeps.reads;
         unwritten = λ k not. block_other k (block_of_slot h s) c c' fails.others (λ same. not (subst (λ (x : ℕ). Contains (blocks_at h (event.Step (actor.Task t)) (on a)) x) (sym same) (out_of_flight h a t s p is.task e.flight)));
         leaves = tt;
+        header = tt;
       },
     ))
 
@@ -249,6 +252,7 @@ fetched_row old new t s p r blocks before now c is flies told done =
         area = same_area h (disk.as_it_reads c) (disk.as_it_reads c) refl;
         unwritten = λ k not. block_same k c;
         leaves = tt;
+        header = tt;
       },
     ))
 
@@ -267,6 +271,7 @@ read_failed_row old new t s p r blocks before now c is flies told failed =
         area = same_area h (disk.as_it_reads c) (disk.as_it_reads c) refl;
         unwritten = λ k not. block_same k c;
         leaves = tt;
+        header = tt;
       },
     ))
 

@@ -120,6 +120,7 @@ row_of_wake old new c core core' machine frames row a stands =
         area = goes.1.area;
         unwritten = goes.1.unwritten;
         leaves = goes.1.leaves;
+        header = goes.1.header;
       },
     )
 
@@ -132,7 +133,7 @@ row_of_step old new r before now core core' left memory row k is =
       λ a stands.
           let goes = at.2 a (subst (λ (s : Shown). Stands (hardware_of old) s k a) (shown_waking old core) stands.stands) in (
             goes.0,
-            record { step = goes.1.step; stands = world_stands r new at.0 goes.0 core' goes.1.stands; area = goes.1.area; unwritten = goes.1.unwritten; leaves = goes.1.leaves },
+            record { step = goes.1.step; stands = world_stands r new at.0 goes.0 core' goes.1.stands; area = goes.1.area; unwritten = goes.1.unwritten; leaves = goes.1.leaves; header = goes.1.header },
           ),
     )
 

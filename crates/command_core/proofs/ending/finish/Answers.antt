@@ -1,10 +1,11 @@
-use Rattle.std.proofs.Common.{◌≡◌, ◌⊎◌, inl, inr, ◌∙◌, true, false, arith, refl, sym}
+use Rattle.std.proofs.Common.{◌≡◌, ◌⊎◌, inl, inr, ◌∙◌, true, false, arith, refl, sym, subst}
+use Rattle.std.specs.Prelude.{IsTrue}
 use Rattle.std.proofs.lemmas.Bool.{false≢true}
 use Rattle.plain_machine.specs.declared.event.Actor.TheVariants as actor
 use Rattle.plain_machine.specs.declared.event.Event.TheVariants as event
 use Rattle.protocol_laws.specs.Rows.{IsNewFault}
 use Rattle.world_core.specs.StandsFor.{hardware_of}
-use Rattle.command_core.proofs.Points.{made_first, made_more, called_within, risen_then}
+use Rattle.command_core.proofs.Points.{made_first, made_more, elapsed_first, elapsed_more, called_within, risen_then}
 use Rattle.command_core.proofs.ending.finish.Goals as goal
 use Rattle.command_core.proofs.ending.finish.Goals.{then-failed, else-failed}
 
@@ -18,6 +19,8 @@ loop-made-init g c = record {
   calls = omega arith;
   orders = refl;
   few = omega arith;
+  telling = refl;
+  inside = λ tells content a told stands. elapsed_first (hardware_of c.args.world.now) (record { reply = c.args.begun; failed = false; state = a; content = content; frames = c.args.world.now.frames }) (g.D.Disk.moment c.args.disk.now) (g.D.Disk.left_since c.args.disk.now);
 }
 
 pub loop-made-preserved : goal.loop-made-preserved
@@ -45,7 +48,7 @@ loop-made-preserved g c =
           made_more (hardware_of c.args.world.now) (record { reply = c.args.begun; failed = false; state = a; content = content; frames = c.args.world.now.frames })
           c.loop-made.world c.event-reply.new.self c.loop-made.made c.loop-made.reply r c.loop-made.failed failed (g.D.Disk.block_count c.event-reply.new.disk)
           (g.D.Disk.content c.loop-made.disk) (g.D.Disk.content c.event-reply.new.disk) inv.hardware (inv.made content a told stands) (sym c.goes_on.ensures ∙ c.if-goes_on.true) row.hardware row.row row.restored
-          (g.met.D.Disk.well_formed c.event-reply.new.disk) noticed noted;
+          (g.met.D.Disk.well_formed c.event-reply.new.disk) noticed noted either;
       hardware = row.hardware ∙ inv.hardware;
       blocks = row.blocks;
       cause = λ is. risen_then (c.loop-made.failed ≡ true) (IsNewFault r) (g.D.Disk.faults c.args.disk.now) (g.D.Disk.faults c.loop-made.disk) (g.D.Disk.faults c.event-reply.new.disk) so_far later inv.cause row.cause (either is);
@@ -53,7 +56,21 @@ loop-made-preserved g c =
       calls = called_within (event.Step actor.Core) r (g.D.Disk.calls c.args.disk.now) (g.D.Disk.calls c.loop-made.disk) (g.D.Disk.calls c.event-reply.new.disk) c.loop-made.made inv.calls row.calls;
       orders = row.orders ∙ inv.orders;
       few = let lt = c.loop-made-test.true in omega arith;
+      telling = row.telling ∙ inv.telling;
+      inside = λ tells content a told stands.
+          elapsed_more (hardware_of c.args.world.now) (record { reply = c.args.begun; failed = false; state = a; content = content; frames = c.args.world.now.frames })
+          c.loop-made.world c.event-reply.new.self c.loop-made.made c.loop-made.reply r c.loop-made.failed failed (g.D.Disk.block_count c.event-reply.new.disk)
+          (g.D.Disk.content c.loop-made.disk) (g.D.Disk.content c.event-reply.new.disk) (g.D.Disk.moment c.args.disk.now) (g.D.Disk.moment c.loop-made.disk) (g.D.Disk.moment c.event-reply.new.disk)
+          (g.D.Disk.left_since c.args.disk.now) (g.D.Disk.left_since c.loop-made.disk) (g.D.Disk.left_since c.event-reply.new.disk)
+          inv.hardware (inv.made content a told stands) (sym c.goes_on.ensures ∙ c.if-goes_on.true) row.hardware row.row row.restored
+          (g.met.D.Disk.well_formed c.event-reply.new.disk) noticed noted either (inv.inside tells content a told stands) (row.time tt (subst IsTrue (sym inv.telling) tells));
     }
+
+pub returns-else-goes_on-clause-inside : goal.returns-else-goes_on-clause-inside
+returns-else-goes_on-clause-inside g c = c.loop-made.invariant.inside
+
+pub returns-after-loop-made-clause-inside : goal.returns-after-loop-made-clause-inside
+returns-after-loop-made-clause-inside g c = c.loop-made.invariant.inside
 
 pub returns-else-goes_on-clause-gone : goal.returns-else-goes_on-clause-gone
 returns-else-goes_on-clause-gone g c = λ content a told stands. record {

@@ -2,7 +2,7 @@ use Rattle.std.proofs.Common.{◌-◌, ◌≡◌, ◌⊎◌, ◌≤◌, ◌+◌,
 use Rattle.definitions.specs.Disk.{Content, HasRisen}
 use Rattle.plain_machine.specs.State.{State}
 use Rattle.world_core.specs.StandsFor.{IsOff, StandsFor, blocks_of, hardware_of}
-use Rattle.command_core.specs.Turns.{HaveMade}
+use Rattle.command_core.specs.Turns.{HaveMade, Elapsed}
 use Rattle.command_core.proofs.ending.finish.Given as goal
 
 abbrev pub invariant-loop-made : goal.invariant-loop-made
@@ -16,6 +16,10 @@ invariant-loop-made g l = record {
   calls : g.D.Disk.calls l.disk ≤ g.D.Disk.calls l.fn.disk + l.made;
   orders : g.D.Disk.orders l.disk ≡ g.D.Disk.orders l.fn.disk;
   few : l.made ≤ 66000;
+  telling : g.D.Disk.tells_moments l.disk ≡ g.D.Disk.tells_moments l.fn.disk;
+  inside : IsTrue (g.D.Disk.tells_moments l.fn.disk) → (c : Content) (a : State) → g.D.Disk.content l.fn.disk ≡ Some c → StandsFor l.fn.world c a →
+      Elapsed (hardware_of l.fn.world) (record { reply = l.fn.begun; failed = false; state = a; content = c; frames = l.fn.world.frames }) (g.D.Disk.moment l.fn.disk) (g.D.Disk.moment l.disk)
+      (g.D.Disk.left_since l.fn.disk) (g.D.Disk.left_since l.disk);
 }
 
 abbrev pub decreases-loop-made : goal.decreases-loop-made

@@ -1,15 +1,20 @@
-use Rattle.std.proofs.Common.{inl, inr, true, false, refl, sym, ◌∙◌, subst}
+use Rattle.std.proofs.Common.{◌≡◌, inl, inr, true, false, refl, sym, ◌∙◌, subst}
+use Rattle.std.specs.Prelude.{IsTrue}
 use Rattle.definitions.specs.Disk as disk
+use Rattle.plain_machine.specs.Chain.{Marked}
+use Rattle.plain_machine.specs.Image.{Image}
 use Rattle.plain_machine.specs.Machine.{Hardware}
+use Rattle.plain_machine.specs.Premises.{HasOriginal}
 use Rattle.plain_machine.specs.State.{on}
 use Rattle.plain_machine.specs.declared.event.Event.TheVariants as event
 use Rattle.plain_machine.specs.declared.reply.Reply.{Reply}
 use Rattle.plain_machine.specs.declared.reply.Reply.TheVariants as reply
-use Rattle.world_core.specs.StandsFor.{hardware_of}
-use Rattle.command_core.specs.Hibernation.{image_to_save, machine_to_save}
-use Rattle.command_core.specs.Turns.{Point, HasGone}
-use Rattle.command_core.proofs.Begun.{untouched_then, untouched_at, save_writes}
+use Rattle.world_core.specs.StandsFor.{hardware_of, shown}
+use Rattle.command_core.specs.Hibernation.{IsUnmarkedOrHolds, image_to_save, machine_to_save}
+use Rattle.command_core.specs.Turns.{Point, StandsAt, HasGone, IsLeftInside}
+use Rattle.command_core.proofs.Begun.{told_whole, untouched_then, untouched_at, save_writes}
 use Rattle.command_core.proofs.Booting.{hibernation_begins}
+use Rattle.command_core.proofs.Crashes.{never_inside, same_length, saves_inside, still_then}
 use Rattle.command_core.proofs.Hibernating.{IsAt}
 use Rattle.command_core.proofs.Saved.{failed_early, refused, saves}
 use Rattle.command_core.proofs.Points.{turned}
@@ -33,14 +38,67 @@ returns-clause-hibernated g c = λ v told original.
     let now = g.D.Disk.content c.finish.new.disk in
     let p : Point = record { reply = reply.Idle; failed = true; state = on a; content = booted.content; frames = world.frames } in
     let turn = turned h (event.Hibernate f) p world begun c.event-begun.result true (g.D.Disk.block_count c.event-begun.new.disk) (g.D.Disk.content c.start.new.disk) (g.D.Disk.content c.event-begun.new.disk)
-    c.start.ensures.hardware booted.told booted.stands row.hardware row.row row.restored (g.met.D.Disk.well_formed c.event-begun.new.disk) (λ is. refl) (λ is. refl) in
+    c.start.ensures.hardware booted.told booted.stands row.hardware row.row row.restored (g.met.D.Disk.well_formed c.event-begun.new.disk) (λ is. refl) (λ is. refl) (λ is. inl refl) in
     let start : Point = record { reply = c.event-begun.result; failed = false; state = turn.new.state; content = turn.new.content; frames = begun.frames } in
     let before = untouched_then h (event.Hibernate f) v p turn.new (record { blocks = booted.blocks; whole = booted.whole; same = booted.same; unwritten = booted.unwritten }) turn.turn (save_writes h m c.args.size v) in
     let untouched = untouched_at v turn.new start refl before in
     let hw = row.hardware ∙ c.start.ensures.hardware in
     let gone = subst (λ (x : Hardware). HasGone x c.finish.new.world start c.finish.result now) hw (c.finish.ensures.gone turn.new.content turn.new.state turn.told turn.stands) in
     elim (hibernation_begins h (disk.as_it_reads booted.content) a f turn.new.reply turn.new.state turn.turn.step) [
-      | inl no' ↦ refused h a f v c.finish.new.world no'.0 start c.finish.result now untouched no'.1 (sym turn.reply_is ∙ no'.2) gone
-      | inr is ↦ saves h a f v c.finish.new.world start c.finish.result now c.requires.hardware.zones (c.finish.ensures.hardware ∙ hw) untouched is.0
+      | inl no' ↦ refused h a f v c.finish.new.world no'.0 start c.finish.result now refl untouched no'.1 (sym turn.reply_is ∙ no'.2) gone
+      | inr is ↦ saves h a f v c.finish.new.world start c.finish.result now c.requires.hardware.zones (c.finish.ensures.hardware ∙ hw) refl untouched is.0
           (subst (λ (r : Reply). IsAt (image_to_save h a f) a 0 r turn.new.state false) (sym (sym turn.reply_is ∙ is.1)) is.2) gone
+    ]
+
+-- a disk that isn't marked has no original to look for
+unmarked_original : (h : Hardware) (v : disk.Image) → (Marked h v → ⊥) → Marked h v → HasOriginal h v
+unmarked_original h v never marked = absurd (never marked)
+
+itself_unmarked : (h : Hardware) (i : Image) (v w : disk.Image) → (Marked h v → ⊥) → w ≡ v → IsUnmarkedOrHolds h i w
+itself_unmarked h i v w never is = inl (subst (λ (u : disk.Image). Marked h u → ⊥) (sym is) never)
+
+pub returns-in-Err-clause-inside : goal.returns-in-Err-clause-inside
+returns-in-Err-clause-inside g c = λ tells v told never w left.
+    let h = hardware_of c.args.world.now in
+    itself_unmarked h (image_to_save h (machine_to_save h c.args.world.now.frames c.args.size v) c.args.format) v w never
+    ((c.start.ensures.still tells v told (unmarked_original h v never)).same w left)
+
+pub returns-clause-inside : goal.returns-clause-inside
+returns-clause-inside g c = λ tells v told never w left.
+    let h = hardware_of c.args.world.now in
+    let m = c.args.world.now.frames in
+    let f = c.args.format in
+    let a = machine_to_save h m c.args.size v in
+    let i = image_to_save h a f in
+    let original = unmarked_original h v never in
+    let world = c.start.new.world in
+    let begun = c.event-begun.new.self in
+    let booted = c.in-Ok.ensures.up v told original in
+    let row = c.event-begun.ensures in
+    let later = g.D.Disk.block_count c.event-begun.new.disk in
+    let between = g.D.Disk.content c.start.new.disk in
+    let after = g.D.Disk.content c.event-begun.new.disk in
+    let p : Point = record { reply = reply.Idle; failed = true; state = on a; content = booted.content; frames = world.frames } in
+    let turn = turned h (event.Hibernate f) p world begun c.event-begun.result true later between after
+    c.start.ensures.hardware booted.told booted.stands row.hardware row.row row.restored (g.met.D.Disk.well_formed c.event-begun.new.disk) (λ is. refl) (λ is. refl) (λ is. inl refl) in
+    let start : Point = record { reply = c.event-begun.result; failed = false; state = turn.new.state; content = turn.new.content; frames = begun.frames } in
+    let before = untouched_then h (event.Hibernate f) v p turn.new (record { blocks = booted.blocks; whole = booted.whole; same = booted.same; unwritten = booted.unwritten }) turn.turn (save_writes h m c.args.size v) in
+    let untouched = untouched_at v turn.new start refl before in
+    let hw = row.hardware ∙ c.start.ensures.hardware in
+    let whole = told_whole (g.D.Disk.block_count c.args.disk.now) (g.D.Disk.content c.args.disk.now) (disk.settled v) told (g.met.D.Disk.well_formed c.args.disk.now) in
+    let tells_now = subst IsTrue (sym c.start.ensures.telling) tells in
+    let still = still_then booted.blocks later (g.D.Disk.moment c.args.disk.now) (g.D.Disk.moment c.start.new.disk) (g.D.Disk.moment c.event-begun.new.disk) v between after booted.content turn.new.content
+    (g.D.Disk.left_since c.start.new.disk) (g.D.Disk.left_since c.event-begun.new.disk) booted.told turn.told booted.whole
+    (told_whole later after turn.new.content turn.told (g.met.D.Disk.well_formed c.event-begun.new.disk)) (same_length (g.D.Disk.block_count c.args.disk.now) booted.blocks v booted.content whole booted.whole booted.same) booted.unwritten before.unwritten
+    (c.start.ensures.still tells v told original) (row.time tt tells_now) in
+    let elapsed = c.finish.ensures.inside (subst IsTrue (sym row.telling) tells_now) turn.new.content turn.new.state turn.told turn.stands in
+    elim (elapsed.nothing_else (g.D.Disk.moment c.args.disk.now) w still.later left) [
+      | inl was ↦ itself_unmarked h i v w never (still.same w was)
+      | inr inside ↦
+          let here = subst (λ (x : Hardware). IsLeftInside x start w) hw inside in
+          elim (hibernation_begins h (disk.as_it_reads booted.content) a f turn.new.reply turn.new.state turn.turn.step) [
+            | inl no' ↦ never_inside h a f no'.0 start w no'.1 (sym turn.reply_is ∙ no'.2) here
+            | inr is ↦ saves_inside h i a v w start untouched (subst (λ (x : Hardware). StandsAt x start) hw (shown begun, turn.stands.stands))
+                (subst (λ (r : Reply). IsAt i a 0 r turn.new.state false) (sym (sym turn.reply_is ∙ is.1)) is.2) here
+          ]
     ]

@@ -6,7 +6,7 @@ use Rattle.swsusp_cli.specs.Dumps.{dump_told}
 use Rattle.swsusp_cli.specs.Dumps.{no_dump, out_of_memory, answered}
 use Rattle.swsusp_cli.specs.Told.{IsTold}
 use Rattle.swsusp_cli.specs.View.{DiskView, SinkView}
-use Rattle.swsusp_cli.proofs.Dumped.{hibernated_as}
+use Rattle.swsusp_cli.proofs.Dumped.{hibernated_as, saves_as, saves_untouched}
 use Rattle.swsusp_cli.proofs.hibernating.hibernate_dump.Goals as goal
 
 pub returns-in-Err-Fault-clause-outcome : goal.returns-in-Err-Fault-clause-outcome
@@ -48,3 +48,21 @@ returns-clause-outcome g c =
       calls = ended.ensures.calls;
       orders = ended.ensures.orders;
     })
+
+pub returns-in-Err-SourceFault-clause-inside : goal.returns-in-Err-SourceFault-clause-inside
+returns-in-Err-SourceFault-clause-inside g c = λ tells. saves_untouched c.args.format c.args.size (g.I.Source.remaining c.args.input.now) (g.D.Disk.content c.args.disk.now) (g.D.Disk.left_since c.args.disk.now (g.D.Disk.moment c.args.disk.now)) (λ w left. g.met.D.Disk.only_now c.args.disk.now w tells left)
+
+pub returns-in-Err-NoMemory-clause-inside : goal.returns-in-Err-NoMemory-clause-inside
+returns-in-Err-NoMemory-clause-inside g c = λ tells. saves_untouched c.args.format c.args.size (g.I.Source.remaining c.args.input.now) (g.D.Disk.content c.args.disk.now) (g.D.Disk.left_since c.args.disk.now (g.D.Disk.moment c.args.disk.now)) (λ w left. g.met.D.Disk.only_now c.args.disk.now w tells left)
+
+pub returns-in-Err-Fault-clause-inside : goal.returns-in-Err-Fault-clause-inside
+returns-in-Err-Fault-clause-inside g c = λ tells. saves_untouched c.args.format c.args.size (g.I.Source.remaining c.args.input.now) (g.D.Disk.content c.args.disk.now) (g.D.Disk.left_since c.args.disk.now (g.D.Disk.moment c.args.disk.now)) (λ w left. g.met.D.Disk.only_now c.args.disk.now w tells left)
+
+pub returns-in-Err-clause-inside : goal.returns-in-Err-clause-inside
+returns-in-Err-clause-inside g c = λ tells. saves_untouched c.args.format c.args.size (g.I.Source.remaining c.args.input.now) (g.D.Disk.content c.args.disk.now) (g.D.Disk.left_since c.args.disk.now (g.D.Disk.moment c.args.disk.now)) (λ w left. g.met.D.Disk.only_now c.args.disk.now w tells left)
+
+pub returns-clause-inside : goal.returns-clause-inside
+returns-clause-inside g c = λ tells.
+    let made = c.in-Ok-machine_of.ensures in
+    saves_as c.args.format c.args.size (g.I.Source.remaining c.args.input.now) (g.D.Disk.content c.args.disk.now) (g.D.Disk.left_since c.hibernate-ended.new.disk (g.D.Disk.moment c.args.disk.now))
+    (record { hw = c.in-Ok.dump.hw; memory = c.in-Ok.dump.frames }) _ _ (λ bytes left. c.in-Ok.ensures.dump bytes left) made.is made.frames (λ v told never w left. c.hibernate-ended.ensures.inside tells v told never w left)

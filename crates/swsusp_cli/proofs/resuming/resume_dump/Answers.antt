@@ -6,7 +6,7 @@ use Rattle.swsusp_cli.specs.Dumps.{dump_told}
 use Rattle.swsusp_cli.specs.Loads.{no_dump, out_of_memory, answered}
 use Rattle.swsusp_cli.specs.Told.{IsTold}
 use Rattle.swsusp_cli.specs.View.{DiskView, SinkView}
-use Rattle.swsusp_cli.proofs.Dumped.{resumed_as}
+use Rattle.swsusp_cli.proofs.Dumped.{resumed_as, loads_as, loads_untouched}
 use Rattle.swsusp_cli.proofs.resuming.resume_dump.Goals as goal
 
 pub returns-in-Err-Fault-clause-outcome : goal.returns-in-Err-Fault-clause-outcome
@@ -51,3 +51,20 @@ returns-clause-outcome g c =
 
 pub returns-clause-stream : goal.returns-clause-stream
 returns-clause-stream g c = λ is. inr (c.tell_end.ensures.stream is)
+
+pub returns-in-Err-SourceFault-clause-inside : goal.returns-in-Err-SourceFault-clause-inside
+returns-in-Err-SourceFault-clause-inside g c = λ tells. loads_untouched (g.I.Source.remaining c.args.input.now) (g.D.Disk.content c.args.disk.now) (g.D.Disk.left_since c.args.disk.now (g.D.Disk.moment c.args.disk.now)) (λ w left. g.met.D.Disk.only_now c.args.disk.now w tells left)
+
+pub returns-in-Err-NoMemory-clause-inside : goal.returns-in-Err-NoMemory-clause-inside
+returns-in-Err-NoMemory-clause-inside g c = λ tells. loads_untouched (g.I.Source.remaining c.args.input.now) (g.D.Disk.content c.args.disk.now) (g.D.Disk.left_since c.args.disk.now (g.D.Disk.moment c.args.disk.now)) (λ w left. g.met.D.Disk.only_now c.args.disk.now w tells left)
+
+pub returns-in-Err-Fault-clause-inside : goal.returns-in-Err-Fault-clause-inside
+returns-in-Err-Fault-clause-inside g c = λ tells. loads_untouched (g.I.Source.remaining c.args.input.now) (g.D.Disk.content c.args.disk.now) (g.D.Disk.left_since c.args.disk.now (g.D.Disk.moment c.args.disk.now)) (λ w left. g.met.D.Disk.only_now c.args.disk.now w tells left)
+
+pub returns-in-Err-clause-inside : goal.returns-in-Err-clause-inside
+returns-in-Err-clause-inside g c = λ tells. loads_untouched (g.I.Source.remaining c.args.input.now) (g.D.Disk.content c.args.disk.now) (g.D.Disk.left_since c.args.disk.now (g.D.Disk.moment c.args.disk.now)) (λ w left. g.met.D.Disk.only_now c.args.disk.now w tells left)
+
+pub returns-clause-inside : goal.returns-clause-inside
+returns-clause-inside g c = λ tells.
+    loads_as (g.I.Source.remaining c.args.input.now) (g.D.Disk.content c.args.disk.now) (g.D.Disk.left_since c.resume-ended.new.disk (g.D.Disk.moment c.args.disk.now))
+    (record { hw = c.in-Ok.dump.hw; memory = c.in-Ok.dump.frames }) _ (λ bytes left. c.in-Ok.ensures.dump bytes left) c.in-Ok-machine_of.ensures.is (λ v told original w left. c.resume-ended.ensures.inside tells v told original w left)

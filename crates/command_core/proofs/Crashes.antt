@@ -1,0 +1,357 @@
+-- What a crash inside a hibernation or a resume may leave.
+use Rattle.std.proofs.Common.{◌≡◌, ◌≢◌, ◌⊎◌, inl, inr, ◌<◌, ◌≤◌, ℕ, ◌+◌, ◌-◌, ◌/◌, zero, suc, eqb, ltb, Bool, true, false, cond, List, [], ◌∷◌, length, slice_index_or, Option, Some, refl, sym, ap, ◌∙◌, subst, arith, Contains}
+use Rattle.std.specs.Cmp.Lexicographic.{same_text, other_text}
+use Rattle.std.specs.Option.{IfSome}
+use Rattle.std.specs.List.{AllByRecursion}
+use Rattle.std.proofs.lemmas.Bool.{cases_Bool, cases_eq, cases_lt, cond-true, cond-false, lt-ltb, le-ltb, eq-eqb, ne_eqb, false≢true}
+use Rattle.std.proofs.lemmas.List.Elements.{All-from_recursion, All-contains}
+use Rattle.page_core.specs.declared.format.Format.{Format}
+use Rattle.definitions.specs.Disk as disk
+use Rattle.definitions.specs.SwapHeader.{sig_of, image_signature}
+use Rattle.definitions.proofs.DiskLaws.{length-as_it_reads, length-settled, as_it_reads-settled, IsImage-settled}
+use Rattle.plain_machine.specs.Chain.{Holds, Marked, blocks_of, header_of, is_marked_disk}
+use Rattle.plain_machine.specs.Image.{Image, hibernate_steps}
+use Rattle.plain_machine.specs.Machine.{Hardware, Memory, block_of_slot}
+use Rattle.plain_machine.specs.Refusals.{refusal}
+use Rattle.plain_machine.specs.Shows.{Shown}
+use Rattle.plain_machine.specs.Stands.{Stands, EachImage, IsHeader, IsHeld, IsTakenBack}
+use Rattle.plain_machine.specs.State.{State, off, on, booting, hibernating, undoing, settling, waking, loading, asleep, Running, held_in, nothing, maybe, own}
+use Rattle.plain_machine.specs.Step.{Step, Outcome, hibernate_step, hibernated}
+use Rattle.plain_machine.specs.declared.event.Actor.TheVariants as actor
+use Rattle.plain_machine.specs.declared.event.Event.TheVariants as event
+use Rattle.plain_machine.specs.declared.event.IdentCheck.{IdentCheck}
+use Rattle.plain_machine.specs.declared.reply.Left.TheVariants.{Same}
+use Rattle.plain_machine.specs.declared.reply.Reply.{Reply}
+use Rattle.plain_machine.specs.declared.reply.Reply.TheVariants as reply
+use Rattle.plain_machine.specs.declared.reply.UndoCall.{UndoCall}
+use Rattle.plain_machine.specs.declared.reply.UndoCall.TheVariants as undo
+use Rattle.protocol_laws.specs.Rows.{LeavesBlock, LeavesHeader, blocks_written, block_of_step}
+use Rattle.protocol_laws.specs.Steps.{write_of_step}
+use Rattle.protocol_laws.proofs.Inside.{left_candidate, image_left, images_left, mark_inside, undo_inside, none_marked, AreTakenBack, taken_inside, taken_itself, taken_after}
+use Rattle.command_core.specs.Turns.{Point, StandsAt, IsTurn, AreSteps, IsLeftInside, IsStill, goes_on}
+use Rattle.command_core.proofs.Begun.{IsUntouched}
+use Rattle.command_core.proofs.Hibernating.{IsAt, after_steps, hibernating_step, before_end}
+use Rattle.command_core.proofs.Loaded.{early_writes, goes_state, after_steps as loaded_after, IsAfter, header_alone as load_writes}
+use Rattle.command_core.proofs.Leaving.{inside_of}
+use Rattle.command_core.proofs.Points.{each_same, told_both}
+use Rattle.command_core.proofs.Resuming.{IsAt as LoadsAt, state_at}
+use Rattle.command_core.proofs.Saved.{IsWrittenAt, state_of, all_after, refuses_over, refusal_refuses, none_after}
+
+-- What stands for a state says of its disk.
+
+held_by : (h : Hardware) (shown : Shown) (c : disk.Content) (a : State) → Stands h shown c a → IsHeld h c (held_in a)
+held_by h shown c (off held kept) stands = stands.parts.1.0
+held_by h shown c (on a) stands = stands.parts.1.held
+held_by h shown c (booting from dump held k) stands = stands.parts.1.0
+held_by h shown c (hibernating suspends i a k) stands = stands.parts.0.held
+held_by h shown c (undoing i call a k) stands = stands.parts.0.held
+held_by h shown c (settling a k) stands = stands.parts.0.held
+held_by h shown c (waking i held a k) stands = stands.parts.0.held
+held_by h shown c (loading load k) stands = stands.parts.0.0
+held_by h shown c (asleep i held a) stands = stands.parts.0.held
+
+header_by : (h : Hardware) (shown : Shown) (c : disk.Content) (a : State) → Stands h shown c a → IsHeader h c
+header_by h shown c (off held kept) stands = stands.parts.1.1
+header_by h shown c (on a) stands = stands.parts.1.header
+header_by h shown c (booting from dump held k) stands = stands.parts.1.1
+header_by h shown c (hibernating suspends i a k) stands = stands.parts.0.header
+header_by h shown c (undoing i call a k) stands = stands.parts.0.header
+header_by h shown c (settling a k) stands = stands.parts.0.header
+header_by h shown c (waking i held a k) stands = stands.parts.0.header
+header_by h shown c (loading load k) stands = stands.parts.0.1
+header_by h shown c (asleep i held a) stands = stands.parts.0.header
+
+stands_after : (h : Hardware) (n : ℕ) (start end : Point) → StandsAt h start → AreSteps h n start end → StandsAt h end
+stands_after h zero start end here are = subst (StandsAt h) (sym are) here
+stands_after h (suc n) start end here (mid, are, goes, turn) = turn.stands
+
+-- as many blocks before an event and after it
+same_blocks : (blocks other : ℕ) (c c' : disk.Content) → disk.IsContent blocks c → disk.IsContent other c' → blocks_of (disk.as_it_reads c') ≡ blocks_of (disk.as_it_reads c) → disk.IsContent blocks c'
+same_blocks blocks other c c' whole after same =
+    let n = whole.size in
+    let m = after.size in
+    let reads = length-as_it_reads c in
+    let reads' = length-as_it_reads c' in
+    subst (λ (k : ℕ). disk.IsContent k c') (let e : other ≡ blocks = omega arith in e) after
+
+marked_or_not : (h : Hardware) (w : disk.Image) → Marked h w ⊎ (Marked h w → ⊥)
+marked_or_not h w = elim (cases_Bool (is_marked_disk h w)) [
+  | inl is ↦ inl (same_text (sig_of (header_of h w)) image_signature (sym is))
+  | inr isn't ↦ inr (other_text (sig_of (header_of h w)) image_signature (sym isn't))
+]
+
+none_in : (b : ℕ) → Contains [] b → ⊥
+none_in b (k, lt, e) = omega arith
+
+-- A step that writes no block leaves every one.
+leaves_all : (h : Hardware) (p q : Point) → IsTurn h (event.Step actor.Core) p q → blocks_written h p.state ≡ [] → (b : ℕ) → LeavesBlock b p.content q.content
+leaves_all h p q turn none = λ b. turn.unwritten b (λ in'. none_in b (subst (λ (bs : List ℕ). Contains bs b) none in'))
+
+-- A hibernation's outcomes.
+
+all_either : (P : Outcome → Type 0) (b : Bool) (xs ys : List Outcome) → AllByRecursion P xs → AllByRecursion P ys → AllByRecursion P (cond b xs ys)
+all_either P true xs ys p q = p
+all_either P false xs ys p q = q
+
+of_all : (P : Outcome → Type 0) (os : List Outcome) (o : Outcome) → AllByRecursion P os → Contains os o → P o
+of_all P os o all in' = All-contains P os o (All-from_recursion P os all) in'
+
+-- before the mark nothing is held
+abbrev HoldsNone : Running → Outcome → Type 0
+HoldsNone a o = a.held ≡ nothing → held_in o.1 ≡ nothing
+
+held_early : (i : Image) (a : Running) (k : ℕ) → k < hibernate_steps i - 1 → held_in (hibernating false i a k) ≡ nothing
+held_early i a k lt = cond-true (ltb k (hibernate_steps i - 1)) nothing (maybe (own i)) (lt-ltb k (hibernate_steps i - 1) lt)
+
+early_none : (i : Image) (a : Running) (k : ℕ) → k + 2 < hibernate_steps i → AllByRecursion (HoldsNone a) (hibernate_step false i a k)
+early_none i a k lt =
+    let last = hibernate_steps i in
+    let P : Outcome → Type 0 = HoldsNone a in
+    let next : Outcome = (reply.More (k + 1) last, hibernating false i a (k + 1)) in
+    let goes : P next = λ unheld. held_early i a (k + 1) (omega arith) in
+    let written : List Outcome = next ∷ (reply.WriteFault Same, on a) ∷ [] in
+    let synced : List Outcome = next ∷ (reply.SyncFault Same, on a) ∷ [] in
+    let read : List Outcome = next ∷ (reply.ReadFault Same, on a) ∷ [] in
+    let marked : List Outcome = next ∷ (reply.Undo undo.Write 0, undoing i undo.Write a 0) ∷ [] in
+    let ended : List Outcome = hibernated false i a ∷ (reply.Undo undo.Sync 0, undoing i undo.Sync a 0) ∷ [] in
+    let end = cond (eqb (k + 1) last) ended [] in
+    let rest : cond (eqb (k + 1) (last - 1)) marked end ≡ [] =
+    cond-false (eqb (k + 1) (last - 1)) marked end (ne_eqb (k + 1) (last - 1) (λ e. omega arith)) ∙ cond-false (eqb (k + 1) last) ended [] (ne_eqb (k + 1) last (λ e. omega arith)) in
+    all_either P (ltb (k + 1) (last - 3)) written (cond (eqb (k + 1) (last - 3)) synced (cond (eqb (k + 1) (last - 2)) read (cond (eqb (k + 1) (last - 1)) marked end))) (goes, ((λ unheld. unheld), tt))
+    (all_either P (eqb (k + 1) (last - 3)) synced (cond (eqb (k + 1) (last - 2)) read (cond (eqb (k + 1) (last - 1)) marked end)) (goes, ((λ unheld. unheld), tt))
+    (all_either P (eqb (k + 1) (last - 2)) read (cond (eqb (k + 1) (last - 1)) marked end) (goes, ((λ unheld. unheld), tt))
+    (subst (AllByRecursion P) (sym rest) tt)))
+
+later_none : (i : Image) (a : Running) (k : ℕ) (r : Reply) (b : State) → k + 2 < hibernate_steps i → Contains (hibernate_step false i a k) (r, b) → a.held ≡ nothing → held_in b ≡ nothing
+later_none i a k r b lt in' unheld = of_all (HoldsNone a) (hibernate_step false i a k) (r, b) (early_none i a k lt) in' unheld
+
+-- from the mark on the image is perhaps there
+abbrev HoldsMaybe : Image → Outcome → Type 0
+HoldsMaybe i o = held_in o.1 ≡ maybe (own i)
+
+held_late : (i : Image) (a : Running) (k : ℕ) → hibernate_steps i - 1 ≤ k → held_in (hibernating false i a k) ≡ maybe (own i)
+held_late i a k le = cond-false (ltb k (hibernate_steps i - 1)) nothing (maybe (own i)) (le-ltb k (hibernate_steps i - 1) le)
+
+mark_maybe : (i : Image) (a : Running) (k : ℕ) (r : Reply) (b : State) → k + 2 ≡ hibernate_steps i → Contains (hibernate_step false i a k) (r, b) → held_in b ≡ maybe (own i)
+mark_maybe i a k r b at in' =
+    let last = hibernate_steps i in
+    let next : Outcome = (reply.More (k + 1) last, hibernating false i a (k + 1)) in
+    let written : List Outcome = next ∷ (reply.WriteFault Same, on a) ∷ [] in
+    let synced : List Outcome = next ∷ (reply.SyncFault Same, on a) ∷ [] in
+    let read : List Outcome = next ∷ (reply.ReadFault Same, on a) ∷ [] in
+    let marked : List Outcome = next ∷ (reply.Undo undo.Write 0, undoing i undo.Write a 0) ∷ [] in
+    let ended : List Outcome = hibernated false i a ∷ (reply.Undo undo.Sync 0, undoing i undo.Sync a 0) ∷ [] in
+    let end = cond (eqb (k + 1) last) ended [] in
+    let here : hibernate_step false i a k ≡ marked =
+    cond-false (ltb (k + 1) (last - 3)) written (cond (eqb (k + 1) (last - 3)) synced (cond (eqb (k + 1) (last - 2)) read (cond (eqb (k + 1) (last - 1)) marked end))) (le-ltb (k + 1) (last - 3) (omega arith))
+    ∙ cond-false (eqb (k + 1) (last - 3)) synced (cond (eqb (k + 1) (last - 2)) read (cond (eqb (k + 1) (last - 1)) marked end)) (ne_eqb (k + 1) (last - 3) (λ e. omega arith))
+    ∙ cond-false (eqb (k + 1) (last - 2)) read (cond (eqb (k + 1) (last - 1)) marked end) (ne_eqb (k + 1) (last - 2) (λ e. omega arith))
+    ∙ cond-true (eqb (k + 1) (last - 1)) marked end (eq-eqb (k + 1) (last - 1) (omega arith)) in
+    of_all (HoldsMaybe i) marked (r, b) (held_late i a (k + 1) (omega arith), (refl, tt)) (subst (λ (os : List Outcome). Contains os (r, b)) here in')
+
+-- The blocks that its last steps write.
+
+mark_block : (h : Hardware) (a : Running) (i : Image) (k : ℕ) → k + 2 ≡ hibernate_steps i → block_of_step h a i k ≡ block_of_slot h 0 ∷ []
+mark_block h a i k at =
+    let header = cond (eqb (k + 2) (hibernate_steps i)) (block_of_slot h 0 ∷ []) [] in
+    cond-false (ltb (k + 4) (hibernate_steps i)) ((write_of_step h a i k).0 ∷ []) header (le-ltb (k + 4) (hibernate_steps i) (omega arith)) ∙ cond-true (eqb (k + 2) (hibernate_steps i)) (block_of_slot h 0 ∷ []) [] (eq-eqb (k + 2) (hibernate_steps i) at)
+
+last_block : (h : Hardware) (a : Running) (i : Image) (k : ℕ) → k + 1 ≡ hibernate_steps i → block_of_step h a i k ≡ []
+last_block h a i k at =
+    let header = cond (eqb (k + 2) (hibernate_steps i)) (block_of_slot h 0 ∷ []) [] in
+    cond-false (ltb (k + 4) (hibernate_steps i)) ((write_of_step h a i k).0 ∷ []) header (le-ltb (k + 4) (hibernate_steps i) (omega arith)) ∙ cond-false (eqb (k + 2) (hibernate_steps i)) (block_of_slot h 0 ∷ []) [] (ne_eqb (k + 2) (hibernate_steps i) (λ e. omega arith))
+
+in_one : (x b : ℕ) → Contains (x ∷ []) b → b ≡ x
+in_one x b (zero, lt, e) = sym e
+in_one x b (suc k, lt, e) = absurd (omega arith)
+
+-- a step that writes block(0) alone leaves every other block
+leaves_others : (h : Hardware) (p q : Point) → IsTurn h (event.Step actor.Core) p q → blocks_written h p.state ≡ block_of_slot h 0 ∷ [] → (b : ℕ) → b ≢ block_of_slot h 0 → LeavesBlock b p.content q.content
+leaves_others h p q turn one = λ b apart. turn.unwritten b (λ in'. apart (in_one (block_of_slot h 0) b (subst (λ (bs : List ℕ). Contains bs b) one in')))
+
+either_holds : (h : Hardware) (i : Image) (w : disk.Image) → Marked h w → (Marked h w → ⊥) ⊎ Holds h w i → Holds h w i
+either_holds h i w marked (inl never) = absurd (never marked)
+either_holds h i w marked (inr holds) = holds
+
+-- Inside a step of a hibernation.
+hibernating_inside : (h : Hardware) (i : Image) (a : Running) (blocks k : ℕ) (p q : Point) (w : disk.Image) → disk.IsContent blocks p.content → StandsAt h p → p.state ≡ hibernating false i a k → IsTurn h (event.Step actor.Core) p q → disk.IsMixture p.content q.content w → Marked h w → Holds h w i
+hibernating_inside h i a blocks k p q w whole at is turn mixed marked =
+    let c = p.content in
+    let c' = q.content in
+    let stands : Stands h at.0 c (hibernating false i a k) = subst (Stands h at.0 c) is at.1 in
+    let after = same_blocks blocks turn.blocks c c' whole turn.whole turn.area.blocks in
+    let step = hibernating_step h (disk.as_it_reads c) i a k q.reply q.state (subst (λ (s : State). Step h (disk.as_it_reads c) s (event.Step actor.Core) q.reply q.state) is turn.step) in
+    let lt = before_end i a k (q.reply, q.state) step in
+    let held = held_by h at.0 c (hibernating false i a k) stands in
+    let held' = held_by h turn.stands.0 c' q.state turn.stands.1 in
+    elim (cases_eq (k + 2) (hibernate_steps i)) [
+      | inl mark ↦
+          let unmarked : IsHeld h c nothing = subst (IsHeld h c) (held_early i a k (omega arith)) held in
+          let later : IsHeld h c' (maybe (own i)) = subst (IsHeld h c') (mark_maybe i a k q.reply q.state mark step) held' in
+          mark_inside h blocks c c' i w
+          (record {
+            whole = whole;
+            after = after;
+            header = header_by h at.0 c (hibernating false i a k) stands;
+            header_after = header_by h turn.stands.0 c' q.state turn.stands.1;
+            area = turn.area;
+            others = leaves_others h p q turn (ap (blocks_written h) is ∙ mark_block h a i k mark);
+            mixed = mixed;
+          }) (stands.parts.5 (omega arith)).0 unmarked (λ v in'. (later v in').0) marked
+      | inr other ↦ elim (cases_lt (k + 2) (hibernate_steps i)) [
+        | inl early ↦
+            let unmarked : IsHeld h c nothing = subst (IsHeld h c) (held_early i a k (omega arith)) held in
+            let still : IsHeld h c' nothing = subst (IsHeld h c') (later_none i a k q.reply q.state early step stands.parts.1.unheld) held' in
+            absurd (none_marked h blocks c c' w whole after unmarked still mixed marked)
+        | inr late ↦
+            let there : IsHeld h c (maybe (own i)) = subst (IsHeld h c) (held_late i a k (omega arith)) held in
+            let last : k + 1 ≡ hibernate_steps i = omega arith in
+            either_holds h i w marked (there w (image_left blocks c c' w whole after (leaves_all h p q turn (ap (blocks_written h) is ∙ last_block h a i k last)) mixed)).0
+      ]
+    ]
+
+undo_block : (h : Hardware) (i : Image) (call : UndoCall) (a : Running) (k : ℕ) → blocks_written h (undoing i call a (suc k)) ≡ []
+undo_block h i call a k = cond-false (eqb (suc k) 0) (block_of_slot h 0 ∷ []) [] (ne_eqb (suc k) 0 (λ e. omega arith))
+
+-- Inside a step of an undo.
+undoing_inside : (h : Hardware) (i : Image) (call : UndoCall) (a : Running) (blocks k : ℕ) (p q : Point) (w : disk.Image) → disk.IsContent blocks p.content → StandsAt h p → p.state ≡ undoing i call a k → IsTurn h (event.Step actor.Core) p q → disk.IsMixture p.content q.content w → Marked h w → Holds h w i
+undoing_inside h i call a blocks zero p q w whole at is turn mixed marked =
+    let c = p.content in
+    let c' = q.content in
+    let stands : Stands h at.0 c (undoing i call a 0) = subst (Stands h at.0 c) is at.1 in
+    undo_inside h blocks c c' i w
+    (record {
+      whole = whole;
+      after = same_blocks blocks turn.blocks c c' whole turn.whole turn.area.blocks;
+      header = header_by h at.0 c (undoing i call a 0) stands;
+      header_after = header_by h turn.stands.0 c' q.state turn.stands.1;
+      area = turn.area;
+      others = leaves_others h p q turn (ap (blocks_written h) is);
+      mixed = mixed;
+    }) (subst (λ (s : State). LeavesHeader h s c c') is turn.header) (λ v in'. (stands.parts.0.held v in').0) marked
+undoing_inside h i call a blocks (suc k) p q w whole at is turn mixed marked =
+    let c = p.content in
+    let c' = q.content in
+    let stands : Stands h at.0 c (undoing i call a (suc k)) = subst (Stands h at.0 c) is at.1 in
+    let after = same_blocks blocks turn.blocks c c' whole turn.whole turn.area.blocks in
+    either_holds h i w marked (stands.parts.0.held w (image_left blocks c c' w whole after (leaves_all h p q turn (ap (blocks_written h) is ∙ undo_block h i call a k)) mixed)).0
+
+either_inside : (h : Hardware) (i : Image) (a : Running) (blocks : ℕ) (p q : Point) (w : disk.Image) → disk.IsContent blocks p.content → StandsAt h p → IsWrittenAt i a p.state → IsTurn h (event.Step actor.Core) p q → disk.IsMixture p.content q.content w → Marked h w → Holds h w i
+either_inside h i a blocks p q w whole at (inl is) turn mixed marked = hibernating_inside h i a blocks is.0 p q w whole at is.1 turn mixed marked
+either_inside h i a blocks p q w whole at (inr is) turn mixed marked = undoing_inside h i is.0 a blocks is.1 p q w whole at is.2 turn mixed marked
+
+-- A crash inside a step of a hibernation leaves an image that isn't marked, or holds its image.
+pub saves_inside : (h : Hardware) (i : Image) (a : Running) (v w : disk.Image) (start : Point) → IsUntouched v start → StandsAt h start → IsAt i a 0 start.reply start.state start.failed → IsLeftInside h start w → (Marked h w → ⊥) ⊎ Holds h w i
+saves_inside h i a v w start untouched stands at is =
+    let before = all_after h i a v is.steps start is.before untouched at is.are in
+    let here = state_of i a is.steps is.before.reply is.before.state is.before.failed (after_steps h i a is.steps start is.before at is.are) is.goes in
+    elim (marked_or_not h w) [
+      | inl marked ↦ inr (either_inside h i a before.blocks is.before is.after w before.whole (stands_after h is.steps start is.before stands is.are) here is.turn is.mixed marked)
+      | inr never ↦ inl never
+    ]
+
+-- A resume.
+
+-- over as many blocks each image is v, but for block(0), which is as it was or taken back
+record IsTaken (h : Hardware) (v : disk.Image) (blocks : ℕ) (p : Point) : Type 0 where
+  pub whole : disk.IsContent blocks p.content
+  pub taken : AreTakenBack h v p.content
+
+untouched_each : (blocks : ℕ) (v : disk.Image) (p : Point) → disk.IsContent blocks (disk.settled v) → IsUntouched v p → EachImage p.content (λ w. w ≡ v)
+untouched_each blocks v p first is = λ w in'. each_same blocks is.blocks v w p.content first is.whole is.same is.unwritten in'
+
+untouched_taken : (h : Hardware) (blocks : ℕ) (v : disk.Image) (p : Point) → disk.IsContent blocks (disk.settled v) → IsUntouched v p → IsTaken h v blocks p
+untouched_taken h blocks v p first is = record {
+  whole = same_blocks blocks is.blocks (disk.settled v) p.content first is.whole (is.same ∙ sym (ap blocks_of (as_it_reads-settled v)));
+  taken = λ w in'. taken_itself h v w (untouched_each blocks v p first is w in');
+}
+
+taken_left : (h : Hardware) (blocks : ℕ) (v : disk.Image) (p q : Point) → IsTaken h v blocks p → IsTurn h (event.Step actor.Core) p q → ((b : ℕ) → Contains (blocks_written h p.state) b → ⊥) → IsTaken h v blocks q
+taken_left h blocks v p q was turn none =
+    let after = same_blocks blocks turn.blocks p.content q.content was.whole turn.whole turn.area.blocks in
+    record { whole = after; taken = λ w in'. was.taken w (images_left blocks p.content q.content w was.whole after (λ b. turn.unwritten b (none b)) in') }
+
+later_writes : (h : Hardware) (m : Memory) (check : IdentCheck) (v : disk.Image) (n : ℕ) (s : State) → s ≡ state_at h m check v (suc (suc (suc n))) → (b : ℕ) → Contains (blocks_written h s) b → ⊥
+later_writes h m check v n s is b in' =
+    let none = cond-false (eqb (suc (suc (suc n))) 2) (block_of_slot h 0 ∷ []) [] (ne_eqb (suc (suc (suc n))) 2 (λ e. omega arith)) in
+    none_in b (subst (λ (bs : List ℕ). Contains bs b) none (subst (λ (x : State). Contains (blocks_written h x) b) is in'))
+
+taken_turn : (h : Hardware) (m : Memory) (check : IdentCheck) (v : disk.Image) (blocks n : ℕ) (p q : Point) → disk.IsContent blocks (disk.settled v) → IsAfter h m check v n p → IsTaken h v blocks p → p.state ≡ state_at h m check v n → IsTurn h (event.Step actor.Core) p q → IsTaken h v blocks q
+taken_turn h m check v blocks zero p q first is was state turn = taken_left h blocks v p q was turn (early_writes h m check v 0 p.state (omega arith) state)
+taken_turn h m check v blocks (suc zero) p q first is was state turn = taken_left h blocks v p q was turn (early_writes h m check v 1 p.state (omega arith) state)
+taken_turn h m check v blocks (suc (suc zero)) p q first is was state turn =
+    let after = same_blocks blocks turn.blocks p.content q.content was.whole turn.whole turn.area.blocks in
+    record {
+      whole = after;
+      taken = taken_after h blocks p.content q.content v was.whole after first (untouched_each blocks v p first (is.early (omega arith)))
+          (λ b apart. turn.unwritten b (load_writes h m check v 2 p.state state b apart)) (subst (λ (s : State). LeavesHeader h s p.content q.content) state turn.header);
+    }
+taken_turn h m check v blocks (suc (suc (suc n))) p q first is was state turn = taken_left h blocks v p q was turn (later_writes h m check v n p.state state)
+
+taken_steps : (h : Hardware) (m : Memory) (check : IdentCheck) (v : disk.Image) (blocks n : ℕ) (start end : Point) → disk.IsContent blocks (disk.settled v) → IsUntouched v start → LoadsAt h m check v 0 start.reply start.state start.failed → AreSteps h n start end → IsTaken h v blocks end
+taken_steps h m check v blocks zero start end first untouched at are = subst (IsTaken h v blocks) (sym are) (untouched_taken h blocks v start first untouched)
+taken_steps h m check v blocks (suc n) start end first untouched at (mid, are, goes, turn) =
+    let there = loaded_after h m check v blocks n start mid first untouched at are in
+    taken_turn h m check v blocks n mid end first there (taken_steps h m check v blocks n start mid first untouched at are) (goes_state h m check v n mid.reply mid.state mid.failed there.at goes).0 turn
+
+-- A crash inside a step of a resume leaves the disk as it was, but for block(0), which is as it was or taken back.
+pub resumes_inside : (h : Hardware) (m : Memory) (check : IdentCheck) (v w : disk.Image) (blocks : ℕ) (start : Point) → disk.IsContent blocks (disk.settled v) → IsUntouched v start → LoadsAt h m check v 0 start.reply start.state start.failed → IsLeftInside h start w → IsTakenBack h v w
+resumes_inside h m check v w blocks start first untouched at is =
+    let before = taken_steps h m check v blocks is.steps start is.before first untouched at is.are in
+    let after = taken_steps h m check v blocks (suc is.steps) start is.after first untouched at (is.before, is.are, is.goes, is.turn) in
+    taken_inside h blocks is.before.content is.after.content v w before.whole after.whole first before.taken after.taken is.mixed
+
+-- Where nothing is written.
+
+still_inside : (blocks now : ℕ) (v w : disk.Image) (c c' : disk.Content) → disk.IsContent blocks c → disk.IsContent now c' → length v ≡ length c → ((b : ℕ) → LeavesBlock b (disk.settled v) c) → ((b : ℕ) → LeavesBlock b (disk.settled v) c') → disk.IsMixture c c' w → w ≡ v
+still_inside blocks now v w c c' whole after size left left' mixed =
+    let n = mixed.size in
+    let settled_size = length-settled v in
+    IsImage-settled v w (record {
+      size = omega arith;
+      chosen = λ s lt. elim (mixed.each s (omega arith)) [
+        | inl was ↦ left_candidate blocks (s / 8) s (disk.settled v) c (slice_index_or w s []) whole (left (s / 8)) (omega arith) (omega arith) (omega arith) was
+        | inr is ↦ left_candidate now (s / 8) s (disk.settled v) c' (slice_index_or w s []) after (left' (s / 8)) (omega arith) (omega arith) (inside_of s c' (slice_index_or w s []) is) is
+      ];
+    })
+
+pub still_then : (blocks now m0 m m' : ℕ) (v : disk.Image) (before' now' : Option disk.Content) (c c' : disk.Content) (past since : ℕ → disk.Image → Type 0) → before' ≡ Some c → now' ≡ Some c' → disk.IsContent blocks c → disk.IsContent now c' → length v ≡ length c →
+    ((b : ℕ) → LeavesBlock b (disk.settled v) c) → ((b : ℕ) → LeavesBlock b (disk.settled v) c') → IsStill m0 m past v → disk.Changes (disk.Elapses m m' past since) before' now' → IsStill m0 m' since v
+still_then blocks now m0 m m' v before' now' c c' past since is at whole after size left left' so_far changes =
+    let step = told_both (disk.Elapses m m' past since) before' now' c c' is at changes in
+    let earlier = so_far.later in
+    let later = step.later in
+    record {
+      later = omega arith;
+      same = λ w gone. elim (step.nothing_else m0 w (omega arith) gone) [
+        | inl was ↦ so_far.same w was
+        | inr mixed ↦ still_inside blocks now v w c c' whole after size left left' mixed
+      ];
+    }
+
+pub same_length : (first blocks : ℕ) (v : disk.Image) (c : disk.Content) → disk.IsContent first (disk.settled v) → disk.IsContent blocks c → blocks_of (disk.as_it_reads c) ≡ blocks_of v → length v ≡ length c
+same_length first blocks v c is whole same =
+    let n = is.size in
+    let m = whole.size in
+    let size = length-settled v in
+    let reads = length-as_it_reads c in
+    omega arith
+
+-- an event over a disk on which nothing was written, that writes nothing
+pub still_untouched : (first now m0 m m' : ℕ) (v : disk.Image) (before' now' : Option disk.Content) (p : Point) (c' : disk.Content) (past since : ℕ → disk.Image → Type 0) → disk.IsContent first (disk.settled v) → IsUntouched v p → before' ≡ Some p.content → now' ≡ Some c' → disk.IsContent now c' →
+    ((b : ℕ) → LeavesBlock b (disk.settled v) c') → IsStill m0 m past v → disk.Changes (disk.Elapses m m' past since) before' now' → IsStill m0 m' since v
+still_untouched first now m0 m m' v before' now' p c' past since whole is told at after left so_far changes =
+    still_then is.blocks now m0 m m' v before' now' p.content c' past since told at is.whole after (same_length first is.blocks v p.content whole is.whole is.same) is.unwritten left so_far changes
+
+-- so it is at first
+pub still_first : (m : ℕ) (past : ℕ → disk.Image → Type 0) (told : Option disk.Content) (v : disk.Image) → told ≡ Some (disk.settled v) → ((w : disk.Image) → past m w → IfSome told (λ c. disk.IsImage c w)) → IsStill m m past v
+still_first m past told v is only = record {
+  later = omega arith;
+  same = λ w left. IsImage-settled v w (subst (λ (o : Option disk.Content). IfSome o (λ c. disk.IsImage c w)) is (only w left));
+}
+
+-- A hibernation that was refused makes no step.
+pub never_inside : {A : Type 0} (h : Hardware) (a : Running) (f : Format) (q : Reply) (start : Point) (w : disk.Image) → refusal h (on a) (event.Hibernate f) ≡ Some q → start.reply ≡ q → IsLeftInside h start w → A
+never_inside h a f q start w says same is =
+    let over : goes_on start.reply ≡ false = ap goes_on same ∙ refuses_over q (refusal_refuses h f a q says) in
+    absurd (false≢true (sym (ap (λ (p : Point). goes_on p.reply) (none_after h is.steps start is.before over is.are) ∙ over) ∙ is.goes))
