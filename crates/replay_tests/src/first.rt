@@ -1,9 +1,8 @@
 //! What a replay says of any script, and when its disk or its output fails.
 
-use crate::runs::{Printed, all_end, disk_of, replayed, run_over};
-use sector_disk::Disk;
-use std::alloc::Global;
-use std::process::Abort;
+use crate::runs::{all_end, replayed};
+use samples::{REPLAY, assert_printed, assert_refused, failing_out, run_with};
+use sector_disk::{Disk, MemDisk};
 use std::test::Fail;
 use swsusp_cli::Status;
 
@@ -11,12 +10,6 @@ use swsusp_cli::Status;
 const B: &str = "area 3000\nboot\nsteps core 2\nclaim 3 10\nstore 3 10 0 77\n";
 
 const B_TEXT: &str = "more 0 of 2\nmore 1 of 2\nbooted image no\nok\nok\n";
-
-fn assert_printed(rt: &impl Abort, got: &Printed, status: Status, out: &str, note: &str) {
-    assert_eq!(rt; got.status, status, "for {out}{note}");
-    assert_eq!(rt; got.out.as_bytes(), out.as_bytes());
-    assert_eq!(rt; got.note.as_bytes(), note.as_bytes());
-}
 
 #[test]
 fn what_replay_says(rt: HostRuntime) -> Result<(), Fail> {
@@ -32,9 +25,9 @@ fn what_replay_says(rt: HostRuntime) -> Result<(), Fail> {
         ),
     ];
     for (text, status, out, note) in &table {
-        let mut disk = disk_of(rt.alloc(), 3001)?;
+        let mut disk = MemDisk::create(rt.alloc(), 3001)?;
         let got = replayed(rt.alloc(), &[text], &mut disk)?;
-        assert_printed(&rt, &got, *status, out, note);
+        assert_printed(&got, *status, out, note)?;
     }
     Ok(())
 }
@@ -57,44 +50,36 @@ fn faulty_scripts(rt: HostRuntime) -> Result<(), Fail> {
         ("boot\nsteps core 100000\n", "script line 2 Events\n"),
     ];
     for (text, note) in &table {
-        let mut disk = disk_of(rt.alloc(), 3001)?;
+        let mut disk = MemDisk::create(rt.alloc(), 3001)?;
         let got = replayed(rt.alloc(), &[text], &mut disk)?;
-        assert_printed(&rt, &got, Status::Input, "", note);
+        assert_printed(&got, Status::Input, "", note)?;
     }
     Ok(())
 }
 
 #[test]
 fn a_disk_that_is_too_small(rt: HostRuntime) -> Result<(), Fail> {
-    let mut disk = disk_of(rt.alloc(), 100)?;
+    let mut disk = MemDisk::create(rt.alloc(), 100)?;
     let got = replayed(rt.alloc(), &["boot"], &mut disk)?;
-    assert_printed(
-        &rt,
-        &got,
-        Status::Refused,
-        "",
-        "disk blocks 100 need 3001\n",
-    );
-    Ok(())
+    assert_refused(&got, "disk blocks 100 need 3001\n")
 }
 
 // The second write to out fails.
 #[test]
 fn a_replay_that_is_cut_off(rt: HostRuntime) -> Result<(), Fail> {
-    let mut disk = disk_of(rt.alloc(), 3001)?;
-    let script = Vec::from_slice(rt.alloc(), B.as_bytes())?;
-    let got = run_over(rt.alloc(), &["swsusp", "replay"], script, &mut disk, &[1])?;
-    assert_printed(&rt, &got, Status::Stream, "more 0 of 2\n", "sink fault\n");
-    Ok(())
+    let mut disk = MemDisk::create(rt.alloc(), 3001)?;
+    let failing = failing_out(&[1]);
+    let got = run_with(rt.alloc(), &REPLAY, B.as_bytes(), failing, &mut disk)?;
+    assert_printed(&got, Status::Stream, "more 0 of 2\n", "sink fault\n")
 }
 
 #[test]
 fn an_area_that_is_not_formatted(rt: HostRuntime) -> Result<(), Fail> {
     for (call, note) in [(1, "write fault unsure\n"), (2, "sync fault unsure\n")] {
-        let mut disk = disk_of(rt.alloc(), 3001)?;
+        let mut disk = MemDisk::create(rt.alloc(), 3001)?;
         disk.arm(call, 1, 0);
         let got = replayed(rt.alloc(), &["boot"], &mut disk)?;
-        assert_printed(&rt, &got, Status::Device, "", note);
+        assert_printed(&got, Status::Device, "", note)?;
     }
     Ok(())
 }
@@ -111,10 +96,9 @@ loading 6\nloading 7\nloading 8\nloading 9\nloading 10\nloading 11\nloading 12\n
 
 #[test]
 fn a_thin_run(rt: HostRuntime) -> Result<(), Fail> {
-    let mut disk = disk_of(rt.alloc(), 3001)?;
+    let mut disk = MemDisk::create(rt.alloc(), 3001)?;
     let got = replayed(rt.alloc(), &[THIN_RUN], &mut disk)?;
-    assert_printed(&rt, &got, Status::Done, THIN_TEXT, "");
-    Ok(())
+    assert_printed(&got, Status::Done, THIN_TEXT, "")
 }
 
 /// Power cuts behind B, and what is printed at the end.

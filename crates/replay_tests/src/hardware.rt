@@ -1,9 +1,10 @@
 //! Scripts whose settings describe other machines: zones, regions, tables elsewhere, bad slots, extents, a signature, and what a
 //! loader may use.
 
-use crate::runs::{all_end, disk_of, replayed};
+use crate::runs::{all_end, replayed};
+use samples::assert_refused;
+use sector_disk::MemDisk;
 use std::test::Fail;
-use swsusp_cli::Status;
 
 /// A machine with page frames 0 to 4095 and 3001 slots has booted, and its task 3 has stored 77 in page frame 10.
 const B: &str = "zone 0 4096\narea 3000\nboot\nsteps core 2\nclaim 3 10\nstore 3 10 0 77\n";
@@ -74,7 +75,7 @@ fn a_loader_frame_too_few(rt: HostRuntime) -> Result<(), Fail> {
     for _ in 0..85 {
         refused.extend_from_slice(b"idle\n")?;
     }
-    let mut disk = disk_of(rt.alloc(), 3001)?;
+    let mut disk = MemDisk::create(rt.alloc(), 3001)?;
     let got = replayed(
         rt.alloc(),
         &[LOADED, "resume 0-4009\nsteps core 92\n"],
@@ -199,14 +200,9 @@ const PIECES: &str = "extent 0 1 50\nextent 1 3000 100\n";
 
 #[test]
 fn a_disk_too_small_for_a_swap_file(rt: HostRuntime) -> Result<(), Fail> {
-    let mut disk = disk_of(rt.alloc(), 3001)?;
+    let mut disk = MemDisk::create(rt.alloc(), 3001)?;
     let got = replayed(rt.alloc(), &[PIECES, B, BACK], &mut disk)?;
-    assert_eq!(rt; got.status, Status::Refused);
-    assert_eq!(rt;
-        got.note.as_bytes(),
-        b"disk blocks 3001 need 3100\n".as_slice()
-    );
-    Ok(())
+    assert_refused(&got, "disk blocks 3001 need 3100\n")
 }
 
 // Sector 7 of block 50 is sector 407, which is bit 23 of a pick.

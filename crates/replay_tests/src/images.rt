@@ -1,19 +1,13 @@
 //! The bytes of images that replays leave, and what `inspect` says of their areas.
 
-ghost use Rattle.std.specs.Prelude.{IfOk};
-ghost use Rattle.world_core.specs.StandsFor.{IsOff};
-
-use crate::runs::{block_behind, block_of, disk_of, replayed, run_behind};
-use dump_file::MemSink;
-use machine::Hardware;
+use crate::runs::{block_behind, replayed, run_behind};
 use page_core::Page;
-use script::parse;
-use sector_disk::{Disk, MemDisk};
+use samples::{INSPECT, assert_printed, block, play_over, write};
+use sector_disk::MemDisk;
 use std::alloc::Global;
 use std::process::Abort;
 use std::test::Fail;
-use swsusp_cli::{Status, play};
-use world_core::World;
+use swsusp_cli::Status;
 
 /// A machine with 3001 slots has booted, and its task 3 has stored 77 in page frame 10.
 const B: &str = "area 3000\nboot\nsteps core 2\nclaim 3 10\nstore 3 10 0 77\n";
@@ -47,10 +41,8 @@ fn what_inspect_says_behind_a_replay(rt: HostRuntime) -> Result<(), Fail> {
         ),
     ];
     for (parts, out) in &table {
-        let got = run_behind(rt.alloc(), parts, 3001, &["swsusp", "inspect", "s"])?;
-        assert_eq!(rt; got.status, Status::Done);
-        assert_eq!(rt; got.out.as_bytes(), out.as_bytes());
-        assert_eq!(rt; got.note.as_bytes(), b"".as_slice());
+        let got = run_behind(rt.alloc(), parts, 3001, &INSPECT)?;
+        assert_printed(&got, Status::Done, out, "")?;
     }
     Ok(())
 }
@@ -66,7 +58,7 @@ fn what_inspect_says_of_a_swap_file(rt: HostRuntime) -> Result<(), Fail> {
             "",
         ),
         (
-            &["swsusp", "inspect", "s"],
+            &INSPECT,
             Status::Refused,
             "",
             "no swap: signature 00000000000000000000\n",
@@ -74,9 +66,7 @@ fn what_inspect_says_of_a_swap_file(rt: HostRuntime) -> Result<(), Fail> {
     ];
     for (words, status, out, note) in &table {
         let got = run_behind(rt.alloc(), &[PIECES, B, HIBERNATED], 3100, words)?;
-        assert_eq!(rt; got.status, *status);
-        assert_eq!(rt; got.out.as_bytes(), out.as_bytes());
-        assert_eq!(rt; got.note.as_bytes(), note.as_bytes());
+        assert_printed(&got, *status, out, note)?;
     }
     Ok(())
 }
@@ -93,26 +83,26 @@ fn assert_words(rt: &impl Abort, page: &Page, words: &[(usize, u64)]) {
 // blocks 4 to 11.
 #[test]
 fn the_bytes_of_the_first_image(rt: HostRuntime) -> Result<(), Fail> {
-    let mut disk = disk_of(rt.alloc(), 3001)?;
+    let mut disk = MemDisk::create(rt.alloc(), 3001)?;
     replayed(rt.alloc(), &[B, HIBERNATED], &mut disk)?;
-    let header = block_of(&mut disk, 0)?;
+    let header = block(&mut disk, 0)?;
     assert_eq!(rt;
         header.as_bytes()[4056..].iter().as_slice(),
         b"\0\0\0\0\0\0\0\0\x01\0\0\0\0\0\0\0\x02\0\0\0SWAPSPACE2S1SUSPEND\0".as_slice()
     );
-    let map = block_of(&mut disk, 1)?;
+    let map = block(&mut disk, 1)?;
     for k in 0..10 {
         assert_eq!(rt; map.word(k), k as u64 + 2);
     }
     assert_words(&rt, &map, &[(10, 0), (511, 0)]);
-    let info = block_of(&mut disk, 2)?;
+    let info = block(&mut disk, 2)?;
     assert_eq!(rt; info.u32_at(392), 393_472);
     assert_words(&rt, &info, &[(50, 4096), (52, 8), (53, 10), (54, 40_960)]);
-    let numbers = block_of(&mut disk, 3)?;
+    let numbers = block(&mut disk, 3)?;
     for (k, number) in [0, 1, 2, 3, 4, 5, 6, 10, u64::MAX, 0].iter().enumerate() {
         assert_eq!(rt; numbers.word(k), *number);
     }
-    assert_words(&rt, &block_of(&mut disk, 11)?, &[(0, 77)]);
+    assert_words(&rt, &block(&mut disk, 11)?, &[(0, 77)]);
     Ok(())
 }
 
@@ -139,45 +129,23 @@ fn the_header_of_a_swap_file(rt: HostRuntime) -> Result<(), Fail> {
     Ok(())
 }
 
-/// A world of a machine, which is off.
-fn world_off(alloc: Global, hw: &Hardware) -> Result<World, Fail>
-    ensures { IfOk result IsOff }
-{
-    match World::create(alloc, *hw) {
-        Ok(world) => Ok(world),
-        Err(_) => Err("memory".into()),
-    }
-}
-
 /// The disk of an image without zeros, whose info page counts a page more than the marked numbers leave.
 fn miscounted(alloc: Global) -> Result<MemDisk, Fail> {
-    let mut disk = disk_of(alloc, 3001)?;
+    let mut disk = MemDisk::create(alloc, 3001)?;
     replayed(alloc, &[B, WITHOUT_ZEROS], &mut disk)?;
-    let mut info = block_of(&mut disk, 2)?;
-    if info.word(53) != 8 || disk.blocks() != 3001 {
+    let mut info = block(&mut disk, 2)?;
+    if info.word(53) != 8 {
         return Err("another image".into());
     }
     info.set_word(53, 9);
-    match disk.write(2, &info) {
-        Ok(()) => Ok(disk),
-        Err(_) => Err("a write failed".into()),
-    }
+    write(&mut disk, 2, &info)?;
+    Ok(disk)
 }
 
 #[test]
 fn zeros_with_a_page_too_many(rt: HostRuntime) -> Result<(), Fail> {
     let mut disk = miscounted(rt.alloc())?;
-    let Ok(resume) = parse(rt.alloc(), b"resume\nsteps core 8\n") else {
-        return Err("no script".into());
-    };
-    let mut world = world_off(rt.alloc(), resume.hardware())?;
-    let mut out = MemSink::new(Vec::with_capacity(rt.alloc(), 256)?, Vec::new(rt.alloc()));
-    if play(&mut world, &mut disk, &mut out, resume.events()).is_err() {
-        return Err("out failed".into());
-    }
-    assert!(rt;
-        out.as_bytes()
-            .ends_with(b"loading 6\nbad counts 8 9\nidle\n")
-    );
+    let out = play_over(rt.alloc(), "resume\nsteps core 8\n", &mut disk)?;
+    assert!(rt; out.ends_with(b"loading 6\nbad counts 8 9\nidle\n"));
     Ok(())
 }
