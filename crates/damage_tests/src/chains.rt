@@ -1,15 +1,11 @@
 //! Chains of two maps whose first one doesn't lead to the second.
 
-use crate::disks::{front, scripted};
+use crate::disks::front;
 use crate::rows::{Row, assert_rows};
-use crate::runs::{RESUME, RESUME_ANY};
+use samples::{LARGE, RESUME, RESUME_ANY, scripted};
 use std::alloc::Global;
 use std::process::Abort;
 use std::test::Fail;
-
-/// By hand: 597 page frames are saved, so there are two number pages, 600 pages, two maps and 606 steps.
-const LARGE: &str =
-    "zone 0 4096\narea 3000\nregion 7 590 0\nboot\nsteps core 2\nhibernate\nsteps core 606\n";
 
 /// A machine in which 513 page frames of task 1 begin with a number. By hand: with the tables' seven 520 are saved, and 518 have data,
 /// so there are two number pages, 521 pages, two maps and 527 steps.

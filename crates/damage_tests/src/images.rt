@@ -1,10 +1,10 @@
 //! Damaged images of both formats. Of each a resume tells its cause, whichever kernels are accepted, and another one that no image is
 //! there any more.
 
-use crate::disks::{PLAIN, ZEROS, change, front, image_bytes, lay, scripted};
+use crate::disks::{ZEROS, front, lay};
 use crate::loaders::resumed;
 use crate::rows::{GONE, Row, assert_refuses, assert_rows, assert_stops};
-use crate::runs::{RESUME, RESUME_ANY, assert_done};
+use samples::{RESUME, RESUME_ANY, SMALL, assert_done, change, first_bytes, scripted};
 use std::alloc::Global;
 use std::process::Abort;
 use std::test::Fail;
@@ -27,7 +27,7 @@ fn headers_and_maps(rt: HostRuntime) -> Result<(), Fail> {
         (14, &[(1, 72, 3001)], "bad block 3001\n"),
         (6, &[(2, 400, 4095)], "memory size 4095 own 4096\n"),
     ];
-    assert_table(&rt, rt.alloc(), PLAIN, &rows)
+    assert_table(&rt, rt.alloc(), SMALL, &rows)
 }
 
 #[test]
@@ -45,7 +45,7 @@ fn counts_and_numbers(rt: HostRuntime) -> Result<(), Fail> {
         (7, &[(3, 48, 5)], "pfn order 5 5\n"),
         (7, &[(3, 64, 0), (3, 68, 0)], "pfn end 0\n"),
     ];
-    assert_table(&rt, rt.alloc(), PLAIN, &rows)
+    assert_table(&rt, rt.alloc(), SMALL, &rows)
 }
 
 // The 8 numbers take a page, and 6 pages have data.
@@ -85,17 +85,17 @@ fn numbers_without_zeros(rt: HostRuntime) -> Result<(), Fail> {
 fn images_that_are_compressed(rt: HostRuntime) -> Result<(), Fail> {
     let alloc = rt.alloc();
     let table = [
-        (PLAIN, 0, "compressed 0\n"),
+        (SMALL, 0, "compressed 0\n"),
         (ZEROS, 256, "compressed 256\n"),
     ];
     for (script, flags, note) in table {
         let mut disk = scripted(alloc, script)?;
         change(&mut disk, &[(0, 4072, flags)])?;
-        let before = image_bytes(alloc, &mut disk)?;
-        assert_refuses(&rt, alloc, &RESUME, &mut disk, [note, note])?;
-        assert_refuses(&rt, alloc, &RESUME_ANY, &mut disk, [note, note])?;
+        let before = first_bytes(alloc, &mut disk)?;
+        assert_refuses(alloc, &RESUME, &mut disk, [note, note])?;
+        assert_refuses(alloc, &RESUME_ANY, &mut disk, [note, note])?;
         assert_stops(&rt, alloc, &mut disk, "resume", 2, [note, note])?;
-        assert!(rt; image_bytes(alloc, &mut disk)? == before);
+        assert!(rt; first_bytes(alloc, &mut disk)? == before);
     }
     Ok(())
 }
@@ -105,7 +105,7 @@ fn images_that_are_compressed(rt: HostRuntime) -> Result<(), Fail> {
 #[test]
 fn damaged_slot_tables(rt: HostRuntime) -> Result<(), Fail> {
     let alloc = rt.alloc();
-    let table: [(&str, u32, &[&str]); 2] = [(PLAIN, 15, &RESUME), (ZEROS, 13, &RESUME_ANY)];
+    let table: [(&str, u32, &[&str]); 2] = [(SMALL, 15, &RESUME), (ZEROS, 13, &RESUME_ANY)];
     for (script, step, words) in table {
         let mut disk = scripted(alloc, script)?;
         let front = front(&mut disk)?;
@@ -114,7 +114,7 @@ fn damaged_slot_tables(rt: HostRuntime) -> Result<(), Fail> {
         assert_stops(&rt, alloc, &mut disk, "resume", step, notes)?;
         lay(&mut disk, &front, &[])?;
         let got = resumed(alloc, words, &mut disk)?;
-        assert_done(&rt, &got);
+        assert_done(&got)?;
     }
     Ok(())
 }

@@ -1,33 +1,26 @@
 //! Damaged dumps and faulty scripts: the first fault is noted, and no call of the disk is made.
 
-use crate::dumps::{OVER_FILE, SMALL, saved};
-use crate::runs::{EXPORT, HIBERNATE, REPLAY, RESUME, assert_printed, run_over};
+use samples::{
+    EXAMPLE, EXPORT, HIBERNATE, OVER_FILE, REPLAY, RESUME, assert_printed, run_over, saved,
+};
 use sector_disk::{Disk, MemDisk};
 use std::alloc::Global;
-use std::process::Abort;
 use std::test::Fail;
 use swsusp_cli::Status;
 
 /// A run over a disk whose every call fails, which would be told, ends with this note.
-fn assert_noted(
-    rt: &impl Abort,
-    alloc: Global,
-    words: &[&str],
-    input: &[u8],
-    note: &str,
-) -> Result<(), Fail> {
+fn assert_noted(alloc: Global, words: &[&str], input: &[u8], note: &str) -> Result<(), Fail> {
     let mut disk = MemDisk::create(alloc, 3001)?;
     disk.arm(1, u32::MAX, 0);
     let got = run_over(alloc, words, input, &mut disk)?;
-    assert_printed(rt, &got, Status::Input, "", note);
-    Ok(())
+    assert_printed(&got, Status::Input, "", note)
 }
 
 /// Each command that reads a dump notes this.
-fn assert_no_dump(rt: &impl Abort, alloc: Global, input: &[u8], note: &str) -> Result<(), Fail> {
+fn assert_no_dump(alloc: Global, input: &[u8], note: &str) -> Result<(), Fail> {
     let commands: [&[&str]; 3] = [&HIBERNATE, &RESUME, &EXPORT];
     for words in commands {
-        assert_noted(rt, alloc, words, input, note)?;
+        assert_noted(alloc, words, input, note)?;
     }
     Ok(())
 }
@@ -45,7 +38,7 @@ fn changed(alloc: Global, bytes: &[u8], at: usize, number: u32) -> Result<Vec<u8
 #[test]
 fn damaged_dumps(rt: HostRuntime) -> Result<(), Fail> {
     let alloc = rt.alloc();
-    let bytes = saved(alloc, &SMALL)?;
+    let bytes = saved(alloc, &EXAMPLE)?;
     let table = [
         (0, 0, "dump Magic byte 0\n"),
         (12, 1, "dump Header byte 12\n"),
@@ -62,7 +55,7 @@ fn damaged_dumps(rt: HostRuntime) -> Result<(), Fail> {
     ];
     for (at, number, note) in table {
         let dump = changed(alloc, bytes.as_slice(), at, number)?;
-        assert_no_dump(&rt, alloc, dump.as_slice(), note)?;
+        assert_no_dump(alloc, dump.as_slice(), note)?;
     }
     Ok(())
 }
@@ -70,9 +63,9 @@ fn damaged_dumps(rt: HostRuntime) -> Result<(), Fail> {
 #[test]
 fn dumps_of_another_length(rt: HostRuntime) -> Result<(), Fail> {
     let alloc = rt.alloc();
-    let mut bytes = saved(alloc, &SMALL)?;
+    let mut bytes = saved(alloc, &EXAMPLE)?;
     bytes.push(0)?;
-    assert_no_dump(&rt, alloc, bytes.as_slice(), "dump Extra byte 16836\n")?;
+    assert_no_dump(alloc, bytes.as_slice(), "dump Extra byte 16836\n")?;
     let fronts = [
         (16835, "dump Short byte 16835\n"),
         (4536, "dump Short byte 4536\n"),
@@ -82,7 +75,7 @@ fn dumps_of_another_length(rt: HostRuntime) -> Result<(), Fail> {
     ];
     for (len, note) in fronts {
         bytes.truncate(len);
-        assert_no_dump(&rt, alloc, bytes.as_slice(), note)?;
+        assert_no_dump(alloc, bytes.as_slice(), note)?;
     }
     Ok(())
 }
@@ -102,7 +95,7 @@ fn damaged_file_maps(rt: HostRuntime) -> Result<(), Fail> {
     ];
     for (at, number, note) in table {
         let dump = changed(alloc, bytes.as_slice(), at, number)?;
-        assert_no_dump(&rt, alloc, dump.as_slice(), note)?;
+        assert_no_dump(alloc, dump.as_slice(), note)?;
     }
     Ok(())
 }
@@ -128,7 +121,7 @@ fn faulty_scripts(rt: HostRuntime) -> Result<(), Fail> {
         ("boot\nsteps core 99999\nboot\n", "script line 3 Events\n"),
     ];
     for (text, note) in table {
-        assert_noted(&rt, alloc, &REPLAY, text.as_bytes(), note)?;
+        assert_noted(alloc, &REPLAY, text.as_bytes(), note)?;
     }
     Ok(())
 }
@@ -137,11 +130,5 @@ fn faulty_scripts(rt: HostRuntime) -> Result<(), Fail> {
 fn a_script_that_is_too_long(rt: HostRuntime) -> Result<(), Fail> {
     let alloc = rt.alloc();
     let bytes = vec![in alloc; b'#'; 1_048_577]?;
-    assert_noted(
-        &rt,
-        alloc,
-        &REPLAY,
-        bytes.as_slice(),
-        "script line 0 TooLong\n",
-    )
+    assert_noted(alloc, &REPLAY, bytes.as_slice(), "script line 0 TooLong\n")
 }

@@ -1,10 +1,10 @@
 //! Images of another kernel, in both formats: a resume that compares tells the first field that differs, and one that doesn't restores
 //! just what it restores of an image of its own kernel.
 
-use crate::disks::{Change, PLAIN, ZEROS, change, front, lay, scripted};
+use crate::disks::{ZEROS, front, lay};
 use crate::loaders::resumed;
 use crate::rows::{GONE, Row, assert_refuses, assert_rows};
-use crate::runs::{RESUME, RESUME_ANY, assert_done};
+use samples::{Change, RESUME, RESUME_ANY, SMALL, assert_done, change, scripted};
 use std::test::Fail;
 
 /// The version code; of the sysname the first byte is 0; the release begins with `7.1.`, the version is `#2`, the machine `plann`. Of two the
@@ -25,7 +25,7 @@ const ROWS: [Row<'static>; 6] = [
 #[test]
 fn other_kernels(rt: HostRuntime) -> Result<(), Fail> {
     let alloc = rt.alloc();
-    for script in [PLAIN, ZEROS] {
+    for script in [SMALL, ZEROS] {
         let mut disk = scripted(alloc, script)?;
         let front = front(&mut disk)?;
         let commands: [&[&str]; 1] = [&RESUME];
@@ -39,20 +39,20 @@ fn other_kernels(rt: HostRuntime) -> Result<(), Fail> {
 fn any_kernel(rt: HostRuntime) -> Result<(), Fail> {
     let alloc = rt.alloc();
     let nodes: [Change; 2] = [(2, 65, 0), (2, 325, 0)];
-    for script in [PLAIN, ZEROS] {
+    for script in [SMALL, ZEROS] {
         let mut disk = scripted(alloc, script)?;
         let front = front(&mut disk)?;
         change(&mut disk, &nodes)?;
         let whole = resumed(alloc, &RESUME, &mut disk)?;
-        assert_done(&rt, &whole);
+        assert_done(&whole)?;
         lay(&mut disk, &front, &nodes)?;
         for (_, changes, _) in ROWS {
             change(&mut disk, changes)?;
         }
         let got = resumed(alloc, &RESUME_ANY, &mut disk)?;
-        assert_done(&rt, &got);
+        assert_done(&got)?;
         assert!(rt; got.out.as_bytes() == whole.out.as_bytes());
-        assert_refuses(&rt, alloc, &RESUME_ANY, &mut disk, [GONE, GONE])?;
+        assert_refuses(alloc, &RESUME_ANY, &mut disk, [GONE, GONE])?;
     }
     Ok(())
 }

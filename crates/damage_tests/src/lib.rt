@@ -7,8 +7,6 @@ mod chains;
 #[cfg(test)]
 mod disks;
 #[cfg(test)]
-mod dumps;
-#[cfg(test)]
 mod images;
 #[cfg(test)]
 mod inputs;
@@ -20,5 +18,3 @@ mod loaders;
 mod marked;
 #[cfg(test)]
 mod rows;
-#[cfg(test)]
-mod runs;

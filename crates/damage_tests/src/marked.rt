@@ -1,12 +1,12 @@
 //! A marked header block whose original signature is the mark's own: taken back it is marked still. That an image is resumed at most once has
 //! the premise that no such block is handed in. What is wrong with the image is told all the same.
 
-use crate::disks::{Change, PLAIN, change, front, lay, scripted};
-use crate::dumps::loader;
+use crate::disks::{front, lay};
 use crate::loaders::resumed;
 use crate::rows::{USED, assert_refuses, lines, played};
-use crate::runs::{
-    HIBERNATE, INSPECT, RESUME, RESUME_ANY, assert_done, assert_printed, assert_refused, run_over,
+use samples::{
+    Change, HIBERNATE, INSPECT, RESUME, RESUME_ANY, SCRIPTED, SMALL, assert_done, assert_printed,
+    assert_refused, change, loader, run_over, scripted,
 };
 use std::test::Fail;
 use swsusp_cli::Status;
@@ -23,18 +23,18 @@ const MARKED: [Change; 3] = [
 #[test]
 fn it_stays_marked(rt: HostRuntime) -> Result<(), Fail> {
     let alloc = rt.alloc();
-    let mut disk = scripted(alloc, PLAIN)?;
+    let mut disk = scripted(alloc, SMALL)?;
     change(&mut disk, &MARKED)?;
     let whole = resumed(alloc, &RESUME, &mut disk)?;
-    assert_done(&rt, &whole);
+    assert_done(&whole)?;
     let got = run_over(alloc, &INSPECT, &[], &mut disk)?;
     let line = "area last 3000 bad 0 image 1 flags 2 hw -\n";
-    assert_printed(&rt, &got, Status::Done, line, "");
-    let dump = loader(alloc, USED)?;
+    assert_printed(&got, Status::Done, line, "")?;
+    let dump = loader(alloc, &SCRIPTED, USED)?;
     let got = run_over(alloc, &HIBERNATE, dump.as_slice(), &mut disk)?;
-    assert_refused(&rt, &got, "closed\n");
+    assert_refused(&got, "closed\n")?;
     let got = resumed(alloc, &RESUME, &mut disk)?;
-    assert_done(&rt, &got);
+    assert_done(&got)?;
     assert!(rt; got.out.as_bytes() == whole.out.as_bytes());
     let text = lines(alloc, 15, "bad tables 4\n")?;
     for _ in 0..2 {
@@ -56,13 +56,13 @@ fn its_image_is_damaged(rt: HostRuntime) -> Result<(), Fail> {
         (6, (2, 416, 0), "bad counts 0 10\n"),
         (7, (3, 48, 5), "pfn order 5 5\n"),
     ];
-    let mut disk = scripted(alloc, PLAIN)?;
+    let mut disk = scripted(alloc, SMALL)?;
     let front = front(&mut disk)?;
     for (step, damage, note) in rows {
         lay(&mut disk, &front, &MARKED)?;
         change(&mut disk, &[damage])?;
-        assert_refuses(&rt, alloc, &RESUME, &mut disk, [note, note])?;
-        assert_refuses(&rt, alloc, &RESUME_ANY, &mut disk, [note, note])?;
+        assert_refuses(alloc, &RESUME, &mut disk, [note, note])?;
+        assert_refuses(alloc, &RESUME_ANY, &mut disk, [note, note])?;
         let events = format!(in alloc; "resume\nsteps core {step}\n")?;
         let text = lines(alloc, step, note)?;
         for _ in 0..2 {

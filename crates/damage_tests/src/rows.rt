@@ -1,18 +1,11 @@
 //! Rows of a table of damaged images: each is tried by the command, and by the steps of a machine that resumes in a script.
 
-ghost use Rattle.std.specs.Prelude.{IfOk};
-ghost use Rattle.world_core.specs.StandsFor.{IsOff};
-
-use crate::disks::{Change, Front, lay};
-use crate::dumps::loader;
-use crate::runs::{assert_refused, run_over, sink_of};
-use script::parse;
+use crate::disks::{Front, lay};
+use samples::{Change, SCRIPTED, assert_refused, loader, play_over, run_over};
 use sector_disk::MemDisk;
 use std::alloc::Global;
 use std::process::Abort;
 use std::test::Fail;
-use swsusp_cli::play;
-use world_core::World;
 
 /// The step of a resume that finds it, what is changed, and the line that tells it.
 pub type Row<'a> = (u32, &'a [Change], &'a str);
@@ -25,44 +18,23 @@ pub const GONE: &str = "no image\n";
 
 /// The command refuses the image twice: with this note, and then with that one.
 pub fn assert_refuses(
-    rt: &impl Abort,
     alloc: Global,
     words: &[&str],
     disk: &mut MemDisk,
     notes: [&str; 2],
 ) -> Result<(), Fail> {
-    let dump = loader(alloc, USED)?;
+    let dump = loader(alloc, &SCRIPTED, USED)?;
     for note in notes {
         let got = run_over(alloc, words, dump.as_slice(), disk)?;
-        assert_refused(rt, &got, note);
+        assert_refused(&got, note)?;
     }
     Ok(())
 }
 
-/// A world of the machine of a script, which is off.
-fn world_off(alloc: Global) -> Result<World, Fail>
-    ensures { IfOk result IsOff }
-{
-    let Ok(script) = parse(alloc, b"zone 0 4096\narea 3000\n") else {
-        return Err("no script".into());
-    };
-    match World::create(alloc, *script.hardware()) {
-        Ok(world) => Ok(world),
-        Err(_) => Err("memory".into()),
-    }
-}
-
 /// What is printed of these events over the disk as it is.
 pub fn played(alloc: Global, events: &str, disk: &mut MemDisk) -> Result<Vec<u8>, Fail> {
-    let Ok(script) = parse(alloc, events.as_bytes()) else {
-        return Err("no script".into());
-    };
-    let mut world = world_off(alloc)?;
-    let mut out = sink_of(alloc, 65536)?;
-    if play(&mut world, disk, &mut out, script.events()).is_err() {
-        return Err("out failed".into());
-    }
-    Ok(out.as_bytes().to_vec(alloc)?)
+    let script = format!(in alloc; "zone 0 4096\narea 3000\n{events}")?;
+    play_over(alloc, script.as_str(), disk)
 }
 
 /// The lines of a resume up to this step, which answers so.
@@ -106,7 +78,7 @@ pub fn assert_rows(
     for (step, changes, note) in rows {
         for words in commands {
             lay(disk, front, changes)?;
-            assert_refuses(rt, alloc, words, disk, [note, GONE])?;
+            assert_refuses(alloc, words, disk, [note, GONE])?;
         }
         lay(disk, front, changes)?;
         assert_stops(rt, alloc, disk, "resume", *step, [note, GONE])?;
