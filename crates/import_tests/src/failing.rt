@@ -1,15 +1,13 @@
 //! Calls that fail. An import of 7 pages makes 13 of the disk: a read (1), the pages and the map (2 to 9), a sync (10), a read (11), the
 //! mark (12) and its sync (13); an undo writes (14) and syncs (15).
 
-use crate::disks::{area, block, header};
-use crate::runs::{
-    IMPORT, Printed, assert_no_image, assert_printed, assert_resumes, import, run_with, sink_of,
+use crate::runs::{assert_unmarked, import};
+use samples::{
+    IMPORT, area, assert_no_image, assert_printed, assert_resumes, example_stream, failing_input,
+    failing_out, run_with,
 };
-use crate::streams::expected;
-use dump_file::MemSource;
 use sector_disk::{Disk, MemDisk};
 use std::alloc::Global;
-use std::process::Abort;
 use std::test::Fail;
 use swsusp_cli::Status;
 
@@ -17,17 +15,12 @@ use swsusp_cli::Status;
 type Fault = (u32, u32, u64);
 
 /// An import whose calls fail so ends with this note.
-fn stopped_import(
-    rt: &impl Abort,
-    alloc: Global,
-    (first, count, pick): Fault,
-    note: &str,
-) -> Result<MemDisk, Fail> {
+fn stopped_import(alloc: Global, (first, count, pick): Fault, note: &str) -> Result<MemDisk, Fail> {
     let mut disk = area(alloc)?;
     disk.arm(first, count, pick);
     let got = import(alloc, &mut disk)?;
     disk.arm(1, 0, 0);
-    assert_printed(rt, &got, Status::Device, "", note);
+    assert_printed(&got, Status::Device, "", note)?;
     Ok(disk)
 }
 
@@ -49,13 +42,11 @@ fn before_the_mark(rt: HostRuntime) -> Result<(), Fail> {
         (11, "read fault same\n"),
     ];
     for (call, note) in table {
-        let mut disk = stopped_import(&rt, alloc, (call, 1, u64::MAX), note)?;
-        assert!(rt;
-            block(&mut disk, 0)?.as_bytes().as_slice() == header(1599).as_bytes().as_slice()
-        );
-        assert_no_image(&rt, alloc, &mut disk)?;
+        let mut disk = stopped_import(alloc, (call, 1, u64::MAX), note)?;
+        assert_unmarked(&rt, &mut disk)?;
+        assert_no_image(alloc, &mut disk)?;
         let got = import(alloc, &mut disk)?;
-        assert_printed(&rt, &got, Status::Done, "imported 5\n", "");
+        assert_printed(&got, Status::Done, "imported 5\n", "")?;
     }
     Ok(())
 }
@@ -70,9 +61,9 @@ fn a_mark_that_is_taken_back(rt: HostRuntime) -> Result<(), Fail> {
         ((13, 1, 0), "sync fault gone\n"),
     ];
     for (fault, note) in table {
-        let mut disk = stopped_import(&rt, alloc, fault, note)?;
+        let mut disk = stopped_import(alloc, fault, note)?;
         disk.restart(0);
-        assert_no_image(&rt, alloc, &mut disk)?;
+        assert_no_image(alloc, &mut disk)?;
     }
     Ok(())
 }
@@ -88,24 +79,13 @@ fn an_undo_that_fails(rt: HostRuntime) -> Result<(), Fail> {
         ((13, 3, 0), "sync fault unsure\n", true),
     ];
     for (fault, note, image) in table {
-        let mut disk = stopped_import(&rt, alloc, fault, note)?;
+        let mut disk = stopped_import(alloc, fault, note)?;
         if image {
-            assert_resumes(&rt, alloc, &mut disk)?;
+            assert_resumes(alloc, &mut disk)?;
         }
-        assert_no_image(&rt, alloc, &mut disk)?;
+        assert_no_image(alloc, &mut disk)?;
     }
     Ok(())
-}
-
-/// An import over an input and an output whose calls of these numbers fail.
-fn import_with(
-    alloc: Global,
-    input: &[u64],
-    out: &[u64],
-    disk: &mut MemDisk,
-) -> Result<Printed, Fail> {
-    let input = MemSource::new(expected(alloc)?, Vec::from_slice(alloc, input)?);
-    run_with(alloc, &IMPORT, input, sink_of(alloc, 4096, out)?, disk)
 }
 
 // The input fails at its first byte, or behind the last one, where all pages are written.
@@ -114,12 +94,11 @@ fn an_input_that_fails(rt: HostRuntime) -> Result<(), Fail> {
     let alloc = rt.alloc();
     for call in [0, 1] {
         let mut disk = area(alloc)?;
-        let got = import_with(alloc, &[call], &[], &mut disk)?;
-        assert_printed(&rt, &got, Status::Stream, "", "source fault\n");
-        assert!(rt;
-            block(&mut disk, 0)?.as_bytes().as_slice() == header(1599).as_bytes().as_slice()
-        );
-        assert_no_image(&rt, alloc, &mut disk)?;
+        let input = example_stream(alloc)?;
+        let got = run_with(alloc, &IMPORT, &input, failing_input(&[call]), &mut disk)?;
+        assert_printed(&got, Status::Stream, "", "source fault\n")?;
+        assert_unmarked(&rt, &mut disk)?;
+        assert_no_image(alloc, &mut disk)?;
     }
     Ok(())
 }
@@ -129,7 +108,8 @@ fn an_input_that_fails(rt: HostRuntime) -> Result<(), Fail> {
 fn an_output_that_fails(rt: HostRuntime) -> Result<(), Fail> {
     let alloc = rt.alloc();
     let mut disk = area(alloc)?;
-    let got = import_with(alloc, &[], &[0], &mut disk)?;
-    assert_printed(&rt, &got, Status::Stream, "", "sink fault\n");
-    assert_resumes(&rt, alloc, &mut disk)
+    let input = example_stream(alloc)?;
+    let got = run_with(alloc, &IMPORT, &input, failing_out(&[0]), &mut disk)?;
+    assert_printed(&got, Status::Stream, "", "sink fault\n")?;
+    assert_resumes(alloc, &mut disk)
 }

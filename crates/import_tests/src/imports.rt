@@ -1,15 +1,13 @@
 //! Imports that end well.
 
-use crate::disks::{area, bytes_of};
-use crate::runs::{
-    IMPORT, INSPECT, assert_no_image, assert_printed, assert_resumes, hibernate, import, run_over,
-    words_of,
-};
-use crate::streams::expected;
-use dump_file::{MemSink, Source};
+use crate::runs::import;
+use dump_file::Source;
 use page_core::Failed;
-use sector_disk::{Disk, LogDisk, MemDisk};
-use std::alloc::Global;
+use samples::{
+    IMPORT, INSPECT, area, assert_no_image, assert_printed, assert_resumes, bytes_of,
+    example_stream, hibernate, run_over, sink_of, words_of,
+};
+use sector_disk::Disk;
 use std::test::Fail;
 use swsusp_cli::{Choice, Status, run, swap_name};
 
@@ -19,18 +17,18 @@ fn as_a_hibernation_leaves_it(rt: HostRuntime) -> Result<(), Fail> {
     let alloc = rt.alloc();
     let mut hibernated = area(alloc)?;
     let got = hibernate(alloc, &mut hibernated)?;
-    assert_printed(&rt, &got, Status::Done, "hibernated 5\n", "");
+    assert_printed(&got, Status::Done, "hibernated 5\n", "")?;
     let mut disk = area(alloc)?;
     let got = import(alloc, &mut disk)?;
-    assert_printed(&rt, &got, Status::Done, "imported 5\n", "");
+    assert_printed(&got, Status::Done, "imported 5\n", "")?;
     assert!(rt; bytes_of(alloc, &mut disk)? == bytes_of(alloc, &mut hibernated)?);
     disk.restart(0);
     assert!(rt; bytes_of(alloc, &mut disk)? == bytes_of(alloc, &mut hibernated)?);
     let got = run_over(alloc, &INSPECT, &[], &mut disk)?;
     let line = "area last 1599 bad 0 image 1 flags 2 hw -\n";
-    assert_printed(&rt, &got, Status::Done, line, "");
-    assert_resumes(&rt, alloc, &mut disk)?;
-    assert_no_image(&rt, alloc, &mut disk)
+    assert_printed(&got, Status::Done, line, "")?;
+    assert_resumes(alloc, &mut disk)?;
+    assert_no_image(alloc, &mut disk)
 }
 
 /// A source that hands out so many bytes at a time, and fails at no call.
@@ -66,11 +64,11 @@ fn byte_by_byte(rt: HostRuntime) -> Result<(), Fail> {
     let mut disk = area(alloc)?;
     let words = words_of(alloc, &IMPORT)?;
     let mut input = Drops {
-        bytes: expected(alloc)?,
+        bytes: example_stream(alloc)?,
         at: 0,
     };
-    let mut out = crate::runs::sink_of(alloc, 4096, &[])?;
-    let mut note = crate::runs::sink_of(alloc, 4096, &[])?;
+    let mut out = sink_of(alloc, 4096, &[])?;
+    let mut note = sink_of(alloc, 4096, &[])?;
     let status = run(alloc, &words, &mut input, &mut out, &mut note, &mut disk);
     assert_eq!(rt; status, Status::Done);
     assert_eq!(rt; out.as_bytes(), b"imported 5\n".as_slice());
@@ -87,7 +85,7 @@ fn words_of_an_import(rt: HostRuntime) -> Result<(), Fail> {
     }
     for list in [["swsusp", "import", ""], ["swsusp", "import", "-"]] {
         let mut disk = area(alloc)?;
-        let got = run_over(alloc, &list, &expected(alloc)?, &mut disk)?;
+        let got = run_over(alloc, &list, &example_stream(alloc)?, &mut disk)?;
         assert_eq!(rt; got.status, Status::Words);
     }
     Ok(())

@@ -3,10 +3,6 @@
 #![tactic(auto)]
 
 #[cfg(test)]
-mod disks;
-#[cfg(test)]
-mod dumps;
-#[cfg(test)]
 mod failing;
 #[cfg(test)]
 mod imports;
@@ -14,5 +10,3 @@ mod imports;
 mod refused;
 #[cfg(test)]
 mod runs;
-#[cfg(test)]
-mod streams;

@@ -1,9 +1,11 @@
 //! Imports that are refused: the input is no stream, or the area can't take it.
 
-use crate::disks::{BLOCKS, area, block, bytes_of, disk_with, header};
-use crate::runs::{IMPORT, assert_no_image, assert_printed, import, run_over};
-use crate::streams::{LENGTH, expected};
+use crate::runs::{assert_unmarked, import};
 use page_core::Page;
+use samples::{
+    IMPORT, STREAM_LENGTH, area, assert_no_image, assert_printed, assert_refused, bytes_of,
+    disk_with, example_stream, header, run_over,
+};
 use sector_disk::{Disk, MemDisk};
 use std::alloc::Global;
 use std::process::Abort;
@@ -15,19 +17,17 @@ fn assert_no_stream(rt: &impl Abort, alloc: Global, bytes: &[u8], note: &str) ->
     for pick in [0, u64::MAX] {
         let mut disk = area(alloc)?;
         let got = run_over(alloc, &IMPORT, bytes, &mut disk)?;
-        assert_printed(rt, &got, Status::Input, "", note);
+        assert_printed(&got, Status::Input, "", note)?;
         disk.restart(pick);
-        assert!(rt;
-            block(&mut disk, 0)?.as_bytes().as_slice() == header(1599).as_bytes().as_slice()
-        );
-        assert_no_image(rt, alloc, &mut disk)?;
+        assert_unmarked(rt, &mut disk)?;
+        assert_no_image(alloc, &mut disk)?;
     }
     Ok(())
 }
 
 /// The stream with this byte at that place.
 fn changed(alloc: Global, at: usize, byte: u8) -> Result<Vec<u8>, Fail> {
-    let mut bytes = expected(alloc)?;
+    let mut bytes = example_stream(alloc)?;
     if at < bytes.len() {
         bytes[at] = byte;
     }
@@ -37,16 +37,16 @@ fn changed(alloc: Global, at: usize, byte: u8) -> Result<Vec<u8>, Fail> {
 #[test]
 fn no_stream(rt: HostRuntime) -> Result<(), Fail> {
     let alloc = rt.alloc();
-    let whole = expected(alloc)?;
+    let whole = example_stream(alloc)?;
     for (len, note) in [
         (0, "stream Short byte 0\n"),
         (5000, "stream Short byte 5000\n"),
-        (LENGTH - 1, "stream Short byte 28671\n"),
+        (STREAM_LENGTH - 1, "stream Short byte 28671\n"),
     ] {
         let front = &whole.as_slice()[..len.min(whole.len())];
         assert_no_stream(&rt, alloc, front, note)?;
     }
-    let mut longer = expected(alloc)?;
+    let mut longer = example_stream(alloc)?;
     longer.push(0)?;
     assert_no_stream(&rt, alloc, &longer, "stream Extra byte 28672\n")?;
     for (at, byte, note) in [
@@ -70,7 +70,7 @@ fn assert_refuses(
 ) -> Result<(), Fail> {
     let before = bytes_of(alloc, disk)?;
     let got = import(alloc, disk)?;
-    assert_printed(rt, &got, Status::Refused, "", note);
+    assert_refused(&got, note)?;
     assert!(rt; bytes_of(alloc, disk)? == before);
     Ok(())
 }
@@ -79,18 +79,23 @@ fn assert_refuses(
 fn areas_that_are_refused(rt: HostRuntime) -> Result<(), Fail> {
     let alloc = rt.alloc();
     let zeros = "no swap: signature 00000000000000000000\n";
-    assert_refuses(&rt, alloc, &mut disk_with(alloc, 0, &Page::zero())?, zeros)?;
     assert_refuses(
         &rt,
         alloc,
-        &mut disk_with(alloc, BLOCKS, &Page::zero())?,
+        &mut disk_with(alloc, 0, 0, &Page::zero())?,
+        zeros,
+    )?;
+    assert_refuses(
+        &rt,
+        alloc,
+        &mut disk_with(alloc, 1600, 0, &Page::zero())?,
         zeros,
     )?;
     let short = "no swap: short 1600 blocks 1600\n";
     assert_refuses(
         &rt,
         alloc,
-        &mut disk_with(alloc, BLOCKS, &header(1600))?,
+        &mut disk_with(alloc, 1600, 0, &header(1600))?,
         short,
     )?;
     // 7 pages and 1026 more: 1033 slots are enough, and 1032 aren't.
@@ -98,11 +103,11 @@ fn areas_that_are_refused(rt: HostRuntime) -> Result<(), Fail> {
     assert_refuses(
         &rt,
         alloc,
-        &mut disk_with(alloc, BLOCKS, &header(1032))?,
+        &mut disk_with(alloc, 1600, 0, &header(1032))?,
         few,
     )?;
-    let got = import(alloc, &mut disk_with(alloc, BLOCKS, &header(1033))?)?;
-    assert_printed(&rt, &got, Status::Done, "imported 5\n", "");
+    let got = import(alloc, &mut disk_with(alloc, 1600, 0, &header(1033))?)?;
+    assert_printed(&got, Status::Done, "imported 5\n", "")?;
     // An image is there already.
     let mut disk = area(alloc)?;
     import(alloc, &mut disk)?;
