@@ -2,8 +2,4 @@
 #![tactic(auto)]
 
 #[cfg(test)]
-mod dumps;
-#[cfg(test)]
 mod exports;
-#[cfg(test)]
-mod streams;
