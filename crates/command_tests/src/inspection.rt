@@ -1,33 +1,13 @@
 //! What `inspect` says of a header block.
 
-use crate::runs::{assert_printed, run_over};
 use page_core::Page;
+use samples::{
+    INSPECT, assert_printed, assert_refused, disk_with, failing_out, run_over, run_with,
+};
 use sector_disk::{Disk, MemDisk};
 use sig_header::{area_page, mark};
-use std::alloc::Global;
 use std::test::Fail;
 use swsusp_cli::Status;
-
-const INSPECT: [&str; 3] = ["swsusp", "inspect", "s"];
-
-fn disk_of(alloc: Global, blocks: u32) -> Result<MemDisk, Fail> {
-    match MemDisk::create(alloc, blocks) {
-        Ok(disk) => Ok(disk),
-        Err(_) => Err("memory".into()),
-    }
-}
-
-/// A disk of one block that reads as this page.
-fn disk_with(alloc: Global, page: &Page) -> Result<MemDisk, Fail> {
-    let mut disk = disk_of(alloc, 1)?;
-    if disk.blocks() != 1 {
-        return Err("another disk".into());
-    }
-    match disk.write(0, page) {
-        Ok(()) => Ok(disk),
-        Err(_) => Err("a write failed".into()),
-    }
-}
 
 fn with_signature(page: &Page, sig: [u8; 10]) -> Page {
     let mut bytes = *page.as_bytes();
@@ -66,9 +46,9 @@ fn areas_and_images(rt: HostRuntime) -> Result<(), Fail> {
         ),
     ];
     for (page, out) in &table {
-        let mut disk = disk_with(rt.alloc(), page)?;
-        let got = run_over(rt.alloc(), &INSPECT, &mut disk, &[])?;
-        assert_printed(&rt, &got, Status::Done, out, "");
+        let mut disk = disk_with(rt.alloc(), 1, 0, page)?;
+        let got = run_over(rt.alloc(), &INSPECT, &[], &mut disk)?;
+        assert_printed(&got, Status::Done, out, "")?;
     }
     Ok(())
 }
@@ -86,25 +66,18 @@ fn blocks_that_are_refused(rt: HostRuntime) -> Result<(), Fail> {
         (Page::zero(), "no swap: signature 00000000000000000000\n"),
     ];
     for (page, note) in &table {
-        let mut disk = disk_with(rt.alloc(), page)?;
-        let got = run_over(rt.alloc(), &INSPECT, &mut disk, &[])?;
-        assert_printed(&rt, &got, Status::Refused, "", note);
+        let mut disk = disk_with(rt.alloc(), 1, 0, page)?;
+        let got = run_over(rt.alloc(), &INSPECT, &[], &mut disk)?;
+        assert_refused(&got, note)?;
     }
     Ok(())
 }
 
 #[test]
 fn a_disk_without_blocks(rt: HostRuntime) -> Result<(), Fail> {
-    let mut disk = disk_of(rt.alloc(), 0)?;
-    let got = run_over(rt.alloc(), &INSPECT, &mut disk, &[])?;
-    assert_printed(
-        &rt,
-        &got,
-        Status::Refused,
-        "",
-        "no swap: signature 00000000000000000000\n",
-    );
-    Ok(())
+    let mut disk = MemDisk::create(rt.alloc(), 0)?;
+    let got = run_over(rt.alloc(), &INSPECT, &[], &mut disk)?;
+    assert_refused(&got, "no swap: signature 00000000000000000000\n")
 }
 
 // The call that is armed to fail isn't made.
@@ -112,50 +85,36 @@ fn a_disk_without_blocks(rt: HostRuntime) -> Result<(), Fail> {
 fn a_block_behind_the_disk(rt: HostRuntime) -> Result<(), Fail> {
     let offsets: [&str; 3] = ["1", "2", "4294967295"];
     for offset in offsets {
-        let mut disk = disk_with(rt.alloc(), &area_page(3000, &[]))?;
+        let mut disk = disk_with(rt.alloc(), 1, 0, &area_page(3000, &[]))?;
         disk.arm(1, 1, 0);
         let words = ["swsusp", "inspect", "--offset", offset, "s"];
-        let got = run_over(rt.alloc(), &words, &mut disk, &[])?;
-        assert_printed(
-            &rt,
-            &got,
-            Status::Refused,
-            "",
-            "no swap: signature 00000000000000000000\n",
-        );
+        let got = run_over(rt.alloc(), &words, &[], &mut disk)?;
+        assert_refused(&got, "no swap: signature 00000000000000000000\n")?;
     }
     Ok(())
 }
 
 #[test]
 fn the_first_block_by_its_number(rt: HostRuntime) -> Result<(), Fail> {
-    let mut disk = disk_with(rt.alloc(), &area_page(3000, &[]))?;
+    let mut disk = disk_with(rt.alloc(), 1, 0, &area_page(3000, &[]))?;
     let words = ["swsusp", "inspect", "--offset", "0", "s"];
-    let got = run_over(rt.alloc(), &words, &mut disk, &[])?;
-    assert_printed(
-        &rt,
-        &got,
-        Status::Done,
-        "area last 3000 bad 0 image none\n",
-        "",
-    );
-    Ok(())
+    let got = run_over(rt.alloc(), &words, &[], &mut disk)?;
+    assert_printed(&got, Status::Done, "area last 3000 bad 0 image none\n", "")
 }
 
 #[test]
 fn a_read_that_fails(rt: HostRuntime) -> Result<(), Fail> {
-    let mut disk = disk_with(rt.alloc(), &area_page(3000, &[]))?;
+    let mut disk = disk_with(rt.alloc(), 1, 0, &area_page(3000, &[]))?;
     disk.arm(1, 1, 0);
-    let got = run_over(rt.alloc(), &INSPECT, &mut disk, &[])?;
-    assert_printed(&rt, &got, Status::Device, "", "read fault same\n");
-    Ok(())
+    let got = run_over(rt.alloc(), &INSPECT, &[], &mut disk)?;
+    assert_printed(&got, Status::Device, "", "read fault same\n")
 }
 
 #[test]
 fn a_sink_that_fails(rt: HostRuntime) -> Result<(), Fail> {
-    for failing in [0, 1] {
-        let mut disk = disk_with(rt.alloc(), &area_page(3000, &[]))?;
-        let got = run_over(rt.alloc(), &INSPECT, &mut disk, &[failing])?;
+    for call in [0, 1] {
+        let mut disk = disk_with(rt.alloc(), 1, 0, &area_page(3000, &[]))?;
+        let got = run_with(rt.alloc(), &INSPECT, &[], failing_out(&[call]), &mut disk)?;
         assert_eq!(rt; got.status, Status::Stream);
         assert_eq!(rt; got.note.as_bytes(), b"sink fault\n".as_slice());
     }

@@ -6,6 +6,4 @@ mod drills;
 #[cfg(test)]
 mod inspection;
 #[cfg(test)]
-mod runs;
-#[cfg(test)]
 mod words;

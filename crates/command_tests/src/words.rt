@@ -1,17 +1,10 @@
 //! Which lists of words parse, and which disk they ask for.
 
-use crate::runs::{assert_printed, run_over, words_of};
+use samples::{assert_printed, run_over, words_of};
 use sector_disk::MemDisk;
 use std::alloc::Global;
 use std::test::Fail;
 use swsusp_cli::{Choice, Status, swap_name};
-
-fn small_disk(alloc: Global) -> Result<MemDisk, Fail> {
-    match MemDisk::create(alloc, 1) {
-        Ok(disk) => Ok(disk),
-        Err(_) => Err("memory".into()),
-    }
-}
 
 // clap takes these, and yet they aren't plain.
 #[test]
@@ -31,9 +24,9 @@ fn words_that_are_not_plain(rt: HostRuntime) -> Result<(), Fail> {
         &["swsusp", "resume", "--", "s"],
     ];
     for list in lists {
-        let mut disk = small_disk(rt.alloc())?;
-        let got = run_over(rt.alloc(), list, &mut disk, &[])?;
-        assert_printed(&rt, &got, Status::Words, "", "words\n");
+        let mut disk = MemDisk::create(rt.alloc(), 1)?;
+        let got = run_over(rt.alloc(), list, &[], &mut disk)?;
+        assert_printed(&got, Status::Words, "", "words\n")?;
     }
     Ok(())
 }
@@ -69,8 +62,8 @@ fn words_that_clap_refuses(rt: HostRuntime) -> Result<(), Fail> {
         &["swsusp", "--version"],
     ];
     for list in lists {
-        let mut disk = small_disk(rt.alloc())?;
-        let got = run_over(rt.alloc(), list, &mut disk, &[])?;
+        let mut disk = MemDisk::create(rt.alloc(), 1)?;
+        let got = run_over(rt.alloc(), list, &[], &mut disk)?;
         assert_eq!(rt; got.status, Status::Words);
         assert_eq!(rt; got.out.as_bytes(), b"".as_slice());
         assert!(rt; got.note.as_bytes().ends_with(b"\n"));
