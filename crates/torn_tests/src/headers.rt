@@ -17,7 +17,7 @@ fn marks_that_are_cut(rt: HostRuntime) -> Result<(), Fail> {
         play.is_cut(pick)?;
         play.ends(pick, pick & MARK != 0)?;
     }
-    play.prints(&rt)
+    play.prints()
 }
 
 // The mark is taken back, and that isn't synced.
@@ -30,7 +30,7 @@ fn takings_back_that_are_cut(rt: HostRuntime) -> Result<(), Fail> {
         play.is_cut(pick)?;
         play.ends(pick, pick & MARK == 0)?;
     }
-    play.prints(&rt)
+    play.prints()
 }
 
 // The mark's write fails, and then the one that takes it back, which reaches no sector. The machine may have an image.
@@ -48,7 +48,7 @@ fn marks_that_fail(rt: HostRuntime) -> Result<(), Fail> {
         play.is_cut(ALL)?;
         play.ends(pick, pick & MARK != 0)?;
     }
-    play.prints(&rt)
+    play.prints()
 }
 
 #[test]
@@ -63,5 +63,5 @@ fn takings_back_that_fail(rt: HostRuntime) -> Result<(), Fail> {
         play.is_cut(ALL)?;
         play.ends(pick, pick & MARK == 0)?;
     }
-    play.prints(&rt)
+    play.prints()
 }

@@ -1,9 +1,9 @@
 //! Inputs that fail, at each call in turn: nothing is printed, and the header block is as before.
 
-use crate::dumps::{loader, saved};
-use crate::runs::{
-    Command, EXPORT, Failing, HIBERNATE, IMPORT, INSPECT, NONE, REPLAY, RESUME, area,
-    assert_printed, header, image, lay, run_over, stream,
+use crate::runs::{Command, SMALL, area, image, run_command, stream};
+use samples::{
+    EXPORT, Failing, HIBERNATE, IMPORT, INSPECT, NONE, REPLAY, RESUME, assert_printed, block,
+    failing_input, lay_block, loader, saved,
 };
 use sector_disk::MemDisk;
 use std::alloc::Global;
@@ -20,25 +20,21 @@ fn assert_torn(
     call: u64,
 ) -> Result<bool, Fail> {
     let calls = [call];
-    let before = header(disk)?;
-    let fails = Failing {
-        input: &calls,
-        ..NONE
-    };
-    let got = run_over(alloc, command, fails, disk)?;
+    let before = block(disk, 0)?;
+    let got = run_command(alloc, command, failing_input(&calls), disk)?;
     if got.status == Status::Done {
-        lay(disk, &before)?;
+        lay_block(disk, 0, &before)?;
         return Ok(false);
     }
-    assert_printed(rt, &got, Status::Stream, b"", b"source fault\n");
-    assert!(rt; header(disk)?.as_bytes().as_slice() == before.as_bytes().as_slice());
+    assert_printed(&got, Status::Stream, "", "source fault\n")?;
+    assert!(rt; block(disk, 0)?.as_bytes().as_slice() == before.as_bytes().as_slice());
     let both = Failing {
         input: &calls,
         note: &[0],
         ..NONE
     };
-    let got = run_over(alloc, command, both, disk)?;
-    assert_printed(rt, &got, Status::Stream, b"", b"");
+    let got = run_command(alloc, command, both, disk)?;
+    assert_printed(&got, Status::Stream, "", "")?;
     Ok(true)
 }
 
@@ -62,7 +58,7 @@ fn assert_each_torn(
 #[test]
 fn inputs_of_each_command(rt: HostRuntime) -> Result<(), Fail> {
     let alloc = rt.alloc();
-    let (dump, stream) = (saved(alloc)?, stream(alloc)?);
+    let (dump, stream) = (saved(alloc, &SMALL)?, stream(alloc)?);
     let table: [(&[&str], &[u8]); 4] = [
         (&HIBERNATE, dump.as_slice()),
         (&EXPORT, dump.as_slice()),
@@ -79,7 +75,7 @@ fn inputs_of_each_command(rt: HostRuntime) -> Result<(), Fail> {
 #[test]
 fn inputs_of_a_resume(rt: HostRuntime) -> Result<(), Fail> {
     let alloc = rt.alloc();
-    let dump = loader(alloc)?;
+    let dump = loader(alloc, &SMALL, 100)?;
     let command = Command {
         words: &RESUME,
         input: dump.as_slice(),
@@ -95,13 +91,8 @@ fn an_input_that_is_not_read(rt: HostRuntime) -> Result<(), Fail> {
         words: &INSPECT,
         input: b"",
     };
-    let fails = Failing {
-        input: &[0, 1, 2],
-        ..NONE
-    };
     let mut disk = area(alloc)?;
-    let got = run_over(alloc, command, fails, &mut disk)?;
-    let line = b"area last 1099 bad 0 image none\n";
-    assert_printed(&rt, &got, Status::Done, line, b"");
-    Ok(())
+    let got = run_command(alloc, command, failing_input(&[0, 1, 2]), &mut disk)?;
+    let line = "area last 1099 bad 0 image none\n";
+    assert_printed(&got, Status::Done, line, "")
 }

@@ -1,10 +1,10 @@
 //! Outputs that fail: at each call in turn, the first, the second, the last write and the flush among them. What was taken is a front of
 //! the whole text.
 
-use crate::dumps::{loader, saved};
-use crate::runs::{
-    Command, EXPORT, Failing, HIBERNATE, IMPORT, INSPECT, NONE, Printed, REPLAY, RESUME, area,
-    assert_printed, header, image, lay, run_over, stream,
+use crate::runs::{Command, SMALL, area, image, run_command, stream};
+use samples::{
+    EXPORT, Failing, HIBERNATE, IMPORT, INSPECT, NONE, Printed, REPLAY, RESUME, assert_printed,
+    assert_written, block, failing_out, lay_block, loader, saved,
 };
 use sector_disk::MemDisk;
 use std::alloc::Global;
@@ -19,27 +19,21 @@ fn run_again(
     disk: &mut MemDisk,
     failing: Failing,
 ) -> Result<Printed, Fail> {
-    let before = header(disk)?;
-    let got = run_over(alloc, command, failing, disk)?;
-    lay(disk, &before)?;
+    let before = block(disk, 0)?;
+    let got = run_command(alloc, command, failing, disk)?;
+    lay_block(disk, 0, &before)?;
     Ok(got)
 }
 
 /// The first call of the output fails. The note of it is tried once: where its first call fails too, nothing is noted.
-fn assert_tried_once(
-    rt: &impl Abort,
-    alloc: Global,
-    command: Command,
-    disk: &mut MemDisk,
-) -> Result<(), Fail> {
+fn assert_tried_once(alloc: Global, command: Command, disk: &mut MemDisk) -> Result<(), Fail> {
     let failing = Failing {
         out: &[0],
         note: &[0],
         ..NONE
     };
     let got = run_again(alloc, command, disk, failing)?;
-    assert_printed(rt, &got, Status::Stream, b"", b"");
-    Ok(())
+    assert_printed(&got, Status::Stream, "", "")
 }
 
 /// Each call of the output fails in turn, until none does: there are more than this.
@@ -51,12 +45,12 @@ fn assert_each_torn(
     whole: &[u8],
     least: u64,
 ) -> Result<(), Fail> {
-    assert_tried_once(rt, alloc, command, disk)?;
+    assert_tried_once(alloc, command, disk)?;
     for call in 0..64 {
         let out = [call];
-        let got = run_again(alloc, command, disk, Failing { out: &out, ..NONE })?;
+        let got = run_again(alloc, command, disk, failing_out(&out))?;
         if got.status == Status::Done {
-            assert_printed(rt, &got, Status::Done, whole, b"");
+            assert_written(&got, Status::Done, whole, "")?;
             assert!(rt; call > least);
             return Ok(());
         }
@@ -71,7 +65,7 @@ fn assert_each_torn(
 #[test]
 fn outputs_of_a_line(rt: HostRuntime) -> Result<(), Fail> {
     let alloc = rt.alloc();
-    let (dump, stream) = (saved(alloc)?, stream(alloc)?);
+    let (dump, stream) = (saved(alloc, &SMALL)?, stream(alloc)?);
     let table: [(&[&str], &[u8], &[u8]); 3] = [
         (&INSPECT, b"", b"area last 1099 bad 0 image none\n"),
         (&HIBERNATE, dump.as_slice(), b"hibernated 5\n"),
@@ -102,7 +96,7 @@ fn outputs_of_a_replay(rt: HostRuntime) -> Result<(), Fail> {
 #[test]
 fn outputs_of_a_resume(rt: HostRuntime) -> Result<(), Fail> {
     let alloc = rt.alloc();
-    let (dump, whole) = (loader(alloc)?, saved(alloc)?);
+    let (dump, whole) = (loader(alloc, &SMALL, 100)?, saved(alloc, &SMALL)?);
     let command = Command {
         words: &RESUME,
         input: dump.as_slice(),
@@ -114,7 +108,7 @@ fn outputs_of_a_resume(rt: HostRuntime) -> Result<(), Fail> {
 #[test]
 fn outputs_of_an_export(rt: HostRuntime) -> Result<(), Fail> {
     let alloc = rt.alloc();
-    let (dump, whole) = (saved(alloc)?, stream(alloc)?);
+    let (dump, whole) = (saved(alloc, &SMALL)?, stream(alloc)?);
     assert_eq!(rt; whole.len(), 28672);
     let command = Command {
         words: &EXPORT,

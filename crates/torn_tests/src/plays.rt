@@ -1,11 +1,9 @@
 //! Scripts of header blocks that are torn, with what they are to print, over a disk that records its calls.
 
-use dump_file::{MemSink, MemSource};
+use samples::assert_replays;
 use sector_disk::LogDisk;
 use std::alloc::Global;
-use std::process::Abort;
 use std::test::Fail;
-use swsusp_cli::{Status, run};
 
 /// The header block's last sector, which has the mark, by its bit in a pick.
 pub const MARK: u64 = 128;
@@ -111,26 +109,13 @@ impl Play {
     }
 
     /// Replays the script over an area of 1100 pages, and compares what it prints.
-    pub fn prints(&self, rt: &impl Abort) -> Result<(), Fail> {
-        let mut words = Vec::new(self.alloc);
-        for word in ["swsusp", "replay"] {
-            words.push(String::from_str(self.alloc, word)?)?;
-        }
-        let script = Vec::from_slice(self.alloc, self.script.as_bytes())?;
+    pub fn prints(&self) -> Result<(), Fail> {
         let mut disk = LogDisk::create(self.alloc, 1101, 64)?;
-        let mut input = MemSource::new(script, Vec::new(self.alloc));
-        let mut out = sink_of(self.alloc, 1 << 20)?;
-        let mut note = sink_of(self.alloc, 256)?;
-        let status = run(
-            self.alloc, &words, &mut input, &mut out, &mut note, &mut disk,
-        );
-        assert_eq!(rt; note.as_bytes(), b"".as_slice());
-        assert_eq!(rt; status, Status::Done);
-        assert!(rt; out.as_bytes() == self.text.as_bytes());
-        Ok(())
+        assert_replays(
+            self.alloc,
+            self.script.as_str(),
+            &mut disk,
+            self.text.as_str(),
+        )
     }
-}
-
-fn sink_of(alloc: Global, room: usize) -> Result<MemSink, Fail> {
-    Ok(MemSink::new(Vec::with_capacity(alloc, room)?, Vec::new(alloc)))
 }
