@@ -2,12 +2,9 @@
 //! sync (11), a read (12), the mark (13) and its sync (14); an undo writes (15) and syncs (16). A resume makes 12: a sync (1), a read
 //! (2), the write of the mark taken back (3), its sync (4), then the image's blocks.
 
-use crate::disks::area;
-use crate::machines::EXAMPLE;
-use crate::runs::{assert_gone, assert_printed, assert_restored, hibernate, resume};
+use samples::{area, assert_no_image, assert_printed, assert_resumes, hibernate, resume};
 use sector_disk::{Disk, MemDisk};
 use std::alloc::Global;
-use std::process::Abort;
 use std::test::Fail;
 use swsusp_cli::Status;
 
@@ -16,7 +13,6 @@ type Fault = (u32, u32, u64);
 
 /// A hibernation whose calls fail so ends with this note.
 fn stopped_hibernation(
-    rt: &impl Abort,
     alloc: Global,
     (first, count, pick): Fault,
     note: &str,
@@ -25,7 +21,7 @@ fn stopped_hibernation(
     disk.arm(first, count, pick);
     let got = hibernate(alloc, &mut disk)?;
     disk.arm(1, 0, 0);
-    assert_printed(rt, &got, Status::Device, "", note);
+    assert_printed(&got, Status::Device, "", note)?;
     Ok(disk)
 }
 
@@ -43,10 +39,10 @@ fn before_the_mark(rt: HostRuntime) -> Result<(), Fail> {
         (12, "read fault same\n"),
     ];
     for (call, note) in table {
-        let mut disk = stopped_hibernation(&rt, alloc, (call, 1, u64::MAX), note)?;
-        assert_gone(&rt, alloc, &mut disk)?;
+        let mut disk = stopped_hibernation(alloc, (call, 1, u64::MAX), note)?;
+        assert_no_image(alloc, &mut disk)?;
         let got = hibernate(alloc, &mut disk)?;
-        assert_printed(&rt, &got, Status::Done, "hibernated 5\n", "");
+        assert_printed(&got, Status::Done, "hibernated 5\n", "")?;
     }
     Ok(())
 }
@@ -61,9 +57,9 @@ fn a_mark_that_is_taken_back(rt: HostRuntime) -> Result<(), Fail> {
         ((14, 1, 0), "sync fault gone\n"),
     ];
     for (fault, note) in table {
-        let mut disk = stopped_hibernation(&rt, alloc, fault, note)?;
+        let mut disk = stopped_hibernation(alloc, fault, note)?;
         disk.restart(0);
-        assert_gone(&rt, alloc, &mut disk)?;
+        assert_no_image(alloc, &mut disk)?;
     }
     Ok(())
 }
@@ -80,28 +76,23 @@ fn an_undo_that_fails(rt: HostRuntime) -> Result<(), Fail> {
         ((14, 3, 0), "sync fault unsure\n", true),
     ];
     for (fault, note, image) in table {
-        let mut disk = stopped_hibernation(&rt, alloc, fault, note)?;
+        let mut disk = stopped_hibernation(alloc, fault, note)?;
         if image {
-            assert_restored(&rt, alloc, &resume(alloc, &mut disk)?, &EXAMPLE)?;
+            assert_resumes(alloc, &mut disk)?;
         }
-        assert_gone(&rt, alloc, &mut disk)?;
+        assert_no_image(alloc, &mut disk)?;
     }
     Ok(())
 }
 
 /// A resume of an image whose calls fail so ends with this note.
-fn stopped_resume(
-    rt: &impl Abort,
-    alloc: Global,
-    (first, count, pick): Fault,
-    note: &str,
-) -> Result<MemDisk, Fail> {
+fn stopped_resume(alloc: Global, (first, count, pick): Fault, note: &str) -> Result<MemDisk, Fail> {
     let mut disk = area(alloc)?;
     hibernate(alloc, &mut disk)?;
     disk.arm(first, count, pick);
     let got = resume(alloc, &mut disk)?;
     disk.arm(1, 0, 0);
-    assert_printed(rt, &got, Status::Device, "", note);
+    assert_printed(&got, Status::Device, "", note)?;
     Ok(disk)
 }
 
@@ -115,9 +106,9 @@ fn an_image_that_is_kept(rt: HostRuntime) -> Result<(), Fail> {
         ((3, 1, 0), "write fault unsure\n"),
     ];
     for (fault, note) in table {
-        let mut disk = stopped_resume(&rt, alloc, fault, note)?;
-        assert_restored(&rt, alloc, &resume(alloc, &mut disk)?, &EXAMPLE)?;
-        assert_gone(&rt, alloc, &mut disk)?;
+        let mut disk = stopped_resume(alloc, fault, note)?;
+        assert_resumes(alloc, &mut disk)?;
+        assert_no_image(alloc, &mut disk)?;
     }
     Ok(())
 }
@@ -133,8 +124,8 @@ fn an_image_that_is_gone(rt: HostRuntime) -> Result<(), Fail> {
         ((12, 1, 0), "read fault gone\n"),
     ];
     for (fault, note) in table {
-        let mut disk = stopped_resume(&rt, alloc, fault, note)?;
-        assert_gone(&rt, alloc, &mut disk)?;
+        let mut disk = stopped_resume(alloc, fault, note)?;
+        assert_no_image(alloc, &mut disk)?;
     }
     Ok(())
 }
@@ -144,12 +135,12 @@ fn an_image_that_is_gone(rt: HostRuntime) -> Result<(), Fail> {
 fn an_unsure_image_and_a_cut(rt: HostRuntime) -> Result<(), Fail> {
     let alloc = rt.alloc();
     for (pick, image) in [(0, true), (!128, true), (128, false)] {
-        let mut disk = stopped_resume(&rt, alloc, (4, 1, 0), "sync fault unsure\n")?;
+        let mut disk = stopped_resume(alloc, (4, 1, 0), "sync fault unsure\n")?;
         disk.restart(pick);
         if image {
-            assert_restored(&rt, alloc, &resume(alloc, &mut disk)?, &EXAMPLE)?;
+            assert_resumes(alloc, &mut disk)?;
         }
-        assert_gone(&rt, alloc, &mut disk)?;
+        assert_no_image(alloc, &mut disk)?;
     }
     Ok(())
 }

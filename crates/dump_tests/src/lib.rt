@@ -7,8 +7,6 @@ mod cycle;
 #[cfg(test)]
 mod damaged;
 #[cfg(test)]
-mod disks;
-#[cfg(test)]
 mod failing;
 #[cfg(test)]
 mod machines;
@@ -16,8 +14,6 @@ mod machines;
 mod recorded;
 #[cfg(test)]
 mod refused;
-#[cfg(test)]
-mod runs;
 #[cfg(test)]
 mod sizes;
 #[cfg(test)]

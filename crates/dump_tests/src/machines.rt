@@ -1,219 +1,35 @@
-//! The memory dumps that the tests hand to the program, put together byte by byte.
+//! Memory dumps of other machines than the worked example's.
 
 use page_core::Page;
+use samples::{EXAMPLE, Shape, beginning_with, dump, entries, slots, used_entries};
 use std::alloc::Global;
 use std::test::Fail;
 
-/// What a dump says of its machine's hardware: page frames from 0 on, with the frame table in the first of them and the slot table
-/// behind it. Without extents each slot lies on the block of its number.
-#[derive(Clone, Copy)]
-pub struct Shape {
-    pub frames: u32,
-    pub slots: u32,
-    pub hw_sig: u32,
-    pub extents: [(u32, u32, u32); 2],
-}
-
-/// The machine of the worked example: the tables lie in page frames 0 to 3.
-pub const EXAMPLE: Shape = Shape {
-    frames: 2048,
-    slots: 1600,
-    hw_sig: 0,
-    extents: [(0, 0, 0); 2],
-};
-
-/// It, over a swap file whose header lies in block 50, and whose other slots lie from block 100 on.
-pub const OVER_FILE: Shape = Shape {
-    frames: 2048,
-    slots: 1600,
-    hw_sig: 0,
-    extents: [(0, 1, 50), (1, 1599, 100)],
-};
-
-/// The machine of scripts without settings: the tables lie in page frames 0 to 6.
-pub const SCRIPTED: Shape = Shape {
-    frames: 4096,
-    slots: 3001,
-    hw_sig: 0,
-    extents: [(0, 0, 0); 2],
-};
-
 /// The worked example with a hardware signature.
 pub fn signed(hw_sig: u32) -> Shape {
-    Shape {
-        frames: 2048,
-        slots: 1600,
-        hw_sig,
-        extents: [(0, 0, 0); 2],
-    }
+    Shape { hw_sig, ..EXAMPLE }
 }
 
-/// The identity of scripts' machines: sysname, nodename, release, version, machine and domainname.
-const NAMES: [&[u8]; 6] = [b"Linux", b"machine", b"6.1.0", b"#1", b"plain", b"(none)"];
-
-fn put(bytes: &mut Vec<u8>, number: u32) -> Result<(), Fail> {
-    Ok(bytes.extend_from_slice(number.to_le_bytes().as_slice())?)
-}
-
-fn put_names(bytes: &mut Vec<u8>) -> Result<(), Fail> {
-    for text in NAMES {
-        let mut name = [0; 65];
-        let len = text.len().min(65);
-        name[..len].copy_from_slice(&text[..len]);
-        bytes.extend_from_slice(name.as_slice())?;
-    }
-    Ok(bytes.extend_from_slice([0, 0].as_slice())?)
-}
-
-/// The two extents, behind the resume offset and their number.
-fn put_extents(bytes: &mut Vec<u8>, extents: &[(u32, u32, u32); 2]) -> Result<(), Fail> {
-    put(bytes, extents[0].2)?;
-    put(bytes, 2)?;
-    for (start, length, block) in extents {
-        put(bytes, *start)?;
-        put(bytes, *length)?;
-        put(bytes, *block)?;
-    }
-    Ok(())
-}
-
-/// A dump with these records.
-pub fn dump(alloc: Global, shape: &Shape, records: &[(u32, Page)]) -> Result<Vec<u8>, Fail> {
-    let plain = shape.extents[0].1 == 0;
-    let mark = if plain { b"SWSUDMP1" } else { b"SWSUDMP2" };
-    let mut bytes = Vec::from_slice(alloc, mark.as_slice())?;
-    let slot_table = shape.frames.div_ceil(1024);
-    for number in [393472, shape.slots, 0, slot_table, shape.hw_sig, 1] {
-        put(&mut bytes, number)?;
-    }
-    put_names(&mut bytes)?;
-    put(&mut bytes, 0)?;
-    put(&mut bytes, shape.frames)?;
-    if !plain {
-        put_extents(&mut bytes, &shape.extents)?;
-    }
-    put(&mut bytes, records.len().min(65536) as u32)?;
-    for (p, page) in records {
-        put(&mut bytes, *p)?;
-        bytes.extend_from_slice(page.as_bytes().as_slice())?;
-    }
-    Ok(bytes)
-}
-
-/// The page of a frame table that begins with this page frame's entry: those below `used` are in use, the others free.
-pub fn entries(first: u32, used: u32) -> Page {
-    let mut page = Page::zero();
-    for i in 0..1024u32 {
-        if first.saturating_add(i) >= used {
-            page.put_u32(4 * i as usize, 1);
-        }
-    }
-    page
-}
-
-/// The first page of a slot table: slot 0 is bad, and this one.
-pub fn slots(bad: usize) -> Page {
-    let mut page = Page::zero();
-    page.put_u32(0, 131072);
-    if bad < 1024 {
-        page.put_u32(4 * bad, 131072);
-    }
-    page
-}
-
-/// The frame table's first page where page frame 10 is task 3's.
-fn used_entries() -> Page {
-    let mut page = entries(0, 4);
-    page.put_u32(40, 196608);
-    page
-}
-
-/// It, where page frames 20 to 29 are cached and nobody's.
+/// The frame table's first page, where page frame 10 is task 3's, and page frames 20 to 29 are cached and nobody's.
 fn cached_entries() -> Page {
-    let mut page = used_entries();
+    let mut page = used_entries(4);
     for p in 20..30 {
         page.put_u32(4 * p, 64);
     }
     page
 }
 
-/// A page that begins with a number.
-fn beginning_with(number: u32) -> Page {
-    let mut page = Page::zero();
-    page.put_u32(0, number);
-    page
-}
-
-fn nines() -> Page {
-    Page::from_bytes(&[9; 4096])
-}
-
-/// The dump of the machine that hibernates, with one more bad slot, or none. Page frame 10 is task 3's, and begins with 77. Page frame 3,
-/// of the slots from 1024 on, is all zero.
-pub fn saved_with(alloc: Global, shape: &Shape, bad: usize) -> Result<Vec<u8>, Fail> {
-    let records = [
-        (0, used_entries()),
-        (1, entries(1024, 4)),
-        (2, slots(bad)),
-        (10, beginning_with(77)),
-    ];
-    dump(alloc, shape, &records)
-}
-
-pub fn saved(alloc: Global, shape: &Shape) -> Result<Vec<u8>, Fail> {
-    saved_with(alloc, shape, 0)
-}
-
-/// The dump of the machine that hibernates, with ten page frames that are cached besides: each begins with its number.
-pub fn saved_with_cache(alloc: Global, shape: &Shape) -> Result<Vec<u8>, Fail> {
+/// The dump of the worked example's machine with ten page frames that are cached besides: each begins with its number.
+pub fn saved_with_cache(alloc: Global) -> Result<Vec<u8>, Fail> {
     let mut records = Vec::with_capacity(alloc, 14)?;
     records.push((0, cached_entries()))?;
     records.push((1, entries(1024, 4)))?;
-    records.push((2, slots(0)))?;
+    records.push((2, slots()))?;
     records.push((10, beginning_with(77)))?;
     for p in 20..30 {
         records.push((p, beginning_with(p)))?;
     }
-    dump(alloc, shape, &records)
-}
-
-/// The dump of a loader that has its page frames from `used` on free, and page frame 50 filled with nines.
-pub fn loader_with(alloc: Global, shape: &Shape, used: u32) -> Result<Vec<u8>, Fail> {
-    let records = [
-        (0, entries(0, used)),
-        (1, entries(1024, used)),
-        (2, slots(0)),
-        (50, nines()),
-    ];
-    dump(alloc, shape, &records)
-}
-
-pub fn loader(alloc: Global, shape: &Shape) -> Result<Vec<u8>, Fail> {
-    loader_with(alloc, shape, 1000)
-}
-
-/// The dump of the machine that is restored: its pages, and the loader's page frame 50, which was in use.
-pub fn restored(alloc: Global, shape: &Shape) -> Result<Vec<u8>, Fail> {
-    let records = [
-        (0, used_entries()),
-        (1, entries(1024, 4)),
-        (2, slots(0)),
-        (10, beginning_with(77)),
-        (50, nines()),
-    ];
-    dump(alloc, shape, &records)
-}
-
-/// The dump of a loader of the machine of scripts: all page frames but those of the tables are free to it.
-pub fn scripted_loader(alloc: Global) -> Result<Vec<u8>, Fail> {
-    let records = [
-        (0, entries(0, 7)),
-        (1, entries(1024, 7)),
-        (2, entries(2048, 7)),
-        (3, entries(3072, 7)),
-        (4, slots(0)),
-    ];
-    dump(alloc, &SCRIPTED, &records)
+    dump(alloc, &EXAMPLE, &records)
 }
 
 /// The tiny dump: page frames 0 to 3, two slots, the tables in page frames 0 and 1, and one record.
@@ -221,8 +37,7 @@ pub fn tiny(alloc: Global) -> Result<Vec<u8>, Fail> {
     let shape = Shape {
         frames: 4,
         slots: 2,
-        hw_sig: 0,
-        extents: [(0, 0, 0); 2],
+        ..EXAMPLE
     };
-    dump(alloc, &shape, &[(1, slots(0))])
+    dump(alloc, &shape, &[(1, slots())])
 }

@@ -2,12 +2,11 @@
 //! them; the 12 that aren't reads are recorded: the boot's sync (1), a map and the pages (2 to 9), a sync (10), the mark (11) and its sync
 //! (12); an undo writes (13) and syncs (14). Of a resume a sync (1), the write of the mark taken back (2) and its sync (3) are recorded.
 
-use crate::machines::EXAMPLE;
-use crate::runs::{assert_gone, assert_printed, assert_restored, hibernate, resume};
+use samples::{
+    assert_no_image, assert_printed, assert_resumes, header, hibernate, lay_block, resume,
+};
 use sector_disk::{Disk, LogDisk};
-use sig_header::area_page;
 use std::alloc::Global;
-use std::process::Abort;
 use std::test::Fail;
 use swsusp_cli::Status;
 
@@ -17,10 +16,7 @@ const ALL: u64 = u64::MAX;
 /// A disk of 1600 blocks with an area, which has recorded nothing yet.
 fn area(alloc: Global) -> Result<LogDisk, Fail> {
     let mut disk = LogDisk::create(alloc, 1600, 100)?;
-    if disk.blocks() > 0 {
-        disk.write(0, &area_page(1599, &[]))?;
-    }
-    disk.sync()?;
+    lay_block(&mut disk, 0, &header(1599))?;
     disk.restart(0);
     Ok(disk)
 }
@@ -48,16 +44,11 @@ fn resume_stopped_by(first: u32) -> &'static str {
 }
 
 /// The image is there, and is resumed once; or there is none.
-fn assert_there(
-    rt: &impl Abort,
-    alloc: Global,
-    disk: &mut LogDisk,
-    image: bool,
-) -> Result<(), Fail> {
+fn assert_there(alloc: Global, disk: &mut LogDisk, image: bool) -> Result<(), Fail> {
     if image {
-        assert_restored(rt, alloc, &resume(alloc, disk)?, &EXAMPLE)?;
+        assert_resumes(alloc, disk)?;
     }
-    assert_gone(rt, alloc, disk)
+    assert_no_image(alloc, disk)
 }
 
 #[test]
@@ -68,10 +59,10 @@ fn each_call_of_a_hibernation(rt: HostRuntime) -> Result<(), Fail> {
             let mut disk = area(alloc)?;
             disk.arm(first, 1, 0);
             let got = hibernate(alloc, &mut disk)?;
-            assert_printed(&rt, &got, Status::Device, "", stopped_by(first));
+            assert_printed(&got, Status::Device, "", stopped_by(first))?;
             disk.arm(1, 0, 0);
             disk.restart(pick);
-            assert_there(&rt, alloc, &mut disk, false)?;
+            assert_there(alloc, &mut disk, false)?;
         }
     }
     Ok(())
@@ -86,11 +77,11 @@ fn each_call_of_a_resume(rt: HostRuntime) -> Result<(), Fail> {
             hibernate(alloc, &mut disk)?;
             disk.arm(first, 1, 0);
             let got = resume(alloc, &mut disk)?;
-            assert_printed(&rt, &got, Status::Device, "", resume_stopped_by(first));
+            assert_printed(&got, Status::Device, "", resume_stopped_by(first))?;
             disk.arm(1, 0, 0);
             disk.restart(pick);
             let kept = first < 4 || first == 4 && pick == 0;
-            assert_there(&rt, alloc, &mut disk, kept)?;
+            assert_there(alloc, &mut disk, kept)?;
         }
     }
     Ok(())
@@ -103,10 +94,10 @@ fn every_moment_of_a_hibernation(rt: HostRuntime) -> Result<(), Fail> {
         for pick in [0, ALL] {
             let mut disk = area(alloc)?;
             let got = hibernate(alloc, &mut disk)?;
-            assert_printed(&rt, &got, Status::Done, "hibernated 5\n", "");
+            assert_printed(&got, Status::Done, "hibernated 5\n", "")?;
             disk.restart_at(calls, pick);
             let marked = calls == 12 || calls == 11 && pick == ALL;
-            assert_there(&rt, alloc, &mut disk, marked)?;
+            assert_there(alloc, &mut disk, marked)?;
         }
     }
     Ok(())
@@ -124,7 +115,7 @@ fn every_moment_of_an_undo(rt: HostRuntime) -> Result<(), Fail> {
             disk.arm(1, 0, 0);
             disk.restart_at(calls, pick);
             let marked = (calls == 11 || calls == 12) && pick == ALL;
-            assert_there(&rt, alloc, &mut disk, marked)?;
+            assert_there(alloc, &mut disk, marked)?;
         }
     }
     Ok(())
@@ -138,10 +129,10 @@ fn every_moment_of_a_resume(rt: HostRuntime) -> Result<(), Fail> {
             let mut disk = area(alloc)?;
             hibernate(alloc, &mut disk)?;
             disk.restart(ALL);
-            assert_restored(&rt, alloc, &resume(alloc, &mut disk)?, &EXAMPLE)?;
+            assert_resumes(alloc, &mut disk)?;
             disk.restart_at(calls, pick);
             let marked = calls < 2 || calls == 2 && pick == 0;
-            assert_there(&rt, alloc, &mut disk, marked)?;
+            assert_there(alloc, &mut disk, marked)?;
         }
     }
     Ok(())

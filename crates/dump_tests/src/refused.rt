@@ -1,11 +1,11 @@
 //! What is refused of a whole dump, over a disk without a fault.
 
-use crate::disks::{area, bytes_of, change, disk_with};
-use crate::machines::{EXAMPLE, Shape, loader_with, saved, saved_with};
-use crate::runs::{
-    HIBERNATE, RESUME, assert_gone, assert_refused, assert_restored, hibernate, resume, run_over,
-};
 use page_core::Page;
+use samples::{
+    EXAMPLE, HIBERNATE, RESUME, Shape, area, assert_no_image, assert_refused, assert_restored,
+    assert_resumes, bytes_of, change, disk_with, hibernate, loader_with_nines, resume, run_over,
+    saved, saved_with_slots, slots,
+};
 use sector_disk::MemDisk;
 use sig_header::{area_page, mark};
 use std::alloc::Global;
@@ -22,7 +22,7 @@ fn assert_closed(
 ) -> Result<(), Fail> {
     let before = bytes_of(alloc, disk)?;
     let got = run_over(alloc, &HIBERNATE, dump, disk)?;
-    assert_refused(rt, &got, note);
+    assert_refused(&got, note)?;
     assert!(rt; bytes_of(alloc, disk)? == before);
     Ok(())
 }
@@ -35,8 +35,7 @@ fn over_an_image(rt: HostRuntime) -> Result<(), Fail> {
     hibernate(alloc, &mut disk)?;
     let dump = saved(alloc, &EXAMPLE)?;
     assert_closed(&rt, alloc, &dump, &mut disk, "closed\n")?;
-    assert_restored(&rt, alloc, &resume(alloc, &mut disk)?, &EXAMPLE)?;
-    Ok(())
+    assert_resumes(alloc, &mut disk)
 }
 
 #[test]
@@ -60,7 +59,9 @@ fn over_another_area(rt: HostRuntime) -> Result<(), Fail> {
 #[test]
 fn bad_slots_that_differ(rt: HostRuntime) -> Result<(), Fail> {
     let alloc = rt.alloc();
-    let dump = saved_with(alloc, &EXAMPLE, 7)?;
+    let mut page = slots();
+    page.put_u32(28, 131072);
+    let dump = saved_with_slots(alloc, &EXAMPLE, page)?;
     for bad in [[8], [9]] {
         let mut disk = disk_with(alloc, 1600, 0, &area_page(1599, &bad))?;
         assert_closed(&rt, alloc, &dump, &mut disk, "no swap: bad set\n")?;
@@ -76,10 +77,8 @@ fn bad_slots_that_differ(rt: HostRuntime) -> Result<(), Fail> {
 fn too_few_slots(rt: HostRuntime) -> Result<(), Fail> {
     let alloc = rt.alloc();
     let shape = Shape {
-        frames: 2048,
         slots: 1033,
-        hw_sig: 0,
-        extents: [(0, 0, 0); 2],
+        ..EXAMPLE
     };
     let dump = saved(alloc, &shape)?;
     let mut disk = disk_with(alloc, 1033, 0, &area_page(1032, &[]))?;
@@ -92,16 +91,15 @@ fn too_few_loader_frames(rt: HostRuntime) -> Result<(), Fail> {
     let alloc = rt.alloc();
     let mut disk = area(alloc)?;
     hibernate(alloc, &mut disk)?;
-    let dump = loader_with(alloc, &EXAMPLE, 2042)?;
+    let dump = loader_with_nines(alloc, &EXAMPLE, 2042)?;
     let got = run_over(alloc, &RESUME, &dump, &mut disk)?;
-    assert_refused(&rt, &got, "too few loader frames 6 need 7\n");
-    assert_gone(&rt, alloc, &mut disk)?;
+    assert_refused(&got, "too few loader frames 6 need 7\n")?;
+    assert_no_image(alloc, &mut disk)?;
 
     hibernate(alloc, &mut disk)?;
-    let dump = loader_with(alloc, &EXAMPLE, 2041)?;
+    let dump = loader_with_nines(alloc, &EXAMPLE, 2041)?;
     let got = run_over(alloc, &RESUME, &dump, &mut disk)?;
-    assert_restored(&rt, alloc, &got, &EXAMPLE)?;
-    Ok(())
+    assert_restored(alloc, &got, &EXAMPLE)
 }
 
 // Linux compresses images, unless it is told not to. Nothing is written.
@@ -113,7 +111,7 @@ fn compressed_images(rt: HostRuntime) -> Result<(), Fail> {
     change(&mut disk, &[(1, 0, 2), (2, 400, 2048)])?;
     let before = bytes_of(alloc, &mut disk)?;
     for _ in 0..2 {
-        assert_refused(&rt, &resume(alloc, &mut disk)?, "compressed 4\n");
+        assert_refused(&resume(alloc, &mut disk)?, "compressed 4\n")?;
         assert!(rt; bytes_of(alloc, &mut disk)? == before);
     }
     Ok(())

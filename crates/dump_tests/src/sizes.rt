@@ -1,8 +1,9 @@
 //! Images of a wanted size: cached page frames are dropped before the machine hibernates.
 
-use crate::disks::{area, block, bytes_of};
-use crate::machines::{EXAMPLE, saved_with_cache};
-use crate::runs::{assert_printed, assert_restored, hibernate, resume, run_over};
+use crate::machines::saved_with_cache;
+use samples::{
+    EXAMPLE, area, assert_printed, assert_resumes, block, bytes_of, hibernate, run_over,
+};
 use std::test::Fail;
 use swsusp_cli::Status;
 
@@ -20,11 +21,11 @@ fn as_many_as_are_wanted(rt: HostRuntime) -> Result<(), Fail> {
         ("5", "hibernated 5\n"),
         ("0", "hibernated 5\n"),
     ];
-    let input = saved_with_cache(alloc, &EXAMPLE)?;
+    let input = saved_with_cache(alloc)?;
     for (size, line) in sizes {
         let words = ["swsusp", "hibernate", "--image-size", size, "s"];
         let got = run_over(alloc, &words, &input, &mut area(alloc)?)?;
-        assert_printed(&rt, &got, Status::Done, line, "");
+        assert_printed(&got, Status::Done, line, "")?;
     }
     Ok(())
 }
@@ -33,21 +34,20 @@ fn as_many_as_are_wanted(rt: HostRuntime) -> Result<(), Fail> {
 #[test]
 fn the_image_of_what_is_left(rt: HostRuntime) -> Result<(), Fail> {
     let alloc = rt.alloc();
-    let input = saved_with_cache(alloc, &EXAMPLE)?;
+    let input = saved_with_cache(alloc)?;
     let mut disk = area(alloc)?;
     run_over(alloc, &NONE_LEFT, &input, &mut disk)?;
     let mut never = area(alloc)?;
     hibernate(alloc, &mut never)?;
     assert!(rt; bytes_of(alloc, &mut disk)? == bytes_of(alloc, &mut never)?);
-    assert_restored(&rt, alloc, &resume(alloc, &mut disk)?, &EXAMPLE)?;
-    Ok(())
+    assert_resumes(alloc, &mut disk)
 }
 
 // The page frames from below are dropped first: of the last one the page is in the image, behind those that are no cache.
 #[test]
 fn the_first_are_dropped(rt: HostRuntime) -> Result<(), Fail> {
     let alloc = rt.alloc();
-    let input = saved_with_cache(alloc, &EXAMPLE)?;
+    let input = saved_with_cache(alloc)?;
     let mut disk = area(alloc)?;
     let words = [
         "swsusp",
@@ -58,7 +58,7 @@ fn the_first_are_dropped(rt: HostRuntime) -> Result<(), Fail> {
         "s",
     ];
     let got = run_over(alloc, &words, &input, &mut disk)?;
-    assert_printed(&rt, &got, Status::Done, "hibernated 6\n", "");
+    assert_printed(&got, Status::Done, "hibernated 6\n", "")?;
     // The map lies in block 1, the info page and the numbers in 2 and 3, then page frames 0, 1, 2, 10 and 29: 3 is all zero.
     assert_eq!(rt; block(&mut disk, 8)?.u32_at(0), 29);
     Ok(())

@@ -1,16 +1,13 @@
 //! Input that is no dump, and streams that fail.
 
-use crate::disks::{area, bytes_of, disk_with};
-use crate::machines::{EXAMPLE, loader, saved, tiny};
-use crate::runs::{
-    HIBERNATE, Printed, RESUME, assert_gone, assert_printed, assert_refused, hibernate, resume,
-    run_over, run_with, sink_of,
+use crate::machines::tiny;
+use samples::{
+    EXAMPLE, Failing, HIBERNATE, NONE, RESUME, area, area_of, assert_no_image, assert_printed,
+    assert_refused, bytes_of, failing_input, hibernate, loader_with_nines, resume, run_over,
+    run_with, saved,
 };
-use dump_file::MemSource;
 use sector_disk::{Disk, MemDisk};
-use sig_header::area_page;
 use std::alloc::Global;
-use std::process::Abort;
 use std::test::Fail;
 use swsusp_cli::Status;
 
@@ -22,11 +19,11 @@ fn no_disk(alloc: Global) -> Result<MemDisk, Fail> {
 }
 
 /// Both commands note this of the input, and call no disk.
-fn assert_no_dump(rt: &impl Abort, alloc: Global, input: &[u8], note: &str) -> Result<(), Fail> {
+fn assert_no_dump(alloc: Global, input: &[u8], note: &str) -> Result<(), Fail> {
     for words in [HIBERNATE, RESUME] {
         let mut disk = no_disk(alloc)?;
         let got = run_over(alloc, &words, input, &mut disk)?;
-        assert_printed(rt, &got, Status::Input, "", note);
+        assert_printed(&got, Status::Input, "", note)?;
     }
     Ok(())
 }
@@ -36,10 +33,9 @@ fn a_tiny_machine(rt: HostRuntime) -> Result<(), Fail> {
     let alloc = rt.alloc();
     let dump = tiny(alloc)?;
     assert_eq!(rt; dump.len(), 4536);
-    let mut disk = disk_with(alloc, 2, 0, &area_page(1, &[]))?;
+    let mut disk = area_of(alloc, 1)?;
     let got = run_over(alloc, &HIBERNATE, &dump, &mut disk)?;
-    assert_refused(&rt, &got, "no frames 0 need 1029\n");
-    Ok(())
+    assert_refused(&got, "no frames 0 need 1029\n")
 }
 
 // Without its record the dump's slot 0 isn't bad.
@@ -52,7 +48,7 @@ fn a_dump_without_its_record(rt: HostRuntime) -> Result<(), Fail> {
     if dump.len() > 432 {
         dump[432] = 0;
     }
-    assert_no_dump(&rt, alloc, &dump, "dump Tables frame 1\n")
+    assert_no_dump(alloc, &dump, "dump Tables frame 1\n")
 }
 
 #[test]
@@ -67,7 +63,7 @@ fn dumps_that_end_early(rt: HostRuntime) -> Result<(), Fail> {
     for (len, note) in table {
         let mut front = dump.clone()?;
         front.truncate(len);
-        assert_no_dump(&rt, alloc, &front, note)?;
+        assert_no_dump(alloc, &front, note)?;
     }
     Ok(())
 }
@@ -77,7 +73,7 @@ fn a_byte_too_many(rt: HostRuntime) -> Result<(), Fail> {
     let alloc = rt.alloc();
     let mut dump = saved(alloc, &EXAMPLE)?;
     dump.push(0)?;
-    assert_no_dump(&rt, alloc, &dump, "dump Extra byte 16836\n")
+    assert_no_dump(alloc, &dump, "dump Extra byte 16836\n")
 }
 
 // The first read fails, and one in the middle.
@@ -86,24 +82,11 @@ fn an_input_that_fails(rt: HostRuntime) -> Result<(), Fail> {
     let alloc = rt.alloc();
     for (words, call) in [(HIBERNATE, 0), (HIBERNATE, 4), (RESUME, 0), (RESUME, 4)] {
         let mut disk = no_disk(alloc)?;
-        let failing = Vec::from_slice(alloc, &[call])?;
-        let input = MemSource::new(saved(alloc, &EXAMPLE)?, failing);
-        let got = run_with(alloc, &words, input, sink_of(alloc, 32768, &[])?, &mut disk)?;
-        assert_printed(&rt, &got, Status::Stream, "", "source fault\n");
+        let dump = saved(alloc, &EXAMPLE)?;
+        let got = run_with(alloc, &words, &dump, failing_input(&[call]), &mut disk)?;
+        assert_printed(&got, Status::Stream, "", "source fault\n")?;
     }
     Ok(())
-}
-
-/// Resumes the image onto an output with so much room, of which the listed calls fail.
-fn resume_onto(
-    alloc: Global,
-    disk: &mut MemDisk,
-    room: usize,
-    failing: &[u64],
-) -> Result<Printed, Fail> {
-    let dump = loader(alloc, &EXAMPLE)?;
-    let input = MemSource::new(dump, Vec::new(alloc));
-    run_with(alloc, &RESUME, input, sink_of(alloc, room, failing)?, disk)
 }
 
 /// The dump that a resume writes where no call fails.
@@ -127,16 +110,18 @@ fn an_output_that_fails(rt: HostRuntime) -> Result<(), Fail> {
         (20936, &[0]),
         (20936, &[3]),
     ];
-    for (room, failing) in table {
+    let dump = loader_with_nines(alloc, &EXAMPLE, 1000)?;
+    for (room, out) in table {
+        let failing = Failing { out, room, ..NONE };
         let mut disk = area(alloc)?;
         hibernate(alloc, &mut disk)?;
-        let got = resume_onto(alloc, &mut disk, room, failing)?;
+        let got = run_with(alloc, &RESUME, &dump, failing, &mut disk)?;
         assert_eq!(rt; got.status, Status::Stream);
         assert_eq!(rt; got.note.as_bytes(), b"sink fault\n".as_slice());
         let taken = got.out.as_bytes();
         assert!(rt; whole.as_slice().starts_with(taken));
-        assert!(rt; taken.len() < 20936 && (!failing.is_empty() || taken.len() == room));
-        assert_gone(&rt, alloc, &mut disk)?;
+        assert!(rt; taken.len() < 20936 && (!out.is_empty() || taken.len() == room));
+        assert_no_image(alloc, &mut disk)?;
     }
     Ok(())
 }
@@ -146,12 +131,13 @@ fn an_output_that_fails(rt: HostRuntime) -> Result<(), Fail> {
 fn a_line_that_is_not_taken(rt: HostRuntime) -> Result<(), Fail> {
     let alloc = rt.alloc();
     let mut disk = area(alloc)?;
-    let input = MemSource::new(saved(alloc, &EXAMPLE)?, Vec::new(alloc));
-    let got = run_with(alloc, &HIBERNATE, input, sink_of(alloc, 4, &[])?, &mut disk)?;
-    assert_printed(&rt, &got, Status::Stream, "hibe", "sink fault\n");
+    let failing = Failing { room: 4, ..NONE };
+    let dump = saved(alloc, &EXAMPLE)?;
+    let got = run_with(alloc, &HIBERNATE, &dump, failing, &mut disk)?;
+    assert_printed(&got, Status::Stream, "hibe", "sink fault\n")?;
     let before = bytes_of(alloc, &mut disk)?;
     let got = hibernate(alloc, &mut disk)?;
-    assert_refused(&rt, &got, "closed\n");
+    assert_refused(&got, "closed\n")?;
     assert!(rt; bytes_of(alloc, &mut disk)? == before);
     Ok(())
 }
