@@ -1,9 +1,9 @@
 //! Images that are damaged. A resume gives each up but a compressed one, so the disk must still hold it.
 
-use crate::disks::{Change, change, first_bytes};
 use crate::runs::{assert_resumes, foretell, image, well};
 use definitions::Field;
 use plain_machine::{IdentCheck, Reply};
+use samples::{Change, change, first_bytes};
 use std::alloc::Global;
 use std::process::Abort;
 use std::test::Fail;

@@ -1,10 +1,10 @@
 //! Images that are whole, disks without one, and reads that fail.
 
-use crate::disks::{change, first_bytes};
 use crate::runs::{area, assert_resumes, foretell, image, well};
 use command_core::Ended;
 use definitions::Field;
 use plain_machine::{IdentCheck, Left, Reply};
+use samples::{change, first_bytes};
 use sector_disk::Disk;
 use std::test::Fail;
 

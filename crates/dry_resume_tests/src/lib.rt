@@ -4,8 +4,6 @@
 #[cfg(test)]
 mod damaged;
 #[cfg(test)]
-mod disks;
-#[cfg(test)]
 mod foretold;
 #[cfg(test)]
 mod machines;

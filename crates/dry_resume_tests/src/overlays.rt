@@ -1,9 +1,9 @@
 //! An overlay over a disk in memory.
 ghost use Rattle.std.specs.Prelude.{◌≡◌, ◌<◌};
 
-use crate::disks::{block, first_bytes, write};
 use overlay_disk::{Lent, Original, Overlay, ReadOnly};
 use page_core::{Failed, NoMemory, Page};
+use samples::{block, first_bytes, write};
 use sector_disk::{Disk, MemDisk};
 use std::marker::Brand;
 use std::process::Abort;
@@ -12,15 +12,6 @@ use std::test::Fail;
 /// A page of one byte.
 fn filled(byte: u8) -> Page {
     Page::from_bytes(&[byte; 4096])
-}
-
-/// What an overlay reads, where the disk has the block.
-fn read<D: Disk>(disk: &mut D, b: u32) -> Result<Page, Fail> {
-    let mut page = Page::zero();
-    if b < disk.blocks() {
-        disk.read(b, &mut page)?;
-    }
-    Ok(page)
 }
 
 /// Writes block 0 twice and block 1, which is refused, and reads both.
@@ -36,11 +27,11 @@ fn use_overlay<B: ReadOnly + Drop, K: Original>(rt: &impl Abort, below: B) -> Re
     assert_eq!(rt; overlay.sync(), Ok(()));
     overlay.restart(0);
     overlay.arm(1, 1, 0);
-    assert!(rt; read(&mut overlay, 0)?.as_bytes() == filled(7).as_bytes());
+    assert!(rt; block(&mut overlay, 0)?.as_bytes() == filled(7).as_bytes());
     assert_eq!(rt; overlay.write(0, &filled(8)), Ok(()));
     assert_eq!(rt; overlay.write(1, &filled(9)), Err(Failed));
-    assert!(rt; read(&mut overlay, 0)?.as_bytes() == filled(8).as_bytes());
-    assert!(rt; read(&mut overlay, 1)?.as_bytes() == filled(2).as_bytes());
+    assert!(rt; block(&mut overlay, 0)?.as_bytes() == filled(8).as_bytes());
+    assert!(rt; block(&mut overlay, 1)?.as_bytes() == filled(2).as_bytes());
     let (_below, room) = overlay.into_below();
     assert_eq!(rt; room, Err(NoMemory));
     Ok(())

@@ -1,13 +1,12 @@
 //! Images that a hibernation makes, what a resume answers, and what it would answer.
 
-use crate::disks::write;
 use crate::machines::{loader, saved};
 use command_core::{Ended, hibernate, resume};
 use dry_resume::would_resume;
 use page_core::Format;
 use plain_machine::{IdentCheck, Reply};
-use sector_disk::{Disk, MemDisk};
-use sig_header::area_page;
+use samples::area_of;
+use sector_disk::MemDisk;
 use std::alloc::Global;
 use std::process::Abort;
 use std::test::Fail;
@@ -22,10 +21,7 @@ pub fn well(reply: Reply) -> Ended {
 
 /// A disk of 3001 blocks with a swap area and no image.
 pub fn area(alloc: Global) -> Result<MemDisk, Fail> {
-    let mut disk = MemDisk::create(alloc, 3001)?;
-    write(&mut disk, 0, &area_page(3000, &[]))?;
-    disk.sync()?;
-    Ok(disk)
+    area_of(alloc, 3000)
 }
 
 /// One with an image: its map is in block 1, the info page in block 2, the number page in block 3, and the page frames 0 to 6 and 10
