@@ -3,7 +3,6 @@
 use crate::plays::{MARK, Play};
 use std::alloc::Global;
 use std::ops::Range;
-use std::process::Abort;
 use std::test::Fail;
 
 const PICKS: [u64; 3] = [0, u64::MAX, MARK];
@@ -14,7 +13,7 @@ fn hibernations_that_are_cut(rt: HostRuntime) -> Result<(), Fail> {
     for pick in PICKS {
         play.hibernations(pick)?;
     }
-    play.prints(&rt)
+    play.prints()
 }
 
 #[test]
@@ -26,7 +25,7 @@ fn outs_that_are_cut(rt: HostRuntime) -> Result<(), Fail> {
     for sector in 0u32..64 {
         play.outs(1u64.wrapping_shl(sector))?;
     }
-    play.prints(&rt)
+    play.prints()
 }
 
 #[test]
@@ -35,62 +34,62 @@ fn resumes_that_are_cut(rt: HostRuntime) -> Result<(), Fail> {
     for pick in PICKS {
         play.resumes(pick)?;
     }
-    play.prints(&rt)
+    play.prints()
 }
 
 /// Of each 64 sectors one alone keeps its last bytes, each of these in turn.
-fn hibernations(rt: &impl Abort, alloc: Global, sectors: Range<u32>) -> Result<(), Fail> {
+fn hibernations(alloc: Global, sectors: Range<u32>) -> Result<(), Fail> {
     let mut play = Play::new(alloc)?;
     for sector in sectors {
         play.hibernations(1u64.wrapping_shl(sector))?;
     }
-    play.prints(rt)
+    play.prints()
 }
 
-fn resumes(rt: &impl Abort, alloc: Global, sectors: Range<u32>) -> Result<(), Fail> {
+fn resumes(alloc: Global, sectors: Range<u32>) -> Result<(), Fail> {
     let mut play = Play::new(alloc)?;
     for sector in sectors {
         play.resumes(1u64.wrapping_shl(sector))?;
     }
-    play.prints(rt)
+    play.prints()
 }
 
 #[test]
 fn hibernations_that_keep_sector_0_or_one_to_15(rt: HostRuntime) -> Result<(), Fail> {
-    hibernations(&rt, rt.alloc(), 0..16)
+    hibernations(rt.alloc(), 0..16)
 }
 
 #[test]
 fn hibernations_that_keep_sector_16_or_one_to_31(rt: HostRuntime) -> Result<(), Fail> {
-    hibernations(&rt, rt.alloc(), 16..32)
+    hibernations(rt.alloc(), 16..32)
 }
 
 #[test]
 fn hibernations_that_keep_sector_32_or_one_to_47(rt: HostRuntime) -> Result<(), Fail> {
-    hibernations(&rt, rt.alloc(), 32..48)
+    hibernations(rt.alloc(), 32..48)
 }
 
 #[test]
 fn hibernations_that_keep_sector_48_or_one_to_63(rt: HostRuntime) -> Result<(), Fail> {
-    hibernations(&rt, rt.alloc(), 48..64)
+    hibernations(rt.alloc(), 48..64)
 }
 
 #[test]
 fn resumes_that_keep_sector_0_or_one_to_15(rt: HostRuntime) -> Result<(), Fail> {
-    resumes(&rt, rt.alloc(), 0..16)
+    resumes(rt.alloc(), 0..16)
 }
 
 #[test]
 fn resumes_that_keep_sector_16_or_one_to_31(rt: HostRuntime) -> Result<(), Fail> {
-    resumes(&rt, rt.alloc(), 16..32)
+    resumes(rt.alloc(), 16..32)
 }
 
 #[test]
 fn resumes_that_keep_sector_32_or_one_to_47(rt: HostRuntime) -> Result<(), Fail> {
-    resumes(&rt, rt.alloc(), 32..48)
+    resumes(rt.alloc(), 32..48)
 }
 
 #[test]
 fn resumes_that_keep_sector_48_or_one_to_63(rt: HostRuntime) -> Result<(), Fail> {
-    resumes(&rt, rt.alloc(), 48..64)
+    resumes(rt.alloc(), 48..64)
 }

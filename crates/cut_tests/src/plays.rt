@@ -1,11 +1,9 @@
 //! Scripts of power cuts with what they are to print.
 
-use dump_file::{MemSink, MemSource};
+use samples::assert_replays;
 use sector_disk::MemDisk;
 use std::alloc::Global;
-use std::process::Abort;
 use std::test::Fail;
-use swsusp_cli::{Status, run};
 
 /// The sector of the mark, by its bit in a pick.
 pub const MARK: u64 = 128;
@@ -144,37 +142,18 @@ impl Play {
     }
 
     /// Replays the script over an area of 1100 pages, and compares what it prints.
-    pub fn prints(&self, rt: &impl Abort) -> Result<(), Fail> {
-        let mut words = Vec::new(self.alloc);
-        for word in ["swsusp", "replay"] {
-            words.push(String::from_str(self.alloc, word)?)?;
-        }
-        let script = Vec::from_slice(self.alloc, self.script.as_bytes())?;
-        let room = Vec::with_capacity(self.alloc, 1 << 20)?;
-        let (status, out) = replayed(self.alloc, &words, script, room)?;
-        assert_eq!(rt; status, Status::Done);
-        assert_eq!(rt; out.as_bytes(), self.text.as_bytes());
-        Ok(())
+    pub fn prints(&self) -> Result<(), Fail> {
+        let mut disk = MemDisk::create(self.alloc, 1101)?;
+        assert_replays(
+            self.alloc,
+            self.script.as_str(),
+            &mut disk,
+            self.text.as_str(),
+        )
     }
 }
 
 /// The word that is stored once the page with the first one is out.
 fn later(word: u64) -> u64 {
     word ^ 1
-}
-
-fn replayed(
-    alloc: Global,
-    words: &[String],
-    script: Vec<u8>,
-    room: Vec<u8>,
-) -> Result<(Status, MemSink), Fail> {
-    let Ok(mut disk) = MemDisk::create(alloc, 1101) else {
-        return Err("memory".into());
-    };
-    let mut input = MemSource::new(script, Vec::new(alloc));
-    let mut out = MemSink::new(room, Vec::new(alloc));
-    let mut note = MemSink::new(Vec::with_capacity(alloc, 4096)?, Vec::new(alloc));
-    let status = run(alloc, words, &mut input, &mut out, &mut note, &mut disk);
-    Ok((status, out))
 }
