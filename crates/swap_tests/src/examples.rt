@@ -1,7 +1,6 @@
 //! Worked examples, each written by hand from what the plain machine says.
 
 use crate::turns::{BOOT, Script, Turn};
-use std::process::Abort;
 use std::test::Fail;
 
 const FIFTEEN_MORE: &str =
@@ -32,7 +31,7 @@ fn tasks_that_swap(rt: HostRuntime) -> Result<(), Fail> {
     let mut script = Script::new(rt.alloc(), "area 3000\n")?;
     script.turns(&BOOT)?;
     script.turns(&turns)?;
-    script.prints(&rt, rt.alloc(), 3001)
+    script.prints(rt.alloc(), 3001)
 }
 
 /// A page that went out before a hibernation comes back behind the resume with the bytes that it had when it went.
@@ -61,7 +60,7 @@ fn slots_across_a_resume(rt: HostRuntime) -> Result<(), Fail> {
     script.turns(&BOOT)?;
     script.turns(&hibernates)?;
     script.turns(&resumes)?;
-    script.prints(&rt, rt.alloc(), 3001)
+    script.prints(rt.alloc(), 3001)
 }
 
 /// The lowest task with a page on its way keeps a hibernation waiting, and a settling too.
@@ -83,7 +82,7 @@ fn busy_task_then_frozen(rt: HostRuntime) -> Result<(), Fail> {
     let mut script = Script::new(rt.alloc(), "area 3000\n")?;
     script.turns(&BOOT)?;
     script.turns(&turns)?;
-    script.prints(&rt, rt.alloc(), 3001)
+    script.prints(rt.alloc(), 3001)
 }
 
 #[test]
@@ -106,7 +105,7 @@ fn refusals(rt: HostRuntime) -> Result<(), Fail> {
     ];
     let mut script = Script::new(rt.alloc(), "area 3000\n")?;
     script.turns(&turns)?;
-    script.prints(&rt, rt.alloc(), 3001)
+    script.prints(rt.alloc(), 3001)
 }
 
 /// Three tasks over five slots, up to a full area, and its last slot given back and taken again.
@@ -151,7 +150,7 @@ fn three_tasks_over_five_slots(rt: HostRuntime) -> Result<(), Fail> {
     script.turns(&BOOT)?;
     script.turns(&fills)?;
     script.turns(&empties)?;
-    script.prints(&rt, rt.alloc(), 6)
+    script.prints(rt.alloc(), 6)
 }
 
 /// A write that fails gives its slot back; a read that fails leaves frame and slot.
@@ -177,7 +176,7 @@ fn faults_on_the_way(rt: HostRuntime) -> Result<(), Fail> {
     script.turns(&BOOT)?;
     script.turns(&turns)?;
     script.turns(&[("show 3 10 0", "word 77\n")])?;
-    script.prints(&rt, rt.alloc(), 3001)
+    script.prints(rt.alloc(), 3001)
 }
 
 /// What was on its way is gone with the power, and so is what the slots held.
@@ -200,7 +199,7 @@ fn cut_on_the_way(rt: HostRuntime) -> Result<(), Fail> {
     script.turns(&BOOT)?;
     script.turns(&turns)?;
     script.turns(&lost)?;
-    script.prints(&rt, rt.alloc(), 3001)
+    script.prints(rt.alloc(), 3001)
 }
 
 /// While an image is perhaps there no page goes out, but one may come in.
@@ -231,5 +230,5 @@ fn closed_for_outs_alone(rt: HostRuntime) -> Result<(), Fail> {
     script.turns(&BOOT)?;
     script.turns(&fails)?;
     script.turns(&goes_on)?;
-    script.prints(&rt, rt.alloc(), 3001)
+    script.prints(rt.alloc(), 3001)
 }

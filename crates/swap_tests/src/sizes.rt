@@ -21,7 +21,7 @@ fn what_is_cached_is_dropped(rt: HostRuntime) -> Result<(), Fail> {
     let mut script = Script::new(rt.alloc(), "zone 0 4096\narea 3000\nregion 100 20 64\n")?;
     script.turns(&UP)?;
     script.turns(&turns)?;
-    script.prints(&rt, rt.alloc(), 3001)
+    script.prints(rt.alloc(), 3001)
 }
 
 // One page frame fewer that is to be saved, and one more that is free.
@@ -35,7 +35,7 @@ fn a_hibernation_that_fits_then(rt: HostRuntime) -> Result<(), Fail> {
     let mut script = Script::new(rt.alloc(), "zone 0 4024\narea 3000\nregion 7 1493 64\n")?;
     script.turns(&UP)?;
     script.turns(&turns)?;
-    script.prints(&rt, rt.alloc(), 3001)
+    script.prints(rt.alloc(), 3001)
 }
 
 // What a task has marked as cached isn't its own any more once it is dropped.
@@ -51,7 +51,7 @@ fn a_page_that_a_task_has_cached(rt: HostRuntime) -> Result<(), Fail> {
     let mut script = Script::new(rt.alloc(), "area 3000\n")?;
     script.turns(&BOOT)?;
     script.turns(&turns)?;
-    script.prints(&rt, rt.alloc(), 3001)
+    script.prints(rt.alloc(), 3001)
 }
 
 // A frame with another flag beside CACHE stays, and so does one in a second zone as long as the first has enough.
@@ -68,7 +68,7 @@ fn only_what_is_cached_from_below(rt: HostRuntime) -> Result<(), Fail> {
     let mut script = Script::new(rt.alloc(), settings)?;
     script.turns(&UP)?;
     script.turns(&turns)?;
-    script.prints(&rt, rt.alloc(), 1601)
+    script.prints(rt.alloc(), 1601)
 }
 
 #[test]
@@ -85,5 +85,5 @@ fn when_it_is_refused(rt: HostRuntime) -> Result<(), Fail> {
     script.turns(&[("shrink 0", "not on\n")])?;
     script.turns(&BOOT)?;
     script.turns(&turns)?;
-    script.prints(&rt, rt.alloc(), 3001)
+    script.prints(rt.alloc(), 3001)
 }

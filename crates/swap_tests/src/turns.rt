@@ -1,11 +1,9 @@
 //! Scripts, line by line with what each is to print.
 
-use dump_file::{MemSink, MemSource};
+use samples::assert_replays;
 use sector_disk::MemDisk;
 use std::alloc::Global;
-use std::process::Abort;
 use std::test::Fail;
-use swsusp_cli::{Status, run};
 
 /// A line of a script, and the lines that its events are to print.
 pub type Turn<'a> = (&'a str, &'a str);
@@ -44,21 +42,8 @@ impl Script {
     }
 
     /// Replays it over a disk of so many blocks, and compares what it prints.
-    pub fn prints(&self, rt: &impl Abort, alloc: Global, blocks: u32) -> Result<(), Fail> {
-        let mut words = Vec::new(alloc);
-        for word in ["swsusp", "replay"] {
-            words.push(String::from_str(alloc, word)?)?;
-        }
-        let Ok(mut disk) = MemDisk::create(alloc, blocks) else {
-            return Err("memory".into());
-        };
-        let script = Vec::from_slice(alloc, self.lines.as_bytes())?;
-        let mut input = MemSource::new(script, Vec::new(alloc));
-        let mut out = MemSink::new(Vec::with_capacity(alloc, 1 << 16)?, Vec::new(alloc));
-        let mut note = MemSink::new(Vec::with_capacity(alloc, 256)?, Vec::new(alloc));
-        let status = run(alloc, &words, &mut input, &mut out, &mut note, &mut disk);
-        assert_eq!(rt; status, Status::Done);
-        assert_eq!(rt; out.as_bytes(), self.text.as_bytes());
-        Ok(())
+    pub fn prints(&self, alloc: Global, blocks: u32) -> Result<(), Fail> {
+        let mut disk = MemDisk::create(alloc, blocks)?;
+        assert_replays(alloc, self.lines.as_str(), &mut disk, self.text.as_str())
     }
 }
