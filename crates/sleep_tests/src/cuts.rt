@@ -2,7 +2,6 @@
 
 use crate::plays::{AREA, MARK, Play, STEPS, WAKES};
 use std::alloc::Global;
-use std::process::Abort;
 use std::test::Fail;
 
 const PICKS: [u64; 3] = [0, u64::MAX, MARK];
@@ -42,7 +41,7 @@ fn suspends_that_are_cut(rt: HostRuntime) -> Result<(), Fail> {
     for pick in PICKS {
         suspends_cut(&mut play, pick)?;
     }
-    play.prints(&rt, 1101)
+    play.prints(1101)
 }
 
 /// Of the header block one sector alone keeps its last bytes, each of them in turn.
@@ -52,7 +51,7 @@ fn suspends_that_keep_one_sector(rt: HostRuntime) -> Result<(), Fail> {
     for sector in 0u32..8 {
         suspends_cut(&mut play, 1u64.wrapping_shl(sector))?;
     }
-    play.prints(&rt, 1101)
+    play.prints(1101)
 }
 
 #[test]
@@ -61,7 +60,7 @@ fn wakes_that_are_cut(rt: HostRuntime) -> Result<(), Fail> {
     for pick in PICKS {
         wakes_cut(&mut play, pick)?;
     }
-    play.prints(&rt, 1101)
+    play.prints(1101)
 }
 
 #[test]
@@ -70,11 +69,11 @@ fn wakes_that_keep_one_sector(rt: HostRuntime) -> Result<(), Fail> {
     for sector in 0u32..8 {
         wakes_cut(&mut play, 1u64.wrapping_shl(sector))?;
     }
-    play.prints(&rt, 1101)
+    play.prints(1101)
 }
 
 /// A machine sleeps and wakes again and again, with another word each time; what is resumed in the end is the last image.
-fn sleeps_again(alloc: Global, rt: &impl Abort) -> Result<(), Fail> {
+fn sleeps_again(alloc: Global) -> Result<(), Fail> {
     let mut play = Play::new(alloc, AREA)?;
     play.boots(7)?;
     for word in 10u64..13 {
@@ -90,10 +89,10 @@ fn sleeps_again(alloc: Global, rt: &impl Abort) -> Result<(), Fail> {
     play.suspends(STEPS)?;
     play.is_cut(0)?;
     play.ends(7, true)?;
-    play.prints(rt, 1101)
+    play.prints(1101)
 }
 
 #[test]
 fn the_last_of_four_images(rt: HostRuntime) -> Result<(), Fail> {
-    sleeps_again(rt.alloc(), &rt)
+    sleeps_again(rt.alloc())
 }

@@ -42,7 +42,7 @@ fn sleep_and_wake(rt: HostRuntime) -> Result<(), Fail> {
         ("resume", "loading 0\n"),
         ("steps core 2", "loading 1\nno image\n"),
     ])?;
-    play.prints(&rt, 3001)
+    play.prints(3001)
 }
 
 /// The power fails before the mark that was taken back is synced: the image is resumed.
@@ -60,7 +60,7 @@ fn cut_before_it_wakes(rt: HostRuntime) -> Result<(), Fail> {
         ),
         ("show 3 10 0", "word 77\n"),
     ])?;
-    play.prints(&rt, 3001)
+    play.prints(3001)
 }
 
 /// The sync of a wake fails: it sleeps on.
@@ -76,7 +76,7 @@ fn a_wake_that_fails(rt: HostRuntime) -> Result<(), Fail> {
         ),
         ("store 3 10 0 78", "sleeping\n"),
     ])?;
-    play.prints(&rt, 3001)
+    play.prints(3001)
 }
 
 /// Without its pages of zeros, page frames 5 and 6 of the slot table, an image has 8 pages. The machine wakes, sleeps again and is resumed.
@@ -105,5 +105,5 @@ fn sleep_without_zeros(rt: HostRuntime) -> Result<(), Fail> {
         ),
         ("show 3 10 0", "word 78\n"),
     ])?;
-    play.prints(&rt, 3001)
+    play.prints(3001)
 }

@@ -2,7 +2,6 @@
 
 use crate::plays::{AREA, MARK, Play, STEPS, Turn, WAKES};
 use std::alloc::Global;
-use std::process::Abort;
 use std::test::Fail;
 
 const PICKS: [u64; 3] = [0, u64::MAX, MARK];
@@ -121,28 +120,28 @@ fn wakes_fail(play: &mut Play, alloc: Global, reached: u64, pick: u64) -> Result
 }
 
 /// With a failed write that has reached no sector, each one, and that of the mark alone.
-fn suspends_that_fail(rt: &impl Abort, alloc: Global, reached: u64) -> Result<(), Fail> {
+fn suspends_that_fail(alloc: Global, reached: u64) -> Result<(), Fail> {
     let mut play = Play::new(alloc, AREA)?;
     for pick in PICKS {
         suspends_fail(&mut play, alloc, reached, pick)?;
         undoes_fail(&mut play, alloc, reached, pick)?;
     }
-    play.prints(rt, 1101)
+    play.prints(1101)
 }
 
 #[test]
 fn suspends_whose_writes_reach_nothing(rt: HostRuntime) -> Result<(), Fail> {
-    suspends_that_fail(&rt, rt.alloc(), 0)
+    suspends_that_fail(rt.alloc(), 0)
 }
 
 #[test]
 fn suspends_whose_writes_reach_all(rt: HostRuntime) -> Result<(), Fail> {
-    suspends_that_fail(&rt, rt.alloc(), u64::MAX)
+    suspends_that_fail(rt.alloc(), u64::MAX)
 }
 
 #[test]
 fn suspends_whose_writes_reach_the_mark(rt: HostRuntime) -> Result<(), Fail> {
-    suspends_that_fail(&rt, rt.alloc(), MARK)
+    suspends_that_fail(rt.alloc(), MARK)
 }
 
 #[test]
@@ -153,5 +152,5 @@ fn wakes_that_fail(rt: HostRuntime) -> Result<(), Fail> {
             wakes_fail(&mut play, rt.alloc(), reached, pick)?;
         }
     }
-    play.prints(&rt, 1101)
+    play.prints(1101)
 }

@@ -1,11 +1,9 @@
 //! Scripts of a machine that sleeps, with what they are to print.
 
-use dump_file::{MemSink, MemSource};
+use samples::assert_replays;
 use sector_disk::MemDisk;
 use std::alloc::Global;
-use std::process::Abort;
 use std::test::Fail;
-use swsusp_cli::{Status, run};
 
 /// A line of a script, or more, and the lines that its events are to print.
 pub type Turn<'a> = (&'a str, &'a str);
@@ -179,38 +177,18 @@ impl Play {
     }
 
     /// Replays the script over a disk of so many blocks, and compares what it prints.
-    pub fn prints(&self, rt: &impl Abort, blocks: u32) -> Result<(), Fail> {
-        let mut words = Vec::new(self.alloc);
-        for word in ["swsusp", "replay"] {
-            words.push(String::from_str(self.alloc, word)?)?;
-        }
-        let script = Vec::from_slice(self.alloc, self.script.as_bytes())?;
-        let room = Vec::with_capacity(self.alloc, 1 << 20)?;
-        let (status, out) = replayed(self.alloc, &words, script, room, blocks)?;
-        assert_eq!(rt; status, Status::Done);
-        assert_eq!(rt; out.as_bytes(), self.text.as_bytes());
-        Ok(())
+    pub fn prints(&self, blocks: u32) -> Result<(), Fail> {
+        let mut disk = MemDisk::create(self.alloc, blocks)?;
+        assert_replays(
+            self.alloc,
+            self.script.as_str(),
+            &mut disk,
+            self.text.as_str(),
+        )
     }
 }
 
 /// The word that is stored once the page with the first one is out.
 pub fn later(word: u64) -> u64 {
     word ^ 1
-}
-
-fn replayed(
-    alloc: Global,
-    words: &[String],
-    script: Vec<u8>,
-    room: Vec<u8>,
-    blocks: u32,
-) -> Result<(Status, MemSink), Fail> {
-    let Ok(mut disk) = MemDisk::create(alloc, blocks) else {
-        return Err("memory".into());
-    };
-    let mut input = MemSource::new(script, Vec::new(alloc));
-    let mut out = MemSink::new(room, Vec::new(alloc));
-    let mut note = MemSink::new(Vec::with_capacity(alloc, 4096)?, Vec::new(alloc));
-    let status = run(alloc, words, &mut input, &mut out, &mut note, &mut disk);
-    Ok((status, out))
 }

@@ -1,7 +1,6 @@
 //! What is refused while a machine falls asleep, sleeps and wakes, and where a suspend and a wake are.
 
 use crate::plays::{AREA, Play, STEPS};
-use std::process::Abort;
 use std::test::Fail;
 
 /// A machine that is off, boots, runs or saves its memory isn't woken.
@@ -31,7 +30,7 @@ fn nothing_to_wake(rt: HostRuntime) -> Result<(), Fail> {
         ("cut 0", "cut\n"),
     ])?;
     play.ends(77, false)?;
-    play.prints(&rt, 1101)
+    play.prints(1101)
 }
 
 #[test]
@@ -61,7 +60,7 @@ fn refused_asleep(rt: HostRuntime) -> Result<(), Fail> {
     ])?;
     play.is_cut(0)?;
     play.ends(77, true)?;
-    play.prints(&rt, 1101)
+    play.prints(1101)
 }
 
 #[test]
@@ -88,7 +87,7 @@ fn refused_while_it_wakes(rt: HostRuntime) -> Result<(), Fail> {
         ("settle", "nothing held\n"),
     ])?;
     play.goes_on(77)?;
-    play.prints(&rt, 1101)
+    play.prints(1101)
 }
 
 /// The image that a machine finds when it boots keeps it from a suspend until it is settled.
@@ -110,7 +109,7 @@ fn closed_by_an_image(rt: HostRuntime) -> Result<(), Fail> {
     play.ends(77, false)?;
     play.boots(78)?;
     play.suspends(STEPS)?;
-    play.prints(&rt, 1101)
+    play.prints(1101)
 }
 
 #[test]
@@ -121,14 +120,14 @@ fn frames_just_enough(rt: HostRuntime) -> Result<(), Fail> {
         ("steps core 2", "more 1 of 2\nbooted image no\n"),
         ("suspend", "no frames 2524 need 2525\n"),
     ])?;
-    few.prints(&rt, 3001)?;
+    few.prints(3001)?;
     let mut enough = Play::new(rt.alloc(), "zone 0 4025\narea 3000\nregion 7 1493 0\n")?;
     enough.turns(&[
         ("boot", "more 0 of 2\n"),
         ("steps core 2", "more 1 of 2\nbooted image no\n"),
         ("suspend", "more 0 of 1511\n"),
     ])?;
-    enough.prints(&rt, 3001)
+    enough.prints(3001)
 }
 
 #[test]
@@ -139,12 +138,12 @@ fn slots_just_enough(rt: HostRuntime) -> Result<(), Fail> {
         ("steps core 2", "more 1 of 2\nbooted image no\n"),
         ("suspend", "no slots 1537 need 1538\n"),
     ])?;
-    few.prints(&rt, 1538)?;
+    few.prints(1538)?;
     let mut enough = Play::new(rt.alloc(), "zone 0 2048\narea 1538\nregion 4 506 0\n")?;
     enough.turns(&[
         ("boot", "more 0 of 2\n"),
         ("steps core 2", "more 1 of 2\nbooted image no\n"),
         ("suspend", "more 0 of 518\n"),
     ])?;
-    enough.prints(&rt, 1539)
+    enough.prints(1539)
 }
