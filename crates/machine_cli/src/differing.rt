@@ -2,6 +2,7 @@ ghost use Rattle.std.specs.Prelude.{◌≡◌, ◌≢◌, ◌⊎◌, ◌≤◌, 
 ghost use Rattle.definitions.specs.Disk.{HasRisen};
 ghost use Rattle.machine_cli.specs.Compared.{Compares, difference_told};
 ghost use Rattle.swsusp_cli.specs.AnswerOf.{told_by};
+ghost use Rattle.swsusp_cli.specs.View.{sink_view};
 
 use dump_differ::{Difference, first_difference};
 use dump_file::{DumpStop, Sink, Source, read_dump};
@@ -18,10 +19,10 @@ pub fn differ<I: Source, J: Source, O: Sink, N: Sink>(
     note: &mut N,
 ) -> Status
     ensures outcome { Compares (I.remaining first.old) (J.remaining second.old) result
-        (record { taken = O.taken out.old; flushed = O.flushed out.old; faults = O.faults out.old })
-        (record { taken = O.taken out.new; flushed = O.flushed out.new; faults = O.faults out.new })
-        (record { taken = N.taken note.old; flushed = N.flushed note.old; faults = N.faults note.old })
-        (record { taken = N.taken note.new; flushed = N.flushed note.new; faults = N.faults note.new }) }
+        (sink_view O.Sink out.old)
+        (sink_view O.Sink out.new)
+        (sink_view N.Sink note.old)
+        (sink_view N.Sink note.new) }
     ensures stream { result ≡ Status.Stream → HasRisen (I.faults first.old) (I.faults first.new)
         ⊎ HasRisen (J.faults second.old) (J.faults second.new)
         ⊎ HasRisen (O.faults out.old) (O.faults out.new) ⊎ HasRisen (N.faults note.old) (N.faults note.new) }

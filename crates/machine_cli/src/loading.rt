@@ -1,7 +1,7 @@
 ghost use Rattle.std.specs.Prelude.{◌≡◌, ◌≢◌, ◌⊎◌};
 ghost use Rattle.definitions.specs.Disk.{HasRisen};
 ghost use Rattle.machine_cli.specs.Freshened.{Freshens};
-ghost use Rattle.swsusp_cli.specs.View.{DiskView};
+ghost use Rattle.swsusp_cli.specs.View.{DiskView, sink_view};
 
 use dump_file::{DumpStop, Sink, Source, read_dump};
 use fresh_dump::make_fresh;
@@ -20,13 +20,13 @@ pub fn loader<I: Source, O: Sink, N: Sink>(
     ensures outcome { (disk : DiskView) → Freshens (record {
       left = I.remaining input.old;
       disk = disk;
-      out = record { taken = O.taken out.old; flushed = O.flushed out.old; faults = O.faults out.old };
-      note = record { taken = N.taken note.old; flushed = N.flushed note.old; faults = N.faults note.old };
+      out = sink_view O.Sink out.old;
+      note = sink_view N.Sink note.old;
     }) (record {
       left = I.remaining input.new;
       disk = disk;
-      out = record { taken = O.taken out.new; flushed = O.flushed out.new; faults = O.faults out.new };
-      note = record { taken = N.taken note.new; flushed = N.flushed note.new; faults = N.faults note.new };
+      out = sink_view O.Sink out.new;
+      note = sink_view N.Sink note.new;
     }) result }
     ensures stream { result ≡ Status.Stream → HasRisen (I.faults input.old) (I.faults input.new)
         ⊎ HasRisen (O.faults out.old) (O.faults out.new) ⊎ HasRisen (N.faults note.old) (N.faults note.new) }

@@ -4,7 +4,7 @@ ghost use Rattle.definitions.specs.Zones.{top};
 ghost use Rattle.machine_cli.specs.Shown.{Shows, facts_told};
 ghost use Rattle.machine_facts.specs.Texts.{facts_text};
 ghost use Rattle.swsusp_cli.specs.Told.{FailsToPrint, IsPrinted, IsTold};
-ghost use Rattle.swsusp_cli.specs.View.{DiskView};
+ghost use Rattle.swsusp_cli.specs.View.{DiskView, sink_view};
 
 use dump_file::{DumpStop, Sink, Source, read_dump};
 use machine::Dump;
@@ -23,13 +23,13 @@ pub fn show_facts<I: Source, O: Sink, N: Sink>(
     ensures outcome { (disk : DiskView) → Shows (record {
       left = I.remaining input.old;
       disk = disk;
-      out = record { taken = O.taken out.old; flushed = O.flushed out.old; faults = O.faults out.old };
-      note = record { taken = N.taken note.old; flushed = N.flushed note.old; faults = N.faults note.old };
+      out = sink_view O.Sink out.old;
+      note = sink_view N.Sink note.old;
     }) (record {
       left = I.remaining input.new;
       disk = disk;
-      out = record { taken = O.taken out.new; flushed = O.flushed out.new; faults = O.faults out.new };
-      note = record { taken = N.taken note.new; flushed = N.flushed note.new; faults = N.faults note.new };
+      out = sink_view O.Sink out.new;
+      note = sink_view N.Sink note.new;
     }) result }
     ensures stream { result ≡ Status.Stream → HasRisen (I.faults input.old) (I.faults input.new)
         ⊎ HasRisen (O.faults out.old) (O.faults out.new) ⊎ HasRisen (N.faults note.old) (N.faults note.new) }
@@ -49,10 +49,10 @@ pub fn show_facts<I: Source, O: Sink, N: Sink>(
 fn tell_facts<O: Sink, N: Sink>(dump: &Dump, out: &mut O, note: &mut N) -> Status
     requires frames { length dump.now.frames ≡ top dump.now.hw.zones }
     ensures told { IsTold (facts_told dump.now.hw dump.now.frames) result
-        (record { taken = O.taken out.old; flushed = O.flushed out.old; faults = O.faults out.old })
-        (record { taken = O.taken out.new; flushed = O.flushed out.new; faults = O.faults out.new })
-        (record { taken = N.taken note.old; flushed = N.flushed note.old; faults = N.faults note.old })
-        (record { taken = N.taken note.new; flushed = N.flushed note.new; faults = N.faults note.new }) }
+        (sink_view O.Sink out.old)
+        (sink_view O.Sink out.new)
+        (sink_view N.Sink note.old)
+        (sink_view N.Sink note.new) }
     ensures stream { result ≡ Status.Stream →
         HasRisen (O.faults out.old) (O.faults out.new) ⊎ HasRisen (N.faults note.old) (N.faults note.new) }
     ensures status { result ≢ Status.Stream → result ≡ Status.Done }
@@ -71,11 +71,11 @@ fn tell_facts<O: Sink, N: Sink>(dump: &Dump, out: &mut O, note: &mut N) -> Statu
 fn print_facts<S: Sink>(dump: &Dump, sink: &mut S) -> Result<(), Failed>
     requires frames { length dump.now.frames ≡ top dump.now.hw.zones }
     ensures printed { OnOk result (IsPrinted (facts_text dump.now.hw dump.now.frames)
-        (record { taken = S.taken sink.old; flushed = S.flushed sink.old; faults = S.faults sink.old })
-        (record { taken = S.taken sink.new; flushed = S.flushed sink.new; faults = S.faults sink.new })) }
+        (sink_view S.Sink sink.old)
+        (sink_view S.Sink sink.new)) }
     ensures failed { OnErr result (FailsToPrint (facts_text dump.now.hw dump.now.frames)
-        (record { taken = S.taken sink.old; flushed = S.flushed sink.old; faults = S.faults sink.old })
-        (record { taken = S.taken sink.new; flushed = S.flushed sink.new; faults = S.faults sink.new })) }
+        (sink_view S.Sink sink.old)
+        (sink_view S.Sink sink.new)) }
     ensures counted { S.faults sink.old ≤ S.faults sink.new }
     ensures cause { OnErr result (HasRisen (S.faults sink.old) (S.faults sink.new)) }
 {

@@ -3,6 +3,7 @@ ghost use Rattle.definitions.specs.Disk.{HasRisen};
 ghost use Rattle.swsusp_cli.specs.Answer.{memory_told};
 ghost use Rattle.swsusp_cli.specs.AnswerOf.{told_by};
 ghost use Rattle.swsusp_cli.specs.Told.{IsPrinted, IsTold, FailsToPrint};
+ghost use Rattle.swsusp_cli.specs.View.{sink_view};
 
 use crate::status::Status;
 use dump_file::{Sink, put_all};
@@ -25,10 +26,10 @@ impl Answer {
     pub fn tell<O: Sink, N: Sink>(&self, out: &mut O, note: &mut N) -> Status
         requires { self.now.status ≢ Status.Stream }
         ensures told { IsTold (told_by self.now) result
-            (record { taken = O.taken out.old; flushed = O.flushed out.old; faults = O.faults out.old })
-            (record { taken = O.taken out.new; flushed = O.flushed out.new; faults = O.faults out.new })
-            (record { taken = N.taken note.old; flushed = N.flushed note.old; faults = N.faults note.old })
-            (record { taken = N.taken note.new; flushed = N.flushed note.new; faults = N.faults note.new }) }
+            (sink_view O.Sink out.old)
+            (sink_view O.Sink out.new)
+            (sink_view N.Sink note.old)
+            (sink_view N.Sink note.new) }
         ensures stream { result ≡ Status.Stream →
             HasRisen (O.faults out.old) (O.faults out.new) ⊎ HasRisen (N.faults note.old) (N.faults note.new) }
         ensures status { result ≢ Status.Stream → result ≡ self.now.status }
@@ -67,10 +68,10 @@ pub fn tell<O: Sink, N: Sink>(
 ) -> Status
     requires { status ≢ Status.Stream }
     ensures told { IsTold (record { status = status; out = text.now; note = noted.now }) result
-        (record { taken = O.taken out.old; flushed = O.flushed out.old; faults = O.faults out.old })
-        (record { taken = O.taken out.new; flushed = O.flushed out.new; faults = O.faults out.new })
-        (record { taken = N.taken note.old; flushed = N.flushed note.old; faults = N.faults note.old })
-        (record { taken = N.taken note.new; flushed = N.flushed note.new; faults = N.faults note.new }) }
+        (sink_view O.Sink out.old)
+        (sink_view O.Sink out.new)
+        (sink_view N.Sink note.old)
+        (sink_view N.Sink note.new) }
     ensures stream { result ≡ Status.Stream →
         HasRisen (O.faults out.old) (O.faults out.new) ⊎ HasRisen (N.faults note.old) (N.faults note.new) }
     ensures status { result ≢ Status.Stream → result ≡ status }
@@ -88,11 +89,11 @@ pub fn tell<O: Sink, N: Sink>(
 /// Writes a text to its end, and flushes.
 pub fn print<S: Sink>(sink: &mut S, text: &[u8]) -> Result<(), Failed>
     ensures printed { OnOk result (IsPrinted text.now
-        (record { taken = S.taken sink.old; flushed = S.flushed sink.old; faults = S.faults sink.old })
-        (record { taken = S.taken sink.new; flushed = S.flushed sink.new; faults = S.faults sink.new })) }
+        (sink_view S.Sink sink.old)
+        (sink_view S.Sink sink.new)) }
     ensures failed { OnErr result (FailsToPrint text.now
-        (record { taken = S.taken sink.old; flushed = S.flushed sink.old; faults = S.faults sink.old })
-        (record { taken = S.taken sink.new; flushed = S.flushed sink.new; faults = S.faults sink.new })) }
+        (sink_view S.Sink sink.old)
+        (sink_view S.Sink sink.new)) }
     ensures counted { S.faults sink.old ≤ S.faults sink.new }
     ensures cause { OnErr result (HasRisen (S.faults sink.old) (S.faults sink.new)) }
 {

@@ -8,6 +8,7 @@ ghost use Rattle.swsusp_cli.specs.Drills.{IsDrilled};
 ghost use Rattle.swsusp_cli.specs.Playing.{HasPlayed};
 ghost use Rattle.swsusp_cli.specs.declared.status.Status.TheVariants.{Done};
 ghost use Rattle.world_core.specs.StandsFor.{IsOff, blocks_of, hardware_of};
+ghost use Rattle.swsusp_cli.specs.View.{disk_view, sink_view};
 
 use crate::answer::{Answer, no_memory};
 use crate::setting_up::set_up;
@@ -33,14 +34,14 @@ pub fn drill<O: Sink, N: Sink, D: Disk>(
     requires few { number ≤ 2000 }
     ensures outcome { (left : Option (List ℕ)) → IsDrilled number (record {
       left = left;
-      disk = record { blocks = D.block_count disk.old; content = D.content disk.old; faults = D.faults disk.old; calls = D.calls disk.old; orders = D.orders disk.old };
-      out = record { taken = O.taken out.old; flushed = O.flushed out.old; faults = O.faults out.old };
-      note = record { taken = N.taken note.old; flushed = N.flushed note.old; faults = N.faults note.old };
+      disk = disk_view D.Disk disk.old;
+      out = sink_view O.Sink out.old;
+      note = sink_view N.Sink note.old;
     }) (record {
       left = left;
-      disk = record { blocks = D.block_count disk.new; content = D.content disk.new; faults = D.faults disk.new; calls = D.calls disk.new; orders = D.orders disk.new };
-      out = record { taken = O.taken out.new; flushed = O.flushed out.new; faults = O.faults out.new };
-      note = record { taken = N.taken note.new; flushed = N.flushed note.new; faults = N.faults note.new };
+      disk = disk_view D.Disk disk.new;
+      out = sink_view O.Sink out.new;
+      note = sink_view N.Sink note.new;
     }) result }
     ensures stream { result ≡ Status.Stream →
         HasRisen (O.faults out.old) (O.faults out.new) ⊎ HasRisen (N.faults note.old) (N.faults note.new) }
@@ -66,8 +67,8 @@ pub fn play_through<D: Disk>(world: &mut World, disk: &mut D, events: &[Event]) 
     requires few { length events.now ≤ 100000 }
     requires blocks { IsOff world.old ⊎ (D.block_count disk.old ≡ blocks_of world.old) }
     ensures played { (replies : List Reply) × HasPlayed world.old world.new events.now replies
-        (record { blocks = D.block_count disk.old; content = D.content disk.old; faults = D.faults disk.old; calls = D.calls disk.old; orders = D.orders disk.old })
-        (record { blocks = D.block_count disk.new; content = D.content disk.new; faults = D.faults disk.new; calls = D.calls disk.new; orders = D.orders disk.new })
+        (disk_view D.Disk disk.old)
+        (disk_view D.Disk disk.new)
         × (result ≡ tally_of replies) }
     ensures hardware { hardware_of world.new ≡ hardware_of world.old }
     ensures blocks { IsOff world.new ⊎ (D.block_count disk.new ≡ blocks_of world.new) }

@@ -1,7 +1,7 @@
 ghost use Rattle.std.specs.Prelude.{◌≡◌, ◌≢◌, ◌⊎◌};
 ghost use Rattle.definitions.specs.Disk.{HasRisen};
 ghost use Rattle.swsusp_cli.specs.Exports.{Exports};
-ghost use Rattle.swsusp_cli.specs.View.{DiskView};
+ghost use Rattle.swsusp_cli.specs.View.{DiskView, sink_view};
 
 use crate::answer::{Answer, no_memory, print};
 use crate::dump_input::no_dump;
@@ -29,13 +29,13 @@ pub fn export_dump<I: Source, O: Sink, N: Sink>(
     ensures outcome { (disk : DiskView) → Exports (record {
       left = I.remaining input.old;
       disk = disk;
-      out = record { taken = O.taken out.old; flushed = O.flushed out.old; faults = O.faults out.old };
-      note = record { taken = N.taken note.old; flushed = N.flushed note.old; faults = N.faults note.old };
+      out = sink_view O.Sink out.old;
+      note = sink_view N.Sink note.old;
     }) (record {
       left = I.remaining input.new;
       disk = disk;
-      out = record { taken = O.taken out.new; flushed = O.flushed out.new; faults = O.faults out.new };
-      note = record { taken = N.taken note.new; flushed = N.flushed note.new; faults = N.faults note.new };
+      out = sink_view O.Sink out.new;
+      note = sink_view N.Sink note.new;
     }) result }
     ensures stream { result ≡ Status.Stream → HasRisen (I.faults input.old) (I.faults input.new)
         ⊎ HasRisen (O.faults out.old) (O.faults out.new) ⊎ HasRisen (N.faults note.old) (N.faults note.new) }
@@ -123,10 +123,10 @@ fn tell_stream<O: Sink, N: Sink>(
 ) -> Status
     requires { 0 < length piece.old }
     ensures told { IsTold (record { status = Status.Done; out = stream.old; note = [] }) result
-        (record { taken = O.taken out.old; flushed = O.flushed out.old; faults = O.faults out.old })
-        (record { taken = O.taken out.new; flushed = O.flushed out.new; faults = O.faults out.new })
-        (record { taken = N.taken note.old; flushed = N.flushed note.old; faults = N.faults note.old })
-        (record { taken = N.taken note.new; flushed = N.flushed note.new; faults = N.faults note.new }) }
+        (sink_view O.Sink out.old)
+        (sink_view O.Sink out.new)
+        (sink_view N.Sink note.old)
+        (sink_view N.Sink note.new) }
     ensures stream { result ≡ Status.Stream →
         HasRisen (O.faults out.old) (O.faults out.new) ⊎ HasRisen (N.faults note.old) (N.faults note.new) }
     ensures status { result ≢ Status.Stream → result ≡ Status.Done }
@@ -149,11 +149,11 @@ fn print_stream<S: Sink>(
 ) -> Result<(), Failed>
     requires { 0 < length piece.old }
     ensures printed { OnOk result (IsPrinted stream.old
-        (record { taken = S.taken sink.old; flushed = S.flushed sink.old; faults = S.faults sink.old })
-        (record { taken = S.taken sink.new; flushed = S.flushed sink.new; faults = S.faults sink.new })) }
+        (sink_view S.Sink sink.old)
+        (sink_view S.Sink sink.new)) }
     ensures failed { OnErr result (FailsToPrint stream.old
-        (record { taken = S.taken sink.old; flushed = S.flushed sink.old; faults = S.faults sink.old })
-        (record { taken = S.taken sink.new; flushed = S.flushed sink.new; faults = S.faults sink.new })) }
+        (sink_view S.Sink sink.old)
+        (sink_view S.Sink sink.new)) }
     ensures counted { S.faults sink.old ≤ S.faults sink.new }
     ensures cause { OnErr result (HasRisen (S.faults sink.old) (S.faults sink.new)) }
 {

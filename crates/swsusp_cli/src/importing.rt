@@ -9,6 +9,7 @@ ghost use Rattle.swsusp_cli.specs.Answer.{Told};
 ghost use Rattle.swsusp_cli.specs.AnswerOf.{told_by};
 ghost use Rattle.swsusp_cli.specs.Feeding.{Feeds, IsOfDisk, IsOfSource};
 ghost use Rattle.swsusp_cli.specs.Imports.{Ends, Imports, imported_told, kind_text, stop_told, stream_told};
+ghost use Rattle.swsusp_cli.specs.View.{disk_view, view};
 
 use crate::answer::{Answer, no_memory};
 use crate::replay::unread;
@@ -45,17 +46,9 @@ pub fn import_stream<I: Source, O: Sink, N: Sink, D: Disk>(
     note: &mut N,
     disk: &mut D,
 ) -> Status
-    ensures outcome { Imports (record {
-      left = I.remaining input.old;
-      disk = record { blocks = D.block_count disk.old; content = D.content disk.old; faults = D.faults disk.old; calls = D.calls disk.old; orders = D.orders disk.old };
-      out = record { taken = O.taken out.old; flushed = O.flushed out.old; faults = O.faults out.old };
-      note = record { taken = N.taken note.old; flushed = N.flushed note.old; faults = N.faults note.old };
-    }) (record {
-      left = I.remaining input.new;
-      disk = record { blocks = D.block_count disk.new; content = D.content disk.new; faults = D.faults disk.new; calls = D.calls disk.new; orders = D.orders disk.new };
-      out = record { taken = O.taken out.new; flushed = O.flushed out.new; faults = O.faults out.new };
-      note = record { taken = N.taken note.new; flushed = N.flushed note.new; faults = N.faults note.new };
-    }) result }
+    ensures outcome { Imports
+        (view I.Source O.Sink N.Sink D.Disk input.old out.old note.old disk.old)
+        (view I.Source O.Sink N.Sink D.Disk input.new out.new note.new disk.new) result }
     ensures stream { result ≡ Status.Stream → HasRisen (I.faults input.old) (I.faults input.new)
         ⊎ HasRisen (O.faults out.old) (O.faults out.new) ⊎ HasRisen (N.faults note.old) (N.faults note.new) }
     ensures device { result ≡ Status.Device → HasRisen (D.faults disk.old) (D.faults disk.new) }
@@ -75,8 +68,8 @@ fn import_image<I: Source, D: Disk>(
     disk: &mut D,
 ) -> Result<u32, ImportStop>
     ensures ends { Ends (I.remaining input.old) (I.remaining input.new)
-        (record { blocks = D.block_count disk.old; content = D.content disk.old; faults = D.faults disk.old; calls = D.calls disk.old; orders = D.orders disk.old })
-        (record { blocks = D.block_count disk.new; content = D.content disk.new; faults = D.faults disk.new; calls = D.calls disk.new; orders = D.orders disk.new }) result }
+        (disk_view D.Disk disk.old)
+        (disk_view D.Disk disk.new) result }
     ensures device { IfErr result (λ stop. IsOfDisk stop → HasRisen (D.faults disk.old) (D.faults disk.new)) }
     ensures source { IfErr result (λ stop. IsOfSource stop → HasRisen (I.faults input.old) (I.faults input.new)) }
 {
@@ -119,8 +112,8 @@ fn feed_input<I: Source, D: Disk>(
     requires blocks { D.block_count disk.old ≡ session.old.blocks }
     ensures feeds { (free : List ℕ) → IsFed free [] session.old → AreOfMap session.old.map free →
         Feeds free session.old session.new (I.remaining input.old) (I.remaining input.new)
-        (record { blocks = D.block_count disk.old; content = D.content disk.old; faults = D.faults disk.old; calls = D.calls disk.old; orders = D.orders disk.old })
-        (record { blocks = D.block_count disk.new; content = D.content disk.new; faults = D.faults disk.new; calls = D.calls disk.new; orders = D.orders disk.new }) result }
+        (disk_view D.Disk disk.old)
+        (disk_view D.Disk disk.new) result }
     ensures device { IfErr result (λ stop. IsOfDisk stop → HasRisen (D.faults disk.old) (D.faults disk.new)) }
     ensures source { IfErr result (λ stop. IsOfSource stop → HasRisen (I.faults input.old) (I.faults input.new)) }
 {

@@ -7,6 +7,7 @@ ghost use Rattle.plain_machine.specs.declared.reply.Reply.{Reply};
 ghost use Rattle.world_core.specs.StandsFor.{IsOff, blocks_of, hardware_of};
 ghost use Rattle.swsusp_cli.specs.Playing.{HasPlayed};
 ghost use Rattle.swsusp_cli.specs.Replay.{TakesToLast};
+ghost use Rattle.swsusp_cli.specs.View.{disk_view};
 
 use dump_file::{Sink, put_all};
 use page_core::Failed;
@@ -27,12 +28,12 @@ pub fn play<D: Disk, O: Sink>(
     requires blocks { IsOff world.old ⊎ (D.block_count disk.old ≡ blocks_of world.old) }
     ensures played { MatchResult result
         (λ _. (replies : List Reply) × HasPlayed world.old world.new events.now replies
-        (record { blocks = D.block_count disk.old; content = D.content disk.old; faults = D.faults disk.old; calls = D.calls disk.old; orders = D.orders disk.old })
-        (record { blocks = D.block_count disk.new; content = D.content disk.new; faults = D.faults disk.new; calls = D.calls disk.new; orders = D.orders disk.new })
+        (disk_view D.Disk disk.old)
+        (disk_view D.Disk disk.new)
         × TakesAll (text_of replies) (O.taken out.old) (O.taken out.new))
         (λ _. (k : ℕ) × (replies : List Reply) × HasPlayed world.old world.new (take k events.now) replies
-        (record { blocks = D.block_count disk.old; content = D.content disk.old; faults = D.faults disk.old; calls = D.calls disk.old; orders = D.orders disk.old })
-        (record { blocks = D.block_count disk.new; content = D.content disk.new; faults = D.faults disk.new; calls = D.calls disk.new; orders = D.orders disk.new })
+        (disk_view D.Disk disk.old)
+        (disk_view D.Disk disk.new)
         × TakesToLast replies (O.taken out.old) (O.taken out.new)) }
     ensures stream { OnErr result (HasRisen (O.faults out.old) (O.faults out.new)) }
     ensures stream_faults { O.faults out.old ≤ O.faults out.new }

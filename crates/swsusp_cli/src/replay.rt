@@ -10,6 +10,7 @@ ghost use Rattle.swsusp_cli.specs.Reading.{HandsOutAtMost};
 ghost use Rattle.swsusp_cli.specs.Replay.{unread_note};
 ghost use Rattle.swsusp_cli.specs.Answer.{done};
 ghost use Rattle.swsusp_cli.specs.Told.{IsTried, sink_note};
+ghost use Rattle.swsusp_cli.specs.View.{sink_view, view};
 
 use crate::answer::{Answer, no_memory, print};
 use crate::playing::play;
@@ -38,17 +39,9 @@ pub fn replay<I: Source, O: Sink, N: Sink, D: Disk>(
     note: &mut N,
     disk: &mut D,
 ) -> Status
-    ensures outcome { IsReplayed (record {
-      left = I.remaining input.old;
-      disk = record { blocks = D.block_count disk.old; content = D.content disk.old; faults = D.faults disk.old; calls = D.calls disk.old; orders = D.orders disk.old };
-      out = record { taken = O.taken out.old; flushed = O.flushed out.old; faults = O.faults out.old };
-      note = record { taken = N.taken note.old; flushed = N.flushed note.old; faults = N.faults note.old };
-    }) (record {
-      left = I.remaining input.new;
-      disk = record { blocks = D.block_count disk.new; content = D.content disk.new; faults = D.faults disk.new; calls = D.calls disk.new; orders = D.orders disk.new };
-      out = record { taken = O.taken out.new; flushed = O.flushed out.new; faults = O.faults out.new };
-      note = record { taken = N.taken note.new; flushed = N.flushed note.new; faults = N.faults note.new };
-    }) result }
+    ensures outcome { IsReplayed
+        (view I.Source O.Sink N.Sink D.Disk input.old out.old note.old disk.old)
+        (view I.Source O.Sink N.Sink D.Disk input.new out.new note.new disk.new) result }
     ensures stream { result ≡ Status.Stream → HasRisen (I.faults input.old) (I.faults input.new)
         ⊎ HasRisen (O.faults out.old) (O.faults out.new) ⊎ HasRisen (N.faults note.old) (N.faults note.new) }
     ensures device { result ≡ Status.Device → HasRisen (D.faults disk.old) (D.faults disk.new) }
@@ -97,8 +90,8 @@ pub fn parse_input<I: Source>(alloc: Global, input: &mut I) -> Result<Script, St
 pub fn unread<N: Sink>(note: &mut N) -> Status
     ensures status { result ≡ Status.Stream }
     ensures note { IsTried unread_note
-        (record { taken = N.taken note.old; flushed = N.flushed note.old; faults = N.faults note.old })
-        (record { taken = N.taken note.new; flushed = N.flushed note.new; faults = N.faults note.new }) }
+        (sink_view N.Sink note.old)
+        (sink_view N.Sink note.new) }
 {
     let _ = print(note, b"source fault\n");
     Status::Stream
@@ -108,8 +101,8 @@ pub fn unread<N: Sink>(note: &mut N) -> Status
 fn cut_off<N: Sink>(note: &mut N) -> Status
     ensures status { result ≡ Status.Stream }
     ensures note { IsTried sink_note
-        (record { taken = N.taken note.old; flushed = N.flushed note.old; faults = N.faults note.old })
-        (record { taken = N.taken note.new; flushed = N.flushed note.new; faults = N.faults note.new }) }
+        (sink_view N.Sink note.old)
+        (sink_view N.Sink note.new) }
 {
     let _ = print(note, b"sink fault\n");
     Status::Stream

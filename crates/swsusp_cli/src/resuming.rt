@@ -5,6 +5,7 @@ ghost use Rattle.definitions.specs.Zones.{top};
 ghost use Rattle.dump_file.specs.Written.{dump_bytes};
 ghost use Rattle.swsusp_cli.specs.Loads.{is_resumed, resume_told, written_told};
 ghost use Rattle.swsusp_cli.specs.Told.{FailsToPrint, IsPrinted, IsTold};
+ghost use Rattle.swsusp_cli.specs.View.{sink_view, view};
 
 use crate::answer::{no_memory, print};
 use crate::dump_input::{machine_of, no_dump, stopped};
@@ -28,17 +29,9 @@ pub fn resume_dump<I: Source, O: Sink, N: Sink, D: Disk>(
     note: &mut N,
     disk: &mut D,
 ) -> Status
-    ensures outcome { Resumes check (record {
-      left = I.remaining input.old;
-      disk = record { blocks = D.block_count disk.old; content = D.content disk.old; faults = D.faults disk.old; calls = D.calls disk.old; orders = D.orders disk.old };
-      out = record { taken = O.taken out.old; flushed = O.flushed out.old; faults = O.faults out.old };
-      note = record { taken = N.taken note.old; flushed = N.flushed note.old; faults = N.faults note.old };
-    }) (record {
-      left = I.remaining input.new;
-      disk = record { blocks = D.block_count disk.new; content = D.content disk.new; faults = D.faults disk.new; calls = D.calls disk.new; orders = D.orders disk.new };
-      out = record { taken = O.taken out.new; flushed = O.flushed out.new; faults = O.faults out.new };
-      note = record { taken = N.taken note.new; flushed = N.flushed note.new; faults = N.faults note.new };
-    }) result }
+    ensures outcome { Resumes check
+        (view I.Source O.Sink N.Sink D.Disk input.old out.old note.old disk.old)
+        (view I.Source O.Sink N.Sink D.Disk input.new out.new note.new disk.new) result }
     ensures stream { result ≡ Status.Stream → HasRisen (I.faults input.old) (I.faults input.new)
         ⊎ HasRisen (O.faults out.old) (O.faults out.new) ⊎ HasRisen (N.faults note.old) (N.faults note.new) }
     ensures device { result ≡ Status.Device → HasRisen (D.faults disk.old) (D.faults disk.new) }
@@ -71,10 +64,10 @@ fn tell_end<O: Sink, N: Sink>(
 ) -> Status
     requires frames { length frames.now ≡ top hw.now.zones }
     ensures told { IsTold (resume_told hw.now frames.now ended.now) result
-        (record { taken = O.taken out.old; flushed = O.flushed out.old; faults = O.faults out.old })
-        (record { taken = O.taken out.new; flushed = O.flushed out.new; faults = O.faults out.new })
-        (record { taken = N.taken note.old; flushed = N.flushed note.old; faults = N.faults note.old })
-        (record { taken = N.taken note.new; flushed = N.flushed note.new; faults = N.faults note.new }) }
+        (sink_view O.Sink out.old)
+        (sink_view O.Sink out.new)
+        (sink_view N.Sink note.old)
+        (sink_view N.Sink note.new) }
     ensures stream { result ≡ Status.Stream →
         HasRisen (O.faults out.old) (O.faults out.new) ⊎ HasRisen (N.faults note.old) (N.faults note.new) }
     ensures words { result ≢ Status.Words }
@@ -95,10 +88,10 @@ pub fn tell_dump<O: Sink, N: Sink>(
 ) -> Status
     requires frames { length frames.now ≡ top hw.now.zones }
     ensures told { IsTold (written_told hw.now frames.now) result
-        (record { taken = O.taken out.old; flushed = O.flushed out.old; faults = O.faults out.old })
-        (record { taken = O.taken out.new; flushed = O.flushed out.new; faults = O.faults out.new })
-        (record { taken = N.taken note.old; flushed = N.flushed note.old; faults = N.faults note.old })
-        (record { taken = N.taken note.new; flushed = N.flushed note.new; faults = N.faults note.new }) }
+        (sink_view O.Sink out.old)
+        (sink_view O.Sink out.new)
+        (sink_view N.Sink note.old)
+        (sink_view N.Sink note.new) }
     ensures stream { result ≡ Status.Stream →
         HasRisen (O.faults out.old) (O.faults out.new) ⊎ HasRisen (N.faults note.old) (N.faults note.new) }
     ensures status { result ≢ Status.Stream → result ≡ Status.Done }
@@ -123,11 +116,11 @@ fn is_resumed(reply: &Reply) -> bool
 fn print_dump<S: Sink>(hw: &Hardware, frames: &Frames, sink: &mut S) -> Result<(), Failed>
     requires frames { length frames.now ≡ top hw.now.zones }
     ensures printed { OnOk result (IsPrinted (dump_bytes hw.now frames.now)
-        (record { taken = S.taken sink.old; flushed = S.flushed sink.old; faults = S.faults sink.old })
-        (record { taken = S.taken sink.new; flushed = S.flushed sink.new; faults = S.faults sink.new })) }
+        (sink_view S.Sink sink.old)
+        (sink_view S.Sink sink.new)) }
     ensures failed { OnErr result (FailsToPrint (dump_bytes hw.now frames.now)
-        (record { taken = S.taken sink.old; flushed = S.flushed sink.old; faults = S.faults sink.old })
-        (record { taken = S.taken sink.new; flushed = S.flushed sink.new; faults = S.faults sink.new })) }
+        (sink_view S.Sink sink.old)
+        (sink_view S.Sink sink.new)) }
     ensures counted { S.faults sink.old ≤ S.faults sink.new }
     ensures cause { OnErr result (HasRisen (S.faults sink.old) (S.faults sink.new)) }
 {

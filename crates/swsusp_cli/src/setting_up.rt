@@ -2,6 +2,7 @@ ghost use Rattle.std.specs.Prelude.{◌≡◌, ◌≤◌, MatchResult, length};
 ghost use Rattle.swsusp_cli.specs.AnswerOf.{told_by};
 ghost use Rattle.swsusp_cli.specs.Outcome.{small_told, unformatted_told};
 ghost use Rattle.swsusp_cli.specs.SettingUp.{IsNotSetUp, IsSetUp};
+ghost use Rattle.swsusp_cli.specs.View.{disk_view};
 
 use crate::answer::{Answer, no_memory};
 use crate::formatting::{Unformatted, blocks_needed, format};
@@ -46,11 +47,11 @@ pub fn set_up<D: Disk>(alloc: Global, script: &Script, disk: &mut D) -> Result<W
     requires few_bad { length script.now.bad ≤ 630 }
     ensures outcome { MatchResult result
         (IsSetUp script.now
-        (record { blocks = D.block_count disk.old; content = D.content disk.old; faults = D.faults disk.old; calls = D.calls disk.old; orders = D.orders disk.old })
-        (record { blocks = D.block_count disk.new; content = D.content disk.new; faults = D.faults disk.new; calls = D.calls disk.new; orders = D.orders disk.new }))
+        (disk_view D.Disk disk.old)
+        (disk_view D.Disk disk.new))
         (IsNotSetUp script.now
-        (record { blocks = D.block_count disk.old; content = D.content disk.old; faults = D.faults disk.old; calls = D.calls disk.old; orders = D.orders disk.old })
-        (record { blocks = D.block_count disk.new; content = D.content disk.new; faults = D.faults disk.new; calls = D.calls disk.new; orders = D.orders disk.new })) }
+        (disk_view D.Disk disk.old)
+        (disk_view D.Disk disk.new)) }
 {
     let hw = script.hardware();
     let world = match World::create(alloc, *hw) {

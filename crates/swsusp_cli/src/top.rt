@@ -14,6 +14,7 @@ ghost use Rattle.swsusp_cli.specs.Exports.{Exports};
 ghost use Rattle.swsusp_cli.specs.Imports.{Imports};
 ghost use Rattle.swsusp_cli.specs.Loads.{LoadsInside, Resumes};
 ghost use Rattle.swsusp_cli.specs.Words.{command_of, drill, export, hibernate, import, replay, resume};
+ghost use Rattle.swsusp_cli.specs.View.{sink_view, view};
 
 use crate::drilling::drill;
 use crate::exporting::export_dump;
@@ -41,76 +42,28 @@ pub fn run<I: Source, O: Sink, N: Sink, D: Disk>(
     ensures answered { NoMachine (command_of (map string_bytes words.now)) → (told : Told)
         × IsAnswer (command_of (map string_bytes words.now)) (D.block_count disk.old) (D.content disk.old) (D.faults disk.old) (D.faults disk.new) told
         × IsTold told result
-        (record { taken = O.taken out.old; flushed = O.flushed out.old; faults = O.faults out.old })
-        (record { taken = O.taken out.new; flushed = O.flushed out.new; faults = O.faults out.new })
-        (record { taken = N.taken note.old; flushed = N.flushed note.old; faults = N.faults note.old })
-        (record { taken = N.taken note.new; flushed = N.flushed note.new; faults = N.faults note.new }) }
-    ensures replayed { command_of (map string_bytes words.now) ≡ Some replay → IsReplayed (record {
-      left = I.remaining input.old;
-      disk = record { blocks = D.block_count disk.old; content = D.content disk.old; faults = D.faults disk.old; calls = D.calls disk.old; orders = D.orders disk.old };
-      out = record { taken = O.taken out.old; flushed = O.flushed out.old; faults = O.faults out.old };
-      note = record { taken = N.taken note.old; flushed = N.flushed note.old; faults = N.faults note.old };
-    }) (record {
-      left = I.remaining input.new;
-      disk = record { blocks = D.block_count disk.new; content = D.content disk.new; faults = D.faults disk.new; calls = D.calls disk.new; orders = D.orders disk.new };
-      out = record { taken = O.taken out.new; flushed = O.flushed out.new; faults = O.faults out.new };
-      note = record { taken = N.taken note.new; flushed = N.flushed note.new; faults = N.faults note.new };
-    }) result }
-    ensures drilled { (number : ℕ) → command_of (map string_bytes words.now) ≡ Some (drill number) → IsDrilled number (record {
-      left = I.remaining input.old;
-      disk = record { blocks = D.block_count disk.old; content = D.content disk.old; faults = D.faults disk.old; calls = D.calls disk.old; orders = D.orders disk.old };
-      out = record { taken = O.taken out.old; flushed = O.flushed out.old; faults = O.faults out.old };
-      note = record { taken = N.taken note.old; flushed = N.flushed note.old; faults = N.faults note.old };
-    }) (record {
-      left = I.remaining input.new;
-      disk = record { blocks = D.block_count disk.new; content = D.content disk.new; faults = D.faults disk.new; calls = D.calls disk.new; orders = D.orders disk.new };
-      out = record { taken = O.taken out.new; flushed = O.flushed out.new; faults = O.faults out.new };
-      note = record { taken = N.taken note.new; flushed = N.flushed note.new; faults = N.faults note.new };
-    }) result }
-    ensures hibernated { (format : Format) (size : Option ℕ) (swap : List ℕ) → command_of (map string_bytes words.now) ≡ Some (hibernate format size swap) → Hibernates format size (record {
-      left = I.remaining input.old;
-      disk = record { blocks = D.block_count disk.old; content = D.content disk.old; faults = D.faults disk.old; calls = D.calls disk.old; orders = D.orders disk.old };
-      out = record { taken = O.taken out.old; flushed = O.flushed out.old; faults = O.faults out.old };
-      note = record { taken = N.taken note.old; flushed = N.flushed note.old; faults = N.faults note.old };
-    }) (record {
-      left = I.remaining input.new;
-      disk = record { blocks = D.block_count disk.new; content = D.content disk.new; faults = D.faults disk.new; calls = D.calls disk.new; orders = D.orders disk.new };
-      out = record { taken = O.taken out.new; flushed = O.flushed out.new; faults = O.faults out.new };
-      note = record { taken = N.taken note.new; flushed = N.flushed note.new; faults = N.faults note.new };
-    }) result }
-    ensures resumed { (check : IdentCheck) (swap : List ℕ) → command_of (map string_bytes words.now) ≡ Some (resume check swap) → Resumes check (record {
-      left = I.remaining input.old;
-      disk = record { blocks = D.block_count disk.old; content = D.content disk.old; faults = D.faults disk.old; calls = D.calls disk.old; orders = D.orders disk.old };
-      out = record { taken = O.taken out.old; flushed = O.flushed out.old; faults = O.faults out.old };
-      note = record { taken = N.taken note.old; flushed = N.flushed note.old; faults = N.faults note.old };
-    }) (record {
-      left = I.remaining input.new;
-      disk = record { blocks = D.block_count disk.new; content = D.content disk.new; faults = D.faults disk.new; calls = D.calls disk.new; orders = D.orders disk.new };
-      out = record { taken = O.taken out.new; flushed = O.flushed out.new; faults = O.faults out.new };
-      note = record { taken = N.taken note.new; flushed = N.flushed note.new; faults = N.faults note.new };
-    }) result }
-    ensures exported { command_of (map string_bytes words.now) ≡ Some export → Exports (record {
-      left = I.remaining input.old;
-      disk = record { blocks = D.block_count disk.old; content = D.content disk.old; faults = D.faults disk.old; calls = D.calls disk.old; orders = D.orders disk.old };
-      out = record { taken = O.taken out.old; flushed = O.flushed out.old; faults = O.faults out.old };
-      note = record { taken = N.taken note.old; flushed = N.flushed note.old; faults = N.faults note.old };
-    }) (record {
-      left = I.remaining input.new;
-      disk = record { blocks = D.block_count disk.new; content = D.content disk.new; faults = D.faults disk.new; calls = D.calls disk.new; orders = D.orders disk.new };
-      out = record { taken = O.taken out.new; flushed = O.flushed out.new; faults = O.faults out.new };
-      note = record { taken = N.taken note.new; flushed = N.flushed note.new; faults = N.faults note.new };
-    }) result }
-    ensures imported { (swap : List ℕ) → command_of (map string_bytes words.now) ≡ Some (import swap) → Imports (record {
-      left = I.remaining input.old;
-      disk = record { blocks = D.block_count disk.old; content = D.content disk.old; faults = D.faults disk.old; calls = D.calls disk.old; orders = D.orders disk.old };
-      out = record { taken = O.taken out.old; flushed = O.flushed out.old; faults = O.faults out.old };
-      note = record { taken = N.taken note.old; flushed = N.flushed note.old; faults = N.faults note.old };
-    }) (record {
-      left = I.remaining input.new;
-      disk = record { blocks = D.block_count disk.new; content = D.content disk.new; faults = D.faults disk.new; calls = D.calls disk.new; orders = D.orders disk.new };
-      out = record { taken = O.taken out.new; flushed = O.flushed out.new; faults = O.faults out.new };
-      note = record { taken = N.taken note.new; flushed = N.flushed note.new; faults = N.faults note.new };
-    }) result }
+        (sink_view O.Sink out.old)
+        (sink_view O.Sink out.new)
+        (sink_view N.Sink note.old)
+        (sink_view N.Sink note.new) }
+    ensures replayed { command_of (map string_bytes words.now) ≡ Some replay → IsReplayed
+        (view I.Source O.Sink N.Sink D.Disk input.old out.old note.old disk.old)
+        (view I.Source O.Sink N.Sink D.Disk input.new out.new note.new disk.new) result }
+    ensures drilled { (number : ℕ) → command_of (map string_bytes words.now) ≡ Some (drill number) → IsDrilled number
+        (view I.Source O.Sink N.Sink D.Disk input.old out.old note.old disk.old)
+        (view I.Source O.Sink N.Sink D.Disk input.new out.new note.new disk.new) result }
+    ensures hibernated { (format : Format) (size : Option ℕ) (swap : List ℕ) → command_of (map string_bytes words.now) ≡ Some (hibernate format size swap) → Hibernates format size
+        (view I.Source O.Sink N.Sink D.Disk input.old out.old note.old disk.old)
+        (view I.Source O.Sink N.Sink D.Disk input.new out.new note.new disk.new) result }
+    ensures resumed { (check : IdentCheck) (swap : List ℕ) → command_of (map string_bytes words.now) ≡ Some (resume check swap) → Resumes check
+        (view I.Source O.Sink N.Sink D.Disk input.old out.old note.old disk.old)
+        (view I.Source O.Sink N.Sink D.Disk input.new out.new note.new disk.new) result }
+    ensures exported { command_of (map string_bytes words.now) ≡ Some export → Exports
+        (view I.Source O.Sink N.Sink D.Disk input.old out.old note.old disk.old)
+        (view I.Source O.Sink N.Sink D.Disk input.new out.new note.new disk.new) result }
+    ensures imported { (swap : List ℕ) → command_of (map string_bytes words.now) ≡ Some (import swap) → Imports
+        (view I.Source O.Sink N.Sink D.Disk input.old out.old note.old disk.old)
+        (view I.Source O.Sink N.Sink D.Disk input.new out.new note.new disk.new) result }
 
     // What a crash inside may leave, where the disk tells moments.
     ensures saves_inside { (format : Format) (size : Option ℕ) (swap : List ℕ) → command_of (map string_bytes words.now) ≡ Some (hibernate format size swap) → IsTrue (D.tells_moments disk.old) →

@@ -3,6 +3,7 @@ ghost use Rattle.definitions.specs.Disk.{HasRisen};
 ghost use Rattle.swsusp_cli.specs.Answer.{Told, line};
 ghost use Rattle.swsusp_cli.specs.Run.{IsRefusal};
 ghost use Rattle.swsusp_cli.specs.Told.{IsTold};
+ghost use Rattle.swsusp_cli.specs.View.{sink_view};
 
 use crate::answer::{no_memory, tell};
 use crate::status::Status;
@@ -20,10 +21,10 @@ pub fn refuse<O: Sink, N: Sink>(
     note: &mut N,
 ) -> Status
     ensures told { (told : Told) × IsRefusal told × IsTold told result
-        (record { taken = O.taken out.old; flushed = O.flushed out.old; faults = O.faults out.old })
-        (record { taken = O.taken out.new; flushed = O.flushed out.new; faults = O.faults out.new })
-        (record { taken = N.taken note.old; flushed = N.flushed note.old; faults = N.faults note.old })
-        (record { taken = N.taken note.new; flushed = N.flushed note.new; faults = N.faults note.new }) }
+        (sink_view O.Sink out.old)
+        (sink_view O.Sink out.new)
+        (sink_view N.Sink note.old)
+        (sink_view N.Sink note.new) }
     ensures stream { result ≡ Status.Stream →
         HasRisen (O.faults out.old) (O.faults out.new) ⊎ HasRisen (N.faults note.old) (N.faults note.new) }
     ensures device { result ≢ Status.Device }
