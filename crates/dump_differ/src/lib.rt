@@ -70,7 +70,7 @@ fn difference_at(first: &Dump, second: &Dump, p: u32) -> Option<Difference>
     if is_saved != saveable(&view_of(second), p) {
         return Some(Difference::Saveable(p));
     }
-    if is_saved && first.frames.page(p) != second.frames.page(p) {
+    if is_saved && first.frames.page(p).as_bytes() != second.frames.page(p).as_bytes() {
         return Some(Difference::Page(p));
     }
     None

@@ -92,7 +92,7 @@ fn is_zeros(frames: &Frames, p: u32) -> bool
     requires { p < length frames.now }
     ensures { result ≡ is_zeros (frame frames.now p) }
 {
-    frames.page(p) == Page::zero().as_bytes()
+    frames.page(p).as_bytes() == Page::zero().as_bytes()
 }
 
 /// How many page frames are free.

@@ -238,7 +238,7 @@ fn put_record<K: Sink>(sink: &mut K, frames: &Frames, p: u32) -> Result<(), Fail
     ensures cause { OnErr result (HasRisen (K.faults sink.old) (K.faults sink.new)) }
 {
     put_number(sink, p)?;
-    put_all(sink, frames.page(p))
+    put_all(sink, frames.page(p).as_bytes())
 }
 
 /// Whether each byte of page frame `p` is zero, as each of `zero` is.
@@ -247,5 +247,5 @@ fn is_zero(frames: &Frames, p: u32, zero: &Page) -> bool
     requires zero { zero.now ≡ zero_page }
     ensures { result ≡ is_zeros (frame frames.now p) }
 {
-    frames.page(p) == zero.as_bytes()
+    frames.page(p).as_bytes() == zero.as_bytes()
 }

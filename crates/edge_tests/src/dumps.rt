@@ -66,8 +66,8 @@ fn five_records_in_20_936_bytes(rt: HostRuntime) -> Result<(), Fail> {
     let dump = read(alloc, &bytes)?.ok().ok_or("this is a dump")?;
     if dump.frames.len() == 2048 {
         assert_eq!(rt; dump.frames.word(10, 0), 77);
-        assert_eq!(rt; *dump.frames.page(50), [9; 4096]);
-        assert_eq!(rt; *dump.frames.page(51), [0; 4096]);
+        assert_eq!(rt; *dump.frames.page(50).as_bytes(), [9; 4096]);
+        assert_eq!(rt; *dump.frames.page(51).as_bytes(), [0; 4096]);
     }
     Ok(())
 }

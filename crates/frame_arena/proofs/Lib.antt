@@ -2,3 +2,4 @@ mod Places
 mod Sharing
 mod Layouts
 mod BlockSteps
+mod Whole

@@ -3,30 +3,29 @@ ghost use Rattle.definitions.specs.Bytes.{IsPage, word, with_word, number_at, wi
 ghost use Rattle.definitions.specs.Tables.{frame, with_frame, run_at, with_run};
 
 use crate::block::{Block, Lease};
-use byteorder::{ByteOrder, LittleEndian};
 use page_core::{NoMemory, Page};
 use std::alloc::Global;
 use std::marker::Model;
 
 /// The page frames of a machine, by their numbers from 0 on: one block of memory, taken once and freed once.
 pub struct Frames {
-    pages: Block<[u8; 4096]>,
-    lease: Lease<[u8; 4096], Global>,
+    pages: Block<Page>,
+    lease: Lease<Page, Global>,
     alloc: Global,
     /// Whether nothing was written since the page frames were made.
     untouched: bool,
 }
 
 impl Model for Frames {
-    ghost use Rattle.std.specs.Prelude.{◌≡◌, List, ℕ, ◌<◌, ◌^◌, length, replicate, IsTrue};
-    ghost use Rattle.definitions.specs.Bytes.{zero_page};
+    ghost use Rattle.std.specs.Prelude.{◌≡◌, List, ℕ, ◌<◌, ◌^◌, length, replicate, IsTrue, All};
+    ghost use Rattle.definitions.specs.Bytes.{IsPage, zero_page};
     ghost use Rattle.frame_arena.specs.Leases.{IsFull, IsLeaseOf};
 
     ghost Value = { List (List ℕ) };
 
     ghost view = { λ f. f.pages.items };
 
-    ghost invariant = { λ f. (length f.pages.items < 2 ^ 32) × IsFull f.pages × IsLeaseOf f.lease f.pages f.alloc
+    ghost invariant = { λ f. (length f.pages.items < 2 ^ 32) × All IsPage f.pages.items × IsFull f.pages × IsLeaseOf f.lease f.pages f.alloc
         × (IsTrue f.untouched → f.pages.items ≡ replicate (length f.pages.items) zero_page) };
 }
 
@@ -42,7 +41,7 @@ impl Drop for Frames {
     }
 }
 
-#[tactic(auto, unfolding(definitions::specs::Bytes::zero_page, definitions::specs::Bytes::filled_page, definitions::specs::Bytes::with_bytes, definitions::specs::Bytes::number_at, definitions::specs::Bytes::with_number))]
+#[tactic(auto, using(crate::proofs::Whole::still_pages), unfolding(definitions::specs::Bytes::zero_page, definitions::specs::Bytes::with_bytes, definitions::specs::Bytes::number_at, definitions::specs::Bytes::with_number))]
 impl Frames {
     /// `n` page frames of zeros.
     pub fn create(alloc: Global, n: u32) -> Result<Frames, NoMemory>
@@ -50,7 +49,7 @@ impl Frames {
     {
         match Lease::take(&alloc, n as usize) {
             Ok((mut pages, lease)) => {
-                push_copies(&mut pages, [0; 4096], n);
+                push_zeros(&mut pages, n);
                 Ok(Frames {
                     pages,
                     lease,
@@ -67,16 +66,16 @@ impl Frames {
         ensures len { result ≡ length self.now }
         ensures pages { All IsPage self.now }
     {
-        count_of(self.pages.items()) as u32
+        self.pages.items().len() as u32
     }
 
     /// The content of page frame `p`.
-    pub fn page(&self, p: u32) -> &[u8; 4096]
+    pub fn page(&self, p: u32) -> &Page
         requires { p < length self.now }
         ensures content { result.now ≡ frame self.now p }
         ensures page { IsPage result.now }
     {
-        whole(&self.pages.items()[p as usize])
+        &self.pages.items()[p as usize]
     }
 
     /// Copies a page into page frame `p`.
@@ -93,7 +92,7 @@ impl Frames {
         ensures { self.new ≡ with_frame self.old p bytes.now }
     {
         self.untouched = false;
-        self.pages.items_mut()[p as usize] = *bytes;
+        self.pages.items_mut()[p as usize] = Page::from_bytes(bytes);
     }
 
     /// Copies page frame `from` into page frame `to`.
@@ -103,7 +102,7 @@ impl Frames {
         ensures { self.new ≡ with_frame self.old to (frame self.old from) }
     {
         self.untouched = false;
-        let page = self.pages.items()[from as usize];
+        let page = Page::from_bytes(self.page(from).as_bytes());
         self.pages.items_mut()[to as usize] = page;
     }
 
@@ -130,7 +129,7 @@ impl Frames {
         requires word_in_range { i < 512 }
         ensures { result ≡ word (frame self.now p) i }
     {
-        LittleEndian::read_u64(&self.pages.items()[p as usize][8 * i..])
+        self.pages.items()[p as usize].word(i)
     }
 
     /// Sets the 8-byte number at 8i of page frame `p`, and leaves the rest.
@@ -140,8 +139,7 @@ impl Frames {
         ensures { self.new ≡ with_frame self.old p (with_word (frame self.old p) i v) }
     {
         self.untouched = false;
-        let page = &mut self.pages.items_mut()[p as usize];
-        LittleEndian::write_u64(&mut page[8 * i..8 * i + 8], v);
+        self.pages.items_mut()[p as usize].set_word(i, v);
     }
 
     /// The 4-byte number at offset k of page frame `p`.
@@ -150,7 +148,7 @@ impl Frames {
         requires number_in_range { k ≤ 4092 }
         ensures { result ≡ number_at 4 (frame self.now p) k }
     {
-        LittleEndian::read_u32(&self.pages.items()[p as usize][k..])
+        self.pages.items()[p as usize].u32_at(k)
     }
 
     /// Sets the 4-byte number at offset k of page frame `p`, and leaves the rest.
@@ -160,8 +158,7 @@ impl Frames {
         ensures { self.new ≡ with_frame self.old p (with_number 4 (frame self.old p) k v) }
     {
         self.untouched = false;
-        let page = &mut self.pages.items_mut()[p as usize];
-        LittleEndian::write_u32(&mut page[k..k + 4], v);
+        self.pages.items_mut()[p as usize].put_u32(k, v);
     }
 
     /// Sets each byte of page frame `p` to zero.
@@ -170,7 +167,7 @@ impl Frames {
         ensures { self.new ≡ with_frame self.old p zero_page }
     {
         self.untouched = false;
-        self.pages.items_mut()[p as usize] = [0; 4096];
+        self.pages.items_mut()[p as usize] = Page::zero();
     }
 
     /// Sets each byte of every page frame to zero. New page frames are zeros already.
@@ -181,7 +178,7 @@ impl Frames {
             return;
         }
         let pages = self.pages.items_mut();
-        fill_pages(pages, [0; 4096]);
+        zero_pages(pages);
     }
 
     /// Sets each byte of page frame `p` to `byte`.
@@ -190,66 +187,54 @@ impl Frames {
         ensures { self.new ≡ with_frame self.old p (filled_page byte) }
     {
         self.untouched = false;
-        self.pages.items_mut()[p as usize] = [byte; 4096];
+        self.pages.items_mut()[p as usize] = Page::filled(byte);
     }
 }
 
-// Fills the `n` empty places of a block with copies of a page.
-fn push_copies(pages: &mut Block<[u8; 4096]>, page: [u8; 4096], n: u32)
+// Fills the `n` empty places of a block with pages of zeros.
+fn push_zeros(pages: &mut Block<Page>, n: u32)
     requires none { pages.old.items ≡ [] }
     requires room { pages.old.room ≡ n }
-    ensures items { pages.new.items ≡ replicate n page }
+    ensures items { pages.new.items ≡ replicate n zero_page }
     ensures full { pages.new.room ≡ 0 }
     ensures in_place { pages.new.first ≡ pages.old.first }
 {
     for _ in 0..n {
-        pages.push(page);
+        pages.push(Page::zero());
     }
 }
 
-// Writes a page over each of the pages.
-fn fill_pages(pages: &mut [[u8; 4096]], page: [u8; 4096])
-    ensures { pages.new ≡ replicate (length pages.old) page }
+// Sets each byte of each of the pages to zero.
+fn zero_pages(pages: &mut [Page])
+    ensures { pages.new ≡ replicate (length pages.old) zero_page }
 {
     for p in 0..pages.len() {
-        pages[p] = page;
+        pages[p] = Page::zero();
     }
-}
-
-// How many pages there are. Each has 4096 bytes by its type.
-fn count_of(pages: &[[u8; 4096]]) -> usize
-    ensures count { result ≡ length pages.now }
-    ensures pages { All IsPage pages.now }
-{
-    pages.len()
-}
-
-// A page has 4096 bytes by its type.
-fn whole(page: &[u8; 4096]) -> &[u8; 4096]
-    ensures content { result.now ≡ page.now }
-    ensures page { IsPage page.now }
-{
-    page
 }
 
 // From the first page of the run to its last, so that no source is written before it is read.
-fn copy_forward(pages: &mut [[u8; 4096]], from: usize, to: usize, n: usize)
+fn copy_forward(pages: &mut [Page], from: usize, to: usize, n: usize)
     requires from_in_range { from + n ≤ length pages.old }
     requires downwards { to < from }
-    ensures { pages.new ≡ with_run pages.old to (run_at n pages.old from) }
+    requires pages { All IsPage pages.old }
+    ensures copied { pages.new ≡ with_run pages.old to (run_at n pages.old from) }
+    ensures pages { All IsPage pages.new }
 {
     for i in 0..n {
-        pages[to + i] = pages[from + i];
+        pages[to + i] = Page::from_bytes(pages[from + i].as_bytes());
     }
 }
 
 // From the last page of the run to its first.
-fn copy_backward(pages: &mut [[u8; 4096]], from: usize, to: usize, n: usize)
+fn copy_backward(pages: &mut [Page], from: usize, to: usize, n: usize)
     requires to_in_range { to + n ≤ length pages.old }
     requires upwards { from ≤ to }
-    ensures { pages.new ≡ with_run pages.old to (run_at n pages.old from) }
+    requires pages { All IsPage pages.old }
+    ensures copied { pages.new ≡ with_run pages.old to (run_at n pages.old from) }
+    ensures pages { All IsPage pages.new }
 {
     for i in (0..n).rev() {
-        pages[to + i] = pages[from + i];
+        pages[to + i] = Page::from_bytes(pages[from + i].as_bytes());
     }
 }

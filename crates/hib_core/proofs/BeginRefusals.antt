@@ -21,8 +21,7 @@ use Rattle.plain_machine.specs.declared.held.Held.TheVariants.{No, Yes, Perhaps}
 use Rattle.plain_machine.specs.declared.no_swap.NoSwap.{NoSwap}
 use Rattle.plain_machine.specs.declared.reply.Reply.{Reply}
 use Rattle.plain_machine.specs.declared.reply.Reply.TheVariants as reply
-use Rattle.protocol_laws.specs.Memory.{ShownLists, ShownSlots}
-use Rattle.protocol_laws.specs.Snapshots.{TakesImage, NamesNone, IsTakenFrom}
+use Rattle.protocol_laws.specs.Snapshots.{NamesNone, IsTakenFrom}
 use Rattle.protocol_laws.specs.Writers.{slot_table_of}
 use Rattle.machine.specs.declared.machine.Machine.{Machine}
 use Rattle.hib_core.specs.Begin.{IsRefused, busy_of}
@@ -31,14 +30,11 @@ use Rattle.machine.specs.Flights.{flights_in}
 use Rattle.machine.specs.Running.{reason_of}
 use Rattle.hib_core.specs.Hibernation.{running_by}
 use Rattle.hib_core.specs.declared.hib.Hib.{Hib}
+use Rattle.protocol_laws.proofs.Sets.{shown_lists, shown_free_slots}
+use Rattle.protocol_laws.proofs.Snapshots.{takes_image}
 use Rattle.hib_core.proofs.BeginImage.{counts_of}
 
 -- What the page frames show.
-
-pub record SeenLaws : Type 0 where
-  pub image : TakesImage
-  pub lists : ShownLists
-  pub slots : ShownSlots
 
 -- a running state with nothing held: its lists and its image are had from the page frames
 pub record IsSeen (h : Hardware) (frames : Memory) (f : Format) (a : Running) : Type 0 where
@@ -54,21 +50,21 @@ unheld nothing shows = refl
 unheld (sure x) shows = absurd shows
 unheld (maybe x) shows = absurd shows
 
-pub seen : (machine : Machine) (frames : Memory) (f : Format) (c : disk.Content) (a : Running) → SeenLaws → IsHardware machine.hw → machine.held ≡ No → Stands machine.hw (running_by machine frames) c (on a) → IsSeen machine.hw frames f a
-seen machine frames f c a laws hw unmarked stands =
+pub seen : (machine : Machine) (frames : Memory) (f : Format) (c : disk.Content) (a : Running) → IsHardware machine.hw → machine.held ≡ No → Stands machine.hw (running_by machine frames) c (on a) → IsSeen machine.hw frames f a
+seen machine frames f c a hw unmarked stands =
     let h = machine.hw in
     let runs = stands.parts.0 in
     let held : a.held ≡ nothing = unheld a.held (subst (λ (flag : HeldFlag). ShowsHeld flag a.held) unmarked runs.held) in
     let names : NamesHeld h (running_by machine frames) nothing = subst (NamesHeld h (running_by machine frames)) held stands.parts.1.names in
     let none : NamesNone h frames = λ s lt e. Contains-nil _ (names s lt e) in
-    let lists = laws.lists h a.memory frames hw runs.fits runs.same in
+    let lists = shown_lists h a.memory frames hw runs.fits runs.same in
     record {
       fits = runs.fits;
       held = held;
       none = none;
-      image = laws.image h a.memory frames a.slots f hw runs.fits runs.same none;
+      image = takes_image h a.memory frames a.slots f hw runs.fits runs.same none;
       unused = lists.1;
-      slots = laws.slots h a.memory frames hw runs.fits runs.same none;
+      slots = shown_free_slots h a.memory frames hw runs.fits runs.same none;
     }
 
 -- The tests, in their order.
@@ -130,28 +126,28 @@ refused_closed machine frames f idle ne c a stands =
     open_at (busy a) (or_else (closed a) behind) (not_busy machine a idle runs.flights)
     ∙ stop_at (closed a) behind reply.Closed (test_holds (is_held a.held) reply.Closed (is_held_shown machine.held a.held ne runs.held))
 
-pub refused_no_swap : (machine : Machine) (frames : Memory) (f : Format) (why : NoSwap) → SeenLaws → IsHardware machine.hw → busy_of machine ≡ None → machine.held ≡ No → machine.area ≡ Err why → IsRefused machine frames f (reply.NoSwap why)
+pub refused_no_swap : (machine : Machine) (frames : Memory) (f : Format) (why : NoSwap) → IsHardware machine.hw → busy_of machine ≡ None → machine.held ≡ No → machine.area ≡ Err why → IsRefused machine frames f (reply.NoSwap why)
 unfolding refusal
-refused_no_swap machine frames f why laws hw idle unmarked unusable c a stands =
+refused_no_swap machine frames f why hw idle unmarked unusable c a stands =
     let h = machine.hw in
     let i = image_of_memory h a.memory a.slots f in
     let runs = stands.parts.0 in
-    let is = seen machine frames f c a laws hw unmarked stands in
+    let is = seen machine frames f c a hw unmarked stands in
     let behind = or_else (no_frames h a i) (no_slots h a i) in
     open_at (busy a) (or_else (closed a) (or_else (no_swap a.unusable) behind)) (not_busy machine a idle runs.flights)
     ∙ open_at (closed a) (or_else (no_swap a.unusable) behind) (not_closed a is.held)
     ∙ stop_at (no_swap a.unusable) behind (reply.NoSwap why) (ap no_swap (runs.unusable ∙ ap reason_of unusable))
 
 -- up to the counts
-up_to_counts : (machine : Machine) (frames : Memory) (f : Format) (c : disk.Content) (a : Running) → SeenLaws → IsHardware machine.hw → busy_of machine ≡ None → machine.held ≡ No → IsOk machine.area → Stands machine.hw (running_by machine frames) c (on a) →
+up_to_counts : (machine : Machine) (frames : Memory) (f : Format) (c : disk.Content) (a : Running) → IsHardware machine.hw → busy_of machine ≡ None → machine.held ≡ No → IsOk machine.area → Stands machine.hw (running_by machine frames) c (on a) →
     refusal machine.hw (on a) (event.Hibernate f)
     ≡ or_else (no_frames machine.hw a (image_of_memory machine.hw a.memory a.slots f)) (no_slots machine.hw a (image_of_memory machine.hw a.memory a.slots f))
 unfolding refusal
-up_to_counts machine frames f c a laws hw idle unmarked usable stands =
+up_to_counts machine frames f c a hw idle unmarked usable stands =
     let h = machine.hw in
     let i = image_of_memory h a.memory a.slots f in
     let runs = stands.parts.0 in
-    let is = seen machine frames f c a laws hw unmarked stands in
+    let is = seen machine frames f c a hw unmarked stands in
     let behind = or_else (no_frames h a i) (no_slots h a i) in
     open_at (busy a) (or_else (closed a) (or_else (no_swap a.unusable) behind)) (not_busy machine a idle runs.flights)
     ∙ open_at (closed a) (or_else (no_swap a.unusable) behind) (not_closed a is.held)
@@ -181,13 +177,13 @@ enough_slots h a i free pages f_is p_is le =
     let above : all + 1026 ≤ count = omega arith in
     test_fails (ltb (length (unused_slots h a.memory)) (pages_of i + 1026)) (reply.NoSlots (length (unused_slots h a.memory)) (pages_of i + 1026)) (le-ltb (length (unused_slots h a.memory)) (pages_of i + 1026) above)
 
-pub refused_no_frames : (machine : Machine) (frames : Memory) (f : Format) → SeenLaws → IsHardware machine.hw → busy_of machine ≡ None → machine.held ≡ No → IsOk machine.area → length (unused machine.hw frames) < length (saveable machine.hw frames) + 1025 →
+pub refused_no_frames : (machine : Machine) (frames : Memory) (f : Format) → IsHardware machine.hw → busy_of machine ≡ None → machine.held ≡ No → IsOk machine.area → length (unused machine.hw frames) < length (saveable machine.hw frames) + 1025 →
     IsRefused machine frames f (reply.NoFrames (length (unused machine.hw frames)) (length (saveable machine.hw frames) + 1025))
-refused_no_frames machine frames f laws hw idle unmarked usable few c a stands =
+refused_no_frames machine frames f hw idle unmarked usable few c a stands =
     let h = machine.hw in
     let i = image_of_memory h a.memory a.slots f in
-    let is = seen machine frames f c a laws hw unmarked stands in
-    up_to_counts machine frames f c a laws hw idle unmarked usable stands
+    let is = seen machine frames f c a hw unmarked stands in
+    up_to_counts machine frames f c a hw idle unmarked usable stands
     ∙ stop_at (no_frames h a i) (no_slots h a i) (reply.NoFrames (length (unused h frames)) (length (saveable h frames) + 1025))
     (few_frames h a i (length (unused h frames)) (length (saveable h frames)) (ap length is.unused) is.image.saved few)
 
@@ -203,26 +199,26 @@ pages_are : (machine : Machine) (frames : Memory) (hib : Hib) (counts : Counts) 
 pages_are machine frames hib counts a f are format is =
     (counts_of machine.hw frames hib counts (image_of_memory machine.hw a.memory a.slots f) are.origs are.zeros are.saved are.with_pages (sym format) is.image).pages
 
-pub refused_no_slots : (machine : Machine) (frames : Memory) (f : Format) (hib : Hib) (counts : Counts) → SeenLaws → IsHardware machine.hw → busy_of machine ≡ None → machine.held ≡ No → IsOk machine.area → AreCounts machine.hw frames hib counts → hib.snapshot.format ≡ f →
+pub refused_no_slots : (machine : Machine) (frames : Memory) (f : Format) (hib : Hib) (counts : Counts) → IsHardware machine.hw → busy_of machine ≡ None → machine.held ≡ No → IsOk machine.area → AreCounts machine.hw frames hib counts → hib.snapshot.format ≡ f →
     length (saveable machine.hw frames) + 1025 ≤ length (unused machine.hw frames) → length (free_in frames (slot_table_of machine.hw)) < begin.pages_of counts + 1026 →
     IsRefused machine frames f (reply.NoSlots (length (free_in frames (slot_table_of machine.hw))) (begin.pages_of counts + 1026))
-refused_no_slots machine frames f hib counts laws hw idle unmarked usable are format enough few c a stands =
+refused_no_slots machine frames f hib counts hw idle unmarked usable are format enough few c a stands =
     let h = machine.hw in
     let i = image_of_memory h a.memory a.slots f in
-    let is = seen machine frames f c a laws hw unmarked stands in
-    up_to_counts machine frames f c a laws hw idle unmarked usable stands
+    let is = seen machine frames f c a hw unmarked stands in
+    up_to_counts machine frames f c a hw idle unmarked usable stands
     ∙ open_at (no_frames h a i) (no_slots h a i) (enough_frames h a i (length (unused h frames)) (length (saveable h frames)) (ap length is.unused) is.image.saved enough)
     ∙ few_slots h a i (length (free_in frames (slot_table_of h))) (begin.pages_of counts) (ap length is.slots) (pages_are machine frames hib counts a f are format is) few
 
 -- A hibernation isn't refused.
-pub not_refused : (machine : Machine) (frames : Memory) (f : Format) (hib : Hib) (counts : Counts) (c : disk.Content) (a : Running) → SeenLaws → IsHardware machine.hw → busy_of machine ≡ None → machine.held ≡ No → IsOk machine.area → AreCounts machine.hw frames hib counts → hib.snapshot.format ≡ f →
+pub not_refused : (machine : Machine) (frames : Memory) (f : Format) (hib : Hib) (counts : Counts) (c : disk.Content) (a : Running) → IsHardware machine.hw → busy_of machine ≡ None → machine.held ≡ No → IsOk machine.area → AreCounts machine.hw frames hib counts → hib.snapshot.format ≡ f →
     length (saveable machine.hw frames) + 1025 ≤ length (unused machine.hw frames) → begin.pages_of counts + 1026 ≤ length (free_in frames (slot_table_of machine.hw)) →
     Stands machine.hw (running_by machine frames) c (on a) → refusal machine.hw (on a) (event.Hibernate f) ≡ None
-not_refused machine frames f hib counts c a laws hw idle unmarked usable are format enough room stands =
+not_refused machine frames f hib counts c a hw idle unmarked usable are format enough room stands =
     let h = machine.hw in
     let i = image_of_memory h a.memory a.slots f in
-    let is = seen machine frames f c a laws hw unmarked stands in
-    up_to_counts machine frames f c a laws hw idle unmarked usable stands
+    let is = seen machine frames f c a hw unmarked stands in
+    up_to_counts machine frames f c a hw idle unmarked usable stands
     ∙ open_at (no_frames h a i) (no_slots h a i) (enough_frames h a i (length (unused h frames)) (length (saveable h frames)) (ap length is.unused) is.image.saved enough)
     ∙ enough_slots h a i (length (free_in frames (slot_table_of h))) (begin.pages_of counts) (ap length is.slots) (pages_are machine frames hib counts a f are format is) room
 

@@ -14,7 +14,6 @@ use Rattle.snapshot.specs.Taken.{Taken}
 use Rattle.snapshot.specs.declared.Counts.{Counts}
 use Rattle.swap_slots.specs.Runs.{SlotRuns}
 use Rattle.swap_slots.specs.Table.{Matches, free_in}
-use Rattle.image_laws.specs.Decoding.{MemoriesAreSayable}
 use Rattle.image_write.specs.Writing.{IsWriting, AreOfImage, BlocksBelow, writes_of}
 use Rattle.plain_machine.specs.Machine.{Hardware, Memory, IsHardware, unused, unused_slots, raw_slot_entry, block_of_slot}
 use Rattle.plain_machine.specs.Image.{image_of_memory, hibernate_steps, maps_of}
@@ -28,12 +27,10 @@ use Rattle.plain_machine.specs.UsableArea.{fit_fault}
 use Rattle.plain_machine.specs.declared.event.Event.TheVariants as event
 use Rattle.plain_machine.specs.declared.reply.Reply.{Reply}
 use Rattle.plain_machine.specs.declared.reply.Reply.TheVariants as reply
-use Rattle.protocol_laws.specs.Hibernating.{Begins}
 use Rattle.protocol_laws.specs.Rows.{LeavesImage}
 use Rattle.protocol_laws.proofs.Leaving.{leaves_refused}
-use Rattle.protocol_laws.specs.Memory.{RunsTaken, FrameTaken, NamesTaken, WritesStream}
 use Rattle.protocol_laws.specs.Slots.{IsMemoryOf, AreFree, taken, HasSets}
-use Rattle.protocol_laws.specs.Snapshots.{NamesNone, RunsOverCopies, SlotsOverCopies}
+use Rattle.protocol_laws.specs.Snapshots.{NamesNone}
 use Rattle.protocol_laws.specs.Steps.{ShowsCopies}
 use Rattle.protocol_laws.specs.Writers.{IsWriterOf, slot_table_of}
 use Rattle.protocol_laws.proofs.Places.{usable_fits}
@@ -51,11 +48,16 @@ use Rattle.hib_core.specs.declared.hib.Hib.{Hib}
 use Rattle.hib_core.specs.declared.hib.Stage.{Stage}
 use Rattle.hib_core.specs.declared.hib.Stage.TheVariants as stage
 use Rattle.hib_core.proofs.BeginImage.{IsCountOf, counts_are, info_is, first_in_laid, taken_from_frames}
-use Rattle.hib_core.proofs.BeginRefusals.{AreCounts, IsSeen, SeenLaws, seen, not_refused}
+use Rattle.hib_core.proofs.BeginRefusals.{AreCounts, IsSeen, seen, not_refused}
 use Rattle.hib_core.proofs.BeginTables.{area_of, copies_apart, free_slots_stay, image_on_disk, slot_table_lies}
 use Rattle.hib_core.proofs.Cases.{at_run}
 use Rattle.hib_core.proofs.Facts.{names_same, same_writer}
 use Rattle.hib_core.proofs.Plain.{accepted_step, refused_step}
+use Rattle.image_laws.proofs.Decoding.{memories_are_sayable}
+use Rattle.protocol_laws.proofs.Beginning.{begins}
+use Rattle.protocol_laws.proofs.Taking.{frame_taken, names_taken, runs_taken}
+use Rattle.protocol_laws.proofs.Sets.{writes_stream}
+use Rattle.protocol_laws.proofs.Snapshots.{runs_over_copies, slots_over_copies}
 use Rattle.hib_core.proofs.Syncing.{same_area}
 
 -- A refused hibernation.
@@ -102,17 +104,6 @@ refused_row machine frames hib last f r c refused idle s stands =
 
 -- A hibernation that begins.
 
-pub record BeginLaws : Type 0 where
-  pub seen : SeenLaws
-  pub begun : Begins
-  pub over : RunsOverCopies
-  pub slots_over : SlotsOverCopies
-  pub taken : RunsTaken
-  pub frames : FrameTaken
-  pub names : NamesTaken
-  pub sayable : MemoriesAreSayable
-  pub stream : WritesStream
-
 -- the machine, and a hibernation that has counted and taken
 pub record IsBegin (machine : Machine) (frames frames' : Memory) (hib hib' : Hib) (counts : Counts) : Type 0 where
   pub hardware : IsHardware machine.hw
@@ -135,9 +126,9 @@ copies_stay : (m n : Memory) (ps : List ℕ) → ((p : ℕ) → Contains ps p �
 copies_stay m n [] same = refl
 copies_stay m n (p ∷ ps) same = ap₂ (λ (x : List ℕ) (xs : List (List ℕ)). x ∷ xs) (same p (Contains-head p ps)) (copies_stay m n ps (λ q in'. same q (Contains-tail p ps q in')))
 
-shows_copies : (machine : Machine) (frames frames' : Memory) (hib hib' : Hib) (counts : Counts) (f : Format) (c : disk.Content) (a : Running) → BeginLaws → IsBegin machine frames frames' hib hib' counts → Stands machine.hw (running_by machine frames) c (on a) → IsSeen machine.hw frames f a →
+shows_copies : (machine : Machine) (frames frames' : Memory) (hib hib' : Hib) (counts : Counts) (f : Format) (c : disk.Content) (a : Running) → IsBegin machine frames frames' hib hib' counts → Stands machine.hw (running_by machine frames) c (on a) → IsSeen machine.hw frames f a →
     ShowsCopies machine.hw (shown_by machine frames' hib') a (image_of_memory machine.hw a.memory a.slots f)
-shows_copies machine frames frames' hib hib' counts f c a laws is stands seen =
+shows_copies machine frames frames' hib hib' counts f c a is stands seen =
     let h = machine.hw in
     let i = image_of_memory h a.memory a.slots f in
     let t = is.taken in
@@ -146,29 +137,29 @@ shows_copies machine frames frames' hib hib' counts f c a laws is stands seen =
     let was : RunsAs h machine.held why (flights_in machine.flights) frames a = stands.parts.0 in
     let others : (p : ℕ) → (Contains (unused h frames) p → ⊥) → frame t.copied p ≡ frame frames p =
     λ p out. t.others p (λ in'. out (Contains-from_take (length hib.snapshot.origs) (unused h frames) p (subst (λ (xs : List ℕ). Contains xs p) (copies_are machine frames frames' hib hib' counts t) in'))) in
-    let over : RunsAs h machine.held why (flights_in machine.flights) t.copied a = laws.over h machine.held why (flights_in machine.flights) frames t.copied a is.hardware was seen.none others in
+    let over : RunsAs h machine.held why (flights_in machine.flights) t.copied a = runs_over_copies h machine.held why (flights_in machine.flights) frames t.copied a is.hardware was seen.none others in
     let memory : IsMemoryOf h t.copied = record { pages = t.pages; table = slot_table_lies h t.copied is.hardware (t.size ∙ is.size) } in
     let first : AreFree h t.copied (take 1 free) = λ s in'. free_slot h.slots h.slot_table t.copied s (Contains-from_take 1 free s in') in
     let given : taken h t.copied (take 1 free) ≡ frames' = sym t.slots in
-    let none : NamesNone h t.copied = laws.slots_over h a.memory frames t.copied is.hardware seen.fits was.same seen.none others in
+    let none : NamesNone h t.copied = slots_over_copies h a.memory frames t.copied is.hardware seen.fits was.same seen.none others in
     let laid : (k : ℕ) → Contains (take 1 free) k → Contains (laid_blocks h a i) (block_of_slot h k) = λ k in'.
     subst (λ (b : ℕ). Contains (laid_blocks h a i) b)
     (ap (λ (xs : List ℕ). laid_block h.extents xs 0) (sym (free_stays machine frames frames' hib hib' counts is ∙ seen.slots)) ∙ ap (block_of_slot h) (in_one free k in'))
     (first_in_laid h a i) in
     record {
-      shows = subst (λ (m : Memory). RunsAs h machine.held why (flights_in machine.flights) m a) given (laws.taken h machine.held why (flights_in machine.flights) t.copied (take 1 free) a memory first over);
-      names = λ k lt e. laws.names h t.copied (take 1 free) (laid_blocks h a i) memory first (λ j j_lt j_e. absurd (none j j_lt j_e)) laid k lt (ap (λ (m : Memory). raw_slot_entry h m k) given ∙ e);
+      shows = subst (λ (m : Memory). RunsAs h machine.held why (flights_in machine.flights) m a) given (runs_taken h machine.held why (flights_in machine.flights) t.copied (take 1 free) a memory first over);
+      names = λ k lt e. names_taken h t.copied (take 1 free) (laid_blocks h a i) memory first (λ j j_lt j_e. absurd (none j j_lt j_e)) laid k lt (ap (λ (m : Memory). raw_slot_entry h m k) given ∙ e);
       copies = ap (λ (m : Memory). map (frame m) hib'.snapshot.copies) (sym given)
           ∙ copies_stay t.copied (taken h t.copied (take 1 free)) hib'.snapshot.copies
-          (λ p in'. laws.frames h t.copied (take 1 free) p first
+          (λ p in'. frame_taken h t.copied (take 1 free) p first
           (λ of. copies_apart machine frames hib counts (length hib.snapshot.origs) hib'.snapshot.copies is.counted (copies_are machine frames frames' hib hib' counts t) p in' of))
           ∙ t.copies ∙ ap (map (frame frames)) is.counted.origs ∙ seen.image.pages;
     }
 
 -- the numbers and sets are the image's
-is_of : (machine : Machine) (frames frames' : Memory) (hib hib' : Hib) (counts : Counts) (f : Format) (a : Running) → BeginLaws → IsBegin machine frames frames' hib hib' counts → hib.snapshot.format ≡ f → IsSeen machine.hw frames f a →
+is_of : (machine : Machine) (frames frames' : Memory) (hib hib' : Hib) (counts : Counts) (f : Format) (a : Running) → IsBegin machine frames frames' hib hib' counts → hib.snapshot.format ≡ f → IsSeen machine.hw frames f a →
     IsOf machine.hw frames' hib' a (image_of_memory machine.hw a.memory a.slots f)
-is_of machine frames frames' hib hib' counts f a laws is format seen =
+is_of machine frames frames' hib hib' counts f a is format seen =
     let h = machine.hw in
     let i = image_of_memory h a.memory a.slots f in
     let t = is.taken in
@@ -182,7 +173,7 @@ is_of machine frames frames' hib hib' counts f a laws is format seen =
       writing = subst (λ (xs : List ℕ). IsWriting xs frames' t.writer) free t.writing;
     } in
     record {
-      sayable = laws.sayable h a.memory a.slots f is.hardware;
+      sayable = memories_are_sayable h a.memory a.slots f is.hardware;
       saved = t.n ∙ count.saved;
       steps = t.of ∙ ap (λ (p : ℕ). p + maps_of p + 4) count.pages;
       format = ap (λ (s : Taken). s.format) t.snapshot ∙ format;
@@ -211,25 +202,25 @@ at_first : (hib : Hib) (last : Ending) → hib.ending ≡ last → hib.stage ≡
 at_first hib last ends next made =
     ap (λ (s : Stage). activity_at hib.ending s hib.made) next ∙ ap₂ (λ (e : Ending) (k : ℕ). hibernates (suspends_at e) k) ends made
 
-pub begun_row : (machine : Machine) (frames frames' : Memory) (hib hib' : Hib) (counts : Counts) (last : Ending) (f : Format) (c : disk.Content) → BeginLaws → IsBegin machine frames frames' hib hib' counts → hib.ending ≡ last → hib.snapshot.format ≡ f →
+pub begun_row : (machine : Machine) (frames frames' : Memory) (hib hib' : Hib) (counts : Counts) (last : Ending) (f : Format) (c : disk.Content) → IsBegin machine frames frames' hib hib' counts → hib.ending ≡ last → hib.snapshot.format ≡ f →
     IsBegun machine frames frames' hib' (saving last f) (reply.More 0 hib'.of) c
-begun_row machine frames frames' hib hib' counts last f c laws is ends format s stands =
+begun_row machine frames frames' hib hib' counts last f c is ends format s stands =
     let h = machine.hw in
     let at = at_run s stands.activity in
     let a : Running = at.0 in
     let i = image_of_memory h a.memory a.slots f in
     let here : Stands h (running_by machine frames) c (on a) = subst (Stands h (running_by machine frames) c) at.1 stands in
-    let sees : IsSeen h frames f a = seen machine frames f c a laws.seen is.hardware is.counted.held here in
+    let sees : IsSeen h frames f a = seen machine frames f c a is.hardware is.counted.held here in
     let counted : AreCounts h frames hib counts = record { origs = is.counted.origs; zeros = is.counted.zeros; saved = is.counted.saved; with_pages = is.counted.with_pages } in
-    let goes = not_refused machine frames f hib counts c a laws.seen is.hardware is.counted.idle is.counted.held is.counted.area counted format is.counted.copies is.counted.slots here in
-    let of : IsOf h frames' hib' a i = is_of machine frames frames' hib hib' counts f a laws is format sees in
+    let goes = not_refused machine frames f hib counts c a is.hardware is.counted.idle is.counted.held is.counted.area counted format is.counted.copies is.counted.slots here in
+    let of : IsOf h frames' hib' a i = is_of machine frames frames' hib hib' counts f a is format sees in
     let stepped : Step h (disk.as_it_reads c) (on a) (event_of (saving last f)) (reply.More 0 (hibernate_steps i)) (hibernating (suspends_at last) i a 0) = begun_step h (disk.as_it_reads c) last f a goes in (
       hibernating (suspends_at last) i a 0,
       record {
         step = subst (λ (t : State). Step h (disk.as_it_reads c) t (event_of (saving last f)) (reply.More 0 hib'.of) (hibernating (suspends_at last) i a 0)) (sym at.1)
             (subst (λ (n : ℕ). Step h (disk.as_it_reads c) (on a) (event_of (saving last f)) (reply.More 0 n) (hibernating (suspends_at last) i a 0)) (sym of.steps) stepped);
         stands = record {
-          stands = laws.begun h (running_by machine frames) (shown_by machine frames' hib') c a f (suspends_at last) is.hardware here goes (at_first hib' last (is.taken.ending ∙ ends) is.taken.next is.taken.made) (shows_copies machine frames frames' hib hib' counts f c a laws is here sees);
+          stands = begins h (running_by machine frames) (shown_by machine frames' hib') c a f (suspends_at last) is.hardware here goes (at_first hib' last (is.taken.ending ∙ ends) is.taken.next is.taken.made) (shows_copies machine frames frames' hib hib' counts f c a is here sees);
           image = of;
         };
         area = same_area h (disk.as_it_reads c);
@@ -241,8 +232,8 @@ begun_row machine frames frames' hib hib' counts last f c laws is ends format s 
 
 -- What the first write needs.
 
-are_of_image : (machine : Machine) (frames frames' : Memory) (hib hib' : Hib) (counts : Counts) → BeginLaws → (is : IsBegin machine frames frames' hib hib' counts) → AreOfImage is.taken.writer.info hib'.snapshot.origs hib'.snapshot.copies hib'.snapshot.zeros
-are_of_image machine frames frames' hib hib' counts laws is =
+are_of_image : (machine : Machine) (frames frames' : Memory) (hib hib' : Hib) (counts : Counts) → (is : IsBegin machine frames frames' hib hib' counts) → AreOfImage is.taken.writer.info hib'.snapshot.origs hib'.snapshot.copies hib'.snapshot.zeros
+are_of_image machine frames frames' hib hib' counts is =
     let h = machine.hw in
     let f = hib.snapshot.format in
     let i = image_of_memory h frames no_slots f in
@@ -255,11 +246,11 @@ are_of_image machine frames frames' hib hib' counts laws is =
       copies = t.copies ∙ ap (map (frame frames)) is.counted.origs ∙ from.pages;
     } in
     subst (λ (info : Info). AreOfImage info hib'.snapshot.origs hib'.snapshot.copies hib'.snapshot.zeros) (sym (t.info ∙ info_is h hib counts frames no_slots f count))
-    (laws.stream i t.copied hib'.snapshot.origs hib'.snapshot.copies hib'.snapshot.zeros (laws.sayable h frames no_slots f is.hardware) sets).1
+    (writes_stream i t.copied hib'.snapshot.origs hib'.snapshot.copies hib'.snapshot.zeros (memories_are_sayable h frames no_slots f is.hardware) sets).1
 
-can_write : (machine : Machine) (frames frames' : Memory) (hib hib' : Hib) (counts : Counts) → BeginLaws → IsBegin machine frames frames' hib hib' counts → IfOk machine.area (λ area. fit_fault machine.hw machine.blocks area ≡ None) → length frames' ≡ length frames →
+can_write : (machine : Machine) (frames frames' : Memory) (hib hib' : Hib) (counts : Counts) → IsBegin machine frames frames' hib hib' counts → IfOk machine.area (λ area. fit_fault machine.hw machine.blocks area ≡ None) → length frames' ≡ length frames →
     CanWrite machine.hw machine.blocks frames' hib'
-can_write machine frames frames' hib hib' counts laws is usable size =
+can_write machine frames frames' hib hib' counts is usable size =
     let h = machine.hw in
     let t = is.taken in
     let free = free_in t.copied (slot_table_of h) in
@@ -275,7 +266,7 @@ can_write machine frames frames' hib hib' counts laws is usable size =
       made = t.written ∙ sym t.made;
       of = ap (λ (info : Info). writes_of info + 4) t.info ∙ sym t.of;
       ready = (free, t.writing, blocks);
-      sets = are_of_image machine frames frames' hib hib' counts laws is;
+      sets = are_of_image machine frames frames' hib hib' counts is;
       copies = subst (λ (n : ℕ). All (λ p. p < n) hib'.snapshot.copies) (t.size ∙ sym size) t.below;
       reading = t.reading hib'.snapshot.origs hib'.snapshot.copies hib'.snapshot.zeros;
     }
@@ -283,9 +274,9 @@ can_write machine frames frames' hib hib' counts laws is usable size =
 first_place : (made of pages : ℕ) → made ≡ 0 → of ≡ pages + maps_of pages + 4 → made + 4 < of
 first_place made of pages a b = omega arith
 
-pub can_step : (machine : Machine) (frames frames' : Memory) (runs : SlotRuns) (hib hib' : Hib) (counts : Counts) → BeginLaws → IsBegin machine frames frames' hib hib' counts → IfOk machine.area (λ area. fit_fault machine.hw machine.blocks area ≡ None) →
+pub can_step : (machine : Machine) (frames frames' : Memory) (runs : SlotRuns) (hib hib' : Hib) (counts : Counts) → IsBegin machine frames frames' hib hib' counts → IfOk machine.area (λ area. fit_fault machine.hw machine.blocks area ≡ None) →
     machine.blocks < 2 ^ 32 → length frames' ≡ length frames → Matches frames' (slot_table_of machine.hw) runs → CanStep machine frames' runs hib'
-can_step machine frames frames' runs hib hib' counts laws is usable few size matches =
+can_step machine frames frames' runs hib hib' counts is usable few size matches =
     let h = machine.hw in
     let t = is.taken in
     let area = area_of machine is.counted.area usable in
@@ -298,5 +289,5 @@ can_step machine frames frames' runs hib hib' counts laws is usable few size mat
       matches = matches;
       header = (usable_fits h machine.blocks area.0 area.1).1 0 (omega arith);
       place = subst (λ (s : Stage). IsPlace s hib'.made hib'.of) (sym t.next) (first_place hib'.made hib'.of (begin.pages_of counts) t.made t.of);
-      write = λ e. can_write machine frames frames' hib hib' counts laws is usable size;
+      write = λ e. can_write machine frames frames' hib hib' counts is usable size;
     }

@@ -1,5 +1,4 @@
 -- The rows of the mark, and of its sync.
-use Rattle.plain_machine.specs.Stands.{laid_blocks}
 use Rattle.protocol_laws.proofs.Unwritten.{block_same, block_synced, unwritten_mark}
 use Rattle.std.proofs.Common.{◌≡◌, true, false, ℕ, ◌+◌, List, None, inl, inr, refl, sym, ap, ◌∙◌, subst}
 use Rattle.definitions.specs.Disk as disk
@@ -18,12 +17,10 @@ use Rattle.plain_machine.specs.declared.reply.Reply.TheVariants as reply
 use Rattle.plain_machine.specs.declared.reply.UndoCall.TheVariants as undo
 use Rattle.image_laws.specs.ImageBlocks.{Tries}
 use Rattle.protocol_laws.specs.Rows.{IsSameArea}
-use Rattle.protocol_laws.specs.AreaKept.{KeptBySync, KeptByMark}
-use Rattle.protocol_laws.specs.Hibernating.{MarksOn, MarkFails, MarksUnmarked, Ends, EndFails}
 use Rattle.protocol_laws.specs.Steps.{marked_header}
 use Rattle.plain_machine.specs.Mark.{mark_flags}
 use Rattle.protocol_laws.proofs.Back.{names_laid}
-use Rattle.protocol_laws.proofs.Ending.{ends_asleep, end_leaves}
+use Rattle.protocol_laws.proofs.Ending.{ends_asleep, end_leaves, ends, end_fails}
 use Rattle.machine.specs.declared.machine.Machine.{Machine}
 use Rattle.hib_core.specs.Hibernation.{shown_by, suspends_at, activity_at, activity_of}
 use Rattle.hib_core.specs.Ready.{CanStep}
@@ -35,6 +32,9 @@ use Rattle.hib_core.specs.declared.hib.Stage.{Stage}
 use Rattle.hib_core.specs.declared.hib.Stage.TheVariants as stage
 use Rattle.hib_core.proofs.Facts.{is_over, row_at_hibernation, still_of}
 use Rattle.hib_core.proofs.Plain.{may_mark, mark_may_fail, may_end, may_sleep, end_may_fail}
+use Rattle.protocol_laws.proofs.AreaKept.{kept_by_sync, kept_by_mark}
+use Rattle.protocol_laws.proofs.Marked.{marks_on, mark_fails}
+use Rattle.protocol_laws.proofs.Syncing.{marks_unmarked}
 use Rattle.hib_core.proofs.Syncing.{place_at, more_of, same_area}
 
 -- the header block with the mark of the hibernation's image
@@ -47,16 +47,16 @@ mark_is machine frames hib a i of =
     ∙ ap (λ (f : Format). marked hib.header (laid_block machine.hw.extents (unused_slots machine.hw a.memory) 0) (mark_flags f) machine.hw.hw_sig) of.format
 
 -- the write of the mark leaves the area, failed or not
-mark_keeps : (machine : Machine) (frames : Memory) (runs : SlotRuns) (hib : Hib) (c c' : disk.Content) (i : Image) (a : Running) → KeptByMark → MarksUnmarked → CanStep machine frames runs hib → disk.IsContent machine.blocks c → hib.made + 2 ≡ hibernate_steps i →
+mark_keeps : (machine : Machine) (frames : Memory) (runs : SlotRuns) (hib : Hib) (c c' : disk.Content) (i : Image) (a : Running) → CanStep machine frames runs hib → disk.IsContent machine.blocks c → hib.made + 2 ≡ hibernate_steps i →
     StandsFor machine frames hib c (hibernating (suspends_at hib.ending) i a hib.made) → Tries (block_of_slot machine.hw 0) (mark_of machine hib) c c' → IsSameArea machine.hw (disk.as_it_reads c) (disk.as_it_reads c')
-mark_keeps machine frames runs hib c c' i a keeps unmarked can whole place s tries =
-    let before = unmarked machine.hw (shown_by machine frames hib) c machine.blocks (suspends_at hib.ending) i a hib.made whole s.stands place in
-    keeps machine.hw machine.blocks hib.first (mark_flags hib.snapshot.format) machine.hw.hw_sig c c' whole can.header before.1
+mark_keeps machine frames runs hib c c' i a can whole place s tries =
+    let before = marks_unmarked machine.hw (shown_by machine frames hib) c machine.blocks (suspends_at hib.ending) i a hib.made whole s.stands place in
+    kept_by_mark machine.hw machine.blocks hib.first (mark_flags hib.snapshot.format) machine.hw.hw_sig c c' whole can.header before.1
     (subst (λ (p : List ℕ). Tries (block_of_slot machine.hw 0) (marked p hib.first (mark_flags hib.snapshot.format) machine.hw.hw_sig) c c') before.0 tries)
 
-pub marked_row : (machine : Machine) (frames : Memory) (runs : SlotRuns) (hib : Hib) (c c' : disk.Content) → MarksOn → KeptByMark → MarksUnmarked → CanStep machine frames runs hib → hib.stage ≡ stage.Mark → disk.IsContent machine.blocks c → disk.IsContent machine.blocks c' → disk.Writes (block_of_slot machine.hw 0) (mark_of machine hib) c c' →
+pub marked_row : (machine : Machine) (frames : Memory) (runs : SlotRuns) (hib : Hib) (c c' : disk.Content) → CanStep machine frames runs hib → hib.stage ≡ stage.Mark → disk.IsContent machine.blocks c → disk.IsContent machine.blocks c' → disk.Writes (block_of_slot machine.hw 0) (mark_of machine hib) c c' →
     IsRow machine frames hib machine frames (record hib { header = mark_of machine hib; stage = stage.End; made = hib.made + 1 }) (event.Step actor.Core) (reply.More (hib.made + 1) hib.of) c c'
-marked_row machine frames runs hib c c' marks_on keeps unmarked can at whole whole' writes =
+marked_row machine frames runs hib c c' can at whole whole' writes =
     let new = record hib { header = mark_of machine hib; stage = stage.End; made = hib.made + 1 } in
     row_at_hibernation machine frames hib machine frames new (event.Step actor.Core) (reply.More (hib.made + 1) hib.of) c c' (suspends_at hib.ending) (ap (λ (s : Stage). activity_at hib.ending s hib.made) at)
     (λ i a s.
@@ -71,16 +71,16 @@ marked_row machine frames runs hib c c' marks_on keeps unmarked can at whole who
               (subst (λ (p : List ℕ). disk.Writes (block_of_slot machine.hw 0) p c c') is writes) is refl (record { shows = s.stands.parts.0.shows; names = s.stands.parts.2; copies = s.stands.parts.3.copies });
           image = still_of machine.hw frames frames hib a i (mark_of machine hib) stage.End (hib.made + 1) refl of;
         };
-        area = mark_keeps machine frames runs hib c c' i a keeps unmarked can whole place s (inl writes);
+        area = mark_keeps machine frames runs hib c c' i a can whole place s (inl writes);
         unwritten = λ b not. unwritten_mark machine.hw a i hib.made b c c' place writes.others not;
         leaves = tt;
         header = tt;
       },
     ))
 
-pub mark_failed_row : (machine : Machine) (frames : Memory) (runs : SlotRuns) (hib : Hib) (c c' : disk.Content) → MarkFails → KeptByMark → MarksUnmarked → CanStep machine frames runs hib → hib.stage ≡ stage.Mark → disk.IsContent machine.blocks c → disk.IsContent machine.blocks c' → disk.FailsToWrite (block_of_slot machine.hw 0) (mark_of machine hib) c c' →
+pub mark_failed_row : (machine : Machine) (frames : Memory) (runs : SlotRuns) (hib : Hib) (c c' : disk.Content) → CanStep machine frames runs hib → hib.stage ≡ stage.Mark → disk.IsContent machine.blocks c → disk.IsContent machine.blocks c' → disk.FailsToWrite (block_of_slot machine.hw 0) (mark_of machine hib) c c' →
     IsRow machine frames hib machine frames (record hib { header = mark_of machine hib; stage = stage.TakeBack undo.Write }) (event.Step actor.Core) (reply.Undo undo.Write 0) c c'
-mark_failed_row machine frames runs hib c c' mark_fails keeps unmarked can at whole whole' fails =
+mark_failed_row machine frames runs hib c c' can at whole whole' fails =
     let new = record hib { header = mark_of machine hib; stage = stage.TakeBack undo.Write } in
     row_at_hibernation machine frames hib machine frames new (event.Step actor.Core) (reply.Undo undo.Write 0) c c' (suspends_at hib.ending) (ap (λ (s : Stage). activity_at hib.ending s hib.made) at)
     (λ i a s.
@@ -95,7 +95,7 @@ mark_failed_row machine frames runs hib c c' mark_fails keeps unmarked can at wh
               (subst (λ (p : List ℕ). disk.FailsToWrite (block_of_slot machine.hw 0) p c c') is fails) is refl (record { shows = s.stands.parts.0.shows; names = s.stands.parts.2; copies = s.stands.parts.3.copies });
           image = still_of machine.hw frames frames hib a i (mark_of machine hib) (stage.TakeBack undo.Write) hib.made refl of;
         };
-        area = mark_keeps machine frames runs hib c c' i a keeps unmarked can whole place s (inr fails);
+        area = mark_keeps machine frames runs hib c c' i a can whole place s (inr fails);
         unwritten = λ b not. unwritten_mark machine.hw a i hib.made b c c' place fails.others not;
         leaves = tt;
         header = tt;
@@ -106,9 +106,9 @@ mark_failed_row machine frames runs hib c c' mark_fails keeps unmarked can at wh
 at_last : (hib : Hib) (last : Ending) → hib.stage ≡ stage.End → hib.ending ≡ last → activity_of hib ≡ hibernates (suspends_at last) hib.made
 at_last hib last at ends = ap (λ (s : Stage). activity_at hib.ending s hib.made) at ∙ ap (λ (e : Ending). hibernates (suspends_at e) hib.made) ends
 
-pub ended_row : (machine : Machine) (frames : Memory) (runs : SlotRuns) (hib : Hib) (c c' : disk.Content) → Ends → KeptBySync → CanStep machine frames runs hib → hib.stage ≡ stage.End → hib.ending ≡ ending.SwitchesOff → disk.IsContent machine.blocks c → disk.Syncs c c' →
+pub ended_row : (machine : Machine) (frames : Memory) (runs : SlotRuns) (hib : Hib) (c c' : disk.Content) → CanStep machine frames runs hib → hib.stage ≡ stage.End → hib.ending ≡ ending.SwitchesOff → disk.IsContent machine.blocks c → disk.Syncs c c' →
     IsRow machine frames hib machine frames (record hib { stage = stage.Over }) (event.Step actor.Core) (reply.Hibernated hib.n) c c'
-ended_row machine frames runs hib c c' ends keeps can at off_then whole syncs =
+ended_row machine frames runs hib c c' can at off_then whole syncs =
     let new = record hib { stage = stage.Over } in
     row_at_hibernation machine frames hib machine frames new (event.Step actor.Core) (reply.Hibernated hib.n) c c' false (at_last hib ending.SwitchesOff at off_then)
     (λ i a s.
@@ -121,7 +121,7 @@ ended_row machine frames runs hib c c' ends keeps can at off_then whole syncs =
           stands = ends machine.hw (shown_by machine frames hib) (shown_by machine frames new) c c' machine.blocks false i a hib.made (is_over machine frames runs hib c a i can whole of) s.stands place syncs refl refl;
           image = tt;
         };
-        area = keeps machine.hw c c' syncs;
+        area = kept_by_sync machine.hw c c' syncs;
         unwritten = λ b not. block_synced machine.blocks b c c' whole syncs;
         leaves = end_leaves machine.hw (shown_by machine frames hib) c c' machine.blocks false i a hib.made (is_over machine frames runs hib c a i can whole of) s.stands place syncs;
         header = tt;
@@ -129,9 +129,9 @@ ended_row machine frames runs hib c c' ends keeps can at off_then whole syncs =
     ))
 
 -- of a suspend: the machine sleeps, and shows the running state that it had
-pub asleep_row : (machine : Machine) (frames : Memory) (runs : SlotRuns) (hib : Hib) (c c' : disk.Content) → KeptBySync → CanStep machine frames runs hib → hib.stage ≡ stage.End → hib.ending ≡ ending.Sleeps → disk.IsContent machine.blocks c → disk.Syncs c c' →
+pub asleep_row : (machine : Machine) (frames : Memory) (runs : SlotRuns) (hib : Hib) (c c' : disk.Content) → CanStep machine frames runs hib → hib.stage ≡ stage.End → hib.ending ≡ ending.Sleeps → disk.IsContent machine.blocks c → disk.Syncs c c' →
     IsRow machine frames hib machine frames (record hib { stage = stage.Asleep }) (event.Step actor.Core) (reply.Asleep hib.n) c c'
-asleep_row machine frames runs hib c c' keeps can at sleeps_then whole syncs =
+asleep_row machine frames runs hib c c' can at sleeps_then whole syncs =
     let new = record hib { stage = stage.Asleep } in
     row_at_hibernation machine frames hib machine frames new (event.Step actor.Core) (reply.Asleep hib.n) c c' true (at_last hib ending.Sleeps at sleeps_then)
     (λ i a s.
@@ -145,16 +145,16 @@ asleep_row machine frames runs hib c c' keeps can at sleeps_then whole syncs =
           stands = ends_asleep machine.hw (shown_by machine frames hib) (shown_by machine frames new) c c' machine.blocks true i a hib.made (is_over machine frames runs hib c a i can whole of) s.stands place syncs refl s.stands.parts.0.shows names;
           image = tt;
         };
-        area = keeps machine.hw c c' syncs;
+        area = kept_by_sync machine.hw c c' syncs;
         unwritten = λ b not. block_synced machine.blocks b c c' whole syncs;
         leaves = end_leaves machine.hw (shown_by machine frames hib) c c' machine.blocks true i a hib.made (is_over machine frames runs hib c a i can whole of) s.stands place syncs;
         header = tt;
       },
     ))
 
-pub end_failed_row : (machine : Machine) (frames : Memory) (runs : SlotRuns) (hib : Hib) (c : disk.Content) → EndFails → CanStep machine frames runs hib → hib.stage ≡ stage.End →
+pub end_failed_row : (machine : Machine) (frames : Memory) (runs : SlotRuns) (hib : Hib) (c : disk.Content) → CanStep machine frames runs hib → hib.stage ≡ stage.End →
     IsRow machine frames hib machine frames (record hib { stage = stage.TakeBack undo.Sync }) (event.Step actor.Core) (reply.Undo undo.Sync 0) c c
-end_failed_row machine frames runs hib c end_fails can at =
+end_failed_row machine frames runs hib c can at =
     let new = record hib { stage = stage.TakeBack undo.Sync } in
     row_at_hibernation machine frames hib machine frames new (event.Step actor.Core) (reply.Undo undo.Sync 0) c c (suspends_at hib.ending) (ap (λ (s : Stage). activity_at hib.ending s hib.made) at)
     (λ i a s.

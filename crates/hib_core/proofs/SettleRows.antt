@@ -15,8 +15,6 @@ use Rattle.plain_machine.specs.declared.held.Held.TheVariants.{No, Yes, Perhaps}
 use Rattle.plain_machine.specs.declared.no_swap.NoSwap.{NoSwap}
 use Rattle.plain_machine.specs.declared.reply.Left.TheVariants.{Same, Unsure}
 use Rattle.plain_machine.specs.declared.reply.Reply.TheVariants as reply
-use Rattle.protocol_laws.specs.AreaKept.{KeptBySync}
-use Rattle.protocol_laws.specs.Memory.{NoneLeft, RunsGivenBack}
 use Rattle.protocol_laws.specs.Settling.{IsOnDisk, unmarked_block}
 use Rattle.protocol_laws.specs.Slots.{IsMemoryOf}
 use Rattle.protocol_laws.specs.Undo.{with_held}
@@ -34,6 +32,8 @@ use Rattle.hib_core.specs.declared.hib.Stage.TheVariants as stage
 use Rattle.hib_core.proofs.Facts.{row_at_settling, names_same}
 use Rattle.hib_core.proofs.Plain.{may_settle_read, settle_read_may_fail, may_settle_write, settle_write_may_fail, may_settle, settle_sync_may_fail}
 use Rattle.hib_core.proofs.Syncing.{same_area}
+use Rattle.protocol_laws.proofs.AreaKept.{kept_by_sync}
+use Rattle.protocol_laws.proofs.Taking.{none_left, runs_given_back}
 use Rattle.hib_core.proofs.Undoing.{certain}
 
 -- the machine where what is held is perhaps held
@@ -149,16 +149,16 @@ settle_write_failed_row machine frames runs hib c c' can at whole whole' fails =
       },
     ))
 
-pub settled_row : (machine : Machine) (frames frames' : Memory) (runs : SlotRuns) (hib : Hib) (c c' : disk.Content) → KeptBySync → RunsGivenBack → NoneLeft → CanStep machine frames runs hib → All IsPage frames → hib.stage ≡ stage.SettleSync → disk.IsContent machine.blocks c →
+pub settled_row : (machine : Machine) (frames frames' : Memory) (runs : SlotRuns) (hib : Hib) (c c' : disk.Content) → CanStep machine frames runs hib → All IsPage frames → hib.stage ≡ stage.SettleSync → disk.IsContent machine.blocks c →
     disk.Syncs c c' → frames' ≡ seen_frames machine.hw frames → IsRow machine frames hib (certain machine) frames' (record hib { stage = stage.Idle }) (event.Step actor.Core) reply.Settled c c'
-settled_row machine frames frames' runs hib c c' keeps given_back none_left can pages at whole syncs given =
+settled_row machine frames frames' runs hib c c' can pages at whole syncs given =
     let new = record hib { stage = stage.Idle } in
     row_at_settling machine frames hib (certain machine) frames' new (event.Step actor.Core) reply.Settled c c' 2 (at_step hib stage.SettleSync at)
     (λ a s.
     let memory : IsMemoryOf machine.hw frames = record { pages = pages; table = can.table } in
     let back : RunsAs machine.hw machine.held (reason_of machine.area) (flights_in machine.flights) frames' a =
     subst (λ (m : Memory). RunsAs machine.hw machine.held (reason_of machine.area) (flights_in machine.flights) m a) (sym given)
-    (given_back machine.hw machine.held (reason_of machine.area) (flights_in machine.flights) frames a memory s.stands.parts.0.shows) in
+    (runs_given_back machine.hw machine.held (reason_of machine.area) (flights_in machine.flights) frames a memory s.stands.parts.0.shows) in
     let shows : RunsAs machine.hw No (reason_of machine.area) (flights_in machine.flights) frames' (with_held a nothing) =
     record { held = tt; unusable = back.unusable; flights = back.flights; same = back.same; fits = back.fits } in
     let names : NamesOnly machine.hw (shown_by (certain machine) frames' new) [] =
@@ -170,7 +170,7 @@ settled_row machine frames frames' runs hib c c' keeps given_back none_left can 
           stands = settle_syncs machine.hw (shown_by machine frames hib) (shown_by (certain machine) frames' new) c c' machine.blocks a whole s.stands syncs refl shows names;
           image = tt;
         };
-        area = keeps machine.hw c c' syncs;
+        area = kept_by_sync machine.hw c c' syncs;
         unwritten = λ b not_in. block_synced machine.blocks b c c' whole syncs;
         leaves = tt;
         header = tt;

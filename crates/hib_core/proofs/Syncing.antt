@@ -21,9 +21,6 @@ use Rattle.std.proofs.lemmas.Option.{none-some}
 use Rattle.plain_machine.specs.declared.no_swap.NoSwap.{NoSwap}
 use Rattle.plain_machine.specs.declared.reply.Left.TheVariants.{Same}
 use Rattle.protocol_laws.specs.Rows.{IsSameArea, LeavesImage}
-use Rattle.protocol_laws.specs.AreaKept.{KeptBySync}
-use Rattle.protocol_laws.specs.Hibernating.{SyncsOn, ReadsOn, ReadsArea, CallFails}
-use Rattle.protocol_laws.specs.Memory.{NoneLeft, RunsGivenBack}
 use Rattle.protocol_laws.specs.Slots.{IsMemoryOf}
 use Rattle.machine.specs.declared.machine.Machine.{Machine}
 use Rattle.machine.specs.Flights.{flights_in}
@@ -35,6 +32,9 @@ use Rattle.hib_core.specs.declared.hib.Hib.{Hib}
 use Rattle.hib_core.specs.declared.hib.Stage.{Stage}
 use Rattle.hib_core.specs.declared.hib.Stage.TheVariants as stage
 use Rattle.hib_core.proofs.Facts.{is_over, row_at_hibernation, still_of}
+use Rattle.protocol_laws.proofs.AreaKept.{kept_by_sync}
+use Rattle.protocol_laws.proofs.Syncing.{syncs_on, reads_on, reads_area, call_fails}
+use Rattle.protocol_laws.proofs.Taking.{none_left, runs_given_back}
 use Rattle.hib_core.proofs.Plain.{may_sync, sync_may_fail, may_read, read_may_fail}
 
 pub same_area : (h : Hardware) (v : disk.Image) → IsSameArea h v v
@@ -53,9 +53,9 @@ pub more_of : (h : Hardware) (v : disk.Image) (suspends : Bool) (i : Image) (a :
     Step h v (hibernating suspends i a k) (event.Step actor.Core) (reply.More (k + 1) of) (hibernating suspends i a (k + 1))
 more_of h v suspends i a k of steps step = subst (λ (n : ℕ). Step h v (hibernating suspends i a k) (event.Step actor.Core) (reply.More (k + 1) n) (hibernating suspends i a (k + 1))) (sym steps) step
 
-pub synced_row : (machine : Machine) (frames : Memory) (runs : SlotRuns) (hib : Hib) (c c' : disk.Content) → SyncsOn → KeptBySync → CanStep machine frames runs hib → hib.stage ≡ stage.Sync → disk.IsContent machine.blocks c → disk.Syncs c c' →
+pub synced_row : (machine : Machine) (frames : Memory) (runs : SlotRuns) (hib : Hib) (c c' : disk.Content) → CanStep machine frames runs hib → hib.stage ≡ stage.Sync → disk.IsContent machine.blocks c → disk.Syncs c c' →
     IsRow machine frames hib machine frames (gone_on hib stage.Read) (event.Step actor.Core) (reply.More (hib.made + 1) hib.of) c c'
-synced_row machine frames runs hib c c' syncs_on keeps can at whole syncs =
+synced_row machine frames runs hib c c' can at whole syncs =
     row_at_hibernation machine frames hib machine frames (gone_on hib stage.Read) (event.Step actor.Core) (reply.More (hib.made + 1) hib.of) c c' (suspends_at hib.ending) (ap (λ (s : Stage). activity_at hib.ending s hib.made) at)
     (λ i a s.
     let of = s.image in
@@ -68,7 +68,7 @@ synced_row machine frames runs hib c c' syncs_on keeps can at whole syncs =
               (record { shows = s.stands.parts.0.shows; names = s.stands.parts.2; copies = s.stands.parts.3.copies });
           image = still_of machine.hw frames frames hib a i hib.header stage.Read (hib.made + 1) refl of;
         };
-        area = keeps machine.hw c c' syncs;
+        area = kept_by_sync machine.hw c c' syncs;
         unwritten = λ b not. block_synced machine.blocks b c c' whole syncs;
         leaves = tt;
         header = tt;
@@ -76,17 +76,17 @@ synced_row machine frames runs hib c c' syncs_on keeps can at whole syncs =
     ))
 
 -- a call that fails, before the mark: the image's slots are given back
-pub fails_row : (machine : Machine) (frames frames' : Memory) (runs : SlotRuns) (hib hib' : Hib) (c : disk.Content) (r : Reply) → CallFails → RunsGivenBack → NoneLeft → CanStep machine frames runs hib → All IsPage frames → activity_of hib ≡ hibernates (suspends_at hib.ending) hib.made → hib.made + 1 < hib.of →
+pub fails_row : (machine : Machine) (frames frames' : Memory) (runs : SlotRuns) (hib hib' : Hib) (c : disk.Content) (r : Reply) → CanStep machine frames runs hib → All IsPage frames → activity_of hib ≡ hibernates (suspends_at hib.ending) hib.made → hib.made + 1 < hib.of →
     ((i : Image) (a : Running) → hib.of ≡ hibernate_steps i → Step machine.hw (disk.as_it_reads c) (hibernating (suspends_at hib.ending) i a hib.made) (event.Step actor.Core) r (on a)) →
     ((i : Image) (a : Running) → LeavesImage machine.hw (event.Step actor.Core) r (hibernating (suspends_at hib.ending) i a hib.made) c) → frames' ≡ seen_frames machine.hw frames → hib'.stage ≡ stage.Idle → IsRow machine frames hib machine frames' hib' (event.Step actor.Core) r c c
-fails_row machine frames frames' runs hib hib' c r call_fails given_back none_left can pages is more may leaves given idle_now =
+fails_row machine frames frames' runs hib hib' c r can pages is more may leaves given idle_now =
     row_at_hibernation machine frames hib machine frames' hib' (event.Step actor.Core) r c c (suspends_at hib.ending) is
     (λ i a s.
     let of = s.image in
     let memory : IsMemoryOf machine.hw frames = record { pages = pages; table = can.table } in
     let back : RunsAs machine.hw machine.held (reason_of machine.area) (flights_in machine.flights) frames' a =
     subst (λ (m : Memory). RunsAs machine.hw machine.held (reason_of machine.area) (flights_in machine.flights) m a) (sym given)
-    (given_back machine.hw machine.held (reason_of machine.area) (flights_in machine.flights) frames a memory s.stands.parts.0.shows) in
+    (runs_given_back machine.hw machine.held (reason_of machine.area) (flights_in machine.flights) frames a memory s.stands.parts.0.shows) in
     let names : NamesOnly machine.hw (shown_by machine frames' hib') [] =
     λ k lt e. absurd (none_left machine.hw frames k memory lt (ap (λ (m : Memory). raw_slot_entry machine.hw m k) (sym given) ∙ e)) in
     let place : hib.made + 1 < hibernate_steps i = subst (λ (n : ℕ). hib.made + 1 < n) of.steps more in (
@@ -104,23 +104,23 @@ fails_row machine frames frames' runs hib hib' c r call_fails given_back none_le
       },
     ))
 
-pub sync_failed_row : (machine : Machine) (frames frames' : Memory) (runs : SlotRuns) (hib : Hib) (c : disk.Content) → CallFails → RunsGivenBack → NoneLeft → CanStep machine frames runs hib → All IsPage frames → hib.stage ≡ stage.Sync →
+pub sync_failed_row : (machine : Machine) (frames frames' : Memory) (runs : SlotRuns) (hib : Hib) (c : disk.Content) → CanStep machine frames runs hib → All IsPage frames → hib.stage ≡ stage.Sync →
     frames' ≡ seen_frames machine.hw frames → IsRow machine frames hib machine frames' (idle hib) (event.Step actor.Core) (reply.SyncFault Same) c c
-sync_failed_row machine frames frames' runs hib c call_fails given_back none_left can pages at given =
+sync_failed_row machine frames frames' runs hib c can pages at given =
     let place = place_at hib stage.Sync at can.place in
-    fails_row machine frames frames' runs hib (idle hib) c (reply.SyncFault Same) call_fails given_back none_left can pages (ap (λ (s : Stage). activity_at hib.ending s hib.made) at) (omega arith)
+    fails_row machine frames frames' runs hib (idle hib) c (reply.SyncFault Same) can pages (ap (λ (s : Stage). activity_at hib.ending s hib.made) at) (omega arith)
     (λ i a steps. sync_may_fail machine.hw (disk.as_it_reads c) (suspends_at hib.ending) i a hib.made (place ∙ steps)) (λ i a. tt) given refl
 
-pub read_failed_row : (machine : Machine) (frames frames' : Memory) (runs : SlotRuns) (hib : Hib) (header : List ℕ) (c : disk.Content) → CallFails → RunsGivenBack → NoneLeft → CanStep machine frames runs hib → All IsPage frames → hib.stage ≡ stage.Read →
+pub read_failed_row : (machine : Machine) (frames frames' : Memory) (runs : SlotRuns) (hib : Hib) (header : List ℕ) (c : disk.Content) → CanStep machine frames runs hib → All IsPage frames → hib.stage ≡ stage.Read →
     frames' ≡ seen_frames machine.hw frames → IsRow machine frames hib machine frames' (idle (record hib { header = header })) (event.Step actor.Core) (reply.ReadFault Same) c c
-read_failed_row machine frames frames' runs hib header c call_fails given_back none_left can pages at given =
+read_failed_row machine frames frames' runs hib header c can pages at given =
     let place = place_at hib stage.Read at can.place in
-    fails_row machine frames frames' runs hib (idle (record hib { header = header })) c (reply.ReadFault Same) call_fails given_back none_left can pages (ap (λ (s : Stage). activity_at hib.ending s hib.made) at) (omega arith)
+    fails_row machine frames frames' runs hib (idle (record hib { header = header })) c (reply.ReadFault Same) can pages (ap (λ (s : Stage). activity_at hib.ending s hib.made) at) (omega arith)
     (λ i a steps. read_may_fail machine.hw (disk.as_it_reads c) (suspends_at hib.ending) i a hib.made (place ∙ steps)) (λ i a. tt) given refl
 
-pub read_row : (machine : Machine) (frames : Memory) (runs : SlotRuns) (hib : Hib) (header : List ℕ) (c : disk.Content) → ReadsOn → CanStep machine frames runs hib → hib.stage ≡ stage.Read → disk.IsContent machine.blocks c → header ≡ header_of machine.hw (disk.as_it_reads c) →
+pub read_row : (machine : Machine) (frames : Memory) (runs : SlotRuns) (hib : Hib) (header : List ℕ) (c : disk.Content) → CanStep machine frames runs hib → hib.stage ≡ stage.Read → disk.IsContent machine.blocks c → header ≡ header_of machine.hw (disk.as_it_reads c) →
     IsRow machine frames hib machine frames (record hib { header = header; stage = stage.Mark; made = hib.made + 1 }) (event.Step actor.Core) (reply.More (hib.made + 1) hib.of) c c
-read_row machine frames runs hib header c reads_on can at whole read =
+read_row machine frames runs hib header c can at whole read =
     let new = record hib { header = header; stage = stage.Mark; made = hib.made + 1 } in
     row_at_hibernation machine frames hib machine frames new (event.Step actor.Core) (reply.More (hib.made + 1) hib.of) c c (suspends_at hib.ending) (ap (λ (s : Stage). activity_at hib.ending s hib.made) at)
     (λ i a s.
@@ -142,9 +142,9 @@ read_row machine frames runs hib header c reads_on can at whole read =
     ))
 
 -- a header block that isn't that of an area can't be read
-pub not_swap_row : (machine : Machine) (frames frames' : Memory) (runs : SlotRuns) (hib hib' : Hib) (c : disk.Content) (why : NoSwap) → ReadsArea → CanStep machine frames runs hib → hib.stage ≡ stage.Read → disk.IsContent machine.blocks c →
+pub not_swap_row : (machine : Machine) (frames frames' : Memory) (runs : SlotRuns) (hib hib' : Hib) (c : disk.Content) (why : NoSwap) → CanStep machine frames runs hib → hib.stage ≡ stage.Read → disk.IsContent machine.blocks c →
     kind_fault (area_kind (header_of machine.hw (disk.as_it_reads c))) ≡ Some why → IsRow machine frames hib machine frames' hib' (event.Step actor.Core) (reply.NoSwap why) c c
-not_swap_row machine frames frames' runs hib hib' c why reads_area can at whole fault =
+not_swap_row machine frames frames' runs hib hib' c why can at whole fault =
     row_at_hibernation machine frames hib machine frames' hib' (event.Step actor.Core) (reply.NoSwap why) c c (suspends_at hib.ending) (ap (λ (s : Stage). activity_at hib.ending s hib.made) at)
     (λ i a s.
     let place : hib.made + 3 ≡ hibernate_steps i = place_at hib stage.Read at can.place ∙ s.image.steps in

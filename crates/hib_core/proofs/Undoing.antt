@@ -2,7 +2,7 @@
 use Rattle.protocol_laws.proofs.Leaving.{leaves_undoing}
 use Rattle.protocol_laws.proofs.Unwritten.{block_same, block_synced, unwritten_header}
 use Rattle.protocol_laws.proofs.HeaderLeft.{marks_same, marks_synced}
-use Rattle.protocol_laws.proofs.Undone.{undo_adds_no_mark}
+use Rattle.protocol_laws.proofs.Undone.{undo_adds_no_mark, takes_mark_back, undo_write_fails, undo_syncs, undo_sync_fails}
 use Rattle.std.proofs.Common.{◌≡◌, List, All, [], inl, inr, refl, sym, ap, ◌∙◌, subst}
 use Rattle.definitions.specs.Bytes.{IsPage}
 use Rattle.definitions.specs.Disk as disk
@@ -23,10 +23,8 @@ use Rattle.plain_machine.specs.declared.reply.Reply.TheVariants as reply
 use Rattle.plain_machine.specs.declared.reply.UndoCall.{UndoCall}
 use Rattle.image_laws.specs.ImageBlocks.{Tries}
 use Rattle.protocol_laws.specs.Rows.{IsSameArea}
-use Rattle.protocol_laws.specs.AreaKept.{KeptBySync, KeptByHeader}
-use Rattle.protocol_laws.specs.Memory.{NoneLeft, RunsGivenBack}
 use Rattle.protocol_laws.specs.Slots.{IsMemoryOf}
-use Rattle.protocol_laws.specs.Undo.{UndoWrites, UndoWriteFails, UndoSyncs, UndoSyncFails, with_held}
+use Rattle.protocol_laws.specs.Undo.{with_held}
 use Rattle.machine.specs.declared.machine.Machine.{Machine}
 use Rattle.machine.specs.Flights.{flights_in}
 use Rattle.machine.specs.Running.{reason_of}
@@ -39,6 +37,8 @@ use Rattle.hib_core.specs.declared.hib.Stage.{Stage}
 use Rattle.hib_core.specs.declared.hib.Stage.TheVariants as stage
 use Rattle.hib_core.proofs.Facts.{is_over, row_at_undo, still_of}
 use Rattle.hib_core.proofs.Plain.{may_take_back, take_back_may_fail, may_end_undo, end_undo_may_fail}
+use Rattle.protocol_laws.proofs.AreaKept.{kept_by_sync, kept_by_header}
+use Rattle.protocol_laws.proofs.Taking.{none_left, runs_given_back}
 use Rattle.hib_core.proofs.Syncing.{same_area}
 
 -- the machine where an image may be held, and where none is
@@ -49,15 +49,15 @@ abbrev pub certain : Machine → Machine
 certain machine = record machine { held = No }
 
 -- the write of the header block taken back leaves the area, failed or not
-back_keeps : (machine : Machine) (frames : Memory) (runs : SlotRuns) (hib : Hib) (c c' : disk.Content) (i : Image) (call : UndoCall) (a : Running) → KeptByHeader → CanStep machine frames runs hib → disk.IsContent machine.blocks c → IsPage (taken_back hib.header) →
+back_keeps : (machine : Machine) (frames : Memory) (runs : SlotRuns) (hib : Hib) (c c' : disk.Content) (i : Image) (call : UndoCall) (a : Running) → CanStep machine frames runs hib → disk.IsContent machine.blocks c → IsPage (taken_back hib.header) →
     StandsFor machine frames hib c (undoing i call a 0) → Tries (block_of_slot machine.hw 0) (taken_back hib.header) c c' → IsSameArea machine.hw (disk.as_it_reads c) (disk.as_it_reads c')
-back_keeps machine frames runs hib c c' i call a keeps can whole page s tries =
+back_keeps machine frames runs hib c c' i call a can whole page s tries =
     let mark = s.stands.parts.4 refl in
-    keeps machine.hw machine.blocks (taken_back hib.header) c c' whole can.header page mark.unmarked mark.area tries
+    kept_by_header machine.hw machine.blocks (taken_back hib.header) c c' whole can.header page mark.unmarked mark.area tries
 
-pub back_row : (machine : Machine) (frames : Memory) (runs : SlotRuns) (hib : Hib) (c c' : disk.Content) (call : UndoCall) → UndoWrites → KeptByHeader → CanStep machine frames runs hib → IsPage hib.header → IsPage (taken_back hib.header) → hib.stage ≡ stage.TakeBack call → disk.IsContent machine.blocks c → disk.IsContent machine.blocks c' →
+pub back_row : (machine : Machine) (frames : Memory) (runs : SlotRuns) (hib : Hib) (c c' : disk.Content) (call : UndoCall) → CanStep machine frames runs hib → IsPage hib.header → IsPage (taken_back hib.header) → hib.stage ≡ stage.TakeBack call → disk.IsContent machine.blocks c → disk.IsContent machine.blocks c' →
     disk.Writes (block_of_slot machine.hw 0) (taken_back hib.header) c c' → IsRow machine frames hib machine frames (record hib { stage = stage.EndUndo call }) (event.Step actor.Core) (reply.Undo call 1) c c'
-back_row machine frames runs hib c c' call undo_writes keeps can page back at whole whole' writes =
+back_row machine frames runs hib c c' call can page back at whole whole' writes =
     let new = record hib { stage = stage.EndUndo call } in
     row_at_undo machine frames hib machine frames new (event.Step actor.Core) (reply.Undo call 1) c c' call 0 (ap (λ (s : Stage). activity_at hib.ending s hib.made) at)
     (λ i a s.
@@ -66,11 +66,11 @@ back_row machine frames runs hib c c' call undo_writes keeps can page back at wh
       record {
         step = may_take_back machine.hw (disk.as_it_reads c) i call a;
         stands = record {
-          stands = undo_writes machine.hw (shown_by machine frames hib) (shown_by machine frames new) c c' machine.blocks i call a (is_over machine frames runs hib c a i can whole of) page whole' s.stands writes refl
+          stands = takes_mark_back machine.hw (shown_by machine frames hib) (shown_by machine frames new) c c' machine.blocks i call a (is_over machine frames runs hib c a i can whole of) page whole' s.stands writes refl
               s.stands.parts.0.shows s.stands.parts.2;
           image = still_of machine.hw frames frames hib a i hib.header (stage.EndUndo call) hib.made refl of;
         };
-        area = back_keeps machine frames runs hib c c' i call a keeps can whole back s (inl writes);
+        area = back_keeps machine frames runs hib c c' i call a can whole back s (inl writes);
         unwritten = λ b not. unwritten_header machine.hw [] b c c' writes.others not;
         leaves = tt;
         header = undo_adds_no_mark machine.hw (shown_by machine frames hib) c c' machine.blocks i call a (is_over machine frames runs hib c a i can whole of) page s.stands (inl writes);
@@ -87,9 +87,9 @@ with_flag h machine machine' frames a i area held flights runs = record {
   fits = runs.fits;
 }
 
-pub back_failed_row : (machine : Machine) (frames : Memory) (runs : SlotRuns) (hib : Hib) (c c' : disk.Content) (call : UndoCall) → UndoWriteFails → KeptByHeader → CanStep machine frames runs hib → IsPage hib.header → IsPage (taken_back hib.header) → hib.stage ≡ stage.TakeBack call → disk.IsContent machine.blocks c → disk.IsContent machine.blocks c' →
+pub back_failed_row : (machine : Machine) (frames : Memory) (runs : SlotRuns) (hib : Hib) (c c' : disk.Content) (call : UndoCall) → CanStep machine frames runs hib → IsPage hib.header → IsPage (taken_back hib.header) → hib.stage ≡ stage.TakeBack call → disk.IsContent machine.blocks c → disk.IsContent machine.blocks c' →
     disk.FailsToWrite (block_of_slot machine.hw 0) (taken_back hib.header) c c' → IsRow machine frames hib (unsure machine) frames (record hib { stage = stage.Idle }) (event.Step actor.Core) (undone_fault call Unsure) c c'
-back_failed_row machine frames runs hib c c' call undo_write_fails keeps can page back at whole whole' fails =
+back_failed_row machine frames runs hib c c' call can page back at whole whole' fails =
     let new = record hib { stage = stage.Idle } in
     row_at_undo machine frames hib (unsure machine) frames new (event.Step actor.Core) (undone_fault call Unsure) c c' call 0 (ap (λ (s : Stage). activity_at hib.ending s hib.made) at)
     (λ i a s. (
@@ -101,23 +101,23 @@ back_failed_row machine frames runs hib c c' call undo_write_fails keeps can pag
               (with_flag machine.hw machine (unsure machine) frames a i refl refl refl s.stands.parts.0.shows) s.stands.parts.2;
           image = tt;
         };
-        area = back_keeps machine frames runs hib c c' i call a keeps can whole back s (inr fails);
+        area = back_keeps machine frames runs hib c c' i call a can whole back s (inr fails);
         unwritten = λ b not. unwritten_header machine.hw [] b c c' fails.others not;
         leaves = leaves_undoing machine.hw (undone_fault call Unsure) i call a 0 c';
         header = undo_adds_no_mark machine.hw (shown_by machine frames hib) c c' machine.blocks i call a (is_over machine frames runs hib c a i can whole s.image) page s.stands (inr fails);
       },
     ))
 
-pub undone_row : (machine : Machine) (frames frames' : Memory) (runs : SlotRuns) (hib : Hib) (c c' : disk.Content) (call : UndoCall) → UndoSyncs → KeptBySync → RunsGivenBack → NoneLeft → CanStep machine frames runs hib → All IsPage frames → hib.stage ≡ stage.EndUndo call → disk.IsContent machine.blocks c →
+pub undone_row : (machine : Machine) (frames frames' : Memory) (runs : SlotRuns) (hib : Hib) (c c' : disk.Content) (call : UndoCall) → CanStep machine frames runs hib → All IsPage frames → hib.stage ≡ stage.EndUndo call → disk.IsContent machine.blocks c →
     disk.Syncs c c' → frames' ≡ seen_frames machine.hw frames → IsRow machine frames hib (certain machine) frames' (record hib { stage = stage.Idle }) (event.Step actor.Core) (undone_fault call Gone) c c'
-undone_row machine frames frames' runs hib c c' call undo_syncs keeps given_back none_left can pages at whole syncs given =
+undone_row machine frames frames' runs hib c c' call can pages at whole syncs given =
     let new = record hib { stage = stage.Idle } in
     row_at_undo machine frames hib (certain machine) frames' new (event.Step actor.Core) (undone_fault call Gone) c c' call 1 (ap (λ (s : Stage). activity_at hib.ending s hib.made) at)
     (λ i a s.
     let memory : IsMemoryOf machine.hw frames = record { pages = pages; table = can.table } in
     let back : RunsAs machine.hw machine.held (reason_of machine.area) (flights_in machine.flights) frames' a =
     subst (λ (m : Memory). RunsAs machine.hw machine.held (reason_of machine.area) (flights_in machine.flights) m a) (sym given)
-    (given_back machine.hw machine.held (reason_of machine.area) (flights_in machine.flights) frames a memory s.stands.parts.0.shows) in
+    (runs_given_back machine.hw machine.held (reason_of machine.area) (flights_in machine.flights) frames a memory s.stands.parts.0.shows) in
     let shows : RunsAs machine.hw No (reason_of machine.area) (flights_in machine.flights) frames' (with_held a nothing) =
     record { held = tt; unusable = back.unusable; flights = back.flights; same = back.same; fits = back.fits } in
     let names : NamesOnly machine.hw (shown_by (certain machine) frames' new) [] =
@@ -129,16 +129,16 @@ undone_row machine frames frames' runs hib c c' call undo_syncs keeps given_back
           stands = undo_syncs machine.hw (shown_by machine frames hib) (shown_by (certain machine) frames' new) c c' machine.blocks i call a (is_over machine frames runs hib c a i can whole s.image) s.stands syncs refl shows names;
           image = tt;
         };
-        area = keeps machine.hw c c' syncs;
+        area = kept_by_sync machine.hw c c' syncs;
         unwritten = λ b not. block_synced machine.blocks b c c' whole syncs;
         leaves = leaves_undoing machine.hw (undone_fault call Gone) i call a 1 c';
         header = marks_synced machine.hw machine.blocks c c' whole syncs;
       },
     ))
 
-pub end_failed_row : (machine : Machine) (frames : Memory) (runs : SlotRuns) (hib : Hib) (c : disk.Content) (call : UndoCall) → UndoSyncFails → CanStep machine frames runs hib → hib.stage ≡ stage.EndUndo call → disk.IsContent machine.blocks c →
+pub end_failed_row : (machine : Machine) (frames : Memory) (runs : SlotRuns) (hib : Hib) (c : disk.Content) (call : UndoCall) → CanStep machine frames runs hib → hib.stage ≡ stage.EndUndo call → disk.IsContent machine.blocks c →
     IsRow machine frames hib (unsure machine) frames (record hib { stage = stage.Idle }) (event.Step actor.Core) (undone_fault call Unsure) c c
-end_failed_row machine frames runs hib c call undo_sync_fails can at whole =
+end_failed_row machine frames runs hib c call can at whole =
     let new = record hib { stage = stage.Idle } in
     row_at_undo machine frames hib (unsure machine) frames new (event.Step actor.Core) (undone_fault call Unsure) c c call 1 (ap (λ (s : Stage). activity_at hib.ending s hib.made) at)
     (λ i a s. (

@@ -18,12 +18,10 @@ use crate::write::slot_table;
 use crate::{Hib, Job};
 use frame_arena::Frames;
 use image_header::Info;
-use image_laws::memories_are_sayable;
 use image_write::Writer;
 use machine::{Hardware, Machine};
 use page_core::Format;
 use plain_machine::{Held, Reply};
-use protocol_laws::{begins, shows_lists, takes_image, takes_slots};
 use saveable::View;
 use snapshot::Counts;
 use swap_slots::{FreeRuns, SlotTable};
@@ -93,11 +91,6 @@ impl Hib {
         ensures refused { IsRefusedWith result → LeavesFrames frames.old frames.new result }
         ensures memory { BeginsImage machine.now.hw frames.old frames.new ⊎ (frames.new ≡ frames.old) }
     {
-        begins();
-        shows_lists();
-        takes_image();
-        takes_slots();
-        memories_are_sayable();
         // Only what is read is known to have the size of its type.
         let _blocks = machine.blocks;
         let _zones = machine.hw.zones();
@@ -126,8 +119,6 @@ impl Hib {
         ensures hib { self.new ≡ record self.old { snapshot = self.new.snapshot } }
         ensures zones { self.new.snapshot.zones ≡ self.old.snapshot.zones }
     {
-        shows_lists();
-        takes_image();
         let (zones, table) = (machine.hw.zones(), machine.hw.frame_table());
         if let Some(task) = machine.busy() {
             return Err(Reply::Busy { task });

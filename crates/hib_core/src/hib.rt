@@ -1,6 +1,6 @@
-ghost use Rattle.std.specs.Prelude.{◌≡◌, false, ◌≤◌, ◌⊎◌, ◌<◌, ◌^◌, ℕ, ⊤, IfOk, IsTrue};
-ghost use Rattle.definitions.specs.Disk.{HasRisen, raised, Changes, Elapses};
+ghost use Rattle.std.specs.Prelude.{◌≡◌, false, ◌<◌, IfOk};
 ghost use Rattle.hib_core.specs.Hibernation.{IsIdle};
+ghost use Rattle.sector_disk.specs.Called.{Called, OneCall};
 
 use frame_arena::Frames;
 use image_write::Writer;
@@ -124,14 +124,7 @@ impl Hib {
         ensures ready { CanStep machine.new frames.new runs.new self.new }
         ensures machine { IsSameMachine machine.old machine.new }
         ensures memory { Leaves (change_of result self.old.stage) machine.old.hw frames.old frames.new }
-        ensures cause { IsNewFault result → HasRisen (D.faults disk.old) (D.faults disk.new) }
-        ensures faults { D.faults disk.old ≤ D.faults disk.new }
-        ensures calls { D.calls disk.new ≡ raised (D.calls disk.old) }
-        ensures orders { D.orders disk.new ≡ D.orders disk.old }
-        ensures blocks { D.block_count disk.new ≡ D.block_count disk.old }
-        ensures telling { D.tells_moments disk.new ≡ D.tells_moments disk.old }
-        ensures time { IsTrue (D.tells_moments disk.old) → Changes (Elapses (D.moment disk.old) (D.moment disk.new)
-            (D.left_since disk.old) (D.left_since disk.new)) (D.content disk.old) (D.content disk.new) }
+        ensures called { Called D.Disk OneCall (IsNewFault result) disk.old disk.new }
     {
         match self.stage {
             Stage::Write => self.write_next(machine, frames, runs, disk),

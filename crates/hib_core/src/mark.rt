@@ -1,8 +1,8 @@
-ghost use Rattle.std.specs.Prelude.{◌≡◌, false, ◌≤◌, ◌+◌, ◌<◌, ◌^◌, ℕ, IsTrue};
-ghost use Rattle.definitions.specs.Disk.{HasRisen, raised, Changes, Elapses};
+ghost use Rattle.std.specs.Prelude.{◌≡◌, false, ◌+◌, ◌<◌};
 ghost use Rattle.protocol_laws.specs.Rows.{IsNewFault};
 ghost use Rattle.plain_machine.specs.declared.reply.Reply.TheVariants as reply;
 ghost use Rattle.plain_machine.specs.Mark.{mark_flags};
+ghost use Rattle.sector_disk.specs.Called.{Called, OneCall};
 
 use crate::Hib;
 use crate::hib::{Ending, Stage};
@@ -10,7 +10,6 @@ use frame_arena::Frames;
 use machine::Machine;
 use page_core::Failed;
 use plain_machine::{Reply, UndoCall};
-use protocol_laws::{ends, keeps_area, marks};
 use sector_disk::Disk;
 use sig_header::mark;
 use swap_slots::FreeRuns;
@@ -27,7 +26,7 @@ impl Hib {
     ghost use Rattle.plain_machine.specs.declared.event.Actor.TheVariants as actor;
     ghost use Rattle.hib_core.specs.declared.hib.Stage.TheVariants as stage;
     ghost use Rattle.hib_core.specs.Hibernation.{phase_of, phase_told, is_idle};
-    ghost use Rattle.hib_core.specs.Ready.{CanStep, IsSameMachine};
+    ghost use Rattle.hib_core.specs.Ready.{CanStep};
     ghost use Rattle.hib_core.specs.Leaving.{Leaves, change_of};
     ghost use Rattle.hib_core.specs.Row.{HasRow};
 
@@ -48,17 +47,8 @@ impl Hib {
         ensures works { is_idle result ≡ false }
         ensures ready { CanStep machine.now frames.now runs.now self.new }
         ensures memory { Leaves (change_of result self.old.stage) machine.now.hw frames.now frames.now }
-        ensures cause { IsNewFault result → HasRisen (D.faults disk.old) (D.faults disk.new) }
-        ensures faults { D.faults disk.old ≤ D.faults disk.new }
-        ensures calls { D.calls disk.new ≡ raised (D.calls disk.old) }
-        ensures orders { D.orders disk.new ≡ D.orders disk.old }
-        ensures blocks { D.block_count disk.new ≡ D.block_count disk.old }
-        ensures telling { D.tells_moments disk.new ≡ D.tells_moments disk.old }
-        ensures time { IsTrue (D.tells_moments disk.old) → Changes (Elapses (D.moment disk.old) (D.moment disk.new)
-            (D.left_since disk.old) (D.left_since disk.new)) (D.content disk.old) (D.content disk.new) }
+        ensures called { Called D.Disk OneCall (IsNewFault result) disk.old disk.new }
     {
-        marks();
-        keeps_area();
         let (first, flags) = (u64::from(self.first), self.flags());
         self.header = mark(&self.header, first, flags, machine.hw.hw_sig());
         let block = machine.hw.extents().block(0);
@@ -85,17 +75,8 @@ impl Hib {
         ensures works { is_idle result ≡ false }
         ensures ready { CanStep machine.now frames.now runs.now self.new }
         ensures memory { Leaves (change_of result self.old.stage) machine.now.hw frames.now frames.now }
-        ensures cause { IsNewFault result → HasRisen (D.faults disk.old) (D.faults disk.new) }
-        ensures faults { D.faults disk.old ≤ D.faults disk.new }
-        ensures calls { D.calls disk.new ≡ raised (D.calls disk.old) }
-        ensures orders { D.orders disk.new ≡ D.orders disk.old }
-        ensures blocks { D.block_count disk.new ≡ D.block_count disk.old }
-        ensures telling { D.tells_moments disk.new ≡ D.tells_moments disk.old }
-        ensures time { IsTrue (D.tells_moments disk.old) → Changes (Elapses (D.moment disk.old) (D.moment disk.new)
-            (D.left_since disk.old) (D.left_since disk.new)) (D.content disk.old) (D.content disk.new) }
+        ensures called { Called D.Disk OneCall (IsNewFault result) disk.old disk.new }
     {
-        ends();
-        keeps_area();
         match disk.sync() {
             Ok(()) => match self.ending {
                 Ending::SwitchesOff => {

@@ -1,10 +1,11 @@
-ghost use Rattle.std.specs.Prelude.{◌≡◌, false, ◌≤◌, ◌⊎◌, nat_eq, IsTrue};
+ghost use Rattle.std.specs.Prelude.{◌≡◌, false, ◌⊎◌, nat_eq};
 ghost use Rattle.std.specs.Cmp.Lexicographic.{pointwise};
-ghost use Rattle.definitions.specs.Disk.{Content, HasRisen, raised, Changes, Elapses};
+ghost use Rattle.definitions.specs.Disk.{Content};
 ghost use Rattle.definitions.specs.SwapHeader.{sig_of, image_signature};
 ghost use Rattle.protocol_laws.specs.Rows.{IsNewFault};
 ghost use Rattle.protocol_laws.specs.Settling.{unmarked_block};
 ghost use Rattle.hib_core.specs.Hibernation.{is_idle, perhaps_held, under_way, runs_on};
+ghost use Rattle.sector_disk.specs.Called.{Called, OneCall};
 
 use crate::Hib;
 use crate::hib::Stage;
@@ -12,7 +13,6 @@ use frame_arena::Frames;
 use machine::Machine;
 use page_core::{Failed, Page};
 use plain_machine::{Held, Left, Reply};
-use protocol_laws::{keeps_area, takes_slots};
 use sector_disk::Disk;
 use sig_header::{AreaKind, take_back};
 use swap_slots::FreeRuns;
@@ -75,14 +75,7 @@ impl Hib {
         ensures works { is_idle result ≡ false }
         ensures ready { CanStep machine.now frames.now runs.now self.new }
         ensures memory { Leaves (change_of result self.old.stage) machine.now.hw frames.now frames.now }
-        ensures cause { IsNewFault result → HasRisen (D.faults disk.old) (D.faults disk.new) }
-        ensures faults { D.faults disk.old ≤ D.faults disk.new }
-        ensures calls { D.calls disk.new ≡ raised (D.calls disk.old) }
-        ensures orders { D.orders disk.new ≡ D.orders disk.old }
-        ensures blocks { D.block_count disk.new ≡ D.block_count disk.old }
-        ensures telling { D.tells_moments disk.new ≡ D.tells_moments disk.old }
-        ensures time { IsTrue (D.tells_moments disk.old) → Changes (Elapses (D.moment disk.old) (D.moment disk.new)
-            (D.left_since disk.old) (D.left_since disk.new)) (D.content disk.old) (D.content disk.new) }
+        ensures called { Called D.Disk OneCall (IsNewFault result) disk.old disk.new }
     {
         let block = machine.hw.extents().block(0);
         match disk.read(block as u32, &mut self.header) {
@@ -115,14 +108,7 @@ impl Hib {
         ensures ready { CanStep machine.new frames.now runs.now self.new }
         ensures memory { Leaves (change_of result self.old.stage) machine.old.hw frames.now frames.now }
         ensures machine { IsSameMachine machine.old machine.new }
-        ensures cause { IsNewFault result → HasRisen (D.faults disk.old) (D.faults disk.new) }
-        ensures faults { D.faults disk.old ≤ D.faults disk.new }
-        ensures calls { D.calls disk.new ≡ raised (D.calls disk.old) }
-        ensures orders { D.orders disk.new ≡ D.orders disk.old }
-        ensures blocks { D.block_count disk.new ≡ D.block_count disk.old }
-        ensures telling { D.tells_moments disk.new ≡ D.tells_moments disk.old }
-        ensures time { IsTrue (D.tells_moments disk.old) → Changes (Elapses (D.moment disk.old) (D.moment disk.new)
-            (D.left_since disk.old) (D.left_since disk.new)) (D.content disk.old) (D.content disk.new) }
+        ensures called { Called D.Disk OneCall (IsNewFault result) disk.old disk.new }
     {
         let block = machine.hw.extents().block(0);
         self.unmark();
@@ -157,17 +143,8 @@ impl Hib {
         ensures ready { CanStep machine.new frames.new runs.new self.new }
         ensures memory { Leaves (change_of result self.old.stage) machine.old.hw frames.old frames.new }
         ensures machine { IsSameMachine machine.old machine.new }
-        ensures cause { IsNewFault result → HasRisen (D.faults disk.old) (D.faults disk.new) }
-        ensures faults { D.faults disk.old ≤ D.faults disk.new }
-        ensures calls { D.calls disk.new ≡ raised (D.calls disk.old) }
-        ensures orders { D.orders disk.new ≡ D.orders disk.old }
-        ensures blocks { D.block_count disk.new ≡ D.block_count disk.old }
-        ensures telling { D.tells_moments disk.new ≡ D.tells_moments disk.old }
-        ensures time { IsTrue (D.tells_moments disk.old) → Changes (Elapses (D.moment disk.old) (D.moment disk.new)
-            (D.left_since disk.old) (D.left_since disk.new)) (D.content disk.old) (D.content disk.new) }
+        ensures called { Called D.Disk OneCall (IsNewFault result) disk.old disk.new }
     {
-        keeps_area();
-        takes_slots();
         match disk.sync() {
             Ok(()) => {
                 self.give_up(machine, frames, runs);

@@ -1,10 +1,10 @@
-ghost use Rattle.std.specs.Prelude.{◌≡◌, false, ◌≤◌, ◌+◌, ◌<◌, ◌^◌, ℕ, IsTrue};
-ghost use Rattle.definitions.specs.Disk.{HasRisen, raised, Changes, Elapses};
+ghost use Rattle.std.specs.Prelude.{◌≡◌, false, ◌<◌};
 ghost use Rattle.protocol_laws.specs.Rows.{IsNewFault};
 ghost use Rattle.hib_core.specs.Hibernation.{is_idle};
 ghost use Rattle.plain_machine.specs.Step.{undone_fault};
 ghost use Rattle.plain_machine.specs.declared.held.Held.TheVariants.{Perhaps};
 ghost use Rattle.plain_machine.specs.declared.reply.Left.TheVariants.{Unsure};
+ghost use Rattle.sector_disk.specs.Called.{Called, OneCall};
 
 use crate::Hib;
 use crate::hib::Stage;
@@ -12,7 +12,6 @@ use frame_arena::Frames;
 use machine::Machine;
 use page_core::Failed;
 use plain_machine::{Held, Left, Reply, UndoCall};
-use protocol_laws::{keeps_area, takes_slots, undoes};
 use sector_disk::Disk;
 use sig_header::take_back;
 use swap_slots::FreeRuns;
@@ -46,17 +45,8 @@ impl Hib {
         ensures ready { CanStep machine.new frames.now runs.now self.new }
         ensures memory { Leaves (change_of result self.old.stage) machine.old.hw frames.now frames.now }
         ensures machine { IsSameMachine machine.old machine.new }
-        ensures cause { IsNewFault result → HasRisen (D.faults disk.old) (D.faults disk.new) }
-        ensures faults { D.faults disk.old ≤ D.faults disk.new }
-        ensures calls { D.calls disk.new ≡ raised (D.calls disk.old) }
-        ensures orders { D.orders disk.new ≡ D.orders disk.old }
-        ensures blocks { D.block_count disk.new ≡ D.block_count disk.old }
-        ensures telling { D.tells_moments disk.new ≡ D.tells_moments disk.old }
-        ensures time { IsTrue (D.tells_moments disk.old) → Changes (Elapses (D.moment disk.old) (D.moment disk.new)
-            (D.left_since disk.old) (D.left_since disk.new)) (D.content disk.old) (D.content disk.new) }
+        ensures called { Called D.Disk OneCall (IsNewFault result) disk.old disk.new }
     {
-        undoes();
-        keeps_area();
         let block = machine.hw.extents().block(0);
         let back = take_back(&self.header);
         let _ = self.header.as_bytes();
@@ -89,18 +79,8 @@ impl Hib {
         ensures ready { CanStep machine.new frames.new runs.new self.new }
         ensures memory { Leaves (change_of result self.old.stage) machine.old.hw frames.old frames.new }
         ensures machine { IsSameMachine machine.old machine.new }
-        ensures cause { IsNewFault result → HasRisen (D.faults disk.old) (D.faults disk.new) }
-        ensures faults { D.faults disk.old ≤ D.faults disk.new }
-        ensures calls { D.calls disk.new ≡ raised (D.calls disk.old) }
-        ensures orders { D.orders disk.new ≡ D.orders disk.old }
-        ensures blocks { D.block_count disk.new ≡ D.block_count disk.old }
-        ensures telling { D.tells_moments disk.new ≡ D.tells_moments disk.old }
-        ensures time { IsTrue (D.tells_moments disk.old) → Changes (Elapses (D.moment disk.old) (D.moment disk.new)
-            (D.left_since disk.old) (D.left_since disk.new)) (D.content disk.old) (D.content disk.new) }
+        ensures called { Called D.Disk OneCall (IsNewFault result) disk.old disk.new }
     {
-        undoes();
-        keeps_area();
-        takes_slots();
         match disk.sync() {
             Ok(()) => {
                 self.give_up(machine, frames, runs);

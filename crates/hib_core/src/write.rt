@@ -1,6 +1,5 @@
-ghost use Rattle.std.specs.Prelude.{◌≡◌, false, ◌≤◌, ◌+◌, ◌<◌, ◌^◌, ℕ, All, length, IsTrue};
+ghost use Rattle.std.specs.Prelude.{◌≡◌, false, ◌+◌, ◌<◌, All, length};
 ghost use Rattle.definitions.specs.Bytes.{IsPage};
-ghost use Rattle.definitions.specs.Disk.{HasRisen, raised, Changes, Elapses};
 ghost use Rattle.protocol_laws.specs.Rows.{IsNewFault};
 ghost use Rattle.plain_machine.specs.Shows.{seen_frames};
 ghost use Rattle.plain_machine.specs.declared.reply.Reply.TheVariants as reply;
@@ -8,6 +7,7 @@ ghost use Rattle.swap_slots.specs.Table.{LiesIn, Matches};
 ghost use Rattle.protocol_laws.specs.Writers.{slot_table_of};
 ghost use Rattle.sig_header.specs.AreaKind.{area_kind};
 ghost use Rattle.plain_machine.specs.UsableArea.{kind_fault};
+ghost use Rattle.sector_disk.specs.Called.{Called, OneCall};
 
 use crate::Hib;
 use crate::hib::Stage;
@@ -16,7 +16,6 @@ use image_write::WriteStep;
 use machine::{Hardware, Machine};
 use page_core::{Failed, Page};
 use plain_machine::{Left, NoSwap, Reply};
-use protocol_laws::{keeps_area, syncs, takes_slots, writer_writes, writes};
 use sector_disk::Disk;
 use sig_header::AreaKind;
 use swap_slots::{FreeRuns, SlotTable};
@@ -51,19 +50,8 @@ impl Hib {
         ensures works { is_idle result ≡ false }
         ensures ready { CanStep machine.now frames.new runs.new self.new }
         ensures memory { Leaves (change_of result self.old.stage) machine.now.hw frames.old frames.new }
-        ensures cause { IsNewFault result → HasRisen (D.faults disk.old) (D.faults disk.new) }
-        ensures faults { D.faults disk.old ≤ D.faults disk.new }
-        ensures calls { D.calls disk.new ≡ raised (D.calls disk.old) }
-        ensures orders { D.orders disk.new ≡ D.orders disk.old }
-        ensures blocks { D.block_count disk.new ≡ D.block_count disk.old }
-        ensures telling { D.tells_moments disk.new ≡ D.tells_moments disk.old }
-        ensures time { IsTrue (D.tells_moments disk.old) → Changes (Elapses (D.moment disk.old) (D.moment disk.new)
-            (D.left_since disk.old) (D.left_since disk.new)) (D.content disk.old) (D.content disk.new) }
+        ensures called { Called D.Disk OneCall (IsNewFault result) disk.old disk.new }
     {
-        writes();
-        writer_writes();
-        keeps_area();
-        takes_slots();
         match self.write_step(machine, frames, runs, disk) {
             WriteStep::More { .. } => self.go_on(Stage::Write),
             WriteStep::Done => self.go_on(Stage::Sync),
@@ -94,14 +82,7 @@ impl Hib {
         ensures pages { All IsPage frames.old }
         ensures size { length frames.new ≡ length frames.old }
         ensures matches { Matches frames.new (slot_table_of machine.now.hw) runs.new }
-        ensures cause { result ≡ WriteStep.Fault → HasRisen (D.faults disk.old) (D.faults disk.new) }
-        ensures faults { D.faults disk.old ≤ D.faults disk.new }
-        ensures calls { D.calls disk.new ≡ raised (D.calls disk.old) }
-        ensures orders { D.orders disk.new ≡ D.orders disk.old }
-        ensures blocks { D.block_count disk.new ≡ D.block_count disk.old }
-        ensures telling { D.tells_moments disk.new ≡ D.tells_moments disk.old }
-        ensures time { IsTrue (D.tells_moments disk.old) → Changes (Elapses (D.moment disk.old) (D.moment disk.new)
-            (D.left_since disk.old) (D.left_since disk.new)) (D.content disk.old) (D.content disk.new) }
+        ensures called { Called D.Disk OneCall (result ≡ WriteStep.Fault) disk.old disk.new }
     {
         let _ = frames.len();
         let (origs, copies, zeros) = (
@@ -130,18 +111,8 @@ impl Hib {
         ensures works { is_idle result ≡ false }
         ensures ready { CanStep machine.now frames.new runs.new self.new }
         ensures memory { Leaves (change_of result self.old.stage) machine.now.hw frames.old frames.new }
-        ensures cause { IsNewFault result → HasRisen (D.faults disk.old) (D.faults disk.new) }
-        ensures faults { D.faults disk.old ≤ D.faults disk.new }
-        ensures calls { D.calls disk.new ≡ raised (D.calls disk.old) }
-        ensures orders { D.orders disk.new ≡ D.orders disk.old }
-        ensures blocks { D.block_count disk.new ≡ D.block_count disk.old }
-        ensures telling { D.tells_moments disk.new ≡ D.tells_moments disk.old }
-        ensures time { IsTrue (D.tells_moments disk.old) → Changes (Elapses (D.moment disk.old) (D.moment disk.new)
-            (D.left_since disk.old) (D.left_since disk.new)) (D.content disk.old) (D.content disk.new) }
+        ensures called { Called D.Disk OneCall (IsNewFault result) disk.old disk.new }
     {
-        syncs();
-        keeps_area();
-        takes_slots();
         match disk.sync() {
             Ok(()) => self.go_on(Stage::Read),
             Err(Failed) => {
@@ -168,17 +139,8 @@ impl Hib {
         ensures works { is_idle result ≡ false }
         ensures ready { CanStep machine.now frames.new runs.new self.new }
         ensures memory { Leaves (change_of result self.old.stage) machine.now.hw frames.old frames.new }
-        ensures cause { IsNewFault result → HasRisen (D.faults disk.old) (D.faults disk.new) }
-        ensures faults { D.faults disk.old ≤ D.faults disk.new }
-        ensures calls { D.calls disk.new ≡ raised (D.calls disk.old) }
-        ensures orders { D.orders disk.new ≡ D.orders disk.old }
-        ensures blocks { D.block_count disk.new ≡ D.block_count disk.old }
-        ensures telling { D.tells_moments disk.new ≡ D.tells_moments disk.old }
-        ensures time { IsTrue (D.tells_moments disk.old) → Changes (Elapses (D.moment disk.old) (D.moment disk.new)
-            (D.left_since disk.old) (D.left_since disk.new)) (D.content disk.old) (D.content disk.new) }
+        ensures called { Called D.Disk OneCall (IsNewFault result) disk.old disk.new }
     {
-        syncs();
-        takes_slots();
         let block = machine.hw.extents().block(0);
         match disk.read(block as u32, &mut self.header) {
             Ok(()) => {}

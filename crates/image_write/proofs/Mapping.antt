@@ -1,5 +1,5 @@
 -- A map is written, and the next one begun.
-use Rattle.std.proofs.Common.{◌≡◌, ℕ, ◌+◌, ◌-◌, ◌*◌, ◌/◌, ◌%◌, ◌<◌, ◌≤◌, ◌⊎◌, List, [], length, get_or, take, drop, min, cond, eqb, refl, sym, ap, ap₂, ◌∙◌, subst, inl, inr, ⊎_elim, arith, true}
+use Rattle.std.proofs.Common.{◌≡◌, Bool, false, ℕ, ◌+◌, ◌-◌, ◌*◌, ◌/◌, ◌%◌, ◌<◌, ◌≤◌, ◌⊎◌, List, [], length, get_or, take, drop, min, cond, eqb, refl, sym, ap, ap₂, ◌∙◌, subst, inl, inr, ⊎_elim, arith, true}
 use Rattle.std.proofs.lemmas.Bool.{cases_eq, cond-true, cond-false, eq-eqb, ne_eqb}
 use Rattle.definitions.specs.SwapMap.{map_page}
 use Rattle.definitions.specs.Tables.{with_entry, with_entries}
@@ -137,3 +137,10 @@ succeeds Fault on = on
 
 pub not_last : (k writes : ℕ) (answer : WriteStep) → (answer ≡ Fault) ⊎ (answer ≡ after k writes) → GoesOn answer → k ≡ writes → ⊥
 not_last k writes answer is on e = ⊎_elim (λ fault. subst GoesOn fault on) (λ told. goes_on k writes answer told on e) is
+
+told_succeeds : (b : Bool) (k writes : ℕ) → Succeeds (cond b Done (More k writes))
+told_succeeds true k writes = tt
+told_succeeds false k writes = tt
+
+pub after_succeeds : (k writes : ℕ) → Succeeds (after k writes)
+after_succeeds k writes = told_succeeds (eqb k writes) k writes

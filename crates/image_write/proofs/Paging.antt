@@ -1,12 +1,16 @@
 -- A page of the image is placed: its slot is taken, and its block is the next entry of the map.
-use Rattle.std.proofs.Common.{◌≡◌, ℕ, ◌+◌, ◌*◌, ◌/◌, ◌%◌, ◌<◌, suc, List, [], ◌∷◌, ◌++◌, length, get_or, take, drop, cond, eqb, refl, sym, ap, ap₂, ◌∙◌, subst, inl, inr, arith, length-append, drop-cons, false}
+use Rattle.std.proofs.Common.{◌≡◌, ℕ, ◌+◌, ◌*◌, ◌/◌, ◌%◌, ◌<◌, suc, List, [], ◌∷◌, ◌++◌, Some, length, get_or, take, drop, cond, eqb, refl, sym, ap, ap₂, ◌∙◌, subst, inl, inr, arith, length-append, drop-cons, false}
 use Rattle.std.proofs.lemmas.Bool.{cases_lt, cond-true, cond-false, eq-eqb, ne_eqb}
 use Rattle.std.proofs.lemmas.List.FromFn.{length-map-range_with_len, map-range_with_len_more}
+use Rattle.std.specs.List.{slice_get}
 use Rattle.definitions.specs.Slots.{block_of}
 use Rattle.definitions.specs.Tables.{with_entry, with_entries}
+use Rattle.definitions.specs.Zones.{numbers}
 use Rattle.definitions.proofs.TableEntries.{IsPage-with_entry, HasTable-with_entry}
 use Rattle.swap_map.specs.MapPages.{MapEntries}
-use Rattle.swap_slots.specs.Table.{free_in}
+use Rattle.swap_slots.specs.Runs.{SlotRuns}
+use Rattle.swap_slots.specs.Table.{Matches, free_in}
+use Rattle.swap_slots.proofs.Matching.{free_numbers}
 use Rattle.plain_machine.specs.Laid.{page_place, map_place, laid_block, laid_entries, is_map_write, page_of_write}
 use Rattle.image_write.specs.Writing.{Writing, IsWriting, HasTaken, taken_after, writes_of, slots_of_write}
 use Rattle.image_write.proofs.Places.{IsPageWrite, page_write, taken_before_page, map_within}
@@ -199,3 +203,25 @@ frames_with_map free frames w h is_page full =
     ap₂ (λ (s t : ℕ). with_entry (with_entry frames w.table.first s 65536) w.table.first t 65536) (next_free free n frames w.table h.slots) full.slot
     ∙ sym (two_slots frames w.table.first (get_or free n 0) (get_or free (n + 1) 0) 65536)
     ∙ ap (λ (ss : List ℕ). with_entries frames w.table.first ss 65536) (sym slots)
+
+-- the least free slot is that of the next page
+pub slot_of_page : (free : List ℕ) (frames : List (List ℕ)) (w : Writing) (runs : SlotRuns) → IsWriting free frames w → is_map_write w.info.pages w.written ≡ false → Matches frames w.table runs →
+    slice_get (numbers runs.runs) 0 ≡ Some (get_or free (page_place (page_of_write w.written)) 0)
+slot_of_page free frames w runs h isn't matches =
+    let page = page_write w.info.pages w.written h.unfinished isn't in
+    let below = page.below in
+    let more = page.more in
+    let room = h.room in
+    let count = taken_before_page w.written below in
+    let at : taken_after w.written ≡ page_place (page_of_write w.written) = omega arith in
+    let lt : taken_after w.written < length free = omega arith in
+    ap (λ (xs : List ℕ). slice_get xs 0) (free_numbers frames w.table runs matches ∙ h.slots.left ∙ drop-cons free (taken_after w.written) 0 lt)
+    ∙ ap (λ (i : ℕ). Some (get_or free i 0)) at
+
+pub place_of_page : (free : List ℕ) (frames : List (List ℕ)) (w : Writing) → IsWriting free frames w → is_map_write w.info.pages w.written ≡ false → page_place (page_of_write w.written) < writes_of w.info
+place_of_page free frames w h isn't =
+    let page = page_write w.info.pages w.written h.unfinished isn't in
+    let below = page.below in
+    let more = page.more in
+    let count = taken_before_page w.written below in
+    omega arith

@@ -1,5 +1,5 @@
 ghost use Rattle.std.specs.Prelude.{◌≡◌, ◌⊎◌, ℕ, ◌+◌, ◌-◌, ◌*◌, ◌/◌, ◌%◌, ◌^◌, ◌<◌, ◌≤◌, List, ◌↔◌, false, true, IsTrue, All, length, take, slice_index, option_copied};
-ghost use Rattle.definitions.specs.Disk.{Changes, Elapses, raised, HasRisen};
+ghost use Rattle.definitions.specs.Disk.{Changes};
 ghost use Rattle.definitions.specs.Bytes.{IsPage};
 ghost use Rattle.definitions.specs.Slots.{block_of};
 ghost use Rattle.image_write.specs.Answers.{after};
@@ -10,6 +10,7 @@ ghost use Rattle.plain_machine.specs.Image.{stream_pages};
 ghost use Rattle.swap_slots.specs.Table.{LiesIn, Matches, free_in};
 ghost use Rattle.pfn_pack.specs.Places.{members_in};
 ghost use Rattle.plain_machine.specs.Laid.{laid_block, is_map_write, page_of_write, page_place};
+ghost use Rattle.sector_disk.specs.Called.{Called, OneCall};
 
 use crate::WriteStep;
 use crate::copies::Cursor;
@@ -131,14 +132,7 @@ impl Writer {
         ensures failed { (free : List ℕ) → IsWriting free frames.old self.old → result ≡ WriteStep.Fault → let page = page_next (stream_of_sets self.old.info frames.old origs.now.members copies.now.members (members_in (option_copied zeros.entry))) self.old in
             Changes (FailsToMake (write_next free self.old page)) (D.content disk.old) (D.content disk.new) }
 
-        ensures cause { result ≡ WriteStep.Fault → HasRisen (D.faults disk.old) (D.faults disk.new) }
-        ensures faults { D.faults disk.old ≤ D.faults disk.new }
-        ensures calls { D.calls disk.new ≡ raised (D.calls disk.old) }
-        ensures orders { D.orders disk.new ≡ D.orders disk.old }
-        ensures blocks { D.block_count disk.new ≡ D.block_count disk.old }
-        ensures telling { D.tells_moments disk.new ≡ D.tells_moments disk.old }
-        ensures time { IsTrue (D.tells_moments disk.old) → Changes (Elapses (D.moment disk.old) (D.moment disk.new)
-            (D.left_since disk.old) (D.left_since disk.new)) (D.content disk.old) (D.content disk.new) }
+        ensures called { Called D.Disk OneCall (result ≡ WriteStep.Fault) disk.old disk.new }
 
         ensures image { IsSameImage self.old self.new }
         ensures made { Succeeds result → self.new.written ≡ self.old.written + 1 }
@@ -158,8 +152,7 @@ impl Writer {
             return self.write_head(frames, runs, disk, origs, zeros);
         }
         let copy = self.next_copy(frames, origs, copies, zeros);
-        let page = Page::from_bytes(frames.page(copy));
-        self.write_page(frames, runs, disk, &page)
+        self.write_copy(frames, runs, disk, copy)
     }
 
     /// Makes the next write, as `step` does, of a page that is given where it is one of a page of the image.
@@ -180,14 +173,7 @@ impl Writer {
         ensures failed { (free : List ℕ) → IsWriting free frames.old self.old → result ≡ WriteStep.Fault →
             Changes (FailsToMake (write_next free self.old page.now)) (D.content disk.old) (D.content disk.new) }
 
-        ensures cause { result ≡ WriteStep.Fault → HasRisen (D.faults disk.old) (D.faults disk.new) }
-        ensures faults { D.faults disk.old ≤ D.faults disk.new }
-        ensures calls { D.calls disk.new ≡ raised (D.calls disk.old) }
-        ensures orders { D.orders disk.new ≡ D.orders disk.old }
-        ensures blocks { D.block_count disk.new ≡ D.block_count disk.old }
-        ensures telling { D.tells_moments disk.new ≡ D.tells_moments disk.old }
-        ensures time { IsTrue (D.tells_moments disk.old) → Changes (Elapses (D.moment disk.old) (D.moment disk.new)
-            (D.left_since disk.old) (D.left_since disk.new)) (D.content disk.old) (D.content disk.new) }
+        ensures called { Called D.Disk OneCall (result ≡ WriteStep.Fault) disk.old disk.new }
 
         ensures image { IsSameImage self.old self.new }
         ensures made { Succeeds result → self.new.written ≡ self.old.written + 1 }
@@ -232,14 +218,7 @@ impl Writer {
             let page = page_next (stream_pages self.old.info (marked_numbers origs.now.members (members_in (option_copied zeros.entry))) saved) self.old in
             Changes (FailsToMake (write_next free self.old page)) (D.content disk.old) (D.content disk.new) }
 
-        ensures cause { result ≡ WriteStep.Fault → HasRisen (D.faults disk.old) (D.faults disk.new) }
-        ensures faults { D.faults disk.old ≤ D.faults disk.new }
-        ensures calls { D.calls disk.new ≡ raised (D.calls disk.old) }
-        ensures orders { D.orders disk.new ≡ D.orders disk.old }
-        ensures blocks { D.block_count disk.new ≡ D.block_count disk.old }
-        ensures telling { D.tells_moments disk.new ≡ D.tells_moments disk.old }
-        ensures time { IsTrue (D.tells_moments disk.old) → Changes (Elapses (D.moment disk.old) (D.moment disk.new)
-            (D.left_since disk.old) (D.left_since disk.new)) (D.content disk.old) (D.content disk.new) }
+        ensures called { Called D.Disk OneCall (result ≡ WriteStep.Fault) disk.old disk.new }
 
         ensures image { IsSameImage self.old self.new }
         ensures made { Succeeds result → self.new.written ≡ self.old.written + 1 }
@@ -275,14 +254,7 @@ impl Writer {
         ensures failed { (free : List ℕ) → IsWriting free frames.old self.old → result ≡ WriteStep.Fault →
             Changes (FailsToMake (write_next free self.old page.now)) (D.content disk.old) (D.content disk.new) }
 
-        ensures cause { result ≡ WriteStep.Fault → HasRisen (D.faults disk.old) (D.faults disk.new) }
-        ensures faults { D.faults disk.old ≤ D.faults disk.new }
-        ensures calls { D.calls disk.new ≡ raised (D.calls disk.old) }
-        ensures orders { D.orders disk.new ≡ D.orders disk.old }
-        ensures blocks { D.block_count disk.new ≡ D.block_count disk.old }
-        ensures telling { D.tells_moments disk.new ≡ D.tells_moments disk.old }
-        ensures time { IsTrue (D.tells_moments disk.old) → Changes (Elapses (D.moment disk.old) (D.moment disk.new)
-            (D.left_since disk.old) (D.left_since disk.new)) (D.content disk.old) (D.content disk.new) }
+        ensures called { Called D.Disk OneCall (result ≡ WriteStep.Fault) disk.old disk.new }
 
         ensures image { IsSameImage self.old self.new }
         ensures made { Succeeds result → self.new.written ≡ self.old.written + 1 }
@@ -301,6 +273,61 @@ impl Writer {
             Ok(()) => told(self.written, writes),
             Err(Failed) => WriteStep::Fault,
         }
+    }
+
+    /// Writes a copy frame to the next free slot, as `write_page` does a page. It is lent to the disk, so its slot is taken afterwards.
+    fn write_copy<D: Disk>(
+        &mut self,
+        frames: &mut Frames,
+        runs: &mut FreeRuns,
+        disk: &mut D,
+        copy: u32,
+    ) -> WriteStep
+        requires table { LiesIn frames.old self.old.table }
+        requires matches { Matches frames.old self.old.table runs.old }
+        requires writing { IsReady (D.block_count disk.old) frames.old self.old }
+        requires copy { copy < length frames.old }
+        requires page { is_map_write self.old.info.pages self.old.written ≡ false }
+
+        ensures answer { (result ≡ WriteStep.Fault) ⊎ (result ≡ after (self.old.written + 1) (writes_of self.old.info)) }
+        ensures written { (free : List ℕ) → IsWriting free frames.old self.old → Succeeds result →
+            Changes (Makes (write_next free self.old (frame frames.old copy))) (D.content disk.old) (D.content disk.new) }
+        ensures failed { (free : List ℕ) → IsWriting free frames.old self.old → result ≡ WriteStep.Fault →
+            Changes (FailsToMake (write_next free self.old (frame frames.old copy))) (D.content disk.old) (D.content disk.new) }
+
+        ensures called { Called D.Disk OneCall (result ≡ WriteStep.Fault) disk.old disk.new }
+
+        ensures image { IsSameImage self.old self.new }
+        ensures made { Succeeds result → self.new.written ≡ self.old.written + 1 }
+        ensures writing { (free : List ℕ) → IsWriting free frames.old self.old → GoesOn result → IsWriting free frames.new self.new }
+        ensures cursor { IsSameCursor self.old self.new }
+
+        ensures taken { (free : List ℕ) → IsWriting free frames.old self.old →
+            frames.new ≡ with_entries frames.old self.old.table.first (slots_of_write self.old.info free self.old.written) 65536 }
+        ensures len { length frames.new ≡ length frames.old }
+        ensures runs { Matches frames.new self.old.table runs.new }
+        ensures room { runs.new.room ≡ runs.old.room }
+    {
+        let of = writes(&self.info);
+        let block = self.next_block(frames, runs);
+        let answer = disk.write(block, frames.page(copy));
+        self.take_page(frames, runs);
+        match answer {
+            Ok(()) => told(self.written, of),
+            Err(Failed) => WriteStep::Fault,
+        }
+    }
+
+    /// The block of the least free slot, which is that of the next page of the image.
+    fn next_block(&self, frames: &Frames, runs: &FreeRuns) -> u32
+        requires table { LiesIn frames.now self.now.table }
+        requires matches { Matches frames.now self.now.table runs.now }
+        requires writing { (free : List ℕ) × IsWriting free frames.now self.now }
+        requires page { is_map_write self.now.info.pages self.now.written ≡ false }
+        ensures block { (free : List ℕ) → IsWriting free frames.now self.now → result ≡ laid_block self.now.extents free (page_place (page_of_write self.now.written)) }
+    {
+        let slot = runs.first().unwrap();
+        self.extents.block(slot) as u32
     }
 
     /// Takes the slot of the next page of the image, and with the last entry of the map that of the next map. The answer is the
@@ -343,14 +370,7 @@ impl Writer {
             Changes (Makes (map_next free self.old)) (D.content disk.old) (D.content disk.new) }
         ensures failed { (free : List ℕ) (memory : List (List ℕ)) → IsWriting free memory self.old → result ≡ WriteStep.Fault →
             Changes (FailsToMake (map_next free self.old)) (D.content disk.old) (D.content disk.new) }
-        ensures cause { result ≡ WriteStep.Fault → HasRisen (D.faults disk.old) (D.faults disk.new) }
-        ensures faults { D.faults disk.old ≤ D.faults disk.new }
-        ensures calls { D.calls disk.new ≡ raised (D.calls disk.old) }
-        ensures orders { D.orders disk.new ≡ D.orders disk.old }
-        ensures blocks { D.block_count disk.new ≡ D.block_count disk.old }
-        ensures telling { D.tells_moments disk.new ≡ D.tells_moments disk.old }
-        ensures time { IsTrue (D.tells_moments disk.old) → Changes (Elapses (D.moment disk.old) (D.moment disk.new)
-            (D.left_since disk.old) (D.left_since disk.new)) (D.content disk.old) (D.content disk.new) }
+        ensures called { Called D.Disk OneCall (result ≡ WriteStep.Fault) disk.old disk.new }
 
         ensures image { IsSameImage self.old self.new }
         ensures made { Succeeds result → self.new.written ≡ self.old.written + 1 }

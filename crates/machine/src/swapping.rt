@@ -1,17 +1,18 @@
-ghost use Rattle.std.specs.Prelude.{◌≡◌, ◌≢◌, ◌⊎◌, ℕ, ◌-◌, ◌+◌, ◌/◌, ◌<◌, ◌≤◌, ◌^◌, ◌==◌, ◌&&◌, nat_lt, Bool, true, length, IsSome, IsTrue, IfSome, MatchOption, Contains, All, set, is_ok, slice_get, slice_set};
+ghost use Rattle.std.specs.Prelude.{◌≡◌, ◌-◌, ◌/◌, ◌<◌, ◌==◌, ◌&&◌, nat_lt, length, IsSome, IsTrue, IfSome, Contains, All, set, is_ok, slice_get, slice_set};
 ghost use Rattle.definitions.specs.Bytes.{IsPage};
-ghost use Rattle.definitions.specs.Disk.{Content, HasRisen, raised, Changes, Elapses, Writes, FailsToWrite, as_it_reads, block};
-ghost use Rattle.definitions.specs.Tables.{frame, with_entry, with_frame, owner_of};
+ghost use Rattle.definitions.specs.Disk.{Writes, block};
+ghost use Rattle.definitions.specs.Tables.{frame, with_entry};
 ghost use Rattle.definitions.specs.Zones.{numbers, top};
 ghost use Rattle.swap_slots.specs.Table.{LiesIn, Matches, free_in};
 ghost use Rattle.plain_machine.specs.Faults.{IsFault};
 ghost use Rattle.plain_machine.specs.Fitting.{IsTask};
-ghost use Rattle.plain_machine.specs.Machine.{block_of_slot, frame_entry, raw_slot_entry, IsOfTable, IsHardware};
+ghost use Rattle.plain_machine.specs.Machine.{block_of_slot, raw_slot_entry, IsOfTable, IsHardware};
 ghost use Rattle.plain_machine.specs.declared.event.TaskOp.TheVariants as op;
 ghost use Rattle.plain_machine.specs.declared.reply.Reply.TheVariants as reply;
 ghost use Rattle.plain_machine.specs.declared.reply.Left.TheVariants.{Same};
 ghost use Rattle.machine.specs.Landing.{EndsOut, EndsIn};
 ghost use Rattle.machine.specs.Running.{slot_table_of};
+ghost use Rattle.sector_disk.specs.Called.{Called, OneCall};
 
 use crate::tasks::not_own;
 use crate::{Flight, Hardware, Machine};
@@ -49,14 +50,7 @@ impl Machine {
         ensures machine { self.new ≡ record self.old { flights = slice_set self.old.flights (t - 1) Flight.Nothing } }
         ensures len { length frames.new ≡ length frames.old }
         ensures room { runs.new.room ≡ runs.old.room }
-        ensures cause { IsFault result → HasRisen (D.faults disk.old) (D.faults disk.new) }
-        ensures faults { D.faults disk.old ≤ D.faults disk.new }
-        ensures calls { D.calls disk.new ≡ raised (D.calls disk.old) }
-        ensures orders { D.orders disk.new ≡ D.orders disk.old }
-        ensures blocks { D.block_count disk.new ≡ D.block_count disk.old }
-        ensures telling { D.tells_moments disk.new ≡ D.tells_moments disk.old }
-        ensures time { IsTrue (D.tells_moments disk.old) → Changes (Elapses (D.moment disk.old) (D.moment disk.new)
-            (D.left_since disk.old) (D.left_since disk.new)) (D.content disk.old) (D.content disk.new) }
+        ensures called { Called D.Disk OneCall (IsFault result) disk.old disk.new }
     {
         let reply = self.end_flight(frames, runs, disk, t);
         self.set_flight(t, Flight::Nothing);
@@ -80,14 +74,7 @@ impl Machine {
         ensures matches { Matches frames.new (slot_table_of self.now.hw) runs.new }
         ensures len { length frames.new ≡ length frames.old }
         ensures room { runs.new.room ≡ runs.old.room }
-        ensures cause { IsFault result → HasRisen (D.faults disk.old) (D.faults disk.new) }
-        ensures faults { D.faults disk.old ≤ D.faults disk.new }
-        ensures calls { D.calls disk.new ≡ raised (D.calls disk.old) }
-        ensures orders { D.orders disk.new ≡ D.orders disk.old }
-        ensures blocks { D.block_count disk.new ≡ D.block_count disk.old }
-        ensures telling { D.tells_moments disk.new ≡ D.tells_moments disk.old }
-        ensures time { IsTrue (D.tells_moments disk.old) → Changes (Elapses (D.moment disk.old) (D.moment disk.new)
-            (D.left_since disk.old) (D.left_since disk.new)) (D.content disk.old) (D.content disk.new) }
+        ensures called { Called D.Disk OneCall (IsFault result) disk.old disk.new }
     {
         match self.flight(t) {
             Flight::Out { slot, p } => {
@@ -241,20 +228,12 @@ fn end_out<D: Disk>(
     ensures matches { Matches frames.new (slot_table_of hw.now) runs.new }
     ensures len { length frames.new ≡ length frames.old }
     ensures room { runs.new.room ≡ runs.old.room }
-    ensures cause { IsFault result → HasRisen (D.faults disk.old) (D.faults disk.new) }
-    ensures faults { D.faults disk.old ≤ D.faults disk.new }
-    ensures calls { D.calls disk.new ≡ raised (D.calls disk.old) }
-    ensures orders { D.orders disk.new ≡ D.orders disk.old }
-    ensures blocks { D.block_count disk.new ≡ D.block_count disk.old }
-    ensures telling { D.tells_moments disk.new ≡ D.tells_moments disk.old }
-    ensures time { IsTrue (D.tells_moments disk.old) → Changes (Elapses (D.moment disk.old) (D.moment disk.new)
-        (D.left_since disk.old) (D.left_since disk.new)) (D.content disk.old) (D.content disk.new) }
+    ensures called { Called D.Disk OneCall (IsFault result) disk.old disk.new }
 {
     // Each page frame has 4096 bytes, so that an entry that is set leaves the others.
     let _ = frames.len();
     let table = slot_table(hw);
-    let page = Page::from_bytes(frames.page(p));
-    match disk.write(block, &page) {
+    match disk.write(block, frames.page(p)) {
         Ok(()) => Reply::Written { slot },
         Err(Failed) => {
             table.give(frames, runs, slot);
@@ -286,14 +265,7 @@ fn end_in<D: Disk>(
     ensures len { length frames.new ≡ length frames.old }
     ensures room { runs.new.room ≡ runs.old.room }
     ensures content { D.content disk.new ≡ D.content disk.old }
-    ensures cause { IsFault result → HasRisen (D.faults disk.old) (D.faults disk.new) }
-    ensures faults { D.faults disk.old ≤ D.faults disk.new }
-    ensures calls { D.calls disk.new ≡ raised (D.calls disk.old) }
-    ensures orders { D.orders disk.new ≡ D.orders disk.old }
-    ensures blocks { D.block_count disk.new ≡ D.block_count disk.old }
-    ensures telling { D.tells_moments disk.new ≡ D.tells_moments disk.old }
-    ensures time { IsTrue (D.tells_moments disk.old) → Changes (Elapses (D.moment disk.old) (D.moment disk.new)
-        (D.left_since disk.old) (D.left_since disk.new)) (D.content disk.old) (D.content disk.new) }
+    ensures called { Called D.Disk OneCall (IsFault result) disk.old disk.new }
 {
     // Each page frame has 4096 bytes, so that an entry that is set leaves the others.
     let _ = frames.len();

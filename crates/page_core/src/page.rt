@@ -1,5 +1,5 @@
 ghost use Rattle.std.specs.Prelude.{◌≡◌, ℕ, ◌+◌, ◌*◌, ◌<◌, ◌≤◌, ◌↔◌, IsTrue, List, length, slice_index, EachIndex};
-ghost use Rattle.definitions.specs.Bytes.{number_at, with_number, word, with_word, zero_page, IsPage};
+ghost use Rattle.definitions.specs.Bytes.{number_at, with_number, word, with_word, zero_page, filled_page, IsPage};
 
 use byteorder::{ByteOrder, LittleEndian};
 use std::marker::Model;
@@ -14,9 +14,11 @@ impl Model for Page {
     ghost Value = { List ℕ };
 
     ghost view = { λ p. p.bytes };
+
+    ghost invariant = { λ p. IsPage p.bytes };
 }
 
-#[tactic(auto, unfolding(definitions::specs::Bytes::zero_page, definitions::specs::Bytes::with_bytes, definitions::specs::Bytes::number_at, definitions::specs::Bytes::with_number))]
+#[tactic(auto, unfolding(definitions::specs::Bytes::zero_page, definitions::specs::Bytes::filled_page, definitions::specs::Bytes::with_bytes, definitions::specs::Bytes::number_at, definitions::specs::Bytes::with_number))]
 impl Page {
     /// The page of zeros.
     pub fn zero() -> Page
@@ -25,11 +27,30 @@ impl Page {
         Page { bytes: [0; 4096] }
     }
 
+    /// The page whose every byte is `byte`.
+    pub fn filled(byte: u8) -> Page
+        ensures bytes { result ≡ filled_page byte }
+        ensures page { IsPage result }
+    {
+        Page {
+            bytes: [byte; 4096],
+        }
+    }
+
     pub fn from_bytes(b: &[u8; 4096]) -> Page
         ensures bytes { result ≡ b.now }
         ensures page { IsPage result }
     {
         Page { bytes: *b }
+    }
+
+    /// Takes the bytes of a slice of 4096 in place of its own.
+    pub fn copy_from_slice(&mut self, b: &[u8])
+        requires { length b.now ≡ 4096 }
+        ensures bytes { self.new ≡ b.now }
+        ensures page { IsPage self.new }
+    {
+        self.bytes.copy_from_slice(b);
     }
 
     pub fn as_bytes(&self) -> &[u8; 4096]

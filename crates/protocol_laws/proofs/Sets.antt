@@ -19,6 +19,7 @@ use Rattle.image_laws.proofs.Decoding.{is_skipped}
 use Rattle.image_write.specs.Copies.{with_data as pairs_with_data, data_pages, has_data as pair_has_data}
 use Rattle.image_write.specs.Writing.{stream_of_sets, AreOfImage}
 use Rattle.protocol_laws.specs.Slots.{HasSets}
+use Rattle.protocol_laws.specs.Memory.{ShownLists, WritesStream}
 
 -- Lists of the frame table.
 
@@ -38,6 +39,9 @@ unfolding free_frames
 shown_unused h m frames hw fits same =
     filter_agree_within (λ p. eqb (entry_at frames h.frame_table p) 1) (λ p. eqb (entry_at m h.frame_table p) 1) (numbers h.zones)
     (λ p in'. ap (λ (entry : ℕ). eqb entry 1) (shown_entry h m frames p hw fits same in'))
+
+pub shown_lists : ShownLists
+shown_lists h m frames hw fits same = (shown_saveable h m frames hw fits same, shown_unused h m frames hw fits same)
 
 -- The free slots, where none is the image's.
 
@@ -120,3 +124,7 @@ are_of_image i f origs copies zeros say sets =
       copied = count;
       pages = ap (λ (d : ℕ). d + meta_of (n_of i) + 1) (sym paired);
     }
+
+-- The stream that is written from the sets, and that it is the image's.
+pub writes_stream : WritesStream
+writes_stream i m origs copies zeros say sets = (stream_is i m origs copies zeros say sets, are_of_image i m origs copies zeros say sets)

@@ -19,14 +19,14 @@ use Rattle.plain_machine.specs.declared.event.Loader.{Loader}
 use Rattle.plain_machine.specs.declared.event.Loader.TheVariants as loader
 use Rattle.plain_machine.specs.declared.reply.Reply.{Reply}
 use Rattle.plain_machine.specs.declared.reply.Reply.TheVariants as reply
-use Rattle.protocol_laws.specs.LoadRows.{ShowsNoneRead}
-use Rattle.protocol_laws.specs.Resuming.{LoadBegins}
 use Rattle.machine.specs.declared.machine.Machine.{Machine}
 use Rattle.resume_core.specs.Loading.{shown_by}
 use Rattle.resume_core.specs.Row.{BeginsRow, HasLoaderMemory, KnowsAt}
 use Rattle.resume_core.specs.declared.load.Load.{Load}
 use Rattle.resume_core.specs.declared.load.Stage.{Stage}
 use Rattle.resume_core.specs.declared.load.Stage.TheVariants as stage
+use Rattle.protocol_laws.proofs.LoadRows.{shows_none_read}
+use Rattle.protocol_laws.proofs.Finding.{load_begins}
 use Rattle.resume_core.proofs.Finding.{activity_is}
 
 -- The loader's memory is what is kept, where the loader is a dump's.
@@ -58,7 +58,7 @@ begin_step h v held kept l check none =
     subst (λ (o : Option Reply). Contains (refused_or (off held kept) o (accepted h v (off held kept) (event.Resume l check))) (reply.Loading 0, loading (begun held kept l check) 0)) (sym none) (0, omega arith, refl)
 
 pub record HasBegun (machine : Machine) (frames frames' : Memory) (load : Load) (l : Loader) (check : IdentCheck) : Type 0 where
-  pub kept : (p : ℕ) → p < top machine.hw.zones → frame frames' p ≡ loader_frame frames l p
+  pub kept : (p : ℕ) → p < top machine.hw.zones → (Contains (left_free machine.hw frames l) p → ⊥) → frame frames' p ≡ loader_frame frames l p
   pub free : load.waiting.free ≡ left_free machine.hw frames l
   pub none : load.waiting.originals ≡ []
   pub is_loader : load.loader ≡ l
@@ -67,8 +67,8 @@ pub record HasBegun (machine : Machine) (frames frames' : Memory) (load : Load) 
   pub origs : load.origs.members ≡ []
   pub zeros : load.zeros.members ≡ []
 
-pub begun_row : (machine : Machine) (frames frames' : Memory) (load : Load) (x : Loader) (check : IdentCheck) → LoadBegins → ShowsNoneRead → HasBegun machine frames frames' load x check → BeginsRow machine frames frames' load x check (reply.Loading 0)
-begun_row machine frames frames' load x check begins none_read is shown c held kept has stands =
+pub begun_row : (machine : Machine) (frames frames' : Memory) (load : Load) (x : Loader) (check : IdentCheck) → HasBegun machine frames frames' load x check → BeginsRow machine frames frames' load x check (reply.Loading 0)
+begun_row machine frames frames' load x check is shown c held kept has stands =
     let h = machine.hw in
     let l = begun held kept x check in
     let shows = stands.parts.0 in (
@@ -76,8 +76,8 @@ begun_row machine frames frames' load x check begins none_read is shown c held k
       record {
         step = begin_step h (disk.as_it_reads c) held kept x check (goes h held kept frames shown x check has shows);
         stands = record {
-          stands = begins h shown (shown_by machine frames' load) c held kept l stands refl refl
-              (none_read h (shown_by machine frames' load) l 0 (omega arith) (activity_is load stage.Sync is.at) (λ p lt free. is.kept p lt ∙ sym (page_is h kept frames shown x p has shows))
+          stands = load_begins h shown (shown_by machine frames' load) c held kept l stands refl refl
+              (shows_none_read h (shown_by machine frames' load) l 0 (omega arith) (activity_is load stage.Sync is.at) (λ p lt free. is.kept p lt (λ member. free (subst (λ (members : List ℕ). Contains members p) (sym (free_is h kept frames shown x has shows)) member)) ∙ sym (page_is h kept frames shown x p has shows))
               (ap (λ (xs : List ℕ). zip xs (waiting_pages frames' load.waiting)) is.none));
           resume = record {
             loader = record { loader = is.is_loader; free = is.free ∙ sym (free_is h kept frames shown x has shows); check = is.checks };

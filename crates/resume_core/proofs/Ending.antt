@@ -24,7 +24,7 @@ use Rattle.plain_machine.specs.declared.event.Ranges.{Ranges}
 use Rattle.plain_machine.specs.declared.held.Held.TheVariants.{No}
 use Rattle.plain_machine.specs.declared.no_swap.NoSwap.{NoSwap}
 use Rattle.plain_machine.specs.declared.reply.Reply.TheVariants as reply
-use Rattle.protocol_laws.specs.LoadRows.{IsFoundOn, ReadStopRow, ReadResumedRow, ReadResumedOffRow, running_with}
+use Rattle.protocol_laws.specs.LoadRows.{IsFoundOn, running_with}
 use Rattle.protocol_laws.proofs.LoadReplies.{a_mark}
 use Rattle.protocol_laws.proofs.OwnCauses.{own_sayable}
 use Rattle.protocol_laws.proofs.Tracing.{restored_is}
@@ -45,6 +45,7 @@ use Rattle.resume_core.specs.declared.load.Stage.TheVariants as stage
 use Rattle.resume_core.proofs.Answering.{ends_reply}
 use Rattle.resume_core.proofs.Answering as ar
 use Rattle.resume_core.proofs.Facts.{leads}
+use Rattle.protocol_laws.proofs.LoadRows.{read_stop_row, read_resumed_row, read_resumed_off_row}
 use Rattle.resume_core.proofs.Finding.{activity_is}
 
 -- The tables.
@@ -134,8 +135,8 @@ restored_is_by h l v hw not_yet is = absurd is
 restored_is_by h l v hw (found_own i) is = restored_is h v i l.dump l.loader (record { hardware = hw; holds = is.0; own = is.1; sayable = own_sayable h v i hw is.1 })
 restored_is_by h l v hw (found_other w) is = ap (λ (x : disk.Image). restored_in h l.dump x l.loader) is
 
-pub bad_tables_row : (machine : Machine) (frames frames' : Memory) (load load' : Load) (ranges : Ranges) (f : ℕ) → ReadStopRow → load.loader ≡ loader.Ranges ranges → IsHome machine frames frames' load → IsFaulty machine frames' load f → load'.stage ≡ stage.Rest → EndsOn machine frames load machine frames' load' (reply.BadTables f)
-bad_tables_row machine frames frames' load load' ranges f stops by is faulty rest c l v k read places room over =
+pub bad_tables_row : (machine : Machine) (frames frames' : Memory) (load load' : Load) (ranges : Ranges) (f : ℕ) → load.loader ≡ loader.Ranges ranges → IsHome machine frames frames' load → IsFaulty machine frames' load f → load'.stage ≡ stage.Rest → EndsOn machine frames load machine frames' load' (reply.BadTables f)
+bad_tables_row machine frames frames' load load' ranges f by is faulty rest c l v k read places room over =
     let h = machine.hw in
     let scripted : l.loader ≡ loader.Ranges ranges = sym read.loader.loader ∙ by in
     let memory = home machine frames frames' load c l v k is read places over in
@@ -144,7 +145,7 @@ bad_tables_row machine frames frames' load load' ranges f stops by is faulty res
     (last_refused h l.dump v ranges (reply.BadTables f) (subst (λ (x : Loader). tables_cause h v (restored_in h l.dump v x) ≡ Some (reply.BadTables f)) scripted (subst (λ (m : Memory). tables_cause h v m ≡ Some (reply.BadTables f)) memory cause))) in (
       off nothing None,
       leads machine frames' load' (reply.BadTables f) c c (loading l k) (off nothing None) tt
-          (stops h read.shown (shown_by machine frames' load') c l v k (reply.BadTables f) read.reading (ends_reply h l.dump v l.loader l.check k read.reading.late read.sound room (omega arith) ∙ at_last) tt (activity_is load' stage.Rest rest, refl)) tt,
+          (read_stop_row h read.shown (shown_by machine frames' load') c l v k (reply.BadTables f) read.reading (ends_reply h l.dump v l.loader l.check k read.reading.late read.sound room (omega arith) ∙ at_last) tt (activity_is load' stage.Rest rest, refl)) tt,
     )
 
 no_fault : (h : Hardware) (v : disk.Image) (m : Memory) → tables_cause h v m ≡ None → tables_fault h m ≡ None
@@ -157,9 +158,9 @@ no_fault h v m good = by (tables_fault h m) refl where
 abbrev pub running : Machine → Area → Machine
 running machine area = record machine { area = Ok area; held = No; flights = replicate 64 Nothing }
 
-pub resumed_row : (machine : Machine) (frames frames' : Memory) (load load' : Load) (ranges : Ranges) (area : Area) (n : ℕ) → ReadResumedRow → load.loader ≡ loader.Ranges ranges → All IsPage frames' → IsHome machine frames frames' load → IsGood machine frames' load → area_kind (taken_back load.header) ≡ Swap area → n ≡ length load.origs.members → load'.stage ≡ stage.Runs →
+pub resumed_row : (machine : Machine) (frames frames' : Memory) (load load' : Load) (ranges : Ranges) (area : Area) (n : ℕ) → load.loader ≡ loader.Ranges ranges → All IsPage frames' → IsHome machine frames frames' load → IsGood machine frames' load → area_kind (taken_back load.header) ≡ Swap area → n ≡ length load.origs.members → load'.stage ≡ stage.Runs →
     EndsOn machine frames load (running machine area) frames' load' (reply.Resumed n)
-resumed_row machine frames frames' load load' ranges area n resumed by pages is good kind count runs_now c l v k read places room over =
+resumed_row machine frames frames' load load' ranges area n by pages is good kind count runs_now c l v k read places room over =
     let h = machine.hw in
     let scripted : l.loader ≡ loader.Ranges ranges = sym read.loader.loader ∙ by in
     let memory = home machine frames frames' load c l v k is read places over in
@@ -170,7 +171,7 @@ resumed_row machine frames frames' load load' ranges area n resumed by pages is 
     let at_last : last_reply h l.dump v l.loader ≡ reply.Resumed (info_in h v).image_pages = subst (λ (x : Loader). last_reply h l.dump v x ≡ reply.Resumed (info_in h v).image_pages) (sym scripted)
     (last_resumed h l.dump v ranges (subst (λ (x : Loader). tables_cause h v (restored_in h l.dump v x) ≡ None) scripted (subst (λ (m : Memory). tables_cause h v m ≡ None) memory cause))) in
     let shown' = shown_by (running machine area) frames' load' in
-    let goes = resumed h read.shown shown' c machine.blocks l ranges v k n read.whole read.reading scripted
+    let goes = read_resumed_row h read.shown shown' c machine.blocks l ranges v k n read.whole read.reading scripted
     (ends_reply h l.dump v l.loader l.check k read.reading.late read.sound room (omega arith) ∙ at_last ∙ ap reply.Resumed (sym saved)) (activity_is load' stage.Runs runs_now)
     (runs_as_restored h l v No None shown'.flights frames' refl refl (λ t. flights-none 64 t) memory fits) (names_none h shown' fits) in (
       on (running_with h l v goes.0),
@@ -179,9 +180,9 @@ resumed_row machine frames frames' load load' ranges area n resumed by pages is 
     )
 
 -- after a dump's loader the machine is off
-pub resumed_off_row : (machine : Machine) (frames frames' : Memory) (load load' : Load) (n : ℕ) → ReadResumedOffRow → load.loader ≡ loader.Table → IsHome machine frames frames' load → n ≡ length load.origs.members → load'.stage ≡ stage.Rest →
+pub resumed_off_row : (machine : Machine) (frames frames' : Memory) (load load' : Load) (n : ℕ) → load.loader ≡ loader.Table → IsHome machine frames frames' load → n ≡ length load.origs.members → load'.stage ≡ stage.Rest →
     EndsOn machine frames load machine frames' load' (reply.Resumed n)
-resumed_off_row machine frames frames' load load' n resumed by is count rest c l v k read places room over =
+resumed_off_row machine frames frames' load load' n by is count rest c l v k read places room over =
     let h = machine.hw in
     let kept : l.loader ≡ loader.Table = sym read.loader.loader ∙ by in
     let memory = home machine frames frames' load c l v k is read places over in
@@ -191,6 +192,6 @@ resumed_off_row machine frames frames' load load' n resumed by is count rest c l
       off nothing None,
       leads machine frames' load' (reply.Resumed n) c c (loading l k) (off nothing None)
           (record { memory = memory ∙ restored_is_by h l v read.reading.hardware l.found read.reading.found; area = tt })
-          (resumed h read.shown (shown_by machine frames' load') c l v k n read.reading kept
+          (read_resumed_off_row h read.shown (shown_by machine frames' load') c l v k n read.reading kept
           (ends_reply h l.dump v l.loader l.check k read.reading.late read.sound room (omega arith) ∙ at_last ∙ ap reply.Resumed (sym saved)) (activity_is load' stage.Rest rest, refl)) tt,
     )

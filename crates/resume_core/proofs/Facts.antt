@@ -15,7 +15,7 @@ use Rattle.plain_machine.specs.declared.event.Event.TheVariants as event
 use Rattle.plain_machine.specs.declared.event.Actor.TheVariants as actor
 use Rattle.plain_machine.specs.declared.reply.Reply.{Reply}
 use Rattle.plain_machine.specs.declared.reply.Reply.TheVariants as reply
-use Rattle.protocol_laws.specs.LoadRows.{Goes, IsStop, ShowsNoneRead}
+use Rattle.protocol_laws.specs.LoadRows.{Goes, IsStop}
 use Rattle.protocol_laws.specs.Loads.{ShowsLoad}
 use Rattle.protocol_laws.specs.Rows as rows
 use Rattle.machine.specs.declared.machine.Machine.{Machine}
@@ -24,6 +24,7 @@ use Rattle.swap_slots.specs.Runs.{SlotRuns}
 use Rattle.resume_core.specs.Ready.{IsOver}
 use Rattle.resume_core.specs.Row.{StandsFor, StandsAfter, HasEnded, HasLoader, IsOfState, IsRow, NoneWaits}
 use Rattle.resume_core.specs.declared.load.Load.{Load}
+use Rattle.protocol_laws.proofs.LoadRows.{shows_none_read}
 use Rattle.resume_core.proofs.Cases.{at_load}
 
 pub whole_content : (blocks : ℕ) (told : Option disk.Content) (c : disk.Content) → told ≡ Some c → IfSome told (disk.IsContent blocks) → disk.IsContent blocks c
@@ -73,11 +74,11 @@ pub same_loader : (h : Hardware) (load load' : Load) (l : Resume) → load'.wait
 same_loader h load load' l free same check has = record { loader = same ∙ has.loader; free = free ∙ has.free; check = check ∙ has.check }
 
 -- up to the info page nothing is shown of the pages
-pub shows_none : (machine : Machine) (frames : Memory) (load load' : Load) (c : disk.Content) (l l' : Resume) (j k : ℕ) → ShowsNoneRead → StandsFor machine frames load c (loading l j) → l'.loader ≡ l.loader → l'.dump ≡ l.dump → activity_of load' ≡ loads k → k < 7 → NoneWaits load' →
+pub shows_none : (machine : Machine) (frames : Memory) (load load' : Load) (c : disk.Content) (l l' : Resume) (j k : ℕ) → StandsFor machine frames load c (loading l j) → l'.loader ≡ l.loader → l'.dump ≡ l.dump → activity_of load' ≡ loads k → k < 7 → NoneWaits load' →
     ShowsLoad machine.hw (shown_by machine frames load') l' k
-shows_none machine frames load load' c l l' j k none_read s loader dump activity few none =
+shows_none machine frames load load' c l l' j k s loader dump activity few none =
     let kept = s.stands.parts.1.kept in
-    none_read machine.hw (shown_by machine frames load') l' k (omega arith) activity
+    shows_none_read machine.hw (shown_by machine frames load') l' k (omega arith) activity
     (λ p lt free. kept p lt (λ has. free (subst (λ d. Contains (left_free machine.hw d l'.loader) p) (sym dump) (subst (λ x. Contains (left_free machine.hw l.dump x) p) (sym loader) has)))
     ∙ ap (λ d. loader_frame d l.loader p) (sym dump) ∙ ap (λ x. loader_frame l'.dump x p) (sym loader))
     (ap (λ (xs : List ℕ). zip xs (waiting_pages frames load'.waiting)) none)

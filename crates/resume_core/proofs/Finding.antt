@@ -5,7 +5,7 @@ use Rattle.definitions.specs.SwapHeader.{taken_back}
 use Rattle.std.proofs.lemmas.Bool.{false≢true}
 use Rattle.std.proofs.lemmas.Option.{none-some, same_Some}
 use Rattle.sig_header.specs.AreaKind.{mark_of, area_kind}
-use Rattle.protocol_laws.proofs.LoadReplies.{a_mark, no_mark}
+use Rattle.protocol_laws.proofs.LoadReplies.{a_mark, no_mark, gone_early}
 use Rattle.protocol_laws.proofs.Marking.{area_block-marked}
 use Rattle.sig_header.specs.declared.area.Mark.{Mark}
 use Rattle.plain_machine.specs.Machine.{Hardware, Memory}
@@ -18,7 +18,7 @@ use Rattle.plain_machine.specs.declared.reply.Reply.{Reply}
 use Rattle.plain_machine.specs.declared.reply.Reply.TheVariants as reply
 use Rattle.plain_machine.specs.declared.reply.Left.TheVariants.{Same}
 use Rattle.plain_machine.specs.Machine.{IsHardware}
-use Rattle.protocol_laws.specs.LoadRows.{LoadSyncRow, LoadSyncFaultRow, FindNoneRow, FindCompressedRow, FindRow, FindFaultRow, ShowsNoneRead, GoneOnEarly, with_finding}
+use Rattle.protocol_laws.specs.LoadRows.{with_finding}
 use Rattle.machine.specs.declared.machine.Machine.{Machine}
 use Rattle.resume_core.specs.Header.{header_fault}
 use Rattle.resume_core.specs.Loading.{shown_by, activity_at, FindsMark}
@@ -27,6 +27,7 @@ use Rattle.resume_core.specs.declared.load.Load.{Load}
 use Rattle.resume_core.specs.declared.load.Stage.{Stage}
 use Rattle.resume_core.specs.declared.load.Stage.TheVariants as stage
 use Rattle.resume_core.proofs.Headers.{header_faults}
+use Rattle.protocol_laws.proofs.LoadRows.{load_sync_row, load_sync_fault_row, find_none_row, find_compressed_row, find_row, find_fault_row}
 use Rattle.resume_core.proofs.Facts.{row_at_load, leads, same_loader, shows_none, count_of}
 
 abbrev pub stopped : Load → Load
@@ -38,85 +39,85 @@ knows_at machine frames load c l k at is s = subst (λ (t : Stage). KnowsAt t ma
 pub activity_is : (load : Load) (at : Stage) → load.stage ≡ at → activity_at load.stage load.made ≡ activity_at at load.made
 activity_is load at is = ap (λ (t : Stage). activity_at t load.made) is
 
-pub synced_row : (machine : Machine) (frames : Memory) (load : Load) (c c' : disk.Content) → LoadSyncRow → ShowsNoneRead → load.stage ≡ stage.Sync → disk.IsContent machine.blocks c → disk.Syncs c c' →
+pub synced_row : (machine : Machine) (frames : Memory) (load : Load) (c c' : disk.Content) → load.stage ≡ stage.Sync → disk.IsContent machine.blocks c → disk.Syncs c c' →
     IsRow machine frames load machine frames (record load { stage = stage.Find }) (event.Step actor.Core) (reply.Loading 1) c c'
-synced_row machine frames load c c' sync_row none_read at whole syncs =
+synced_row machine frames load c c' at whole syncs =
     let new = record load { stage = stage.Find } in
     row_at_load machine frames load machine frames new (event.Step actor.Core) (reply.Loading 1) c c' 0 (activity_is load stage.Sync at)
     (λ l s.
     let knows = knows_at machine frames load c l 0 stage.Sync at s in (
       loading l 1,
       leads machine frames new (reply.Loading 1) c c' (loading l 0) (loading l 1) tt
-          (sync_row machine.hw (shown_by machine frames load) (shown_by machine frames new) c c' machine.blocks l whole s.stands syncs
-          (shows_none machine frames load new c l l 0 1 none_read s refl refl refl (omega arith) knows.2))
+          (load_sync_row machine.hw (shown_by machine frames load) (shown_by machine frames new) c c' machine.blocks l whole s.stands syncs
+          (shows_none machine frames load new c l l 0 1 s refl refl refl (omega arith) knows.2))
           (record { loader = same_loader machine.hw load new l refl refl refl s.resume.loader; knows = knows }),
     ))
 
-pub sync_failed_row : (machine : Machine) (frames : Memory) (load : Load) (c : disk.Content) → LoadSyncFaultRow → load.stage ≡ stage.Sync →
+pub sync_failed_row : (machine : Machine) (frames : Memory) (load : Load) (c : disk.Content) → load.stage ≡ stage.Sync →
     IsRow machine frames load machine frames (stopped load) (event.Step actor.Core) (reply.SyncFault Same) c c
-sync_failed_row machine frames load c fault_row at =
+sync_failed_row machine frames load c at =
     row_at_load machine frames load machine frames (stopped load) (event.Step actor.Core) (reply.SyncFault Same) c c 0 (activity_is load stage.Sync at)
     (λ l s. (
       off l.held None,
       leads machine frames (stopped load) (reply.SyncFault Same) c c (loading l 0) (off l.held None) tt
-          (fault_row machine.hw (shown_by machine frames load) (shown_by machine frames (stopped load)) c l s.stands (refl, refl)) tt,
+          (load_sync_fault_row machine.hw (shown_by machine frames load) (shown_by machine frames (stopped load)) c l s.stands (refl, refl)) tt,
     ))
 
-pub find_failed_row : (machine : Machine) (frames : Memory) (load : Load) (header : List ℕ) (c : disk.Content) → FindFaultRow → load.stage ≡ stage.Find →
+pub find_failed_row : (machine : Machine) (frames : Memory) (load : Load) (header : List ℕ) (c : disk.Content) → load.stage ≡ stage.Find →
     IsRow machine frames load machine frames (stopped (record load { header = header })) (event.Step actor.Core) (reply.ReadFault Same) c c
-find_failed_row machine frames load header c fault_row at =
+find_failed_row machine frames load header c at =
     let new = stopped (record load { header = header }) in
     row_at_load machine frames load machine frames new (event.Step actor.Core) (reply.ReadFault Same) c c 1 (activity_is load stage.Find at)
     (λ l s. (
       off l.held None,
       leads machine frames new (reply.ReadFault Same) c c (loading l 1) (off l.held None) tt
-          (fault_row machine.hw (shown_by machine frames load) (shown_by machine frames new) c l s.stands (refl, refl)) tt,
+          (find_fault_row machine.hw (shown_by machine frames load) (shown_by machine frames new) c l s.stands (refl, refl)) tt,
     ))
 
 -- without a mark nothing is found
-pub none_row : (machine : Machine) (frames : Memory) (load : Load) (header : List ℕ) (c : disk.Content) → FindNoneRow → load.stage ≡ stage.Find → disk.IsContent machine.blocks c → header_cause machine.hw (disk.as_it_reads c) ≡ Some reply.NoImage →
+pub none_row : (machine : Machine) (frames : Memory) (load : Load) (header : List ℕ) (c : disk.Content) → load.stage ≡ stage.Find → disk.IsContent machine.blocks c → header_cause machine.hw (disk.as_it_reads c) ≡ Some reply.NoImage →
     IsRow machine frames load machine frames (stopped (record load { header = header })) (event.Step actor.Core) reply.NoImage c c
-none_row machine frames load header c find_none at whole none =
+none_row machine frames load header c at whole none =
     let new = stopped (record load { header = header }) in
     row_at_load machine frames load machine frames new (event.Step actor.Core) reply.NoImage c c 1 (activity_is load stage.Find at)
     (λ l s. (
       off nothing None,
       leads machine frames new reply.NoImage c c (loading l 1) (off nothing None) tt
-          (find_none machine.hw (shown_by machine frames load) (shown_by machine frames new) c machine.blocks l whole s.stands none (refl, refl)) tt,
+          (find_none_row machine.hw (shown_by machine frames load) (shown_by machine frames new) c machine.blocks l whole s.stands none (refl, refl)) tt,
     ))
 
-compressed_row : (machine : Machine) (frames : Memory) (load : Load) (header : List ℕ) (c : disk.Content) (flags : ℕ) → FindCompressedRow → load.stage ≡ stage.Find → disk.IsContent machine.blocks c → header_cause machine.hw (disk.as_it_reads c) ≡ Some (reply.Compressed flags) →
+compressed_row : (machine : Machine) (frames : Memory) (load : Load) (header : List ℕ) (c : disk.Content) (flags : ℕ) → load.stage ≡ stage.Find → disk.IsContent machine.blocks c → header_cause machine.hw (disk.as_it_reads c) ≡ Some (reply.Compressed flags) →
     IsRow machine frames load machine frames (stopped (record load { header = header })) (event.Step actor.Core) (reply.Compressed flags) c c
-compressed_row machine frames load header c flags find_compressed at whole cause =
+compressed_row machine frames load header c flags at whole cause =
     let new = stopped (record load { header = header }) in
     row_at_load machine frames load machine frames new (event.Step actor.Core) (reply.Compressed flags) c c 1 (activity_is load stage.Find at)
     (λ l s. (
       off (sure other) None,
       leads machine frames new (reply.Compressed flags) c c (loading l 1) (off (sure other) None) tt
-          (find_compressed machine.hw (shown_by machine frames load) (shown_by machine frames new) c machine.blocks flags l whole s.stands cause (refl, refl)) tt,
+          (find_compressed_row machine.hw (shown_by machine frames load) (shown_by machine frames new) c machine.blocks flags l whole s.stands cause (refl, refl)) tt,
     ))
 
-pub found_row : (machine : Machine) (frames : Memory) (load : Load) (header : List ℕ) (mark : Mark) (c : disk.Content) → FindRow → ShowsNoneRead → GoneOnEarly → IsHardware machine.hw → load.stage ≡ stage.Find → disk.IsContent machine.blocks c →
+pub found_row : (machine : Machine) (frames : Memory) (load : Load) (header : List ℕ) (mark : Mark) (c : disk.Content) → IsHardware machine.hw → load.stage ≡ stage.Find → disk.IsContent machine.blocks c →
     header ≡ header_of machine.hw (disk.as_it_reads c) → header_fault header ≡ None → mark ≡ mark_of header →
     IsRow machine frames load machine frames (record load { header = header; mark = mark; stage = stage.TakeBack }) (event.Step actor.Core) (reply.Loading 2) c c
-found_row machine frames load header mark c find none_read early hardware at whole read none marks =
+found_row machine frames load header mark c hardware at whole read none marks =
     let new = record load { header = header; mark = mark; stage = stage.TakeBack } in
     let v = disk.as_it_reads c in
     let uncaused : header_cause machine.hw v ≡ None = subst (λ (p : List ℕ). header_fault p ≡ None) read none in
     row_at_load machine frames load machine frames new (event.Step actor.Core) (reply.Loading 2) c c 1 (activity_is load stage.Find at)
     (λ l s.
     let knows = knows_at machine frames load c l 1 stage.Find at s in
-    let found = find machine.hw (shown_by machine frames load) (shown_by machine frames new) c machine.blocks l hardware whole s.stands uncaused read in
+    let found = find_row machine.hw (shown_by machine frames load) (shown_by machine frames new) c machine.blocks l hardware whole s.stands uncaused read in
     let l' = with_finding l found.0 in (
       loading l' 2,
       leads machine frames new (reply.Loading 2) c c (loading l 1) (loading l' 2) tt
-          (found.2 (shows_none machine frames load new c l l' 1 2 none_read s refl refl refl (omega arith) knows.2))
+          (found.2 (shows_none machine frames load new c l l' 1 2 s refl refl refl (omega arith) knows.2))
           (record {
             loader = (let has = s.resume.loader in record { loader = has.loader; free = has.free; check = has.check });
             knows = (
               v,
               record { found = found.1; uncaused = uncaused; header = read; mark = marks ∙ ap mark_of read; reads = λ b lt ne. refl; blocks = count_of machine.blocks c whole; area = ap (λ (p : List ℕ). swap_area (area_kind p)) (area_block-marked machine.hw v (a_mark machine.hw v None uncaused (λ e. none-some reply.NoImage e)) ∙ ap taken_back (sym read)) },
-              early machine.hw l' v 2 (omega arith) uncaused,
+              gone_early machine.hw l' v 2 (omega arith) uncaused,
               knows.0,
               knows.1,
               knows.2,
@@ -125,19 +126,19 @@ found_row machine frames load header mark c find none_read early hardware at who
     ))
 
 -- why nothing is read, by the header
-pub fault_row : (machine : Machine) (frames : Memory) (load : Load) (header : List ℕ) (c : disk.Content) (why : Reply) → FindNoneRow → FindCompressedRow → load.stage ≡ stage.Find → disk.IsContent machine.blocks c → header ≡ header_of machine.hw (disk.as_it_reads c) → header_fault header ≡ Some why →
+pub fault_row : (machine : Machine) (frames : Memory) (load : Load) (header : List ℕ) (c : disk.Content) (why : Reply) → load.stage ≡ stage.Find → disk.IsContent machine.blocks c → header ≡ header_of machine.hw (disk.as_it_reads c) → header_fault header ≡ Some why →
     IsRow machine frames load machine frames (stopped (record load { header = header })) (event.Step actor.Core) why c c
-fault_row machine frames load header c why find_none find_compressed at whole read some =
+fault_row machine frames load header c why at whole read some =
     let cause : header_cause machine.hw (disk.as_it_reads c) ≡ Some why = subst (λ (p : List ℕ). header_fault p ≡ Some why) read some in
     elim (header_faults header why some) [
       | inl none ↦ (
           let is : header_cause machine.hw (disk.as_it_reads c) ≡ Some reply.NoImage = cause ∙ ap (λ (r : Reply). Some r) none in
           subst (λ (r : Reply). IsRow machine frames load machine frames (stopped (record load { header = header })) (event.Step actor.Core) r c c) (sym none)
-          (none_row machine frames load header c find_none at whole is))
+          (none_row machine frames load header c at whole is))
       | inr of ↦ (
           let is : header_cause machine.hw (disk.as_it_reads c) ≡ Some (reply.Compressed of.0) = cause ∙ ap (λ (r : Reply). Some r) of.1 in
           subst (λ (r : Reply). IsRow machine frames load machine frames (stopped (record load { header = header })) (event.Step actor.Core) r c c) (sym of.1)
-          (compressed_row machine frames load header c of.0 find_compressed at whole is))
+          (compressed_row machine frames load header c of.0 at whole is))
     ]
 
 -- What the second step says of an image.

@@ -20,7 +20,7 @@ use Rattle.plain_machine.specs.declared.event.Actor.TheVariants as actor
 use Rattle.plain_machine.specs.declared.reply.Reply.{Reply}
 use Rattle.plain_machine.specs.declared.reply.Reply.TheVariants as reply
 use Rattle.plain_machine.specs.declared.reply.Left.TheVariants.{Gone}
-use Rattle.protocol_laws.specs.LoadRows.{ReadRow, ReadFaultRow, GoneOnNext, IsFoundOn, IsReading}
+use Rattle.protocol_laws.specs.LoadRows.{IsFoundOn, IsReading}
 use Rattle.protocol_laws.proofs.OwnCauses.{own_sayable}
 use Rattle.protocol_laws.specs.Loads.{ShowsLoad}
 use Rattle.protocol_laws.specs.Rows as rows
@@ -45,6 +45,8 @@ use Rattle.resume_core.proofs.TakingBack.{found_still}
 use Rattle.resume_core.proofs.Facts.{row_at_load, leads, same_loader}
 use Rattle.resume_core.proofs.Finding.{knows_at, activity_is}
 use Rattle.resume_core.proofs.Answering.{goes_reply, no_want_before, more_to_read}
+use Rattle.protocol_laws.proofs.LoadRows.{read_row, read_fault_row}
+use Rattle.protocol_laws.proofs.LoadReplies.{gone_next}
 use Rattle.resume_core.proofs.OwnImage.{none_read_yet}
 
 -- a resume that reads blocks of the chain, by the state that it stands for
@@ -62,14 +64,14 @@ at_read machine frames load c hw at late l s =
     (knows.0, record { hardware = hw; late = late; within = knows.3; stands = s.stands; found = knows.1.found; gone_on = knows.2 })
 
 -- the disk fails at a read
-pub read_failed_row : (machine : Machine) (frames : Memory) (load load' : Load) (c : disk.Content) → ReadFaultRow → activity_of load ≡ loads load.made → IsAtRead machine frames load c → load'.stage ≡ stage.Rest →
+pub read_failed_row : (machine : Machine) (frames : Memory) (load load' : Load) (c : disk.Content) → activity_of load ≡ loads load.made → IsAtRead machine frames load c → load'.stage ≡ stage.Rest →
     IsRow machine frames load machine frames load' (event.Step actor.Core) (reply.ReadFault Gone) c c
-read_failed_row machine frames load load' c failed is reads rest =
+read_failed_row machine frames load load' c is reads rest =
     row_at_load machine frames load machine frames load' (event.Step actor.Core) (reply.ReadFault Gone) c c load.made is
     (λ l s. (
       off nothing None,
       leads machine frames load' (reply.ReadFault Gone) c c (loading l load.made) (off nothing None) tt
-          (let at = reads l s in failed machine.hw (shown_by machine frames load) (shown_by machine frames load') c l at.0 load.made at.1 (activity_is load' stage.Rest rest, refl)) tt,
+          (let at = reads l s in read_fault_row machine.hw (shown_by machine frames load) (shown_by machine frames load') c l at.0 load.made at.1 (activity_is load' stage.Rest rest, refl)) tt,
     ))
 
 -- up to here few blocks are read
@@ -116,9 +118,9 @@ none_shown h v l i t k hw is found own none =
     sym (ap (λ (n : ℕ). take n (with_data i)) zero)
 
 -- numbers are still to come
-pub more_row : (machine : Machine) (frames : Memory) (load : Load) (m : ℕ) → ReadRow → GoneOnNext → SavesFew load → ((r : Reading) → load.reader ≡ Some r → r.listed ≡ None) → (load.made + 1 < 2 ^ 32 → m ≡ load.made + 1) →
+pub more_row : (machine : Machine) (frames : Memory) (load : Load) (m : ℕ) → SavesFew load → ((r : Reading) → load.reader ≡ Some r → r.listed ≡ None) → (load.made + 1 < 2 ^ 32 → m ≡ load.made + 1) →
     ListsOn machine frames load machine frames (record load { stage = stage.List; made = m }) (reply.Loading m)
-more_row machine frames load m reads next few unlisted counted c l v k read none waits =
+more_row machine frames load m few unlisted counted c l v k read none waits =
     let h = machine.hw in
     let late = read.reading.late in
     let reader = read.read.reader in
@@ -138,13 +140,13 @@ more_row machine frames load m reads next few unlisted counted c l v k read none
     subst (λ (n : ℕ). LeadsOn machine frames (record load { stage = stage.List; made = n }) (reply.Loading n) c l k) (sym m_is) (
       loading l (k + 1),
       leads machine frames new (reply.Loading (k + 1)) c c (loading l k) (loading l (k + 1)) tt
-          (reads h read.shown (shown_by machine frames new) c l v k read.reading goes shows)
+          (read_row h read.shown (shown_by machine frames new) c l v k read.reading goes shows)
           (record {
             loader = same_loader h load new l refl refl refl read.loader;
             knows = (
               v,
               found_still machine load new c c l v refl refl read.found.reads refl read.found,
-              next h l v k read.reading.gone_on goes,
+              gone_next h l v k read.reading.gone_on goes,
               omega arith,
               record { reader = reader; has = read.read.has; reading = subst (λ (t : ℕ). stream.IsReading h v load.check reader t load.origs.members load.zeros.members) at read.read.reading },
               subst (λ (t : ℕ). told h v (pages_read t) ≡ None) at none',

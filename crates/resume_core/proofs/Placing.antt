@@ -43,7 +43,7 @@ use Rattle.plain_machine.specs.Trace.{info_in, meta_in, stream_page, d_in, place
 use Rattle.plain_machine.specs.declared.event.Loader.{Loader}
 use Rattle.plain_machine.specs.declared.reply.Reply.{Reply}
 use Rattle.plain_machine.specs.declared.reply.Reply.TheVariants as reply
-use Rattle.protocol_laws.specs.LoadRows.{ReadRow, ReadStopRow, GoneOnNext, CauseStops, IsStop, IsFoundOn}
+use Rattle.protocol_laws.specs.LoadRows.{IsStop, IsFoundOn}
 use Rattle.protocol_laws.specs.TraceAt.{reply_past}
 use Rattle.protocol_laws.specs.Loads.{ShowsLoad}
 use Rattle.restore_laws.specs.DataPages.{data_page, data_pages}
@@ -59,6 +59,8 @@ use Rattle.resume_core.proofs.TakingBack.{found_still}
 use Rattle.resume_core.proofs.Answering.{late_reply, no_want_before, goes_reply, room_reply, stops_reply, no_want_after, no_read_cause, all_read, more_to_read}
 use Rattle.resume_core.proofs.Listing.{SavesFew, HasNoCause, read_on, not_over}
 use Rattle.resume_core.proofs.OwnImage.{pages_are, count_is}
+use Rattle.protocol_laws.proofs.LoadRows.{read_row, read_stop_row, cause_ends}
+use Rattle.protocol_laws.proofs.LoadReplies.{gone_next}
 use Rattle.protocol_laws.proofs.OwnCauses.{own_sayable}
 
 -- The reply of a refusal.
@@ -144,16 +146,16 @@ content_of_room : (a w n : Option Reply) (r : Reply) → a ≡ None → w ≡ So
 content_of_room a w n r none some = ap (λ (x : Option Reply). or_else (or_else x w) n) none ∙ ap (λ (x : Option Reply). or_else x n) some
 
 -- too little room
-pub few_row : (machine : Machine) (frames : Memory) (load load' : Load) (why : Reply) → ReadStopRow → CauseStops → IsListed load → room_refusal (length load.waiting.free) (length (with_data load.origs.members load.zeros.members)) ≡ Some why → load'.stage ≡ stage.Rest →
+pub few_row : (machine : Machine) (frames : Memory) (load load' : Load) (why : Reply) → IsListed load → room_refusal (length load.waiting.free) (length (with_data load.origs.members load.zeros.members)) ≡ Some why → load'.stage ≡ stage.Rest →
     ListsOn machine frames load machine frames load' why
-few_row machine frames load load' why stops cause_stops listed refused rest c l v k read before waits =
+few_row machine frames load load' why listed refused rest c l v k read before waits =
     let h = machine.hw in
     let want = room_tested machine frames load c l v k read listed before ∙ refused in
     let none = no_read_cause h v l.check (k - 4) read.sound in
-    let stop : IsStop why = cause_stops h l v (k - 4) why (content_of_room (read_cause h v l.check (place (k - 4))) (want_cause h l.dump v l.loader (place (k - 4))) (next_cause h v (k - 4)) why none want) in (
+    let stop : IsStop why = cause_ends h l v (k - 4) why (content_of_room (read_cause h v l.check (place (k - 4))) (want_cause h l.dump v l.loader (place (k - 4))) (next_cause h v (k - 4)) why none want) in (
       off nothing None,
       leads machine frames load' why c c (loading l k) (off nothing None) (stopped_early machine frames c why (loading l k) (off nothing None) stop)
-          (stops h read.shown (shown_by machine frames load') c l v k why read.reading (room_reply h l.dump v l.loader l.check k why read.reading.late none want) stop (activity_is load' stage.Rest rest, refl)) tt,
+          (read_stop_row h read.shown (shown_by machine frames load') c l v k why read.reading (room_reply h l.dump v l.loader l.check k why read.reading.late none want) stop (activity_is load' stage.Rest rest, refl)) tt,
     )
 
 -- enough room: the places of the pages to come are planned
@@ -200,9 +202,9 @@ few_pages h v load t read few told_now =
     let is = saved_is h v (pages_read t) (all_read h v (pages_read t) told_now).0 in
     omega arith
 
-pub going_row : (machine : Machine) (frames : Memory) (load : Load) (m : ℕ) → ReadRow → GoneOnNext → SavesFew load → ((h : Hardware) (v : disk.Image) (t : ℕ) → HasReader h v load t → (2 ≤ t) × (t ≡ place_count (info_in h v).pages) → IsTrue false) → (load.made + 1 < 2 ^ 32 → m ≡ load.made + 1) →
+pub going_row : (machine : Machine) (frames : Memory) (load : Load) (m : ℕ) → SavesFew load → ((h : Hardware) (v : disk.Image) (t : ℕ) → HasReader h v load t → (2 ≤ t) × (t ≡ place_count (info_in h v).pages) → IsTrue false) → (load.made + 1 < 2 ^ 32 → m ≡ load.made + 1) →
     ReadsOn machine frames load machine frames (record load { stage = stage.Read; made = m }) (reply.Loading m)
-going_row machine frames load m reads next few not_over counted c l v k read places room =
+going_row machine frames load m few not_over counted c l v k read places room =
     let h = machine.hw in
     let late = read.reading.late in
     let within = read.reading.within in
@@ -231,13 +233,13 @@ going_row machine frames load m reads next few not_over counted c l v k read pla
     subst (λ (n : ℕ). LeadsOn machine frames (record load { stage = stage.Read; made = n }) (reply.Loading n) c l k) (sym m_is) (
       loading l (k + 1),
       leads machine frames new (reply.Loading (k + 1)) c c (loading l k) (loading l (k + 1)) tt
-          (reads h read.shown (shown_by machine frames new) c l v k read.reading goes shows)
+          (read_row h read.shown (shown_by machine frames new) c l v k read.reading goes shows)
           (record {
             loader = same_loader h load new l refl refl refl read.loader;
             knows = (
               v,
               found_still machine load new c c l v refl refl read.found.reads refl read.found,
-              next h l v k read.reading.gone_on goes,
+              gone_next h l v k read.reading.gone_on goes,
               omega arith,
               record { reader = read.read.reader; has = read.read.has; reading = subst (λ (t : ℕ). stream.IsReading h v load.check read.read.reader t load.origs.members load.zeros.members) at read.read.reading },
               subst (λ (t : ℕ). HavePlaces h v frames load.waiting t) at places,
@@ -267,9 +269,9 @@ cause_stop (cause.PfnOrder a b) = tt
 cause_stop (cause.PfnEnd f) = tt
 
 -- the image can't be read further
-pub refused_row : (machine : Machine) (frames : Memory) (load mid load' : Load) (result : ReadStep) (why : Cause) (c : disk.Content) → ReadStopRow → IsHardware machine.hw → load.stage ≡ stage.Read → 4 ≤ load.made → result ≡ read_step.Refused why →
+pub refused_row : (machine : Machine) (frames : Memory) (load mid load' : Load) (result : ReadStep) (why : Cause) (c : disk.Content) → IsHardware machine.hw → load.stage ≡ stage.Read → 4 ≤ load.made → result ≡ read_step.Refused why →
     ((v : disk.Image) (t : ℕ) → HasReader machine.hw v load t → Reads machine.hw v (Some c) → HasAnswered machine.hw v t result load mid) → load'.stage ≡ stage.Rest → IsRow machine frames load machine frames load' (event.Step actor.Core) (reply_of why) c c
-refused_row machine frames load mid load' result why c stops hardware at late is answers rest =
+refused_row machine frames load mid load' result why c hardware at late is answers rest =
     row_at_load machine frames load machine frames load' (event.Step actor.Core) (reply_of why) c c load.made (activity_is load stage.Read at)
     (λ l s.
     let h = machine.hw in
@@ -282,7 +284,7 @@ refused_row machine frames load mid load' result why c stops hardware at late is
     let want = no_want_after h l.dump v l.loader (k - 4) knows.5.listed in (
       off nothing None,
       leads machine frames load' (reply_of why) c c (loading l k) (off nothing None) (stopped_early machine frames c (reply_of why) (loading l k) (off nothing None) (cause_stop why))
-          (stops h (shown_by machine frames load) (shown_by machine frames load') c l v k (reply_of why)
+          (read_stop_row h (shown_by machine frames load) (shown_by machine frames load') c l v k (reply_of why)
           (record { hardware = hardware; late = late; within = knows.3; stands = s.stands; found = knows.1.found; gone_on = knows.2 })
           (stops_reply h l.dump v l.loader l.check k (reply_of why) late cause want) (cause_stop why) (activity_is load' stage.Rest rest, refl)) tt,
     ))
@@ -465,11 +467,11 @@ refusal_is h dump v loader check t have d listed why some is before free count =
       first_cause (read_cause h v check (place t)) (want_cause h dump v loader (place t)) (next_cause h v t) x (reply_of why) e some
       ∙ ap (λ (o : Option ℕ). Some (refusal_behind o have d why)) (sym (is ∙ ap (λ (o : Option Reply). cond (is_none o) (told h v (pages_read (t + 1))) (told h v (pages_read t))) e ∙ before))
 
-pub refused_list_row : (machine : Machine) (frames : Memory) (load mid load' : Load) (result : ReadStep) (why : Cause) (r : Reply) (c : disk.Content) → ReadStopRow → CauseStops → IsHardware machine.hw → load.stage ≡ stage.List → 4 ≤ load.made →
+pub refused_list_row : (machine : Machine) (frames : Memory) (load mid load' : Load) (result : ReadStep) (why : Cause) (r : Reply) (c : disk.Content) → IsHardware machine.hw → load.stage ≡ stage.List → 4 ≤ load.made →
     mid ≡ record load { reader = mid.reader; origs = mid.origs; zeros = mid.zeros; page = mid.page } → result ≡ read_step.Refused why →
     ((v : disk.Image) (t : ℕ) → HasReader machine.hw v load t → Reads machine.hw v (Some c) → HasAnswered machine.hw v t result load mid) →
     ((q : Reading) → mid.reader ≡ Some q → r ≡ refusal_behind q.listed (length mid.waiting.free) (length (with_data mid.origs.members mid.zeros.members)) why) → load'.stage ≡ stage.Rest → IsRow machine frames load machine frames load' (event.Step actor.Core) r c c
-refused_list_row machine frames load mid load' result why r c stops cause_stops hardware at late is refused answers reply rest =
+refused_list_row machine frames load mid load' result why r c hardware at late is refused answers reply rest =
     row_at_load machine frames load machine frames load' (event.Step actor.Core) r c c load.made (activity_is load stage.List at)
     (λ l s.
     let h = machine.hw in
@@ -486,9 +488,9 @@ refused_list_row machine frames load mid load' result why r c stops cause_stops 
     ∙ ap (λ (x : Reply). Some x) (sym (reply answered.after answered.has)) in
     let cause : all_causes h l.dump v l.loader l.check (k - 4) ≡ Some r = subst (λ (x : IdentCheck). all_causes h l.dump v l.loader x (k - 4) ≡ Some r) checks causes in (
       off nothing None,
-      leads machine frames load' r c c (loading l k) (off nothing None) (stopped_early machine frames c r (loading l k) (off nothing None) (cause_stops h l v (k - 4) r cause))
-          (stops h (shown_by machine frames load) (shown_by machine frames load') c l v k r
+      leads machine frames load' r c c (loading l k) (off nothing None) (stopped_early machine frames c r (loading l k) (off nothing None) (cause_ends h l v (k - 4) r cause))
+          (read_stop_row h (shown_by machine frames load) (shown_by machine frames load') c l v k r
           (record { hardware = hardware; late = late; within = knows.3; stands = s.stands; found = knows.1.found; gone_on = knows.2 })
           (late_reply h l.dump v l.loader l.check k late ∙ ap (λ (o : Option Reply). unwrap_or o (reply_past h l.dump v l.loader (k - 4))) cause)
-          (cause_stops h l v (k - 4) r cause) (activity_is load' stage.Rest rest, refl)) tt,
+          (cause_ends h l v (k - 4) r cause) (activity_is load' stage.Rest rest, refl)) tt,
     ))

@@ -21,7 +21,6 @@ use Rattle.plain_machine.specs.declared.event.IdentCheck.{IdentCheck}
 use Rattle.plain_machine.specs.declared.reply.Reply.{Reply}
 use Rattle.plain_machine.specs.declared.reply.Reply.TheVariants as reply
 use Rattle.plain_machine.specs.declared.reply.Left.TheVariants.{Unsure}
-use Rattle.protocol_laws.specs.LoadRows.{TakeBackRow, TakeBackFaultRow, BackSyncRow, BackSyncStopRow, BackSyncFaultRow, ShowsNoneRead, GoneOnNext}
 use Rattle.protocol_laws.proofs.Same.{reads_kept}
 use Rattle.image_read.proofs.Places.{two_places}
 use Rattle.machine.specs.declared.machine.Machine.{Machine}
@@ -32,9 +31,10 @@ use Rattle.resume_core.specs.declared.load.Stage.{Stage}
 use Rattle.resume_core.specs.Row.{IsRow, HasFound, swap_area}
 use Rattle.resume_core.specs.declared.load.Load.{Load}
 use Rattle.resume_core.specs.declared.load.Stage.TheVariants as stage
-use Rattle.protocol_laws.proofs.LoadReplies.{cause_stops, stop_kind}
+use Rattle.protocol_laws.proofs.LoadReplies.{cause_stops, stop_kind, gone_next}
 use Rattle.protocol_laws.proofs.Stopping.{stops_taken_back}
 use Rattle.resume_core.proofs.Facts.{stopped_early, row_at_load, leads, same_loader, shows_none}
+use Rattle.protocol_laws.proofs.LoadRows.{take_back_row, take_back_fault_row, back_sync_row, back_sync_stop_row, back_sync_fault_row}
 use Rattle.resume_core.proofs.Finding.{stopped, knows_at, activity_is}
 
 -- the header of the disk v has the mark that was found, and v as many blocks as the machine knows of
@@ -67,15 +67,15 @@ reads_synced h v c c' reads syncs =
     let same : disk.as_it_reads c' ≡ disk.as_it_reads c = ap disk.as_it_reads syncs ∙ as_it_reads-settled (disk.as_it_reads c) in
     λ b lt apart. ap (λ (w : disk.Image). disk.block w b) same ∙ reads b lt apart
 
-pub back_row : (machine : Machine) (frames : Memory) (load : Load) (c c' : disk.Content) → TakeBackRow → ShowsNoneRead → GoneOnNext → IsHardware machine.hw → load.stage ≡ stage.TakeBack → disk.IsContent machine.blocks c → disk.IsContent machine.blocks c' →
+pub back_row : (machine : Machine) (frames : Memory) (load : Load) (c c' : disk.Content) → IsHardware machine.hw → load.stage ≡ stage.TakeBack → disk.IsContent machine.blocks c → disk.IsContent machine.blocks c' →
     disk.Writes (block_of_slot machine.hw 0) (taken_back load.header) c c' → IsRow machine frames load machine frames (record load { stage = stage.SyncBack }) (event.Step actor.Core) (reply.Loading 3) c c'
-back_row machine frames load c c' made none_read next hardware at whole whole' writes =
+back_row machine frames load c c' hardware at whole whole' writes =
     let new = record load { stage = stage.SyncBack } in
     row_at_load machine frames load machine frames new (event.Step actor.Core) (reply.Loading 3) c c' 2 (activity_is load stage.TakeBack at)
     (λ l s.
     let knows = knows_at machine frames load c l 2 stage.TakeBack at s in
-    let goes = made machine.hw (shown_by machine frames load) (shown_by machine frames new) c c' machine.blocks l knows.0 hardware whole whole' s.stands knows.1.found knows.2 writes
-    (shows_none machine frames load new c l l 2 3 none_read s refl refl refl (omega arith) knows.5) in (
+    let goes = take_back_row machine.hw (shown_by machine frames load) (shown_by machine frames new) c c' machine.blocks l knows.0 hardware whole whole' s.stands knows.1.found knows.2 writes
+    (shows_none machine frames load new c l l 2 3 s refl refl refl (omega arith) knows.5) in (
       loading l 3,
       leads machine frames new (reply.Loading 3) c c' (loading l 2) (loading l 3) tt goes
           (record {
@@ -83,7 +83,7 @@ back_row machine frames load c c' made none_read next hardware at whole whole' w
             knows = (
               knows.0,
               found_still machine load new c c' l knows.0 refl refl (reads_after machine.hw knows.0 (taken_back load.header) c c' knows.1.reads (inl writes)) (same_swap_area machine.hw (disk.as_it_reads c) (disk.as_it_reads c') goes.area) knows.1,
-              next machine.hw l knows.0 2 knows.2 refl,
+              gone_next machine.hw l knows.0 2 knows.2 refl,
               knows.3,
               knows.4,
               knows.5,
@@ -91,15 +91,15 @@ back_row machine frames load c c' made none_read next hardware at whole whole' w
           }),
     ))
 
-pub back_failed_row : (machine : Machine) (frames : Memory) (load : Load) (c c' : disk.Content) → TakeBackFaultRow → IsHardware machine.hw → load.stage ≡ stage.TakeBack → disk.IsContent machine.blocks c → disk.IsContent machine.blocks c' →
+pub back_failed_row : (machine : Machine) (frames : Memory) (load : Load) (c c' : disk.Content) → IsHardware machine.hw → load.stage ≡ stage.TakeBack → disk.IsContent machine.blocks c → disk.IsContent machine.blocks c' →
     disk.FailsToWrite (block_of_slot machine.hw 0) (taken_back load.header) c c' → IsRow machine frames load machine frames (stopped load) (event.Step actor.Core) (reply.WriteFault Unsure) c c'
-back_failed_row machine frames load c c' failed hardware at whole whole' tries =
+back_failed_row machine frames load c c' hardware at whole whole' tries =
     row_at_load machine frames load machine frames (stopped load) (event.Step actor.Core) (reply.WriteFault Unsure) c c' 2 (activity_is load stage.TakeBack at)
     (λ l s.
     let knows = knows_at machine frames load c l 2 stage.TakeBack at s in (
       off (perhaps (held_while_loading l 2)) None,
       leads machine frames (stopped load) (reply.WriteFault Unsure) c c' (loading l 2) (off (perhaps (held_while_loading l 2)) None) tt
-          (failed machine.hw (shown_by machine frames load) (shown_by machine frames (stopped load)) c c' machine.blocks l knows.0 hardware whole whole' s.stands knows.1.found tries (refl, refl)) tt,
+          (take_back_fault_row machine.hw (shown_by machine frames load) (shown_by machine frames (stopped load)) c c' machine.blocks l knows.0 hardware whole whole' s.stands knows.1.found tries (refl, refl)) tt,
     ))
 
 -- The sync.
@@ -107,18 +107,18 @@ back_failed_row machine frames load c c' failed hardware at whole whole' tries =
 abbrev pub opened : Load → Reading → Load
 opened load r = record load { reader = Some r; made = 4; stage = stage.List }
 
-pub opened_row : (machine : Machine) (frames : Memory) (load : Load) (r : Reading) (c c' : disk.Content) → BackSyncRow → ShowsNoneRead → GoneOnNext → IsHardware machine.hw → load.stage ≡ stage.SyncBack → disk.IsContent machine.blocks c → disk.Syncs c c' →
+pub opened_row : (machine : Machine) (frames : Memory) (load : Load) (r : Reading) (c c' : disk.Content) → IsHardware machine.hw → load.stage ≡ stage.SyncBack → disk.IsContent machine.blocks c → disk.Syncs c c' →
     ((v : disk.Image) → HasFoundMark machine load v → (taken_back_cause machine.hw v ≡ None) × ((check : IdentCheck) → stream.IsReading machine.hw v check r 0 [] [])) →
     IsRow machine frames load machine frames (opened load r) (event.Step actor.Core) (reply.Loading 4) c c'
-opened_row machine frames load r c c' synced none_read next hardware at whole syncs opens =
+opened_row machine frames load r c c' hardware at whole syncs opens =
     let new = opened load r in
     row_at_load machine frames load machine frames new (event.Step actor.Core) (reply.Loading 4) c c' 3 (activity_is load stage.SyncBack at)
     (λ l s.
     let knows = knows_at machine frames load c l 3 stage.SyncBack at s in
     let v = knows.0 in
     let opened_at = opens v (record { mark = knows.1.mark; blocks = sym knows.1.blocks }) in
-    let goes = synced machine.hw (shown_by machine frames load) (shown_by machine frames new) c c' machine.blocks l v hardware whole s.stands knows.1.found knows.2 syncs opened_at.0
-    (shows_none machine frames load new c l l 3 4 none_read s refl refl refl (omega arith) knows.5) in (
+    let goes = back_sync_row machine.hw (shown_by machine frames load) (shown_by machine frames new) c c' machine.blocks l v hardware whole s.stands knows.1.found knows.2 syncs opened_at.0
+    (shows_none machine frames load new c l l 3 4 s refl refl refl (omega arith) knows.5) in (
       loading l 4,
       leads machine frames new (reply.Loading 4) c c' (loading l 3) (loading l 4) tt goes
           (record {
@@ -126,7 +126,7 @@ opened_row machine frames load r c c' synced none_read next hardware at whole sy
             knows = (
               v,
               found_still machine load new c c' l v refl refl (reads_synced machine.hw v c c' knows.1.reads syncs) (same_swap_area machine.hw (disk.as_it_reads c) (disk.as_it_reads c') goes.area) knows.1,
-              next machine.hw l v 3 knows.2 (ap (λ (o : Option Reply). unwrap_or o (reply.Loading 4)) opened_at.0),
+              gone_next machine.hw l v 3 knows.2 (ap (λ (o : Option Reply). unwrap_or o (reply.Loading 4)) opened_at.0),
               (let two = two_places (info_in machine.hw v).pages in omega arith),
               record {
                 reader = r;
@@ -139,9 +139,9 @@ opened_row machine frames load r c c' synced none_read next hardware at whole sy
           }),
     ))
 
-pub back_stopped_row : (machine : Machine) (frames : Memory) (load : Load) (c c' : disk.Content) (why : Reply) → BackSyncStopRow → IsHardware machine.hw → load.stage ≡ stage.SyncBack → disk.IsContent machine.blocks c → disk.Syncs c c' →
+pub back_stopped_row : (machine : Machine) (frames : Memory) (load : Load) (c c' : disk.Content) (why : Reply) → IsHardware machine.hw → load.stage ≡ stage.SyncBack → disk.IsContent machine.blocks c → disk.Syncs c c' →
     ((v : disk.Image) → HasFoundMark machine load v → taken_back_cause machine.hw v ≡ Some why) → IsRow machine frames load machine frames (stopped load) (event.Step actor.Core) why c c'
-back_stopped_row machine frames load c c' why stops hardware at whole syncs cause =
+back_stopped_row machine frames load c c' why hardware at whole syncs cause =
     row_at_load machine frames load machine frames (stopped load) (event.Step actor.Core) why c c' 3 (activity_is load stage.SyncBack at)
     (λ l s.
     let knows = knows_at machine frames load c l 3 stage.SyncBack at s in
@@ -150,16 +150,16 @@ back_stopped_row machine frames load c c' why stops hardware at whole syncs caus
     let early = stop_kind why (cause_stops (taken_back_cause machine.hw v) why (stops_taken_back machine.hw v) is) in (
       off nothing None,
       leads machine frames (stopped load) why c c' (loading l 3) (off nothing None) (stopped_early machine frames c' why (loading l 3) (off nothing None) early)
-          (stops machine.hw (shown_by machine frames load) (shown_by machine frames (stopped load)) c c' machine.blocks l v why hardware whole s.stands knows.1.found knows.2 syncs is (refl, refl)) tt,
+          (back_sync_stop_row machine.hw (shown_by machine frames load) (shown_by machine frames (stopped load)) c c' machine.blocks l v why hardware whole s.stands knows.1.found knows.2 syncs is (refl, refl)) tt,
     ))
 
-pub back_sync_failed_row : (machine : Machine) (frames : Memory) (load : Load) (c : disk.Content) → BackSyncFaultRow → load.stage ≡ stage.SyncBack → IsRow machine frames load machine frames (stopped load) (event.Step actor.Core) (reply.SyncFault Unsure) c c
-back_sync_failed_row machine frames load c failed at =
+pub back_sync_failed_row : (machine : Machine) (frames : Memory) (load : Load) (c : disk.Content) → load.stage ≡ stage.SyncBack → IsRow machine frames load machine frames (stopped load) (event.Step actor.Core) (reply.SyncFault Unsure) c c
+back_sync_failed_row machine frames load c at =
     row_at_load machine frames load machine frames (stopped load) (event.Step actor.Core) (reply.SyncFault Unsure) c c 3 (activity_is load stage.SyncBack at)
     (λ l s. (
       off (perhaps (held_while_loading l 2)) None,
       leads machine frames (stopped load) (reply.SyncFault Unsure) c c (loading l 3) (off (perhaps (held_while_loading l 2)) None) tt
-          (failed machine.hw (shown_by machine frames load) (shown_by machine frames (stopped load)) c l s.stands (refl, refl)) tt,
+          (back_sync_fault_row machine.hw (shown_by machine frames load) (shown_by machine frames (stopped load)) c l s.stands (refl, refl)) tt,
     ))
 
 pub empty_at : (machine : Machine) (frames : Memory) (runs : SlotRuns) (load : Load) → load.stage ≡ stage.SyncBack → CanStep machine frames runs load → NoneListed load

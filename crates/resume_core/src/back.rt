@@ -1,4 +1,4 @@
-ghost use Rattle.std.specs.Prelude.{◌≡◌, ◌≤◌, ◌⊎◌, ℕ, false, [], IfOk, IfErr, if◌then◌else◌, IsTrue};
+ghost use Rattle.std.specs.Prelude.{◌≡◌, false, [], IfOk, IfErr, if◌then◌else◌};
 ghost use Rattle.image_read.specs.Reading.{IsReady};
 ghost use Rattle.plain_machine.specs.Trace.{is_set};
 ghost use Rattle.page_core.specs.declared.format.Format.TheVariants.{Plain, SkipZeros};
@@ -6,8 +6,8 @@ ghost use Rattle.plain_machine.specs.Shows.{rests};
 ghost use Rattle.plain_machine.specs.declared.event.Loader.{Loader};
 ghost use Rattle.resume_core.specs.Header.{Opens, signature_fault};
 ghost use Rattle.resume_core.specs.Loading.{activity_told, is_idle};
-ghost use Rattle.definitions.specs.Disk.{HasRisen, raised, Changes, Elapses};
 ghost use Rattle.protocol_laws.specs.Rows.{IsNewFault};
+ghost use Rattle.sector_disk.specs.Called.{Called, AtMostOneCall};
 
 use crate::Load;
 use crate::load::Stage;
@@ -16,7 +16,6 @@ use image_read::Reader;
 use machine::{Hardware, Machine};
 use page_core::{Failed, Format};
 use plain_machine::{Left, Reply};
-use protocol_laws::{meets_rows, takes_back_in_rows};
 use sector_disk::Disk;
 use sig_header::{Mark, take_back};
 use swap_slots::FreeRuns;
@@ -33,7 +32,7 @@ impl Load {
     ghost use Rattle.plain_machine.specs.declared.event.Actor.TheVariants as actor;
     ghost use Rattle.resume_core.specs.declared.load.Stage.TheVariants as stage;
     ghost use Rattle.resume_core.specs.Loading.{activity_of, activity_told, is_idle};
-    ghost use Rattle.resume_core.specs.Ready.{CanStep, IsOver, IsSameMachine};
+    ghost use Rattle.resume_core.specs.Ready.{CanStep};
     ghost use Rattle.resume_core.specs.Row.{HasRow};
 
     /// Writes the header block taken back.
@@ -52,17 +51,8 @@ impl Load {
         ensures loader { self.new.loader ≡ self.old.loader }
         ensures works { is_idle result ≡ false }
         ensures ready { CanStep machine.now frames.now runs.now self.new }
-        ensures cause { IsNewFault result → HasRisen (D.faults disk.old) (D.faults disk.new) }
-        ensures faults { D.faults disk.old ≤ D.faults disk.new }
-        ensures calls { (D.calls disk.new ≡ D.calls disk.old) ⊎ (D.calls disk.new ≡ raised (D.calls disk.old)) }
-        ensures orders { D.orders disk.new ≡ D.orders disk.old }
-        ensures blocks { D.block_count disk.new ≡ D.block_count disk.old }
-        ensures telling { D.tells_moments disk.new ≡ D.tells_moments disk.old }
-        ensures time { IsTrue (D.tells_moments disk.old) → Changes (Elapses (D.moment disk.old) (D.moment disk.new)
-            (D.left_since disk.old) (D.left_since disk.new)) (D.content disk.old) (D.content disk.new) }
+        ensures called { Called D.Disk AtMostOneCall (IsNewFault result) disk.old disk.new }
     {
-        takes_back_in_rows();
-        meets_rows();
         let block = machine.hw.extents().block(0);
         match disk.write(block as u32, &take_back(&self.header)) {
             Ok(()) => {
@@ -89,17 +79,8 @@ impl Load {
         ensures loader { self.new.loader ≡ self.old.loader }
         ensures works { is_idle result ≡ false }
         ensures ready { CanStep machine.now frames.now runs.now self.new }
-        ensures cause { IsNewFault result → HasRisen (D.faults disk.old) (D.faults disk.new) }
-        ensures faults { D.faults disk.old ≤ D.faults disk.new }
-        ensures calls { (D.calls disk.new ≡ D.calls disk.old) ⊎ (D.calls disk.new ≡ raised (D.calls disk.old)) }
-        ensures orders { D.orders disk.new ≡ D.orders disk.old }
-        ensures blocks { D.block_count disk.new ≡ D.block_count disk.old }
-        ensures telling { D.tells_moments disk.new ≡ D.tells_moments disk.old }
-        ensures time { IsTrue (D.tells_moments disk.old) → Changes (Elapses (D.moment disk.old) (D.moment disk.new)
-            (D.left_since disk.old) (D.left_since disk.new)) (D.content disk.old) (D.content disk.new) }
+        ensures called { Called D.Disk AtMostOneCall (IsNewFault result) disk.old disk.new }
     {
-        takes_back_in_rows();
-        meets_rows();
         match disk.sync() {
             Ok(()) => {}
             Err(Failed) => return self.stop(Reply::SyncFault { left: Left::Unsure }),

@@ -1,4 +1,4 @@
-ghost use Rattle.std.specs.Prelude.{◌≡◌, ◌≤◌, ◌<◌, ◌&&◌, ℕ, not, [], length};
+ghost use Rattle.std.specs.Prelude.{◌≡◌, ◌≤◌, ◌<◌, ◌&&◌, ℕ, not, [], length, Contains};
 ghost use Rattle.definitions.specs.Bytes.{filled_page};
 ghost use Rattle.definitions.specs.Tables.{frame};
 ghost use Rattle.definitions.specs.Zones.{top};
@@ -14,7 +14,6 @@ use machine::{Hardware, Machine};
 use memory_bitmap::Bitmap;
 use plain_machine::{IdentCheck, Loader, Ranges, Reply};
 use prealloc::pick;
-use protocol_laws::{load_begins, meets_rows};
 use saveable::{View, count_free};
 
 /// What a scripted loader has in each byte of its memory (own).
@@ -28,7 +27,7 @@ impl Load {
     ghost use Rattle.resume_core.specs.Ready.{CanBegin, CanStep};
     ghost use Rattle.resume_core.specs.Row.{BeginsRow};
 
-    /// Begins, over a machine that is off. A scripted loader fills each page frame with bytes of its own; a dump's loader is the memory
+    /// Begins, over a machine that is off. A scripted loader fills each page frame that isn't free to it; a dump's loader is the memory
     /// that is there.
     pub fn begin(
         &mut self,
@@ -45,8 +44,6 @@ impl Load {
         ensures begun { result ≡ reply.Loading 0 }
         ensures no_fault { IsNewFault result → ⊥ }
     {
-        load_begins();
-        meets_rows();
         // Only what is read is known to have the size of its type.
         let _blocks = machine.blocks;
         // Until the first number page is read the set of originals has room for the page frames free to the loader.
@@ -66,15 +63,15 @@ impl Load {
 fn make_loader(frames: &mut Frames, set: &mut Bitmap, hw: &Hardware, loader: &Loader)
     requires size { length frames.old ≡ top hw.now.zones }
     requires zones { set.old.zones ≡ hw.now.zones }
-    ensures loader { (p : ℕ) → p < length frames.old → frame frames.new p ≡ loader_frame frames.old loader.now p }
+    ensures loader { (p : ℕ) → p < length frames.old → (Contains (left_free hw.now frames.old loader.now) p → ⊥) → frame frames.new p ≡ loader_frame frames.old loader.now p }
     ensures size { length frames.new ≡ length frames.old }
     ensures set { set.new ≡ record set.old { members = left_free hw.now frames.old loader.now } }
     ensures hardware { IsHardware hw.now }
 {
     match loader {
         Loader::Ranges(ranges) => {
-            fill_all(frames);
             mark_left_free(set, hw, ranges);
+            fill_apart(frames, set);
         }
         Loader::Table => mark_unused(set, frames, hw),
     }
@@ -138,12 +135,14 @@ fn is_in_regions(hw: &Hardware, p: u32) -> bool
     hw.regions().iter().any(|&(start, count, flags)| start <= p && p - start < count && flags != 0)
 }
 
-/// Fills each page frame.
-fn fill_all(frames: &mut Frames)
-    ensures filled { (p : ℕ) → p < length frames.old → frame frames.new p ≡ filled_page 165 }
+/// Fills each page frame that isn't in the set.
+fn fill_apart(frames: &mut Frames, set: &Bitmap)
+    ensures filled { (p : ℕ) → p < length frames.old → (Contains set.now.members p → ⊥) → frame frames.new p ≡ filled_page 165 }
     ensures size { length frames.new ≡ length frames.old }
 {
     for p in 0..frames.len() {
-        frames.fill(p, FILL);
+        if !set.has(p) {
+            frames.fill(p, FILL);
+        }
     }
 }

@@ -18,7 +18,6 @@ use frame_arena::Frames;
 use machine::{Flight, Hardware, Machine, has_bad_slots, tables_fit, usable};
 use page_core::Page;
 use plain_machine::{Held, Loader, Reply};
-use protocol_laws::{meets_rows, reads_in_rows};
 use sig_header::{Area, AreaKind, take_back};
 use swap_slots::{FreeRuns, SlotTable};
 
@@ -53,8 +52,6 @@ impl Load {
         ensures machine { IsSameMachine machine.old machine.new }
         ensures no_fault { IsNewFault result → ⊥ }
     {
-        reads_in_rows();
-        meets_rows();
         let saved = self.saved();
         let missing = self.waiting.left();
         if missing > 0 {

@@ -1,11 +1,12 @@
-ghost use Rattle.std.specs.Prelude.{◌≡◌, ◌≤◌, ◌⊎◌, ℕ, false, None, Some, IfOk, IfErr, IsTrue};
+ghost use Rattle.std.specs.Prelude.{◌≡◌, false, None, Some, IfOk, IfErr};
 ghost use Rattle.sig_header.specs.AreaKind.{area_kind, mark_of};
 ghost use Rattle.plain_machine.specs.Shows.{rests};
 ghost use Rattle.plain_machine.specs.declared.event.Loader.{Loader};
 ghost use Rattle.resume_core.specs.Header.{header_fault, mark_in};
 ghost use Rattle.resume_core.specs.Loading.{activity_told, is_idle};
-ghost use Rattle.definitions.specs.Disk.{Content, HasRisen, raised, as_it_reads, Changes, Elapses};
+ghost use Rattle.definitions.specs.Disk.{Content, as_it_reads};
 ghost use Rattle.protocol_laws.specs.Rows.{IsNewFault};
+ghost use Rattle.sector_disk.specs.Called.{Called, AtMostOneCall};
 
 use crate::Load;
 use crate::load::Stage;
@@ -13,7 +14,6 @@ use frame_arena::Frames;
 use machine::Machine;
 use page_core::{Failed, Page};
 use plain_machine::{Left, Reply};
-use protocol_laws::{finds_in_rows, meets_rows};
 use sector_disk::Disk;
 use sig_header::{AreaKind, Mark};
 use swap_slots::FreeRuns;
@@ -27,7 +27,7 @@ impl Load {
     ghost use Rattle.plain_machine.specs.declared.event.Actor.TheVariants as actor;
     ghost use Rattle.resume_core.specs.declared.load.Stage.TheVariants as stage;
     ghost use Rattle.resume_core.specs.Loading.{activity_of, activity_told, is_idle, FindsMark};
-    ghost use Rattle.resume_core.specs.Ready.{CanStep, IsOver, IsSameMachine};
+    ghost use Rattle.resume_core.specs.Ready.{CanStep};
     ghost use Rattle.resume_core.specs.Row.{HasRow};
 
     /// Syncs: after it the disk has one content.
@@ -46,17 +46,8 @@ impl Load {
         ensures loader { self.new.loader ≡ self.old.loader }
         ensures works { is_idle result ≡ false }
         ensures ready { CanStep machine.now frames.now runs.now self.new }
-        ensures cause { IsNewFault result → HasRisen (D.faults disk.old) (D.faults disk.new) }
-        ensures faults { D.faults disk.old ≤ D.faults disk.new }
-        ensures calls { (D.calls disk.new ≡ D.calls disk.old) ⊎ (D.calls disk.new ≡ raised (D.calls disk.old)) }
-        ensures orders { D.orders disk.new ≡ D.orders disk.old }
-        ensures blocks { D.block_count disk.new ≡ D.block_count disk.old }
-        ensures telling { D.tells_moments disk.new ≡ D.tells_moments disk.old }
-        ensures time { IsTrue (D.tells_moments disk.old) → Changes (Elapses (D.moment disk.old) (D.moment disk.new)
-            (D.left_since disk.old) (D.left_since disk.new)) (D.content disk.old) (D.content disk.new) }
+        ensures called { Called D.Disk AtMostOneCall (IsNewFault result) disk.old disk.new }
     {
-        finds_in_rows();
-        meets_rows();
         match disk.sync() {
             Ok(()) => {
                 self.stage = Stage::Find;
@@ -84,17 +75,8 @@ impl Load {
         ensures loader { self.new.loader ≡ self.old.loader }
         ensures works { is_idle result ≡ false }
         ensures ready { CanStep machine.now frames.now runs.now self.new }
-        ensures cause { IsNewFault result → HasRisen (D.faults disk.old) (D.faults disk.new) }
-        ensures faults { D.faults disk.old ≤ D.faults disk.new }
-        ensures calls { (D.calls disk.new ≡ D.calls disk.old) ⊎ (D.calls disk.new ≡ raised (D.calls disk.old)) }
-        ensures orders { D.orders disk.new ≡ D.orders disk.old }
-        ensures blocks { D.block_count disk.new ≡ D.block_count disk.old }
-        ensures telling { D.tells_moments disk.new ≡ D.tells_moments disk.old }
-        ensures time { IsTrue (D.tells_moments disk.old) → Changes (Elapses (D.moment disk.old) (D.moment disk.new)
-            (D.left_since disk.old) (D.left_since disk.new)) (D.content disk.old) (D.content disk.new) }
+        ensures called { Called D.Disk AtMostOneCall (IsNewFault result) disk.old disk.new }
     {
-        finds_in_rows();
-        meets_rows();
         let block = machine.hw.extents().block(0);
         if block >= u64::from(machine.blocks) {
             return self.stop(Reply::NoImage);

@@ -1,13 +1,12 @@
-ghost use Rattle.std.specs.Prelude.{◌≡◌, ◌≤◌, ◌⊎◌, ◌<◌, ◌+◌, ◌^◌, ℕ, false, [], true, IsTrue, length, Some, None, IsSome, IfOk, IfErr, OnOk, OnErr, ◌↔◌};
-ghost use Rattle.definitions.specs.Disk.{Image, Changes, Elapses};
+ghost use Rattle.std.specs.Prelude.{◌≡◌, ◌≤◌, ◌<◌, ◌+◌, ◌^◌, ℕ, false, true, IsTrue, length, Some, None, IsSome, IfErr, OnOk, ◌↔◌};
+ghost use Rattle.definitions.specs.Disk.{Image};
 ghost use Rattle.image_read.specs.Answers.{Reads};
-ghost use Rattle.image_read.specs.Causes.{reply_of};
 ghost use Rattle.image_read.specs.Reading.{Reading};
 ghost use Rattle.image_read.specs.declared.reader.ReadStep.TheVariants as read_step;
 ghost use Rattle.page_restore.specs.Waiting.{with_data};
 ghost use Rattle.plain_machine.specs.Shows.{rests};
-ghost use Rattle.definitions.specs.Disk.{HasRisen, raised};
 ghost use Rattle.protocol_laws.specs.Rows.{IsNewFault};
+ghost use Rattle.sector_disk.specs.Called.{Called, AtMostOneCall};
 
 use crate::Load;
 use crate::load::Stage;
@@ -15,7 +14,6 @@ use frame_arena::Frames;
 use image_read::{Cause, ReadStep};
 use machine::Machine;
 use plain_machine::{IdentCheck, Left, Reply};
-use protocol_laws::{meets_rows, reads_in_rows};
 use sector_disk::Disk;
 use swap_slots::FreeRuns;
 
@@ -27,7 +25,7 @@ impl Load {
     ghost use Rattle.resume_core.specs.declared.load.Stage.TheVariants as stage;
     ghost use Rattle.resume_core.specs.Loading.{activity_of, activity_told, is_idle};
     ghost use Rattle.resume_core.specs.Ready.{CanRead, CanStep, IsOver, IsSameMachine};
-    ghost use Rattle.resume_core.specs.Row.{HasRow, HasReader, ListsOn, ReadsOn, EndsOn};
+    ghost use Rattle.resume_core.specs.Row.{HasRow, HasReader, ListsOn};
     ghost use Rattle.resume_core.specs.Reader.{HasAnswered, StillReads, room_refusal, refusal_behind};
 
     /// Reads the next map, the info page or the next number page.
@@ -47,17 +45,8 @@ impl Load {
         ensures works { is_idle result ≡ false }
         ensures ready { CanStep machine.new frames.new runs.new self.new }
         ensures machine { IsSameMachine machine.old machine.new }
-        ensures cause { IsNewFault result → HasRisen (D.faults disk.old) (D.faults disk.new) }
-        ensures faults { D.faults disk.old ≤ D.faults disk.new }
-        ensures calls { (D.calls disk.new ≡ D.calls disk.old) ⊎ (D.calls disk.new ≡ raised (D.calls disk.old)) }
-        ensures orders { D.orders disk.new ≡ D.orders disk.old }
-        ensures blocks { D.block_count disk.new ≡ D.block_count disk.old }
-        ensures telling { D.tells_moments disk.new ≡ D.tells_moments disk.old }
-        ensures time { IsTrue (D.tells_moments disk.old) → Changes (Elapses (D.moment disk.old) (D.moment disk.new)
-            (D.left_since disk.old) (D.left_since disk.new)) (D.content disk.old) (D.content disk.new) }
+        ensures called { Called D.Disk AtMostOneCall (IsNewFault result) disk.old disk.new }
     {
-        reads_in_rows();
-        meets_rows();
         match self.read_block(machine, disk) {
             ReadStep::Fault => self.stop(Reply::ReadFault { left: Left::Gone }),
             ReadStep::Refused(cause) => self.refuse_listing(cause),
@@ -78,15 +67,8 @@ impl Load {
         ensures load { self.new ≡ record self.old { reader = self.new.reader; origs = self.new.origs; zeros = self.new.zeros; page = self.new.page } }
         ensures origs { self.new.origs.zones ≡ self.old.origs.zones }
         ensures zeros { self.new.zeros.zones ≡ self.old.zeros.zones }
-        ensures fault { result ≡ read_step.Fault → HasRisen (D.faults disk.old) (D.faults disk.new) }
+        ensures called { Called D.Disk AtMostOneCall (result ≡ read_step.Fault) disk.old disk.new }
         ensures content { D.content disk.new ≡ D.content disk.old }
-        ensures faults { D.faults disk.old ≤ D.faults disk.new }
-        ensures calls { (D.calls disk.new ≡ D.calls disk.old) ⊎ (D.calls disk.new ≡ raised (D.calls disk.old)) }
-        ensures orders { D.orders disk.new ≡ D.orders disk.old }
-        ensures blocks { D.block_count disk.new ≡ D.block_count disk.old }
-        ensures telling { D.tells_moments disk.new ≡ D.tells_moments disk.old }
-        ensures time { IsTrue (D.tells_moments disk.old) → Changes (Elapses (D.moment disk.old) (D.moment disk.new)
-            (D.left_since disk.old) (D.left_since disk.new)) (D.content disk.old) (D.content disk.new) }
     {
         let ident = match self.check {
             IdentCheck::Compare => Some(machine.hw.ident()),
@@ -136,8 +118,6 @@ impl Load {
         ensures machine { IsSameMachine machine.old machine.new }
         ensures no_fault { IsNewFault result → ⊥ }
     {
-        reads_in_rows();
-        meets_rows();
         if !self.is_listed() {
             return self.go_on(Stage::List);
         }

@@ -1,12 +1,12 @@
-ghost use Rattle.std.specs.Prelude.{◌≡◌, ◌≤◌, ◌⊎◌, ◌<◌, ◌+◌, ◌++◌, ◌∷◌, ℕ, false, [], true, IsTrue, length, Some, IsSome, ◌↔◌, Contains};
+ghost use Rattle.std.specs.Prelude.{◌≡◌, ◌≤◌, ◌<◌, ◌+◌, ◌++◌, ◌∷◌, ℕ, false, [], true, IsTrue, length, IsSome, ◌↔◌, Contains};
 ghost use Rattle.definitions.specs.Tables.{frame};
 ghost use Rattle.definitions.specs.Zones.{top};
-ghost use Rattle.definitions.specs.Disk.{Image, Changes, Elapses};
+ghost use Rattle.definitions.specs.Disk.{Image};
 ghost use Rattle.plain_machine.specs.Machine.{Hardware};
 ghost use Rattle.plain_machine.specs.Trace.{info_in, place_count};
 ghost use Rattle.page_restore.specs.Waiting.{waiting_pages};
-ghost use Rattle.definitions.specs.Disk.{HasRisen, raised};
 ghost use Rattle.protocol_laws.specs.Rows.{IsNewFault};
+ghost use Rattle.sector_disk.specs.Called.{Called, AtMostOneCall};
 
 use crate::Load;
 use crate::load::Stage;
@@ -14,7 +14,6 @@ use frame_arena::Frames;
 use image_read::ReadStep;
 use machine::Machine;
 use plain_machine::{Left, Reply};
-use protocol_laws::{meets_rows, reads_in_rows};
 use sector_disk::Disk;
 use swap_slots::FreeRuns;
 
@@ -26,8 +25,7 @@ impl Load {
     ghost use Rattle.resume_core.specs.declared.load.Stage.TheVariants as stage;
     ghost use Rattle.resume_core.specs.Loading.{activity_of, activity_told, is_idle};
     ghost use Rattle.resume_core.specs.Ready.{CanRead, CanStep, IsOver, IsSameMachine};
-    ghost use Rattle.resume_core.specs.Row.{HasRow, HasReader, ListsOn, ReadsOn, EndsOn};
-    ghost use Rattle.resume_core.specs.Reader.{HasAnswered, StillReads, room_refusal, refusal_behind};
+    ghost use Rattle.resume_core.specs.Row.{HasRow, HasReader, ReadsOn};
 
     /// Reads the next map or saved page.
     pub(crate) fn read_next<D: Disk>(
@@ -46,16 +44,8 @@ impl Load {
         ensures works { is_idle result ≡ false }
         ensures ready { CanStep machine.new frames.new runs.new self.new }
         ensures machine { IsSameMachine machine.old machine.new }
-        ensures cause { IsNewFault result → HasRisen (D.faults disk.old) (D.faults disk.new) }
-        ensures faults { D.faults disk.old ≤ D.faults disk.new }
-        ensures calls { (D.calls disk.new ≡ D.calls disk.old) ⊎ (D.calls disk.new ≡ raised (D.calls disk.old)) }
-        ensures orders { D.orders disk.new ≡ D.orders disk.old }
-        ensures blocks { D.block_count disk.new ≡ D.block_count disk.old }
-        ensures telling { D.tells_moments disk.new ≡ D.tells_moments disk.old }
-        ensures time { IsTrue (D.tells_moments disk.old) → Changes (Elapses (D.moment disk.old) (D.moment disk.new)
-            (D.left_since disk.old) (D.left_since disk.new)) (D.content disk.old) (D.content disk.new) }
+        ensures called { Called D.Disk AtMostOneCall (IsNewFault result) disk.old disk.new }
     {
-        reads_in_rows();
         match self.read_block(machine, disk) {
             ReadStep::Fault => self.stop(Reply::ReadFault { left: Left::Gone }),
             ReadStep::Refused(cause) => self.stop(Reply::from(cause)),
@@ -101,8 +91,6 @@ impl Load {
         ensures machine { IsSameMachine machine.old machine.new }
         ensures no_fault { IsNewFault result → ⊥ }
     {
-        reads_in_rows();
-        meets_rows();
         if self.is_over() {
             self.end(machine, frames, runs)
         } else {

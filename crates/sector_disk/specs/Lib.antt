@@ -1,6 +1,7 @@
 pub mod Sectors
 pub mod ContentLaws
 pub mod Calls
+pub mod Called
 pub mod MemDisk
 pub mod FileDisk
 pub mod Recorded

@@ -175,7 +175,7 @@ impl<F: Read + Write + Seek + OpenFile + Drop> Disk for FileDisk<F> {
     fn read(&mut self, b: u32, into: &mut Page) -> Result<(), Failed> {
         let mut bytes = [0; 4096];
         let answer = read_block(&mut self.file, b, &mut bytes);
-        *into = Page::from_bytes(&bytes);
+        into.copy_from_slice(&bytes);
         self.count(answer)
     }
 

@@ -5,7 +5,7 @@ use crate::Disk;
 use crate::calls::Calls;
 use crate::recorded::{Recorded, redo_all};
 use crate::sectors::{
-    SECTORS_IN_BLOCK, Sector, joined, restart_sectors, sync_sectors, write_block, write_picked,
+    SECTORS_IN_BLOCK, Sector, read_block, restart_sectors, sync_sectors, write_block, write_picked,
     zero_sectors,
 };
 use page_core::{Failed, NoMemory, Page};
@@ -139,7 +139,7 @@ impl Disk for MemDisk {
     {
         self.calls.take_turn()?;
         let first = SECTORS_IN_BLOCK * b as usize;
-        *into = joined(&self.live[first..first + SECTORS_IN_BLOCK]);
+        read_block(&self.live[first..first + SECTORS_IN_BLOCK], into);
         Ok(())
     }
 

@@ -24,14 +24,12 @@ pub fn zero_sectors(alloc: Global, count: usize) -> Result<Vec<Sector>, NoMemory
     }
 }
 
-/// The page that the sectors of a block make.
-pub fn joined(sectors: &[Sector]) -> Page
+/// Reads the page that the sectors of a block make.
+pub fn read_block(sectors: &[Sector], into: &mut Page)
     requires { length sectors.now ≡ 8 }
-    ensures { result ≡ concat sectors.now }
+    ensures { into.new ≡ concat sectors.now }
 {
-    let mut bytes = [0; 4096];
-    bytes.copy_from_slice(sectors.as_flattened());
-    Page::from_bytes(&bytes)
+    into.copy_from_slice(sectors.as_flattened());
 }
 
 /// The sectors of a page.

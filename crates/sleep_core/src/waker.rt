@@ -1,12 +1,12 @@
-ghost use Rattle.std.specs.Prelude.{◌≡◌, false, ◌≤◌, ◌<◌, nat_eq, IsTrue};
+ghost use Rattle.std.specs.Prelude.{◌≡◌, false, ◌<◌, nat_eq};
 ghost use Rattle.std.specs.Cmp.Lexicographic.{pointwise};
-ghost use Rattle.definitions.specs.Disk.{Content, HasRisen, raised, Changes, Elapses};
 ghost use Rattle.definitions.specs.SwapHeader.{sig_of, image_signature};
-ghost use Rattle.plain_machine.specs.Machine.{Memory, IsHardware, block_of_slot};
+ghost use Rattle.plain_machine.specs.Machine.{IsHardware, block_of_slot};
 ghost use Rattle.protocol_laws.specs.Rows.{IsNewFault};
 ghost use Rattle.protocol_laws.specs.Settling.{unmarked_block};
 ghost use Rattle.sleep_core.specs.Waking.{is_over, is_last, IsReplyAt};
 ghost use Rattle.sleep_core.specs.Row.{HasRow, IsBegun};
+ghost use Rattle.sector_disk.specs.Called.{Called, OneCall};
 
 use machine::Machine;
 use page_core::{Failed, Page};
@@ -40,7 +40,6 @@ pub struct Waker {
 
 impl Waker {
     ghost use Rattle.sleep_core.specs.declared.waker.Stage.TheVariants as stage;
-    ghost use Rattle.machine.specs.declared.machine.Machine.{Machine as MachineState};
 
     /// Begins to wake a machine that sleeps.
     pub fn begin() -> Waker
@@ -63,14 +62,7 @@ impl Waker {
         ensures row { HasRow machine.now self.old self.new result (D.content disk.old) (D.content disk.new) }
         ensures reply { IsReplyAt self.old.stage result }
         ensures finished { is_over self.new ≡ is_last result }
-        ensures cause { IsNewFault result → HasRisen (D.faults disk.old) (D.faults disk.new) }
-        ensures faults { D.faults disk.old ≤ D.faults disk.new }
-        ensures calls { D.calls disk.new ≡ raised (D.calls disk.old) }
-        ensures orders { D.orders disk.new ≡ D.orders disk.old }
-        ensures blocks { D.block_count disk.new ≡ D.block_count disk.old }
-        ensures telling { D.tells_moments disk.new ≡ D.tells_moments disk.old }
-        ensures time { IsTrue (D.tells_moments disk.old) → Changes (Elapses (D.moment disk.old) (D.moment disk.new)
-            (D.left_since disk.old) (D.left_since disk.new)) (D.content disk.old) (D.content disk.new) }
+        ensures called { Called D.Disk OneCall (IsNewFault result) disk.old disk.new }
     {
         match self.stage {
             Stage::Read => self.read_header(machine, disk),
@@ -88,14 +80,7 @@ impl Waker {
         ensures row { HasRow machine.now self.old self.new result (D.content disk.old) (D.content disk.new) }
         ensures reply { IsReplyAt stage.Read result }
         ensures finished { is_over self.new ≡ is_last result }
-        ensures cause { IsNewFault result → HasRisen (D.faults disk.old) (D.faults disk.new) }
-        ensures faults { D.faults disk.old ≤ D.faults disk.new }
-        ensures calls { D.calls disk.new ≡ raised (D.calls disk.old) }
-        ensures orders { D.orders disk.new ≡ D.orders disk.old }
-        ensures blocks { D.block_count disk.new ≡ D.block_count disk.old }
-        ensures telling { D.tells_moments disk.new ≡ D.tells_moments disk.old }
-        ensures time { IsTrue (D.tells_moments disk.old) → Changes (Elapses (D.moment disk.old) (D.moment disk.new)
-            (D.left_since disk.old) (D.left_since disk.new)) (D.content disk.old) (D.content disk.new) }
+        ensures called { Called D.Disk OneCall (IsNewFault result) disk.old disk.new }
     {
         // Only what is read is known to have the size of its type.
         let _blocks = machine.blocks;
@@ -121,14 +106,7 @@ impl Waker {
         ensures row { HasRow machine.now self.old self.new result (D.content disk.old) (D.content disk.new) }
         ensures reply { IsReplyAt stage.Write result }
         ensures finished { is_over self.new ≡ is_last result }
-        ensures cause { IsNewFault result → HasRisen (D.faults disk.old) (D.faults disk.new) }
-        ensures faults { D.faults disk.old ≤ D.faults disk.new }
-        ensures calls { D.calls disk.new ≡ raised (D.calls disk.old) }
-        ensures orders { D.orders disk.new ≡ D.orders disk.old }
-        ensures blocks { D.block_count disk.new ≡ D.block_count disk.old }
-        ensures telling { D.tells_moments disk.new ≡ D.tells_moments disk.old }
-        ensures time { IsTrue (D.tells_moments disk.old) → Changes (Elapses (D.moment disk.old) (D.moment disk.new)
-            (D.left_since disk.old) (D.left_since disk.new)) (D.content disk.old) (D.content disk.new) }
+        ensures called { Called D.Disk OneCall (IsNewFault result) disk.old disk.new }
     {
         let _blocks = machine.blocks;
         let block = machine.hw.extents().block(0);
@@ -153,14 +131,7 @@ impl Waker {
         ensures row { HasRow machine.now self.old self.new result (D.content disk.old) (D.content disk.new) }
         ensures reply { IsReplyAt stage.Sync result }
         ensures finished { is_over self.new ≡ is_last result }
-        ensures cause { IsNewFault result → HasRisen (D.faults disk.old) (D.faults disk.new) }
-        ensures faults { D.faults disk.old ≤ D.faults disk.new }
-        ensures calls { D.calls disk.new ≡ raised (D.calls disk.old) }
-        ensures orders { D.orders disk.new ≡ D.orders disk.old }
-        ensures blocks { D.block_count disk.new ≡ D.block_count disk.old }
-        ensures telling { D.tells_moments disk.new ≡ D.tells_moments disk.old }
-        ensures time { IsTrue (D.tells_moments disk.old) → Changes (Elapses (D.moment disk.old) (D.moment disk.new)
-            (D.left_since disk.old) (D.left_since disk.new)) (D.content disk.old) (D.content disk.new) }
+        ensures called { Called D.Disk OneCall (IsNewFault result) disk.old disk.new }
     {
         self.stage = Stage::Over;
         match disk.sync() {

@@ -175,5 +175,5 @@ fn is_zero(frames: &Frames, p: u32, zero: &Page) -> bool
     requires zero { zero.now ≡ zero_page }
     ensures { result ≡ is_zero_frame frames.now p }
 {
-    frames.page(p) == zero.as_bytes()
+    frames.page(p).as_bytes() == zero.as_bytes()
 }

@@ -95,7 +95,7 @@ pub fn hand_out_data(
 {
     let _ = saveable.len();
     let p = saveable.first_from(cursor.from).unwrap();
-    let count = hand_out(frames.page(p), cursor, into);
+    let count = hand_out(frames.page(p).as_bytes(), cursor, into);
     if cursor.at == 0 {
         cursor.from = p + 1;
     }

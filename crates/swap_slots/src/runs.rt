@@ -72,7 +72,7 @@ impl FreeRuns {
     }
 
     /// The least free slot.
-    pub(crate) fn first(&self) -> Option<u32>
+    pub fn first(&self) -> Option<u32>
         ensures { result ≡ slice_get (numbers self.now.runs) 0 }
     {
         let word = first_bit(&self.summary, 0)?;

@@ -16,7 +16,6 @@ use Rattle.plain_machine.specs.declared.event.Event.{Event}
 use Rattle.plain_machine.specs.declared.event.Event.TheVariants as event
 use Rattle.plain_machine.specs.declared.event.BootFrom.TheVariants.{Fresh}
 use Rattle.plain_machine.specs.declared.reply.Reply.{Reply}
-use Rattle.protocol_laws.specs.Replays.{SameSteps, StaysOfReplay}
 use Rattle.protocol_laws.specs.Rows.{IsSameArea, IsNewFault, LeavesBlock, blocks_written}
 use Rattle.protocol_laws.proofs.WrittenWhileHeld.{at_written}
 use Rattle.protocol_laws.proofs.Unwritten.{block_same}
@@ -27,6 +26,7 @@ use Rattle.swsusp_cli.specs.Playing.{Played, HasPlayed}
 use Rattle.swsusp_cli.specs.Replay.{is_step, steps_of, is_order, raised_times, orders_by, AreCounted}
 use Rattle.swsusp_cli.specs.View.{DiskView}
 use Rattle.command_core.proofs.Leaving.{leaves_then}
+use Rattle.protocol_laws.proofs.ReplaySteps.{same_steps, stays_of_replay}
 use Rattle.swsusp_cli.proofs.Blocks.{unwritten_here}
 
 -- a run and one step more
@@ -160,10 +160,10 @@ played_none w x = record {
 }
 
 -- The step over the disk as it reads now is one over the disk as it read at first.
-run_then : (old mid new : World) (es : List Event) (rs : List Reply) (e : Event) (r : Reply) (blocks : ℕ) (between now : Option disk.Content) (c : disk.Content) (a : State) → SameSteps → StaysOfReplay →
+run_then : (old mid new : World) (es : List Event) (rs : List Reply) (e : Event) (r : Reply) (blocks : ℕ) (between now : Option disk.Content) (c : disk.Content) (a : State) →
     IfSome between (disk.IsContent blocks) → ((c' : disk.Content) × (b : State) × Played old mid es between c c' a b rs) → HasRow e mid new r between now → hardware_of mid ≡ hardware_of old →
     (c' : disk.Content) × (b : State) × Played old new (es ++ e ∷ []) now c c' a b (rs ++ r ∷ [])
-run_then old mid new es rs e r blocks between now c s same stays whole so_far row hw =
+run_then old mid new es rs e r blocks between now c s whole so_far row hw =
     let h = hardware_of old in
     let v = disk.as_it_reads c in
     let w = disk.as_it_reads so_far.0 in
@@ -171,7 +171,7 @@ run_then old mid new es rs e r blocks between now c s same stays whole so_far ro
     let turn = row so_far.0 was.told in
     let goes = turn.2 so_far.1 was.stands in
     let step : Step h v so_far.1 e r goes.0 =
-    same h v w so_far.1 e r goes.0 was.area was.of_replay (subst (λ (g : Hardware). Step g w so_far.1 e r goes.0) hw goes.1.step) in
+    same_steps h v w so_far.1 e r goes.0 was.area was.of_replay (subst (λ (g : Hardware). Step g w so_far.1 e r goes.0) hw goes.1.step) in
     let area : IsSameArea h w (disk.as_it_reads turn.0) = subst (λ (g : Hardware). IsSameArea g w (disk.as_it_reads turn.0)) hw goes.1.area in
     let here : Stands h (shown mid) so_far.0 so_far.1 = subst (λ (g : Hardware). Stands g (shown mid) so_far.0 so_far.1) hw was.stands.stands in
     let leaves : (b : ℕ) → (Contains (blocks_written h so_far.1) b → ⊥) → LeavesBlock b so_far.0 turn.0 =
@@ -184,22 +184,22 @@ run_then old mid new es rs e r blocks between now c s same stays whole so_far ro
         area = same_area_then h v w (disk.as_it_reads turn.0) was.area area;
         run = run_more h v s es rs so_far.1 e r goes.0 was.run step;
         stands = goes.1.stands;
-        of_replay = stays h v so_far.1 e r goes.0 was.of_replay step;
+        of_replay = stays_of_replay h v so_far.1 e r goes.0 was.of_replay step;
         unwritten = λ some b none.
             leaves_then blocks b c so_far.0 turn.0 (whole_of blocks between so_far.0 was.told whole) (was.unwritten some b none) (leaves b (unwritten_here h (shown mid) so_far.0 so_far.1 b here some none));
       },
     )
 
-pub played_more : (old mid new : World) (es : List Event) (rs : List Reply) (e : Event) (r : Reply) (before between now : DiskView) → SameSteps → StaysOfReplay →
+pub played_more : (old mid new : World) (es : List Event) (rs : List Reply) (e : Event) (r : Reply) (before between now : DiskView) →
     IfSome between.content (disk.IsContent between.blocks) → HasPlayed old mid es rs before between → HasRow e mid new r between.content now.content → hardware_of mid ≡ hardware_of old →
     (IsNewFault r → disk.HasRisen between.faults now.faults) → between.faults ≤ now.faults → IsCalled e r between.calls now.calls → now.orders ≡ orders_after e between.orders →
     HasPlayed old new (es ++ e ∷ []) (rs ++ r ∷ []) before now
-played_more old mid new es rs e r before between now same stays whole played row hw fault later called after = record {
+played_more old mid new es rs e r before between now whole played row hw fault later called after = record {
   size = length-append rs (r ∷ []) ∙ ap (λ (n : ℕ). n + 1) played.size ∙ sym (length-append es (e ∷ []));
   calls = calls_more es e r before.calls between.calls now.calls played.calls called;
   orders = after ∙ ap (orders_after e) played.orders ∙ sym (orders_more es e before.orders);
   faults = counted_then rs r before.faults between.faults now.faults fault later played.faults;
-  run = λ c a told stands of. run_then old mid new es rs e r between.blocks between.content now.content c a same stays whole (played.run c a told stands of) row hw;
+  run = λ c a told stands of. run_then old mid new es rs e r between.blocks between.content now.content c a whole (played.run c a told stands of) row hw;
 }
 
 -- Texts.

@@ -16,7 +16,6 @@ use crate::status::Status;
 use dump_file::Sink;
 use page_core::NoMemory;
 use plain_machine::Event;
-use protocol_laws::replays;
 use script::{Line, Tally, generate, put_summary};
 use sector_disk::Disk;
 use std::alloc::Global;
@@ -73,7 +72,6 @@ pub fn play_through<D: Disk>(world: &mut World, disk: &mut D, events: &[Event]) 
     ensures hardware { hardware_of world.new ≡ hardware_of world.old }
     ensures blocks { IsOff world.new ⊎ (D.block_count disk.new ≡ blocks_of world.new) }
 {
-    replays();
     let mut tally = Tally::new();
     for event in events {
         let reply = world.event(disk, *event);

@@ -12,7 +12,6 @@ ghost use Rattle.swsusp_cli.specs.View.{disk_view};
 use dump_file::{Sink, put_all};
 use page_core::Failed;
 use plain_machine::{Event, Reply};
-use protocol_laws::replays;
 use script::{Line, line_of};
 use sector_disk::Disk;
 use world_core::World;
@@ -40,7 +39,6 @@ pub fn play<D: Disk, O: Sink>(
     ensures hardware { hardware_of world.new ≡ hardware_of world.old }
     ensures blocks { IsOff world.new ⊎ (D.block_count disk.new ≡ blocks_of world.new) }
 {
-    replays();
     for event in events {
         let reply = world.event(disk, *event);
         match print_reply(out, &reply) {

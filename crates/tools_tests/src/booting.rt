@@ -22,7 +22,7 @@ fn is_same(first: &Frames, second: &Frames) -> bool {
         return false;
     }
     for p in 0..first.len() {
-        if first.page(p) != second.page(p) {
+        if first.page(p).as_bytes() != second.page(p).as_bytes() {
             return false;
         }
     }

@@ -10,7 +10,6 @@ use Rattle.plain_machine.specs.State.{State, off, on, booting, hibernating, undo
 use Rattle.plain_machine.specs.Refusals.{refusal}
 use Rattle.plain_machine.specs.declared.event.Event.TheVariants as event
 use Rattle.plain_machine.specs.declared.reply.Reply.TheVariants as reply
-use Rattle.protocol_laws.specs.Cuts.{CutsOff, CutKeepsArea}
 use Rattle.world_core.specs.declared.world.Core.{Core}
 use Rattle.world_core.specs.declared.world.Core.TheVariants.{Off, Running, BootBegun, BootSynced, Hibernating, Asleep, Waking, Loading}
 use Rattle.world_core.specs.World.{World}
@@ -21,6 +20,7 @@ use Rattle.resume_core.specs.declared.load.Load.{Load}
 use Rattle.sleep_core.specs.declared.waker.Waker.{Waker}
 use Rattle.std.proofs.lemmas.Bool.{false≢true}
 use Rattle.world_core.proofs.Cases.{activity_by, activity_for}
+use Rattle.protocol_laws.proofs.PowerCuts.{cuts_off, cut_keeps_area}
 use Rattle.world_core.proofs.Rows.{accepted_step, same_area}
 
 abbrev is_rest : Activity → Bool
@@ -60,8 +60,8 @@ never_refused : (h : Hardware) (a : State) (pick : ℕ) → refusal h a (event.C
 unfolding refusal
 never_refused h a pick = refl
 
-pub row_of_cut : (old new : World) (pick blocks : ℕ) (c c' : disk.Content) → CutsOff → CutKeepsArea → disk.IsContent blocks c → disk.Restarts c c' → new.core ≡ Off (keeps_dump old.core) → new.frames ≡ old.frames → hardware_of new ≡ hardware_of old → IsRow (event.Cut pick) old new reply.WasCut c c'
-row_of_cut old new pick blocks c c' cuts_off keeps whole restarts core frames hw = λ a stands.
+pub row_of_cut : (old new : World) (pick blocks : ℕ) (c c' : disk.Content) → disk.IsContent blocks c → disk.Restarts c c' → new.core ≡ Off (keeps_dump old.core) → new.frames ≡ old.frames → hardware_of new ≡ hardware_of old → IsRow (event.Cut pick) old new reply.WasCut c c'
+row_of_cut old new pick blocks c c' whole restarts core frames hw = λ a stands.
     let h = hardware_of old in
     let kept : ShowsKept h (shown new) (kept_in a) = kept_still old new c a core frames stands in
     let is_off : Stands h (shown new) c' (off (held_in a) (kept_in a)) = cuts_off h (shown old) (shown new) c c' a stands.stands restarts (activity_by new (Off (keeps_dump old.core)) core) kept in (
@@ -73,7 +73,7 @@ row_of_cut old new pick blocks c c' cuts_off keeps whole restarts core frames hw
           image = tt;
           resume = tt;
         };
-        area = keeps h (shown old) c c' blocks a whole stands.stands restarts;
+        area = cut_keeps_area h (shown old) c c' blocks a whole stands.stands restarts;
         unwritten = λ b not. block_cut b c c' restarts;
         leaves = tt;
         header = left_cut h a c c' restarts;

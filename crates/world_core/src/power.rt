@@ -4,7 +4,6 @@ ghost use Rattle.definitions.specs.Disk.{raised, Changes, Elapses, Restarts};
 use crate::World;
 use crate::world::Core;
 use plain_machine::Reply;
-use protocol_laws::cuts;
 use sector_disk::Disk;
 
 // A power cut, and faults of the disk (own).
@@ -27,7 +26,6 @@ impl World {
         ensures off { IsOff self.new }
         ensures cut { Changes Restarts (D.content disk.old) (D.content disk.new) }
     {
-        cuts();
         disk.restart(pick);
         self.core = Core::Off {
             keeps_dump: self.keeps_dump(),

@@ -1,6 +1,7 @@
-ghost use Rattle.std.specs.Prelude.{◌≡◌, ◌≢◌, ℕ, ◌⊎◌, ◌↔◌, ◌≤◌, IsSome, IsTrue};
+ghost use Rattle.std.specs.Prelude.{◌≡◌, ◌≢◌, ◌⊎◌, ◌↔◌, IsSome, IsTrue};
 ghost use Rattle.plain_machine.specs.declared.reply.Reply.TheVariants as reply;
 ghost use Rattle.protocol_laws.specs.Rows.{IsNewFault};
+ghost use Rattle.sector_disk.specs.Called.{Called};
 
 use crate::World;
 use crate::world::Core;
@@ -10,7 +11,7 @@ use sector_disk::Disk;
 // What tasks do while the machine runs (own; in Linux the page allocator, and swap_writepage and swap_readpage, mm/page_io.c).
 impl World {
     ghost use Rattle.plain_machine.specs.Fitting.{IsTask, IsFittingOp};
-    ghost use Rattle.definitions.specs.Disk.{Content, HasRisen, Changes, Elapses};
+    ghost use Rattle.definitions.specs.Disk.{Content};
     ghost use Rattle.plain_machine.specs.declared.event.Event.TheVariants as event;
     ghost use Rattle.plain_machine.specs.declared.event.Actor.TheVariants as actor;
     ghost use Rattle.machine.specs.Flights.{flights_in};
@@ -65,16 +66,9 @@ impl World {
         ensures row { HasRow (event.Step (actor.Task t)) self.old self.new result (D.content disk.old) (D.content disk.new) }
         ensures restored { Restores (event.Step (actor.Task t)) self.old self.new result (D.content disk.old) (D.content disk.new) }
         ensures image { TellsImage (event.Step (actor.Task t)) self.old result (D.content disk.old) }
-        ensures cause { IsNewFault result → HasRisen (D.faults disk.old) (D.faults disk.new) }
-        ensures faults { D.faults disk.old ≤ D.faults disk.new }
-        ensures calls { IsCalled (event.Step (actor.Task t)) result (D.calls disk.old) (D.calls disk.new) }
-        ensures orders { D.orders disk.new ≡ D.orders disk.old }
+        ensures called { Called D.Disk (IsCalled (event.Step (actor.Task t)) result) (IsNewFault result) disk.old disk.new }
         ensures hardware { hardware_of self.new ≡ hardware_of self.old }
         ensures blocks { blocks_of self.new ≡ blocks_of self.old }
-        ensures disk_blocks { D.block_count disk.new ≡ D.block_count disk.old }
-        ensures telling { D.tells_moments disk.new ≡ D.tells_moments disk.old }
-        ensures time { IsTrue (D.tells_moments disk.old) → Changes (Elapses (D.moment disk.old) (D.moment disk.new)
-            (D.left_since disk.old) (D.left_since disk.new)) (D.content disk.old) (D.content disk.new) }
         ensures off { IsOff self.old → IsOff self.new }
         ensures refused { IsRefused (event.Step (actor.Task t)) self.old result → ChangesNothing self.old self.new }
         ensures stopped { StopsOff (event.Step (actor.Task t)) self.old result self.new }
@@ -102,16 +96,9 @@ impl World {
         requires flies { IsSome (flights_in self.old.machine.flights t) }
         requires blocks { D.block_count disk.old ≡ blocks_of self.old }
         ensures row { HasRow (event.Step (actor.Task t)) self.old self.new result (D.content disk.old) (D.content disk.new) }
-        ensures cause { IsNewFault result → HasRisen (D.faults disk.old) (D.faults disk.new) }
-        ensures faults { D.faults disk.old ≤ D.faults disk.new }
-        ensures calls { IsCalled (event.Step (actor.Task t)) result (D.calls disk.old) (D.calls disk.new) }
-        ensures orders { D.orders disk.new ≡ D.orders disk.old }
+        ensures called { Called D.Disk (IsCalled (event.Step (actor.Task t)) result) (IsNewFault result) disk.old disk.new }
         ensures hardware { hardware_of self.new ≡ hardware_of self.old }
         ensures blocks { blocks_of self.new ≡ blocks_of self.old }
-        ensures disk_blocks { D.block_count disk.new ≡ D.block_count disk.old }
-        ensures telling { D.tells_moments disk.new ≡ D.tells_moments disk.old }
-        ensures time { IsTrue (D.tells_moments disk.old) → Changes (Elapses (D.moment disk.old) (D.moment disk.new)
-            (D.left_since disk.old) (D.left_since disk.new)) (D.content disk.old) (D.content disk.new) }
         ensures core { self.new.core ≡ self.old.core }
         ensures works { result ≢ reply.Idle }
     {

@@ -1,9 +1,9 @@
-ghost use Rattle.std.specs.Prelude.{◌≡◌, ◌≢◌, ◌≤◌, IsTrue, length};
-ghost use Rattle.definitions.specs.Disk.{HasRisen, Changes, Elapses};
+ghost use Rattle.std.specs.Prelude.{◌≡◌, ◌≢◌, length};
 ghost use Rattle.machine.specs.Running.{slot_table_of};
 ghost use Rattle.sleep_core.specs.Row.{IsLeft};
 ghost use Rattle.swap_slots.specs.Table.{LiesIn, Matches};
 ghost use Rattle.world_core.specs.StandsFor.{core_woken};
+ghost use Rattle.sector_disk.specs.Called.{Called};
 
 use crate::World;
 use crate::world::Core;
@@ -61,16 +61,9 @@ impl World {
         ensures restored { Restores (event.Step actor.Core) self.old self.new result (D.content disk.old) (D.content disk.new) }
         ensures image { TellsImage (event.Step actor.Core) self.old result (D.content disk.old) }
         ensures works { result ≢ reply.Idle }
-        ensures cause { IsNewFault result → HasRisen (D.faults disk.old) (D.faults disk.new) }
-        ensures faults { D.faults disk.old ≤ D.faults disk.new }
-        ensures calls { IsCalled (event.Step actor.Core) result (D.calls disk.old) (D.calls disk.new) }
-        ensures orders { D.orders disk.new ≡ D.orders disk.old }
+        ensures called { Called D.Disk (IsCalled (event.Step actor.Core) result) (IsNewFault result) disk.old disk.new }
         ensures hardware { hardware_of self.new ≡ hardware_of self.old }
         ensures blocks { blocks_of self.new ≡ blocks_of self.old }
-        ensures disk_blocks { D.block_count disk.new ≡ D.block_count disk.old }
-        ensures telling { D.tells_moments disk.new ≡ D.tells_moments disk.old }
-        ensures time { IsTrue (D.tells_moments disk.old) → Changes (Elapses (D.moment disk.old) (D.moment disk.new)
-            (D.left_since disk.old) (D.left_since disk.new)) (D.content disk.old) (D.content disk.new) }
         ensures memory { WakesWith self.old self.new result }
     {
         // Each page frame has 4096 bytes.

@@ -1,8 +1,9 @@
-ghost use Rattle.std.specs.Prelude.{◌≡◌, ◌≢◌, ◌↔◌, ℕ, ◌⊎◌, ◌≤◌, true, length, Option, Some, None, IfOk, IfSome, IsNone, IsSome, IsTrue};
+ghost use Rattle.std.specs.Prelude.{◌≡◌, ◌≢◌, ◌↔◌, ◌⊎◌, ◌≤◌, true, length, Option, Some, None, IfOk, IfSome, IsNone, IsSome, IsTrue};
 ghost use Rattle.definitions.specs.Zones.{top};
 ghost use Rattle.plain_machine.specs.Machine.{Memory, Fits};
 ghost use Rattle.machine.specs.Running.{AreReserved};
 ghost use Rattle.protocol_laws.specs.Rows.{IsNewFault};
+ghost use Rattle.sector_disk.specs.Called.{Called};
 
 use frame_arena::Frames;
 use hib_core::{Hib, Job};
@@ -60,7 +61,7 @@ impl Model for World {
 }
 
 impl World {
-    ghost use Rattle.plain_machine.specs.Fitting.{IsFitting, IsFittingActor, IsTask, IsFittingOp};
+    ghost use Rattle.plain_machine.specs.Fitting.{IsFitting, IsFittingActor};
     ghost use Rattle.definitions.specs.Disk.{Content, Image, IsMixture, HasRisen, Changes, Elapses};
     ghost use Rattle.plain_machine.specs.declared.event.Event.TheVariants as event;
     ghost use Rattle.plain_machine.specs.declared.event.Actor.TheVariants as actor;
@@ -68,7 +69,7 @@ impl World {
     ghost use Rattle.plain_machine.specs.Shows.{activity_in, runs, seen_frames};
     ghost use Rattle.world_core.specs.declared.world.Core.TheVariants as core;
     ghost use Rattle.world_core.specs.StandsFor.{StandsFor, hardware_of, blocks_of, IsOff, IsNew, KeepsMemory};
-    ghost use Rattle.world_core.specs.Row.{HasRow, IsRow, IsCalled, IsNoCut, IsRefused, ChangesNothing, StopsOff, LeavesMemory, RestartsAt, orders_after, blocks_after, Restores, TellsImage};
+    ghost use Rattle.world_core.specs.Row.{HasRow, IsCalled, IsNoCut, IsRefused, ChangesNothing, StopsOff, LeavesMemory, RestartsAt, orders_after, blocks_after, Restores, TellsImage};
 
     /// A machine that is off, with page frames of zeros.
     pub fn create(alloc: Global, hw: Hardware) -> Result<World, NoMemory>
@@ -197,16 +198,9 @@ impl World {
         ensures row { HasRow (event.Step actor) self.old self.new result (D.content disk.old) (D.content disk.new) }
         ensures restored { Restores (event.Step actor) self.old self.new result (D.content disk.old) (D.content disk.new) }
         ensures image { TellsImage (event.Step actor) self.old result (D.content disk.old) }
-        ensures cause { IsNewFault result → HasRisen (D.faults disk.old) (D.faults disk.new) }
-        ensures faults { D.faults disk.old ≤ D.faults disk.new }
-        ensures calls { IsCalled (event.Step actor) result (D.calls disk.old) (D.calls disk.new) }
-        ensures orders { D.orders disk.new ≡ D.orders disk.old }
+        ensures called { Called D.Disk (IsCalled (event.Step actor) result) (IsNewFault result) disk.old disk.new }
         ensures hardware { hardware_of self.new ≡ hardware_of self.old }
         ensures blocks { blocks_of self.new ≡ blocks_of self.old }
-        ensures disk_blocks { D.block_count disk.new ≡ D.block_count disk.old }
-        ensures telling { D.tells_moments disk.new ≡ D.tells_moments disk.old }
-        ensures time { IsTrue (D.tells_moments disk.old) → Changes (Elapses (D.moment disk.old) (D.moment disk.new)
-            (D.left_since disk.old) (D.left_since disk.new)) (D.content disk.old) (D.content disk.new) }
         ensures off { IsOff self.old → IsOff self.new }
         ensures refused { IsRefused (event.Step actor) self.old result → ChangesNothing self.old self.new }
         ensures stopped { StopsOff (event.Step actor) self.old result self.new }
@@ -223,16 +217,9 @@ impl World {
         ensures row { HasRow (event.Step actor.Core) self.old self.new result (D.content disk.old) (D.content disk.new) }
         ensures restored { Restores (event.Step actor.Core) self.old self.new result (D.content disk.old) (D.content disk.new) }
         ensures image { TellsImage (event.Step actor.Core) self.old result (D.content disk.old) }
-        ensures cause { IsNewFault result → HasRisen (D.faults disk.old) (D.faults disk.new) }
-        ensures faults { D.faults disk.old ≤ D.faults disk.new }
-        ensures calls { IsCalled (event.Step actor.Core) result (D.calls disk.old) (D.calls disk.new) }
-        ensures orders { D.orders disk.new ≡ D.orders disk.old }
+        ensures called { Called D.Disk (IsCalled (event.Step actor.Core) result) (IsNewFault result) disk.old disk.new }
         ensures hardware { hardware_of self.new ≡ hardware_of self.old }
         ensures blocks { blocks_of self.new ≡ blocks_of self.old }
-        ensures disk_blocks { D.block_count disk.new ≡ D.block_count disk.old }
-        ensures telling { D.tells_moments disk.new ≡ D.tells_moments disk.old }
-        ensures time { IsTrue (D.tells_moments disk.old) → Changes (Elapses (D.moment disk.old) (D.moment disk.new)
-            (D.left_since disk.old) (D.left_since disk.new)) (D.content disk.old) (D.content disk.new) }
         ensures off { IsOff self.old → IsOff self.new }
         ensures refused { IsRefused (event.Step actor.Core) self.old result → ChangesNothing self.old self.new }
         ensures stopped { StopsOff (event.Step actor.Core) self.old result self.new }

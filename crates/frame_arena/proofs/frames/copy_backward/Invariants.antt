@@ -1,7 +1,8 @@
-use Rattle.std.proofs.Common.{◌≡◌, ◌+◌, ◌-◌}
+use Rattle.std.proofs.Common.{◌≡◌, ◌+◌, ◌-◌, All}
+use Rattle.definitions.specs.Bytes.{IsPage}
 use Rattle.definitions.specs.Tables.{run_at, with_run}
 use Rattle.frame_arena.proofs.frames.copy_backward.Given as goal
 
--- the pages of the run from i on are copied
+-- the pages of the run from i on are copied, and each page is whole
 abbrev pub invariant-loop-i : goal.invariant-loop-i
-invariant-loop-i l = l.pages ≡ with_run l.initial.pages (l.to + l.i) (run_at (l.n - l.i) l.initial.pages (l.from + l.i))
+invariant-loop-i l = (l.pages ≡ with_run l.initial.pages (l.to + l.i) (run_at (l.n - l.i) l.initial.pages (l.from + l.i))) × All IsPage l.pages

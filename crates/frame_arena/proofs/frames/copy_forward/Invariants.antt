@@ -1,7 +1,8 @@
-use Rattle.std.proofs.Common.{◌≡◌}
+use Rattle.std.proofs.Common.{◌≡◌, All}
+use Rattle.definitions.specs.Bytes.{IsPage}
 use Rattle.definitions.specs.Tables.{run_at, with_run}
 use Rattle.frame_arena.proofs.frames.copy_forward.Given as goal
 
--- the first i pages of the run are copied
+-- the first i pages of the run are copied, and each page is whole
 abbrev pub invariant-loop-i : goal.invariant-loop-i
-invariant-loop-i l = l.pages ≡ with_run l.initial.pages l.to (run_at l.i l.initial.pages l.from)
+invariant-loop-i l = (l.pages ≡ with_run l.initial.pages l.to (run_at l.i l.initial.pages l.from)) × All IsPage l.pages

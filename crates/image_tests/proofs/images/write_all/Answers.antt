@@ -23,13 +23,13 @@ writes-preserved c =
         free,
         c.in-More.ensures.writing free before.writing.1 tt,
         λ place lt.
-            subst (λ (n : ℕ). laid_block c.step-step.new.self.extents free place < n) (sym c.in-More.ensures.blocks)
+            subst (λ (n : ℕ). laid_block c.step-step.new.self.extents free place < n) (sym c.in-More.ensures.called.blocks)
             (subst (λ (x : List (ℕ × ℕ × ℕ)). laid_block x free place < block_count c.writes.disk) (sym same.extents)
             (before.writing.2 place (subst (λ (i : Info). place < writes_of i) same.info lt))),
       );
       sets = subst (λ (i : Info). AreOfImage i c.args.origs.now.members c.args.copies.now.members (members_in (option_copied c.args.zeros))) (sym same.info) before.sets;
       copies = λ k d lt. (let below = before.copies k d lt in omega arith);
       reading = c.in-More.ensures.reading tt;
-      blocks = c.in-More.ensures.blocks ∙ before.blocks;
+      blocks = c.in-More.ensures.called.blocks ∙ before.blocks;
       len = omega arith;
     }

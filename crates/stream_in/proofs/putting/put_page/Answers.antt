@@ -38,7 +38,7 @@ put-requires-clause-writing g c =
     let p2 : IsPut free c.put-step-2.new.frames c.put-step.new.self c.put-step-2.new.self c.put-step-2.result =
     record { answer = e2.answer; image = e2.image; made = e2.made; writing = e2.writing free one.writing } in
     let two = followed free c.put-step-2.new.frames c.put-step.new.self c.put-step-2.new.self c.put-step-2.result p2 (sym c.map_follows-2.ensures ∙ c.if-not-map_follows-2.false) in
-    (free, two.writing, still_below free c.args.writer.now c.put-step.new.self c.put-step-2.new.self _ _ one.image two.image (e2.blocks ∙ e1.blocks) c.requires.writing.2)
+    (free, two.writing, still_below free c.args.writer.now c.put-step.new.self c.put-step-2.new.self _ _ one.image two.image (e2.called.blocks ∙ e1.called.blocks) c.requires.writing.2)
 
 pub returns-clause-put : goal.returns-clause-put
 returns-clause-put g c = λ free h ok.
@@ -128,7 +128,7 @@ returns-then-not-map_follows-2-clause-done g c = λ free pages h of below is ok.
     let one = followed free c.put-step.new.frames w0 w1 c.put-step.result p1 map1 in
     let d1 = put_done free c.args.frames.now w0 c.args.page.now pages (g.D.Disk.block_count c.args.disk.now) a b h of c.as_bytes.ensures.page below (g.met.D.Disk.well_formed c.args.disk.now) (inr is)
     (e1.written free h (not_fault c.put-step.result map1)) in
-    let s1 = behind_put free w0 w1 (g.D.Disk.block_count c.args.disk.now) (g.D.Disk.block_count c.put-step.new.disk) one e1.blocks of below in
+    let s1 = behind_put free w0 w1 (g.D.Disk.block_count c.args.disk.now) (g.D.Disk.block_count c.put-step.new.disk) one e1.called.blocks of below in
     let d2 = put_done free c.put-step.new.frames w1 c.args.page.now pages (g.D.Disk.block_count c.put-step.new.disk) b d one.writing s1.of c.as_bytes.ensures.page s1.below (g.met.D.Disk.well_formed c.put-step.new.disk) (inl s1.map) (e2.written free one.writing ok) in
     more_then w0.extents free w0.info.pages pages w0.written (w0.written + 1) c.put-step-2.new.self.written a b d d1
     (more_same w0.extents w1.extents free w0.info.pages w1.info.pages pages (w0.written + 1) w1.written c.put-step-2.new.self.written (w1.written + 1) b d
@@ -156,10 +156,10 @@ returns-clause-done g c = λ free pages h of below is ok.
     let two = followed free c.put-step-2.new.frames w1 w2 c.put-step-2.result p2 map2 in
     let d1 = put_done free c.args.frames.now w0 c.args.page.now pages (g.D.Disk.block_count c.args.disk.now) a b h of c.as_bytes.ensures.page below (g.met.D.Disk.well_formed c.args.disk.now) (inr is)
     (e1.written free h (not_fault c.put-step.result map1)) in
-    let s1 = behind_put free w0 w1 (g.D.Disk.block_count c.args.disk.now) (g.D.Disk.block_count c.put-step.new.disk) one e1.blocks of below in
+    let s1 = behind_put free w0 w1 (g.D.Disk.block_count c.args.disk.now) (g.D.Disk.block_count c.put-step.new.disk) one e1.called.blocks of below in
     let d2 = put_done free c.put-step.new.frames w1 c.args.page.now pages (g.D.Disk.block_count c.put-step.new.disk) b d one.writing s1.of c.as_bytes.ensures.page s1.below (g.met.D.Disk.well_formed c.put-step.new.disk) (inl s1.map)
     (e2.written free one.writing (not_fault c.put-step-2.result map2)) in
-    let s2 = behind_put free w1 w2 (g.D.Disk.block_count c.put-step.new.disk) (g.D.Disk.block_count c.put-step-2.new.disk) two e2.blocks s1.of s1.below in
+    let s2 = behind_put free w1 w2 (g.D.Disk.block_count c.put-step.new.disk) (g.D.Disk.block_count c.put-step-2.new.disk) two e2.called.blocks s1.of s1.below in
     let d3 = put_done free c.put-step-2.new.frames w2 c.args.page.now pages (g.D.Disk.block_count c.put-step-2.new.disk) d f two.writing s2.of c.as_bytes.ensures.page s2.below (g.met.D.Disk.well_formed c.put-step-2.new.disk) (inl s2.map) (e3.written free two.writing ok) in
     more_then w0.extents free w0.info.pages pages w0.written (w0.written + 1) c.put.new.self.written a b f d1
     (more_same w0.extents w1.extents free w0.info.pages w1.info.pages pages (w0.written + 1) w1.written c.put.new.self.written c.put.new.self.written b f
@@ -176,7 +176,7 @@ put-step-requires-2-clause-writing g c =
     let p1 : IsPut free c.put-step.new.frames w0 c.put-step.new.self c.put-step.result =
     record { answer = e1.answer; image = e1.image; made = e1.made; writing = e1.writing free c.requires.writing.1 } in
     let one = followed free c.put-step.new.frames w0 c.put-step.new.self c.put-step.result p1 (sym c.map_follows.ensures ∙ c.if-not-map_follows.false) in
-    (free, one.writing, still_below free w0 w0 c.put-step.new.self _ _ (record { info = refl; extents = refl; table = refl; first = refl }) one.image e1.blocks c.requires.writing.2)
+    (free, one.writing, still_below free w0 w0 c.put-step.new.self _ _ (record { info = refl; extents = refl; table = refl; first = refl }) one.image e1.called.blocks c.requires.writing.2)
 
 -- Moments.
 
@@ -188,7 +188,7 @@ returns-then-not-map_follows-clause-time g c = λ tells free h.
     let b = g.D.Disk.content c.put-step.new.disk in
     let k1 = put_keeps free c.args.frames.now c.args.writer.now c.args.page.now c.put-step.result a b h e1.answer (e1.written free h) (e1.failed free h) in
     outside_call c.args.writer.now.extents free (g.D.Disk.block_count d) (g.D.Disk.moment d) (g.D.Disk.moment c.put-step.new.disk) (g.D.Disk.left_since d) (g.D.Disk.left_since c.put-step.new.disk) a b
-    (g.met.D.Disk.tells_content d tells) (g.met.D.Disk.well_formed d) (e1.time tells) k1 (λ t v le. g.met.D.Disk.counts_now d t v tells le)
+    (g.met.D.Disk.tells_content d tells) (g.met.D.Disk.well_formed d) (e1.called.time tells) k1 (λ t v le. g.met.D.Disk.counts_now d t v tells le)
 
 pub returns-then-not-map_follows-2-clause-time : goal.returns-then-not-map_follows-2-clause-time
 returns-then-not-map_follows-2-clause-time g c = λ tells free h.
@@ -206,10 +206,10 @@ returns-then-not-map_follows-2-clause-time g c = λ tells free h.
     let one = followed free c.put-step.new.frames c.args.writer.now c.put-step.new.self c.put-step.result p1 (sym c.map_follows.ensures ∙ c.if-not-map_follows.false) in
     let k1 = put_keeps free c.args.frames.now c.args.writer.now c.args.page.now c.put-step.result (content d0) (content d1) h e1.answer (e1.written free h) (e1.failed free h) in
     let k2 = put_keeps free c.put-step.new.frames c.put-step.new.self c.args.page.now c.put-step-2.result (content d1) (content d2) one.writing e2.answer (e2.written free one.writing) (e2.failed free one.writing) in
-    let tells1 = subst IsTrue (sym e1.telling) tells in
-    let t1 = outside_call x free (g.D.Disk.block_count d0) (moment d0) (moment d1) (left d0) (left d1) (content d0) (content d1) (g.met.D.Disk.tells_content d0 tells) (g.met.D.Disk.well_formed d0) (e1.time tells) k1
+    let tells1 = subst IsTrue (sym e1.called.telling) tells in
+    let t1 = outside_call x free (g.D.Disk.block_count d0) (moment d0) (moment d1) (left d0) (left d1) (content d0) (content d1) (g.met.D.Disk.tells_content d0 tells) (g.met.D.Disk.well_formed d0) (e1.called.time tells) k1
     (λ t v le. g.met.D.Disk.counts_now d0 t v tells le) in
-    let t2 = outside_call x free (g.D.Disk.block_count d1) (moment d1) (moment d2) (left d1) (left d2) (content d1) (content d2) (g.met.D.Disk.tells_content d1 tells1) (g.met.D.Disk.well_formed d1) (e2.time tells1)
+    let t2 = outside_call x free (g.D.Disk.block_count d1) (moment d1) (moment d2) (left d1) (left d2) (content d1) (content d2) (g.met.D.Disk.tells_content d1 tells1) (g.met.D.Disk.well_formed d1) (e2.called.time tells1)
     (told_same x c.put-step.new.self.extents free (content d1) (content d2) e1.image.extents k2) (λ t v le. g.met.D.Disk.counts_now d1 t v tells1 le) in
     outside_then x free (moment d0) (moment d1) (moment d2) (left d0) (left d1) (left d2) t1 t2
 
@@ -235,12 +235,12 @@ returns-clause-time g c = λ tells free h.
     let k1 = put_keeps free c.args.frames.now c.args.writer.now c.args.page.now c.put-step.result (content d0) (content d1) h e1.answer (e1.written free h) (e1.failed free h) in
     let k2 = put_keeps free c.put-step.new.frames c.put-step.new.self c.args.page.now c.put-step-2.result (content d1) (content d2) one.writing e2.answer (e2.written free one.writing) (e2.failed free one.writing) in
     let k3 = put_keeps free c.put-step-2.new.frames c.put-step-2.new.self c.args.page.now c.put.result (content d2) (content d3) two.writing e3.answer (e3.written free two.writing) (e3.failed free two.writing) in
-    let tells1 = subst IsTrue (sym e1.telling) tells in
-    let tells2 = subst IsTrue (sym e2.telling) tells1 in
-    let t1 = outside_call x free (g.D.Disk.block_count d0) (moment d0) (moment d1) (left d0) (left d1) (content d0) (content d1) (g.met.D.Disk.tells_content d0 tells) (g.met.D.Disk.well_formed d0) (e1.time tells) k1
+    let tells1 = subst IsTrue (sym e1.called.telling) tells in
+    let tells2 = subst IsTrue (sym e2.called.telling) tells1 in
+    let t1 = outside_call x free (g.D.Disk.block_count d0) (moment d0) (moment d1) (left d0) (left d1) (content d0) (content d1) (g.met.D.Disk.tells_content d0 tells) (g.met.D.Disk.well_formed d0) (e1.called.time tells) k1
     (λ t v le. g.met.D.Disk.counts_now d0 t v tells le) in
-    let t2 = outside_call x free (g.D.Disk.block_count d1) (moment d1) (moment d2) (left d1) (left d2) (content d1) (content d2) (g.met.D.Disk.tells_content d1 tells1) (g.met.D.Disk.well_formed d1) (e2.time tells1)
+    let t2 = outside_call x free (g.D.Disk.block_count d1) (moment d1) (moment d2) (left d1) (left d2) (content d1) (content d2) (g.met.D.Disk.tells_content d1 tells1) (g.met.D.Disk.well_formed d1) (e2.called.time tells1)
     (told_same x c.put-step.new.self.extents free (content d1) (content d2) e1.image.extents k2) (λ t v le. g.met.D.Disk.counts_now d1 t v tells1 le) in
-    let t3 = outside_call x free (g.D.Disk.block_count d2) (moment d2) (moment d3) (left d2) (left d3) (content d2) (content d3) (g.met.D.Disk.tells_content d2 tells2) (g.met.D.Disk.well_formed d2) (e3.time tells2)
+    let t3 = outside_call x free (g.D.Disk.block_count d2) (moment d2) (moment d3) (left d2) (left d3) (content d2) (content d3) (g.met.D.Disk.tells_content d2 tells2) (g.met.D.Disk.well_formed d2) (e3.called.time tells2)
     (told_same x c.put-step-2.new.self.extents free (content d2) (content d3) (e2.image.extents ∙ e1.image.extents) k3) (λ t v le. g.met.D.Disk.counts_now d2 t v tells2 le) in
     outside_then x free (moment d0) (moment d1) (moment d3) (left d0) (left d1) (left d3) t1 (outside_then x free (moment d1) (moment d2) (moment d3) (left d1) (left d2) (left d3) t2 t3)

@@ -38,7 +38,7 @@ returns-then-cursor-eq0-clause-part c =
     let members = c.args.saveable.now.members in
     let place = count_below members c.args.cursor.now.from in
     let is : c.unwrap-p.result ≡ get_or members place 0 = same_Some _ _ (sym c.unwrap-p.ensures ∙ c.first_from.ensures ∙ next_is members c.args.cursor.now.from c.len.ensures.set.ascending c.requires.more) in
-    let page : c.page.result.now ≡ frame c.args.frames.now (get_or members place 0) = c.page.ensures.content ∙ ap (frame c.args.frames.now) is in
+    let page : c.as_bytes.result.now ≡ frame c.args.frames.now (get_or members place 0) = c.as_bytes.ensures.bytes ∙ c.page.ensures.content ∙ ap (frame c.args.frames.now) is in
     let part = subst (λ (p : List ℕ). IsPart p c.args.cursor.now c.hand_out-count.new.cursor c.args.into.now c.hand_out-count.new.into c.hand_out-count.result) page c.hand_out-count.ensures.part in
     record {
       whole = part.whole;
@@ -67,5 +67,5 @@ returns-else-cursor-eq0-clause-part c =
     let members = c.args.saveable.now.members in
     let place = count_below members c.args.cursor.now.from in
     let is : c.unwrap-p.result ≡ get_or members place 0 = same_Some _ _ (sym c.unwrap-p.ensures ∙ c.first_from.ensures ∙ next_is members c.args.cursor.now.from c.len.ensures.set.ascending c.requires.more) in
-    let page : c.page.result.now ≡ frame c.args.frames.now (get_or members place 0) = c.page.ensures.content ∙ ap (frame c.args.frames.now) is in
+    let page : c.as_bytes.result.now ≡ frame c.args.frames.now (get_or members place 0) = c.as_bytes.ensures.bytes ∙ c.page.ensures.content ∙ ap (frame c.args.frames.now) is in
     subst (λ (p : List ℕ). IsPart p c.args.cursor.now c.hand_out-count.new.cursor c.args.into.now c.hand_out-count.new.into c.hand_out-count.result) page c.hand_out-count.ensures.part

@@ -1,6 +1,5 @@
-use Rattle.std.proofs.Common.{◌<◌, ◌++◌, List, [], ◌∷◌, length, take, get_or, refl, sym, ◌∙◌, subst, arith}
+use Rattle.std.proofs.Common.{◌<◌, ◌++◌, List, [], ◌∷◌, take, get_or, refl, sym, ◌∙◌, subst, arith}
 use Rattle.std.proofs.lemmas.List.{length-take}
-use Rattle.std.proofs.lemmas.List.Elements.{All-get_or}
 use Rattle.plain_machine.specs.declared.event.Event.{Event}
 use Rattle.plain_machine.specs.declared.event.Event.TheVariants as event
 use Rattle.plain_machine.specs.declared.event.BootFrom.TheVariants.{Fresh}
@@ -33,7 +32,7 @@ loop-event-preserved g c =
       played = (
         rs ++ r ∷ [],
         subst (λ (es : List Event). HasPlayed c.args.world.now c.event-reply.new.self es (rs ++ r ∷ []) before now) (sym more)
-            (played_more c.args.world.now c.loop-event.world c.event-reply.new.self (take i events) rs e r before between now c.replays.ensures.same c.replays.ensures.stays
+            (played_more c.args.world.now c.loop-event.world c.event-reply.new.self (take i events) rs e r before between now
             (g.met.D.Disk.well_formed c.loop-event.disk) inv.played.1 row.row inv.hardware row.cause row.faults row.calls row.orders),
         c.add.ensures rs inv.played.2,
       );

@@ -1,5 +1,4 @@
-use Rattle.std.proofs.Common.{inr, ◌<◌, ◌+◌, ◌++◌, ℕ, List, [], ◌∷◌, length, take, get_or, refl, sym, ◌∙◌, subst, arith}
-use Rattle.std.proofs.lemmas.List.Elements.{All-get_or}
+use Rattle.std.proofs.Common.{inr, ◌<◌, ◌+◌, ◌++◌, ℕ, List, [], ◌∷◌, take, get_or, refl, sym, ◌∙◌, subst, arith}
 use Rattle.definitions.specs.Streams.{TakesAll}
 use Rattle.definitions.proofs.Pieces.{Takes-none}
 use Rattle.plain_machine.specs.Replies.{text_of, line_of}
@@ -36,7 +35,7 @@ loop-event-preserved g c =
     let new_out = g.O.Sink.taken c.print_reply.new.out in
     let rs = inv.played.0 in
     let played = subst (λ (es : List Event). HasPlayed c.args.world.now c.event-reply.new.self es (rs ++ r ∷ []) before now) (sym more)
-    (played_more c.args.world.now c.loop-event.world c.event-reply.new.self (take i events) rs e r before between now c.replays.ensures.same c.replays.ensures.stays
+    (played_more c.args.world.now c.loop-event.world c.event-reply.new.self (take i events) rs e r before between now
     (g.met.D.Disk.well_formed c.loop-event.disk) inv.played.1 row.row inv.hardware row.cause row.faults row.calls row.orders) in
     record {
       played = (
@@ -66,7 +65,7 @@ returns-in-Err-clause-played g c =
     let new_out = g.O.Sink.taken c.print_reply.new.out in
     let rs = inv.played.0 in
     let played = subst (λ (es : List Event). HasPlayed c.args.world.now c.event-reply.new.self es (rs ++ r ∷ []) before now) (sym more)
-    (played_more c.args.world.now c.loop-event.world c.event-reply.new.self (take i events) rs e r before between now c.replays.ensures.same c.replays.ensures.stays
+    (played_more c.args.world.now c.loop-event.world c.event-reply.new.self (take i events) rs e r before between now
     (g.met.D.Disk.well_formed c.loop-event.disk) inv.played.1 row.row inv.hardware row.cause row.faults row.calls row.orders) in (
       i + 1,
       rs ++ r ∷ [],

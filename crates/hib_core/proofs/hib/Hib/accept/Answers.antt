@@ -23,7 +23,7 @@ use Rattle.protocol_laws.specs.Writers.{slot_table_of}
 use Rattle.machine.specs.declared.machine.Machine.{Machine}
 use Rattle.hib_core.specs.declared.hib.Hib.{Hib}
 use Rattle.hib_core.specs.Begin.{IsRefused, pages_of}
-use Rattle.hib_core.proofs.BeginRefusals.{SeenLaws, AreCounts, are_counts, refused_closed, refused_no_swap, refused_no_frames, refused_no_slots, refused_busy}
+use Rattle.hib_core.proofs.BeginRefusals.{AreCounts, are_counts, refused_closed, refused_no_swap, refused_no_frames, refused_no_slots, refused_busy}
 use Rattle.hib_core.proofs.BeginTables.{at_hardware, frame_table_lies, slot_table_lies, saveable_few}
 use Rattle.hib_core.proofs.hib.Hib.accept.Goals as goal
 
@@ -40,9 +40,8 @@ returns-then-ne-clause-refused c = refused_closed c.args.machine.now c.args.fram
 
 pub returns-in-Err-clause-refused : goal.returns-in-Err-clause-refused
 returns-in-Err-clause-refused c =
-    let laws : SeenLaws = record { image = c.takes_image.ensures.image; lists = c.shows_lists.ensures.frames; slots = c.shows_lists.ensures.slots } in
     let unmarked : c.args.machine.now.held ≡ No = is_no c.args.machine.now.held (sym c.ne.ensures ∙ c.if-ne.false) in
-    refused_no_swap c.args.machine.now c.args.frames.now c.args.format c.in-Err.why laws c.zones-zones.ensures.hardware (sym c.busy.ensures ∙ c.in_default.is) unmarked c.in-Err.is
+    refused_no_swap c.args.machine.now c.args.frames.now c.args.format c.in-Err.why c.zones-zones.ensures.hardware (sym c.busy.ensures ∙ c.in_default.is) unmarked c.in-Err.is
 
 pub count-requires-clause-table : goal.count-requires-clause-table
 count-requires-clause-table c =
@@ -72,13 +71,12 @@ overflow_add-need c =
 
 pub returns-in-Err-count-clause-refused : goal.returns-in-Err-count-clause-refused
 returns-in-Err-count-clause-refused c =
-    let laws : SeenLaws = record { image = c.takes_image.ensures.image; lists = c.shows_lists.ensures.frames; slots = c.shows_lists.ensures.slots } in
     let unmarked : c.args.machine.now.held ≡ No = is_no c.args.machine.now.held (sym c.ne.ensures ∙ c.if-ne.false) in
     let usable : IsOk c.args.machine.now.area = subst (λ (r : Result Area NoSwap). IsOk r) (sym c.in_default-area.is) refl in
     let few = at_hardware c.args.machine.now.hw (λ zs k. length (free_frames zs k c.args.frames.now) < length (saveable_frames zs k c.args.frames.now) + 1025) c.zones-zones.result.now c.frame_table-table.result c.zones-zones.ensures.zones c.frame_table-table.ensures.frame (c.in-Err-count.ensures.short.0 refl) in
     let told : c.in-Err-count.short ≡ record { free = length (unused c.args.machine.now.hw c.args.frames.now); need = length (saveable c.args.machine.now.hw c.args.frames.now) + 1025 } =
     at_hardware c.args.machine.now.hw (λ zs k. let is : Short = record { free = length (free_frames zs k c.args.frames.now); need = length (saveable_frames zs k c.args.frames.now) + 1025 } in c.in-Err-count.short ≡ is) c.zones-zones.result.now c.frame_table-table.result c.zones-zones.ensures.zones c.frame_table-table.ensures.frame c.in-Err-count.ensures.tells in
-    subst (λ (s : Short). IsRefused c.args.machine.now c.args.frames.now c.args.format (reply.NoFrames s.free s.need)) (sym told) (refused_no_frames c.args.machine.now c.args.frames.now c.args.format laws c.zones-zones.ensures.hardware (sym c.busy.ensures ∙ c.in_default.is) unmarked usable few)
+    subst (λ (s : Short). IsRefused c.args.machine.now c.args.frames.now c.args.format (reply.NoFrames s.free s.need)) (sym told) (refused_no_frames c.args.machine.now c.args.frames.now c.args.format c.zones-zones.ensures.hardware (sym c.busy.ensures ∙ c.in_default.is) unmarked usable few)
 
 -- what the snapshot counts, and that there is room for it
 record IsRoom (machine : Machine) (frames : Memory) (hib : Hib) (counts : Counts) (f : Format) : Type 0 where
@@ -100,7 +98,6 @@ room machine frames hib counts f held zones table z t sets told enough = record 
 
 pub returns-then-free-need-clause-refused : goal.returns-then-free-need-clause-refused
 returns-then-free-need-clause-refused c =
-    let laws : SeenLaws = record { image = c.takes_image.ensures.image; lists = c.shows_lists.ensures.frames; slots = c.shows_lists.ensures.slots } in
     let unmarked : c.args.machine.now.held ≡ No = is_no c.args.machine.now.held (sym c.ne.ensures ∙ c.if-ne.false) in
     let usable : IsOk c.args.machine.now.area = subst (λ (r : Result Area NoSwap). IsOk r) (sym c.in_default-area.is) refl in
     let hib : Hib = record c.args.self.now { snapshot = c.count.new.self } in
@@ -110,7 +107,7 @@ returns-then-free-need-clause-refused c =
     let few : length (free_in c.args.frames.now (slot_table_of c.args.machine.now.hw)) < pages_of c.in-Ok.counts + 1026 = subst (λ (n : ℕ). n < pages_of c.in-Ok.counts + 1026) free (subst (λ (n : ℕ). c.free_count-free.result < n + 1026) c.pages_of.ensures lt) in
     subst (λ (n : ℕ). IsRefused c.args.machine.now c.args.frames.now c.args.format (reply.NoSlots n (c.pages_of.result + 1026))) (sym free)
     (subst (λ (n : ℕ). IsRefused c.args.machine.now c.args.frames.now c.args.format (reply.NoSlots (length (free_in c.args.frames.now (slot_table_of c.args.machine.now.hw))) (n + 1026))) (sym c.pages_of.ensures)
-    (refused_no_slots c.args.machine.now c.args.frames.now c.args.format hib c.in-Ok.counts laws c.zones-zones.ensures.hardware (sym c.busy.ensures ∙ c.in_default.is) unmarked usable is.are is.format is.copies few))
+    (refused_no_slots c.args.machine.now c.args.frames.now c.args.format hib c.in-Ok.counts c.zones-zones.ensures.hardware (sym c.busy.ensures ∙ c.in_default.is) unmarked usable is.are is.format is.copies few))
 
 pub returns-clause-counted : goal.returns-clause-counted
 returns-clause-counted c =

@@ -12,7 +12,7 @@ returns-in-Ok-clause-row g c = λ k told.
       synced.0,
       synced.1,
       row_at c.args.machine.now c.args.frames.now c.args.self.now _ _ c.give_up.new.frames _ c.give_up.new.self _ c.undone.result k synced.0 refl c.give_up.ensures.hib c.undone.ensures.reply
-          (undone_row c.args.machine.now c.args.frames.now c.give_up.new.frames c.args.runs.now c.args.self.now k synced.0 c.args.call c.undoes.ensures.synced c.keeps_area.ensures.synced c.takes_slots.ensures.given_back c.takes_slots.ensures.none_left
+          (undone_row c.args.machine.now c.args.frames.now c.give_up.new.frames c.args.runs.now c.args.self.now k synced.0 c.args.call
           c.requires.ready c.give_up.ensures.pages c.requires.stage whole synced.2 c.give_up.ensures.given),
     )
 
@@ -22,7 +22,7 @@ returns-in-Err-clause-row g c = λ k told.
       k,
       c.in-Err.ensures.failed ∙ told,
       row_at c.args.machine.now c.args.frames.now c.args.self.now _ c.leave_unsure.new.machine c.args.frames.now _ c.leave_unsure.new.self _ c.leave_unsure.result k k c.leave_unsure.ensures.machine c.leave_unsure.ensures.hib c.leave_unsure.ensures.reply
-          (end_failed_row c.args.machine.now c.args.frames.now c.args.runs.now c.args.self.now k c.args.call c.undoes.ensures.sync_failed c.requires.ready c.requires.stage whole),
+          (end_failed_row c.args.machine.now c.args.frames.now c.args.runs.now c.args.self.now k c.args.call c.requires.ready c.requires.stage whole),
     )
 
 pub returns-in-Ok-clause-memory : goal.returns-in-Ok-clause-memory

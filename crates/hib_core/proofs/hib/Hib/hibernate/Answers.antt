@@ -5,22 +5,11 @@ use Rattle.plain_machine.specs.declared.reply.Reply.{Reply}
 use Rattle.hib_core.specs.Ready.{is_busy_at}
 use Rattle.hib_core.specs.Row.{IsBegun, saving}
 use Rattle.hib_core.specs.declared.hib.Hib.{Hib}
-use Rattle.hib_core.proofs.BeginRows.{BeginLaws, IsBegin, begun_row, can_step, refused_row}
+use Rattle.hib_core.proofs.BeginRows.{IsBegin, begun_row, can_step, refused_row}
 use Rattle.hib_core.proofs.hib.Hib.hibernate.Goals as goal
 
 pub returns-in-Ok-clause-row : goal.returns-in-Ok-clause-row
 returns-in-Ok-clause-row c = λ k.
-    let laws : BeginLaws = record {
-      seen = record { image = c.takes_image.ensures.image; lists = c.shows_lists.ensures.frames; slots = c.shows_lists.ensures.slots };
-      begun = c.begins.ensures.begun;
-      over = c.takes_image.ensures.runs;
-      slots_over = c.takes_image.ensures.slots;
-      taken = c.takes_slots.ensures.runs;
-      frames = c.takes_slots.ensures.frames;
-      names = c.takes_slots.ensures.names;
-      sayable = c.memories_are_sayable.ensures;
-      stream = c.shows_lists.ensures.stream;
-    } in
     let is : IsBegin c.args.machine.now c.args.frames.now c.take.new.frames c.accept.new.self c.take.new.self c.in-Ok.counts = record {
       hardware = c.zones-zones.ensures.hardware;
       size = c.requires.ready.run.size;
@@ -28,21 +17,10 @@ returns-in-Ok-clause-row c = λ k.
       taken = c.take.ensures.taken;
     } in
     subst (λ (r : Reply). IsBegun c.args.machine.now c.args.frames.now c.take.new.frames c.take.new.self (saving c.args.ending c.args.format) r k) (sym c.take.ensures.reply)
-    (begun_row c.args.machine.now c.args.frames.now c.take.new.frames c.accept.new.self c.take.new.self c.in-Ok.counts c.args.ending c.args.format k laws is (ap (λ (hib : Hib). hib.ending) c.accept.ensures.hib) c.in-Ok.ensures.format)
+    (begun_row c.args.machine.now c.args.frames.now c.take.new.frames c.accept.new.self c.take.new.self c.in-Ok.counts c.args.ending c.args.format k is (ap (λ (hib : Hib). hib.ending) c.accept.ensures.hib) c.in-Ok.ensures.format)
 
 pub returns-in-Ok-clause-ready : goal.returns-in-Ok-clause-ready
 returns-in-Ok-clause-ready c = λ busy.
-    let laws : BeginLaws = record {
-      seen = record { image = c.takes_image.ensures.image; lists = c.shows_lists.ensures.frames; slots = c.shows_lists.ensures.slots };
-      begun = c.begins.ensures.begun;
-      over = c.takes_image.ensures.runs;
-      slots_over = c.takes_image.ensures.slots;
-      taken = c.takes_slots.ensures.runs;
-      frames = c.takes_slots.ensures.frames;
-      names = c.takes_slots.ensures.names;
-      sayable = c.memories_are_sayable.ensures;
-      stream = c.shows_lists.ensures.stream;
-    } in
     let is : IsBegin c.args.machine.now c.args.frames.now c.take.new.frames c.accept.new.self c.take.new.self c.in-Ok.counts = record {
       hardware = c.zones-zones.ensures.hardware;
       size = c.requires.ready.run.size;
@@ -50,7 +28,7 @@ returns-in-Ok-clause-ready c = λ busy.
       taken = c.take.ensures.taken;
     } in
     let few : c.args.machine.now.blocks < 2 ^ 32 = omega arith in
-    can_step c.args.machine.now c.args.frames.now c.take.new.frames c.take.new.runs c.accept.new.self c.take.new.self c.in-Ok.counts laws is c.requires.ready.run.usable few c.take.ensures.size c.take.ensures.matches
+    can_step c.args.machine.now c.args.frames.now c.take.new.frames c.take.new.runs c.accept.new.self c.take.new.self c.in-Ok.counts is c.requires.ready.run.usable few c.take.ensures.size c.take.ensures.matches
 
 pub returns-in-Err-clause-row : goal.returns-in-Err-clause-row
 returns-in-Err-clause-row c = λ k.

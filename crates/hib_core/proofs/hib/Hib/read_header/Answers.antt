@@ -15,7 +15,7 @@ returns-in-Err-clause-row g c = λ k told. (
   k,
   c.read.ensures.content ∙ told,
   row_of c.args.machine.now c.args.frames.now c.args.self.now c.args.machine.now c.give_up.new.frames _ c.give_up.new.self (reply.ReadFault Same) (reply.ReadFault Same) k k c.give_up.ensures.hib refl
-      (read_failed_row c.args.machine.now c.args.frames.now c.give_up.new.frames c.args.runs.now c.args.self.now c.read.new.into k c.syncs.ensures.failed c.takes_slots.ensures.given_back c.takes_slots.ensures.none_left
+      (read_failed_row c.args.machine.now c.args.frames.now c.give_up.new.frames c.args.runs.now c.args.self.now c.read.new.into k
       c.requires.ready c.give_up.ensures.pages c.requires.stage c.give_up.ensures.given),
 )
 
@@ -28,7 +28,7 @@ returns-in-None-clause-row g c = λ k told.
       k,
       c.read.ensures.content ∙ told,
       row_of c.args.machine.now c.args.frames.now c.args.self.now c.args.machine.now c.args.frames.now _ c.go_on.new.self _ c.go_on.result k k c.go_on.ensures.hib c.go_on.ensures.reply
-          (read_row c.args.machine.now c.args.frames.now c.args.runs.now c.args.self.now c.read.new.into k c.syncs.ensures.read c.requires.ready c.requires.stage whole read),
+          (read_row c.args.machine.now c.args.frames.now c.args.runs.now c.args.self.now c.read.new.into k c.requires.ready c.requires.stage whole read),
     )
 
 pub returns-in-Some-clause-row : goal.returns-in-Some-clause-row
@@ -39,7 +39,7 @@ returns-in-Some-clause-row g c = λ k told.
     let read = header_read c.args.machine.now.hw c.block-block.result c.args.machine.now.blocks c.read.new.into k (g.D.Disk.content c.args.disk.now) whole block_is below told c.in-Ok.ensures.bytes in (
       k,
       c.read.ensures.content ∙ told,
-      not_swap_row c.args.machine.now c.args.frames.now c.give_up-in-Some.new.frames c.args.runs.now c.args.self.now c.give_up-in-Some.new.self k c.in-Some.why c.syncs.ensures.area c.requires.ready c.requires.stage whole
+      not_swap_row c.args.machine.now c.args.frames.now c.give_up-in-Some.new.frames c.args.runs.now c.args.self.now c.give_up-in-Some.new.self k c.in-Some.why c.requires.ready c.requires.stage whole
           (ap (λ (page : List ℕ). kind_fault (area_kind page)) (sym read) ∙ sym c.not_swap.ensures ∙ c.in-Some.is),
     )
 

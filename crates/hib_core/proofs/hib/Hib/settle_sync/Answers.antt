@@ -12,7 +12,7 @@ returns-in-Ok-clause-row g c = λ k told.
       synced.0,
       synced.1,
       row_at c.args.machine.now c.args.frames.now c.args.self.now _ _ c.give_up.new.frames _ c.give_up.new.self _ _ k synced.0 refl c.give_up.ensures.hib refl
-          (settled_row c.args.machine.now c.args.frames.now c.give_up.new.frames c.args.runs.now c.args.self.now k synced.0 c.keeps_area.ensures.synced c.takes_slots.ensures.given_back c.takes_slots.ensures.none_left
+          (settled_row c.args.machine.now c.args.frames.now c.give_up.new.frames c.args.runs.now c.args.self.now k synced.0
           c.requires.ready c.give_up.ensures.pages c.requires.stage whole synced.2 c.give_up.ensures.given),
     )
 

@@ -14,7 +14,7 @@ returns-in-SwitchesOff-clause-row g c = λ k told.
     let synced = changed disk.Syncs (g.D.Disk.content c.args.disk.now) (g.D.Disk.content c.sync.new.self) k told c.in-Ok.ensures.synced in (
       synced.0,
       synced.1,
-      ended_row c.args.machine.now c.args.frames.now c.args.runs.now c.args.self.now k synced.0 c.ends.ensures.made c.keeps_area.ensures.synced c.requires.ready c.requires.stage c.in-SwitchesOff.is whole synced.2,
+      ended_row c.args.machine.now c.args.frames.now c.args.runs.now c.args.self.now k synced.0 c.requires.ready c.requires.stage c.in-SwitchesOff.is whole synced.2,
     )
 
 pub returns-in-Sleeps-clause-row : goal.returns-in-Sleeps-clause-row
@@ -23,7 +23,7 @@ returns-in-Sleeps-clause-row g c = λ k told.
     let synced = changed disk.Syncs (g.D.Disk.content c.args.disk.now) (g.D.Disk.content c.sync.new.self) k told c.in-Ok.ensures.synced in (
       synced.0,
       synced.1,
-      asleep_row c.args.machine.now c.args.frames.now c.args.runs.now c.args.self.now k synced.0 c.keeps_area.ensures.synced c.requires.ready c.requires.stage c.in-Sleeps.is whole synced.2,
+      asleep_row c.args.machine.now c.args.frames.now c.args.runs.now c.args.self.now k synced.0 c.requires.ready c.requires.stage c.in-Sleeps.is whole synced.2,
     )
 
 pub returns-in-Err-clause-row : goal.returns-in-Err-clause-row
@@ -31,7 +31,7 @@ returns-in-Err-clause-row g c = λ k told. (
   k,
   c.in-Err.ensures.failed ∙ told,
   row_of c.args.machine.now c.args.frames.now c.args.self.now c.args.machine.now c.args.frames.now _ c.begin_undo.new.self (reply.Undo undo.Sync 0) c.begin_undo.result k k c.begin_undo.ensures.hib c.begin_undo.ensures.reply
-      (end_failed_row c.args.machine.now c.args.frames.now c.args.runs.now c.args.self.now k c.ends.ensures.failed c.requires.ready c.requires.stage),
+      (end_failed_row c.args.machine.now c.args.frames.now c.args.runs.now c.args.self.now k c.requires.ready c.requires.stage),
 )
 
 pub returns-in-Err-clause-memory : goal.returns-in-Err-clause-memory

@@ -14,7 +14,7 @@ returns-in-Ok-clause-row g c = λ k told.
       synced.0,
       synced.1,
       row_of c.args.machine.now c.args.frames.now c.args.self.now c.args.machine.now c.args.frames.now _ c.go_on.new.self _ c.go_on.result k synced.0 c.go_on.ensures.hib c.go_on.ensures.reply
-          (synced_row c.args.machine.now c.args.frames.now c.args.runs.now c.args.self.now k synced.0 c.syncs.ensures.synced c.keeps_area.ensures.synced c.requires.ready c.requires.stage whole synced.2),
+          (synced_row c.args.machine.now c.args.frames.now c.args.runs.now c.args.self.now k synced.0 c.requires.ready c.requires.stage whole synced.2),
     )
 
 pub returns-in-Err-clause-row : goal.returns-in-Err-clause-row
@@ -22,7 +22,7 @@ returns-in-Err-clause-row g c = λ k told. (
   k,
   c.in-Err.ensures.failed ∙ told,
   row_of c.args.machine.now c.args.frames.now c.args.self.now c.args.machine.now c.give_up.new.frames _ c.give_up.new.self (reply.SyncFault Same) (reply.SyncFault Same) k k c.give_up.ensures.hib refl
-      (sync_failed_row c.args.machine.now c.args.frames.now c.give_up.new.frames c.args.runs.now c.args.self.now k c.syncs.ensures.failed c.takes_slots.ensures.given_back c.takes_slots.ensures.none_left
+      (sync_failed_row c.args.machine.now c.args.frames.now c.give_up.new.frames c.args.runs.now c.args.self.now k
       c.requires.ready c.give_up.ensures.pages c.requires.stage c.give_up.ensures.given),
 )
 

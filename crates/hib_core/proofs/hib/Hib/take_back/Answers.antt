@@ -21,7 +21,7 @@ returns-in-Ok-clause-row g c = λ k told.
     let whole' = content_after (g.D.Disk.block_count c.args.disk.now) (g.D.Disk.block_count c.write.new.self) machine.blocks (g.D.Disk.content c.write.new.self) after.0 after.1 c.write.ensures.blocks c.requires.blocks (g.met.D.Disk.well_formed c.write.new.self) in (
       after.0,
       after.1,
-      back_row machine c.args.frames.now c.args.runs.now hib k after.0 c.args.call c.undoes.ensures.made c.keeps_area.ensures.agreed c.requires.ready page back c.requires.stage whole whole' tries,
+      back_row machine c.args.frames.now c.args.runs.now hib k after.0 c.args.call c.requires.ready page back c.requires.stage whole whole' tries,
     )
 
 pub returns-in-Err-clause-row : goal.returns-in-Err-clause-row
@@ -38,7 +38,7 @@ returns-in-Err-clause-row g c = λ k told.
       after.0,
       after.1,
       row_at machine c.args.frames.now hib _ c.leave_unsure.new.machine c.args.frames.now _ c.leave_unsure.new.self _ c.leave_unsure.result k after.0 c.leave_unsure.ensures.machine c.leave_unsure.ensures.hib c.leave_unsure.ensures.reply
-          (back_failed_row machine c.args.frames.now c.args.runs.now hib k after.0 c.args.call c.undoes.ensures.failed c.keeps_area.ensures.agreed c.requires.ready page back c.requires.stage whole whole' tries),
+          (back_failed_row machine c.args.frames.now c.args.runs.now hib k after.0 c.args.call c.requires.ready page back c.requires.stage whole whole' tries),
     )
 
 pub returns-in-Err-clause-memory : goal.returns-in-Err-clause-memory

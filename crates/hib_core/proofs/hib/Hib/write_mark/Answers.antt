@@ -29,7 +29,7 @@ returns-in-Ok-clause-row g c = λ k told.
       after.1,
       row_of machine c.args.frames.now hib machine c.args.frames.now (record hib { header = mark_of machine hib; stage = stage.End; made = hib.made + 1 }) c.go_on.new.self (reply.More (hib.made + 1) hib.of) c.go_on.result k after.0
           (c.go_on.ensures.hib ∙ ap (λ (p : List ℕ). record hib { header = p; stage = stage.End; made = hib.made + 1 }) mark_is) c.go_on.ensures.reply
-          (marked_row machine c.args.frames.now c.args.runs.now hib k after.0 c.marks.ensures.made c.keeps_area.ensures.marked c.marks.ensures.unmarked c.requires.ready c.requires.stage whole whole' writes),
+          (marked_row machine c.args.frames.now c.args.runs.now hib k after.0 c.requires.ready c.requires.stage whole whole' writes),
     )
 
 pub returns-in-Err-clause-row : goal.returns-in-Err-clause-row
@@ -49,7 +49,7 @@ returns-in-Err-clause-row g c = λ k told.
       after.1,
       row_of machine c.args.frames.now hib machine c.args.frames.now (record hib { header = mark_of machine hib; stage = stage.TakeBack undo.Write }) c.begin_undo.new.self (reply.Undo undo.Write 0) c.begin_undo.result k after.0
           (c.begin_undo.ensures.hib ∙ ap (λ (p : List ℕ). record hib { header = p; stage = stage.TakeBack undo.Write }) mark_is) c.begin_undo.ensures.reply
-          (mark_failed_row machine c.args.frames.now c.args.runs.now hib k after.0 c.marks.ensures.failed c.keeps_area.ensures.marked c.marks.ensures.unmarked c.requires.ready c.requires.stage whole whole' fails),
+          (mark_failed_row machine c.args.frames.now c.args.runs.now hib k after.0 c.requires.ready c.requires.stage whole whole' fails),
     )
 
 pub returns-in-Ok-clause-memory : goal.returns-in-Ok-clause-memory

@@ -1,10 +1,11 @@
 use Rattle.std.proofs.Common.{◌≡◌, ℕ, ◌+◌, ◌-◌, List, [], true, get_or, option_copied, sym, ap, ap₂, ◌∙◌, subst}
 use Rattle.definitions.specs.Disk.{Changes, Writes, FailsToWrite}
 use Rattle.definitions.specs.NumberPages.{meta_of}
+use Rattle.definitions.specs.Tables.{frame}
 use Rattle.pfn_pack.specs.Places.{members_in}
 use Rattle.plain_machine.specs.Laid.{is_map_write, page_of_write}
 use Rattle.image_write.specs.Copies.{IsPassed, data_pages}
-use Rattle.image_write.specs.Writing.{Writing, IsWriting, writes_of, data_written, stream_of_sets}
+use Rattle.image_write.specs.Writing.{Writing, IsWriting, Makes, writes_of, write_next, data_written, stream_of_sets}
 use Rattle.image_write.proofs.Places.{page_write, next_page}
 use Rattle.image_write.proofs.Mapping.{write_of_map, frames_of_map, data_before_map, read_on, not_last, succeeds}
 use Rattle.image_write.proofs.writer.Writer.step.Goals as goal
@@ -52,11 +53,22 @@ pub returns-then-is_at_head-clause-failed : goal.returns-then-is_at_head-clause-
 returns-then-is_at_head-clause-failed g c free h fault =
     c.write_head.ensures.failed free (data_pages c.args.frames.now c.args.origs.now.members c.args.copies.now.members (members_in (option_copied c.args.zeros))) h fault
 
+pub returns-clause-written : goal.returns-clause-written
+returns-clause-written g c free h done =
+    let w = c.args.self.now in
+    let read = c.next_copy-copy.new.self in
+    let frames = c.args.frames.now in
+    let same = c.next_copy-copy.ensures.same in
+    let here = subst (λ (v : Writing). IsWriting free frames v) (sym same) (read_on free frames w read.orig read.copy read.passed h) in
+    let made = c.write_copy.ensures.written free here done in
+    let from = subst (λ (v : Writing). Changes (Makes (write_next free v (frame frames c.next_copy-copy.result))) (g.D.Disk.content c.args.disk.now) (g.D.Disk.content c.write_copy.new.disk)) same made in
+    subst (λ (page : List ℕ). Changes (Makes (write_next free w page)) (g.D.Disk.content c.args.disk.now) (g.D.Disk.content c.write_copy.new.disk)) c.next_copy-copy.ensures.page from
+
 pub returns-clause-writing : goal.returns-clause-writing
 returns-clause-writing g c free h on =
     let w = c.args.self.now in
     let read = c.next_copy-copy.new.self in
-    c.write_page.ensures.writing free (subst (λ (v : Writing). IsWriting free c.args.frames.now v) (sym c.next_copy-copy.ensures.same) (read_on free c.args.frames.now w read.orig read.copy read.passed h)) on
+    c.write_copy.ensures.writing free (subst (λ (v : Writing). IsWriting free c.args.frames.now v) (sym c.next_copy-copy.ensures.same) (read_on free c.args.frames.now w read.orig read.copy read.passed h)) on
 
 pub returns-clause-reading : goal.returns-clause-reading
 returns-clause-reading g c on =
@@ -65,12 +77,12 @@ returns-clause-reading g c on =
     let origs = c.args.origs.now.members in
     let copies = c.args.copies.now.members in
     let zeros = members_in (option_copied c.args.zeros) in
-    let same = c.write_page.ensures.cursor in
-    let made = c.write_page.ensures.made (succeeds c.write_page.result on) ∙ ap (λ (v : Writing). v.written + 1) c.next_copy-copy.ensures.same in
-    let info = c.write_page.ensures.image.info ∙ ap (λ (v : Writing). v.info) c.next_copy-copy.ensures.same in
+    let same = c.write_copy.ensures.cursor in
+    let made = c.write_copy.ensures.made (succeeds c.write_copy.result on) ∙ ap (λ (v : Writing). v.written + 1) c.next_copy-copy.ensures.same in
+    let info = c.write_copy.ensures.image.info ∙ ap (λ (v : Writing). v.info) c.next_copy-copy.ensures.same in
     let here = c.requires.writing.1 in
     let page = page_write w.info.pages w.written here.unfinished (sym c.is_at_map.ensures ∙ c.if-is_at_map.false) in
-    let next : page_of_write w.written + 1 - (meta_of w.info.image_pages + 1) ≡ data_written c.write_page.new.self.info c.write_page.new.self.written =
+    let next : page_of_write w.written + 1 - (meta_of w.info.image_pages + 1) ≡ data_written c.write_copy.new.self.info c.write_copy.new.self.written =
     ap (λ (n : ℕ). n - (meta_of w.info.image_pages + 1)) (sym (next_page w.written page.below)) ∙ ap₂ data_written (sym info) (sym made) in
     rw (same.orig, same.copy, same.passed)
     (subst (λ (found : ℕ). IsPassed origs copies zeros read.orig read.copy read.passed found) next c.next_copy-copy.ensures.reading)

@@ -1,5 +1,4 @@
-use Rattle.std.proofs.Common.{◌≡◌, ℕ, ◌<◌, length, get_or, ap, sym, ◌∙◌, arith, subst, List}
-use Rattle.definitions.specs.Bytes.{zero_page}
+use Rattle.std.proofs.Common.{ℕ, get_or, ap, sym, ◌∙◌, arith, List}
 use Rattle.definitions.proofs.PageBytes.{zero_page-from_bytes, get_or-zero_page}
 use Rattle.page_core.proofs.page.Page.is_zero.Goals as goal
 

@@ -1,4 +1,4 @@
-use Rattle.std.proofs.Common.{◌+◌, ◌-◌, ◌*◌, ◌≤◌, take, drop, ap, ◌∙◌, arith, length}
+use Rattle.std.proofs.Common.{◌+◌, ◌-◌, ◌≤◌, take, drop, ap, ◌∙◌, arith, length}
 use Rattle.std.proofs.lemmas.List.{length-take}
 use Rattle.definitions.specs.Bytes.{with_number}
 use Rattle.definitions.proofs.PageBytes.{put_mid-with_number}

@@ -11,9 +11,9 @@ begin-requires c = ap (λ (s : FrameSet). s.zones) c.make_loader.ensures.set ∙
 
 pub returns-clause-row : goal.returns-clause-row
 returns-clause-row c =
-    begun_row c.args.machine.now c.args.frames.now c.make_loader.new.frames _ c.args.loader c.args.check c.load_begins.ensures.begun c.meets_rows.ensures.none_read
+    begun_row c.args.machine.now c.args.frames.now c.make_loader.new.frames _ c.args.loader c.args.check
     (record {
-      kept = λ p lt. c.make_loader.ensures.loader p (let size = c.requires.ready.size in omega arith);
+      kept = λ p lt free. c.make_loader.ensures.loader p (let size = c.requires.ready.size in omega arith) free;
       free = c.begin.ensures.free ∙ ap (λ (s : FrameSet). s.members) c.make_loader.ensures.set;
       none = c.begin.ensures.empty;
       is_loader = refl;

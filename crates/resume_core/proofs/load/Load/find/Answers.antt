@@ -16,7 +16,7 @@ returns-then-block-from-clause-row g c = λ k told.
       k,
       told,
       row_of c.args.machine.now c.args.frames.now c.args.self.now c.args.machine.now c.args.frames.now _ c.stop.new.self reply.NoImage c.stop.result k k c.stop.ensures.load c.stop.ensures.reply
-          (none_row c.args.machine.now c.args.frames.now c.args.self.now c.args.self.now.header k c.finds_in_rows.ensures.none c.requires.stage whole
+          (none_row c.args.machine.now c.args.frames.now c.args.self.now c.args.self.now.header k c.requires.stage whole
           (none_beyond c.args.machine.now.hw (disk.as_it_reads k)
           (let count = count_of c.args.machine.now.blocks k whole in
           let at : c.block-block.result ≡ block_of_slot c.args.machine.now.hw 0 = c.block-block.ensures.block ∙ ap (λ (m : List (ℕ × ℕ × ℕ)). block_of m 0) c.extents.ensures.extents in
@@ -30,7 +30,7 @@ returns-in-Err-clause-row g c = λ k told. (
   k,
   c.read.ensures.content ∙ told,
   row_of c.args.machine.now c.args.frames.now c.args.self.now c.args.machine.now c.args.frames.now _ c.stop-in-Err.new.self (reply.ReadFault Same) c.stop-in-Err.result k k c.stop-in-Err.ensures.load c.stop-in-Err.ensures.reply
-      (find_failed_row c.args.machine.now c.args.frames.now c.args.self.now c.read.new.into k c.finds_in_rows.ensures.failed c.requires.stage),
+      (find_failed_row c.args.machine.now c.args.frames.now c.args.self.now c.read.new.into k c.requires.stage),
 )
 
 pub returns-in-Ok-found-clause-row : goal.returns-in-Ok-found-clause-row
@@ -46,7 +46,7 @@ returns-in-Ok-found-clause-row g c = λ k told.
     ∙ ap (λ (b : ℕ). disk.block (disk.as_it_reads k) b) at ∙ read_below c.args.machine.now.hw (disk.as_it_reads k) c.args.machine.now.blocks count lt in (
       k,
       c.read.ensures.content ∙ told,
-      found_row c.args.machine.now c.args.frames.now c.args.self.now c.read.new.into c.in-Ok-found.mark k c.finds_in_rows.ensures.found c.meets_rows.ensures.none_read c.meets_rows.ensures.early c.requires.ready.over.hardware c.requires.stage whole
+      found_row c.args.machine.now c.args.frames.now c.args.self.now c.read.new.into c.in-Ok-found.mark k c.requires.ready.over.hardware c.requires.stage whole
           read c.in-Ok-found.ensures.found.0 c.in-Ok-found.ensures.found.1,
     )
 
@@ -64,7 +64,7 @@ returns-in-Err-found-clause-row g c = λ k told.
       k,
       c.read.ensures.content ∙ told,
       row_of c.args.machine.now c.args.frames.now c.args.self.now c.args.machine.now c.args.frames.now _ c.stop-in-Err-found.new.self c.in-Err-found.why c.stop-in-Err-found.result k k c.stop-in-Err-found.ensures.load c.stop-in-Err-found.ensures.reply
-          (fault_row c.args.machine.now c.args.frames.now c.args.self.now c.read.new.into k c.in-Err-found.why c.finds_in_rows.ensures.none c.finds_in_rows.ensures.compressed c.requires.stage whole read c.in-Err-found.ensures.none),
+          (fault_row c.args.machine.now c.args.frames.now c.args.self.now c.read.new.into k c.in-Err-found.why c.requires.stage whole read c.in-Err-found.ensures.none),
     )
 
 pub returns-then-block-from-clause-found : goal.returns-then-block-from-clause-found

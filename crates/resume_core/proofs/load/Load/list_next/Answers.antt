@@ -1,7 +1,11 @@
-use Rattle.std.proofs.Common.{refl, sym, ap, ◌∙◌, subst}
+use Rattle.std.proofs.Common.{◌≡◌, refl, sym, ap, ◌∙◌, subst}
 use Rattle.plain_machine.specs.declared.reply.Reply.TheVariants as reply
 use Rattle.plain_machine.specs.declared.reply.Left.TheVariants.{Gone}
 use Rattle.image_read.specs.Answers.{Reads}
+use Rattle.image_read.specs.declared.reader.ReadStep.TheVariants as read_step
+use Rattle.protocol_laws.specs.Rows.{IsNewFault}
+use Rattle.sector_disk.specs.Called.{AtMostOneCall}
+use Rattle.sector_disk.proofs.Called.{fails_as}
 use Rattle.resume_core.specs.Loading.{activity_told}
 use Rattle.resume_core.specs.declared.load.Load.{Load}
 use Rattle.resume_core.specs.declared.load.Stage.TheVariants as stage
@@ -16,14 +20,14 @@ returns-in-Fault-clause-row g c = λ k told. (
   k,
   c.read_block.ensures.content ∙ told,
   row_of c.args.machine.now c.args.frames.now c.args.self.now c.args.machine.now c.args.frames.now _ c.stop.new.self (reply.ReadFault Gone) c.stop.result k k c.stop.ensures.load c.stop.ensures.reply
-      (read_failed_row c.args.machine.now c.args.frames.now c.args.self.now _ k c.reads_in_rows.ensures.failed (activity_is c.args.self.now stage.List c.requires.stage) (at_list c.args.machine.now c.args.frames.now c.args.self.now k c.requires.ready.over.hardware c.requires.stage (list_can c.args.machine.now c.args.frames.now c.args.runs.now c.args.self.now c.requires.stage c.requires.ready).1) refl),
+      (read_failed_row c.args.machine.now c.args.frames.now c.args.self.now _ k (activity_is c.args.self.now stage.List c.requires.stage) (at_list c.args.machine.now c.args.frames.now c.args.self.now k c.requires.ready.over.hardware c.requires.stage (list_can c.args.machine.now c.args.frames.now c.args.runs.now c.args.self.now c.requires.stage c.requires.ready).1) refl),
 )
 
 pub returns-in-Refused-clause-row : goal.returns-in-Refused-clause-row
 returns-in-Refused-clause-row g c = λ k told. (
   k,
   c.read_block.ensures.content ∙ told,
-  refused_list_row c.args.machine.now c.args.frames.now c.args.self.now c.read_block.new.self c.refuse_listing.new.self c.read_block.result c.in-Refused.cause c.refuse_listing.result k c.reads_in_rows.ensures.stopped c.meets_rows.ensures.cause c.requires.ready.over.hardware c.requires.stage
+  refused_list_row c.args.machine.now c.args.frames.now c.args.self.now c.read_block.new.self c.refuse_listing.new.self c.read_block.result c.in-Refused.cause c.refuse_listing.result k c.requires.ready.over.hardware c.requires.stage
       (list_can c.args.machine.now c.args.frames.now c.args.runs.now c.args.self.now c.requires.stage c.requires.ready).1 c.read_block.ensures.load c.in-Refused.is
       (λ v t has reads. c.read_block.ensures.answers v t has (subst (Reads c.args.machine.now.hw v) (sym told) reads))
       c.refuse_listing.ensures.reply (ap (λ (x : Load). x.stage) c.refuse_listing.ensures.load),
@@ -44,11 +48,6 @@ returns-in-More g c = record {
   works = c.list_on.ensures.works;
   ready = c.list_on.ensures.ready;
   machine = c.list_on.ensures.machine;
-  cause = λ fault. absurd (c.list_on.ensures.no_fault fault);
-  faults = c.read_block.ensures.faults;
-  calls = c.read_block.ensures.calls;
-  orders = c.read_block.ensures.orders;
-  blocks = c.read_block.ensures.blocks;
-  telling = c.read_block.ensures.telling;
-  time = c.read_block.ensures.time;
+  called = fails_as g.D.Disk AtMostOneCall (c.read_block.result ≡ read_step.Fault) (IsNewFault c.list_on.result) c.args.disk.now c.read_block.new.disk
+      (λ fault. absurd (c.list_on.ensures.no_fault fault)) c.read_block.ensures.called;
 }

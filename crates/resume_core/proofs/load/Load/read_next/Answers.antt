@@ -17,7 +17,7 @@ returns-in-Fault-clause-row g c = λ k told. (
   k,
   c.read_block.ensures.content ∙ told,
   row_of c.args.machine.now c.args.frames.now c.args.self.now c.args.machine.now c.args.frames.now _ c.stop.new.self (reply.ReadFault Gone) c.stop.result k k c.stop.ensures.load c.stop.ensures.reply
-      (read_failed_row c.args.machine.now c.args.frames.now c.args.self.now _ k c.reads_in_rows.ensures.failed (activity_is c.args.self.now stage.Read c.requires.stage) (at_read c.args.machine.now c.args.frames.now c.args.self.now k c.requires.ready.over.hardware c.requires.stage (read_can c.args.machine.now c.args.frames.now c.args.runs.now c.args.self.now c.requires.stage c.requires.ready).1) refl),
+      (read_failed_row c.args.machine.now c.args.frames.now c.args.self.now _ k (activity_is c.args.self.now stage.Read c.requires.stage) (at_read c.args.machine.now c.args.frames.now c.args.self.now k c.requires.ready.over.hardware c.requires.stage (read_can c.args.machine.now c.args.frames.now c.args.runs.now c.args.self.now c.requires.stage c.requires.ready).1) refl),
 )
 
 pub returns-in-Refused-clause-row : goal.returns-in-Refused-clause-row
@@ -25,7 +25,7 @@ returns-in-Refused-clause-row g c = λ k told. (
   k,
   c.read_block.ensures.content ∙ told,
   row_of c.args.machine.now c.args.frames.now c.args.self.now c.args.machine.now c.args.frames.now _ c.stop-in-Refused.new.self (reply_of c.in-Refused.cause) c.stop-in-Refused.result k k c.stop-in-Refused.ensures.load (c.stop-in-Refused.ensures.reply ∙ c.from.ensures)
-      (refused_row c.args.machine.now c.args.frames.now c.args.self.now c.read_block.new.self _ c.read_block.result c.in-Refused.cause k c.reads_in_rows.ensures.stopped c.requires.ready.over.hardware c.requires.stage (read_can c.args.machine.now c.args.frames.now c.args.runs.now c.args.self.now c.requires.stage c.requires.ready).1
+      (refused_row c.args.machine.now c.args.frames.now c.args.self.now c.read_block.new.self _ c.read_block.result c.in-Refused.cause k c.requires.ready.over.hardware c.requires.stage (read_can c.args.machine.now c.args.frames.now c.args.runs.now c.args.self.now c.requires.stage c.requires.ready).1
       c.in-Refused.is (λ v t has reads. c.read_block.ensures.answers v t has (subst (Reads c.args.machine.now.hw v) (sym told) reads)) refl),
 )
 

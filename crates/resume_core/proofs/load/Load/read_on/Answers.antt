@@ -10,5 +10,5 @@ returns-then-is_over-clause-row c = λ d l v k read places room. c.end.ensures.r
 pub returns-else-is_over-clause-row : goal.returns-else-is_over-clause-row
 returns-else-is_over-clause-row c =
     reads_row_of c.args.machine.now c.args.frames.now c.args.self.now c.args.machine.now c.args.frames.now _ c.go_on.new.self (reply.Loading c.go_on.new.self.made) c.go_on.result c.go_on.ensures.load c.go_on.ensures.reply
-    (going_row c.args.machine.now c.args.frames.now c.args.self.now c.go_on.new.self.made c.reads_in_rows.ensures.read c.meets_rows.ensures.next (saves_few c.args.machine.now.blocks c.args.self.now c.requires.reader)
+    (going_row c.args.machine.now c.args.frames.now c.args.self.now c.go_on.new.self.made (saves_few c.args.machine.now.blocks c.args.self.now c.requires.reader)
     (λ h v t read over. (c.if-is_over.ensures v t h read).1 over) c.go_on.ensures.made)

@@ -12,7 +12,7 @@ returns-in-Err-clause-row g c = λ k told. (
   k,
   c.in-Err.ensures.failed ∙ told,
   row_of c.args.machine.now c.args.frames.now c.args.self.now c.args.machine.now c.args.frames.now _ c.stop.new.self (reply.SyncFault Unsure) c.stop.result k k c.stop.ensures.load c.stop.ensures.reply
-      (back_sync_failed_row c.args.machine.now c.args.frames.now c.args.self.now k c.takes_back_in_rows.ensures.sync_failed c.requires.stage),
+      (back_sync_failed_row c.args.machine.now c.args.frames.now c.args.self.now k c.requires.stage),
 )
 
 pub returns-in-Ok-reader_of-clause-row : goal.returns-in-Ok-reader_of-clause-row
@@ -21,7 +21,7 @@ returns-in-Ok-reader_of-clause-row g c = λ k told.
     let synced = changed disk.Syncs (g.D.Disk.content c.args.disk.now) (g.D.Disk.content c.sync.new.self) k told c.in-Ok.ensures.synced in (
       synced.0,
       synced.1,
-      opened_row c.args.machine.now c.args.frames.now c.args.self.now c.in-Ok-reader_of.reader k synced.0 c.takes_back_in_rows.ensures.synced c.meets_rows.ensures.none_read c.meets_rows.ensures.next c.requires.ready.over.hardware c.requires.stage whole synced.2
+      opened_row c.args.machine.now c.args.frames.now c.args.self.now c.in-Ok-reader_of.reader k synced.0 c.requires.ready.over.hardware c.requires.stage whole synced.2
           (λ v is. c.in-Ok-reader_of.ensures.opens v is.mark is.blocks),
     )
 
@@ -47,6 +47,6 @@ returns-in-Err-reader_of-clause-row g c = λ k told.
       synced.0,
       synced.1,
       row_of c.args.machine.now c.args.frames.now c.args.self.now c.args.machine.now c.args.frames.now _ c.stop-in-Err-reader_of.new.self c.in-Err-reader_of.why c.stop-in-Err-reader_of.result k synced.0 c.stop-in-Err-reader_of.ensures.load c.stop-in-Err-reader_of.ensures.reply
-          (back_stopped_row c.args.machine.now c.args.frames.now c.args.self.now k synced.0 c.in-Err-reader_of.why c.takes_back_in_rows.ensures.stopped c.requires.ready.over.hardware c.requires.stage whole synced.2
+          (back_stopped_row c.args.machine.now c.args.frames.now c.args.self.now k synced.0 c.in-Err-reader_of.why c.requires.ready.over.hardware c.requires.stage whole synced.2
           (λ v is. c.in-Err-reader_of.ensures.opens v is.mark is.blocks)),
     )

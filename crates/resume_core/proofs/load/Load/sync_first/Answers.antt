@@ -12,7 +12,7 @@ returns-in-Ok-clause-row g c = λ k told.
     let synced = changed disk.Syncs (g.D.Disk.content c.args.disk.now) (g.D.Disk.content c.sync.new.self) k told c.in-Ok.ensures.synced in (
       synced.0,
       synced.1,
-      synced_row c.args.machine.now c.args.frames.now c.args.self.now k synced.0 c.finds_in_rows.ensures.synced c.meets_rows.ensures.none_read c.requires.stage whole synced.2,
+      synced_row c.args.machine.now c.args.frames.now c.args.self.now k synced.0 c.requires.stage whole synced.2,
     )
 
 pub returns-in-Err-clause-row : goal.returns-in-Err-clause-row
@@ -20,5 +20,5 @@ returns-in-Err-clause-row g c = λ k told. (
   k,
   c.in-Err.ensures.failed ∙ told,
   row_of c.args.machine.now c.args.frames.now c.args.self.now c.args.machine.now c.args.frames.now _ c.stop.new.self (reply.SyncFault Same) c.stop.result k k c.stop.ensures.load c.stop.ensures.reply
-      (sync_failed_row c.args.machine.now c.args.frames.now c.args.self.now k c.finds_in_rows.ensures.sync_failed c.requires.stage),
+      (sync_failed_row c.args.machine.now c.args.frames.now c.args.self.now k c.requires.stage),
 )

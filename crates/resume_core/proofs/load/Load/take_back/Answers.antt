@@ -16,7 +16,7 @@ returns-in-Ok-clause-row g c = λ k told.
     let at : c.block-block.result ≡ block_of_slot c.args.machine.now.hw 0 = c.block-block.ensures.block ∙ ap (λ (m : List (ℕ × ℕ × ℕ)). block_of m 0) c.extents.ensures.extents in (
       wrote.0,
       wrote.1,
-      back_row c.args.machine.now c.args.frames.now c.args.self.now k wrote.0 c.takes_back_in_rows.ensures.made c.meets_rows.ensures.none_read c.meets_rows.ensures.next c.requires.ready.over.hardware c.requires.stage whole whole'
+      back_row c.args.machine.now c.args.frames.now c.args.self.now k wrote.0 c.requires.ready.over.hardware c.requires.stage whole whole'
           (subst (λ (p : List ℕ). disk.Writes (block_of_slot c.args.machine.now.hw 0) p k wrote.0) c.take_back.ensures (subst (λ (b : ℕ). disk.Writes b c.take_back.result k wrote.0) at wrote.2)),
     )
 
@@ -29,6 +29,6 @@ returns-in-Err-clause-row g c = λ k told.
       tried.0,
       tried.1,
       row_of c.args.machine.now c.args.frames.now c.args.self.now c.args.machine.now c.args.frames.now _ c.stop.new.self (reply.WriteFault Unsure) c.stop.result k tried.0 c.stop.ensures.load c.stop.ensures.reply
-          (back_failed_row c.args.machine.now c.args.frames.now c.args.self.now k tried.0 c.takes_back_in_rows.ensures.failed c.requires.ready.over.hardware c.requires.stage whole whole'
+          (back_failed_row c.args.machine.now c.args.frames.now c.args.self.now k tried.0 c.requires.ready.over.hardware c.requires.stage whole whole'
           (subst (λ (p : List ℕ). disk.FailsToWrite (block_of_slot c.args.machine.now.hw 0) p k tried.0) c.take_back.ensures (subst (λ (b : ℕ). disk.FailsToWrite b c.take_back.result k tried.0) at tried.2))),
     )

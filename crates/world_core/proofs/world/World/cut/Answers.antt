@@ -19,5 +19,5 @@ returns-clause-row g c = λ k told.
       restarted.0,
       restarted.1,
       subst (λ (w : World). IsRow (event.Cut c.args.pick) w (record old { core = Off c.keeps_dump.result }) reply.WasCut k restarted.0) c.self.view_is
-          (row_of_cut old (record old { core = Off c.keeps_dump.result }) c.args.pick (g.D.Disk.block_count c.args.disk.now) k restarted.0 c.cuts.ensures.off c.cuts.ensures.area whole restarted.2 (ap Off (c.keeps_dump.ensures ∙ ap (λ (w : World). keeps_dump w.core) (sym c.self.view_is))) refl refl),
+          (row_of_cut old (record old { core = Off c.keeps_dump.result }) c.args.pick (g.D.Disk.block_count c.args.disk.now) k restarted.0 whole restarted.2 (ap Off (c.keeps_dump.ensures ∙ ap (λ (w : World). keeps_dump w.core) (sym c.self.view_is))) refl refl),
     )

@@ -74,7 +74,7 @@ returns-in-Arm-clause-inside g c = λ no tells v left.
 pub returns-in-Step-clause-inside : goal.returns-in-Step-clause-inside
 returns-in-Step-clause-inside g c = λ no tells v left.
     inside (g.D.Disk.moment c.args.disk.now) (g.D.Disk.moment c.step_of.new.disk) (g.D.Disk.left_since c.args.disk.now) (g.D.Disk.left_since c.step_of.new.disk) (g.D.Disk.content c.args.disk.now) (g.D.Disk.content c.step_of.new.disk) v
-    (c.step_of.ensures.time tells) (g.met.D.Disk.only_now c.args.disk.now v tells) left
+    (c.step_of.ensures.called.time tells) (g.met.D.Disk.only_now c.args.disk.now v tells) left
 
 pub returns-in-Cut-clause-inside : goal.returns-in-Cut-clause-inside
 returns-in-Cut-clause-inside g c = λ no. absurd (subst IsNoCut c.in-Cut.is no)
@@ -109,7 +109,7 @@ pub returns-in-Arm-clause-time : goal.returns-in-Arm-clause-time
 returns-in-Arm-clause-time g c = λ no tells. c.arm.ensures.time tells
 
 pub returns-in-Step-clause-time : goal.returns-in-Step-clause-time
-returns-in-Step-clause-time g c = λ no tells. c.step_of.ensures.time tells
+returns-in-Step-clause-time g c = λ no tells. c.step_of.ensures.called.time tells
 
 pub returns-in-Cut-clause-time : goal.returns-in-Cut-clause-time
 returns-in-Cut-clause-time g c = λ no. absurd (subst IsNoCut c.in-Cut.is no)

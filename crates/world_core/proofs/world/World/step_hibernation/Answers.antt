@@ -6,7 +6,10 @@ use Rattle.plain_machine.specs.declared.event.Actor.TheVariants as actor
 use Rattle.plain_machine.specs.Machine.{Hardware}
 use Rattle.world_core.specs.World.{World}
 use Rattle.world_core.specs.Kept.{kept_world}
-use Rattle.world_core.specs.Row.{HasRow, Restores, KeepsMemory}
+use Rattle.protocol_laws.specs.Rows.{IsNewFault}
+use Rattle.sector_disk.specs.Called.{OneCall}
+use Rattle.sector_disk.proofs.Called.{called_as}
+use Rattle.world_core.specs.Row.{HasRow, IsCalled, Restores, KeepsMemory}
 use Rattle.hib_core.specs.Leaving.{change_of}
 use Rattle.hib_core.proofs.BeginTables.{slot_table_lies}
 use Rattle.hib_core.proofs.Keeping.{step_keeps, given_back, stayed}
@@ -51,8 +54,10 @@ returns-clause-restored g c =
     subst (λ (old : World). Restores (event.Step actor.Core) old new c.step-reply.result (g.D.Disk.content c.args.disk.now) (g.D.Disk.content c.step-reply.new.disk)) c.self.view_is
     (restores_none (kept_world c.self.inside) new c.step-reply.result (g.D.Disk.content c.args.disk.now) (g.D.Disk.content c.step-reply.new.disk) (ap (λ (w : World). w.core) c.self.view_is ∙ c.requires.hibernates))
 
-pub returns-clause-calls : goal.returns-clause-calls
-returns-clause-calls g c = inr (tt, (λ e. false≢true (sym c.step-reply.ensures.works ∙ ap is_idle e)), c.step-reply.ensures.calls)
+pub returns-clause-called : goal.returns-clause-called
+returns-clause-called g c =
+    called_as g.D.Disk OneCall (IsCalled (event.Step actor.Core) c.step-reply.result) (IsNewFault c.step-reply.result) c.args.disk.now c.step-reply.new.disk
+    (λ one. inr (tt, (λ e. false≢true (sym c.step-reply.ensures.works ∙ ap is_idle e)), one)) c.step-reply.ensures.called
 
 pub returns-clause-memory : goal.returns-clause-memory
 returns-clause-memory g c =

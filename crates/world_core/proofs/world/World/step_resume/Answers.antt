@@ -8,7 +8,10 @@ use Rattle.plain_machine.specs.declared.event.Loader.{Loader}
 use Rattle.world_core.specs.StandsFor.{core_resumed}
 use Rattle.world_core.specs.World.{World}
 use Rattle.world_core.specs.Kept.{IsDown, kept_world}
-use Rattle.world_core.specs.Row.{HasRow, Restores}
+use Rattle.protocol_laws.specs.Rows.{IsNewFault}
+use Rattle.sector_disk.specs.Called.{AtMostOneCall}
+use Rattle.sector_disk.proofs.Called.{called_as}
+use Rattle.world_core.specs.Row.{HasRow, IsCalled, Restores}
 use Rattle.world_core.proofs.Readiness.{can_run-resumed, no_tables_after}
 use Rattle.world_core.proofs.Resuming.{IsAfter, row_of_step, awake_after, busy_after, idle_after, runs_after, restores_at}
 use Rattle.world_core.proofs.world.World.step_resume.Goals as goal
@@ -46,5 +49,7 @@ returns-clause-restored g c =
     subst (λ (old : World). Restores (event.Step actor.Core) old new c.step-reply.result (g.D.Disk.content c.args.disk.now) (g.D.Disk.content c.step-reply.new.disk)) c.self.view_is
     (restores_at (kept_world c.self.inside) new c.step-reply.result (g.D.Disk.content c.args.disk.now) (g.D.Disk.content c.step-reply.new.disk) (ap (λ (w : World). w.core) c.self.view_is ∙ c.requires.resumes) c.step-reply.ensures.row)
 
-pub returns-clause-calls : goal.returns-clause-calls
-returns-clause-calls g c = ⊎_elim (λ same. inl same) (λ raised. inr (tt, (λ e. false≢true (sym c.step-reply.ensures.works ∙ ap is_idle e)), raised)) c.step-reply.ensures.calls
+pub returns-clause-called : goal.returns-clause-called
+returns-clause-called g c =
+    called_as g.D.Disk AtMostOneCall (IsCalled (event.Step actor.Core) c.step-reply.result) (IsNewFault c.step-reply.result) c.args.disk.now c.step-reply.new.disk
+    (λ made. ⊎_elim (λ same. inl same) (λ one. inr (tt, (λ e. false≢true (sym c.step-reply.ensures.works ∙ ap is_idle e)), one)) made) c.step-reply.ensures.called
