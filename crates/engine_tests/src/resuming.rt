@@ -1,27 +1,44 @@
 ghost use Rattle.resume_core.specs.Ready.{CanBegin};
 
-use crate::fixtures::hardware;
+use definitions::Ident;
 use frame_arena::Frames;
-use machine::Machine;
+use machine::{Hardware, Machine, Parts};
 use plain_machine::{IdentCheck, Loader, Ranges, Reply};
 use resume_core::Load;
 use std::test::Fail;
 
-// The reply to the begin of a resume whose loader may use each page frame.
+/// A machine with page frames 0 to 4095, the tables in the first of them, and 3001 slots.
+fn hardware() -> Result<Hardware, Fail> {
+    let parts = Parts {
+        zones: &[(0, 4096)],
+        slots: 3001,
+        frame_table: 0,
+        slot_table: 4,
+        regions: &[],
+        ident: Ident {
+            version_code: 393472,
+            names: [[0; 65]; 6],
+        },
+        hw_sig: 0,
+        extents: &[(0, 3001, 0)],
+    };
+    Ok(Hardware::of(&parts).ok().ok_or("no hardware")?)
+}
+
+// The reply to the begin of a resume whose loader holds page frame 10.
 fn begun(load: &mut Load, machine: &Machine, frames: &mut Frames) -> Reply
     requires ready { CanBegin machine.now frames.old load.old }
 {
-    let ranges = Ranges {
-        count: 0,
-        list: [(0, 0); 8],
-    };
+    let mut list = [(0, 0); 8];
+    list[0] = (10, 10);
+    let ranges = Ranges { count: 1, list };
     load.begin(machine, frames, Loader::Ranges(ranges), IdentCheck::Compare)
 }
 
-// A resume begins: its loader has filled each page frame with bytes of its own.
+// A resume begins: its loader has filled the page frame that it holds with bytes of its own.
 #[test]
 fn begins(rt: HostRuntime) -> Result<(), Fail> {
-    let machine = Machine::of(hardware(3001)?);
+    let machine = Machine::of(hardware()?);
     let mut frames = Frames::create(rt.alloc(), machine.hw.zones().top())?;
     let mut load = Load::create(rt.alloc(), &machine.hw)?;
     assert_eq!(rt;

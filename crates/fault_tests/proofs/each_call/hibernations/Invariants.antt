@@ -1,6 +1,0 @@
-use Rattle.std.proofs.Common.{◌≡◌, ◌⊎◌}
-use Rattle.world_core.specs.StandsFor.{IsOff, blocks_of}
-use Rattle.fault_tests.proofs.each_call.hibernations.Given as goal
-
-abbrev pub invariant-loop-first : goal.invariant-loop-first
-invariant-loop-first g l = IsOff l.world ⊎ (g.D.Disk.block_count l.disk ≡ blocks_of l.world)
