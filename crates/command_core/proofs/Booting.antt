@@ -21,31 +21,31 @@ outcome r a = (r, a)
 one_of : (r s : Reply) (a b : State) → outcome r a ≡ outcome s b → (s ≡ r) × (b ≡ a)
 one_of r s a b e = (sym (ap (λ (o : Outcome). o.0) e), sym (ap (λ (o : Outcome). o.1) e))
 
-pub boot_begins : (h : Hardware) (v : disk.Image) (held : Held) (m : Memory) (r : Reply) (b : State) → Step h v (off held (Some m)) (event.Boot Kept) r b → (r ≡ reply.More 0 2) × (b ≡ booting Kept m held 0)
+pub boot_begins : (h : Hardware) (v : disk.DiskImage) (held : Held) (m : Memory) (r : Reply) (b : State) → Step h v (off held (Some m)) (event.Boot Kept) r b → (r ≡ reply.More 0 2) × (b ≡ booting Kept m held 0)
 unfolding outcomes refusal
 boot_begins h v held m r b (zero, lt, e) = one_of (reply.More 0 2) r (booting Kept m held 0) b e
 boot_begins h v held m r b (suc k, lt, e) = absurd (omega arith)
 
-pub boot_syncs : (h : Hardware) (v : disk.Image) (held : Held) (m : Memory) (r : Reply) (b : State) → Step h v (booting Kept m held 0) (event.Step actor.Core) r b → ((r ≡ reply.More 1 2) × (b ≡ booting Kept m held 1)) ⊎ (r ≡ reply.SyncFault Same)
+pub boot_syncs : (h : Hardware) (v : disk.DiskImage) (held : Held) (m : Memory) (r : Reply) (b : State) → Step h v (booting Kept m held 0) (event.Step actor.Core) r b → ((r ≡ reply.More 1 2) × (b ≡ booting Kept m held 1)) ⊎ (r ≡ reply.SyncFault Same)
 unfolding outcomes refusal
 boot_syncs h v held m r b (zero, lt, e) = inl (one_of (reply.More 1 2) r (booting Kept m held 1) b e)
 boot_syncs h v held m r b (suc zero, lt, e) = inr (one_of (reply.SyncFault Same) r (off held None) b e).0
 boot_syncs h v held m r b (suc (suc k), lt, e) = absurd (omega arith)
 
 -- the boot ends, and whether an image is there; or the read has failed
-abbrev pub IsBootEnd : Hardware → disk.Image → Memory → Held → Reply → State → Type 0
+abbrev pub IsBootEnd : Hardware → disk.DiskImage → Memory → Held → Reply → State → Type 0
 IsBootEnd h v m held r b = (((image : Bool) × (r ≡ reply.Booted image)) × (b ≡ on (booted h v Kept m held))) ⊎ (r ≡ reply.ReadFault Same)
 
-ends_held : (h : Hardware) (v : disk.Image) (held : Held) (m : Memory) (marked : Bool) (r : Reply) (b : State) → Contains (outcome (reply.Booted marked) (on (booted h v Kept m held)) ∷ outcome (reply.ReadFault Same) (off held None) ∷ []) (outcome r b) → IsBootEnd h v m held r b
+ends_held : (h : Hardware) (v : disk.DiskImage) (held : Held) (m : Memory) (marked : Bool) (r : Reply) (b : State) → Contains (outcome (reply.Booted marked) (on (booted h v Kept m held)) ∷ outcome (reply.ReadFault Same) (off held None) ∷ []) (outcome r b) → IsBootEnd h v m held r b
 ends_held h v held m marked r b (zero, lt, e) = let is = one_of (reply.Booted marked) r (on (booted h v Kept m held)) b e in inl ((marked, is.0), is.1)
 ends_held h v held m marked r b (suc zero, lt, e) = inr (one_of (reply.ReadFault Same) r (off held None) b e).0
 ends_held h v held m marked r b (suc (suc k), lt, e) = absurd (omega arith)
 
-ends_by : (h : Hardware) (v : disk.Image) (m : Memory) (marked : Bool) (r : Reply) (b : State) → Contains (boot_step h v Kept m (cond marked (sure other) nothing) 1) (r, b) → IsBootEnd h v m (cond marked (sure other) nothing) r b
+ends_by : (h : Hardware) (v : disk.DiskImage) (m : Memory) (marked : Bool) (r : Reply) (b : State) → Contains (boot_step h v Kept m (cond marked (sure other) nothing) 1) (r, b) → IsBootEnd h v m (cond marked (sure other) nothing) r b
 ends_by h v m true r b is = ends_held h v (sure other) m true r b is
 ends_by h v m false r b is = ends_held h v nothing m false r b is
 
-pub boot_ends : (h : Hardware) (v : disk.Image) (m : Memory) (marked : Bool) (r : Reply) (b : State) → Step h v (booting Kept m (cond marked (sure other) nothing) 1) (event.Step actor.Core) r b → IsBootEnd h v m (cond marked (sure other) nothing) r b
+pub boot_ends : (h : Hardware) (v : disk.DiskImage) (m : Memory) (marked : Bool) (r : Reply) (b : State) → Step h v (booting Kept m (cond marked (sure other) nothing) 1) (event.Step actor.Core) r b → IsBootEnd h v m (cond marked (sure other) nothing) r b
 unfolding outcomes refusal
 boot_ends h v m marked r b step = ends_by h v m marked r b step
 
@@ -60,7 +60,7 @@ pub one_outcome : (r s : Reply) (a b : State) → Contains (outcome r a ∷ []) 
 one_outcome r s a b (zero, lt, e) = one_of r s a b e
 one_outcome r s a b (suc k, lt, e) = absurd (omega arith)
 
-pub hibernation_begins : (h : Hardware) (v : disk.Image) (a : Running) (f : Format) (r : Reply) (b : State) → Step h v (on a) (event.Hibernate f) r b →
+pub hibernation_begins : (h : Hardware) (v : disk.DiskImage) (a : Running) (f : Format) (r : Reply) (b : State) → Step h v (on a) (event.Hibernate f) r b →
     ((q : Reply) × (refusal h (on a) (event.Hibernate f) ≡ Some q) × (r ≡ q) × (b ≡ on a))
     ⊎ ((refusal h (on a) (event.Hibernate f) ≡ None) × (r ≡ reply.More 0 (hibernate_steps (image_of_memory h a.memory a.slots f))) × (b ≡ hibernating false (image_of_memory h a.memory a.slots f) a 0))
 unfolding outcomes
@@ -72,7 +72,7 @@ hibernation_begins h v a f r b step =
     ]
 
 -- A machine of which no task has an operation drops what is cached.
-pub shrinks : (h : Hardware) (v : disk.Image) (a : Running) (want : ℕ) (r : Reply) (b : State) → busy a ≡ None → Step h v (on a) (event.Shrink want) r b → b ≡ on (record a { memory = drop_memory h a.memory want })
+pub shrinks : (h : Hardware) (v : disk.DiskImage) (a : Running) (want : ℕ) (r : Reply) (b : State) → busy a ≡ None → Step h v (on a) (event.Shrink want) r b → b ≡ on (record a { memory = drop_memory h a.memory want })
 unfolding outcomes refusal
 shrinks h v a want r b idle step =
     let D = dropped_by h a.memory want in

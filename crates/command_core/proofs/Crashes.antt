@@ -74,7 +74,7 @@ same_blocks blocks other c c' whole after same =
     let reads' = length-as_it_reads c' in
     subst (λ (k : ℕ). disk.IsContent k c') (let e : other ≡ blocks = omega arith in e) after
 
-marked_or_not : (h : Hardware) (w : disk.Image) → Marked h w ⊎ (Marked h w → ⊥)
+marked_or_not : (h : Hardware) (w : disk.DiskImage) → Marked h w ⊎ (Marked h w → ⊥)
 marked_or_not h w = elim (cases_Bool (is_marked_disk h w)) [
   | inl is ↦ inl (same_text (sig_of (header_of h w)) image_signature (sym is))
   | inr isn't ↦ inr (other_text (sig_of (header_of h w)) image_signature (sym isn't))
@@ -169,12 +169,12 @@ in_one x b (suc k, lt, e) = absurd (omega arith)
 leaves_others : (h : Hardware) (p q : Point) → IsTurn h (event.Step actor.Core) p q → blocks_written h p.state ≡ block_of_slot h 0 ∷ [] → (b : ℕ) → b ≢ block_of_slot h 0 → LeavesBlock b p.content q.content
 leaves_others h p q turn one = λ b apart. turn.unwritten b (λ in'. apart (in_one (block_of_slot h 0) b (subst (λ (bs : List ℕ). Contains bs b) one in')))
 
-either_holds : (h : Hardware) (i : Image) (w : disk.Image) → Marked h w → (Marked h w → ⊥) ⊎ Holds h w i → Holds h w i
+either_holds : (h : Hardware) (i : Image) (w : disk.DiskImage) → Marked h w → (Marked h w → ⊥) ⊎ Holds h w i → Holds h w i
 either_holds h i w marked (inl never) = absurd (never marked)
 either_holds h i w marked (inr holds) = holds
 
 -- Inside a step of a hibernation.
-hibernating_inside : (h : Hardware) (i : Image) (a : Running) (blocks k : ℕ) (p q : Point) (w : disk.Image) → disk.IsContent blocks p.content → StandsAt h p → p.state ≡ hibernating false i a k → IsTurn h (event.Step actor.Core) p q → disk.IsMixture p.content q.content w → Marked h w → Holds h w i
+hibernating_inside : (h : Hardware) (i : Image) (a : Running) (blocks k : ℕ) (p q : Point) (w : disk.DiskImage) → disk.IsContent blocks p.content → StandsAt h p → p.state ≡ hibernating false i a k → IsTurn h (event.Step actor.Core) p q → disk.IsMixture p.content q.content w → Marked h w → Holds h w i
 hibernating_inside h i a blocks k p q w whole at is turn mixed marked =
     let c = p.content in
     let c' = q.content in
@@ -214,7 +214,7 @@ undo_block : (h : Hardware) (i : Image) (call : UndoCall) (a : Running) (k : ℕ
 undo_block h i call a k = cond-false (eqb (suc k) 0) (block_of_slot h 0 ∷ []) [] (ne_eqb (suc k) 0 (λ e. omega arith))
 
 -- Inside a step of an undo.
-undoing_inside : (h : Hardware) (i : Image) (call : UndoCall) (a : Running) (blocks k : ℕ) (p q : Point) (w : disk.Image) → disk.IsContent blocks p.content → StandsAt h p → p.state ≡ undoing i call a k → IsTurn h (event.Step actor.Core) p q → disk.IsMixture p.content q.content w → Marked h w → Holds h w i
+undoing_inside : (h : Hardware) (i : Image) (call : UndoCall) (a : Running) (blocks k : ℕ) (p q : Point) (w : disk.DiskImage) → disk.IsContent blocks p.content → StandsAt h p → p.state ≡ undoing i call a k → IsTurn h (event.Step actor.Core) p q → disk.IsMixture p.content q.content w → Marked h w → Holds h w i
 undoing_inside h i call a blocks zero p q w whole at is turn mixed marked =
     let c = p.content in
     let c' = q.content in
@@ -236,12 +236,12 @@ undoing_inside h i call a blocks (suc k) p q w whole at is turn mixed marked =
     let after = same_blocks blocks turn.blocks c c' whole turn.whole turn.area.blocks in
     either_holds h i w marked (stands.parts.0.held w (image_left blocks c c' w whole after (leaves_all h p q turn (ap (blocks_written h) is ∙ undo_block h i call a k)) mixed)).0
 
-either_inside : (h : Hardware) (i : Image) (a : Running) (blocks : ℕ) (p q : Point) (w : disk.Image) → disk.IsContent blocks p.content → StandsAt h p → IsWrittenAt i a p.state → IsTurn h (event.Step actor.Core) p q → disk.IsMixture p.content q.content w → Marked h w → Holds h w i
+either_inside : (h : Hardware) (i : Image) (a : Running) (blocks : ℕ) (p q : Point) (w : disk.DiskImage) → disk.IsContent blocks p.content → StandsAt h p → IsWrittenAt i a p.state → IsTurn h (event.Step actor.Core) p q → disk.IsMixture p.content q.content w → Marked h w → Holds h w i
 either_inside h i a blocks p q w whole at (inl is) turn mixed marked = hibernating_inside h i a blocks is.0 p q w whole at is.1 turn mixed marked
 either_inside h i a blocks p q w whole at (inr is) turn mixed marked = undoing_inside h i is.0 a blocks is.1 p q w whole at is.2 turn mixed marked
 
 -- A crash inside a step of a hibernation leaves an image that isn't marked, or holds its image.
-pub saves_inside : (h : Hardware) (i : Image) (a : Running) (v w : disk.Image) (start : Point) → IsUntouched v start → StandsAt h start → IsAt i a 0 start.reply start.state start.failed → IsLeftInside h start w → (Marked h w → ⊥) ⊎ Holds h w i
+pub saves_inside : (h : Hardware) (i : Image) (a : Running) (v w : disk.DiskImage) (start : Point) → IsUntouched v start → StandsAt h start → IsAt i a 0 start.reply start.state start.failed → IsLeftInside h start w → (Marked h w → ⊥) ⊎ Holds h w i
 saves_inside h i a v w start untouched stands at is =
     let before = all_after h i a v is.steps start is.before untouched at is.are in
     let here = state_of i a is.steps is.before.reply is.before.state is.before.failed (after_steps h i a is.steps start is.before at is.are) is.goes in
@@ -253,30 +253,30 @@ saves_inside h i a v w start untouched stands at is =
 -- A resume.
 
 -- over as many blocks each image is v, but for block(0), which is as it was or taken back
-record IsTaken (h : Hardware) (v : disk.Image) (blocks : ℕ) (p : Point) : Type 0 where
+record IsTaken (h : Hardware) (v : disk.DiskImage) (blocks : ℕ) (p : Point) : Type 0 where
   pub whole : disk.IsContent blocks p.content
   pub taken : AreTakenBack h v p.content
 
-untouched_each : (blocks : ℕ) (v : disk.Image) (p : Point) → disk.IsContent blocks (disk.settled v) → IsUntouched v p → EachImage p.content (λ w. w ≡ v)
+untouched_each : (blocks : ℕ) (v : disk.DiskImage) (p : Point) → disk.IsContent blocks (disk.settled v) → IsUntouched v p → EachImage p.content (λ w. w ≡ v)
 untouched_each blocks v p first is = λ w in'. each_same blocks is.blocks v w p.content first is.whole is.same is.unwritten in'
 
-untouched_taken : (h : Hardware) (blocks : ℕ) (v : disk.Image) (p : Point) → disk.IsContent blocks (disk.settled v) → IsUntouched v p → IsTaken h v blocks p
+untouched_taken : (h : Hardware) (blocks : ℕ) (v : disk.DiskImage) (p : Point) → disk.IsContent blocks (disk.settled v) → IsUntouched v p → IsTaken h v blocks p
 untouched_taken h blocks v p first is = record {
   whole = same_blocks blocks is.blocks (disk.settled v) p.content first is.whole (is.same ∙ sym (ap blocks_of (as_it_reads-settled v)));
   taken = λ w in'. taken_itself h v w (untouched_each blocks v p first is w in');
 }
 
-taken_left : (h : Hardware) (blocks : ℕ) (v : disk.Image) (p q : Point) → IsTaken h v blocks p → IsTurn h (event.Step actor.Core) p q → ((b : ℕ) → Contains (blocks_written h p.state) b → ⊥) → IsTaken h v blocks q
+taken_left : (h : Hardware) (blocks : ℕ) (v : disk.DiskImage) (p q : Point) → IsTaken h v blocks p → IsTurn h (event.Step actor.Core) p q → ((b : ℕ) → Contains (blocks_written h p.state) b → ⊥) → IsTaken h v blocks q
 taken_left h blocks v p q was turn none =
     let after = same_blocks blocks turn.blocks p.content q.content was.whole turn.whole turn.area.blocks in
     record { whole = after; taken = λ w in'. was.taken w (images_left blocks p.content q.content w was.whole after (λ b. turn.unwritten b (none b)) in') }
 
-later_writes : (h : Hardware) (m : Memory) (check : IdentCheck) (v : disk.Image) (n : ℕ) (s : State) → s ≡ state_at h m check v (suc (suc (suc n))) → (b : ℕ) → Contains (blocks_written h s) b → ⊥
+later_writes : (h : Hardware) (m : Memory) (check : IdentCheck) (v : disk.DiskImage) (n : ℕ) (s : State) → s ≡ state_at h m check v (suc (suc (suc n))) → (b : ℕ) → Contains (blocks_written h s) b → ⊥
 later_writes h m check v n s is b in' =
     let none = cond-false (eqb (suc (suc (suc n))) 2) (block_of_slot h 0 ∷ []) [] (ne_eqb (suc (suc (suc n))) 2 (λ e. omega arith)) in
     none_in b (subst (λ (bs : List ℕ). Contains bs b) none (subst (λ (x : State). Contains (blocks_written h x) b) is in'))
 
-taken_turn : (h : Hardware) (m : Memory) (check : IdentCheck) (v : disk.Image) (blocks n : ℕ) (p q : Point) → disk.IsContent blocks (disk.settled v) → IsAfter h m check v n p → IsTaken h v blocks p → p.state ≡ state_at h m check v n → IsTurn h (event.Step actor.Core) p q → IsTaken h v blocks q
+taken_turn : (h : Hardware) (m : Memory) (check : IdentCheck) (v : disk.DiskImage) (blocks n : ℕ) (p q : Point) → disk.IsContent blocks (disk.settled v) → IsAfter h m check v n p → IsTaken h v blocks p → p.state ≡ state_at h m check v n → IsTurn h (event.Step actor.Core) p q → IsTaken h v blocks q
 taken_turn h m check v blocks zero p q first is was state turn = taken_left h blocks v p q was turn (early_writes h m check v 0 p.state (omega arith) state)
 taken_turn h m check v blocks (suc zero) p q first is was state turn = taken_left h blocks v p q was turn (early_writes h m check v 1 p.state (omega arith) state)
 taken_turn h m check v blocks (suc (suc zero)) p q first is was state turn =
@@ -288,14 +288,14 @@ taken_turn h m check v blocks (suc (suc zero)) p q first is was state turn =
     }
 taken_turn h m check v blocks (suc (suc (suc n))) p q first is was state turn = taken_left h blocks v p q was turn (later_writes h m check v n p.state state)
 
-taken_steps : (h : Hardware) (m : Memory) (check : IdentCheck) (v : disk.Image) (blocks n : ℕ) (start end : Point) → disk.IsContent blocks (disk.settled v) → IsUntouched v start → LoadsAt h m check v 0 start.reply start.state start.failed → AreSteps h n start end → IsTaken h v blocks end
+taken_steps : (h : Hardware) (m : Memory) (check : IdentCheck) (v : disk.DiskImage) (blocks n : ℕ) (start end : Point) → disk.IsContent blocks (disk.settled v) → IsUntouched v start → LoadsAt h m check v 0 start.reply start.state start.failed → AreSteps h n start end → IsTaken h v blocks end
 taken_steps h m check v blocks zero start end first untouched at are = subst (IsTaken h v blocks) (sym are) (untouched_taken h blocks v start first untouched)
 taken_steps h m check v blocks (suc n) start end first untouched at (mid, are, goes, turn) =
     let there = loaded_after h m check v blocks n start mid first untouched at are in
     taken_turn h m check v blocks n mid end first there (taken_steps h m check v blocks n start mid first untouched at are) (goes_state h m check v n mid.reply mid.state mid.failed there.at goes).0 turn
 
 -- A crash inside a step of a resume leaves the disk as it was, but for block(0), which is as it was or taken back.
-pub resumes_inside : (h : Hardware) (m : Memory) (check : IdentCheck) (v w : disk.Image) (blocks : ℕ) (start : Point) → disk.IsContent blocks (disk.settled v) → IsUntouched v start → LoadsAt h m check v 0 start.reply start.state start.failed → IsLeftInside h start w → IsTakenBack h v w
+pub resumes_inside : (h : Hardware) (m : Memory) (check : IdentCheck) (v w : disk.DiskImage) (blocks : ℕ) (start : Point) → disk.IsContent blocks (disk.settled v) → IsUntouched v start → LoadsAt h m check v 0 start.reply start.state start.failed → IsLeftInside h start w → IsTakenBack h v w
 resumes_inside h m check v w blocks start first untouched at is =
     let before = taken_steps h m check v blocks is.steps start is.before first untouched at is.are in
     let after = taken_steps h m check v blocks (suc is.steps) start is.after first untouched at (is.before, is.are, is.goes, is.turn) in
@@ -303,7 +303,7 @@ resumes_inside h m check v w blocks start first untouched at is =
 
 -- Where nothing is written.
 
-still_inside : (blocks now : ℕ) (v w : disk.Image) (c c' : disk.Content) → disk.IsContent blocks c → disk.IsContent now c' → length v ≡ length c → ((b : ℕ) → LeavesBlock b (disk.settled v) c) → ((b : ℕ) → LeavesBlock b (disk.settled v) c') → disk.IsMixture c c' w → w ≡ v
+still_inside : (blocks now : ℕ) (v w : disk.DiskImage) (c c' : disk.Content) → disk.IsContent blocks c → disk.IsContent now c' → length v ≡ length c → ((b : ℕ) → LeavesBlock b (disk.settled v) c) → ((b : ℕ) → LeavesBlock b (disk.settled v) c') → disk.IsMixture c c' w → w ≡ v
 still_inside blocks now v w c c' whole after size left left' mixed =
     let n = mixed.size in
     let settled_size = length-settled v in
@@ -315,7 +315,7 @@ still_inside blocks now v w c c' whole after size left left' mixed =
       ];
     })
 
-pub still_then : (blocks now m0 m m' : ℕ) (v : disk.Image) (before' now' : Option disk.Content) (c c' : disk.Content) (past since : ℕ → disk.Image → Type 0) → before' ≡ Some c → now' ≡ Some c' → disk.IsContent blocks c → disk.IsContent now c' → length v ≡ length c →
+pub still_then : (blocks now m0 m m' : ℕ) (v : disk.DiskImage) (before' now' : Option disk.Content) (c c' : disk.Content) (past since : ℕ → disk.DiskImage → Type 0) → before' ≡ Some c → now' ≡ Some c' → disk.IsContent blocks c → disk.IsContent now c' → length v ≡ length c →
     ((b : ℕ) → LeavesBlock b (disk.settled v) c) → ((b : ℕ) → LeavesBlock b (disk.settled v) c') → IsStill m0 m past v → disk.Changes (disk.Elapses m m' past since) before' now' → IsStill m0 m' since v
 still_then blocks now m0 m m' v before' now' c c' past since is at whole after size left left' so_far changes =
     let step = told_both (disk.Elapses m m' past since) before' now' c c' is at changes in
@@ -329,7 +329,7 @@ still_then blocks now m0 m m' v before' now' c c' past since is at whole after s
       ];
     }
 
-pub same_length : (first blocks : ℕ) (v : disk.Image) (c : disk.Content) → disk.IsContent first (disk.settled v) → disk.IsContent blocks c → blocks_of (disk.as_it_reads c) ≡ blocks_of v → length v ≡ length c
+pub same_length : (first blocks : ℕ) (v : disk.DiskImage) (c : disk.Content) → disk.IsContent first (disk.settled v) → disk.IsContent blocks c → blocks_of (disk.as_it_reads c) ≡ blocks_of v → length v ≡ length c
 same_length first blocks v c is whole same =
     let n = is.size in
     let m = whole.size in
@@ -338,20 +338,20 @@ same_length first blocks v c is whole same =
     omega arith
 
 -- an event over a disk on which nothing was written, that writes nothing
-pub still_untouched : (first now m0 m m' : ℕ) (v : disk.Image) (before' now' : Option disk.Content) (p : Point) (c' : disk.Content) (past since : ℕ → disk.Image → Type 0) → disk.IsContent first (disk.settled v) → IsUntouched v p → before' ≡ Some p.content → now' ≡ Some c' → disk.IsContent now c' →
+pub still_untouched : (first now m0 m m' : ℕ) (v : disk.DiskImage) (before' now' : Option disk.Content) (p : Point) (c' : disk.Content) (past since : ℕ → disk.DiskImage → Type 0) → disk.IsContent first (disk.settled v) → IsUntouched v p → before' ≡ Some p.content → now' ≡ Some c' → disk.IsContent now c' →
     ((b : ℕ) → LeavesBlock b (disk.settled v) c') → IsStill m0 m past v → disk.Changes (disk.Elapses m m' past since) before' now' → IsStill m0 m' since v
 still_untouched first now m0 m m' v before' now' p c' past since whole is told at after left so_far changes =
     still_then is.blocks now m0 m m' v before' now' p.content c' past since told at is.whole after (same_length first is.blocks v p.content whole is.whole is.same) is.unwritten left so_far changes
 
 -- so it is at first
-pub still_first : (m : ℕ) (past : ℕ → disk.Image → Type 0) (told : Option disk.Content) (v : disk.Image) → told ≡ Some (disk.settled v) → ((w : disk.Image) → past m w → IfSome told (λ c. disk.IsImage c w)) → IsStill m m past v
+pub still_first : (m : ℕ) (past : ℕ → disk.DiskImage → Type 0) (told : Option disk.Content) (v : disk.DiskImage) → told ≡ Some (disk.settled v) → ((w : disk.DiskImage) → past m w → IfSome told (λ c. disk.IsImage c w)) → IsStill m m past v
 still_first m past told v is only = record {
   later = omega arith;
   same = λ w left. IsImage-settled v w (subst (λ (o : Option disk.Content). IfSome o (λ c. disk.IsImage c w)) is (only w left));
 }
 
 -- A hibernation that was refused makes no step.
-pub never_inside : {A : Type 0} (h : Hardware) (a : Running) (f : Format) (q : Reply) (start : Point) (w : disk.Image) → refusal h (on a) (event.Hibernate f) ≡ Some q → start.reply ≡ q → IsLeftInside h start w → A
+pub never_inside : {A : Type 0} (h : Hardware) (a : Running) (f : Format) (q : Reply) (start : Point) (w : disk.DiskImage) → refusal h (on a) (event.Hibernate f) ≡ Some q → start.reply ≡ q → IsLeftInside h start w → A
 never_inside h a f q start w says same is =
     let over : goes_on start.reply ≡ false = ap goes_on same ∙ refuses_over q (refusal_refuses h f a q says) in
     absurd (false≢true (sym (ap (λ (p : Point). goes_on p.reply) (none_after h is.steps start is.before over is.are) ∙ over) ∙ is.goes))

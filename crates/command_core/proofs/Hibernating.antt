@@ -75,11 +75,11 @@ undo_leads i a n (suc zero) call few made =
     (undone_leads i a n call (on (record a { held = nothing })), (unsure_leads i a n call (on (record a { held = maybe (own i) })), tt))
 undo_leads i a n (suc (suc k)) call few made = absurd (omega arith)
 
-pub hibernating_step : (h : Hardware) (v : disk.Image) (i : Image) (a : Running) (n : ℕ) (r : Reply) (b : State) → Step h v (hibernating false i a n) (event.Step actor.Core) r b → Contains (hibernate_step false i a n) (r, b)
+pub hibernating_step : (h : Hardware) (v : disk.DiskImage) (i : Image) (a : Running) (n : ℕ) (r : Reply) (b : State) → Step h v (hibernating false i a n) (event.Step actor.Core) r b → Contains (hibernate_step false i a n) (r, b)
 unfolding outcomes refusal
 hibernating_step h v i a n r b step = step
 
-pub undoing_step : (h : Hardware) (v : disk.Image) (i : Image) (call : UndoCall) (a : Running) (k : ℕ) (r : Reply) (b : State) → Step h v (undoing i call a k) (event.Step actor.Core) r b → Contains (undo_step i call a k) (r, b)
+pub undoing_step : (h : Hardware) (v : disk.DiskImage) (i : Image) (call : UndoCall) (a : Running) (k : ℕ) (r : Reply) (b : State) → Step h v (undoing i call a k) (event.Step actor.Core) r b → Contains (undo_step i call a k) (r, b)
 unfolding outcomes refusal
 undoing_step h v i call a k r b step = step
 
@@ -97,7 +97,7 @@ leads_by : (i : Image) (a : Running) (n : ℕ) (failed : Bool) (os : List Outcom
 leads_by i a n failed os r b all is = All-contains (LeadsOn i a n failed) os (r, b) (All-from_recursion (LeadsOn i a n failed) os all) is
 
 -- one more step
-pub step_more : (h : Hardware) (v : disk.Image) (i : Image) (a : Running) (n : ℕ) (r r' : Reply) (b b' : State) (failed now : Bool) → IsAt i a n r b failed → goes_on r ≡ true → Step h v b (event.Step actor.Core) r' b' → (IsNewFault r' → now ≡ true) → (failed ≡ true → now ≡ true) → IsAt i a (n + 1) r' b' now
+pub step_more : (h : Hardware) (v : disk.DiskImage) (i : Image) (a : Running) (n : ℕ) (r r' : Reply) (b b' : State) (failed now : Bool) → IsAt i a n r b failed → goes_on r ≡ true → Step h v b (event.Step actor.Core) r' b' → (IsNewFault r' → now ≡ true) → (failed ≡ true → now ≡ true) → IsAt i a (n + 1) r' b' now
 step_more h v i a n (reply.More k of) r' b b' failed now at goes step new old =
     let is = hibernating_step h v i a n r' b' (subst (λ (s : State). Step h v s (event.Step actor.Core) r' b') at step) in
     leads_by i a n failed (hibernate_step false i a n) r' b' (write_leads i a n failed (before_end i a n (r', b') is)) is now new old

@@ -24,7 +24,7 @@ use Rattle.world_core.specs.StandsFor.{StandsFor, hardware_of}
 use Rattle.world_core.specs.World.{World}
 use Rattle.command_core.specs.Hibernation.{held_at_first}
 use Rattle.command_core.specs.Resumption.{IsLast, LeavesMark, HasResumed}
-use Rattle.command_core.specs.Turns.{Point, IsTurn, IsFault, AreSteps, HasGone, goes_on}
+use Rattle.command_core.specs.Turns.{Point, IsTurn, EndsInFault, AreSteps, HasGone, goes_on}
 use Rattle.command_core.specs.declared.ending.Ended.{Ended}
 use Rattle.command_core.proofs.Begun.{IsUntouched, untouched_then, reads_first}
 use Rattle.command_core.proofs.Booting.{one_outcome}
@@ -36,16 +36,16 @@ use Rattle.command_core.proofs.Traces.{counted_at, trace_counts, trace_short, he
 
 -- The event.
 
-pub resume_begins : (h : Hardware) (m : Memory) (check : IdentCheck) (v w : disk.Image) (r : Reply) (b : State) → Step h w (off (held_at_first h v) (Some m)) (event.Resume Table check) r b → (r ≡ reply.Loading 0) × (b ≡ loading (begun h m check v) 0)
+pub resume_begins : (h : Hardware) (m : Memory) (check : IdentCheck) (v w : disk.DiskImage) (r : Reply) (b : State) → Step h w (off (held_at_first h v) (Some m)) (event.Resume Table check) r b → (r ≡ reply.Loading 0) × (b ≡ loading (begun h m check v) 0)
 unfolding outcomes refusal
 resume_begins h m check v w r b step = one_outcome (reply.Loading 0) r (loading (begun h m check v) 0) b step
 
-pub begins_at : (h : Hardware) (m : Memory) (check : IdentCheck) (v : disk.Image) (r : Reply) (b : State) (failed : Bool) → r ≡ reply.Loading 0 → b ≡ loading (begun h m check v) 0 → IsAt h m check v 0 r b failed
+pub begins_at : (h : Hardware) (m : Memory) (check : IdentCheck) (v : disk.DiskImage) (r : Reply) (b : State) (failed : Bool) → r ≡ reply.Loading 0 → b ≡ loading (begun h m check v) 0 → IsAt h m check v 0 r b failed
 begins_at h m check v r b failed reply state = subst (λ (x : Reply). IsAt h m check v 0 x b failed) (sym reply) (state, tt)
 
 -- The steps.
 
-pub goes_state : (h : Hardware) (m : Memory) (check : IdentCheck) (v : disk.Image) (n : ℕ) (r : Reply) (b : State) (failed : Bool) → IsAt h m check v n r b failed → goes_on r ≡ true → (b ≡ state_at h m check v n) × HasGoneOn h m check v n
+pub goes_state : (h : Hardware) (m : Memory) (check : IdentCheck) (v : disk.DiskImage) (n : ℕ) (r : Reply) (b : State) (failed : Bool) → IsAt h m check v n r b failed → goes_on r ≡ true → (b ≡ state_at h m check v n) × HasGoneOn h m check v n
 goes_state h m check v n (reply.Loading k) b failed at goes = at
 goes_state h m check v n (reply.More k of) b failed at goes = absurd at
 goes_state h m check v n (reply.Undo call k) b failed at goes = absurd at
@@ -54,7 +54,7 @@ goes_state h m check v n _ b failed at goes = absurd (false≢true goes)
 none_in : (b : ℕ) → Contains [] b → ⊥
 none_in b (k, lt, e) = omega arith
 
-pub early_writes : (h : Hardware) (m : Memory) (check : IdentCheck) (v : disk.Image) (n : ℕ) (s : State) → n ≤ 1 → s ≡ state_at h m check v n → (b : ℕ) → Contains (blocks_written h s) b → ⊥
+pub early_writes : (h : Hardware) (m : Memory) (check : IdentCheck) (v : disk.DiskImage) (n : ℕ) (s : State) → n ≤ 1 → s ≡ state_at h m check v n → (b : ℕ) → Contains (blocks_written h s) b → ⊥
 early_writes h m check v zero s few is b in' = none_in b (subst (λ (x : State). Contains (blocks_written h x) b) is in')
 early_writes h m check v (suc zero) s few is b in' = none_in b (subst (λ (x : State). Contains (blocks_written h x) b) is in')
 early_writes h m check v (suc (suc n)) s few is b in' = absurd (omega arith)
@@ -64,23 +64,23 @@ in_third x b true (zero, lt, e) = sym e
 in_third x b true (suc k, lt, e) = absurd (omega arith)
 in_third x b false in' = absurd (none_in b in')
 
-pub header_alone : (h : Hardware) (m : Memory) (check : IdentCheck) (v : disk.Image) (n : ℕ) (s : State) → s ≡ state_at h m check v n → (b : ℕ) → b ≢ block_of_slot h 0 → Contains (blocks_written h s) b → ⊥
+pub header_alone : (h : Hardware) (m : Memory) (check : IdentCheck) (v : disk.DiskImage) (n : ℕ) (s : State) → s ≡ state_at h m check v n → (b : ℕ) → b ≢ block_of_slot h 0 → Contains (blocks_written h s) b → ⊥
 header_alone h m check v zero s is b other in' = early_writes h m check v 0 s (omega arith) is b in'
 header_alone h m check v (suc zero) s is b other in' = early_writes h m check v 1 s (omega arith) is b in'
 header_alone h m check v (suc (suc n)) s is b other in' = other (in_third (block_of_slot h 0) b (eqb (suc (suc n)) 2) (subst (λ (x : State). Contains (blocks_written h x) b) is in'))
 
 -- after n steps
-pub record IsAfter (h : Hardware) (m : Memory) (check : IdentCheck) (v : disk.Image) (n : ℕ) (p : Point) : Type 0 where
+pub record IsAfter (h : Hardware) (m : Memory) (check : IdentCheck) (v : disk.DiskImage) (n : ℕ) (p : Point) : Type 0 where
   pub at : IsAt h m check v n p.reply p.state p.failed
   pub blocks : ℕ
   pub whole : disk.IsContent blocks p.content
   pub early : n ≤ 2 → IsUntouched v p
   pub unwritten : (b : ℕ) → b ≢ block_of_slot h 0 → LeavesBlock b (disk.settled v) p.content
 
-after_none : (h : Hardware) (m : Memory) (check : IdentCheck) (v : disk.Image) (p : Point) → IsUntouched v p → IsAt h m check v 0 p.reply p.state p.failed → IsAfter h m check v 0 p
+after_none : (h : Hardware) (m : Memory) (check : IdentCheck) (v : disk.DiskImage) (p : Point) → IsUntouched v p → IsAt h m check v 0 p.reply p.state p.failed → IsAfter h m check v 0 p
 after_none h m check v p is at = record { at = at; blocks = is.blocks; whole = is.whole; early = λ few. is; unwritten = λ b other. is.unwritten b }
 
-after_more : (h : Hardware) (m : Memory) (check : IdentCheck) (v : disk.Image) (blocks n : ℕ) (p q : Point) → disk.IsContent blocks (disk.settled v) → IsAfter h m check v n p → goes_on p.reply ≡ true → IsTurn h (event.Step actor.Core) p q → IsAfter h m check v (suc n) q
+after_more : (h : Hardware) (m : Memory) (check : IdentCheck) (v : disk.DiskImage) (blocks n : ℕ) (p q : Point) → disk.IsContent blocks (disk.settled v) → IsAfter h m check v n p → goes_on p.reply ≡ true → IsTurn h (event.Step actor.Core) p q → IsAfter h m check v (suc n) q
 after_more h m check v blocks n p q whole is goes turn =
     let state = goes_state h m check v n p.reply p.state p.failed is.at goes in
     record {
@@ -92,17 +92,17 @@ after_more h m check v blocks n p q whole is goes turn =
       unwritten = λ b other. leaves_then is.blocks b (disk.settled v) p.content q.content is.whole (is.unwritten b other) (turn.unwritten b (header_alone h m check v n p.state state.0 b other));
     }
 
-pub after_steps : (h : Hardware) (m : Memory) (check : IdentCheck) (v : disk.Image) (blocks n : ℕ) (start end : Point) → disk.IsContent blocks (disk.settled v) → IsUntouched v start → IsAt h m check v 0 start.reply start.state start.failed → AreSteps h n start end → IsAfter h m check v n end
+pub after_steps : (h : Hardware) (m : Memory) (check : IdentCheck) (v : disk.DiskImage) (blocks n : ℕ) (start end : Point) → disk.IsContent blocks (disk.settled v) → IsUntouched v start → IsAt h m check v 0 start.reply start.state start.failed → AreSteps h n start end → IsAfter h m check v n end
 after_steps h m check v blocks zero start end whole is at are = subst (IsAfter h m check v 0) (sym are) (after_none h m check v start is at)
 after_steps h m check v blocks (suc n) start end whole is at (mid, are, goes, turn) = after_more h m check v blocks n mid end whole (after_steps h m check v blocks n start mid whole is at are) goes turn
 
 -- There are few of them.
 
-gone_within : (h : Hardware) (m : Memory) (check : IdentCheck) (v : disk.Image) (n : ℕ) → HasGoneOn h m check v n → n ≤ length (trace_of h m check v)
+gone_within : (h : Hardware) (m : Memory) (check : IdentCheck) (v : disk.DiskImage) (n : ℕ) → HasGoneOn h m check v n → n ≤ length (trace_of h m check v)
 gone_within h m check v zero gone = omega arith
 gone_within h m check v (suc n) gone = let lt = slice_get_within (trace_of h m check v) n (reply.Loading (suc n)) gone in omega arith
 
-pub few_steps : (h : Hardware) (m : Memory) (check : IdentCheck) (v : disk.Image) (blocks n : ℕ) (start end : Point) → AreZones h.zones → disk.IsContent blocks (disk.settled v) → IsUntouched v start → IsAt h m check v 0 start.reply start.state start.failed → AreSteps h n start end → n ≤ 65799
+pub few_steps : (h : Hardware) (m : Memory) (check : IdentCheck) (v : disk.DiskImage) (blocks n : ℕ) (start end : Point) → AreZones h.zones → disk.IsContent blocks (disk.settled v) → IsUntouched v start → IsAt h m check v 0 start.reply start.state start.failed → AreSteps h n start end → n ≤ 65799
 few_steps h m check v blocks zero start end zones whole is at are = omega arith
 few_steps h m check v blocks (suc n) start end zones whole is at (mid, are, goes, turn) =
     let there = after_steps h m check v blocks n start mid whole is at are in
@@ -111,10 +111,10 @@ few_steps h m check v blocks (suc n) start end zones whole is at (mid, are, goes
     omega arith
 
 -- where the header block is refused there are two at most
-second_is : (h : Hardware) (m : Memory) (check : IdentCheck) (v : disk.Image) (r : Reply) → header_cause h v ≡ Some r → slice_get (trace_of h m check v) 1 ≡ Some r
+second_is : (h : Hardware) (m : Memory) (check : IdentCheck) (v : disk.DiskImage) (r : Reply) → header_cause h v ≡ Some r → slice_get (trace_of h m check v) 1 ≡ Some r
 second_is h m check v r cause = second_entry h m check v ∙ ap (λ (o : Option Reply). Some (unwrap_or o (reply.Loading 2))) cause
 
-refused_early : (h : Hardware) (m : Memory) (check : IdentCheck) (v : disk.Image) (r : Reply) (n : ℕ) → header_cause h v ≡ Some r → n ≤ 2 → HasGoneOn h m check v n → n ≤ 1
+refused_early : (h : Hardware) (m : Memory) (check : IdentCheck) (v : disk.DiskImage) (r : Reply) (n : ℕ) → header_cause h v ≡ Some r → n ≤ 2 → HasGoneOn h m check v n → n ≤ 1
 refused_early h m check v r zero cause few gone = omega arith
 refused_early h m check v r (suc zero) cause few gone = omega arith
 refused_early h m check v r (suc (suc zero)) cause few gone =
@@ -122,7 +122,7 @@ refused_early h m check v r (suc (suc zero)) cause few gone =
     absurd (false≢true (sym (header_over h v r cause) ∙ ap goes_on is))
 refused_early h m check v r (suc (suc (suc n))) cause few gone = absurd (omega arith)
 
-pub two_steps : (h : Hardware) (m : Memory) (check : IdentCheck) (v : disk.Image) (r : Reply) (blocks n : ℕ) (start end : Point) → header_cause h v ≡ Some r → disk.IsContent blocks (disk.settled v) → IsUntouched v start → IsAt h m check v 0 start.reply start.state start.failed → AreSteps h n start end → n ≤ 2
+pub two_steps : (h : Hardware) (m : Memory) (check : IdentCheck) (v : disk.DiskImage) (r : Reply) (blocks n : ℕ) (start end : Point) → header_cause h v ≡ Some r → disk.IsContent blocks (disk.settled v) → IsUntouched v start → IsAt h m check v 0 start.reply start.state start.failed → AreSteps h n start end → n ≤ 2
 two_steps h m check v r blocks zero start end cause whole is at are = omega arith
 two_steps h m check v r blocks (suc n) start end cause whole is at (mid, are, goes, turn) =
     let there = after_steps h m check v blocks n start mid whole is at are in
@@ -132,20 +132,20 @@ two_steps h m check v r blocks (suc n) start end cause whole is at (mid, are, go
 
 -- The end.
 
-abbrev EndsAs : Hardware → Memory → IdentCheck → disk.Image → Reply → State → Bool → Type 0
-EndsAs h m check v r b failed = (IsFault r × (failed ≡ true) × FaultLeaves r b) ⊎ (IsLast (trace_of h m check v) r × LeavesOff r b)
+abbrev EndsAs : Hardware → Memory → IdentCheck → disk.DiskImage → Reply → State → Bool → Type 0
+EndsAs h m check v r b failed = (EndsInFault r × (failed ≡ true) × FaultLeaves r b) ⊎ (IsLast (trace_of h m check v) r × LeavesOff r b)
 
-last_at : (h : Hardware) (m : Memory) (check : IdentCheck) (v : disk.Image) (n : ℕ) (r : Reply) → goes_on r ≡ false → slice_get (trace_of h m check v) n ≡ Some r → IsLast (trace_of h m check v) r
+last_at : (h : Hardware) (m : Memory) (check : IdentCheck) (v : disk.DiskImage) (n : ℕ) (r : Reply) → goes_on r ≡ false → slice_get (trace_of h m check v) n ≡ Some r → IsLast (trace_of h m check v) r
 last_at h m check v n r over says = elim (counted_at 1 n (trace_of h m check v) r (trace_counts h m v check) says) [
   | inl is ↦ absurd (false≢true (sym over ∙ ap goes_on is))
   | inr last ↦ last.1
 ]
 
-entry_ends : (h : Hardware) (m : Memory) (check : IdentCheck) (v : disk.Image) (n : ℕ) (r : Reply) (b : State) (failed : Bool) → goes_on r ≡ false → (IsFault r × (failed ≡ true) × FaultLeaves r b) ⊎ ((slice_get (trace_of h m check v) n ≡ Some r) × LeavesOff r b) → EndsAs h m check v r b failed
+entry_ends : (h : Hardware) (m : Memory) (check : IdentCheck) (v : disk.DiskImage) (n : ℕ) (r : Reply) (b : State) (failed : Bool) → goes_on r ≡ false → (EndsInFault r × (failed ≡ true) × FaultLeaves r b) ⊎ ((slice_get (trace_of h m check v) n ≡ Some r) × LeavesOff r b) → EndsAs h m check v r b failed
 entry_ends h m check v n r b failed over (inl fault) = inl fault
 entry_ends h m check v n r b failed over (inr is) = inr (last_at h m check v n r over is.0, is.1)
 
-ends_at : (h : Hardware) (m : Memory) (check : IdentCheck) (v : disk.Image) (n : ℕ) (r : Reply) (b : State) (failed : Bool) → IsAt h m check v n r b failed → goes_on r ≡ false → EndsAs h m check v r b failed
+ends_at : (h : Hardware) (m : Memory) (check : IdentCheck) (v : disk.DiskImage) (n : ℕ) (r : Reply) (b : State) (failed : Bool) → IsAt h m check v n r b failed → goes_on r ≡ false → EndsAs h m check v r b failed
 ends_at h m check v n (reply.Loading k) b failed at over = absurd (false≢true (sym over))
 ends_at h m check v n (reply.More k of) b failed at over = absurd at
 ends_at h m check v n (reply.Undo call k) b failed at over = absurd at
@@ -163,14 +163,14 @@ header_kind true c flags = refl
 header_kind false true flags = refl
 header_kind false false flags = refl
 
-second_kind : (h : Hardware) (v : disk.Image) → is_resumed (unwrap_or (header_cause h v) (reply.Loading 2)) ≡ false
+second_kind : (h : Hardware) (v : disk.DiskImage) → is_resumed (unwrap_or (header_cause h v) (reply.Loading 2)) ≡ false
 second_kind h v = header_kind (not (pointwise nat_eq (sig_of (header_of h v)) image_signature)) (not (is_set (flags_of (header_of h v)) 2)) (flags_of (header_of h v))
 
-entry_of : (h : Hardware) (m : Memory) (check : IdentCheck) (v : disk.Image) (n saved : ℕ) (b : State) (failed : Bool) → IsAt h m check v (suc n) (reply.Resumed saved) b failed → slice_get (trace_of h m check v) n ≡ Some (reply.Resumed saved)
+entry_of : (h : Hardware) (m : Memory) (check : IdentCheck) (v : disk.DiskImage) (n saved : ℕ) (b : State) (failed : Bool) → IsAt h m check v (suc n) (reply.Resumed saved) b failed → slice_get (trace_of h m check v) n ≡ Some (reply.Resumed saved)
 entry_of h m check v n saved b failed (inl fault) = absurd fault.0
 entry_of h m check v n saved b failed (inr is) = is.0
 
-restored_turn : (h : Hardware) (m : Memory) (check : IdentCheck) (v : disk.Image) (n saved : ℕ) (p q : Point) → p.state ≡ state_at h m check v n → IsAt h m check v (suc n) q.reply q.state q.failed → q.reply ≡ reply.Resumed saved → IsTurn h (event.Step actor.Core) p q → q.frames ≡ restored_in h m v Table
+restored_turn : (h : Hardware) (m : Memory) (check : IdentCheck) (v : disk.DiskImage) (n saved : ℕ) (p q : Point) → p.state ≡ state_at h m check v n → IsAt h m check v (suc n) q.reply q.state q.failed → q.reply ≡ reply.Resumed saved → IsTurn h (event.Step actor.Core) p q → q.frames ≡ restored_in h m v Table
 restored_turn h m check v zero saved p q state at is turn =
     let says = entry_of h m check v 0 saved q.state q.failed (subst (λ (r : Reply). IsAt h m check v 1 r q.state q.failed) is at) in
     let same : reply.Loading 1 ≡ reply.Resumed saved = same_Some (reply.Loading 1) (reply.Resumed saved) (sym (first_entry h m check v) ∙ says) in
@@ -182,7 +182,7 @@ restored_turn h m check v (suc zero) saved p q state at is turn =
     absurd (false≢true (sym (second_kind h v) ∙ ap is_resumed same))
 restored_turn h m check v (suc (suc n)) saved p q state at is turn = turn.restored (found h m check v) (suc (suc n)) saved refl state is
 
-restored_last : (h : Hardware) (m : Memory) (check : IdentCheck) (v : disk.Image) (blocks n saved : ℕ) (start end : Point) → disk.IsContent blocks (disk.settled v) → IsUntouched v start → IsAt h m check v 0 start.reply start.state start.failed → AreSteps h n start end → end.reply ≡ reply.Resumed saved → end.frames ≡ restored_in h m v Table
+restored_last : (h : Hardware) (m : Memory) (check : IdentCheck) (v : disk.DiskImage) (blocks n saved : ℕ) (start end : Point) → disk.IsContent blocks (disk.settled v) → IsUntouched v start → IsAt h m check v 0 start.reply start.state start.failed → AreSteps h n start end → end.reply ≡ reply.Resumed saved → end.frames ≡ restored_in h m v Table
 restored_last h m check v blocks zero saved start end whole is at are resumed =
     absurd (subst (λ (r : Reply). IsAt h m check v 0 r start.state start.failed) (ap (λ (p : Point). p.reply) (sym are) ∙ resumed) at)
 restored_last h m check v blocks (suc n) saved start end whole is at (mid, are, goes, turn) resumed =
@@ -192,7 +192,7 @@ restored_last h m check v blocks (suc n) saved start end whole is at (mid, are, 
 
 -- What is left on the disk.
 
-fault_leaves : (r : Reply) (b : State) → IsFault r → FaultLeaves r b → LeavesMark r ⊎ (b ≡ off nothing None)
+fault_leaves : (r : Reply) (b : State) → EndsInFault r → FaultLeaves r b → LeavesMark r ⊎ (b ≡ off nothing None)
 fault_leaves (reply.ReadFault Same) b is leaves = inl tt
 fault_leaves (reply.ReadFault Gone) b is leaves = inr leaves
 fault_leaves (reply.ReadFault Unsure) b is leaves = inl tt
@@ -215,11 +215,11 @@ unmarked_or_left : (h : Hardware) (world : World) (c : disk.Content) (r : Reply)
 unmarked_or_left h world c r b hw stands (inl left) = inl left
 unmarked_or_left h world c r b hw stands (inr off') = inr (subst (λ (g : Hardware). EachImage c (λ w. Marked g w → ⊥)) hw (unmarked_off h world c b stands off'))
 
-gone_at : (h : Hardware) (m : Memory) (check : IdentCheck) (v : disk.Image) (world : World) (c : disk.Content) (r : Reply) (b : State) (failed : Bool) → hardware_of world ≡ h → StandsFor world c b → EndsAs h m check v r b failed → LeavesMark r ⊎ EachImage c (λ w. Marked h w → ⊥)
+gone_at : (h : Hardware) (m : Memory) (check : IdentCheck) (v : disk.DiskImage) (world : World) (c : disk.Content) (r : Reply) (b : State) (failed : Bool) → hardware_of world ≡ h → StandsFor world c b → EndsAs h m check v r b failed → LeavesMark r ⊎ EachImage c (λ w. Marked h w → ⊥)
 gone_at h m check v world c r b failed hw stands (inl fault) = unmarked_or_left h world c r b hw stands (fault_leaves r b fault.0 fault.2)
 gone_at h m check v world c r b failed hw stands (inr is) = unmarked_or_left h world c r b hw stands (off_or_left r b is.1)
 
-answer_of : (h : Hardware) (m : Memory) (check : IdentCheck) (v : disk.Image) (r : Reply) (b : State) (failed : Bool) → EndsAs h m check v r b failed → IsLast (trace_of h m check v) r ⊎ (IsFault r × (failed ≡ true))
+answer_of : (h : Hardware) (m : Memory) (check : IdentCheck) (v : disk.DiskImage) (r : Reply) (b : State) (failed : Bool) → EndsAs h m check v r b failed → IsLast (trace_of h m check v) r ⊎ (EndsInFault r × (failed ≡ true))
 answer_of h m check v r b failed (inl fault) = inr (fault.0, fault.1)
 answer_of h m check v r b failed (inr is) = inl is.0
 
@@ -228,21 +228,21 @@ over_at_last steps r (inl over) few = over
 over_at_last steps r (inr most) few = absurd (omega arith)
 
 -- A call that failed shows in the reply, since no step comes after it.
-new_fault : (h : Hardware) (m : Memory) (check : IdentCheck) (v : disk.Image) (n : ℕ) (r : Reply) (b : State) (failed : Bool) → IsAt h m check v n r b failed → IsNewFault r → IsFault r
+new_fault : (h : Hardware) (m : Memory) (check : IdentCheck) (v : disk.DiskImage) (n : ℕ) (r : Reply) (b : State) (failed : Bool) → IsAt h m check v n r b failed → IsNewFault r → EndsInFault r
 new_fault h m check v n (reply.ReadFault left) b failed at is = tt
 new_fault h m check v n (reply.WriteFault left) b failed at is = tt
 new_fault h m check v n (reply.SyncFault left) b failed at is = tt
 new_fault h m check v n (reply.Undo call k) b failed at is = absurd at
 new_fault h m check v n _ b failed at is = absurd is
 
-shows_fault : (h : Hardware) (m : Memory) (check : IdentCheck) (v : disk.Image) (blocks n : ℕ) (start end : Point) → disk.IsContent blocks (disk.settled v) → start.failed ≡ false → IsUntouched v start → IsAt h m check v 0 start.reply start.state start.failed → AreSteps h n start end → end.failed ≡ true → IsFault end.reply
+shows_fault : (h : Hardware) (m : Memory) (check : IdentCheck) (v : disk.DiskImage) (blocks n : ℕ) (start end : Point) → disk.IsContent blocks (disk.settled v) → start.failed ≡ false → IsUntouched v start → IsAt h m check v 0 start.reply start.state start.failed → AreSteps h n start end → end.failed ≡ true → EndsInFault end.reply
 shows_fault h m check v blocks zero start end whole none is at are failed = absurd (false≢true (sym none ∙ sym (ap (λ (p : Point). p.failed) are) ∙ failed))
 shows_fault h m check v blocks (suc n) start end whole none is at (mid, are, goes, turn) failed = elim (turn.no_other failed) [
   | inr new ↦ new_fault h m check v (suc n) end.reply end.state end.failed (after_steps h m check v blocks (suc n) start end whole is at (mid, are, goes, turn)).at new
   | inl earlier ↦ absurd (false≢true (sym (faults_stop mid.reply (shows_fault h m check v blocks n start mid whole none is at are earlier)) ∙ goes))
 ]
 
-pub resumes : (h : Hardware) (m : Memory) (check : IdentCheck) (v : disk.Image) (blocks : ℕ) (world : World) (start : Point) (ended : Ended) (now : Option disk.Content) → AreZones h.zones → hardware_of world ≡ h → disk.IsContent blocks (disk.settled v) → start.failed ≡ false → IsUntouched v start → IsAt h m check v 0 start.reply start.state start.failed → HasGone h world start ended now → HasResumed h m check v world.frames ended now
+pub resumes : (h : Hardware) (m : Memory) (check : IdentCheck) (v : disk.DiskImage) (blocks : ℕ) (world : World) (start : Point) (ended : Ended) (now : Option disk.Content) → AreZones h.zones → hardware_of world ≡ h → disk.IsContent blocks (disk.settled v) → start.failed ≡ false → IsUntouched v start → IsAt h m check v 0 start.reply start.state start.failed → HasGone h world start ended now → HasResumed h m check v world.frames ended now
 resumes h m check v blocks world start ended now zones hw whole unfailed is at gone =
     let made = gone.made in
     let end = made.end in
@@ -256,7 +256,7 @@ resumes h m check v blocks world start ended now zones hw whole unfailed is at g
       content = end.content;
       told = made.told;
       answer = exactly (IsLast (trace_of h m check v) ended.reply) ended.reply ended.failed (answer_of h m check v ended.reply end.state ended.failed here)
-          (λ failed. subst IsFault made.reply_is (shows_fault h m check v blocks gone.steps start end whole unfailed is at made.are (made.failed_is ∙ failed)));
+          (λ failed. subst EndsInFault made.reply_is (shows_fault h m check v blocks gone.steps start end whole unfailed is at made.are (made.failed_is ∙ failed)));
       restored = λ n resumed. sym made.frames ∙ restored_last h m check v blocks gone.steps n start end whole is at made.are (made.reply_is ∙ resumed);
       gone = gone_at h m check v world end.content ended.reply end.state ended.failed hw made.stands here;
       unwritten = after.unwritten;

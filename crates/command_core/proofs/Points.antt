@@ -24,7 +24,7 @@ use Rattle.command_core.specs.Turns.{Point, IsTurn, AreSteps, HaveMade, Elapsed,
 
 -- Where no block is written, the one image stays.
 
-pub each_same : (blocks now : ℕ) (v w : disk.Image) (c : disk.Content) → disk.IsContent blocks (disk.settled v) → disk.IsContent now c → blocks_of (disk.as_it_reads c) ≡ blocks_of v → ((b : ℕ) → LeavesBlock b (disk.settled v) c) → disk.IsImage c w → w ≡ v
+pub each_same : (blocks now : ℕ) (v w : disk.DiskImage) (c : disk.Content) → disk.IsContent blocks (disk.settled v) → disk.IsContent now c → blocks_of (disk.as_it_reads c) ≡ blocks_of v → ((b : ℕ) → LeavesBlock b (disk.settled v) c) → disk.IsImage c w → w ≡ v
 each_same blocks now v w c whole whole' same leaves is =
     let size = length-settled v in
     let reads = length-as_it_reads c in
@@ -36,7 +36,7 @@ each_same blocks now v w c whole whole' same leaves is =
       chosen = λ s lt. (leaves (s / 8)).leaves w s is (omega arith) (omega arith) (omega arith);
     })
 
-pub reads_same : (blocks now : ℕ) (v : disk.Image) (c : disk.Content) → disk.IsContent blocks (disk.settled v) → disk.IsContent now c → blocks_of (disk.as_it_reads c) ≡ blocks_of v → ((b : ℕ) → LeavesBlock b (disk.settled v) c) → disk.as_it_reads c ≡ v
+pub reads_same : (blocks now : ℕ) (v : disk.DiskImage) (c : disk.Content) → disk.IsContent blocks (disk.settled v) → disk.IsContent now c → blocks_of (disk.as_it_reads c) ≡ blocks_of v → ((b : ℕ) → LeavesBlock b (disk.settled v) c) → disk.as_it_reads c ≡ v
 reads_same blocks now v c whole whole' same leaves = each_same blocks now v (disk.as_it_reads c) c whole whole' same leaves (IsImage-as_it_reads now c whole')
 
 -- what an event makes of a point
@@ -128,10 +128,10 @@ made_more h start old new n r r' failed failed' blocks before now is made goes h
 pub told_both : (R : disk.Content → disk.Content → Type 0) (a b : Option disk.Content) (x y : disk.Content) → a ≡ Some x → b ≡ Some y → disk.Changes R a b → R x y
 told_both R a b x y is at changes = subst (λ (o : Option disk.Content). disk.Changes R (Some x) o) at (subst (λ (o : Option disk.Content). disk.Changes R o b) is changes)
 
-pub elapsed_first : (h : Hardware) (start : Point) (m : ℕ) (past : ℕ → disk.Image → Type 0) → Elapsed h start m m past past
+pub elapsed_first : (h : Hardware) (start : Point) (m : ℕ) (past : ℕ → disk.DiskImage → Type 0) → Elapsed h start m m past past
 elapsed_first h start m past = record { later = omega arith; nothing_else = λ t w le left. inl left }
 
-pub elapsed_more : (h : Hardware) (start : Point) (old new : World) (n : ℕ) (r r' : Reply) (failed failed' : Bool) (blocks : ℕ) (before now : Option disk.Content) (m0 m m' : ℕ) (first past since : ℕ → disk.Image → Type 0) → hardware_of old ≡ h → HaveMade h old start n r failed before → goes_on r ≡ true → hardware_of new ≡ hardware_of old →
+pub elapsed_more : (h : Hardware) (start : Point) (old new : World) (n : ℕ) (r r' : Reply) (failed failed' : Bool) (blocks : ℕ) (before now : Option disk.Content) (m0 m m' : ℕ) (first past since : ℕ → disk.DiskImage → Type 0) → hardware_of old ≡ h → HaveMade h old start n r failed before → goes_on r ≡ true → hardware_of new ≡ hardware_of old →
     HasRow (event.Step actor.Core) old new r' before now → Restores (event.Step actor.Core) old new r' before now → IfSome now (disk.IsContent blocks) → (IsNewFault r' → failed' ≡ true) → (failed ≡ true → failed' ≡ true) → (failed' ≡ true → (failed ≡ true) ⊎ IsNewFault r') →
     Elapsed h start m0 m first past → disk.Changes (disk.Elapses m m' past since) before now → Elapsed h start m0 m' first since
 elapsed_more h start old new n r r' failed failed' blocks before now m0 m m' first past since is made goes hw row restores whole noticed noted no_other so_far changes =

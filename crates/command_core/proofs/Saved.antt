@@ -30,7 +30,7 @@ use Rattle.protocol_laws.proofs.WrittenWhileHeld.{header_alone}
 use Rattle.world_core.specs.StandsFor.{StandsFor, hardware_of}
 use Rattle.world_core.specs.World.{World}
 use Rattle.command_core.specs.Hibernation.{image_to_save, hibernation_answer, HasHibernated, HasFailedEarly}
-use Rattle.command_core.specs.Turns.{Point, IsFault, AreSteps, HasGone, goes_on}
+use Rattle.command_core.specs.Turns.{Point, EndsInFault, AreSteps, HasGone, goes_on}
 use Rattle.command_core.specs.declared.ending.Ended.{Ended}
 use Rattle.command_core.proofs.Begun.{IsUntouched}
 use Rattle.command_core.proofs.Hibernating.{IsAt, after_steps, few_steps, undoing_step}
@@ -111,15 +111,15 @@ written_in : (h : Hardware) (i : Image) (a : Running) (s : State) (b : ℕ) → 
 written_in h i a s b (inl is) in' = step_in_laid h a i is.0 b (subst (λ (x : State). Contains (blocks_written h x) b) is.1 in')
 written_in h i a s b (inr is) in' = (0, omega arith, sym (header_alone h b (eqb is.1 0) (subst (λ (x : State). Contains (blocks_written h x) b) is.2 in')))
 
-pub record IsAfter (h : Hardware) (i : Image) (a : Running) (v : disk.Image) (p : Point) : Type 0 where
+pub record IsAfter (h : Hardware) (i : Image) (a : Running) (v : disk.DiskImage) (p : Point) : Type 0 where
   pub blocks : ℕ
   pub whole : disk.IsContent blocks p.content
   pub unwritten : (b : ℕ) → (Contains (block_of_slot h 0 ∷ laid_blocks h a i) b → ⊥) → LeavesBlock b (disk.settled v) p.content
 
-after_first : (h : Hardware) (i : Image) (a : Running) (v : disk.Image) (p : Point) → IsUntouched v p → IsAfter h i a v p
+after_first : (h : Hardware) (i : Image) (a : Running) (v : disk.DiskImage) (p : Point) → IsUntouched v p → IsAfter h i a v p
 after_first h i a v p is = record { blocks = is.blocks; whole = is.whole; unwritten = λ b not. is.unwritten b }
 
-pub all_after : (h : Hardware) (i : Image) (a : Running) (v : disk.Image) (n : ℕ) (start end : Point) → IsUntouched v start → IsAt i a 0 start.reply start.state start.failed → AreSteps h n start end → IsAfter h i a v end
+pub all_after : (h : Hardware) (i : Image) (a : Running) (v : disk.DiskImage) (n : ℕ) (start end : Point) → IsUntouched v start → IsAt i a 0 start.reply start.state start.failed → AreSteps h n start end → IsAfter h i a v end
 all_after h i a v zero start end is at are = subst (IsAfter h i a v) (sym are) (after_first h i a v start is)
 all_after h i a v (suc n) start end is at (mid, are, goes, turn) =
     let before = all_after h i a v n start mid is at are in
@@ -137,7 +137,7 @@ IsUndo (reply.Undo call k) = Unit {0}
 IsUndo _ = ⊥
 
 abbrev ShowsFault : Reply → Type 0
-ShowsFault r = IsFault r ⊎ IsUndo r
+ShowsFault r = EndsInFault r ⊎ IsUndo r
 
 new_shows : (r : Reply) → IsNewFault r → ShowsFault r
 new_shows (reply.ReadFault left) is = inl tt
@@ -146,7 +146,7 @@ new_shows (reply.SyncFault left) is = inl tt
 new_shows (reply.Undo call k) is = inr tt
 new_shows _ is = absurd is
 
-pub faults_stop : (r : Reply) → IsFault r → goes_on r ≡ false
+pub faults_stop : (r : Reply) → EndsInFault r → goes_on r ≡ false
 faults_stop (reply.ReadFault left) is = refl
 faults_stop (reply.WriteFault left) is = refl
 faults_stop (reply.SyncFault left) is = refl
@@ -160,7 +160,7 @@ undo_shows i undo.Sync a zero few = (inr tt, (inl tt, tt))
 undo_shows i undo.Sync a (suc zero) few = (inl tt, (inl tt, tt))
 undo_shows i undo.Sync a (suc (suc k)) few = absurd (omega arith)
 
-undo_goes : (h : Hardware) (v : disk.Image) (i : Image) (a : Running) (n : ℕ) (r r' : Reply) (b b' : State) (failed : Bool) → IsAt i a n r b failed → IsUndo r → Step h v b (event.Step actor.Core) r' b' → ShowsFault r'
+undo_goes : (h : Hardware) (v : disk.DiskImage) (i : Image) (a : Running) (n : ℕ) (r r' : Reply) (b b' : State) (failed : Bool) → IsAt i a n r b failed → IsUndo r → Step h v b (event.Step actor.Core) r' b' → ShowsFault r'
 undo_goes h v i a n (reply.Undo call k) r' b b' failed at is step =
     let os = undo_step i at.0.0 a k in
     All-contains (λ (o : Outcome). ShowsFault o.0) os (r', b') (All-from_recursion (λ (o : Outcome). ShowsFault o.0) os (undo_shows i at.0.0 a k at.1))
@@ -182,11 +182,11 @@ undo_on (reply.Undo call k) is = refl
 undo_on _ is = absurd is
 
 -- at the end it shows as a fault
-fault_at_end : (r : Reply) → goes_on r ≡ false → ShowsFault r → IsFault r
+fault_at_end : (r : Reply) → goes_on r ≡ false → ShowsFault r → EndsInFault r
 fault_at_end r over (inl is) = is
 fault_at_end r over (inr undo) = absurd (false≢true (sym over ∙ undo_on r undo))
 
-pub exactly : (A : Type 0) (r : Reply) (failed : Bool) → A ⊎ (IsFault r × (failed ≡ true)) → (failed ≡ true → IsFault r) → (A × (failed ≡ false)) ⊎ (IsFault r × (failed ≡ true))
+pub exactly : (A : Type 0) (r : Reply) (failed : Bool) → A ⊎ (EndsInFault r × (failed ≡ true)) → (failed ≡ true → EndsInFault r) → (A × (failed ≡ false)) ⊎ (EndsInFault r × (failed ≡ true))
 exactly A r true (inl is) shows = inr (shows refl, refl)
 exactly A r false (inl is) shows = inl (is, refl)
 exactly A r failed (inr fault) shows = inr fault
@@ -217,7 +217,7 @@ few_of i n d = omega arith
 -- The end.
 
 abbrev EndsAs : Image → Reply → State → Bool → Type 0
-EndsAs i r b failed = ((r ≡ reply.Hibernated (n_of i)) × (b ≡ off (sure (own i)) None)) ⊎ (IsFault r × (failed ≡ true))
+EndsAs i r b failed = ((r ≡ reply.Hibernated (n_of i)) × (b ≡ off (sure (own i)) None)) ⊎ (EndsInFault r × (failed ≡ true))
 
 ends_at : (i : Image) (a : Running) (n : ℕ) (r : Reply) (b : State) (failed : Bool) → IsAt i a n r b failed → goes_on r ≡ false → EndsAs i r b failed
 ends_at i a n (reply.More k of) b failed at over = absurd (false≢true (sym over))
@@ -235,19 +235,19 @@ over_at_last steps n r (inr most) few short = absurd (omega arith)
 holds_by : (world : World) (c : disk.Content) (b : State) (i : Image) → StandsFor world c b → b ≡ off (sure (own i)) None → EachImage c (λ w. Holds (hardware_of world) w i)
 holds_by world c b i stands is = λ w here. ((subst (StandsFor world c) is stands).stands.parts.1.0 w here).0
 
-fault_no_end : (r : Reply) (n : ℕ) → IsFault r → r ≡ reply.Hibernated n → ⊥
-fault_no_end r n is e = subst IsFault e is
+fault_no_end : (r : Reply) (n : ℕ) → EndsInFault r → r ≡ reply.Hibernated n → ⊥
+fault_no_end r n is e = subst EndsInFault e is
 
 image_at : (h : Hardware) (world : World) (c : disk.Content) (i : Image) (r : Reply) (b : State) (failed : Bool) (n : ℕ) → hardware_of world ≡ h → StandsFor world c b → EndsAs i r b failed → r ≡ reply.Hibernated n → EachImage c (λ w. Holds h w i)
 image_at h world c i r b failed n hw stands (inl is) e = subst (λ (g : Hardware). EachImage c (λ w. Holds g w i)) hw (holds_by world c b i stands is.1)
 image_at h world c i r b failed n hw stands (inr fault) e = absurd (fault_no_end r n fault.0 e)
 
-answer_at : (h : Hardware) (a : Running) (f : Format) (v : disk.Image) (r : Reply) (b : State) (failed : Bool) → refusal h (on a) (event.Hibernate f) ≡ None → EndsAs (image_to_save h a f) r b failed → (r ≡ hibernation_answer h a f) ⊎ (IsFault r × (failed ≡ true))
+answer_at : (h : Hardware) (a : Running) (f : Format) (v : disk.DiskImage) (r : Reply) (b : State) (failed : Bool) → refusal h (on a) (event.Hibernate f) ≡ None → EndsAs (image_to_save h a f) r b failed → (r ≡ hibernation_answer h a f) ⊎ (EndsInFault r × (failed ≡ true))
 answer_at h a f v r b failed none (inl is) = inl (is.0 ∙ sym (ap (λ (o : Option Reply). unwrap_or o (reply.Hibernated (n_of (image_to_save h a f)))) none))
 answer_at h a f v r b failed none (inr fault) = inr fault
 
 -- It was not refused.
-pub saves : (h : Hardware) (a : Running) (f : Format) (v : disk.Image) (world : World) (start : Point) (ended : Ended) (now : Option disk.Content) → AreZones h.zones → hardware_of world ≡ h → start.failed ≡ false → IsUntouched v start → refusal h (on a) (event.Hibernate f) ≡ None →
+pub saves : (h : Hardware) (a : Running) (f : Format) (v : disk.DiskImage) (world : World) (start : Point) (ended : Ended) (now : Option disk.Content) → AreZones h.zones → hardware_of world ≡ h → start.failed ≡ false → IsUntouched v start → refusal h (on a) (event.Hibernate f) ≡ None →
     IsAt (image_to_save h a f) a 0 start.reply start.state start.failed → HasGone h world start ended now → HasHibernated h a f v ended now
 saves h a f v world start ended now zones hw unfailed is none at gone =
     let i = image_to_save h a f in
@@ -268,7 +268,7 @@ saves h a f v world start ended now zones hw unfailed is none at gone =
     }
 
 -- It was refused.
-pub refused : (h : Hardware) (a : Running) (f : Format) (v : disk.Image) (world : World) (q : Reply) (start : Point) (ended : Ended) (now : Option disk.Content) → start.failed ≡ false → IsUntouched v start → refusal h (on a) (event.Hibernate f) ≡ Some q → start.reply ≡ q → HasGone h world start ended now → HasHibernated h a f v ended now
+pub refused : (h : Hardware) (a : Running) (f : Format) (v : disk.DiskImage) (world : World) (q : Reply) (start : Point) (ended : Ended) (now : Option disk.Content) → start.failed ≡ false → IsUntouched v start → refusal h (on a) (event.Hibernate f) ≡ Some q → start.reply ≡ q → HasGone h world start ended now → HasHibernated h a f v ended now
 refused h a f v world q start ended now unfailed is says same gone =
     let made = gone.made in
     let refuses = refusal_refuses h f a q says in
@@ -286,7 +286,7 @@ refused h a f v world q start ended now unfailed is says same gone =
     }
 
 -- A call failed while it booted.
-pub failed_early : (h : Hardware) (a : Running) (f : Format) (v : disk.Image) (ended : Ended) (now : Option disk.Content) → HasFailedEarly v ended now → HasHibernated h a f v ended now
+pub failed_early : (h : Hardware) (a : Running) (f : Format) (v : disk.DiskImage) (ended : Ended) (now : Option disk.Content) → HasFailedEarly v ended now → HasHibernated h a f v ended now
 failed_early h a f v ended now early = record {
   content = early.content;
   told = early.told;

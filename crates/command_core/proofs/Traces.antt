@@ -52,7 +52,7 @@ counts_last : (o : Option Reply) (k : ℕ) (r : Reply) → Ends o → goes_on r 
 counts_last None k r ends last = last
 counts_last (Some x) k r ends last = ends
 
-places_count : (h : Hardware) (dump : Memory) (v : disk.Image) (check : IdentCheck) (k : ℕ) (here : Place) (rest : List Place) → CountFrom k (replies_from h dump v Table check k (here ∷ rest))
+places_count : (h : Hardware) (dump : Memory) (v : disk.DiskImage) (check : IdentCheck) (k : ℕ) (here : Place) (rest : List Place) → CountFrom k (replies_from h dump v Table check k (here ∷ rest))
 places_count h dump v check k here [] =
     counts_last (content_cause h dump v Table check here) k (last_reply h dump v Table) (stop_ends (content_cause h dump v Table check here) (stops_content h dump v Table check here)) refl
 places_count h dump v check k here (next ∷ rest) =
@@ -65,7 +65,7 @@ ends_either : (b : Bool) (o p : Option Reply) → Ends o → Ends p → Ends (co
 ends_either true o p first second = first
 ends_either false o p first second = second
 
-header_ends : (h : Hardware) (v : disk.Image) → Ends (header_cause h v)
+header_ends : (h : Hardware) (v : disk.DiskImage) → Ends (header_cause h v)
 header_ends h v =
     let flags = flags_of (header_of h v) in
     let compressed = cond (not (is_set flags 2)) (Some (reply.Compressed flags)) None in
@@ -75,20 +75,20 @@ cause_ends : (o : Option Reply) (r : Reply) → Ends o → o ≡ Some r → goes
 cause_ends None r ends e = absurd (none-some r e)
 cause_ends (Some x) r ends e = ap goes_on (sym (same_Some x r e)) ∙ ends
 
-pub header_over : (h : Hardware) (v : disk.Image) (r : Reply) → header_cause h v ≡ Some r → goes_on r ≡ false
+pub header_over : (h : Hardware) (v : disk.DiskImage) (r : Reply) → header_cause h v ≡ Some r → goes_on r ≡ false
 header_over h v r cause = cause_ends (header_cause h v) r (header_ends h v) cause
 
-back_ends : (h : Hardware) (v : disk.Image) → Ends (taken_back_cause h v)
+back_ends : (h : Hardware) (v : disk.DiskImage) → Ends (taken_back_cause h v)
 back_ends h v = stop_ends (taken_back_cause h v) (stops_taken_back h v)
 
 some_places : (pages : ℕ) → 2 ≤ place_count pages
 some_places pages = omega arith
 
-all_count : (h : Hardware) (dump : Memory) (v : disk.Image) (check : IdentCheck) (n : ℕ) → 1 ≤ n → CountFrom 5 (replies_from h dump v Table check 5 (map place (range_with_len 0 n)))
+all_count : (h : Hardware) (dump : Memory) (v : disk.DiskImage) (check : IdentCheck) (n : ℕ) → 1 ≤ n → CountFrom 5 (replies_from h dump v Table check 5 (map place (range_with_len 0 n)))
 all_count h dump v check zero some = absurd (omega arith)
 all_count h dump v check (suc n) some = places_count h dump v check 5 (place 0) (map place (range_with_len 1 n))
 
-pub trace_counts : (h : Hardware) (dump : Memory) (v : disk.Image) (check : IdentCheck) → CountFrom 1 (trace h dump v Table check)
+pub trace_counts : (h : Hardware) (dump : Memory) (v : disk.DiskImage) (check : IdentCheck) → CountFrom 1 (trace h dump v Table check)
 unfolding trace
 trace_counts h dump v check =
     let read = replies_from h dump v Table check 5 (places (info_in h v).pages) in
@@ -121,7 +121,7 @@ go_short : (o : Option Reply) (k n : ℕ) (rest : List Reply) → length rest �
 go_short None k n rest few = omega arith
 go_short (Some r) k n rest few = omega arith
 
-places_short : (h : Hardware) (dump : Memory) (v : disk.Image) (check : IdentCheck) (k : ℕ) (ps : List Place) → length (replies_from h dump v Table check k ps) ≤ length ps
+places_short : (h : Hardware) (dump : Memory) (v : disk.DiskImage) (check : IdentCheck) (k : ℕ) (ps : List Place) → length (replies_from h dump v Table check k ps) ≤ length ps
 places_short h dump v check k [] = omega arith
 places_short h dump v check k (here ∷ []) = omega arith
 places_short h dump v check k (here ∷ next ∷ rest) =
@@ -149,19 +149,19 @@ bad_counts_there : (bad : Bool) (r : Reply) → bad ≡ true → IsThere (cond b
 bad_counts_there true r e = tt
 bad_counts_there false r e = absurd (false≢true e)
 
-bad_content : (h : Hardware) (dump : Memory) (v : disk.Image) (check : IdentCheck) → are_bad_counts (format_in h v) (valid_count h) (info_in h v).image_pages (info_in h v).pages ≡ true → IsThere (content_cause h dump v Table check (page_at 0))
+bad_content : (h : Hardware) (dump : Memory) (v : disk.DiskImage) (check : IdentCheck) → are_bad_counts (format_in h v) (valid_count h) (info_in h v).image_pages (info_in h v).pages ≡ true → IsThere (content_cause h dump v Table check (page_at 0))
 bad_content h dump v check bad =
     let counts = bad_counts_there (are_bad_counts (format_in h v) (valid_count h) (info_in h v).image_pages (info_in h v).pages) (reply.BadCounts (info_in h v).image_pages (info_in h v).pages) bad in
     there_first (info_cause h v check) (want_cause h dump v Table (page_at 0))
     (there_then (identity_cause h v check) (or_else (memory_cause h v) (counts_cause h v)) (there_then (memory_cause h v) (counts_cause h v) counts))
 
 -- with such counts it ends at the info page
-bad_first : (h : Hardware) (dump : Memory) (v : disk.Image) (check : IdentCheck) (ps : List Place) → IsThere (content_cause h dump v Table check (page_at 0)) → length (replies_from h dump v Table check 6 (page_at 0 ∷ ps)) ≤ 1
+bad_first : (h : Hardware) (dump : Memory) (v : disk.DiskImage) (check : IdentCheck) (ps : List Place) → IsThere (content_cause h dump v Table check (page_at 0)) → length (replies_from h dump v Table check 6 (page_at 0 ∷ ps)) ≤ 1
 bad_first h dump v check [] there = omega arith
 bad_first h dump v check (next ∷ rest) there =
     stops_there (or_else (content_cause h dump v Table check (page_at 0)) (place_cause h v next)) 6 (replies_from h dump v Table check 7 (next ∷ rest)) (there_first (content_cause h dump v Table check (page_at 0)) (place_cause h v next) there)
 
-bad_short : (h : Hardware) (dump : Memory) (v : disk.Image) (check : IdentCheck) (n : ℕ) → 2 ≤ n → IsThere (content_cause h dump v Table check (page_at 0)) → length (replies_from h dump v Table check 5 (map place (range_with_len 0 n))) ≤ 2
+bad_short : (h : Hardware) (dump : Memory) (v : disk.DiskImage) (check : IdentCheck) (n : ℕ) → 2 ≤ n → IsThere (content_cause h dump v Table check (page_at 0)) → length (replies_from h dump v Table check 5 (map place (range_with_len 0 n))) ≤ 2
 bad_short h dump v check zero some there = absurd (omega arith)
 bad_short h dump v check (suc zero) some there = absurd (omega arith)
 bad_short h dump v check (suc (suc n)) some there =
@@ -174,7 +174,7 @@ few_valid h are = subst (λ (zones : List (ℕ × ℕ)). length (numbers zones) 
 few_places : (pages : ℕ) → pages ≤ 65665 → place_count pages ≤ 65794
 few_places pages few = omega arith
 
-pub trace_short : (h : Hardware) (dump : Memory) (v : disk.Image) (check : IdentCheck) → AreZones h.zones → length (trace h dump v Table check) ≤ 65798
+pub trace_short : (h : Hardware) (dump : Memory) (v : disk.DiskImage) (check : IdentCheck) → AreZones h.zones → length (trace h dump v Table check) ≤ 65798
 unfolding trace
 trace_short h dump v check are =
     let pages = (info_in h v).pages in

@@ -17,15 +17,15 @@ use Rattle.plain_machine.specs.declared.reply.Reply.TheVariants as reply
 use Rattle.protocol_laws.specs.Rows.{LeavesBlock}
 use Rattle.world_core.specs.StandsFor.{StandsFor}
 use Rattle.world_core.specs.World.{World}
-use Rattle.command_core.specs.Turns.{IsFault}
+use Rattle.command_core.specs.Turns.{EndsInFault}
 use Rattle.command_core.specs.declared.ending.Ended.{Ended}
 
 -- an image that the disk has before any event is another machine's
-abbrev pub held_at_first : Hardware → disk.Image → Held
+abbrev pub held_at_first : Hardware → disk.DiskImage → Held
 held_at_first h v = if is_marked_disk h v then sure other else nothing
 
 -- the machine once it has booted with the dump's memory m, over the disk v
-abbrev pub machine_of_dump : Hardware → Memory → disk.Image → Running
+abbrev pub machine_of_dump : Hardware → Memory → disk.DiskImage → Running
 machine_of_dump h m v = booted h v Kept m (held_at_first h v)
 
 -- a running machine whose cached page frames are dropped until so many saveable ones are left, where a size is asked for
@@ -34,7 +34,7 @@ shrunk_to h None a = a
 shrunk_to h (Some want) a = record a { memory = drop_memory h a.memory want }
 
 -- the machine that hibernates
-abbrev pub machine_to_save : Hardware → Memory → Option ℕ → disk.Image → Running
+abbrev pub machine_to_save : Hardware → Memory → Option ℕ → disk.DiskImage → Running
 machine_to_save h m size v = shrunk_to h size (machine_of_dump h m v)
 
 -- the image that it saves
@@ -51,7 +51,7 @@ is_booted (reply.Booted image) = true
 is_booted _ = false
 
 -- The machine runs as this state says, over the disk v, which is as it was.
-pub record IsUp (h : Hardware) (a : Running) (v : disk.Image) (world : World) (now : Option disk.Content) : Type 0 where
+pub record IsUp (h : Hardware) (a : Running) (v : disk.DiskImage) (world : World) (now : Option disk.Content) : Type 0 where
   pub content : disk.Content
   pub told : now ≡ Some content
   pub blocks : ℕ
@@ -61,28 +61,28 @@ pub record IsUp (h : Hardware) (a : Running) (v : disk.Image) (world : World) (n
   pub stands : StandsFor world content (on a)
 
 -- A call of the disk has failed before any was to write: the disk v is as it was.
-pub record HasFailedEarly (v : disk.Image) (ended : Ended) (now : Option disk.Content) : Type 0 where
+pub record HasFailedEarly (v : disk.DiskImage) (ended : Ended) (now : Option disk.Content) : Type 0 where
   pub content : disk.Content
   pub told : now ≡ Some content
   pub unwritten : (b : ℕ) → LeavesBlock b (disk.settled v) content
-  pub fault : IsFault ended.reply
+  pub fault : EndsInFault ended.reply
   pub failed : ended.failed ≡ true
 
 -- one of the two
-abbrev pub IsUpOrFails : Hardware → Running → disk.Image → World → Result (Unit {0}) Ended → Option disk.Content → Type 0
+abbrev pub IsUpOrFails : Hardware → Running → disk.DiskImage → World → Result (Unit {0}) Ended → Option disk.Content → Type 0
 IsUpOrFails h a v world (Ok done) now = IsUp h a v world now
 IsUpOrFails h a v world (Err ended) now = HasFailedEarly v ended now
 
 -- What the machine a answers at the end over the disk v, unless a call of the disk has failed. Where that is Hibernated each image of the
 -- disk holds the machine's image. No other block is written than block(0) and those of the image's slots, and none where it is refused.
-pub record HasHibernated (h : Hardware) (a : Running) (f : Format) (v : disk.Image) (ended : Ended) (now : Option disk.Content) : Type 0 where
+pub record HasHibernated (h : Hardware) (a : Running) (f : Format) (v : disk.DiskImage) (ended : Ended) (now : Option disk.Content) : Type 0 where
   pub content : disk.Content
   pub told : now ≡ Some content
-  pub answer : ((ended.reply ≡ hibernation_answer h a f) × (ended.failed ≡ false)) ⊎ (IsFault ended.reply × (ended.failed ≡ true))
+  pub answer : ((ended.reply ≡ hibernation_answer h a f) × (ended.failed ≡ false)) ⊎ (EndsInFault ended.reply × (ended.failed ≡ true))
   pub image : (n : ℕ) → ended.reply ≡ reply.Hibernated n → EachImage content (λ w. Holds h w (image_to_save h a f))
   pub unwritten : (b : ℕ) → (Contains (block_of_slot h 0 ∷ laid_blocks h a (image_to_save h a f)) b → ⊥) → LeavesBlock b (disk.settled v) content
   pub refused : (r : Reply) → refusal h (on a) (event.Hibernate f) ≡ Some r → (b : ℕ) → LeavesBlock b (disk.settled v) content
 
 -- An image that isn't marked, or holds this one.
-abbrev pub IsUnmarkedOrHolds : Hardware → Image → disk.Image → Type 0
+abbrev pub IsUnmarkedOrHolds : Hardware → Image → disk.DiskImage → Type 0
 IsUnmarkedOrHolds h i w = (Marked h w → ⊥) ⊎ Holds h w i

@@ -11,7 +11,7 @@ use Rattle.plain_machine.specs.declared.reply.Left.TheVariants.{Gone}
 use Rattle.plain_machine.specs.declared.reply.Reply.{Reply}
 use Rattle.plain_machine.specs.declared.reply.Reply.TheVariants as reply
 use Rattle.protocol_laws.specs.Rows.{LeavesBlock}
-use Rattle.command_core.specs.Turns.{IsFault}
+use Rattle.command_core.specs.Turns.{EndsInFault}
 use Rattle.command_core.specs.declared.ending.Ended.{Ended}
 
 -- this is the last of the replies
@@ -25,15 +25,15 @@ LeavesMark (reply.Compressed flags) = ⊤
 LeavesMark (reply.ReadFault Gone) = ⊥
 LeavesMark (reply.WriteFault Gone) = ⊥
 LeavesMark (reply.SyncFault Gone) = ⊥
-LeavesMark r = IsFault r
+LeavesMark r = EndsInFault r
 
 -- What the machine answers at the end over the disk v: the last reply of its trace, unless a call of the disk has failed. Where that is
 -- Resumed, the page frames are those that are restored. Then, after each refusal but that of a compressed image, and after a fault that says
 -- that the image is gone, no image of the disk is marked. Of the disk block(0) alone may be written, and none where no image was found or it is compressed.
-pub record HasResumed (h : Hardware) (m : Memory) (check : IdentCheck) (v : disk.Image) (frames : Memory) (ended : Ended) (now : Option disk.Content) : Type 0 where
+pub record HasResumed (h : Hardware) (m : Memory) (check : IdentCheck) (v : disk.DiskImage) (frames : Memory) (ended : Ended) (now : Option disk.Content) : Type 0 where
   pub content : disk.Content
   pub told : now ≡ Some content
-  pub answer : (IsLast (trace h m v Table check) ended.reply × (ended.failed ≡ false)) ⊎ (IsFault ended.reply × (ended.failed ≡ true))
+  pub answer : (IsLast (trace h m v Table check) ended.reply × (ended.failed ≡ false)) ⊎ (EndsInFault ended.reply × (ended.failed ≡ true))
   pub restored : (n : ℕ) → ended.reply ≡ reply.Resumed n → frames ≡ restored_in h m v Table
   pub gone : LeavesMark ended.reply ⊎ EachImage content (λ w. Marked h w → ⊥)
   pub unwritten : (b : ℕ) → b ≢ block_of_slot h 0 → LeavesBlock b (disk.settled v) content

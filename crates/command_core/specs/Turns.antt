@@ -25,11 +25,11 @@ goes_on (reply.Loading k) = true
 goes_on _ = false
 
 -- a reply of a call of the disk that failed, at its event or before an undo
-abbrev pub IsFault : Reply → Type 0
-IsFault (reply.ReadFault left) = ⊤
-IsFault (reply.WriteFault left) = ⊤
-IsFault (reply.SyncFault left) = ⊤
-IsFault _ = ⊥
+abbrev pub EndsInFault : Reply → Type 0
+EndsInFault (reply.ReadFault left) = ⊤
+EndsInFault (reply.WriteFault left) = ⊤
+EndsInFault (reply.SyncFault left) = ⊤
+EndsInFault _ = ⊥
 
 -- After an event: the reply, whether a call of the disk has failed so far, the state of the plain machine, what the disk holds, and
 -- the page frames.
@@ -66,7 +66,7 @@ AreSteps h zero old new = new ≡ old
 AreSteps h (suc n) old new = (mid : Point) × AreSteps h n old mid × (goes_on mid.reply ≡ true) × IsTurn h (event.Step actor.Core) mid new
 
 -- A crash inside a step from this point on may leave this image: it has each sector from before the step or after it.
-pub record IsLeftInside (h : Hardware) (start : Point) (w : disk.Image) : Type 0 where
+pub record IsLeftInside (h : Hardware) (start : Point) (w : disk.DiskImage) : Type 0 where
   pub steps : ℕ
   pub before : Point
   pub after : Point
@@ -76,14 +76,14 @@ pub record IsLeftInside (h : Hardware) (start : Point) (w : disk.Image) : Type 0
   pub mixed : disk.IsMixture before.content after.content w
 
 -- So time goes on over such steps: `past` and `since` are what a crash since a moment might have left, before them and after.
-pub record Elapsed (h : Hardware) (start : Point) (before now : ℕ) (past since : ℕ → disk.Image → Type 0) : Type 0 where
+pub record Elapsed (h : Hardware) (start : Point) (before now : ℕ) (past since : ℕ → disk.DiskImage → Type 0) : Type 0 where
   pub later : before ≤ now
-  pub nothing_else : (t : ℕ) (w : disk.Image) → t ≤ before → since t w → past t w ⊎ IsLeftInside h start w
+  pub nothing_else : (t : ℕ) (w : disk.DiskImage) → t ≤ before → since t w → past t w ⊎ IsLeftInside h start w
 
 -- A crash since that moment leaves this image, and no other.
-pub record IsStill (before now : ℕ) (since : ℕ → disk.Image → Type 0) (v : disk.Image) : Type 0 where
+pub record IsStill (before now : ℕ) (since : ℕ → disk.DiskImage → Type 0) (v : disk.DiskImage) : Type 0 where
   pub later : before ≤ now
-  pub same : (w : disk.Image) → since before w → w ≡ v
+  pub same : (w : disk.DiskImage) → since before w → w ≡ v
 
 -- so many steps from this point on have led to this reply, and to what the world and the disk stand for
 pub record HaveMade (h : Hardware) (world : World) (start : Point) (steps : ℕ) (r : Reply) (failed : Bool) (now : Option disk.Content) : Type 0 where

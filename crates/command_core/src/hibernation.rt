@@ -1,5 +1,5 @@
 ghost use Rattle.std.specs.Prelude.{◌≡◌, ◌⊎◌, ◌≤◌, ◌+◌, IsTrue, Some, IfErr};
-ghost use Rattle.definitions.specs.Disk.{Image, HasRisen, settled};
+ghost use Rattle.definitions.specs.Disk.{DiskImage, HasRisen, settled};
 ghost use Rattle.plain_machine.specs.Chain.{Marked};
 ghost use Rattle.plain_machine.specs.Machine.{IsHardware};
 ghost use Rattle.plain_machine.specs.Premises.{HasOriginal};
@@ -23,9 +23,9 @@ pub fn hibernate<D: Disk>(
 ) -> Ended
     requires hardware { IsHardware (hardware_of world.old) }
     requires new { IsNew (hardware_of world.old) (Some world.old.frames) world.old }
-    ensures hibernated { (v : Image) → D.content disk.old ≡ Some (settled v) → (Marked (hardware_of world.old) v → HasOriginal (hardware_of world.old) v) →
+    ensures hibernated { (v : DiskImage) → D.content disk.old ≡ Some (settled v) → (Marked (hardware_of world.old) v → HasOriginal (hardware_of world.old) v) →
         HasHibernated (hardware_of world.old) (machine_to_save (hardware_of world.old) world.old.frames size v) format v result (D.content disk.new) }
-    ensures inside { IsTrue (D.tells_moments disk.old) → (v : Image) → D.content disk.old ≡ Some (settled v) → (Marked (hardware_of world.old) v → ⊥) → (w : Image) → D.left_since disk.new (D.moment disk.old) w →
+    ensures inside { IsTrue (D.tells_moments disk.old) → (v : DiskImage) → D.content disk.old ≡ Some (settled v) → (Marked (hardware_of world.old) v → ⊥) → (w : DiskImage) → D.left_since disk.new (D.moment disk.old) w →
         IsUnmarkedOrHolds (hardware_of world.old) (image_to_save (hardware_of world.old) (machine_to_save (hardware_of world.old) world.old.frames size v) format) w }
     ensures hardware { hardware_of world.new ≡ hardware_of world.old }
     ensures cause { IsTrue result.failed → HasRisen (D.faults disk.old) (D.faults disk.new) }
@@ -44,9 +44,9 @@ pub fn hibernate<D: Disk>(
 /// Boots the machine, and drops cached page frames where a size is asked for; or tells the call of the disk that failed.
 fn start<D: Disk>(world: &mut World, disk: &mut D, size: Option<u64>) -> Result<(), Ended>
     requires new { IsNew (hardware_of world.old) (Some world.old.frames) world.old }
-    ensures up { (v : Image) → D.content disk.old ≡ Some (settled v) → (Marked (hardware_of world.old) v → HasOriginal (hardware_of world.old) v) →
+    ensures up { (v : DiskImage) → D.content disk.old ≡ Some (settled v) → (Marked (hardware_of world.old) v → HasOriginal (hardware_of world.old) v) →
         IsUpOrFails (hardware_of world.old) (machine_to_save (hardware_of world.old) world.old.frames size v) v world.new result (D.content disk.new) }
-    ensures still { IsTrue (D.tells_moments disk.old) → (v : Image) → D.content disk.old ≡ Some (settled v) → (Marked (hardware_of world.old) v → HasOriginal (hardware_of world.old) v) →
+    ensures still { IsTrue (D.tells_moments disk.old) → (v : DiskImage) → D.content disk.old ≡ Some (settled v) → (Marked (hardware_of world.old) v → HasOriginal (hardware_of world.old) v) →
         IsStill (D.moment disk.old) (D.moment disk.new) (D.left_since disk.new) v }
     ensures telling { D.tells_moments disk.new ≡ D.tells_moments disk.old }
     ensures hardware { hardware_of world.new ≡ hardware_of world.old }
@@ -69,9 +69,9 @@ fn start<D: Disk>(world: &mut World, disk: &mut D, size: Option<u64>) -> Result<
 /// Boots the machine, or tells the call of the disk that failed.
 fn boot<D: Disk>(world: &mut World, disk: &mut D) -> Result<(), Ended>
     requires new { IsNew (hardware_of world.old) (Some world.old.frames) world.old }
-    ensures booted { (v : Image) → D.content disk.old ≡ Some (settled v) → (Marked (hardware_of world.old) v → HasOriginal (hardware_of world.old) v) →
+    ensures booted { (v : DiskImage) → D.content disk.old ≡ Some (settled v) → (Marked (hardware_of world.old) v → HasOriginal (hardware_of world.old) v) →
         IsUpOrFails (hardware_of world.old) (machine_of_dump (hardware_of world.old) world.old.frames v) v world.new result (D.content disk.new) }
-    ensures still { IsTrue (D.tells_moments disk.old) → (v : Image) → D.content disk.old ≡ Some (settled v) → (Marked (hardware_of world.old) v → HasOriginal (hardware_of world.old) v) →
+    ensures still { IsTrue (D.tells_moments disk.old) → (v : DiskImage) → D.content disk.old ≡ Some (settled v) → (Marked (hardware_of world.old) v → HasOriginal (hardware_of world.old) v) →
         IsStill (D.moment disk.old) (D.moment disk.new) (D.left_since disk.new) v }
     ensures telling { D.tells_moments disk.new ≡ D.tells_moments disk.old }
     ensures hardware { hardware_of world.new ≡ hardware_of world.old }

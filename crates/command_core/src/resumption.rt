@@ -1,5 +1,5 @@
 ghost use Rattle.std.specs.Prelude.{◌≡◌, ◌≤◌, ◌+◌, IsTrue, Some};
-ghost use Rattle.definitions.specs.Disk.{Image, HasRisen, settled};
+ghost use Rattle.definitions.specs.Disk.{DiskImage, HasRisen, settled};
 ghost use Rattle.plain_machine.specs.Chain.{Marked};
 ghost use Rattle.plain_machine.specs.Machine.{IsHardware};
 ghost use Rattle.plain_machine.specs.Premises.{HasOriginal};
@@ -17,10 +17,10 @@ use world_core::World;
 pub fn resume<D: Disk>(world: &mut World, disk: &mut D, check: IdentCheck) -> Ended
     requires hardware { IsHardware (hardware_of world.old) }
     requires new { IsNew (hardware_of world.old) (Some world.old.frames) world.old }
-    ensures resumed { (v : Image) → D.content disk.old ≡ Some (settled v) → (Marked (hardware_of world.old) v → HasOriginal (hardware_of world.old) v) →
+    ensures resumed { (v : DiskImage) → D.content disk.old ≡ Some (settled v) → (Marked (hardware_of world.old) v → HasOriginal (hardware_of world.old) v) →
         HasResumed (hardware_of world.old) world.old.frames check v world.new.frames result (D.content disk.new) }
-    ensures inside { IsTrue (D.tells_moments disk.old) → (v : Image) → D.content disk.old ≡ Some (settled v) → (Marked (hardware_of world.old) v → HasOriginal (hardware_of world.old) v) →
-        (w : Image) → D.left_since disk.new (D.moment disk.old) w → IsTakenBack (hardware_of world.old) v w }
+    ensures inside { IsTrue (D.tells_moments disk.old) → (v : DiskImage) → D.content disk.old ≡ Some (settled v) → (Marked (hardware_of world.old) v → HasOriginal (hardware_of world.old) v) →
+        (w : DiskImage) → D.left_since disk.new (D.moment disk.old) w → IsTakenBack (hardware_of world.old) v w }
     ensures hardware { hardware_of world.new ≡ hardware_of world.old }
     ensures cause { IsTrue result.failed → HasRisen (D.faults disk.old) (D.faults disk.new) }
     ensures faults { D.faults disk.old ≤ D.faults disk.new }

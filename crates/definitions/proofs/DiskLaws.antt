@@ -3,27 +3,27 @@ use Rattle.std.proofs.Common.{◌≡◌, ℕ, ◌+◌, ◌-◌, ◌*◌, ◌<◌
 use Rattle.std.proofs.lemmas.List.{length-take, length-drop, get_or-take, get_or-drop, same_lists, get_or_default}
 use Rattle.std.proofs.lemmas.List.Elements.{All-head, All-tail}
 use Rattle.std.specs.List.{concat}
-use Rattle.definitions.specs.Disk.{Sector, no_sector, Content, Image, IsContent, IsImage, IsSector, as_it_reads, settled, sector, block, Syncs, Restarts, Writes, SameOutside}
+use Rattle.definitions.specs.Disk.{Sector, no_sector, Content, DiskImage, IsContent, IsImage, IsSector, as_it_reads, settled, sector, block, Syncs, Restarts, Writes, SameOutside}
 
 of_one : (x y : List ℕ) → Contains (x ∷ []) y → y ≡ x
 of_one x y (zero, lt, e) = sym e
 of_one x y (suc k, lt, e) = absurd (omega arith)
 
-pub as_it_reads-settled : (v : Image) → as_it_reads (settled v) ≡ v
+pub as_it_reads-settled : (v : DiskImage) → as_it_reads (settled v) ≡ v
 as_it_reads-settled [] = refl
-as_it_reads-settled (x ∷ v) = ap (λ (w : Image). x ∷ w) (as_it_reads-settled v)
+as_it_reads-settled (x ∷ v) = ap (λ (w : DiskImage). x ∷ w) (as_it_reads-settled v)
 
-pub length-settled : (v : Image) → length (settled v) ≡ length v
+pub length-settled : (v : DiskImage) → length (settled v) ≡ length v
 length-settled [] = refl
 length-settled (x ∷ v) = ap suc (length-settled v)
 
-candidates-settled : (v : Image) (s : ℕ) → s < length v → (sector (settled v) s).candidates ≡ get_or v s [] ∷ []
+candidates-settled : (v : DiskImage) (s : ℕ) → s < length v → (sector (settled v) s).candidates ≡ get_or v s [] ∷ []
 candidates-settled [] s lt = absurd (omega arith)
 candidates-settled (x ∷ v) zero lt = refl
 candidates-settled (x ∷ v) (suc s) lt = candidates-settled v s (omega arith)
 
 -- the content that a sync or a restart leaves has one image
-pub IsImage-settled : (v w : Image) → IsImage (settled v) w → w ≡ v
+pub IsImage-settled : (v w : DiskImage) → IsImage (settled v) w → w ≡ v
 IsImage-settled v w h =
     let size : length w ≡ length v = h.size ∙ length-settled v in
     same_lists w v size (λ s d lt.
@@ -32,11 +32,11 @@ IsImage-settled v w h =
     get_or_default w s d [] lt ∙ of_one (get_or v s []) (get_or w s []) one ∙ get_or_default v s [] d (omega arith))
 
 -- after a sync every image is the disk as it read
-pub IsImage-after_sync : (old new : Content) (w : Image) → Syncs old new → IsImage new w → w ≡ as_it_reads old
+pub IsImage-after_sync : (old new : Content) (w : DiskImage) → Syncs old new → IsImage new w → w ≡ as_it_reads old
 IsImage-after_sync old new w e h = IsImage-settled (as_it_reads old) w (subst (λ (c : Content). IsImage c w) e h)
 
 -- after a restart the disk has one image, one from before
-pub IsImage-after_restart : (old new : Content) → Restarts old new → (v : Image) × IsImage old v × ((w : Image) → IsImage new w → w ≡ v)
+pub IsImage-after_restart : (old new : Content) → Restarts old new → (v : DiskImage) × IsImage old v × ((w : DiskImage) → IsImage new w → w ≡ v)
 IsImage-after_restart old new r =
     (r.0, r.1, λ w h. IsImage-settled r.0 w (subst (λ (c : Content). IsImage c w) r.2 h))
 
@@ -63,7 +63,7 @@ live_at (x ∷ c) zero = refl
 live_at (x ∷ c) (suc s) = live_at c s
 
 -- blocks whose eight sectors are the same are the same
-pub block-same : (v w : Image) (b : ℕ) → length v ≡ length w → ((j : ℕ) → j < 8 → get_or v (8 * b + j) [] ≡ get_or w (8 * b + j) []) → block v b ≡ block w b
+pub block-same : (v w : DiskImage) (b : ℕ) → length v ≡ length w → ((j : ℕ) → j < 8 → get_or v (8 * b + j) [] ≡ get_or w (8 * b + j) []) → block v b ≡ block w b
 unfolding block
 block-same v w b size same =
     let part : take 8 (drop (8 * b) v) ≡ take 8 (drop (8 * b) w) =

@@ -1,7 +1,7 @@
 -- Laws of file maps: which extent a slot lies in, and on which block.
 use Rattle.std.proofs.Common.{◌≡◌, ℕ, ◌+◌, ◌-◌, ◌<◌, ◌≤◌, ◌⊎◌, zero, suc, List, [], ◌∷◌, length, ltb, refl, sym, ap, ◌∙◌, subst, inl, inr, ⊎_elim, arith}
 use Rattle.std.proofs.lemmas.Bool.{cases_lt, cases_order, cond-true, cond-false, lt-ltb, le-ltb}
-use Rattle.definitions.specs.Slots.{block_of, extent_at, extent_end, slots_before, slots_of, IsInOrder, IsFileMap, LieApart, AreFew, IsFault}
+use Rattle.definitions.specs.Slots.{block_of, extent_at, extent_end, slots_before, slots_of, IsInOrder, IsFileMap, LieApart, AreFew, IsExtentFault}
 
 -- The last extent that doesn't start above a slot tells its block.
 pub block_of-extent : (extents : List (ℕ × ℕ × ℕ)) (i s : ℕ) → i < length extents → ((j : ℕ) → j < i → (extent_at extents (suc j)).0 ≤ s) → (suc i < length extents → s < (extent_at extents (suc i)).0) → block_of extents s ≡ (extent_at extents i).2 + (s - (extent_at extents i).0)
@@ -103,14 +103,14 @@ few_enough : (extents : List (ℕ × ℕ × ℕ)) → ((length extents ≡ 0) �
 few_enough extents h few = let some = few.some in let most = few.few in ⊎_elim (λ none. omega arith) (λ many. omega arith) h
 
 -- a file map has none
-pub no_fault : (extents : List (ℕ × ℕ × ℕ)) (slots at : ℕ) → IsFileMap extents slots → IsFault extents slots at → ⊥
+pub no_fault : (extents : List (ℕ × ℕ × ℕ)) (slots at : ℕ) → IsFileMap extents slots → IsExtentFault extents slots at → ⊥
 no_fault extents slots at h fault = elim fault [
   | inl count ↦ few_enough extents count.0 h.count
   | inr rest ↦ elim rest [ inl extent ↦ extent.3 (h.each at extent.1) | inr size ↦ size.3 h.covers ]
 ]
 
 -- there is one at most
-pub same_fault : (extents : List (ℕ × ℕ × ℕ)) (slots a b : ℕ) → IsFault extents slots a → IsFault extents slots b → a ≡ b
+pub same_fault : (extents : List (ℕ × ℕ × ℕ)) (slots a b : ℕ) → IsExtentFault extents slots a → IsExtentFault extents slots b → a ≡ b
 same_fault extents slots a b (inl h) (inl g) = omega (arith, h.1, g.1)
 same_fault extents slots a b (inl h) (inr (inl g)) = absurd (few_enough extents h.0 g.0)
 same_fault extents slots a b (inl h) (inr (inr g)) = absurd (few_enough extents h.0 g.0)

@@ -4,7 +4,7 @@ use Rattle.std.proofs.lemmas.Bool.{cases_eq, cases_lt}
 use Rattle.std.proofs.lemmas.List.{length-set, get_or-set_same, get_or-set_other, set-get_or}
 use Rattle.std.specs.List.{All, Contains}
 use Rattle.definitions.specs.Bytes.{IsPage, number_at, with_number}
-use Rattle.definitions.specs.Tables.{frame, with_frame, entry_at, with_entry, with_entries, table_frames, HasTable}
+use Rattle.definitions.specs.Tables.{frame, with_frame, entry_at, with_entry, with_entries, table_frame_count, HasTable}
 use Rattle.definitions.proofs.Ascending.{Contains-nil, Contains-head, Contains-tail, Contains-cons_cases}
 use Rattle.definitions.proofs.PageBytes.{length-with_number, number_at-with_number, number_at-with_number_apart}
 
@@ -128,7 +128,7 @@ pub entry_at-with_entries_same : (frames : List (List ℕ)) (table n : ℕ) (ks 
 entry_at-with_entries_same frames table n ks v j pages has fits below in' = entry_at-with_entries frames table n ks v j pages has fits below (inr in')
 
 -- the page frames outside the table stay
-pub frame-with_entries_other : (frames : List (List ℕ)) (table n : ℕ) (ks : List ℕ) (v p : ℕ) → ((k : ℕ) → Contains ks k → k < n) → (p < table) ⊎ (table + table_frames n ≤ p) → frame (with_entries frames table ks v) p ≡ frame frames p
+pub frame-with_entries_other : (frames : List (List ℕ)) (table n : ℕ) (ks : List ℕ) (v p : ℕ) → ((k : ℕ) → Contains ks k → k < n) → (p < table) ⊎ (table + table_frame_count n ≤ p) → frame (with_entries frames table ks v) p ≡ frame frames p
 unfolding with_entries
 frame-with_entries_other frames table n [] v p below outside = refl
 frame-with_entries_other frames table n (k ∷ ks) v p below outside =

@@ -7,7 +7,7 @@ use Rattle.std.proofs.lemmas.List.Kept.{IsStrictlyIncreasing-filter}
 use Rattle.std.specs.List.{Contains, range_with_len}
 use Rattle.std.specs.List.Sorted.{IsStrictlyIncreasing}
 use Rattle.definitions.specs.Zones.{numbers, zone_at, AreApart}
-use Rattle.definitions.specs.Tables.{entry_at, flags_of, is_saveable}
+use Rattle.definitions.specs.Tables.{entry_at, page_flags, is_saveable}
 use Rattle.definitions.specs.Lists.{saveable_frames, free_frames}
 use Rattle.definitions.proofs.FrameSets.{Contains-filter, Contains-from_filter}
 use Rattle.definitions.proofs.ZoneNumbers.{numbers-take_more, IsStrictlyIncreasing-numbers}
@@ -38,17 +38,17 @@ filter-numbers_more test zones j l =
 pub IsStrictlyIncreasing-saveable_frames : (zones : List (ℕ × ℕ)) (table : ℕ) (frames : List (List ℕ)) → AreApart zones → IsStrictlyIncreasing (saveable_frames zones table frames)
 unfolding saveable_frames
 IsStrictlyIncreasing-saveable_frames zones table frames apart =
-    IsStrictlyIncreasing-filter (λ p. is_saveable (flags_of (entry_at frames table p))) (numbers zones) (IsStrictlyIncreasing-numbers zones apart)
+    IsStrictlyIncreasing-filter (λ p. is_saveable (page_flags (entry_at frames table p))) (numbers zones) (IsStrictlyIncreasing-numbers zones apart)
 
-pub Contains-saveable_frames : (zones : List (ℕ × ℕ)) (table : ℕ) (frames : List (List ℕ)) (p : ℕ) → Contains (numbers zones) p → is_saveable (flags_of (entry_at frames table p)) ≡ true → Contains (saveable_frames zones table frames) p
+pub Contains-saveable_frames : (zones : List (ℕ × ℕ)) (table : ℕ) (frames : List (List ℕ)) (p : ℕ) → Contains (numbers zones) p → is_saveable (page_flags (entry_at frames table p)) ≡ true → Contains (saveable_frames zones table frames) p
 unfolding saveable_frames
 Contains-saveable_frames zones table frames p in' is =
-    Contains-filter (λ q. is_saveable (flags_of (entry_at frames table q))) (numbers zones) p in' is
+    Contains-filter (λ q. is_saveable (page_flags (entry_at frames table q))) (numbers zones) p in' is
 
-pub Contains-from_saveable_frames : (zones : List (ℕ × ℕ)) (table : ℕ) (frames : List (List ℕ)) (p : ℕ) → Contains (saveable_frames zones table frames) p → Contains (numbers zones) p × (is_saveable (flags_of (entry_at frames table p)) ≡ true)
+pub Contains-from_saveable_frames : (zones : List (ℕ × ℕ)) (table : ℕ) (frames : List (List ℕ)) (p : ℕ) → Contains (saveable_frames zones table frames) p → Contains (numbers zones) p × (is_saveable (page_flags (entry_at frames table p)) ≡ true)
 unfolding saveable_frames
 Contains-from_saveable_frames zones table frames p in' =
-    Contains-from_filter (λ q. is_saveable (flags_of (entry_at frames table q))) (numbers zones) p in'
+    Contains-from_filter (λ q. is_saveable (page_flags (entry_at frames table q))) (numbers zones) p in'
 
 -- The free page frames.
 

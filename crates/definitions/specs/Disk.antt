@@ -17,8 +17,8 @@ abbrev pub Content : Type 0
 Content = List Sector
 
 -- One content for each sector: what a disk reads as, or what it holds after a cut.
-abbrev pub Image : Type 0
-Image = List (List ℕ)
+abbrev pub DiskImage : Type 0
+DiskImage = List (List ℕ)
 
 -- each candidate has 512 bytes, and the live bytes are one of them
 pub record IsSector (s : Sector) : Type 0 where
@@ -34,20 +34,20 @@ abbrev pub sector : Content → ℕ → Sector
 sector c s = slice_index_or c s no_sector
 
 -- the image as the disk reads
-abbrev pub as_it_reads : Content → Image
+abbrev pub as_it_reads : Content → DiskImage
 as_it_reads c = map (λ s. s.live) c
 
 -- a choice of one candidate for each sector
-pub record IsImage (c : Content) (v : Image) : Type 0 where
+pub record IsImage (c : Content) (v : DiskImage) : Type 0 where
   pub size : length v ≡ length c
   pub chosen : (s : ℕ) → s < length c → Contains (sector c s).candidates (slice_index_or v s [])
 
 -- the content of a disk whose one image is v
-abbrev pub settled : Image → Content
+abbrev pub settled : DiskImage → Content
 settled v = map (λ bytes. record { live = bytes; candidates = bytes ∷ [] }) v
 
 -- block b of an image
-unfoldable pub block : Image → ℕ → List ℕ
+unfoldable pub block : DiskImage → ℕ → List ℕ
 block v b = concat (take 8 (drop (8 * b) v))
 
 -- The calls of a disk, by what they make of its content.
@@ -85,7 +85,7 @@ Syncs old new = new ≡ settled (as_it_reads old)
 
 -- one image of the disk is from now on its only one
 abbrev pub Restarts : Content → Content → Type 0
-Restarts old new = (v : Image) × IsImage old v × (new ≡ settled v)
+Restarts old new = (v : DiskImage) × IsImage old v × (new ≡ settled v)
 
 -- What a call makes of the content, where the disk tells it. Whether it tells it doesn't change.
 abbrev pub Changes : (Content → Content → Type 0) → Option Content → Option Content → Type 0
@@ -97,16 +97,16 @@ Changes R (Some old) (Some new) = R old new
 -- Moments, where the disk tells them: a clock, and which images a crash since a moment might have left.
 
 -- each sector has a candidate from before or from after
-pub record IsMixture (old new : Content) (v : Image) : Type 0 where
+pub record IsMixture (old new : Content) (v : DiskImage) : Type 0 where
   pub size : length v ≡ length old
   pub each : (s : ℕ) → s < length v → Contains (sector old s).candidates (slice_index_or v s []) ⊎ Contains (sector new s).candidates (slice_index_or v s [])
 
 -- Time goes on over a call: a crash since t might have left what it might have left before the call, or,
 -- sector by sector, what a crash just before or just after the call may leave.
-pub record Elapses (before now : ℕ) (past since : ℕ → Image → Type 0) (old new : Content) : Type 0 where
+pub record Elapses (before now : ℕ) (past since : ℕ → DiskImage → Type 0) (old new : Content) : Type 0 where
   pub later : before ≤ now
-  pub keeps : (t : ℕ) (v : Image) → t ≤ before → past t v → since t v
-  pub nothing_else : (t : ℕ) (v : Image) → t ≤ before → since t v → past t v ⊎ IsMixture old new v
+  pub keeps : (t : ℕ) (v : DiskImage) → t ≤ before → past t v → since t v
+  pub nothing_else : (t : ℕ) (v : DiskImage) → t ≤ before → since t v → past t v ⊎ IsMixture old new v
 
 -- Counts of a disk, a source or a sink. They stay at 2^64-1, their last value.
 abbrev pub last_count : ℕ

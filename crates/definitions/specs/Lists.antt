@@ -2,11 +2,11 @@
 use Rattle.std.specs.Prelude.{ℕ, ◌==◌, List, filter}
 use Rattle.std.specs.List.{range_with_len}
 use Rattle.definitions.specs.Zones.{numbers}
-use Rattle.definitions.specs.Tables.{entry_at, flags_of, is_saveable}
+use Rattle.definitions.specs.Tables.{entry_at, page_flags, is_saveable}
 
 -- the page frames that an image saves (saveable_page), of the zones, by the frame table
 unfoldable pub saveable_frames : List (ℕ × ℕ) → ℕ → List (List ℕ) → List ℕ
-saveable_frames zones table frames = filter (λ p. is_saveable (flags_of (entry_at frames table p))) (numbers zones)
+saveable_frames zones table frames = filter (λ p. is_saveable (page_flags (entry_at frames table p))) (numbers zones)
 
 -- the page frames whose entry is FREE and nothing else
 unfoldable pub free_frames : List (ℕ × ℕ) → ℕ → List (List ℕ) → List ℕ

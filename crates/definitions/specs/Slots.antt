@@ -69,8 +69,8 @@ pub record IsFileMap (extents : List (ℕ × ℕ × ℕ)) (slots : ℕ) : Type 0
 
 -- Why extents are none: there are too few or too many (index 0), or the extent with this index is the first that is not
 -- in order, or all are and don't cover just the slots (the index after the last).
-abbrev pub IsFault : List (ℕ × ℕ × ℕ) → ℕ → ℕ → Type 0
-IsFault extents slots at =
+abbrev pub IsExtentFault : List (ℕ × ℕ × ℕ) → ℕ → ℕ → Type 0
+IsExtentFault extents slots at =
     (((length extents ≡ 0) ⊎ (64 < length extents)) × (at ≡ 0))
     ⊎ (AreFew extents × (at < length extents) × ((i : ℕ) → i < at → IsInOrder extents i) × (IsInOrder extents at → ⊥))
     ⊎ (AreFew extents × (at ≡ length extents) × ((i : ℕ) → i < at → IsInOrder extents i) × (slots_of extents ≡ slots → ⊥))

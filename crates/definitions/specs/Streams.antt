@@ -9,9 +9,9 @@ HandsOut k piece (Some old) None = ⊥
 HandsOut k piece (Some old) (Some new) = old ≡ take k piece ++ new
 
 -- no byte is left
-abbrev pub IsOver : Option (List ℕ) → Type 0
-IsOver None = Unit {0}
-IsOver (Some left) = left ≡ []
+abbrev pub IsUsedUp : Option (List ℕ) → Type 0
+IsUsedUp None = Unit {0}
+IsUsedUp (Some left) = left ≡ []
 
 -- The first k bytes of a piece are taken by a sink that had taken `old` and has taken `new`.
 abbrev pub Takes : ℕ → List ℕ → Option (List ℕ) → Option (List ℕ) → Type 0

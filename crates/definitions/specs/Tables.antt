@@ -23,12 +23,12 @@ unfoldable pub entry_at : List (List ℕ) → ℕ → ℕ → ℕ
 entry_at frames table k = number_at 4 (frame frames (table + k / 1024)) (4 * (k % 1024))
 
 -- A table of n entries takes so many page frames in a row.
-abbrev pub table_frames : ℕ → ℕ
-table_frames n = (n + 1023) / 1024
+abbrev pub table_frame_count : ℕ → ℕ
+table_frame_count n = (n + 1023) / 1024
 
 -- memory has the page frames of that table
 abbrev pub HasTable : List (List ℕ) → ℕ → ℕ → Type 0
-HasTable frames table n = table + table_frames n ≤ length frames
+HasTable frames table n = table + table_frame_count n ≤ length frames
 
 -- memory with that entry set to v
 unfoldable pub with_entry : List (List ℕ) → ℕ → ℕ → ℕ → List (List ℕ)
@@ -42,8 +42,8 @@ with_entries frames table (k ∷ ks) v = with_entries (with_entry frames table k
 
 -- An entry of the frame table: flags in the low 16 bits (struct page's flags, as far as kernel/power/snapshot.c asks for
 -- them), the owner in the high 16: 0, or a task from 1 to 64.
-abbrev pub flags_of : ℕ → ℕ
-flags_of entry = entry % 65536
+abbrev pub page_flags : ℕ → ℕ
+page_flags entry = entry % 65536
 
 abbrev pub owner_of : ℕ → ℕ
 owner_of entry = entry / 65536
@@ -70,7 +70,7 @@ is_saveable flags =
 -- No flag above CACHE (64), the owner is at most 64, a free page frame has no other flag and no owner, and one with an
 -- owner has no flag but CACHE.
 pub record IsWellFormed (entry : ℕ) : Type 0 where
-  pub flags : flags_of entry < 128
+  pub flags : page_flags entry < 128
   pub owner : owner_of entry ≤ 64
-  pub free : IsTrue (is_free (flags_of entry)) → entry ≡ 1
-  pub owned : owner_of entry ≢ 0 → (flags_of entry ≡ 0) ⊎ (flags_of entry ≡ 64)
+  pub free : IsTrue (is_free (page_flags entry)) → entry ≡ 1
+  pub owned : owner_of entry ≢ 0 → (page_flags entry ≡ 0) ⊎ (page_flags entry ≡ 64)

@@ -13,5 +13,5 @@ use Rattle.dry_resume.specs.Foretold.{Foretells}
 pub told_over : (over : Option disk.Content) (below original : DiskState) (c : disk.Content) → over ≡ content_over None below.content → below ≡ original → original.content ≡ Some c → over ≡ Some (disk.settled (disk.as_it_reads c))
 told_over over below original c is same told = is ∙ ap (λ (s : DiskState). content_over None s.content) same ∙ ap (λ (o : Option disk.Content). content_over None o) told
 
-pub foretells : (h : Hardware) (m : Memory) (check : IdentCheck) (v : disk.Image) (frames : Memory) (ended : Ended) (now : Option disk.Content) → HasResumed h m check v frames ended now → Foretells h m check v frames ended
+pub foretells : (h : Hardware) (m : Memory) (check : IdentCheck) (v : disk.DiskImage) (frames : Memory) (ended : Ended) (now : Option disk.Content) → HasResumed h m check v frames ended now → Foretells h m check v frames ended
 foretells h m check v frames ended now resumed = record { answer = resumed.answer; restored = resumed.restored }

@@ -2,7 +2,7 @@
 use Rattle.std.proofs.Common.{◌≡◌, ℕ, ◌+◌, ◌<◌, eqb, leb, List, length, Option, Some, None, Result, Ok, Err, replicate, sym, ap, ◌∙◌, inl, inr, arith}
 use Rattle.std.proofs.lemmas.Bool.{cases_eq, eq-eqb, le-leb, ne_eqb}
 use Rattle.definitions.specs.Bytes.{zero_page}
-use Rattle.definitions.specs.Streams.{IsOver}
+use Rattle.definitions.specs.Streams.{IsUsedUp}
 use Rattle.definitions.specs.Zones.{top}
 use Rattle.plain_machine.specs.Machine.{Hardware, Memory}
 use Rattle.dump_file.specs.Dump.{body_fault, dump_fault, dump_of, dump_unless, head_fault, DumpValue}
@@ -15,7 +15,7 @@ use Rattle.dump_file.proofs.Handed.{read_to_end}
 use Rattle.dump_file.proofs.ZoneFaults.{not_most}
 
 -- nothing follows where no byte comes
-pub over_is : (bytes : List ℕ) (k count : ℕ) (new : Option (List ℕ)) → IsReadTo bytes (k + count) new → (count < 1 → IsOver new) → eqb count 0 ≡ leb (length bytes) k
+pub over_is : (bytes : List ℕ) (k count : ℕ) (new : Option (List ℕ)) → IsReadTo bytes (k + count) new → (count < 1 → IsUsedUp new) → eqb count 0 ≡ leb (length bytes) k
 over_is bytes k count new h end =
     let within = h.within in
     elim (cases_eq count 0) [

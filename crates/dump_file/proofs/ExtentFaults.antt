@@ -3,7 +3,7 @@ use Rattle.std.proofs.Common.{◌≡◌, ℕ, ◌+◌, ◌<◌, ◌≤◌, ◌�
 use Rattle.std.proofs.lemmas.Bool.{cases_Bool, cases_eq, eq-eqb, ne_eqb}
 use Rattle.std.proofs.lemmas.Bool.Decides.{Decides-and, Decides-or, Decides-not, Decides-like, Decides-ltb, Decides-eqb}
 use Rattle.std.specs.Bool.{Decides}
-use Rattle.definitions.specs.Slots.{extent_at, slots_before, slots_of, LieApart, IsFault, IsFileMap, IsInOrder}
+use Rattle.definitions.specs.Slots.{extent_at, slots_before, slots_of, LieApart, IsExtentFault, IsFileMap, IsInOrder}
 use Rattle.machine.specs.HardFault.{each_below, is_extent, lie_apart}
 use Rattle.machine.proofs.ListTests.{Decides-below, Decides-leb}
 use Rattle.dump_file.specs.Reading.{IsFirstNot}
@@ -55,7 +55,7 @@ pub map_in_order : (extents : List (ℕ × ℕ × ℕ)) (slots : ℕ) → IsFile
 map_in_order extents slots h i lt = (decides_order extents i).1 (h.each i lt)
 
 -- what a fault of extents means, if there is at least one and at most 64 are there
-pub fault_within : (extents : List (ℕ × ℕ × ℕ)) (slots at : ℕ) → length extents ≤ 64 → at < length extents → IsFault extents slots at → IsFirstNot (is_extent extents) (length extents) at
+pub fault_within : (extents : List (ℕ × ℕ × ℕ)) (slots at : ℕ) → length extents ≤ 64 → at < length extents → IsExtentFault extents slots at → IsFirstNot (is_extent extents) (length extents) at
 fault_within extents slots at few lt (inl h) = absurd (⊎_elim (λ none. omega (arith, none, lt)) (λ many. omega (arith, many, few)) h.0)
 fault_within extents slots at few lt (inr (inl h)) = record {
   within = lt;
@@ -64,13 +64,13 @@ fault_within extents slots at few lt (inr (inl h)) = record {
 }
 fault_within extents slots at few lt (inr (inr h)) = absurd (omega (arith, h.1, lt))
 
-pub fault_behind : (extents : List (ℕ × ℕ × ℕ)) (slots at : ℕ) → length extents ≤ 64 → length extents ≤ at → IsFault extents slots at → (j : ℕ) → j < length extents → is_extent extents j ≡ true
+pub fault_behind : (extents : List (ℕ × ℕ × ℕ)) (slots at : ℕ) → length extents ≤ 64 → length extents ≤ at → IsExtentFault extents slots at → (j : ℕ) → j < length extents → is_extent extents j ≡ true
 fault_behind extents slots at few le (inl h) j lt = absurd (⊎_elim (λ none. omega (arith, none, lt)) (λ many. omega (arith, many, few)) h.0)
 fault_behind extents slots at few le (inr (inl h)) j lt = absurd (omega (arith, h.1, le))
 fault_behind extents slots at few le (inr (inr h)) j lt = (decides_order extents j).1 (h.2 j (omega (arith, h.1, lt)))
 
 -- where all are in order the fault is that they don't cover the slots
-pub fault_of_cover : (extents : List (ℕ × ℕ × ℕ)) (slots at : ℕ) → 1 ≤ length extents → length extents ≤ 64 → length extents ≤ at → IsFault extents slots at → (slots_of extents ≡ slots → ⊥)
+pub fault_of_cover : (extents : List (ℕ × ℕ × ℕ)) (slots at : ℕ) → 1 ≤ length extents → length extents ≤ 64 → length extents ≤ at → IsExtentFault extents slots at → (slots_of extents ≡ slots → ⊥)
 fault_of_cover extents slots at some few le (inl h) = absurd (⊎_elim (λ none. omega (arith, none, some)) (λ many. omega (arith, many, few)) h.0)
 fault_of_cover extents slots at some few le (inr (inl h)) = absurd (omega (arith, h.1, le))
 fault_of_cover extents slots at some few le (inr (inr h)) = h.3

@@ -4,7 +4,7 @@ use Rattle.std.proofs.lemmas.List.{take-append-le, take_at, drop_at, drop-drop, 
 use Rattle.std.proofs.Math.Seq.{take-append-add}
 use borrow.Rule.Slice.PartMut.{put_mid}
 use Rattle.definitions.specs.Bytes.{bytes_at}
-use Rattle.definitions.specs.Streams.{HandsOut, IsOver}
+use Rattle.definitions.specs.Streams.{HandsOut, IsUsedUp}
 use Rattle.dump_file.specs.Reading.{IsReadTo}
 
 pub HandsOut-none : (piece : List ℕ) (left : Option (List ℕ)) → HandsOut 0 piece left left
@@ -52,8 +52,8 @@ told bytes at k piece old new h few handed =
     told_next bytes at k piece new h.within few (subst (λ (left : Option (List ℕ)). HandsOut k piece left new) h.rest handed)
 
 -- at the end all is read
-pub read_to_end : (bytes : List ℕ) (k : ℕ) (left : Option (List ℕ)) → IsReadTo bytes k left → IsOver left → length bytes ≡ k
+pub read_to_end : (bytes : List ℕ) (k : ℕ) (left : Option (List ℕ)) → IsReadTo bytes k left → IsUsedUp left → length bytes ≡ k
 read_to_end bytes k left h over =
-    let none : drop k bytes ≡ [] = subst IsOver h.rest over in
+    let none : drop k bytes ≡ [] = subst IsUsedUp h.rest over in
     let size : length (drop k bytes) ≡ 0 = ap length none in
     omega (arith, size, length-drop k bytes, h.within)

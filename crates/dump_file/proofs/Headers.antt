@@ -1,7 +1,7 @@
 -- What was read in front of the records, as a front of the whole dump.
 use Rattle.std.proofs.Common.{◌≡◌, ℕ, ◌+◌, ◌≤◌, ◌⊎◌, List, [], ◌++◌, length, take, drop, Option, Some, None, sym, ap, ◌∙◌, subst, inl, inr, arith}
 use Rattle.std.proofs.lemmas.List.{drop_all, length-take-le, take-append-drop}
-use Rattle.definitions.specs.Streams.{HandsOut, IsOver}
+use Rattle.definitions.specs.Streams.{HandsOut, IsUsedUp}
 use Rattle.plain_machine.specs.Machine.{Hardware}
 use Rattle.dump_file.specs.Dump.{head_fault}
 use Rattle.dump_file.specs.Fields.{first_record, hardware, record_count}
@@ -17,7 +17,7 @@ record IsFrontOf (whole front : List ℕ) (n : ℕ) (new : Option (List ℕ)) : 
   read : IsReadTo whole n new
   enough : (head_len front ≤ length front) ⊎ (drop n whole ≡ [])
 
-front_of : (whole bytes : List ℕ) (n : ℕ) (old new : Option (List ℕ)) → old ≡ Some whole → n ≤ length bytes → HandsOut n bytes old new → (head_len (take n bytes) ≤ n) ⊎ IsOver new → IsFrontOf whole (take n bytes) n new
+front_of : (whole bytes : List ℕ) (n : ℕ) (old new : Option (List ℕ)) → old ≡ Some whole → n ≤ length bytes → HandsOut n bytes old new → (head_len (take n bytes) ≤ n) ⊎ IsUsedUp new → IsFrontOf whole (take n bytes) n new
 front_of whole bytes n old new is few handed enough =
     let next = told whole 0 n bytes old new (record { within = omega arith; rest = is }) few handed in
     let place : 0 + n ≡ n = omega arith in
@@ -33,17 +33,17 @@ front_of whole bytes n old new is few handed enough =
       ];
     }
 
-pub header_fault : (whole bytes : List ℕ) (n : ℕ) (old new : Option (List ℕ)) (f : DumpFault) → old ≡ Some whole → n ≤ length bytes → HandsOut n bytes old new → (head_len (take n bytes) ≤ n) ⊎ IsOver new → Some f ≡ head_fault (take n bytes) → head_fault whole ≡ Some f
+pub header_fault : (whole bytes : List ℕ) (n : ℕ) (old new : Option (List ℕ)) (f : DumpFault) → old ≡ Some whole → n ≤ length bytes → HandsOut n bytes old new → (head_len (take n bytes) ≤ n) ⊎ IsUsedUp new → Some f ≡ head_fault (take n bytes) → head_fault whole ≡ Some f
 header_fault whole bytes n old new f is few handed enough wrong =
     let front = front_of whole bytes n old new is few handed enough in
     whole_fault whole (take n bytes) (drop n whole) front.parts front.enough ∙ sym wrong
 
-pub header_is : (whole bytes : List ℕ) (n : ℕ) (old new : Option (List ℕ)) (hw : Hardware) (first count : ℕ) → old ≡ Some whole → n ≤ length bytes → HandsOut n bytes old new → (head_len (take n bytes) ≤ n) ⊎ IsOver new → None ≡ head_fault (take n bytes) → hw ≡ hardware (take n bytes) → first ≡ first_record (take n bytes) → count ≡ record_count (take n bytes) → IsHeader whole hw first count
+pub header_is : (whole bytes : List ℕ) (n : ℕ) (old new : Option (List ℕ)) (hw : Hardware) (first count : ℕ) → old ≡ Some whole → n ≤ length bytes → HandsOut n bytes old new → (head_len (take n bytes) ≤ n) ⊎ IsUsedUp new → None ≡ head_fault (take n bytes) → hw ≡ hardware (take n bytes) → first ≡ first_record (take n bytes) → count ≡ record_count (take n bytes) → IsHeader whole hw first count
 header_is whole bytes n old new hw first count is few handed enough right hw_is first_is count_is =
     let front = front_of whole bytes n old new is few handed enough in
     whole_header whole (take n bytes) (drop n whole) hw first count front.parts front.enough (sym right) hw_is first_is count_is
 
-pub header_read : (whole bytes : List ℕ) (n : ℕ) (old new : Option (List ℕ)) (first : ℕ) → old ≡ Some whole → n ≤ length bytes → HandsOut n bytes old new → (head_len (take n bytes) ≤ n) ⊎ IsOver new → n ≤ head_len (take n bytes) → None ≡ head_fault (take n bytes) → first ≡ first_record (take n bytes) → first ≤ length (take n bytes) → IsReadTo whole first new
+pub header_read : (whole bytes : List ℕ) (n : ℕ) (old new : Option (List ℕ)) (first : ℕ) → old ≡ Some whole → n ≤ length bytes → HandsOut n bytes old new → (head_len (take n bytes) ≤ n) ⊎ IsUsedUp new → n ≤ head_len (take n bytes) → None ≡ head_fault (take n bytes) → first ≡ first_record (take n bytes) → first ≤ length (take n bytes) → IsReadTo whole first new
 header_read whole bytes n old new first is few handed enough tight right first_is within =
     let front = front_of whole bytes n old new is few handed enough in
     let size = front.size in

@@ -9,7 +9,7 @@ use Rattle.std.specs.List.{find, Contains}
 use Rattle.std.specs.Option.{option_or}
 use Rattle.definitions.specs.Slots.{slots_of}
 use Rattle.definitions.specs.Slots as slot
-use Rattle.definitions.specs.Tables.{flags_of, frame, is_saveable, owner_of}
+use Rattle.definitions.specs.Tables.{page_flags, frame, is_saveable, owner_of}
 use Rattle.definitions.specs.Zones.{numbers, top}
 use Rattle.definitions.proofs.ZoneNumbers.{below_top, count_at_most, top_at_most}
 use Rattle.machine.specs.HardFault.{has_tables, is_extent, is_zone}
@@ -218,7 +218,7 @@ faultless h m f hw fits of =
     let own = entry-carried h m f hw (table_frame_valid h f hw of) in
     at_fault-faultless h (carried_memory h m) f
     (record {
-      saveable = ap (λ (e : ℕ). is_saveable (flags_of e)) own ∙ (fits.tables f of).0;
+      saveable = ap (λ (e : ℕ). is_saveable (page_flags e)) own ∙ (fits.tables f of).0;
       no_owner = ap owner_of own ∙ (fits.tables f of).1;
       entries = λ p in' at. ap is_well_formed (entry-carried h m p hw in') ∙ fits.entries p in';
       slots = λ s lt at. ap (is_slot_entry s) (slot-carried h m s hw lt) ∙ fits.slots s lt;

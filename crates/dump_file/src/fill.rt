@@ -1,7 +1,7 @@
 ghost use Rattle.std.specs.Prelude.{◌≡◌, ◌+◌, ◌^◌, ◌≤◌, ◌<◌, ℕ, List, length, Some, None, Err, IsOk, IfOk, OnErr};
 ghost use Rattle.definitions.specs.Bytes.{bytes_at};
 ghost use Rattle.definitions.specs.Disk.{HasRisen};
-ghost use Rattle.definitions.specs.Streams.{HandsOut, IsOver};
+ghost use Rattle.definitions.specs.Streams.{HandsOut, IsUsedUp};
 ghost use Rattle.dump_file.specs.Dump.{wanted};
 ghost use Rattle.dump_file.specs.Fields.{number};
 ghost use Rattle.dump_file.specs.Reading.{IsReadTo};
@@ -15,7 +15,7 @@ use page_core::Failed;
 pub(crate) fn fill<S: Source>(source: &mut S, piece: &mut [u8]) -> Result<usize, Failed>
     ensures count { IfOk result (λ k. k ≤ length piece.old) }
     ensures bytes { IfOk result (λ k. HandsOut k piece.new (S.remaining source.old) (S.remaining source.new)) }
-    ensures end { IfOk result (λ k. k < length piece.old → IsOver (S.remaining source.new)) }
+    ensures end { IfOk result (λ k. k < length piece.old → IsUsedUp (S.remaining source.new)) }
     ensures counted { S.faults source.old ≤ S.faults source.new }
     ensures cause { OnErr result (HasRisen (S.faults source.old) (S.faults source.new)) }
 {

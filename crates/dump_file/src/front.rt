@@ -1,6 +1,6 @@
 ghost use Rattle.std.specs.Prelude.{◌≡◌, ◌⊎◌, ◌+◌, ◌*◌, ◌≤◌, ◌<◌, ◌↔◌, IsTrue, length, take, IfOk, OnErr};
 ghost use Rattle.definitions.specs.Disk.{HasRisen};
-ghost use Rattle.definitions.specs.Streams.{HandsOut, IsOver};
+ghost use Rattle.definitions.specs.Streams.{HandsOut, IsUsedUp};
 ghost use Rattle.dump_file.specs.Fields.{is_second, number};
 ghost use Rattle.dump_file.specs.Reading.{head_len};
 
@@ -18,7 +18,7 @@ pub(crate) fn read_front<S: Source>(
     ensures within { IfOk result (λ n. n ≤ length bytes.new) }
     ensures bytes { IfOk result (λ n. HandsOut n bytes.new (S.remaining source.old) (S.remaining source.new)) }
     ensures tight { IfOk result (λ n. n ≤ head_len (take n bytes.new)) }
-    ensures whole { IfOk result (λ n. (head_len (take n bytes.new) ≤ n) ⊎ IsOver (S.remaining source.new)) }
+    ensures whole { IfOk result (λ n. (head_len (take n bytes.new) ≤ n) ⊎ IsUsedUp (S.remaining source.new)) }
     ensures counted { S.faults source.old ≤ S.faults source.new }
     ensures cause { OnErr result (HasRisen (S.faults source.old) (S.faults source.new)) }
 {

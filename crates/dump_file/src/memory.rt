@@ -1,6 +1,6 @@
 ghost use Rattle.std.specs.Prelude.{◌≡◌, ℕ, ◌+◌, ◌-◌, ◌<◌, ◌≤◌, ◌↔◌, ◌⊎◌, List, Some, ◌++◌, [], take, length, min, vec_len, vec_capacity, IfOk, OnOk, IsOk, OnErr, IsErr};
 ghost use Rattle.definitions.specs.Disk.{HasRisen, raised};
-ghost use Rattle.definitions.specs.Streams.{HandsOut, IsOver, Takes};
+ghost use Rattle.definitions.specs.Streams.{HandsOut, IsUsedUp, Takes};
 
 use crate::calls::Calls;
 use crate::sink::Sink;

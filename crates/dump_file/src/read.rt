@@ -1,6 +1,6 @@
 ghost use Rattle.std.specs.Prelude.{◌≡◌, ◌≢◌, ℕ, ◌≤◌, List, [], Some, None, Ok, Err, length, nat_le, IsTrue, IsOk, IfOk};
 ghost use Rattle.definitions.specs.Disk.{HasRisen};
-ghost use Rattle.definitions.specs.Streams.{IsOver};
+ghost use Rattle.definitions.specs.Streams.{IsUsedUp};
 ghost use Rattle.definitions.specs.Zones.{top};
 ghost use Rattle.plain_machine.specs.Machine.{Fits};
 ghost use Rattle.dump_file.specs.Dump.{body_fault, dump_of, head_fault};
@@ -21,7 +21,7 @@ use std::alloc::Global;
 /// Reads a dump to its end. A fault is the first one, where several could be named.
 pub fn read_dump<S: Source>(alloc: Global, source: &mut S) -> Result<Dump, DumpStop>
     ensures dump { IfOk result (λ d. (bytes : List ℕ) → S.remaining source.old ≡ Some bytes → dump_of bytes ≡ Ok (record { hw = d.hw; memory = d.frames })) }
-    ensures end { IsOk result → IsOver (S.remaining source.new) }
+    ensures end { IsOk result → IsUsedUp (S.remaining source.new) }
     ensures fault { (bytes : List ℕ) (f : DumpFault) → S.remaining source.old ≡ Some bytes → result ≡ Err (DumpStop.Fault f) → dump_of bytes ≡ Err f }
     ensures fits { IfOk result (λ d. Fits d.hw d.frames) }
     ensures no_region { IfOk result (λ d. d.hw.regions ≡ []) }
@@ -74,7 +74,7 @@ fn read_body<S: Source>(
     ensures fault { (bytes : List ℕ) (f : DumpFault) → IsReadTo bytes header.now.first (S.remaining source.old) → frames.old ≡ contents bytes header.now.first 0 (top header.now.hw.zones) → result ≡ Err (DumpStop.Fault f) → body_fault header.now.hw bytes header.now.first header.now.count ≡ Some f }
     ensures none { (bytes : List ℕ) → IsReadTo bytes header.now.first (S.remaining source.old) → frames.old ≡ contents bytes header.now.first 0 (top header.now.hw.zones) → IsOk result → body_fault header.now.hw bytes header.now.first header.now.count ≡ None }
     ensures frames { (bytes : List ℕ) → IsReadTo bytes header.now.first (S.remaining source.old) → frames.old ≡ contents bytes header.now.first 0 (top header.now.hw.zones) → IsOk result → frames.new ≡ contents bytes header.now.first header.now.count (top header.now.hw.zones) }
-    ensures end { IsOk result → IsOver (S.remaining source.new) }
+    ensures end { IsOk result → IsUsedUp (S.remaining source.new) }
     ensures fits { IsOk result → Fits header.now.hw frames.new }
     ensures counted { S.faults source.old ≤ S.faults source.new }
     ensures cause { result ≡ Err DumpStop.SourceFault → HasRisen (S.faults source.old) (S.faults source.new) }
@@ -93,7 +93,7 @@ fn read_body<S: Source>(
 
 /// Whether no byte is left. Takes one where there is one.
 fn is_over<S: Source>(source: &mut S) -> Result<bool, DumpStop>
-    ensures over { IfOk result (λ over. IsTrue over → IsOver (S.remaining source.new)) }
+    ensures over { IfOk result (λ over. IsTrue over → IsUsedUp (S.remaining source.new)) }
     ensures at { IfOk result (λ over. (bytes : List ℕ) (k : ℕ) → IsReadTo bytes k (S.remaining source.old) → over ≡ nat_le (length bytes) k) }
     ensures no_fault { (f : DumpFault) → result ≢ Err (DumpStop.Fault f) }
     ensures memory { result ≢ Err DumpStop.NoMemory }

@@ -2,7 +2,7 @@ ghost use Rattle.std.specs.Prelude.{◌≡◌, ℕ, ◌+◌, ◌*◌, ◌^◌, �
 ghost use Rattle.std.specs.List.{Contains};
 ghost use Rattle.definitions.specs.Bytes.{bytes_at, zero_page};
 ghost use Rattle.definitions.specs.Disk.{HasRisen};
-ghost use Rattle.definitions.specs.Streams.{HandsOut, IsOver};
+ghost use Rattle.definitions.specs.Streams.{HandsOut, IsUsedUp};
 ghost use Rattle.definitions.specs.Tables.{with_frame};
 ghost use Rattle.definitions.specs.Zones.{numbers, top};
 ghost use Rattle.dump_file.specs.Dump.{fault_of_record, is_above, records_fault};

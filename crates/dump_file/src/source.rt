@@ -1,6 +1,6 @@
 ghost use Rattle.std.specs.Prelude.{◌≡◌, ◌<◌, ◌≤◌, ℕ, List, Option, length, IfOk, OnErr};
 ghost use Rattle.definitions.specs.Disk.{HasRisen};
-ghost use Rattle.definitions.specs.Streams.{HandsOut, IsOver};
+ghost use Rattle.definitions.specs.Streams.{HandsOut, IsUsedUp};
 
 use page_core::Failed;
 
@@ -17,7 +17,7 @@ pub trait Source {
     fn read(&mut self, into: &mut [u8]) -> Result<usize, Failed>
         ensures count { IfOk result (λ k. k ≤ length into.old) }
         ensures bytes { IfOk result (λ k. HandsOut k into.new (remaining self.old) (remaining self.new)) }
-        ensures end { IfOk result (λ k. k ≡ 0 → 0 < length into.old → IsOver (remaining self.old)) }
+        ensures end { IfOk result (λ k. k ≡ 0 → 0 < length into.old → IsUsedUp (remaining self.old)) }
         ensures failed { OnErr result (remaining self.new ≡ remaining self.old) }
         ensures counted { faults self.old ≤ faults self.new }
         ensures cause { OnErr result (HasRisen (faults self.old) (faults self.new)) };

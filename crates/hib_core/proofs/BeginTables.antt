@@ -7,7 +7,7 @@ use Rattle.std.proofs.lemmas.List.Sums.{count_by-le-length, length-filter}
 use Rattle.definitions.specs.Lists.{saveable_frames, free_frames, free_slots}
 use Rattle.definitions.specs.NumberPages.{meta_of}
 use Rattle.definitions.specs.Slots.{runs_of}
-use Rattle.definitions.specs.Tables.{frame, entry_at, flags_of, is_saveable, HasTable}
+use Rattle.definitions.specs.Tables.{frame, entry_at, page_flags, is_saveable, HasTable}
 use Rattle.definitions.specs.Zones.{numbers, top, AreZones}
 use Rattle.definitions.proofs.FreeSlots.{free_slot}
 use Rattle.definitions.proofs.ZoneLists.{Contains-from_free_frames}
@@ -51,7 +51,7 @@ slot_table_lies h frames hw size = let some = hw.some_slots in table_lies h fram
 pub saveable_few : (h : Hardware) (frames : Memory) → AreZones h.zones → length (saveable h frames) ≤ 65536
 unfolding saveable_frames
 saveable_few h frames zones =
-    let test : ℕ → Bool = λ p. is_saveable (flags_of (entry_at frames h.frame_table p)) in
+    let test : ℕ → Bool = λ p. is_saveable (page_flags (entry_at frames h.frame_table p)) in
     let part = count_by-le-length test (numbers h.zones) in
     let size = length-filter test (numbers h.zones) in
     let count = count_at_most h.zones zones in

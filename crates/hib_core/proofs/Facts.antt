@@ -19,7 +19,7 @@ use Rattle.plain_machine.specs.declared.reply.Reply.{Reply}
 use Rattle.plain_machine.specs.declared.reply.UndoCall.{UndoCall}
 use Rattle.image_write.specs.Writing.{Writing}
 use Rattle.protocol_laws.specs.Rows as rows
-use Rattle.protocol_laws.specs.Steps.{IsOver}
+use Rattle.protocol_laws.specs.Steps.{IsOverDisk}
 use Rattle.machine.specs.declared.machine.Machine.{Machine}
 use Rattle.hib_core.specs.Hibernation.{activity_of}
 use Rattle.hib_core.specs.Ready.{CanStep}
@@ -63,7 +63,7 @@ content_after count count' blocks told c e kept same h = content_of count' block
 pub write_at : (R : ℕ → List ℕ → disk.Content → disk.Content → Type 0) (b b' : ℕ) (page page' : List ℕ) (c c' : disk.Content) → b ≡ b' → page ≡ page' → R b page c c' → R b' page' c c'
 write_at R b b' page page' c c' x y r = subst (λ (p : List ℕ). R b' p c c') y (subst (λ (n : ℕ). R n page c c') x r)
 
-pub is_over : (machine : Machine) (frames : Memory) (runs : SlotRuns) (hib : Hib) (c : disk.Content) (a : Running) (i : Image) → CanStep machine frames runs hib → disk.IsContent machine.blocks c → IsOf machine.hw frames hib a i → IsOver machine.hw i machine.blocks c
+pub is_over : (machine : Machine) (frames : Memory) (runs : SlotRuns) (hib : Hib) (c : disk.Content) (a : Running) (i : Image) → CanStep machine frames runs hib → disk.IsContent machine.blocks c → IsOf machine.hw frames hib a i → IsOverDisk machine.hw i machine.blocks c
 is_over machine frames runs hib c a i can whole of = record {
   hardware = can.hardware;
   info = of.sayable.info;

@@ -18,11 +18,11 @@ use Rattle.plain_machine.specs.declared.reply.Left.TheVariants.{Same, Gone, Unsu
 use Rattle.plain_machine.specs.declared.reply.UndoCall.{UndoCall}
 use Rattle.plain_machine.specs.declared.reply.UndoCall.TheVariants as undo
 
-pub refused_step : (h : Hardware) (v : disk.Image) (a : State) (e : Event) (r : Reply) → refusal h a e ≡ Some r → Step h v a e r a
+pub refused_step : (h : Hardware) (v : disk.DiskImage) (a : State) (e : Event) (r : Reply) → refusal h a e ≡ Some r → Step h v a e r a
 unfolding outcomes
 refused_step h v a e r why = subst (λ (o : Option Reply). Contains (refused_or a o (accepted h v a e)) (r, a)) (sym why) (0, omega arith, refl)
 
-pub accepted_step : (h : Hardware) (v : disk.Image) (a : State) (e : Event) (r : Reply) (b : State) → refusal h a e ≡ None → Contains (accepted h v a e) (r, b) → Step h v a e r b
+pub accepted_step : (h : Hardware) (v : disk.DiskImage) (a : State) (e : Event) (r : Reply) (b : State) → refusal h a e ≡ None → Contains (accepted h v a e) (r, b) → Step h v a e r b
 unfolding outcomes
 accepted_step h v a e r b none in' = subst (λ (o : Option Reply). Contains (refused_or a o (accepted h v a e)) (r, b)) (sym none) in'
 
@@ -36,7 +36,7 @@ undo_goes h i call a k = refl
 
 -- A step of a hibernation, by its place.
 
-by_step : (h : Hardware) (v : disk.Image) (suspends : Bool) (i : Image) (a : Running) (k : ℕ) (os : List Outcome) (r : Reply) (b : State) → hibernate_step suspends i a k ≡ os → Contains os (r, b) → Step h v (hibernating suspends i a k) (event.Step actor.Core) r b
+by_step : (h : Hardware) (v : disk.DiskImage) (suspends : Bool) (i : Image) (a : Running) (k : ℕ) (os : List Outcome) (r : Reply) (b : State) → hibernate_step suspends i a k ≡ os → Contains os (r, b) → Step h v (hibernating suspends i a k) (event.Step actor.Core) r b
 by_step h v suspends i a k os r b is in' =
     accepted_step h v (hibernating suspends i a k) (event.Step actor.Core) r b (hibernation_goes h suspends i a k) (subst (λ (xs : List Outcome). Contains xs (r, b)) (sym is) in')
 
@@ -117,49 +117,49 @@ end_step suspends i a k e =
 
 -- The rows.
 
-pub may_write : (h : Hardware) (v : disk.Image) (suspends : Bool) (i : Image) (a : Running) (k : ℕ) → k + 4 < hibernate_steps i → Step h v (hibernating suspends i a k) (event.Step actor.Core) (reply.More (k + 1) (hibernate_steps i)) (hibernating suspends i a (k + 1))
+pub may_write : (h : Hardware) (v : disk.DiskImage) (suspends : Bool) (i : Image) (a : Running) (k : ℕ) → k + 4 < hibernate_steps i → Step h v (hibernating suspends i a k) (event.Step actor.Core) (reply.More (k + 1) (hibernate_steps i)) (hibernating suspends i a (k + 1))
 may_write h v suspends i a k at = by_step h v suspends i a k (next_of suspends i a k ∷ (reply.WriteFault Same, on a) ∷ []) (reply.More (k + 1) (hibernate_steps i)) (hibernating suspends i a (k + 1)) (write_step suspends i a k at) (0, omega arith, refl)
 
-pub write_may_fail : (h : Hardware) (v : disk.Image) (suspends : Bool) (i : Image) (a : Running) (k : ℕ) → k + 4 < hibernate_steps i → Step h v (hibernating suspends i a k) (event.Step actor.Core) (reply.WriteFault Same) (on a)
+pub write_may_fail : (h : Hardware) (v : disk.DiskImage) (suspends : Bool) (i : Image) (a : Running) (k : ℕ) → k + 4 < hibernate_steps i → Step h v (hibernating suspends i a k) (event.Step actor.Core) (reply.WriteFault Same) (on a)
 write_may_fail h v suspends i a k at = by_step h v suspends i a k (next_of suspends i a k ∷ (reply.WriteFault Same, on a) ∷ []) (reply.WriteFault Same) (on a) (write_step suspends i a k at) (1, omega arith, refl)
 
-pub may_sync : (h : Hardware) (v : disk.Image) (suspends : Bool) (i : Image) (a : Running) (k : ℕ) → k + 4 ≡ hibernate_steps i → Step h v (hibernating suspends i a k) (event.Step actor.Core) (reply.More (k + 1) (hibernate_steps i)) (hibernating suspends i a (k + 1))
+pub may_sync : (h : Hardware) (v : disk.DiskImage) (suspends : Bool) (i : Image) (a : Running) (k : ℕ) → k + 4 ≡ hibernate_steps i → Step h v (hibernating suspends i a k) (event.Step actor.Core) (reply.More (k + 1) (hibernate_steps i)) (hibernating suspends i a (k + 1))
 may_sync h v suspends i a k at = by_step h v suspends i a k (next_of suspends i a k ∷ (reply.SyncFault Same, on a) ∷ []) (reply.More (k + 1) (hibernate_steps i)) (hibernating suspends i a (k + 1)) (sync_step suspends i a k at) (0, omega arith, refl)
 
-pub sync_may_fail : (h : Hardware) (v : disk.Image) (suspends : Bool) (i : Image) (a : Running) (k : ℕ) → k + 4 ≡ hibernate_steps i → Step h v (hibernating suspends i a k) (event.Step actor.Core) (reply.SyncFault Same) (on a)
+pub sync_may_fail : (h : Hardware) (v : disk.DiskImage) (suspends : Bool) (i : Image) (a : Running) (k : ℕ) → k + 4 ≡ hibernate_steps i → Step h v (hibernating suspends i a k) (event.Step actor.Core) (reply.SyncFault Same) (on a)
 sync_may_fail h v suspends i a k at = by_step h v suspends i a k (next_of suspends i a k ∷ (reply.SyncFault Same, on a) ∷ []) (reply.SyncFault Same) (on a) (sync_step suspends i a k at) (1, omega arith, refl)
 
-pub may_read : (h : Hardware) (v : disk.Image) (suspends : Bool) (i : Image) (a : Running) (k : ℕ) → k + 3 ≡ hibernate_steps i → Step h v (hibernating suspends i a k) (event.Step actor.Core) (reply.More (k + 1) (hibernate_steps i)) (hibernating suspends i a (k + 1))
+pub may_read : (h : Hardware) (v : disk.DiskImage) (suspends : Bool) (i : Image) (a : Running) (k : ℕ) → k + 3 ≡ hibernate_steps i → Step h v (hibernating suspends i a k) (event.Step actor.Core) (reply.More (k + 1) (hibernate_steps i)) (hibernating suspends i a (k + 1))
 may_read h v suspends i a k at = by_step h v suspends i a k (next_of suspends i a k ∷ (reply.ReadFault Same, on a) ∷ []) (reply.More (k + 1) (hibernate_steps i)) (hibernating suspends i a (k + 1)) (read_step suspends i a k at) (0, omega arith, refl)
 
-pub read_may_fail : (h : Hardware) (v : disk.Image) (suspends : Bool) (i : Image) (a : Running) (k : ℕ) → k + 3 ≡ hibernate_steps i → Step h v (hibernating suspends i a k) (event.Step actor.Core) (reply.ReadFault Same) (on a)
+pub read_may_fail : (h : Hardware) (v : disk.DiskImage) (suspends : Bool) (i : Image) (a : Running) (k : ℕ) → k + 3 ≡ hibernate_steps i → Step h v (hibernating suspends i a k) (event.Step actor.Core) (reply.ReadFault Same) (on a)
 read_may_fail h v suspends i a k at = by_step h v suspends i a k (next_of suspends i a k ∷ (reply.ReadFault Same, on a) ∷ []) (reply.ReadFault Same) (on a) (read_step suspends i a k at) (1, omega arith, refl)
 
-pub may_mark : (h : Hardware) (v : disk.Image) (suspends : Bool) (i : Image) (a : Running) (k : ℕ) → k + 2 ≡ hibernate_steps i → Step h v (hibernating suspends i a k) (event.Step actor.Core) (reply.More (k + 1) (hibernate_steps i)) (hibernating suspends i a (k + 1))
+pub may_mark : (h : Hardware) (v : disk.DiskImage) (suspends : Bool) (i : Image) (a : Running) (k : ℕ) → k + 2 ≡ hibernate_steps i → Step h v (hibernating suspends i a k) (event.Step actor.Core) (reply.More (k + 1) (hibernate_steps i)) (hibernating suspends i a (k + 1))
 may_mark h v suspends i a k at = by_step h v suspends i a k (next_of suspends i a k ∷ (reply.Undo undo.Write 0, undoing i undo.Write a 0) ∷ []) (reply.More (k + 1) (hibernate_steps i)) (hibernating suspends i a (k + 1)) (mark_step suspends i a k at) (0, omega arith, refl)
 
-pub mark_may_fail : (h : Hardware) (v : disk.Image) (suspends : Bool) (i : Image) (a : Running) (k : ℕ) → k + 2 ≡ hibernate_steps i → Step h v (hibernating suspends i a k) (event.Step actor.Core) (reply.Undo undo.Write 0) (undoing i undo.Write a 0)
+pub mark_may_fail : (h : Hardware) (v : disk.DiskImage) (suspends : Bool) (i : Image) (a : Running) (k : ℕ) → k + 2 ≡ hibernate_steps i → Step h v (hibernating suspends i a k) (event.Step actor.Core) (reply.Undo undo.Write 0) (undoing i undo.Write a 0)
 mark_may_fail h v suspends i a k at = by_step h v suspends i a k (next_of suspends i a k ∷ (reply.Undo undo.Write 0, undoing i undo.Write a 0) ∷ []) (reply.Undo undo.Write 0) (undoing i undo.Write a 0) (mark_step suspends i a k at) (1, omega arith, refl)
 
-pub may_end : (h : Hardware) (v : disk.Image) (i : Image) (a : Running) (k : ℕ) → k + 1 ≡ hibernate_steps i → Step h v (hibernating false i a k) (event.Step actor.Core) (reply.Hibernated (n_of i)) (off (sure (own i)) None)
+pub may_end : (h : Hardware) (v : disk.DiskImage) (i : Image) (a : Running) (k : ℕ) → k + 1 ≡ hibernate_steps i → Step h v (hibernating false i a k) (event.Step actor.Core) (reply.Hibernated (n_of i)) (off (sure (own i)) None)
 may_end h v i a k at = by_step h v false i a k (hibernated false i a ∷ (reply.Undo undo.Sync 0, undoing i undo.Sync a 0) ∷ []) (reply.Hibernated (n_of i)) (off (sure (own i)) None) (end_step false i a k at) (0, omega arith, refl)
 
-pub may_sleep : (h : Hardware) (v : disk.Image) (i : Image) (a : Running) (k : ℕ) → k + 1 ≡ hibernate_steps i → Step h v (hibernating true i a k) (event.Step actor.Core) (reply.Asleep (n_of i)) (asleep i (sure (own i)) a)
+pub may_sleep : (h : Hardware) (v : disk.DiskImage) (i : Image) (a : Running) (k : ℕ) → k + 1 ≡ hibernate_steps i → Step h v (hibernating true i a k) (event.Step actor.Core) (reply.Asleep (n_of i)) (asleep i (sure (own i)) a)
 may_sleep h v i a k at = by_step h v true i a k (hibernated true i a ∷ (reply.Undo undo.Sync 0, undoing i undo.Sync a 0) ∷ []) (reply.Asleep (n_of i)) (asleep i (sure (own i)) a) (end_step true i a k at) (0, omega arith, refl)
 
-pub end_may_fail : (h : Hardware) (v : disk.Image) (suspends : Bool) (i : Image) (a : Running) (k : ℕ) → k + 1 ≡ hibernate_steps i → Step h v (hibernating suspends i a k) (event.Step actor.Core) (reply.Undo undo.Sync 0) (undoing i undo.Sync a 0)
+pub end_may_fail : (h : Hardware) (v : disk.DiskImage) (suspends : Bool) (i : Image) (a : Running) (k : ℕ) → k + 1 ≡ hibernate_steps i → Step h v (hibernating suspends i a k) (event.Step actor.Core) (reply.Undo undo.Sync 0) (undoing i undo.Sync a 0)
 end_may_fail h v suspends i a k at = by_step h v suspends i a k (hibernated suspends i a ∷ (reply.Undo undo.Sync 0, undoing i undo.Sync a 0) ∷ []) (reply.Undo undo.Sync 0) (undoing i undo.Sync a 0) (end_step suspends i a k at) (1, omega arith, refl)
 
-pub may_take_back : (h : Hardware) (v : disk.Image) (i : Image) (call : UndoCall) (a : Running) → Step h v (undoing i call a 0) (event.Step actor.Core) (reply.Undo call 1) (undoing i call a 1)
+pub may_take_back : (h : Hardware) (v : disk.DiskImage) (i : Image) (call : UndoCall) (a : Running) → Step h v (undoing i call a 0) (event.Step actor.Core) (reply.Undo call 1) (undoing i call a 1)
 may_take_back h v i call a = accepted_step h v (undoing i call a 0) (event.Step actor.Core) (reply.Undo call 1) (undoing i call a 1) (undo_goes h i call a 0) (0, omega arith, refl)
 
-pub take_back_may_fail : (h : Hardware) (v : disk.Image) (i : Image) (call : UndoCall) (a : Running) → Step h v (undoing i call a 0) (event.Step actor.Core) (undone_fault call Unsure) (on (record a { held = maybe (own i) }))
+pub take_back_may_fail : (h : Hardware) (v : disk.DiskImage) (i : Image) (call : UndoCall) (a : Running) → Step h v (undoing i call a 0) (event.Step actor.Core) (undone_fault call Unsure) (on (record a { held = maybe (own i) }))
 take_back_may_fail h v i call a = accepted_step h v (undoing i call a 0) (event.Step actor.Core) (undone_fault call Unsure) (on (record a { held = maybe (own i) })) (undo_goes h i call a 0) (1, omega arith, refl)
 
-pub may_end_undo : (h : Hardware) (v : disk.Image) (i : Image) (call : UndoCall) (a : Running) → Step h v (undoing i call a 1) (event.Step actor.Core) (undone_fault call Gone) (on (record a { held = nothing }))
+pub may_end_undo : (h : Hardware) (v : disk.DiskImage) (i : Image) (call : UndoCall) (a : Running) → Step h v (undoing i call a 1) (event.Step actor.Core) (undone_fault call Gone) (on (record a { held = nothing }))
 may_end_undo h v i call a = accepted_step h v (undoing i call a 1) (event.Step actor.Core) (undone_fault call Gone) (on (record a { held = nothing })) (undo_goes h i call a 1) (0, omega arith, refl)
 
-pub end_undo_may_fail : (h : Hardware) (v : disk.Image) (i : Image) (call : UndoCall) (a : Running) → Step h v (undoing i call a 1) (event.Step actor.Core) (undone_fault call Unsure) (on (record a { held = maybe (own i) }))
+pub end_undo_may_fail : (h : Hardware) (v : disk.DiskImage) (i : Image) (call : UndoCall) (a : Running) → Step h v (undoing i call a 1) (event.Step actor.Core) (undone_fault call Unsure) (on (record a { held = maybe (own i) }))
 end_undo_may_fail h v i call a = accepted_step h v (undoing i call a 1) (event.Step actor.Core) (undone_fault call Unsure) (on (record a { held = maybe (own i) })) (undo_goes h i call a 1) (1, omega arith, refl)
 
 -- Settling.
@@ -168,20 +168,20 @@ settle_goes : (h : Hardware) (a : Running) (k : ℕ) → refusal h (settling a k
 unfolding refusal
 settle_goes h a k = refl
 
-pub may_settle_read : (h : Hardware) (v : disk.Image) (a : Running) → Step h v (settling a 0) (event.Step actor.Core) (reply.More 1 3) (settling a 1)
+pub may_settle_read : (h : Hardware) (v : disk.DiskImage) (a : Running) → Step h v (settling a 0) (event.Step actor.Core) (reply.More 1 3) (settling a 1)
 may_settle_read h v a = accepted_step h v (settling a 0) (event.Step actor.Core) (reply.More 1 3) (settling a 1) (settle_goes h a 0) (0, omega arith, refl)
 
-pub settle_read_may_fail : (h : Hardware) (v : disk.Image) (a : Running) → Step h v (settling a 0) (event.Step actor.Core) (reply.ReadFault Same) (on a)
+pub settle_read_may_fail : (h : Hardware) (v : disk.DiskImage) (a : Running) → Step h v (settling a 0) (event.Step actor.Core) (reply.ReadFault Same) (on a)
 settle_read_may_fail h v a = accepted_step h v (settling a 0) (event.Step actor.Core) (reply.ReadFault Same) (on a) (settle_goes h a 0) (1, omega arith, refl)
 
-pub may_settle_write : (h : Hardware) (v : disk.Image) (a : Running) → Step h v (settling a 1) (event.Step actor.Core) (reply.More 2 3) (settling a 2)
+pub may_settle_write : (h : Hardware) (v : disk.DiskImage) (a : Running) → Step h v (settling a 1) (event.Step actor.Core) (reply.More 2 3) (settling a 2)
 may_settle_write h v a = accepted_step h v (settling a 1) (event.Step actor.Core) (reply.More 2 3) (settling a 2) (settle_goes h a 1) (0, omega arith, refl)
 
-pub settle_write_may_fail : (h : Hardware) (v : disk.Image) (a : Running) → Step h v (settling a 1) (event.Step actor.Core) (reply.WriteFault Unsure) (on (record a { held = perhaps a.held }))
+pub settle_write_may_fail : (h : Hardware) (v : disk.DiskImage) (a : Running) → Step h v (settling a 1) (event.Step actor.Core) (reply.WriteFault Unsure) (on (record a { held = perhaps a.held }))
 settle_write_may_fail h v a = accepted_step h v (settling a 1) (event.Step actor.Core) (reply.WriteFault Unsure) (on (record a { held = perhaps a.held })) (settle_goes h a 1) (1, omega arith, refl)
 
-pub may_settle : (h : Hardware) (v : disk.Image) (a : Running) → Step h v (settling a 2) (event.Step actor.Core) reply.Settled (on (record a { held = nothing }))
+pub may_settle : (h : Hardware) (v : disk.DiskImage) (a : Running) → Step h v (settling a 2) (event.Step actor.Core) reply.Settled (on (record a { held = nothing }))
 may_settle h v a = accepted_step h v (settling a 2) (event.Step actor.Core) reply.Settled (on (record a { held = nothing })) (settle_goes h a 2) (0, omega arith, refl)
 
-pub settle_sync_may_fail : (h : Hardware) (v : disk.Image) (a : Running) → Step h v (settling a 2) (event.Step actor.Core) (reply.SyncFault Unsure) (on (record a { held = perhaps a.held }))
+pub settle_sync_may_fail : (h : Hardware) (v : disk.DiskImage) (a : Running) → Step h v (settling a 2) (event.Step actor.Core) (reply.SyncFault Unsure) (on (record a { held = perhaps a.held }))
 settle_sync_may_fail h v a = accepted_step h v (settling a 2) (event.Step actor.Core) (reply.SyncFault Unsure) (on (record a { held = perhaps a.held })) (settle_goes h a 2) (1, omega arith, refl)

@@ -8,7 +8,7 @@ use Rattle.snapshot.specs.Taken.{set_over}
 use Rattle.definitions.specs.declared.info.Info.{Info}
 use Rattle.plain_machine.specs.Machine.{Hardware, Memory}
 use Rattle.image_write.specs.Answers.{GoesOn, Succeeds}
-use Rattle.image_write.specs.Writing.{Writing, IsWriting, IsSameImage, BlocksBelow, AreOfImage, IsReading, writes_of}
+use Rattle.image_write.specs.Writing.{Writing, IsWriting, IsSameImage, BlocksBelow, AreOfImage, HasReadCopies, writes_of}
 use Rattle.image_write.specs.declared.write_step.WriteStep.{WriteStep}
 use Rattle.image_write.specs.declared.write_step.WriteStep.TheVariants as answer
 use Rattle.swap_slots.specs.Runs.{SlotRuns}
@@ -40,7 +40,7 @@ writer_is h blocks frames hib w can has = same_writer can.writer w (sym can.has 
 
 -- After a write that isn't the last one it can make the next.
 pub can_write_on : (h : Hardware) (blocks : ℕ) (frames frames' : Memory) (hib : Hib) (w w' : Writing) → CanWrite h blocks frames hib → hib.writer ≡ Some w → IsSameImage w w' → w'.written ≡ w.written + 1 → ((free : List ℕ) → IsWriting free frames w → IsWriting free frames' w') →
-    IsReading hib.snapshot.origs hib.snapshot.copies hib.snapshot.zeros w' → length frames' ≡ length frames → CanWrite h blocks frames' (record hib { made = hib.made + 1; writer = Some w' }) × (hib.made + 5 < hib.of)
+    HasReadCopies hib.snapshot.origs hib.snapshot.copies hib.snapshot.zeros w' → length frames' ≡ length frames → CanWrite h blocks frames' (record hib { made = hib.made + 1; writer = Some w' }) × (hib.made + 5 < hib.of)
 can_write_on h blocks frames frames' hib w w' can has same made writing reading size =
     let at : can.writer ≡ w = writer_is h blocks frames hib w can has in
     let now : IsWriting can.ready.0 frames' w' = writing can.ready.0 (subst (λ (x : Writing). IsWriting can.ready.0 frames x) at can.ready.1) in

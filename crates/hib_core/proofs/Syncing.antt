@@ -37,7 +37,7 @@ use Rattle.protocol_laws.proofs.Syncing.{syncs_on, reads_on, reads_area, call_fa
 use Rattle.protocol_laws.proofs.Taking.{none_left, runs_given_back}
 use Rattle.hib_core.proofs.Plain.{may_sync, sync_may_fail, may_read, read_may_fail}
 
-pub same_area : (h : Hardware) (v : disk.Image) → IsSameArea h v v
+pub same_area : (h : Hardware) (v : disk.DiskImage) → IsSameArea h v v
 same_area h v = record { blocks = refl; header = record { front = refl; signature = refl } }
 
 abbrev pub gone_on : Hib → Stage → Hib
@@ -49,7 +49,7 @@ idle hib = record hib { stage = stage.Idle }
 pub place_at : (hib : Hib) (s : Stage) → hib.stage ≡ s → IsPlace hib.stage hib.made hib.of → IsPlace s hib.made hib.of
 place_at hib s e p = subst (λ (t : Stage). IsPlace t hib.made hib.of) e p
 
-pub more_of : (h : Hardware) (v : disk.Image) (suspends : Bool) (i : Image) (a : Running) (k of : ℕ) → of ≡ hibernate_steps i → Step h v (hibernating suspends i a k) (event.Step actor.Core) (reply.More (k + 1) (hibernate_steps i)) (hibernating suspends i a (k + 1)) →
+pub more_of : (h : Hardware) (v : disk.DiskImage) (suspends : Bool) (i : Image) (a : Running) (k of : ℕ) → of ≡ hibernate_steps i → Step h v (hibernating suspends i a k) (event.Step actor.Core) (reply.More (k + 1) (hibernate_steps i)) (hibernating suspends i a (k + 1)) →
     Step h v (hibernating suspends i a k) (event.Step actor.Core) (reply.More (k + 1) of) (hibernating suspends i a (k + 1))
 more_of h v suspends i a k of steps step = subst (λ (n : ℕ). Step h v (hibernating suspends i a k) (event.Step actor.Core) (reply.More (k + 1) n) (hibernating suspends i a (k + 1))) (sym steps) step
 

@@ -10,7 +10,7 @@ use Rattle.definitions.specs.declared.info.Info.{Info}
 use Rattle.snapshot.specs.Taken.{zero_frames}
 use Rattle.snapshot.specs.declared.Counts.{Counts}
 use Rattle.swap_slots.specs.Table.{free_in}
-use Rattle.image_write.specs.Writing.{Writing, IsWriting, IsReading}
+use Rattle.image_write.specs.Writing.{Writing, IsWriting, HasReadCopies}
 use Rattle.plain_machine.specs.Image.{maps_of}
 use Rattle.plain_machine.specs.Machine.{Hardware, Memory, saveable, unused, valid_count, image_slot}
 use Rattle.plain_machine.specs.Refusals.{refusal}
@@ -81,7 +81,7 @@ pub record IsTaken (machine : Machine) (frames frames' : Memory) (hib hib' : Hib
   pub table : writer.table ≡ slot_table_of machine.hw
   pub written : writer.written ≡ 0
   pub writing : IsWriting (free_in copied (slot_table_of machine.hw)) frames' writer
-  pub reading : (origs copies zeros : List ℕ) → IsReading origs copies zeros writer
+  pub reading : (origs copies zeros : List ℕ) → HasReadCopies origs copies zeros writer
   pub slots : frames' ≡ with_entries copied machine.hw.slot_table (take 1 (free_in copied (slot_table_of machine.hw))) image_slot
   pub n : hib'.n ≡ counts.n
   pub made : hib'.made ≡ 0

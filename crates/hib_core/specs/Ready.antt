@@ -5,7 +5,7 @@ use Rattle.swap_slots.specs.Runs.{SlotRuns}
 use Rattle.swap_slots.specs.Table.{LiesIn, Matches}
 use Rattle.plain_machine.specs.Machine.{Hardware, Memory, IsHardware, block_of_slot}
 use Rattle.plain_machine.specs.declared.held.Held.TheVariants.{No}
-use Rattle.image_write.specs.Writing.{Writing, IsReady, AreOfImage, IsReading, writes_of}
+use Rattle.image_write.specs.Writing.{Writing, IsReady, AreOfImage, HasReadCopies, writes_of}
 use Rattle.protocol_laws.specs.Writers.{slot_table_of}
 use Rattle.machine.specs.Running.{CanRun}
 use Rattle.machine.specs.declared.machine.Machine.{Machine}
@@ -42,7 +42,7 @@ pub record CanWrite (h : Hardware) (blocks : ℕ) (frames : Memory) (hib : Hib) 
   pub ready : IsReady blocks frames writer
   pub sets : AreOfImage writer.info hib.snapshot.origs hib.snapshot.copies hib.snapshot.zeros
   pub copies : All (λ p. p < length frames) hib.snapshot.copies
-  pub reading : IsReading hib.snapshot.origs hib.snapshot.copies hib.snapshot.zeros writer
+  pub reading : HasReadCopies hib.snapshot.origs hib.snapshot.copies hib.snapshot.zeros writer
 
 -- The machine is one, with a disk of so many blocks. Memory has its page frames, the runs are those of its slot table, and the header block is one of the disk's.
 pub record CanStep (machine : Machine) (frames : Memory) (runs : SlotRuns) (hib : Hib) : Type 0 where

@@ -15,7 +15,7 @@ use Rattle.definitions.specs.InfoPage.{info_of, info_page}
 use Rattle.definitions.specs.NumberPages.{meta_of, number_page, number_pages, marked_numbers, number_of_word, zero_bit}
 use Rattle.definitions.specs.SwapHeader.{flags_of}
 use Rattle.definitions.specs.Lists.{saveable_frames}
-use Rattle.definitions.specs.Tables.{frame, entry_at, flags_of as flags_in, is_saveable}
+use Rattle.definitions.specs.Tables.{frame, entry_at, page_flags as flags_in, is_saveable}
 use Rattle.definitions.specs.Zones.{numbers, AreZones}
 use Rattle.definitions.specs.declared.info.Info.{Info}
 use Rattle.definitions.proofs.InfoPages.{info_of-info_page}
@@ -47,11 +47,11 @@ pub ok_is : {A E : Type 0} (o : Option E) (x y : A) → ok_unless o x ≡ Ok y �
 ok_is None x y e = cc
 ok_is (Some fault) x y e = absurd (cc)
 
-chain_is : (h : Hardware) (v : disk.Image) (b p : ℕ) (blocks : List ℕ) → chain h v b p ≡ Ok blocks → map (entry_block v b) (range_with_len 0 p) ≡ blocks
+chain_is : (h : Hardware) (v : disk.DiskImage) (b p : ℕ) (blocks : List ℕ) → chain h v b p ≡ Ok blocks → map (entry_block v b) (range_with_len 0 p) ≡ blocks
 unfolding chain
 chain_is h v b p blocks e = ok_is _ (map (entry_block v b) (range_with_len 0 p)) blocks e
 
-pub stream_page_is : (h : Hardware) (v : disk.Image) (i : Image) (k : ℕ) → Holds h v i → k < pages_of i → stream_page h v k ≡ get_or (stream_of i) k []
+pub stream_page_is : (h : Hardware) (v : disk.DiskImage) (i : Image) (k : ℕ) → Holds h v i → k < pages_of i → stream_page h v k ≡ get_or (stream_of i) k []
 stream_page_is h v i k holds lt =
     let b = first_map h v in
     let blocks = holds.whole.0 in
@@ -77,7 +77,7 @@ says_info h v i holds say =
     ap info_of (stream_page_is h v i 0 holds (omega arith) ∙ stream_info (info_of_image i) (marked_numbers (numbers_of i) (without_data i)) (map page_of (with_data i)))
     ∙ info_of-info_page (info_of_image i) say.info
 
-pub meta_is : (h : Hardware) (v : disk.Image) (i : Image) → Holds h v i → IsSayable i → meta_in h v ≡ meta_of (n_of i)
+pub meta_is : (h : Hardware) (v : disk.DiskImage) (i : Image) → Holds h v i → IsSayable i → meta_in h v ≡ meta_of (n_of i)
 meta_is h v i holds say = ap (λ (info : Info). meta_of info.image_pages) (says_info h v i holds say)
 
 -- the numbers of the stream
@@ -108,7 +108,7 @@ told_fit i j say lt =
 pub length-told : (i : Image) → IsSayable i → length (told i) ≡ n_of i
 length-told i say = (are_all_told i say).size ∙ length-map i.frames number_of
 
-pub word_is : (h : Hardware) (v : disk.Image) (i : Image) (j : ℕ) → Holds h v i → IsSayable i → j < n_of i → number_word h v j ≡ get_or (told i) j 0
+pub word_is : (h : Hardware) (v : disk.DiskImage) (i : Image) (j : ℕ) → Holds h v i → IsSayable i → j < n_of i → number_word h v j ≡ get_or (told i) j 0
 word_is h v i j holds say lt =
     let size = length-told i say in
     let within : j / 512 < length (number_pages (told i)) = omega (arith, length-map-range_with_len (number_page (told i)) 0 (meta_of (length (told i))), ap meta_of size) in
@@ -119,7 +119,7 @@ word_is h v i j holds say lt =
     ∙ get_or_append_left (number_pages (told i)) (map page_of (with_data i)) [] (j / 512) within)
     ∙ (have_words (told i) (λ k lt_k. told_fit i k say lt_k)).each j (omega arith)
 
-pub words_are : (h : Hardware) (v : disk.Image) (i : Image) → Holds h v i → IsSayable i → words_in h v ≡ told i
+pub words_are : (h : Hardware) (v : disk.DiskImage) (i : Image) → Holds h v i → IsSayable i → words_in h v ≡ told i
 words_are h v i holds say =
     let count : (info_in h v).image_pages ≡ n_of i = ap (λ (info : Info). info.image_pages) (says_info h v i holds say) in
     let n = (info_in h v).image_pages in
@@ -140,7 +140,7 @@ format_by flags Plain iff =
 format_by flags SkipZeros iff =
     cond-true (not (eqb (bit_and flags 256) 0)) SkipZeros Plain (ap not (ne_eqb (bit_and flags 256) 0 (iff.1 refl)))
 
-pub format_is : (h : Hardware) (v : disk.Image) (i : Image) → Holds h v i → format_in h v ≡ i.format
+pub format_is : (h : Hardware) (v : disk.DiskImage) (i : Image) → Holds h v i → format_in h v ≡ i.format
 format_is h v i holds = format_by (flags_of (header_of h v)) i.format holds.format
 
 -- Which saved pages have no data page.
@@ -216,7 +216,7 @@ is_skipped i s true say there e = by_any (list_any (λ q. eqb q s.0) (without_da
 -- The saved pages, from the numbers and the data pages on.
 
 -- one after another, the data pages from page k of the stream on are those of these saved pages
-abbrev Reads : Hardware → disk.Image → ℕ → List Saved → Type 0
+abbrev Reads : Hardware → disk.DiskImage → ℕ → List Saved → Type 0
 Reads h v k saved = (d : ℕ) → d < length saved → stream_page h v (k + d) ≡ (get_or saved d none_saved).1
 
 pub zeros_of : (f : Format) (s : Saved) → has_data f s ≡ false → (f ≡ SkipZeros) × (s.1 ≡ zero_page)
@@ -234,16 +234,16 @@ number_by-small : (f : Format) (p : ℕ) → p < zero_bit → number_by f p ≡ 
 number_by-small Plain p lt = refl
 number_by-small SkipZeros p lt = taken_off false p lt
 
-abbrev entry : Hardware → disk.Image → Format → ℕ → ℕ → List ℕ → List Saved
+abbrev entry : Hardware → disk.DiskImage → Format → ℕ → ℕ → List ℕ → List Saved
 entry h v f k w words = cond (is_marked_by f w) ((number_by f w, zero_page) ∷ saved_from h v k words) ((number_by f w, stream_page h v k) ∷ saved_from h v (k + 1) words)
 
-with_page : (h : Hardware) (v : disk.Image) (f : Format) (k w : ℕ) (words : List ℕ) (s : Saved) → w ≡ s.0 → s.0 < zero_bit → stream_page h v k ≡ s.1 → entry h v f k w words ≡ s ∷ saved_from h v (k + 1) words
+with_page : (h : Hardware) (v : disk.DiskImage) (f : Format) (k w : ℕ) (words : List ℕ) (s : Saved) → w ≡ s.0 → s.0 < zero_bit → stream_page h v k ≡ s.1 → entry h v f k w words ≡ s ∷ saved_from h v (k + 1) words
 with_page h v f k w words s e lt page =
     ap (λ (x : ℕ). entry h v f k x words) e
     ∙ cond-false (is_marked_by f s.0) ((number_by f s.0, zero_page) ∷ saved_from h v k words) ((number_by f s.0, stream_page h v k) ∷ saved_from h v (k + 1) words) (not_marked f s.0 lt)
     ∙ ap₂ (λ (n : ℕ) (x : List ℕ). (n, x) ∷ saved_from h v (k + 1) words) (number_by-small f s.0 lt) page
 
-without_page : (h : Hardware) (v : disk.Image) (f : Format) (k w : ℕ) (words : List ℕ) (s : Saved) → w ≡ s.0 + zero_bit → s.0 < zero_bit → f ≡ SkipZeros → s.1 ≡ zero_page → entry h v f k w words ≡ s ∷ saved_from h v k words
+without_page : (h : Hardware) (v : disk.DiskImage) (f : Format) (k w : ℕ) (words : List ℕ) (s : Saved) → w ≡ s.0 + zero_bit → s.0 < zero_bit → f ≡ SkipZeros → s.1 ≡ zero_page → entry h v f k w words ≡ s ∷ saved_from h v k words
 without_page h v f k w words s e lt skip zeros =
     let p = s.0 in
     ap (λ (g : Format). entry h v g k w words) skip
@@ -265,7 +265,7 @@ to_come_behind f zeros s rest come = record {
   marks = λ t there b e. come.marks t (behind s rest t there) b e;
 }
 
-saved_step : (h : Hardware) (v : disk.Image) (f : Format) (zeros : List ℕ) (k : ℕ) (s : Saved) (rest : List Saved) (b : Bool) → has_data f s ≡ b → s.0 < zero_bit → list_any (λ q. eqb q s.0) zeros ≡ not b →
+saved_step : (h : Hardware) (v : disk.DiskImage) (f : Format) (zeros : List ℕ) (k : ℕ) (s : Saved) (rest : List Saved) (b : Bool) → has_data f s ≡ b → s.0 < zero_bit → list_any (λ q. eqb q s.0) zeros ≡ not b →
     ((j : ℕ) → Reads h v j (filter (has_data f) rest) → saved_from h v j (marks_of zeros rest) ≡ rest) →
     Reads h v k (cond b (s ∷ filter (has_data f) rest) (filter (has_data f) rest)) → entry h v f k (marked_number zeros s.0) (marks_of zeros rest) ≡ s ∷ rest
 saved_step h v f zeros k s rest true has lt mark ih reads =
@@ -281,7 +281,7 @@ saved_step h v f zeros k s rest false has lt mark ih reads =
     without_page h v f k (marked_number zeros s.0) (marks_of zeros rest) s same lt zero_like.0 zero_like.1
     ∙ ap (λ (xs : List Saved). s ∷ xs) (ih k reads)
 
-saved_is : (h : Hardware) (v : disk.Image) (f : Format) (zeros : List ℕ) (rest : List Saved) (k : ℕ) → format_in h v ≡ f → AreToCome f zeros rest → Reads h v k (filter (has_data f) rest) → saved_from h v k (marks_of zeros rest) ≡ rest
+saved_is : (h : Hardware) (v : disk.DiskImage) (f : Format) (zeros : List ℕ) (rest : List Saved) (k : ℕ) → format_in h v ≡ f → AreToCome f zeros rest → Reads h v k (filter (has_data f) rest) → saved_from h v k (marks_of zeros rest) ≡ rest
 saved_is h v f zeros [] k format come reads = refl
 saved_is h v f zeros (s ∷ rest) k format come reads =
     ap (λ (g : Format). entry h v g k (marked_number zeros s.0) (marks_of zeros rest)) format
@@ -290,7 +290,7 @@ saved_is h v f zeros (s ∷ rest) k format come reads =
 
 -- The data pages.
 
-data_page_at : (h : Hardware) (v : disk.Image) (i : Image) (k : ℕ) → Holds h v i → IsSayable i → k < d_of i → stream_page h v (1 + meta_of (n_of i) + k) ≡ (get_or (with_data i) k none_saved).1
+data_page_at : (h : Hardware) (v : disk.DiskImage) (i : Image) (k : ℕ) → Holds h v i → IsSayable i → k < d_of i → stream_page h v (1 + meta_of (n_of i) + k) ≡ (get_or (with_data i) k none_saved).1
 data_page_at h v i k holds say lt =
     let meta = meta_of (n_of i) in
     let pages = number_pages (told i) in

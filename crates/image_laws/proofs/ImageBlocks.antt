@@ -10,7 +10,7 @@ use Rattle.std.proofs.lemmas.List.Folds.{concat-append}
 use Rattle.std.proofs.lemmas.List.FromFn.{length-map-range_with_len, get_or-map-range_with_len, map-range_with_len_more}
 use Rattle.definitions.specs.Bytes.{IsPage, AgreeBut}
 use Rattle.definitions.specs.SwapHeader.{marked, taken_back, orig_sig_of}
-use Rattle.definitions.specs.Disk.{Content, Image, Sector, no_sector, IsContent, IsImage, as_it_reads, block, sector, sector_bytes, SameOutside, TakesBytes, Writes, FailsToWrite}
+use Rattle.definitions.specs.Disk.{Content, DiskImage, Sector, no_sector, IsContent, IsImage, as_it_reads, block, sector, sector_bytes, SameOutside, TakesBytes, Writes, FailsToWrite}
 use Rattle.definitions.proofs.DiskLaws.{length-as_it_reads, IsImage-as_it_reads, IsImage-after_sync, IsImage-after_restart}
 use Rattle.definitions.proofs.Marks.{get_or-marked_before, length-marked, length-bytes_at}
 use Rattle.definitions.proofs.PageBytes.{bytes_at-same, length-with_bytes, get_or-with_bytes_below}
@@ -29,7 +29,7 @@ part_of_concat n (xs ∷ xss) (suc j) each lt =
     ∙ part_of_concat n xss j (λ k d below. each (suc k) d (omega arith)) (omega arith))
 
 -- a sector of 512 bytes is its part of the block
-pub sector_of_block : (v : Image) (b j : ℕ) → 8 * b + 8 ≤ length v → ((i : ℕ) → i < 8 → length (get_or v (8 * b + i) []) ≡ 512) → j < 8 → sector_bytes (block v b) j ≡ get_or v (8 * b + j) []
+pub sector_of_block : (v : DiskImage) (b j : ℕ) → 8 * b + 8 ≤ length v → ((i : ℕ) → i < 8 → length (get_or v (8 * b + i) []) ≡ 512) → j < 8 → sector_bytes (block v b) j ≡ get_or v (8 * b + j) []
 unfolding block
 sector_of_block v b j within each few =
     let part = take 8 (drop (8 * b) v) in
@@ -52,7 +52,7 @@ pieces page (suc n) =
     ∙ ap (λ (k : ℕ). take k page) bytes
 
 -- a block whose sectors are a page's is that page
-pub block_of_sectors : (v : Image) (b : ℕ) (page : List ℕ) → IsPage page → 8 * b + 8 ≤ length v → ((j : ℕ) → j < 8 → get_or v (8 * b + j) [] ≡ sector_bytes page j) → block v b ≡ page
+pub block_of_sectors : (v : DiskImage) (b : ℕ) (page : List ℕ) → IsPage page → 8 * b + 8 ≤ length v → ((j : ℕ) → j < 8 → get_or v (8 * b + j) [] ≡ sector_bytes page j) → block v b ≡ page
 unfolding block
 block_of_sectors v b page whole within each =
     let part = take 8 (drop (8 * b) v) in
@@ -67,12 +67,12 @@ block_of_sectors v b page whole within each =
 
 -- Candidates of a sector that every image has so.
 
-pub long : (blocks : ℕ) (c : Content) (v : Image) (s : ℕ) → IsContent blocks c → IsImage c v → s < length c → length (get_or v s []) ≡ 512
+pub long : (blocks : ℕ) (c : Content) (v : DiskImage) (s : ℕ) → IsContent blocks c → IsImage c v → s < length c → length (get_or v s []) ≡ 512
 long blocks c v s whole is lt =
     All-contains (λ bytes. length bytes ≡ 512) (sector c s).candidates (get_or v s []) (whole.sectors s no_sector lt).each (is.chosen s lt)
 
 -- an image with another candidate in one sector is an image
-pub changed_image : (c : Content) (v : Image) (s : ℕ) (x : List ℕ) → IsImage c v → s < length c → Contains (sector c s).candidates x → IsImage c (set v s x)
+pub changed_image : (c : Content) (v : DiskImage) (s : ℕ) (x : List ℕ) → IsImage c v → s < length c → Contains (sector c s).candidates x → IsImage c (set v s x)
 changed_image c v s x is lt candidate = record {
   size = length-set v s x ∙ is.size;
   chosen = λ i i_lt. elim (cases_eq i s) [
@@ -85,7 +85,7 @@ changed_image c v s x is lt candidate = record {
 }
 
 -- a candidate of a sector is that sector of the block of some image
-pub candidate_of_image : (blocks : ℕ) (c : Content) (b j : ℕ) (x : List ℕ) → IsContent blocks c → b < blocks → j < 8 → Contains (sector c (8 * b + j)).candidates x → (v : Image) × IsImage c v × (x ≡ sector_bytes (block v b) j)
+pub candidate_of_image : (blocks : ℕ) (c : Content) (b j : ℕ) (x : List ℕ) → IsContent blocks c → b < blocks → j < 8 → Contains (sector c (8 * b + j)).candidates x → (v : DiskImage) × IsImage c v × (x ≡ sector_bytes (block v b) j)
 candidate_of_image blocks c b j x whole lt few candidate =
     let v = as_it_reads c in
     let size = whole.size in
@@ -138,7 +138,7 @@ earlier_or_written old new bytes x (inl same) candidate = inl (subst (λ (s : Se
 earlier_or_written old new bytes x (inr takes) candidate = takes.candidates x candidate
 
 -- the bytes of a sector that are p's or q's
-abbrev AreEither : Image → ℕ → List ℕ → List ℕ → ℕ → Type 0
+abbrev AreEither : DiskImage → ℕ → List ℕ → List ℕ → ℕ → Type 0
 AreEither v b p q j = (get_or v (8 * b + j) [] ≡ sector_bytes p j) ⊎ (get_or v (8 * b + j) [] ≡ sector_bytes q j)
 
 -- a candidate of a sector after a write of q over p
@@ -160,7 +160,7 @@ same_sector p q k j agree apart =
     ])
 
 -- Where p and q differ within sector k alone, a block whose sectors are p's or q's is p or q.
-pub either_whole : (v : Image) (b k : ℕ) (p q : List ℕ) → IsPage p → IsPage q → k < 8 → AgreeBut (512 * k) (512 * k + 512) p q → 8 * b + 8 ≤ length v → ((j : ℕ) → j < 8 → AreEither v b p q j) → (block v b ≡ p) ⊎ (block v b ≡ q)
+pub either_whole : (v : DiskImage) (b k : ℕ) (p q : List ℕ) → IsPage p → IsPage q → k < 8 → AgreeBut (512 * k) (512 * k + 512) p q → 8 * b + 8 ≤ length v → ((j : ℕ) → j < 8 → AreEither v b p q j) → (block v b ≡ p) ⊎ (block v b ≡ q)
 either_whole v b k p q p_whole q_whole k_lt agree within each =
     let apart_p : (j : ℕ) → j < 8 → j ≢ k → get_or v (8 * b + j) [] ≡ sector_bytes p j = λ j few apart.
     elim (each j few) [ inl old_bytes ↦ old_bytes | inr new_bytes ↦ new_bytes ∙ sym (same_sector p q k j agree apart) ] in
@@ -353,16 +353,16 @@ kept_in_cuts b page p_whole blocks other written old new whole lt apart all wrot
 
 pub kept_by_sync : (b : ℕ) (page : List ℕ) → KeptBySync b page
 kept_by_sync b page blocks old new whole all syncs v is =
-    ap (λ (w : Image). block w b) (IsImage-after_sync old new v syncs is) ∙ all (as_it_reads old) (IsImage-as_it_reads blocks old whole)
+    ap (λ (w : DiskImage). block w b) (IsImage-after_sync old new v syncs is) ∙ all (as_it_reads old) (IsImage-as_it_reads blocks old whole)
 
 pub kept_by_restart : (b : ℕ) (page : List ℕ) → KeptByRestart b page
 kept_by_restart b page old new all restarts v is =
     let left = IsImage-after_restart old new restarts in
-    ap (λ (w : Image). block w b) (left.2 v is) ∙ all left.0 left.1
+    ap (λ (w : DiskImage). block w b) (left.2 v is) ∙ all left.0 left.1
 
 -- [durable]
 
 pub durable_after_sync : (b : ℕ) (page : List ℕ) → IsPage page → DurableAfterSync b page
 durable_after_sync b page p_whole blocks old written synced whole lt writes syncs v is =
     let size = whole.size in
-    ap (λ (w : Image). block w b) (IsImage-after_sync written synced v syncs is) ∙ block-written b page old written p_whole (omega arith) writes
+    ap (λ (w : DiskImage). block w b) (IsImage-after_sync written synced v syncs is) ∙ block-written b page old written p_whole (omega arith) writes

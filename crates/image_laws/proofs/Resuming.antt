@@ -18,7 +18,7 @@ use Rattle.image_laws.proofs.Decoding.{decodes, memories_are_sayable}
 without_slots : Image → Image
 without_slots i = record { frames = i.frames; slots = λ s. None; ident = i.ident; physpages = i.physpages; format = i.format }
 
-decoded : (h : Hardware) (m : Memory) (slots : SlotPages) (f : Format) (v : disk.Image) → IsHardware h → Holds h v (image_of_memory h m slots f) → image_in h v (λ s. None) ≡ image_of_memory h m (λ s. None) f
+decoded : (h : Hardware) (m : Memory) (slots : SlotPages) (f : Format) (v : disk.DiskImage) → IsHardware h → Holds h v (image_of_memory h m slots f) → image_in h v (λ s. None) ≡ image_of_memory h m (λ s. None) f
 unfolding without_slots
 decoded h m slots f v hw holds =
     ap without_slots (decodes h v (image_of_memory h m slots f) holds (memories_are_sayable h m slots f hw))

@@ -25,27 +25,27 @@ MemoriesAreSayable =
 
 -- the info page says the image's identity and counts
 abbrev pub SaysInfo : Type 0
-SaysInfo = (h : Hardware) (v : disk.Image) (i : Image) → Holds h v i → IsSayable i → info_in h v ≡ info_of_image i
+SaysInfo = (h : Hardware) (v : disk.DiskImage) (i : Image) → Holds h v i → IsSayable i → info_in h v ≡ info_of_image i
 
 -- number j is that of saved page j
 abbrev pub SaysNumbers : Type 0
 SaysNumbers =
-    (h : Hardware) (v : disk.Image) (i : Image) → Holds h v i → IsSayable i →
+    (h : Hardware) (v : disk.DiskImage) (i : Image) → Holds h v i → IsSayable i →
     (j : ℕ) → j < n_of i → number_in h v j ≡ slice_index_or (numbers_of i) j 0
 
 -- data page k is the page of the k-th saved page that has one
 abbrev pub SaysPages : Type 0
 SaysPages =
-    (h : Hardware) (v : disk.Image) (i : Image) → Holds h v i → IsSayable i →
+    (h : Hardware) (v : disk.DiskImage) (i : Image) → Holds h v i → IsSayable i →
     (k : ℕ) → k < d_of i → stream_page h v (1 + meta_in h v + k) ≡ (slice_index_or (with_data i) k (0, [])).1
 
 -- [decodes]: the disk decodes to the image
 abbrev pub Decodes : Type 0
-Decodes = (h : Hardware) (v : disk.Image) (i : Image) → Holds h v i → IsSayable i → image_in h v i.slots ≡ i
+Decodes = (h : Hardware) (v : disk.DiskImage) (i : Image) → Holds h v i → IsSayable i → image_in h v i.slots ≡ i
 
 -- [resumes]: from a disk that holds the image of a memory each saveable page frame gets its page back
 abbrev pub ResumesMemory : Type 0
 ResumesMemory =
-    (h : Hardware) (m : Memory) (slots : SlotPages) (f : Format) (dump : Memory) (loader : Loader) (v : disk.Image) →
+    (h : Hardware) (m : Memory) (slots : SlotPages) (f : Format) (dump : Memory) (loader : Loader) (v : disk.DiskImage) →
     IsHardware h → Holds h v (image_of_memory h m slots f) →
     (p : ℕ) → Contains (saveable h m) p → frame (restored_in h dump v loader) p ≡ frame m p

@@ -1,19 +1,19 @@
 -- What a block may be after a power cut: in each image that the disk may be left as.
 use Rattle.std.specs.Prelude.{◌≡◌, ◌≢◌, ℕ, ◌+◌, ◌*◌, ◌<◌, ◌⊎◌, List, [], Contains, slice_index_or}
-use Rattle.definitions.specs.Disk.{Content, Image, IsImage, IsContent, IsMixture, Writes, FailsToWrite, Syncs, Restarts, as_it_reads, block, sector, sector_bytes}
+use Rattle.definitions.specs.Disk.{Content, DiskImage, IsImage, IsContent, IsMixture, Writes, FailsToWrite, Syncs, Restarts, as_it_reads, block, sector, sector_bytes}
 
 -- in every image block b is this page
 abbrev pub AllHave : Content → ℕ → List ℕ → Type 0
-AllHave c b page = (v : Image) → IsImage c v → block v b ≡ page
+AllHave c b page = (v : DiskImage) → IsImage c v → block v b ≡ page
 
 -- in every image block b is one of these two pages
 abbrev pub AllHaveEither : Content → ℕ → List ℕ → List ℕ → Type 0
-AllHaveEither c b p q = (v : Image) → IsImage c v → (block v b ≡ p) ⊎ (block v b ≡ q)
+AllHaveEither c b p q = (v : DiskImage) → IsImage c v → (block v b ≡ p) ⊎ (block v b ≡ q)
 
 -- in every image each sector of block b has bytes that it might have had before, or the page's
 abbrev pub HaveEarlierOr : Content → Content → ℕ → List ℕ → Type 0
 HaveEarlierOr old new b page =
-    (v : Image) → IsImage new v → (j : ℕ) → j < 8 →
+    (v : DiskImage) → IsImage new v → (j : ℕ) → j < 8 →
     Contains (sector old (8 * b + j)).candidates (slice_index_or v (8 * b + j) []) ⊎ (slice_index_or v (8 * b + j) [] ≡ sector_bytes page j)
 
 -- [written]: a block that was written reads as the page, and a cut may leave in each of its sectors earlier bytes or the page's
@@ -37,7 +37,7 @@ TornIsEither p q =
 abbrev pub CutIsEither : List ℕ → List ℕ → Type 0
 CutIsEither p q =
     (blocks b : ℕ) (old new : Content) → IsContent blocks old → b < blocks → AllHave old b p → Tries b q old new →
-    (v : Image) → IsMixture old new v → (block v b ≡ p) ⊎ (block v b ≡ q)
+    (v : DiskImage) → IsMixture old new v → (block v b ≡ p) ⊎ (block v b ≡ q)
 
 -- [tried again]: where every image has p or q in block b, it is so after a write of either of them there, failed or not.
 abbrev pub StaysEither : List ℕ → List ℕ → Type 0
@@ -54,7 +54,7 @@ KeptByWrites b page =
 abbrev pub KeptInCuts : ℕ → List ℕ → Type 0
 KeptInCuts b page =
     (blocks other : ℕ) (written : List ℕ) (old new : Content) → IsContent blocks old → b < blocks → other ≢ b → AllHave old b page →
-    Tries other written old new → (v : Image) → IsMixture old new v → block v b ≡ page
+    Tries other written old new → (v : DiskImage) → IsMixture old new v → block v b ≡ page
 
 abbrev pub KeptBySync : ℕ → List ℕ → Type 0
 KeptBySync b page = (blocks : ℕ) (old new : Content) → IsContent blocks old → AllHave old b page → Syncs old new → AllHave new b page

@@ -13,7 +13,7 @@ use Rattle.plain_machine.specs.declared.reply.Reply.{Reply}
 use Rattle.image_read.specs.Causes.{reply_of}
 use Rattle.image_read.specs.Reading.{Reading, IsReady}
 use Rattle.image_read.specs.Taking.{Takes, Advances, with_data}
-use Rattle.image_read.specs.Stream.{IsReading, place_block, pages_read, known_pages, told, data_frames, frame_at}
+use Rattle.image_read.specs.Stream.{HasReadPlaces, place_block, pages_read, known_pages, told, data_frames, frame_at}
 use Rattle.image_read.specs.Answers.{Compares, Gives}
 use Rattle.image_read.specs.declared.cause.Cause.{Cause}
 use Rattle.image_read.proofs.Over.{as_reply, cases_listed}
@@ -25,15 +25,15 @@ use Rattle.image_read.proofs.ReadData.{at_data, frame_found, read_data}
 use Rattle.image_read.proofs.Next.{next_refused, goes_on}
 
 -- a reader over the disk h, v that takes this page
-pub record Over (h : Hardware) (v : disk.Image) (check : IdentCheck) (own : Option Ident) (zones : List (ℕ × ℕ)) (r : Reading) (t : ℕ) (page origs zeros : List ℕ) : Type 0 where
-  pub reading : IsReading h v check r t origs zeros
+pub record Over (h : Hardware) (v : disk.DiskImage) (check : IdentCheck) (own : Option Ident) (zones : List (ℕ × ℕ)) (r : Reading) (t : ℕ) (page origs zeros : List ℕ) : Type 0 where
+  pub reading : HasReadPlaces h v check r t origs zeros
   pub ready : IsReady r origs zeros
   pub more : r.steps < place_count r.pages
   pub page_is : page ≡ disk.block v (place_block h v (place t))
   pub zones_is : zones ≡ h.zones
   pub compares : Compares h check own
 
-more_places : (h : Hardware) (v : disk.Image) (check : IdentCheck) (own : Option Ident) (zones : List (ℕ × ℕ)) (r : Reading) (t : ℕ) (page origs zeros : List ℕ) → Over h v check own zones r t page origs zeros → t < place_count (known_pages h v (pages_read t))
+more_places : (h : Hardware) (v : disk.DiskImage) (check : IdentCheck) (own : Option Ident) (zones : List (ℕ × ℕ)) (r : Reading) (t : ℕ) (page origs zeros : List ℕ) → Over h v check own zones r t page origs zeros → t < place_count (known_pages h v (pages_read t))
 more_places h v check own zones r t page origs zeros over =
     let steps_is = over.reading.steps in
     let pages_is = ap place_count over.reading.pages in
@@ -47,7 +47,7 @@ some_of_some : (o : Option Reply) (r : Reply) (a b : Option ℕ) → o ≡ Some 
 some_of_some o r a b h = ap (λ x. cond (is_none x) a b) h
 
 -- What was taken: the place was read, and whose page it is.
-pub record WasTaken (h : Hardware) (v : disk.Image) (check : IdentCheck) (t : ℕ) (frame : Option ℕ) (new : Reading) (origs zeros : List ℕ) : Type 0 where
+pub record WasTaken (h : Hardware) (v : disk.DiskImage) (check : IdentCheck) (t : ℕ) (frame : Option ℕ) (new : Reading) (origs zeros : List ℕ) : Type 0 where
   pub read : IsRead h v check new t (pages_read (t + 1)) origs zeros
   pub whose : frame ≡ frame_at h v (place t)
 
@@ -57,10 +57,10 @@ ok_is a b e = cc
 zones_count : (h : Hardware) (zones : List (ℕ × ℕ)) → zones ≡ h.zones → length (numbers zones) ≡ valid_count h
 zones_count h zones e = ap (λ (z : List (ℕ × ℕ)). length (numbers z)) e
 
-no_frame : (h : Hardware) (v : disk.Image) (k : ℕ) → k ≤ meta_in h v → frame_at h v (page_at k) ≡ None
+no_frame : (h : Hardware) (v : disk.DiskImage) (k : ℕ) → k ≤ meta_in h v → frame_at h v (page_at k) ≡ None
 no_frame h v k le = cond-false (ltb (meta_in h v) k) (slice_get (data_frames h v) (k - 1 - meta_in h v)) None (le-ltb (meta_in h v) k le)
 
-pub was_taken : (h : Hardware) (v : disk.Image) (check : IdentCheck) (own : Option Ident) (zones : List (ℕ × ℕ)) (r : Reading) (t : ℕ) (page origs zeros : List ℕ) (frame : Option ℕ) (new : Reading) (new_origs new_zeros : List ℕ) → Over h v check own zones r t page origs zeros → Takes own zones page r origs zeros (Ok frame) new new_origs new_zeros → WasTaken h v check t frame new new_origs new_zeros
+pub was_taken : (h : Hardware) (v : disk.DiskImage) (check : IdentCheck) (own : Option Ident) (zones : List (ℕ × ℕ)) (r : Reading) (t : ℕ) (page origs zeros : List ℕ) (frame : Option ℕ) (new : Reading) (new_origs new_zeros : List ℕ) → Over h v check own zones r t page origs zeros → Takes own zones page r origs zeros (Ok frame) new new_origs new_zeros → WasTaken h v check t frame new new_origs new_zeros
 was_taken h v check own zones r t page origs zeros frame new new_origs new_zeros over takes =
     let reading = over.reading in
     let steps_is = reading.steps in
@@ -77,7 +77,7 @@ was_taken h v check own zones r t page origs zeros frame new new_origs new_zeros
       | inr apart ↦ elim (cases_eq t 1) [
         | inl one ↦
             let h' = takes.info (steps_is ∙ one) in
-            let at_one : IsReading h v check r 1 origs zeros = subst (λ (s : ℕ). IsReading h v check r s origs zeros) one reading in
+            let at_one : HasReadPlaces h v check r 1 origs zeros = subst (λ (s : ℕ). HasReadPlaces h v check r s origs zeros) one reading in
             let page_one : page ≡ disk.block v (place_block h v (place 1)) = over.page_is ∙ ap (λ (s : ℕ). disk.block v (place_block h v (place s))) one in
             let read = read_info h v check own (length (numbers zones)) r new page origs zeros at_one page_one over.compares (zones_count h zones over.zones_is) h'.0.0 h'.0.2 in
             let k_is : 1 ≡ pages_read (1 + 1) = omega arith in
@@ -114,7 +114,7 @@ was_taken h v check own zones r t page origs zeros frame new new_origs new_zeros
     ]
 
 -- What was refused: its cause, and nothing is listed by it nor was before.
-refused_here : (h : Hardware) (v : disk.Image) (check : IdentCheck) (own : Option Ident) (zones : List (ℕ × ℕ)) (r : Reading) (t : ℕ) (page origs zeros : List ℕ) (cause : Cause) (new : Reading) (new_origs new_zeros : List ℕ) → Over h v check own zones r t page origs zeros → Takes own zones page r origs zeros (Err cause) new new_origs new_zeros → (read_cause h v check (place t) ≡ Some (reply_of cause)) × (new.listed ≡ r.listed) × (r.listed ≡ None)
+refused_here : (h : Hardware) (v : disk.DiskImage) (check : IdentCheck) (own : Option Ident) (zones : List (ℕ × ℕ)) (r : Reading) (t : ℕ) (page origs zeros : List ℕ) (cause : Cause) (new : Reading) (new_origs new_zeros : List ℕ) → Over h v check own zones r t page origs zeros → Takes own zones page r origs zeros (Err cause) new new_origs new_zeros → (read_cause h v check (place t) ≡ Some (reply_of cause)) × (new.listed ≡ r.listed) × (r.listed ≡ None)
 refused_here h v check own zones r t page origs zeros cause new new_origs new_zeros over takes =
     let reading = over.reading in
     let steps_is = reading.steps in
@@ -146,7 +146,7 @@ refused_here h v check own zones r t page origs zeros cause new new_origs new_ze
       ]
     ]
 
-pub gives_refused : (h : Hardware) (v : disk.Image) (check : IdentCheck) (own : Option Ident) (zones : List (ℕ × ℕ)) (r : Reading) (t : ℕ) (page origs zeros : List ℕ) (cause : Cause) (new : Reading) (new_origs new_zeros : List ℕ) → Over h v check own zones r t page origs zeros → Takes own zones page r origs zeros (Err cause) new new_origs new_zeros → Gives h v check t (Err cause) new new_origs new_zeros
+pub gives_refused : (h : Hardware) (v : disk.DiskImage) (check : IdentCheck) (own : Option Ident) (zones : List (ℕ × ℕ)) (r : Reading) (t : ℕ) (page origs zeros : List ℕ) (cause : Cause) (new : Reading) (new_origs new_zeros : List ℕ) → Over h v check own zones r t page origs zeros → Takes own zones page r origs zeros (Err cause) new new_origs new_zeros → Gives h v check t (Err cause) new new_origs new_zeros
 gives_refused h v check own zones r t page origs zeros cause new new_origs new_zeros over takes =
     let both = refused_here h v check own zones r t page origs zeros cause new new_origs new_zeros over takes in (
       ap (λ o. or_else o (next_cause h v t)) both.0,
@@ -154,14 +154,14 @@ gives_refused h v check own zones r t page origs zeros cause new new_origs new_z
       λ n listed. absurd (let no : Some n ≡ None = sym listed ∙ both.1 ∙ both.2 in cc),
     )
 
-pub gives_next_refused : (h : Hardware) (v : disk.Image) (check : IdentCheck) (t : ℕ) (frame : Option ℕ) (mid after : Reading) (origs zeros : List ℕ) (cause : Cause) → WasTaken h v check t frame mid origs zeros → Advances mid (Err cause) after → Gives h v check t (Err cause) after origs zeros
+pub gives_next_refused : (h : Hardware) (v : disk.DiskImage) (check : IdentCheck) (t : ℕ) (frame : Option ℕ) (mid after : Reading) (origs zeros : List ℕ) (cause : Cause) → WasTaken h v check t frame mid origs zeros → Advances mid (Err cause) after → Gives h v check t (Err cause) after origs zeros
 gives_next_refused h v check t frame mid after origs zeros cause taken on = (
   next_refused h v check mid after t origs zeros cause taken.read on,
   on.2 ∙ taken.read.listed ∙ sym (none_of_none (read_cause h v check (place t)) (told h v (pages_read (t + 1))) (told h v (pages_read t)) taken.read.cause),
   λ n listed. are_listed h v check mid t (pages_read (t + 1)) n origs zeros taken.read (sym on.2 ∙ listed),
 )
 
-pub gives_on : (h : Hardware) (v : disk.Image) (check : IdentCheck) (t : ℕ) (frame : Option ℕ) (mid after : Reading) (origs zeros : List ℕ) (x : Unit {0}) → WasTaken h v check t frame mid origs zeros → Advances mid (Ok x) after → Gives h v check t (Ok frame) after origs zeros
+pub gives_on : (h : Hardware) (v : disk.DiskImage) (check : IdentCheck) (t : ℕ) (frame : Option ℕ) (mid after : Reading) (origs zeros : List ℕ) (x : Unit {0}) → WasTaken h v check t frame mid origs zeros → Advances mid (Ok x) after → Gives h v check t (Ok frame) after origs zeros
 gives_on h v check t frame mid after origs zeros x taken on =
     let next = goes_on h v check mid after t origs zeros x taken.read on in
     (next.cause, next.reading, taken.whose)

@@ -14,7 +14,7 @@ use Rattle.image_read.specs.Causes.{reply_of}
 use Rattle.image_read.specs.Reading.{Reading}
 use Rattle.image_read.specs.Faults.{block_fault, named_block, named_fault}
 use Rattle.image_read.specs.Taking.{Advances}
-use Rattle.image_read.specs.Stream.{IsAreaOf, IsReading, place_block, pages_read, known_pages}
+use Rattle.image_read.specs.Stream.{IsAreaOf, HasReadPlaces, place_block, pages_read, known_pages}
 use Rattle.image_read.specs.declared.cause.Cause.{Cause}
 use Rattle.image_read.specs.declared.cause.Cause.TheVariants.{BadBlock, ChainEnds}
 use Rattle.image_read.proofs.Over.{as_reply, as_reply-cond, cond-none, same_fault}
@@ -22,18 +22,18 @@ use Rattle.image_read.proofs.Places.{at_map, at_page, map_of_page, entry_of_page
 use Rattle.image_read.proofs.Read.{IsRead, known}
 
 -- a block that a map names
-block_is : (h : Hardware) (v : disk.Image) (r : Reading) (x y : ℕ) → IsAreaOf h v r.extents r.last r.blocks r.format → x ≡ y → as_reply (block_fault r x) ≡ block_cause h v y
+block_is : (h : Hardware) (v : disk.DiskImage) (r : Reading) (x y : ℕ) → IsAreaOf h v r.extents r.last r.blocks r.format → x ≡ y → as_reply (block_fault r x) ≡ block_cause h v y
 block_is h v r x y area same =
     ap (λ (z : ℕ). as_reply (block_fault r z)) same
     ∙ as_reply-cond (is_fault_of r.extents r.blocks r.last y) (Some (BadBlock y)) None
     ∙ ap (λ (b : Bool). cond b (Some (reply.BadBlock y)) None) (same_fault h v r.extents r.last r.blocks r.format y area)
 
 -- the reader's map is the one before place number s
-pub record HasMap (h : Hardware) (v : disk.Image) (r : Reading) (j : ℕ) : Type 0 where
+pub record HasMap (h : Hardware) (v : disk.DiskImage) (r : Reading) (j : ℕ) : Type 0 where
   pub page : r.map.page ≡ disk.block v (map_block v (first_map h v) j)
   pub map : r.map.map ≡ j + 1
 
-pub named_is : (h : Hardware) (v : disk.Image) (r : Reading) (t : ℕ) → HasMap h v r (t / 512) → named_block r (t + 1) ≡ place_block h v (place (t + 1))
+pub named_is : (h : Hardware) (v : disk.DiskImage) (r : Reading) (t : ℕ) → HasMap h v r (t / 512) → named_block r (t + 1) ≡ place_block h v (place (t + 1))
 named_is h v r t has = elim (cases_eq ((t + 1) % 512) 0) [
   | inl at ↦
       let j_is : suc (t / 512) ≡ (t + 1) / 512 = omega (arith, next_map t at) in
@@ -48,7 +48,7 @@ named_is h v r t has = elim (cases_eq ((t + 1) % 512) 0) [
       ∙ sym (ap (place_block h v) (at_page (t + 1) apart))
 ]
 
-pub named_fault_is : (h : Hardware) (v : disk.Image) (r : Reading) (t : ℕ) → HasMap h v r (t / 512) → IsAreaOf h v r.extents r.last r.blocks r.format → as_reply (named_fault r (t + 1)) ≡ place_cause h v (place (t + 1))
+pub named_fault_is : (h : Hardware) (v : disk.DiskImage) (r : Reading) (t : ℕ) → HasMap h v r (t / 512) → IsAreaOf h v r.extents r.last r.blocks r.format → as_reply (named_fault r (t + 1)) ≡ place_cause h v (place (t + 1))
 named_fault_is h v r t has area = elim (cases_eq ((t + 1) % 512) 0) [
   | inl at ↦
       let j_is : suc (t / 512) ≡ (t + 1) / 512 = omega (arith, next_map t at) in
@@ -72,25 +72,25 @@ named_fault_is h v r t has area = elim (cases_eq ((t + 1) % 512) 0) [
 ]
 
 -- whether there is a next place: by the pages that are known, and by the info page
-known_enough : (h : Hardware) (v : disk.Image) (t : ℕ) → t + 1 < place_count (known_pages h v (pages_read (t + 1))) → t + 1 < place_count (info_in h v).pages
+known_enough : (h : Hardware) (v : disk.DiskImage) (t : ℕ) → t + 1 < place_count (known_pages h v (pages_read (t + 1))) → t + 1 < place_count (info_in h v).pages
 known_enough h v t lt = elim (cases_lt (t + 1) 2) [
   | inl low ↦ let two = two_places (info_in h v).pages in omega arith
   | inr high ↦ let same = ap place_count (known h v (pages_read (t + 1)) (some_read (t + 1) high)) in omega arith
 ]
 
-known_all : (h : Hardware) (v : disk.Image) (t : ℕ) → place_count (known_pages h v (pages_read (t + 1))) ≤ t + 1 → place_count (info_in h v).pages ≤ t + 1
+known_all : (h : Hardware) (v : disk.DiskImage) (t : ℕ) → place_count (known_pages h v (pages_read (t + 1))) ≤ t + 1 → place_count (info_in h v).pages ≤ t + 1
 known_all h v t le = elim (cases_lt (t + 1) 2) [
   | inl low ↦ let two = two_places (known_pages h v (pages_read (t + 1))) in absurd (omega arith)
   | inr high ↦ let same = ap place_count (known h v (pages_read (t + 1)) (some_read (t + 1) high)) in omega arith
 ]
 
-next_there : (h : Hardware) (v : disk.Image) (t : ℕ) → t + 1 < place_count (known_pages h v (pages_read (t + 1))) → next_cause h v t ≡ place_cause h v (place (t + 1))
+next_there : (h : Hardware) (v : disk.DiskImage) (t : ℕ) → t + 1 < place_count (known_pages h v (pages_read (t + 1))) → next_cause h v t ≡ place_cause h v (place (t + 1))
 next_there h v t lt = cond-true (ltb (t + 1) (place_count (info_in h v).pages)) (place_cause h v (place (t + 1))) None (lt-ltb (t + 1) (place_count (info_in h v).pages) (known_enough h v t lt))
 
-no_next : (h : Hardware) (v : disk.Image) (t : ℕ) → place_count (known_pages h v (pages_read (t + 1))) ≤ t + 1 → next_cause h v t ≡ None
+no_next : (h : Hardware) (v : disk.DiskImage) (t : ℕ) → place_count (known_pages h v (pages_read (t + 1))) ≤ t + 1 → next_cause h v t ≡ None
 no_next h v t le = cond-false (ltb (t + 1) (place_count (info_in h v).pages)) (place_cause h v (place (t + 1))) None (le-ltb (t + 1) (place_count (info_in h v).pages) (known_all h v t le))
 
-has_map : (h : Hardware) (v : disk.Image) (check : IdentCheck) (r : Reading) (t k : ℕ) (origs zeros : List ℕ) → IsRead h v check r t k origs zeros → HasMap h v r (t / 512)
+has_map : (h : Hardware) (v : disk.DiskImage) (check : IdentCheck) (r : Reading) (t k : ℕ) (origs zeros : List ℕ) → IsRead h v check r t k origs zeros → HasMap h v r (t / 512)
 has_map h v check r t k origs zeros read = record { page = ap (λ (m : NumberedPage). m.page) read.map; map = ap (λ (m : NumberedPage). m.map) read.map }
 
 both_none : (a b : Option Reply) → a ≡ None → b ≡ None → or_else a b ≡ None
@@ -98,7 +98,7 @@ both_none None b h g = g
 both_none (Some x) b h g = h
 
 -- a cause of the next block
-pub next_refused : (h : Hardware) (v : disk.Image) (check : IdentCheck) (r after : Reading) (t : ℕ) (origs zeros : List ℕ) (cause : Cause) → IsRead h v check r t (pages_read (t + 1)) origs zeros → Advances r (Err cause) after → step_cause h v check t ≡ Some (reply_of cause)
+pub next_refused : (h : Hardware) (v : disk.DiskImage) (check : IdentCheck) (r after : Reading) (t : ℕ) (origs zeros : List ℕ) (cause : Cause) → IsRead h v check r t (pages_read (t + 1)) origs zeros → Advances r (Err cause) after → step_cause h v check t ≡ Some (reply_of cause)
 next_refused h v check r after t origs zeros cause read on =
     let steps_is = read.steps in
     let pages_is = ap place_count read.pages in
@@ -133,22 +133,22 @@ named_sound r s h =
     ]
 
 -- one place more
-sound_more : (h : Hardware) (v : disk.Image) (check : IdentCheck) (t : ℕ) → ((s : ℕ) → s < t → step_cause h v check s ≡ None) → step_cause h v check t ≡ None → (s : ℕ) → s < t + 1 → step_cause h v check s ≡ None
+sound_more : (h : Hardware) (v : disk.DiskImage) (check : IdentCheck) (t : ℕ) → ((s : ℕ) → s < t → step_cause h v check s ≡ None) → step_cause h v check t ≡ None → (s : ℕ) → s < t + 1 → step_cause h v check s ≡ None
 sound_more h v check t before here s lt = elim (cases_lt s t) [
   | inl below ↦ before s below
   | inr ge ↦ let same : t ≡ s = omega arith in subst (λ (i : ℕ). step_cause h v check i ≡ None) same here
 ]
 
-pub record IsNext (h : Hardware) (v : disk.Image) (check : IdentCheck) (t : ℕ) (after : Reading) (origs zeros : List ℕ) : Type 0 where
+pub record IsNext (h : Hardware) (v : disk.DiskImage) (check : IdentCheck) (t : ℕ) (after : Reading) (origs zeros : List ℕ) : Type 0 where
   pub cause : step_cause h v check t ≡ None
-  pub reading : IsReading h v check after (t + 1) origs zeros
+  pub reading : HasReadPlaces h v check after (t + 1) origs zeros
 
-map_kept : (h : Hardware) (v : disk.Image) (t : ℕ) (m : NumberedPage) → m ≡ record { page = disk.block v (map_block v (first_map h v) (t / 512)); map = t / 512 + 1 } → ((t + 1) % 512 ≡ 0 → ⊥) → m ≡ record { page = disk.block v (map_block v (first_map h v) ((t + 1) / 512)); map = (t + 1) / 512 + 1 }
+map_kept : (h : Hardware) (v : disk.DiskImage) (t : ℕ) (m : NumberedPage) → m ≡ record { page = disk.block v (map_block v (first_map h v) (t / 512)); map = t / 512 + 1 } → ((t + 1) % 512 ≡ 0 → ⊥) → m ≡ record { page = disk.block v (map_block v (first_map h v) ((t + 1) / 512)); map = (t + 1) / 512 + 1 }
 map_kept h v t m is apart =
     let at : ℕ → NumberedPage = λ j. record { page = disk.block v (map_block v (first_map h v) j); map = j + 1 } in
     is ∙ ap at (sym (same_map t apart))
 
-pub goes_on : (h : Hardware) (v : disk.Image) (check : IdentCheck) (r after : Reading) (t : ℕ) (origs zeros : List ℕ) (x : Unit {0}) → IsRead h v check r t (pages_read (t + 1)) origs zeros → Advances r (Ok x) after → IsNext h v check t after origs zeros
+pub goes_on : (h : Hardware) (v : disk.DiskImage) (check : IdentCheck) (r after : Reading) (t : ℕ) (origs zeros : List ℕ) (x : Unit {0}) → IsRead h v check r t (pages_read (t + 1)) origs zeros → Advances r (Ok x) after → IsNext h v check t after origs zeros
 goes_on h v check r after t origs zeros x read (inl over) =
     let steps_is = read.steps in
     let pages_is = ap place_count read.pages in
@@ -157,7 +157,7 @@ goes_on h v check r after t origs zeros x read (inl over) =
       | inr ge ↦ ge
     ] in
     let cause : step_cause h v check t ≡ None = both_none (read_cause h v check (place t)) (next_cause h v t) read.cause (no_next h v t le) in
-    let counted : IsReading h v check (record r { steps = r.steps + 1 }) (t + 1) origs zeros = record {
+    let counted : HasReadPlaces h v check (record r { steps = r.steps + 1 }) (t + 1) origs zeros = record {
       area = read.area;
       steps = ap (λ (s : ℕ). s + 1) read.steps;
       sound = sound_more h v check t read.sound cause;
@@ -176,7 +176,7 @@ goes_on h v check r after t origs zeros x read (inl over) =
       counts = read.counts;
       whole = read.whole;
     } in
-    record { cause = cause; reading = subst (λ (a : Reading). IsReading h v check a (t + 1) origs zeros) (sym over.1) counted }
+    record { cause = cause; reading = subst (λ (a : Reading). HasReadPlaces h v check a (t + 1) origs zeros) (sym over.1) counted }
 goes_on h v check r after t origs zeros x read (inr on) =
     let steps_is = read.steps in
     let pages_is = ap place_count read.pages in
@@ -187,7 +187,7 @@ goes_on h v check r after t origs zeros x read (inr on) =
     let place_none : place_cause h v (place (t + 1)) ≡ None = sym (named_fault_is h v r t has read.area) ∙ ap as_reply fault in
     let cause : step_cause h v check t ≡ None = both_none (read_cause h v check (place t)) (next_cause h v t) read.cause (next_there h v t lt ∙ place_none) in
     let named : named_block r (r.steps + 1) ≡ place_block h v (place (t + 1)) = ap (λ (s : ℕ). named_block r (s + 1)) steps_is ∙ named_is h v r t has in
-    let counted : IsReading h v check (record r { steps = r.steps + 1; block = named_block r (r.steps + 1) }) (t + 1) origs zeros = record {
+    let counted : HasReadPlaces h v check (record r { steps = r.steps + 1; block = named_block r (r.steps + 1) }) (t + 1) origs zeros = record {
       area = read.area;
       steps = ap (λ (s : ℕ). s + 1) read.steps;
       sound = sound_more h v check t read.sound cause;
@@ -206,4 +206,4 @@ goes_on h v check r after t origs zeros x read (inr on) =
       counts = read.counts;
       whole = read.whole;
     } in
-    record { cause = cause; reading = subst (λ (a : Reading). IsReading h v check a (t + 1) origs zeros) (sym on.2) counted }
+    record { cause = cause; reading = subst (λ (a : Reading). HasReadPlaces h v check a (t + 1) origs zeros) (sym on.2) counted }

@@ -24,7 +24,7 @@ use Rattle.image_read.specs.Stream.{frames_in, marked_in, last_number}
 use Rattle.image_read.proofs.Over.{as_reply}
 
 -- number page q, as it is read after the pages before it
-pub record IsAt (h : Hardware) (v : disk.Image) (q : ℕ) (u : Unpacked) (page : List ℕ) : Type 0 where
+pub record IsAt (h : Hardware) (v : disk.DiskImage) (q : ℕ) (u : Unpacked) (page : List ℕ) : Type 0 where
   pub format : u.format ≡ format_in h v
   pub n : u.n ≡ (info_in h v).image_pages
   pub read : u.read ≡ 512 * q
@@ -32,23 +32,23 @@ pub record IsAt (h : Hardware) (v : disk.Image) (q : ℕ) (u : Unpacked) (page :
   pub page_is : page ≡ stream_page h v (1 + q)
 
 -- its word j, and the number of that
-pub word_is : (h : Hardware) (v : disk.Image) (q j : ℕ) → j < 512 → number_word h v (512 * q + j) ≡ word (stream_page h v (1 + q)) j
+pub word_is : (h : Hardware) (v : disk.DiskImage) (q j : ℕ) → j < 512 → number_word h v (512 * q + j) ≡ word (stream_page h v (1 + q)) j
 word_is h v q j lt =
     let block : (512 * q + j) / 512 ≡ q = omega arith in
     let place : (512 * q + j) % 512 ≡ j = omega arith in
     ap₂ (λ (b i : ℕ). word (stream_page h v (1 + b)) i) block place
 
-pub word_at : (h : Hardware) (v : disk.Image) (q : ℕ) (u : Unpacked) (page : List ℕ) (j : ℕ) → IsAt h v q u page → j < 512 → word page j ≡ number_word h v (512 * q + j)
+pub word_at : (h : Hardware) (v : disk.DiskImage) (q : ℕ) (u : Unpacked) (page : List ℕ) (j : ℕ) → IsAt h v q u page → j < 512 → word page j ≡ number_word h v (512 * q + j)
 word_at h v q u page j at lt = ap (λ (p : List ℕ). word p j) at.page_is ∙ sym (word_is h v q j lt)
 
-pub number_at : (h : Hardware) (v : disk.Image) (q : ℕ) (u : Unpacked) (page : List ℕ) (j : ℕ) → IsAt h v q u page → j < 512 → pack.number_in u page j ≡ number_in h v (512 * q + j)
+pub number_at : (h : Hardware) (v : disk.DiskImage) (q : ℕ) (u : Unpacked) (page : List ℕ) (j : ℕ) → IsAt h v q u page → j < 512 → pack.number_in u page j ≡ number_in h v (512 * q + j)
 number_at h v q u page j at lt = ap₂ (λ (f : Format) (w : ℕ). pack.number_by f w) at.format (word_at h v q u page j at lt)
 
-pub marked_at : (h : Hardware) (v : disk.Image) (q : ℕ) (u : Unpacked) (page : List ℕ) (j : ℕ) → IsAt h v q u page → j < 512 → pack.is_marked_by u.format (word page j) ≡ is_marked_by (format_in h v) (number_word h v (512 * q + j))
+pub marked_at : (h : Hardware) (v : disk.DiskImage) (q : ℕ) (u : Unpacked) (page : List ℕ) (j : ℕ) → IsAt h v q u page → j < 512 → pack.is_marked_by u.format (word page j) ≡ is_marked_by (format_in h v) (number_word h v (512 * q + j))
 marked_at h v q u page j at lt = ap₂ (λ (f : Format) (w : ℕ). pack.is_marked_by f w) at.format (word_at h v q u page j at lt)
 
 -- the number before number j
-pub before_at : (h : Hardware) (v : disk.Image) (q : ℕ) (u : Unpacked) (page : List ℕ) (j : ℕ) → IsAt h v q u page → j ≤ 512 → pack.before_in u page j ≡ last_number h v (512 * q + j)
+pub before_at : (h : Hardware) (v : disk.DiskImage) (q : ℕ) (u : Unpacked) (page : List ℕ) (j : ℕ) → IsAt h v q u page → j ≤ 512 → pack.before_in u page j ≡ last_number h v (512 * q + j)
 before_at h v q u page zero at le = at.last ∙ ap (last_number h v) (let e : 512 * q ≡ 512 * q + 0 = omega arith in e)
 before_at h v q u page (suc j) at le =
     ap Some (number_at h v q u page j at (omega arith)) ∙ ap (last_number h v) (let e : suc (512 * q + j) ≡ 512 * q + suc j = omega arith in e)
@@ -63,7 +63,7 @@ lift : (b : Bool) (x y : Option PfnFault) → as_reply (pfn_cause (cond b x y)) 
 lift true x y = refl
 lift false x y = refl
 
-pub number_fault_is : (h : Hardware) (v : disk.Image) (i : ℕ) → as_reply (pfn_cause (pack.number_fault h.zones (last_number h v i) (number_in h v i))) ≡ number_cause h v i
+pub number_fault_is : (h : Hardware) (v : disk.DiskImage) (i : ℕ) → as_reply (pfn_cause (pack.number_fault h.zones (last_number h v i) (number_in h v i))) ≡ number_cause h v i
 number_fault_is h v zero =
     lift (is_valid h (number_in h v 0)) None (Some (fault.BadPfn (number_in h v 0)))
     ∙ valid_or (is_valid h (number_in h v 0)) None (Some (reply.BadPfn (number_in h v 0)))
@@ -107,7 +107,7 @@ end_lift : (c : Bool) (a b : ℕ) → a ≡ b → as_reply (pfn_cause (cond (tru
 end_lift true a b e = refl
 end_lift false a b e = ap (λ x. Some (reply.PfnEnd x)) e
 
-pub end_is : (h : Hardware) (v : disk.Image) (q : ℕ) (u : Unpacked) (page : List ℕ) → IsAt h v q u page → 512 * q < (info_in h v).image_pages → (info_in h v).image_pages ≤ 512 * q + 512 → as_reply (pfn_cause (pack.end_fault u page)) ≡ end_cause h v (info_in h v).image_pages
+pub end_is : (h : Hardware) (v : disk.DiskImage) (q : ℕ) (u : Unpacked) (page : List ℕ) → IsAt h v q u page → 512 * q < (info_in h v).image_pages → (info_in h v).image_pages ≤ 512 * q + 512 → as_reply (pfn_cause (pack.end_fault u page)) ≡ end_cause h v (info_in h v).image_pages
 end_is h v q u page at lt le =
     let n = (info_in h v).image_pages in
     let n_is = at.n in
@@ -127,7 +127,7 @@ end_is h v q u page at lt le =
           ∙ sym (ap (λ b. cond (b || (number_word h v n == end_value)) None (Some (reply.PfnEnd (number_word h v n)))) (ne_eqb (n % 512) 0 more))
     ]
 
-pub no_end : (h : Hardware) (v : disk.Image) (q : ℕ) (u : Unpacked) (page : List ℕ) → IsAt h v q u page → 512 * q + 512 < (info_in h v).image_pages → pack.end_fault u page ≡ None
+pub no_end : (h : Hardware) (v : disk.DiskImage) (q : ℕ) (u : Unpacked) (page : List ℕ) → IsAt h v q u page → 512 * q + 512 < (info_in h v).image_pages → pack.end_fault u page ≡ None
 no_end h v q u page at lt =
     let n_is = at.n in
     let read_is = at.read in
@@ -136,11 +136,11 @@ no_end h v q u page at lt =
 
 -- The lists with the page's numbers.
 
-pub frames_in-more : (h : Hardware) (v : disk.Image) (m : ℕ) → frames_in h v (m + 1) ≡ frames_in h v m ++ number_in h v m ∷ []
+pub frames_in-more : (h : Hardware) (v : disk.DiskImage) (m : ℕ) → frames_in h v (m + 1) ≡ frames_in h v m ++ number_in h v m ∷ []
 unfolding frames_in
 frames_in-more h v m = map-range_with_len_more (number_in h v) 0 m m (omega arith)
 
-marked_more : (h : Hardware) (v : disk.Image) (m : ℕ) → marked_in h v (m + 1) ≡ marked_in h v m ++ map (number_in h v) (cond (is_marked_by (format_in h v) (number_word h v m)) (m ∷ []) [])
+marked_more : (h : Hardware) (v : disk.DiskImage) (m : ℕ) → marked_in h v (m + 1) ≡ marked_in h v m ++ map (number_in h v) (cond (is_marked_by (format_in h v) (number_word h v m)) (m ∷ []) [])
 unfolding marked_in
 marked_more h v m =
     let test : ℕ → Bool = λ j. is_marked_by (format_in h v) (number_word h v j) in
@@ -149,7 +149,7 @@ marked_more h v m =
     ∙ map-append (number_in h v) (filter test (range_with_len 0 m)) (cond (test (0 + m)) ((0 + m) ∷ []) [])
     ∙ ap (λ (i : ℕ). map (number_in h v) (filter test (range_with_len 0 m)) ++ map (number_in h v) (cond (test i) (i ∷ []) [])) this
 
-pub frames_with : (h : Hardware) (v : disk.Image) (q : ℕ) (u : Unpacked) (page : List ℕ) (m : ℕ) → IsAt h v q u page → m ≤ 512 → frames_in h v (512 * q) ++ pack.numbers_in u page m ≡ frames_in h v (512 * q + m)
+pub frames_with : (h : Hardware) (v : disk.DiskImage) (q : ℕ) (u : Unpacked) (page : List ℕ) (m : ℕ) → IsAt h v q u page → m ≤ 512 → frames_in h v (512 * q) ++ pack.numbers_in u page m ≡ frames_in h v (512 * q + m)
 frames_with h v q u page zero at le =
     ap (λ t. frames_in h v (512 * q) ++ t) (numbers_in-none u page) ∙ append-nil (frames_in h v (512 * q)) ∙ ap (frames_in h v) (let e : 512 * q ≡ 512 * q + 0 = omega arith in e)
 frames_with h v q u page (suc m) at le =
@@ -160,7 +160,7 @@ frames_with h v q u page (suc m) at le =
     ∙ sym (frames_in-more h v (512 * q + m))
     ∙ ap (frames_in h v) (let e : 512 * q + m + 1 ≡ 512 * q + suc m = omega arith in e)
 
-pub marks_with : (h : Hardware) (v : disk.Image) (q : ℕ) (u : Unpacked) (page : List ℕ) (m : ℕ) → IsAt h v q u page → m ≤ 512 → marked_in h v (512 * q) ++ pack.marked_in u page m ≡ marked_in h v (512 * q + m)
+pub marks_with : (h : Hardware) (v : disk.DiskImage) (q : ℕ) (u : Unpacked) (page : List ℕ) (m : ℕ) → IsAt h v q u page → m ≤ 512 → marked_in h v (512 * q) ++ pack.marked_in u page m ≡ marked_in h v (512 * q + m)
 marks_with h v q u page zero at le =
     ap (λ t. marked_in h v (512 * q) ++ t) (marked_in-none u page) ∙ append-nil (marked_in h v (512 * q)) ∙ ap (marked_in h v) (let e : 512 * q ≡ 512 * q + 0 = omega arith in e)
 marks_with h v q u page (suc m) at le =

@@ -13,7 +13,7 @@ abbrev pub as_reply : Option Cause → Option Reply
 as_reply None = None
 as_reply (Some cause) = Some (reply_of cause)
 
-pub same_fault : (h : Hardware) (v : disk.Image) (extents : List (ℕ × ℕ × ℕ)) (last blocks : ℕ) (format : Format) (x : ℕ) → IsAreaOf h v extents last blocks format → is_fault_of extents blocks last x ≡ is_at_fault h v x
+pub same_fault : (h : Hardware) (v : disk.DiskImage) (extents : List (ℕ × ℕ × ℕ)) (last blocks : ℕ) (format : Format) (x : ℕ) → IsAreaOf h v extents last blocks format → is_fault_of extents blocks last x ≡ is_at_fault h v x
 same_fault h v extents last blocks format x area =
     ap (λ e. is_fault_of e blocks last x) area.same_extents
     ∙ ap₂ (λ b l. is_fault_of h.extents b l x) area.same_blocks area.same_last

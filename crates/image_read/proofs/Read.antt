@@ -9,10 +9,10 @@ use Rattle.plain_machine.specs.Chain.{map_block}
 use Rattle.plain_machine.specs.Trace.{first_map, info_in, meta_in, place, place_count, read_cause, step_cause}
 use Rattle.plain_machine.specs.declared.event.IdentCheck.{IdentCheck}
 use Rattle.image_read.specs.Reading.{Reading}
-use Rattle.image_read.specs.Stream.{IsAreaOf, IsReading, HasCounts, AreListed, place_block, pages_read, known_pages, known_saved, numbers_read, frames_in, marked_in, data_frames, unpacked_at, told, frame_after}
+use Rattle.image_read.specs.Stream.{IsAreaOf, HasReadPlaces, HasCounts, AreListed, place_block, pages_read, known_pages, known_saved, numbers_read, frames_in, marked_in, data_frames, unpacked_at, told, frame_after}
 use Rattle.image_read.proofs.Places.{at_map, read_at_map}
 
-pub record IsRead (h : Hardware) (v : disk.Image) (check : IdentCheck) (r : Reading) (t k : ℕ) (origs zeros : List ℕ) : Type 0 where
+pub record IsRead (h : Hardware) (v : disk.DiskImage) (check : IdentCheck) (r : Reading) (t k : ℕ) (origs zeros : List ℕ) : Type 0 where
   pub area : IsAreaOf h v r.extents r.last r.blocks r.format
   pub steps : r.steps ≡ t
   pub sound : (s : ℕ) → s < t → step_cause h v check s ≡ None
@@ -31,33 +31,33 @@ pub record IsRead (h : Hardware) (v : disk.Image) (check : IdentCheck) (r : Read
   pub whole : (n : ℕ) → r.listed ≡ Some n → (info_in h v).pages ≡ length (data_frames h v) + meta_in h v + 1
 
 -- what is known once a page was read
-pub known : (h : Hardware) (v : disk.Image) (k : ℕ) → 1 ≤ k → known_pages h v k ≡ (info_in h v).pages
+pub known : (h : Hardware) (v : disk.DiskImage) (k : ℕ) → 1 ≤ k → known_pages h v k ≡ (info_in h v).pages
 known h v zero le = absurd (omega arith)
 known h v (suc k) le = refl
 
-pub saved_is : (h : Hardware) (v : disk.Image) (k : ℕ) → 1 ≤ k → known_saved h v k ≡ (info_in h v).image_pages
+pub saved_is : (h : Hardware) (v : disk.DiskImage) (k : ℕ) → 1 ≤ k → known_saved h v k ≡ (info_in h v).image_pages
 saved_is h v zero le = absurd (omega arith)
 saved_is h v (suc k) le = refl
 
-pub told_is : (h : Hardware) (v : disk.Image) (k : ℕ) → 1 ≤ k → told h v k ≡ cond (eqb (numbers_read h v k) (info_in h v).image_pages) (Some (info_in h v).image_pages) None
+pub told_is : (h : Hardware) (v : disk.DiskImage) (k : ℕ) → 1 ≤ k → told h v k ≡ cond (eqb (numbers_read h v k) (info_in h v).image_pages) (Some (info_in h v).image_pages) None
 told_is h v zero le = absurd (omega arith)
 told_is h v (suc k) le = refl
 
-pub told_all : (h : Hardware) (v : disk.Image) (k : ℕ) → 1 ≤ k → numbers_read h v k ≡ (info_in h v).image_pages → told h v k ≡ Some (info_in h v).image_pages
+pub told_all : (h : Hardware) (v : disk.DiskImage) (k : ℕ) → 1 ≤ k → numbers_read h v k ≡ (info_in h v).image_pages → told h v k ≡ Some (info_in h v).image_pages
 told_all h v k le all = told_is h v k le ∙ cond-true (eqb (numbers_read h v k) (info_in h v).image_pages) (Some (info_in h v).image_pages) None (eq-eqb (numbers_read h v k) (info_in h v).image_pages all)
 
-pub told_more : (h : Hardware) (v : disk.Image) (k : ℕ) → 1 ≤ k → (numbers_read h v k ≢ (info_in h v).image_pages) → told h v k ≡ None
+pub told_more : (h : Hardware) (v : disk.DiskImage) (k : ℕ) → 1 ≤ k → (numbers_read h v k ≢ (info_in h v).image_pages) → told h v k ≡ None
 told_more h v k le more = told_is h v k le ∙ cond-false (eqb (numbers_read h v k) (info_in h v).image_pages) (Some (info_in h v).image_pages) None (ne_eqb (numbers_read h v k) (info_in h v).image_pages more)
 
 -- where n is told, every number was read
-told_some : (h : Hardware) (v : disk.Image) (k n : ℕ) → told h v k ≡ Some n → (n ≡ (info_in h v).image_pages) × (numbers_read h v k ≡ (info_in h v).image_pages)
+told_some : (h : Hardware) (v : disk.DiskImage) (k n : ℕ) → told h v k ≡ Some n → (n ≡ (info_in h v).image_pages) × (numbers_read h v k ≡ (info_in h v).image_pages)
 told_some h v zero n some = cc
 told_some h v (suc k) n some = elim (cases_eq (numbers_read h v (suc k)) (info_in h v).image_pages) [
   | inl all ↦ (let same : Some n ≡ Some (info_in h v).image_pages = sym some ∙ told_all h v (suc k) (omega arith) all in cc, all)
   | inr more ↦ absurd (let no : Some n ≡ None = sym some ∙ told_more h v (suc k) (omega arith) more in cc)
 ]
 
-pub are_listed : (h : Hardware) (v : disk.Image) (check : IdentCheck) (r : Reading) (t k n : ℕ) (origs zeros : List ℕ) → IsRead h v check r t k origs zeros → r.listed ≡ Some n → AreListed h v n origs zeros
+pub are_listed : (h : Hardware) (v : disk.DiskImage) (check : IdentCheck) (r : Reading) (t k n : ℕ) (origs zeros : List ℕ) → IsRead h v check r t k origs zeros → r.listed ≡ Some n → AreListed h v n origs zeros
 are_listed h v check r t k n origs zeros read listed =
     let all = told_some h v k n (sym read.listed ∙ listed) in
     record {
@@ -69,7 +69,7 @@ are_listed h v check r t k n origs zeros read listed =
     }
 
 -- A map.
-pub read_map : (h : Hardware) (v : disk.Image) (check : IdentCheck) (r new : Reading) (t : ℕ) (page origs zeros : List ℕ) → IsReading h v check r t origs zeros → t < place_count (known_pages h v (pages_read t)) → t % 512 ≡ 0 → page ≡ disk.block v (place_block h v (place t)) → new ≡ record r { map = record { page = page; map = r.steps / 512 + 1 } } → IsRead h v check new t (pages_read (t + 1)) origs zeros
+pub read_map : (h : Hardware) (v : disk.DiskImage) (check : IdentCheck) (r new : Reading) (t : ℕ) (page origs zeros : List ℕ) → HasReadPlaces h v check r t origs zeros → t < place_count (known_pages h v (pages_read t)) → t % 512 ≡ 0 → page ≡ disk.block v (place_block h v (place t)) → new ≡ record r { map = record { page = page; map = r.steps / 512 + 1 } } → IsRead h v check new t (pages_read (t + 1)) origs zeros
 read_map h v check r new t page origs zeros reading more at page_is new_is =
     let made : List ℕ → ℕ → NumberedPage = λ bytes number. record { page = bytes; map = number } in
     let here : IsRead h v check (record r { map = record { page = page; map = r.steps / 512 + 1 } }) t (pages_read t) origs zeros = record {

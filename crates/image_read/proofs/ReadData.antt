@@ -15,7 +15,7 @@ use Rattle.plain_machine.specs.Trace.{page_at, info_in, format_in, meta_in, plac
 use Rattle.plain_machine.specs.declared.event.IdentCheck.{IdentCheck}
 use Rattle.image_read.specs.Reading.{Reading}
 use Rattle.image_read.specs.Taking.{with_data, after_frame}
-use Rattle.image_read.specs.Stream.{IsReading, pages_read, known_pages, numbers_read, frames_in, marked_in, data_frames, last_number, frame_after, frame_at}
+use Rattle.image_read.specs.Stream.{HasReadPlaces, pages_read, known_pages, numbers_read, frames_in, marked_in, data_frames, last_number, frame_after, frame_at}
 use Rattle.image_read.proofs.NextFrame.{IsStrictlyIncreasing-with_data}
 use Rattle.image_read.proofs.Places.{at_page, pages_left}
 use Rattle.image_read.proofs.Read.{IsRead, known, saved_is, told_all, told_more}
@@ -57,7 +57,7 @@ next_of xs i up lt =
 
 -- A data page that was read: which page frame's it is, and how the reader goes on.
 
-pub record IsData (h : Hardware) (v : disk.Image) (check : IdentCheck) (r : Reading) (t : ℕ) (origs zeros : List ℕ) : Type 0 where
+pub record IsData (h : Hardware) (v : disk.DiskImage) (check : IdentCheck) (r : Reading) (t : ℕ) (origs zeros : List ℕ) : Type 0 where
   pub all : numbers_read h v (pages_read t) ≡ (info_in h v).image_pages
   pub some : 1 ≤ pages_read t
   pub within : pages_read t - 1 - meta_in h v < length (data_frames h v)
@@ -65,7 +65,7 @@ pub record IsData (h : Hardware) (v : disk.Image) (check : IdentCheck) (r : Read
   pub up : IsStrictlyIncreasing (data_frames h v)
   pub found : first_from (with_data origs zeros) r.frame ≡ Some (get_or (data_frames h v) (pages_read t - 1 - meta_in h v) 0)
 
-pub at_data : (h : Hardware) (v : disk.Image) (check : IdentCheck) (r : Reading) (t m : ℕ) (origs zeros : List ℕ) → IsReading h v check r t origs zeros → t < place_count (known_pages h v (pages_read t)) → (t % 512 ≡ 0 → ⊥) → 1 ≤ pages_read t → r.listed ≡ Some m → IsData h v check r t origs zeros
+pub at_data : (h : Hardware) (v : disk.DiskImage) (check : IdentCheck) (r : Reading) (t m : ℕ) (origs zeros : List ℕ) → HasReadPlaces h v check r t origs zeros → t < place_count (known_pages h v (pages_read t)) → (t % 512 ≡ 0 → ⊥) → 1 ≤ pages_read t → r.listed ≡ Some m → IsData h v check r t origs zeros
 at_data h v check r t m origs zeros reading lt apart some listed =
     let n = (info_in h v).image_pages in
     let k = pages_read t in
@@ -95,7 +95,7 @@ at_data h v check r t m origs zeros reading lt apart some listed =
       found = ap₂ first_from are reading.frame ∙ next_of (data_frames h v) i up within;
     }
 
-pub frame_found : (h : Hardware) (v : disk.Image) (check : IdentCheck) (r : Reading) (t : ℕ) (origs zeros : List ℕ) → IsData h v check r t origs zeros → (t % 512 ≡ 0 → ⊥) → first_from (with_data origs zeros) r.frame ≡ frame_at h v (place t)
+pub frame_found : (h : Hardware) (v : disk.DiskImage) (check : IdentCheck) (r : Reading) (t : ℕ) (origs zeros : List ℕ) → IsData h v check r t origs zeros → (t % 512 ≡ 0 → ⊥) → first_from (with_data origs zeros) r.frame ≡ frame_at h v (place t)
 frame_found h v check r t origs zeros at apart =
     let past = at.past in
     let some = at.some in
@@ -104,7 +104,7 @@ frame_found h v check r t origs zeros at apart =
     ∙ cond-true (ltb (meta_in h v) (pages_read t)) (slice_get (data_frames h v) (pages_read t - 1 - meta_in h v)) None (lt-ltb (meta_in h v) (pages_read t) (omega arith))
     ∙ slice_get-get_or (data_frames h v) (pages_read t - 1 - meta_in h v) 0 at.within)
 
-pub data_cause : (h : Hardware) (v : disk.Image) (check : IdentCheck) (r : Reading) (t : ℕ) (origs zeros : List ℕ) → IsData h v check r t origs zeros → (t % 512 ≡ 0 → ⊥) → read_cause h v check (place t) ≡ None
+pub data_cause : (h : Hardware) (v : disk.DiskImage) (check : IdentCheck) (r : Reading) (t : ℕ) (origs zeros : List ℕ) → IsData h v check r t origs zeros → (t % 512 ≡ 0 → ⊥) → read_cause h v check (place t) ≡ None
 data_cause h v check r t origs zeros at apart =
     let past = at.past in
     let some = at.some in
@@ -112,10 +112,10 @@ data_cause h v check r t origs zeros at apart =
     ap (read_cause h v check) (at_page t apart ∙ ap page_at k_is)
     ∙ cond-false (ltb (pages_read t - 1) (meta_in h v)) (numbers_cause h v (pages_read t - 1)) None (le-ltb (pages_read t - 1) (meta_in h v) past)
 
-abbrev unpacked : Hardware → disk.Image → ℕ → ℕ → Unpacked
+abbrev unpacked : Hardware → disk.DiskImage → ℕ → ℕ → Unpacked
 unpacked h v n read = record { n = n; format = format_in h v; read = read; last = last_number h v read }
 
-pub read_data : (h : Hardware) (v : disk.Image) (check : IdentCheck) (r new : Reading) (t m : ℕ) (origs zeros : List ℕ) → IsReading h v check r t origs zeros → IsData h v check r t origs zeros → t < place_count (known_pages h v (pages_read t)) → (t % 512 ≡ 0 → ⊥) → r.listed ≡ Some m → new ≡ record r { frame = after_frame r.frame (first_from (with_data origs zeros) r.frame) } → IsRead h v check new t (pages_read t + 1) origs zeros
+pub read_data : (h : Hardware) (v : disk.DiskImage) (check : IdentCheck) (r new : Reading) (t m : ℕ) (origs zeros : List ℕ) → HasReadPlaces h v check r t origs zeros → IsData h v check r t origs zeros → t < place_count (known_pages h v (pages_read t)) → (t % 512 ≡ 0 → ⊥) → r.listed ≡ Some m → new ≡ record r { frame = after_frame r.frame (first_from (with_data origs zeros) r.frame) } → IsRead h v check new t (pages_read t + 1) origs zeros
 read_data h v check r new t m origs zeros reading at lt apart listed new_is =
     let n = (info_in h v).image_pages in
     let k = pages_read t in

@@ -22,7 +22,7 @@ use Rattle.image_read.specs.Reading.{Reading}
 use Rattle.image_read.specs.Faults.{info_fault, identity_fault, size_fault, counts_fault, field_fault}
 use Rattle.image_read.specs.Taking.{with_info}
 use Rattle.image_read.specs.Answers.{Compares}
-use Rattle.image_read.specs.Stream.{IsReading, place_block, pages_read, numbers_read, frames_in, marked_in, data_frames, last_number, told, frame_after}
+use Rattle.image_read.specs.Stream.{HasReadPlaces, place_block, pages_read, numbers_read, frames_in, marked_in, data_frames, last_number, told, frame_after}
 use Rattle.image_read.specs.declared.cause.Cause.TheVariants.{MemorySize, BadCounts}
 use Rattle.image_read.proofs.Over.{as_reply, as_reply-or_else, as_reply-cond}
 use Rattle.image_read.proofs.Counts.{info_sound, good_counts}
@@ -33,7 +33,7 @@ field_reply : (f : Option Field) → as_reply (field_fault f) ≡ elim f as (λ 
 field_reply None = refl
 field_reply (Some field) = refl
 
-identity_is : (h : Hardware) (v : disk.Image) (check : IdentCheck) (own : Option Ident) → Compares h check own → as_reply (identity_fault own (info_in h v)) ≡ identity_cause h v check
+identity_is : (h : Hardware) (v : disk.DiskImage) (check : IdentCheck) (own : Option Ident) → Compares h check own → as_reply (identity_fault own (info_in h v)) ≡ identity_cause h v check
 identity_is h v Compare own is = ap (λ (o : Option Ident). as_reply (identity_fault o (info_in h v))) is ∙ field_reply (mismatch (info_in h v).ident h.ident)
 identity_is h v Skip own is = ap (λ (o : Option Ident). as_reply (identity_fault o (info_in h v))) is
 
@@ -42,7 +42,7 @@ same_test Plain valid n pages = refl
 same_test SkipZeros valid n pages = refl
 
 -- what is wrong with it is what a resume answers
-pub info_fault_is : (h : Hardware) (v : disk.Image) (check : IdentCheck) (own : Option Ident) (valid : ℕ) (format : Format) (info : Info) → Compares h check own → valid ≡ valid_count h → format ≡ format_in h v → info ≡ info_in h v → as_reply (info_fault own valid format info) ≡ info_cause h v check
+pub info_fault_is : (h : Hardware) (v : disk.DiskImage) (check : IdentCheck) (own : Option Ident) (valid : ℕ) (format : Format) (info : Info) → Compares h check own → valid ≡ valid_count h → format ≡ format_in h v → info ≡ info_in h v → as_reply (info_fault own valid format info) ≡ info_cause h v check
 unfolding info_fault
 info_fault_is h v check own valid format info compares valid_is format_is info_is =
     let n = (info_in h v).image_pages in
@@ -59,11 +59,11 @@ info_fault_is h v check own valid format info compares valid_is format_is info_i
 abbrev begun : ℕ → Format → Unpacked
 begun n format = record { n = n; format = format; read = 0; last = None }
 
-abbrev at_number : Hardware → disk.Image → ℕ → Unpacked
+abbrev at_number : Hardware → disk.DiskImage → ℕ → Unpacked
 at_number h v m = record { n = (info_in h v).image_pages; format = format_in h v; read = m; last = last_number h v m }
 
 -- an info page that was accepted
-pub read_info : (h : Hardware) (v : disk.Image) (check : IdentCheck) (own : Option Ident) (valid : ℕ) (r new : Reading) (page origs zeros : List ℕ) → IsReading h v check r 1 origs zeros → page ≡ disk.block v (place_block h v (place 1)) → Compares h check own → valid ≡ valid_count h → info_fault own valid r.format (info_of page) ≡ None → new ≡ with_info r (info_of page) → IsRead h v check new 1 1 origs zeros
+pub read_info : (h : Hardware) (v : disk.DiskImage) (check : IdentCheck) (own : Option Ident) (valid : ℕ) (r new : Reading) (page origs zeros : List ℕ) → HasReadPlaces h v check r 1 origs zeros → page ≡ disk.block v (place_block h v (place 1)) → Compares h check own → valid ≡ valid_count h → info_fault own valid r.format (info_of page) ≡ None → new ≡ with_info r (info_of page) → IsRead h v check new 1 1 origs zeros
 read_info h v check own valid r new page origs zeros reading page_is compares valid_is sound new_is =
     let info_is : info_of page ≡ info_in h v = ap info_of page_is in
     let cause_is = info_fault_is h v check own valid r.format (info_of page) compares valid_is reading.area.same_format info_is in

@@ -17,7 +17,7 @@ use Rattle.plain_machine.specs.declared.reply.Reply.{Reply}
 use Rattle.image_read.specs.Reading.{Reading, IsReady}
 use Rattle.image_read.specs.Faults.{pages_fault}
 use Rattle.image_read.specs.Taking.{numbers_fault, listing_fault, pfn_cause, with_numbers, all_read}
-use Rattle.image_read.specs.Stream.{IsReading, place_block, pages_read, known_pages, known_saved, numbers_read, frames_in, marked_in, data_frames, last_number, told, frame_after}
+use Rattle.image_read.specs.Stream.{HasReadPlaces, place_block, pages_read, known_pages, known_saved, numbers_read, frames_in, marked_in, data_frames, last_number, told, frame_after}
 use Rattle.image_read.specs.declared.cause.Cause.{Cause}
 use Rattle.image_read.specs.declared.cause.Cause.TheVariants.{BadCounts}
 use Rattle.image_read.proofs.Over.{as_reply, as_reply-or_else, as_reply-cond, or_else-none}
@@ -29,7 +29,7 @@ use Rattle.image_read.proofs.Read.{IsRead, known, saved_is, told_all, told_more}
 use Rattle.image_read.proofs.Rising.{rising_on, data_length, data_words}
 
 -- where the reader stands before number page q
-pub record IsAtNumbers (h : Hardware) (v : disk.Image) (r : Reading) (t q : ℕ) (page zeros : List ℕ) : Type 0 where
+pub record IsAtNumbers (h : Hardware) (v : disk.DiskImage) (r : Reading) (t q : ℕ) (page zeros : List ℕ) : Type 0 where
   pub at : IsAt h v q r.numbers page
   pub more : 512 * q < (info_in h v).image_pages
   pub k_is : pages_read t ≡ suc q
@@ -39,7 +39,7 @@ pub record IsAtNumbers (h : Hardware) (v : disk.Image) (r : Reading) (t q : ℕ)
   pub pages : r.pages ≡ (info_in h v).pages
   pub marks : zeros ≡ marked_in h v (512 * q)
 
-pub at_numbers : (h : Hardware) (v : disk.Image) (check : IdentCheck) (r : Reading) (t : ℕ) (page origs zeros : List ℕ) → IsReading h v check r t origs zeros → (t % 512 ≡ 0 → ⊥) → 1 ≤ pages_read t → r.listed ≡ None → page ≡ disk.block v (place_block h v (place t)) → IsAtNumbers h v r t (pages_read t - 1) page zeros
+pub at_numbers : (h : Hardware) (v : disk.DiskImage) (check : IdentCheck) (r : Reading) (t : ℕ) (page origs zeros : List ℕ) → HasReadPlaces h v check r t origs zeros → (t % 512 ≡ 0 → ⊥) → 1 ≤ pages_read t → r.listed ≡ None → page ≡ disk.block v (place_block h v (place t)) → IsAtNumbers h v r t (pages_read t - 1) page zeros
 at_numbers h v check r t page origs zeros reading apart some none page_is =
     let n = (info_in h v).image_pages in
     let k = pages_read t in
@@ -81,16 +81,16 @@ or_assoc : (a b c : Option Reply) → or_else (or_else a b) c ≡ or_else a (or_
 or_assoc None b c = refl
 or_assoc (Some x) b c = refl
 
-own : Hardware → disk.Image → ℕ → Option Reply
+own : Hardware → disk.DiskImage → ℕ → Option Reply
 own h v q = first_some (map (number_cause h v) (range_with_len (512 * q) (min 512 ((info_in h v).image_pages - 512 * q))))
 
-each_is : (h : Hardware) (v : disk.Image) (zones : List (ℕ × ℕ)) (q : ℕ) (u : Unpacked) (page : List ℕ) (j : ℕ) → IsAt h v q u page → zones ≡ h.zones → j < 512 → as_reply (pfn_cause (pack.fault_in zones u page j)) ≡ number_cause h v (512 * q + j)
+each_is : (h : Hardware) (v : disk.DiskImage) (zones : List (ℕ × ℕ)) (q : ℕ) (u : Unpacked) (page : List ℕ) (j : ℕ) → IsAt h v q u page → zones ≡ h.zones → j < 512 → as_reply (pfn_cause (pack.fault_in zones u page j)) ≡ number_cause h v (512 * q + j)
 each_is h v zones q u page j at zones_is lt =
     ap (λ (zs : List (ℕ × ℕ)). as_reply (pfn_cause (pack.fault_in zs u page j))) zones_is
     ∙ ap₂ (λ (b : Option ℕ) (p : ℕ). as_reply (pfn_cause (pack.number_fault h.zones b p))) (before_at h v q u page j at (omega arith)) (number_at h v q u page j at lt)
     ∙ number_fault_is h v (512 * q + j)
 
-own_is : (h : Hardware) (v : disk.Image) (zones : List (ℕ × ℕ)) (q : ℕ) (u : Unpacked) (page : List ℕ) → IsAt h v q u page → zones ≡ h.zones → as_reply (pfn_cause (pack.first_below (pack.fault_in zones u page) (pack.wanted u))) ≡ own h v q
+own_is : (h : Hardware) (v : disk.DiskImage) (zones : List (ℕ × ℕ)) (q : ℕ) (u : Unpacked) (page : List ℕ) → IsAt h v q u page → zones ≡ h.zones → as_reply (pfn_cause (pack.first_below (pack.fault_in zones u page) (pack.wanted u))) ≡ own h v q
 unfolding own
 own_is h v zones q u page at zones_is =
     let n_is = at.n in
@@ -99,7 +99,7 @@ own_is h v zones q u page at zones_is =
     first_is (pack.fault_in zones u page) (number_cause h v) (512 * q) (pack.wanted u) (pack.wanted u) (omega arith) (λ j lt. each_is h v zones q u page j at zones_is (omega arith))
     ∙ ap (λ (m : ℕ). first_some (map (number_cause h v) (range_with_len (512 * q) m))) w
 
-listing_is : (h : Hardware) (v : disk.Image) (saved pages zeros : ℕ) → saved ≡ (info_in h v).image_pages → pages ≡ (info_in h v).pages → zeros ≡ length (marked_in h v (info_in h v).image_pages) → as_reply (pages_fault saved pages zeros) ≡ listed_cause h v
+listing_is : (h : Hardware) (v : disk.DiskImage) (saved pages zeros : ℕ) → saved ≡ (info_in h v).image_pages → pages ≡ (info_in h v).pages → zeros ≡ length (marked_in h v (info_in h v).image_pages) → as_reply (pages_fault saved pages zeros) ≡ listed_cause h v
 listing_is h v saved pages zeros saved_same pages_same zeros_is =
     let n = (info_in h v).image_pages in
     let count : n - zeros ≡ d_in h v = ap (λ (z : ℕ). n - z) zeros_is ∙ sym (data_length h v) ∙ data_words h v in
@@ -107,7 +107,7 @@ listing_is h v saved pages zeros saved_same pages_same zeros_is =
     ∙ ap (λ (d : ℕ). as_reply (cond (eqb (info_in h v).pages (d + meta_of n + 1)) None (Some (BadCounts n (info_in h v).pages)))) count
     ∙ as_reply-cond (eqb (info_in h v).pages (d_in h v + meta_of n + 1)) None (Some (BadCounts n (info_in h v).pages))
 
-pub numbers_fault_is : (h : Hardware) (v : disk.Image) (zones : List (ℕ × ℕ)) (r : Reading) (t q : ℕ) (page zeros : List ℕ) → IsAtNumbers h v r t q page zeros → zones ≡ h.zones → as_reply (numbers_fault zones r zeros page) ≡ numbers_cause h v q
+pub numbers_fault_is : (h : Hardware) (v : disk.DiskImage) (zones : List (ℕ × ℕ)) (r : Reading) (t q : ℕ) (page zeros : List ℕ) → IsAtNumbers h v r t q page zeros → zones ≡ h.zones → as_reply (numbers_fault zones r zeros page) ≡ numbers_cause h v q
 unfolding own pack.page_fault
 numbers_fault_is h v zones r t q page zeros here zones_is =
     let n = (info_in h v).image_pages in
@@ -148,7 +148,7 @@ numbers_fault_is h v zones r t q page zeros here zones_is =
     ]
 
 -- and so of its place
-pub cause_of_place : (h : Hardware) (v : disk.Image) (check : IdentCheck) (zones : List (ℕ × ℕ)) (r : Reading) (t q : ℕ) (page zeros : List ℕ) → IsAtNumbers h v r t q page zeros → zones ≡ h.zones → read_cause h v check (place t) ≡ as_reply (numbers_fault zones r zeros page)
+pub cause_of_place : (h : Hardware) (v : disk.DiskImage) (check : IdentCheck) (zones : List (ℕ × ℕ)) (r : Reading) (t q : ℕ) (page zeros : List ℕ) → IsAtNumbers h v r t q page zeros → zones ≡ h.zones → read_cause h v check (place t) ≡ as_reply (numbers_fault zones r zeros page)
 cause_of_place h v check zones r t q page zeros here zones_is =
     let more = here.more in
     ap (read_cause h v check) here.place_is
@@ -163,10 +163,10 @@ pages_match saved pages zeros h = elim (cases_Bool (eqb pages (saved - zeros + m
   | inr apart ↦ absurd (let bad : Some (BadCounts saved pages) ≡ None = sym (cond-false (eqb pages (saved - zeros + meta_of saved + 1)) None (Some (BadCounts saved pages)) apart) ∙ h in cc)
 ]
 
-abbrev unpacked : Hardware → disk.Image → Format → ℕ → ℕ → Option ℕ → Unpacked
+abbrev unpacked : Hardware → disk.DiskImage → Format → ℕ → ℕ → Option ℕ → Unpacked
 unpacked h v format n read last = record { n = n; format = format; read = read; last = last }
 
-pub read_numbers : (h : Hardware) (v : disk.Image) (check : IdentCheck) (zones : List (ℕ × ℕ)) (r new : Reading) (t : ℕ) (page origs zeros new_origs new_zeros : List ℕ) → IsReading h v check r t origs zeros → IsReady r origs zeros → t < place_count (known_pages h v (pages_read t)) → (t % 512 ≡ 0 → ⊥) → 1 ≤ pages_read t → r.listed ≡ None → page ≡ disk.block v (place_block h v (place t)) → zones ≡ h.zones → numbers_fault zones r zeros page ≡ None → new ≡ with_numbers r page → new_origs ≡ origs ++ pack.numbers_in r.numbers page (pack.wanted r.numbers) → new_zeros ≡ zeros ++ pack.marked_in r.numbers page (pack.wanted r.numbers) → IsRead h v check new t (pages_read t + 1) new_origs new_zeros
+pub read_numbers : (h : Hardware) (v : disk.DiskImage) (check : IdentCheck) (zones : List (ℕ × ℕ)) (r new : Reading) (t : ℕ) (page origs zeros new_origs new_zeros : List ℕ) → HasReadPlaces h v check r t origs zeros → IsReady r origs zeros → t < place_count (known_pages h v (pages_read t)) → (t % 512 ≡ 0 → ⊥) → 1 ≤ pages_read t → r.listed ≡ None → page ≡ disk.block v (place_block h v (place t)) → zones ≡ h.zones → numbers_fault zones r zeros page ≡ None → new ≡ with_numbers r page → new_origs ≡ origs ++ pack.numbers_in r.numbers page (pack.wanted r.numbers) → new_zeros ≡ zeros ++ pack.marked_in r.numbers page (pack.wanted r.numbers) → IsRead h v check new t (pages_read t + 1) new_origs new_zeros
 read_numbers h v check zones r new t page origs zeros new_origs new_zeros reading ready lt apart some none page_is zones_is fault new_is origs_is zeros_is =
     let n = (info_in h v).image_pages in
     let q = pages_read t - 1 in

@@ -141,15 +141,15 @@ data_count f marked n =
 
 -- The same of an image.
 
-pub data_frames_are : (h : Hardware) (v : disk.Image) → IsStrictlyIncreasing (frames_in h v (trace.info_in h v).image_pages) → with_data (frames_in h v (trace.info_in h v).image_pages) (marked_in h v (trace.info_in h v).image_pages) ≡ data_frames h v
+pub data_frames_are : (h : Hardware) (v : disk.DiskImage) → IsStrictlyIncreasing (frames_in h v (trace.info_in h v).image_pages) → with_data (frames_in h v (trace.info_in h v).image_pages) (marked_in h v (trace.info_in h v).image_pages) ≡ data_frames h v
 unfolding frames_in marked_in data_frames with_data
 data_frames_are h v up = data_kept (trace.number_in h v) (λ j. trace.is_marked_by (trace.format_in h v) (trace.number_word h v j)) (trace.info_in h v).image_pages up
 
-pub data_length : (h : Hardware) (v : disk.Image) → length (data_frames h v) ≡ (trace.info_in h v).image_pages - length (marked_in h v (trace.info_in h v).image_pages)
+pub data_length : (h : Hardware) (v : disk.DiskImage) → length (data_frames h v) ≡ (trace.info_in h v).image_pages - length (marked_in h v (trace.info_in h v).image_pages)
 unfolding marked_in data_frames
 data_length h v = data_count (trace.number_in h v) (λ j. trace.is_marked_by (trace.format_in h v) (trace.number_word h v j)) (trace.info_in h v).image_pages
 
-pub data_words : (h : Hardware) (v : disk.Image) → length (data_frames h v) ≡ trace.d_in h v
+pub data_words : (h : Hardware) (v : disk.DiskImage) → length (data_frames h v) ≡ trace.d_in h v
 unfolding data_frames
 data_words h v =
     let js = range_with_len 0 (trace.info_in h v).image_pages in

@@ -8,17 +8,17 @@ use Rattle.plain_machine.specs.Trace.{place, place_count}
 use Rattle.plain_machine.specs.declared.event.IdentCheck.{IdentCheck}
 use Rattle.std.proofs.lemmas.Bool.{cases_lt, both_ways}
 use Rattle.std.specs.Result.{is_err}
-use Rattle.image_read.specs.Reading.{Reading, IsReady, IsOver}
-use Rattle.image_read.specs.Stream.{IsReading, place_block, pages_read, known_pages}
+use Rattle.image_read.specs.Reading.{Reading, IsReady, HasReadAll}
+use Rattle.image_read.specs.Stream.{HasReadPlaces, place_block, pages_read, known_pages}
 use Rattle.image_read.specs.Answers.{Reads, Gives, Answers}
 use Rattle.image_read.specs.declared.reader.ReadStep.TheVariants.{More, Page}
 use Rattle.image_read.proofs.Blocks.{block_sound}
 
-same_block : (h : Hardware) (v : disk.Image) (content : Option disk.Content) (b : ℕ) (into : List ℕ) → Reads h v content → b < blocks_of v → (b ≢ block_of_slot h 0) → IfSome content (λ held. into ≡ disk.block (disk.as_it_reads held) b) → into ≡ disk.block v b
+same_block : (h : Hardware) (v : disk.DiskImage) (content : Option disk.Content) (b : ℕ) (into : List ℕ) → Reads h v content → b < blocks_of v → (b ≢ block_of_slot h 0) → IfSome content (λ held. into ≡ disk.block (disk.as_it_reads held) b) → into ≡ disk.block v b
 same_block h v None b into reads below apart read = absurd reads
 same_block h v (Some held) b into reads below apart read = read ∙ reads b below apart
 
-pub read_as : (h : Hardware) (v : disk.Image) (check : IdentCheck) (r : Reading) (t : ℕ) (origs zeros : List ℕ) (content : Option disk.Content) (into : List ℕ) → IsReading h v check r t origs zeros → IsReady r origs zeros → r.steps < place_count r.pages → Reads h v content → IfSome content (λ held. into ≡ disk.block (disk.as_it_reads held) r.block) → into ≡ disk.block v (place_block h v (place t))
+pub read_as : (h : Hardware) (v : disk.DiskImage) (check : IdentCheck) (r : Reading) (t : ℕ) (origs zeros : List ℕ) (content : Option disk.Content) (into : List ℕ) → HasReadPlaces h v check r t origs zeros → IsReady r origs zeros → r.steps < place_count r.pages → Reads h v content → IfSome content (λ held. into ≡ disk.block (disk.as_it_reads held) r.block) → into ≡ disk.block v (place_block h v (place t))
 read_as h v check r t origs zeros content into reading ready more reads read =
     let steps_is = reading.steps in
     let pages_is = ap place_count reading.pages in
@@ -29,10 +29,10 @@ read_as h v check r t origs zeros content into reading ready more reads read =
     same_block h v content r.block into reads (omega arith) sound.apart read ∙ ap (disk.block v) (reading.block lt)
 
 -- by what was taken
-pub answers_page : (h : Hardware) (v : disk.Image) (check : IdentCheck) (t pfn : ℕ) (old new : Reading) (origs zeros page : List ℕ) → page ≡ disk.block v (place_block h v (place t)) → Gives h v check t (Ok (Some pfn)) new origs zeros → Answers h v check t (Page pfn) old new origs zeros page
+pub answers_page : (h : Hardware) (v : disk.DiskImage) (check : IdentCheck) (t pfn : ℕ) (old new : Reading) (origs zeros page : List ℕ) → page ≡ disk.block v (place_block h v (place t)) → Gives h v check t (Ok (Some pfn)) new origs zeros → Answers h v check t (Page pfn) old new origs zeros page
 answers_page h v check t pfn old new origs zeros page page_is gives = (gives.0, gives.1, sym gives.2, page_is)
 
-pub answers_more : (h : Hardware) (v : disk.Image) (check : IdentCheck) (t k : ℕ) (old new : Reading) (origs zeros page : List ℕ) → k ≡ new.steps → Gives h v check t (Ok None) new origs zeros → Answers h v check t (More k) old new origs zeros page
+pub answers_more : (h : Hardware) (v : disk.DiskImage) (check : IdentCheck) (t k : ℕ) (old new : Reading) (origs zeros page : List ℕ) → k ≡ new.steps → Gives h v check t (Ok None) new origs zeros → Answers h v check t (More k) old new origs zeros page
 answers_more h v check t k old new origs zeros page k_is gives = (gives.0, gives.1, sym gives.2, k_is ∙ gives.1.steps)
 
 -- a block that was read
@@ -41,7 +41,7 @@ pub on_ok : {A E : Type 0} (r : Result A E) (P : Type 0) → is_err r ≡ false 
 on_ok (Ok x) P h p = p
 on_ok (Err e) P h p = cc
 
-pub not_over : (r : Reading) (origs zeros : List ℕ) (over : Bool) → IsReady r origs zeros → over ≡ false → (IsOver r → over ≡ true) → r.steps < place_count r.pages
+pub not_over : (r : Reading) (origs zeros : List ℕ) (over : Bool) → IsReady r origs zeros → over ≡ false → (HasReadAll r → over ≡ true) → r.steps < place_count r.pages
 not_over r origs zeros over ready is told =
     let within = ready.within in
     elim (cases_lt r.steps (place_count r.pages)) [

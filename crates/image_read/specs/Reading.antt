@@ -25,8 +25,8 @@ pub record Reading : Type 0 where
   pub frame : ℕ
 
 -- every block that is known of was read
-abbrev pub IsOver : Reading → Type 0
-IsOver r = r.steps ≡ place_count r.pages
+abbrev pub HasReadAll : Reading → Type 0
+HasReadAll r = r.steps ≡ place_count r.pages
 
 -- What holds between two steps, of the reader and of the page frames that are listed so far: the next block is one of the
 -- disk, the page frames are the numbers that were read, and more numbers are wanted until all are accepted.

@@ -14,7 +14,7 @@ use Rattle.plain_machine.specs.declared.event.IdentCheck.{IdentCheck}
 use Rattle.image_read.specs.Reading.{Reading}
 
 -- the block of a place
-abbrev pub place_block : Hardware → disk.Image → Place → ℕ
+abbrev pub place_block : Hardware → disk.DiskImage → Place → ℕ
 place_block h v (map_at j) = map_block v (first_map h v) j
 place_block h v (page_at k) = entry_block v (first_map h v) k
 
@@ -23,34 +23,34 @@ abbrev pub pages_read : ℕ → ℕ
 pages_read t = t - (t + 511) / 512
 
 -- After k pages of the stream: how many pages it has, as far as is known, and how many numbers were read.
-abbrev pub known_pages : Hardware → disk.Image → ℕ → ℕ
+abbrev pub known_pages : Hardware → disk.DiskImage → ℕ → ℕ
 known_pages h v zero = 1
 known_pages h v (suc k) = (info_in h v).pages
 
-abbrev pub known_saved : Hardware → disk.Image → ℕ → ℕ
+abbrev pub known_saved : Hardware → disk.DiskImage → ℕ → ℕ
 known_saved h v zero = 0
 known_saved h v (suc k) = (info_in h v).image_pages
 
-abbrev pub numbers_read : Hardware → disk.Image → ℕ → ℕ
+abbrev pub numbers_read : Hardware → disk.DiskImage → ℕ → ℕ
 numbers_read h v k = min (known_saved h v k) (512 * (k - 1))
 
 -- the first m page frames that the numbers name, and those of them that have no data page
-unfoldable pub frames_in : Hardware → disk.Image → ℕ → List ℕ
+unfoldable pub frames_in : Hardware → disk.DiskImage → ℕ → List ℕ
 frames_in h v m = map (number_in h v) (range_with_len 0 m)
 
-unfoldable pub marked_in : Hardware → disk.Image → ℕ → List ℕ
+unfoldable pub marked_in : Hardware → disk.DiskImage → ℕ → List ℕ
 marked_in h v m = map (number_in h v) (filter (λ j. is_marked_by (format_in h v) (number_word h v j)) (range_with_len 0 m))
 
 -- the page frames that have data pages, in the order of the stream
-unfoldable pub data_frames : Hardware → disk.Image → List ℕ
+unfoldable pub data_frames : Hardware → disk.DiskImage → List ℕ
 data_frames h v =
     map (number_in h v) (filter (λ j. not (is_marked_by (format_in h v) (number_word h v j))) (range_with_len 0 (info_in h v).image_pages))
 
-abbrev pub last_number : Hardware → disk.Image → ℕ → Option ℕ
+abbrev pub last_number : Hardware → disk.DiskImage → ℕ → Option ℕ
 last_number h v zero = None
 last_number h v (suc m) = Some (number_in h v m)
 
-abbrev pub unpacked_at : Hardware → disk.Image → ℕ → Unpacked
+abbrev pub unpacked_at : Hardware → disk.DiskImage → ℕ → Unpacked
 unpacked_at h v k = record {
   n = known_saved h v k;
   format = format_in h v;
@@ -59,7 +59,7 @@ unpacked_at h v k = record {
 }
 
 -- n once the last number page is read
-abbrev pub told : Hardware → disk.Image → ℕ → Option ℕ
+abbrev pub told : Hardware → disk.DiskImage → ℕ → Option ℕ
 told h v zero = None
 told h v (suc k) = if numbers_read h v (suc k) == (info_in h v).image_pages then Some (info_in h v).image_pages else None
 
@@ -69,7 +69,7 @@ frame_after frames zero = 0
 frame_after frames (suc i) = slice_index frames i + 1
 
 -- whose page the stream has at a place, if it is a data page
-abbrev pub frame_at : Hardware → disk.Image → Place → Option ℕ
+abbrev pub frame_at : Hardware → disk.DiskImage → Place → Option ℕ
 frame_at h v (map_at j) = None
 frame_at h v (page_at k) = if nat_lt (meta_in h v) k then slice_get (data_frames h v) (k - 1 - meta_in h v) else None
 
@@ -79,14 +79,14 @@ pub record HasCounts (n pages : ℕ) : Type 0 where
   pub least : meta_of n + 1 ≤ pages
 
 -- the slots on the blocks of this disk, by its header
-pub record IsAreaOf (h : Hardware) (v : disk.Image) (extents : List (ℕ × ℕ × ℕ)) (last blocks : ℕ) (format : Format) : Type 0 where
+pub record IsAreaOf (h : Hardware) (v : disk.DiskImage) (extents : List (ℕ × ℕ × ℕ)) (last blocks : ℕ) (format : Format) : Type 0 where
   pub same_extents : extents ≡ h.extents
   pub same_last : last ≡ last_page_of (header_of h v)
   pub same_blocks : blocks ≡ blocks_of v
   pub same_format : format ≡ format_in h v
 
 -- The sets hold all n page frames that the numbers name, and the stream has a page for each of them that has data.
-pub record AreListed (h : Hardware) (v : disk.Image) (n : ℕ) (origs zeros : List ℕ) : Type 0 where
+pub record AreListed (h : Hardware) (v : disk.DiskImage) (n : ℕ) (origs zeros : List ℕ) : Type 0 where
   pub count : n ≡ (info_in h v).image_pages
   pub frames : origs ≡ frames_in h v (info_in h v).image_pages
   pub marks : zeros ≡ marked_in h v (info_in h v).image_pages
@@ -94,7 +94,7 @@ pub record AreListed (h : Hardware) (v : disk.Image) (n : ℕ) (origs zeros : Li
   pub whole : (info_in h v).pages ≡ length (data_frames h v) + meta_in h v + 1
 
 -- The first t places of the disk v were read, and nothing is wrong with them.
-pub record IsReading (h : Hardware) (v : disk.Image) (check : IdentCheck) (r : Reading) (t : ℕ) (origs zeros : List ℕ) : Type 0 where
+pub record HasReadPlaces (h : Hardware) (v : disk.DiskImage) (check : IdentCheck) (r : Reading) (t : ℕ) (origs zeros : List ℕ) : Type 0 where
   pub area : IsAreaOf h v r.extents r.last r.blocks r.format
   pub steps : r.steps ≡ t
   pub sound : (s : ℕ) → s < t → step_cause h v check s ≡ None

@@ -1,7 +1,7 @@
 ghost use Rattle.std.specs.Prelude.{◌≡◌, ℕ, ◌+◌, ◌-◌, ◌<◌, ◌≤◌, ◌↔◌, ◌++◌, [], length, Some, None, Ok, Err, IsOk, IfOk, IfErr, IfSome, OnOk, OnErr, MatchResult, IsTrue, List, Option};
 ghost use Rattle.std.specs.Option.{option_copied};
 ghost use Rattle.definitions.specs.Zones.{numbers, first_from};
-ghost use Rattle.definitions.specs.Disk.{Image, block, Changes, Elapses, raised, HasRisen};
+ghost use Rattle.definitions.specs.Disk.{DiskImage, block, Changes, Elapses, raised, HasRisen};
 ghost use Rattle.definitions.specs.InfoPage.{info_of};
 ghost use Rattle.plain_machine.specs.Machine.{Hardware};
 ghost use Rattle.plain_machine.specs.declared.event.IdentCheck.{IdentCheck};
@@ -78,12 +78,12 @@ impl Model for Reader {
 }
 
 impl Reader {
-    ghost use Rattle.image_read.specs.Reading.{Reading, IsOver, IsReady};
+    ghost use Rattle.image_read.specs.Reading.{Reading, HasReadAll, IsReady};
     ghost use Rattle.image_read.specs.Causes.{reply_of};
     ghost use Rattle.image_read.specs.Faults.{first_fault, info_fault, pages_fault, named_fault, named_block, chain_fault, block_named};
     ghost use Rattle.pfn_pack.specs.Numbers.{wanted, numbers_in, marked_in};
     ghost use Rattle.image_read.specs.Taking.{Takes, Advances, with_data, after_frame, with_info, with_numbers, numbers_fault};
-    ghost use Rattle.image_read.specs.Stream.{IsAreaOf, IsReading, place_block};
+    ghost use Rattle.image_read.specs.Stream.{IsAreaOf, HasReadPlaces, place_block};
     ghost use Rattle.image_read.specs.Answers.{Compares, Reads, Gives, Answers, GoesOn};
     ghost use Rattle.image_read.specs.declared.cause.Cause.{Cause};
 
@@ -98,12 +98,12 @@ impl Reader {
     ) -> Result<Reader, Cause>
         ensures ok { IsOk result ↔ (first_fault map.now blocks last first ≡ None) }
         ensures refused { (cause : Cause) → (result ≡ Err cause) ↔ (first_fault map.now blocks last first ≡ Some cause) }
-        ensures chain { (h : Hardware) (v : Image) → IsAreaOf h v map.now last blocks format →
+        ensures chain { (h : Hardware) (v : DiskImage) → IsAreaOf h v map.now last blocks format →
             MatchResult result (λ r. map_fault h v first 0 ≡ None) (λ cause. map_fault h v first 0 ≡ Some (reply_of cause)) }
         ensures ready { IfOk result (λ r. IsReady r [] []) }
         ensures blocks { IfOk result (λ r. r.blocks ≡ blocks) }
-        ensures reading { (h : Hardware) (v : Image) (check : IdentCheck) → IsAreaOf h v map.now last blocks format → first ≡ first_map h v →
-            IfOk result (λ r. IsReading h v check r 0 [] []) }
+        ensures reading { (h : Hardware) (v : DiskImage) (check : IdentCheck) → IsAreaOf h v map.now last blocks format → first ≡ first_map h v →
+            IfOk result (λ r. HasReadPlaces h v check r 0 [] []) }
     {
         if first == 0 {
             return Err(Cause::NoChain);
@@ -137,8 +137,8 @@ impl Reader {
 
     /// Whether every page of the stream was read.
     pub fn over(&self) -> bool
-        ensures over { IsTrue result ↔ IsOver self.now }
-        ensures whole { (h : Hardware) (v : Image) (check : IdentCheck) (t : ℕ) (origs zeros : List ℕ) → IsReading h v check self.now t origs zeros →
+        ensures over { IsTrue result ↔ HasReadAll self.now }
+        ensures whole { (h : Hardware) (v : DiskImage) (check : IdentCheck) (t : ℕ) (origs zeros : List ℕ) → HasReadPlaces h v check self.now t origs zeros →
             IsTrue result ↔ ((2 ≤ t) × (t ≡ place_count (info_in h v).pages)) }
     {
         self.steps == self.places()
@@ -162,25 +162,25 @@ impl Reader {
         requires same_zones { zeros.old.zones ≡ zones.now }
 
         // The answer, over a disk that tells its content.
-        ensures answers { (h : Hardware) (v : Image) (check : IdentCheck) (t : ℕ) →
-            IsReading h v check self.old t origs.old.members zeros.old.members → Reads h v (D.content disk.old) →
+        ensures answers { (h : Hardware) (v : DiskImage) (check : IdentCheck) (t : ℕ) →
+            HasReadPlaces h v check self.old t origs.old.members zeros.old.members → Reads h v (D.content disk.old) →
             zones.now ≡ h.zones → Compares h check (option_copied ident.entry) →
             Answers h v check t result self.old self.new origs.new.members zeros.new.members page.new }
 
         // Over every disk.
-        ensures done { (result ≡ ReadStep.Done) ↔ IsOver self.old }
-        ensures same { IsOver self.old → self.new ≡ self.old }
-        ensures same_page { IsOver self.old → page.new ≡ page.old }
-        ensures same_origs { IsOver self.old → origs.new ≡ origs.old }
-        ensures same_zeros { IsOver self.old → zeros.new ≡ zeros.old }
+        ensures done { (result ≡ ReadStep.Done) ↔ HasReadAll self.old }
+        ensures same { HasReadAll self.old → self.new ≡ self.old }
+        ensures same_page { HasReadAll self.old → page.new ≡ page.old }
+        ensures same_origs { HasReadAll self.old → origs.new ≡ origs.old }
+        ensures same_zeros { HasReadAll self.old → zeros.new ≡ zeros.old }
         ensures fault { result ≡ ReadStep.Fault → HasRisen (D.faults disk.old) (D.faults disk.new) }
         ensures goes_on { GoesOn result self.new origs.new.members zeros.new.members }
         ensures same_blocks { self.new.blocks ≡ self.old.blocks }
         ensures zones { origs.new.zones ≡ origs.old.zones }
         ensures same_zones { zeros.new.zones ≡ zeros.old.zones }
 
-        ensures unread { IsOver self.old → disk.new ≡ disk.old }
-        ensures read { (IsOver self.old → ⊥) → D.calls disk.new ≡ raised (D.calls disk.old) }
+        ensures unread { HasReadAll self.old → disk.new ≡ disk.old }
+        ensures read { (HasReadAll self.old → ⊥) → D.calls disk.new ≡ raised (D.calls disk.old) }
         ensures content { D.content disk.new ≡ D.content disk.old }
         ensures faults { D.faults disk.old ≤ D.faults disk.new }
         ensures orders { D.orders disk.new ≡ D.orders disk.old }
@@ -222,8 +222,8 @@ impl Reader {
         requires more { self.old.steps < place_count self.old.pages }
         requires zones { origs.old.zones ≡ zones.now }
         requires same_zones { zeros.old.zones ≡ zones.now }
-        ensures gives { (h : Hardware) (v : Image) (check : IdentCheck) (t : ℕ) →
-            IsReading h v check self.old t origs.old.members zeros.old.members → page.now ≡ block v (place_block h v (place t)) →
+        ensures gives { (h : Hardware) (v : DiskImage) (check : IdentCheck) (t : ℕ) →
+            HasReadPlaces h v check self.old t origs.old.members zeros.old.members → page.now ≡ block v (place_block h v (place t)) →
             zones.now ≡ h.zones → Compares h check (option_copied ident.entry) →
             Gives h v check t result self.new origs.new.members zeros.new.members }
         ensures ready { IfOk result (λ frame. IsReady self.new origs.new.members zeros.new.members) }

@@ -1,5 +1,5 @@
 ghost use Rattle.std.specs.Prelude.{◌≡◌, ℕ, ◌<◌, List, All, IfOk, length, option_copied};
-ghost use Rattle.image_write.specs.Writing.{IsWriting, BlocksBelow, AreOfImage, IsReading, writes_of};
+ghost use Rattle.image_write.specs.Writing.{IsWriting, BlocksBelow, AreOfImage, HasReadCopies, writes_of};
 ghost use Rattle.pfn_pack.specs.Places.{members_in};
 ghost use Rattle.sector_disk.specs.MemDisk.{block_count};
 ghost use Rattle.swap_slots.specs.Table.{LiesIn, Matches};
@@ -155,7 +155,7 @@ fn write_all(
     requires writing { (free : List ℕ) × IsWriting free frames.old writer.old × BlocksBelow writer.old.extents free (writes_of writer.old.info) (block_count disk.old) }
     requires sets { AreOfImage writer.old.info origs.now.members copies.now.members (members_in (option_copied zeros)) }
     requires copies { All (λ p. p < length frames.old) copies.now.members }
-    requires reading { IsReading origs.now.members copies.now.members (members_in (option_copied zeros)) writer.old }
+    requires reading { HasReadCopies origs.now.members copies.now.members (members_in (option_copied zeros)) writer.old }
     ensures { length frames.new ≡ length frames.old }
 {
     let mut made: u32 = 0;

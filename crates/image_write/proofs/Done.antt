@@ -7,7 +7,7 @@ use Rattle.std.proofs.lemmas.List.Kept.{AllPairs-from_increasing}
 use Rattle.std.specs.List.{All}
 use Rattle.std.specs.List.Sorted.{IsStrictlyIncreasing}
 use Rattle.definitions.specs.Bytes.{IsPage, zero_page}
-use Rattle.definitions.specs.Disk.{Content, Image, as_it_reads, block, Writes}
+use Rattle.definitions.specs.Disk.{Content, DiskImage, as_it_reads, block, Writes}
 use Rattle.definitions.specs.Slots.{IsFileMap}
 use Rattle.definitions.proofs.DiskLaws.{block-other}
 use Rattle.definitions.proofs.PageBytes.{length-zero_page}
@@ -131,10 +131,10 @@ written_page extents free pages k page whole =
 abbrev pub write_at : List (ℕ × ℕ × ℕ) → List ℕ → List (List ℕ) → ℕ → ℕ × List ℕ
 write_at extents free stream k = laid_write extents free (length stream) (get_or stream (page_of_write k) []) k
 
-abbrev pub AreDone : List (ℕ × ℕ × ℕ) → List ℕ → List (List ℕ) → Image → ℕ → Type 0
+abbrev pub AreDone : List (ℕ × ℕ × ℕ) → List ℕ → List (List ℕ) → DiskImage → ℕ → Type 0
 AreDone extents free stream v k = (j : ℕ) → j < k → block v (write_at extents free stream j).0 ≡ (write_at extents free stream j).1
 
-pub none_done : (extents : List (ℕ × ℕ × ℕ)) (free : List ℕ) (stream : List (List ℕ)) (v : Image) → AreDone extents free stream v 0
+pub none_done : (extents : List (ℕ × ℕ × ℕ)) (free : List ℕ) (stream : List (List ℕ)) (v : DiskImage) → AreDone extents free stream v 0
 none_done extents free stream v j lt = absurd (omega arith)
 
 map_is_page : (extents : List (ℕ × ℕ × ℕ)) (free : List ℕ) (pages k : ℕ) (page : List ℕ) → is_map_write pages k ≡ true → IsPage (laid_write extents free pages page k).1
@@ -173,7 +173,7 @@ one_more_done extents free stream k old new slots lt whole within writes done j 
 ]
 
 -- all
-pub all_done : (extents : List (ℕ × ℕ × ℕ)) (free : List ℕ) (stream : List (List ℕ)) (v : Image) → AreDone extents free stream v (length stream + maps_of (length stream)) → All (λ made. block v made.0 ≡ made.1) (laid extents free stream)
+pub all_done : (extents : List (ℕ × ℕ × ℕ)) (free : List ℕ) (stream : List (List ℕ)) (v : DiskImage) → AreDone extents free stream v (length stream + maps_of (length stream)) → All (λ made. block v made.0 ≡ made.1) (laid extents free stream)
 unfolding laid
 all_done extents free stream v done k d lt =
     let count = length stream + maps_of (length stream) in
@@ -182,7 +182,7 @@ all_done extents free stream v done k d lt =
     subst (λ (made : ℕ × List ℕ). block v made.0 ≡ made.1) (sym (get_or-map-range_with_len write 0 count k k d within (zero-add k))) (done k within)
 
 -- and back
-pub done_of_all : (extents : List (ℕ × ℕ × ℕ)) (free : List ℕ) (stream : List (List ℕ)) (v : Image) → All (λ made. block v made.0 ≡ made.1) (laid extents free stream) → AreDone extents free stream v (length stream + maps_of (length stream))
+pub done_of_all : (extents : List (ℕ × ℕ × ℕ)) (free : List ℕ) (stream : List (List ℕ)) (v : DiskImage) → All (λ made. block v made.0 ≡ made.1) (laid extents free stream) → AreDone extents free stream v (length stream + maps_of (length stream))
 unfolding laid
 done_of_all extents free stream v all k lt =
     let count = length stream + maps_of (length stream) in

@@ -2,7 +2,7 @@
 use Rattle.std.proofs.Common.{◌≡◌, ℕ, ◌+◌, ◌<◌, ◌≤◌, ◌⊎◌, suc, List, [], ◌∷◌, length, get_or, map, refl, sym, ap, ap₂, ◌∙◌, inl, inr, arith}
 use Rattle.std.proofs.lemmas.Bool.{cases_Bool, cond-true, cond-false}
 use Rattle.std.specs.List.{All, Contains}
-use Rattle.definitions.specs.Tables.{frame, with_entries, table_frames}
+use Rattle.definitions.specs.Tables.{frame, with_entries, table_frame_count}
 use Rattle.definitions.proofs.TableEntries.{frame-with_entries_other}
 use Rattle.swap_slots.specs.declared.table.SlotTable.{SlotTable}
 use Rattle.image_write.specs.Copies.{has_data, with_data, data_pages}
@@ -28,7 +28,7 @@ same_pages f g (o ∷ origs) (c ∷ copies) zeros same =
 
 -- a page frame that isn't one of the table
 abbrev pub LiesOutside : SlotTable → ℕ → Type 0
-LiesOutside table p = (p < table.first) ⊎ (table.first + table_frames table.slots ≤ p)
+LiesOutside table p = (p < table.first) ⊎ (table.first + table_frame_count table.slots ≤ p)
 
 pub data_stays : (frames : List (List ℕ)) (table : SlotTable) (slots origs copies zeros : List ℕ) → ((s : ℕ) → Contains slots s → s < table.slots) → All (LiesOutside table) copies →
     data_pages (with_entries frames table.first slots 65536) origs copies zeros ≡ data_pages frames origs copies zeros

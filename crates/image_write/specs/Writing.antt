@@ -109,8 +109,8 @@ abbrev pub data_written : Info → ℕ → ℕ
 data_written info written = page_of_write written - (meta_of info.image_pages + 1)
 
 -- the copies are read as far as they are written
-abbrev pub IsReading : List ℕ → List ℕ → List ℕ → Writing → Type 0
-IsReading origs copies zeros w = IsPassed origs copies zeros w.orig w.copy w.passed (data_written w.info w.written)
+abbrev pub HasReadCopies : List ℕ → List ℕ → List ℕ → Writing → Type 0
+HasReadCopies origs copies zeros w = IsPassed origs copies zeros w.orig w.copy w.passed (data_written w.info w.written)
 
 -- no more of the copies is read
 pub record IsSameCursor (old new : Writing) : Type 0 where

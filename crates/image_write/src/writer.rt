@@ -58,7 +58,7 @@ impl Model for Writer {
 impl Writer {
     ghost use Rattle.image_write.specs.Answers.{Succeeds, GoesOn};
     ghost use Rattle.image_write.specs.Copies.{IsPassed};
-    ghost use Rattle.image_write.specs.Writing.{IsWriting, IsReady, BlocksBelow, IsSameImage, Makes, FailsToMake, page_next, write_next, map_next, IsSameCursor, slots_of_write, AreOfImage, IsReading, stream_of_sets};
+    ghost use Rattle.image_write.specs.Writing.{IsWriting, IsReady, BlocksBelow, IsSameImage, Makes, FailsToMake, page_next, write_next, map_next, IsSameCursor, slots_of_write, AreOfImage, HasReadCopies, stream_of_sets};
 
     /// Takes the slot of the first map.
     pub fn begin(
@@ -78,7 +78,7 @@ impl Writer {
         ensures table { result.table ≡ table.now }
         ensures written { result.written ≡ 0 }
         ensures writing { IsWriting (free_in frames.old table.now) frames.new result }
-        ensures reading { (origs copies zeros : List ℕ) → IsReading origs copies zeros result }
+        ensures reading { (origs copies zeros : List ℕ) → HasReadCopies origs copies zeros result }
 
         ensures taken { frames.new ≡ with_entries frames.old table.now.first (take 1 (free_in frames.old table.now)) 65536 }
         ensures len { length frames.new ≡ length frames.old }
@@ -124,7 +124,7 @@ impl Writer {
         requires writing { IsReady (D.block_count disk.old) frames.old self.old }
         requires sets { AreOfImage self.old.info origs.now.members copies.now.members (members_in (option_copied zeros)) }
         requires copies { All (λ p. p < length frames.old) copies.now.members }
-        requires reading { IsReading origs.now.members copies.now.members (members_in (option_copied zeros)) self.old }
+        requires reading { HasReadCopies origs.now.members copies.now.members (members_in (option_copied zeros)) self.old }
 
         ensures answer { (result ≡ WriteStep.Fault) ⊎ (result ≡ after (self.old.written + 1) (writes_of self.old.info)) }
         ensures written { (free : List ℕ) → IsWriting free frames.old self.old → Succeeds result → let page = page_next (stream_of_sets self.old.info frames.old origs.now.members copies.now.members (members_in (option_copied zeros.entry))) self.old in
@@ -137,7 +137,7 @@ impl Writer {
         ensures image { IsSameImage self.old self.new }
         ensures made { Succeeds result → self.new.written ≡ self.old.written + 1 }
         ensures writing { (free : List ℕ) → IsWriting free frames.old self.old → GoesOn result → IsWriting free frames.new self.new }
-        ensures reading { GoesOn result → IsReading origs.now.members copies.now.members (members_in (option_copied zeros.entry)) self.new }
+        ensures reading { GoesOn result → HasReadCopies origs.now.members copies.now.members (members_in (option_copied zeros.entry)) self.new }
 
         ensures taken { (free : List ℕ) → IsWriting free frames.old self.old →
             frames.new ≡ with_entries frames.old self.old.table.first (slots_of_write self.old.info free self.old.written) 65536 }
@@ -420,7 +420,7 @@ impl Writer {
         requires data { meta_of self.old.info.image_pages < page_of_write self.old.written }
         requires sets { AreOfImage self.old.info origs.now.members copies.now.members (members_in (option_copied zeros)) }
         requires copies { All (λ p. p < length frames.now) copies.now.members }
-        requires reading { IsReading origs.now.members copies.now.members (members_in (option_copied zeros)) self.old }
+        requires reading { HasReadCopies origs.now.members copies.now.members (members_in (option_copied zeros)) self.old }
         ensures within { result < length frames.now }
         ensures page { frame frames.now result ≡ page_next (stream_of_sets self.old.info frames.now origs.now.members copies.now.members (members_in (option_copied zeros.entry))) self.old }
         ensures same { self.new ≡ record self.old { orig = self.new.orig; copy = self.new.copy; passed = self.new.passed } }

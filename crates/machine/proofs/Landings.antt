@@ -33,7 +33,7 @@ end_allowed : (h : Hardware) (a : Running) (t : ℕ) (flight : Flight) → a.fli
 unfolding refusal
 end_allowed h a t flight e = ap (λ (o : Option Flight). refused_if (not (is_some o)) reply.Idle) e
 
-step_end : (h : Hardware) (v : disk.Image) (a : Running) (t : ℕ) (flight : Flight) (r : Reply) (b : State) → a.flights t ≡ Some flight → Contains {X = Outcome} (finished h a t flight) (r, b) → Step h v (on a) (event.Step (actor.Task t)) r b
+step_end : (h : Hardware) (v : disk.DiskImage) (a : Running) (t : ℕ) (flight : Flight) (r : Reply) (b : State) → a.flights t ≡ Some flight → Contains {X = Outcome} (finished h a t flight) (r, b) → Step h v (on a) (event.Step (actor.Task t)) r b
 unfolding outcomes
 step_end h v a t flight r b e in' =
     subst (λ (why : Option Reply). Contains {X = Outcome} (refused_or (on a) why (task_step h a t (a.flights t))) (r, b)) (sym (end_allowed h a t flight e))

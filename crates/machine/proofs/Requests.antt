@@ -5,7 +5,7 @@ use Rattle.std.proofs.lemmas.List.{length-replicate}
 use Rattle.std.specs.List.{Contains}
 use Rattle.definitions.specs.Bytes.{IsPage, zero_page}
 use Rattle.definitions.specs.Zones.{numbers, top}
-use Rattle.definitions.specs.Tables.{frame, with_entry, flags_of, owner_of, is_free}
+use Rattle.definitions.specs.Tables.{frame, with_entry, page_flags, owner_of, is_free}
 use Rattle.definitions.proofs.ZoneNumbers.{below_top}
 use Rattle.plain_machine.specs.Machine.{Hardware, Memory, IsHardware, IsTableFrame, is_valid, is_well_formed, frame_entry}
 use Rattle.plain_machine.specs.State.{on, Running}
@@ -41,7 +41,7 @@ pub claim_not_free : (h : Hardware) (t p : ℕ) (frames : Memory) → IsHardware
 claim_not_free h t p frames hw size in' valid taken =
     row_refused h t (op.Claim p) frames reply.NotFree size (λ a mirrors. claim_test h t p frames a false hw mirrors in' valid taken)
 
-pub well_formed_by : (entry flags owner : ℕ) → flags_of entry ≡ flags → owner_of entry ≡ owner → owner ≤ 64 → (flags ≡ 0) ⊎ (flags ≡ 64) → is_well_formed entry ≡ true
+pub well_formed_by : (entry flags owner : ℕ) → page_flags entry ≡ flags → owner_of entry ≡ owner → owner ≤ 64 → (flags ≡ 0) ⊎ (flags ≡ 64) → is_well_formed entry ≡ true
 well_formed_by entry flags owner f o few which =
     let tests : ℕ → ℕ → Bool = λ g w. nat_lt g 128 && nat_le w 64 && (not (is_free g) || (eqb entry 1)) && ((eqb g 0) || (eqb g 64) || (eqb w 0)) in
     let small : nat_le owner 64 ≡ true = le-leb owner 64 few in

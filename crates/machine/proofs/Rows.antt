@@ -28,7 +28,7 @@ use Rattle.machine.specs.TaskRow.{HasFrameRow, own_refusal}
 
 -- Steps of a running state for a task's request.
 
-step_by : (h : Hardware) (v : disk.Image) (t : ℕ) (o : TaskOp) (a : Running) (r : Reply) (c : State) → refusal h (on a) (Task t o) ≡ None → Contains (requested h a t o) (r, c) → Step h v (on a) (Task t o) r c
+step_by : (h : Hardware) (v : disk.DiskImage) (t : ℕ) (o : TaskOp) (a : Running) (r : Reply) (c : State) → refusal h (on a) (Task t o) ≡ None → Contains (requested h a t o) (r, c) → Step h v (on a) (Task t o) r c
 unfolding outcomes
 step_by h v t o a r c none in' = subst (λ (why : Option Reply). Contains (refused_or (on a) why (requested h a t o)) (r, c)) (sym none) in'
 
@@ -37,10 +37,10 @@ unfolding refusal
 no_refusal h t o a why flight e =
     ap (λ (f : Option Flight). or_else (refused_if (is_some f) reply.InFlight) (op_refusal h a t o)) flight ∙ e
 
-pub step_done : (h : Hardware) (v : disk.Image) (t : ℕ) (o : TaskOp) (a : Running) (r : Reply) (c : State) → a.flights t ≡ None → op_refusal h a t o ≡ None → Contains (requested h a t o) (r, c) → Step h v (on a) (Task t o) r c
+pub step_done : (h : Hardware) (v : disk.DiskImage) (t : ℕ) (o : TaskOp) (a : Running) (r : Reply) (c : State) → a.flights t ≡ None → op_refusal h a t o ≡ None → Contains (requested h a t o) (r, c) → Step h v (on a) (Task t o) r c
 step_done h v t o a r c flight none in' = step_by h v t o a r c (no_refusal h t o a None flight none) in'
 
-pub step_refused : (h : Hardware) (v : disk.Image) (t : ℕ) (o : TaskOp) (a : Running) (r : Reply) → a.flights t ≡ None → op_refusal h a t o ≡ Some r → Step h v (on a) (Task t o) r (on a)
+pub step_refused : (h : Hardware) (v : disk.DiskImage) (t : ℕ) (o : TaskOp) (a : Running) (r : Reply) → a.flights t ≡ None → op_refusal h a t o ≡ Some r → Step h v (on a) (Task t o) r (on a)
 unfolding outcomes
 step_refused h v t o a r flight e =
     subst (λ (why : Option Reply). Contains (refused_or (on a) why (requested h a t o)) (r, on a)) (sym (no_refusal h t o a (Some r) flight e)) (0, omega arith, refl)

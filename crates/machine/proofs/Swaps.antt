@@ -6,7 +6,7 @@ use Rattle.std.specs.List.{All, Contains, find, range_with_len, slice_get}
 use Rattle.definitions.specs.Bytes.{IsPage, with_number}
 use Rattle.definitions.specs.Disk as disk
 use Rattle.definitions.specs.Lists.{free_slots}
-use Rattle.definitions.specs.Tables.{frame, with_entry, flags_of, owner_of, is_saveable}
+use Rattle.definitions.specs.Tables.{frame, with_entry, page_flags, owner_of, is_saveable}
 use Rattle.definitions.specs.Zones.{top}
 use Rattle.definitions.proofs.TableEntries.{length-with_entry, IsPage-with_entry}
 use Rattle.definitions.proofs.FreeSlots.{free_slot}
@@ -83,7 +83,7 @@ fits_slot h m s v hw fits lt few ok =
       entries = λ p in'. ap is_well_formed (frame_entry-slot_set h m s v p hw lt in') ∙ fits.entries p in';
       tables = λ f of.
           let e = frame_entry-slot_set h m s v f hw lt (table_frame_valid h f hw of) in
-          (ap (λ (entry : ℕ). is_saveable (flags_of entry)) e ∙ (fits.tables f of).0, ap owner_of e ∙ (fits.tables f of).1);
+          (ap (λ (entry : ℕ). is_saveable (page_flags entry)) e ∙ (fits.tables f of).0, ap owner_of e ∙ (fits.tables f of).1);
       slots = λ k lt'. elim (cases_eq k s) [
         | inl e ↦ ap₂ is_slot_entry e (ap (raw_slot_entry h (with_entry m h.slot_table s v)) e ∙ slot_entry-set_same h m s v has lt (omega arith)) ∙ ok
         | inr ne ↦ ap (is_slot_entry k) (slot_entry-set_apart h m s v k has lt ne) ∙ fits.slots k lt'
@@ -140,7 +140,7 @@ why_in_flight : (h : Hardware) (t : ℕ) (o : TaskOp) (a : Running) → is_some 
 unfolding refusal
 why_in_flight h t o a e = ap (λ (b : Bool). or_else (refused_if b reply.InFlight) (op_refusal h a t o)) e
 
-step_in_flight : (h : Hardware) (v : disk.Image) (t : ℕ) (o : TaskOp) (a : Running) → is_some (a.flights t) ≡ true → Step h v (on a) (event.Task t o) reply.InFlight (on a)
+step_in_flight : (h : Hardware) (v : disk.DiskImage) (t : ℕ) (o : TaskOp) (a : Running) → is_some (a.flights t) ≡ true → Step h v (on a) (event.Task t o) reply.InFlight (on a)
 unfolding outcomes
 step_in_flight h v t o a e = subst (λ (w : Option Reply). Contains (refused_or (on a) w (requested h a t o)) (reply.InFlight, on a)) (sym (why_in_flight h t o a e)) (0, omega arith, refl)
 

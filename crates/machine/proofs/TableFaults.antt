@@ -7,7 +7,7 @@ use Rattle.std.specs.List.{All, Contains, find, list_any, range_with_len}
 use Rattle.std.specs.Option.{option_or}
 use Rattle.std.specs.Result.{IfErr, IsOk, MatchResult, result_and}
 use Rattle.definitions.specs.Bytes.{IsPage}
-use Rattle.definitions.specs.Tables.{flags_of, is_saveable, owner_of}
+use Rattle.definitions.specs.Tables.{page_flags, is_saveable, owner_of}
 use Rattle.definitions.specs.Zones.{numbers, top}
 use Rattle.definitions.proofs.ZoneNumbers.{Contains-range, range-bounds}
 use Rattle.plain_machine.specs.Machine.{Fits, Hardware, IsHardware, IsOfTable, IsTableFrame, Memory, frame_entry, frame_table_frames, is_slot_entry, is_table_at_fault, is_well_formed, raw_slot_entry, slot_table_frames, table_frames, table_len, tables_fault}
@@ -17,7 +17,7 @@ use Rattle.machine.proofs.PartTests.{in_table_frames}
 
 -- Table frame f is not at fault.
 pub record IsFaultless (h : Hardware) (m : Memory) (f : ℕ) : Type 0 where
-  pub saveable : is_saveable (flags_of (frame_entry h m f)) ≡ true
+  pub saveable : is_saveable (page_flags (frame_entry h m f)) ≡ true
   pub no_owner : owner_of (frame_entry h m f) ≡ 0
   pub entries : (p : ℕ) → Contains (numbers h.zones) p → h.frame_table + p / 1024 ≡ f → is_well_formed (frame_entry h m p) ≡ true
   pub slots : (s : ℕ) → s < h.slots → h.slot_table + s / 1024 ≡ f → is_slot_entry s (raw_slot_entry h m s) ≡ true
@@ -64,11 +64,11 @@ faultless-at_fault h m f none =
     let entry = frame_entry h m f in
     let wrong_entry = wrong_within (λ p. is_well_formed (frame_entry h m p)) h.frame_table f in
     let wrong_slot = wrong_within (λ s. is_slot_entry s (raw_slot_entry h m s)) h.slot_table f in
-    let abc = or_none (not (is_saveable (flags_of entry)) || not (eqb (owner_of entry) 0) || list_any wrong_entry (numbers h.zones)) (list_any wrong_slot (range_with_len 0 h.slots)) none in
-    let ab = or_none (not (is_saveable (flags_of entry)) || not (eqb (owner_of entry) 0)) (list_any wrong_entry (numbers h.zones)) abc.0 in
-    let own = or_none (not (is_saveable (flags_of entry))) (not (eqb (owner_of entry) 0)) ab.0 in
+    let abc = or_none (not (is_saveable (page_flags entry)) || not (eqb (owner_of entry) 0) || list_any wrong_entry (numbers h.zones)) (list_any wrong_slot (range_with_len 0 h.slots)) none in
+    let ab = or_none (not (is_saveable (page_flags entry)) || not (eqb (owner_of entry) 0)) (list_any wrong_entry (numbers h.zones)) abc.0 in
+    let own = or_none (not (is_saveable (page_flags entry))) (not (eqb (owner_of entry) 0)) ab.0 in
     record {
-      saveable = not-false (is_saveable (flags_of entry)) own.0;
+      saveable = not-false (is_saveable (page_flags entry)) own.0;
       no_owner = eqb-true (owner_of entry) 0 (not-false (eqb (owner_of entry) 0) own.1);
       entries = λ p in' at. right_within (λ q. is_well_formed (frame_entry h m q)) h.frame_table f p (none_of wrong_entry (numbers h.zones) p ab.1 in') at;
       slots = λ s lt at. right_within (λ t. is_slot_entry t (raw_slot_entry h m t)) h.slot_table f s (none_of wrong_slot (range_with_len 0 h.slots) s abc.1 (Contains-range 0 h.slots s (omega arith) (omega arith))) at;
@@ -96,7 +96,7 @@ of_run first entries i lt = record { from = omega arith; below = omega arith }
 
 -- what is known of the own entry of a table frame
 abbrev pub IsUsed : Hardware → Memory → ℕ → Type 0
-IsUsed h m f = (is_saveable (flags_of (frame_entry h m f)) ≡ true) × (owner_of (frame_entry h m f) ≡ 0)
+IsUsed h m f = (is_saveable (page_flags (frame_entry h m f)) ≡ true) × (owner_of (frame_entry h m f) ≡ 0)
 
 -- the entries of valid page frames that lie in page frame i of the frame table are well formed, and those of slots in page
 -- frame i of the slot table

@@ -28,7 +28,7 @@ own_refusal h m t p =
 -- The reply and the running state b are a step of the plain machine from the running state a. The machine shows b by its page
 -- frames and operations now, which name no slot as the image's that wasn't. What is held and why the area can't be used stay.
 pub record GoesOn (h : Hardware) (e : Event) (flag : Held) (why : Option NoSwap) (operations : ℕ → Option Flight) (old new : Memory) (r : Reply) (a b : Running) : Type 0 where
-  pub step : (v : disk.Image) → Step h v (on a) e r (on b)
+  pub step : (v : disk.DiskImage) → Step h v (on a) e r (on b)
   pub runs : RunsAs h flag why operations new b
   pub held : b.held ≡ a.held
   pub unusable : b.unusable ≡ a.unusable

@@ -1,6 +1,6 @@
 ghost use Rattle.std.specs.Prelude.{◌≡◌, ℕ, ◌+◌, ◌*◌, ◌/◌, ◌<◌, ◌↔◌, not, true, length, IsTrue, IsOk, IfErr, MatchResult, Some, None, Contains};
 ghost use Rattle.std.specs.List.{find};
-ghost use Rattle.definitions.specs.Tables.{entry_of, flags_of, owner_of, is_saveable};
+ghost use Rattle.definitions.specs.Tables.{entry_of, page_flags, owner_of, is_saveable};
 ghost use Rattle.definitions.specs.Zones.{numbers, top};
 ghost use Rattle.page_states.specs.Flags.{bits_of};
 ghost use Rattle.plain_machine.specs.Loader.{has};
@@ -95,7 +95,7 @@ fn slot_table_frame_fits(frames: &Frames, hw: &Hardware, i: u32) -> bool
 fn is_used(frames: &Frames, hw: &Hardware, f: u32) -> bool
     requires size { length frames.now ≡ top hw.now.zones }
     requires table { IsTableFrame hw.now f }
-    ensures { IsTrue result ↔ ((is_saveable (flags_of (frame_entry hw.now frames.now f)) ≡ true) × (owner_of (frame_entry hw.now frames.now f) ≡ 0)) }
+    ensures { IsTrue result ↔ ((is_saveable (page_flags (frame_entry hw.now frames.now f)) ≡ true) × (owner_of (frame_entry hw.now frames.now f) ≡ 0)) }
 {
     let (flags, owner) = entry(frames, hw.frame_table(), f);
     is_saveable(flags) && owner == 0

@@ -1,16 +1,16 @@
 -- What an overlay holds: the disk below as it reads, with the block that was written in its place.
 use Rattle.std.specs.Prelude.{◌≡◌, ◌≢◌, ⊤, ℕ, List, Option, Some, None}
-use Rattle.definitions.specs.Disk.{Content, Image, as_it_reads, settled}
+use Rattle.definitions.specs.Disk.{Content, DiskImage, as_it_reads, settled}
 use Rattle.sector_disk.specs.Recorded.{after}
 use Rattle.sector_disk.specs.declared.recorded.Recorded.TheVariants.{Write}
 use Rattle.overlay_disk.specs.declared.kept.Kept.{Kept}
 
 -- an image with a page in the place of block b
-abbrev pub with_block : ℕ → List ℕ → Image → Image
+abbrev pub with_block : ℕ → List ℕ → DiskImage → DiskImage
 with_block b page v = as_it_reads (after (settled v) (Write b page))
 
 -- an image with the kept block in its place
-abbrev pub overlaid : Option Kept → Image → Image
+abbrev pub overlaid : Option Kept → DiskImage → DiskImage
 overlaid None v = v
 overlaid (Some kept) v = with_block kept.block kept.page v
 

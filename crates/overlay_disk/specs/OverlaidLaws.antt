@@ -4,7 +4,7 @@ use Rattle.std.proofs.lemmas.List.{get_or-map, get_or_past}
 use Rattle.std.proofs.lemmas.Bool.{cases_lt, cases_order}
 use Rattle.std.specs.Option.{ForSome}
 use Rattle.definitions.specs.Bytes.{IsPage}
-use Rattle.definitions.specs.Disk.{Content, Image, Sector, IsContent, IsImage, TakesBytes, Writes, Syncs, Restarts, Changes, as_it_reads, block, no_sector, sector, sector_bytes, settled}
+use Rattle.definitions.specs.Disk.{Content, DiskImage, Sector, IsContent, IsImage, TakesBytes, Writes, Syncs, Restarts, Changes, as_it_reads, block, no_sector, sector, sector_bytes, settled}
 use Rattle.definitions.proofs.DiskLaws.{as_it_reads-settled, length-settled, length-as_it_reads, block-other, IsImage-as_it_reads}
 use Rattle.plain_machine.proofs.DiskBlocks.{block-written}
 use Rattle.sector_disk.specs.Recorded.{after, written}
@@ -23,7 +23,7 @@ apart b k differs =
 IsContent-reads : (n : ℕ) (c : Content) → IsContent n c → IsContent n (settled (as_it_reads c))
 IsContent-reads n c whole = IsContent-settled n (as_it_reads c) (reads_whole n c whole)
 
-IsContent-with_block : (n b : ℕ) (page : List ℕ) (v : Image) → IsPage page → IsContent n (settled v) → IsContent n (settled (with_block b page v))
+IsContent-with_block : (n b : ℕ) (page : List ℕ) (v : DiskImage) → IsPage page → IsContent n (settled v) → IsContent n (settled (with_block b page v))
 IsContent-with_block n b page v is whole = IsContent-reads n (after (settled v) (Write b page)) (IsContent-after n (settled v) (Write b page) is whole)
 
 -- it is the content of a disk of as many blocks as that below
@@ -33,17 +33,17 @@ IsContent-over n None (Some c) whole = IsContent-reads n c whole
 IsContent-over n (Some k) (Some c) whole = IsContent-with_block n k.block k.page (as_it_reads c) k.whole (IsContent-reads n c whole)
 
 -- Image w is v with the page in the place of block b.
-record PutsBlock (b : ℕ) (page : List ℕ) (v w : Image) : Type 0 where
+record PutsBlock (b : ℕ) (page : List ℕ) (v w : DiskImage) : Type 0 where
   size : length w ≡ length v
   below : (s : ℕ) → s < 8 * b → get_or w s [] ≡ get_or v s []
   above : (s : ℕ) → 8 * b + 8 ≤ s → get_or w s [] ≡ get_or v s []
   within : (j : ℕ) → j < 8 → get_or w (8 * b + j) [] ≡ sector_bytes page j
 
-other : (v : Image) (c : Content) (s : ℕ) → sector c s ≡ sector (settled v) s → get_or (as_it_reads c) s [] ≡ get_or v s []
+other : (v : DiskImage) (c : Content) (s : ℕ) → sector c s ≡ sector (settled v) s → get_or (as_it_reads c) s [] ≡ get_or v s []
 other v c s same =
-    live_at c s ∙ ap (λ (x : Sector). x.live) same ∙ sym (live_at (settled v) s) ∙ ap (λ (w : Image). get_or w s []) (as_it_reads-settled v)
+    live_at c s ∙ ap (λ (x : Sector). x.live) same ∙ sym (live_at (settled v) s) ∙ ap (λ (w : DiskImage). get_or w s []) (as_it_reads-settled v)
 
-with_block-puts : (b : ℕ) (page : List ℕ) (v : Image) → 8 * b + 8 ≤ length v → PutsBlock b page v (with_block b page v)
+with_block-puts : (b : ℕ) (page : List ℕ) (v : DiskImage) → 8 * b + 8 ≤ length v → PutsBlock b page v (with_block b page v)
 with_block-puts b page v le =
     let c = written (λ s. true) b page (settled v) in
     let others = written-others (λ s. true) b page (settled v) in
@@ -56,7 +56,7 @@ with_block-puts b page v le =
     }
 
 -- a second page in the same place
-puts_again : (b : ℕ) (first page : List ℕ) (v u w : Image) → PutsBlock b first v u → PutsBlock b page v w → PutsBlock b page u w
+puts_again : (b : ℕ) (first page : List ℕ) (v u w : DiskImage) → PutsBlock b first v u → PutsBlock b page v w → PutsBlock b page u w
 puts_again b first page v u w before now = record {
   size = now.size ∙ sym before.size;
   below = λ s lt. now.below s lt ∙ sym (before.below s lt);
@@ -67,10 +67,10 @@ puts_again b first page v u w before now = record {
 abbrev one : List ℕ → Sector
 one bytes = record { live = bytes; candidates = bytes ∷ [] }
 
-settled_at : (v : Image) (s : ℕ) → s < length v → sector (settled v) s ≡ one (get_or v s [])
+settled_at : (v : DiskImage) (s : ℕ) → s < length v → sector (settled v) s ≡ one (get_or v s [])
 settled_at v s lt = get_or-map (λ (bytes : List ℕ). one bytes) v s [] no_sector lt
 
-same_sector : (v w : Image) (s : ℕ) → length w ≡ length v → get_or w s [] ≡ get_or v s [] → sector (settled w) s ≡ sector (settled v) s
+same_sector : (v w : DiskImage) (s : ℕ) → length w ≡ length v → get_or w s [] ≡ get_or v s [] → sector (settled w) s ≡ sector (settled v) s
 same_sector v w s size same =
     elim (cases_lt s (length v)) [
       | inl lt ↦ settled_at w s (omega arith) ∙ ap one same ∙ sym (settled_at v s lt)
@@ -84,7 +84,7 @@ of_one x y (suc k, lt, e) = absurd (omega arith)
 takes : (bytes : List ℕ) (old new : Sector) → new ≡ one bytes → TakesBytes bytes old new
 takes bytes old new e = subst (TakesBytes bytes old) (sym e) (record { live = refl; candidates = λ x h. inr (of_one bytes x h) })
 
-writes : (b : ℕ) (page : List ℕ) (v w : Image) → 8 * b + 8 ≤ length v → PutsBlock b page v w → Writes b page (settled v) (settled w)
+writes : (b : ℕ) (page : List ℕ) (v w : DiskImage) → 8 * b + 8 ≤ length v → PutsBlock b page v w → Writes b page (settled v) (settled w)
 writes b page v w le puts = record {
   others = record {
     size = length-settled w ∙ puts.size ∙ sym (length-settled v);
@@ -149,8 +149,8 @@ block-kept n b page (Some k) c keeps lt whole =
 pub block-below : (n b : ℕ) (page : List ℕ) (kept : Option Kept) (c : Option Content) → KeepsNone kept b → ForSome kept (λ k. k.block < n) → IfSome c (IsContent n) →
     IfSome c (λ held. page ≡ block (as_it_reads held) b) → IfSome (content_over kept c) (λ held. page ≡ block (as_it_reads held) b)
 block-below n b page kept None differs inside whole reads = tt
-block-below n b page None (Some c) differs inside whole reads = reads ∙ ap (λ (v : Image). block v b) (sym (as_it_reads-settled (as_it_reads c)))
+block-below n b page None (Some c) differs inside whole reads = reads ∙ ap (λ (v : DiskImage). block v b) (sym (as_it_reads-settled (as_it_reads c)))
 block-below n b page (Some k) (Some c) differs inside whole reads =
     let v = as_it_reads c in
-    reads ∙ ap (λ (u : Image). block u b) (sym (as_it_reads-settled v))
+    reads ∙ ap (λ (u : DiskImage). block u b) (sym (as_it_reads-settled v))
     ∙ sym (block-other k.block b (settled v) (settled (with_block k.block k.page v)) (written_over n k c (inside k refl) whole).others (apart b k.block differs))

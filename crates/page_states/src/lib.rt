@@ -4,7 +4,7 @@
 mod flags;
 
 ghost use Rattle.std.specs.Prelude.{◌≡◌, ℕ, ◌+◌, ◌*◌, ◌/◌, ◌%◌, ◌<◌, length};
-ghost use Rattle.definitions.specs.Tables.{entry_at, with_entry, flags_of, owner_of, entry_of};
+ghost use Rattle.definitions.specs.Tables.{entry_at, with_entry, page_flags, owner_of, entry_of};
 ghost use Rattle.page_states.specs.Flags.{bits_of};
 
 use bitflags::Flags;
@@ -18,7 +18,7 @@ const ENTRIES: u32 = 1024;
 #[tactic(auto, unfolding(definitions::specs::Tables::entry_at))]
 pub fn entry(frames: &Frames, table: u32, p: u32) -> (PageFlags, u16)
     requires { table + p / 1024 < length frames.now }
-    ensures flags { bits_of result.0 ≡ flags_of (entry_at frames.now table p) }
+    ensures flags { bits_of result.0 ≡ page_flags (entry_at frames.now table p) }
     ensures owner { result.1 ≡ owner_of (entry_at frames.now table p) }
 {
     let entry = frames.u32_at(entry_frame(frames, table, p), entry_offset(p));

@@ -74,7 +74,7 @@ no_flights-owned h a idle = record {
 }
 
 -- the area by its two tests
-pub dump_area-usable : (h : Hardware) (v : disk.Image) (m : Memory) → area_fault h v ≡ None → bad_set_fault h m (area_kind (area_block h v)) ≡ None → dump_area_fault h v m ≡ None
+pub dump_area-usable : (h : Hardware) (v : disk.DiskImage) (m : Memory) → area_fault h v ≡ None → bad_set_fault h m (area_kind (area_block h v)) ≡ None → dump_area_fault h v m ≡ None
 unfolding dump_area_fault
 dump_area-usable h v m area bad = ap₂ first_fault area bad
 
@@ -86,16 +86,16 @@ first-right : (a b : Option NoSwap) → first_fault a b ≡ None → b ≡ None
 first-right None b e = e
 first-right (Some why) b e = absurd (cc)
 
-pub area-usable : (h : Hardware) (v : disk.Image) (m : Memory) → dump_area_fault h v m ≡ None → area_fault h v ≡ None
+pub area-usable : (h : Hardware) (v : disk.DiskImage) (m : Memory) → dump_area_fault h v m ≡ None → area_fault h v ≡ None
 unfolding dump_area_fault
 area-usable h v m e = first-left (area_fault h v) (bad_set_fault h m (area_kind (area_block h v))) e
 
-pub bad_set-usable : (h : Hardware) (v : disk.Image) (m : Memory) → dump_area_fault h v m ≡ None → bad_set_fault h m (area_kind (area_block h v)) ≡ None
+pub bad_set-usable : (h : Hardware) (v : disk.DiskImage) (m : Memory) → dump_area_fault h v m ≡ None → bad_set_fault h m (area_kind (area_block h v)) ≡ None
 unfolding dump_area_fault
 bad_set-usable h v m e = first-right (area_fault h v) (bad_set_fault h m (area_kind (area_block h v))) e
 
 -- it looks at the slots' entries alone
-pub dump_area-same : (h : Hardware) (v : disk.Image) (m n : Memory) → SameSlots h m n → dump_area_fault h v n ≡ dump_area_fault h v m
+pub dump_area-same : (h : Hardware) (v : disk.DiskImage) (m n : Memory) → SameSlots h m n → dump_area_fault h v n ≡ dump_area_fault h v m
 unfolding dump_area_fault
 dump_area-same h v m n same = ap (first_fault (area_fault h v)) (bad_set-same h m n (area_kind (area_block h v)) same)
 
@@ -103,7 +103,7 @@ first_of : (a b : Option NoSwap) → (a ≡ None → b ≡ None) → a ≡ first
 first_of None b then = sym (then refl)
 first_of (Some why) b then = refl
 
-pub dump_area-of : (h : Hardware) (v : disk.Image) (m : Memory) → (area_fault h v ≡ None → bad_set_fault h m (area_kind (area_block h v)) ≡ None) → area_fault h v ≡ dump_area_fault h v m
+pub dump_area-of : (h : Hardware) (v : disk.DiskImage) (m : Memory) → (area_fault h v ≡ None → bad_set_fault h m (area_kind (area_block h v)) ≡ None) → area_fault h v ≡ dump_area_fault h v m
 unfolding dump_area_fault
 dump_area-of h v m then = first_of (area_fault h v) (bad_set_fault h m (area_kind (area_block h v))) then
 

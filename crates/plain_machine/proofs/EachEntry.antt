@@ -3,7 +3,7 @@ use Rattle.std.proofs.Common.{◌≡◌, ℕ, zero, suc, ◌+◌, ◌/◌, ◌^�
 use Rattle.std.proofs.lemmas.Bool.{cases_eq}
 use Rattle.std.specs.List.{All, Contains, range_with_len}
 use Rattle.definitions.specs.Bytes.{IsPage}
-use Rattle.definitions.specs.Tables.{frame, entry_at, with_entry, HasTable, table_frames}
+use Rattle.definitions.specs.Tables.{frame, entry_at, with_entry, HasTable, table_frame_count}
 use Rattle.definitions.proofs.Ascending.{Contains-nil, Contains-head, Contains-tail, Contains-cons_cases}
 use Rattle.definitions.proofs.TableEntries.{entry_frame_within, length-with_entry, entry_at-with_entry_same, entry_at-with_entry_other, frame-with_entry_other, IsPage-with_entry, HasTable-with_entry}
 use Rattle.plain_machine.specs.Step.{with_each_entry}
@@ -72,7 +72,7 @@ pub entry_at-each : (e : ℕ → ℕ) (n : ℕ) (ks : List ℕ) (table : ℕ) (m
 entry_at-each e n ks table m j pages has below in' = entry_at-each_or e n ks table m j pages has below (inr in')
 
 -- the page frames outside the table stay
-pub frame-each_other : (e : ℕ → ℕ) (n : ℕ) (ks : List ℕ) (table : ℕ) (m : List (List ℕ)) (p : ℕ) → ((k : ℕ) → Contains ks k → k < n) → (p < table) ⊎ (table + table_frames n ≤ p) → frame (with_each_entry e ks table m) p ≡ frame m p
+pub frame-each_other : (e : ℕ → ℕ) (n : ℕ) (ks : List ℕ) (table : ℕ) (m : List (List ℕ)) (p : ℕ) → ((k : ℕ) → Contains ks k → k < n) → (p < table) ⊎ (table + table_frame_count n ≤ p) → frame (with_each_entry e ks table m) p ≡ frame m p
 unfolding with_each_entry
 frame-each_other e n [] table m p below outside = refl
 frame-each_other e n (k ∷ ks) table m p below outside =

@@ -8,7 +8,7 @@ use Rattle.std.proofs.lemmas.List.Elements.{All-replicate}
 use Rattle.std.specs.List.{All, Contains, find, range_with_len}
 use Rattle.definitions.specs.Bytes.{IsPage, zero_page}
 use Rattle.definitions.specs.Zones.{numbers, top}
-use Rattle.definitions.specs.Tables.{with_entries, HasTable, table_frames, is_free, is_saveable, flags_of, owner_of}
+use Rattle.definitions.specs.Tables.{with_entries, HasTable, table_frame_count, is_free, is_saveable, page_flags, owner_of}
 use Rattle.definitions.specs.Lists.{image_slots}
 use Rattle.definitions.proofs.Ascending.{Contains-head, Contains-tail}
 use Rattle.definitions.proofs.ZoneNumbers.{below_top, top_is_next, Contains-range, range-bounds}
@@ -146,7 +146,7 @@ unfolding fresh_memory
 frame_entry-fresh_memory h slots p hw in' =
     let f = h.frame_table + p / 1024 in
     let of = of_frame_table h p hw in' in
-    let outside : (f < h.slot_table) ⊎ (h.slot_table + table_frames h.slots ≤ f) =
+    let outside : (f < h.slot_table) ⊎ (h.slot_table + table_frame_count h.slots ≤ f) =
     let low = of.from in let high = of.below in ⊎_elim (λ (le : h.frame_table + table_len (top h.zones) ≤ h.slot_table). inl (omega arith)) (λ (le : h.slot_table + table_len h.slots ≤ h.frame_table). inr (omega arith)) hw.apart in
     entry-same (fresh_frames h) (with_each_entry slots (range_with_len 0 h.slots) h.slot_table (fresh_frames h)) h.frame_table p
     (frame-each_other slots h.slots (range_with_len 0 h.slots) h.slot_table (fresh_frames h) f (λ k in_k. range_below h.slots k in_k) outside)
@@ -170,7 +170,7 @@ fits-fresh_memory h slots hw small well = record {
   entries = λ p in'. ap is_well_formed (frame_entry-fresh_memory h slots p hw in') ∙ well_formed_entry h p hw;
   tables = λ f of.
       let e = frame_entry-fresh_memory h slots f hw (table_frame_valid h f hw of) ∙ fresh_entry-table h f (table_frame-test h f of) in
-      (ap (λ (entry : ℕ). is_saveable (flags_of entry)) e, ap owner_of e);
+      (ap (λ (entry : ℕ). is_saveable (page_flags entry)) e, ap owner_of e);
   slots = λ s lt. ap (is_slot_entry s) (slot_entry-fresh_memory h slots s hw small lt) ∙ well s;
 }
 

@@ -19,13 +19,13 @@ use Rattle.plain_machine.specs.declared.reply.Reply.{Reply}
 use Rattle.plain_machine.specs.declared.reply.Reply.TheVariants.{NoChain, BadBlock, ChainEnds}
 
 -- each write of a stream of so many pages reads as it is laid
-abbrev pub ReadsLaid : Hardware → List ℕ → List (List ℕ) → disk.Image → Type 0
+abbrev pub ReadsLaid : Hardware → List ℕ → List (List ℕ) → disk.DiskImage → Type 0
 ReadsLaid h free stream v =
     (k : ℕ) → k < length stream + maps_of (length stream) →
     disk.block v (laid_write h.extents free (length stream) (get_or stream (page_of_write k) []) k).0 ≡ (laid_write h.extents free (length stream) (get_or stream (page_of_write k) []) k).1
 
 -- The slots that a writer takes: they are the map's, none is slot 0, the area has each, and the disk has its block.
-pub record AreUsable (h : Hardware) (v : disk.Image) (free : List ℕ) (count : ℕ) : Type 0 where
+pub record AreUsable (h : Hardware) (v : disk.DiskImage) (free : List ℕ) (count : ℕ) : Type 0 where
   pub file_map : (slots : ℕ) × IsFileMap h.extents slots × ((place : ℕ) → place < count → get_or free place 0 < slots)
   pub behind_header : (place : ℕ) → place < count → 0 < get_or free place 0
   pub in_area : (place : ℕ) → place < count → get_or free place 0 ≤ last_page_of (header_of h v)
@@ -85,7 +85,7 @@ map_has_write pages j lt = elim (cases_lt (j + 1) (maps_of pages)) [
 
 -- what the disk reads there
 
-page_reads : (h : Hardware) (free : List ℕ) (stream : List (List ℕ)) (v : disk.Image) (k : ℕ) → ReadsLaid h free stream v → k < length stream → disk.block v (laid_block h.extents free (page_place k)) ≡ get_or stream k []
+page_reads : (h : Hardware) (free : List ℕ) (stream : List (List ℕ)) (v : disk.DiskImage) (k : ℕ) → ReadsLaid h free stream v → k < length stream → disk.block v (laid_block h.extents free (page_place k)) ≡ get_or stream k []
 page_reads h free stream v k reads lt =
     let n = write_of_page k in
     let pages = length stream in
@@ -97,7 +97,7 @@ page_reads h free stream v k reads lt =
     ∙ ap (λ (i : ℕ). (laid_block h.extents free (page_place i), get_or stream i [])) page in
     subst (λ (w : ℕ × List ℕ). disk.block v w.0 ≡ w.1) made (reads n (omega arith))
 
-map_reads : (h : Hardware) (free : List ℕ) (stream : List (List ℕ)) (v : disk.Image) (j : ℕ) → ReadsLaid h free stream v → j < maps_of (length stream) → disk.block v (laid_block h.extents free (map_place j)) ≡ laid_map h.extents free (length stream) j
+map_reads : (h : Hardware) (free : List ℕ) (stream : List (List ℕ)) (v : disk.DiskImage) (j : ℕ) → ReadsLaid h free stream v → j < maps_of (length stream) → disk.block v (laid_block h.extents free (map_place j)) ≡ laid_map h.extents free (length stream) j
 map_reads h free stream v j reads lt =
     let pages = length stream in
     let write = map_has_write pages j lt in
@@ -139,7 +139,7 @@ entry_of_map extents free pages k lt fits =
 -- The chain, map by map.
 
 -- what the laws below are about
-pub record IsLaid (h : Hardware) (free : List ℕ) (stream : List (List ℕ)) (v : disk.Image) : Type 0 where
+pub record IsLaid (h : Hardware) (free : List ℕ) (stream : List (List ℕ)) (v : disk.DiskImage) : Type 0 where
   pub reads : ReadsLaid h free stream v
   pub usable : AreUsable h v free (length stream + maps_of (length stream))
 
@@ -149,10 +149,10 @@ map_place_within pages j lt = omega arith
 page_place_within : (pages k : ℕ) → k < pages → page_place k < pages + maps_of pages
 page_place_within pages k lt = omega arith
 
-block_fits : (h : Hardware) (free : List ℕ) (stream : List (List ℕ)) (v : disk.Image) (place : ℕ) → IsLaid h free stream v → place < length stream + maps_of (length stream) → laid_block h.extents free place < 2 ^ 64
+block_fits : (h : Hardware) (free : List ℕ) (stream : List (List ℕ)) (v : disk.DiskImage) (place : ℕ) → IsLaid h free stream v → place < length stream + maps_of (length stream) → laid_block h.extents free place < 2 ^ 64
 block_fits h free stream v place laid lt = let below = laid.usable.on_disk place lt in let fits = laid.usable.fits in omega arith
 
-pub map_block-laid : (h : Hardware) (free : List ℕ) (stream : List (List ℕ)) (v : disk.Image) (j : ℕ) → IsLaid h free stream v → j < maps_of (length stream) → map_block v (laid_block h.extents free 0) j ≡ laid_block h.extents free (map_place j)
+pub map_block-laid : (h : Hardware) (free : List ℕ) (stream : List (List ℕ)) (v : disk.DiskImage) (j : ℕ) → IsLaid h free stream v → j < maps_of (length stream) → map_block v (laid_block h.extents free 0) j ≡ laid_block h.extents free (map_place j)
 map_block-laid h free stream v zero laid lt = refl
 map_block-laid h free stream v (suc j) laid lt =
     let before = map_block-laid h free stream v j laid (omega arith) in
@@ -163,7 +163,7 @@ map_block-laid h free stream v (suc j) laid lt =
     ∙ link_of_map h.extents free (length stream) j (omega arith) (block_fits h free stream v (map_place (j + 1)) laid within)
     ∙ ap (λ (i : ℕ). laid_block h.extents free (map_place i)) next
 
-pub entry_block-laid : (h : Hardware) (free : List ℕ) (stream : List (List ℕ)) (v : disk.Image) (k : ℕ) → IsLaid h free stream v → k < length stream → entry_block v (laid_block h.extents free 0) k ≡ laid_block h.extents free (page_place k)
+pub entry_block-laid : (h : Hardware) (free : List ℕ) (stream : List (List ℕ)) (v : disk.DiskImage) (k : ℕ) → IsLaid h free stream v → k < length stream → entry_block v (laid_block h.extents free 0) k ≡ laid_block h.extents free (page_place k)
 entry_block-laid h free stream v k laid lt =
     ap (λ (b : ℕ). map_entry (disk.block v b) (k % 511)) (map_block-laid h free stream v (k / 511) laid (omega arith))
     ∙ ap (λ (page : List ℕ). map_entry page (k % 511)) (map_reads h free stream v (k / 511) laid.reads (omega arith))
@@ -185,7 +185,7 @@ block_not_0 extents slots s file_map some lt e =
     let start = header (omega arith) in
     omega arith
 
-no_fault : (h : Hardware) (free : List ℕ) (stream : List (List ℕ)) (v : disk.Image) (place : ℕ) → IsLaid h free stream v → place < length stream + maps_of (length stream) → is_at_fault h v (laid_block h.extents free place) ≡ false
+no_fault : (h : Hardware) (free : List ℕ) (stream : List (List ℕ)) (v : disk.DiskImage) (place : ℕ) → IsLaid h free stream v → place < length stream + maps_of (length stream) → is_at_fault h v (laid_block h.extents free place) ≡ false
 no_fault h free stream v place laid lt =
     let s = get_or free place 0 in
     let x = laid_block h.extents free place in
@@ -211,16 +211,16 @@ first_some-none (x ∷ faults) none =
     ap (λ (y : Option Reply). or_else y (first_some faults)) (none 0 (omega arith))
     ∙ first_some-none faults (λ k lt. none (suc k) (omega arith))
 
-block_right : (h : Hardware) (free : List ℕ) (stream : List (List ℕ)) (v : disk.Image) (place x : ℕ) → IsLaid h free stream v → place < length stream + maps_of (length stream) → x ≡ laid_block h.extents free place → block_fault h v x ≡ None
+block_right : (h : Hardware) (free : List ℕ) (stream : List (List ℕ)) (v : disk.DiskImage) (place x : ℕ) → IsLaid h free stream v → place < length stream + maps_of (length stream) → x ≡ laid_block h.extents free place → block_fault h v x ≡ None
 block_right h free stream v place x laid lt is =
     ap (block_fault h v) is ∙ cond-false (is_at_fault h v (laid_block h.extents free place)) (Some (BadBlock (laid_block h.extents free place))) None (no_fault h free stream v place laid lt)
 
-not_0 : (h : Hardware) (free : List ℕ) (stream : List (List ℕ)) (v : disk.Image) (place x : ℕ) → IsLaid h free stream v → place < length stream + maps_of (length stream) → x ≡ laid_block h.extents free place → eqb x 0 ≡ false
+not_0 : (h : Hardware) (free : List ℕ) (stream : List (List ℕ)) (v : disk.DiskImage) (place x : ℕ) → IsLaid h free stream v → place < length stream + maps_of (length stream) → x ≡ laid_block h.extents free place → eqb x 0 ≡ false
 not_0 h free stream v place x laid lt is =
     let (slots, file_map, below) = laid.usable.file_map in
     ne_eqb x 0 (λ e. block_not_0 h.extents slots (get_or free place 0) file_map (laid.usable.behind_header place lt) (below place lt) (sym is ∙ e))
 
-map_right : (h : Hardware) (free : List ℕ) (stream : List (List ℕ)) (v : disk.Image) (j : ℕ) → IsLaid h free stream v → j < maps_of (length stream) → map_fault h v (laid_block h.extents free 0) j ≡ None
+map_right : (h : Hardware) (free : List ℕ) (stream : List (List ℕ)) (v : disk.DiskImage) (j : ℕ) → IsLaid h free stream v → j < maps_of (length stream) → map_fault h v (laid_block h.extents free 0) j ≡ None
 map_right h free stream v zero laid lt =
     let b = laid_block h.extents free 0 in
     let within : 0 < length stream + maps_of (length stream) = omega arith in
@@ -233,7 +233,7 @@ map_right h free stream v (suc j) laid lt =
     cond-false (eqb x 0) (Some (ChainEnds (suc j))) (block_fault h v x) (not_0 h free stream v (map_place (suc j)) x laid within is)
     ∙ block_right h free stream v (map_place (suc j)) x laid within is
 
-place_right : (h : Hardware) (free : List ℕ) (stream : List (List ℕ)) (v : disk.Image) (k : ℕ) → IsLaid h free stream v → k < length stream → place_fault h v (laid_block h.extents free 0) k ≡ None
+place_right : (h : Hardware) (free : List ℕ) (stream : List (List ℕ)) (v : disk.DiskImage) (k : ℕ) → IsLaid h free stream v → k < length stream → place_fault h v (laid_block h.extents free 0) k ≡ None
 place_right h free stream v k laid lt =
     let b = laid_block h.extents free 0 in
     let entry : entry_fault h v b k ≡ None = block_right h free stream v (page_place k) (entry_block v b k) laid (page_place_within (length stream) k lt) (entry_block-laid h free stream v k laid lt) in
@@ -245,7 +245,7 @@ place_right h free stream v k laid lt =
     ]
 
 -- A disk that reads as laid has the blocks of the stream's pages as its chain,
-pub chain-laid : (h : Hardware) (free : List ℕ) (stream : List (List ℕ)) (v : disk.Image) → IsLaid h free stream v → chain h v (laid_block h.extents free 0) (length stream) ≡ Ok (laid_entries h.extents free 0 (length stream))
+pub chain-laid : (h : Hardware) (free : List ℕ) (stream : List (List ℕ)) (v : disk.DiskImage) → IsLaid h free stream v → chain h v (laid_block h.extents free 0) (length stream) ≡ Ok (laid_entries h.extents free 0 (length stream))
 unfolding chain
 chain-laid h free stream v laid =
     let b = laid_block h.extents free 0 in
@@ -266,7 +266,7 @@ chain-laid h free stream v laid =
     ap₂ ok_unless none entries
 
 -- and these blocks read as the stream.
-pub blocks-laid : (h : Hardware) (free : List ℕ) (stream : List (List ℕ)) (v : disk.Image) → IsLaid h free stream v → map (disk.block v) (laid_entries h.extents free 0 (length stream)) ≡ stream
+pub blocks-laid : (h : Hardware) (free : List ℕ) (stream : List (List ℕ)) (v : disk.DiskImage) → IsLaid h free stream v → map (disk.block v) (laid_entries h.extents free 0 (length stream)) ≡ stream
 blocks-laid h free stream v laid =
     let pages = length stream in
     let block : ℕ → ℕ = λ i. laid_block h.extents free (page_place i) in

@@ -16,7 +16,7 @@ differs k n lt = ne_eqb k n (λ e. omega arith)
 past_two : {A : Type 0} (b c : Bool) (x y z : A) → b ≡ false → c ≡ false → cond b x (cond c y z) ≡ z
 past_two b c x y z first none = cond-false b x (cond c y z) first ∙ cond-false c y z none
 
-pub boot-past : (h : Hardware) (v : disk.Image) (from : BootFrom) (dump : Memory) (held : Held) (k : ℕ) → 2 ≤ k → boot_step h v from dump held k ≡ []
+pub boot-past : (h : Hardware) (v : disk.DiskImage) (from : BootFrom) (dump : Memory) (held : Held) (k : ℕ) → 2 ≤ k → boot_step h v from dump held k ≡ []
 boot-past h v from dump held k le = past_two (eqb k 0) (eqb k 1) _ _ [] (differs k 0 (omega arith)) (differs k 1 (omega arith))
 
 pub undo-past : (i : Image) (call : UndoCall) (a : Running) (k : ℕ) → 2 ≤ k → undo_step i call a k ≡ []
@@ -39,7 +39,7 @@ hibernate-past suspends i a k le =
     ∙ cond-false (eqb (k + 1) last) _ [] (differs (k + 1) last (omega arith))
 
 -- of a resume of an own image too
-pub load-past : (h : Hardware) (v : disk.Image) (load : Load) (i : Image) (k : ℕ) → load.found ≡ found_own i → resume_steps i ≤ k → load_step h v load k ≡ []
+pub load-past : (h : Hardware) (v : disk.DiskImage) (load : Load) (i : Image) (k : ℕ) → load.found ≡ found_own i → resume_steps i ≤ k → load_step h v load k ≡ []
 load-past h v load i k own le =
     cond-false (ltb k 4 || has_place h load load.found k) (load_fault load k ∷ load_answers h v load k) []
     (ap₂ (λ (a b : Bool). a || b) (le-ltb k 4 (omega arith)) (ap (λ found. has_place h load found k) own ∙ le-ltb k (resume_steps i) le))

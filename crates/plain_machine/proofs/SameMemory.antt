@@ -5,7 +5,7 @@ use Rattle.std.proofs.lemmas.List.{length-set, get_or-set_same, get_or-set_other
 use Rattle.std.specs.List.{All, Contains}
 use Rattle.definitions.specs.Bytes.{IsPage, number_at, with_number}
 use Rattle.definitions.specs.Zones.{numbers, top}
-use Rattle.definitions.specs.Tables.{frame, entry_at, with_entry, is_saveable, flags_of, owner_of}
+use Rattle.definitions.specs.Tables.{frame, entry_at, with_entry, is_saveable, page_flags, owner_of}
 use Rattle.definitions.specs.Lists.{free_frames}
 use Rattle.definitions.proofs.Ascending.{Contains-head, Contains-tail}
 use Rattle.definitions.proofs.TableEntries.{entry_at-with_entry_same, entry_at-with_entry_other, frame-with_entry_other, length-with_entry, IsPage-with_entry}
@@ -53,7 +53,7 @@ tables_apart h f hw a b =
 -- no page frame of a table is free or a task's
 pub table_frame_used : (h : Hardware) (m : Memory) (f : ℕ) → Fits h m → IsTableFrame h f → frame_entry h m f ≡ 1 → ⊥
 table_frame_used h m f fits of free =
-    false≢true (ap (λ (entry : ℕ). is_saveable (flags_of entry)) (sym free) ∙ (fits.tables f of).0)
+    false≢true (ap (λ (entry : ℕ). is_saveable (page_flags entry)) (sym free) ∙ (fits.tables f of).0)
 
 pub table_frame_not_owned : (h : Hardware) (m : Memory) (f t : ℕ) → Fits h m → owner_of (frame_entry h m f) ≡ t → 1 ≤ t → IsTableFrame h f → ⊥
 table_frame_not_owned h m f t fits owner some of = let none = (fits.tables f of).1 in omega arith
@@ -133,7 +133,7 @@ fits_set h m f x hw fits no_table page = record {
   entries = λ p in'. ap is_well_formed (entry-set_other h m f p x hw no_table in') ∙ fits.entries p in';
   tables = λ g of.
       let e = entry-set_other h m f g x hw no_table (table_frame_valid h g hw of) in
-      (ap (λ (entry : ℕ). is_saveable (flags_of entry)) e ∙ (fits.tables g of).0, ap owner_of e ∙ (fits.tables g of).1);
+      (ap (λ (entry : ℕ). is_saveable (page_flags entry)) e ∙ (fits.tables g of).0, ap owner_of e ∙ (fits.tables g of).1);
   slots = λ s lt. ap (is_slot_entry s) (slot_entry-set_other h m f s x (λ of. no_table (inr of)) lt) ∙ fits.slots s lt;
 }
 
@@ -169,7 +169,7 @@ fits_entry h m p v hw fits in' no_table well small = record {
   ];
   tables = λ g of.
       let e = frame_entry-set_other h m p g v hw fits in' (λ same. no_table (subst (IsTableFrame h) same of)) in
-      (ap (λ (entry : ℕ). is_saveable (flags_of entry)) e ∙ (fits.tables g of).0, ap owner_of e ∙ (fits.tables g of).1);
+      (ap (λ (entry : ℕ). is_saveable (page_flags entry)) e ∙ (fits.tables g of).0, ap owner_of e ∙ (fits.tables g of).1);
   slots = λ s lt. ap (is_slot_entry s) (slot_entry-frame_entry_set h m p s v hw in' lt) ∙ fits.slots s lt;
 }
 

@@ -15,19 +15,19 @@ use Rattle.plain_machine.specs.declared.reply.Reply.{Reply}
 use Rattle.plain_machine.specs.declared.reply.Reply.TheVariants.{NoChain, BadBlock, ChainEnds}
 
 -- how many blocks a disk has that reads so
-abbrev pub blocks_of : disk.Image → ℕ
+abbrev pub blocks_of : disk.DiskImage → ℕ
 blocks_of v = length v / 8
 
 -- block(0); where it isn't below the disk's blocks it counts as zeros
-abbrev pub header_of : Hardware → disk.Image → List ℕ
+abbrev pub header_of : Hardware → disk.DiskImage → List ℕ
 header_of h v = if nat_lt (block_of_slot h 0) (blocks_of v) then disk.block v (block_of_slot h 0) else zero_page
 
 -- the disk carries the signature of an image
-abbrev pub Marked : Hardware → disk.Image → Type 0
+abbrev pub Marked : Hardware → disk.DiskImage → Type 0
 Marked h v = IsMarked (header_of h v)
 
 -- whether it does, as a test
-abbrev pub is_marked_disk : Hardware → disk.Image → Bool
+abbrev pub is_marked_disk : Hardware → disk.DiskImage → Bool
 is_marked_disk h v = pointwise nat_eq (sig_of (header_of h v)) image_signature
 
 -- Whether block x is at fault in a chain, where the slots lie so on that many blocks, up to the last slot: it is the
@@ -38,28 +38,28 @@ is_fault_of extents blocks last x =
     || not (nat_lt x blocks && list_any (λ s. block_of extents s == x) (range_with_len 1 last))
 
 -- over a disk: the last slot is the header's last_page
-abbrev pub is_at_fault : Hardware → disk.Image → ℕ → Bool
+abbrev pub is_at_fault : Hardware → disk.DiskImage → ℕ → Bool
 is_at_fault h v x = is_fault_of h.extents (blocks_of v) (last_page_of (header_of h v)) x
 
 -- the block of map j, from 0: the first one's is b, and each next one's is the link of the one before
-abbrev pub map_block : disk.Image → ℕ → ℕ → ℕ
+abbrev pub map_block : disk.DiskImage → ℕ → ℕ → ℕ
 map_block v b zero = b
 map_block v b (suc j) = map_link (disk.block v (map_block v b j))
 
 -- entry k of the chain, from 0
-abbrev pub entry_block : disk.Image → ℕ → ℕ → ℕ
+abbrev pub entry_block : disk.DiskImage → ℕ → ℕ → ℕ
 entry_block v b k = map_entry (disk.block v (map_block v b (k / 511))) (k % 511)
 
-abbrev pub block_fault : Hardware → disk.Image → ℕ → Option Reply
+abbrev pub block_fault : Hardware → disk.DiskImage → ℕ → Option Reply
 block_fault h v x = if is_at_fault h v x then Some (BadBlock x) else None
 
 -- what is wrong with map j, when it is wanted
-abbrev pub map_fault : Hardware → disk.Image → ℕ → ℕ → Option Reply
+abbrev pub map_fault : Hardware → disk.DiskImage → ℕ → ℕ → Option Reply
 map_fault h v b zero = if b == 0 then Some NoChain else block_fault h v b
 map_fault h v b (suc j) = if map_block v b (suc j) == 0 then Some (ChainEnds (suc j)) else block_fault h v (map_block v b (suc j))
 
 -- what is wrong with entry k, when it is wanted
-abbrev pub entry_fault : Hardware → disk.Image → ℕ → ℕ → Option Reply
+abbrev pub entry_fault : Hardware → disk.DiskImage → ℕ → ℕ → Option Reply
 entry_fault h v b k = block_fault h v (entry_block v b k)
 
 -- the first of two, and of a list
@@ -72,7 +72,7 @@ first_some [] = None
 first_some (x ∷ xs) = or_else x (first_some xs)
 
 -- in reading order: before entry k its map, where it is that map's first
-abbrev pub place_fault : Hardware → disk.Image → ℕ → ℕ → Option Reply
+abbrev pub place_fault : Hardware → disk.DiskImage → ℕ → ℕ → Option Reply
 place_fault h v b k =
     if k % 511 == 0 then or_else (map_fault h v b (k / 511)) (entry_fault h v b k) else entry_fault h v b k
 
@@ -81,13 +81,13 @@ ok_unless None x = Ok x
 ok_unless (Some e) x = Err e
 
 -- [chain]: the first p entries, or the first cause in reading order
-unfoldable pub chain : Hardware → disk.Image → ℕ → ℕ → Result (List ℕ) Reply
+unfoldable pub chain : Hardware → disk.DiskImage → ℕ → ℕ → Result (List ℕ) Reply
 chain h v b p =
     ok_unless (first_some (map (place_fault h v b) (range_with_len 0 p))) (map (entry_block v b) (range_with_len 0 p))
 
 -- [holds]: the disk is marked, and its chain is the image's stream, apart from the blocks of the tasks' slots, which
 -- have their pages. The last map is one of the chain's also where it has no entry.
-pub record Holds (h : Hardware) (v : disk.Image) (i : Image) : Type 0 where
+pub record Holds (h : Hardware) (v : disk.DiskImage) (i : Image) : Type 0 where
   pub marked : Marked h v
   pub uncompressed : bit_and (flags_of (header_of h v)) 2 ≢ 0
   pub format : (bit_and (flags_of (header_of h v)) 256 ≢ 0) ↔ (i.format ≡ SkipZeros)

@@ -5,7 +5,7 @@ use Rattle.std.specs.Prelude.{◌≡◌, ◌≤◌, ◌<◌, ◌⊎◌, ℕ, ◌
 use Rattle.std.specs.List.{list_any, range_with_len, find}
 use Rattle.definitions.specs.Bytes.{IsPage}
 use Rattle.definitions.specs.Zones.{numbers, top, AreZones}
-use Rattle.definitions.specs.Tables.{frame, entry_at, flags_of, owner_of, is_free, is_saveable}
+use Rattle.definitions.specs.Tables.{frame, entry_at, page_flags, owner_of, is_free, is_saveable}
 use Rattle.definitions.specs.Slots.{block_of, IsFileMap}
 use Rattle.definitions.specs.Lists.{saveable_frames, free_frames}
 use Rattle.definitions.specs.declared.info.Ident.{Ident}
@@ -104,8 +104,8 @@ is_table_frame h p = is_of_table h.frame_table (top h.zones) p || is_of_table h.
 -- whether an entry of the frame table is well formed (Rattle.definitions.specs.Tables.IsWellFormed, as a test)
 abbrev pub is_well_formed : ℕ → Bool
 is_well_formed entry =
-    nat_lt (flags_of entry) 128 && nat_le (owner_of entry) 64 && (not (is_free (flags_of entry)) || (entry == 1))
-    && ((flags_of entry == 0) || (flags_of entry == 64) || (owner_of entry == 0))
+    nat_lt (page_flags entry) 128 && nat_le (owner_of entry) 64 && (not (is_free (page_flags entry)) || (entry == 1))
+    && ((page_flags entry == 0) || (page_flags entry == 64) || (owner_of entry == 0))
 
 -- whether slot s may have this entry: free, a task's or bad, and slot 0 is bad
 abbrev pub is_slot_entry : ℕ → ℕ → Bool
@@ -115,7 +115,7 @@ is_slot_entry s entry = (entry == bad_slot) || (not (s == 0) && nat_le entry 64)
 -- has no owner
 abbrev pub is_table_at_fault : Hardware → Memory → ℕ → Bool
 is_table_at_fault h m f =
-    not (is_saveable (flags_of (frame_entry h m f))) || not (owner_of (frame_entry h m f) == 0)
+    not (is_saveable (page_flags (frame_entry h m f))) || not (owner_of (frame_entry h m f) == 0)
     || list_any (λ p. (h.frame_table + p / 1024 == f) && not (is_well_formed (frame_entry h m p))) (numbers h.zones)
     || list_any (λ s. (h.slot_table + s / 1024 == f) && not (is_slot_entry s (raw_slot_entry h m s))) (range_with_len 0 h.slots)
 
@@ -128,7 +128,7 @@ pub record Fits (h : Hardware) (m : Memory) : Type 0 where
   pub pages : All IsPage m
   pub size : length m ≡ top h.zones
   pub entries : (p : ℕ) → Contains (numbers h.zones) p → is_well_formed (frame_entry h m p) ≡ true
-  pub tables : (f : ℕ) → IsTableFrame h f → (is_saveable (flags_of (frame_entry h m f)) ≡ true) × (owner_of (frame_entry h m f) ≡ 0)
+  pub tables : (f : ℕ) → IsTableFrame h f → (is_saveable (page_flags (frame_entry h m f)) ≡ true) × (owner_of (frame_entry h m f) ≡ 0)
   pub slots : (s : ℕ) → s < h.slots → is_slot_entry s (raw_slot_entry h m s) ≡ true
 
 -- an identity that an info page can say: names of 65 bytes, and a version code of 4 (struct new_utsname)

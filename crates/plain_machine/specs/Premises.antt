@@ -16,7 +16,7 @@ use Rattle.plain_machine.specs.UsableArea.{area_block}
 
 -- [no marked original] No marked block(0) that is handed in has the signature of an image as its original signature: taken back it
 -- isn't marked.
-abbrev pub HasOriginal : Hardware → disk.Image → Type 0
+abbrev pub HasOriginal : Hardware → disk.DiskImage → Type 0
 HasOriginal h v = IsMarked (area_block h v) → ⊥
 
 -- [memory] The status isn't 6: `Memory` of the program's `Status`.

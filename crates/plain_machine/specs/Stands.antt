@@ -24,8 +24,8 @@ use Rattle.plain_machine.specs.declared.event.BootFrom.{BootFrom}
 use Rattle.plain_machine.specs.declared.event.BootFrom.TheVariants.{Fresh, Kept}
 
 -- every image of the disk has P
-abbrev pub EachImage : disk.Content → (disk.Image → Type 0) → Type 0
-EachImage c P = (v : disk.Image) → disk.IsImage c v → P v
+abbrev pub EachImage : disk.Content → (disk.DiskImage → Type 0) → Type 0
+EachImage c P = (v : disk.DiskImage) → disk.IsImage c v → P v
 
 -- 1. Held.
 
@@ -61,18 +61,18 @@ pub record HasFlights (h : Hardware) (a : Running) : Type 0 where
   pub ins : (t s p : ℕ) → a.flights t ≡ Some (comes_in s p) → IsFlight h a t s p
 
 -- the area of the disk v can be used by a machine with this memory
-pub record FitsArea (h : Hardware) (v : disk.Image) (m : Memory) : Type 0 where
+pub record FitsArea (h : Hardware) (v : disk.DiskImage) (m : Memory) : Type 0 where
   pub area : area_fault h v ≡ None
   pub bad_slots : bad_set_fault h m (area_kind (area_block h v)) ≡ None
 
 -- An own image is the image of a memory that fits and whose slot table fits the area, made under the machine's signature.
-pub record IsImageOf (h : Hardware) (v : disk.Image) (i : Image) (m : Memory) : Type 0 where
+pub record IsImageOf (h : Hardware) (v : disk.DiskImage) (i : Image) (m : Memory) : Type 0 where
   pub fits : Fits h m
   pub task_slots : AreTaskSlots h None m no_flights i.slots
   pub fits_area : FitsArea h v m
   pub image : i ≡ image_of_memory h m i.slots i.format
 
-pub record IsOwn (h : Hardware) (v : disk.Image) (i : Image) : Type 0 where
+pub record IsOwn (h : Hardware) (v : disk.DiskImage) (i : Image) : Type 0 where
   pub of_memory : (m : Memory) × IsImageOf h v i m
   pub signature : Marked h v → (bit_and (flags_of (header_of h v)) 8 ≡ 0) ⊎ (hw_sig_of (header_of h v) ≡ h.hw_sig)
 
@@ -149,7 +149,7 @@ laid_writes h a i = laid h.extents (unused_slots h a.memory) (stream_of i)
 abbrev pub first_map_block : Hardware → Running → ℕ
 first_map_block h a = laid_block h.extents (unused_slots h a.memory) 0
 
-abbrev pub Reads : disk.Image → ℕ × List ℕ → Type 0
+abbrev pub Reads : disk.DiskImage → ℕ × List ℕ → Type 0
 Reads v written = disk.block v written.0 ≡ written.1
 
 -- Every image of the disk has the blocks of the hibernation and the tasks' slots. One that is marked says that the chain that was
@@ -169,7 +169,7 @@ pub record IsWritten (h : Hardware) (shown : Shown) (c : disk.Content) (i : Imag
 -- 5. Loading.
 
 -- w is the disk v, but for block(0), which is as it was or taken back
-pub record IsTakenBack (h : Hardware) (v w : disk.Image) : Type 0 where
+pub record IsTakenBack (h : Hardware) (v w : disk.DiskImage) : Type 0 where
   pub size : length w ≡ length v
   pub others : (b : ℕ) → b < blocks_of v → b ≢ block_of_slot h 0 → disk.block w b ≡ disk.block v b
   pub header : (header_of h w ≡ header_of h v) ⊎ (header_of h w ≡ taken_back (header_of h v))
@@ -187,13 +187,13 @@ data_read i k = pages_read k - (meta_of (n_of i) + 1)
 pub record IsLoading (h : Hardware) (shown : Shown) (c : disk.Content) (load : Load) (k : ℕ) : Type 0 where
   pub kept : (p : ℕ) → p < top h.zones → (Contains (left_free h load.dump load.loader) p → ⊥) → frame shown.frames p ≡ loader_frame load.dump load.loader p
   pub read : (i : Image) → load.found ≡ found_own i → shown.loaded ≡ take (data_read i k) (with_data i)
-  pub own : (i : Image) → load.found ≡ found_own i → (v : disk.Image) × Holds h v i × IsOwn h v i × EachImage c (IsTakenBack h v)
-  pub others : (v : disk.Image) → load.found ≡ found_other v → EachImage c (IsTakenBack h v)
+  pub own : (i : Image) → load.found ≡ found_own i → (v : disk.DiskImage) × Holds h v i × IsOwn h v i × EachImage c (IsTakenBack h v)
+  pub others : (v : disk.DiskImage) → load.found ≡ found_other v → EachImage c (IsTakenBack h v)
   pub taken_back : 4 ≤ k → EachImage c (λ v. Marked h v → ⊥)
 
 -- 6. Between two calls: a restart or a sync has left one image, and the block that is kept is the disk's, or the marked page.
 abbrev pub HasOneImage : disk.Content → Type 0
-HasOneImage c = (v w : disk.Image) → disk.IsImage c v → disk.IsImage c w → v ≡ w
+HasOneImage c = (v w : disk.DiskImage) → disk.IsImage c v → disk.IsImage c w → v ≡ w
 
 abbrev pub KeepsHeader : Hardware → Shown → disk.Content → Type 0
 KeepsHeader h shown c = shown.header ≡ header_of h (disk.as_it_reads c)

@@ -45,7 +45,7 @@ pub record Running : Type 0 where
 pub data Found : Type 0 where
   not_yet : Found
   found_own : Image → Found
-  found_other : disk.Image → Found
+  found_other : disk.DiskImage → Found
 
 pub record Load : Type 0 where
   pub held : Held

@@ -7,7 +7,7 @@ use Rattle.page_core.specs.declared.format.Format.{Format}
 use Rattle.definitions.specs.Bytes.{zero_page, word, with_word}
 use Rattle.definitions.specs.Disk as disk
 use Rattle.definitions.specs.Zones.{numbers, top}
-use Rattle.definitions.specs.Tables.{frame, with_entry, with_entries, flags_of}
+use Rattle.definitions.specs.Tables.{frame, with_entry, with_entries, page_flags}
 use Rattle.definitions.specs.NumberPages.{meta_of}
 use Rattle.sig_header.specs.AreaKind.{area_kind}
 use Rattle.plain_machine.specs.Machine.{Hardware, Memory, frame_entry, is_table_frame, saveable, bad_slot}
@@ -123,7 +123,7 @@ fresh_frames h = with_each_entry (fresh_entry h) (numbers h.zones) h.frame_table
 unfoldable pub fresh_memory : Hardware → (ℕ → ℕ) → Memory
 fresh_memory h slots = with_each_entry slots (range_with_len 0 h.slots) h.slot_table (fresh_frames h)
 
-abbrev pub fresh_slot : Hardware → disk.Image → ℕ → ℕ
+abbrev pub fresh_slot : Hardware → disk.DiskImage → ℕ → ℕ
 fresh_slot h v s =
     if is_some (area_fault h v) || has (bad_slots_in (area_kind (area_block h v))) s then bad_slot else 0
 
@@ -133,7 +133,7 @@ no_slots s = None
 abbrev pub no_flights : ℕ → Option Flight
 no_flights t = None
 
-abbrev pub booted : Hardware → disk.Image → BootFrom → Memory → Held → Running
+abbrev pub booted : Hardware → disk.DiskImage → BootFrom → Memory → Held → Running
 booted h v Fresh dump held = record {
   memory = fresh_memory h (fresh_slot h v);
   slots = no_slots;
@@ -150,13 +150,13 @@ booted h v Kept dump held = record {
 }
 
 -- whether an image is there: what is held says it, and a perhaps is settled by the disk
-abbrev pub boot_outcomes : Hardware → disk.Image → BootFrom → Memory → Held → List Outcome
+abbrev pub boot_outcomes : Hardware → disk.DiskImage → BootFrom → Memory → Held → List Outcome
 boot_outcomes h v from dump nothing = only (reply.Booted false) (on (booted h v from dump nothing))
 boot_outcomes h v from dump (sure x) = only (reply.Booted true) (on (booted h v from dump (sure x)))
 boot_outcomes h v from dump (maybe x) =
     (reply.Booted false, on (booted h v from dump nothing)) ∷ (reply.Booted true, on (booted h v from dump (sure x))) ∷ []
 
-abbrev pub boot_step : Hardware → disk.Image → BootFrom → Memory → Held → ℕ → List Outcome
+abbrev pub boot_step : Hardware → disk.DiskImage → BootFrom → Memory → Held → ℕ → List Outcome
 boot_step h v from dump held k =
     if k == 0 then done_or (reply.More 1 2) (booting from dump held 1) (reply.SyncFault Same) (off held None)
     else (if k == 1 then boot_outcomes h v from dump held ++ only (reply.ReadFault Same) (off held None)
@@ -241,14 +241,14 @@ own_step h load i k =
     else (reply.Loading (k + 1), loading load (k + 1)))
 
 -- step k + 1 over another's image: the replies are those of the trace over the disk that step 2 read
-abbrev pub other_state : Hardware → Load → disk.Image → ℕ → Reply → State
+abbrev pub other_state : Hardware → Load → disk.DiskImage → ℕ → Reply → State
 other_state h load v k (reply.Loading j) = loading load j
 other_state h load v k (reply.Resumed n) =
     let m = restored_in h load.dump v load.loader in resumed m (slots_in h v m) load.loader
 other_state h load v k (reply.Compressed flags) = off (sure other) None
 other_state h load v k r = off nothing None
 
-abbrev pub other_step : Hardware → Load → disk.Image → ℕ → List Outcome
+abbrev pub other_step : Hardware → Load → disk.DiskImage → ℕ → List Outcome
 other_step h load v k = outcome (slice_get (trace h load.dump v load.loader load.check) k) where
   outcome : Option Reply → List Outcome
   outcome None = []
@@ -258,7 +258,7 @@ other_step h load v k = outcome (slice_get (trace h load.dump v load.loader load
 abbrev pub no_image : List Outcome
 no_image = only reply.NoImage (off nothing None)
 
-abbrev pub find_step : Hardware → disk.Image → Load → Held → List Outcome
+abbrev pub find_step : Hardware → disk.DiskImage → Load → Held → List Outcome
 find_step h v load nothing = no_image
 find_step h v load (sure (own i)) = only (reply.Loading 2) (loading (record load { found = found_own i }) 2)
 find_step h v load (maybe (own i)) = (reply.Loading 2, loading (record load { found = found_own i }) 2) ∷ no_image
@@ -276,12 +276,12 @@ has_place h load not_yet k = false
 has_place h load (found_own i) k = nat_lt k (resume_steps i)
 has_place h load (found_other v) k = nat_lt k (length (trace h load.dump v load.loader load.check))
 
-abbrev pub load_answers : Hardware → disk.Image → Load → ℕ → List Outcome
+abbrev pub load_answers : Hardware → disk.DiskImage → Load → ℕ → List Outcome
 load_answers h v load k =
     if k == 0 then only (reply.Loading 1) (loading load 1)
     else (if k == 1 then find_step h v load load.held else loaded_step h load load.found k)
 
-abbrev pub load_step : Hardware → disk.Image → Load → ℕ → List Outcome
+abbrev pub load_step : Hardware → disk.DiskImage → Load → ℕ → List Outcome
 load_step h v load k =
     if nat_lt k 4 || has_place h load load.found k then load_fault load k ∷ load_answers h v load k else []
 
@@ -289,7 +289,7 @@ load_step h v load k =
 abbrev pub droppable : Hardware → Memory → List ℕ
 droppable h m = filter (λ p. (frame_flags p == 64) && not (is_table_frame h p)) (numbers h.zones) where
   frame_flags : ℕ → ℕ
-  frame_flags p = flags_of (frame_entry h m p)
+  frame_flags p = page_flags (frame_entry h m p)
 
 abbrev pub dropped_by : Hardware → Memory → ℕ → List ℕ
 dropped_by h m want = take (length (saveable h m) - want) (droppable h m)
@@ -299,7 +299,7 @@ drop_memory h m want = with_entries m h.frame_table (dropped_by h m want) 1
 
 -- What may come of each event that isn't refused.
 
-abbrev pub core_step : Hardware → disk.Image → State → List Outcome
+abbrev pub core_step : Hardware → disk.DiskImage → State → List Outcome
 core_step h v (off held kept) = []
 core_step h v (on a) = []
 core_step h v (booting from dump held k) = boot_step h v from dump held k
@@ -338,7 +338,7 @@ woken (settling a k) = []
 woken (waking i held a k) = []
 woken (loading load k) = []
 
-abbrev pub accepted : Hardware → disk.Image → State → Event → List Outcome
+abbrev pub accepted : Hardware → disk.DiskImage → State → Event → List Outcome
 accepted h v a (event.Boot from) = only (reply.More 0 2) (booting from (unwrap_or (kept_in a) []) (held_in a) 0)
 accepted h v a (event.Resume l check) =
     only (reply.Loading 0)
@@ -362,16 +362,16 @@ refused_or a (Some r) outcomes = only r a
 refused_or a None outcomes = outcomes
 
 -- the outcomes of an event, over the disk v as it reads at the event
-unfoldable pub outcomes : Hardware → disk.Image → State → Event → List Outcome
+unfoldable pub outcomes : Hardware → disk.DiskImage → State → Event → List Outcome
 outcomes h v a e = refused_or a (refusal h a e) (accepted h v a e)
 
 -- the machine may give this reply to the event and go on to b
-abbrev pub Step : Hardware → disk.Image → State → Event → Reply → State → Type 0
+abbrev pub Step : Hardware → disk.DiskImage → State → Event → Reply → State → Type 0
 Step h v a e r b = Contains (outcomes h v a e) (r, b)
 
 -- The machine may give these replies to these events, one after another. Over a formatted area, where no image is
 -- another's, no step looks at the disk but for the area's own block: v is a disk that reads as the formatted area.
-abbrev pub Run : Hardware → disk.Image → State → List Event → List Reply → State → Type 0
+abbrev pub Run : Hardware → disk.DiskImage → State → List Event → List Reply → State → Type 0
 Run h v a [] [] b = b ≡ a
 Run h v a [] (r ∷ replies) b = ⊥
 Run h v a (e ∷ events) [] b = ⊥

@@ -31,24 +31,24 @@ is_set flags bit = not (bit_and flags bit == 0)
 
 -- What the disk v says of its image, untested.
 
-abbrev pub first_map : Hardware → disk.Image → ℕ
+abbrev pub first_map : Hardware → disk.DiskImage → ℕ
 first_map h v = image_of (header_of h v)
 
 -- page k of the stream, from 0
-abbrev pub stream_page : Hardware → disk.Image → ℕ → List ℕ
+abbrev pub stream_page : Hardware → disk.DiskImage → ℕ → List ℕ
 stream_page h v k = disk.block v (entry_block v (first_map h v) k)
 
-abbrev pub info_in : Hardware → disk.Image → Info
+abbrev pub info_in : Hardware → disk.DiskImage → Info
 info_in h v = info_of (stream_page h v 0)
 
-abbrev pub format_in : Hardware → disk.Image → Format
+abbrev pub format_in : Hardware → disk.DiskImage → Format
 format_in h v = if is_set (flags_of (header_of h v)) 256 then SkipZeros else Plain
 
-abbrev pub meta_in : Hardware → disk.Image → ℕ
+abbrev pub meta_in : Hardware → disk.DiskImage → ℕ
 meta_in h v = meta_of (info_in h v).image_pages
 
 -- word j of the number pages
-abbrev pub number_word : Hardware → disk.Image → ℕ → ℕ
+abbrev pub number_word : Hardware → disk.DiskImage → ℕ → ℕ
 number_word h v j = word (stream_page h v (1 + j / 512)) (j % 512)
 
 -- the page frame number of word j, and whether the page has no data page, by the format
@@ -60,25 +60,25 @@ abbrev pub is_marked_by : Format → ℕ → Bool
 is_marked_by Plain w = false
 is_marked_by SkipZeros w = nat_le zero_bit w
 
-abbrev pub number_in : Hardware → disk.Image → ℕ → ℕ
+abbrev pub number_in : Hardware → disk.DiskImage → ℕ → ℕ
 number_in h v j = number_by (format_in h v) (number_word h v j)
 
-abbrev pub words_in : Hardware → disk.Image → List ℕ
+abbrev pub words_in : Hardware → disk.DiskImage → List ℕ
 words_in h v = map (number_word h v) (range_with_len 0 (info_in h v).image_pages)
 
 -- how many pages have data
-abbrev pub d_in : Hardware → disk.Image → ℕ
+abbrev pub d_in : Hardware → disk.DiskImage → ℕ
 d_in h v = length (filter (λ w. not (is_marked_by (format_in h v) w)) (words_in h v))
 
 -- the saved pages: page frame numbers with their pages, those with data taken from the stream in order
-abbrev pub saved_from : Hardware → disk.Image → ℕ → List ℕ → List (ℕ × List ℕ)
+abbrev pub saved_from : Hardware → disk.DiskImage → ℕ → List ℕ → List (ℕ × List ℕ)
 saved_from h v k [] = []
 saved_from h v k (w ∷ words) =
     if is_marked_by (format_in h v) w then (number_by (format_in h v) w, zero_page) ∷ saved_from h v k words
     else (number_by (format_in h v) w, stream_page h v k) ∷ saved_from h v (k + 1) words
 
 -- the image that the disk decodes to; its tasks' slots are those of the restored memory (`slots_in`)
-abbrev pub image_in : Hardware → disk.Image → SlotPages → Image
+abbrev pub image_in : Hardware → disk.DiskImage → SlotPages → Image
 image_in h v slots = record {
   frames = saved_from h v (1 + meta_in h v) (words_in h v);
   slots = slots;
@@ -89,14 +89,14 @@ image_in h v slots = record {
 
 -- The causes.
 
-abbrev pub identity_cause : Hardware → disk.Image → IdentCheck → Option Reply
+abbrev pub identity_cause : Hardware → disk.DiskImage → IdentCheck → Option Reply
 identity_cause h v Compare = mismatch_reply (mismatch (info_in h v).ident h.ident) where
   mismatch_reply : Option Field → Option Reply
   mismatch_reply None = None
   mismatch_reply (Some field) = Some (reply.Mismatch field)
 identity_cause h v Skip = None
 
-abbrev pub memory_cause : Hardware → disk.Image → Option Reply
+abbrev pub memory_cause : Hardware → disk.DiskImage → Option Reply
 memory_cause h v =
     if (info_in h v).physpages == valid_count h then None
     else Some (reply.MemorySize (info_in h v).physpages (valid_count h))
@@ -105,40 +105,40 @@ abbrev pub are_bad_counts : Format → ℕ → ℕ → ℕ → Bool
 are_bad_counts Plain valid n pages = (n == 0) || nat_lt valid n || not (pages == n + meta_of n + 1)
 are_bad_counts SkipZeros valid n pages = (n == 0) || nat_lt valid n || nat_lt pages (meta_of n + 1) || nat_lt (n + meta_of n + 1) pages
 
-abbrev pub counts_cause : Hardware → disk.Image → Option Reply
+abbrev pub counts_cause : Hardware → disk.DiskImage → Option Reply
 counts_cause h v =
     if are_bad_counts (format_in h v) (valid_count h) (info_in h v).image_pages (info_in h v).pages
     then Some (reply.BadCounts (info_in h v).image_pages (info_in h v).pages) else None
 
-abbrev pub info_cause : Hardware → disk.Image → IdentCheck → Option Reply
+abbrev pub info_cause : Hardware → disk.DiskImage → IdentCheck → Option Reply
 info_cause h v check = or_else (identity_cause h v check) (or_else (memory_cause h v) (counts_cause h v))
 
 -- number j: not a valid page frame, or not above the one before
-abbrev pub number_cause : Hardware → disk.Image → ℕ → Option Reply
+abbrev pub number_cause : Hardware → disk.DiskImage → ℕ → Option Reply
 number_cause h v j =
     if not (is_valid h (number_in h v j)) then Some (reply.BadPfn (number_in h v j))
     else (if nat_lt 0 j && nat_le (number_in h v j) (number_in h v (j - 1)) then Some (reply.PfnOrder (number_in h v (j - 1)) (number_in h v j))
     else None)
 
 -- the word after the last number, where the last page isn't full
-abbrev pub end_cause : Hardware → disk.Image → ℕ → Option Reply
+abbrev pub end_cause : Hardware → disk.DiskImage → ℕ → Option Reply
 end_cause h v n =
     if (n % 512 == 0) || (number_word h v n == end_value) then None else Some (reply.PfnEnd (number_word h v n))
 
 -- After the last number page: the data pages are as many as pages says. (In a Plain image the info page's test says so.)
-abbrev pub listed_cause : Hardware → disk.Image → Option Reply
+abbrev pub listed_cause : Hardware → disk.DiskImage → Option Reply
 listed_cause h v =
     if (info_in h v).pages == d_in h v + meta_in h v + 1 then None
     else Some (reply.BadCounts (info_in h v).image_pages (info_in h v).pages)
 
 -- and the loader has room for them
-abbrev pub room_cause : Hardware → Memory → disk.Image → Loader → Option Reply
+abbrev pub room_cause : Hardware → Memory → disk.DiskImage → Loader → Option Reply
 room_cause h dump v loader =
     if nat_lt (length (left_free h dump loader)) (need (d_in h v)) then Some (reply.TooFewLoaderFrames (length (left_free h dump loader)) (need (d_in h v)))
     else None
 
 -- number page q, from 0, of n numbers
-abbrev pub numbers_cause : Hardware → disk.Image → ℕ → Option Reply
+abbrev pub numbers_cause : Hardware → disk.DiskImage → ℕ → Option Reply
 numbers_cause h v q =
     let n = (info_in h v).image_pages in
     let own = first_some (map (number_cause h v) (range_with_len (512 * q) (min 512 (n - 512 * q)))) in
@@ -161,46 +161,46 @@ abbrev pub places : ℕ → List Place
 places pages = map place (range_with_len 0 (place_count pages))
 
 -- what is wrong with the block of a place, when it is wanted
-abbrev pub place_cause : Hardware → disk.Image → Place → Option Reply
+abbrev pub place_cause : Hardware → disk.DiskImage → Place → Option Reply
 place_cause h v (map_at j) = map_fault h v (first_map h v) j
 place_cause h v (page_at k) = entry_fault h v (first_map h v) k
 
 -- what is wrong with what was read there, but for the loader's room
-abbrev pub read_cause : Hardware → disk.Image → IdentCheck → Place → Option Reply
+abbrev pub read_cause : Hardware → disk.DiskImage → IdentCheck → Place → Option Reply
 read_cause h v check (map_at j) = None
 read_cause h v check (page_at zero) = info_cause h v check
 read_cause h v check (page_at (suc q)) = if nat_lt q (meta_in h v) then numbers_cause h v q else None
 
 -- what is wrong with the loader's room, which is tested at the last number page
-abbrev pub want_cause : Hardware → Memory → disk.Image → Loader → Place → Option Reply
+abbrev pub want_cause : Hardware → Memory → disk.DiskImage → Loader → Place → Option Reply
 want_cause h dump v loader (map_at j) = None
 want_cause h dump v loader (page_at k) = if k == meta_in h v then room_cause h dump v loader else None
 
-abbrev pub content_cause : Hardware → Memory → disk.Image → Loader → IdentCheck → Place → Option Reply
+abbrev pub content_cause : Hardware → Memory → disk.DiskImage → Loader → IdentCheck → Place → Option Reply
 content_cause h dump v loader check here = or_else (read_cause h v check here) (want_cause h dump v loader here)
 
 -- what is wrong at the end of the step that reads place t: with what was read, or with the block that is wanted next
-abbrev pub next_cause : Hardware → disk.Image → ℕ → Option Reply
+abbrev pub next_cause : Hardware → disk.DiskImage → ℕ → Option Reply
 next_cause h v t = if nat_lt (t + 1) (place_count (info_in h v).pages) then place_cause h v (place (t + 1)) else None
 
-abbrev pub step_cause : Hardware → disk.Image → IdentCheck → ℕ → Option Reply
+abbrev pub step_cause : Hardware → disk.DiskImage → IdentCheck → ℕ → Option Reply
 step_cause h v check t = or_else (read_cause h v check (place t)) (next_cause h v t)
 
 -- The slots of the tasks in the restored memory, with their pages as the disk reads.
-abbrev pub slots_in : Hardware → disk.Image → Memory → SlotPages
+abbrev pub slots_in : Hardware → disk.DiskImage → Memory → SlotPages
 slots_in h v m = λ s. if nat_lt s h.slots && nat_lt 0 (slot_entry h m s) && nat_le (slot_entry h m s) 64 then Some (disk.block v (block_of_slot h s)) else None
 
 -- At the last step: the restored tables don't fit, or not the area; not tested after a dump's loader.
-abbrev pub tables_cause : Hardware → disk.Image → Memory → Option Reply
+abbrev pub tables_cause : Hardware → disk.DiskImage → Memory → Option Reply
 tables_cause h v m = frame_reply (or_else (tables_fault h m) (if is_none (dump_area_fault h v m) then None else Some h.slot_table)) where
   frame_reply : Option ℕ → Option Reply
   frame_reply None = None
   frame_reply (Some f) = Some (reply.BadTables f)
 
-abbrev pub restored_in : Hardware → Memory → disk.Image → Loader → Memory
+abbrev pub restored_in : Hardware → Memory → disk.DiskImage → Loader → Memory
 restored_in h dump v loader = restored h dump loader (image_in h v (λ s. None))
 
-abbrev pub last_reply : Hardware → Memory → disk.Image → Loader → Reply
+abbrev pub last_reply : Hardware → Memory → disk.DiskImage → Loader → Reply
 last_reply h dump v (loaders.Ranges ranges) =
     unwrap_or (tables_cause h v (restored_in h dump v (loaders.Ranges ranges))) (reply.Resumed (info_in h v).image_pages)
 last_reply h dump v loaders.Table = reply.Resumed (info_in h v).image_pages
@@ -212,7 +212,7 @@ stop_or_go (Some cause) k replies = cause ∷ []
 
 -- The replies of step k, which reads the first of these places, and of the steps after it. The block that the next
 -- step would read is tested at the end of the step before it.
-abbrev pub replies_from : Hardware → Memory → disk.Image → Loader → IdentCheck → ℕ → List Place → List Reply
+abbrev pub replies_from : Hardware → Memory → disk.DiskImage → Loader → IdentCheck → ℕ → List Place → List Reply
 replies_from h dump v loader check k [] = []
 replies_from h dump v loader check k (here ∷ []) =
     unwrap_or (content_cause h dump v loader check here) (last_reply h dump v loader) ∷ []
@@ -220,19 +220,19 @@ replies_from h dump v loader check k (here ∷ next ∷ rest) =
     stop_or_go (or_else (content_cause h dump v loader check here) (place_cause h v next)) k (replies_from h dump v loader check (k + 1) (next ∷ rest))
 
 -- at the end of step 4, once the block is taken back
-abbrev pub taken_back_cause : Hardware → disk.Image → Option Reply
+abbrev pub taken_back_cause : Hardware → disk.DiskImage → Option Reply
 taken_back_cause h v =
     if is_set (flags_of (header_of h v)) 8 && not (hw_sig_of (header_of h v) == h.hw_sig) then Some (reply.HwMismatch (hw_sig_of (header_of h v)) h.hw_sig)
     else map_fault h v (first_map h v) 0
 
 -- at the end of step 2
-abbrev pub header_cause : Hardware → disk.Image → Option Reply
+abbrev pub header_cause : Hardware → disk.DiskImage → Option Reply
 header_cause h v =
     if not (pointwise nat_eq (sig_of (header_of h v)) image_signature) then Some reply.NoImage
     else (if not (is_set (flags_of (header_of h v)) 2) then Some (reply.Compressed (flags_of (header_of h v))) else None)
 
 -- Loading{1}, Loading{2} and so on, up to Resumed{n} or the first cause
-unfoldable pub trace : Hardware → Memory → disk.Image → Loader → IdentCheck → List Reply
+unfoldable pub trace : Hardware → Memory → disk.DiskImage → Loader → IdentCheck → List Reply
 trace h dump v loader check =
     reply.Loading 1 ∷ stop_or_go (header_cause h v) 2
     (reply.Loading 3 ∷ stop_or_go (taken_back_cause h v) 4

@@ -17,7 +17,7 @@ use Rattle.plain_machine.specs.declared.no_swap.NoSwap.{NoSwap}
 use Rattle.plain_machine.specs.declared.no_swap.NoSwap.TheVariants as no_swap
 
 -- block(0), taken back where it is marked
-abbrev pub area_block : Hardware → disk.Image → List ℕ
+abbrev pub area_block : Hardware → disk.DiskImage → List ℕ
 area_block h v =
     if pointwise nat_eq (sig_of (header_of h v)) image_signature then taken_back (header_of h v) else header_of h v
 
@@ -52,7 +52,7 @@ kind_or_fit_fault h blocks (Other sig) = kind_fault (Other sig)
 kind_or_fit_fault h blocks (BadArea why) = kind_fault (BadArea why)
 
 -- Why the area of the disk can't be used by a machine with fresh memory, and by one with a dump's memory.
-unfoldable pub area_fault : Hardware → disk.Image → Option NoSwap
+unfoldable pub area_fault : Hardware → disk.DiskImage → Option NoSwap
 area_fault h v = kind_or_fit_fault h (blocks_of v) (area_kind (area_block h v))
 
 abbrev pub bad_set_fault : Hardware → Memory → AreaKind → Option NoSwap
@@ -66,7 +66,7 @@ abbrev pub first_fault : Option NoSwap → Option NoSwap → Option NoSwap
 first_fault None b = b
 first_fault (Some why) b = Some why
 
-unfoldable pub dump_area_fault : Hardware → disk.Image → Memory → Option NoSwap
+unfoldable pub dump_area_fault : Hardware → disk.DiskImage → Memory → Option NoSwap
 dump_area_fault h v m = first_fault (area_fault h v) (bad_set_fault h m (area_kind (area_block h v)))
 
 -- the area's bad slots, of the area that the disk has

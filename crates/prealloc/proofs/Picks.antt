@@ -6,7 +6,7 @@ use Rattle.std.proofs.Math.Seq.{take-append-add}
 use Rattle.std.proofs.lemmas.List.Elements.{Contains-append_cases, Contains-append_left, filter-append}
 use Rattle.std.specs.List.{Contains, range_with_len}
 use Rattle.definitions.specs.FrameSets.{inserted}
-use Rattle.definitions.specs.Tables.{flags_of, owner_of}
+use Rattle.definitions.specs.Tables.{page_flags, owner_of}
 use Rattle.definitions.proofs.FrameSets.{inserted_above, Contains-from_filter}
 use Rattle.definitions.proofs.ZoneNumbers.{range-bounds}
 use Rattle.definitions.proofs.Picks.{picks_one, inserted_picked}
@@ -71,7 +71,7 @@ Contains-from_take n xs x in' =
     subst (λ (ys : List ℕ). Contains ys x) (take-append-drop n xs) (Contains-append_left (take n xs) (drop n xs) x in')
 
 -- an entry is that of a free page frame exactly where its flags are FREE and it has no owner
-pub free-by_parts : (entry flags owner : ℕ) → flags ≡ flags_of entry → owner ≡ owner_of entry → (eqb flags 1 && eqb owner 0) ≡ eqb entry 1
+pub free-by_parts : (entry flags owner : ℕ) → flags ≡ page_flags entry → owner ≡ owner_of entry → (eqb flags 1 && eqb owner 0) ≡ eqb entry 1
 free-by_parts entry flags owner f o = elim (cases_eq entry 1) [
   | inl e ↦ and_from (eqb flags 1) (eqb owner 0) (eq-eqb flags 1 (omega arith)) (eq-eqb owner 0 (omega arith)) ∙ sym (eq-eqb entry 1 e)
   | inr ne ↦

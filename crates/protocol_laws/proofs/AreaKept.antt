@@ -25,7 +25,7 @@ use Rattle.protocol_laws.proofs.Same.{SameHeader, same_header, same_area_block, 
 agree_itself : (page : List ℕ) → AgreeOnArea page page
 agree_itself page = record { front = refl; signature = refl }
 
-by_same_header : (h : Hardware) (v w : disk.Image) → SameHeader h w v → IsSameArea h v w
+by_same_header : (h : Hardware) (v w : disk.DiskImage) → SameHeader h w v → IsSameArea h v w
 by_same_header h v w same = record { blocks = same.blocks; header = subst (AgreeOnArea (area_block h w)) (same_area_block h w v same) (agree_itself (area_block h w)) }
 
 -- Calls that leave block(0).

@@ -56,14 +56,14 @@ area_tried h page c c' blocks un tries = kept_by_header h blocks page c c' un.co
 
 -- What is held is perhaps there from then on.
 
-own_held : (h : Hardware) (page : List ℕ) (c : disk.Content) (blocks : ℕ) (i : Image) (v : disk.Image) → IsUnmarking h page c blocks → IsHeld h c (maybe (own i)) → Torn h page c v → ((Marked h v → ⊥) ⊎ Holds h v i) × IsOwn h v i
+own_held : (h : Hardware) (page : List ℕ) (c : disk.Content) (blocks : ℕ) (i : Image) (v : disk.DiskImage) → IsUnmarking h page c blocks → IsHeld h c (maybe (own i)) → Torn h page c v → ((Marked h v → ⊥) ⊎ Holds h v i) × IsOwn h v i
 own_held h page c blocks i v un held (still was) = held v was
 own_held h page c blocks i v un held (back w in_w same header) =
     let never : Marked h v → ⊥ = λ m. un.unmarked (subst IsMarked header m) in
     let kind = kind_torn h page c blocks v un (back w in_w same header) ∙ sym (kind_torn h page c blocks w un (still in_w)) in
     (inl never, own_torn h i v w (held w in_w).1 (ap (λ (n : ℕ). n / 8) same.size) kind never)
 
-none_held : (h : Hardware) (page : List ℕ) (c : disk.Content) (blocks : ℕ) (v : disk.Image) → IsUnmarking h page c blocks → IsHeld h c nothing → Torn h page c v → Marked h v → ⊥
+none_held : (h : Hardware) (page : List ℕ) (c : disk.Content) (blocks : ℕ) (v : disk.DiskImage) → IsUnmarking h page c blocks → IsHeld h c nothing → Torn h page c v → Marked h v → ⊥
 none_held h page c blocks v un held (still was) = held v was
 none_held h page c blocks v un held (back w in_w same header) = λ m. un.unmarked (subst IsMarked header m)
 
@@ -125,7 +125,7 @@ runs_synced h shown shown' c c' blocks a held whole syncs unmarked was names =
       held = λ v in' marked. unmarked (subst (Marked h) (IsImage-after_sync c c' v syncs in') marked);
       task_slots = was.task_slots;
       flights = flights_still h a nothing (λ none. refl) was.flights;
-      slot_pages = slots_read h c c' a.slots (λ s page e. ap (λ (v : disk.Image). disk.block v (block_of_slot h s)) reads) was.slot_pages;
+      slot_pages = slots_read h c c' a.slots (λ s page e. ap (λ (v : disk.DiskImage). disk.block v (block_of_slot h s)) reads) was.slot_pages;
       names = names;
       header = header_kept h c c' keeps was.header;
       area = area_kept h c c' a keeps was.area;

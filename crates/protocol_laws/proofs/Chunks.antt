@@ -7,7 +7,7 @@ use Rattle.std.proofs.lemmas.Grind.{same_number_lists}
 use Rattle.std.proofs.lemmas.List.{ext_get_or, get_or-take, get_or-drop, length-take-le, length-drop}
 use Rattle.std.proofs.Common.{get_or-set_same, get_or-set_other}
 use Rattle.definitions.specs.Bytes.{IsPage, bytes_at, with_bytes, with_number}
-use Rattle.definitions.specs.Tables.{frame, entry_at, with_entry, with_entries, HasTable, table_frames}
+use Rattle.definitions.specs.Tables.{frame, entry_at, with_entry, with_entries, HasTable, table_frame_count}
 use Rattle.definitions.proofs.Ascending.{Contains-nil, Contains-head, Contains-tail, Contains-cons_cases}
 use Rattle.definitions.proofs.PageBytes.{bytes_at-with_bytes, bytes_at-with_number_apart, number_at-bytes_at}
 use Rattle.definitions.proofs.TableEntries.{entry_frame_within, IsPage-with_entry, HasTable-with_entry}
@@ -117,7 +117,7 @@ byte_of_chunk m table f j le lt =
 page_same : (p q : List ℕ) → IsPage p → IsPage q → ((j : ℕ) → j < 4096 → get_or p j 0 ≡ get_or q j 0) → p ≡ q
 page_same p q a b each = ext_get_or 0 p q (a ∙ sym b) (λ j lt. each j (omega arith))
 
-pub same_by_chunks : (m n : List (List ℕ)) (table count : ℕ) → length m ≡ length n → All IsPage m → All IsPage n → ((f : ℕ) → (f < table) ⊎ (table + table_frames count ≤ f) → frame m f ≡ frame n f) →
+pub same_by_chunks : (m n : List (List ℕ)) (table count : ℕ) → length m ≡ length n → All IsPage m → All IsPage n → ((f : ℕ) → (f < table) ⊎ (table + table_frame_count count ≤ f) → frame m f ≡ frame n f) →
     ((k : ℕ) → chunk m table k ≡ chunk n table k) → m ≡ n
 same_by_chunks m n table count size m_pages n_pages outside each =
     ext_get_or [] m n size (λ f lt. elim (cases_lt f table) [

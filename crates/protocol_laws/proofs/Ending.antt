@@ -13,7 +13,7 @@ use Rattle.plain_machine.specs.UsableArea.{area_block}
 use Rattle.plain_machine.specs.declared.reply.UndoCall.TheVariants as undo
 use Rattle.definitions.specs.SwapHeader.{IsMarked, taken_back}
 use Rattle.protocol_laws.specs.Rows.{HasImage}
-use Rattle.protocol_laws.specs.Steps.{IsOver, ShowsCopies}
+use Rattle.protocol_laws.specs.Steps.{IsOverDisk, ShowsCopies}
 use Rattle.protocol_laws.proofs.Same.{header_kept, area_kept, by_sync}
 use Rattle.protocol_laws.proofs.Back.{held_behind, slots_read}
 
@@ -21,15 +21,15 @@ pub held_at_end : (h : Hardware) (shown : Shown) (c : disk.Content) (suspends : 
 held_at_end h shown c suspends i a k last stands = subst (IsHeld h c) (held_behind suspends i a k (λ lt. omega arith)) stands.parts.0.held
 
 -- behind it the image is surely there
-held_sure : (h : Hardware) (shown : Shown) (c c' : disk.Content) (blocks : ℕ) (suspends : Bool) (i : Image) (a : Running) (k : ℕ) → IsOver h i blocks c → Stands h shown c (hibernating suspends i a k) → k + 1 ≡ hibernate_steps i → disk.Syncs c c' → IsHeld h c' (sure (own i))
+held_sure : (h : Hardware) (shown : Shown) (c c' : disk.Content) (blocks : ℕ) (suspends : Bool) (i : Image) (a : Running) (k : ℕ) → IsOverDisk h i blocks c → Stands h shown c (hibernating suspends i a k) → k + 1 ≡ hibernate_steps i → disk.Syncs c c' → IsHeld h c' (sure (own i))
 held_sure h shown c c' blocks suspends i a k over stands last syncs v in' =
     let here = IsImage-as_it_reads blocks c over.content in
     let holds : Holds h (disk.as_it_reads c) i = (stands.parts.6 (omega arith)).1 in
     let own_is : IsOwn h (disk.as_it_reads c) i = (held_at_end h shown c suspends i a k last stands (disk.as_it_reads c) here).1 in
     let same = sym (IsImage-after_sync c c' v syncs in') in
-    (subst (λ (w : disk.Image). Holds h w i) same holds, subst (λ (w : disk.Image). IsOwn h w i) same own_is)
+    (subst (λ (w : disk.DiskImage). Holds h w i) same holds, subst (λ (w : disk.DiskImage). IsOwn h w i) same own_is)
 
-pub ends : (h : Hardware) (shown shown' : Shown) (c c' : disk.Content) (blocks : ℕ) (suspends : Bool) (i : Image) (a : Running) (k : ℕ) → IsOver h i blocks c → Stands h shown c (hibernating suspends i a k) → k + 1 ≡ hibernate_steps i →
+pub ends : (h : Hardware) (shown shown' : Shown) (c c' : disk.Content) (blocks : ℕ) (suspends : Bool) (i : Image) (a : Running) (k : ℕ) → IsOverDisk h i blocks c → Stands h shown c (hibernating suspends i a k) → k + 1 ≡ hibernate_steps i →
     disk.Syncs c c' → shown'.activity ≡ rests → shown'.keeps_dump ≡ false → Stands h shown' c' (off (sure (own i)) None)
 ends h shown shown' c c' blocks suspends i a k over stands last syncs activity kept = record {
   activity = activity;
@@ -43,7 +43,7 @@ ends h shown shown' c c' blocks suspends i a k over stands last syncs activity k
 }
 
 -- of a suspend: the machine sleeps
-pub ends_asleep : (h : Hardware) (shown shown' : Shown) (c c' : disk.Content) (blocks : ℕ) (suspends : Bool) (i : Image) (a : Running) (k : ℕ) → IsOver h i blocks c → Stands h shown c (hibernating suspends i a k) → k + 1 ≡ hibernate_steps i →
+pub ends_asleep : (h : Hardware) (shown shown' : Shown) (c c' : disk.Content) (blocks : ℕ) (suspends : Bool) (i : Image) (a : Running) (k : ℕ) → IsOverDisk h i blocks c → Stands h shown c (hibernating suspends i a k) → k + 1 ≡ hibernate_steps i →
     disk.Syncs c c' → shown'.activity ≡ sleeps → ShowsRunning h shown' a → NamesHeld h shown' (sure (own i)) → Stands h shown' c' (asleep i (sure (own i)) a)
 ends_asleep h shown shown' c c' blocks suspends i a k over stands last syncs activity shows names =
     let behind = stands.parts.0 in
@@ -57,7 +57,7 @@ ends_asleep h shown shown' c c' blocks suspends i a k over stands last syncs act
           shows = shows;
           task_slots = behind.task_slots;
           flights = behind.flights;
-          slot_pages = slots_read h c c' a.slots (λ s page e. ap (λ (v : disk.Image). disk.block v (block_of_slot h s)) reads) behind.slot_pages;
+          slot_pages = slots_read h c c' a.slots (λ s page e. ap (λ (v : disk.DiskImage). disk.block v (block_of_slot h s)) reads) behind.slot_pages;
           header = header_kept h c c' keeps behind.header;
           area = area_kept h c c' a keeps behind.area;
         },
@@ -67,7 +67,7 @@ ends_asleep h shown shown' c c' blocks suspends i a k over stands last syncs act
     }
 
 -- it has left the mark and the blocks in every image
-pub end_leaves : (h : Hardware) (shown : Shown) (c c' : disk.Content) (blocks : ℕ) (suspends : Bool) (i : Image) (a : Running) (k : ℕ) → IsOver h i blocks c → Stands h shown c (hibernating suspends i a k) → k + 1 ≡ hibernate_steps i →
+pub end_leaves : (h : Hardware) (shown : Shown) (c c' : disk.Content) (blocks : ℕ) (suspends : Bool) (i : Image) (a : Running) (k : ℕ) → IsOverDisk h i blocks c → Stands h shown c (hibernating suspends i a k) → k + 1 ≡ hibernate_steps i →
     disk.Syncs c c' → EachImage c' (HasImage h i a)
 end_leaves h shown c c' blocks suspends i a k over stands last syncs v in' =
     let here = IsImage-as_it_reads blocks c over.content in

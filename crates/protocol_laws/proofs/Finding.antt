@@ -22,14 +22,14 @@ found_something i e = false≢true (ap is_found e) where
   is_found (found_own i) = true
   is_found (found_other v) = true
 
-found_another : (v : disk.Image) → not_yet ≡ found_other v → ⊥
+found_another : (v : disk.DiskImage) → not_yet ≡ found_other v → ⊥
 found_another v e = false≢true (ap is_found e) where
   is_found : Found → Bool
   is_found not_yet = false
   is_found (found_own i) = true
   is_found (found_other v) = true
 
-pub own_isn't_other : (i : Image) (v : disk.Image) → found_own i ≡ found_other v → ⊥
+pub own_isn't_other : (i : Image) (v : disk.DiskImage) → found_own i ≡ found_other v → ⊥
 own_isn't_other i v e = false≢true (ap is_other e) where
   is_other : Found → Bool
   is_other not_yet = false
@@ -65,14 +65,14 @@ load_begins h shown shown' c held kept load stands is fresh shows = record {
 
 -- What fewer images keep.
 
-held_by_fewer : (h : Hardware) (c c' : disk.Content) (held : Held) → ((v : disk.Image) → disk.IsImage c' v → disk.IsImage c v) → IsHeld h c held → IsHeld h c' held
+held_by_fewer : (h : Hardware) (c c' : disk.Content) (held : Held) → ((v : disk.DiskImage) → disk.IsImage c' v → disk.IsImage c v) → IsHeld h c held → IsHeld h c' held
 held_by_fewer h c c' nothing fewer is = λ v in'. is v (fewer v in')
 held_by_fewer h c c' (sure (own i)) fewer is = λ v in'. is v (fewer v in')
 held_by_fewer h c c' (sure other) fewer is = λ v in'. is v (fewer v in')
 held_by_fewer h c c' (maybe (own i)) fewer is = λ v in'. is v (fewer v in')
 held_by_fewer h c c' (maybe other) fewer is = is
 
-fewer_by_sync : (blocks : ℕ) (c c' : disk.Content) → disk.IsContent blocks c → disk.Syncs c c' → (v : disk.Image) → disk.IsImage c' v → disk.IsImage c v
+fewer_by_sync : (blocks : ℕ) (c c' : disk.Content) → disk.IsContent blocks c → disk.Syncs c c' → (v : disk.DiskImage) → disk.IsImage c' v → disk.IsImage c v
 fewer_by_sync blocks c c' whole syncs v in' = subst (disk.IsImage c) (sym (IsImage-after_sync c c' v syncs in')) (IsImage-as_it_reads blocks c whole)
 
 one_by_sync : (c c' : disk.Content) → disk.Syncs c c' → HasOneImage c'
@@ -115,14 +115,14 @@ finds_none h shown shown' c blocks load whole stands unmarked activity kept =
       parts = (kept, (λ v in' m. unmarked (subst (Marked h) (one v (disk.as_it_reads c) in' here) m), stands.parts.0.1));
     }
 
-own_there : (h : Hardware) (c : disk.Content) (held : Held) (i : Image) (v : disk.Image) → IsHeldOwn held i → IsHeld h c held → disk.IsImage c v → Marked h v → Holds h v i × IsOwn h v i
+own_there : (h : Hardware) (c : disk.Content) (held : Held) (i : Image) (v : disk.DiskImage) → IsHeldOwn held i → IsHeld h c held → disk.IsImage c v → Marked h v → Holds h v i × IsOwn h v i
 own_there h c held i v (inl is) there in' marked = subst (IsHeld h c) is there v in'
 own_there h c held i v (inr is) there in' marked =
     let it = subst (IsHeld h c) is there v in' in
     (elim it.0 [ inl never ↦ absurd (never marked) | inr holds ↦ holds ], it.1)
 
-pub itself : (h : Hardware) (v w : disk.Image) → w ≡ v → IsTakenBack h v w
-itself h v w e = record { size = ap length e; others = λ b lt apart. ap (λ (u : disk.Image). disk.block u b) e; header = inl (ap (header_of h) e) }
+pub itself : (h : Hardware) (v w : disk.DiskImage) → w ≡ v → IsTakenBack h v w
+itself h v w e = record { size = ap length e; others = λ b lt apart. ap (λ (u : disk.DiskImage). disk.block u b) e; header = inl (ap (header_of h) e) }
 
 pub finds_own : (h : Hardware) (shown shown' : Shown) (c : disk.Content) (blocks : ℕ) (load : Load) (i : Image) → disk.IsContent blocks c → Stands h shown c (loading load 1) → IsHeldOwn load.held i → Marked h (disk.as_it_reads c) →
     shown'.header ≡ header_of h (disk.as_it_reads c) → ShowsLoad h shown' (with_found load i) 2 → Stands h shown' c (loading (with_found load i) 2)
@@ -134,7 +134,7 @@ finds_own h shown shown' c blocks load i whole stands held marked header shows =
     record {
       activity = shows.activity;
       parts = (
-        ((λ w in'. let e = one v w here in' in (subst (λ (u : disk.Image). Holds h u i) e there.0, subst (λ (u : disk.Image). IsOwn h u i) e there.1)), stands.parts.0.1),
+        ((λ w in'. let e = one v w here in' in (subst (λ (u : disk.DiskImage). Holds h u i) e there.0, subst (λ (u : disk.DiskImage). IsOwn h u i) e there.1)), stands.parts.0.1),
         record {
           kept = shows.kept;
           read = shows.read;

@@ -30,7 +30,7 @@ zeros_unmarked marked =
     let none = get_or-zero_page 4086 (omega arith) in
     let r : ⊥ = omega arith in r
 
-pub marked_on_disk : (h : Hardware) (v : disk.Image) → Marked h v → block_of_slot h 0 < blocks_of v
+pub marked_on_disk : (h : Hardware) (v : disk.DiskImage) → Marked h v → block_of_slot h 0 < blocks_of v
 marked_on_disk h v marked = elim (cases_lt (block_of_slot h 0) (blocks_of v)) [
   | inl lt ↦ lt
   | inr past ↦
@@ -69,20 +69,20 @@ is_before h shown c blocks whole one keeps marked is =
     }
 
 -- An image after the write, failed or not: the one of before, or with the block taken back.
-pub data TornBack (h : Hardware) (shown : Shown) (c : disk.Content) (v : disk.Image) : Type 0 where
+pub data TornBack (h : Hardware) (shown : Shown) (c : disk.Content) (v : disk.DiskImage) : Type 0 where
   still : disk.IsImage c v → TornBack h shown c v
-  back : (w : disk.Image) → disk.IsImage c w → SameBut (block_of_slot h 0) v w → disk.block v (block_of_slot h 0) ≡ taken_back shown.header → TornBack h shown c v
+  back : (w : disk.DiskImage) → disk.IsImage c w → SameBut (block_of_slot h 0) v w → disk.block v (block_of_slot h 0) ≡ taken_back shown.header → TornBack h shown c v
 
-pub torn_back : (h : Hardware) (shown : Shown) (c c' : disk.Content) (blocks : ℕ) (v : disk.Image) → IsBefore h shown c blocks → Tries (block_of_slot h 0) (taken_back shown.header) c c' → disk.IsImage c' v → TornBack h shown c v
+pub torn_back : (h : Hardware) (shown : Shown) (c c' : disk.Content) (blocks : ℕ) (v : disk.DiskImage) → IsBefore h shown c blocks → Tries (block_of_slot h 0) (taken_back shown.header) c c' → disk.IsImage c' v → TornBack h shown c v
 torn_back h shown c c' blocks v before tries in' =
     let here = IsImage-as_it_reads blocks c before.content in
     elim (torn_image blocks (block_of_slot h 0) (taken_back shown.header) c c' v before.content before.on_disk (length-taken_back shown.header before.page) tries
-    (λ w in_w. subst (λ (page : List ℕ). AgreeBut 3584 4096 page (taken_back shown.header)) (before.is ∙ ap (λ (u : disk.Image). disk.block u (block_of_slot h 0)) (before.one (disk.as_it_reads c) w here in_w)) (taken_back_within shown.header before.page)) in') [
+    (λ w in_w. subst (λ (page : List ℕ). AgreeBut 3584 4096 page (taken_back shown.header)) (before.is ∙ ap (λ (u : disk.DiskImage). disk.block u (block_of_slot h 0)) (before.one (disk.as_it_reads c) w here in_w)) (taken_back_within shown.header before.page)) in') [
       | inl was ↦ still was
       | inr taken ↦ back taken.1.0 taken.1.1 taken.1.2 taken.0
     ]
 
-pub header_back : (h : Hardware) (shown : Shown) (c : disk.Content) (blocks : ℕ) (v w : disk.Image) → IsBefore h shown c blocks → disk.IsImage c w → SameBut (block_of_slot h 0) v w → disk.block v (block_of_slot h 0) ≡ taken_back shown.header → header_of h v ≡ taken_back shown.header
+pub header_back : (h : Hardware) (shown : Shown) (c : disk.Content) (blocks : ℕ) (v w : disk.DiskImage) → IsBefore h shown c blocks → disk.IsImage c w → SameBut (block_of_slot h 0) v w → disk.block v (block_of_slot h 0) ≡ taken_back shown.header → header_of h v ≡ taken_back shown.header
 header_back h shown c blocks v w before in_w same taken =
     let lt = before.on_disk in
     let n = image_blocks blocks c w before.content in_w in
@@ -90,7 +90,7 @@ header_back h shown c blocks v w before in_w same taken =
     header_is h v (omega arith) ∙ taken
 
 -- what each says of the area: the block taken back
-pub area_back : (h : Hardware) (shown : Shown) (c : disk.Content) (blocks : ℕ) (v : disk.Image) → IsBefore h shown c blocks → TornBack h shown c v → area_block h v ≡ taken_back shown.header
+pub area_back : (h : Hardware) (shown : Shown) (c : disk.Content) (blocks : ℕ) (v : disk.DiskImage) → IsBefore h shown c blocks → TornBack h shown c v → area_block h v ≡ taken_back shown.header
 area_back h shown c blocks v before (still was) =
     let here = IsImage-as_it_reads blocks c before.content in
     let same : header_of h v ≡ shown.header = ap (header_of h) (before.one v (disk.as_it_reads c) was here) ∙ before.header in
@@ -99,15 +99,15 @@ area_back h shown c blocks v before (back w in_w same taken) =
     let header = header_back h shown c blocks v w before in_w same taken in
     area_block-unmarked h v (λ m. before.back_unmarked (subst IsMarked header m)) ∙ header
 
-pub taken_from : (h : Hardware) (shown : Shown) (c : disk.Content) (blocks : ℕ) (v : disk.Image) → IsBefore h shown c blocks → TornBack h shown c v → IsTakenBack h (disk.as_it_reads c) v
+pub taken_from : (h : Hardware) (shown : Shown) (c : disk.Content) (blocks : ℕ) (v : disk.DiskImage) → IsBefore h shown c blocks → TornBack h shown c v → IsTakenBack h (disk.as_it_reads c) v
 taken_from h shown c blocks v before (still was) =
     let e = before.one v (disk.as_it_reads c) was (IsImage-as_it_reads blocks c before.content) in
-    record { size = ap length e; others = λ b lt apart. ap (λ (u : disk.Image). disk.block u b) e; header = inl (ap (header_of h) e) }
+    record { size = ap length e; others = λ b lt apart. ap (λ (u : disk.DiskImage). disk.block u b) e; header = inl (ap (header_of h) e) }
 taken_from h shown c blocks v before (back w in_w same taken) =
     let e : w ≡ disk.as_it_reads c = before.one w (disk.as_it_reads c) in_w (IsImage-as_it_reads blocks c before.content) in
     record {
       size = same.size ∙ ap length e;
-      others = λ b lt apart. same.others b apart ∙ ap (λ (u : disk.Image). disk.block u b) e;
+      others = λ b lt apart. same.others b apart ∙ ap (λ (u : disk.DiskImage). disk.block u b) e;
       header = inr (header_back h shown c blocks v w before in_w same taken ∙ ap taken_back (sym before.header));
     }
 
@@ -115,13 +115,13 @@ taken_from h shown c blocks v before (back w in_w same taken) =
 
 pub still_header : (h : Hardware) (shown : Shown) (c c' : disk.Content) (blocks : ℕ) → IsBefore h shown c blocks → disk.IsContent blocks c' → Tries (block_of_slot h 0) (taken_back shown.header) c c' → IsHeader h c'
 still_header h shown c c' blocks before after tries =
-    let page : (v : disk.Image) → disk.IsImage c' v → area_block h v ≡ taken_back shown.header = λ v in'. area_back h shown c blocks v before (torn_back h shown c c' blocks v before tries in') in
+    let page : (v : disk.DiskImage) → disk.IsImage c' v → area_block h v ≡ taken_back shown.header = λ v in'. area_back h shown c blocks v before (torn_back h shown c c' blocks v before tries in') in
     record {
       unmarked = λ v in' m. before.back_unmarked (subst IsMarked (page v in') m);
       one = λ v in'. let e = page v in' ∙ sym (page (disk.as_it_reads c') (IsImage-as_it_reads blocks c' after)) in subst (AgreeOnArea (area_block h v)) e (record { front = refl; signature = refl });
     }
 
-pub each_taken_back : (h : Hardware) (shown : Shown) (c c' : disk.Content) (blocks : ℕ) (v : disk.Image) → IsBefore h shown c blocks → Tries (block_of_slot h 0) (taken_back shown.header) c c' → disk.IsImage c' v → IsTakenBack h (disk.as_it_reads c) v
+pub each_taken_back : (h : Hardware) (shown : Shown) (c c' : disk.Content) (blocks : ℕ) (v : disk.DiskImage) → IsBefore h shown c blocks → Tries (block_of_slot h 0) (taken_back shown.header) c c' → disk.IsImage c' v → IsTakenBack h (disk.as_it_reads c) v
 each_taken_back h shown c c' blocks v before tries in' = taken_from h shown c blocks v before (torn_back h shown c c' blocks v before tries in')
 
 pub reads_unmarked : (h : Hardware) (shown : Shown) (c c' : disk.Content) (blocks : ℕ) → IsBefore h shown c blocks → disk.IsContent blocks c' → disk.Writes (block_of_slot h 0) (taken_back shown.header) c c' → Marked h (disk.as_it_reads c') → ⊥

@@ -38,7 +38,7 @@ pub marks_synced : (h : Hardware) (blocks : ℕ) (c c' : disk.Content) → disk.
 marks_synced h blocks c c' whole syncs = λ w in' marked. (disk.as_it_reads c, IsImage-as_it_reads blocks c whole, ap (header_of h) (IsImage-after_sync c c' w syncs in'))
 
 -- at a power cut
-image_cut : (c c' : disk.Content) (w : disk.Image) → disk.Restarts c c' → disk.IsImage c' w → disk.IsImage c w
+image_cut : (c c' : disk.Content) (w : disk.DiskImage) → disk.Restarts c c' → disk.IsImage c' w → disk.IsImage c w
 image_cut c c' w restarts in' =
     let is : w ≡ restarts.0 = IsImage-settled restarts.0 w (subst (λ (x : disk.Content). disk.IsImage x w) restarts.2 in') in
     subst (disk.IsImage c) (sym is) restarts.1
@@ -59,7 +59,7 @@ pub header_written : (h : Hardware) (shown : Shown) (c c' : disk.Content) (block
 header_written h shown c c' blocks before tries =
     λ w in'. (disk.as_it_reads c, IsImage-as_it_reads blocks c before.content, (each_taken_back h shown c c' blocks w before tries in').header)
 
-torn_mark : (h : Hardware) (page : List ℕ) (c : disk.Content) (blocks : ℕ) (w : disk.Image) → IsUnmarking h page c blocks → Torn h page c w → Marked h w → (v : disk.Image) × disk.IsImage c v × (header_of h w ≡ header_of h v)
+torn_mark : (h : Hardware) (page : List ℕ) (c : disk.Content) (blocks : ℕ) (w : disk.DiskImage) → IsUnmarking h page c blocks → Torn h page c w → Marked h w → (v : disk.DiskImage) × disk.IsImage c v × (header_of h w ≡ header_of h v)
 torn_mark h page c blocks w un (still was) marked = (w, was, refl)
 torn_mark h page c blocks w un (back u in_u same header) marked = absurd (un.unmarked (subst IsMarked header marked))
 

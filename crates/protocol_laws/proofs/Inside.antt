@@ -30,7 +30,7 @@ left_candidate blocks b s c c' x whole leaves low high lt in' =
     subst (Contains (disk.sector c s).candidates) (get_or-set_same v s x [] (omega arith)) (leaves.leaves (set v s x) s is (omega arith) low high)
 
 -- Where every block is left, a crash leaves what it might have left before.
-pub image_left : (blocks : ℕ) (c c' : disk.Content) (w : disk.Image) → disk.IsContent blocks c → disk.IsContent blocks c' → ((b : ℕ) → LeavesBlock b c c') → disk.IsMixture c c' w → disk.IsImage c w
+pub image_left : (blocks : ℕ) (c c' : disk.Content) (w : disk.DiskImage) → disk.IsContent blocks c → disk.IsContent blocks c' → ((b : ℕ) → LeavesBlock b c c') → disk.IsMixture c c' w → disk.IsImage c w
 image_left blocks c c' w whole after leaves mixed =
     let size = mixed.size in
     let n = whole.size in
@@ -44,7 +44,7 @@ image_left blocks c c' w whole after leaves mixed =
     }
 
 -- so each image afterwards is one of before
-pub images_left : (blocks : ℕ) (c c' : disk.Content) (w : disk.Image) → disk.IsContent blocks c → disk.IsContent blocks c' → ((b : ℕ) → LeavesBlock b c c') → disk.IsImage c' w → disk.IsImage c w
+pub images_left : (blocks : ℕ) (c c' : disk.Content) (w : disk.DiskImage) → disk.IsContent blocks c → disk.IsContent blocks c' → ((b : ℕ) → LeavesBlock b c c') → disk.IsImage c' w → disk.IsImage c w
 images_left blocks c c' w whole after leaves in' =
     let size = in'.size in
     let n = whole.size in
@@ -53,7 +53,7 @@ images_left blocks c c' w whole after leaves in' =
 
 -- Sectors of a mixture.
 
-pub mixed_long : (blocks : ℕ) (c c' : disk.Content) (w : disk.Image) (s : ℕ) → disk.IsContent blocks c → disk.IsContent blocks c' → disk.IsMixture c c' w → s < 8 * blocks → length (get_or w s []) ≡ 512
+pub mixed_long : (blocks : ℕ) (c c' : disk.Content) (w : disk.DiskImage) (s : ℕ) → disk.IsContent blocks c → disk.IsContent blocks c' → disk.IsMixture c c' w → s < 8 * blocks → length (get_or w s []) ≡ 512
 mixed_long blocks c c' w s whole after mixed lt =
     let size = mixed.size in
     let n = whole.size in
@@ -64,7 +64,7 @@ mixed_long blocks c c' w s whole after mixed lt =
     ]
 
 -- eight sectors are a page
-page_of_sectors : (v : disk.Image) (b : ℕ) → 8 * b + 8 ≤ length v → ((j : ℕ) → j < 8 → length (get_or v (8 * b + j) []) ≡ 512) → IsPage (block v b)
+page_of_sectors : (v : disk.DiskImage) (b : ℕ) → 8 * b + 8 ≤ length v → ((j : ℕ) → j < 8 → length (get_or v (8 * b + j) []) ≡ 512) → IsPage (block v b)
 unfolding block
 page_of_sectors v b within each =
     let part = take 8 (drop (8 * b) v) in
@@ -92,14 +92,14 @@ sig_in_sector p whole =
     ∙ sym (get_or-take 10 (drop 502 (take 512 last)) i 0 few ∙ get_or-drop 502 (take 512 last) i 0 ∙ get_or-take 512 last (502 + i) 0 (omega arith) ∙ get_or-drop 3584 p (502 + i) 0 ∙ ap (λ (k : ℕ). get_or p k 0) at))
 
 -- two images of disks with as many blocks
-record AreImages (blocks : ℕ) (w u : disk.Image) : Type 0 where
+record AreImages (blocks : ℕ) (w u : disk.DiskImage) : Type 0 where
   pub size : length w ≡ 8 * blocks
   pub size_of : length u ≡ 8 * blocks
   pub long_one : (s : ℕ) → s < 8 * blocks → length (get_or w s []) ≡ 512
   pub long_other : (s : ℕ) → s < 8 * blocks → length (get_or u s []) ≡ 512
 
 -- block(0) is marked in the one where it is in the other, if its last sector is the same
-same_mark : (h : Hardware) (blocks : ℕ) (w u : disk.Image) → block_of_slot h 0 < blocks → AreImages blocks w u → get_or w (8 * block_of_slot h 0 + 7) [] ≡ get_or u (8 * block_of_slot h 0 + 7) [] → Marked h w → Marked h u
+same_mark : (h : Hardware) (blocks : ℕ) (w u : disk.DiskImage) → block_of_slot h 0 < blocks → AreImages blocks w u → get_or w (8 * block_of_slot h 0 + 7) [] ≡ get_or u (8 * block_of_slot h 0 + 7) [] → Marked h w → Marked h u
 same_mark h blocks w u lt are same marked =
     let b = block_of_slot h 0 in
     let size = are.size in
@@ -112,8 +112,8 @@ same_mark h blocks w u lt are same marked =
     ∙ sym (ap sig_of (header_is h w (omega arith))) ∙ marked
 
 -- with the last sector of a mixture's block(0) an image of the disk is marked as the mixture is
-moved_mark : (h : Hardware) (blocks : ℕ) (c c' d : disk.Content) (w : disk.Image) → disk.IsContent blocks c → disk.IsContent blocks c' → disk.IsContent blocks d → block_of_slot h 0 < blocks → disk.IsMixture c c' w →
-    Contains (disk.sector d (8 * block_of_slot h 0 + 7)).candidates (get_or w (8 * block_of_slot h 0 + 7) []) → Marked h w → (u : disk.Image) × disk.IsImage d u × (get_or u (8 * block_of_slot h 0 + 7) [] ≡ get_or w (8 * block_of_slot h 0 + 7) []) × Marked h u
+moved_mark : (h : Hardware) (blocks : ℕ) (c c' d : disk.Content) (w : disk.DiskImage) → disk.IsContent blocks c → disk.IsContent blocks c' → disk.IsContent blocks d → block_of_slot h 0 < blocks → disk.IsMixture c c' w →
+    Contains (disk.sector d (8 * block_of_slot h 0 + 7)).candidates (get_or w (8 * block_of_slot h 0 + 7) []) → Marked h w → (u : disk.DiskImage) × disk.IsImage d u × (get_or u (8 * block_of_slot h 0 + 7) [] ≡ get_or w (8 * block_of_slot h 0 + 7) []) × Marked h u
 moved_mark h blocks c c' d w whole after content lt mixed candidate marked =
     let s = 8 * block_of_slot h 0 + 7 in
     let v = disk.as_it_reads d in
@@ -138,7 +138,7 @@ moved_mark h blocks c c' d w whole after content lt mixed candidate marked =
     )
 
 -- Where no image is marked before or after, a crash leaves none that is.
-pub none_marked : (h : Hardware) (blocks : ℕ) (c c' : disk.Content) (w : disk.Image) → disk.IsContent blocks c → disk.IsContent blocks c' → EachImage c (λ v. Marked h v → ⊥) → EachImage c' (λ v. Marked h v → ⊥) → disk.IsMixture c c' w → Marked h w → ⊥
+pub none_marked : (h : Hardware) (blocks : ℕ) (c c' : disk.Content) (w : disk.DiskImage) → disk.IsContent blocks c → disk.IsContent blocks c' → EachImage c (λ v. Marked h v → ⊥) → EachImage c' (λ v. Marked h v → ⊥) → disk.IsMixture c c' w → Marked h w → ⊥
 none_marked h blocks c c' w whole after unmarked unmarked' mixed marked =
     let b = block_of_slot h 0 in
     let on = marked_on_disk h w marked in
@@ -151,7 +151,7 @@ none_marked h blocks c c' w whole after unmarked unmarked' mixed marked =
     ]
 
 -- A call that may write block(0) alone, over a disk whose images agree on the area.
-pub record IsInside (h : Hardware) (blocks : ℕ) (c c' : disk.Content) (w : disk.Image) : Type 0 where
+pub record IsInside (h : Hardware) (blocks : ℕ) (c c' : disk.Content) (w : disk.DiskImage) : Type 0 where
   pub whole : disk.IsContent blocks c
   pub after : disk.IsContent blocks c'
   pub header : IsHeader h c
@@ -160,12 +160,12 @@ pub record IsInside (h : Hardware) (blocks : ℕ) (c c' : disk.Content) (w : dis
   pub others : (b : ℕ) → b ≢ block_of_slot h 0 → LeavesBlock b c c'
   pub mixed : disk.IsMixture c c' w
 
-at_header : (h : Hardware) (blocks : ℕ) (c : disk.Content) (v : disk.Image) → disk.IsContent blocks c → block_of_slot h 0 < blocks → disk.IsImage c v → header_of h v ≡ block v (block_of_slot h 0)
+at_header : (h : Hardware) (blocks : ℕ) (c : disk.Content) (v : disk.DiskImage) → disk.IsContent blocks c → block_of_slot h 0 < blocks → disk.IsImage c v → header_of h v ≡ block v (block_of_slot h 0)
 at_header h blocks c v whole lt in' = let n = image_blocks blocks c v whole in' in header_is h v (omega arith)
 
 -- The first seven sectors of block(0) are one in every image.
 
-front_of : (h : Hardware) (c c' : disk.Content) (blocks : ℕ) (v w : disk.Image) → disk.IsContent blocks c → disk.IsContent blocks c' → block_of_slot h 0 < blocks → disk.IsImage c v → disk.IsImage c' w → take 4056 (area_block h v) ≡ take 4056 (area_block h w) →
+front_of : (h : Hardware) (c c' : disk.Content) (blocks : ℕ) (v w : disk.DiskImage) → disk.IsContent blocks c → disk.IsContent blocks c' → block_of_slot h 0 < blocks → disk.IsImage c v → disk.IsImage c' w → take 4056 (area_block h v) ≡ take 4056 (area_block h w) →
     AgreeBut 3584 4096 (block v (block_of_slot h 0)) (block w (block_of_slot h 0))
 front_of h c c' blocks v w whole after lt in_v in_w front =
     let b = block_of_slot h 0 in
@@ -176,7 +176,7 @@ front_of h c c' blocks v w whole after lt in_v in_w front =
     same_front (block v b) (block w b) page page'
     (ap (take 4056) (sym at) ∙ sym (area_front h v (subst IsPage (sym at) page)) ∙ front ∙ area_front h w (subst IsPage (sym at') page') ∙ ap (take 4056) at')
 
-front_sector : (h : Hardware) (blocks : ℕ) (c c' : disk.Content) (w : disk.Image) (j : ℕ) → IsInside h blocks c c' w → block_of_slot h 0 < blocks → j < 7 →
+front_sector : (h : Hardware) (blocks : ℕ) (c c' : disk.Content) (w : disk.DiskImage) (j : ℕ) → IsInside h blocks c c' w → block_of_slot h 0 < blocks → j < 7 →
     (get_or w (8 * block_of_slot h 0 + j) [] ≡ get_or (disk.as_it_reads c) (8 * block_of_slot h 0 + j) []) × (get_or w (8 * block_of_slot h 0 + j) [] ≡ get_or (disk.as_it_reads c') (8 * block_of_slot h 0 + j) [])
 front_sector h blocks c c' w j is lt few =
     let b = block_of_slot h 0 in
@@ -204,7 +204,7 @@ front_sector h blocks c c' w j is lt few =
     ] in
     (at ∙ mine, at ∙ sym both ∙ its)
 
-other_before : (h : Hardware) (blocks : ℕ) (c c' : disk.Content) (w : disk.Image) (s : ℕ) → IsInside h blocks c c' w → s < 8 * blocks → s / 8 ≢ block_of_slot h 0 → Contains (disk.sector c s).candidates (get_or w s [])
+other_before : (h : Hardware) (blocks : ℕ) (c c' : disk.Content) (w : disk.DiskImage) (s : ℕ) → IsInside h blocks c c' w → s < 8 * blocks → s / 8 ≢ block_of_slot h 0 → Contains (disk.sector c s).candidates (get_or w s [])
 other_before h blocks c c' w s is lt apart =
     let n = is.whole.size in
     let m = is.after.size in
@@ -215,7 +215,7 @@ other_before h blocks c c' w s is lt apart =
     ]
 
 -- With the last sector from before, the whole is an image of before.
-before_image : (h : Hardware) (blocks : ℕ) (c c' : disk.Content) (w : disk.Image) → IsInside h blocks c c' w → block_of_slot h 0 < blocks → Contains (disk.sector c (8 * block_of_slot h 0 + 7)).candidates (get_or w (8 * block_of_slot h 0 + 7) []) → disk.IsImage c w
+before_image : (h : Hardware) (blocks : ℕ) (c c' : disk.Content) (w : disk.DiskImage) → IsInside h blocks c c' w → block_of_slot h 0 < blocks → Contains (disk.sector c (8 * block_of_slot h 0 + 7)).candidates (get_or w (8 * block_of_slot h 0 + 7) []) → disk.IsImage c w
 before_image h blocks c c' w is lt last =
     let b = block_of_slot h 0 in
     let n = is.whole.size in
@@ -240,10 +240,10 @@ only_one blocks s c x whole one lt candidate =
     let v = disk.as_it_reads c in
     let here = IsImage-as_it_reads blocks c whole in
     let reads = length-as_it_reads c in
-    sym (get_or-set_same v s x [] (omega arith)) ∙ ap (λ (u : disk.Image). get_or u s []) (one (set v s x) v (changed_image c v s x here lt candidate) here)
+    sym (get_or-set_same v s x [] (omega arith)) ∙ ap (λ (u : disk.DiskImage). get_or u s []) (one (set v s x) v (changed_image c v s x here lt candidate) here)
 
 -- With the last sector from after, over a disk that had one image, the whole is an image of after.
-after_image : (h : Hardware) (blocks : ℕ) (c c' : disk.Content) (w : disk.Image) → IsInside h blocks c c' w → block_of_slot h 0 < blocks → HasOneImage c → Contains (disk.sector c' (8 * block_of_slot h 0 + 7)).candidates (get_or w (8 * block_of_slot h 0 + 7) []) → disk.IsImage c' w
+after_image : (h : Hardware) (blocks : ℕ) (c c' : disk.Content) (w : disk.DiskImage) → IsInside h blocks c c' w → block_of_slot h 0 < blocks → HasOneImage c → Contains (disk.sector c' (8 * block_of_slot h 0 + 7)).candidates (get_or w (8 * block_of_slot h 0 + 7) []) → disk.IsImage c' w
 after_image h blocks c c' w is lt one last =
     let b = block_of_slot h 0 in
     let n = is.whole.size in
@@ -267,11 +267,11 @@ after_image h blocks c c' w is lt one last =
       ];
     }
 
-either_holds : (h : Hardware) (i : Image) (w : disk.Image) → Marked h w → (Marked h w → ⊥) ⊎ Holds h w i → Holds h w i
+either_holds : (h : Hardware) (i : Image) (w : disk.DiskImage) → Marked h w → (Marked h w → ⊥) ⊎ Holds h w i → Holds h w i
 either_holds h i w marked (inl never) = absurd (never marked)
 either_holds h i w marked (inr holds) = holds
 
-mixed_on_disk : (h : Hardware) (blocks : ℕ) (c c' : disk.Content) (w : disk.Image) → IsInside h blocks c c' w → Marked h w → block_of_slot h 0 < blocks
+mixed_on_disk : (h : Hardware) (blocks : ℕ) (c c' : disk.Content) (w : disk.DiskImage) → IsInside h blocks c c' w → Marked h w → block_of_slot h 0 < blocks
 mixed_on_disk h blocks c c' w is marked =
     let on = marked_on_disk h w marked in
     let n = is.whole.size in
@@ -279,7 +279,7 @@ mixed_on_disk h blocks c c' w is marked =
     omega arith
 
 -- Inside the write of a mark over a disk with one image, which wasn't marked, a crash leaves that one, or an image of after.
-pub mark_inside : (h : Hardware) (blocks : ℕ) (c c' : disk.Content) (i : Image) (w : disk.Image) → IsInside h blocks c c' w → HasOneImage c → EachImage c (λ v. Marked h v → ⊥) → EachImage c' (λ v. (Marked h v → ⊥) ⊎ Holds h v i) → Marked h w → Holds h w i
+pub mark_inside : (h : Hardware) (blocks : ℕ) (c c' : disk.Content) (i : Image) (w : disk.DiskImage) → IsInside h blocks c c' w → HasOneImage c → EachImage c (λ v. Marked h v → ⊥) → EachImage c' (λ v. (Marked h v → ⊥) ⊎ Holds h v i) → Marked h w → Holds h w i
 mark_inside h blocks c c' i w is one unmarked held marked =
     let b = block_of_slot h 0 in
     let lt = mixed_on_disk h blocks c c' w is marked in
@@ -291,7 +291,7 @@ mark_inside h blocks c c' i w is one unmarked held marked =
     ]
 
 -- Inside a write by which no mark is added, a crash leaves marked what it might have left before.
-pub undo_inside : (h : Hardware) (blocks : ℕ) (c c' : disk.Content) (i : Image) (w : disk.Image) → IsInside h blocks c c' w → AddsNoMark h c c' → EachImage c (λ v. (Marked h v → ⊥) ⊎ Holds h v i) → Marked h w → Holds h w i
+pub undo_inside : (h : Hardware) (blocks : ℕ) (c c' : disk.Content) (i : Image) (w : disk.DiskImage) → IsInside h blocks c c' w → AddsNoMark h c c' → EachImage c (λ v. (Marked h v → ⊥) ⊎ Holds h v i) → Marked h w → Holds h w i
 undo_inside h blocks c c' i w is adds held marked =
     let b = block_of_slot h 0 in
     let lt = mixed_on_disk h blocks c c' w is marked in
@@ -316,11 +316,11 @@ undo_inside h blocks c c' i w is adds held marked =
 
 -- A disk whose every image is v, but for block(0), which is as it was or taken back.
 
-abbrev pub AreTakenBack : Hardware → disk.Image → disk.Content → Type 0
+abbrev pub AreTakenBack : Hardware → disk.DiskImage → disk.Content → Type 0
 AreTakenBack h v c = EachImage c (IsTakenBack h v)
 
 -- a sector of another block
-taken_sector : (h : Hardware) (blocks : ℕ) (c : disk.Content) (v : disk.Image) (b j : ℕ) (x : List ℕ) → disk.IsContent blocks c → disk.IsContent blocks (disk.settled v) → AreTakenBack h v c → b < blocks → b ≢ block_of_slot h 0 → j < 8 → Contains (disk.sector c (8 * b + j)).candidates x → x ≡ get_or v (8 * b + j) []
+taken_sector : (h : Hardware) (blocks : ℕ) (c : disk.Content) (v : disk.DiskImage) (b j : ℕ) (x : List ℕ) → disk.IsContent blocks c → disk.IsContent blocks (disk.settled v) → AreTakenBack h v c → b < blocks → b ≢ block_of_slot h 0 → j < 8 → Contains (disk.sector c (8 * b + j)).candidates x → x ≡ get_or v (8 * b + j) []
 taken_sector h blocks c v b j x whole first all lt apart few candidate =
     let from = candidate_of_image blocks c b j x whole lt few candidate in
     let m = first.size in
@@ -330,7 +330,7 @@ taken_sector h blocks c v b j x whole first all lt apart few candidate =
     ∙ sector_of_block v b j (omega arith) (λ k below. long blocks (disk.settled v) v (8 * b + k) first itself (omega arith)) few
 
 -- sector j of block(0)
-taken_header : (h : Hardware) (blocks : ℕ) (c : disk.Content) (v : disk.Image) (j : ℕ) (x : List ℕ) → disk.IsContent blocks c → AreTakenBack h v c → block_of_slot h 0 < blocks → j < 8 → Contains (disk.sector c (8 * block_of_slot h 0 + j)).candidates x →
+taken_header : (h : Hardware) (blocks : ℕ) (c : disk.Content) (v : disk.DiskImage) (j : ℕ) (x : List ℕ) → disk.IsContent blocks c → AreTakenBack h v c → block_of_slot h 0 < blocks → j < 8 → Contains (disk.sector c (8 * block_of_slot h 0 + j)).candidates x →
     (x ≡ sector_bytes (header_of h v) j) ⊎ (x ≡ sector_bytes (taken_back (header_of h v)) j)
 taken_header h blocks c v j x whole all lt few candidate =
     let from = candidate_of_image blocks c (block_of_slot h 0) j x whole lt few candidate in
@@ -340,14 +340,14 @@ taken_header h blocks c v j x whole all lt few candidate =
       | inr back ↦ inr (from.2 ∙ ap (λ (p : List ℕ). sector_bytes p j) (sym at ∙ back))
     ]
 
-no_header : (h : Hardware) (v : disk.Image) → blocks_of v ≤ block_of_slot h 0 → header_of h v ≡ zero_page
+no_header : (h : Hardware) (v : disk.DiskImage) → blocks_of v ≤ block_of_slot h 0 → header_of h v ≡ zero_page
 no_header h v past = cond-false (ltb (block_of_slot h 0) (blocks_of v)) (block v (block_of_slot h 0)) zero_page (le-ltb (block_of_slot h 0) (blocks_of v) past)
 
-off_disk : (h : Hardware) (v w : disk.Image) → blocks_of v ≤ block_of_slot h 0 → length w ≡ length v → header_of h w ≡ header_of h v
+off_disk : (h : Hardware) (v w : disk.DiskImage) → blocks_of v ≤ block_of_slot h 0 → length w ≡ length v → header_of h w ≡ header_of h v
 off_disk h v w past size = no_header h w (omega arith) ∙ sym (no_header h v past)
 
 -- Inside a call between two such disks a crash leaves such an image.
-pub taken_inside : (h : Hardware) (blocks : ℕ) (c c' : disk.Content) (v w : disk.Image) → disk.IsContent blocks c → disk.IsContent blocks c' → disk.IsContent blocks (disk.settled v) → AreTakenBack h v c → AreTakenBack h v c' → disk.IsMixture c c' w → IsTakenBack h v w
+pub taken_inside : (h : Hardware) (blocks : ℕ) (c c' : disk.Content) (v w : disk.DiskImage) → disk.IsContent blocks c → disk.IsContent blocks c' → disk.IsContent blocks (disk.settled v) → AreTakenBack h v c → AreTakenBack h v c' → disk.IsMixture c c' w → IsTakenBack h v w
 taken_inside h blocks c c' v w whole after first all all' mixed =
     let n = whole.size in
     let m = first.size in
@@ -380,11 +380,11 @@ taken_inside h blocks c c' v w whole after first all all' mixed =
     }
 
 -- the image itself
-pub taken_itself : (h : Hardware) (v w : disk.Image) → w ≡ v → IsTakenBack h v w
-taken_itself h v w e = record { size = ap length e; others = λ b lt apart. ap (λ (u : disk.Image). block u b) e; header = inl (ap (header_of h) e) }
+pub taken_itself : (h : Hardware) (v w : disk.DiskImage) → w ≡ v → IsTakenBack h v w
+taken_itself h v w e = record { size = ap length e; others = λ b lt apart. ap (λ (u : disk.DiskImage). block u b) e; header = inl (ap (header_of h) e) }
 
 -- After a call over a disk whose every image is v, by which block(0) alone is written, and taken back at most.
-pub taken_after : (h : Hardware) (blocks : ℕ) (c c' : disk.Content) (v : disk.Image) → disk.IsContent blocks c → disk.IsContent blocks c' → disk.IsContent blocks (disk.settled v) → EachImage c (λ u. u ≡ v) → ((b : ℕ) → b ≢ block_of_slot h 0 → LeavesBlock b c c') → KeepsHeaderOrTakesBack h c c' → AreTakenBack h v c'
+pub taken_after : (h : Hardware) (blocks : ℕ) (c c' : disk.Content) (v : disk.DiskImage) → disk.IsContent blocks c → disk.IsContent blocks c' → disk.IsContent blocks (disk.settled v) → EachImage c (λ u. u ≡ v) → ((b : ℕ) → b ≢ block_of_slot h 0 → LeavesBlock b c c') → KeepsHeaderOrTakesBack h c c' → AreTakenBack h v c'
 taken_after h blocks c c' v whole after first one others header = λ w in'.
     let n = whole.size in
     let m = first.size in
@@ -400,6 +400,6 @@ taken_after h blocks c c' v whole after first one others header = λ w in'.
           (left_candidate blocks b (8 * b + j) c c' (get_or w (8 * b + j) []) after (others b apart) (omega arith) (omega arith) (omega arith) (in'.chosen (8 * b + j) (omega arith))));
       header = elim left.2 [
         | inl is ↦ inl (is ∙ ap (header_of h) same)
-        | inr back ↦ inr (back ∙ ap (λ (u : disk.Image). taken_back (header_of h u)) same)
+        | inr back ↦ inr (back ∙ ap (λ (u : disk.DiskImage). taken_back (header_of h u)) same)
       ];
     }

@@ -4,7 +4,7 @@ use Rattle.std.specs.List.{range_with_len}
 use Rattle.definitions.specs.Bytes.{IsPage}
 use Rattle.definitions.specs.Lists.{free_slots}
 use Rattle.definitions.specs.Slots.{free_runs, runs_of}
-use Rattle.definitions.specs.Tables.{owner_of, flags_of, is_saveable}
+use Rattle.definitions.specs.Tables.{owner_of, page_flags, is_saveable}
 use Rattle.definitions.specs.Zones.{top}
 use Rattle.definitions.proofs.ZoneNumbers.{range-bounds}
 use Rattle.plain_machine.specs.Machine.{Hardware, Memory, IsHardware, Fits, IsSameMemory, raw_slot_entry, is_well_formed, is_slot_entry}
@@ -17,7 +17,7 @@ fits_carried h m n hw fits same pages size = record {
   entries = λ p in'. ap is_well_formed (same_entry h m n p hw fits same in') ∙ fits.entries p in';
   tables = λ f of.
       let e = same_entry h m n f hw fits same (table_frame_valid h f hw of) in
-      (ap (λ (x : ℕ). is_saveable (flags_of x)) e ∙ (fits.tables f of).0, ap owner_of e ∙ (fits.tables f of).1);
+      (ap (λ (x : ℕ). is_saveable (page_flags x)) e ∙ (fits.tables f of).0, ap owner_of e ∙ (fits.tables f of).1);
   slots = λ s lt. ap (is_slot_entry s) (same_slot_entry h m n s hw fits same lt) ∙ fits.slots s lt;
 }
 

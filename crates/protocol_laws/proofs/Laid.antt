@@ -5,11 +5,11 @@ use Rattle.std.proofs.Math.Nat.{min-le_left}
 use Rattle.std.proofs.lemmas.List.FromFn.{length-map-range_with_len, get_or-map-range_with_len}
 use Rattle.std.proofs.lemmas.List.Elements.{All-map, All-filter, Contains-get_or}
 use Rattle.definitions.specs.Bytes.{IsPage}
-use Rattle.definitions.specs.Disk.{Image as DiskImage}
+use Rattle.definitions.specs.Disk.{DiskImage}
 use Rattle.definitions.specs.InfoPage.{IsInfo}
 use Rattle.definitions.specs.NumberPages.{meta_of, marked_numbers}
 use Rattle.definitions.specs.Lists.{saveable_frames}
-use Rattle.definitions.specs.Tables.{frame, entry_at, flags_of, is_saveable}
+use Rattle.definitions.specs.Tables.{frame, entry_at, page_flags, is_saveable}
 use Rattle.definitions.specs.Zones.{numbers}
 use Rattle.definitions.proofs.FrameSets.{Contains-from_filter}
 use Rattle.definitions.proofs.ZoneNumbers.{below_top}
@@ -40,7 +40,7 @@ pub saveable_page : (h : Hardware) (m : Memory) (k d : ℕ) → IsHardware h →
 unfolding saveable_frames
 saveable_page h m k d hw fits lt =
     let p = get_or (saveable h m) k d in
-    let in' = Contains-from_filter (λ q. is_saveable (flags_of (entry_at m h.frame_table q))) (numbers h.zones) p (Contains-get_or (saveable h m) k d lt) in
+    let in' = Contains-from_filter (λ q. is_saveable (page_flags (entry_at m h.frame_table q))) (numbers h.zones) p (Contains-get_or (saveable h m) k d lt) in
     let below = below_top h.zones p hw.zones.apart in'.0 in
     let size = fits.size in
     fits.pages p [] (omega arith)

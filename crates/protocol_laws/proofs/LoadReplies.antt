@@ -41,39 +41,39 @@ differ r s e apart = absurd (apart (ap kind e))
 
 -- What has gone on.
 
-pub gone_early : (h : Hardware) (load : Load) (v : disk.Image) (k : ℕ) → k ≤ 3 → header_cause h v ≡ None → HaveGoneOn h load v k
+pub gone_early : (h : Hardware) (load : Load) (v : disk.DiskImage) (k : ℕ) → k ≤ 3 → header_cause h v ≡ None → HaveGoneOn h load v k
 gone_early h load v k few header zero some lt = absurd (omega arith)
 gone_early h load v k few header (suc zero) some lt = ap (λ (o : Option Reply). unwrap_or o (reply.Loading 2)) header
 gone_early h load v k few header (suc (suc zero)) some lt = refl
 gone_early h load v k few header (suc (suc (suc j))) some lt = absurd (omega arith)
 
-pub gone_next : (h : Hardware) (load : Load) (v : disk.Image) (k : ℕ) → HaveGoneOn h load v k → reply_at h load.dump v load.loader load.check k ≡ reply.Loading (k + 1) → HaveGoneOn h load v (k + 1)
+pub gone_next : (h : Hardware) (load : Load) (v : disk.DiskImage) (k : ℕ) → HaveGoneOn h load v k → reply_at h load.dump v load.loader load.check k ≡ reply.Loading (k + 1) → HaveGoneOn h load v (k + 1)
 gone_next h load v k gone here j some lt = elim (cases_lt j k) [
   | inl before ↦ gone j some before
   | inr le ↦ (let is : k ≡ j = omega arith in subst (λ (x : ℕ). reply_at h load.dump v load.loader load.check x ≡ reply.Loading (x + 1)) is here)
 ]
 
-gone_from_first : (h : Hardware) (load : Load) (v : disk.Image) (k : ℕ) → HaveGoneOn h load v k → (j : ℕ) → j < k → reply_at h load.dump v load.loader load.check j ≡ reply.Loading (j + 1)
+gone_from_first : (h : Hardware) (load : Load) (v : disk.DiskImage) (k : ℕ) → HaveGoneOn h load v k → (j : ℕ) → j < k → reply_at h load.dump v load.loader load.check j ≡ reply.Loading (j + 1)
 gone_from_first h load v k gone zero lt = refl
 gone_from_first h load v k gone (suc j) lt = gone (suc j) (omega arith) lt
 
-pub no_header : (h : Hardware) (load : Load) (v : disk.Image) (k : ℕ) → 2 ≤ k → HaveGoneOn h load v k → header_cause h v ≡ None
+pub no_header : (h : Hardware) (load : Load) (v : disk.DiskImage) (k : ℕ) → 2 ≤ k → HaveGoneOn h load v k → header_cause h v ≡ None
 no_header h load v k some gone = header_passed h v (gone 1 (omega arith) (omega arith))
 
-pub traced_at : (h : Hardware) (load : Load) (v : disk.Image) (k : ℕ) (r : Reply) → k < 4 + place_count (info_in h v).pages → HaveGoneOn h load v k → reply_at h load.dump v load.loader load.check k ≡ r →
+pub traced_at : (h : Hardware) (load : Load) (v : disk.DiskImage) (k : ℕ) (r : Reply) → k < 4 + place_count (info_in h v).pages → HaveGoneOn h load v k → reply_at h load.dump v load.loader load.check k ≡ r →
     slice_get (trace h load.dump v load.loader load.check) k ≡ Some r
 traced_at h load v k r within gone says = traces_at h load.dump v load.loader load.check k within (gone_from_first h load v k gone) ∙ ap Some says
 
 -- An own image.
 
-pub own_within : (h : Hardware) (v : disk.Image) (i : Image) (k : ℕ) → IsOwnDisk h v i → k < 4 + place_count (info_in h v).pages → k < resume_steps i
+pub own_within : (h : Hardware) (v : disk.DiskImage) (i : Image) (k : ℕ) → IsOwnDisk h v i → k < 4 + place_count (info_in h v).pages → k < resume_steps i
 own_within h v i k is within = (let count = count_is h v i is in omega arith)
 
-within_own : (h : Hardware) (v : disk.Image) (i : Image) (k : ℕ) → IsOwnDisk h v i → k < resume_steps i → k < 4 + place_count (info_in h v).pages
+within_own : (h : Hardware) (v : disk.DiskImage) (i : Image) (k : ℕ) → IsOwnDisk h v i → k < resume_steps i → k < 4 + place_count (info_in h v).pages
 within_own h v i k is lt = (let count = count_is h v i is in omega arith)
 
 -- where it goes on past the last number page the loader has room
-comes : (h : Hardware) (v : disk.Image) (i : Image) (load : Load) (k : ℕ) → IsOwnDisk h v i → HaveGoneOn h load v k → k < resume_steps i → Comes h load i k
+comes : (h : Hardware) (v : disk.DiskImage) (i : Image) (load : Load) (k : ℕ) → IsOwnDisk h v i → HaveGoneOn h load v k → k < resume_steps i → Comes h load i k
 comes h v i load k is gone lt = elim (cases_Bool (has_room h load (d_of i))) [
   | inl room ↦ inr room
   | inr none ↦ elim (cases_lt (5 + meta_of (n_of i)) k) [
@@ -86,7 +86,7 @@ comes h v i load k is gone lt = elim (cases_Bool (has_room h load (d_of i))) [
   ]
 ]
 
-pub own_answers : (h : Hardware) (v : disk.Image) (i : Image) (load : Load) (k : ℕ) (r : Reply) → IsOwnDisk h v i → HaveGoneOn h load v k → 1 ≤ k → k < 4 + place_count (info_in h v).pages → reply_at h load.dump v load.loader load.check k ≡ r → own_reply h load i k ≡ r
+pub own_answers : (h : Hardware) (v : disk.DiskImage) (i : Image) (load : Load) (k : ℕ) (r : Reply) → IsOwnDisk h v i → HaveGoneOn h load v k → 1 ≤ k → k < 4 + place_count (info_in h v).pages → reply_at h load.dump v load.loader load.check k ≡ r → own_reply h load i k ≡ r
 own_answers h v i load k r is gone some within says =
     let lt = own_within h v i k is within in
     let own = traces_own h v i load k is.hardware is.holds is.own some lt (comes h v i load k is gone lt) in
@@ -94,13 +94,13 @@ own_answers h v i load k r is gone some within says =
 
 -- What block(0) says.
 
-abbrev signed : Hardware → disk.Image → Bool
+abbrev signed : Hardware → disk.DiskImage → Bool
 signed h v = pointwise nat_eq (sig_of (header_of h v)) image_signature
 
-abbrev compressed : Hardware → disk.Image → Option Reply
+abbrev compressed : Hardware → disk.DiskImage → Option Reply
 compressed h v = cond (not (is_set (flags_of (header_of h v)) 2)) (Some (reply.Compressed (flags_of (header_of h v)))) None
 
-header_by : (h : Hardware) (v : disk.Image) → ((header_cause h v ≡ Some reply.NoImage) × (Marked h v → ⊥)) ⊎ ((header_cause h v ≡ compressed h v) × Marked h v)
+header_by : (h : Hardware) (v : disk.DiskImage) → ((header_cause h v ≡ Some reply.NoImage) × (Marked h v → ⊥)) ⊎ ((header_cause h v ≡ compressed h v) × Marked h v)
 header_by h v = by_test (signed h v) refl where
   by_test : (b : Bool) → signed h v ≡ b → ((header_cause h v ≡ Some reply.NoImage) × (Marked h v → ⊥)) ⊎ ((header_cause h v ≡ compressed h v) × Marked h v)
   by_test true e = inr (ap (λ (b : Bool). cond (not b) (Some reply.NoImage) (compressed h v)) e, same_text (sig_of (header_of h v)) image_signature (sym e))
@@ -110,13 +110,13 @@ not_no_image : (b : Bool) (flags : ℕ) → cond b (Some (reply.Compressed flags
 not_no_image true flags e = differ (reply.Compressed flags) reply.NoImage (same_Some (reply.Compressed flags) reply.NoImage e) (λ x. absurd (omega arith))
 not_no_image false flags e = none-some reply.NoImage e
 
-pub no_mark : (h : Hardware) (v : disk.Image) → header_cause h v ≡ Some reply.NoImage → Marked h v → ⊥
+pub no_mark : (h : Hardware) (v : disk.DiskImage) → header_cause h v ≡ Some reply.NoImage → Marked h v → ⊥
 no_mark h v none = elim (header_by h v) [
   | inl is ↦ is.1
   | inr is ↦ absurd (not_no_image (not (is_set (flags_of (header_of h v)) 2)) (flags_of (header_of h v)) (sym is.0 ∙ none))
 ]
 
-pub a_mark : (h : Hardware) (v : disk.Image) (o : Option Reply) → header_cause h v ≡ o → (o ≡ Some reply.NoImage → ⊥) → Marked h v
+pub a_mark : (h : Hardware) (v : disk.DiskImage) (o : Option Reply) → header_cause h v ≡ o → (o ≡ Some reply.NoImage → ⊥) → Marked h v
 a_mark h v o says other = elim (header_by h v) [
   | inl is ↦ absurd (other (sym says ∙ is.0))
   | inr is ↦ is.1
@@ -138,23 +138,23 @@ stop_by_cause : (o : Option Reply) (past r : Reply) → Stops o → (past ≡ r 
 stop_by_cause None past r stops behind e stop = behind e stop
 stop_by_cause (Some x) past r stops behind e stop = ap is_no_stop (sym e) ∙ stops
 
-last_stop : (h : Hardware) (dump : Memory) (v : disk.Image) (loader : Loader) (r : Reply) → last_reply h dump v loader ≡ r → IsStop r → is_no_stop r ≡ false
+last_stop : (h : Hardware) (dump : Memory) (v : disk.DiskImage) (loader : Loader) (r : Reply) → last_reply h dump v loader ≡ r → IsStop r → is_no_stop r ≡ false
 last_stop h dump v (Ranges ranges) r e stop =
     stop_by_cause (tables_cause h v (restored_in h dump v (Ranges ranges))) (reply.Resumed (info_in h v).image_pages) r (stops_tables h v (restored_in h dump v (Ranges ranges)))
     (λ is s. absurd (subst IsStop (sym is) s)) e stop
 last_stop h dump v Table r e stop = absurd (subst IsStop (sym e) stop)
 
-past_stop : (h : Hardware) (dump : Memory) (v : disk.Image) (loader : Loader) (t : ℕ) (b : Bool) (r : Reply) → cond b (reply.Loading (5 + t)) (last_reply h dump v loader) ≡ r → IsStop r → is_no_stop r ≡ false
+past_stop : (h : Hardware) (dump : Memory) (v : disk.DiskImage) (loader : Loader) (t : ℕ) (b : Bool) (r : Reply) → cond b (reply.Loading (5 + t)) (last_reply h dump v loader) ≡ r → IsStop r → is_no_stop r ≡ false
 past_stop h dump v loader t true r e stop = absurd (subst IsStop (sym e) stop)
 past_stop h dump v loader t false r e stop = last_stop h dump v loader r e stop
 
-abbrev cause_of : Hardware → Memory → disk.Image → Loader → IdentCheck → ℕ → Option Reply
+abbrev cause_of : Hardware → Memory → disk.DiskImage → Loader → IdentCheck → ℕ → Option Reply
 cause_of h dump v loader check t = or_else (content_cause h dump v loader check (place t)) (next_cause h v t)
 
-pub stops_cause : (h : Hardware) (dump : Memory) (v : disk.Image) (loader : Loader) (check : IdentCheck) (t : ℕ) → Stops (or_else (content_cause h dump v loader check (place t)) (next_cause h v t))
+pub stops_cause : (h : Hardware) (dump : Memory) (v : disk.DiskImage) (loader : Loader) (check : IdentCheck) (t : ℕ) → Stops (or_else (content_cause h dump v loader check (place t)) (next_cause h v t))
 stops_cause h dump v loader check t = stops_else (content_cause h dump v loader check (place t)) (next_cause h v t) (stops_content h dump v loader check (place t)) (stops_next h v t)
 
-pub stop_late : (h : Hardware) (dump : Memory) (v : disk.Image) (loader : Loader) (check : IdentCheck) (k : ℕ) (r : Reply) → 4 ≤ k → reply_at h dump v loader check k ≡ r → IsStop r → is_no_stop r ≡ false
+pub stop_late : (h : Hardware) (dump : Memory) (v : disk.DiskImage) (loader : Loader) (check : IdentCheck) (k : ℕ) (r : Reply) → 4 ≤ k → reply_at h dump v loader check k ≡ r → IsStop r → is_no_stop r ≡ false
 stop_late h dump v loader check zero r late e stop = absurd (omega arith)
 stop_late h dump v loader check (suc zero) r late e stop = absurd (omega arith)
 stop_late h dump v loader check (suc (suc zero)) r late e stop = absurd (omega arith)
@@ -165,15 +165,15 @@ stop_late h dump v loader check (suc (suc (suc (suc t)))) r late e stop =
 
 -- A resume that ends well: the restored tables fit.
 
-last_resumed : (h : Hardware) (dump : Memory) (v : disk.Image) (ranges : RangeList) (n : ℕ) → last_reply h dump v (Ranges ranges) ≡ reply.Resumed n → tables_cause h v (restored_in h dump v (Ranges ranges)) ≡ None
+last_resumed : (h : Hardware) (dump : Memory) (v : disk.DiskImage) (ranges : RangeList) (n : ℕ) → last_reply h dump v (Ranges ranges) ≡ reply.Resumed n → tables_cause h v (restored_in h dump v (Ranges ranges)) ≡ None
 last_resumed h dump v ranges n e =
     none_passed (tables_cause h v (restored_in h dump v (Ranges ranges))) (reply.Resumed (info_in h v).image_pages) (reply.Resumed n) (stops_tables h v (restored_in h dump v (Ranges ranges))) refl e
 
-past_resumed : (h : Hardware) (dump : Memory) (v : disk.Image) (ranges : RangeList) (t n : ℕ) (b : Bool) → cond b (reply.Loading (5 + t)) (last_reply h dump v (Ranges ranges)) ≡ reply.Resumed n → tables_cause h v (restored_in h dump v (Ranges ranges)) ≡ None
+past_resumed : (h : Hardware) (dump : Memory) (v : disk.DiskImage) (ranges : RangeList) (t n : ℕ) (b : Bool) → cond b (reply.Loading (5 + t)) (last_reply h dump v (Ranges ranges)) ≡ reply.Resumed n → tables_cause h v (restored_in h dump v (Ranges ranges)) ≡ None
 past_resumed h dump v ranges t n true e = differ (reply.Loading (5 + t)) (reply.Resumed n) e (λ x. absurd (omega arith))
 past_resumed h dump v ranges t n false e = last_resumed h dump v ranges n e
 
-pub tables_fit : (h : Hardware) (dump : Memory) (v : disk.Image) (ranges : RangeList) (check : IdentCheck) (k n : ℕ) → 4 ≤ k → reply_at h dump v (Ranges ranges) check k ≡ reply.Resumed n → tables_cause h v (restored_in h dump v (Ranges ranges)) ≡ None
+pub tables_fit : (h : Hardware) (dump : Memory) (v : disk.DiskImage) (ranges : RangeList) (check : IdentCheck) (k n : ℕ) → 4 ≤ k → reply_at h dump v (Ranges ranges) check k ≡ reply.Resumed n → tables_cause h v (restored_in h dump v (Ranges ranges)) ≡ None
 tables_fit h dump v ranges check zero n late e = absurd (omega arith)
 tables_fit h dump v ranges check (suc zero) n late e = absurd (omega arith)
 tables_fit h dump v ranges check (suc (suc zero)) n late e = absurd (omega arith)

@@ -30,7 +30,7 @@ use Rattle.plain_machine.specs.declared.reply.Reply.{Reply}
 use Rattle.plain_machine.specs.declared.reply.Reply.TheVariants as reply
 use Rattle.image_laws.specs.ImageBlocks.{Tries}
 use Rattle.protocol_laws.specs.Loads.{ShowsLoad}
-use Rattle.protocol_laws.specs.LoadRows.{IsFoundOn, IsFoundIn, with_finding, Goes, ShowsRest, HaveGoneOn, running_with, IsStop, IsReading}
+use Rattle.protocol_laws.specs.LoadRows.{IsFoundOn, IsFoundIn, with_finding, Goes, ShowsRest, HaveGoneOn, running_with, IsStop, IsBeforeRead}
 use Rattle.protocol_laws.specs.Resuming.{IsHeldOwn, with_found}
 use Rattle.protocol_laws.specs.ResumingOther.{IsHeldOther, with_found_other}
 use Rattle.protocol_laws.specs.OwnTrace.{own_reply}
@@ -55,7 +55,7 @@ use Rattle.protocol_laws.proofs.Tracing.{restored_is, few_reply}
 abbrev running_of : Memory → SlotPages → Running
 running_of m slots = record { memory = m; slots = slots; flights = no_flights; unusable = None; held = nothing }
 
-same_area : (h : Hardware) (v : disk.Image) → IsSameArea h v v
+same_area : (h : Hardware) (v : disk.DiskImage) → IsSameArea h v v
 same_area h v = record { blocks = refl; header = record { front = refl; signature = refl } }
 
 -- The first sync, and the read of block(0).
@@ -92,10 +92,10 @@ find_fault_row h shown shown' c load = early_fault h shown shown' c load 1 (repl
 not_no_image : (flags : ℕ) → Some (reply.Compressed flags) ≡ Some reply.NoImage → ⊥
 not_no_image flags e = differ (reply.Compressed flags) reply.NoImage (same_Some (reply.Compressed flags) reply.NoImage e) (λ x. absurd (omega arith))
 
-header_reply : (h : Hardware) (v : disk.Image) (r : Reply) → header_cause h v ≡ Some r → unwrap_or (header_cause h v) (reply.Loading 2) ≡ r
+header_reply : (h : Hardware) (v : disk.DiskImage) (r : Reply) → header_cause h v ≡ Some r → unwrap_or (header_cause h v) (reply.Loading 2) ≡ r
 header_reply h v r says = ap (λ (o : Option Reply). unwrap_or o (reply.Loading 2)) says
 
-none_step : (h : Hardware) (c : disk.Content) (v : disk.Image) (load : Load) (held : Held) → load.held ≡ held → IsHeld h c held → disk.IsImage c v → header_cause h v ≡ Some reply.NoImage → Step h v (loading load 1) (event.Step actor.Core) reply.NoImage (off nothing None)
+none_step : (h : Hardware) (c : disk.Content) (v : disk.DiskImage) (load : Load) (held : Held) → load.held ≡ held → IsHeld h c held → disk.IsImage c v → header_cause h v ≡ Some reply.NoImage → Step h v (loading load 1) (event.Step actor.Core) reply.NoImage (off nothing None)
 none_step h c v load nothing is there here says = find_goes h v load nothing reply.NoImage (off nothing None) is (0, omega arith, refl)
 none_step h c v load (sure (own i)) is there here says = absurd (no_mark h v says (there v here).0.marked)
 none_step h c v load (sure other) is there here says = absurd (no_mark h v says (there v here))
@@ -118,7 +118,7 @@ find_none_row h shown shown' c blocks load whole stands says rest =
 
 -- The image is another's where it is compressed.
 
-compressed_other : (h : Hardware) (c : disk.Content) (v : disk.Image) (held : Held) (flags : ℕ) → IsHeld h c held → disk.IsImage c v → header_cause h v ≡ Some (reply.Compressed flags) → IsHeldOther held
+compressed_other : (h : Hardware) (c : disk.Content) (v : disk.DiskImage) (held : Held) (flags : ℕ) → IsHeld h c held → disk.IsImage c v → header_cause h v ≡ Some (reply.Compressed flags) → IsHeldOther held
 compressed_other h c v nothing flags there here says = absurd (there v here (a_mark h v (Some (reply.Compressed flags)) says (not_no_image flags)))
 compressed_other h c v (sure (own i)) flags there here says = absurd (none-some (reply.Compressed flags) (sym (no_header_cause h v i (there v here).0) ∙ says))
 compressed_other h c v (sure other) flags there here says = inl refl
@@ -129,10 +129,10 @@ compressed_other h c v (maybe (own i)) flags there here says = elim (there v her
 compressed_other h c v (maybe other) flags there here says = inr refl
 
 -- the signature's test
-is_signed : (h : Hardware) (v : disk.Image) → Marked h v → is_marked_disk h v ≡ true
+is_signed : (h : Hardware) (v : disk.DiskImage) → Marked h v → is_marked_disk h v ≡ true
 is_signed h v marked = true_from_ne_false (is_marked_disk h v) (λ e. other_text (sig_of (header_of h v)) image_signature (sym e) marked)
 
-other_step : (h : Hardware) (v : disk.Image) (load : Load) (r : Reply) (b : State) → IsHeldOther load.held → Marked h v → unwrap_or (header_cause h v) (reply.Loading 2) ≡ r → other_state h (with_found_other load v) v 1 r ≡ b → Step h v (loading load 1) (event.Step actor.Core) r b
+other_step : (h : Hardware) (v : disk.DiskImage) (load : Load) (r : Reply) (b : State) → IsHeldOther load.held → Marked h v → unwrap_or (header_cause h v) (reply.Loading 2) ≡ r → other_state h (with_found_other load v) v 1 r ≡ b → Step h v (loading load 1) (event.Step actor.Core) r b
 other_step h v load r b (inl is) marked says state =
     find_goes h v load (sure other) r b is
     (subst (λ (xs : List Outcome). Contains xs (r, b)) (sym (cond-true (is_marked_disk h v) (other_step_of h (with_found_other load v) v 1) [] (is_signed h v marked))) (finds_traced h v load r b says state))
@@ -208,10 +208,10 @@ find_row h shown shown' c blocks load hw whole stands says header =
 
 -- A step that goes on.
 
-own_disk : (h : Hardware) (v : disk.Image) (i : Image) → IsHardware h → Holds h v i × IsOwn h v i → IsOwnDisk h v i
+own_disk : (h : Hardware) (v : disk.DiskImage) (i : Image) → IsHardware h → Holds h v i × IsOwn h v i → IsOwnDisk h v i
 own_disk h v i hw is = record { hardware = hw; holds = is.0; own = is.1; sayable = own_sayable h v i hw is.1 }
 
-own_loading : (h : Hardware) (v : disk.Image) (load : Load) (i : Image) (k : ℕ) → own_reply h load i k ≡ reply.Loading (k + 1) → own_step h load i k ≡ (reply.Loading (k + 1), loading load (k + 1))
+own_loading : (h : Hardware) (v : disk.DiskImage) (load : Load) (i : Image) (k : ℕ) → own_reply h load i k ≡ reply.Loading (k + 1) → own_step h load i k ≡ (reply.Loading (k + 1), loading load (k + 1))
 own_loading h v load i k answers = elim (own_outcome h load i k) [
   | inl few ↦ differ (few_reply h load i) (reply.Loading (k + 1)) (sym (ap (λ (o : Outcome). o.0) few) ∙ answers) (λ e. absurd (omega arith))
   | inr more ↦ elim more [
@@ -220,40 +220,40 @@ own_loading h v load i k answers = elim (own_outcome h load i k) [
   ]
 ]
 
-loading_step : (h : Hardware) (w v : disk.Image) (load : Load) (found : Found) (k : ℕ) → IsHardware h → IsFoundOn h v found → HaveGoneOn h load v k → 2 ≤ k → k < 4 + place_count (info_in h v).pages →
+loading_step : (h : Hardware) (w v : disk.DiskImage) (load : Load) (found : Found) (k : ℕ) → IsHardware h → IsFoundOn h v found → HaveGoneOn h load v k → 2 ≤ k → k < 4 + place_count (info_in h v).pages →
     reply_at h load.dump v load.loader load.check k ≡ reply.Loading (k + 1) → Step h w (loading (with_finding load found) k) (event.Step actor.Core) (reply.Loading (k + 1)) (loading (with_finding load found) (k + 1))
 loading_step h w v load not_yet k hw is gone late within says = absurd is
 loading_step h w v load (found_own i) k hw is gone late within says =
     own_goes h w load i k (reply.Loading (k + 1)) (loading (with_found load i) (k + 1)) (own_within h v i k (own_disk h v i hw is) within) late
     (own_loading h v (with_found load i) i k (own_answers h v i (with_found load i) k (reply.Loading (k + 1)) (own_disk h v i hw is) gone (omega arith) within says))
 loading_step h w v load (found_other u) k hw is gone late within says =
-    subst (λ (x : disk.Image). Step h w (loading (with_found_other load x) k) (event.Step actor.Core) (reply.Loading (k + 1)) (loading (with_found_other load x) (k + 1))) is
+    subst (λ (x : disk.DiskImage). Step h w (loading (with_found_other load x) k) (event.Step actor.Core) (reply.Loading (k + 1)) (loading (with_found_other load x) (k + 1))) is
     (other_goes h w v load k (reply.Loading (k + 1)) (loading (with_found_other load v) (k + 1)) late (traced_at h load v k (reply.Loading (k + 1)) within gone says) refl)
 
 -- The write of block(0) taken back.
 
-marked_before : (h : Hardware) (shown : Shown) (c : disk.Content) (blocks : ℕ) (load : Load) (v : disk.Image) (found : Found) → disk.IsContent blocks c → Stands h shown c (loading (with_finding load found) 2) → IsFoundOn h v found → Marked h (disk.as_it_reads c)
+marked_before : (h : Hardware) (shown : Shown) (c : disk.Content) (blocks : ℕ) (load : Load) (v : disk.DiskImage) (found : Found) → disk.IsContent blocks c → Stands h shown c (loading (with_finding load found) 2) → IsFoundOn h v found → Marked h (disk.as_it_reads c)
 marked_before h shown c blocks load v not_yet whole stands is = absurd is
 marked_before h shown c blocks load v (found_own i) whole stands is = (stands.parts.0.0 (disk.as_it_reads c) (IsImage-as_it_reads blocks c whole)).0.marked
 marked_before h shown c blocks load v (found_other u) whole stands is = stands.parts.0.0 (disk.as_it_reads c) (IsImage-as_it_reads blocks c whole)
 
-back_area : (h : Hardware) (shown : Shown) (c c' : disk.Content) (blocks : ℕ) (load : Load) (v : disk.Image) → disk.IsContent blocks c → Stands h shown c (loading load 2) → IsFoundIn h load v → Tries (block_of_slot h 0) (taken_back shown.header) c c' →
+back_area : (h : Hardware) (shown : Shown) (c c' : disk.Content) (blocks : ℕ) (load : Load) (v : disk.DiskImage) → disk.IsContent blocks c → Stands h shown c (loading load 2) → IsFoundIn h load v → Tries (block_of_slot h 0) (taken_back shown.header) c c' →
     IsSameArea h (disk.as_it_reads c) (disk.as_it_reads c')
 back_area h shown c c' blocks load v whole stands is tries =
     kept_by_taking_back h blocks c c' whole stands.parts.0.1 (marked_before h shown c blocks load v load.found whole stands is)
     (subst (λ (page : List ℕ). Tries (block_of_slot h 0) (taken_back page) c c') (stands.parts.3 refl) tries)
 
-header_tried : (h : Hardware) (shown : Shown) (c c' : disk.Content) (blocks : ℕ) (load : Load) (v : disk.Image) → disk.IsContent blocks c → Stands h shown c (loading load 2) → IsFoundIn h load v → Tries (block_of_slot h 0) (taken_back shown.header) c c' → KeepsHeaderOrTakesBack h c c'
+header_tried : (h : Hardware) (shown : Shown) (c c' : disk.Content) (blocks : ℕ) (load : Load) (v : disk.DiskImage) → disk.IsContent blocks c → Stands h shown c (loading load 2) → IsFoundIn h load v → Tries (block_of_slot h 0) (taken_back shown.header) c c' → KeepsHeaderOrTakesBack h c c'
 header_tried h shown c c' blocks load v whole stands is tries =
     header_written h shown c c' blocks (is_before h shown c blocks whole (stands.parts.2 (inr refl)) (stands.parts.3 refl) (marked_before h shown c blocks load v load.found whole stands is) stands.parts.0.1) tries
 
-back_stands : (h : Hardware) (shown shown' : Shown) (c c' : disk.Content) (blocks : ℕ) (load : Load) (v : disk.Image) (found : Found) → IsHardware h → disk.IsContent blocks c → disk.IsContent blocks c' → Stands h shown c (loading (with_finding load found) 2) →
+back_stands : (h : Hardware) (shown shown' : Shown) (c c' : disk.Content) (blocks : ℕ) (load : Load) (v : disk.DiskImage) (found : Found) → IsHardware h → disk.IsContent blocks c → disk.IsContent blocks c' → Stands h shown c (loading (with_finding load found) 2) →
     IsFoundOn h v found → disk.Writes (block_of_slot h 0) (taken_back shown.header) c c' → ShowsLoad h shown' (with_finding load found) 3 → Stands h shown' c' (loading (with_finding load found) 3)
 back_stands h shown shown' c c' blocks load v not_yet hw whole after stands is writes shows = absurd is
 back_stands h shown shown' c c' blocks load v (found_own i) hw whole after stands is writes shows = takes_back h shown shown' c c' blocks load i hw whole after stands writes shows
 back_stands h shown shown' c c' blocks load v (found_other u) hw whole after stands is writes shows = takes_other_back h shown shown' c c' blocks load u hw whole after stands writes shows
 
-pub take_back_row : (h : Hardware) (shown shown' : Shown) (c c' : disk.Content) (blocks : ℕ) (load : Load) (v : disk.Image) → IsHardware h → disk.IsContent blocks c → disk.IsContent blocks c' → Stands h shown c (loading load 2) →
+pub take_back_row : (h : Hardware) (shown shown' : Shown) (c c' : disk.Content) (blocks : ℕ) (load : Load) (v : disk.DiskImage) → IsHardware h → disk.IsContent blocks c → disk.IsContent blocks c' → Stands h shown c (loading load 2) →
     IsFoundIn h load v → HaveGoneOn h load v 2 → disk.Writes (block_of_slot h 0) (taken_back shown.header) c c' → ShowsLoad h shown' load 3 → Goes h shown' (reply.Loading 3) c c' (loading load 2) (loading load 3)
 take_back_row h shown shown' c c' blocks load v hw whole after stands is gone writes shows = record {
   step = loading_step h (disk.as_it_reads c) v load load.found 2 hw is gone (omega arith) (omega arith) refl;
@@ -264,13 +264,13 @@ take_back_row h shown shown' c c' blocks load v hw whole after stands is gone wr
   leaves = tt;
 }
 
-back_fails : (h : Hardware) (shown shown' : Shown) (c c' : disk.Content) (blocks : ℕ) (load : Load) (v : disk.Image) (found : Found) → IsHardware h → disk.IsContent blocks c → disk.IsContent blocks c' → Stands h shown c (loading (with_finding load found) 2) →
+back_fails : (h : Hardware) (shown shown' : Shown) (c c' : disk.Content) (blocks : ℕ) (load : Load) (v : disk.DiskImage) (found : Found) → IsHardware h → disk.IsContent blocks c → disk.IsContent blocks c' → Stands h shown c (loading (with_finding load found) 2) →
     IsFoundOn h v found → disk.FailsToWrite (block_of_slot h 0) (taken_back shown.header) c c' → ShowsRest shown' → Stands h shown' c' (off (perhaps (held_while_loading (with_finding load found) 2)) None)
 back_fails h shown shown' c c' blocks load v not_yet hw whole after stands is fails rest = absurd is
 back_fails h shown shown' c c' blocks load v (found_own i) hw whole after stands is fails rest = take_back_fails h shown shown' c c' blocks load i hw whole after stands fails rest.0 rest.1
 back_fails h shown shown' c c' blocks load v (found_other u) hw whole after stands is fails rest = take_other_back_fails h shown shown' c c' blocks load u hw whole after stands fails rest.0 rest.1
 
-pub take_back_fault_row : (h : Hardware) (shown shown' : Shown) (c c' : disk.Content) (blocks : ℕ) (load : Load) (v : disk.Image) → IsHardware h → disk.IsContent blocks c → disk.IsContent blocks c' → Stands h shown c (loading load 2) →
+pub take_back_fault_row : (h : Hardware) (shown shown' : Shown) (c c' : disk.Content) (blocks : ℕ) (load : Load) (v : disk.DiskImage) → IsHardware h → disk.IsContent blocks c → disk.IsContent blocks c' → Stands h shown c (loading load 2) →
     IsFoundIn h load v → disk.FailsToWrite (block_of_slot h 0) (taken_back shown.header) c c' → ShowsRest shown' → Goes h shown' (reply.WriteFault Unsure) c c' (loading load 2) (off (perhaps (held_while_loading load 2)) None)
 take_back_fault_row h shown shown' c c' blocks load v hw whole after stands is fails rest = record {
   step = fault_step h (disk.as_it_reads c) load 2 (reply.WriteFault Unsure) (off (perhaps (held_while_loading load 2)) None) refl refl;
@@ -283,7 +283,7 @@ take_back_fault_row h shown shown' c c' blocks load v hw whole after stands is f
 
 -- The sync behind it.
 
-pub back_sync_row : (h : Hardware) (shown shown' : Shown) (c c' : disk.Content) (blocks : ℕ) (load : Load) (v : disk.Image) → IsHardware h → disk.IsContent blocks c → Stands h shown c (loading load 3) →
+pub back_sync_row : (h : Hardware) (shown shown' : Shown) (c c' : disk.Content) (blocks : ℕ) (load : Load) (v : disk.DiskImage) → IsHardware h → disk.IsContent blocks c → Stands h shown c (loading load 3) →
     IsFoundIn h load v → HaveGoneOn h load v 3 → disk.Syncs c c' → taken_back_cause h v ≡ None → ShowsLoad h shown' load 4 → Goes h shown' (reply.Loading 4) c c' (loading load 3) (loading load 4)
 back_sync_row h shown shown' c c' blocks load v hw whole stands is gone syncs none shows = record {
   step = loading_step h (disk.as_it_reads c) v load load.found 3 hw is gone (omega arith) (omega arith) (ap (λ (o : Option Reply). unwrap_or o (reply.Loading 4)) none);
@@ -295,15 +295,15 @@ back_sync_row h shown shown' c c' blocks load v hw whole stands is gone syncs no
 }
 
 -- an own image is of this hardware, and has a chain
-back_stop_step : (h : Hardware) (w v : disk.Image) (load : Load) (found : Found) (r : Reply) → IsFoundOn h v found → HaveGoneOn h load v 3 → taken_back_cause h v ≡ Some r → Step h w (loading (with_finding load found) 3) (event.Step actor.Core) r (off nothing None)
+back_stop_step : (h : Hardware) (w v : disk.DiskImage) (load : Load) (found : Found) (r : Reply) → IsFoundOn h v found → HaveGoneOn h load v 3 → taken_back_cause h v ≡ Some r → Step h w (loading (with_finding load found) 3) (event.Step actor.Core) r (off nothing None)
 back_stop_step h w v load not_yet r is gone says = absurd is
 back_stop_step h w v load (found_own i) r is gone says = absurd (none-some r (sym (no_taken_back_cause h v i is.0 is.1) ∙ says))
 back_stop_step h w v load (found_other u) r is gone says =
-    subst (λ (x : disk.Image). Step h w (loading (with_found_other load x) 3) (event.Step actor.Core) r (off nothing None)) is
+    subst (λ (x : disk.DiskImage). Step h w (loading (with_found_other load x) 3) (event.Step actor.Core) r (off nothing None)) is
     (other_goes h w v load 3 r (off nothing None) (omega arith) (traced_at h load v 3 r (omega arith) gone (ap (λ (o : Option Reply). unwrap_or o (reply.Loading 4)) says))
     (stopped_off h (with_found_other load v) v 3 r (cause_stops (taken_back_cause h v) r (stops_taken_back h v) says)))
 
-pub back_sync_stop_row : (h : Hardware) (shown shown' : Shown) (c c' : disk.Content) (blocks : ℕ) (load : Load) (v : disk.Image) (r : Reply) → IsHardware h → disk.IsContent blocks c → Stands h shown c (loading load 3) →
+pub back_sync_stop_row : (h : Hardware) (shown shown' : Shown) (c c' : disk.Content) (blocks : ℕ) (load : Load) (v : disk.DiskImage) (r : Reply) → IsHardware h → disk.IsContent blocks c → Stands h shown c (loading load 3) →
     IsFoundIn h load v → HaveGoneOn h load v 3 → disk.Syncs c c' → taken_back_cause h v ≡ Some r → ShowsRest shown' → Goes h shown' r c c' (loading load 3) (off nothing None)
 back_sync_stop_row h shown shown' c c' blocks load v r hw whole stands is gone syncs says rest =
     let unmarked : Marked h (disk.as_it_reads c) → ⊥ = stands.parts.4 refl in
@@ -331,7 +331,7 @@ back_sync_fault_row h shown shown' c load stands rest = record {
 
 -- The reads of maps and pages.
 
-pub read_row : (h : Hardware) (shown shown' : Shown) (c : disk.Content) (load : Load) (v : disk.Image) (k : ℕ) → IsReading h shown c load v k →
+pub read_row : (h : Hardware) (shown shown' : Shown) (c : disk.Content) (load : Load) (v : disk.DiskImage) (k : ℕ) → IsBeforeRead h shown c load v k →
     reply_at h load.dump v load.loader load.check k ≡ reply.Loading (k + 1) → ShowsLoad h shown' load (k + 1) → Goes h shown' (reply.Loading (k + 1)) c c (loading load k) (loading load (k + 1))
 read_row h shown shown' c load v k reads says shows =
     let late = reads.late in
@@ -353,18 +353,18 @@ own_stops h load i k r answers stop = elim (own_outcome h load i k) [
   ]
 ]
 
-stop_step : (h : Hardware) (w v : disk.Image) (load : Load) (found : Found) (k : ℕ) (r : Reply) → IsHardware h → IsFoundOn h v found → HaveGoneOn h load v k → 4 ≤ k → k < 4 + place_count (info_in h v).pages →
+stop_step : (h : Hardware) (w v : disk.DiskImage) (load : Load) (found : Found) (k : ℕ) (r : Reply) → IsHardware h → IsFoundOn h v found → HaveGoneOn h load v k → 4 ≤ k → k < 4 + place_count (info_in h v).pages →
     reply_at h load.dump v load.loader load.check k ≡ r → IsStop r → Step h w (loading (with_finding load found) k) (event.Step actor.Core) r (off nothing None)
 stop_step h w v load not_yet k r hw is gone late within says stop = absurd is
 stop_step h w v load (found_own i) k r hw is gone late within says stop =
     own_goes h w load i k r (off nothing None) (own_within h v i k (own_disk h v i hw is) within) (omega arith)
     (own_stops h (with_found load i) i k r (own_answers h v i (with_found load i) k r (own_disk h v i hw is) gone (omega arith) within says) stop)
 stop_step h w v load (found_other u) k r hw is gone late within says stop =
-    subst (λ (x : disk.Image). Step h w (loading (with_found_other load x) k) (event.Step actor.Core) r (off nothing None)) is
+    subst (λ (x : disk.DiskImage). Step h w (loading (with_found_other load x) k) (event.Step actor.Core) r (off nothing None)) is
     (other_goes h w v load k r (off nothing None) (omega arith) (traced_at h load v k r within gone says)
     (stopped_off h (with_found_other load v) v k r (stop_late h load.dump v load.loader load.check k r late says stop)))
 
-pub read_stop_row : (h : Hardware) (shown shown' : Shown) (c : disk.Content) (load : Load) (v : disk.Image) (k : ℕ) (r : Reply) → IsReading h shown c load v k →
+pub read_stop_row : (h : Hardware) (shown shown' : Shown) (c : disk.Content) (load : Load) (v : disk.DiskImage) (k : ℕ) (r : Reply) → IsBeforeRead h shown c load v k →
     reply_at h load.dump v load.loader load.check k ≡ r → IsStop r → ShowsRest shown' → Goes h shown' r c c (loading load k) (off nothing None)
 read_stop_row h shown shown' c load v k r reads says stop rest = record {
   step = stop_step h (disk.as_it_reads c) v load load.found k r reads.hardware reads.found reads.gone_on reads.late reads.within says stop;
@@ -376,14 +376,14 @@ read_stop_row h shown shown' c load v k r reads says stop rest = record {
 }
 
 -- where it reads there is a step
-reading_there : (h : Hardware) (load : Load) (v : disk.Image) (found : Found) (k : ℕ) → IsHardware h → IsFoundOn h v found → HaveGoneOn h load v k → k < 4 + place_count (info_in h v).pages → IsThere h load found k
+reading_there : (h : Hardware) (load : Load) (v : disk.DiskImage) (found : Found) (k : ℕ) → IsHardware h → IsFoundOn h v found → HaveGoneOn h load v k → k < 4 + place_count (info_in h v).pages → IsThere h load found k
 reading_there h load v not_yet k hw is gone within = absurd is
 reading_there h load v (found_own i) k hw is gone within = there_own h load i k (own_within h v i k (own_disk h v i hw is) within)
 reading_there h load v (found_other u) k hw is gone within =
-    subst (λ (x : disk.Image). IsThere h load (found_other x) k) is
+    subst (λ (x : disk.DiskImage). IsThere h load (found_other x) k) is
     (there_other h load v k (reply_at h load.dump v load.loader load.check k) (traced_at h load v k (reply_at h load.dump v load.loader load.check k) within gone refl))
 
-pub read_fault_row : (h : Hardware) (shown shown' : Shown) (c : disk.Content) (load : Load) (v : disk.Image) (k : ℕ) → IsReading h shown c load v k → ShowsRest shown' → Goes h shown' (reply.ReadFault Gone) c c (loading load k) (off nothing None)
+pub read_fault_row : (h : Hardware) (shown shown' : Shown) (c : disk.Content) (load : Load) (v : disk.DiskImage) (k : ℕ) → IsBeforeRead h shown c load v k → ShowsRest shown' → Goes h shown' (reply.ReadFault Gone) c c (loading load k) (off nothing None)
 read_fault_row h shown shown' c load v k reads rest = record {
   step = fault_step h (disk.as_it_reads c) load k (reply.ReadFault Gone) (off nothing None) (reading_there h load v load.found k reads.hardware reads.found reads.gone_on reads.within) (late_fault load k reads.late);
   stands = load_stops h shown shown' c load k reads.late reads.stands rest.0 rest.1;
@@ -406,7 +406,7 @@ shows_memory h shown m n slots slots' e shows = record {
 }
 
 -- the row of a resume that ends well
-abbrev EndsWell : Hardware → Shown → disk.Content → Load → disk.Image → Found → ℕ → ℕ → Type 0
+abbrev EndsWell : Hardware → Shown → disk.Content → Load → disk.DiskImage → Found → ℕ → ℕ → Type 0
 EndsWell h shown' c load v found k n = (slots : SlotPages) × Goes h shown' (reply.Resumed n) c c (loading (with_finding load found) k) (on (running_with h load v slots))
 
 own_end : (h : Hardware) (load : Load) (i : Image) (k n : ℕ) → own_reply h load i k ≡ reply.Resumed n → own_step h load i k ≡ (reply.Resumed n, resumed (restored h load.dump load.loader i) i.slots load.loader)
@@ -418,7 +418,7 @@ own_end h load i k n answers = elim (own_outcome h load i k) [
   ]
 ]
 
-own_ends : (h : Hardware) (shown shown' : Shown) (c : disk.Content) (blocks : ℕ) (load : Load) (ranges : Ranges) (v : disk.Image) (i : Image) (k n : ℕ) → disk.IsContent blocks c → IsReading h shown c (with_found load i) v k → load.loader ≡ loader.Ranges ranges →
+own_ends : (h : Hardware) (shown shown' : Shown) (c : disk.Content) (blocks : ℕ) (load : Load) (ranges : Ranges) (v : disk.DiskImage) (i : Image) (k n : ℕ) → disk.IsContent blocks c → IsBeforeRead h shown c (with_found load i) v k → load.loader ≡ loader.Ranges ranges →
     reply_at h load.dump v load.loader load.check k ≡ reply.Resumed n → shown'.activity ≡ runs → ShowsRunning h shown' (running_with h load v no_slots) → NamesOnly h shown' [] → EndsWell h shown' c load v (found_own i) k n
 own_ends h shown shown' c blocks load ranges v i k n whole reads scripted says activity shows names =
     let late = reads.late in
@@ -440,7 +440,7 @@ own_ends h shown shown' c blocks load ranges v i k n whole reads scripted says a
       },
     )
 
-other_ends : (h : Hardware) (shown shown' : Shown) (c : disk.Content) (blocks : ℕ) (load : Load) (ranges : Ranges) (v : disk.Image) (k n : ℕ) → disk.IsContent blocks c → IsReading h shown c (with_found_other load v) v k → load.loader ≡ loader.Ranges ranges →
+other_ends : (h : Hardware) (shown shown' : Shown) (c : disk.Content) (blocks : ℕ) (load : Load) (ranges : Ranges) (v : disk.DiskImage) (k n : ℕ) → disk.IsContent blocks c → IsBeforeRead h shown c (with_found_other load v) v k → load.loader ≡ loader.Ranges ranges →
     reply_at h load.dump v load.loader load.check k ≡ reply.Resumed n → shown'.activity ≡ runs → ShowsRunning h shown' (running_with h load v no_slots) → NamesOnly h shown' [] → EndsWell h shown' c load v (found_other v) k n
 other_ends h shown shown' c blocks load ranges v k n whole reads scripted says activity shows names =
     let late = reads.late in
@@ -461,20 +461,20 @@ other_ends h shown shown' c blocks load ranges v k n whole reads scripted says a
       },
     )
 
-ends_well : (h : Hardware) (shown shown' : Shown) (c : disk.Content) (blocks : ℕ) (load : Load) (ranges : Ranges) (v : disk.Image) (found : Found) (k n : ℕ) → disk.IsContent blocks c → IsReading h shown c (with_finding load found) v k → load.loader ≡ loader.Ranges ranges →
+ends_well : (h : Hardware) (shown shown' : Shown) (c : disk.Content) (blocks : ℕ) (load : Load) (ranges : Ranges) (v : disk.DiskImage) (found : Found) (k n : ℕ) → disk.IsContent blocks c → IsBeforeRead h shown c (with_finding load found) v k → load.loader ≡ loader.Ranges ranges →
     reply_at h load.dump v load.loader load.check k ≡ reply.Resumed n → shown'.activity ≡ runs → ShowsRunning h shown' (running_with h load v no_slots) → NamesOnly h shown' [] → EndsWell h shown' c load v found k n
 ends_well h shown shown' c blocks load ranges v not_yet k n whole reads scripted says activity shows names = absurd reads.found
 ends_well h shown shown' c blocks load ranges v (found_own i) k n whole reads scripted says activity shows names = own_ends h shown shown' c blocks load ranges v i k n whole reads scripted says activity shows names
 ends_well h shown shown' c blocks load ranges v (found_other u) k n whole reads scripted says activity shows names =
-    subst (λ (x : disk.Image). IsReading h shown c (with_found_other load x) v k → EndsWell h shown' c load v (found_other x) k n) reads.found
+    subst (λ (x : disk.DiskImage). IsBeforeRead h shown c (with_found_other load x) v k → EndsWell h shown' c load v (found_other x) k n) reads.found
     (λ here. other_ends h shown shown' c blocks load ranges v k n whole here scripted says activity shows names) reads
 
-pub read_resumed_row : (h : Hardware) (shown shown' : Shown) (c : disk.Content) (blocks : ℕ) (load : Load) (ranges : Ranges) (v : disk.Image) (k n : ℕ) → disk.IsContent blocks c → IsReading h shown c load v k → load.loader ≡ loader.Ranges ranges →
+pub read_resumed_row : (h : Hardware) (shown shown' : Shown) (c : disk.Content) (blocks : ℕ) (load : Load) (ranges : Ranges) (v : disk.DiskImage) (k n : ℕ) → disk.IsContent blocks c → IsBeforeRead h shown c load v k → load.loader ≡ loader.Ranges ranges →
     reply_at h load.dump v load.loader load.check k ≡ reply.Resumed n → shown'.activity ≡ runs → ShowsRunning h shown' (running_with h load v no_slots) → NamesOnly h shown' [] →
     (slots : SlotPages) × Goes h shown' (reply.Resumed n) c c (loading load k) (on (running_with h load v slots))
 read_resumed_row h shown shown' c blocks load ranges v k n = ends_well h shown shown' c blocks load ranges v load.found k n
 
-off_step : (h : Hardware) (w v : disk.Image) (load : Load) (found : Found) (k n : ℕ) → IsHardware h → IsFoundOn h v found → HaveGoneOn h load v k → 2 ≤ k → k < 4 + place_count (info_in h v).pages → load.loader ≡ loader.Table →
+off_step : (h : Hardware) (w v : disk.DiskImage) (load : Load) (found : Found) (k n : ℕ) → IsHardware h → IsFoundOn h v found → HaveGoneOn h load v k → 2 ≤ k → k < 4 + place_count (info_in h v).pages → load.loader ≡ loader.Table →
     reply_at h load.dump v load.loader load.check k ≡ reply.Resumed n → Step h w (loading (with_finding load found) k) (event.Step actor.Core) (reply.Resumed n) (off nothing None)
 off_step h w v load not_yet k n hw is gone late within from says = absurd is
 off_step h w v load (found_own i) k n hw is gone late within from says =
@@ -482,10 +482,10 @@ off_step h w v load (found_own i) k n hw is gone late within from says =
     own_goes h w load i k (reply.Resumed n) (off nothing None) (own_within h v i k (own_disk h v i hw is) within) late (end ∙ ap (λ (l : Loader). (reply.Resumed n, resumed (restored h load.dump load.loader i) i.slots l)) from)
 off_step h w v load (found_other u) k n hw is gone late within from says =
     let m = restored_in h load.dump v load.loader in
-    subst (λ (x : disk.Image). Step h w (loading (with_found_other load x) k) (event.Step actor.Core) (reply.Resumed n) (off nothing None)) is
+    subst (λ (x : disk.DiskImage). Step h w (loading (with_found_other load x) k) (event.Step actor.Core) (reply.Resumed n) (off nothing None)) is
     (other_goes h w v load k (reply.Resumed n) (off nothing None) late (traced_at h load v k (reply.Resumed n) within gone says) (ap (resumed m (slots_in h v m)) from))
 
-pub read_resumed_off_row : (h : Hardware) (shown shown' : Shown) (c : disk.Content) (load : Load) (v : disk.Image) (k n : ℕ) → IsReading h shown c load v k → load.loader ≡ loader.Table →
+pub read_resumed_off_row : (h : Hardware) (shown shown' : Shown) (c : disk.Content) (load : Load) (v : disk.DiskImage) (k n : ℕ) → IsBeforeRead h shown c load v k → load.loader ≡ loader.Table →
     reply_at h load.dump v load.loader load.check k ≡ reply.Resumed n → ShowsRest shown' → Goes h shown' (reply.Resumed n) c c (loading load k) (off nothing None)
 read_resumed_off_row h shown shown' c load v k n reads from says rest =
     let late = reads.late in
@@ -511,9 +511,9 @@ shows_none_read h shown load k few activity kept none = record {
   read = λ i e. none ∙ sym (ap (λ (n : ℕ). take n (with_data i)) (none_read k (meta_of (n_of i)) few));
 }
 
-pub cause_ends : (h : Hardware) (load : Load) (v : disk.Image) (t : ℕ) (r : Reply) → or_else (content_cause h load.dump v load.loader load.check (place t)) (next_cause h v t) ≡ Some r → IsStop r
+pub cause_ends : (h : Hardware) (load : Load) (v : disk.DiskImage) (t : ℕ) (r : Reply) → or_else (content_cause h load.dump v load.loader load.check (place t)) (next_cause h v t) ≡ Some r → IsStop r
 cause_ends h load v t r e =
     stop_kind r (cause_stops (or_else (content_cause h load.dump v load.loader load.check (place t)) (next_cause h v t)) r (stops_cause h load.dump v load.loader load.check t) e)
 
-pub tables_end : (h : Hardware) (load : Load) (v : disk.Image) (r : Reply) → tables_cause h v (restored_in h load.dump v load.loader) ≡ Some r → IsStop r
+pub tables_end : (h : Hardware) (load : Load) (v : disk.DiskImage) (r : Reply) → tables_cause h v (restored_in h load.dump v load.loader) ≡ Some r → IsStop r
 tables_end h load v r e = stop_kind r (cause_stops (tables_cause h v (restored_in h load.dump v load.loader)) r (stops_tables h v (restored_in h load.dump v load.loader)) e)

@@ -26,7 +26,7 @@ use Rattle.protocol_laws.proofs.TraceAt.{traces_at}
 abbrev pub IsThere : Hardware → Load → Found → ℕ → Type 0
 IsThere h load found k = (ltb k 4 || has_place h load found k) ≡ true
 
-pub by_core : (h : Hardware) (v : disk.Image) (load : Load) (k : ℕ) (r : Reply) (b : State) → IsThere h load load.found k → Contains (load_fault load k ∷ load_answers h v load k) (r, b) → Step h v (loading load k) (event.Step actor.Core) r b
+pub by_core : (h : Hardware) (v : disk.DiskImage) (load : Load) (k : ℕ) (r : Reply) (b : State) → IsThere h load load.found k → Contains (load_fault load k ∷ load_answers h v load k) (r, b) → Step h v (loading load k) (event.Step actor.Core) r b
 unfolding outcomes refusal
 by_core h v load k r b there in' =
     subst (λ (xs : List Outcome). Contains xs (r, b)) (sym (cond-true (ltb k 4 || has_place h load load.found k) (load_fault load k ∷ load_answers h v load k) [] there)) in'
@@ -38,14 +38,14 @@ or_true false b e = e
 pub there_own : (h : Hardware) (load : Load) (i : Image) (k : ℕ) → k < resume_steps i → IsThere h load (found_own i) k
 there_own h load i k lt = or_true (ltb k 4) (ltb k (resume_steps i)) (lt-ltb k (resume_steps i) lt)
 
-pub there_other : (h : Hardware) (load : Load) (v : disk.Image) (k : ℕ) (r : Reply) → slice_get (trace h load.dump v load.loader load.check) k ≡ Some r → IsThere h load (found_other v) k
+pub there_other : (h : Hardware) (load : Load) (v : disk.DiskImage) (k : ℕ) (r : Reply) → slice_get (trace h load.dump v load.loader load.check) k ≡ Some r → IsThere h load (found_other v) k
 there_other h load v k r says =
     let replies = trace h load.dump v load.loader load.check in
     or_true (ltb k 4) (ltb k (length replies)) (lt-ltb k (length replies) (slice_get_within replies k r says))
 
 -- The device call fails.
 
-pub fault_step : (h : Hardware) (v : disk.Image) (load : Load) (k : ℕ) (r : Reply) (b : State) → IsThere h load load.found k → load_fault load k ≡ (r, b) → Step h v (loading load k) (event.Step actor.Core) r b
+pub fault_step : (h : Hardware) (v : disk.DiskImage) (load : Load) (k : ℕ) (r : Reply) (b : State) → IsThere h load load.found k → load_fault load k ≡ (r, b) → Step h v (loading load k) (event.Step actor.Core) r b
 fault_step h v load k r b there e = by_core h v load k r b there (0, omega arith, e)
 
 pub late_fault : (load : Load) (k : ℕ) → 4 ≤ k → load_fault load k ≡ (reply.ReadFault Gone, off nothing None)
@@ -62,7 +62,7 @@ late_fault load k le =
 in_tail : {A : Type 0} (x : A) (xs : List A) (y : A) → Contains xs y → Contains (x ∷ xs) y
 in_tail x xs y (k, lt, e) = (suc k, omega arith, e)
 
-found_step : (h : Hardware) (v : disk.Image) (load : Load) (k : ℕ) (r : Reply) (b : State) → IsThere h load load.found k → 2 ≤ k → Contains (loaded_step h load load.found k) (r, b) → Step h v (loading load k) (event.Step actor.Core) r b
+found_step : (h : Hardware) (v : disk.DiskImage) (load : Load) (k : ℕ) (r : Reply) (b : State) → IsThere h load load.found k → 2 ≤ k → Contains (loaded_step h load load.found k) (r, b) → Step h v (loading load k) (event.Step actor.Core) r b
 found_step h v load k r b there le in' =
     let first = cond-false (eqb k 0) (only (reply.Loading 1) (loading load 1)) (cond (eqb k 1) (find_step h v load load.held) (loaded_step h load load.found k)) (ne_eqb k 0 (λ e. omega arith)) in
     let second = cond-false (eqb k 1) (find_step h v load load.held) (loaded_step h load load.found k) (ne_eqb k 1 (λ e. omega arith)) in
@@ -71,7 +71,7 @@ found_step h v load k r b there le in' =
 
 -- An own image.
 
-pub own_goes : (h : Hardware) (v : disk.Image) (load : Load) (i : Image) (k : ℕ) (r : Reply) (b : State) → k < resume_steps i → 2 ≤ k → own_step h (with_found load i) i k ≡ (r, b) → Step h v (loading (with_found load i) k) (event.Step actor.Core) r b
+pub own_goes : (h : Hardware) (v : disk.DiskImage) (load : Load) (i : Image) (k : ℕ) (r : Reply) (b : State) → k < resume_steps i → 2 ≤ k → own_step h (with_found load i) i k ≡ (r, b) → Step h v (loading (with_found load i) k) (event.Step actor.Core) r b
 own_goes h v load i k r b lt le e = found_step h v (with_found load i) k r b (there_own h (with_found load i) i k lt) le (0, omega arith, e)
 
 which : {A : Type 0} (b c : Bool) (x y z : A) → (cond b x (cond c y z) ≡ x) ⊎ ((cond b x (cond c y z) ≡ y) ⊎ (cond b x (cond c y z) ≡ z))
@@ -88,19 +88,19 @@ own_outcome h load i k =
 
 -- Another's image.
 
-abbrev outcomes_of : Hardware → Load → disk.Image → ℕ → Option Reply → List Outcome
+abbrev outcomes_of : Hardware → Load → disk.DiskImage → ℕ → Option Reply → List Outcome
 outcomes_of h load v k o = elim o as (λ x. List Outcome) [ None ↦ [] | Some r ↦ only r (other_state h load v k r) ]
 
-traced : (h : Hardware) (load : Load) (v : disk.Image) (k : ℕ) (r : Reply) (b : State) → slice_get (trace h load.dump v load.loader load.check) k ≡ Some r → other_state h load v k r ≡ b → Contains (other_step h load v k) (r, b)
+traced : (h : Hardware) (load : Load) (v : disk.DiskImage) (k : ℕ) (r : Reply) (b : State) → slice_get (trace h load.dump v load.loader load.check) k ≡ Some r → other_state h load v k r ≡ b → Contains (other_step h load v k) (r, b)
 traced h load v k r b says state =
     subst (λ (o : Option Reply). Contains (outcomes_of h load v k o) (r, b)) (sym says) (0, omega arith, ap (λ (x : State). (r, x)) state)
 
-pub other_goes : (h : Hardware) (w v : disk.Image) (load : Load) (k : ℕ) (r : Reply) (b : State) → 2 ≤ k → slice_get (trace h load.dump v load.loader load.check) k ≡ Some r → other_state h (with_found_other load v) v k r ≡ b →
+pub other_goes : (h : Hardware) (w v : disk.DiskImage) (load : Load) (k : ℕ) (r : Reply) (b : State) → 2 ≤ k → slice_get (trace h load.dump v load.loader load.check) k ≡ Some r → other_state h (with_found_other load v) v k r ≡ b →
     Step h w (loading (with_found_other load v) k) (event.Step actor.Core) r b
 other_goes h w v load k r b le says state = found_step h w (with_found_other load v) k r b (there_other h (with_found_other load v) v k r says) le (traced h (with_found_other load v) v k r b says state)
 
 -- what stops it turns the machine off
-pub stopped_off : (h : Hardware) (load : Load) (v : disk.Image) (k : ℕ) (r : Reply) → is_no_stop r ≡ false → other_state h load v k r ≡ off nothing None
+pub stopped_off : (h : Hardware) (load : Load) (v : disk.DiskImage) (k : ℕ) (r : Reply) → is_no_stop r ≡ false → other_state h load v k r ≡ off nothing None
 stopped_off h load v k (reply.Loading j) e = absurd (false≢true (sym e))
 stopped_off h load v k (reply.Resumed n) e = absurd (false≢true (sym e))
 stopped_off h load v k (reply.Compressed flags) e = absurd (false≢true (sym e))
@@ -108,13 +108,13 @@ stopped_off h load v k r e = refl
 
 -- The second step.
 
-pub find_goes : (h : Hardware) (v : disk.Image) (load : Load) (held : Held) (r : Reply) (b : State) → load.held ≡ held → Contains (find_step h v load held) (r, b) → Step h v (loading load 1) (event.Step actor.Core) r b
+pub find_goes : (h : Hardware) (v : disk.DiskImage) (load : Load) (held : Held) (r : Reply) (b : State) → load.held ≡ held → Contains (find_step h v load held) (r, b) → Step h v (loading load 1) (event.Step actor.Core) r b
 find_goes h v load held r b is in' =
     by_core h v load 1 r b refl
     (in_tail (load_fault load 1) (find_step h v load load.held) (r, b) (subst (λ (x : Held). Contains (find_step h v load x) (r, b)) (sym is) in'))
 
 -- another's image: what the trace says of the header
-pub finds_traced : (h : Hardware) (v : disk.Image) (load : Load) (r : Reply) (b : State) → unwrap_or (header_cause h v) (reply.Loading 2) ≡ r → other_state h (with_found_other load v) v 1 r ≡ b → Contains (other_step h (with_found_other load v) v 1) (r, b)
+pub finds_traced : (h : Hardware) (v : disk.DiskImage) (load : Load) (r : Reply) (b : State) → unwrap_or (header_cause h v) (reply.Loading 2) ≡ r → other_state h (with_found_other load v) v 1 r ≡ b → Contains (other_step h (with_found_other load v) v 1) (r, b)
 finds_traced h v load r b says state = traced h (with_found_other load v) v 1 r b (traces_at h load.dump v load.loader load.check 1 (omega arith) (λ j lt. at_first j lt) ∙ ap Some says) state where
   at_first : (j : ℕ) → j < 1 → reply_at h load.dump v load.loader load.check j ≡ reply.Loading (j + 1)
   at_first zero lt = refl

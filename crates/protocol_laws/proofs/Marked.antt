@@ -21,7 +21,7 @@ use Rattle.image_laws.specs.ImageBlocks.{Tries}
 use Rattle.image_laws.proofs.Images.{earlier_image}
 use Rattle.image_write.proofs.Done.{all_done}
 use Rattle.plain_machine.proofs.DiskBlocks.{block-written}
-use Rattle.protocol_laws.specs.Steps.{IsOver, ShowsCopies, marked_header}
+use Rattle.protocol_laws.specs.Steps.{IsOverDisk, ShowsCopies, marked_header}
 use Rattle.protocol_laws.proofs.Same.{reads_kept}
 use Rattle.protocol_laws.proofs.Places.{task_not_header}
 use Rattle.protocol_laws.proofs.Areas.{agree_on_area, area_kind_same, sig_same}
@@ -29,7 +29,7 @@ use Rattle.protocol_laws.proofs.Back.{own_task_slots, ReadsSlots, slots_read, he
 use Rattle.protocol_laws.proofs.Marking.{IsReady, HasPage, is_kept, the_mark, mark_torn, marked_holds, marked_reads, header_on_disk, image_blocks, header_of_marked, area_block-unmarked, area_block-marked}
 
 -- Each image is the one of before, or has the mark.
-pub data Torn (h : Hardware) (c : disk.Content) (page : List ℕ) (v : disk.Image) : Type 0 where
+pub data Torn (h : Hardware) (c : disk.Content) (page : List ℕ) (v : disk.DiskImage) : Type 0 where
   as_before : disk.IsImage c v → Torn h c page v
   with_mark : HasPage h c page v → Torn h c page v
 
@@ -38,7 +38,7 @@ pub record IsTried (h : Hardware) (shown : Shown) (c c' : disk.Content) (blocks 
   pub after : disk.IsContent blocks c'
   pub tries : Tries (block_of_slot h 0) (marked_header h a i shown.header) c c'
 
-torn : (h : Hardware) (shown : Shown) (c c' : disk.Content) (blocks : ℕ) (suspends : Bool) (i : Image) (a : Running) (k : ℕ) (v : disk.Image) → IsTried h shown c c' blocks suspends i a k → disk.IsImage c' v → Torn h c (marked_header h a i shown.header) v
+torn : (h : Hardware) (shown : Shown) (c c' : disk.Content) (blocks : ℕ) (suspends : Bool) (i : Image) (a : Running) (k : ℕ) (v : disk.DiskImage) → IsTried h shown c c' blocks suspends i a k → disk.IsImage c' v → Torn h c (marked_header h a i shown.header) v
 torn h shown c c' blocks suspends i a k v is in' =
     elim (mark_torn h shown c c' blocks suspends i a k v is.ready is.tries in') [
       | inl was ↦ as_before was
@@ -46,7 +46,7 @@ torn h shown c c' blocks suspends i a k v is in' =
     ]
 
 -- what the header block says of the area
-pub record SaysArea (h : Hardware) (header : List ℕ) (v : disk.Image) : Type 0 where
+pub record SaysArea (h : Hardware) (header : List ℕ) (v : disk.DiskImage) : Type 0 where
   pub agrees : AgreeOnArea (area_block h v) header
   pub unmarked : IsMarked (area_block h v) → ⊥
   pub kind : area_kind (area_block h v) ≡ area_kind header
@@ -54,14 +54,14 @@ pub record SaysArea (h : Hardware) (header : List ℕ) (v : disk.Image) : Type 0
 back_unmarked : (page header : List ℕ) → AgreeBut 4056 4086 (taken_back page) header → (IsMarked header → ⊥) → IsMarked (taken_back page) → ⊥
 back_unmarked page header agree unmarked m = unmarked (sym (sig_same (taken_back page) header agree) ∙ m)
 
-says_area_by : (h : Hardware) (header page : List ℕ) (v : disk.Image) → area_block h v ≡ page → AgreeOnArea page header → (IsMarked page → ⊥) → area_kind page ≡ area_kind header → SaysArea h header v
+says_area_by : (h : Hardware) (header page : List ℕ) (v : disk.DiskImage) → area_block h v ≡ page → AgreeOnArea page header → (IsMarked page → ⊥) → area_kind page ≡ area_kind header → SaysArea h header v
 says_area_by h header page v e agrees unmarked kind = record {
   agrees = subst (λ (p : List ℕ). AgreeOnArea p header) (sym e) agrees;
   unmarked = λ m. unmarked (subst IsMarked e m);
   kind = ap area_kind e ∙ kind;
 }
 
-says_area : (h : Hardware) (shown : Shown) (c c' : disk.Content) (blocks : ℕ) (suspends : Bool) (i : Image) (a : Running) (k : ℕ) (v : disk.Image) → IsTried h shown c c' blocks suspends i a k → Torn h c (marked_header h a i shown.header) v → SaysArea h shown.header v
+says_area : (h : Hardware) (shown : Shown) (c c' : disk.Content) (blocks : ℕ) (suspends : Bool) (i : Image) (a : Running) (k : ℕ) (v : disk.DiskImage) → IsTried h shown c c' blocks suspends i a k → Torn h c (marked_header h a i shown.header) v → SaysArea h shown.header v
 says_area h shown c c' blocks suspends i a k v is (as_before was) =
     let kept = is_kept h shown c blocks suspends i a k is.ready in
     let last = is.ready.last in
@@ -82,7 +82,7 @@ says_area h shown c c' blocks suspends i a k v is (with_mark has) =
 pub agree_both : (p q r : List ℕ) → AgreeOnArea p r → AgreeOnArea q r → AgreeOnArea p q
 agree_both p q r a b = record { front = a.front ∙ sym b.front; signature = a.signature ∙ sym b.signature }
 
-each_says : (h : Hardware) (shown : Shown) (c c' : disk.Content) (blocks : ℕ) (suspends : Bool) (i : Image) (a : Running) (k : ℕ) (v : disk.Image) → IsTried h shown c c' blocks suspends i a k → disk.IsImage c' v → SaysArea h shown.header v
+each_says : (h : Hardware) (shown : Shown) (c c' : disk.Content) (blocks : ℕ) (suspends : Bool) (i : Image) (a : Running) (k : ℕ) (v : disk.DiskImage) → IsTried h shown c c' blocks suspends i a k → disk.IsImage c' v → SaysArea h shown.header v
 each_says h shown c c' blocks suspends i a k v is in' = says_area h shown c c' blocks suspends i a k v is (torn h shown c c' blocks suspends i a k v is in')
 
 -- An own image.
@@ -90,7 +90,7 @@ each_says h shown c c' blocks suspends i a k v is in' = says_area h shown c c' b
 pub slots_are : (h : Hardware) (a : Running) (i : Image) → i ≡ image_of_memory h a.memory a.slots i.format → i.slots ≡ a.slots
 slots_are h a i is = ap (λ (x : Image). x.slots) is
 
-pub is_own : (h : Hardware) (shown : Shown) (c : disk.Content) (suspends : Bool) (i : Image) (a : Running) (k : ℕ) (v : disk.Image) → Stands h shown c (hibernating suspends i a k) → FitsArea h v a.memory →
+pub is_own : (h : Hardware) (shown : Shown) (c : disk.Content) (suspends : Bool) (i : Image) (a : Running) (k : ℕ) (v : disk.DiskImage) → Stands h shown c (hibernating suspends i a k) → FitsArea h v a.memory →
     (Marked h v → (bit_and (flags_of (header_of h v)) 8 ≡ 0) ⊎ (hw_sig_of (header_of h v) ≡ h.hw_sig)) → IsOwn h v i
 is_own h shown c suspends i a k v stands area signature =
     let slots = slots_are h a i stands.parts.1.image in
@@ -107,12 +107,12 @@ is_own h shown c suspends i a k v stands area signature =
       signature = signature;
     }
 
-area_by_kind : (h : Hardware) (v w : disk.Image) → blocks_of v ≡ blocks_of w → area_kind (area_block h v) ≡ area_kind (area_block h w) → area_fault h v ≡ area_fault h w
+area_by_kind : (h : Hardware) (v w : disk.DiskImage) → blocks_of v ≡ blocks_of w → area_kind (area_block h v) ≡ area_kind (area_block h w) → area_fault h v ≡ area_fault h w
 unfolding area_fault
 area_by_kind h v w blocks kind = ap₂ (λ (n : ℕ) (x : AreaKind). kind_or_fit_fault h n x) blocks kind
 
 -- the area is the one that the running state has
-area_torn : (h : Hardware) (shown : Shown) (c c' : disk.Content) (blocks : ℕ) (suspends : Bool) (i : Image) (a : Running) (k : ℕ) (v : disk.Image) → IsTried h shown c c' blocks suspends i a k → disk.IsImage c' v → FitsArea h v a.memory
+area_torn : (h : Hardware) (shown : Shown) (c c' : disk.Content) (blocks : ℕ) (suspends : Bool) (i : Image) (a : Running) (k : ℕ) (v : disk.DiskImage) → IsTried h shown c c' blocks suspends i a k → disk.IsImage c' v → FitsArea h v a.memory
 area_torn h shown c c' blocks suspends i a k v is in' =
     let stands = is.ready.stands in
     let usable = fits_area h c a stands.parts.0.area stands.parts.1.usable in
@@ -128,7 +128,7 @@ area_torn h shown c c' blocks suspends i a k v is in' =
       bad_slots = ap (bad_set_fault h a.memory) kind ∙ usable.bad_slots;
     }
 
-held_torn : (h : Hardware) (shown : Shown) (c c' : disk.Content) (blocks : ℕ) (suspends : Bool) (i : Image) (a : Running) (k : ℕ) (v : disk.Image) → IsTried h shown c c' blocks suspends i a k → FitsArea h v a.memory → Torn h c (marked_header h a i shown.header) v → ((Marked h v → ⊥) ⊎ Holds h v i) × IsOwn h v i
+held_torn : (h : Hardware) (shown : Shown) (c c' : disk.Content) (blocks : ℕ) (suspends : Bool) (i : Image) (a : Running) (k : ℕ) (v : disk.DiskImage) → IsTried h shown c c' blocks suspends i a k → FitsArea h v a.memory → Torn h c (marked_header h a i shown.header) v → ((Marked h v → ⊥) ⊎ Holds h v i) × IsOwn h v i
 held_torn h shown c c' blocks suspends i a k v is area (as_before was) =
     let stands = is.ready.stands in
     let last = is.ready.last in
@@ -187,16 +187,16 @@ keeps_mark h shown shown' c c' blocks suspends i a k is header =
 
 -- Every image has what was laid.
 
-written_torn : (h : Hardware) (shown : Shown) (c c' : disk.Content) (blocks : ℕ) (suspends : Bool) (i : Image) (a : Running) (k : ℕ) (v : disk.Image) → IsTried h shown c c' blocks suspends i a k → Torn h c (marked_header h a i shown.header) v → All (Reads v) (laid_writes h a i)
+written_torn : (h : Hardware) (shown : Shown) (c c' : disk.Content) (blocks : ℕ) (suspends : Bool) (i : Image) (a : Running) (k : ℕ) (v : disk.DiskImage) → IsTried h shown c c' blocks suspends i a k → Torn h c (marked_header h a i shown.header) v → All (Reads v) (laid_writes h a i)
 written_torn h shown c c' blocks suspends i a k v is (as_before was) = let last = is.ready.last in (is.ready.stands.parts.3.durable (omega arith)).blocks v was
 written_torn h shown c c' blocks suspends i a k v is (with_mark has) =
     all_done h.extents (unused_slots h a.memory) (stream_of i) v (marked_reads h shown c blocks suspends i a k (marked_header h a i shown.header) v is.ready has)
 
-slots_torn : (h : Hardware) (shown : Shown) (c c' : disk.Content) (blocks : ℕ) (suspends : Bool) (i : Image) (a : Running) (k : ℕ) (v : disk.Image) (s : ℕ) (page : List ℕ) → IsTried h shown c c' blocks suspends i a k → i.slots s ≡ Some page → Torn h c (marked_header h a i shown.header) v → disk.block v (block_of_slot h s) ≡ page
+slots_torn : (h : Hardware) (shown : Shown) (c c' : disk.Content) (blocks : ℕ) (suspends : Bool) (i : Image) (a : Running) (k : ℕ) (v : disk.DiskImage) (s : ℕ) (page : List ℕ) → IsTried h shown c c' blocks suspends i a k → i.slots s ≡ Some page → Torn h c (marked_header h a i shown.header) v → disk.block v (block_of_slot h s) ≡ page
 slots_torn h shown c c' blocks suspends i a k v s page is e (as_before was) = let last = is.ready.last in (is.ready.stands.parts.3.durable (omega arith)).slots s page e v was
 slots_torn h shown c c' blocks suspends i a k v s page is e (with_mark has) = (marked_holds h shown c blocks suspends i a k v is.ready has).slots s page e
 
-says_torn : (h : Hardware) (shown : Shown) (c c' : disk.Content) (blocks : ℕ) (suspends : Bool) (i : Image) (a : Running) (k : ℕ) (v : disk.Image) → IsTried h shown c c' blocks suspends i a k → Torn h c (marked_header h a i shown.header) v → Marked h v → HasMark h i.format (first_map_block h a) (header_of h v)
+says_torn : (h : Hardware) (shown : Shown) (c c' : disk.Content) (blocks : ℕ) (suspends : Bool) (i : Image) (a : Running) (k : ℕ) (v : disk.DiskImage) → IsTried h shown c c' blocks suspends i a k → Torn h c (marked_header h a i shown.header) v → Marked h v → HasMark h i.format (first_map_block h a) (header_of h v)
 says_torn h shown c c' blocks suspends i a k v is (as_before was) marked = let last = is.ready.last in absurd (unheld h shown c suspends i a k (omega arith) is.ready.stands v was marked)
 says_torn h shown c c' blocks suspends i a k v is (with_mark has) marked =
     let lt = header_on_disk h shown c blocks suspends i a k is.ready.over is.ready.stands in
@@ -210,7 +210,7 @@ has_laid h shown c c' blocks suspends i a k is = record {
 }
 
 -- a mark that fails begins an undo
-pub mark_fails : (h : Hardware) (shown shown' : Shown) (c c' : disk.Content) (blocks : ℕ) (suspends : Bool) (i : Image) (a : Running) (k : ℕ) → IsOver h i blocks c → disk.IsContent blocks c' → Stands h shown c (hibernating suspends i a k) → k + 2 ≡ hibernate_steps i →
+pub mark_fails : (h : Hardware) (shown shown' : Shown) (c c' : disk.Content) (blocks : ℕ) (suspends : Bool) (i : Image) (a : Running) (k : ℕ) → IsOverDisk h i blocks c → disk.IsContent blocks c' → Stands h shown c (hibernating suspends i a k) → k + 2 ≡ hibernate_steps i →
     disk.FailsToWrite (block_of_slot h 0) (marked_header h a i shown.header) c c' → shown'.header ≡ marked_header h a i shown.header → shown'.activity ≡ undoes undo.Write 0 → ShowsCopies h shown' a i → Stands h shown' c' (undoing i undo.Write a 0)
 mark_fails h shown shown' c c' blocks suspends i a k over after stands last tries header activity shows =
     let is : IsTried h shown c c' blocks suspends i a k = record { ready = record { over = over; stands = stands; last = last }; after = after; tries = inr tries } in
@@ -227,7 +227,7 @@ mark_fails h shown shown' c c' blocks suspends i a k over after stands last trie
     }
 
 -- one that is made is a step of the hibernation
-pub marks_on : (h : Hardware) (shown shown' : Shown) (c c' : disk.Content) (blocks : ℕ) (suspends : Bool) (i : Image) (a : Running) (k : ℕ) → IsOver h i blocks c → disk.IsContent blocks c' → Stands h shown c (hibernating suspends i a k) → k + 2 ≡ hibernate_steps i →
+pub marks_on : (h : Hardware) (shown shown' : Shown) (c c' : disk.Content) (blocks : ℕ) (suspends : Bool) (i : Image) (a : Running) (k : ℕ) → IsOverDisk h i blocks c → disk.IsContent blocks c' → Stands h shown c (hibernating suspends i a k) → k + 2 ≡ hibernate_steps i →
     disk.Writes (block_of_slot h 0) (marked_header h a i shown.header) c c' → shown'.header ≡ marked_header h a i shown.header → shown'.activity ≡ hibernates suspends (k + 1) → ShowsCopies h shown' a i → Stands h shown' c' (hibernating suspends i a (k + 1))
 marks_on h shown shown' c c' blocks suspends i a k over after stands last writes header activity shows =
     let is : IsTried h shown c c' blocks suspends i a k = record { ready = record { over = over; stands = stands; last = last }; after = after; tries = inl writes } in

@@ -29,7 +29,7 @@ use Rattle.image_laws.proofs.ImageBlocks.{marked_within, long}
 use Rattle.image_laws.proofs.Images.{SameBut, torn_image}
 use Rattle.image_write.proofs.Done.{write_at}
 use Rattle.image_write.proofs.Heads.{length-concat}
-use Rattle.protocol_laws.specs.Steps.{IsOver, marked_header}
+use Rattle.protocol_laws.specs.Steps.{IsOverDisk, marked_header}
 use Rattle.protocol_laws.proofs.Places.{IsUsable, usable_area, free_place, free_not_0, free_not_header, free_not_used, task_not_header}
 use Rattle.protocol_laws.proofs.Laid.{count_of, length-stream_of, slot_of_write, done_of_take}
 use Rattle.protocol_laws.proofs.Areas.{last_of_swap}
@@ -66,36 +66,36 @@ unsigned f hw e = ap (λ (b : Bool). bit_and (cond b (mark_flags f) (bit_or (mar
 -- Before the mark.
 
 pub record IsReady (h : Hardware) (shown : Shown) (c : disk.Content) (blocks : ℕ) (suspends : Bool) (i : Image) (a : Running) (k : ℕ) : Type 0 where
-  pub over : IsOver h i blocks c
+  pub over : IsOverDisk h i blocks c
   pub stands : Stands h shown c (hibernating suspends i a k)
   pub last : k + 2 ≡ hibernate_steps i
 
 -- what the disk reads
-abbrev now : disk.Content → disk.Image
+abbrev now : disk.Content → disk.DiskImage
 now c = disk.as_it_reads c
 
-blocks_now : (blocks : ℕ) (c : disk.Content) (v : disk.Image) → disk.IsContent blocks c → length v ≡ length c → blocks_of v ≡ blocks
+blocks_now : (blocks : ℕ) (c : disk.Content) (v : disk.DiskImage) → disk.IsContent blocks c → length v ≡ length c → blocks_of v ≡ blocks
 blocks_now blocks c v whole size = let all = whole.size in omega arith
 
-pub image_blocks : (blocks : ℕ) (c : disk.Content) (v : disk.Image) → disk.IsContent blocks c → disk.IsImage c v → blocks_of v ≡ blocks
+pub image_blocks : (blocks : ℕ) (c : disk.Content) (v : disk.DiskImage) → disk.IsContent blocks c → disk.IsImage c v → blocks_of v ≡ blocks
 image_blocks blocks c v whole is = blocks_now blocks c v whole is.size
 
 -- block(0) is one that the disk has
 is_usable : (h : Hardware) (shown : Shown) (c : disk.Content) (suspends : Bool) (i : Image) (a : Running) (k : ℕ) → Stands h shown c (hibernating suspends i a k) → IsUsable h (blocks_of (now c)) (area_block h (now c))
 is_usable h shown c suspends i a k stands = usable_area h (now c) (fits_area h c a stands.parts.0.area stands.parts.1.usable).area
 
-pub header_on_disk : (h : Hardware) (shown : Shown) (c : disk.Content) (blocks : ℕ) (suspends : Bool) (i : Image) (a : Running) (k : ℕ) → IsOver h i blocks c → Stands h shown c (hibernating suspends i a k) → block_of_slot h 0 < blocks
+pub header_on_disk : (h : Hardware) (shown : Shown) (c : disk.Content) (blocks : ℕ) (suspends : Bool) (i : Image) (a : Running) (k : ℕ) → IsOverDisk h i blocks c → Stands h shown c (hibernating suspends i a k) → block_of_slot h 0 < blocks
 header_on_disk h shown c blocks suspends i a k over stands =
     let some = over.hardware.some_slots in
     let on = (is_usable h shown c suspends i a k stands).on_disk 0 (omega arith) in
     let is = image_blocks blocks c (now c) over.content (IsImage-as_it_reads blocks c over.content) in
     omega arith
 
-pub header_is : (h : Hardware) (v : disk.Image) → block_of_slot h 0 < blocks_of v → header_of h v ≡ disk.block v (block_of_slot h 0)
+pub header_is : (h : Hardware) (v : disk.DiskImage) → block_of_slot h 0 < blocks_of v → header_of h v ≡ disk.block v (block_of_slot h 0)
 header_is h v lt = cond-true (ltb (block_of_slot h 0) (blocks_of v)) (disk.block v (block_of_slot h 0)) zero_page (lt-ltb (block_of_slot h 0) (blocks_of v) lt)
 
 -- a block has 4096 bytes
-pub length-block : (blocks : ℕ) (c : disk.Content) (v : disk.Image) (b : ℕ) → disk.IsContent blocks c → disk.IsImage c v → b < blocks → IsPage (disk.block v b)
+pub length-block : (blocks : ℕ) (c : disk.Content) (v : disk.DiskImage) (b : ℕ) → disk.IsContent blocks c → disk.IsImage c v → b < blocks → IsPage (disk.block v b)
 unfolding block
 length-block blocks c v b whole is lt =
     let all = whole.size in
@@ -153,10 +153,10 @@ area_of-marked page marked =
     cond-true (pointwise nat_eq (sig_of page) image_signature) (taken_back page) page
     (true_of (pointwise nat_eq (sig_of page) image_signature) (λ e. other_text (sig_of page) image_signature (sym e) marked))
 
-pub area_block-unmarked : (h : Hardware) (v : disk.Image) → (IsMarked (header_of h v) → ⊥) → area_block h v ≡ header_of h v
+pub area_block-unmarked : (h : Hardware) (v : disk.DiskImage) → (IsMarked (header_of h v) → ⊥) → area_block h v ≡ header_of h v
 area_block-unmarked h v unmarked = area_of-unmarked (header_of h v) unmarked
 
-pub area_block-marked : (h : Hardware) (v : disk.Image) → IsMarked (header_of h v) → area_block h v ≡ taken_back (header_of h v)
+pub area_block-marked : (h : Hardware) (v : disk.DiskImage) → IsMarked (header_of h v) → area_block h v ≡ taken_back (header_of h v)
 area_block-marked h v marked = area_of-marked (header_of h v) marked
 
 -- The marked page.
@@ -164,7 +164,7 @@ area_block-marked h v marked = area_of-marked (header_of h v) marked
 abbrev first_block : Hardware → Running → ℕ
 first_block h a = first_map_block h a
 
-first_fits : (h : Hardware) (shown : Shown) (c : disk.Content) (blocks : ℕ) (suspends : Bool) (i : Image) (a : Running) (k : ℕ) → IsOver h i blocks c → Stands h shown c (hibernating suspends i a k) → first_block h a < 2 ^ 64
+first_fits : (h : Hardware) (shown : Shown) (c : disk.Content) (blocks : ℕ) (suspends : Bool) (i : Image) (a : Running) (k : ℕ) → IsOverDisk h i blocks c → Stands h shown c (hibernating suspends i a k) → first_block h a < 2 ^ 64
 first_fits h shown c blocks suspends i a k over stands =
     let free = free_place h a.memory 0 (let room = stands.parts.1.room in omega arith) in
     let on = (is_usable h shown c suspends i a k stands).on_disk (get_or (unused_slots h a.memory) 0 0) free.within in
@@ -217,8 +217,8 @@ the_mark h shown c blocks suspends i a k ready =
 -- An image after the mark's write, failed or not.
 
 -- is one of before, or has the marked page, and all else as one of before
-pub mark_torn : (h : Hardware) (shown : Shown) (c c' : disk.Content) (blocks : ℕ) (suspends : Bool) (i : Image) (a : Running) (k : ℕ) (v : disk.Image) → IsReady h shown c blocks suspends i a k →
-    Tries (block_of_slot h 0) (marked_header h a i shown.header) c c' → disk.IsImage c' v → disk.IsImage c v ⊎ ((disk.block v (block_of_slot h 0) ≡ marked_header h a i shown.header) × ((w : disk.Image) × disk.IsImage c w × SameBut (block_of_slot h 0) v w))
+pub mark_torn : (h : Hardware) (shown : Shown) (c c' : disk.Content) (blocks : ℕ) (suspends : Bool) (i : Image) (a : Running) (k : ℕ) (v : disk.DiskImage) → IsReady h shown c blocks suspends i a k →
+    Tries (block_of_slot h 0) (marked_header h a i shown.header) c c' → disk.IsImage c' v → disk.IsImage c v ⊎ ((disk.block v (block_of_slot h 0) ≡ marked_header h a i shown.header) × ((w : disk.DiskImage) × disk.IsImage c w × SameBut (block_of_slot h 0) v w))
 mark_torn h shown c c' blocks suspends i a k v ready tries is =
     let kept = is_kept h shown c blocks suspends i a k ready in
     let mark = the_mark h shown c blocks suspends i a k ready in
@@ -227,23 +227,23 @@ mark_torn h shown c c' blocks suspends i a k v ready tries is =
     let one = (ready.stands.parts.5 (omega arith)).0 in
     let here = IsImage-as_it_reads blocks c ready.over.content in
     torn_image blocks (block_of_slot h 0) (marked_header h a i shown.header) c c' v ready.over.content lt mark.whole tries
-    (λ w in_w. subst (λ (page : List ℕ). AgreeBut 3584 4096 page (marked_header h a i shown.header)) (sym kept.block ∙ ap (λ (u : disk.Image). disk.block u (block_of_slot h 0)) (one (now c) w here in_w)) mark.within) is
+    (λ w in_w. subst (λ (page : List ℕ). AgreeBut 3584 4096 page (marked_header h a i shown.header)) (sym kept.block ∙ ap (λ (u : disk.DiskImage). disk.block u (block_of_slot h 0)) (one (now c) w here in_w)) mark.within) is
 
 -- One with the marked page: what it has is the image.
-pub record HasPage (h : Hardware) (c : disk.Content) (page : List ℕ) (v : disk.Image) : Type 0 where
+pub record HasPage (h : Hardware) (c : disk.Content) (page : List ℕ) (v : disk.DiskImage) : Type 0 where
   pub here : disk.block v (block_of_slot h 0) ≡ page
-  pub from : disk.Image
+  pub from : disk.DiskImage
   pub was : disk.IsImage c from
   pub same : SameBut (block_of_slot h 0) v from
 
-blocks_of_marked : (h : Hardware) (c : disk.Content) (blocks : ℕ) (page : List ℕ) (v : disk.Image) → disk.IsContent blocks c → HasPage h c page v → blocks_of v ≡ blocks
+blocks_of_marked : (h : Hardware) (c : disk.Content) (blocks : ℕ) (page : List ℕ) (v : disk.DiskImage) → disk.IsContent blocks c → HasPage h c page v → blocks_of v ≡ blocks
 blocks_of_marked h c blocks page v whole has = let size = has.same.size in let is = has.was.size in blocks_now blocks c v whole (omega arith)
 
-pub header_of_marked : (h : Hardware) (c : disk.Content) (blocks : ℕ) (page : List ℕ) (v : disk.Image) → disk.IsContent blocks c → block_of_slot h 0 < blocks → HasPage h c page v → header_of h v ≡ page
+pub header_of_marked : (h : Hardware) (c : disk.Content) (blocks : ℕ) (page : List ℕ) (v : disk.DiskImage) → disk.IsContent blocks c → block_of_slot h 0 < blocks → HasPage h c page v → header_of h v ≡ page
 header_of_marked h c blocks page v whole lt has = header_is h v (let n = blocks_of_marked h c blocks page v whole has in omega arith) ∙ has.here
 
 -- it reads as laid
-pub marked_reads : (h : Hardware) (shown : Shown) (c : disk.Content) (blocks : ℕ) (suspends : Bool) (i : Image) (a : Running) (k : ℕ) (page : List ℕ) (v : disk.Image) → IsReady h shown c blocks suspends i a k → HasPage h c page v → ReadsLaid h (unused_slots h a.memory) (stream_of i) v
+pub marked_reads : (h : Hardware) (shown : Shown) (c : disk.Content) (blocks : ℕ) (suspends : Bool) (i : Image) (a : Running) (k : ℕ) (page : List ℕ) (v : disk.DiskImage) → IsReady h shown c blocks suspends i a k → HasPage h c page v → ReadsLaid h (unused_slots h a.memory) (stream_of i) v
 marked_reads h shown c blocks suspends i a k page v ready has j lt =
     let stands = ready.stands in
     let last = ready.last in
@@ -266,7 +266,7 @@ last_of_header h shown c blocks suspends i a k ready =
     let slots = usable.slots in
     omega arith
 
-marked_usable : (h : Hardware) (shown : Shown) (c : disk.Content) (blocks : ℕ) (suspends : Bool) (i : Image) (a : Running) (k : ℕ) (v : disk.Image) → IsReady h shown c blocks suspends i a k → HasPage h c (marked_header h a i shown.header) v → AreUsable h v (unused_slots h a.memory) (count_of i)
+marked_usable : (h : Hardware) (shown : Shown) (c : disk.Content) (blocks : ℕ) (suspends : Bool) (i : Image) (a : Running) (k : ℕ) (v : disk.DiskImage) → IsReady h shown c blocks suspends i a k → HasPage h c (marked_header h a i shown.header) v → AreUsable h v (unused_slots h a.memory) (count_of i)
 marked_usable h shown c blocks suspends i a k v ready has =
     let stands = ready.stands in
     let whole = ready.over.content in
@@ -298,7 +298,7 @@ marked_usable h shown c blocks suspends i a k v ready has =
     }
 
 -- it holds the image
-pub marked_holds : (h : Hardware) (shown : Shown) (c : disk.Content) (blocks : ℕ) (suspends : Bool) (i : Image) (a : Running) (k : ℕ) (v : disk.Image) → IsReady h shown c blocks suspends i a k → HasPage h c (marked_header h a i shown.header) v → Holds h v i
+pub marked_holds : (h : Hardware) (shown : Shown) (c : disk.Content) (blocks : ℕ) (suspends : Bool) (i : Image) (a : Running) (k : ℕ) (v : disk.DiskImage) → IsReady h shown c blocks suspends i a k → HasPage h c (marked_header h a i shown.header) v → Holds h v i
 marked_holds h shown c blocks suspends i a k v ready has =
     let stands = ready.stands in
     let whole = ready.over.content in

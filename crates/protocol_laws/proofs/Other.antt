@@ -19,9 +19,9 @@ use Rattle.protocol_laws.proofs.Finding.{own_isn't_other, itself}
 use Rattle.protocol_laws.proofs.HeaderBack.{IsBefore, is_before, still_header, each_taken_back, reads_unmarked}
 use Rattle.protocol_laws.proofs.TakingBack.{unmarked_synced, page_read}
 
-pub same_other : (v w : disk.Image) → found_other v ≡ found_other w → v ≡ w
+pub same_other : (v w : disk.DiskImage) → found_other v ≡ found_other w → v ≡ w
 same_other v w e = ap image_or e where
-  image_or : Found → disk.Image
+  image_or : Found → disk.DiskImage
   image_or not_yet = v
   image_or (found_own i) = v
   image_or (found_other u) = u
@@ -46,7 +46,7 @@ finds_other h shown shown' c blocks load whole stands held marked header shows =
           kept = shows.kept;
           read = shows.read;
           own = λ i e. absurd (own_isn't_other i v (sym e));
-          others = λ u e w in'. subst (λ (x : disk.Image). IsTakenBack h x w) (same_other v u e) (itself h v w (one w v in' here));
+          others = λ u e w in'. subst (λ (x : disk.DiskImage). IsTakenBack h x w) (same_other v u e) (itself h v w (one w v in' here));
           taken_back = λ le. absurd (omega arith);
         },
         (λ e. one),
@@ -64,7 +64,7 @@ stops_at_other h shown shown' c blocks load whole stands held marked activity ke
 
 -- The write of block(0) taken back.
 
-before_other : (h : Hardware) (shown : Shown) (c : disk.Content) (blocks : ℕ) (load : Load) (v : disk.Image) → disk.IsContent blocks c → Stands h shown c (loading (with_found_other load v) 2) → IsBefore h shown c blocks
+before_other : (h : Hardware) (shown : Shown) (c : disk.Content) (blocks : ℕ) (load : Load) (v : disk.DiskImage) → disk.IsContent blocks c → Stands h shown c (loading (with_found_other load v) 2) → IsBefore h shown c blocks
 before_other h shown c blocks load v whole stands =
     is_before h shown c blocks whole (stands.parts.2 (inr refl)) (stands.parts.3 refl) (stands.parts.0.0 (disk.as_it_reads c) (IsImage-as_it_reads blocks c whole)) stands.parts.0.1
 
@@ -117,7 +117,7 @@ back_twice page whole =
     ])
 
 -- so what is taken back from a disk that is v, or v taken back, is v or v taken back
-back_again : (h : Hardware) (v w u : disk.Image) → IsPage (header_of h w) → IsTakenBack h v w → IsTakenBack h w u → IsTakenBack h v u
+back_again : (h : Hardware) (v w u : disk.DiskImage) → IsPage (header_of h w) → IsTakenBack h v w → IsTakenBack h w u → IsTakenBack h v u
 back_again h v w u page first second =
     let size = first.size in
     record {
@@ -134,7 +134,7 @@ back_again h v w u page first second =
 
 -- Block(0) is written taken back.
 
-pub takes_other_back : (h : Hardware) (shown shown' : Shown) (c c' : disk.Content) (blocks : ℕ) (load : Load) (v : disk.Image) → IsHardware h → disk.IsContent blocks c → disk.IsContent blocks c' → Stands h shown c (loading (with_found_other load v) 2) →
+pub takes_other_back : (h : Hardware) (shown shown' : Shown) (c c' : disk.Content) (blocks : ℕ) (load : Load) (v : disk.DiskImage) → IsHardware h → disk.IsContent blocks c → disk.IsContent blocks c' → Stands h shown c (loading (with_found_other load v) 2) →
     disk.Writes (block_of_slot h 0) (taken_back shown.header) c c' → ShowsLoad h shown' (with_found_other load v) 3 → Stands h shown' c' (loading (with_found_other load v) 3)
 takes_other_back h shown shown' c c' blocks load v hw whole after stands writes shows =
     let before = before_other h shown c blocks load v whole stands in
@@ -149,7 +149,7 @@ takes_other_back h shown shown' c c' blocks load v hw whole after stands writes 
           kept = shows.kept;
           read = shows.read;
           own = λ i e. absurd (own_isn't_other i v (sym e));
-          others = λ x e u in'. subst (λ (y : disk.Image). IsTakenBack h y u) (same_other v x e) (back_again h v w u page found (each_taken_back h shown c c' blocks u before (inl writes) in'));
+          others = λ x e u in'. subst (λ (y : disk.DiskImage). IsTakenBack h y u) (same_other v x e) (back_again h v w u page found (each_taken_back h shown c c' blocks u before (inl writes) in'));
           taken_back = λ le. absurd (omega arith);
         },
         (λ e. elim e [ inl one ↦ absurd (omega arith) | inr two ↦ absurd (omega arith) ]),
@@ -158,7 +158,7 @@ takes_other_back h shown shown' c c' blocks load v hw whole after stands writes 
       );
     }
 
-pub take_other_back_fails : (h : Hardware) (shown shown' : Shown) (c c' : disk.Content) (blocks : ℕ) (load : Load) (v : disk.Image) → IsHardware h → disk.IsContent blocks c → disk.IsContent blocks c' → Stands h shown c (loading (with_found_other load v) 2) →
+pub take_other_back_fails : (h : Hardware) (shown shown' : Shown) (c c' : disk.Content) (blocks : ℕ) (load : Load) (v : disk.DiskImage) → IsHardware h → disk.IsContent blocks c → disk.IsContent blocks c' → Stands h shown c (loading (with_found_other load v) 2) →
     disk.FailsToWrite (block_of_slot h 0) (taken_back shown.header) c c' → shown'.activity ≡ rests → shown'.keeps_dump ≡ false → Stands h shown' c' (off (maybe other) None)
 take_other_back_fails h shown shown' c c' blocks load v hw whole after stands fails activity kept = record {
   activity = activity;
@@ -167,11 +167,11 @@ take_other_back_fails h shown shown' c c' blocks load v hw whole after stands fa
 
 -- The sync behind it.
 
-pub back_syncs_other : (h : Hardware) (shown shown' : Shown) (c c' : disk.Content) (blocks : ℕ) (load : Load) (v : disk.Image) → disk.IsContent blocks c → Stands h shown c (loading (with_found_other load v) 3) → disk.Syncs c c' → ShowsLoad h shown' (with_found_other load v) 4 → Stands h shown' c' (loading (with_found_other load v) 4)
+pub back_syncs_other : (h : Hardware) (shown shown' : Shown) (c c' : disk.Content) (blocks : ℕ) (load : Load) (v : disk.DiskImage) → disk.IsContent blocks c → Stands h shown c (loading (with_found_other load v) 3) → disk.Syncs c c' → ShowsLoad h shown' (with_found_other load v) 4 → Stands h shown' c' (loading (with_found_other load v) 4)
 back_syncs_other h shown shown' c c' blocks load v = unmarked_synced h shown shown' c c' blocks (with_found_other load v)
 
-pub back_sync_other_fails : (h : Hardware) (shown shown' : Shown) (c : disk.Content) (load : Load) (v : disk.Image) → Stands h shown c (loading (with_found_other load v) 3) → shown'.activity ≡ rests → shown'.keeps_dump ≡ false → Stands h shown' c (off (maybe other) None)
+pub back_sync_other_fails : (h : Hardware) (shown shown' : Shown) (c : disk.Content) (load : Load) (v : disk.DiskImage) → Stands h shown c (loading (with_found_other load v) 3) → shown'.activity ≡ rests → shown'.keeps_dump ≡ false → Stands h shown' c (off (maybe other) None)
 back_sync_other_fails h shown shown' c load v stands activity kept = record { activity = activity; parts = (kept, stands.parts.0) }
 
-pub reads_page_other : (h : Hardware) (shown shown' : Shown) (c : disk.Content) (load : Load) (v : disk.Image) (k : ℕ) → 4 ≤ k → Stands h shown c (loading (with_found_other load v) k) → ShowsLoad h shown' (with_found_other load v) (k + 1) → Stands h shown' c (loading (with_found_other load v) (k + 1))
+pub reads_page_other : (h : Hardware) (shown shown' : Shown) (c : disk.Content) (load : Load) (v : disk.DiskImage) (k : ℕ) → 4 ≤ k → Stands h shown c (loading (with_found_other load v) k) → ShowsLoad h shown' (with_found_other load v) (k + 1) → Stands h shown' c (loading (with_found_other load v) (k + 1))
 reads_page_other h shown shown' c load v k = page_read h shown shown' c (with_found_other load v) k

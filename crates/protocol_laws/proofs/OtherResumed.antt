@@ -43,7 +43,7 @@ both_none : (o p : Option NoSwap) → first_fault o p ≡ None → (o ≡ None) 
 both_none None p e = (refl, e)
 both_none (Some why) p e = absurd (none-some why (sym e))
 
-area_fits : (h : Hardware) (v : disk.Image) (m : Memory) → tables_cause h v m ≡ None → FitsArea h v m
+area_fits : (h : Hardware) (v : disk.DiskImage) (m : Memory) → tables_cause h v m ≡ None → FitsArea h v m
 unfolding dump_area_fault
 area_fits h v m none =
     let area = none_of (dump_area_fault h v m) h.slot_table (second_none (tables_fault h m) (cond (is_none (dump_area_fault h v m)) None (Some h.slot_table))
@@ -59,7 +59,7 @@ all_three true true false e = absurd (false≢true e)
 all_three true false d e = absurd (false≢true e)
 all_three false c d e = absurd (false≢true e)
 
-pub has_page : (h : Hardware) (v : disk.Image) (m : Memory) (s : ℕ) (page : List ℕ) → slots_in h v m s ≡ Some page → ((s < h.slots) × (1 ≤ slot_entry h m s) × (slot_entry h m s ≤ 64)) × (disk.block v (block_of_slot h s) ≡ page)
+pub has_page : (h : Hardware) (v : disk.DiskImage) (m : Memory) (s : ℕ) (page : List ℕ) → slots_in h v m s ≡ Some page → ((s < h.slots) × (1 ≤ slot_entry h m s) × (slot_entry h m s ≤ 64)) × (disk.block v (block_of_slot h s) ≡ page)
 has_page h v m s page e =
     let entry = slot_entry h m s in
     let is = cond_some (ltb s h.slots && ltb 0 entry && leb entry 64) (disk.block v (block_of_slot h s)) page e in
@@ -68,7 +68,7 @@ has_page h v m s page e =
     ((ltb-true s h.slots each.0, omega arith, leb-true entry 64 each.2), is.1)
 
 -- and each task's slot has one
-pub is_paged : (h : Hardware) (v : disk.Image) (m : Memory) (s : ℕ) → IsTaskSlot h m s → IsSome (slots_in h v m s)
+pub is_paged : (h : Hardware) (v : disk.DiskImage) (m : Memory) (s : ℕ) → IsTaskSlot h m s → IsSome (slots_in h v m s)
 is_paged h v m s is =
     let entry = slot_entry h m s in
     let test : (ltb s h.slots && ltb 0 entry && leb entry 64) ≡ true =
@@ -76,7 +76,7 @@ is_paged h v m s is =
     let page : Option (List ℕ) = Some (disk.block v (block_of_slot h s)) in
     subst IsSome (sym (cond-true (ltb s h.slots && ltb 0 entry && leb entry 64) page None test)) refl
 
-pub resumes_other : (h : Hardware) (shown shown' : Shown) (c : disk.Content) (blocks : ℕ) (load : Load) (v : disk.Image) (k : ℕ) → IsHardware h → disk.IsContent blocks c → 4 ≤ k → Stands h shown c (loading (with_found_other load v) k) →
+pub resumes_other : (h : Hardware) (shown shown' : Shown) (c : disk.Content) (blocks : ℕ) (load : Load) (v : disk.DiskImage) (k : ℕ) → IsHardware h → disk.IsContent blocks c → 4 ≤ k → Stands h shown c (loading (with_found_other load v) k) →
     Marked h v → tables_cause h v (restored_in h load.dump v load.loader) ≡ None →
     shown'.activity ≡ runs → ShowsRunning h shown' (other_running h load v) → NamesOnly h shown' [] → Stands h shown' c (on (other_running h load v))
 resumes_other h shown shown' c blocks load v k hw whole le stands marked none activity shows names =

@@ -15,7 +15,7 @@ use Rattle.definitions.specs.Disk as disk
 use Rattle.definitions.specs.InfoPage.{mismatch, same_name, text_of_name}
 use Rattle.definitions.specs.Lists.{saveable_frames}
 use Rattle.definitions.specs.NumberPages.{meta_of}
-use Rattle.definitions.specs.Tables.{frame, entry_at, flags_of, is_saveable}
+use Rattle.definitions.specs.Tables.{frame, entry_at, page_flags, is_saveable}
 use Rattle.definitions.specs.Zones.{numbers}
 use Rattle.definitions.specs.declared.info.Field.{Field}
 use Rattle.definitions.specs.declared.info.Field.TheVariants.{VersionCode, Sysname, Release, Version, Machine}
@@ -37,23 +37,23 @@ use Rattle.image_laws.proofs.Decoding.{says_info, says_numbers, format_is, memor
 use Rattle.protocol_laws.proofs.Resumed.{table_saved}
 
 -- What is read from such a disk.
-pub record IsOwnDisk (h : Hardware) (v : disk.Image) (i : Image) : Type 0 where
+pub record IsOwnDisk (h : Hardware) (v : disk.DiskImage) (i : Image) : Type 0 where
   pub hardware : IsHardware h
   pub holds : Holds h v i
   pub own : IsOwn h v i
   pub sayable : IsSayable i
 
-pub own_sayable : (h : Hardware) (v : disk.Image) (i : Image) → IsHardware h → IsOwn h v i → IsSayable i
+pub own_sayable : (h : Hardware) (v : disk.DiskImage) (i : Image) → IsHardware h → IsOwn h v i → IsSayable i
 own_sayable h v i hw is = subst IsSayable (sym is.of_memory.1.image) (memories_are_sayable h is.of_memory.0 i.slots i.format hw)
 
-pub info_is : (h : Hardware) (v : disk.Image) (i : Image) → IsOwnDisk h v i → info_in h v ≡ info_of_image i
+pub info_is : (h : Hardware) (v : disk.DiskImage) (i : Image) → IsOwnDisk h v i → info_in h v ≡ info_of_image i
 info_is h v i is = says_info h v i is.holds is.sayable
 
 -- The memory that it is the image of.
-pub memory_of : (h : Hardware) (v : disk.Image) (i : Image) → IsOwn h v i → Memory
+pub memory_of : (h : Hardware) (v : disk.DiskImage) (i : Image) → IsOwn h v i → Memory
 memory_of h v i own = own.of_memory.0
 
-pub frames_are : (h : Hardware) (v : disk.Image) (i : Image) (own : IsOwn h v i) → i.frames ≡ map (λ p. (p, frame own.of_memory.0 p)) (saveable h own.of_memory.0)
+pub frames_are : (h : Hardware) (v : disk.DiskImage) (i : Image) (own : IsOwn h v i) → i.frames ≡ map (λ p. (p, frame own.of_memory.0 p)) (saveable h own.of_memory.0)
 frames_are h v i own = ap (λ (x : Image). x.frames) own.of_memory.1.image
 
 -- The identity.
@@ -77,24 +77,24 @@ no_mismatch x =
 abbrev field_reply : Option Field → Option Reply
 field_reply f = elim f as (λ x. Option Reply) [ None ↦ None | Some field ↦ Some (reply.Mismatch field) ]
 
-no_identity_cause : (h : Hardware) (v : disk.Image) (i : Image) (check : IdentCheck) → IsOwnDisk h v i → identity_cause h v check ≡ None
+no_identity_cause : (h : Hardware) (v : disk.DiskImage) (i : Image) (check : IdentCheck) → IsOwnDisk h v i → identity_cause h v check ≡ None
 no_identity_cause h v i Compare is =
     let ident : (info_in h v).ident ≡ h.ident = ap (λ (x : Info). x.ident) (info_is h v i is) ∙ ap (λ (x : Image). x.ident) is.own.of_memory.1.image in
     ap field_reply (ap (λ (x : Ident). mismatch x h.ident) ident ∙ no_mismatch h.ident)
 no_identity_cause h v i Skip is = refl
 
-no_memory_cause : (h : Hardware) (v : disk.Image) (i : Image) → IsOwnDisk h v i → memory_cause h v ≡ None
+no_memory_cause : (h : Hardware) (v : disk.DiskImage) (i : Image) → IsOwnDisk h v i → memory_cause h v ≡ None
 no_memory_cause h v i is =
     let size : (info_in h v).physpages ≡ valid_count h = ap (λ (x : Info). x.physpages) (info_is h v i is) ∙ ap (λ (x : Image). x.physpages) is.own.of_memory.1.image in
     cond-true (eqb (info_in h v).physpages (valid_count h)) None (Some (reply.MemorySize (info_in h v).physpages (valid_count h))) (eq-eqb (info_in h v).physpages (valid_count h) size)
 
 -- The counts.
 
-pub n_is : (h : Hardware) (v : disk.Image) (i : Image) (is : IsOwnDisk h v i) → n_of i ≡ length (saveable h is.own.of_memory.0)
+pub n_is : (h : Hardware) (v : disk.DiskImage) (i : Image) (is : IsOwnDisk h v i) → n_of i ≡ length (saveable h is.own.of_memory.0)
 n_is h v i is = ap length (frames_are h v i is.own) ∙ length-map (saveable h is.own.of_memory.0) (λ p. (p, frame is.own.of_memory.0 p))
 
 -- a table frame is saved
-pub some_saved : (h : Hardware) (v : disk.Image) (i : Image) → IsOwnDisk h v i → 1 ≤ n_of i
+pub some_saved : (h : Hardware) (v : disk.DiskImage) (i : Image) → IsOwnDisk h v i → 1 ≤ n_of i
 some_saved h v i is =
     let m = is.own.of_memory.0 in
     let some = is.hardware.some_slots in
@@ -102,11 +102,11 @@ some_saved h v i is =
     let n = n_is h v i is in
     omega arith
 
-pub few_saved : (h : Hardware) (v : disk.Image) (i : Image) → IsOwnDisk h v i → n_of i ≤ valid_count h
+pub few_saved : (h : Hardware) (v : disk.DiskImage) (i : Image) → IsOwnDisk h v i → n_of i ≤ valid_count h
 unfolding saveable_frames
 few_saved h v i is =
     let m = is.own.of_memory.0 in
-    let test : ℕ → Bool = λ p. is_saveable (flags_of (entry_at m h.frame_table p)) in
+    let test : ℕ → Bool = λ p. is_saveable (page_flags (entry_at m h.frame_table p)) in
     let count = length-filter test (numbers h.zones) in
     let part = count_by-le-length test (numbers h.zones) in
     let n = n_is h v i is in
@@ -143,7 +143,7 @@ good_counts SkipZeros valid n d pages some few part whole is =
     (or-none (eqb n 0) (ltb valid n) (ne_eqb n 0 (λ e. omega arith)) (not_lt valid n few)) (not_lt pages (meta_of n + 1) (omega arith)))
     (not_lt (n + meta_of n + 1) pages (omega arith))
 
-no_counts_cause : (h : Hardware) (v : disk.Image) (i : Image) → IsOwnDisk h v i → counts_cause h v ≡ None
+no_counts_cause : (h : Hardware) (v : disk.DiskImage) (i : Image) → IsOwnDisk h v i → counts_cause h v ≡ None
 no_counts_cause h v i is =
     let info = info_is h v i is in
     let n = (info_in h v).image_pages in
@@ -156,14 +156,14 @@ no_counts_cause h v i is =
 pub both_none : (x y : Option Reply) → x ≡ None → y ≡ None → or_else x y ≡ None
 both_none x y e f = ap (λ (o : Option Reply). or_else o y) e ∙ f
 
-pub no_info_cause : (h : Hardware) (v : disk.Image) (i : Image) (check : IdentCheck) → IsOwnDisk h v i → info_cause h v check ≡ None
+pub no_info_cause : (h : Hardware) (v : disk.DiskImage) (i : Image) (check : IdentCheck) → IsOwnDisk h v i → info_cause h v check ≡ None
 no_info_cause h v i check is =
     both_none (identity_cause h v check) (or_else (memory_cause h v) (counts_cause h v)) (no_identity_cause h v i check is)
     (both_none (memory_cause h v) (counts_cause h v) (no_memory_cause h v i is) (no_counts_cause h v i is))
 
 -- The numbers: valid, and ascending.
 
-pub number_is : (h : Hardware) (v : disk.Image) (i : Image) (j : ℕ) (is : IsOwnDisk h v i) → j < n_of i → number_in h v j ≡ get_or (saveable h is.own.of_memory.0) j 0
+pub number_is : (h : Hardware) (v : disk.DiskImage) (i : Image) (j : ℕ) (is : IsOwnDisk h v i) → j < n_of i → number_in h v j ≡ get_or (saveable h is.own.of_memory.0) j 0
 number_is h v i j is lt =
     let m = is.own.of_memory.0 in
     let pair : ℕ → ℕ × List ℕ = λ p. (p, frame m p) in
@@ -182,11 +182,11 @@ valid_number : (h : Hardware) (m : Memory) (j : ℕ) → j < length (saveable h 
 unfolding saveable_frames
 valid_number h m j lt =
     let p = get_or (saveable h m) j 0 in
-    any_true (numbers h.zones) p (Contains-from_filter (λ q. is_saveable (flags_of (entry_at m h.frame_table q))) (numbers h.zones) p (Contains-get_or (saveable h m) j 0 lt)).0
+    any_true (numbers h.zones) p (Contains-from_filter (λ q. is_saveable (page_flags (entry_at m h.frame_table q))) (numbers h.zones) p (Contains-get_or (saveable h m) j 0 lt)).0
 
 ascend : (h : Hardware) (m : Memory) → IsHardware h → IsStrictlyIncreasing (saveable h m)
 unfolding saveable_frames
-ascend h m hw = IsStrictlyIncreasing-filter (λ p. is_saveable (flags_of (entry_at m h.frame_table p))) (numbers h.zones) (IsStrictlyIncreasing-numbers h.zones hw.zones.apart)
+ascend h m hw = IsStrictlyIncreasing-filter (λ p. is_saveable (page_flags (entry_at m h.frame_table p))) (numbers h.zones) (IsStrictlyIncreasing-numbers h.zones hw.zones.apart)
 
 leb_fails : (a b : ℕ) → a < b → leb b a ≡ false
 leb_fails a b lt = elim (cases_Bool (leb b a)) [ inl le ↦ (let at_most = leb-true b a le in absurd (omega arith)) | inr isn't ↦ isn't ]
@@ -195,7 +195,7 @@ and_fails : (b c : Bool) → (b ≡ true → c ≡ false) → (b && c) ≡ false
 and_fails true c e = e refl
 and_fails false c e = refl
 
-pub no_number_cause : (h : Hardware) (v : disk.Image) (i : Image) (j : ℕ) → IsOwnDisk h v i → j < n_of i → number_cause h v j ≡ None
+pub no_number_cause : (h : Hardware) (v : disk.DiskImage) (i : Image) (j : ℕ) → IsOwnDisk h v i → j < n_of i → number_cause h v j ≡ None
 no_number_cause h v i j is lt =
     let m = is.own.of_memory.0 in
     let n = n_is h v i is in

@@ -24,7 +24,7 @@ not_true true e = refl
 not_true false e = absurd (false≢true e)
 
 -- the mark is there, and the image isn't compressed
-pub no_header_cause : (h : Hardware) (v : disk.Image) (i : Image) → Holds h v i → header_cause h v ≡ None
+pub no_header_cause : (h : Hardware) (v : disk.DiskImage) (i : Image) → Holds h v i → header_cause h v ≡ None
 no_header_cause h v i holds =
     let signed : pointwise nat_eq (sig_of (header_of h v)) image_signature ≡ true = true_of (pointwise nat_eq (sig_of (header_of h v)) image_signature) (λ e. other_text (sig_of (header_of h v)) image_signature (sym e) holds.marked) in
     let plain : is_set (flags_of (header_of h v)) 2 ≡ true = ap not (ne_eqb (bit_and (flags_of (header_of h v)) 2) 0 holds.uncompressed) in
@@ -48,7 +48,7 @@ first_some_each [] k none lt = absurd (omega arith)
 first_some_each (x ∷ faults) zero none lt = first_none x (first_some faults) none
 first_some_each (x ∷ faults) (suc k) none lt = first_some_each faults k (second_none x (first_some faults) none) (omega arith)
 
-no_place_fault : (h : Hardware) (v : disk.Image) (i : Image) (k : ℕ) → Holds h v i → k < pages_of i → place_fault h v (first_map h v) k ≡ None
+no_place_fault : (h : Hardware) (v : disk.DiskImage) (i : Image) (k : ℕ) → Holds h v i → k < pages_of i → place_fault h v (first_map h v) k ≡ None
 unfolding chain
 no_place_fault h v i k holds lt =
     let b = first_map h v in
@@ -57,7 +57,7 @@ no_place_fault h v i k holds lt =
     let size = length-map-range_with_len (place_fault h v b) 0 (pages_of i) in
     sym (get_or-map-range_with_len (place_fault h v b) 0 (pages_of i) k k None lt (zero-add k)) ∙ first_some_each faults k none (omega arith)
 
-no_entry_fault : (h : Hardware) (v : disk.Image) (i : Image) (k : ℕ) → Holds h v i → k < pages_of i → entry_fault h v (first_map h v) k ≡ None
+no_entry_fault : (h : Hardware) (v : disk.DiskImage) (i : Image) (k : ℕ) → Holds h v i → k < pages_of i → entry_fault h v (first_map h v) k ≡ None
 no_entry_fault h v i k holds lt =
     let fault = no_place_fault h v i k holds lt in
     let b = first_map h v in
@@ -66,7 +66,7 @@ no_entry_fault h v i k holds lt =
       | inr later ↦ sym (cond-false (eqb (k % 511) 0) (or_else (map_fault h v b (k / 511)) (entry_fault h v b k)) (entry_fault h v b k) later) ∙ fault
     ]
 
-pub no_map_fault : (h : Hardware) (v : disk.Image) (i : Image) (j : ℕ) → Holds h v i → 511 * j < pages_of i → map_fault h v (first_map h v) j ≡ None
+pub no_map_fault : (h : Hardware) (v : disk.DiskImage) (i : Image) (j : ℕ) → Holds h v i → 511 * j < pages_of i → map_fault h v (first_map h v) j ≡ None
 no_map_fault h v i j holds lt =
     let k = 511 * j in
     let b = first_map h v in
@@ -77,7 +77,7 @@ no_map_fault h v i j holds lt =
     ∙ first_none (map_fault h v b (k / 511)) (entry_fault h v b k) (sym (cond-true (eqb (k % 511) 0) (or_else (map_fault h v b (k / 511)) (entry_fault h v b k)) (entry_fault h v b k) (eq-eqb (k % 511) 0 first)) ∙ fault)
 
 -- no place's block is at fault
-either_cause : (h : Hardware) (v : disk.Image) (b : Bool) (x y : Place) → place_cause h v x ≡ None → place_cause h v y ≡ None → place_cause h v (cond b x y) ≡ None
+either_cause : (h : Hardware) (v : disk.DiskImage) (b : Bool) (x y : Place) → place_cause h v x ≡ None → place_cause h v y ≡ None → place_cause h v (cond b x y) ≡ None
 either_cause h v true x y e f = e
 either_cause h v false x y e f = f
 
@@ -87,7 +87,7 @@ map_within t pages first lt some = omega arith
 page_within : (t pages : ℕ) → (t % 512 ≡ 0 → ⊥) → t < maps_read pages + pages → 1 ≤ pages → t - t / 512 - 1 < pages
 page_within t pages later lt some = omega arith
 
-pub no_place_cause : (h : Hardware) (v : disk.Image) (i : Image) (t : ℕ) → Holds h v i → t < maps_read (pages_of i) + pages_of i → place_cause h v (place t) ≡ None
+pub no_place_cause : (h : Hardware) (v : disk.DiskImage) (i : Image) (t : ℕ) → Holds h v i → t < maps_read (pages_of i) + pages_of i → place_cause h v (place t) ≡ None
 no_place_cause h v i t holds lt = elim (cases_eq (t % 512) 0) [
   | inl first ↦
       ap (place_cause h v) (cond-true (eqb (t % 512) 0) (map_at (t / 512)) (page_at (t - t / 512 - 1)) (eq-eqb (t % 512) 0 first))
@@ -103,7 +103,7 @@ no_signature_cause true true x y e none = none
 no_signature_cause true false x y e none = elim e [ inl f ↦ absurd (false≢true (sym f)) | inr f ↦ absurd (false≢true f) ]
 no_signature_cause false c x y e none = none
 
-pub no_taken_back_cause : (h : Hardware) (v : disk.Image) (i : Image) → Holds h v i → IsOwn h v i → taken_back_cause h v ≡ None
+pub no_taken_back_cause : (h : Hardware) (v : disk.DiskImage) (i : Image) → Holds h v i → IsOwn h v i → taken_back_cause h v ≡ None
 no_taken_back_cause h v i holds own =
     no_signature_cause (is_set (flags_of (header_of h v)) 8) (eqb (hw_sig_of (header_of h v)) h.hw_sig) (Some (reply.HwMismatch (hw_sig_of (header_of h v)) h.hw_sig)) (map_fault h v (first_map h v) 0)
     (elim (own.signature holds.marked) [

@@ -29,7 +29,7 @@ abbrev page_of : ℕ × List ℕ → List ℕ
 page_of saved = saved.1
 
 -- the word after the last number, where the last page isn't full
-end_word : (h : Hardware) (v : disk.Image) (i : Image) → IsOwnDisk h v i → n_of i % 512 ≢ 0 → number_word h v (n_of i) ≡ end_value
+end_word : (h : Hardware) (v : disk.DiskImage) (i : Image) → IsOwnDisk h v i → n_of i % 512 ≢ 0 → number_word h v (n_of i) ≡ end_value
 end_word h v i is more =
     let n = n_of i in
     let size = length-told i is.sayable in
@@ -51,7 +51,7 @@ or_right : (a b : Bool) → b ≡ true → (a || b) ≡ true
 or_right true b e = refl
 or_right false b e = e
 
-no_end_cause : (h : Hardware) (v : disk.Image) (i : Image) → IsOwnDisk h v i → end_cause h v (n_of i) ≡ None
+no_end_cause : (h : Hardware) (v : disk.DiskImage) (i : Image) → IsOwnDisk h v i → end_cause h v (n_of i) ≡ None
 no_end_cause h v i is =
     let n = n_of i in
     let ends : ((eqb (n % 512) 0) || (eqb (number_word h v n) end_value)) ≡ true = elim (cases_eq (n % 512) 0) [
@@ -107,12 +107,12 @@ word_data i s say in' =
       number_of_saved : (i : Image) (s : ℕ × List ℕ) → IsSayable i → Contains i.frames s → s.0 < zero_bit
       number_of_saved i s say (k, lt, e) = subst (λ (x : ℕ × List ℕ). x.0 < zero_bit) e (say.numbers k s lt)
 
-pub d_is : (h : Hardware) (v : disk.Image) (i : Image) → IsOwnDisk h v i → d_in h v ≡ d_of i
+pub d_is : (h : Hardware) (v : disk.DiskImage) (i : Image) → IsOwnDisk h v i → d_in h v ≡ d_of i
 d_is h v i is =
     ap₂ (λ (f : Format) (ws : List ℕ). length (filter (λ w. not (is_marked_by f w)) ws)) (format_is h v i is.holds) (words_are h v i is.holds is.sayable)
     ∙ count_same i.format (marked_number (without_data i)) i.frames (λ s in'. word_data i s is.sayable in')
 
-no_listed_cause : (h : Hardware) (v : disk.Image) (i : Image) → IsOwnDisk h v i → listed_cause h v ≡ None
+no_listed_cause : (h : Hardware) (v : disk.DiskImage) (i : Image) → IsOwnDisk h v i → listed_cause h v ≡ None
 no_listed_cause h v i is =
     let pages : (info_in h v).pages ≡ pages_of i = ap (λ (x : Info). x.pages) (info_is h v i is) in
     let d = d_is h v i is in
@@ -129,7 +129,7 @@ either_none : (b : Bool) (x y : Option Reply) → x ≡ None → y ≡ None → 
 either_none true x y e f = e
 either_none false x y e f = f
 
-no_numbers_cause : (h : Hardware) (v : disk.Image) (i : Image) (q : ℕ) → IsOwnDisk h v i → numbers_cause h v q ≡ None
+no_numbers_cause : (h : Hardware) (v : disk.DiskImage) (i : Image) (q : ℕ) → IsOwnDisk h v i → numbers_cause h v q ≡ None
 no_numbers_cause h v i q is =
     let n = (info_in h v).image_pages in
     let count : n ≡ n_of i = ap (λ (x : Info). x.image_pages) (info_is h v i is) in
@@ -143,7 +143,7 @@ no_numbers_cause h v i q is =
     (both_none (first_some faults) (or_else (end_cause h v n) (listed_cause h v)) own (both_none (end_cause h v n) (listed_cause h v) ends (no_listed_cause h v i is))) own
 
 -- whatever is read
-pub no_read_cause : (h : Hardware) (v : disk.Image) (i : Image) (check : IdentCheck) (here : Place) → IsOwnDisk h v i → read_cause h v check here ≡ None
+pub no_read_cause : (h : Hardware) (v : disk.DiskImage) (i : Image) (check : IdentCheck) (here : Place) → IsOwnDisk h v i → read_cause h v check here ≡ None
 no_read_cause h v i check (map_at j) is = refl
 no_read_cause h v i check (page_at zero) is = no_info_cause h v i check is
 no_read_cause h v i check (page_at (suc q)) is = either_none (ltb q (meta_in h v)) (numbers_cause h v q) None (no_numbers_cause h v i q is) refl

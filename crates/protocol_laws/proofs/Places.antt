@@ -6,7 +6,7 @@ use Rattle.std.proofs.lemmas.Bool.{cases_eq, cases_Bool, eqb-true, false≢true,
 use Rattle.std.proofs.lemmas.Option.{none-some}
 use Rattle.std.proofs.lemmas.List.Elements.{Contains-get_or}
 use Rattle.std.proofs.lemmas.List.Kept.{IsStrictlyIncreasing-filter}
-use Rattle.definitions.specs.Disk.{Image}
+use Rattle.definitions.specs.Disk.{DiskImage}
 use Rattle.definitions.proofs.Ascending.{Contains-nil, Contains-cons_cases}
 use Rattle.definitions.proofs.FileMaps.{block_of-injective}
 use Rattle.definitions.proofs.FrameSets.{Contains-from_filter}
@@ -128,7 +128,7 @@ usable_kind h blocks Old none = absurd (none-some no_swap.Old (sym none))
 usable_kind h blocks (Other sig) none = absurd (none-some (no_swap.Signature sig) (sym none))
 usable_kind h blocks (BadArea why) none = absurd (none-some (no_swap_at why) (sym none))
 
-pub usable_area : (h : Hardware) (v : Image) → area_fault h v ≡ None → IsUsable h (blocks_of v) (area_block h v)
+pub usable_area : (h : Hardware) (v : DiskImage) → area_fault h v ≡ None → IsUsable h (blocks_of v) (area_block h v)
 unfolding area_fault
 usable_area h v none =
     let kind = usable_kind h (blocks_of v) (area_kind (area_block h v)) none in

@@ -22,7 +22,7 @@ holds_in h shown c (loading load k) stands = stands.parts.0
 holds_in h shown c (asleep i held a) stands = (stands.parts.0.held, stands.parts.0.header)
 
 -- each image after a restart is one from before
-fewer : (c c' : disk.Content) (w : disk.Image) → disk.Restarts c c' → disk.IsImage c' w → disk.IsImage c w
+fewer : (c c' : disk.Content) (w : disk.DiskImage) → disk.Restarts c c' → disk.IsImage c' w → disk.IsImage c w
 fewer c c' w restarts in' = let left = IsImage-after_restart c c' restarts in subst (disk.IsImage c) (sym (left.2 w in')) left.1
 
 held_still : (h : Hardware) (c c' : disk.Content) (held : Held) → disk.Restarts c c' → IsHeld h c held → IsHeld h c' held

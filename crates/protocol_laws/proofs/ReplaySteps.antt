@@ -35,13 +35,13 @@ use Rattle.protocol_laws.proofs.Areas.{same_of_kinds}
 
 -- Over one area.
 
-fault_same : (h : Hardware) (v w : disk.Image) → IsSameArea h v w → area_fault h w ≡ area_fault h v
+fault_same : (h : Hardware) (v w : disk.DiskImage) → IsSameArea h v w → area_fault h w ≡ area_fault h v
 unfolding area_fault
 fault_same h v w same =
     ap (λ (n : ℕ). kind_or_fit_fault h n (area_kind (area_block h w))) same.blocks
     ∙ same_of_kinds (kind_or_fit_fault h (blocks_of v)) (area_block h w) (area_block h v) same.header (λ m n. refl)
 
-bad_slots_same : (h : Hardware) (v w : disk.Image) → IsSameArea h v w → bad_slots_in (area_kind (area_block h w)) ≡ bad_slots_in (area_kind (area_block h v))
+bad_slots_same : (h : Hardware) (v w : disk.DiskImage) → IsSameArea h v w → bad_slots_in (area_kind (area_block h w)) ≡ bad_slots_in (area_kind (area_block h v))
 bad_slots_same h v w same = same_of_kinds bad_slots_in (area_block h w) (area_block h v) same.header (λ m n. refl)
 
 -- a machine that booted with fresh memory, by its area's fault and bad slots
@@ -54,34 +54,34 @@ fresh_running h held fault bad = record {
   held = held;
 }
 
-booted_same : (h : Hardware) (v w : disk.Image) (dump : Memory) (held : Held) → IsSameArea h v w → booted h w Fresh dump held ≡ booted h v Fresh dump held
+booted_same : (h : Hardware) (v w : disk.DiskImage) (dump : Memory) (held : Held) → IsSameArea h v w → booted h w Fresh dump held ≡ booted h v Fresh dump held
 booted_same h v w dump held same = ap₂ (fresh_running h held) (fault_same h v w same) (bad_slots_same h v w same)
 
-boots_same : (h : Hardware) (v w : disk.Image) (dump : Memory) (held : Held) → IsSameArea h v w → boot_outcomes h w Fresh dump held ≡ boot_outcomes h v Fresh dump held
+boots_same : (h : Hardware) (v w : disk.DiskImage) (dump : Memory) (held : Held) → IsSameArea h v w → boot_outcomes h w Fresh dump held ≡ boot_outcomes h v Fresh dump held
 boots_same h v w dump nothing same = ap (λ (a : Running). only (reply.Booted false) (on a)) (booted_same h v w dump nothing same)
 boots_same h v w dump (sure x) same = ap (λ (a : Running). only (reply.Booted true) (on a)) (booted_same h v w dump (sure x) same)
 boots_same h v w dump (maybe x) same =
     ap₂ (λ (a b : Running). (reply.Booted false, on a) ∷ (reply.Booted true, on b) ∷ []) (booted_same h v w dump nothing same) (booted_same h v w dump (sure x) same)
 
-boot_step_same : (h : Hardware) (v w : disk.Image) (from : BootFrom) (dump : Memory) (held : Held) (k : ℕ) → from ≡ Fresh → IsSameArea h v w → boot_step h w from dump held k ≡ boot_step h v from dump held k
+boot_step_same : (h : Hardware) (v w : disk.DiskImage) (from : BootFrom) (dump : Memory) (held : Held) (k : ℕ) → from ≡ Fresh → IsSameArea h v w → boot_step h w from dump held k ≡ boot_step h v from dump held k
 boot_step_same h v w Fresh dump held k fresh same =
     ap (λ (booted : List Outcome). cond (eqb k 0) (done_or (reply.More 1 2) (booting Fresh dump held 1) (reply.SyncFault Same) (off held None)) (cond (eqb k 1) (booted ++ only (reply.ReadFault Same) (off held None)) []))
     (boots_same h v w dump held same)
 boot_step_same h v w Kept dump held k fresh same = absurd (cc)
 
-find_same : (h : Hardware) (v w : disk.Image) (load : Load) (held : Held) → IsOwnHeld held → find_step h w load held ≡ find_step h v load held
+find_same : (h : Hardware) (v w : disk.DiskImage) (load : Load) (held : Held) → IsOwnHeld held → find_step h w load held ≡ find_step h v load held
 find_same h v w load nothing is_own = refl
 find_same h v w load (sure (own i)) is_own = refl
 find_same h v w load (sure other) is_own = absurd is_own
 find_same h v w load (maybe (own i)) is_own = refl
 find_same h v w load (maybe other) is_own = absurd is_own
 
-load_step_same : (h : Hardware) (v w : disk.Image) (load : Load) (k : ℕ) → IsOwnHeld load.held → load_step h w load k ≡ load_step h v load k
+load_step_same : (h : Hardware) (v w : disk.DiskImage) (load : Load) (k : ℕ) → IsOwnHeld load.held → load_step h w load k ≡ load_step h v load k
 load_step_same h v w load k is_own =
     ap (λ (found : List Outcome). cond (ltb k 4 || has_place h load load.found k) (load_fault load k ∷ cond (eqb k 0) (only (reply.Loading 1) (loading load 1)) (cond (eqb k 1) found (loaded_step h load load.found k))) [])
     (find_same h v w load load.held is_own)
 
-core_same : (h : Hardware) (v w : disk.Image) (a : State) → IsSameArea h v w → IsOfReplay a → core_step h w a ≡ core_step h v a
+core_same : (h : Hardware) (v w : disk.DiskImage) (a : State) → IsSameArea h v w → IsOfReplay a → core_step h w a ≡ core_step h v a
 core_same h v w (off held kept) same of = refl
 core_same h v w (on a) same of = refl
 core_same h v w (booting from dump held k) same of = boot_step_same h v w from dump held k of.0 same
@@ -92,7 +92,7 @@ core_same h v w (waking i held a k) same of = refl
 core_same h v w (loading load k) same of = load_step_same h v w load k of.0
 core_same h v w (asleep i held a) same of = refl
 
-accepted_same : (h : Hardware) (v w : disk.Image) (a : State) (e : Event) → IsSameArea h v w → IsOfReplay a → accepted h w a e ≡ accepted h v a e
+accepted_same : (h : Hardware) (v w : disk.DiskImage) (a : State) (e : Event) → IsSameArea h v w → IsOfReplay a → accepted h w a e ≡ accepted h v a e
 accepted_same h v w a (event.Boot from) same of = refl
 accepted_same h v w a (event.Hibernate f) same of = refl
 accepted_same h v w a (event.Suspend f) same of = refl
@@ -106,11 +106,11 @@ accepted_same h v w a (event.Task t o) same of = refl
 accepted_same h v w a (event.Cut pick) same of = refl
 accepted_same h v w a (event.Arm first count pick) same of = refl
 
-outcomes_same : (h : Hardware) (v w : disk.Image) (a : State) (e : Event) → IsSameArea h v w → IsOfReplay a → outcomes h w a e ≡ outcomes h v a e
+outcomes_same : (h : Hardware) (v w : disk.DiskImage) (a : State) (e : Event) → IsSameArea h v w → IsOfReplay a → outcomes h w a e ≡ outcomes h v a e
 unfolding outcomes
 outcomes_same h v w a e same of = ap (refused_or a (refusal h a e)) (accepted_same h v w a e same of)
 
-pub same_steps : (h : Hardware) (v w : disk.Image) (a : State) (e : Event) (r : Reply) (b : State) → IsSameArea h v w → IsOfReplay a → Step h w a e r b → Step h v a e r b
+pub same_steps : (h : Hardware) (v w : disk.DiskImage) (a : State) (e : Event) (r : Reply) (b : State) → IsSameArea h v w → IsOfReplay a → Step h w a e r b → Step h v a e r b
 same_steps h v w a e r b same of step = subst (λ (all : List Outcome). Contains all (r, b)) (outcomes_same h v w a e same of) step
 
 -- What is held.
@@ -226,13 +226,13 @@ task_step_stays h t a None is_own = tt
 task_step_stays h t a (Some (goes_out s p)) is_own = (is_own, (is_own, tt))
 task_step_stays h t a (Some (comes_in s p)) is_own = (is_own, (is_own, tt))
 
-boots_stay : (h : Hardware) (v : disk.Image) (dump : Memory) (held : Held) → IsOwnHeld held → AllStay (boot_outcomes h v Fresh dump held ++ only (reply.ReadFault Same) (off held None))
+boots_stay : (h : Hardware) (v : disk.DiskImage) (dump : Memory) (held : Held) → IsOwnHeld held → AllStay (boot_outcomes h v Fresh dump held ++ only (reply.ReadFault Same) (off held None))
 boots_stay h v dump nothing is_own = (tt, ((tt, refl), tt))
 boots_stay h v dump (sure x) is_own = (is_own, ((is_own, refl), tt))
 boots_stay h v dump (maybe (own i)) is_own = (tt, (tt, ((tt, refl), tt)))
 boots_stay h v dump (maybe other) is_own = absurd is_own
 
-boot_step_stays : (h : Hardware) (v : disk.Image) (from : BootFrom) (dump : Memory) (held : Held) (k : ℕ) → from ≡ Fresh → IsOwnHeld held → AllStay (boot_step h v from dump held k)
+boot_step_stays : (h : Hardware) (v : disk.DiskImage) (from : BootFrom) (dump : Memory) (held : Held) (k : ℕ) → from ≡ Fresh → IsOwnHeld held → AllStay (boot_step h v from dump held k)
 boot_step_stays h v Fresh dump held k fresh is_own =
     all_of_either (eqb k 0) (done_or (reply.More 1 2) (booting Fresh dump held 1) (reply.SyncFault Same) (off held None))
     (cond (eqb k 1) (boot_outcomes h v Fresh dump held ++ only (reply.ReadFault Same) (off held None)) [])
@@ -300,7 +300,7 @@ load_fault_stays load k is_own found_is =
     (stays_in_either (eqb k 2) write (cond (eqb k 3) last_sync gone) (unsure, refl)
     (stays_in_either (eqb k 3) last_sync gone (unsure, refl) (tt, refl))))
 
-find_stays : (h : Hardware) (v : disk.Image) (load : Load) (held : Held) → IsOwnHeld held → IsOwnHeld load.held → AllStay (find_step h v load held)
+find_stays : (h : Hardware) (v : disk.DiskImage) (load : Load) (held : Held) → IsOwnHeld held → IsOwnHeld load.held → AllStay (find_step h v load held)
 find_stays h v load nothing is_own here = ((tt, refl), tt)
 find_stays h v load (sure (own i)) is_own here = ((here, tt), tt)
 find_stays h v load (sure other) is_own here = absurd is_own
@@ -324,7 +324,7 @@ loaded_stays h load not_yet k is_own here found_is = tt
 loaded_stays h load (found_own i) k is_own here found_is = (own_step_stays h load i k here found_is, tt)
 loaded_stays h load (found_other v) k is_own here found_is = absurd is_own
 
-load_step_stays : (h : Hardware) (v : disk.Image) (load : Load) (k : ℕ) → IsOwnHeld load.held → IsOwnFound load.found → AllStay (load_step h v load k)
+load_step_stays : (h : Hardware) (v : disk.DiskImage) (load : Load) (k : ℕ) → IsOwnHeld load.held → IsOwnFound load.found → AllStay (load_step h v load k)
 load_step_stays h v load k is_own found_is =
     all_of_either (ltb k 4 || has_place h load load.found k) (load_fault load k ∷ load_answers h v load k) [] (
       load_fault_stays load k is_own found_is,
@@ -332,7 +332,7 @@ load_step_stays h v load k is_own found_is =
           (all_of_either (eqb k 1) (find_step h v load load.held) (loaded_step h load load.found k) (find_stays h v load load.held is_own is_own) (loaded_stays h load load.found k found_is is_own found_is)),
     ) tt
 
-core_stays : (h : Hardware) (v : disk.Image) (a : State) → IsOfReplay a → AllStay (core_step h v a)
+core_stays : (h : Hardware) (v : disk.DiskImage) (a : State) → IsOfReplay a → AllStay (core_step h v a)
 core_stays h v (off held kept) of = tt
 core_stays h v (on a) of = tt
 core_stays h v (booting from dump held k) of = boot_step_stays h v from dump held k of.0 of.1
@@ -343,7 +343,7 @@ core_stays h v (waking i held a k) of = wake_step_stays i held a k of.0 of.1
 core_stays h v (loading load k) of = load_step_stays h v load k of.0 of.1
 core_stays h v (asleep i held a) of = tt
 
-accepted_stays : (h : Hardware) (v : disk.Image) (a : State) (e : Event) → IsOfReplay a → refusal h a e ≡ None → AllStay (accepted h v a e)
+accepted_stays : (h : Hardware) (v : disk.DiskImage) (a : State) (e : Event) → IsOfReplay a → refusal h a e ≡ None → AllStay (accepted h v a e)
 unfolding refusal
 accepted_stays h v a (event.Boot Fresh) of taken = ((refl, held_own a of), tt)
 accepted_stays h v a (event.Boot Kept) of taken = absurd (asks_no_dump a of taken)
@@ -366,9 +366,9 @@ refused_or_stays : (a : State) (refused : Option Reply) (os : List Outcome) → 
 refused_or_stays a (Some r) os of taken = (of, tt)
 refused_or_stays a None os of taken = taken refl
 
-outcomes_stay : (h : Hardware) (v : disk.Image) (a : State) (e : Event) → IsOfReplay a → AllStay (outcomes h v a e)
+outcomes_stay : (h : Hardware) (v : disk.DiskImage) (a : State) (e : Event) → IsOfReplay a → AllStay (outcomes h v a e)
 unfolding outcomes
 outcomes_stay h v a e of = refused_or_stays a (refusal h a e) (accepted h v a e) of (accepted_stays h v a e of)
 
-pub stays_of_replay : (h : Hardware) (v : disk.Image) (a : State) (e : Event) (r : Reply) (b : State) → IsOfReplay a → Step h v a e r b → IsOfReplay b
+pub stays_of_replay : (h : Hardware) (v : disk.DiskImage) (a : State) (e : Event) (r : Reply) (b : State) → IsOfReplay a → Step h v a e r b → IsOfReplay b
 stays_of_replay h v a e r b of step = All-contains StaysIn (outcomes h v a e) (r, b) (All-from_recursion StaysIn (outcomes h v a e) (outcomes_stay h v a e of)) step

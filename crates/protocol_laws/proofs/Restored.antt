@@ -8,7 +8,7 @@ use Rattle.std.proofs.lemmas.List.FromFn.{length-map-range_with_len, get_or-map-
 use Rattle.definitions.specs.Bytes.{IsPage, zero_page}
 use Rattle.definitions.specs.Disk as disk
 use Rattle.definitions.specs.Lists.{saveable_frames}
-use Rattle.definitions.specs.Tables.{frame, entry_at, flags_of, owner_of, is_saveable}
+use Rattle.definitions.specs.Tables.{frame, entry_at, page_flags, owner_of, is_saveable}
 use Rattle.definitions.specs.Zones.{numbers, top}
 use Rattle.definitions.proofs.Ascending.{Contains-head, Contains-tail, Contains-cons_cases}
 use Rattle.definitions.proofs.FrameSets.{Contains-filter}
@@ -34,7 +34,7 @@ use Rattle.protocol_laws.proofs.Resumed.{restored_slots}
 
 frame_saved : (h : Hardware) (m : Memory) (f : ℕ) → IsHardware h → Fits h m → IsTableFrame h f → Contains (saveable h m) f
 unfolding saveable_frames
-frame_saved h m f hw fits of = Contains-filter (λ p. is_saveable (flags_of (entry_at m h.frame_table p))) (numbers h.zones) f (table_frame_valid h f hw of) (fits.tables f of).0
+frame_saved h m f hw fits of = Contains-filter (λ p. is_saveable (page_flags (entry_at m h.frame_table p))) (numbers h.zones) f (table_frame_valid h f hw of) (fits.tables f of).0
 
 pub restored_entry : (h : Hardware) (dump m : Memory) (loader : Loader) (i : Image) (p : ℕ) → IsHardware h → Fits h m → i ≡ image_of_memory h m i.slots i.format → Contains (numbers h.zones) p → frame_entry h (restored h dump loader i) p ≡ frame_entry h m p
 restored_entry h dump m loader i p hw fits is in' =
@@ -94,7 +94,7 @@ restored_fits h dump m ranges i hw fits is =
       entries = λ p in'. ap is_well_formed (restored_entry h dump m (Ranges ranges) i p hw fits is in') ∙ fits.entries p in';
       tables = λ f of.
           let e = restored_entry h dump m (Ranges ranges) i f hw fits is (table_frame_valid h f hw of) in
-          (ap (λ (x : ℕ). is_saveable (flags_of x)) e ∙ (fits.tables f of).0, ap owner_of e ∙ (fits.tables f of).1);
+          (ap (λ (x : ℕ). is_saveable (page_flags x)) e ∙ (fits.tables f of).0, ap owner_of e ∙ (fits.tables f of).1);
       slots = λ s lt. ap (is_slot_entry s) (restored_slots h dump m (Ranges ranges) i hw fits is s lt) ∙ fits.slots s lt;
     }
 
@@ -123,10 +123,10 @@ not_true false e = absurd (false≢true e)
 good_frame : (h : Hardware) (m : Memory) (f : ℕ) → Fits h m → IsTableFrame h f → is_table_at_fault h m f ≡ false
 good_frame h m f fits of =
     let saved = fits.tables f of in
-    or-none (not (is_saveable (flags_of (frame_entry h m f))) || not (eqb (owner_of (frame_entry h m f)) 0) || list_any (λ p. eqb (h.frame_table + p / 1024) f && not (is_well_formed (frame_entry h m p))) (numbers h.zones))
+    or-none (not (is_saveable (page_flags (frame_entry h m f))) || not (eqb (owner_of (frame_entry h m f)) 0) || list_any (λ p. eqb (h.frame_table + p / 1024) f && not (is_well_formed (frame_entry h m p))) (numbers h.zones))
     (list_any (λ s. eqb (h.slot_table + s / 1024) f && not (is_slot_entry s (raw_slot_entry h m s))) (range_with_len 0 h.slots))
-    (or-none (not (is_saveable (flags_of (frame_entry h m f))) || not (eqb (owner_of (frame_entry h m f)) 0)) (list_any (λ p. eqb (h.frame_table + p / 1024) f && not (is_well_formed (frame_entry h m p))) (numbers h.zones))
-    (or-none (not (is_saveable (flags_of (frame_entry h m f)))) (not (eqb (owner_of (frame_entry h m f)) 0)) (not_true (is_saveable (flags_of (frame_entry h m f))) saved.0) (not_true (eqb (owner_of (frame_entry h m f)) 0) (eq-eqb (owner_of (frame_entry h m f)) 0 saved.1)))
+    (or-none (not (is_saveable (page_flags (frame_entry h m f))) || not (eqb (owner_of (frame_entry h m f)) 0)) (list_any (λ p. eqb (h.frame_table + p / 1024) f && not (is_well_formed (frame_entry h m p))) (numbers h.zones))
+    (or-none (not (is_saveable (page_flags (frame_entry h m f)))) (not (eqb (owner_of (frame_entry h m f)) 0)) (not_true (is_saveable (page_flags (frame_entry h m f))) saved.0) (not_true (eqb (owner_of (frame_entry h m f)) 0) (eq-eqb (owner_of (frame_entry h m f)) 0 saved.1)))
     (none_of (λ p. eqb (h.frame_table + p / 1024) f && not (is_well_formed (frame_entry h m p))) (numbers h.zones) (λ p in'. and-false (eqb (h.frame_table + p / 1024) f) (not (is_well_formed (frame_entry h m p))) (not_true (is_well_formed (frame_entry h m p)) (fits.entries p in')))))
     (none_of (λ s. eqb (h.slot_table + s / 1024) f && not (is_slot_entry s (raw_slot_entry h m s))) (range_with_len 0 h.slots)
     (λ s in'. let bounds = range-bounds 0 h.slots s in' in let below = bounds.1 in and-false (eqb (h.slot_table + s / 1024) f) (not (is_slot_entry s (raw_slot_entry h m s))) (not_true (is_slot_entry s (raw_slot_entry h m s)) (fits.slots s (omega arith)))))
@@ -155,7 +155,7 @@ pub fits_no_fault : (h : Hardware) (m : Memory) → Fits h m → tables_fault h 
 fits_no_fault h m fits = none_found (is_table_at_fault h m) (table_frames h) (λ f in'. good_frame h m f fits (of_tables h (ltb h.frame_table h.slot_table) f in'))
 
 -- The area fits it.
-pub restored_area : (h : Hardware) (v : disk.Image) (dump m : Memory) (loader : Loader) (i : Image) → IsHardware h → IsImageOf h v i m → dump_area_fault h v (restored h dump loader i) ≡ None
+pub restored_area : (h : Hardware) (v : disk.DiskImage) (dump m : Memory) (loader : Loader) (i : Image) → IsHardware h → IsImageOf h v i m → dump_area_fault h v (restored h dump loader i) ≡ None
 unfolding dump_area_fault
 restored_area h v dump m loader i hw is =
     ap (λ (o : Option NoSwap). first_fault o (bad_set_fault h (restored h dump loader i) (area_kind (area_block h v)))) is.fits_area.area

@@ -3,7 +3,7 @@ use Rattle.std.proofs.Common.{◌≡◌, ℕ, ◌+◌, ◌/◌, ◌<◌, ◌≤�
 use Rattle.definitions.specs.Disk as disk
 use Rattle.definitions.specs.Lists.{saveable_frames}
 use Rattle.definitions.specs.SwapHeader.{IsMarked}
-use Rattle.definitions.specs.Tables.{frame, entry_at, flags_of, is_saveable}
+use Rattle.definitions.specs.Tables.{frame, entry_at, page_flags, is_saveable}
 use Rattle.definitions.specs.Zones.{numbers}
 use Rattle.definitions.proofs.DiskLaws.{IsImage-as_it_reads}
 use Rattle.definitions.proofs.FrameSets.{Contains-filter}
@@ -43,7 +43,7 @@ table_saved h m s hw fits lt =
     let f = h.slot_table + s / 1024 in
     let of = of_slot_table h s lt in
     let in' = hw.slot_table (s / 1024) (let below = of.below in omega arith) in
-    Contains-filter (λ p. is_saveable (flags_of (entry_at m h.frame_table p))) (numbers h.zones) f in' (fits.tables f (inr of)).0
+    Contains-filter (λ p. is_saveable (page_flags (entry_at m h.frame_table p))) (numbers h.zones) f in' (fits.tables f (inr of)).0
 
 pub restored_slots : (h : Hardware) (dump m : Memory) (loader : Loader) (i : Image) → IsHardware h → Fits h m → i ≡ image_of_memory h m i.slots i.format → SameSlots h m (restored h dump loader i)
 restored_slots h dump m loader i hw fits is s lt =
@@ -57,7 +57,7 @@ restored_slots h dump m loader i hw fits is s lt =
 
 -- The area is the one that the image was made in.
 
-pub same_area : (h : Hardware) (v w : disk.Image) → Marked h v → (Marked h w → ⊥) → IsTakenBack h v w → area_block h w ≡ area_block h v
+pub same_area : (h : Hardware) (v w : disk.DiskImage) → Marked h v → (Marked h w → ⊥) → IsTakenBack h v w → area_block h w ≡ area_block h v
 same_area h v w marked unmarked taken = elim taken.header [
   | inl same ↦ absurd (unmarked (subst IsMarked (sym same) marked))
   | inr back ↦ area_block-unmarked h w unmarked ∙ back ∙ sym (area_block-marked h v marked)

@@ -3,7 +3,7 @@ use Rattle.std.proofs.Common.{◌≡◌, ◌≢◌, ℕ, ◌/◌, inl, inr, List
 use Rattle.std.specs.Cmp.Lexicographic.{pointwise}
 use Rattle.std.proofs.lemmas.Bool.{cases_order}
 use Rattle.definitions.specs.Bytes.{zero_page}
-use Rattle.definitions.specs.Disk.{Content, Image, IsContent, IsImage, as_it_reads, block, Syncs}
+use Rattle.definitions.specs.Disk.{Content, DiskImage, IsContent, IsImage, as_it_reads, block, Syncs}
 use Rattle.definitions.specs.SwapHeader.{IsMarked, sig_of, image_signature, taken_back}
 use Rattle.definitions.proofs.DiskLaws.{length-as_it_reads, block-other, IsImage-after_sync, IsImage-as_it_reads, as_it_reads-settled}
 use Rattle.sig_header.specs.AreaKind.{area_kind}
@@ -17,31 +17,31 @@ use Rattle.image_laws.proofs.ImageBlocks.{failed}
 use Rattle.image_laws.proofs.Images.{earlier_image}
 
 -- the two are as many blocks, and their header is the same
-pub record SameHeader (h : Hardware) (v w : Image) : Type 0 where
+pub record SameHeader (h : Hardware) (v w : DiskImage) : Type 0 where
   pub blocks : blocks_of v ≡ blocks_of w
   pub header : header_of h v ≡ header_of h w
 
 abbrev area_block_of : List ℕ → List ℕ
 area_block_of header = cond (pointwise nat_eq (sig_of header) image_signature) (taken_back header) header
 
-pub same_area_block : (h : Hardware) (v w : Image) → SameHeader h v w → area_block h v ≡ area_block h w
+pub same_area_block : (h : Hardware) (v w : DiskImage) → SameHeader h v w → area_block h v ≡ area_block h w
 same_area_block h v w same = ap area_block_of same.header
 
-pub same_area_fault : (h : Hardware) (v w : Image) → SameHeader h v w → area_fault h v ≡ area_fault h w
+pub same_area_fault : (h : Hardware) (v w : DiskImage) → SameHeader h v w → area_fault h v ≡ area_fault h w
 unfolding area_fault
 same_area_fault h v w same =
     ap₂ (λ (n : ℕ) (page : List ℕ). kind_or_fit_fault h n (area_kind page)) same.blocks (same_area_block h v w same)
 
-pub same_dump_area : (h : Hardware) (v w : Image) (m : Memory) → SameHeader h v w → dump_area_fault h v m ≡ dump_area_fault h w m
+pub same_dump_area : (h : Hardware) (v w : DiskImage) (m : Memory) → SameHeader h v w → dump_area_fault h v m ≡ dump_area_fault h w m
 unfolding dump_area_fault
 same_dump_area h v w m same =
     ap₂ first_fault (same_area_fault h v w same) (ap (λ (page : List ℕ). bad_set_fault h m (area_kind page)) (same_area_block h v w same))
 
-pub same_mark : (h : Hardware) (v w : Image) → SameHeader h v w → Marked h v → Marked h w
+pub same_mark : (h : Hardware) (v w : DiskImage) → SameHeader h v w → Marked h v → Marked h w
 same_mark h v w same marked = subst IsMarked same.header marked
 
 -- by their blocks
-pub same_header : (h : Hardware) (v w : Image) → length v ≡ length w → block v (block_of_slot h 0) ≡ block w (block_of_slot h 0) → SameHeader h v w
+pub same_header : (h : Hardware) (v w : DiskImage) → length v ≡ length w → block v (block_of_slot h 0) ≡ block w (block_of_slot h 0) → SameHeader h v w
 same_header h v w size same =
     let blocks : blocks_of v ≡ blocks_of w = ap (λ (n : ℕ). n / 8) size in
     record {
@@ -51,7 +51,7 @@ same_header h v w size same =
 
 -- A call keeps the header: each image after it has the header of one before, and so has the disk as it reads.
 pub record KeepsHeader (h : Hardware) (c c' : Content) : Type 0 where
-  pub each : (v : Image) → IsImage c' v → (w : Image) × IsImage c w × SameHeader h v w
+  pub each : (v : DiskImage) → IsImage c' v → (w : DiskImage) × IsImage c w × SameHeader h v w
   pub reads : SameHeader h (as_it_reads c') (as_it_reads c)
 
 pub header_kept : (h : Hardware) (c c' : Content) → KeepsHeader h c c' → IsHeader h c → IsHeader h c'
@@ -87,7 +87,7 @@ by_other_write h blocks x page c c' whole tries apart =
           (reads_kept x (block_of_slot h 0) page c c' tries apart);
     }
 
-same_as : (h : Hardware) (v w : Image) → v ≡ w → SameHeader h v w
+same_as : (h : Hardware) (v w : DiskImage) → v ≡ w → SameHeader h v w
 same_as h v w e = record { blocks = ap blocks_of e; header = ap (header_of h) e }
 
 -- a sync

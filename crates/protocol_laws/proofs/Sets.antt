@@ -5,7 +5,7 @@ use Rattle.std.proofs.lemmas.Bool.{cases_Bool, eqb-true, cond-false, false≢tru
 use Rattle.std.proofs.lemmas.List.{length-map}
 use Rattle.definitions.specs.Lists.{saveable_frames, free_frames, free_slots}
 use Rattle.definitions.specs.NumberPages.{meta_of, marked_numbers}
-use Rattle.definitions.specs.Tables.{frame, entry_at, flags_of, is_saveable}
+use Rattle.definitions.specs.Tables.{frame, entry_at, page_flags, is_saveable}
 use Rattle.definitions.specs.Zones.{numbers}
 use Rattle.definitions.proofs.ZoneNumbers.{range-bounds}
 use Rattle.plain_machine.specs.Machine.{Hardware, Memory, IsHardware, IsSameMemory, Fits, saveable, unused, unused_slots, frame_entry, raw_slot_entry, slot_entry, image_slot}
@@ -31,8 +31,8 @@ shown_entry h m frames p hw fits same in' =
 pub shown_saveable : (h : Hardware) (m frames : Memory) → IsHardware h → Fits h m → IsSameMemory h m (seen_frames h frames) → saveable h frames ≡ saveable h m
 unfolding saveable_frames
 shown_saveable h m frames hw fits same =
-    filter_agree_within (λ p. is_saveable (flags_of (entry_at frames h.frame_table p))) (λ p. is_saveable (flags_of (entry_at m h.frame_table p))) (numbers h.zones)
-    (λ p in'. ap (λ (entry : ℕ). is_saveable (flags_of entry)) (shown_entry h m frames p hw fits same in'))
+    filter_agree_within (λ p. is_saveable (page_flags (entry_at frames h.frame_table p))) (λ p. is_saveable (page_flags (entry_at m h.frame_table p))) (numbers h.zones)
+    (λ p in'. ap (λ (entry : ℕ). is_saveable (page_flags entry)) (shown_entry h m frames p hw fits same in'))
 
 pub shown_unused : (h : Hardware) (m frames : Memory) → IsHardware h → Fits h m → IsSameMemory h m (seen_frames h frames) → unused h frames ≡ unused h m
 unfolding free_frames

@@ -4,7 +4,7 @@ use Rattle.std.proofs.lemmas.Bool.{false≢true}
 use Rattle.std.proofs.lemmas.List.{length-map}
 use Rattle.page_core.specs.declared.format.Format.{Format}
 use Rattle.page_core.specs.declared.format.Format.TheVariants.{Plain, SkipZeros}
-use Rattle.definitions.specs.Tables.{frame, flags_of, is_saveable}
+use Rattle.definitions.specs.Tables.{frame, page_flags, is_saveable}
 use Rattle.definitions.proofs.ZoneLists.{Contains-from_free_frames, Contains-from_saveable_frames}
 use Rattle.plain_machine.specs.Machine.{Hardware, Memory, IsHardware, IsSameMemory, IsTableFrame, Fits, saveable, unused, frame_entry, raw_slot_entry}
 use Rattle.plain_machine.specs.Image.{SlotPages, is_zeros, n_of, d_of, has_data, without_data, image_of_memory}
@@ -71,8 +71,8 @@ both_parts test (x ∷ xs) = part_one (test x) x (filter test xs) (filter (λ y.
 
 -- The image.
 
-not_free : (entry : ℕ) → is_saveable (flags_of entry) ≡ true → entry ≢ 1
-not_free entry save e = false≢true (sym (ap (λ (n : ℕ). is_saveable (flags_of n)) e) ∙ save)
+not_free : (entry : ℕ) → is_saveable (page_flags entry) ≡ true → entry ≢ 1
+not_free entry save e = false≢true (sym (ap (λ (n : ℕ). is_saveable (page_flags n)) e) ∙ save)
 
 pub takes_image : (h : Hardware) (m frames : Memory) (slots : SlotPages) (f : Format) → IsHardware h → Fits h m → IsSameMemory h m (seen_frames h frames) → NamesNone h frames → IsTakenFrom h frames (image_of_memory h m slots f)
 takes_image h m frames slots f hw fits same none =

@@ -52,19 +52,19 @@ stops_first f (x ∷ xs) each = stops_else (f x) (first_some (map f xs)) (each x
 
 -- The chain.
 
-stops_block : (h : Hardware) (v : disk.Image) (x : ℕ) → Stops (block_fault h v x)
+stops_block : (h : Hardware) (v : disk.DiskImage) (x : ℕ) → Stops (block_fault h v x)
 stops_block h v x = stops_cond (is_at_fault h v x) (Some (reply.BadBlock x)) None refl refl
 
-stops_map : (h : Hardware) (v : disk.Image) (b j : ℕ) → Stops (map_fault h v b j)
+stops_map : (h : Hardware) (v : disk.DiskImage) (b j : ℕ) → Stops (map_fault h v b j)
 stops_map h v b zero = stops_cond (eqb b 0) (Some reply.NoChain) (block_fault h v b) refl (stops_block h v b)
 stops_map h v b (suc j) =
     stops_cond (eqb (map_block v b (suc j)) 0) (Some (reply.ChainEnds (suc j))) (block_fault h v (map_block v b (suc j))) refl (stops_block h v (map_block v b (suc j)))
 
-pub stops_place : (h : Hardware) (v : disk.Image) (here : Place) → Stops (place_cause h v here)
+pub stops_place : (h : Hardware) (v : disk.DiskImage) (here : Place) → Stops (place_cause h v here)
 stops_place h v (map_at j) = stops_map h v (first_map h v) j
 stops_place h v (page_at k) = stops_block h v (entry_block v (first_map h v) k)
 
-pub stops_next : (h : Hardware) (v : disk.Image) (t : ℕ) → Stops (next_cause h v t)
+pub stops_next : (h : Hardware) (v : disk.DiskImage) (t : ℕ) → Stops (next_cause h v t)
 stops_next h v t = stops_cond (ltb (t + 1) (place_count (info_in h v).pages)) (place_cause h v (place (t + 1))) None (stops_place h v (place (t + 1))) refl
 
 -- The first page.
@@ -76,39 +76,39 @@ stops_mismatch : (o : Option Field) → Stops (mismatch_cause o)
 stops_mismatch None = refl
 stops_mismatch (Some field) = refl
 
-stops_identity : (h : Hardware) (v : disk.Image) (check : IdentCheck) → Stops (identity_cause h v check)
+stops_identity : (h : Hardware) (v : disk.DiskImage) (check : IdentCheck) → Stops (identity_cause h v check)
 stops_identity h v Compare = stops_mismatch (mismatch (info_in h v).ident h.ident)
 stops_identity h v Skip = refl
 
-stops_memory : (h : Hardware) (v : disk.Image) → Stops (memory_cause h v)
+stops_memory : (h : Hardware) (v : disk.DiskImage) → Stops (memory_cause h v)
 stops_memory h v = stops_cond (eqb (info_in h v).physpages (valid_count h)) None (Some (reply.MemorySize (info_in h v).physpages (valid_count h))) refl refl
 
-stops_counts : (h : Hardware) (v : disk.Image) → Stops (counts_cause h v)
+stops_counts : (h : Hardware) (v : disk.DiskImage) → Stops (counts_cause h v)
 stops_counts h v =
     stops_cond (are_bad_counts (format_in h v) (valid_count h) (info_in h v).image_pages (info_in h v).pages)
     (Some (reply.BadCounts (info_in h v).image_pages (info_in h v).pages)) None refl refl
 
-stops_info : (h : Hardware) (v : disk.Image) (check : IdentCheck) → Stops (info_cause h v check)
+stops_info : (h : Hardware) (v : disk.DiskImage) (check : IdentCheck) → Stops (info_cause h v check)
 stops_info h v check =
     stops_else (identity_cause h v check) (or_else (memory_cause h v) (counts_cause h v)) (stops_identity h v check)
     (stops_else (memory_cause h v) (counts_cause h v) (stops_memory h v) (stops_counts h v))
 
 -- The number pages.
 
-stops_number : (h : Hardware) (v : disk.Image) (j : ℕ) → Stops (number_cause h v j)
+stops_number : (h : Hardware) (v : disk.DiskImage) (j : ℕ) → Stops (number_cause h v j)
 stops_number h v j =
     let out_of_order : Option Reply = cond (ltb 0 j && leb (number_in h v j) (number_in h v (j - 1))) (Some (reply.PfnOrder (number_in h v (j - 1)) (number_in h v j))) None in
     stops_cond (not (is_valid h (number_in h v j))) (Some (reply.BadPfn (number_in h v j))) out_of_order refl
     (stops_cond (ltb 0 j && leb (number_in h v j) (number_in h v (j - 1))) (Some (reply.PfnOrder (number_in h v (j - 1)) (number_in h v j))) None refl refl)
 
-stops_end : (h : Hardware) (v : disk.Image) (n : ℕ) → Stops (end_cause h v n)
+stops_end : (h : Hardware) (v : disk.DiskImage) (n : ℕ) → Stops (end_cause h v n)
 stops_end h v n = stops_cond (eqb (n % 512) 0 || eqb (number_word h v n) end_value) None (Some (reply.PfnEnd (number_word h v n))) refl refl
 
-stops_listed : (h : Hardware) (v : disk.Image) → Stops (listed_cause h v)
+stops_listed : (h : Hardware) (v : disk.DiskImage) → Stops (listed_cause h v)
 stops_listed h v =
     stops_cond (eqb (info_in h v).pages (d_in h v + meta_in h v + 1)) None (Some (reply.BadCounts (info_in h v).image_pages (info_in h v).pages)) refl refl
 
-stops_numbers : (h : Hardware) (v : disk.Image) (q : ℕ) → Stops (numbers_cause h v q)
+stops_numbers : (h : Hardware) (v : disk.DiskImage) (q : ℕ) → Stops (numbers_cause h v q)
 stops_numbers h v q =
     let n = (info_in h v).image_pages in
     let listed = range_with_len (512 * q) (min 512 (n - 512 * q)) in
@@ -118,23 +118,23 @@ stops_numbers h v q =
     stops_cond (eqb (q + 1) (meta_of n)) (or_else first behind) first
     (stops_else first behind each (stops_else (end_cause h v n) (listed_cause h v) (stops_end h v n) (stops_listed h v))) each
 
-stops_read : (h : Hardware) (v : disk.Image) (check : IdentCheck) (here : Place) → Stops (read_cause h v check here)
+stops_read : (h : Hardware) (v : disk.DiskImage) (check : IdentCheck) (here : Place) → Stops (read_cause h v check here)
 stops_read h v check (map_at j) = refl
 stops_read h v check (page_at zero) = stops_info h v check
 stops_read h v check (page_at (suc q)) = stops_cond (ltb q (meta_in h v)) (numbers_cause h v q) None (stops_numbers h v q) refl
 
 -- The loader's room.
 
-stops_room : (h : Hardware) (dump : Memory) (v : disk.Image) (loader : Loader) → Stops (room_cause h dump v loader)
+stops_room : (h : Hardware) (dump : Memory) (v : disk.DiskImage) (loader : Loader) → Stops (room_cause h dump v loader)
 stops_room h dump v loader =
     let have = length (left_free h dump loader) in
     stops_cond (ltb have (need (d_in h v))) (Some (reply.TooFewLoaderFrames have (need (d_in h v)))) None refl refl
 
-stops_want : (h : Hardware) (dump : Memory) (v : disk.Image) (loader : Loader) (here : Place) → Stops (want_cause h dump v loader here)
+stops_want : (h : Hardware) (dump : Memory) (v : disk.DiskImage) (loader : Loader) (here : Place) → Stops (want_cause h dump v loader here)
 stops_want h dump v loader (map_at j) = refl
 stops_want h dump v loader (page_at k) = stops_cond (eqb k (meta_in h v)) (room_cause h dump v loader) None (stops_room h dump v loader) refl
 
-pub stops_content : (h : Hardware) (dump : Memory) (v : disk.Image) (loader : Loader) (check : IdentCheck) (here : Place) → Stops (content_cause h dump v loader check here)
+pub stops_content : (h : Hardware) (dump : Memory) (v : disk.DiskImage) (loader : Loader) (check : IdentCheck) (here : Place) → Stops (content_cause h dump v loader check here)
 stops_content h dump v loader check here = stops_else (read_cause h v check here) (want_cause h dump v loader here) (stops_read h v check here) (stops_want h dump v loader here)
 
 -- The restored tables.
@@ -146,7 +146,7 @@ stops_fault : (o : Option ℕ) → Stops (table_reply o)
 stops_fault None = refl
 stops_fault (Some f) = refl
 
-pub stops_tables : (h : Hardware) (v : disk.Image) (m : Memory) → Stops (tables_cause h v m)
+pub stops_tables : (h : Hardware) (v : disk.DiskImage) (m : Memory) → Stops (tables_cause h v m)
 stops_tables h v m = stops_fault (or_else (tables_fault h m) (cond (is_none (dump_area_fault h v m)) None (Some h.slot_table)))
 
 -- Block(0).
@@ -157,11 +157,11 @@ header_passed_by true c flags e = absurd (false≢true (ap is_loading e))
 header_passed_by false true flags e = absurd (false≢true (ap is_loading e))
 header_passed_by false false flags e = refl
 
-pub header_passed : (h : Hardware) (v : disk.Image) → unwrap_or (header_cause h v) (reply.Loading 2) ≡ reply.Loading 2 → header_cause h v ≡ None
+pub header_passed : (h : Hardware) (v : disk.DiskImage) → unwrap_or (header_cause h v) (reply.Loading 2) ≡ reply.Loading 2 → header_cause h v ≡ None
 header_passed h v =
     header_passed_by (not (pointwise nat_eq (sig_of (header_of h v)) image_signature)) (not (is_set (flags_of (header_of h v)) 2)) (flags_of (header_of h v))
 
-pub stops_taken_back : (h : Hardware) (v : disk.Image) → Stops (taken_back_cause h v)
+pub stops_taken_back : (h : Hardware) (v : disk.DiskImage) → Stops (taken_back_cause h v)
 stops_taken_back h v =
     let header = header_of h v in
     stops_cond (is_set (flags_of header) 8 && not (eqb (hw_sig_of header) h.hw_sig)) (Some (reply.HwMismatch (hw_sig_of header) h.hw_sig)) (map_fault h v (first_map h v) 0) refl

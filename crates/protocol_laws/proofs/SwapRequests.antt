@@ -57,7 +57,7 @@ bad_set-by h m n (Swap area) same =
     (λ s. cond (eqb (raw_slot_entry h m s) bad_slot) (has (bad_slots_of area) s) (not (has (bad_slots_of area) s))) (range_with_len 0 h.slots)
     (λ s in'. let bounds = range-bounds 0 h.slots s in' in let below = bounds.1 in ap (λ (b : Bool). cond b (has (bad_slots_of area) s) (not (has (bad_slots_of area) s))) (same s (omega arith))))
 
-pub dump_area-by : (h : Hardware) (v : disk.Image) (m n : Memory) → SameBad h m n → dump_area_fault h v n ≡ dump_area_fault h v m
+pub dump_area-by : (h : Hardware) (v : disk.DiskImage) (m n : Memory) → SameBad h m n → dump_area_fault h v n ≡ dump_area_fault h v m
 unfolding dump_area_fault
 dump_area-by h v m n same = ap (first_fault (area_fault h v)) (bad_set-by h m n (area_kind (area_block h v)) same)
 
@@ -121,12 +121,12 @@ by_refusal a b r None outs in' = inr (refl, in')
 by_refusal a b r (Some x) outs in' = inl (ap (λ (o : Outcome). o.1) (only_one (x, a) (r, b) in'))
 
 -- a request is refused, or made
-request_cases : (h : Hardware) (v : disk.Image) (a : Running) (t : ℕ) (o : TaskOp) (r : Reply) (b : State) → Step h v (on a) (event.Task t o) r b → (on a ≡ b) ⊎ ((task_refusal h t o a ≡ None) × Contains (requested h a t o) (r, b))
+request_cases : (h : Hardware) (v : disk.DiskImage) (a : Running) (t : ℕ) (o : TaskOp) (r : Reply) (b : State) → Step h v (on a) (event.Task t o) r b → (on a ≡ b) ⊎ ((task_refusal h t o a ≡ None) × Contains (requested h a t o) (r, b))
 unfolding outcomes refusal
 request_cases h v a t o r b step = by_refusal (on a) b r (task_refusal h t o a) (requested h a t o) step
 
 -- a task that has an operation ends it
-pub ends : (h : Hardware) (v : disk.Image) (a : Running) (t : ℕ) (f : Flight) (r : Reply) (b : State) → a.flights t ≡ Some f → Step h v (on a) (event.Step (actor.Task t)) r b → Contains (finished h a t f) (r, b)
+pub ends : (h : Hardware) (v : disk.DiskImage) (a : Running) (t : ℕ) (f : Flight) (r : Reply) (b : State) → a.flights t ≡ Some f → Step h v (on a) (event.Step (actor.Task t)) r b → Contains (finished h a t f) (r, b)
 unfolding outcomes refusal
 ends h v a t f r b flight step =
     subst (λ (o : Option Flight). Contains (refused_or (on a) (refused_if (not (is_some o)) reply.Idle) (task_step h a t o)) (r, b)) flight step
@@ -610,7 +610,7 @@ requested_on h shown shown' c a b t (op.TakeIn s p) r hw fits task on' idle none
     (in_begins h shown shown' c a t s p task on' idle its.0 slot.0 slot.1 fewer)
 
 -- A task's request leaves a running state, over the same disk.
-pub request_stands : (h : Hardware) (shown shown' : Shown) (c : disk.Content) (v : disk.Image) (a b : Running) (t : ℕ) (o : TaskOp) (r : Reply) → IsHardware h → Fits h a.memory → IsTask t → StandsOn h shown c a → Step h v (on a) (event.Task t o) r (on b) → NamesNoMore h shown.frames shown'.frames → StandsOn h shown' c b
+pub request_stands : (h : Hardware) (shown shown' : Shown) (c : disk.Content) (v : disk.DiskImage) (a b : Running) (t : ℕ) (o : TaskOp) (r : Reply) → IsHardware h → Fits h a.memory → IsTask t → StandsOn h shown c a → Step h v (on a) (event.Task t o) r (on b) → NamesNoMore h shown.frames shown'.frames → StandsOn h shown' c b
 request_stands h shown shown' c v a b t o r hw fits task on' step fewer =
     elim (request_cases h v a t o r (on b) step) [
       | inl e ↦ subst (StandsOn h shown' c) (same_on a b e) (still_on h shown shown' c a on' fewer)

@@ -21,7 +21,7 @@ use Rattle.plain_machine.specs.Stands.{Stands, IsHeld, HaveSlotPages, Reads, Nam
 use Rattle.plain_machine.specs.State.{on, hibernating, Running, nothing}
 use Rattle.image_write.proofs.Done.{write_at}
 use Rattle.plain_machine.proofs.BadSlots.{fits_area}
-use Rattle.protocol_laws.specs.Steps.{IsOver, ShowsCopies}
+use Rattle.protocol_laws.specs.Steps.{IsOverDisk, ShowsCopies}
 use Rattle.protocol_laws.proofs.Same.{header_kept, area_kept, nothing_kept, by_sync, by_nothing}
 use Rattle.protocol_laws.proofs.Laid.{count_of, count_is}
 use Rattle.protocol_laws.proofs.Back.{held_before, unheld, slots_read, goes_back}
@@ -40,14 +40,14 @@ all_laid h shown c suspends i a k le stands =
 pub slots_of_image : (h : Hardware) (a : Running) (i : Image) (shown : Shown) (c : disk.Content) (suspends : Bool) (k : ℕ) → Stands h shown c (hibernating suspends i a k) → HaveSlotPages h c i.slots
 slots_of_image h a i shown c suspends k stands = subst (HaveSlotPages h c) (sym (ap (λ (x : Image). x.slots) stands.parts.1.image)) stands.parts.0.slot_pages
 
-pub syncs_on : (h : Hardware) (shown shown' : Shown) (c c' : disk.Content) (blocks : ℕ) (suspends : Bool) (i : Image) (a : Running) (k : ℕ) → IsOver h i blocks c → Stands h shown c (hibernating suspends i a k) → k + 4 ≡ hibernate_steps i →
+pub syncs_on : (h : Hardware) (shown shown' : Shown) (c c' : disk.Content) (blocks : ℕ) (suspends : Bool) (i : Image) (a : Running) (k : ℕ) → IsOverDisk h i blocks c → Stands h shown c (hibernating suspends i a k) → k + 4 ≡ hibernate_steps i →
     disk.Syncs c c' → shown'.activity ≡ hibernates suspends (k + 1) → ShowsCopies h shown' a i → Stands h shown' c' (hibernating suspends i a (k + 1))
 syncs_on h shown shown' c c' blocks suspends i a k over stands last syncs activity shows =
     let behind = stands.parts.0 in
     let keeps = by_sync h blocks c c' over.content syncs in
     let reads : disk.as_it_reads c' ≡ disk.as_it_reads c = ap disk.as_it_reads syncs ∙ as_it_reads-settled (disk.as_it_reads c) in
     let all = all_laid h shown c suspends i a k (omega arith) stands in
-    let image : (v : disk.Image) → disk.IsImage c' v → disk.as_it_reads c ≡ v = λ v in'. sym (IsImage-after_sync c c' v syncs in') in
+    let image : (v : disk.DiskImage) → disk.IsImage c' v → disk.as_it_reads c ≡ v = λ v in'. sym (IsImage-after_sync c c' v syncs in') in
     let slots = slots_of_image h a i shown c suspends k stands in
     let none : IsHeld h c' nothing = nothing_kept h c c' keeps (unheld h shown c suspends i a k (omega arith) stands) in
     record {
@@ -58,18 +58,18 @@ syncs_on h shown shown' c c' blocks suspends i a k over stands last syncs activi
           shows = shows.shows;
           task_slots = behind.task_slots;
           flights = behind.flights;
-          slot_pages = slots_read h c c' a.slots (λ s page e. ap (λ (v : disk.Image). disk.block v (block_of_slot h s)) reads) behind.slot_pages;
+          slot_pages = slots_read h c c' a.slots (λ s page e. ap (λ (v : disk.DiskImage). disk.block v (block_of_slot h s)) reads) behind.slot_pages;
           header = header_kept h c c' keeps behind.header;
           area = area_kept h c c' a keeps behind.area;
         },
         stands.parts.1,
         shows.names,
         record {
-          laid = All-take (Reads (disk.as_it_reads c')) (k + 1) (laid_writes h a i) (subst (λ (v : disk.Image). All (Reads v) (laid_writes h a i)) (sym reads) all);
+          laid = All-take (Reads (disk.as_it_reads c')) (k + 1) (laid_writes h a i) (subst (λ (v : disk.DiskImage). All (Reads v) (laid_writes h a i)) (sym reads) all);
           copies = shows.copies;
           durable = λ le. record {
-            blocks = λ v in'. subst (λ (w : disk.Image). All (Reads w) (laid_writes h a i)) (image v in') all;
-            slots = λ s page e v in'. subst (λ (w : disk.Image). disk.block w (block_of_slot h s) ≡ page) (image v in') (slots s page e);
+            blocks = λ v in'. subst (λ (w : disk.DiskImage). All (Reads w) (laid_writes h a i)) (image v in') all;
+            slots = λ s page e v in'. subst (λ (w : disk.DiskImage). disk.block w (block_of_slot h s) ≡ page) (image v in') (slots s page e);
             mark = λ v in' marked. absurd (none v in' marked);
           };
         },
@@ -80,7 +80,7 @@ syncs_on h shown shown' c c' blocks suspends i a k over stands last syncs activi
     }
 
 -- the read changes nothing, and the block is kept
-pub reads_on : (h : Hardware) (shown shown' : Shown) (c : disk.Content) (blocks : ℕ) (suspends : Bool) (i : Image) (a : Running) (k : ℕ) → IsOver h i blocks c → Stands h shown c (hibernating suspends i a k) → k + 3 ≡ hibernate_steps i →
+pub reads_on : (h : Hardware) (shown shown' : Shown) (c : disk.Content) (blocks : ℕ) (suspends : Bool) (i : Image) (a : Running) (k : ℕ) → IsOverDisk h i blocks c → Stands h shown c (hibernating suspends i a k) → k + 3 ≡ hibernate_steps i →
     shown'.header ≡ header_of h (disk.as_it_reads c) → shown'.activity ≡ hibernates suspends (k + 1) → ShowsCopies h shown' a i → Stands h shown' c (hibernating suspends i a (k + 1))
 reads_on h shown shown' c blocks suspends i a k over stands last header activity shows =
     let behind = stands.parts.0 in
@@ -127,7 +127,7 @@ swap_kind h blocks Old e = e
 swap_kind h blocks (Other sig) e = e
 swap_kind h blocks (BadArea why) e = e
 
-unmarked_block : (h : Hardware) (v : disk.Image) → (Marked h v → ⊥) → area_block h v ≡ header_of h v
+unmarked_block : (h : Hardware) (v : disk.DiskImage) → (Marked h v → ⊥) → area_block h v ≡ header_of h v
 unmarked_block h v unmarked = cond-false (pointwise nat_eq (sig_of (header_of h v)) image_signature) (taken_back (header_of h v)) (header_of h v) (differs (pointwise nat_eq (sig_of (header_of h v)) image_signature) refl) where
   differs : (b : Bool) → pointwise nat_eq (sig_of (header_of h v)) image_signature ≡ b → pointwise nat_eq (sig_of (header_of h v)) image_signature ≡ false
   differs true e = absurd (unmarked (same_text (sig_of (header_of h v)) image_signature (sym e)))

@@ -4,7 +4,7 @@ use Rattle.byteorder.specs.Endian.{little_bytes}
 use Rattle.std.proofs.lemmas.Bool.{cases_eq, cases_lt}
 use Rattle.definitions.specs.Bytes.{IsPage}
 use Rattle.definitions.specs.Lists.{image_slots}
-use Rattle.definitions.specs.Tables.{frame, HasTable, table_frames}
+use Rattle.definitions.specs.Tables.{frame, HasTable, table_frame_count}
 use Rattle.definitions.proofs.Ascending.{Contains-nil, Contains-head, Contains-tail, Contains-cons_cases}
 use Rattle.definitions.proofs.FreeSlots.{Contains-image_slots, image_slot}
 use Rattle.definitions.proofs.TableEntries.{entry_at-with_entries_same, entry_at-with_entries_other, length-with_entries, IsPage-with_entries, HasTable-with_entries, frame-with_entries_other}
@@ -82,7 +82,7 @@ same_chunk h m ss k is free =
         | inr past ↦ inr (λ lt e. absurd (omega arith))
       ]
 
-seen_outside : (h : Hardware) (m : Memory) (f : ℕ) → (f < h.slot_table) ⊎ (h.slot_table + table_frames h.slots ≤ f) → frame (seen_frames h m) f ≡ frame m f
+seen_outside : (h : Hardware) (m : Memory) (f : ℕ) → (f < h.slot_table) ⊎ (h.slot_table + table_frame_count h.slots ≤ f) → frame (seen_frames h m) f ≡ frame m f
 seen_outside h m f out = frame-with_entries_other m h.slot_table h.slots (image_slots h.slots h.slot_table m) 0 f (image_below h m) out
 
 -- What is seen of memory stays where free slots are taken.

@@ -27,14 +27,14 @@ before_back : (h : Hardware) (shown : Shown) (c : disk.Content) (blocks : ℕ) (
 before_back h shown c blocks load i whole stands =
     is_before h shown c blocks whole (stands.parts.2 (inr refl)) (stands.parts.3 refl) (there h shown c blocks load i whole stands).0.marked stands.parts.0.1
 
-pub fits_by_area : (h : Hardware) (m : Memory) (v w : disk.Image) → blocks_of v ≡ blocks_of w → area_block h v ≡ area_block h w → FitsArea h w m → FitsArea h v m
+pub fits_by_area : (h : Hardware) (m : Memory) (v w : disk.DiskImage) → blocks_of v ≡ blocks_of w → area_block h v ≡ area_block h w → FitsArea h w m → FitsArea h v m
 unfolding area_fault
 fits_by_area h m v w blocks page fits = record {
   area = ap₂ (λ (n : ℕ) (p : List ℕ). kind_or_fit_fault h n (area_kind p)) blocks page ∙ fits.area;
   bad_slots = ap (λ (p : List ℕ). bad_set_fault h m (area_kind p)) page ∙ fits.bad_slots;
 }
 
-pub own_back : (h : Hardware) (i : Image) (v w : disk.Image) → blocks_of v ≡ blocks_of w → area_block h v ≡ area_block h w → (Marked h v → ⊥) → IsOwn h w i → IsOwn h v i
+pub own_back : (h : Hardware) (i : Image) (v w : disk.DiskImage) → blocks_of v ≡ blocks_of w → area_block h v ≡ area_block h w → (Marked h v → ⊥) → IsOwn h w i → IsOwn h v i
 own_back h i v w blocks page unmarked own_is =
     let m = own_is.of_memory.1 in
     record {
@@ -42,7 +42,7 @@ own_back h i v w blocks page unmarked own_is =
       signature = λ marked. absurd (unmarked marked);
     }
 
-held_back : (h : Hardware) (shown : Shown) (c : disk.Content) (blocks : ℕ) (i : Image) (v : disk.Image) → IsBefore h shown c blocks → IsHeld h c (sure (own i)) → TornBack h shown c v → ((Marked h v → ⊥) ⊎ Holds h v i) × IsOwn h v i
+held_back : (h : Hardware) (shown : Shown) (c : disk.Content) (blocks : ℕ) (i : Image) (v : disk.DiskImage) → IsBefore h shown c blocks → IsHeld h c (sure (own i)) → TornBack h shown c v → ((Marked h v → ⊥) ⊎ Holds h v i) × IsOwn h v i
 held_back h shown c blocks i v before held (still was) = let it = held v was in (inr it.0, it.1)
 held_back h shown c blocks i v before held (back w in_w same taken) =
     let header = header_back h shown c blocks v w before in_w same taken in
@@ -96,8 +96,8 @@ pub unmarked_synced : (h : Hardware) (shown shown' : Shown) (c c' : disk.Content
 unmarked_synced h shown shown' c c' blocks load whole stands syncs shows =
     let unmarked : Marked h (disk.as_it_reads c) → ⊥ = stands.parts.4 refl in
     let here = IsImage-as_it_reads blocks c whole in
-    let is = λ (v : disk.Image) (in' : disk.IsImage c' v). IsImage-after_sync c c' v syncs in' in
-    let none = λ (v : disk.Image) (in' : disk.IsImage c' v) (m : Marked h v). unmarked (subst (Marked h) (is v in') m) in
+    let is = λ (v : disk.DiskImage) (in' : disk.IsImage c' v). IsImage-after_sync c c' v syncs in' in
+    let none = λ (v : disk.DiskImage) (in' : disk.IsImage c' v) (m : Marked h v). unmarked (subst (Marked h) (is v in') m) in
     let was = stands.parts.1 in
     record {
       activity = shows.activity;

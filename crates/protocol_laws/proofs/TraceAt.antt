@@ -19,20 +19,20 @@ stops_or_goes : (o : Option Reply) (k : ℕ) (rest : List Reply) → slice_get (
 stops_or_goes None k rest = refl
 stops_or_goes (Some r) k rest = refl
 
-first : (h : Hardware) (dump : Memory) (v : disk.Image) (loader : Loader) (check : IdentCheck) → slice_get (trace h dump v loader check) 0 ≡ Some (reply.Loading 1)
+first : (h : Hardware) (dump : Memory) (v : disk.DiskImage) (loader : Loader) (check : IdentCheck) → slice_get (trace h dump v loader check) 0 ≡ Some (reply.Loading 1)
 unfolding trace
 first h dump v loader check = refl
 
-second : (h : Hardware) (dump : Memory) (v : disk.Image) (loader : Loader) (check : IdentCheck) → slice_get (trace h dump v loader check) 1 ≡ Some (unwrap_or (header_cause h v) (reply.Loading 2))
+second : (h : Hardware) (dump : Memory) (v : disk.DiskImage) (loader : Loader) (check : IdentCheck) → slice_get (trace h dump v loader check) 1 ≡ Some (unwrap_or (header_cause h v) (reply.Loading 2))
 unfolding trace
 second h dump v loader check = stops_or_goes (header_cause h v) 2 (reply.Loading 3 ∷ stop_or_go (taken_back_cause h v) 4 (replies_from h dump v loader check 5 (places (info_in h v).pages)))
 
-third : (h : Hardware) (dump : Memory) (v : disk.Image) (loader : Loader) (check : IdentCheck) → header_cause h v ≡ None → slice_get (trace h dump v loader check) 2 ≡ Some (reply.Loading 3)
+third : (h : Hardware) (dump : Memory) (v : disk.DiskImage) (loader : Loader) (check : IdentCheck) → header_cause h v ≡ None → slice_get (trace h dump v loader check) 2 ≡ Some (reply.Loading 3)
 unfolding trace
 third h dump v loader check header =
     ap (λ o. slice_get (stop_or_go o 2 (reply.Loading 3 ∷ stop_or_go (taken_back_cause h v) 4 (replies_from h dump v loader check 5 (places (info_in h v).pages)))) 1) header
 
-fourth : (h : Hardware) (dump : Memory) (v : disk.Image) (loader : Loader) (check : IdentCheck) → header_cause h v ≡ None → slice_get (trace h dump v loader check) 3 ≡ Some (unwrap_or (taken_back_cause h v) (reply.Loading 4))
+fourth : (h : Hardware) (dump : Memory) (v : disk.DiskImage) (loader : Loader) (check : IdentCheck) → header_cause h v ≡ None → slice_get (trace h dump v loader check) 3 ≡ Some (unwrap_or (taken_back_cause h v) (reply.Loading 4))
 unfolding trace
 fourth h dump v loader check header =
     let rest = replies_from h dump v loader check 5 (places (info_in h v).pages) in
@@ -41,7 +41,7 @@ fourth h dump v loader check header =
 -- The later ones.
 
 -- the cause at a place, before the last and at the last
-more_places : (h : Hardware) (dump : Memory) (v : disk.Image) (loader : Loader) (check : IdentCheck) (t : ℕ) → t + 1 < place_count (info_in h v).pages →
+more_places : (h : Hardware) (dump : Memory) (v : disk.DiskImage) (loader : Loader) (check : IdentCheck) (t : ℕ) → t + 1 < place_count (info_in h v).pages →
     or_else (content_cause h dump v loader check (place t)) (next_cause h v t) ≡ cause_at h dump v loader check t
 more_places h dump v loader check t lt =
     ap (or_else (content_cause h dump v loader check (place t)))
@@ -55,7 +55,7 @@ none_behind : (o : Option Reply) (past : Reply) → unwrap_or (or_else o None) p
 none_behind None past = refl
 none_behind (Some r) past = refl
 
-on_way : (h : Hardware) (dump : Memory) (v : disk.Image) (loader : Loader) (check : IdentCheck) (t : ℕ) → t + 1 < place_count (info_in h v).pages →
+on_way : (h : Hardware) (dump : Memory) (v : disk.DiskImage) (loader : Loader) (check : IdentCheck) (t : ℕ) → t + 1 < place_count (info_in h v).pages →
     reply_or (cause_at h dump v loader check t) (t + 5) ≡ reply_at h dump v loader check (suc (suc (suc (suc t))))
 on_way h dump v loader check t lt =
     let number : t + 5 ≡ 5 + t = omega arith in
@@ -63,7 +63,7 @@ on_way h dump v loader check t lt =
     reply_or_is (cause_at h dump v loader check t) (t + 5)
     ∙ ap₂ unwrap_or (sym (more_places h dump v loader check t lt)) (ap (λ (n : ℕ). reply.Loading n) number ∙ sym past)
 
-at_end : (h : Hardware) (dump : Memory) (v : disk.Image) (loader : Loader) (check : IdentCheck) (t : ℕ) → t + 1 ≡ place_count (info_in h v).pages →
+at_end : (h : Hardware) (dump : Memory) (v : disk.DiskImage) (loader : Loader) (check : IdentCheck) (t : ℕ) → t + 1 ≡ place_count (info_in h v).pages →
     last_at h dump v loader check t ≡ reply_at h dump v loader check (suc (suc (suc (suc t))))
 at_end h dump v loader check t last =
     let count = place_count (info_in h v).pages in
@@ -75,10 +75,10 @@ at_end h dump v loader check t last =
       not_lt m n ge = elim (cases_Bool (ltb m n)) [ inl lt ↦ (let less = ltb-true m n lt in absurd (omega arith)) | inr isn't ↦ isn't ]
 
 -- each place before had no cause
-abbrev HaveGoneOn : Hardware → Memory → disk.Image → Loader → IdentCheck → ℕ → Type 0
+abbrev HaveGoneOn : Hardware → Memory → disk.DiskImage → Loader → IdentCheck → ℕ → Type 0
 HaveGoneOn h dump v loader check k = (j : ℕ) → j < k → reply_at h dump v loader check j ≡ reply.Loading (j + 1)
 
-none_before : (h : Hardware) (dump : Memory) (v : disk.Image) (loader : Loader) (check : IdentCheck) (t s : ℕ) → HaveGoneOn h dump v loader check (suc (suc (suc (suc t)))) → t < place_count (info_in h v).pages → s < t → cause_at h dump v loader check s ≡ None
+none_before : (h : Hardware) (dump : Memory) (v : disk.DiskImage) (loader : Loader) (check : IdentCheck) (t s : ℕ) → HaveGoneOn h dump v loader check (suc (suc (suc (suc t)))) → t < place_count (info_in h v).pages → s < t → cause_at h dump v loader check s ≡ None
 none_before h dump v loader check t s gone within lt =
     let content = content_cause h dump v loader check (place s) in
     sym (more_places h dump v loader check s (omega arith))
@@ -86,10 +86,10 @@ none_before h dump v loader check t s gone within lt =
     (stops_else content (next_cause h v s) (stops_content h dump v loader check (place s)) (stops_next h v s))
     (gone (suc (suc (suc (suc s)))) (omega arith))
 
-no_header : (h : Hardware) (dump : Memory) (v : disk.Image) (loader : Loader) (check : IdentCheck) (k : ℕ) → HaveGoneOn h dump v loader check k → 1 < k → header_cause h v ≡ None
+no_header : (h : Hardware) (dump : Memory) (v : disk.DiskImage) (loader : Loader) (check : IdentCheck) (k : ℕ) → HaveGoneOn h dump v loader check k → 1 < k → header_cause h v ≡ None
 no_header h dump v loader check k gone lt = header_passed h v (gone 1 lt)
 
-later : (h : Hardware) (dump : Memory) (v : disk.Image) (loader : Loader) (check : IdentCheck) (t : ℕ) → t < place_count (info_in h v).pages → HaveGoneOn h dump v loader check (suc (suc (suc (suc t)))) → slice_get (trace h dump v loader check) (t + 4) ≡ Some (reply_at h dump v loader check (suc (suc (suc (suc t)))))
+later : (h : Hardware) (dump : Memory) (v : disk.DiskImage) (loader : Loader) (check : IdentCheck) (t : ℕ) → t < place_count (info_in h v).pages → HaveGoneOn h dump v loader check (suc (suc (suc (suc t)))) → slice_get (trace h dump v loader check) (t + 4) ≡ Some (reply_at h dump v loader check (suc (suc (suc (suc t)))))
 later h dump v loader check t within gone =
     let header = no_header h dump v loader check (suc (suc (suc (suc t)))) gone (omega arith) in
     let back = none_stopped (taken_back_cause h v) (reply.Loading 4) 4 (stops_taken_back h v) (gone 3 (omega arith)) in
@@ -101,7 +101,7 @@ later h dump v loader check t within gone =
           trace_ends h dump v loader check t header back before last ∙ ap Some (at_end h dump v loader check t last)
     ]
 
-pub traces_at : (h : Hardware) (dump : Memory) (v : disk.Image) (loader : Loader) (check : IdentCheck) (k : ℕ) → k < 4 + place_count (info_in h v).pages →
+pub traces_at : (h : Hardware) (dump : Memory) (v : disk.DiskImage) (loader : Loader) (check : IdentCheck) (k : ℕ) → k < 4 + place_count (info_in h v).pages →
     ((j : ℕ) → j < k → reply_at h dump v loader check j ≡ reply.Loading (j + 1)) →
     slice_get (trace h dump v loader check) k ≡ Some (reply_at h dump v loader check k)
 traces_at h dump v loader check zero within gone = first h dump v loader check

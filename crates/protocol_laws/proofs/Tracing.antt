@@ -39,7 +39,7 @@ record AreFew (i : Image) : Type 0 where
   some : 1 ≤ n_of i
   few : n_of i ≤ 65536
 
-are_few : (h : Hardware) (v : disk.Image) (i : Image) → IsOwnDisk h v i → AreFew i
+are_few : (h : Hardware) (v : disk.DiskImage) (i : Image) → IsOwnDisk h v i → AreFew i
 are_few h v i is =
     let few = few_saved h v i is in
     let all = count_at_most h.zones is.hardware.zones in
@@ -49,7 +49,7 @@ are_few h v i is =
 max_pages : (i : Image) → max (pages_of i) 1 ≡ pages_of i
 max_pages i = omega arith
 
-pub count_is : (h : Hardware) (v : disk.Image) (i : Image) → IsOwnDisk h v i → place_count (info_in h v).pages ≡ maps_read (pages_of i) + pages_of i
+pub count_is : (h : Hardware) (v : disk.DiskImage) (i : Image) → IsOwnDisk h v i → place_count (info_in h v).pages ≡ maps_read (pages_of i) + pages_of i
 count_is h v i is = ap (λ (x : Info). place_count x.pages) (info_is h v i is) ∙ ap₂ (λ (m p : ℕ). maps_read m + p) (max_pages i) (max_pages i)
 
 -- The loader's room, which is tested at the last number page.
@@ -60,7 +60,7 @@ have h load = length (left_free h load.dump load.loader)
 abbrev pub few_reply : Hardware → Load → Image → Reply
 few_reply h load i = reply.TooFewLoaderFrames (have h load) (need (d_of i))
 
-room_there : (h : Hardware) (v : disk.Image) (i : Image) (load : Load) → IsOwnDisk h v i → has_room h load (d_of i) ≡ true → room_cause h load.dump v load.loader ≡ None
+room_there : (h : Hardware) (v : disk.DiskImage) (i : Image) (load : Load) → IsOwnDisk h v i → has_room h load (d_of i) ≡ true → room_cause h load.dump v load.loader ≡ None
 room_there h v i load is room =
     let enough = leb-true (need (d_of i)) (have h load) room in
     let d = d_is h v i is in
@@ -69,7 +69,7 @@ room_there h v i load is room =
       not_lt : (a b : ℕ) → b ≤ a → ltb a b ≡ false
       not_lt a b le = elim (cases_Bool (ltb a b)) [ inl lt ↦ (let less = ltb-true a b lt in absurd (omega arith)) | inr isn't ↦ isn't ]
 
-no_room : (h : Hardware) (v : disk.Image) (i : Image) (load : Load) → IsOwnDisk h v i → has_room h load (d_of i) ≡ false → room_cause h load.dump v load.loader ≡ Some (few_reply h load i)
+no_room : (h : Hardware) (v : disk.DiskImage) (i : Image) (load : Load) → IsOwnDisk h v i → has_room h load (d_of i) ≡ false → room_cause h load.dump v load.loader ≡ Some (few_reply h load i)
 no_room h v i load is none =
     let less = leb-false (need (d_of i)) (have h load) none in
     let same = ap need (d_is h v i is) in
@@ -86,7 +86,7 @@ number_place m some few =
 other_place : (m t : ℕ) → m ≤ 200 → t % 512 ≢ 0 → t ≢ m + 1 → t - t / 512 - 1 ≢ m
 other_place m t few page other e = other (omega arith)
 
-want_other : (h : Hardware) (v : disk.Image) (i : Image) (load : Load) (t : ℕ) → IsOwnDisk h v i → t ≢ meta i + 1 → want_cause h load.dump v load.loader (place t) ≡ None
+want_other : (h : Hardware) (v : disk.DiskImage) (i : Image) (load : Load) (t : ℕ) → IsOwnDisk h v i → t ≢ meta i + 1 → want_cause h load.dump v load.loader (place t) ≡ None
 want_other h v i load t is other =
     let sizes = are_few h v i is in
     let some = sizes.some in
@@ -100,7 +100,7 @@ want_other h v i load t is other =
           (ne_eqb (t - t / 512 - 1) (meta_in h v) (λ e. other_place (meta i) t (omega arith) page other (e ∙ m)))
     ]
 
-want_here : (h : Hardware) (v : disk.Image) (i : Image) (load : Load) (t : ℕ) → IsOwnDisk h v i → t ≡ meta i + 1 → want_cause h load.dump v load.loader (place t) ≡ room_cause h load.dump v load.loader
+want_here : (h : Hardware) (v : disk.DiskImage) (i : Image) (load : Load) (t : ℕ) → IsOwnDisk h v i → t ≡ meta i + 1 → want_cause h load.dump v load.loader (place t) ≡ room_cause h load.dump v load.loader
 want_here h v i load t is here =
     let sizes = are_few h v i is in
     let some = sizes.some in
@@ -114,20 +114,20 @@ want_here h v i load t is here =
 abbrev GoesOn : Hardware → Load → Image → ℕ → Type 0
 GoesOn h load i t = (t ≢ meta i + 1) ⊎ (has_room h load (d_of i) ≡ true)
 
-no_want : (h : Hardware) (v : disk.Image) (i : Image) (load : Load) (t : ℕ) → IsOwnDisk h v i → GoesOn h load i t → want_cause h load.dump v load.loader (place t) ≡ None
+no_want : (h : Hardware) (v : disk.DiskImage) (i : Image) (load : Load) (t : ℕ) → IsOwnDisk h v i → GoesOn h load i t → want_cause h load.dump v load.loader (place t) ≡ None
 no_want h v i load t is (inl other) = want_other h v i load t is other
 no_want h v i load t is (inr room) = elim (cases_eq t (meta i + 1)) [
   | inl here ↦ want_here h v i load t is here ∙ room_there h v i load is room
   | inr other ↦ want_other h v i load t is other
 ]
 
-want_few : (h : Hardware) (v : disk.Image) (i : Image) (load : Load) (t : ℕ) → IsOwnDisk h v i → t ≡ meta i + 1 → has_room h load (d_of i) ≡ false → want_cause h load.dump v load.loader (place t) ≡ Some (few_reply h load i)
+want_few : (h : Hardware) (v : disk.DiskImage) (i : Image) (load : Load) (t : ℕ) → IsOwnDisk h v i → t ≡ meta i + 1 → has_room h load (d_of i) ≡ false → want_cause h load.dump v load.loader (place t) ≡ Some (few_reply h load i)
 want_few h v i load t is here none = want_here h v i load t is here ∙ no_room h v i load is none
 
-content_by_want : (h : Hardware) (v : disk.Image) (i : Image) (load : Load) (t : ℕ) → IsOwnDisk h v i → content_cause h load.dump v load.loader load.check (place t) ≡ want_cause h load.dump v load.loader (place t)
+content_by_want : (h : Hardware) (v : disk.DiskImage) (i : Image) (load : Load) (t : ℕ) → IsOwnDisk h v i → content_cause h load.dump v load.loader load.check (place t) ≡ want_cause h load.dump v load.loader (place t)
 content_by_want h v i load t is = ap (λ (o : Option Reply). or_else o (want_cause h load.dump v load.loader (place t))) (no_read_cause h v i load.check (place t) is)
 
-no_cause : (h : Hardware) (v : disk.Image) (i : Image) (load : Load) (t : ℕ) → IsOwnDisk h v i → GoesOn h load i t → t + 1 < maps_read (pages_of i) + pages_of i → cause_at h load.dump v load.loader load.check t ≡ None
+no_cause : (h : Hardware) (v : disk.DiskImage) (i : Image) (load : Load) (t : ℕ) → IsOwnDisk h v i → GoesOn h load i t → t + 1 < maps_read (pages_of i) + pages_of i → cause_at h load.dump v load.loader load.check t ≡ None
 no_cause h v i load t is goes lt =
     both_none (content_cause h load.dump v load.loader load.check (place t)) (place_cause h v (place (t + 1)))
     (content_by_want h v i load t is ∙ no_want h v i load t is goes) (no_place_cause h v i (t + 1) is.holds lt)
@@ -177,10 +177,10 @@ restored-frames h dump loader i j e = ap (λ (xs : List (ℕ × List ℕ)). map 
 abbrev table_reply : Option ℕ → Option Reply
 table_reply o = elim o as (λ x. Option Reply) [ None ↦ None | Some f ↦ Some (reply.BadTables f) ]
 
-pub restored_is : (h : Hardware) (v : disk.Image) (i : Image) (dump : Memory) (loader : Loader) → IsOwnDisk h v i → restored_in h dump v loader ≡ restored h dump loader i
+pub restored_is : (h : Hardware) (v : disk.DiskImage) (i : Image) (dump : Memory) (loader : Loader) → IsOwnDisk h v i → restored_in h dump v loader ≡ restored h dump loader i
 restored_is h v i dump loader is = restored-frames h dump loader (image_in h v (λ s. None)) i (ap (λ (x : Image). x.frames) (decodes h v i is.holds is.sayable))
 
-ends_resumed : (h : Hardware) (v : disk.Image) (i : Image) (dump : Memory) (loader : Loader) → IsOwnDisk h v i → last_reply h dump v loader ≡ reply.Resumed (n_of i)
+ends_resumed : (h : Hardware) (v : disk.DiskImage) (i : Image) (dump : Memory) (loader : Loader) → IsOwnDisk h v i → last_reply h dump v loader ≡ reply.Resumed (n_of i)
 ends_resumed h v i dump (Ranges ranges) is =
     let m = is.own.of_memory.0 in
     let own = is.own.of_memory.1 in
@@ -195,7 +195,7 @@ ends_resumed h v i dump Table is = ap (λ (x : Info). reply.Resumed x.image_page
 
 -- The trace.
 
-first_reply : (h : Hardware) (dump : Memory) (v : disk.Image) (loader : Loader) (check : IdentCheck) (k : ℕ) → header_cause h v ≡ None → taken_back_cause h v ≡ None → 1 ≤ k → k < 4 → slice_get (trace h dump v loader check) k ≡ Some (reply.Loading (k + 1))
+first_reply : (h : Hardware) (dump : Memory) (v : disk.DiskImage) (loader : Loader) (check : IdentCheck) (k : ℕ) → header_cause h v ≡ None → taken_back_cause h v ≡ None → 1 ≤ k → k < 4 → slice_get (trace h dump v loader check) k ≡ Some (reply.Loading (k + 1))
 unfolding trace
 first_reply h dump v loader check zero header back some few = absurd (omega arith)
 first_reply h dump v loader check (suc zero) header back some few =
@@ -206,7 +206,7 @@ first_reply h dump v loader check (suc (suc (suc zero))) header back some few =
     ap₂ (λ o p. slice_get (stop_or_go o 2 (reply.Loading 3 ∷ stop_or_go p 4 (replies_from h dump v loader check 5 (places (info_in h v).pages)))) 2) header back
 first_reply h dump v loader check (suc (suc (suc (suc k)))) header back some few = absurd (omega arith)
 
-later_reply : (h : Hardware) (v : disk.Image) (i : Image) (load : Load) (k t : ℕ) → IsOwnDisk h v i → k ≡ t + 4 → k < resume_steps i → Comes h load i k → slice_get (trace h load.dump v load.loader load.check) (t + 4) ≡ Some (own_reply h load i k)
+later_reply : (h : Hardware) (v : disk.DiskImage) (i : Image) (load : Load) (k t : ℕ) → IsOwnDisk h v i → k ≡ t + 4 → k < resume_steps i → Comes h load i k → slice_get (trace h load.dump v load.loader load.check) (t + 4) ≡ Some (own_reply h load i k)
 later_reply h v i load k t is four lt comes =
     let header = no_header_cause h v i is.holds in
     let back = no_taken_back_cause h v i is.holds is.own in
@@ -247,7 +247,7 @@ later_reply h v i load k t is four lt comes =
           ap (λ (o : Option Reply). unwrap_or o (last_reply h load.dump v load.loader)) (content_by_want h v i load t is ∙ no_want h v i load t is goes)
           ∙ ends_resumed h v i load.dump load.loader is ∙ sym (own_late h load i k t four goes ∙ late_resumed h load i k (omega arith))
 
-pub traces_own : (h : Hardware) (v : disk.Image) (i : Image) (load : Load) (k : ℕ) → IsHardware h → Holds h v i → IsOwn h v i → 1 ≤ k → k < resume_steps i → Comes h load i k → slice_get (trace h load.dump v load.loader load.check) k ≡ Some (own_reply h load i k)
+pub traces_own : (h : Hardware) (v : disk.DiskImage) (i : Image) (load : Load) (k : ℕ) → IsHardware h → Holds h v i → IsOwn h v i → 1 ≤ k → k < resume_steps i → Comes h load i k → slice_get (trace h load.dump v load.loader load.check) k ≡ Some (own_reply h load i k)
 traces_own h v i load k hw holds own some lt comes =
     let is : IsOwnDisk h v i = record { hardware = hw; holds = holds; own = own; sayable = own_sayable h v i hw own } in
     let sizes = are_few h v i is in

@@ -20,7 +20,7 @@ use Rattle.plain_machine.specs.declared.reply.UndoCall.{UndoCall}
 use Rattle.image_laws.specs.ImageBlocks.{Tries}
 use Rattle.image_laws.proofs.ImageBlocks.{length-taken_back}
 use Rattle.image_write.proofs.Done.{write_at, all_done}
-use Rattle.protocol_laws.specs.Steps.{IsOver}
+use Rattle.protocol_laws.specs.Steps.{IsOverDisk}
 use Rattle.protocol_laws.specs.Undo.{with_held}
 use Rattle.protocol_laws.specs.Rows.{AddsNoMark}
 use Rattle.protocol_laws.proofs.HeaderLeft.{marks_written}
@@ -33,7 +33,7 @@ use Rattle.protocol_laws.proofs.Unmarking.{IsUnmarking, Torn, still, back, torn,
 
 -- The state: the world keeps the marked page.
 record IsUndoing (h : Hardware) (shown : Shown) (c : disk.Content) (blocks : ℕ) (i : Image) (call : UndoCall) (a : Running) : Type 0 where
-  pub over : IsOver h i blocks c
+  pub over : IsOverDisk h i blocks c
   pub page : IsPage shown.header
   pub stands : Stands h shown c (undoing i call a 0)
 
@@ -64,14 +64,14 @@ record IsTried (h : Hardware) (shown : Shown) (c c' : disk.Content) (blocks : �
   pub after : disk.IsContent blocks c'
   pub tries : Tries (block_of_slot h 0) (taken_back shown.header) c c'
 
-abbrev TornUndo : Hardware → Shown → disk.Content → disk.Image → Type 0
+abbrev TornUndo : Hardware → Shown → disk.Content → disk.DiskImage → Type 0
 TornUndo h shown c v = Torn h (taken_back shown.header) c v
 
-each_torn : (h : Hardware) (shown : Shown) (c c' : disk.Content) (blocks : ℕ) (i : Image) (call : UndoCall) (a : Running) (v : disk.Image) → IsTried h shown c c' blocks i call a → disk.IsImage c' v → TornUndo h shown c v
+each_torn : (h : Hardware) (shown : Shown) (c c' : disk.Content) (blocks : ℕ) (i : Image) (call : UndoCall) (a : Running) (v : disk.DiskImage) → IsTried h shown c c' blocks i call a → disk.IsImage c' v → TornUndo h shown c v
 each_torn h shown c c' blocks i call a v is in' = torn h (taken_back shown.header) c c' blocks v (unmarking h shown c blocks i call a is.undoing_is) is.tries in'
 
 -- What is held: where the block is taken back the image isn't marked.
-held_torn : (h : Hardware) (shown : Shown) (c : disk.Content) (blocks : ℕ) (i : Image) (call : UndoCall) (a : Running) (v : disk.Image) → IsUndoing h shown c blocks i call a → TornUndo h shown c v → ((Marked h v → ⊥) ⊎ Holds h v i) × IsOwn h v i
+held_torn : (h : Hardware) (shown : Shown) (c : disk.Content) (blocks : ℕ) (i : Image) (call : UndoCall) (a : Running) (v : disk.DiskImage) → IsUndoing h shown c blocks i call a → TornUndo h shown c v → ((Marked h v → ⊥) ⊎ Holds h v i) × IsOwn h v i
 held_torn h shown c blocks i call a v is (still was) = is.stands.parts.0.held v was
 held_torn h shown c blocks i call a v is (back w in_w same header) =
     let page = taken_back shown.header in
@@ -80,7 +80,7 @@ held_torn h shown c blocks i call a v is (back w in_w same header) =
     let kind = kind_torn h page c blocks v un (back w in_w same header) ∙ sym (kind_torn h page c blocks w un (still in_w)) in
     (inl never, own_torn h i v w (is.stands.parts.0.held w in_w).1 (ap (λ (n : ℕ). n / 8) same.size) kind never)
 
-laid_torn : (h : Hardware) (shown : Shown) (c : disk.Content) (blocks : ℕ) (i : Image) (call : UndoCall) (a : Running) (v : disk.Image) → IsUndoing h shown c blocks i call a → TornUndo h shown c v → All (Reads v) (laid_writes h a i)
+laid_torn : (h : Hardware) (shown : Shown) (c : disk.Content) (blocks : ℕ) (i : Image) (call : UndoCall) (a : Running) (v : disk.DiskImage) → IsUndoing h shown c blocks i call a → TornUndo h shown c v → All (Reads v) (laid_writes h a i)
 laid_torn h shown c blocks i call a v is (still was) = is.stands.parts.3.blocks v was
 laid_torn h shown c blocks i call a v is (back w in_w same header) =
     let free = unused_slots h a.memory in
@@ -90,13 +90,13 @@ laid_torn h shown c blocks i call a v is (back w in_w same header) =
     let at = slot_of_write h a i j is.stands.parts.1 lt in
     same.others (write_at h.extents free stream j).0 (λ e. free_not_header h a.memory at.slot is.over.hardware is.stands.parts.0.shows.fits at.free (sym e ∙ at.is)) ∙ done j lt)
 
-slots_torn : (h : Hardware) (shown : Shown) (c : disk.Content) (blocks : ℕ) (i : Image) (call : UndoCall) (a : Running) (v : disk.Image) (s : ℕ) (page : List ℕ) → IsUndoing h shown c blocks i call a → i.slots s ≡ Some page → TornUndo h shown c v → disk.block v (block_of_slot h s) ≡ page
+slots_torn : (h : Hardware) (shown : Shown) (c : disk.Content) (blocks : ℕ) (i : Image) (call : UndoCall) (a : Running) (v : disk.DiskImage) (s : ℕ) (page : List ℕ) → IsUndoing h shown c blocks i call a → i.slots s ≡ Some page → TornUndo h shown c v → disk.block v (block_of_slot h s) ≡ page
 slots_torn h shown c blocks i call a v s page is e (still was) = is.stands.parts.3.slots s page e v was
 slots_torn h shown c blocks i call a v s page is e (back w in_w same header) =
     let task = is.stands.parts.0.task_slots.tasks s page (sym (ap (λ (x : Image). x.slots s) is.stands.parts.1.image) ∙ e) in
     same.others (block_of_slot h s) (task_not_header h a.memory s is.over.hardware is.stands.parts.0.shows.fits task.0 task.2) ∙ is.stands.parts.3.slots s page e w in_w
 
-says_torn : (h : Hardware) (shown : Shown) (c : disk.Content) (blocks : ℕ) (i : Image) (call : UndoCall) (a : Running) (v : disk.Image) → IsUndoing h shown c blocks i call a → TornUndo h shown c v → Marked h v → HasMark h i.format (first_map_block h a) (header_of h v)
+says_torn : (h : Hardware) (shown : Shown) (c : disk.Content) (blocks : ℕ) (i : Image) (call : UndoCall) (a : Running) (v : disk.DiskImage) → IsUndoing h shown c blocks i call a → TornUndo h shown c v → Marked h v → HasMark h i.format (first_map_block h a) (header_of h v)
 says_torn h shown c blocks i call a v is (still was) marked = is.stands.parts.3.mark v was marked
 says_torn h shown c blocks i call a v is (back w in_w same header) marked = absurd ((keeps h shown c blocks i call a is).unmarked (subst IsMarked header marked))
 
@@ -108,12 +108,12 @@ still_laid h shown c c' blocks i call a is = record {
 }
 
 -- A mark that a crash may leave afterwards it might have left before.
-pub undo_adds_no_mark : (h : Hardware) (shown : Shown) (c c' : disk.Content) (blocks : ℕ) (i : Image) (call : UndoCall) (a : Running) → IsOver h i blocks c → IsPage shown.header → Stands h shown c (undoing i call a 0) →
+pub undo_adds_no_mark : (h : Hardware) (shown : Shown) (c c' : disk.Content) (blocks : ℕ) (i : Image) (call : UndoCall) (a : Running) → IsOverDisk h i blocks c → IsPage shown.header → Stands h shown c (undoing i call a 0) →
     Tries (block_of_slot h 0) (taken_back shown.header) c c' → AddsNoMark h c c'
 undo_adds_no_mark h shown c c' blocks i call a over page stands =
     marks_written h (taken_back shown.header) c c' blocks (unmarking h shown c blocks i call a (record { over = over; page = page; stands = stands }))
 
-pub takes_mark_back : (h : Hardware) (shown shown' : Shown) (c c' : disk.Content) (blocks : ℕ) (i : Image) (call : UndoCall) (a : Running) → IsOver h i blocks c → IsPage shown.header → disk.IsContent blocks c' → Stands h shown c (undoing i call a 0) →
+pub takes_mark_back : (h : Hardware) (shown shown' : Shown) (c c' : disk.Content) (blocks : ℕ) (i : Image) (call : UndoCall) (a : Running) → IsOverDisk h i blocks c → IsPage shown.header → disk.IsContent blocks c' → Stands h shown c (undoing i call a 0) →
     disk.Writes (block_of_slot h 0) (taken_back shown.header) c c' → shown'.activity ≡ undoes call 1 → ShowsRunning h shown' a → NamesOnly h shown' (laid_blocks h a i) → Stands h shown' c' (undoing i call a 1)
 takes_mark_back h shown shown' c c' blocks i call a over page after stands writes activity shows names =
     let is : IsTried h shown c c' blocks i call a = record { undoing_is = record { over = over; page = page; stands = stands }; after = after; tries = inl writes } in
@@ -141,7 +141,7 @@ takes_mark_back h shown shown' c c' blocks i call a over page after stands write
     }
 
 -- The write fails: the machine runs, and the image is there or not.
-pub undo_write_fails : (h : Hardware) (shown shown' : Shown) (c c' : disk.Content) (blocks : ℕ) (i : Image) (call : UndoCall) (a : Running) → IsOver h i blocks c → IsPage shown.header → disk.IsContent blocks c' → Stands h shown c (undoing i call a 0) →
+pub undo_write_fails : (h : Hardware) (shown shown' : Shown) (c c' : disk.Content) (blocks : ℕ) (i : Image) (call : UndoCall) (a : Running) → IsOverDisk h i blocks c → IsPage shown.header → disk.IsContent blocks c' → Stands h shown c (undoing i call a 0) →
     disk.FailsToWrite (block_of_slot h 0) (taken_back shown.header) c c' → shown'.activity ≡ runs → ShowsRunning h shown' (with_held a (maybe (own i))) → NamesOnly h shown' (laid_blocks h a i) → Stands h shown' c' (on (with_held a (maybe (own i))))
 undo_write_fails h shown shown' c c' blocks i call a over page after stands fails activity shows names =
     let is : IsTried h shown c c' blocks i call a = record { undoing_is = record { over = over; page = page; stands = stands }; after = after; tries = inr fails } in
@@ -167,7 +167,7 @@ undo_write_fails h shown shown' c c' blocks i call a over page after stands fail
     }
 
 -- The sync: no image is marked any more. Where it fails the disk is as it was.
-pub undo_syncs : (h : Hardware) (shown shown' : Shown) (c c' : disk.Content) (blocks : ℕ) (i : Image) (call : UndoCall) (a : Running) → IsOver h i blocks c → Stands h shown c (undoing i call a 1) → disk.Syncs c c' →
+pub undo_syncs : (h : Hardware) (shown shown' : Shown) (c c' : disk.Content) (blocks : ℕ) (i : Image) (call : UndoCall) (a : Running) → IsOverDisk h i blocks c → Stands h shown c (undoing i call a 1) → disk.Syncs c c' →
     shown'.activity ≡ runs → ShowsRunning h shown' (with_held a nothing) → NamesOnly h shown' [] → Stands h shown' c' (on (with_held a nothing))
 undo_syncs h shown shown' c c' blocks i call a over stands syncs activity shows names =
     let behind = stands.parts.0 in
@@ -183,7 +183,7 @@ undo_syncs h shown shown' c c' blocks i call a over stands syncs activity shows 
           held = λ v in' marked. unmarked (subst (Marked h) (IsImage-after_sync c c' v syncs in') marked);
           task_slots = behind.task_slots;
           flights = no_flights-owned h (with_held a nothing) (no_flights_in h a behind.flights stands.parts.1.idle);
-          slot_pages = slots_read h c c' a.slots (λ s page e. ap (λ (v : disk.Image). disk.block v (block_of_slot h s)) reads) behind.slot_pages;
+          slot_pages = slots_read h c c' a.slots (λ s page e. ap (λ (v : disk.DiskImage). disk.block v (block_of_slot h s)) reads) behind.slot_pages;
           names = names;
           header = header_kept h c c' keeps behind.header;
           area = area;
@@ -191,7 +191,7 @@ undo_syncs h shown shown' c c' blocks i call a over stands syncs activity shows 
       );
     }
 
-pub undo_sync_fails : (h : Hardware) (shown shown' : Shown) (c : disk.Content) (blocks : ℕ) (i : Image) (call : UndoCall) (a : Running) → IsOver h i blocks c → Stands h shown c (undoing i call a 1) →
+pub undo_sync_fails : (h : Hardware) (shown shown' : Shown) (c : disk.Content) (blocks : ℕ) (i : Image) (call : UndoCall) (a : Running) → IsOverDisk h i blocks c → Stands h shown c (undoing i call a 1) →
     shown'.activity ≡ runs → ShowsRunning h shown' (with_held a (maybe (own i))) → NamesOnly h shown' (laid_blocks h a i) → Stands h shown' c (on (with_held a (maybe (own i))))
 undo_sync_fails h shown shown' c blocks i call a over stands activity shows names =
     let behind = stands.parts.0 in

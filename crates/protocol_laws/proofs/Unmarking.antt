@@ -37,7 +37,7 @@ pub record IsUnmarking (h : Hardware) (page : List ℕ) (c : disk.Content) (bloc
   pub area : AgreeOnArea page (area_block h (disk.as_it_reads c))
   pub header : IsHeader h c
 
-pub header_page : (h : Hardware) (page : List ℕ) (c : disk.Content) (blocks : ℕ) (v : disk.Image) → IsUnmarking h page c blocks → disk.IsImage c v → header_of h v ≡ disk.block v (block_of_slot h 0)
+pub header_page : (h : Hardware) (page : List ℕ) (c : disk.Content) (blocks : ℕ) (v : disk.DiskImage) → IsUnmarking h page c blocks → disk.IsImage c v → header_of h v ≡ disk.block v (block_of_slot h 0)
 header_page h page c blocks v is in' =
     let lt = is.on_disk in
     let n = image_blocks blocks c v is.content in' in
@@ -60,7 +60,7 @@ area_front_by : (header : List ℕ) (b : Bool) → IsPage header → take 4056 (
 area_front_by header true whole = back_front header whole
 area_front_by header false whole = refl
 
-pub area_front : (h : Hardware) (v : disk.Image) → IsPage (header_of h v) → take 4056 (area_block h v) ≡ take 4056 (header_of h v)
+pub area_front : (h : Hardware) (v : disk.DiskImage) → IsPage (header_of h v) → take 4056 (area_block h v) ≡ take 4056 (header_of h v)
 area_front h v whole = area_front_by (header_of h v) (pointwise nat_eq (sig_of (header_of h v)) image_signature) whole
 
 pub same_front : (p q : List ℕ) → IsPage p → IsPage q → take 4056 p ≡ take 4056 q → AgreeBut 3584 4096 p q
@@ -70,16 +70,16 @@ same_front p q a b front = record {
   after = λ i le. get_or_past p i 0 (omega arith) ∙ sym (get_or_past q i 0 (omega arith));
 }
 
-pub area_page : (h : Hardware) (v : disk.Image) → IsPage (header_of h v) → IsPage (area_block h v)
+pub area_page : (h : Hardware) (v : disk.DiskImage) → IsPage (header_of h v) → IsPage (area_block h v)
 area_page h v whole = either (pointwise nat_eq (sig_of (header_of h v)) image_signature) where
   either : (b : Bool) → IsPage (cond b (taken_back (header_of h v)) (header_of h v))
   either true = length-taken_back (header_of h v) whole
   either false = whole
 
-page_before : (h : Hardware) (page : List ℕ) (c : disk.Content) (blocks : ℕ) (v : disk.Image) → IsUnmarking h page c blocks → disk.IsImage c v → IsPage (header_of h v)
+page_before : (h : Hardware) (page : List ℕ) (c : disk.Content) (blocks : ℕ) (v : disk.DiskImage) → IsUnmarking h page c blocks → disk.IsImage c v → IsPage (header_of h v)
 page_before h page c blocks v is in' = subst IsPage (sym (header_page h page c blocks v is in')) (length-block blocks c v (block_of_slot h 0) is.content in' is.on_disk)
 
-block_agrees : (h : Hardware) (page : List ℕ) (c : disk.Content) (blocks : ℕ) (w : disk.Image) → IsUnmarking h page c blocks → disk.IsImage c w → AgreeBut 3584 4096 (disk.block w (block_of_slot h 0)) page
+block_agrees : (h : Hardware) (page : List ℕ) (c : disk.Content) (blocks : ℕ) (w : disk.DiskImage) → IsUnmarking h page c blocks → disk.IsImage c w → AgreeBut 3584 4096 (disk.block w (block_of_slot h 0)) page
 block_agrees h page c blocks w is in' =
     let at = header_page h page c blocks w is in' in
     let one = is.header.one w in' in
@@ -87,11 +87,11 @@ block_agrees h page c blocks w is in' =
     (ap (take 4056) (sym at) ∙ sym (area_front h w (page_before h page c blocks w is in')) ∙ one.front ∙ sym is.area.front)
 
 -- An image after the write, failed or not: one of before, or with the page in the block.
-pub data Torn (h : Hardware) (page : List ℕ) (c : disk.Content) (v : disk.Image) : Type 0 where
+pub data Torn (h : Hardware) (page : List ℕ) (c : disk.Content) (v : disk.DiskImage) : Type 0 where
   still : disk.IsImage c v → Torn h page c v
-  back : (w : disk.Image) → disk.IsImage c w → SameBut (block_of_slot h 0) v w → header_of h v ≡ page → Torn h page c v
+  back : (w : disk.DiskImage) → disk.IsImage c w → SameBut (block_of_slot h 0) v w → header_of h v ≡ page → Torn h page c v
 
-pub torn : (h : Hardware) (page : List ℕ) (c c' : disk.Content) (blocks : ℕ) (v : disk.Image) → IsUnmarking h page c blocks → Tries (block_of_slot h 0) page c c' → disk.IsImage c' v → Torn h page c v
+pub torn : (h : Hardware) (page : List ℕ) (c c' : disk.Content) (blocks : ℕ) (v : disk.DiskImage) → IsUnmarking h page c blocks → Tries (block_of_slot h 0) page c c' → disk.IsImage c' v → Torn h page c v
 torn h page c c' blocks v is tries in' =
     let lt = is.on_disk in
     elim (torn_image blocks (block_of_slot h 0) page c c' v is.content lt is.whole tries (λ w in_w. block_agrees h page c blocks w is in_w) in') [
@@ -103,11 +103,11 @@ torn h page c c' blocks v is tries in' =
     ]
 
 -- What each says of the area.
-pub record SaysArea (h : Hardware) (c : disk.Content) (v : disk.Image) : Type 0 where
+pub record SaysArea (h : Hardware) (c : disk.Content) (v : disk.DiskImage) : Type 0 where
   pub agrees : AgreeOnArea (area_block h v) (area_block h (disk.as_it_reads c))
   pub unmarked : IsMarked (area_block h v) → ⊥
 
-says_area : (h : Hardware) (page : List ℕ) (c : disk.Content) (blocks : ℕ) (v : disk.Image) → IsUnmarking h page c blocks → Torn h page c v → SaysArea h c v
+says_area : (h : Hardware) (page : List ℕ) (c : disk.Content) (blocks : ℕ) (v : disk.DiskImage) → IsUnmarking h page c blocks → Torn h page c v → SaysArea h c v
 says_area h page c blocks v is (still was) = record { agrees = is.header.one v was; unmarked = is.header.unmarked v was }
 says_area h page c blocks v is (back w in_w same header) =
     let here : area_block h v ≡ page = area_block-unmarked h v (λ m. is.unmarked (subst IsMarked header m)) ∙ header in
@@ -130,11 +130,11 @@ agree_but p q a b agree = record {
   ];
 }
 
-page_torn : (h : Hardware) (page : List ℕ) (c : disk.Content) (blocks : ℕ) (v : disk.Image) → IsUnmarking h page c blocks → Torn h page c v → IsPage (header_of h v)
+page_torn : (h : Hardware) (page : List ℕ) (c : disk.Content) (blocks : ℕ) (v : disk.DiskImage) → IsUnmarking h page c blocks → Torn h page c v → IsPage (header_of h v)
 page_torn h page c blocks v is (still was) = page_before h page c blocks v is was
 page_torn h page c blocks v is (back w in_w same header) = subst IsPage (sym header) is.whole
 
-pub kind_torn : (h : Hardware) (page : List ℕ) (c : disk.Content) (blocks : ℕ) (v : disk.Image) → IsUnmarking h page c blocks → Torn h page c v → area_kind (area_block h v) ≡ area_kind (area_block h (disk.as_it_reads c))
+pub kind_torn : (h : Hardware) (page : List ℕ) (c : disk.Content) (blocks : ℕ) (v : disk.DiskImage) → IsUnmarking h page c blocks → Torn h page c v → area_kind (area_block h v) ≡ area_kind (area_block h (disk.as_it_reads c))
 kind_torn h page c blocks v is t =
     let says = says_area h page c blocks v is t in
     let w = disk.as_it_reads c in
@@ -142,12 +142,12 @@ kind_torn h page c blocks v is t =
     area_kind_same (area_block h v) (area_block h w)
     (agree_but (area_block h v) (area_block h w) (area_page h v (page_torn h page c blocks v is t)) (area_page h w (page_before h page c blocks w is here)) says.agrees) says.unmarked
 
-pub count_torn : (h : Hardware) (page : List ℕ) (c : disk.Content) (blocks : ℕ) (v : disk.Image) → disk.IsContent blocks c → Torn h page c v → blocks_of v ≡ blocks
+pub count_torn : (h : Hardware) (page : List ℕ) (c : disk.Content) (blocks : ℕ) (v : disk.DiskImage) → disk.IsContent blocks c → Torn h page c v → blocks_of v ≡ blocks
 count_torn h page c blocks v whole (still was) = image_blocks blocks c v whole was
 count_torn h page c blocks v whole (back w in_w same header) = ap (λ (n : ℕ). n / 8) same.size ∙ image_blocks blocks c w whole in_w
 
 -- an own image whose block was taken back
-pub own_torn : (h : Hardware) (i : Image) (v w : disk.Image) → IsOwn h w i → blocks_of v ≡ blocks_of w → area_kind (area_block h v) ≡ area_kind (area_block h w) → (Marked h v → ⊥) → IsOwn h v i
+pub own_torn : (h : Hardware) (i : Image) (v w : disk.DiskImage) → IsOwn h w i → blocks_of v ≡ blocks_of w → area_kind (area_block h v) ≡ area_kind (area_block h w) → (Marked h v → ⊥) → IsOwn h v i
 unfolding area_fault
 own_torn h i v w own_is blocks kind unmarked =
     let m = own_is.of_memory.1 in
@@ -171,7 +171,7 @@ own_torn h i v w own_is blocks kind unmarked =
 
 pub header_still : (h : Hardware) (page : List ℕ) (c c' : disk.Content) (blocks : ℕ) → IsUnmarking h page c blocks → disk.IsContent blocks c' → Tries (block_of_slot h 0) page c c' → IsHeader h c'
 header_still h page c c' blocks is after tries =
-    let says = λ (v : disk.Image) (in' : disk.IsImage c' v). says_area h page c blocks v is (torn h page c c' blocks v is tries in') in
+    let says = λ (v : disk.DiskImage) (in' : disk.IsImage c' v). says_area h page c blocks v is (torn h page c c' blocks v is tries in') in
     let v' = disk.as_it_reads c' in
     record {
       unmarked = λ v in'. (says v in').unmarked;

@@ -26,7 +26,7 @@ block_synced blocks b c c' whole syncs = record {
       let is = IsImage-after_sync c c' v syncs in' in
       let all = IsImage-as_it_reads blocks c whole in
       let size : length v ≡ length c = ap length is ∙ length-as_it_reads c in
-      subst (λ (u : disk.Image). Contains (disk.sector c s).candidates (slice_index_or u s [])) (sym is) (all.chosen s (omega arith));
+      subst (λ (u : disk.DiskImage). Contains (disk.sector c s).candidates (slice_index_or u s [])) (sym is) (all.chosen s (omega arith));
 }
 
 pub block_cut : (b : ℕ) (c c' : disk.Content) → disk.Restarts c c' → LeavesBlock b c c'
@@ -35,7 +35,7 @@ block_cut b c c' restarts = record {
       let u = restarts.0 in
       let is : v ≡ u = IsImage-settled u v (subst (λ (x : disk.Content). disk.IsImage x v) restarts.2 in') in
       let size : length v ≡ length c = ap length is ∙ restarts.1.size in
-      subst (λ (x : disk.Image). Contains (disk.sector c s).candidates (slice_index_or x s [])) (sym is) (restarts.1.chosen s (omega arith));
+      subst (λ (x : disk.DiskImage). Contains (disk.sector c s).candidates (slice_index_or x s [])) (sym is) (restarts.1.chosen s (omega arith));
 }
 
 sector_other : (b w s : ℕ) (c c' : disk.Content) → disk.SameOutside w c c' → b ≢ w → 8 * b ≤ s → s < 8 * b + 8 → disk.sector c' s ≡ disk.sector c s

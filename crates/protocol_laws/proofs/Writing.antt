@@ -11,7 +11,7 @@ use Rattle.plain_machine.specs.State.{on, hibernating, Running}
 use Rattle.image_laws.specs.ImageBlocks.{Tries}
 use Rattle.image_write.proofs.Done.{write_at, one_more_done}
 use Rattle.plain_machine.proofs.BadSlots.{fits_area}
-use Rattle.protocol_laws.specs.Steps.{write_of_step, IsOver, ShowsCopies}
+use Rattle.protocol_laws.specs.Steps.{write_of_step, IsOverDisk, ShowsCopies}
 use Rattle.protocol_laws.proofs.Same.{KeepsHeader, header_kept, area_kept, nothing_kept, by_other_write, reads_kept}
 use Rattle.protocol_laws.proofs.Places.{usable_area, free_not_header, free_not_used}
 use Rattle.protocol_laws.proofs.Laid.{count_of, count_is, are_slots, pages_are, write_is, slot_of_write, done_of_take, take_of_done}
@@ -23,7 +23,7 @@ step_write h a i k = write_at h.extents (unused_slots h a.memory) (stream_of i) 
 
 -- the state before it
 pub record IsWriting (h : Hardware) (shown : Shown) (c : disk.Content) (blocks : ℕ) (suspends : Bool) (i : Image) (a : Running) (k : ℕ) : Type 0 where
-  pub over : IsOver h i blocks c
+  pub over : IsOverDisk h i blocks c
   pub stands : Stands h shown c (hibernating suspends i a k)
   pub more : k < count_of i
 
@@ -54,7 +54,7 @@ has_block h shown c blocks suspends i a k is =
     omega arith
 
 -- A write that is made is a step of the hibernation.
-pub writes_on : (h : Hardware) (shown shown' : Shown) (c c' : disk.Content) (blocks : ℕ) (suspends : Bool) (i : Image) (a : Running) (k : ℕ) → IsOver h i blocks c → Stands h shown c (hibernating suspends i a k) → k + 4 < hibernate_steps i →
+pub writes_on : (h : Hardware) (shown shown' : Shown) (c c' : disk.Content) (blocks : ℕ) (suspends : Bool) (i : Image) (a : Running) (k : ℕ) → IsOverDisk h i blocks c → Stands h shown c (hibernating suspends i a k) → k + 4 < hibernate_steps i →
     disk.Writes (write_of_step h a i k).0 (write_of_step h a i k).1 c c' → shown'.activity ≡ hibernates suspends (k + 1) → ShowsCopies h shown' a i → Stands h shown' c' (hibernating suspends i a (k + 1))
 writes_on h shown shown' c c' blocks suspends i a k over stands lt wrote activity shows =
     let steps = count_is i in
@@ -97,7 +97,7 @@ writes_on h shown shown' c c' blocks suspends i a k over stands lt wrote activit
     }
 
 -- One that fails lets the machine run again.
-pub write_fails : (h : Hardware) (shown shown' : Shown) (c c' : disk.Content) (blocks : ℕ) (suspends : Bool) (i : Image) (a : Running) (k : ℕ) → IsOver h i blocks c → Stands h shown c (hibernating suspends i a k) → k + 4 < hibernate_steps i →
+pub write_fails : (h : Hardware) (shown shown' : Shown) (c c' : disk.Content) (blocks : ℕ) (suspends : Bool) (i : Image) (a : Running) (k : ℕ) → IsOverDisk h i blocks c → Stands h shown c (hibernating suspends i a k) → k + 4 < hibernate_steps i →
     disk.FailsToWrite (write_of_step h a i k).0 (write_of_step h a i k).1 c c' → shown'.activity ≡ runs → ShowsRunning h shown' a → NamesOnly h shown' [] → Stands h shown' c' (on a)
 write_fails h shown shown' c c' blocks suspends i a k over stands lt failed activity shows names =
     let steps = count_is i in
@@ -108,7 +108,7 @@ write_fails h shown shown' c c' blocks suspends i a k over stands lt failed acti
     (tries_slots h shown c c' blocks suspends i a k (step_write h a i k).1 is (inr tried)) activity shows names
 
 -- It is of another block than the header's.
-pub elsewhere : (h : Hardware) (shown : Shown) (c : disk.Content) (blocks : ℕ) (suspends : Bool) (i : Image) (a : Running) (k : ℕ) → IsOver h i blocks c → Stands h shown c (hibernating suspends i a k) → k + 4 < hibernate_steps i → (write_of_step h a i k).0 ≢ block_of_slot h 0
+pub elsewhere : (h : Hardware) (shown : Shown) (c : disk.Content) (blocks : ℕ) (suspends : Bool) (i : Image) (a : Running) (k : ℕ) → IsOverDisk h i blocks c → Stands h shown c (hibernating suspends i a k) → k + 4 < hibernate_steps i → (write_of_step h a i k).0 ≢ block_of_slot h 0
 elsewhere h shown c blocks suspends i a k over stands lt e =
     let steps = count_is i in
     let more : k < count_of i = omega arith in

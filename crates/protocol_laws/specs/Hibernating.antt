@@ -15,7 +15,7 @@ use Rattle.plain_machine.specs.State.{off, on, hibernating, undoing, asleep, Run
 use Rattle.plain_machine.specs.declared.event.Event.TheVariants.{Hibernate}
 use Rattle.plain_machine.specs.declared.reply.UndoCall.TheVariants as undo
 use Rattle.protocol_laws.specs.Rows.{HasImage}
-use Rattle.protocol_laws.specs.Steps.{write_of_step, marked_header, IsOver, ShowsCopies}
+use Rattle.protocol_laws.specs.Steps.{write_of_step, marked_header, IsOverDisk, ShowsCopies}
 
 -- A hibernation that isn't refused has its image, its area and its slots,
 abbrev pub IsAcceptedUnlessRefused : Type 0
@@ -31,28 +31,28 @@ Begins =
 -- A write of a page or map is a step. Where it fails the machine runs again.
 abbrev pub WritesOn : Type 0
 WritesOn =
-    (h : Hardware) (shown shown' : Shown) (c c' : Content) (blocks : ℕ) (suspends : Bool) (i : Image) (a : Running) (k : ℕ) → IsOver h i blocks c → Stands h shown c (hibernating suspends i a k) → k + 4 < hibernate_steps i →
+    (h : Hardware) (shown shown' : Shown) (c c' : Content) (blocks : ℕ) (suspends : Bool) (i : Image) (a : Running) (k : ℕ) → IsOverDisk h i blocks c → Stands h shown c (hibernating suspends i a k) → k + 4 < hibernate_steps i →
     Writes (write_of_step h a i k).0 (write_of_step h a i k).1 c c' → shown'.activity ≡ hibernates suspends (k + 1) → ShowsCopies h shown' a i → Stands h shown' c' (hibernating suspends i a (k + 1))
 
 abbrev pub WriteFails : Type 0
 WriteFails =
-    (h : Hardware) (shown shown' : Shown) (c c' : Content) (blocks : ℕ) (suspends : Bool) (i : Image) (a : Running) (k : ℕ) → IsOver h i blocks c → Stands h shown c (hibernating suspends i a k) → k + 4 < hibernate_steps i →
+    (h : Hardware) (shown shown' : Shown) (c c' : Content) (blocks : ℕ) (suspends : Bool) (i : Image) (a : Running) (k : ℕ) → IsOverDisk h i blocks c → Stands h shown c (hibernating suspends i a k) → k + 4 < hibernate_steps i →
     FailsToWrite (write_of_step h a i k).0 (write_of_step h a i k).1 c c' → shown'.activity ≡ runs → ShowsRunning h shown' a → NamesOnly h shown' [] → Stands h shown' c' (on a)
 
 -- It is of no block of the header's.
 abbrev pub WritesElsewhere : Type 0
 WritesElsewhere =
-    (h : Hardware) (shown : Shown) (c : Content) (blocks : ℕ) (suspends : Bool) (i : Image) (a : Running) (k : ℕ) → IsOver h i blocks c → Stands h shown c (hibernating suspends i a k) → k + 4 < hibernate_steps i → (write_of_step h a i k).0 ≢ block_of_slot h 0
+    (h : Hardware) (shown : Shown) (c : Content) (blocks : ℕ) (suspends : Bool) (i : Image) (a : Running) (k : ℕ) → IsOverDisk h i blocks c → Stands h shown c (hibernating suspends i a k) → k + 4 < hibernate_steps i → (write_of_step h a i k).0 ≢ block_of_slot h 0
 
 -- The sync behind the writes is a step, and the read of block(0) behind it. Where one fails the machine runs again.
 abbrev pub SyncsOn : Type 0
 SyncsOn =
-    (h : Hardware) (shown shown' : Shown) (c c' : Content) (blocks : ℕ) (suspends : Bool) (i : Image) (a : Running) (k : ℕ) → IsOver h i blocks c → Stands h shown c (hibernating suspends i a k) → k + 4 ≡ hibernate_steps i →
+    (h : Hardware) (shown shown' : Shown) (c c' : Content) (blocks : ℕ) (suspends : Bool) (i : Image) (a : Running) (k : ℕ) → IsOverDisk h i blocks c → Stands h shown c (hibernating suspends i a k) → k + 4 ≡ hibernate_steps i →
     Syncs c c' → shown'.activity ≡ hibernates suspends (k + 1) → ShowsCopies h shown' a i → Stands h shown' c' (hibernating suspends i a (k + 1))
 
 abbrev pub ReadsOn : Type 0
 ReadsOn =
-    (h : Hardware) (shown shown' : Shown) (c : Content) (blocks : ℕ) (suspends : Bool) (i : Image) (a : Running) (k : ℕ) → IsOver h i blocks c → Stands h shown c (hibernating suspends i a k) → k + 3 ≡ hibernate_steps i →
+    (h : Hardware) (shown shown' : Shown) (c : Content) (blocks : ℕ) (suspends : Bool) (i : Image) (a : Running) (k : ℕ) → IsOverDisk h i blocks c → Stands h shown c (hibernating suspends i a k) → k + 3 ≡ hibernate_steps i →
     shown'.header ≡ header_of h (as_it_reads c) → shown'.activity ≡ hibernates suspends (k + 1) → ShowsCopies h shown' a i → Stands h shown' c (hibernating suspends i a (k + 1))
 
 -- What is read is the header block of a version 1 area that isn't marked.
@@ -74,30 +74,30 @@ MarksUnmarked =
 -- holds it. Where the write fails an undo begins.
 abbrev pub MarksOn : Type 0
 MarksOn =
-    (h : Hardware) (shown shown' : Shown) (c c' : Content) (blocks : ℕ) (suspends : Bool) (i : Image) (a : Running) (k : ℕ) → IsOver h i blocks c → IsContent blocks c' → Stands h shown c (hibernating suspends i a k) → k + 2 ≡ hibernate_steps i →
+    (h : Hardware) (shown shown' : Shown) (c c' : Content) (blocks : ℕ) (suspends : Bool) (i : Image) (a : Running) (k : ℕ) → IsOverDisk h i blocks c → IsContent blocks c' → Stands h shown c (hibernating suspends i a k) → k + 2 ≡ hibernate_steps i →
     Writes (block_of_slot h 0) (marked_header h a i shown.header) c c' → shown'.header ≡ marked_header h a i shown.header → shown'.activity ≡ hibernates suspends (k + 1) → ShowsCopies h shown' a i → Stands h shown' c' (hibernating suspends i a (k + 1))
 
 abbrev pub MarkFails : Type 0
 MarkFails =
-    (h : Hardware) (shown shown' : Shown) (c c' : Content) (blocks : ℕ) (suspends : Bool) (i : Image) (a : Running) (k : ℕ) → IsOver h i blocks c → IsContent blocks c' → Stands h shown c (hibernating suspends i a k) → k + 2 ≡ hibernate_steps i →
+    (h : Hardware) (shown shown' : Shown) (c c' : Content) (blocks : ℕ) (suspends : Bool) (i : Image) (a : Running) (k : ℕ) → IsOverDisk h i blocks c → IsContent blocks c' → Stands h shown c (hibernating suspends i a k) → k + 2 ≡ hibernate_steps i →
     FailsToWrite (block_of_slot h 0) (marked_header h a i shown.header) c c' → shown'.header ≡ marked_header h a i shown.header → shown'.activity ≡ undoes undo.Write 0 → ShowsCopies h shown' a i → Stands h shown' c' (undoing i undo.Write a 0)
 
 -- The last sync ends it: the machine is off, and every image of the disk holds the image. Where it fails an undo begins.
 abbrev pub Ends : Type 0
 Ends =
-    (h : Hardware) (shown shown' : Shown) (c c' : Content) (blocks : ℕ) (suspends : Bool) (i : Image) (a : Running) (k : ℕ) → IsOver h i blocks c → Stands h shown c (hibernating suspends i a k) → k + 1 ≡ hibernate_steps i →
+    (h : Hardware) (shown shown' : Shown) (c c' : Content) (blocks : ℕ) (suspends : Bool) (i : Image) (a : Running) (k : ℕ) → IsOverDisk h i blocks c → Stands h shown c (hibernating suspends i a k) → k + 1 ≡ hibernate_steps i →
     Syncs c c' → shown'.activity ≡ rests → shown'.keeps_dump ≡ false → Stands h shown' c' (off (sure (own i)) None)
 
 -- Where it is a suspend's the machine sleeps, as it ran before, and the slots of the image stay named.
 abbrev pub EndsAsleep : Type 0
 EndsAsleep =
-    (h : Hardware) (shown shown' : Shown) (c c' : Content) (blocks : ℕ) (suspends : Bool) (i : Image) (a : Running) (k : ℕ) → IsOver h i blocks c → Stands h shown c (hibernating suspends i a k) → k + 1 ≡ hibernate_steps i →
+    (h : Hardware) (shown shown' : Shown) (c c' : Content) (blocks : ℕ) (suspends : Bool) (i : Image) (a : Running) (k : ℕ) → IsOverDisk h i blocks c → Stands h shown c (hibernating suspends i a k) → k + 1 ≡ hibernate_steps i →
     Syncs c c' → shown'.activity ≡ sleeps → ShowsRunning h shown' a → NamesHeld h shown' (sure (own i)) → Stands h shown' c' (asleep i (sure (own i)) a)
 
 -- It has left the mark and the blocks in every image.
 abbrev pub EndLeaves : Type 0
 EndLeaves =
-    (h : Hardware) (shown : Shown) (c c' : Content) (blocks : ℕ) (suspends : Bool) (i : Image) (a : Running) (k : ℕ) → IsOver h i blocks c → Stands h shown c (hibernating suspends i a k) → k + 1 ≡ hibernate_steps i →
+    (h : Hardware) (shown : Shown) (c c' : Content) (blocks : ℕ) (suspends : Bool) (i : Image) (a : Running) (k : ℕ) → IsOverDisk h i blocks c → Stands h shown c (hibernating suspends i a k) → k + 1 ≡ hibernate_steps i →
     Syncs c c' → EachImage c' (HasImage h i a)
 
 abbrev pub EndFails : Type 0

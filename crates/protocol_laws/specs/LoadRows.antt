@@ -27,12 +27,12 @@ use Rattle.protocol_laws.specs.Rows.{Leads}
 use Rattle.protocol_laws.specs.TraceAt.{reply_at}
 
 -- The disk v, on which the second step found an image: one that the machine made and that v holds, or another's, which v is.
-abbrev pub IsFoundOn : Hardware → disk.Image → Found → Type 0
+abbrev pub IsFoundOn : Hardware → disk.DiskImage → Found → Type 0
 IsFoundOn h v not_yet = ⊥
 IsFoundOn h v (found_own i) = Holds h v i × IsOwn h v i
 IsFoundOn h v (found_other w) = v ≡ w
 
-abbrev pub IsFoundIn : Hardware → Load → disk.Image → Type 0
+abbrev pub IsFoundIn : Hardware → Load → disk.DiskImage → Type 0
 IsFoundIn h load v = IsFoundOn h v load.found
 
 -- the resume that has found it
@@ -49,11 +49,11 @@ abbrev pub ShowsRest : Shown → Type 0
 ShowsRest shown' = (shown'.activity ≡ rests) × (shown'.keeps_dump ≡ false)
 
 -- each step from the second on, before step k + 1, has answered Loading over the disk v
-abbrev pub HaveGoneOn : Hardware → Load → disk.Image → ℕ → Type 0
+abbrev pub HaveGoneOn : Hardware → Load → disk.DiskImage → ℕ → Type 0
 HaveGoneOn h load v k = (j : ℕ) → 1 ≤ j → j < k → reply_at h load.dump v load.loader load.check j ≡ reply.Loading (j + 1)
 
 -- the machine that runs after it, but for its tasks' slots, at which what is shown doesn't look
-abbrev pub running_with : Hardware → Load → disk.Image → SlotPages → Running
+abbrev pub running_with : Hardware → Load → disk.DiskImage → SlotPages → Running
 running_with h load v slots = record {
   memory = restored_in h load.dump v load.loader;
   slots = slots;
@@ -105,26 +105,26 @@ FindFaultRow =
 -- Block(0) is written taken back. Where the write fails the image is there or not.
 abbrev pub TakeBackRow : Type 0
 TakeBackRow =
-    (h : Hardware) (shown shown' : Shown) (c c' : Content) (blocks : ℕ) (load : Load) (v : disk.Image) → IsHardware h → IsContent blocks c → IsContent blocks c' → Stands h shown c (loading load 2) →
+    (h : Hardware) (shown shown' : Shown) (c c' : Content) (blocks : ℕ) (load : Load) (v : disk.DiskImage) → IsHardware h → IsContent blocks c → IsContent blocks c' → Stands h shown c (loading load 2) →
     IsFoundIn h load v → HaveGoneOn h load v 2 → Writes (block_of_slot h 0) (taken_back shown.header) c c' → ShowsLoad h shown' load 3 →
     Goes h shown' (reply.Loading 3) c c' (loading load 2) (loading load 3)
 
 abbrev pub TakeBackFaultRow : Type 0
 TakeBackFaultRow =
-    (h : Hardware) (shown shown' : Shown) (c c' : Content) (blocks : ℕ) (load : Load) (v : disk.Image) → IsHardware h → IsContent blocks c → IsContent blocks c' → Stands h shown c (loading load 2) →
+    (h : Hardware) (shown shown' : Shown) (c c' : Content) (blocks : ℕ) (load : Load) (v : disk.DiskImage) → IsHardware h → IsContent blocks c → IsContent blocks c' → Stands h shown c (loading load 2) →
     IsFoundIn h load v → FailsToWrite (block_of_slot h 0) (taken_back shown.header) c c' → ShowsRest shown' →
     Goes h shown' (reply.WriteFault Unsure) c c' (loading load 2) (off (perhaps (held_while_loading load 2)) None)
 
 -- The sync behind it: from then on no image is there. Another's image may have been made on other hardware, or have no chain.
 abbrev pub BackSyncRow : Type 0
 BackSyncRow =
-    (h : Hardware) (shown shown' : Shown) (c c' : Content) (blocks : ℕ) (load : Load) (v : disk.Image) → IsHardware h → IsContent blocks c → Stands h shown c (loading load 3) →
+    (h : Hardware) (shown shown' : Shown) (c c' : Content) (blocks : ℕ) (load : Load) (v : disk.DiskImage) → IsHardware h → IsContent blocks c → Stands h shown c (loading load 3) →
     IsFoundIn h load v → HaveGoneOn h load v 3 → Syncs c c' → taken_back_cause h v ≡ None → ShowsLoad h shown' load 4 →
     Goes h shown' (reply.Loading 4) c c' (loading load 3) (loading load 4)
 
 abbrev pub BackSyncStopRow : Type 0
 BackSyncStopRow =
-    (h : Hardware) (shown shown' : Shown) (c c' : Content) (blocks : ℕ) (load : Load) (v : disk.Image) (r : Reply) → IsHardware h → IsContent blocks c → Stands h shown c (loading load 3) →
+    (h : Hardware) (shown shown' : Shown) (c c' : Content) (blocks : ℕ) (load : Load) (v : disk.DiskImage) (r : Reply) → IsHardware h → IsContent blocks c → Stands h shown c (loading load 3) →
     IsFoundIn h load v → HaveGoneOn h load v 3 → Syncs c c' → taken_back_cause h v ≡ Some r → ShowsRest shown' →
     Goes h shown' r c c' (loading load 3) (off nothing None)
 
@@ -134,7 +134,7 @@ BackSyncFaultRow =
     Goes h shown' (reply.SyncFault Unsure) c c (loading load 3) (off (perhaps (held_while_loading load 2)) None)
 
 -- A read behind it, at which the image was found on the disk v and each step before has answered Loading.
-pub record IsReading (h : Hardware) (shown : Shown) (c : Content) (load : Load) (v : disk.Image) (k : ℕ) : Type 0 where
+pub record IsBeforeRead (h : Hardware) (shown : Shown) (c : Content) (load : Load) (v : disk.DiskImage) (k : ℕ) : Type 0 where
   pub hardware : IsHardware h
   pub late : 4 ≤ k
   pub within : k < 4 + place_count (info_in h v).pages
@@ -144,31 +144,31 @@ pub record IsReading (h : Hardware) (shown : Shown) (c : Content) (load : Load) 
 
 abbrev pub ReadRow : Type 0
 ReadRow =
-    (h : Hardware) (shown shown' : Shown) (c : Content) (load : Load) (v : disk.Image) (k : ℕ) → IsReading h shown c load v k →
+    (h : Hardware) (shown shown' : Shown) (c : Content) (load : Load) (v : disk.DiskImage) (k : ℕ) → IsBeforeRead h shown c load v k →
     reply_at h load.dump v load.loader load.check k ≡ reply.Loading (k + 1) → ShowsLoad h shown' load (k + 1) →
     Goes h shown' (reply.Loading (k + 1)) c c (loading load k) (loading load (k + 1))
 
 abbrev pub ReadStopRow : Type 0
 ReadStopRow =
-    (h : Hardware) (shown shown' : Shown) (c : Content) (load : Load) (v : disk.Image) (k : ℕ) (r : Reply) → IsReading h shown c load v k →
+    (h : Hardware) (shown shown' : Shown) (c : Content) (load : Load) (v : disk.DiskImage) (k : ℕ) (r : Reply) → IsBeforeRead h shown c load v k →
     reply_at h load.dump v load.loader load.check k ≡ r → IsStop r → ShowsRest shown' → Goes h shown' r c c (loading load k) (off nothing None)
 
 -- After a scripted loader the machine runs.
 abbrev pub ReadResumedRow : Type 0
 ReadResumedRow =
-    (h : Hardware) (shown shown' : Shown) (c : Content) (blocks : ℕ) (load : Load) (ranges : Ranges) (v : disk.Image) (k n : ℕ) → IsContent blocks c → IsReading h shown c load v k → load.loader ≡ loader.Ranges ranges →
+    (h : Hardware) (shown shown' : Shown) (c : Content) (blocks : ℕ) (load : Load) (ranges : Ranges) (v : disk.DiskImage) (k n : ℕ) → IsContent blocks c → IsBeforeRead h shown c load v k → load.loader ≡ loader.Ranges ranges →
     reply_at h load.dump v load.loader load.check k ≡ reply.Resumed n → shown'.activity ≡ runs → ShowsRunning h shown' (running_with h load v no_slots) → NamesOnly h shown' [] →
     (slots : SlotPages) × Goes h shown' (reply.Resumed n) c c (loading load k) (on (running_with h load v slots))
 
 -- After a dump's loader it is off.
 abbrev pub ReadResumedOffRow : Type 0
 ReadResumedOffRow =
-    (h : Hardware) (shown shown' : Shown) (c : Content) (load : Load) (v : disk.Image) (k n : ℕ) → IsReading h shown c load v k → load.loader ≡ loader.Table →
+    (h : Hardware) (shown shown' : Shown) (c : Content) (load : Load) (v : disk.DiskImage) (k n : ℕ) → IsBeforeRead h shown c load v k → load.loader ≡ loader.Table →
     reply_at h load.dump v load.loader load.check k ≡ reply.Resumed n → ShowsRest shown' → Goes h shown' (reply.Resumed n) c c (loading load k) (off nothing None)
 
 abbrev pub ReadFaultRow : Type 0
 ReadFaultRow =
-    (h : Hardware) (shown shown' : Shown) (c : Content) (load : Load) (v : disk.Image) (k : ℕ) → IsReading h shown c load v k → ShowsRest shown' →
+    (h : Hardware) (shown shown' : Shown) (c : Content) (load : Load) (v : disk.DiskImage) (k : ℕ) → IsBeforeRead h shown c load v k → ShowsRest shown' →
     Goes h shown' (reply.ReadFault Gone) c c (loading load k) (off nothing None)
 
 -- What the rows ask for.
@@ -181,16 +181,16 @@ ShowsNoneRead =
 
 -- up to the fourth step the header's tests alone have to be passed
 abbrev pub GoneOnEarly : Type 0
-GoneOnEarly = (h : Hardware) (load : Load) (v : disk.Image) (k : ℕ) → k ≤ 3 → header_cause h v ≡ None → HaveGoneOn h load v k
+GoneOnEarly = (h : Hardware) (load : Load) (v : disk.DiskImage) (k : ℕ) → k ≤ 3 → header_cause h v ≡ None → HaveGoneOn h load v k
 
 abbrev pub GoneOnNext : Type 0
 GoneOnNext =
-    (h : Hardware) (load : Load) (v : disk.Image) (k : ℕ) → HaveGoneOn h load v k → reply_at h load.dump v load.loader load.check k ≡ reply.Loading (k + 1) → HaveGoneOn h load v (k + 1)
+    (h : Hardware) (load : Load) (v : disk.DiskImage) (k : ℕ) → HaveGoneOn h load v k → reply_at h load.dump v load.loader load.check k ≡ reply.Loading (k + 1) → HaveGoneOn h load v (k + 1)
 
 -- what is wrong with a place, or with the restored tables, ends the resume
 abbrev pub CauseStops : Type 0
 CauseStops =
-    (h : Hardware) (load : Load) (v : disk.Image) (t : ℕ) (r : Reply) → or_else (content_cause h load.dump v load.loader load.check (place t)) (next_cause h v t) ≡ Some r → IsStop r
+    (h : Hardware) (load : Load) (v : disk.DiskImage) (t : ℕ) (r : Reply) → or_else (content_cause h load.dump v load.loader load.check (place t)) (next_cause h v t) ≡ Some r → IsStop r
 
 abbrev pub TablesStop : Type 0
-TablesStop = (h : Hardware) (load : Load) (v : disk.Image) (r : Reply) → tables_cause h v (restored_in h load.dump v load.loader) ≡ Some r → IsStop r
+TablesStop = (h : Hardware) (load : Load) (v : disk.DiskImage) (r : Reply) → tables_cause h v (restored_in h load.dump v load.loader) ≡ Some r → IsStop r

@@ -38,8 +38,8 @@ IsOfReplay (asleep i held a) = IsOwnHeld held × IsOwnHeld a.held
 -- Over one area a step of a replay may be the same: only its area is looked at.
 abbrev pub SameSteps : Type 0
 SameSteps =
-    (h : Hardware) (v w : disk.Image) (a : State) (e : Event) (r : Reply) (b : State) → IsSameArea h v w → IsOfReplay a → Step h w a e r b → Step h v a e r b
+    (h : Hardware) (v w : disk.DiskImage) (a : State) (e : Event) (r : Reply) (b : State) → IsSameArea h v w → IsOfReplay a → Step h w a e r b → Step h v a e r b
 
 -- A step of a replay leads to a state of one: a boot or a resume that asks for a dump's memory is refused.
 abbrev pub StaysOfReplay : Type 0
-StaysOfReplay = (h : Hardware) (v : disk.Image) (a : State) (e : Event) (r : Reply) (b : State) → IsOfReplay a → Step h v a e r b → IsOfReplay b
+StaysOfReplay = (h : Hardware) (v : disk.DiskImage) (a : State) (e : Event) (r : Reply) (b : State) → IsOfReplay a → Step h v a e r b → IsOfReplay b

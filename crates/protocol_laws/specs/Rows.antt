@@ -21,7 +21,7 @@ use Rattle.plain_machine.specs.declared.reply.Left.TheVariants.{Gone}
 use Rattle.protocol_laws.specs.Steps.{write_of_step}
 
 -- Two disks have the same swap area: as many blocks, and the same header block, taken back where it is marked, but for bytes 4056 to 4085.
-pub record IsSameArea (h : Hardware) (v w : disk.Image) : Type 0 where
+pub record IsSameArea (h : Hardware) (v w : disk.DiskImage) : Type 0 where
   pub blocks : blocks_of w ≡ blocks_of v
   pub header : AgreeOnArea (area_block h w) (area_block h v)
 
@@ -68,10 +68,10 @@ blocks_at h e a = blocks_written h a
 
 -- Each image that a crash may leave afterwards has in this block what a crash might have left there before.
 pub record LeavesBlock (b : ℕ) (c c' : disk.Content) : Type 0 where
-  pub leaves : (v : disk.Image) (s : ℕ) → disk.IsImage c' v → s < length v → 8 * b ≤ s → s < 8 * b + 8 → Contains (disk.sector c s).candidates (slice_index_or v s [])
+  pub leaves : (v : disk.DiskImage) (s : ℕ) → disk.IsImage c' v → s < length v → 8 * b ≤ s → s < 8 * b + 8 → Contains (disk.sector c s).candidates (slice_index_or v s [])
 
 -- A hibernation that ended has left the mark in this image of the disk, and the blocks as they are laid.
-pub record HasImage (h : Hardware) (i : Image) (a : Running) (v : disk.Image) : Type 0 where
+pub record HasImage (h : Hardware) (i : Image) (a : Running) (v : disk.DiskImage) : Type 0 where
   pub marked : Marked h v
   pub mark : HasMark h i.format (first_map_block h a) (header_of h v)
   pub laid : All (Reads v) (laid_writes h a i)
@@ -85,11 +85,11 @@ LeavesImage h _ _ _ c = ⊤
 -- Each image that a crash may leave afterwards has in block(0) what a crash might have left there before, or that block taken back.
 abbrev pub KeepsHeaderOrTakesBack : Hardware → disk.Content → disk.Content → Type 0
 KeepsHeaderOrTakesBack h c c' =
-    (w : disk.Image) → disk.IsImage c' w → (v : disk.Image) × disk.IsImage c v × ((header_of h w ≡ header_of h v) ⊎ (header_of h w ≡ taken_back (header_of h v)))
+    (w : disk.DiskImage) → disk.IsImage c' w → (v : disk.DiskImage) × disk.IsImage c v × ((header_of h w ≡ header_of h v) ⊎ (header_of h w ≡ taken_back (header_of h v)))
 
 -- Each marked block(0) that a crash may leave afterwards it might have left before.
 abbrev pub AddsNoMark : Hardware → disk.Content → disk.Content → Type 0
-AddsNoMark h c c' = (w : disk.Image) → disk.IsImage c' w → Marked h w → (v : disk.Image) × disk.IsImage c v × (header_of h w ≡ header_of h v)
+AddsNoMark h c c' = (w : disk.DiskImage) → disk.IsImage c' w → Marked h w → (v : disk.DiskImage) × disk.IsImage c v × (header_of h w ≡ header_of h v)
 
 -- what a step leaves of block(0) in a resume and in an undo
 abbrev pub LeavesHeader : Hardware → State → disk.Content → disk.Content → Type 0

@@ -20,7 +20,7 @@ abbrev pub marked_header : Hardware → Running → Image → List ℕ → List 
 marked_header h a i header = marked header (first_map_block h a) (mark_flags i.format) h.hw_sig
 
 -- The machine, and a disk of so many blocks. Its numbers fit their fields in an image.
-pub record IsOver (h : Hardware) (i : Image) (blocks : ℕ) (c : Content) : Type 0 where
+pub record IsOverDisk (h : Hardware) (i : Image) (blocks : ℕ) (c : Content) : Type 0 where
   pub hardware : IsHardware h
   pub info : IsInfo (info_of_image i)
   pub content : IsContent blocks c

@@ -10,12 +10,12 @@ use Rattle.plain_machine.specs.declared.reply.Reply.{Reply}
 use Rattle.plain_machine.specs.declared.reply.Reply.TheVariants as reply
 
 -- what the step that reads place t answers where nothing is wrong
-abbrev pub reply_past : Hardware → Memory → disk.Image → Loader → ℕ → Reply
+abbrev pub reply_past : Hardware → Memory → disk.DiskImage → Loader → ℕ → Reply
 reply_past h dump v loader t =
     if nat_lt (t + 1) (place_count (info_in h v).pages) then reply.Loading (5 + t) else last_reply h dump v loader
 
 -- the reply of step k + 1 over a disk that reads v, where no step before it has stopped
-abbrev pub reply_at : Hardware → Memory → disk.Image → Loader → IdentCheck → ℕ → Reply
+abbrev pub reply_at : Hardware → Memory → disk.DiskImage → Loader → IdentCheck → ℕ → Reply
 reply_at h dump v loader check zero = reply.Loading 1
 reply_at h dump v loader check (suc zero) = unwrap_or (header_cause h v) (reply.Loading 2)
 reply_at h dump v loader check (suc (suc zero)) = reply.Loading 3
@@ -26,6 +26,6 @@ reply_at h dump v loader check (suc (suc (suc (suc t)))) =
 -- Where each step before answered Loading, the trace has that reply.
 abbrev pub TracesAt : Type 0
 TracesAt =
-    (h : Hardware) (dump : Memory) (v : disk.Image) (loader : Loader) (check : IdentCheck) (k : ℕ) → k < 4 + place_count (info_in h v).pages →
+    (h : Hardware) (dump : Memory) (v : disk.DiskImage) (loader : Loader) (check : IdentCheck) (k : ℕ) → k < 4 + place_count (info_in h v).pages →
     ((j : ℕ) → j < k → reply_at h dump v loader check j ≡ reply.Loading (j + 1)) →
     slice_get (trace h dump v loader check) k ≡ Some (reply_at h dump v loader check k)

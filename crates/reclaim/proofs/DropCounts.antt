@@ -4,7 +4,7 @@ use Rattle.std.proofs.lemmas.Bool.{cases_Bool, and_parts, eqb-true}
 use Rattle.definitions.specs.Bytes.{IsPage}
 use Rattle.std.specs.List.Sorted.{IsStrictlyIncreasing}
 use Rattle.definitions.specs.Lists.{saveable_frames}
-use Rattle.definitions.specs.Tables.{HasTable, entry_at, flags_of, is_saveable, with_entries}
+use Rattle.definitions.specs.Tables.{HasTable, entry_at, page_flags, is_saveable, with_entries}
 use Rattle.definitions.specs.Zones.{numbers, top, AreZones}
 use Rattle.definitions.proofs.FrameSets.{Contains-from_filter}
 use Rattle.definitions.proofs.Ascending.{Contains-head, Contains-tail, Contains-nil, Contains-cons_cases, IsStrictlyIncreasing-tail, head_below}
@@ -85,7 +85,7 @@ count_left f g t (suc k) (x ∷ xs) up picks un =
 
 -- a page frame whose one flag is CACHE is saveable
 cached_saveable : (keep : List (ℕ × ℕ)) (table : ℕ) (frames : List (List ℕ)) (p : ℕ) → may_drop keep table frames p ≡ true → saveable_by_entry table frames p ≡ true
-cached_saveable keep table frames p is = ap is_saveable (eqb-true (flags_of (entry_at frames table p)) 64 (and_parts (eqb (flags_of (entry_at frames table p)) 64) (not (is_in_runs keep p)) is).0)
+cached_saveable keep table frames p is = ap is_saveable (eqb-true (page_flags (entry_at frames table p)) 64 (and_parts (eqb (page_flags (entry_at frames table p)) 64) (not (is_in_runs keep p)) is).0)
 
 -- as many fewer are saveable as were dropped
 pub left_saveable : (zones : List (ℕ × ℕ)) (table : ℕ) (keep : List (ℕ × ℕ)) (want : ℕ) (frames : List (List ℕ)) → AreZones zones → All IsPage frames → HasTable frames table (top zones) →
@@ -101,7 +101,7 @@ left_saveable zones table keep want frames are pages has =
     let below : (p : ℕ) → Contains (numbers zones) p → p < top zones = λ p in'. below_top zones p are.apart in' in
     let in_D : (p : ℕ) → Contains D p → Contains (numbers zones) p = λ p at. (Contains-from_filter t (numbers zones) p (Contains-from_take most (filter t (numbers zones)) p at)).0 in
     let sum = count_left f g t most (numbers zones) (IsStrictlyIncreasing-numbers zones are.apart) (λ x. cached_saveable keep table frames x) (record {
-      dropped = λ p in' at. ap (λ (e : ℕ). is_saveable (flags_of e)) (entry_at-with_entries_same frames table (top zones) D 1 p pages has (omega arith) (λ k k_in. below k (in_D k k_in)) at);
-      others = λ p in' out. ap (λ (e : ℕ). is_saveable (flags_of e)) (entry_at-with_entries_other frames table (top zones) D 1 p pages has (λ k k_in. (below k (in_D k k_in), λ e. out (subst (Contains D) e k_in))));
+      dropped = λ p in' at. ap (λ (e : ℕ). is_saveable (page_flags e)) (entry_at-with_entries_same frames table (top zones) D 1 p pages has (omega arith) (λ k k_in. below k (in_D k k_in)) at);
+      others = λ p in' out. ap (λ (e : ℕ). is_saveable (page_flags e)) (entry_at-with_entries_other frames table (top zones) D 1 p pages has (λ k k_in. (below k (in_D k k_in), λ e. out (subst (Contains D) e k_in))));
     }) in
     omega arith

@@ -7,7 +7,7 @@ use Rattle.std.proofs.lemmas.List.Elements.{Contains-append_left}
 use Rattle.std.proofs.Math.Seq.{take-append-add}
 use Rattle.definitions.specs.Bytes.{IsPage}
 use Rattle.definitions.specs.Lists.{saveable_frames}
-use Rattle.definitions.specs.Tables.{HasTable, flags_of, with_entry, with_entries}
+use Rattle.definitions.specs.Tables.{HasTable, page_flags, with_entry, with_entries}
 use Rattle.definitions.proofs.Ascending.{Contains-head, Contains-tail}
 use Rattle.definitions.proofs.FrameSets.{Contains-from_filter}
 use Rattle.definitions.specs.Zones.{numbers, top}
@@ -60,7 +60,7 @@ in_dropped keep table old most ps k in' = (Contains-from_filter (may_drop keep t
 pub still_may_drop : (keep : List (ℕ × ℕ)) (table n : ℕ) (old : List (List ℕ)) (most : ℕ) (ps : List ℕ) (p : ℕ) → All IsPage old → HasTable old table n → ((k : ℕ) → Contains ps k → (k < n) × (k ≢ p)) →
     may_drop keep table (with_entries old table (dropped_of keep table old most ps) 1) p ≡ may_drop keep table old p
 still_may_drop keep table n old most ps p pages has others =
-    ap (λ (e : ℕ). eqb (flags_of e) 64 && not (is_in_runs keep p))
+    ap (λ (e : ℕ). eqb (page_flags e) 64 && not (is_in_runs keep p))
     (entry_at-with_entries_other old table n (dropped_of keep table old most ps) 1 p pages has (λ k in'. others k (in_dropped keep table old most ps k in')))
 
 -- Page frames so far, and then one more.

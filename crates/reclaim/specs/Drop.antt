@@ -3,7 +3,7 @@
 use Rattle.std.specs.Prelude.{ℕ, ◌+◌, ◌-◌, ◌==◌, ◌&&◌, Bool, not, nat_le, nat_lt, List, length, filter, take}
 use Rattle.std.specs.List.{list_any}
 use Rattle.definitions.specs.Lists.{saveable_frames}
-use Rattle.definitions.specs.Tables.{entry_at, flags_of}
+use Rattle.definitions.specs.Tables.{entry_at, page_flags}
 use Rattle.definitions.specs.Zones.{numbers}
 
 -- page frame p lies in one of the runs, a pair (first, count) each
@@ -12,7 +12,7 @@ is_in_runs runs p = list_any (λ run. nat_le run.0 p && nat_lt p (run.0 + run.1)
 
 -- page frame p holds what can be read again: its one flag is CACHE (64), whoever owns it, and it is none of those that are kept
 abbrev pub may_drop : List (ℕ × ℕ) → ℕ → List (List ℕ) → ℕ → Bool
-may_drop keep table frames p = (flags_of (entry_at frames table p) == 64) && not (is_in_runs keep p)
+may_drop keep table frames p = (page_flags (entry_at frames table p) == 64) && not (is_in_runs keep p)
 
 -- C: the page frames that may be dropped, ascending
 abbrev pub droppable_frames : List (ℕ × ℕ) → ℕ → List (ℕ × ℕ) → List (List ℕ) → List ℕ

@@ -35,7 +35,7 @@ abbrev or_zero : Bool → List ℕ → List ℕ
 or_zero b other = cond b zero_page other
 
 -- pages from page k of the stream on, one for each of these
-abbrev pages_for : Hardware → disk.Image → ℕ → List ℕ → List (List ℕ)
+abbrev pages_for : Hardware → disk.DiskImage → ℕ → List ℕ → List (List ℕ)
 pages_for h v k js = map (stream_page h v) (range_with_len k (length js))
 
 neither : (a b : Bool) → (a || b) ≡ false → (a ≡ false) × (b ≡ false)
@@ -68,7 +68,7 @@ not_behind q ps p up here = elim (cases_Bool (member ps p)) [
   | inr none ↦ none
 ]
 
-module _ (h : Hardware) (v : disk.Image) (p : ℕ) (other : List ℕ) where
+module _ (h : Hardware) (v : disk.DiskImage) (p : ℕ) (other : List ℕ) where
   abbrev is_marked : ℕ → Bool
   is_marked j = is_marked_by (format_in h v) (number_word h v j)
 
@@ -133,7 +133,7 @@ pages_same f k n =
     let within : m < n = omega arith in
     get_or-map-range_with_len (λ (m : ℕ). f (k + m)) 0 n m m [] within (zero-add m) ∙ sym (get_or-map-range_with_len f k n m (k + m) [] within refl))
 
-module _ (h : Hardware) (dump : Memory) (v : disk.Image) (loader : Loader) (w : waiting.Awaiting) (origs : List ℕ) (frames : Memory) (all : AreAllRead h dump v loader w origs frames) where
+module _ (h : Hardware) (dump : Memory) (v : disk.DiskImage) (loader : Loader) (w : waiting.Awaiting) (origs : List ℕ) (frames : Memory) (all : AreAllRead h dump v loader w origs frames) where
   abbrev places : List ℕ
   places = range_with_len 0 (info_in h v).image_pages
 
@@ -169,7 +169,7 @@ module _ (h : Hardware) (dump : Memory) (v : disk.Image) (loader : Loader) (w : 
       ∙ ap (λ (rest : List ℕ). waiting.page_or (waiting.saved_page (zip w.originals (waiting.waiting_pages frames w)) p) rest)
       (ap (λ (ps : List ℕ). or_zero (member ps p) (of_loader p)) (sym (all.listed ∙ listed-are)) ∙ rest-is p lt)
 
-length-restored : (h : Hardware) (dump : Memory) (v : disk.Image) (loader : Loader) → length (restored_in h dump v loader) ≡ top h.zones
+length-restored : (h : Hardware) (dump : Memory) (v : disk.DiskImage) (loader : Loader) → length (restored_in h dump v loader) ≡ top h.zones
 unfolding restored
 length-restored h dump v loader = length-map-range_with_len (restored_page h dump loader (image_in h v (λ s. None))) 0 (top h.zones)
 

@@ -61,7 +61,7 @@ next_page h v t p is = elim (cases_eq (t % 512) 0) [
 ]
 
 -- whether all numbers are read
-pub told_none : (h : Hardware) (v : disk.Image) (k : ℕ) → 1 ≤ k → told h v k ≡ None → 512 * (k - 1) < (info_in h v).image_pages
+pub told_none : (h : Hardware) (v : disk.DiskImage) (k : ℕ) → 1 ≤ k → told h v k ≡ None → 512 * (k - 1) < (info_in h v).image_pages
 told_none h v k some none = elim (cases_lt (512 * (k - 1)) (info_in h v).image_pages) [
   | inl lt ↦ lt
   | inr ge ↦
@@ -69,7 +69,7 @@ told_none h v k some none = elim (cases_lt (512 * (k - 1)) (info_in h v).image_p
       absurd (none-some (info_in h v).image_pages (sym none ∙ told_all h v k some (let e : numbers_read h v k ≡ (info_in h v).image_pages = omega arith in e)))
 ]
 
-pub told_some : (h : Hardware) (v : disk.Image) (k n : ℕ) → told h v k ≡ Some n → (1 ≤ k) × ((info_in h v).image_pages ≤ 512 * (k - 1))
+pub told_some : (h : Hardware) (v : disk.DiskImage) (k n : ℕ) → told h v k ≡ Some n → (1 ≤ k) × ((info_in h v).image_pages ≤ 512 * (k - 1))
 told_some h v zero n some = absurd (none-some n some)
 told_some h v (suc k) n some = elim (cases_lt (512 * (suc k - 1)) (info_in h v).image_pages) [
   | inl lt ↦
@@ -79,7 +79,7 @@ told_some h v (suc k) n some = elim (cases_lt (512 * (suc k - 1)) (info_in h v).
 ]
 
 -- it tells how many there are
-pub told_same : (h : Hardware) (v : disk.Image) (k n : ℕ) → told h v k ≡ Some n → told h v k ≡ Some (info_in h v).image_pages
+pub told_same : (h : Hardware) (v : disk.DiskImage) (k n : ℕ) → told h v k ≡ Some n → told h v k ≡ Some (info_in h v).image_pages
 told_same h v k n some =
     let all = told_some h v k n some in
     let one = all.0 in
@@ -88,7 +88,7 @@ told_same h v k n some =
     told_all h v k one (let e : numbers_read h v k ≡ (info_in h v).image_pages = omega arith in e)
 
 -- and so at each later place
-pub told_later : (h : Hardware) (v : disk.Image) (t n : ℕ) → told h v (pages_read t) ≡ Some n → told h v (pages_read (t + 1)) ≡ Some n
+pub told_later : (h : Hardware) (v : disk.DiskImage) (t n : ℕ) → told h v (pages_read t) ≡ Some n → told h v (pages_read (t + 1)) ≡ Some n
 told_later h v t n some =
     let all = told_some h v (pages_read t) n some in
     let one = all.0 in
@@ -98,7 +98,7 @@ told_later h v t n some =
     told_all h v (pages_read (t + 1)) (omega arith) (let e : numbers_read h v (pages_read (t + 1)) ≡ (info_in h v).image_pages = omega arith in e)
     ∙ sym (told_same h v (pages_read t) n some) ∙ some
 
-all_numbers : (h : Hardware) (v : disk.Image) (k n : ℕ) → told h v k ≡ Some n → numbers_read h v k ≡ (info_in h v).image_pages
+all_numbers : (h : Hardware) (v : disk.DiskImage) (k n : ℕ) → told h v k ≡ Some n → numbers_read h v k ≡ (info_in h v).image_pages
 all_numbers h v k n some =
     let all = told_some h v k n some in
     let past = all.1 in
@@ -127,7 +127,7 @@ none_before h v t none = elim (cases_lt (pages_read t) 1) [
 ]
 
 -- the numbers are listed from the first data page on
-pub listed_from : (h : Hardware) (v : disk.Image) (k : ℕ) → 1 ≤ k → meta_in h v ≤ k - 1 → told h v k ≡ Some (info_in h v).image_pages
+pub listed_from : (h : Hardware) (v : disk.DiskImage) (k : ℕ) → 1 ≤ k → meta_in h v ≤ k - 1 → told h v k ≡ Some (info_in h v).image_pages
 listed_from h v k some past =
     let saved = saved_is h v k some in
     told_all h v k some (let e : numbers_read h v k ≡ (info_in h v).image_pages = omega arith in e)

@@ -14,7 +14,7 @@ use Rattle.restore_laws.specs.Free.{PlanTells, RoomSuffices, RoomFails}
 pub plan_tells : PlanTells
 plan_tells d = refl
 
-abbrev too_few : Hardware → Memory → disk.Image → Loader → Reply
+abbrev too_few : Hardware → Memory → disk.DiskImage → Loader → Reply
 too_few h dump v loader = reply.TooFewLoaderFrames (length (left_free h dump loader)) (need (d_in h v))
 
 pub room_fails : RoomFails

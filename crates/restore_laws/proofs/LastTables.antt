@@ -41,7 +41,7 @@ area_misfits h v m why sound misfits = ap₂ (cause_of h) sound misfits
 
 -- The area.
 
-by_area : (h : Hardware) (v : disk.Image) (m : Memory) (area : Area) → area_fault h v ≡ None → area_kind (area_block h v) ≡ Swap area → dump_area_fault h v m ≡ cond (has_bad_slots_of h m area) None (Some no_swap.BadSet)
+by_area : (h : Hardware) (v : disk.DiskImage) (m : Memory) (area : Area) → area_fault h v ≡ None → area_kind (area_block h v) ≡ Swap area → dump_area_fault h v m ≡ cond (has_bad_slots_of h m area) None (Some no_swap.BadSet)
 unfolding dump_area_fault
 by_area h v m area usable is = ap₂ (λ (o : Option NoSwap) (k : AreaKind). first_fault o (bad_set_fault h m k)) usable is
 

@@ -14,7 +14,7 @@ use Rattle.plain_machine.specs.declared.event.Loader.{Loader}
 use Rattle.plain_machine.specs.declared.reply.Reply.{Reply}
 use Rattle.plain_machine.specs.declared.reply.Reply.TheVariants as reply
 use Rattle.image_read.specs.Reading.{Reading}
-use Rattle.image_read.specs.Stream.{IsReading, pages_read, numbers_read, told}
+use Rattle.image_read.specs.Stream.{HasReadPlaces, pages_read, numbers_read, told}
 use Rattle.image_read.proofs.Places.{at_map, at_page, read_at_map, read_at_page}
 use Rattle.image_read.proofs.Read.{saved_is, told_all, told_more}
 use Rattle.restore_laws.specs.Listing.{IsListedAt, ListsAt, JustListed, ListedElsewhere, StaysListed}
@@ -43,7 +43,7 @@ some_counted SkipZeros valid n pages e =
     positive n (left_false (eqb n 0) (ltb valid n) (left_false (eqb n 0 || ltb valid n) (ltb pages (meta_of n + 1))
     (left_false (eqb n 0 || ltb valid n || ltb pages (meta_of n + 1)) (ltb (n + meta_of n + 1) pages) e)))
 
-some_by_info : (h : Hardware) (v : disk.Image) (check : IdentCheck) → info_cause h v check ≡ None → 0 < (info_in h v).image_pages
+some_by_info : (h : Hardware) (v : disk.DiskImage) (check : IdentCheck) → info_cause h v check ≡ None → 0 < (info_in h v).image_pages
 some_by_info h v check none =
     let rest = no_left (identity_cause h v check) (or_else (memory_cause h v) (counts_cause h v)) none in
     let counts = no_left (memory_cause h v) (counts_cause h v) rest.1 in
@@ -52,7 +52,7 @@ some_by_info h v check none =
     some_counted (format_in h v) (valid_count h) n pages (is_false (are_bad_counts (format_in h v) (valid_count h) n pages) (reply.BadCounts n pages) counts.1)
 
 -- at a page of the stream that has no cause
-some_read : (h : Hardware) (v : disk.Image) (check : IdentCheck) (r : Reading) (t : ℕ) (origs zeros : List ℕ) → IsReading h v check r t origs zeros → read_cause h v check (place t) ≡ None → (t % 512 ≡ 0 → ⊥) → 0 < (info_in h v).image_pages
+some_read : (h : Hardware) (v : disk.DiskImage) (check : IdentCheck) (r : Reading) (t : ℕ) (origs zeros : List ℕ) → HasReadPlaces h v check r t origs zeros → read_cause h v check (place t) ≡ None → (t % 512 ≡ 0 → ⊥) → 0 < (info_in h v).image_pages
 some_read h v check r t origs zeros reading sound apart = elim (cases_lt (pages_read t) 1) [
   | inl few ↦
       let zero_is : pages_read t ≡ 0 = omega arith in
@@ -76,7 +76,7 @@ page_place t k is = elim (cases_eq (t % 512) 0) [
 ]
 
 -- the last number page
-listed_there : (h : Hardware) (v : disk.Image) (t : ℕ) → 0 < (info_in h v).image_pages → (t % 512 ≡ 0 → ⊥) → pages_read t ≡ meta_in h v → IsListedAt h v t
+listed_there : (h : Hardware) (v : disk.DiskImage) (t : ℕ) → 0 < (info_in h v).image_pages → (t % 512 ≡ 0 → ⊥) → pages_read t ≡ meta_in h v → IsListedAt h v t
 listed_there h v t some apart is =
     let k = pages_read t in
     let n = (info_in h v).image_pages in
@@ -87,7 +87,7 @@ listed_there h v t some apart is =
     let all : numbers_read h v (k + 1) ≡ n = omega arith in
     (told_more h v k (omega arith) (λ e. omega arith), ap (told h v) next ∙ told_all h v (k + 1) (omega arith) all)
 
-there_listed : (h : Hardware) (v : disk.Image) (t : ℕ) → 0 < (info_in h v).image_pages → (t % 512 ≡ 0 → ⊥) → IsListedAt h v t → pages_read t ≡ meta_in h v
+there_listed : (h : Hardware) (v : disk.DiskImage) (t : ℕ) → 0 < (info_in h v).image_pages → (t % 512 ≡ 0 → ⊥) → IsListedAt h v t → pages_read t ≡ meta_in h v
 there_listed h v t some apart listed =
     let k = pages_read t in
     let next = read_at_page t apart in
@@ -111,11 +111,11 @@ lists_at h v check r t origs zeros reading sound = (
 
 -- The room is wanted there, and nowhere else.
 
-want_there : (h : Hardware) (dump : Memory) (v : disk.Image) (loader : Loader) (here : Place) → here ≡ page_at (meta_in h v) → want_cause h dump v loader here ≡ room_cause h dump v loader
+want_there : (h : Hardware) (dump : Memory) (v : disk.DiskImage) (loader : Loader) (here : Place) → here ≡ page_at (meta_in h v) → want_cause h dump v loader here ≡ room_cause h dump v loader
 want_there h dump v loader here is =
     ap (want_cause h dump v loader) is ∙ cond-true (eqb (meta_in h v) (meta_in h v)) (room_cause h dump v loader) None (eq-eqb (meta_in h v) (meta_in h v) refl)
 
-want_none : (h : Hardware) (dump : Memory) (v : disk.Image) (loader : Loader) (here : Place) → (here ≡ page_at (meta_in h v) → ⊥) → want_cause h dump v loader here ≡ None
+want_none : (h : Hardware) (dump : Memory) (v : disk.DiskImage) (loader : Loader) (here : Place) → (here ≡ page_at (meta_in h v) → ⊥) → want_cause h dump v loader here ≡ None
 want_none h dump v loader (map_at j) isn't = refl
 want_none h dump v loader (page_at k) isn't = cond-false (eqb k (meta_in h v)) (room_cause h dump v loader) None (ne_eqb k (meta_in h v) (λ e. isn't (ap page_at e)))
 

@@ -41,7 +41,7 @@ marked_as f zeros s false has lt skipped =
     ap (λ (w : ℕ). not (is_marked_by f w)) (cond-true (list_any (λ q. eqb q s.0) zeros) (s.0 + zero_bit) s.0 skipped)
     ∙ ap (λ (g : Format). not (is_marked_by g (s.0 + zero_bit))) (zeros_of f s has).0 ∙ ap not (le-leb zero_bit (s.0 + zero_bit) (omega arith))
 
-module _ (h : Hardware) (v : disk.Image) (i : Image) (holds : Holds h v i) (say : IsSayable i) where
+module _ (h : Hardware) (v : disk.DiskImage) (i : Image) (holds : Holds h v i) (say : IsSayable i) where
   abbrev saved_at : ℕ → Saved
   saved_at j = get_or i.frames j none_saved
 

@@ -4,7 +4,7 @@ use Rattle.std.specs.List.{list_any, find, range_with_len}
 use Rattle.std.proofs.lemmas.Bool.{cases_Bool, cond-true, cond-false, eqb-true, eq-eqb, false≢true}
 use Rattle.std.proofs.lemmas.List.Elements.{Contains-append_left, Contains-append_right}
 use Rattle.std.proofs.lemmas.Option.{none-some}
-use Rattle.definitions.specs.Tables.{flags_of, owner_of, is_saveable}
+use Rattle.definitions.specs.Tables.{page_flags, owner_of, is_saveable}
 use Rattle.definitions.specs.Zones.{numbers, top}
 use Rattle.definitions.proofs.Ascending.{Contains-nil, Contains-cons_cases}
 use Rattle.definitions.proofs.ZoneNumbers.{Contains-range}
@@ -50,14 +50,14 @@ among h false f (inr of) = Contains-append_left (slot_table_frames h) (frame_tab
 
 -- What a table frame without a fault has.
 record IsSound (h : Hardware) (m : Memory) (f : ℕ) : Type 0 where
-  saveable : is_saveable (flags_of (frame_entry h m f)) ≡ true
+  saveable : is_saveable (page_flags (frame_entry h m f)) ≡ true
   owner : owner_of (frame_entry h m f) ≡ 0
   entries : (p : ℕ) → Contains (numbers h.zones) p → h.frame_table + p / 1024 ≡ f → is_well_formed (frame_entry h m p) ≡ true
   slots : (s : ℕ) → s < h.slots → h.slot_table + s / 1024 ≡ f → is_slot_entry s (raw_slot_entry h m s) ≡ true
 
 is_sound : (h : Hardware) (m : Memory) (f : ℕ) → tables_fault h m ≡ None → IsTableFrame h f → IsSound h m f
 is_sound h m f none of =
-    let unsaved = not (is_saveable (flags_of (frame_entry h m f))) in
+    let unsaved = not (is_saveable (page_flags (frame_entry h m f))) in
     let owned = not (eqb (owner_of (frame_entry h m f)) 0) in
     let bad_entry : ℕ → Bool = λ p. eqb (h.frame_table + p / 1024) f && not (is_well_formed (frame_entry h m p)) in
     let bad_slot : ℕ → Bool = λ s. eqb (h.slot_table + s / 1024) f && not (is_slot_entry s (raw_slot_entry h m s)) in
@@ -66,7 +66,7 @@ is_sound h m f none of =
     let middle = neither (unsaved || owned) (list_any bad_entry (numbers h.zones)) last.0 in
     let first = neither unsaved owned middle.0 in
     record {
-      saveable = not_false (is_saveable (flags_of (frame_entry h m f))) first.0;
+      saveable = not_false (is_saveable (page_flags (frame_entry h m f))) first.0;
       owner = eqb-true (owner_of (frame_entry h m f)) 0 (not_false (eqb (owner_of (frame_entry h m f)) 0) first.1);
       entries = λ p in' here.
           meant (eqb (h.frame_table + p / 1024) f) (is_well_formed (frame_entry h m p)) (eq-eqb (h.frame_table + p / 1024) f here)

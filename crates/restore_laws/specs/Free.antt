@@ -15,10 +15,10 @@ PlanTells = (d : ℕ) → need d ≡ need_for d
 -- The room suffices just where a plan has enough page frames.
 abbrev pub RoomSuffices : Type 0
 RoomSuffices =
-    (h : Hardware) (dump : Memory) (v : disk.Image) (loader : Loader) →
+    (h : Hardware) (dump : Memory) (v : disk.DiskImage) (loader : Loader) →
     (room_cause h dump v loader ≡ None) ↔ (need_for (d_in h v) ≤ length (left_free h dump loader))
 
 abbrev pub RoomFails : Type 0
 RoomFails =
-    (h : Hardware) (dump : Memory) (v : disk.Image) (loader : Loader) → length (left_free h dump loader) < need_for (d_in h v) →
+    (h : Hardware) (dump : Memory) (v : disk.DiskImage) (loader : Loader) → length (left_free h dump loader) < need_for (d_in h v) →
     room_cause h dump v loader ≡ Some (reply.TooFewLoaderFrames (length (left_free h dump loader)) (need_for (d_in h v)))

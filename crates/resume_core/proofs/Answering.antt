@@ -16,7 +16,7 @@ use Rattle.image_read.proofs.Places.{at_map, at_page, read_at_page}
 use Rattle.protocol_laws.specs.TraceAt.{reply_at, reply_past}
 
 -- The reply of a step from the fifth on.
-pub late_reply : (h : Hardware) (dump : Memory) (v : disk.Image) (loader : Loader) (check : IdentCheck) (k : ℕ) → 4 ≤ k →
+pub late_reply : (h : Hardware) (dump : Memory) (v : disk.DiskImage) (loader : Loader) (check : IdentCheck) (k : ℕ) → 4 ≤ k →
     reply_at h dump v loader check k ≡ unwrap_or (or_else (content_cause h dump v loader check (place (k - 4))) (next_cause h v (k - 4))) (reply_past h dump v loader (k - 4))
 late_reply h dump v loader check k le =
     let t = k - 4 in
@@ -37,7 +37,7 @@ with_room None w n e = ap (λ (x : Option Reply). or_else x n) e
 with_room (Some r) w n e = refl
 
 -- a step that goes on
-pub goes_reply : (h : Hardware) (dump : Memory) (v : disk.Image) (loader : Loader) (check : IdentCheck) (k : ℕ) → 4 ≤ k → step_cause h v check (k - 4) ≡ None → want_cause h dump v loader (place (k - 4)) ≡ None → k - 4 + 1 < place_count (info_in h v).pages →
+pub goes_reply : (h : Hardware) (dump : Memory) (v : disk.DiskImage) (loader : Loader) (check : IdentCheck) (k : ℕ) → 4 ≤ k → step_cause h v check (k - 4) ≡ None → want_cause h dump v loader (place (k - 4)) ≡ None → k - 4 + 1 < place_count (info_in h v).pages →
     reply_at h dump v loader check k ≡ reply.Loading (k + 1)
 goes_reply h dump v loader check k le none room more =
     let t = k - 4 in
@@ -48,7 +48,7 @@ goes_reply h dump v loader check k le none room more =
     ∙ cond-true (ltb (t + 1) (place_count (info_in h v).pages)) (reply.Loading (5 + t)) (last_reply h dump v loader) past ∙ ap reply.Loading is
 
 -- the last step
-pub ends_reply : (h : Hardware) (dump : Memory) (v : disk.Image) (loader : Loader) (check : IdentCheck) (k : ℕ) → 4 ≤ k → step_cause h v check (k - 4) ≡ None → want_cause h dump v loader (place (k - 4)) ≡ None → place_count (info_in h v).pages ≤ k - 4 + 1 →
+pub ends_reply : (h : Hardware) (dump : Memory) (v : disk.DiskImage) (loader : Loader) (check : IdentCheck) (k : ℕ) → 4 ≤ k → step_cause h v check (k - 4) ≡ None → want_cause h dump v loader (place (k - 4)) ≡ None → place_count (info_in h v).pages ≤ k - 4 + 1 →
     reply_at h dump v loader check k ≡ last_reply h dump v loader
 ends_reply h dump v loader check k le none room over =
     let t = k - 4 in
@@ -58,21 +58,21 @@ ends_reply h dump v loader check k le none room over =
     ∙ cond-false (ltb (t + 1) (place_count (info_in h v).pages)) (reply.Loading (5 + t)) (last_reply h dump v loader) past
 
 -- one that the reader's cause ends
-pub stops_reply : (h : Hardware) (dump : Memory) (v : disk.Image) (loader : Loader) (check : IdentCheck) (k : ℕ) (r : Reply) → 4 ≤ k → step_cause h v check (k - 4) ≡ Some r → want_cause h dump v loader (place (k - 4)) ≡ None → reply_at h dump v loader check k ≡ r
+pub stops_reply : (h : Hardware) (dump : Memory) (v : disk.DiskImage) (loader : Loader) (check : IdentCheck) (k : ℕ) (r : Reply) → 4 ≤ k → step_cause h v check (k - 4) ≡ Some r → want_cause h dump v loader (place (k - 4)) ≡ None → reply_at h dump v loader check k ≡ r
 stops_reply h dump v loader check k r le some room =
     let t = k - 4 in
     late_reply h dump v loader check k le
     ∙ ap (λ (o : Option Reply). unwrap_or o (reply_past h dump v loader t)) (with_room (read_cause h v check (place t)) (want_cause h dump v loader (place t)) (next_cause h v t) room ∙ some)
 
 -- one that the loader's room ends
-pub room_reply : (h : Hardware) (dump : Memory) (v : disk.Image) (loader : Loader) (check : IdentCheck) (k : ℕ) (r : Reply) → 4 ≤ k → read_cause h v check (place (k - 4)) ≡ None → want_cause h dump v loader (place (k - 4)) ≡ Some r → reply_at h dump v loader check k ≡ r
+pub room_reply : (h : Hardware) (dump : Memory) (v : disk.DiskImage) (loader : Loader) (check : IdentCheck) (k : ℕ) (r : Reply) → 4 ≤ k → read_cause h v check (place (k - 4)) ≡ None → want_cause h dump v loader (place (k - 4)) ≡ Some r → reply_at h dump v loader check k ≡ r
 room_reply h dump v loader check k r le none few =
     let t = k - 4 in
     late_reply h dump v loader check k le
     ∙ ap (λ (o : Option Reply). unwrap_or (or_else (or_else o (want_cause h dump v loader (place t))) (next_cause h v t)) (reply_past h dump v loader t)) none
     ∙ ap (λ (o : Option Reply). unwrap_or (or_else o (next_cause h v t)) (reply_past h dump v loader t)) few
 
-pub no_read_cause : (h : Hardware) (v : disk.Image) (check : IdentCheck) (t : ℕ) → step_cause h v check t ≡ None → read_cause h v check (place t) ≡ None
+pub no_read_cause : (h : Hardware) (v : disk.DiskImage) (check : IdentCheck) (t : ℕ) → step_cause h v check t ≡ None → read_cause h v check (place t) ≡ None
 no_read_cause h v check t none = first_none (read_cause h v check (place t)) (next_cause h v t) none
 
 -- Where the room is tested.
@@ -86,28 +86,28 @@ more_of true n e = absurd (none-some n (sym e))
 more_of false n e = refl
 
 -- how many numbers were read, once all pages before are known
-pub all_read : (h : Hardware) (v : disk.Image) (j : ℕ) → told h v j ≡ Some (info_in h v).image_pages → (1 ≤ j) × ((info_in h v).image_pages ≤ 512 * (j - 1))
+pub all_read : (h : Hardware) (v : disk.DiskImage) (j : ℕ) → told h v j ≡ Some (info_in h v).image_pages → (1 ≤ j) × ((info_in h v).image_pages ≤ 512 * (j - 1))
 all_read h v zero e = absurd (none-some (info_in h v).image_pages e)
 all_read h v (suc j) e = elim (eqb_tells (min (info_in h v).image_pages (512 * (suc j - 1))) (info_in h v).image_pages) [
   | inl t ↦ (let is = t.1 in (omega arith, omega arith))
   | inr f ↦ absurd (none-some (info_in h v).image_pages (sym (cond-false (eqb (numbers_read h v (suc j)) (info_in h v).image_pages) (Some (info_in h v).image_pages) None f.0) ∙ e))
 ]
 
-pub more_to_read : (h : Hardware) (v : disk.Image) (j : ℕ) → 1 ≤ j → told h v j ≡ None → 512 * (j - 1) < (info_in h v).image_pages
+pub more_to_read : (h : Hardware) (v : disk.DiskImage) (j : ℕ) → 1 ≤ j → told h v j ≡ None → 512 * (j - 1) < (info_in h v).image_pages
 more_to_read h v zero le e = absurd (omega arith)
 more_to_read h v (suc j) le e = elim (eqb_tells (min (info_in h v).image_pages (512 * (suc j - 1))) (info_in h v).image_pages) [
   | inl t ↦ absurd (none-some (info_in h v).image_pages (sym e ∙ cond-true (eqb (numbers_read h v (suc j)) (info_in h v).image_pages) (Some (info_in h v).image_pages) None t.0))
   | inr f ↦ (let ne = f.1 in omega arith)
 ]
 
-no_want_at : (h : Hardware) (dump : Memory) (v : disk.Image) (loader : Loader) (t : ℕ) → ((t % 512 ≡ 0 → ⊥) → pages_read t ≢ meta_in h v) → want_cause h dump v loader (place t) ≡ None
+no_want_at : (h : Hardware) (dump : Memory) (v : disk.DiskImage) (loader : Loader) (t : ℕ) → ((t % 512 ≡ 0 → ⊥) → pages_read t ≢ meta_in h v) → want_cause h dump v loader (place t) ≡ None
 no_want_at h dump v loader t apart = elim (eqb_tells (t % 512) 0) [
   | inl is ↦ ap (want_cause h dump v loader) (at_map t is.1)
   | inr is ↦ ap (want_cause h dump v loader) (at_page t is.1) ∙ cond-false (eqb (pages_read t) (meta_in h v)) (room_cause h dump v loader) None (ne_eqb (pages_read t) (meta_in h v) (apart is.1))
 ]
 
 -- not behind the last number page,
-pub no_want_after : (h : Hardware) (dump : Memory) (v : disk.Image) (loader : Loader) (t : ℕ) → told h v (pages_read t) ≡ Some (info_in h v).image_pages → want_cause h dump v loader (place t) ≡ None
+pub no_want_after : (h : Hardware) (dump : Memory) (v : disk.DiskImage) (loader : Loader) (t : ℕ) → told h v (pages_read t) ≡ Some (info_in h v).image_pages → want_cause h dump v loader (place t) ≡ None
 no_want_after h dump v loader t e =
     let all = all_read h v (pages_read t) e in
     let some = all.0 in
@@ -116,7 +116,7 @@ no_want_after h dump v loader t e =
     no_want_at h dump v loader t (λ page same. omega arith)
 
 -- and not before it
-pub no_want_before : (h : Hardware) (dump : Memory) (v : disk.Image) (loader : Loader) (t : ℕ) → told h v (pages_read (t + 1)) ≡ None → want_cause h dump v loader (place t) ≡ None
+pub no_want_before : (h : Hardware) (dump : Memory) (v : disk.DiskImage) (loader : Loader) (t : ℕ) → told h v (pages_read (t + 1)) ≡ None → want_cause h dump v loader (place t) ≡ None
 no_want_before h dump v loader t e = no_want_at h dump v loader t (λ page same.
     let next = read_at_page t page in
     let more = more_to_read h v (pages_read (t + 1)) (omega arith) e in

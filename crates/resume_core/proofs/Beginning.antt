@@ -52,7 +52,7 @@ page_is h kept frames shown loader.Table p has shows = ap (λ (o : Option Memory
 abbrev begun : Held → Option Memory → Loader → IdentCheck → Resume
 begun held kept l check = record { held = held; found = not_yet; loader = l; dump = unwrap_or kept []; check = check }
 
-begin_step : (h : Hardware) (v : disk.Image) (held : Held) (kept : Option Memory) (l : Loader) (check : IdentCheck) → refusal h (off held kept) (event.Resume l check) ≡ None → Step h v (off held kept) (event.Resume l check) (reply.Loading 0) (loading (begun held kept l check) 0)
+begin_step : (h : Hardware) (v : disk.DiskImage) (held : Held) (kept : Option Memory) (l : Loader) (check : IdentCheck) → refusal h (off held kept) (event.Resume l check) ≡ None → Step h v (off held kept) (event.Resume l check) (reply.Loading 0) (loading (begun held kept l check) 0)
 unfolding outcomes
 begin_step h v held kept l check none =
     subst (λ (o : Option Reply). Contains (refused_or (off held kept) o (accepted h v (off held kept) (event.Resume l check))) (reply.Loading 0, loading (begun held kept l check) 0)) (sym none) (0, omega arith, refl)

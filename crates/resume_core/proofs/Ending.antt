@@ -51,32 +51,32 @@ use Rattle.resume_core.proofs.Finding.{activity_is}
 -- The tables.
 
 -- the area block is the header taken back
-marked_area : (h : Hardware) (v : disk.Image) (header : List ℕ) → header ≡ header_of h v → Marked h v → area_block h v ≡ taken_back header
+marked_area : (h : Hardware) (v : disk.DiskImage) (header : List ℕ) → header ≡ header_of h v → Marked h v → area_block h v ≡ taken_back header
 marked_area h v header is marked = area_block-marked h v marked ∙ ap taken_back (sym is)
 
-pub record IsTested (h : Hardware) (v : disk.Image) (header : List ℕ) (blocks : ℕ) : Type 0 where
+pub record IsTested (h : Hardware) (v : disk.DiskImage) (header : List ℕ) (blocks : ℕ) : Type 0 where
   pub header_is : header ≡ header_of h v
   pub blocks_are : blocks ≡ blocks_of v
   pub marked : Marked h v
 
-area_is : (h : Hardware) (v : disk.Image) (header : List ℕ) (blocks : ℕ) (kind : AreaKind) → IsTested h v header blocks → kind ≡ area_kind (taken_back header) → (kind ≡ area_kind (area_block h v)) × (area_fault h v ≡ kind_or_fit_fault h blocks kind)
+area_is : (h : Hardware) (v : disk.DiskImage) (header : List ℕ) (blocks : ℕ) (kind : AreaKind) → IsTested h v header blocks → kind ≡ area_kind (taken_back header) → (kind ≡ area_kind (area_block h v)) × (area_fault h v ≡ kind_or_fit_fault h blocks kind)
 unfolding area_fault
 area_is h v header blocks kind is kind_is =
     let same : kind ≡ area_kind (area_block h v) = kind_is ∙ ap area_kind (sym (marked_area h v header is.header_is is.marked)) in
     (same, ap₂ (kind_or_fit_fault h) (sym is.blocks_are) (sym same))
 
-pub tables_good : (h : Hardware) (v : disk.Image) (header : List ℕ) (blocks : ℕ) (m : Memory) (kind : AreaKind) (area : Area) → IsTested h v header blocks → kind ≡ area_kind (taken_back header) → tables_fault h m ≡ None → kind ≡ Swap area → kind_or_fit_fault h blocks kind ≡ None → has_bad_slots_of h m area ≡ true → tables_cause h v m ≡ None
+pub tables_good : (h : Hardware) (v : disk.DiskImage) (header : List ℕ) (blocks : ℕ) (m : Memory) (kind : AreaKind) (area : Area) → IsTested h v header blocks → kind ≡ area_kind (taken_back header) → tables_fault h m ≡ None → kind ≡ Swap area → kind_or_fit_fault h blocks kind ≡ None → has_bad_slots_of h m area ≡ true → tables_cause h v m ≡ None
 tables_good h v header blocks m kind area is kind_is none swap fit bad =
     let a = area_is h v header blocks kind is kind_is in
     tables_fit h v m none ((area_fits h v m area (a.1 ∙ fit) (sym a.0 ∙ swap)).1 bad)
 
-pub bad_slots : (h : Hardware) (v : disk.Image) (header : List ℕ) (blocks : ℕ) (m : Memory) (kind : AreaKind) (area : Area) → IsTested h v header blocks → kind ≡ area_kind (taken_back header) → tables_fault h m ≡ None → kind ≡ Swap area → kind_or_fit_fault h blocks kind ≡ None → has_bad_slots_of h m area ≡ false →
+pub bad_slots : (h : Hardware) (v : disk.DiskImage) (header : List ℕ) (blocks : ℕ) (m : Memory) (kind : AreaKind) (area : Area) → IsTested h v header blocks → kind ≡ area_kind (taken_back header) → tables_fault h m ≡ None → kind ≡ Swap area → kind_or_fit_fault h blocks kind ≡ None → has_bad_slots_of h m area ≡ false →
     tables_cause h v m ≡ Some (reply.BadTables h.slot_table)
 bad_slots h v header blocks m kind area is kind_is none swap fit bad =
     let a = area_is h v header blocks kind is kind_is in
     area_misfits h v m _ none (bad_set_differs h v m area (a.1 ∙ fit) (sym a.0 ∙ swap) bad)
 
-pub no_area : (h : Hardware) (v : disk.Image) (header : List ℕ) (blocks : ℕ) (m : Memory) (kind : AreaKind) (why : NoSwap) → IsTested h v header blocks → kind ≡ area_kind (taken_back header) → tables_fault h m ≡ None → kind_or_fit_fault h blocks kind ≡ Some why → tables_cause h v m ≡ Some (reply.BadTables h.slot_table)
+pub no_area : (h : Hardware) (v : disk.DiskImage) (header : List ℕ) (blocks : ℕ) (m : Memory) (kind : AreaKind) (why : NoSwap) → IsTested h v header blocks → kind ≡ area_kind (taken_back header) → tables_fault h m ≡ None → kind_or_fit_fault h blocks kind ≡ Some why → tables_cause h v m ≡ Some (reply.BadTables h.slot_table)
 no_area h v header blocks m kind why is kind_is none unfit =
     let a = area_is h v header blocks kind is kind_is in
     area_misfits h v m why none (area_unusable h v m why (a.1 ∙ unfit))
@@ -87,10 +87,10 @@ fits_of h blocks kind area is fits = sym (ap (kind_or_fit_fault h blocks) is) �
 
 -- The end.
 
-was_marked : (h : Hardware) (v : disk.Image) → header_cause h v ≡ None → Marked h v
+was_marked : (h : Hardware) (v : disk.DiskImage) → header_cause h v ≡ None → Marked h v
 was_marked h v uncaused = a_mark h v None uncaused (λ e. none-some reply.NoImage e)
 
-length_listed : (h : Hardware) (v : disk.Image) → length (frames_in h v (info_in h v).image_pages) ≡ (info_in h v).image_pages
+length_listed : (h : Hardware) (v : disk.DiskImage) → length (frames_in h v (info_in h v).image_pages) ≡ (info_in h v).image_pages
 unfolding frames_in
 length_listed h v = length-map-range_with_len (number_in h v) 0 (info_in h v).image_pages
 
@@ -99,7 +99,7 @@ pub record IsHome (machine : Machine) (frames frames' : Memory) (load : Load) : 
   pub restored : (p : ℕ) → frame frames' p ≡ restored_page frames load.waiting load.origs.members p
   pub size : length frames' ≡ top machine.hw.zones
 
-all_are_read : (machine : Machine) (frames : Memory) (load : Load) (c : disk.Content) (l : Resume) (v : disk.Image) (k : ℕ) → HasRead machine frames load c l v k → HavePlaces machine.hw v frames load.waiting (k - 4 + 1) → k - 4 + 1 ≡ place_count (info_in machine.hw v).pages →
+all_are_read : (machine : Machine) (frames : Memory) (load : Load) (c : disk.Content) (l : Resume) (v : disk.DiskImage) (k : ℕ) → HasRead machine frames load c l v k → HavePlaces machine.hw v frames load.waiting (k - 4 + 1) → k - 4 + 1 ≡ place_count (info_in machine.hw v).pages →
     AreAllRead machine.hw l.dump v l.loader load.waiting load.origs.members frames
 all_are_read machine frames load c l v k read places over =
     let h = machine.hw in
@@ -117,23 +117,23 @@ all_are_read machine frames load c l v k read places over =
       kept = read.kept;
     }
 
-home : (machine : Machine) (frames frames' : Memory) (load : Load) (c : disk.Content) (l : Resume) (v : disk.Image) (k : ℕ) → IsHome machine frames frames' load → HasRead machine frames load c l v k → HavePlaces machine.hw v frames load.waiting (k - 4 + 1) → k - 4 + 1 ≡ place_count (info_in machine.hw v).pages →
+home : (machine : Machine) (frames frames' : Memory) (load : Load) (c : disk.Content) (l : Resume) (v : disk.DiskImage) (k : ℕ) → IsHome machine frames frames' load → HasRead machine frames load c l v k → HavePlaces machine.hw v frames load.waiting (k - 4 + 1) → k - 4 + 1 ≡ place_count (info_in machine.hw v).pages →
     frames' ≡ restored_in machine.hw l.dump v l.loader
 home machine frames frames' load c l v k is read places over =
     are_restored machine.hw l.dump v l.loader load.waiting load.origs.members frames frames' (all_are_read machine frames load c l v k read places over) is.size (λ p lt. is.restored p)
 
 -- what the tables' test says, of each disk whose header it was
 abbrev pub IsFaulty : Machine → Memory → Load → ℕ → Type 0
-IsFaulty machine frames' load f = (v : disk.Image) → load.header ≡ header_of machine.hw v → machine.blocks ≡ blocks_of v → Marked machine.hw v → tables_cause machine.hw v frames' ≡ Some (reply.BadTables f)
+IsFaulty machine frames' load f = (v : disk.DiskImage) → load.header ≡ header_of machine.hw v → machine.blocks ≡ blocks_of v → Marked machine.hw v → tables_cause machine.hw v frames' ≡ Some (reply.BadTables f)
 
 abbrev pub IsGood : Machine → Memory → Load → Type 0
-IsGood machine frames' load = (v : disk.Image) → load.header ≡ header_of machine.hw v → machine.blocks ≡ blocks_of v → Marked machine.hw v → tables_cause machine.hw v frames' ≡ None
+IsGood machine frames' load = (v : disk.DiskImage) → load.header ≡ header_of machine.hw v → machine.blocks ≡ blocks_of v → Marked machine.hw v → tables_cause machine.hw v frames' ≡ None
 
 -- of the image that was found, which the disk v has
-restored_is_by : (h : Hardware) (l : Resume) (v : disk.Image) → IsHardware h → (f : Found) → IsFoundOn h v f → restored_in h l.dump v l.loader ≡ restored_found h l f
+restored_is_by : (h : Hardware) (l : Resume) (v : disk.DiskImage) → IsHardware h → (f : Found) → IsFoundOn h v f → restored_in h l.dump v l.loader ≡ restored_found h l f
 restored_is_by h l v hw not_yet is = absurd is
 restored_is_by h l v hw (found_own i) is = restored_is h v i l.dump l.loader (record { hardware = hw; holds = is.0; own = is.1; sayable = own_sayable h v i hw is.1 })
-restored_is_by h l v hw (found_other w) is = ap (λ (x : disk.Image). restored_in h l.dump x l.loader) is
+restored_is_by h l v hw (found_other w) is = ap (λ (x : disk.DiskImage). restored_in h l.dump x l.loader) is
 
 pub bad_tables_row : (machine : Machine) (frames frames' : Memory) (load load' : Load) (ranges : Ranges) (f : ℕ) → load.loader ≡ loader.Ranges ranges → IsHome machine frames frames' load → IsFaulty machine frames' load f → load'.stage ≡ stage.Rest → EndsOn machine frames load machine frames' load' (reply.BadTables f)
 bad_tables_row machine frames frames' load load' ranges f by is faulty rest c l v k read places room over =
@@ -148,7 +148,7 @@ bad_tables_row machine frames frames' load load' ranges f by is faulty rest c l 
           (read_stop_row h read.shown (shown_by machine frames' load') c l v k (reply.BadTables f) read.reading (ends_reply h l.dump v l.loader l.check k read.reading.late read.sound room (omega arith) ∙ at_last) tt (activity_is load' stage.Rest rest, refl)) tt,
     )
 
-no_fault : (h : Hardware) (v : disk.Image) (m : Memory) → tables_cause h v m ≡ None → tables_fault h m ≡ None
+no_fault : (h : Hardware) (v : disk.DiskImage) (m : Memory) → tables_cause h v m ≡ None → tables_fault h m ≡ None
 no_fault h v m good = by (tables_fault h m) refl where
   by : (o : Option ℕ) → tables_fault h m ≡ o → o ≡ None
   by None e = refl

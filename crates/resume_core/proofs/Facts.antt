@@ -21,7 +21,7 @@ use Rattle.protocol_laws.specs.Rows as rows
 use Rattle.machine.specs.declared.machine.Machine.{Machine}
 use Rattle.resume_core.specs.Loading.{shown_by, activity_of}
 use Rattle.swap_slots.specs.Runs.{SlotRuns}
-use Rattle.resume_core.specs.Ready.{IsOver}
+use Rattle.resume_core.specs.Ready.{IsOverMachine}
 use Rattle.resume_core.specs.Row.{StandsFor, StandsAfter, HasEnded, HasLoader, IsOfState, IsRow, NoneWaits}
 use Rattle.resume_core.specs.declared.load.Load.{Load}
 use Rattle.protocol_laws.proofs.LoadRows.{shows_none_read}
@@ -86,7 +86,7 @@ shows_none machine frames load load' c l l' j k s loader dump activity few none 
 pub count_of : (blocks : ℕ) (c : disk.Content) → disk.IsContent blocks c → blocks_of (disk.as_it_reads c) ≡ blocks
 count_of blocks c whole = let size = length-as_it_reads c in let all = whole.size in omega arith
 
-pub over_still : (machine : Machine) (frames : Memory) (runs : SlotRuns) (load load' : Load) → load'.origs.zones ≡ load.origs.zones → load'.zeros.zones ≡ load.zeros.zones → load'.waiting.zones ≡ load.waiting.zones → IsOver machine frames runs load → IsOver machine frames runs load'
+pub over_still : (machine : Machine) (frames : Memory) (runs : SlotRuns) (load load' : Load) → load'.origs.zones ≡ load.origs.zones → load'.zeros.zones ≡ load.zeros.zones → load'.waiting.zones ≡ load.waiting.zones → IsOverMachine machine frames runs load → IsOverMachine machine frames runs load'
 over_still machine frames runs load load' origs zeros waiting over = record {
   hardware = over.hardware;
   few = over.few;

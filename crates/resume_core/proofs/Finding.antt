@@ -147,13 +147,13 @@ abbrev is_missing : Reply → Bool
 is_missing reply.NoImage = true
 is_missing _ = false
 
-pub none_found : (h : Hardware) (v : disk.Image) (r : Reply) → header_cause h v ≡ Some reply.NoImage → r ≡ reply.NoImage → FindsMark h r v
+pub none_found : (h : Hardware) (v : disk.DiskImage) (r : Reply) → header_cause h v ≡ Some reply.NoImage → r ≡ reply.NoImage → FindsMark h r v
 none_found h v r none is = subst (λ (q : Reply). FindsMark h q v) (sym is) (no_mark h v none)
 
-pub image_found : (h : Hardware) (v : disk.Image) (header : List ℕ) → header ≡ header_of h v → header_fault header ≡ None → Marked h v
+pub image_found : (h : Hardware) (v : disk.DiskImage) (header : List ℕ) → header ≡ header_of h v → header_fault header ≡ None → Marked h v
 image_found h v header read none = a_mark h v None (subst (λ (p : List ℕ). header_fault p ≡ None) read none) (λ e. none-some reply.NoImage e)
 
-pub fault_found : (h : Hardware) (v : disk.Image) (header : List ℕ) (why r : Reply) → header ≡ header_of h v → header_fault header ≡ Some why → r ≡ why → FindsMark h r v
+pub fault_found : (h : Hardware) (v : disk.DiskImage) (header : List ℕ) (why r : Reply) → header ≡ header_of h v → header_fault header ≡ Some why → r ≡ why → FindsMark h r v
 fault_found h v header why r read some is =
     let cause : header_cause h v ≡ Some why = subst (λ (p : List ℕ). header_fault p ≡ Some why) read some in
     subst (λ (q : Reply). FindsMark h q v) (sym is) (elim (header_faults header why some) [

@@ -83,7 +83,7 @@ compressed page o m is some clear =
     fault_of_flags page found.0 ∙ ap (λ (b : Bool). cond (not b) (Some (reply.Compressed (flags_of page))) None) flag ∙ ap (λ (x : Mark). Some (reply.Compressed x.flags)) (sym found.1)
 
 -- a header beyond the disk's blocks has no mark
-pub none_beyond : (h : Hardware) (v : disk.Image) → blocks_of v ≤ block_of_slot h 0 → header_cause h v ≡ Some reply.NoImage
+pub none_beyond : (h : Hardware) (v : disk.DiskImage) → blocks_of v ≤ block_of_slot h 0 → header_cause h v ≡ Some reply.NoImage
 none_beyond h v beyond = by_test (signed (header_of h v)) refl where
   by_test : (b : Bool) → signed (header_of h v) ≡ b → header_cause h v ≡ Some reply.NoImage
   by_test true e =
@@ -91,7 +91,7 @@ none_beyond h v beyond = by_test (signed (header_of h v)) refl where
       absurd (omega arith)
   by_test false e = ap (λ (b : Bool). cond (not b) (Some reply.NoImage) (cond (not (is_set (flags_of (header_of h v)) 2)) (Some (reply.Compressed (flags_of (header_of h v)))) None)) e
 
-pub read_below : (h : Hardware) (v : disk.Image) (blocks : ℕ) → blocks_of v ≡ blocks → block_of_slot h 0 < blocks → disk.block v (block_of_slot h 0) ≡ header_of h v
+pub read_below : (h : Hardware) (v : disk.DiskImage) (blocks : ℕ) → blocks_of v ≡ blocks → block_of_slot h 0 < blocks → disk.block v (block_of_slot h 0) ≡ header_of h v
 read_below h v blocks count lt =
     let test : ltb (block_of_slot h 0) (blocks_of v) ≡ true = lt-ltb (block_of_slot h 0) (blocks_of v) (omega arith) in
     sym (ap (λ (b : Bool). cond b (disk.block v (block_of_slot h 0)) zero_page) test)
@@ -109,15 +109,15 @@ cond_some false r s e = absurd (none-some s e)
 abbrev test_of : Hardware → Mark → Bool
 test_of h mark = is_set mark.flags 8 && not (eqb mark.hw_sig h.hw_sig)
 
-abbrev cause_by : Hardware → disk.Image → Bool → Option Reply
+abbrev cause_by : Hardware → disk.DiskImage → Bool → Option Reply
 cause_by h v b = cond b (Some (reply.HwMismatch (hw_sig_of (header_of h v)) h.hw_sig)) (map_fault h v (first_map h v) 0)
 
-pub cause_of_map : (h : Hardware) (v : disk.Image) (m : Mark) → m ≡ mark_of (header_of h v) → signature_fault h m ≡ None → taken_back_cause h v ≡ map_fault h v m.first 0
+pub cause_of_map : (h : Hardware) (v : disk.DiskImage) (m : Mark) → m ≡ mark_of (header_of h v) → signature_fault h m ≡ None → taken_back_cause h v ≡ map_fault h v m.first 0
 cause_of_map h v m is none =
     let b = cond_none (test_of h m) (reply.HwMismatch m.hw_sig h.hw_sig) none in
     ap (λ (x : Mark). cause_by h v (test_of h x)) (sym is) ∙ ap (cause_by h v) b ∙ ap (λ (x : Mark). map_fault h v x.first 0) (sym is)
 
-pub cause_of_signature : (h : Hardware) (v : disk.Image) (m : Mark) (why : Reply) → m ≡ mark_of (header_of h v) → signature_fault h m ≡ Some why → taken_back_cause h v ≡ Some why
+pub cause_of_signature : (h : Hardware) (v : disk.DiskImage) (m : Mark) (why : Reply) → m ≡ mark_of (header_of h v) → signature_fault h m ≡ Some why → taken_back_cause h v ≡ Some why
 cause_of_signature h v m why is some =
     let b = cond_some (test_of h m) (reply.HwMismatch m.hw_sig h.hw_sig) why some in
     ap (λ (x : Mark). cause_by h v (test_of h x)) (sym is) ∙ ap (cause_by h v) b.0 ∙ ap (λ (x : Mark). Some (reply.HwMismatch x.hw_sig h.hw_sig)) (sym is) ∙ ap (λ (r : Reply). Some r) b.1

@@ -20,7 +20,7 @@ use Rattle.plain_machine.specs.declared.event.Actor.TheVariants as actor
 use Rattle.plain_machine.specs.declared.reply.Reply.{Reply}
 use Rattle.plain_machine.specs.declared.reply.Reply.TheVariants as reply
 use Rattle.plain_machine.specs.declared.reply.Left.TheVariants.{Gone}
-use Rattle.protocol_laws.specs.LoadRows.{IsFoundOn, IsReading}
+use Rattle.protocol_laws.specs.LoadRows.{IsFoundOn, IsBeforeRead}
 use Rattle.protocol_laws.proofs.OwnCauses.{own_sayable}
 use Rattle.protocol_laws.specs.Loads.{ShowsLoad}
 use Rattle.protocol_laws.specs.Rows as rows
@@ -37,7 +37,7 @@ use Rattle.std.proofs.lemmas.Bool.{cases_lt, false≢true}
 use Rattle.std.proofs.lemmas.Option.{same_Some}
 use Rattle.image_read.proofs.Places.{two_places, some_read, none_read}
 use Rattle.image_read.proofs.Read.{known, saved_is}
-use Rattle.image_read.specs.Reading.{IsOver}
+use Rattle.image_read.specs.Reading.{HasReadAll}
 use Rattle.page_restore.specs.Waiting.{Awaiting}
 use Rattle.plain_machine.specs.Machine.{IsHardware}
 use Rattle.plain_machine.specs.declared.event.IdentCheck.{IdentCheck}
@@ -51,7 +51,7 @@ use Rattle.resume_core.proofs.OwnImage.{none_read_yet}
 
 -- a resume that reads blocks of the chain, by the state that it stands for
 abbrev pub IsAtRead : Machine → Memory → Load → disk.Content → Type 0
-IsAtRead machine frames load c = (l : Resume) → StandsFor machine frames load c (loading l load.made) → (v : disk.Image) × IsReading machine.hw (shown_by machine frames load) c l v load.made
+IsAtRead machine frames load c = (l : Resume) → StandsFor machine frames load c (loading l load.made) → (v : disk.DiskImage) × IsBeforeRead machine.hw (shown_by machine frames load) c l v load.made
 
 pub at_list : (machine : Machine) (frames : Memory) (load : Load) (c : disk.Content) → IsHardware machine.hw → load.stage ≡ stage.List → 4 ≤ load.made → IsAtRead machine frames load c
 at_list machine frames load c hw at late l s =
@@ -82,7 +82,7 @@ few_listed t n few more = elim (cases_lt t 2) [
 ]
 
 -- more blocks are wanted, as more numbers are
-more_listed : (h : Hardware) (v : disk.Image) (load : Load) (t : ℕ) (read : HasReader h v load t) → told h v (pages_read t) ≡ None → t < place_count (info_in h v).pages
+more_listed : (h : Hardware) (v : disk.DiskImage) (load : Load) (t : ℕ) (read : HasReader h v load t) → told h v (pages_read t) ≡ None → t < place_count (info_in h v).pages
 more_listed h v load t read none =
     let pages = (info_in h v).pages in
     let n = (info_in h v).image_pages in
@@ -99,7 +99,7 @@ more_listed h v load t read none =
 abbrev pub SavesFew : Load → Type 0
 SavesFew load = (r : Reading) → load.reader ≡ Some r → r.saved ≤ 65536
 
-few_made : (h : Hardware) (v : disk.Image) (load : Load) (t : ℕ) → HasReader h v load t → SavesFew load → told h v (pages_read t) ≡ None → t < 200
+few_made : (h : Hardware) (v : disk.DiskImage) (load : Load) (t : ℕ) → HasReader h v load t → SavesFew load → told h v (pages_read t) ≡ None → t < 200
 few_made h v load t read few none =
     let saved = few read.reader read.has in
     let same = read.reading.saved in
@@ -111,7 +111,7 @@ few_made h v load t read few none =
     ]
 
 -- the page frames that wait are none, as those of an own image
-none_shown : (h : Hardware) (v : disk.Image) (l : Resume) (i : Image) (t k : ℕ) → IsHardware h → 4 + t ≡ k → IsFoundOn h v l.found → l.found ≡ found_own i → told h v (pages_read t) ≡ None → [] ≡ take (data_read i k) (with_data i)
+none_shown : (h : Hardware) (v : disk.DiskImage) (l : Resume) (i : Image) (t k : ℕ) → IsHardware h → 4 + t ≡ k → IsFoundOn h v l.found → l.found ≡ found_own i → told h v (pages_read t) ≡ None → [] ≡ take (data_read i k) (with_data i)
 none_shown h v l i t k hw is found own none =
     let holds = subst (IsFoundOn h v) own found in
     let zero : data_read i k ≡ 0 = subst (λ (n : ℕ). data_read i n ≡ 0) is (none_read_yet h v i t holds.0 holds.1 (own_sayable h v i hw holds.1) none) in
@@ -148,7 +148,7 @@ more_row machine frames load m few unlisted counted c l v k read none waits =
               found_still machine load new c c l v refl refl read.found.reads refl read.found,
               gone_next h l v k read.reading.gone_on goes,
               omega arith,
-              record { reader = reader; has = read.read.has; reading = subst (λ (t : ℕ). stream.IsReading h v load.check reader t load.origs.members load.zeros.members) at read.read.reading },
+              record { reader = reader; has = read.read.has; reading = subst (λ (t : ℕ). stream.HasReadPlaces h v load.check reader t load.origs.members load.zeros.members) at read.read.reading },
               subst (λ (t : ℕ). told h v (pages_read t) ≡ None) at none',
               waits,
             );
@@ -157,7 +157,7 @@ more_row machine frames load m few unlisted counted c l v k read none waits =
 
 -- A block that was read, as what follows takes it.
 
-pub not_over : (h : Hardware) (v : disk.Image) (load : Load) (t : ℕ) → (read : HasReader h v load t) → t < place_count (info_in h v).pages → IsOver read.reader → ⊥
+pub not_over : (h : Hardware) (v : disk.DiskImage) (load : Load) (t : ℕ) → (read : HasReader h v load t) → t < place_count (info_in h v).pages → HasReadAll read.reader → ⊥
 not_over h v load t read within over =
     let steps = read.reading.steps in
     let pages = read.reading.pages in
@@ -173,22 +173,22 @@ abbrev pub HasNoCause : ReadStep → Type 0
 HasNoCause result = ((k : ℕ) × (result ≡ read_step.More k)) ⊎ (((pfn : ℕ) × (result ≡ read_step.Page pfn)) ⊎ (result ≡ read_step.Done))
 
 -- what was read, and that nothing is wrong with it
-pub read_on : (h : Hardware) (v : disk.Image) (t : ℕ) (result : ReadStep) (old new : Load) → new.check ≡ old.check → HasReader h v old t → t < place_count (info_in h v).pages → HasNoCause result → HasAnswered h v t result old new → (step_cause h v old.check t ≡ None) × HasReader h v new (t + 1)
+pub read_on : (h : Hardware) (v : disk.DiskImage) (t : ℕ) (result : ReadStep) (old new : Load) → new.check ≡ old.check → HasReader h v old t → t < place_count (info_in h v).pages → HasNoCause result → HasAnswered h v t result old new → (step_cause h v old.check t ≡ None) × HasReader h v new (t + 1)
 read_on h v t result old new check was within none answered = elim none [
   | inl more ↦ (let a = subst (λ (s : ReadStep). Answers h v old.check t s answered.before answered.after new.origs.members new.zeros.members new.page) more.1 answered.answers in
-      (a.0, record { reader = answered.after; has = answered.has; reading = subst (λ (x : IdentCheck). stream.IsReading h v x answered.after (t + 1) new.origs.members new.zeros.members) (sym check) a.1 }))
+      (a.0, record { reader = answered.after; has = answered.has; reading = subst (λ (x : IdentCheck). stream.HasReadPlaces h v x answered.after (t + 1) new.origs.members new.zeros.members) (sym check) a.1 }))
   | inr other ↦ elim other [
     | inl page ↦ (let a = subst (λ (s : ReadStep). Answers h v old.check t s answered.before answered.after new.origs.members new.zeros.members new.page) page.1 answered.answers in
-        (a.0, record { reader = answered.after; has = answered.has; reading = subst (λ (x : IdentCheck). stream.IsReading h v x answered.after (t + 1) new.origs.members new.zeros.members) (sym check) a.1 }))
+        (a.0, record { reader = answered.after; has = answered.has; reading = subst (λ (x : IdentCheck). stream.HasReadPlaces h v x answered.after (t + 1) new.origs.members new.zeros.members) (sym check) a.1 }))
     | inr done ↦ (let a = subst (λ (s : ReadStep). Answers h v old.check t s answered.before answered.after new.origs.members new.zeros.members new.page) done answered.answers in
         let same : answered.before ≡ was.reader = same_Some answered.before was.reader (sym answered.was ∙ was.has) in
-        absurd (not_over h v old t was within (subst IsOver same a.0)))
+        absurd (not_over h v old t was within (subst HasReadAll same a.0)))
   ]
 ]
 
 -- the row of a read at which more is listed
 pub listed_on : (machine : Machine) (frames : Memory) (load mid : Load) (machine' : Machine) (frames' : Memory) (load' : Load) (result : ReadStep) (r : Reply) (c : disk.Content) → IsHardware machine.hw → load.stage ≡ stage.List → 4 ≤ load.made → machine'.hw ≡ machine.hw → disk.IsContent machine.blocks c →
-    mid ≡ record load { reader = mid.reader; origs = mid.origs; zeros = mid.zeros; page = mid.page } → HasNoCause result → ((v : disk.Image) (t : ℕ) → HasReader machine.hw v load t → Reads machine.hw v (Some c) → HasAnswered machine.hw v t result load mid) →
+    mid ≡ record load { reader = mid.reader; origs = mid.origs; zeros = mid.zeros; page = mid.page } → HasNoCause result → ((v : disk.DiskImage) (t : ℕ) → HasReader machine.hw v load t → Reads machine.hw v (Some c) → HasAnswered machine.hw v t result load mid) →
     ListsOn machine frames mid machine' frames' load' r → IsRow machine frames load machine' frames' load' (event.Step actor.Core) r c c
 listed_on machine frames load mid machine' frames' load' result r c hardware at late same whole is none answers goes =
     row_at_load machine frames load machine' frames' load' (event.Step actor.Core) r c c load.made (activity_is load stage.List at)

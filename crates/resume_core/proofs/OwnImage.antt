@@ -16,7 +16,7 @@ use Rattle.restore_laws.proofs.DataPlaces.{data_count, none_before}
 use Rattle.restore_laws.proofs.OwnPages.{own_read, own_frames, own_pages}
 
 -- before the last number page no page with data is read
-pub none_read_yet : (h : Hardware) (v : disk.Image) (i : Image) (t : ℕ) → Holds h v i → IsOwn h v i → IsSayable i → told h v (pages_read t) ≡ None → data_read i (4 + t) ≡ 0
+pub none_read_yet : (h : Hardware) (v : disk.DiskImage) (i : Image) (t : ℕ) → Holds h v i → IsOwn h v i → IsSayable i → told h v (pages_read t) ≡ None → data_read i (4 + t) ≡ 0
 none_read_yet h v i t holds own sayable none = own_read h v i t holds sayable ∙ none_before h v t none
 
 zip_take : (xs : List ℕ) (ys : List (List ℕ)) → zip xs ys ≡ zip (take (length ys) xs) ys
@@ -26,12 +26,12 @@ zip_take (x ∷ xs) [] = refl
 zip_take (x ∷ xs) (y ∷ ys) = ap (λ (zs : List (ℕ × List ℕ)). (x, y) ∷ zs) (zip_take xs ys)
 
 -- behind it the pages read are the image's first ones with data
-pub pages_are : (h : Hardware) (v : disk.Image) (i : Image) (t m : ℕ) → Holds h v i → IsSayable i → m ≡ data_before h v t → m ≤ length (data_frames h v) → zip (data_frames h v) (data_pages h v m) ≡ take (data_read i (4 + t)) (with_data i)
+pub pages_are : (h : Hardware) (v : disk.DiskImage) (i : Image) (t m : ℕ) → Holds h v i → IsSayable i → m ≡ data_before h v t → m ≤ length (data_frames h v) → zip (data_frames h v) (data_pages h v m) ≡ take (data_read i (4 + t)) (with_data i)
 pages_are h v i t m holds sayable is few =
     let count = ap length (own_frames h v i holds sayable) ∙ length-map (with_data i) (λ (saved : ℕ × List ℕ). saved.0) in
     zip_take (data_frames h v) (data_pages h v m) ∙ ap (λ (n : ℕ). zip (take n (data_frames h v)) (data_pages h v m)) (length-map-range_with_len (data_page h v) 0 m)
     ∙ own_pages h v i m holds sayable (omega arith) ∙ ap (λ (n : ℕ). take n (with_data i)) (is ∙ sym (own_read h v i t holds sayable))
 
 -- how many pages have data
-pub count_is : (h : Hardware) (v : disk.Image) → d_in h v ≡ length (data_frames h v)
+pub count_is : (h : Hardware) (v : disk.DiskImage) → d_in h v ≡ length (data_frames h v)
 count_is h v = sym (data_count h v)

@@ -10,7 +10,7 @@ use Rattle.definitions.specs.Disk as disk
 use Rattle.definitions.specs.Tables.{frame}
 use Rattle.safe_pages.specs.Placed.{sources}
 use Rattle.image_read.specs.Causes.{reply_of}
-use Rattle.image_read.specs.Reading.{Reading, IsOver}
+use Rattle.image_read.specs.Reading.{Reading, HasReadAll}
 use Rattle.image_read.specs.Taking as taking
 use Rattle.image_read.specs.Stream as stream
 use Rattle.image_read.specs.Stream.{pages_read, told, data_frames, frames_in, marked_in, numbers_read, frame_at, place_block}
@@ -83,18 +83,18 @@ some_all : (b : Bool) (n : ℕ) → IsSome (cond b (Some n) None) → cond b (So
 some_all true n e = refl
 some_all false n e = absurd (false≢true e)
 
-told_some : (h : Hardware) (v : disk.Image) (j : ℕ) → IsSome (told h v j) → told h v j ≡ Some (info_in h v).image_pages
+told_some : (h : Hardware) (v : disk.DiskImage) (j : ℕ) → IsSome (told h v j) → told h v j ≡ Some (info_in h v).image_pages
 told_some h v zero e = absurd (false≢true e)
 told_some h v (suc j) e = some_all (eqb (numbers_read h v (suc j)) (info_in h v).image_pages) (info_in h v).image_pages e
 
 abbrev pub IsListed : Load → Type 0
 IsListed load = (r : Reading) → load.reader ≡ Some r → IsSome r.listed
 
-told_listed : (h : Hardware) (v : disk.Image) (load : Load) (t : ℕ) → HasReader h v load t → IsListed load → told h v (pages_read t) ≡ Some (info_in h v).image_pages
+told_listed : (h : Hardware) (v : disk.DiskImage) (load : Load) (t : ℕ) → HasReader h v load t → IsListed load → told h v (pages_read t) ≡ Some (info_in h v).image_pages
 told_listed h v load t read listed = told_some h v (pages_read t) (subst IsSome read.reading.listed (listed read.reader read.has))
 
 -- the room is tested there
-want_listed : (h : Hardware) (dump : Memory) (v : disk.Image) (loader : Loader) (t : ℕ) → told h v (pages_read t) ≡ None → told h v (pages_read (t + 1)) ≡ Some (info_in h v).image_pages → want_cause h dump v loader (place t) ≡ room_cause h dump v loader
+want_listed : (h : Hardware) (dump : Memory) (v : disk.DiskImage) (loader : Loader) (t : ℕ) → told h v (pages_read t) ≡ None → told h v (pages_read (t + 1)) ≡ Some (info_in h v).image_pages → want_cause h dump v loader (place t) ≡ room_cause h dump v loader
 want_listed h dump v loader t before after = elim (eqb_tells (t % 512) 0) [
   | inl is ↦ absurd (none-some (info_in h v).image_pages (sym before ∙ ap (told h v) (sym (read_at_map t is.1)) ∙ after))
   | inr is ↦ (
@@ -112,11 +112,11 @@ same_data : (origs zeros : List ℕ) → with_data origs zeros ≡ taking.with_d
 unfolding with_data taking.with_data
 same_data origs zeros = refl
 
-listed_data : (h : Hardware) (v : disk.Image) (origs zeros : List ℕ) → origs ≡ frames_in h v (info_in h v).image_pages → zeros ≡ marked_in h v (info_in h v).image_pages → IsStrictlyIncreasing origs → with_data origs zeros ≡ data_frames h v
+listed_data : (h : Hardware) (v : disk.DiskImage) (origs zeros : List ℕ) → origs ≡ frames_in h v (info_in h v).image_pages → zeros ≡ marked_in h v (info_in h v).image_pages → IsStrictlyIncreasing origs → with_data origs zeros ≡ data_frames h v
 listed_data h v origs zeros frames marks rising = same_data origs zeros ∙ ap₂ taking.with_data frames marks ∙ data_frames_are h v (subst IsStrictlyIncreasing frames rising)
 
 -- the page frames with data are those that the numbers name
-data_of : (h : Hardware) (v : disk.Image) (j : ℕ) (origs zeros : List ℕ) → origs ≡ frames_in h v (numbers_read h v j) → zeros ≡ marked_in h v (numbers_read h v j) → IsStrictlyIncreasing origs → told h v j ≡ Some (info_in h v).image_pages → with_data origs zeros ≡ data_frames h v
+data_of : (h : Hardware) (v : disk.DiskImage) (j : ℕ) (origs zeros : List ℕ) → origs ≡ frames_in h v (numbers_read h v j) → zeros ≡ marked_in h v (numbers_read h v j) → IsStrictlyIncreasing origs → told h v j ≡ Some (info_in h v).image_pages → with_data origs zeros ≡ data_frames h v
 data_of h v j origs zeros frames_are marks_are rising told_now =
     let n = (info_in h v).image_pages in
     let all = all_read h v j told_now in
@@ -127,14 +127,14 @@ data_of h v j origs zeros frames_are marks_are rising told_now =
     let marks : zeros ≡ marked_in h v n = marks_are ∙ ap (marked_in h v) count in
     listed_data h v origs zeros frames marks rising
 
-data_are : (h : Hardware) (v : disk.Image) (load : Load) (t : ℕ) → HasReader h v load t → told h v (pages_read t) ≡ Some (info_in h v).image_pages → with_data load.origs.members load.zeros.members ≡ data_frames h v
+data_are : (h : Hardware) (v : disk.DiskImage) (load : Load) (t : ℕ) → HasReader h v load t → told h v (pages_read t) ≡ Some (info_in h v).image_pages → with_data load.origs.members load.zeros.members ≡ data_frames h v
 data_are h v load t read told_now = data_of h v (pages_read t) load.origs.members load.zeros.members read.reading.frames read.reading.marks read.reading.rising told_now
 
-room_is : (h : Hardware) (dump : Memory) (v : disk.Image) (loader : Loader) (have d : ℕ) → have ≡ length (left_free h dump loader) → d ≡ d_in h v → room_cause h dump v loader ≡ room_refusal have d
+room_is : (h : Hardware) (dump : Memory) (v : disk.DiskImage) (loader : Loader) (have d : ℕ) → have ≡ length (left_free h dump loader) → d ≡ d_in h v → room_cause h dump v loader ≡ room_refusal have d
 room_is h dump v loader have d same count = ap₂ room_refusal (sym same) (sym count)
 
 -- the room at the step that reads the last number page, as it was tested
-room_tested : (machine : Machine) (frames : Memory) (load : Load) (c : disk.Content) (l : Resume) (v : disk.Image) (k : ℕ) → HasRead machine frames load c l v k → IsListed load → told machine.hw v (pages_read (k - 4)) ≡ None →
+room_tested : (machine : Machine) (frames : Memory) (load : Load) (c : disk.Content) (l : Resume) (v : disk.DiskImage) (k : ℕ) → HasRead machine frames load c l v k → IsListed load → told machine.hw v (pages_read (k - 4)) ≡ None →
     want_cause machine.hw l.dump v l.loader (place (k - 4)) ≡ room_refusal (length load.waiting.free) (length (with_data load.origs.members load.zeros.members))
 room_tested machine frames load c l v k read listed before =
     let h = machine.hw in
@@ -192,7 +192,7 @@ planned_row machine frames load mid machine' frames' load' r listed is originals
 
 -- Pages are still to come.
 
-few_pages : (h : Hardware) (v : disk.Image) (load : Load) (t : ℕ) → HasReader h v load t → SavesFew load → told h v (pages_read t) ≡ Some (info_in h v).image_pages → (info_in h v).pages < 70000
+few_pages : (h : Hardware) (v : disk.DiskImage) (load : Load) (t : ℕ) → HasReader h v load t → SavesFew load → told h v (pages_read t) ≡ Some (info_in h v).image_pages → (info_in h v).pages < 70000
 few_pages h v load t read few told_now =
     let n = (info_in h v).image_pages in
     let whole = read.reading.whole n (read.reading.listed ∙ told_now) in
@@ -202,7 +202,7 @@ few_pages h v load t read few told_now =
     let is = saved_is h v (pages_read t) (all_read h v (pages_read t) told_now).0 in
     omega arith
 
-pub going_row : (machine : Machine) (frames : Memory) (load : Load) (m : ℕ) → SavesFew load → ((h : Hardware) (v : disk.Image) (t : ℕ) → HasReader h v load t → (2 ≤ t) × (t ≡ place_count (info_in h v).pages) → IsTrue false) → (load.made + 1 < 2 ^ 32 → m ≡ load.made + 1) →
+pub going_row : (machine : Machine) (frames : Memory) (load : Load) (m : ℕ) → SavesFew load → ((h : Hardware) (v : disk.DiskImage) (t : ℕ) → HasReader h v load t → (2 ≤ t) × (t ≡ place_count (info_in h v).pages) → IsTrue false) → (load.made + 1 < 2 ^ 32 → m ≡ load.made + 1) →
     ReadsOn machine frames load machine frames (record load { stage = stage.Read; made = m }) (reply.Loading m)
 going_row machine frames load m few not_over counted c l v k read places room =
     let h = machine.hw in
@@ -241,7 +241,7 @@ going_row machine frames load m few not_over counted c l v k read places room =
               found_still machine load new c c l v refl refl read.found.reads refl read.found,
               gone_next h l v k read.reading.gone_on goes,
               omega arith,
-              record { reader = read.read.reader; has = read.read.has; reading = subst (λ (t : ℕ). stream.IsReading h v load.check read.read.reader t load.origs.members load.zeros.members) at read.read.reading },
+              record { reader = read.read.reader; has = read.read.has; reading = subst (λ (t : ℕ). stream.HasReadPlaces h v load.check read.read.reader t load.origs.members load.zeros.members) at read.read.reading },
               subst (λ (t : ℕ). HavePlaces h v frames load.waiting t) at places,
             );
           }),
@@ -270,7 +270,7 @@ cause_stop (cause.PfnEnd f) = tt
 
 -- the image can't be read further
 pub refused_row : (machine : Machine) (frames : Memory) (load mid load' : Load) (result : ReadStep) (why : Cause) (c : disk.Content) → IsHardware machine.hw → load.stage ≡ stage.Read → 4 ≤ load.made → result ≡ read_step.Refused why →
-    ((v : disk.Image) (t : ℕ) → HasReader machine.hw v load t → Reads machine.hw v (Some c) → HasAnswered machine.hw v t result load mid) → load'.stage ≡ stage.Rest → IsRow machine frames load machine frames load' (event.Step actor.Core) (reply_of why) c c
+    ((v : disk.DiskImage) (t : ℕ) → HasReader machine.hw v load t → Reads machine.hw v (Some c) → HasAnswered machine.hw v t result load mid) → load'.stage ≡ stage.Rest → IsRow machine frames load machine frames load' (event.Step actor.Core) (reply_of why) c c
 refused_row machine frames load mid load' result why c hardware at late is answers rest =
     row_at_load machine frames load machine frames load' (event.Step actor.Core) (reply_of why) c c load.made (activity_is load stage.Read at)
     (λ l s.
@@ -292,13 +292,13 @@ refused_row machine frames load mid load' result why c hardware at late is answe
 -- what the step leaves of the places, for the places before
 abbrev pub KeepsPlaces : Hardware → Memory → Awaiting → Memory → Awaiting → Load → Load → ReadStep → Type 0
 KeepsPlaces h frames waiting frames' waiting' load mid result =
-    (v : disk.Image) (t : ℕ) → HasReader h v load t → HasAnswered h v t result load mid → t < place_count (info_in h v).pages → HavePlaces h v frames waiting t → HavePlaces h v frames' waiting' (t + 1)
+    (v : disk.DiskImage) (t : ℕ) → HasReader h v load t → HasAnswered h v t result load mid → t < place_count (info_in h v).pages → HavePlaces h v frames waiting t → HavePlaces h v frames' waiting' (t + 1)
 
 -- the row of a read, with the places as they are afterwards
 pub read_on_row : (machine : Machine) (frames frames' : Memory) (load mid after : Load) (machine' : Machine) (frames'' : Memory) (load' : Load) (result : ReadStep) (r : Reply) (c : disk.Content) → IsHardware machine.hw → load.stage ≡ stage.Read → 4 ≤ load.made → machine'.hw ≡ machine.hw → disk.IsContent machine.blocks c →
     mid ≡ record load { reader = mid.reader; origs = mid.origs; zeros = mid.zeros; page = mid.page } → after ≡ record mid { waiting = after.waiting } → after.waiting.free ≡ mid.waiting.free → HasNoCause result →
     ((p : ℕ) → (Contains load.waiting.free p → ⊥) → frame frames' p ≡ frame frames p) →
-    ((v : disk.Image) (t : ℕ) → HasReader machine.hw v load t → Reads machine.hw v (Some c) → HasAnswered machine.hw v t result load mid) → KeepsPlaces machine.hw frames load.waiting frames' after.waiting load mid result →
+    ((v : disk.DiskImage) (t : ℕ) → HasReader machine.hw v load t → Reads machine.hw v (Some c) → HasAnswered machine.hw v t result load mid) → KeepsPlaces machine.hw frames load.waiting frames' after.waiting load mid result →
     ReadsOn machine frames' after machine' frames'' load' r → IsRow machine frames load machine' frames'' load' (event.Step actor.Core) r c c
 read_on_row machine frames frames' load mid after machine' frames'' load' result r c hardware at late same whole is is' free none others answers keeps goes =
     row_at_load machine frames load machine' frames'' load' (event.Step actor.Core) r c c load.made (activity_is load stage.Read at)
@@ -334,11 +334,11 @@ read_on_row machine frames frames' load mid after machine' frames'' load' result
     ))
 
 -- the place of a page behind the last number page: it is one with data, of those that the numbers name
-pub record IsDataPlace (h : Hardware) (v : disk.Image) (t : ℕ) : Type 0 where
+pub record IsDataPlace (h : Hardware) (v : disk.DiskImage) (t : ℕ) : Type 0 where
   pub behind : meta_in h v < pages_read t
   pub within : pages_read t - 1 - meta_in h v < length (data_frames h v)
 
-data_place : (h : Hardware) (v : disk.Image) (load : Load) (t : ℕ) → HasReader h v load t → told h v (pages_read t) ≡ Some (info_in h v).image_pages → t < place_count (info_in h v).pages → (t % 512 ≡ 0 → ⊥) → IsDataPlace h v t
+data_place : (h : Hardware) (v : disk.DiskImage) (load : Load) (t : ℕ) → HasReader h v load t → told h v (pages_read t) ≡ Some (info_in h v).image_pages → t < place_count (info_in h v).pages → (t % 512 ≡ 0 → ⊥) → IsDataPlace h v t
 data_place h v load t read told_now within page =
     let n = (info_in h v).image_pages in
     let all = all_read h v (pages_read t) told_now in
@@ -349,7 +349,7 @@ data_place h v load t read told_now within page =
     record { behind = omega arith; within = omega arith }
 
 -- a map leaves the places, and a page gets its own
-map_leaves : (h : Hardware) (v : disk.Image) (frames : Memory) (waiting : Awaiting) (t : ℕ) → t % 512 ≡ 0 → HavePlaces h v frames waiting t → HavePlaces h v frames waiting (t + 1)
+map_leaves : (h : Hardware) (v : disk.DiskImage) (frames : Memory) (waiting : Awaiting) (t : ℕ) → t % 512 ≡ 0 → HavePlaces h v frames waiting t → HavePlaces h v frames waiting (t + 1)
 map_leaves h v frames waiting t map places =
     let same = read_at_map t map in
     record {
@@ -359,7 +359,7 @@ map_leaves h v frames waiting t map places =
       pages = places.pages;
     }
 
-some_frame : (h : Hardware) (v : disk.Image) (t : ℕ) → IsDataPlace h v t → (t % 512 ≡ 0 → ⊥) → frame_at h v (place t) ≡ None → ⊥
+some_frame : (h : Hardware) (v : disk.DiskImage) (t : ℕ) → IsDataPlace h v t → (t % 512 ≡ 0 → ⊥) → frame_at h v (place t) ≡ None → ⊥
 some_frame h v t at page none =
     let is : frame_at h v (place t) ≡ Some (get_or (data_frames h v) (pages_read t - 1 - meta_in h v) 0) =
     ap (frame_at h v) (at_page t page)
@@ -378,10 +378,10 @@ map_keeps h frames waiting load mid result is v t read answered within places = 
   | inr done ↦ (
       let a = subst (λ (s : ReadStep). Answers h v load.check t s answered.before answered.after mid.origs.members mid.zeros.members mid.page) done answered.answers in
       let same : answered.before ≡ read.reader = same_Some answered.before read.reader (sym answered.was ∙ read.has) in
-      absurd (not_over h v load t read within (subst IsOver same a.0)))
+      absurd (not_over h v load t read within (subst HasReadAll same a.0)))
 ]
 
-page_placed : (h : Hardware) (v : disk.Image) (frames frames' : Memory) (waiting waiting' : Awaiting) (load : Load) (t : ℕ) (page : List ℕ) → HasReader h v load t → HavePlaces h v frames waiting t → (t % 512 ≡ 0 → ⊥) → IsDataPlace h v t → page ≡ disk.block v (place_block h v (place t)) → waiting'.originals ≡ waiting.originals →
+page_placed : (h : Hardware) (v : disk.DiskImage) (frames frames' : Memory) (waiting waiting' : Awaiting) (load : Load) (t : ℕ) (page : List ℕ) → HasReader h v load t → HavePlaces h v frames waiting t → (t % 512 ≡ 0 → ⊥) → IsDataPlace h v t → page ≡ disk.block v (place_block h v (place t)) → waiting'.originals ≡ waiting.originals →
     (waiting.loaded < length waiting.originals → waiting_pages frames' waiting' ≡ waiting_pages frames waiting ++ page ∷ []) → (waiting.loaded < length waiting.originals → waiting'.loaded ≡ waiting.loaded + 1) → HavePlaces h v frames' waiting' (t + 1)
 page_placed h v frames frames' waiting waiting' load t page read places here at is originals placed counted =
     let j = pages_read t in
@@ -434,10 +434,10 @@ with_room : (a w n : Option Reply) (r : Reply) → w ≡ None → or_else a n �
 with_room None w n r none some = ap (λ (y : Option Reply). or_else y n) none ∙ some
 with_room (Some x) w n r none some = some
 
-abbrev pub all_causes : Hardware → Memory → disk.Image → Loader → IdentCheck → ℕ → Option Reply
+abbrev pub all_causes : Hardware → Memory → disk.DiskImage → Loader → IdentCheck → ℕ → Option Reply
 all_causes h dump v loader check t = or_else (content_cause h dump v loader check (place t)) (next_cause h v t)
 
-behind_room : (h : Hardware) (dump : Memory) (v : disk.Image) (loader : Loader) (check : IdentCheck) (t have d n : ℕ) (why : Cause) → step_cause h v check t ≡ Some (reply_of why) → read_cause h v check (place t) ≡ None → want_cause h dump v loader (place t) ≡ room_refusal have d →
+behind_room : (h : Hardware) (dump : Memory) (v : disk.DiskImage) (loader : Loader) (check : IdentCheck) (t have d n : ℕ) (why : Cause) → step_cause h v check t ≡ Some (reply_of why) → read_cause h v check (place t) ≡ None → want_cause h dump v loader (place t) ≡ room_refusal have d →
     all_causes h dump v loader check t ≡ Some (refusal_behind (Some n) have d why)
 behind_room h dump v loader check t have d n why some none want = by (room_refusal have d) refl where
   by : (o : Option Reply) → room_refusal have d ≡ o → all_causes h dump v loader check t ≡ Some (refusal_behind (Some n) have d why)
@@ -449,7 +449,7 @@ behind_room h dump v loader check t have d n why some none want = by (room_refus
       ∙ ap (λ (r : Reply). Some r) (refusal_few (Some n) have d why few refl e)
 
 -- what the answer is, by what the reader has listed then
-pub refusal_is : (h : Hardware) (dump : Memory) (v : disk.Image) (loader : Loader) (check : IdentCheck) (t have d : ℕ) (listed : Option ℕ) (why : Cause) → step_cause h v check t ≡ Some (reply_of why) → listed ≡ told_after h v check t → told h v (pages_read t) ≡ None →
+pub refusal_is : (h : Hardware) (dump : Memory) (v : disk.DiskImage) (loader : Loader) (check : IdentCheck) (t have d : ℕ) (listed : Option ℕ) (why : Cause) → step_cause h v check t ≡ Some (reply_of why) → listed ≡ told_after h v check t → told h v (pages_read t) ≡ None →
     have ≡ length (left_free h dump loader) → ((n : ℕ) → listed ≡ Some n → d ≡ d_in h v) → all_causes h dump v loader check t ≡ Some (refusal_behind listed have d why)
 refusal_is h dump v loader check t have d listed why some is before free count = by_read (read_cause h v check (place t)) refl where
   by_told : (o : Option ℕ) → told h v (pages_read (t + 1)) ≡ o → listed ≡ told h v (pages_read (t + 1)) → read_cause h v check (place t) ≡ None → all_causes h dump v loader check t ≡ Some (refusal_behind listed have d why)
@@ -469,7 +469,7 @@ refusal_is h dump v loader check t have d listed why some is before free count =
 
 pub refused_list_row : (machine : Machine) (frames : Memory) (load mid load' : Load) (result : ReadStep) (why : Cause) (r : Reply) (c : disk.Content) → IsHardware machine.hw → load.stage ≡ stage.List → 4 ≤ load.made →
     mid ≡ record load { reader = mid.reader; origs = mid.origs; zeros = mid.zeros; page = mid.page } → result ≡ read_step.Refused why →
-    ((v : disk.Image) (t : ℕ) → HasReader machine.hw v load t → Reads machine.hw v (Some c) → HasAnswered machine.hw v t result load mid) →
+    ((v : disk.DiskImage) (t : ℕ) → HasReader machine.hw v load t → Reads machine.hw v (Some c) → HasAnswered machine.hw v t result load mid) →
     ((q : Reading) → mid.reader ≡ Some q → r ≡ refusal_behind q.listed (length mid.waiting.free) (length (with_data mid.origs.members mid.zeros.members)) why) → load'.stage ≡ stage.Rest → IsRow machine frames load machine frames load' (event.Step actor.Core) r c c
 refused_list_row machine frames load mid load' result why r c hardware at late is refused answers reply rest =
     row_at_load machine frames load machine frames load' (event.Step actor.Core) r c c load.made (activity_is load stage.List at)

@@ -38,16 +38,16 @@ use Rattle.protocol_laws.proofs.LoadRows.{take_back_row, take_back_fault_row, ba
 use Rattle.resume_core.proofs.Finding.{stopped, knows_at, activity_is}
 
 -- the header of the disk v has the mark that was found, and v as many blocks as the machine knows of
-pub record HasFoundMark (machine : Machine) (load : Load) (v : disk.Image) : Type 0 where
+pub record HasFoundMark (machine : Machine) (load : Load) (v : disk.DiskImage) : Type 0 where
   pub mark : load.mark ≡ mark_of (header_of machine.hw v)
   pub blocks : machine.blocks ≡ blocks_of v
 
 -- disks with the same area have one area, if any
-pub same_swap_area : (h : Hardware) (v w : disk.Image) → IsSameArea h v w → swap_area (area_kind (area_block h w)) ≡ swap_area (area_kind (area_block h v))
+pub same_swap_area : (h : Hardware) (v w : disk.DiskImage) → IsSameArea h v w → swap_area (area_kind (area_block h w)) ≡ swap_area (area_kind (area_block h v))
 same_swap_area h v w same = same_of_kinds swap_area (area_block h w) (area_block h v) same.header (λ m n. refl)
 
 -- the image is found still, at another content
-pub found_still : (machine : Machine) (load load' : Load) (c c' : disk.Content) (l : Resume) (v : disk.Image) → load'.header ≡ load.header → load'.mark ≡ load.mark → Reads machine.hw v (Some c') →
+pub found_still : (machine : Machine) (load load' : Load) (c c' : disk.Content) (l : Resume) (v : disk.DiskImage) → load'.header ≡ load.header → load'.mark ≡ load.mark → Reads machine.hw v (Some c') →
     swap_area (area_kind (area_block machine.hw (disk.as_it_reads c'))) ≡ swap_area (area_kind (area_block machine.hw (disk.as_it_reads c))) → HasFound machine load c l v → HasFound machine load' c' l v
 found_still machine load load' c c' l v header mark reads area found = record {
   found = found.found;
@@ -59,13 +59,13 @@ found_still machine load load' c c' l v header mark reads area found = record {
   area = area ∙ found.area ∙ ap (λ (p : List ℕ). swap_area (area_kind (taken_back p))) (sym header);
 }
 
-reads_after : (h : Hardware) (v : disk.Image) (page : List ℕ) (c c' : disk.Content) → Reads h v (Some c) → Tries (block_of_slot h 0) page c c' → Reads h v (Some c')
+reads_after : (h : Hardware) (v : disk.DiskImage) (page : List ℕ) (c c' : disk.Content) → Reads h v (Some c) → Tries (block_of_slot h 0) page c c' → Reads h v (Some c')
 reads_after h v page c c' reads tries = λ b lt apart. reads_kept (block_of_slot h 0) b page c c' tries apart ∙ reads b lt apart
 
-reads_synced : (h : Hardware) (v : disk.Image) (c c' : disk.Content) → Reads h v (Some c) → disk.Syncs c c' → Reads h v (Some c')
+reads_synced : (h : Hardware) (v : disk.DiskImage) (c c' : disk.Content) → Reads h v (Some c) → disk.Syncs c c' → Reads h v (Some c')
 reads_synced h v c c' reads syncs =
     let same : disk.as_it_reads c' ≡ disk.as_it_reads c = ap disk.as_it_reads syncs ∙ as_it_reads-settled (disk.as_it_reads c) in
-    λ b lt apart. ap (λ (w : disk.Image). disk.block w b) same ∙ reads b lt apart
+    λ b lt apart. ap (λ (w : disk.DiskImage). disk.block w b) same ∙ reads b lt apart
 
 pub back_row : (machine : Machine) (frames : Memory) (load : Load) (c c' : disk.Content) → IsHardware machine.hw → load.stage ≡ stage.TakeBack → disk.IsContent machine.blocks c → disk.IsContent machine.blocks c' →
     disk.Writes (block_of_slot machine.hw 0) (taken_back load.header) c c' → IsRow machine frames load machine frames (record load { stage = stage.SyncBack }) (event.Step actor.Core) (reply.Loading 3) c c'
@@ -108,7 +108,7 @@ abbrev pub opened : Load → Reading → Load
 opened load r = record load { reader = Some r; made = 4; stage = stage.List }
 
 pub opened_row : (machine : Machine) (frames : Memory) (load : Load) (r : Reading) (c c' : disk.Content) → IsHardware machine.hw → load.stage ≡ stage.SyncBack → disk.IsContent machine.blocks c → disk.Syncs c c' →
-    ((v : disk.Image) → HasFoundMark machine load v → (taken_back_cause machine.hw v ≡ None) × ((check : IdentCheck) → stream.IsReading machine.hw v check r 0 [] [])) →
+    ((v : disk.DiskImage) → HasFoundMark machine load v → (taken_back_cause machine.hw v ≡ None) × ((check : IdentCheck) → stream.HasReadPlaces machine.hw v check r 0 [] [])) →
     IsRow machine frames load machine frames (opened load r) (event.Step actor.Core) (reply.Loading 4) c c'
 opened_row machine frames load r c c' hardware at whole syncs opens =
     let new = opened load r in
@@ -131,7 +131,7 @@ opened_row machine frames load r c c' hardware at whole syncs opens =
               record {
                 reader = r;
                 has = refl;
-                reading = subst (λ (zs : List ℕ). stream.IsReading machine.hw v load.check r 0 load.origs.members zs) (sym knows.4) (subst (λ (os : List ℕ). stream.IsReading machine.hw v load.check r 0 os []) (sym knows.3) (opened_at.1 load.check));
+                reading = subst (λ (zs : List ℕ). stream.HasReadPlaces machine.hw v load.check r 0 load.origs.members zs) (sym knows.4) (subst (λ (os : List ℕ). stream.HasReadPlaces machine.hw v load.check r 0 os []) (sym knows.3) (opened_at.1 load.check));
               },
               refl,
               knows.5,
@@ -140,7 +140,7 @@ opened_row machine frames load r c c' hardware at whole syncs opens =
     ))
 
 pub back_stopped_row : (machine : Machine) (frames : Memory) (load : Load) (c c' : disk.Content) (why : Reply) → IsHardware machine.hw → load.stage ≡ stage.SyncBack → disk.IsContent machine.blocks c → disk.Syncs c c' →
-    ((v : disk.Image) → HasFoundMark machine load v → taken_back_cause machine.hw v ≡ Some why) → IsRow machine frames load machine frames (stopped load) (event.Step actor.Core) why c c'
+    ((v : disk.DiskImage) → HasFoundMark machine load v → taken_back_cause machine.hw v ≡ Some why) → IsRow machine frames load machine frames (stopped load) (event.Step actor.Core) why c c'
 back_stopped_row machine frames load c c' why hardware at whole syncs cause =
     row_at_load machine frames load machine frames (stopped load) (event.Step actor.Core) why c c' 3 (activity_is load stage.SyncBack at)
     (λ l s.

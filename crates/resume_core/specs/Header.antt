@@ -14,7 +14,7 @@ use Rattle.plain_machine.specs.declared.event.IdentCheck.{IdentCheck}
 use Rattle.plain_machine.specs.declared.reply.Reply.{Reply}
 use Rattle.plain_machine.specs.declared.reply.Reply.TheVariants as reply
 use Rattle.image_read.specs.Reading.{Reading}
-use Rattle.image_read.specs.Stream.{IsReading}
+use Rattle.image_read.specs.Stream.{HasReadPlaces}
 
 -- why the image of a header block isn't read: the block isn't marked, or the image is compressed
 abbrev pub header_fault : List ℕ → Option Reply
@@ -37,5 +37,5 @@ signature_fault h mark = if is_set mark.flags 8 && not (mark.hw_sig == h.hw_sig)
 -- A reader of the chain that a mark names, or why there is none, over each disk of so many blocks whose header has that mark.
 abbrev pub Opens : Hardware → ℕ → Mark → Result Reading Reply → Type 0
 Opens h blocks mark result =
-    (v : disk.Image) → mark ≡ mark_of (header_of h v) → blocks ≡ blocks_of v →
-    MatchResult result (λ r. (taken_back_cause h v ≡ None) × ((check : IdentCheck) → IsReading h v check r 0 [] [])) (λ why. taken_back_cause h v ≡ Some why)
+    (v : disk.DiskImage) → mark ≡ mark_of (header_of h v) → blocks ≡ blocks_of v →
+    MatchResult result (λ r. (taken_back_cause h v ≡ None) × ((check : IdentCheck) → HasReadPlaces h v check r 0 [] [])) (λ why. taken_back_cause h v ≡ Some why)

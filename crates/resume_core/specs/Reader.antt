@@ -13,7 +13,7 @@ use Rattle.image_read.specs.declared.reader.ReadStep.{ReadStep}
 use Rattle.resume_core.specs.declared.load.Load.{Load}
 
 -- the reader has answered for place t of the disk v
-pub record HasAnswered (h : Hardware) (v : disk.Image) (t : ℕ) (result : ReadStep) (old new : Load) : Type 0 where
+pub record HasAnswered (h : Hardware) (v : disk.DiskImage) (t : ℕ) (result : ReadStep) (old new : Load) : Type 0 where
   pub before : Reading
   pub was : old.reader ≡ Some before
   pub after : Reading

@@ -60,7 +60,7 @@ CanMake stage.List machine frames runs load = CanRead machine.blocks load × (4 
 CanMake stage.Read machine frames runs load = CanRead machine.blocks load × (4 ≤ load.made) × (load.waiting.placement.ready ≡ true)
 
 -- A resume over this machine: memory has its page frames, the runs have room for its slots, and the sets are over its zones.
-pub record IsOver (machine : Machine) (frames : Memory) (runs : SlotRuns) (load : Load) : Type 0 where
+pub record IsOverMachine (machine : Machine) (frames : Memory) (runs : SlotRuns) (load : Load) : Type 0 where
   pub hardware : IsHardware machine.hw
   pub few : machine.blocks < 2 ^ 32
   pub size : length frames ≡ top machine.hw.zones
@@ -78,7 +78,7 @@ pub record CanBegin (machine : Machine) (frames : Memory) (load : Load) : Type 0
   pub waiting : load.waiting.zones ≡ machine.hw.zones
 
 pub record CanStep (machine : Machine) (frames : Memory) (runs : SlotRuns) (load : Load) : Type 0 where
-  pub over : IsOver machine frames runs load
+  pub over : IsOverMachine machine frames runs load
   pub next : CanMake load.stage machine frames runs load
 
 -- the area and what is held may change

@@ -59,7 +59,7 @@ swap_area (BadArea why) = None
 swap_area (Swap area) = Some area
 
 -- The image was found on the disk v, and the disk with this content reads like it but for block(0), which taken back says the same area.
-pub record HasFound (machine : Machine) (load : Load) (c : disk.Content) (l : Resume) (v : disk.Image) : Type 0 where
+pub record HasFound (machine : Machine) (load : Load) (c : disk.Content) (l : Resume) (v : disk.DiskImage) : Type 0 where
   pub found : IsFoundIn machine.hw l v
   pub uncaused : header_cause machine.hw v ≡ None
   pub header : load.header ≡ header_of machine.hw v
@@ -69,13 +69,13 @@ pub record HasFound (machine : Machine) (load : Load) (c : disk.Content) (l : Re
   pub area : swap_area (area_kind (area_block machine.hw (disk.as_it_reads c))) ≡ swap_area (area_kind (taken_back load.header))
 
 -- The reader has read the first t places of the disk v.
-pub record HasReader (h : Hardware) (v : disk.Image) (load : Load) (t : ℕ) : Type 0 where
+pub record HasReader (h : Hardware) (v : disk.DiskImage) (load : Load) (t : ℕ) : Type 0 where
   pub reader : Reading
   pub has : load.reader ≡ Some reader
-  pub reading : stream.IsReading h v load.check reader t load.origs.members load.zeros.members
+  pub reading : stream.HasReadPlaces h v load.check reader t load.origs.members load.zeros.members
 
 -- The pages with data among them wait for the page frames that they were saved for.
-pub record HavePlaces (h : Hardware) (v : disk.Image) (frames : Memory) (waiting : Awaiting) (t : ℕ) : Type 0 where
+pub record HavePlaces (h : Hardware) (v : disk.DiskImage) (frames : Memory) (waiting : Awaiting) (t : ℕ) : Type 0 where
   pub listed : told h v (pages_read t) ≡ Some (info_in h v).image_pages
   pub originals : waiting.originals ≡ data_frames h v
   pub loaded : waiting.loaded ≡ data_before h v t
@@ -88,14 +88,14 @@ NoneWaits load = load.waiting.originals ≡ []
 -- what is known by the step that is next: what was found, and how far it is read
 abbrev pub KnowsAt : Stage → Machine → Memory → Load → disk.Content → Resume → ℕ → Type 0
 KnowsAt stage.TakeBack machine frames load c l k =
-    (v : disk.Image) × HasFound machine load c l v × HaveGoneOn machine.hw l v k × (load.origs.members ≡ []) × (load.zeros.members ≡ []) × NoneWaits load
+    (v : disk.DiskImage) × HasFound machine load c l v × HaveGoneOn machine.hw l v k × (load.origs.members ≡ []) × (load.zeros.members ≡ []) × NoneWaits load
 KnowsAt stage.SyncBack machine frames load c l k =
-    (v : disk.Image) × HasFound machine load c l v × HaveGoneOn machine.hw l v k × (load.origs.members ≡ []) × (load.zeros.members ≡ []) × NoneWaits load
+    (v : disk.DiskImage) × HasFound machine load c l v × HaveGoneOn machine.hw l v k × (load.origs.members ≡ []) × (load.zeros.members ≡ []) × NoneWaits load
 KnowsAt stage.List machine frames load c l k =
-    (v : disk.Image) × HasFound machine load c l v × HaveGoneOn machine.hw l v k × (k < 4 + place_count (info_in machine.hw v).pages)
+    (v : disk.DiskImage) × HasFound machine load c l v × HaveGoneOn machine.hw l v k × (k < 4 + place_count (info_in machine.hw v).pages)
     × HasReader machine.hw v load (k - 4) × (told machine.hw v (pages_read (k - 4)) ≡ None) × NoneWaits load
 KnowsAt stage.Read machine frames load c l k =
-    (v : disk.Image) × HasFound machine load c l v × HaveGoneOn machine.hw l v k × (k < 4 + place_count (info_in machine.hw v).pages)
+    (v : disk.DiskImage) × HasFound machine load c l v × HaveGoneOn machine.hw l v k × (k < 4 + place_count (info_in machine.hw v).pages)
     × HasReader machine.hw v load (k - 4) × HavePlaces machine.hw v frames load.waiting (k - 4)
 KnowsAt _ machine frames load c l k = (load.origs.members ≡ []) × (load.zeros.members ≡ []) × NoneWaits load
 
@@ -179,10 +179,10 @@ BeginsRow machine frames frames' load' loader check r =
 
 -- A block was read at the step behind k others, and neither it nor the block behind it is at fault. What the machine showed before
 -- stood for the state.
-pub record HasRead (machine : Machine) (frames : Memory) (load : Load) (c : disk.Content) (l : Resume) (v : disk.Image) (k : ℕ) : Type 0 where
+pub record HasRead (machine : Machine) (frames : Memory) (load : Load) (c : disk.Content) (l : Resume) (v : disk.DiskImage) (k : ℕ) : Type 0 where
   pub shown : Shown
   pub whole : disk.IsContent machine.blocks c
-  pub reading : load_rows.IsReading machine.hw shown c l v k
+  pub reading : load_rows.IsBeforeRead machine.hw shown c l v k
   pub loader : HasLoader machine.hw load l
   pub found : HasFound machine load c l v
   pub sound : step_cause machine.hw v l.check (k - 4) ≡ None
@@ -198,17 +198,17 @@ LeadsOn machine' frames' load' r c l k =
 -- of the page frames that the image names, not all were listed before; the reader tells whether they are now
 abbrev pub ListsOn : Machine → Memory → Load → Machine → Memory → Load → Reply → Type 0
 ListsOn machine frames load machine' frames' load' r =
-    (c : disk.Content) (l : Resume) (v : disk.Image) (k : ℕ) → HasRead machine frames load c l v k → told machine.hw v (pages_read (k - 4)) ≡ None → NoneWaits load →
+    (c : disk.Content) (l : Resume) (v : disk.DiskImage) (k : ℕ) → HasRead machine frames load c l v k → told machine.hw v (pages_read (k - 4)) ≡ None → NoneWaits load →
     LeadsOn machine' frames' load' r c l k
 
 -- all are listed, and the pages read wait; the machine may have had room to test at this step, which it did
 abbrev pub ReadsOn : Machine → Memory → Load → Machine → Memory → Load → Reply → Type 0
 ReadsOn machine frames load machine' frames' load' r =
-    (c : disk.Content) (l : Resume) (v : disk.Image) (k : ℕ) → HasRead machine frames load c l v k → HavePlaces machine.hw v frames load.waiting (k - 4 + 1) →
+    (c : disk.Content) (l : Resume) (v : disk.DiskImage) (k : ℕ) → HasRead machine frames load c l v k → HavePlaces machine.hw v frames load.waiting (k - 4 + 1) →
     want_cause machine.hw l.dump v l.loader (place (k - 4)) ≡ None → LeadsOn machine' frames' load' r c l k
 
 -- at the last step
 abbrev pub EndsOn : Machine → Memory → Load → Machine → Memory → Load → Reply → Type 0
 EndsOn machine frames load machine' frames' load' r =
-    (c : disk.Content) (l : Resume) (v : disk.Image) (k : ℕ) → HasRead machine frames load c l v k → HavePlaces machine.hw v frames load.waiting (k - 4 + 1) →
+    (c : disk.Content) (l : Resume) (v : disk.DiskImage) (k : ℕ) → HasRead machine frames load c l v k → HavePlaces machine.hw v frames load.waiting (k - 4 + 1) →
     want_cause machine.hw l.dump v l.loader (place (k - 4)) ≡ None → k - 4 + 1 ≡ place_count (info_in machine.hw v).pages → LeadsOn machine' frames' load' r c l k

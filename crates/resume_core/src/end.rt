@@ -1,5 +1,5 @@
 ghost use Rattle.std.specs.Prelude.{◌≡◌, ◌≤◌, ◌<◌, ℕ, false, true, length, Some, None, IfOk, MatchResult};
-ghost use Rattle.definitions.specs.Disk.{Image};
+ghost use Rattle.definitions.specs.Disk.{DiskImage};
 ghost use Rattle.definitions.specs.SwapHeader.{taken_back};
 ghost use Rattle.definitions.specs.Zones.{top};
 ghost use Rattle.sig_header.specs.AreaKind.{area_kind};
@@ -28,7 +28,7 @@ impl Load {
     ghost use Rattle.plain_machine.specs.declared.reply.Reply.TheVariants as reply;
     ghost use Rattle.resume_core.specs.declared.load.Stage.TheVariants as stage;
     ghost use Rattle.resume_core.specs.Loading.{activity_of, activity_told, is_idle};
-    ghost use Rattle.resume_core.specs.Ready.{CanRead, CanStep, IsOver, IsSameMachine};
+    ghost use Rattle.resume_core.specs.Ready.{CanRead, CanStep, IsOverMachine, IsSameMachine};
     ghost use Rattle.resume_core.specs.Row.{HasRow, HasReader, ListsOn, ReadsOn, EndsOn};
     ghost use Rattle.resume_core.specs.Reader.{HasAnswered, StillReads, room_refusal, refusal_behind};
 
@@ -40,7 +40,7 @@ impl Load {
         frames: &mut Frames,
         runs: &mut FreeRuns,
     ) -> Reply
-        requires over { IsOver machine.old frames.old runs.old self.old }
+        requires over { IsOverMachine machine.old frames.old runs.old self.old }
         requires reader { CanRead machine.old.blocks self.old }
         requires made { 4 ≤ self.old.made }
         requires planned { self.old.waiting.placement.ready ≡ true }
@@ -95,7 +95,7 @@ fn restored_area(hw: &Hardware, blocks: u32, frames: &Frames, header: &Page) -> 
     ensures fits { IfOk result (λ area. fit_fault hw.now blocks area ≡ None) }
     ensures reserved { IfOk result (λ area. AreReserved hw.now frames.now) }
     ensures kind { IfOk result (λ area. area_kind (taken_back header.now) ≡ Swap area) }
-    ensures tables { (v : Image) → header.now ≡ header_of hw.now v → blocks ≡ blocks_of v → Marked hw.now v →
+    ensures tables { (v : DiskImage) → header.now ≡ header_of hw.now v → blocks ≡ blocks_of v → Marked hw.now v →
         MatchResult result (λ area. tables_cause hw.now v frames.now ≡ None) (λ f. tables_cause hw.now v frames.now ≡ Some (reply.BadTables f)) }
 {
     tables_fit(frames, hw)?;

@@ -1,5 +1,5 @@
 ghost use Rattle.std.specs.Prelude.{◌≡◌, ◌≤◌, ◌<◌, ◌+◌, ◌^◌, ℕ, false, true, IsTrue, length, Some, None, IsSome, IfErr, OnOk, ◌↔◌};
-ghost use Rattle.definitions.specs.Disk.{Image};
+ghost use Rattle.definitions.specs.Disk.{DiskImage};
 ghost use Rattle.image_read.specs.Answers.{Reads};
 ghost use Rattle.image_read.specs.Reading.{Reading};
 ghost use Rattle.image_read.specs.declared.reader.ReadStep.TheVariants as read_step;
@@ -24,7 +24,7 @@ impl Load {
     ghost use Rattle.plain_machine.specs.declared.reply.Reply.TheVariants as reply;
     ghost use Rattle.resume_core.specs.declared.load.Stage.TheVariants as stage;
     ghost use Rattle.resume_core.specs.Loading.{activity_of, activity_told, is_idle};
-    ghost use Rattle.resume_core.specs.Ready.{CanRead, CanStep, IsOver, IsSameMachine};
+    ghost use Rattle.resume_core.specs.Ready.{CanRead, CanStep, IsOverMachine, IsSameMachine};
     ghost use Rattle.resume_core.specs.Row.{HasRow, HasReader, ListsOn};
     ghost use Rattle.resume_core.specs.Reader.{HasAnswered, StillReads, room_refusal, refusal_behind};
 
@@ -62,7 +62,7 @@ impl Load {
         requires origs { self.old.origs.zones ≡ machine.now.hw.zones }
         requires zeros { self.old.zeros.zones ≡ machine.now.hw.zones }
         requires blocks { D.block_count disk.old ≡ machine.now.blocks }
-        ensures answers { (v : Image) (t : ℕ) → HasReader machine.now.hw v self.old t → Reads machine.now.hw v (D.content disk.old) → HasAnswered machine.now.hw v t result self.old self.new }
+        ensures answers { (v : DiskImage) (t : ℕ) → HasReader machine.now.hw v self.old t → Reads machine.now.hw v (D.content disk.old) → HasAnswered machine.now.hw v t result self.old self.new }
         ensures goes_on { StillReads machine.now.blocks result self.new }
         ensures load { self.new ≡ record self.old { reader = self.new.reader; origs = self.new.origs; zeros = self.new.zeros; page = self.new.page } }
         ensures origs { self.new.origs.zones ≡ self.old.origs.zones }
@@ -107,7 +107,7 @@ impl Load {
 
     /// Goes on, after the last number page with a place for each page to come.
     fn list_on(&mut self, machine: &mut Machine, frames: &mut Frames, runs: &mut FreeRuns) -> Reply
-        requires over { IsOver machine.old frames.old runs.old self.old }
+        requires over { IsOverMachine machine.old frames.old runs.old self.old }
         requires reader { CanRead machine.old.blocks self.old }
         requires made { 4 ≤ self.old.made }
         ensures row { ListsOn machine.old frames.old self.old machine.new frames.new self.new result }

@@ -1,7 +1,7 @@
 ghost use Rattle.std.specs.Prelude.{◌≡◌, ◌≤◌, ◌<◌, ◌+◌, ◌++◌, ◌∷◌, ℕ, false, [], true, IsTrue, length, IsSome, ◌↔◌, Contains};
 ghost use Rattle.definitions.specs.Tables.{frame};
 ghost use Rattle.definitions.specs.Zones.{top};
-ghost use Rattle.definitions.specs.Disk.{Image};
+ghost use Rattle.definitions.specs.Disk.{DiskImage};
 ghost use Rattle.plain_machine.specs.Machine.{Hardware};
 ghost use Rattle.plain_machine.specs.Trace.{info_in, place_count};
 ghost use Rattle.page_restore.specs.Waiting.{waiting_pages};
@@ -24,7 +24,7 @@ impl Load {
     ghost use Rattle.plain_machine.specs.declared.reply.Reply.TheVariants as reply;
     ghost use Rattle.resume_core.specs.declared.load.Stage.TheVariants as stage;
     ghost use Rattle.resume_core.specs.Loading.{activity_of, activity_told, is_idle};
-    ghost use Rattle.resume_core.specs.Ready.{CanRead, CanStep, IsOver, IsSameMachine};
+    ghost use Rattle.resume_core.specs.Ready.{CanRead, CanStep, IsOverMachine, IsSameMachine};
     ghost use Rattle.resume_core.specs.Row.{HasRow, HasReader, ReadsOn};
 
     /// Reads the next map or saved page.
@@ -79,7 +79,7 @@ impl Load {
         frames: &mut Frames,
         runs: &mut FreeRuns,
     ) -> Reply
-        requires over { IsOver machine.old frames.old runs.old self.old }
+        requires over { IsOverMachine machine.old frames.old runs.old self.old }
         requires reader { CanRead machine.old.blocks self.old }
         requires made { 4 ≤ self.old.made }
         requires planned { self.old.waiting.placement.ready ≡ true }
@@ -101,7 +101,7 @@ impl Load {
     /// Whether the last page was read.
     fn is_over(&self) -> bool
         requires { IsSome self.now.reader }
-        ensures { (v : Image) (t : ℕ) (h : Hardware) → HasReader h v self.now t → IsTrue result ↔ ((2 ≤ t) × (t ≡ place_count (info_in h v).pages)) }
+        ensures { (v : DiskImage) (t : ℕ) (h : Hardware) → HasReader h v self.now t → IsTrue result ↔ ((2 ≤ t) × (t ≡ place_count (info_in h v).pages)) }
     {
         self.reader.as_ref().unwrap().over()
     }

@@ -46,7 +46,7 @@ abbrev NoneBefore : List Event → List Reply → ℕ → Type 0
 NoneBefore es rs k = (j : ℕ) → j < k → HibernatesAt es rs j → ⊥
 
 -- no hibernation is accepted before event k, behind which the machine is as this image says
-record IsOfImage (h : Hardware) (v : disk.Image) (i : Image) (a : State) (es : List Event) (rs : List Reply) (b : State) (k : ℕ) : Type 0 where
+record IsOfImage (h : Hardware) (v : disk.DiskImage) (i : Image) (a : State) (es : List Event) (rs : List Reply) (b : State) (k : ℕ) : Type 0 where
   pub none : NoneBefore es rs k
   pub after : State
   pub resumes : Run h v a (take (suc k) es) (take (suc k) rs) after
@@ -81,7 +81,7 @@ last_first : (e : Event) (es : List Event) (r : Reply) (rs : List Reply) (k : �
 last_first e es r rs k none zero lt le here = absurd (omega arith)
 last_first e es r rs k none (suc j) lt le here = none j (omega arith) (earlier_event e es r rs j here)
 
-later_copy : (h : Hardware) (v : disk.Image) (a mid : State) (e : Event) (es : List Event) (r : Reply) (rs : List Reply) (b : State) (k : ℕ) → Step h v a e r mid → IsCopyOf h v mid es rs b k → IsCopyOf h v a (e ∷ es) (r ∷ rs) b (suc k)
+later_copy : (h : Hardware) (v : disk.DiskImage) (a mid : State) (e : Event) (es : List Event) (r : Reply) (rs : List Reply) (b : State) (k : ℕ) → Step h v a e r mid → IsCopyOf h v mid es rs b k → IsCopyOf h v a (e ∷ es) (r ∷ rs) b (suc k)
 later_copy h v a mid e es r rs b k step copy = record {
   at = suc copy.at;
   earlier = let lt = copy.earlier in omega arith;
@@ -95,11 +95,11 @@ later_copy h v a mid e es r rs b k step copy = record {
   restored = copy.restored;
 }
 
-abbrev IsFound : Hardware → disk.Image → Image → State → List Event → List Reply → State → ℕ → Type 0
+abbrev IsFound : Hardware → disk.DiskImage → Image → State → List Event → List Reply → State → ℕ → Type 0
 IsFound h v i a es rs b k = IsCopyOf h v a es rs b k ⊎ IsOfImage h v i a es rs b k
 
 -- behind a hibernation that was accepted
-after_begin : (h : Hardware) (v : disk.Image) (i : Image) (a mid : State) (e : Event) (es : List Event) (r : Reply) (rs : List Reply) (b : State) (k : ℕ) → Step h v a e r mid → is_hibernation e r ≡ true →
+after_begin : (h : Hardware) (v : disk.DiskImage) (i : Image) (a mid : State) (e : Event) (es : List Event) (r : Reply) (rs : List Reply) (b : State) (k : ℕ) → Step h v a e r mid → is_hibernation e r ≡ true →
     (begun : BeginsFrom h a mid) → IsFound h v (image_of_memory h begun.0.memory begun.0.slots begun.1) mid es rs b k → IsFound h v i a (e ∷ es) (r ∷ rs) b (suc k)
 after_begin h v i a mid e es r rs b k step is begun (inl copy) = inl (later_copy h v a mid e es r rs b k step copy)
 after_begin h v i a mid e es r rs b k step is (before, f, same, has) (inr image) =
@@ -117,7 +117,7 @@ after_begin h v i a mid e es r rs b k step is (before, f, same, has) (inr image)
     })
 
 -- behind another event
-after_other : (h : Hardware) (v : disk.Image) (i : Image) (a mid : State) (e : Event) (es : List Event) (r : Reply) (rs : List Reply) (b : State) (k : ℕ) → Step h v a e r mid → is_hibernation e r ≡ false →
+after_other : (h : Hardware) (v : disk.DiskImage) (i : Image) (a mid : State) (e : Event) (es : List Event) (r : Reply) (rs : List Reply) (b : State) (k : ℕ) → Step h v a e r mid → is_hibernation e r ≡ false →
     IsFound h v i mid es rs b k → IsFound h v i a (e ∷ es) (r ∷ rs) b (suc k)
 after_other h v i a mid e es r rs b k step none (inl copy) = inl (later_copy h v a mid e es r rs b k step copy)
 after_other h v i a mid e es r rs b k step none (inr image) =
@@ -136,7 +136,7 @@ not_true : (b : Bool) → (b ≡ true → ⊥) → b ≡ false
 not_true true no_way = absurd (no_way refl)
 not_true false no_way = refl
 
-found_in : (h : Hardware) (v : disk.Image) (i : Image) (a : State) (es : List Event) (rs : List Reply) (b : State) → HasOnly i a → Run h v a es rs b → (k : ℕ) → ResumesAt rs k → IsFound h v i a es rs b k
+found_in : (h : Hardware) (v : disk.DiskImage) (i : Image) (a : State) (es : List Event) (rs : List Reply) (b : State) → HasOnly i a → Run h v a es rs b → (k : ℕ) → ResumesAt rs k → IsFound h v i a es rs b k
 found_in h v i a [] [] b has run k (n, e) = absurd (none-some (reply.Resumed n) e)
 found_in h v i a [] (r ∷ rs) b has run k is = absurd run
 found_in h v i a (e ∷ es) [] b has run k is = absurd run
@@ -158,7 +158,7 @@ found_in h v i a (e ∷ es) (r ∷ rs) b has (mid, step, run) (suc k) is =
     ]
 
 -- a run that begins with nothing held has an image only by a hibernation
-pub all_restore : (h : Hardware) (v : disk.Image) (kept : Option Memory) (es : List Event) (rs : List Reply) (b : State) → Run h v (off nothing kept) es rs b → AllRestore h v (off nothing kept) es rs b
+pub all_restore : (h : Hardware) (v : disk.DiskImage) (kept : Option Memory) (es : List Event) (rs : List Reply) (b : State) → Run h v (off nothing kept) es rs b → AllRestore h v (off nothing kept) es rs b
 all_restore h v kept es rs b run k is =
     let any = image_of_memory h [] no_pages Plain in
     elim (found_in h v any (off nothing kept) es rs b tt run k is) [

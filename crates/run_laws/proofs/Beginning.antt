@@ -68,7 +68,7 @@ hibernation_goes_on (event.Hibernate f) _ is = absurd (false≢true is)
 hibernation_goes_on (event.Suspend f) _ is = absurd (false≢true is)
 hibernation_goes_on _ _ is = absurd (false≢true is)
 
-pub begins_by : (h : Hardware) (v : disk.Image) (a : State) (e : Event) (r : Reply) (b : State) → Step h v a e r b → is_hibernation e r ≡ true → BeginsFrom h a b
+pub begins_by : (h : Hardware) (v : disk.DiskImage) (a : State) (e : Event) (r : Reply) (b : State) → Step h v a e r b → is_hibernation e r ≡ true → BeginsFrom h a b
 unfolding outcomes refusal
 begins_by h v a (event.Hibernate f) r b step is = begins_of h false f a r b step (hibernation_goes_on (event.Hibernate f) r is)
 begins_by h v a (event.Suspend f) r b step is = begins_of h true f a r b step (hibernation_goes_on (event.Suspend f) r is)

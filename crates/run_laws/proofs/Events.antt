@@ -37,7 +37,7 @@ begun_else h i e (waking j held a k) f keeps = tt
 begun_else h i e (loading load k) f keeps = tt
 begun_else h i e (asleep j held a) f keeps = tt
 
-accepted_keeps : (h : Hardware) (v : disk.Image) (i : Image) (a : State) (e : Event) → HasOnly i a → AllByRecursion (KeepsElse h i e) (accepted h v a e)
+accepted_keeps : (h : Hardware) (v : disk.DiskImage) (i : Image) (a : State) (e : Event) → HasOnly i a → AllByRecursion (KeepsElse h i e) (accepted h v a e)
 accepted_keeps h v i a (event.Boot from) is = ((λ none. (only_held i a is, (λ e. absurd e))), tt)
 accepted_keeps h v i a (event.Hibernate f) is = begun_else h i (event.Hibernate f) a (begun h false f) (λ r. ((λ none. absurd (false≢true (sym none))), tt))
 accepted_keeps h v i a (event.Suspend f) is = begun_else h i (event.Suspend f) a (begun h true f) (λ r. ((λ none. absurd (false≢true (sym none))), tt))
@@ -64,9 +64,9 @@ refused_or_keeps : (h : Hardware) (i : Image) (e : Event) (a : State) (refused :
 refused_or_keeps h i e a (Some r) os is none taken = ((λ else'. (is, (λ resumes. absurd (none (resumed_goes_on r resumes))))), tt)
 refused_or_keeps h i e a None os is none taken = taken
 
-all_keep : (h : Hardware) (v : disk.Image) (i : Image) (a : State) (e : Event) → HasOnly i a → AllByRecursion (KeepsElse h i e) (outcomes h v a e)
+all_keep : (h : Hardware) (v : disk.DiskImage) (i : Image) (a : State) (e : Event) → HasOnly i a → AllByRecursion (KeepsElse h i e) (outcomes h v a e)
 unfolding outcomes
 all_keep h v i a e is = refused_or_keeps h i e a (refusal h a e) (accepted h v a e) is (refusal_ends_none h a e) (accepted_keeps h v i a e is)
 
-pub keeps_image : (h : Hardware) (v : disk.Image) (i : Image) (a : State) (e : Event) (r : Reply) (b : State) → Step h v a e r b → HasOnly i a → KeepsElse h i e (r, b)
+pub keeps_image : (h : Hardware) (v : disk.DiskImage) (i : Image) (a : State) (e : Event) (r : Reply) (b : State) → Step h v a e r b → HasOnly i a → KeepsElse h i e (r, b)
 keeps_image h v i a e r b step is = All-contains (KeepsElse h i e) (outcomes h v a e) (r, b) (All-from_recursion (KeepsElse h i e) (outcomes h v a e) (all_keep h v i a e is)) step

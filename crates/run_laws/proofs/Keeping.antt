@@ -133,11 +133,11 @@ task_step_keeps h i t a None is = tt
 task_step_keeps h i t a (Some (goes_out s p)) is = ((is, (λ e. absurd e)), ((is, (λ e. absurd e)), tt))
 task_step_keeps h i t a (Some (comes_in s p)) is = ((is, (λ e. absurd e)), ((is, (λ e. absurd e)), tt))
 
-held_booted : (h : Hardware) (v : disk.Image) (i : Image) (from : BootFrom) (dump : Memory) (held : Held) → IsOnly i held → IsOnly i (booted h v from dump held).held
+held_booted : (h : Hardware) (v : disk.DiskImage) (i : Image) (from : BootFrom) (dump : Memory) (held : Held) → IsOnly i held → IsOnly i (booted h v from dump held).held
 held_booted h v i Fresh dump held is = is
 held_booted h v i Kept dump held is = is
 
-boots_keep : (h : Hardware) (v : disk.Image) (i : Image) (from : BootFrom) (dump : Memory) (held : Held) → IsOnly i held → AllKeep h i (boot_outcomes h v from dump held ++ only (reply.ReadFault Same) (off held None))
+boots_keep : (h : Hardware) (v : disk.DiskImage) (i : Image) (from : BootFrom) (dump : Memory) (held : Held) → IsOnly i held → AllKeep h i (boot_outcomes h v from dump held ++ only (reply.ReadFault Same) (off held None))
 boots_keep h v i from dump nothing is = ((held_booted h v i from dump nothing is, (λ e. absurd e)), ((tt, (λ e. absurd e)), tt))
 boots_keep h v i from dump (sure (own j)) is = ((held_booted h v i from dump (sure (own j)) is, (λ e. absurd e)), ((is, (λ e. absurd e)), tt))
 boots_keep h v i from dump (sure other) is = absurd is
@@ -145,7 +145,7 @@ boots_keep h v i from dump (maybe (own j)) is =
     ((held_booted h v i from dump nothing tt, (λ e. absurd e)), ((held_booted h v i from dump (sure (own j)) is, (λ e. absurd e)), ((is, (λ e. absurd e)), tt)))
 boots_keep h v i from dump (maybe other) is = absurd is
 
-boot_step_keeps : (h : Hardware) (v : disk.Image) (i : Image) (from : BootFrom) (dump : Memory) (held : Held) (k : ℕ) → IsOnly i held → AllKeep h i (boot_step h v from dump held k)
+boot_step_keeps : (h : Hardware) (v : disk.DiskImage) (i : Image) (from : BootFrom) (dump : Memory) (held : Held) (k : ℕ) → IsOnly i held → AllKeep h i (boot_step h v from dump held k)
 boot_step_keeps h v i from dump held k is =
     let booted_or = boot_outcomes h v from dump held ++ only (reply.ReadFault Same) (off held None) in
     keep_either h i (eqb k 0) (done_or (reply.More 1 2) (booting from dump held 1) (reply.SyncFault Same) (off held None)) (cond (eqb k 1) booted_or [])
@@ -222,7 +222,7 @@ load_fault_keeps h i load k is finds =
     (keeps_either h i (eqb k 2) write (cond (eqb k 3) last_sync gone) (unsure, (λ e. absurd e))
     (keeps_either h i (eqb k 3) last_sync gone (unsure, (λ e. absurd e)) (tt, (λ e. absurd e)))))
 
-find_keeps : (h : Hardware) (v : disk.Image) (i : Image) (load : Load) (held : Held) → IsOnly i held → IsOnly i load.held → AllKeep h i (find_step h v load held)
+find_keeps : (h : Hardware) (v : disk.DiskImage) (i : Image) (load : Load) (held : Held) → IsOnly i held → IsOnly i load.held → AllKeep h i (find_step h v load held)
 find_keeps h v i load nothing is here = ((tt, (λ e. absurd e)), tt)
 find_keeps h v i load (sure (own j)) is here = (((here, is), (λ e. absurd e)), tt)
 find_keeps h v i load (sure other) is here = absurd is
@@ -248,7 +248,7 @@ loaded_keeps h i load not_yet k same is finds = tt
 loaded_keeps h i load (found_own j) k same is finds = (own_step_keeps h i load j k same is finds, tt)
 loaded_keeps h i load (found_other v) k same is finds = absurd same
 
-load_step_keeps : (h : Hardware) (v : disk.Image) (i : Image) (load : Load) (k : ℕ) → IsOnly i load.held → FindsOnly i load.found → AllKeep h i (load_step h v load k)
+load_step_keeps : (h : Hardware) (v : disk.DiskImage) (i : Image) (load : Load) (k : ℕ) → IsOnly i load.held → FindsOnly i load.found → AllKeep h i (load_step h v load k)
 load_step_keeps h v i load k is finds =
     let first = only (reply.Loading 1) (loading load 1) in
     keep_either h i (ltb k 4 || has_place h load load.found k) (load_fault load k ∷ load_answers h v load k) [] (
@@ -257,7 +257,7 @@ load_step_keeps h v i load k is finds =
           (keep_either h i (eqb k 1) (find_step h v load load.held) (loaded_step h load load.found k) (find_keeps h v i load load.held is is) (loaded_keeps h i load load.found k finds is finds)),
     ) tt
 
-pub core_keeps : (h : Hardware) (v : disk.Image) (i : Image) (a : State) → HasOnly i a → AllKeep h i (core_step h v a)
+pub core_keeps : (h : Hardware) (v : disk.DiskImage) (i : Image) (a : State) → HasOnly i a → AllKeep h i (core_step h v a)
 core_keeps h v i (off held kept) is = tt
 core_keeps h v i (on a) is = tt
 core_keeps h v i (booting from dump held k) is = boot_step_keeps h v i from dump held k is

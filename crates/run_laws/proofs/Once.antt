@@ -59,7 +59,7 @@ not_first e r mid n (inl hibernates) is = no_hibernation e r n is hibernates
 not_first e r mid n (inr stays) is = stays.1 (is_resumed n r is)
 
 -- from a spent state a hibernation stands before each resume
-pub before_resume : (h : Hardware) (v : disk.Image) (a : State) (es : List Event) (rs : List Reply) (b : State) → IsSpent a → Run h v a es rs b → (k : ℕ) → ResumesAt rs k → (j : ℕ) × (j < k) × HibernatesAt es rs j
+pub before_resume : (h : Hardware) (v : disk.DiskImage) (a : State) (es : List Event) (rs : List Reply) (b : State) → IsSpent a → Run h v a es rs b → (k : ℕ) → ResumesAt rs k → (j : ℕ) × (j < k) × HibernatesAt es rs j
 before_resume h v a [] [] b spent run k (n, e) = absurd (none-some (reply.Resumed n) e)
 before_resume h v a [] (r ∷ rs) b spent run k is = absurd run
 before_resume h v a (e ∷ es) [] b spent run k is = absurd run
@@ -68,7 +68,7 @@ before_resume h v a (e ∷ es) (r ∷ rs) b spent (mid, step, run) (suc k) is =
     found_by e es r rs mid k (spent_stays h v a e r mid step spent) (λ next. before_resume h v mid es rs b next run k is)
 
 -- in any run one stands between two of them
-pub between_resumes : (h : Hardware) (v : disk.Image) (a : State) (es : List Event) (rs : List Reply) (b : State) → Run h v a es rs b → (i k : ℕ) → i < k → ResumesAt rs i → ResumesAt rs k → (j : ℕ) × (i < j) × (j < k) × HibernatesAt es rs j
+pub between_resumes : (h : Hardware) (v : disk.DiskImage) (a : State) (es : List Event) (rs : List Reply) (b : State) → Run h v a es rs b → (i k : ℕ) → i < k → ResumesAt rs i → ResumesAt rs k → (j : ℕ) × (i < j) × (j < k) × HibernatesAt es rs j
 between_resumes h v a [] [] b run i k lt (n, e) then = absurd (none-some (reply.Resumed n) e)
 between_resumes h v a [] (r ∷ rs) b run i k lt first then = absurd run
 between_resumes h v a (e ∷ es) [] b run i k lt first then = absurd run
@@ -80,7 +80,7 @@ between_resumes h v a (e ∷ es) (r ∷ rs) b (mid, step, run) (suc i) (suc k) l
     let found = between_resumes h v mid es rs b run i k (omega arith) first then in
     (suc found.0, omega arith, omega arith, later_event e es r rs found.0 found.3)
 
-pub resumed_once : (h : Hardware) (v : disk.Image) (kept : Option Memory) (es : List Event) (rs : List Reply) (b : State) → Run h v (off nothing kept) es rs b → AreResumedOnce es rs
+pub resumed_once : (h : Hardware) (v : disk.DiskImage) (kept : Option Memory) (es : List Event) (rs : List Reply) (b : State) → Run h v (off nothing kept) es rs b → AreResumedOnce es rs
 resumed_once h v kept es rs b run = record {
   hibernated = before_resume h v (off nothing kept) es rs b refl run;
   once = between_resumes h v (off nothing kept) es rs b run;

@@ -79,12 +79,12 @@ task_step_spends h t a None = tt
 task_step_spends h t a (Some (goes_out s p)) = ((λ is. absurd is), ((λ is. absurd is), tt))
 task_step_spends h t a (Some (comes_in s p)) = ((λ is. absurd is), ((λ is. absurd is), tt))
 
-boots_spend : (h : Hardware) (v : disk.Image) (from : BootFrom) (dump : Memory) (held : Held) → AllSpend (boot_outcomes h v from dump held ++ only (reply.ReadFault Same) (off held None))
+boots_spend : (h : Hardware) (v : disk.DiskImage) (from : BootFrom) (dump : Memory) (held : Held) → AllSpend (boot_outcomes h v from dump held ++ only (reply.ReadFault Same) (off held None))
 boots_spend h v from dump nothing = ((λ is. absurd is), ((λ is. absurd is), tt))
 boots_spend h v from dump (sure x) = ((λ is. absurd is), ((λ is. absurd is), tt))
 boots_spend h v from dump (maybe x) = ((λ is. absurd is), ((λ is. absurd is), ((λ is. absurd is), tt)))
 
-boot_step_spends : (h : Hardware) (v : disk.Image) (from : BootFrom) (dump : Memory) (held : Held) (k : ℕ) → AllSpend (boot_step h v from dump held k)
+boot_step_spends : (h : Hardware) (v : disk.DiskImage) (from : BootFrom) (dump : Memory) (held : Held) (k : ℕ) → AllSpend (boot_step h v from dump held k)
 boot_step_spends h v from dump held k =
     let booted_or = boot_outcomes h v from dump held ++ only (reply.ReadFault Same) (off held None) in
     spend_either (eqb k 0) (done_or (reply.More 1 2) (booting from dump held 1) (reply.SyncFault Same) (off held None)) (cond (eqb k 1) booted_or [])
@@ -159,18 +159,18 @@ resumed_spent : (m : Memory) (slots : SlotPages) (from : Loader) → IsSpent (re
 resumed_spent m slots (loader.Ranges ranges) = refl
 resumed_spent m slots loader.Table = refl
 
-other_state_spends : (h : Hardware) (load : Load) (v : disk.Image) (k : ℕ) (r : Reply) → Spends (r, other_state h load v k r)
+other_state_spends : (h : Hardware) (load : Load) (v : disk.DiskImage) (k : ℕ) (r : Reply) → Spends (r, other_state h load v k r)
 other_state_spends h load v k (reply.Resumed n) = λ is. resumed_spent (restored_in h load.dump v load.loader) (slots_in h v (restored_in h load.dump v load.loader)) load.loader
 other_state_spends h load v k _ = λ is. absurd is
 
-abbrev outcomes_of : Hardware → Load → disk.Image → ℕ → Option Reply → List Outcome
+abbrev outcomes_of : Hardware → Load → disk.DiskImage → ℕ → Option Reply → List Outcome
 outcomes_of h load v k o = elim o as (λ x. List Outcome) [ None ↦ [] | Some r ↦ only r (other_state h load v k r) ]
 
-traced_spend : (h : Hardware) (load : Load) (v : disk.Image) (k : ℕ) (o : Option Reply) → AllSpend (outcomes_of h load v k o)
+traced_spend : (h : Hardware) (load : Load) (v : disk.DiskImage) (k : ℕ) (o : Option Reply) → AllSpend (outcomes_of h load v k o)
 traced_spend h load v k None = tt
 traced_spend h load v k (Some r) = (other_state_spends h load v k r, tt)
 
-other_step_spends : (h : Hardware) (load : Load) (v : disk.Image) (k : ℕ) → AllSpend (other_step h load v k)
+other_step_spends : (h : Hardware) (load : Load) (v : disk.DiskImage) (k : ℕ) → AllSpend (other_step h load v k)
 other_step_spends h load v k = traced_spend h load v k (slice_get (trace h load.dump v load.loader load.check) k)
 
 own_step_spends : (h : Hardware) (load : Load) (i : Image) (k : ℕ) → Spends (own_step h load i k)
@@ -181,7 +181,7 @@ own_step_spends h load i k =
     spends_either (eqb (k + 1) (6 + meta_of (n_of i)) && not (has_room h load (d_of i))) few (cond (eqb (k + 1) (resume_steps i)) done more) (λ is. absurd is)
     (spends_either (eqb (k + 1) (resume_steps i)) done more (λ is. resumed_spent (restored h load.dump load.loader i) i.slots load.loader) (λ is. absurd is))
 
-find_spends : (h : Hardware) (v : disk.Image) (load : Load) (held : Held) → AllSpend (find_step h v load held)
+find_spends : (h : Hardware) (v : disk.DiskImage) (load : Load) (held : Held) → AllSpend (find_step h v load held)
 find_spends h v load nothing = ((λ is. absurd is), tt)
 find_spends h v load (sure (own i)) = ((λ is. absurd is), tt)
 find_spends h v load (sure other) =
@@ -195,7 +195,7 @@ loaded_spends h load not_yet k = tt
 loaded_spends h load (found_own i) k = (own_step_spends h load i k, tt)
 loaded_spends h load (found_other v) k = other_step_spends h load v k
 
-load_step_spends : (h : Hardware) (v : disk.Image) (load : Load) (k : ℕ) → AllSpend (load_step h v load k)
+load_step_spends : (h : Hardware) (v : disk.DiskImage) (load : Load) (k : ℕ) → AllSpend (load_step h v load k)
 load_step_spends h v load k =
     let first = only (reply.Loading 1) (loading load 1) in
     spend_either (ltb k 4 || has_place h load load.found k) (load_fault load k ∷ load_answers h v load k) [] (
@@ -204,7 +204,7 @@ load_step_spends h v load k =
           (spend_either (eqb k 1) (find_step h v load load.held) (loaded_step h load load.found k) (find_spends h v load load.held) (loaded_spends h load load.found k)),
     ) tt
 
-core_spends : (h : Hardware) (v : disk.Image) (a : State) → AllSpend (core_step h v a)
+core_spends : (h : Hardware) (v : disk.DiskImage) (a : State) → AllSpend (core_step h v a)
 core_spends h v (off held kept) = tt
 core_spends h v (on a) = tt
 core_spends h v (booting from dump held k) = boot_step_spends h v from dump held k
@@ -215,7 +215,7 @@ core_spends h v (waking i held a k) = wake_step_spends i held a k
 core_spends h v (loading load k) = load_step_spends h v load k
 core_spends h v (asleep i held a) = tt
 
-accepted_spends : (h : Hardware) (v : disk.Image) (a : State) (e : Event) → AllSpend (accepted h v a e)
+accepted_spends : (h : Hardware) (v : disk.DiskImage) (a : State) (e : Event) → AllSpend (accepted h v a e)
 accepted_spends h v a (event.Boot from) = ((λ is. absurd is), tt)
 accepted_spends h v a (event.Hibernate f) = if_running_spends a (begun h false f) (λ r. ((λ is. absurd is), tt))
 accepted_spends h v a (event.Suspend f) = if_running_spends a (begun h true f) (λ r. ((λ is. absurd is), tt))
@@ -236,9 +236,9 @@ refused_or_spends : (a : State) (refused : Option Reply) (os : List Outcome) →
 refused_or_spends a (Some r) os none taken = ((λ is. absurd (none (resumed_goes_on r is))), tt)
 refused_or_spends a None os none taken = taken
 
-all_spend : (h : Hardware) (v : disk.Image) (a : State) (e : Event) → AllSpend (outcomes h v a e)
+all_spend : (h : Hardware) (v : disk.DiskImage) (a : State) (e : Event) → AllSpend (outcomes h v a e)
 unfolding outcomes
 all_spend h v a e = refused_or_spends a (refusal h a e) (accepted h v a e) (refusal_ends_none h a e) (accepted_spends h v a e)
 
-pub resume_spends : (h : Hardware) (v : disk.Image) (a : State) (e : Event) (r : Reply) (b : State) → Step h v a e r b → IsResumed r → IsSpent b
+pub resume_spends : (h : Hardware) (v : disk.DiskImage) (a : State) (e : Event) (r : Reply) (b : State) → Step h v a e r b → IsResumed r → IsSpent b
 resume_spends h v a e r b step = All-contains Spends (outcomes h v a e) (r, b) (All-from_recursion Spends (outcomes h v a e) (all_spend h v a e)) step

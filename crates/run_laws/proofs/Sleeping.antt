@@ -131,12 +131,12 @@ task_step_moves a e h t r None = tt
 task_step_moves a e h t r (Some (goes_out s p)) = (inl ((λ is. is), inl refl), (inl ((λ is. is), inl refl), tt))
 task_step_moves a e h t r (Some (comes_in s p)) = (inl ((λ is. is), inl refl), (inl ((λ is. is), inl refl), tt))
 
-boots_move : (a : State) (e : Event) (h : Hardware) (v : disk.Image) (from : BootFrom) (dump : Memory) (held : Held) → AllMove a e (boot_outcomes h v from dump held ++ only (reply.ReadFault Same) (off held None))
+boots_move : (a : State) (e : Event) (h : Hardware) (v : disk.DiskImage) (from : BootFrom) (dump : Memory) (held : Held) → AllMove a e (boot_outcomes h v from dump held ++ only (reply.ReadFault Same) (off held None))
 boots_move a e h v from dump nothing = (inl ((λ is. is), inl refl), (inl ((λ is. is), inl refl), tt))
 boots_move a e h v from dump (sure x) = (inl ((λ is. is), inl refl), (inl ((λ is. is), inl refl), tt))
 boots_move a e h v from dump (maybe x) = (inl ((λ is. is), inl refl), (inl ((λ is. is), inl refl), (inl ((λ is. is), inl refl), tt)))
 
-boot_step_moves : (a : State) (e : Event) (h : Hardware) (v : disk.Image) (from : BootFrom) (dump : Memory) (held : Held) (k : ℕ) → AllMove a e (boot_step h v from dump held k)
+boot_step_moves : (a : State) (e : Event) (h : Hardware) (v : disk.DiskImage) (from : BootFrom) (dump : Memory) (held : Held) (k : ℕ) → AllMove a e (boot_step h v from dump held k)
 boot_step_moves a e h v from dump held k =
     let booted_or = boot_outcomes h v from dump held ++ only (reply.ReadFault Same) (off held None) in
     move_either a e (eqb k 0) (done_or (reply.More 1 2) (booting from dump held 1) (reply.SyncFault Same) (off held None)) (cond (eqb k 1) booted_or [])
@@ -211,7 +211,7 @@ load_fault_moves a e load k =
     (moves_either a e (eqb k 2) write (cond (eqb k 3) last_sync gone) (inl ((λ is. is), inl refl))
     (moves_either a e (eqb k 3) last_sync gone (inl ((λ is. is), inl refl)) (inl ((λ is. is), inl refl)))))
 
-find_moves : (a : State) (e : Event) (h : Hardware) (v : disk.Image) (i : Image) (load : Load) (held : Held) → IsOnly i held → AllMove a e (find_step h v load held)
+find_moves : (a : State) (e : Event) (h : Hardware) (v : disk.DiskImage) (i : Image) (load : Load) (held : Held) → IsOnly i held → AllMove a e (find_step h v load held)
 find_moves a e h v i load nothing is = (inl ((λ is. is), inl refl), tt)
 find_moves a e h v i load (sure (own j)) is = (inl ((λ is. is), inl refl), tt)
 find_moves a e h v i load (sure other) is = absurd is
@@ -235,7 +235,7 @@ loaded_moves a e h i load not_yet k finds = tt
 loaded_moves a e h i load (found_own j) k finds = (own_step_moves a e h load j k, tt)
 loaded_moves a e h i load (found_other v) k finds = absurd finds
 
-load_step_moves : (a : State) (e : Event) (h : Hardware) (v : disk.Image) (i : Image) (load : Load) (k : ℕ) → IsOnly i load.held → FindsOnly i load.found → AllMove a e (load_step h v load k)
+load_step_moves : (a : State) (e : Event) (h : Hardware) (v : disk.DiskImage) (i : Image) (load : Load) (k : ℕ) → IsOnly i load.held → FindsOnly i load.found → AllMove a e (load_step h v load k)
 load_step_moves a e h v i load k is finds =
     let first = only (reply.Loading 1) (loading load 1) in
     move_either a e (ltb k 4 || has_place h load load.found k) (load_fault load k ∷ load_answers h v load k) [] (
@@ -244,7 +244,7 @@ load_step_moves a e h v i load k is finds =
           (move_either a e (eqb k 1) (find_step h v load load.held) (loaded_step h load load.found k) (find_moves a e h v i load load.held is) (loaded_moves a e h i load load.found k finds)),
     ) tt
 
-core_moves : (h : Hardware) (v : disk.Image) (i : Image) (a : State) → HasOnly i a → AllMove a (event.Step actor.Core) (core_step h v a)
+core_moves : (h : Hardware) (v : disk.DiskImage) (i : Image) (a : State) → HasOnly i a → AllMove a (event.Step actor.Core) (core_step h v a)
 core_moves h v i (off held kept) is = tt
 core_moves h v i (on a) is = tt
 core_moves h v i (booting from dump held k) is = boot_step_moves (booting from dump held k) (event.Step actor.Core) h v from dump held k
@@ -256,7 +256,7 @@ core_moves h v i (waking j held a k) is = wake_step_moves (event.Step actor.Core
 core_moves h v i (loading load k) is = load_step_moves (loading load k) (event.Step actor.Core) h v i load k is.0 is.1
 core_moves h v i (asleep j held a) is = tt
 
-accepted_moves : (h : Hardware) (v : disk.Image) (i : Image) (a : State) (e : Event) → HasOnly i a → AllMove a e (accepted h v a e)
+accepted_moves : (h : Hardware) (v : disk.DiskImage) (i : Image) (a : State) (e : Event) → HasOnly i a → AllMove a e (accepted h v a e)
 accepted_moves h v i a (event.Boot from) is = (inl ((λ is. is), inl refl), tt)
 accepted_moves h v i a (event.Hibernate f) is = if_running_moves a (event.Hibernate f) (begun h false f) (λ r. (inl ((λ is. is), inl refl), tt))
 accepted_moves h v i a (event.Suspend f) is =
@@ -280,7 +280,7 @@ refused_or_moves : (a : State) (e : Event) (refused : Option Reply) (os : List O
 refused_or_moves a e (Some r) os uncut none taken = (inl ((λ is. none (of_sleep_goes_on r is)), inr (refl, uncut)), tt)
 refused_or_moves a e None os uncut none taken = taken
 
-all_move : (h : Hardware) (v : disk.Image) (i : Image) (a : State) (e : Event) → HasOnly i a → AllMove a e (outcomes h v a e)
+all_move : (h : Hardware) (v : disk.DiskImage) (i : Image) (a : State) (e : Event) → HasOnly i a → AllMove a e (outcomes h v a e)
 unfolding outcomes refusal
 all_move h v i a (event.Cut pick) is = accepted_moves h v i a (event.Cut pick) is
 all_move h v i a (event.Boot from) is = refused_or_moves a (event.Boot from) (refusal h a (event.Boot from)) (accepted h v a (event.Boot from)) refl (refusal_ends_none h a (event.Boot from)) (accepted_moves h v i a (event.Boot from) is)
@@ -294,7 +294,7 @@ all_move h v i a (event.Step x) is = refused_or_moves a (event.Step x) (refusal 
 all_move h v i a (event.Task t o) is = refused_or_moves a (event.Task t o) (refusal h a (event.Task t o)) (accepted h v a (event.Task t o)) refl (refusal_ends_none h a (event.Task t o)) (accepted_moves h v i a (event.Task t o) is)
 all_move h v i a (event.Arm first count pick) is = accepted_moves h v i a (event.Arm first count pick) is
 
-pub step_moves : (h : Hardware) (v : disk.Image) (i : Image) (a : State) (e : Event) (r : Reply) (b : State) → Step h v a e r b → HasOnly i a → Moves a e (r, b)
+pub step_moves : (h : Hardware) (v : disk.DiskImage) (i : Image) (a : State) (e : Event) (r : Reply) (b : State) → Step h v a e r b → HasOnly i a → Moves a e (r, b)
 step_moves h v i a e r b step is = All-contains (Moves a e) (outcomes h v a e) (r, b) (All-from_recursion (Moves a e) (outcomes h v a e) (all_move h v i a e is)) step
 
 -- While it sleeps tasks are refused, until it is woken or its power is cut.
@@ -331,7 +331,7 @@ wake_step_rests i held a k has =
     (rest_either e (eqb k 1) written (cond (eqb k 2) synced []) (inr (inr (has, (λ is. absurd (false≢true is)))), (inr (inr (unsure, (λ is. absurd (false≢true is)))), tt))
     (rest_either e (eqb k 2) synced [] (inr (inl (refl, refl)), (inr (inr (unsure, (λ is. absurd (false≢true is)))), tt)) tt))
 
-asleep_rests : (h : Hardware) (v : disk.Image) (i : Image) (held : Held) (a : Running) (e : Event) → HoldsOwn held → AllRest e (outcomes h v (asleep i held a) e)
+asleep_rests : (h : Hardware) (v : disk.DiskImage) (i : Image) (held : Held) (a : Running) (e : Event) → HoldsOwn held → AllRest e (outcomes h v (asleep i held a) e)
 unfolding outcomes refusal
 asleep_rests h v i held a (event.Boot from) has = (inr (inr (has, (λ is. absurd (false≢true is)))), tt)
 asleep_rests h v i held a (event.Hibernate f) has = (inr (inr (has, (λ is. absurd (false≢true is)))), tt)
@@ -346,7 +346,7 @@ asleep_rests h v i held a (event.Task t o) has = (inr (inr (has, (λ is. refl)))
 asleep_rests h v i held a (event.Cut pick) has = (inl (pick, refl), tt)
 asleep_rests h v i held a (event.Arm first count pick) has = (inr (inr (has, (λ is. absurd (false≢true is)))), tt)
 
-waking_rests : (h : Hardware) (v : disk.Image) (i : Image) (held : Held) (a : Running) (k : ℕ) (e : Event) → HoldsOwn held → AllRest e (outcomes h v (waking i held a k) e)
+waking_rests : (h : Hardware) (v : disk.DiskImage) (i : Image) (held : Held) (a : Running) (k : ℕ) (e : Event) → HoldsOwn held → AllRest e (outcomes h v (waking i held a k) e)
 unfolding outcomes refusal
 waking_rests h v i held a k (event.Boot from) has = (inr (inr (has, (λ is. absurd (false≢true is)))), tt)
 waking_rests h v i held a k (event.Hibernate f) has = (inr (inr (has, (λ is. absurd (false≢true is)))), tt)
@@ -361,21 +361,21 @@ waking_rests h v i held a k (event.Task t o) has = (inr (inr (has, (λ is. refl)
 waking_rests h v i held a k (event.Cut pick) has = (inl (pick, refl), tt)
 waking_rests h v i held a k (event.Arm first count pick) has = (inr (inr (has, (λ is. absurd (false≢true is)))), tt)
 
-all_rest : (h : Hardware) (v : disk.Image) (a : State) (e : Event) → IsSleeping a → AllRest e (outcomes h v a e)
+all_rest : (h : Hardware) (v : disk.DiskImage) (a : State) (e : Event) → IsSleeping a → AllRest e (outcomes h v a e)
 all_rest h v (waking i held a k) e is = waking_rests h v i held a k e is
 all_rest h v (asleep i held a) e is = asleep_rests h v i held a e is
 all_rest h v _ e is = absurd is
 
-pub step_rests : (h : Hardware) (v : disk.Image) (a : State) (e : Event) (r : Reply) (b : State) → Step h v a e r b → IsSleeping a → Rests e (r, b)
+pub step_rests : (h : Hardware) (v : disk.DiskImage) (a : State) (e : Event) (r : Reply) (b : State) → Step h v a e r b → IsSleeping a → Rests e (r, b)
 step_rests h v a e r b step is = All-contains (Rests e) (outcomes h v a e) (r, b) (All-from_recursion (Rests e) (outcomes h v a e) (all_rest h v a e is)) step
 
 -- What a cut leaves.
 
-cut_leaves : (h : Hardware) (v : disk.Image) (a : State) (pick : ℕ) → AllByRecursion (λ o. o.1 ≡ off (held_in a) (kept_in a)) (outcomes h v a (event.Cut pick))
+cut_leaves : (h : Hardware) (v : disk.DiskImage) (a : State) (pick : ℕ) → AllByRecursion (λ o. o.1 ≡ off (held_in a) (kept_in a)) (outcomes h v a (event.Cut pick))
 unfolding outcomes refusal
 cut_leaves h v a pick = (refl, tt)
 
-pub left_by_cut : (h : Hardware) (v : disk.Image) (a : State) (pick : ℕ) (r : Reply) (b : State) → Step h v a (event.Cut pick) r b → b ≡ off (held_in a) (kept_in a)
+pub left_by_cut : (h : Hardware) (v : disk.DiskImage) (a : State) (pick : ℕ) (r : Reply) (b : State) → Step h v a (event.Cut pick) r b → b ≡ off (held_in a) (kept_in a)
 left_by_cut h v a pick r b step =
     All-contains (λ o. o.1 ≡ off (held_in a) (kept_in a)) (outcomes h v a (event.Cut pick)) (r, b)
     (All-from_recursion (λ o. o.1 ≡ off (held_in a) (kept_in a)) (outcomes h v a (event.Cut pick)) (cut_leaves h v a pick)) step

@@ -30,7 +30,7 @@ some_same x y e = cc
 abbrev HasOne : State → Type 0
 HasOne a = (i : Image) × HasOnly i a
 
-one_left : (h : Hardware) (v : disk.Image) (a : State) (e : Event) (r : Reply) (b : State) → Step h v a e r b → HasOne a → HasOne b
+one_left : (h : Hardware) (v : disk.DiskImage) (a : State) (e : Event) (r : Reply) (b : State) → Step h v a e r b → HasOne a → HasOne b
 one_left h v a e r b step (i, is) = elim (cases_Bool (is_hibernation e r)) [
   | inl begun ↦ let from = begins_by h v a e r b step begun in (image_of_memory h from.0.memory from.0.slots from.1, from.3)
   | inr none ↦ (i, (keeps_image h v i a e r b step is none).0)
@@ -53,7 +53,7 @@ no_task_now e r mid (inl (pick, is)) of_task accepted = false≢true (sym (ap is
 no_task_now e r mid (inr (inl (woken, other))) of_task accepted = false≢true (sym other ∙ of_task)
 no_task_now e r mid (inr (inr (sleeps, refused))) of_task accepted = false≢true (sym accepted ∙ refused of_task)
 
-rests : (h : Hardware) (v : disk.Image) (a : State) (es : List Event) (rs : List Reply) (b : State) → IsSleeping a → Run h v a es rs b → (k : ℕ) → TaskGoesOnAt es rs k → (i : ℕ) × (i < k) × (WakesAt rs i ⊎ IsCutAt es i)
+rests : (h : Hardware) (v : disk.DiskImage) (a : State) (es : List Event) (rs : List Reply) (b : State) → IsSleeping a → Run h v a es rs b → (k : ℕ) → TaskGoesOnAt es rs k → (i : ℕ) × (i < k) × (WakesAt rs i ⊎ IsCutAt es i)
 rests h v a [] [] b is run k at = absurd (none-some at.asked at.is_asked)
 rests h v a [] (r ∷ rs) b is run k at = absurd run
 rests h v a (e ∷ es) [] b is run k at = absurd run
@@ -77,7 +77,7 @@ falls_asleep a e r mid n is (inr (inl (f, step, steps, before, asked, answer, wa
 falls_asleep a e r mid n is (inr (inr (inl (m, answer, same, uncut, sleeps)))) = sleeps
 falls_asleep a e r mid n is (inr (inr (inr (before, answer, was, now)))) = absurd (cc)
 
-after_asleep : (h : Hardware) (v : disk.Image) (a : State) (es : List Event) (rs : List Reply) (b : State) → HasOne a → Run h v a es rs b → (j k : ℕ) → j < k → FallsAsleepAt rs j → TaskGoesOnAt es rs k →
+after_asleep : (h : Hardware) (v : disk.DiskImage) (a : State) (es : List Event) (rs : List Reply) (b : State) → HasOne a → Run h v a es rs b → (j k : ℕ) → j < k → FallsAsleepAt rs j → TaskGoesOnAt es rs k →
     (i : ℕ) × (j < i) × (i < k) × (WakesAt rs i ⊎ IsCutAt es i)
 after_asleep h v a [] [] b has run j k lt falls at = absurd (none-some at.asked at.is_asked)
 after_asleep h v a [] (r ∷ rs) b has run j k lt falls at = absurd run
@@ -110,7 +110,7 @@ abbrev NoCutBefore : List Event → ℕ → Type 0
 NoCutBefore es k = (j : ℕ) → j < k → IsCutAt es j → ⊥
 
 -- a run from a state in which that machine was saved by a suspend, or sleeps, up to where it wakes at event k
-record IsWakeOf (h : Hardware) (v : disk.Image) (before : Running) (a : State) (es : List Event) (rs : List Reply) (b : State) (k : ℕ) : Type 0 where
+record IsWakeOf (h : Hardware) (v : disk.DiskImage) (before : Running) (a : State) (es : List Event) (rs : List Reply) (b : State) (k : ℕ) : Type 0 where
   pub uncut : NoCutBefore es k
   pub wakes : Run h v a (take (suc k) es) (take (suc k) rs) (on (record before { held = nothing }))
   pub ends : Run h v (on (record before { held = nothing })) (drop (suc k) es) (drop (suc k) rs) b
@@ -130,7 +130,7 @@ no_cut_later : (e : Event) (es : List Event) (at k : ℕ) → ((j : ℕ) → at 
 no_cut_later e es at k none zero lt le here = absurd (omega arith)
 no_cut_later e es at k none (suc j) lt le here = none j (omega arith) (omega arith) here
 
-later_waking : (h : Hardware) (v : disk.Image) (a mid : State) (e : Event) (es : List Event) (r : Reply) (rs : List Reply) (b : State) (k : ℕ) → Step h v a e r mid → WakesAsBefore h v mid es rs b k → WakesAsBefore h v a (e ∷ es) (r ∷ rs) b (suc k)
+later_waking : (h : Hardware) (v : disk.DiskImage) (a mid : State) (e : Event) (es : List Event) (r : Reply) (rs : List Reply) (b : State) (k : ℕ) → Step h v a e r mid → WakesAsBefore h v mid es rs b k → WakesAsBefore h v a (e ∷ es) (r ∷ rs) b (suc k)
 later_waking h v a mid e es r rs b k step found = record {
   at = suc found.at;
   earlier = let lt = found.earlier in omega arith;
@@ -142,11 +142,11 @@ later_waking h v a mid e es r rs b k step found = record {
   ends = found.ends;
 }
 
-abbrev IsFound : Hardware → disk.Image → State → List Event → List Reply → State → ℕ → Type 0
+abbrev IsFound : Hardware → disk.DiskImage → State → List Event → List Reply → State → ℕ → Type 0
 IsFound h v a es rs b k = WakesAsBefore h v a es rs b k ⊎ ((before : Running) × (sleeper a ≡ Some before) × IsWakeOf h v before a es rs b k)
 
 -- the step that its wake stands behind
-longer : (h : Hardware) (v : disk.Image) (before : Running) (a mid : State) (e : Event) (es : List Event) (r : Reply) (rs : List Reply) (b : State) (k : ℕ) → Step h v a e r mid → sleeper mid ≡ sleeper a → is_cut e ≡ false →
+longer : (h : Hardware) (v : disk.DiskImage) (before : Running) (a mid : State) (e : Event) (es : List Event) (r : Reply) (rs : List Reply) (b : State) (k : ℕ) → Step h v a e r mid → sleeper mid ≡ sleeper a → is_cut e ≡ false →
     sleeper mid ≡ Some before → IsWakeOf h v before mid es rs b k → IsFound h v a (e ∷ es) (r ∷ rs) b (suc k)
 longer h v before a mid e es r rs b k step same uncut is wake =
     inr (
@@ -160,7 +160,7 @@ longer h v before a mid e es r rs b k step same uncut is wake =
     )
 
 -- the suspend itself
-whole : (h : Hardware) (v : disk.Image) (before : Running) (a mid : State) (e : Event) (es : List Event) (r : Reply) (rs : List Reply) (b : State) (k : ℕ) → Step h v a e r mid → a ≡ on before → SuspendsAt (e ∷ es) (r ∷ rs) 0 →
+whole : (h : Hardware) (v : disk.DiskImage) (before : Running) (a mid : State) (e : Event) (es : List Event) (r : Reply) (rs : List Reply) (b : State) (k : ℕ) → Step h v a e r mid → a ≡ on before → SuspendsAt (e ∷ es) (r ∷ rs) 0 →
     IsWakeOf h v before mid es rs b k → WakesAsBefore h v a (e ∷ es) (r ∷ rs) b (suc k)
 whole h v before a mid e es r rs b k step was suspends wake = record {
   at = 0;
@@ -173,7 +173,7 @@ whole h v before a mid e es r rs b k step was suspends wake = record {
   ends = wake.ends;
 }
 
-found_by : (h : Hardware) (v : disk.Image) (before : Running) (a mid : State) (e : Event) (es : List Event) (r : Reply) (rs : List Reply) (b : State) (k : ℕ) → Step h v a e r mid → Moves a e (r, mid) →
+found_by : (h : Hardware) (v : disk.DiskImage) (before : Running) (a mid : State) (e : Event) (es : List Event) (r : Reply) (rs : List Reply) (b : State) (k : ℕ) → Step h v a e r mid → Moves a e (r, mid) →
     sleeper mid ≡ Some before → IsWakeOf h v before mid es rs b k → IsFound h v a (e ∷ es) (r ∷ rs) b (suc k)
 found_by h v before a mid e es r rs b k step (inl (quiet, inl none)) is wake = absurd (none-some before (sym none ∙ is))
 found_by h v before a mid e es r rs b k step (inl (quiet, inr (same, uncut))) is wake = longer h v before a mid e es r rs b k step same uncut is wake
@@ -183,7 +183,7 @@ found_by h v before a mid e es r rs b k step (inr (inl (f, made, steps, saved, a
 found_by h v before a mid e es r rs b k step (inr (inr (inl (m, answer, same, uncut, sleeps)))) is wake = longer h v before a mid e es r rs b k step same uncut is wake
 found_by h v before a mid e es r rs b k step (inr (inr (inr (woken, answer, was, now)))) is wake = absurd (none-some before (sym (ap sleeper now) ∙ is))
 
-woken_in : (h : Hardware) (v : disk.Image) (a : State) (es : List Event) (rs : List Reply) (b : State) → HasOne a → Run h v a es rs b → (k : ℕ) → WakesAt rs k → IsFound h v a es rs b k
+woken_in : (h : Hardware) (v : disk.DiskImage) (a : State) (es : List Event) (rs : List Reply) (b : State) → HasOne a → Run h v a es rs b → (k : ℕ) → WakesAt rs k → IsFound h v a es rs b k
 woken_in h v a [] [] b has run k is = absurd (none-some reply.Woken is)
 woken_in h v a [] (r ∷ rs) b has run k is = absurd run
 woken_in h v a (e ∷ es) [] b has run k is = absurd run
@@ -208,7 +208,7 @@ woken_in h v a (e ∷ es) (r ∷ rs) b has (mid, step, run) (suc k) is = elim (w
 spent_by : (a mid : State) → IsWoken a mid → IsSpent mid
 spent_by a mid (before, was, now) = subst IsSpent (sym now) refl
 
-after_woken : (h : Hardware) (v : disk.Image) (a : State) (es : List Event) (rs : List Reply) (b : State) → HasOne a → Run h v a es rs b → (j k : ℕ) → j < k → WakesAt rs j → ResumesAt rs k →
+after_woken : (h : Hardware) (v : disk.DiskImage) (a : State) (es : List Event) (rs : List Reply) (b : State) → HasOne a → Run h v a es rs b → (j k : ℕ) → j < k → WakesAt rs j → ResumesAt rs k →
     (i : ℕ) × (j < i) × (i < k) × HibernatesAt es rs i
 after_woken h v a [] [] b has run j k lt woken (n, e) = absurd (none-some (reply.Resumed n) e)
 after_woken h v a [] (r ∷ rs) b has run j k lt woken resumes = absurd run
@@ -224,13 +224,13 @@ after_woken h v a (e ∷ es) (r ∷ rs) b has (mid, step, run) (suc j) (suc k) l
 
 -- What a cut leaves.
 
-abbrev LeavesHeld : Hardware → disk.Image → State → List Event → List Reply → State → ℕ → Type 0
+abbrev LeavesHeld : Hardware → disk.DiskImage → State → List Event → List Reply → State → ℕ → Type 0
 LeavesHeld h v a es rs b k = (held : Held) × HoldsOwn held × LeavesOff h v a es rs b k held
 
-later_off : (h : Hardware) (v : disk.Image) (a mid : State) (e : Event) (es : List Event) (r : Reply) (rs : List Reply) (b : State) (k : ℕ) (held : Held) → Step h v a e r mid → LeavesOff h v mid es rs b k held → LeavesOff h v a (e ∷ es) (r ∷ rs) b (suc k) held
+later_off : (h : Hardware) (v : disk.DiskImage) (a mid : State) (e : Event) (es : List Event) (r : Reply) (rs : List Reply) (b : State) (k : ℕ) (held : Held) → Step h v a e r mid → LeavesOff h v mid es rs b k held → LeavesOff h v a (e ∷ es) (r ∷ rs) b (suc k) held
 later_off h v a mid e es r rs b k held step left = record { kept = left.kept; leaves = (mid, step, left.leaves); ends = left.ends }
 
-off_now : (h : Hardware) (v : disk.Image) (a mid : State) (e : Event) (es : List Event) (r : Reply) (rs : List Reply) (b : State) (pick : ℕ) → Step h v a e r mid → Some e ≡ Some (event.Cut pick) → Run h v mid es rs b → LeavesOff h v a (e ∷ es) (r ∷ rs) b 0 (held_in a)
+off_now : (h : Hardware) (v : disk.DiskImage) (a mid : State) (e : Event) (es : List Event) (r : Reply) (rs : List Reply) (b : State) (pick : ℕ) → Step h v a e r mid → Some e ≡ Some (event.Cut pick) → Run h v mid es rs b → LeavesOff h v a (e ∷ es) (r ∷ rs) b 0 (held_in a)
 off_now h v a mid e es r rs b pick step is run =
     let left : mid ≡ off (held_in a) (kept_in a) = left_by_cut h v a pick r mid (subst (λ (x : Event). Step h v a x r mid) (some_same e (event.Cut pick) is) step) in
     record {
@@ -239,7 +239,7 @@ off_now h v a mid e es r rs b pick step is run =
       ends = subst (λ (s : State). Run h v s es rs b) left run;
     }
 
-cut_asleep : (h : Hardware) (v : disk.Image) (a : State) (es : List Event) (rs : List Reply) (b : State) → IsSleeping a → Run h v a es rs b → (k : ℕ) → IsCutAt es k → ((i : ℕ) → i < k → WakesAt rs i ⊎ IsCutAt es i → ⊥) → LeavesHeld h v a es rs b k
+cut_asleep : (h : Hardware) (v : disk.DiskImage) (a : State) (es : List Event) (rs : List Reply) (b : State) → IsSleeping a → Run h v a es rs b → (k : ℕ) → IsCutAt es k → ((i : ℕ) → i < k → WakesAt rs i ⊎ IsCutAt es i → ⊥) → LeavesHeld h v a es rs b k
 cut_asleep h v a [] [] b is run k (pick, at) none = absurd (none-some (event.Cut pick) at)
 cut_asleep h v a [] (r ∷ rs) b is run k at none = absurd run
 cut_asleep h v a (e ∷ es) [] b is run k at none = absurd run
@@ -254,7 +254,7 @@ cut_asleep h v a (e ∷ es) (r ∷ rs) b is (mid, step, run) (suc k) at none = e
   ]
 ]
 
-cut_after_asleep : (h : Hardware) (v : disk.Image) (a : State) (es : List Event) (rs : List Reply) (b : State) → HasOne a → Run h v a es rs b → (j k : ℕ) → j < k → FallsAsleepAt rs j → IsCutAt es k →
+cut_after_asleep : (h : Hardware) (v : disk.DiskImage) (a : State) (es : List Event) (rs : List Reply) (b : State) → HasOne a → Run h v a es rs b → (j k : ℕ) → j < k → FallsAsleepAt rs j → IsCutAt es k →
     ((i : ℕ) → j < i → i < k → WakesAt rs i ⊎ IsCutAt es i → ⊥) → LeavesHeld h v a es rs b k
 cut_after_asleep h v a [] [] b has run j k lt falls (pick, at) none = absurd (none-some (event.Cut pick) at)
 cut_after_asleep h v a [] (r ∷ rs) b has run j k lt falls at none = absurd run
@@ -269,7 +269,7 @@ cut_after_asleep h v a (e ∷ es) (r ∷ rs) b has (mid, step, run) (suc j) (suc
     (found.0, found.1, later_off h v a mid e es r rs b k found.0 step found.2)
 
 -- where nothing is held, and no hibernation is accepted
-cut_spent : (h : Hardware) (v : disk.Image) (a : State) (es : List Event) (rs : List Reply) (b : State) → IsSpent a → Run h v a es rs b → (k : ℕ) → IsCutAt es k → ((i : ℕ) → i < k → HibernatesAt es rs i → ⊥) → LeavesOff h v a es rs b k nothing
+cut_spent : (h : Hardware) (v : disk.DiskImage) (a : State) (es : List Event) (rs : List Reply) (b : State) → IsSpent a → Run h v a es rs b → (k : ℕ) → IsCutAt es k → ((i : ℕ) → i < k → HibernatesAt es rs i → ⊥) → LeavesOff h v a es rs b k nothing
 cut_spent h v a [] [] b spent run k (pick, at) none = absurd (none-some (event.Cut pick) at)
 cut_spent h v a [] (r ∷ rs) b spent run k at none = absurd run
 cut_spent h v a (e ∷ es) [] b spent run k at none = absurd run
@@ -280,7 +280,7 @@ cut_spent h v a (e ∷ es) (r ∷ rs) b spent (mid, step, run) (suc k) at none =
   | inr stays ↦ later_off h v a mid e es r rs b k nothing step (cut_spent h v mid es rs b stays.0 run k at (λ i lt here. none (suc i) (omega arith) (later_event e es r rs i here)))
 ]
 
-cut_after_woken : (h : Hardware) (v : disk.Image) (a : State) (es : List Event) (rs : List Reply) (b : State) → HasOne a → Run h v a es rs b → (j k : ℕ) → j < k → WakesAt rs j → IsCutAt es k →
+cut_after_woken : (h : Hardware) (v : disk.DiskImage) (a : State) (es : List Event) (rs : List Reply) (b : State) → HasOne a → Run h v a es rs b → (j k : ℕ) → j < k → WakesAt rs j → IsCutAt es k →
     ((i : ℕ) → j < i → i < k → HibernatesAt es rs i → ⊥) → LeavesOff h v a es rs b k nothing
 cut_after_woken h v a [] [] b has run j k lt woken (pick, at) none = absurd (none-some (event.Cut pick) at)
 cut_after_woken h v a [] (r ∷ rs) b has run j k lt woken at none = absurd run
@@ -294,7 +294,7 @@ cut_after_woken h v a (e ∷ es) (r ∷ rs) b has (mid, step, run) (suc j) (suc 
     (cut_after_woken h v mid es rs b (one_left h v a e r mid step has) run j k (omega arith) woken at (λ i le less here. none (suc i) (omega arith) (omega arith) (later_event e es r rs i here)))
 
 -- a run that begins off with nothing held
-pub never_both : (h : Hardware) (v : disk.Image) (kept : Option Memory) (es : List Event) (rs : List Reply) (b : State) → Run h v (off nothing kept) es rs b → NeverBothGoOn h v (off nothing kept) es rs b
+pub never_both : (h : Hardware) (v : disk.DiskImage) (kept : Option Memory) (es : List Event) (rs : List Reply) (b : State) → Run h v (off nothing kept) es rs b → NeverBothGoOn h v (off nothing kept) es rs b
 never_both h v kept es rs b run =
     let one : HasOne (off nothing kept) = (image_of_memory h [] no_pages Plain, tt) in
     record {

@@ -71,16 +71,16 @@ task_step_stays e h t a None none = tt
 task_step_stays e h t a (Some (goes_out s p)) none = (inr (none, (λ is. is)), (inr (none, (λ is. is)), tt))
 task_step_stays e h t a (Some (comes_in s p)) none = (inr (none, (λ is. is)), (inr (none, (λ is. is)), tt))
 
-held_booted : (h : Hardware) (v : disk.Image) (from : BootFrom) (dump : Memory) → (booted h v from dump nothing).held ≡ nothing
+held_booted : (h : Hardware) (v : disk.DiskImage) (from : BootFrom) (dump : Memory) → (booted h v from dump nothing).held ≡ nothing
 held_booted h v Fresh dump = refl
 held_booted h v Kept dump = refl
 
-boots_stay : (e : Event) (h : Hardware) (v : disk.Image) (from : BootFrom) (dump : Memory) (held : Held) → held ≡ nothing → AllStay e (boot_outcomes h v from dump held ++ only (reply.ReadFault Same) (off held None))
+boots_stay : (e : Event) (h : Hardware) (v : disk.DiskImage) (from : BootFrom) (dump : Memory) (held : Held) → held ≡ nothing → AllStay e (boot_outcomes h v from dump held ++ only (reply.ReadFault Same) (off held None))
 boots_stay e h v from dump nothing none = (inr (held_booted h v from dump, (λ is. is)), (inr (refl, (λ is. is)), tt))
 boots_stay e h v from dump (sure x) none = absurd (cc)
 boots_stay e h v from dump (maybe x) none = absurd (cc)
 
-boot_step_stays : (e : Event) (h : Hardware) (v : disk.Image) (from : BootFrom) (dump : Memory) (held : Held) (k : ℕ) → held ≡ nothing → AllStay e (boot_step h v from dump held k)
+boot_step_stays : (e : Event) (h : Hardware) (v : disk.DiskImage) (from : BootFrom) (dump : Memory) (held : Held) (k : ℕ) → held ≡ nothing → AllStay e (boot_step h v from dump held k)
 boot_step_stays e h v from dump held k none =
     let booted_or = boot_outcomes h v from dump held ++ only (reply.ReadFault Same) (off held None) in
     stay_either e (eqb k 0) (done_or (reply.More 1 2) (booting from dump held 1) (reply.SyncFault Same) (off held None)) (cond (eqb k 1) booted_or [])
@@ -116,7 +116,7 @@ load_fault_stays e load k none is =
     (stays_either e (eqb k 2) write (cond (eqb k 3) last_sync gone) (inr (unsure, (λ is. is)))
     (stays_either e (eqb k 3) last_sync gone (inr (unsure, (λ is. is))) (inr (refl, (λ is. is))))))
 
-find_stays : (e : Event) (h : Hardware) (v : disk.Image) (load : Load) (held : Held) → held ≡ nothing → AllStay e (find_step h v load held)
+find_stays : (e : Event) (h : Hardware) (v : disk.DiskImage) (load : Load) (held : Held) → held ≡ nothing → AllStay e (find_step h v load held)
 find_stays e h v load nothing none = (inr (refl, (λ is. is)), tt)
 find_stays e h v load (sure x) none = absurd (cc)
 find_stays e h v load (maybe x) none = absurd (cc)
@@ -126,7 +126,7 @@ loaded_stays e h load not_yet k is = tt
 loaded_stays e h load (found_own i) k is = absurd (cc)
 loaded_stays e h load (found_other v) k is = absurd (cc)
 
-load_step_stays : (e : Event) (h : Hardware) (v : disk.Image) (load : Load) (k : ℕ) → load.held ≡ nothing → load.found ≡ not_yet → AllStay e (load_step h v load k)
+load_step_stays : (e : Event) (h : Hardware) (v : disk.DiskImage) (load : Load) (k : ℕ) → load.held ≡ nothing → load.found ≡ not_yet → AllStay e (load_step h v load k)
 load_step_stays e h v load k none is =
     let first = only (reply.Loading 1) (loading load 1) in
     stay_either e (ltb k 4 || has_place h load load.found k) (load_fault load k ∷ load_answers h v load k) [] (
@@ -135,7 +135,7 @@ load_step_stays e h v load k none is =
           (stay_either e (eqb k 1) (find_step h v load load.held) (loaded_step h load load.found k) (find_stays e h v load load.held none) (loaded_stays e h load load.found k is)),
     ) tt
 
-core_stays : (e : Event) (h : Hardware) (v : disk.Image) (a : State) → IsSpent a → AllStay e (core_step h v a)
+core_stays : (e : Event) (h : Hardware) (v : disk.DiskImage) (a : State) → IsSpent a → AllStay e (core_step h v a)
 core_stays e h v (off held kept) spent = tt
 core_stays e h v (on a) spent = tt
 core_stays e h v (booting from dump held k) spent = boot_step_stays e h v from dump held k spent
@@ -165,7 +165,7 @@ holds_nothing (loading load k) spent =
     (either_nothing (eqb k 2) saved (cond (eqb k 3) (perhaps saved) nothing) none (either_nothing (eqb k 3) (perhaps saved) nothing (ap perhaps none) refl))
 holds_nothing (asleep i held a) spent = absurd spent
 
-accepted_stays : (h : Hardware) (v : disk.Image) (a : State) (e : Event) → IsSpent a → AllStay e (accepted h v a e)
+accepted_stays : (h : Hardware) (v : disk.DiskImage) (a : State) (e : Event) → IsSpent a → AllStay e (accepted h v a e)
 accepted_stays h v a (event.Boot from) spent = (inr (holds_nothing a spent, (λ is. is)), tt)
 accepted_stays h v a (event.Hibernate f) spent = if_running_stays (event.Hibernate f) a (begun h false f) spent (λ r none. (inl refl, tt))
 accepted_stays h v a (event.Suspend f) spent = if_running_stays (event.Suspend f) a (begun h true f) spent (λ r none. (inl refl, tt))
@@ -187,9 +187,9 @@ refused_or_stays : (e : Event) (a : State) (refused : Option Reply) (os : List O
 refused_or_stays e a (Some r) os spent none taken = (inr (spent, (λ is. none (resumed_goes_on r is))), tt)
 refused_or_stays e a None os spent none taken = taken
 
-all_stay : (h : Hardware) (v : disk.Image) (a : State) (e : Event) → IsSpent a → AllStay e (outcomes h v a e)
+all_stay : (h : Hardware) (v : disk.DiskImage) (a : State) (e : Event) → IsSpent a → AllStay e (outcomes h v a e)
 unfolding outcomes
 all_stay h v a e spent = refused_or_stays e a (refusal h a e) (accepted h v a e) spent (refusal_ends_none h a e) (accepted_stays h v a e spent)
 
-pub spent_stays : (h : Hardware) (v : disk.Image) (a : State) (e : Event) (r : Reply) (b : State) → Step h v a e r b → IsSpent a → Stays e (r, b)
+pub spent_stays : (h : Hardware) (v : disk.DiskImage) (a : State) (e : Event) (r : Reply) (b : State) → Step h v a e r b → IsSpent a → Stays e (r, b)
 spent_stays h v a e r b step spent = All-contains (Stays e) (outcomes h v a e) (r, b) (All-from_recursion (Stays e) (outcomes h v a e) (all_stay h v a e spent)) step

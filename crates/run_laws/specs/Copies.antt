@@ -30,7 +30,7 @@ IsRestored h before (asleep i held a) = ⊥
 -- A run from a to b, in which event k ends a resume: of the hibernations that were accepted before, the last was at this event. The run
 -- goes from a to the machine that hibernated, from there to what event k left, and on to b; and event k left what that machine had
 -- when its hibernation was accepted, at the atomic copy.
-pub record IsCopyOf (h : Hardware) (v : disk.Image) (a : State) (events : List Event) (replies : List Reply) (b : State) (k : ℕ) : Type 0 where
+pub record IsCopyOf (h : Hardware) (v : disk.DiskImage) (a : State) (events : List Event) (replies : List Reply) (b : State) (k : ℕ) : Type 0 where
   pub at : ℕ
   pub earlier : at < k
   pub hibernates : HibernatesAt events replies at
@@ -43,5 +43,5 @@ pub record IsCopyOf (h : Hardware) (v : disk.Image) (a : State) (events : List E
   pub restored : IsRestored h before after
 
 -- each resume of the run that ended restores so
-abbrev pub AllRestore : Hardware → disk.Image → State → List Event → List Reply → State → Type 0
+abbrev pub AllRestore : Hardware → disk.DiskImage → State → List Event → List Reply → State → Type 0
 AllRestore h v a events replies b = (k : ℕ) → ResumesAt replies k → IsCopyOf h v a events replies b k

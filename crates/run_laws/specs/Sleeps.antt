@@ -59,7 +59,7 @@ IsCutAt events k = (pick : ℕ) × (slice_get events k ≡ Some (event.Cut pick)
 
 -- A run from a to b, in which a machine wakes at event k: its suspend was accepted at the event `at`, no cut came since, and it goes on as it
 -- was before the suspend, with no image held. So no image of the disk is marked.
-pub record WakesAsBefore (h : Hardware) (v : disk.Image) (a : State) (events : List Event) (replies : List Reply) (b : State) (k : ℕ) : Type 0 where
+pub record WakesAsBefore (h : Hardware) (v : disk.DiskImage) (a : State) (events : List Event) (replies : List Reply) (b : State) (k : ℕ) : Type 0 where
   pub at : ℕ
   pub earlier : at < k
   pub suspends : SuspendsAt events replies at
@@ -78,7 +78,7 @@ HoldsOwn (maybe (own i)) = ⊤
 HoldsOwn (maybe other) = ⊥
 
 -- a run from a to b in which event k leaves a machine that is off, with this on the disk
-pub record LeavesOff (h : Hardware) (v : disk.Image) (a : State) (events : List Event) (replies : List Reply) (b : State) (k : ℕ) (held : Held) : Type 0 where
+pub record LeavesOff (h : Hardware) (v : disk.DiskImage) (a : State) (events : List Event) (replies : List Reply) (b : State) (k : ℕ) (held : Held) : Type 0 where
   pub kept : Option Memory
   pub leaves : Run h v a (take (suc k) events) (take (suc k) replies) (off held kept)
   pub ends : Run h v (off held kept) (drop (suc k) events) (drop (suc k) replies) b
@@ -87,7 +87,7 @@ pub record LeavesOff (h : Hardware) (v : disk.Image) (a : State) (events : List 
 -- wakes as it was before its suspend; and between its waking and the next resume that ends a hibernation is accepted. The first cut of a
 -- machine that sleeps leaves an image, surely or perhaps, and what a resume restores of it AllRestore says; one after it woke, and before a
 -- hibernation is accepted, leaves none.
-pub record NeverBothGoOn (h : Hardware) (v : disk.Image) (a : State) (events : List Event) (replies : List Reply) (b : State) : Type 0 where
+pub record NeverBothGoOn (h : Hardware) (v : disk.DiskImage) (a : State) (events : List Event) (replies : List Reply) (b : State) : Type 0 where
   pub asleep : (j k : ℕ) → j < k → FallsAsleepAt replies j → TaskGoesOnAt events replies k → (i : ℕ) × (j < i) × (i < k) × (WakesAt replies i ⊎ IsCutAt events i)
   pub wakes : (k : ℕ) → WakesAt replies k → WakesAsBefore h v a events replies b k
   pub spent : (j k : ℕ) → j < k → WakesAt replies j → ResumesAt replies k → (i : ℕ) × (j < i) × (i < k) × HibernatesAt events replies i

@@ -19,7 +19,7 @@ pub record IsSettled (r : Reading) (h : Hardware) : Type 0 where
   pub sound : is_faulty r.settings ≡ false
 
 -- what is read is what lines may give, and the hardware is known just where there is an event
-pub record IsReading (r : Reading) : Type 0 where
+pub record IsOfLines (r : Reading) : Type 0 where
   pub settings : AreFitting r.settings
   pub few : length r.events ≤ 100000
   pub fits : All IsFitting r.events

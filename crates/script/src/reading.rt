@@ -1,7 +1,7 @@
 ghost use Rattle.std.specs.Prelude.{◌≡◌, ◌+◌, ◌<◌, ◌≤◌, ◌∷◌, ◌++◌, All, IfOk, IfErr, IsNone, OnOk, length, true, false, Ok, Err, None, []};
 ghost use Rattle.plain_machine.specs.Fitting.{IsFitting};
 ghost use Rattle.script.specs.Grammar.{end_fault, events_of, kind_after, kind_by, line_count, line_item, script_by, script_of, setting_of, settings_behind, stop_at, IsFittingItem, StopsBy};
-ghost use Rattle.script.specs.Reading.{IsReading, IsSettled};
+ghost use Rattle.script.specs.Reading.{IsOfLines, IsSettled};
 ghost use Rattle.script.specs.Settings.{hardware_by, is_faulty, IsLastPage};
 ghost use Rattle.script.specs.Shapes.{IsScripted};
 ghost use Rattle.script.specs.declared.fault.ScriptFault.{ScriptFault};
@@ -90,7 +90,7 @@ impl Reader {
     fn new(alloc: Global) -> Reader
         ensures settings { result.settings ≡ by_kind [] }
         ensures events { result.events ≡ [] }
-        ensures reading { IsReading result }
+        ensures reading { IsOfLines result }
     {
         Reader {
             settings: Settings::new(alloc),
@@ -102,10 +102,10 @@ impl Reader {
     /// Adds so many times an event. The first of all needs settings that describe a machine.
     fn add_events(&mut self, count: u32, event: Event) -> Result<(), LineStop>
         requires fits { IsFittingItem (Item.Events count event) }
-        requires reading { IsReading self.old }
+        requires reading { IsOfLines self.old }
         ensures settings { OnOk result (self.new.settings ≡ self.old.settings) }
         ensures events { OnOk result (self.new.events ≡ self.old.events ++ events_of (Ok (Item.Events count event))) }
-        ensures reading { OnOk result (IsReading self.new) }
+        ensures reading { OnOk result (IsOfLines self.new) }
         ensures none { OnOk result (kind_by self.old.settings self.old.events (Ok (Item.Events count event)) ≡ None) }
         ensures fault { IfErr result (StopsBy (kind_by self.old.settings self.old.events (Ok (Item.Events count event)))) }
     {
@@ -124,11 +124,11 @@ impl Reader {
     /// Adds what a line says.
     fn add(&mut self, item: Item) -> Result<(), LineStop>
         requires fits { IsFittingItem item }
-        requires reading { IsReading self.old }
+        requires reading { IsOfLines self.old }
         requires early { 0 < length self.old.events → setting_of (Ok item) ≡ None }
         ensures settings { OnOk result (self.new.settings ≡ settings_behind (Ok item) self.old.settings) }
         ensures events { OnOk result (self.new.events ≡ self.old.events ++ events_of (Ok item)) }
-        ensures reading { OnOk result (IsReading self.new) }
+        ensures reading { OnOk result (IsOfLines self.new) }
         ensures none { OnOk result (kind_by self.old.settings self.old.events (Ok item) ≡ None) }
         ensures fault { IfErr result (StopsBy (kind_by self.old.settings self.old.events (Ok item))) }
     {
@@ -141,10 +141,10 @@ impl Reader {
 
     /// Adds what one more line says.
     fn read(&mut self, line: &[u8]) -> Result<(), LineStop>
-        requires { IsReading self.old }
+        requires { IsOfLines self.old }
         ensures settings { OnOk result (self.new.settings ≡ settings_behind (line_item false line.now) self.old.settings) }
         ensures events { OnOk result (self.new.events ≡ self.old.events ++ events_of (line_item false line.now)) }
-        ensures reading { OnOk result (IsReading self.new) }
+        ensures reading { OnOk result (IsOfLines self.new) }
         ensures none { OnOk result (kind_after self.old.settings self.old.events line.now ≡ None) }
         ensures fault { IfErr result (StopsBy (kind_after self.old.settings self.old.events line.now)) }
     {
@@ -154,7 +154,7 @@ impl Reader {
 
     /// What the script is read as. `behind` is the number of the line behind its last.
     fn finish(self, behind: u32) -> Result<Script, ScriptFault>
-        requires { IsReading self }
+        requires { IsOfLines self }
         ensures script { IfOk result (λ script. script ≡ script_by self.settings self.events) }
         ensures none { IfOk result (λ script. end_fault behind self.settings self.events ≡ []) }
         ensures sound { IfOk result (λ script. is_faulty self.settings ≡ false) }

@@ -3,28 +3,28 @@ use Rattle.std.proofs.Common.{◌≡◌, ℕ, Result, Ok, Err, OnOk, OnErr, ◌+
 use Rattle.std.specs.List.{concat}
 use Rattle.std.proofs.lemmas.List.{get_or_past}
 use Rattle.std.proofs.lemmas.Bool.{cases_lt}
-use Rattle.definitions.specs.Disk.{no_sector, sector, Image, as_it_reads, settled, block, SameOutside, TakesBytes, Writes, FailsToWrite, Restarts, Syncs, sector_bytes}
+use Rattle.definitions.specs.Disk.{no_sector, sector, DiskImage, as_it_reads, settled, block, SameOutside, TakesBytes, Writes, FailsToWrite, Restarts, Syncs, sector_bytes}
 use Rattle.sector_disk.specs.Sectors.{candidates_of, content_of, picks, IsPicked, TakesPage, TakesPicked, SameOutsideBlock, SameOutsideRange}
 use Rattle.sector_disk.specs.ContentLaws.{candidates_of-are, candidates_of-live, candidates_of-durable, candidates_of-same, length-content_of, get_or-content_of}
 
-pub as_it_reads-content_of : (durable live : Image) → length durable ≡ length live → as_it_reads (content_of durable live) ≡ live
+pub as_it_reads-content_of : (durable live : DiskImage) → length durable ≡ length live → as_it_reads (content_of durable live) ≡ live
 as_it_reads-content_of [] [] n = refl
 as_it_reads-content_of [] (l ∷ live) n = absurd (omega arith)
 as_it_reads-content_of (d ∷ durable) [] n = absurd (omega arith)
 as_it_reads-content_of (d ∷ durable) (l ∷ live) n = ap (λ xs. l ∷ xs) (as_it_reads-content_of durable live (omega arith))
 
 -- where each sector is durable there is one image
-pub content_of-settled : (live : Image) → content_of live live ≡ settled live
+pub content_of-settled : (live : DiskImage) → content_of live live ≡ settled live
 content_of-settled [] = refl
 content_of-settled (l ∷ live) = rw (candidates_of-same l, content_of-settled live) refl
 
 -- a block as the disk reads
-pub block-content_of : (durable live : Image) (b : ℕ) → length durable ≡ length live → block (as_it_reads (content_of durable live)) b ≡ concat (take 8 (drop (8 * b) live))
+pub block-content_of : (durable live : DiskImage) (b : ℕ) → length durable ≡ length live → block (as_it_reads (content_of durable live)) b ≡ concat (take 8 (drop (8 * b) live))
 unfolding block
 block-content_of durable live b n = ap (λ xs. concat (take 8 (drop (8 * b) xs))) (as_it_reads-content_of durable live n)
 
 -- a sector whose live bytes stay
-same_sector : (durable old new : Image) (s : ℕ) → length durable ≡ length old → length new ≡ length old → get_or new s [] ≡ get_or old s [] →
+same_sector : (durable old new : DiskImage) (s : ℕ) → length durable ≡ length old → length new ≡ length old → get_or new s [] ≡ get_or old s [] →
     sector (content_of durable new) s ≡ sector (content_of durable old) s
 same_sector durable old new s n m same =
     elim (cases_lt s (length old)) [
@@ -48,7 +48,7 @@ takes_live d l l' bytes e = record {
 }
 
 -- a sector that takes bytes
-takes_bytes : (durable old new : Image) (s : ℕ) (bytes : List ℕ) → length durable ≡ length old → length new ≡ length old → s < length old → get_or new s [] ≡ bytes →
+takes_bytes : (durable old new : DiskImage) (s : ℕ) (bytes : List ℕ) → length durable ≡ length old → length new ≡ length old → s < length old → get_or new s [] ≡ bytes →
     TakesBytes bytes (sector (content_of durable old) s) (sector (content_of durable new) s)
 takes_bytes durable old new s bytes n m lt same =
     subst (λ a. TakesBytes bytes a (sector (content_of durable new) s))
@@ -57,26 +57,26 @@ takes_bytes durable old new s bytes n m lt same =
     (sym (get_or-content_of durable new s no_sector (omega arith) (omega arith)))
     (takes_live (get_or durable s []) (get_or old s []) (get_or new s []) bytes same))
 
-same_outside : (durable old new : Image) (b : ℕ) → length durable ≡ length old → SameOutsideBlock b old new → SameOutside b (content_of durable old) (content_of durable new)
+same_outside : (durable old new : DiskImage) (b : ℕ) → length durable ≡ length old → SameOutsideBlock b old new → SameOutside b (content_of durable old) (content_of durable new)
 same_outside durable old new b n others = record {
   size = length-content_of durable new (n ∙ sym others.size) ∙ others.size ∙ sym (length-content_of durable old n);
   below = λ s lt. same_sector durable old new s n others.size (others.below s lt);
   above = λ s ge. same_sector durable old new s n others.size (others.above s ge);
 }
 
-pub writes : (durable old new : Image) (b : ℕ) (page : List ℕ) → length durable ≡ length old → 8 * b + 8 ≤ length old → SameOutsideBlock b old new → TakesPage b page new →
+pub writes : (durable old new : DiskImage) (b : ℕ) (page : List ℕ) → length durable ≡ length old → 8 * b + 8 ≤ length old → SameOutsideBlock b old new → TakesPage b page new →
     Writes b page (content_of durable old) (content_of durable new)
 writes durable old new b page n le others within = record {
   others = same_outside durable old new b n others;
   within = λ j lt. takes_bytes durable old new (8 * b + j) (sector_bytes page j) n others.size (omega arith) (within j lt);
 }
 
-fails_sector : (t : Bool) (durable old new : Image) (s : ℕ) (bytes : List ℕ) → length durable ≡ length old → length new ≡ length old → s < length old → get_or new s [] ≡ cond t bytes (get_or old s []) →
+fails_sector : (t : Bool) (durable old new : DiskImage) (s : ℕ) (bytes : List ℕ) → length durable ≡ length old → length new ≡ length old → s < length old → get_or new s [] ≡ cond t bytes (get_or old s []) →
     (sector (content_of durable new) s ≡ sector (content_of durable old) s) ⊎ TakesBytes bytes (sector (content_of durable old) s) (sector (content_of durable new) s)
 fails_sector true durable old new s bytes n m lt same = inr (takes_bytes durable old new s bytes n m lt same)
 fails_sector false durable old new s bytes n m lt same = inl (same_sector durable old new s n m same)
 
-pub fails_to_write : (durable old new : Image) (b pick : ℕ) (page : List ℕ) → length durable ≡ length old → 8 * b + 8 ≤ length old → SameOutsideBlock b old new → TakesPicked pick b page old new →
+pub fails_to_write : (durable old new : DiskImage) (b pick : ℕ) (page : List ℕ) → length durable ≡ length old → 8 * b + 8 ≤ length old → SameOutsideBlock b old new → TakesPicked pick b page old new →
     FailsToWrite b page (content_of durable old) (content_of durable new)
 fails_to_write durable old new b pick page n le others within = record {
   others = same_outside durable old new b n others;
@@ -87,7 +87,7 @@ picked_candidate : (t : Bool) (d l x : List ℕ) → x ≡ cond t l d → Contai
 picked_candidate true d l x e = subst (Contains (candidates_of d l)) (sym e) (candidates_of-live d l)
 picked_candidate false d l x e = subst (Contains (candidates_of d l)) (sym e) (candidates_of-durable d l)
 
-pub restarts : (durable old new : Image) (pick : ℕ) → length durable ≡ length old → IsPicked pick durable old new → Restarts (content_of durable old) (content_of new new)
+pub restarts : (durable old new : DiskImage) (pick : ℕ) → length durable ≡ length old → IsPicked pick durable old new → Restarts (content_of durable old) (content_of new new)
 restarts durable old new pick n picked = (
   new,
   record {
@@ -102,13 +102,13 @@ restarts durable old new pick n picked = (
 )
 
 -- the sectors that may differ after a write
-pub same_outside_more : (low high b : ℕ) (durable old new : Image) → SameOutsideRange low high durable old → SameOutsideBlock b old new → SameOutsideRange (min low (8 * b)) (max high (8 * b + 8)) durable new
+pub same_outside_more : (low high b : ℕ) (durable old new : DiskImage) → SameOutsideRange low high durable old → SameOutsideBlock b old new → SameOutsideRange (min low (8 * b)) (max high (8 * b + 8)) durable new
 same_outside_more low high b durable old new outside others = record {
   below = λ s lt. outside.below s (omega arith) ∙ sym (others.below s (omega arith));
   above = λ s ge. outside.above s (omega arith) ∙ sym (others.above s (omega arith));
 }
 
-pub block_is : (durable live part : Image) (b : ℕ) → length durable ≡ length live → part ≡ take (8 * b + 8 - 8 * b) (drop (8 * b) live) → concat part ≡ block (as_it_reads (content_of durable live)) b
+pub block_is : (durable live part : DiskImage) (b : ℕ) → length durable ≡ length live → part ≡ take (8 * b + 8 - 8 * b) (drop (8 * b) live) → concat part ≡ block (as_it_reads (content_of durable live)) b
 block_is durable live part b n e =
     let width : 8 * b + 8 - 8 * b ≡ 8 = omega arith in
     ap concat (e ∙ ap (λ k. take k (drop (8 * b) live)) width) ∙ sym (block-content_of durable live b n)
@@ -123,24 +123,24 @@ pub on_err : {T E P : Type 0} (r : Result T E) → P → OnErr r P
 on_err (Ok v) p = tt
 on_err (Err e) p = p
 
-pub writes_lent : (durable old seen new kept : Image) (b : ℕ) (page : List ℕ) → seen ≡ old → kept ≡ new → length durable ≡ length old → 8 * b + 8 ≤ length old → SameOutsideBlock b seen new → TakesPage b page new →
+pub writes_lent : (durable old seen new kept : DiskImage) (b : ℕ) (page : List ℕ) → seen ≡ old → kept ≡ new → length durable ≡ length old → 8 * b + 8 ≤ length old → SameOutsideBlock b seen new → TakesPage b page new →
     Writes b page (content_of durable old) (content_of durable kept)
 writes_lent durable old seen new kept b page e k n le others within =
-    subst (λ (xs : Image). Writes b page (content_of durable old) (content_of durable xs)) (sym k) (writes durable old new b page n le (subst (λ (xs : Image). SameOutsideBlock b xs new) e others) within)
+    subst (λ (xs : DiskImage). Writes b page (content_of durable old) (content_of durable xs)) (sym k) (writes durable old new b page n le (subst (λ (xs : DiskImage). SameOutsideBlock b xs new) e others) within)
 
-pub fails_to_write_lent : (durable old seen new kept : Image) (b pick : ℕ) (page : List ℕ) → seen ≡ old → kept ≡ new → length durable ≡ length old → 8 * b + 8 ≤ length old → SameOutsideBlock b seen new → TakesPicked pick b page seen new →
+pub fails_to_write_lent : (durable old seen new kept : DiskImage) (b pick : ℕ) (page : List ℕ) → seen ≡ old → kept ≡ new → length durable ≡ length old → 8 * b + 8 ≤ length old → SameOutsideBlock b seen new → TakesPicked pick b page seen new →
     FailsToWrite b page (content_of durable old) (content_of durable kept)
 fails_to_write_lent durable old seen new kept b pick page e k n le others within =
-    subst (λ (xs : Image). FailsToWrite b page (content_of durable old) (content_of durable xs)) (sym k)
-    (fails_to_write durable old new b pick page n le (subst (λ (xs : Image). SameOutsideBlock b xs new) e others) (subst (λ (xs : Image). TakesPicked pick b page xs new) e within))
+    subst (λ (xs : DiskImage). FailsToWrite b page (content_of durable old) (content_of durable xs)) (sym k)
+    (fails_to_write durable old new b pick page n le (subst (λ (xs : DiskImage). SameOutsideBlock b xs new) e others) (subst (λ (xs : DiskImage). TakesPicked pick b page xs new) e within))
 
-pub syncs_lent : (durable live kept : Image) → length durable ≡ length live → kept ≡ live → Syncs (content_of durable live) (content_of kept live)
+pub syncs_lent : (durable live kept : DiskImage) → length durable ≡ length live → kept ≡ live → Syncs (content_of durable live) (content_of kept live)
 syncs_lent durable live kept n k =
-    ap (λ (xs : Image). content_of xs live) k ∙ content_of-settled live ∙ ap settled (sym (as_it_reads-content_of durable live n))
+    ap (λ (xs : DiskImage). content_of xs live) k ∙ content_of-settled live ∙ ap settled (sym (as_it_reads-content_of durable live n))
 
-pub restarts_lent : (durable old seen_durable seen_live new kept_durable kept_live : Image) (pick : ℕ) → seen_durable ≡ durable → seen_live ≡ old → kept_durable ≡ new → kept_live ≡ new → length durable ≡ length old → IsPicked pick seen_durable seen_live new →
+pub restarts_lent : (durable old seen_durable seen_live new kept_durable kept_live : DiskImage) (pick : ℕ) → seen_durable ≡ durable → seen_live ≡ old → kept_durable ≡ new → kept_live ≡ new → length durable ≡ length old → IsPicked pick seen_durable seen_live new →
     Restarts (content_of durable old) (content_of kept_durable kept_live)
 restarts_lent durable old seen_durable seen_live new kept_durable kept_live pick ed eo kd kl n picked =
-    subst (λ (xs : Image). Restarts (content_of durable old) (content_of xs kept_live)) (sym kd)
-    (subst (λ (xs : Image). Restarts (content_of durable old) (content_of new xs)) (sym kl)
-    (restarts durable old new pick n (subst (λ (xs : Image). IsPicked pick xs old new) ed (subst (λ (xs : Image). IsPicked pick seen_durable xs new) eo picked))))
+    subst (λ (xs : DiskImage). Restarts (content_of durable old) (content_of xs kept_live)) (sym kd)
+    (subst (λ (xs : DiskImage). Restarts (content_of durable old) (content_of new xs)) (sym kl)
+    (restarts durable old new pick n (subst (λ (xs : DiskImage). IsPicked pick xs old new) ed (subst (λ (xs : DiskImage). IsPicked pick seen_durable xs new) eo picked))))

@@ -7,37 +7,37 @@ use Rattle.std.specs.Simd.{first_chunks}
 use Rattle.std.proofs.lemmas.Slice.{between-put_mid}
 use Rattle.std.proofs.Math.Nat.{mul-le-mul_left}
 use borrow.Rule.Slice.PartMut.{put_mid}
-use Rattle.definitions.specs.Disk.{Image, sector_bytes}
+use Rattle.definitions.specs.Disk.{DiskImage, sector_bytes}
 use Rattle.sector_disk.specs.Sectors.{SameOutsideRange, IsPickedFrom, picks, TakesPage, TakesPicked}
 
 -- where the range is empty, they are the same
-pub same_everywhere : (low high : ℕ) (durable live : Image) → length durable ≡ length live → SameOutsideRange low high durable live → high ≤ low → durable ≡ live
+pub same_everywhere : (low high : ℕ) (durable live : DiskImage) → length durable ≡ length live → SameOutsideRange low high durable live → high ≤ low → durable ≡ live
 same_everywhere low high durable live n outside le = ext_get_or [] durable live n (λ s lt. grind (arith, outside.below s, outside.above s))
 
 -- what lies outside of a range is the same, whatever is put into it
-pub same_outside_put : (low high : ℕ) (durable live ys : Image) → length durable ≡ length live → SameOutsideRange low high durable live → low < high → high ≤ length live → length ys ≡ high - low →
+pub same_outside_put : (low high : ℕ) (durable live ys : DiskImage) → length durable ≡ length live → SameOutsideRange low high durable live → low < high → high ≤ length live → length ys ≡ high - low →
     put_mid low (high - low) durable ys ≡ put_mid low (high - low) live ys
 same_outside_put low high durable live ys n outside lt le m =
     ext_get_or [] (put_mid low (high - low) durable ys) (put_mid low (high - low) live ys) (grind (arith, common_steps, places)) (λ s below. grind (arith, places, outside.below s, outside.above s))
 
 -- a range put back
-pub put_back : (low high : ℕ) (live : Image) → low < high → high ≤ length live → put_mid low (high - low) live (take (high - low) (drop low live)) ≡ live
+pub put_back : (low high : ℕ) (live : DiskImage) → low < high → high ≤ length live → put_mid low (high - low) live (take (high - low) (drop low live)) ≡ live
 put_back low high live lt le =
     ext_get_or [] (put_mid low (high - low) live (take (high - low) (drop low live))) live (grind (arith, common_steps, places)) (λ s below. grind (arith, places))
 
 -- where a run is put into both, they are the same
-pub same_both_put : (low high : ℕ) (durable live ys zs : Image) → length durable ≡ length live → SameOutsideRange low high durable live → low < high → high ≤ length live → length ys ≡ high - low →
+pub same_both_put : (low high : ℕ) (durable live ys zs : DiskImage) → length durable ≡ length live → SameOutsideRange low high durable live → low < high → high ≤ length live → length ys ≡ high - low →
     zs ≡ take (high - low) (drop low (put_mid low (high - low) durable ys)) → put_mid low (high - low) durable ys ≡ put_mid low (high - low) live zs
 same_both_put low high durable live ys zs n outside lt le m e =
     same_outside_put low high durable live ys n outside lt le m
     ∙ ap (put_mid low (high - low) live) (sym (e ∙ between-put_mid low (high - low) durable ys high (omega arith) m))
 
 -- a part of a run has its length
-pub length_part : (low high : ℕ) (live : Image) → low < high → high ≤ length live → length (take (high - low) (drop low live)) ≡ high - low
+pub length_part : (low high : ℕ) (live : DiskImage) → low < high → high ≤ length live → length (take (high - low) (drop low live)) ≡ high - low
 length_part low high live lt le = grind (arith, common_steps)
 
 -- what holds of each sector and of each that is put in holds afterwards
-pub All-put_mid : (P : List ℕ → Type 0) (a k : ℕ) (xs ys : Image) → All P xs → All P ys → All P (put_mid a k xs ys)
+pub All-put_mid : (P : List ℕ → Type 0) (a k : ℕ) (xs ys : DiskImage) → All P xs → All P ys → All P (put_mid a k xs ys)
 All-put_mid P a k xs ys hx hy = All-append P (take a xs) (ys ++ drop k (drop a xs)) (All-take P a xs hx) (All-append P ys (drop k (drop a xs)) hy (All-drop P k (drop a xs) (All-drop P a xs hx)))
 
 -- sector j of a page
@@ -58,7 +58,7 @@ first_chunks-whole n k page le = λ j d lt.
     rw (get_or-first_chunks n k j page d below) (length-take-le n (drop (n * j) page) (omega (arith, length-drop (n * j) page)))
 
 -- the bytes of each sector that is read
-pub All-from_nil : (P : List ℕ → Type 0) (xs : Image) → ((i : ℕ) → i < length xs → P (get_or xs i [])) → All P xs
+pub All-from_nil : (P : List ℕ → Type 0) (xs : DiskImage) → ((i : ℕ) → i < length xs → P (get_or xs i [])) → All P xs
 All-from_nil P xs h = λ i d lt. subst P (get_or_default xs i [] d lt) (h i lt)
 
 -- a choice of each sector has what both have
@@ -66,27 +66,27 @@ chosen_has : (P : List ℕ → Type 0) (b : Bool) (x y : List ℕ) → P x → P
 chosen_has P true x y hx hy = hx
 chosen_has P false x y hx hy = hy
 
-pub All-picked : (P : List ℕ → Type 0) (first pick : ℕ) (old new image : Image) → IsPickedFrom first pick old new image → length new ≡ length old → All P old → All P new → All P image
+pub All-picked : (P : List ℕ → Type 0) (first pick : ℕ) (old new image : DiskImage) → IsPickedFrom first pick old new image → length new ≡ length old → All P old → All P new → All P image
 All-picked P first pick old new image picked n ho hn =
     All-from_nil P image
     (λ i lt.
     subst P (sym (picked.each i lt))
     (chosen_has P (picks pick (first + i)) (get_or new i []) (get_or old i []) (hn i [] (omega (arith, picked.size))) (ho i [] (omega (arith, picked.size)))))
 
-pub get_or-put_mid : (a k j : ℕ) (xs ys : Image) (d : List ℕ) → a ≤ length xs → j < length ys → get_or (put_mid a k xs ys) (a + j) d ≡ get_or ys j d
+pub get_or-put_mid : (a k j : ℕ) (xs ys : DiskImage) (d : List ℕ) → a ≤ length xs → j < length ys → get_or (put_mid a k xs ys) (a + j) d ≡ get_or ys j d
 get_or-put_mid a k j xs ys d le lt = grind (arith, places)
 
-get_or-part : (a k j : ℕ) (xs : Image) (d : List ℕ) → j < k → get_or (take k (drop a xs)) j d ≡ get_or xs (a + j) d
+get_or-part : (a k j : ℕ) (xs : DiskImage) (d : List ℕ) → j < k → get_or (take k (drop a xs)) j d ≡ get_or xs (a + j) d
 get_or-part a k j xs d lt = get_or-take k (drop a xs) j d lt ∙ get_or-drop a xs j d
 
 -- the sectors of a block after a write
-pub takes_page : (b : ℕ) (page : List ℕ) (old part : Image) → 8 * b + 8 ≤ length old → part ≡ first_chunks 512 8 page → TakesPage b page (put_mid (8 * b) (8 * b + 8 - 8 * b) old part)
+pub takes_page : (b : ℕ) (page : List ℕ) (old part : DiskImage) → 8 * b + 8 ≤ length old → part ≡ first_chunks 512 8 page → TakesPage b page (put_mid (8 * b) (8 * b + 8 - 8 * b) old part)
 takes_page b page old part le e j lt =
     get_or-put_mid (8 * b) (8 * b + 8 - 8 * b) j old part [] (omega arith) (omega (arith, ap length e))
     ∙ ap (λ xs. get_or xs j []) e
     ∙ get_or-first_chunks 512 8 j page [] lt
 
-pub takes_picked : (pick b : ℕ) (page : List ℕ) (old new part : Image) → 8 * b + 8 ≤ length old → new ≡ first_chunks 512 8 page → IsPickedFrom (8 * b) pick (take (8 * b + 8 - 8 * b) (drop (8 * b) old)) new part →
+pub takes_picked : (pick b : ℕ) (page : List ℕ) (old new part : DiskImage) → 8 * b + 8 ≤ length old → new ≡ first_chunks 512 8 page → IsPickedFrom (8 * b) pick (take (8 * b + 8 - 8 * b) (drop (8 * b) old)) new part →
     TakesPicked pick b page old (put_mid (8 * b) (8 * b + 8 - 8 * b) old part)
 takes_picked pick b page old new part le e picked j lt =
     let long : j < length part = omega (arith, picked.size, length_part (8 * b) (8 * b + 8) old (omega arith) le) in

@@ -3,7 +3,7 @@ use Rattle.std.proofs.Common.{◌≡◌, ℕ, ◌*◌, ◌<◌, ◌⊎◌, zero,
 use Rattle.std.proofs.lemmas.Slice.Eq.{bytes_eq-Decides}
 use Rattle.std.proofs.lemmas.List.{get_or_default}
 use Rattle.std.specs.Str.{bytes_eq}
-use Rattle.definitions.specs.Disk.{Sector, Image, IsSector, IsContent}
+use Rattle.definitions.specs.Disk.{Sector, DiskImage, IsSector, IsContent}
 use Rattle.sector_disk.specs.Sectors.{candidates_of, content_of, AreSectors}
 
 -- one or two candidates
@@ -46,13 +46,13 @@ pub candidates_of-same : (l : List ℕ) → candidates_of l l ≡ l ∷ []
 unfolding candidates_of
 candidates_of-same l = rw ((bytes_eq-Decides l l).1 refl) refl
 
-pub length-content_of : (durable live : Image) → length durable ≡ length live → length (content_of durable live) ≡ length live
+pub length-content_of : (durable live : DiskImage) → length durable ≡ length live → length (content_of durable live) ≡ length live
 length-content_of [] [] h = refl
 length-content_of [] (l ∷ live) h = absurd (omega arith)
 length-content_of (d ∷ durable) [] h = absurd (omega arith)
 length-content_of (d ∷ durable) (l ∷ live) h = ap suc (length-content_of durable live (omega arith))
 
-pub get_or-content_of : (durable live : Image) (s : ℕ) (e : Sector) → s < length durable → s < length live → get_or (content_of durable live) s e ≡ record { live = get_or live s []; candidates = candidates_of (get_or durable s []) (get_or live s []) }
+pub get_or-content_of : (durable live : DiskImage) (s : ℕ) (e : Sector) → s < length durable → s < length live → get_or (content_of durable live) s e ≡ record { live = get_or live s []; candidates = candidates_of (get_or durable s []) (get_or live s []) }
 get_or-content_of [] live s e hd hl = absurd (omega arith)
 get_or-content_of (d ∷ durable) [] s e hd hl = absurd (omega arith)
 get_or-content_of (d ∷ durable) (l ∷ live) zero e hd hl = refl
@@ -71,7 +71,7 @@ is_sector d l hd hl = record {
 }
 
 -- the content of a disk of so many blocks
-pub content_of-is : (blocks : ℕ) (durable live : Image) → AreSectors (8 * blocks) durable → AreSectors (8 * blocks) live → IsContent blocks (content_of durable live)
+pub content_of-is : (blocks : ℕ) (durable live : DiskImage) → AreSectors (8 * blocks) durable → AreSectors (8 * blocks) live → IsContent blocks (content_of durable live)
 content_of-is blocks durable live hd hl = record {
   size = length-content_of durable live (hd.size ∙ sym hl.size) ∙ hl.size;
   sectors = λ k e lt.

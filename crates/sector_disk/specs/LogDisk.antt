@@ -1,6 +1,6 @@
 -- What contracts say of a disk in memory that records its calls, beside what it tells as a disk.
 use Rattle.std.specs.Prelude.{◌≡◌, ℕ, ◌+◌, ◌*◌, ◌<◌, ◌≤◌, ◌↔◌, List, [], length, replicate, Result, OnOk, OnErr}
-use Rattle.definitions.specs.Disk.{Content, Image, raised}
+use Rattle.definitions.specs.Disk.{Content, DiskImage, raised}
 use Rattle.sector_disk.specs.Calls.{IsDue}
 use Rattle.sector_disk.specs.Recorded.{held_after, WasLeft}
 use Rattle.sector_disk.specs.declared.log_disk.LogDisk.{LogDisk}
@@ -23,7 +23,7 @@ abbrev pub order_count : LogDisk → ℕ
 order_count d = d.disk.orders
 
 -- the sectors as the last restart left them
-abbrev pub first_sectors : LogDisk → Image
+abbrev pub first_sectors : LogDisk → DiskImage
 first_sectors d = d.start.items
 
 -- its writes and syncs since the last restart
@@ -39,11 +39,11 @@ abbrev pub IsFull : LogDisk → Type 0
 IsFull d = room d ≤ length (recorded d)
 
 -- the sectors as the last sync or restart left them
-abbrev pub durable_sectors : LogDisk → Image
+abbrev pub durable_sectors : LogDisk → DiskImage
 durable_sectors d = d.disk.durable.items
 
 -- the sectors as a read gives them
-abbrev pub live_sectors : LogDisk → Image
+abbrev pub live_sectors : LogDisk → DiskImage
 live_sectors d = d.disk.live.items
 
 -- what it tells of its content
@@ -55,7 +55,7 @@ abbrev pub moment : LogDisk → ℕ
 moment d = length (recorded d)
 
 -- what a power cut since a moment might have left
-abbrev pub left_since : LogDisk → ℕ → Image → Type 0
+abbrev pub left_since : LogDisk → ℕ → DiskImage → Type 0
 left_since d = WasLeft (first_sectors d) (recorded d)
 
 -- the call number k from now is to fail; the next one has number 1

@@ -1,6 +1,6 @@
 -- What contracts say of a disk in memory, beside what it tells as a disk.
 use Rattle.std.specs.Prelude.{◌≡◌, ℕ, ◌+◌, ◌*◌, ◌<◌, ◌≤◌, ◌↔◌, replicate, Result, IsErr, OnOk, OnErr}
-use Rattle.definitions.specs.Disk.{Content, Image, raised}
+use Rattle.definitions.specs.Disk.{Content, DiskImage, raised}
 use Rattle.sector_disk.specs.Calls.{IsDue}
 use Rattle.sector_disk.specs.Sectors.{content_of}
 use Rattle.sector_disk.specs.declared.mem_disk.MemDisk.{MemDisk}
@@ -22,11 +22,11 @@ abbrev pub order_count : MemDisk → ℕ
 order_count d = d.orders
 
 -- the sectors as the last sync or restart left them
-abbrev pub durable_sectors : MemDisk → Image
+abbrev pub durable_sectors : MemDisk → DiskImage
 durable_sectors d = d.durable.items
 
 -- the sectors as a read gives them
-abbrev pub live_sectors : MemDisk → Image
+abbrev pub live_sectors : MemDisk → DiskImage
 live_sectors d = d.live.items
 
 -- what it tells of its content

@@ -6,7 +6,7 @@ use Rattle.std.proofs.lemmas.List.Sums.{fold_push}
 use Rattle.std.proofs.lemmas.Bool.{cases_lt, lt-ltb, le-ltb, le-leb, lt-leb, and_left, and_right, and_from, and_parts, leb-true, ltb-true, cond_both}
 use Rattle.std.proofs.lemmas.List.Elements.{All-head, All-tail}
 use Rattle.std.specs.List.{fold}
-use Rattle.definitions.specs.Disk.{Sector, Content, Image, no_sector, sector, as_it_reads, settled, sector_bytes, IsSector, IsContent, IsImage, IsMixture, SameOutside, TakesBytes, Writes, FailsToWrite}
+use Rattle.definitions.specs.Disk.{Sector, Content, DiskImage, no_sector, sector, as_it_reads, settled, sector_bytes, IsSector, IsContent, IsImage, IsMixture, SameOutside, TakesBytes, Writes, FailsToWrite}
 use Rattle.definitions.proofs.DiskLaws.{length-settled, length-as_it_reads}
 use Rattle.sector_disk.specs.Recorded.{lies_in, with_live, sector_after, written, after, held_after, held_at, WasLeft, as_synced, page_size}
 use Rattle.sector_disk.specs.Sectors.{picks, AreSectors}
@@ -113,7 +113,7 @@ one_whole x size = record { each = one_each x size; live = (0, omega arith, refl
   one_each x size zero d lt = size
   one_each x size (suc k) d lt = absurd (omega arith)
 
-pub IsContent-settled : (blocks : ℕ) (v : Image) → AreSectors (8 * blocks) v → IsContent blocks (settled v)
+pub IsContent-settled : (blocks : ℕ) (v : DiskImage) → AreSectors (8 * blocks) v → IsContent blocks (settled v)
 IsContent-settled blocks v whole = record {
   size = length-settled v ∙ whole.size;
   sectors = λ s d lt.
@@ -138,9 +138,9 @@ synced_at (x ∷ c) (suc s) = synced_at c s
 pub length-as_synced : (c : Content) → length (as_synced c) ≡ length c
 length-as_synced c = length-map c _
 
-pub as_synced-settled : (v : Image) → as_synced (settled v) ≡ v
+pub as_synced-settled : (v : DiskImage) → as_synced (settled v) ≡ v
 as_synced-settled [] = refl
-as_synced-settled (x ∷ v) = ap (λ (w : Image). x ∷ w) (as_synced-settled v)
+as_synced-settled (x ∷ v) = ap (λ (w : DiskImage). x ∷ w) (as_synced-settled v)
 
 live_whole : (x : Sector) → IsSector x → length x.live ≡ 512
 live_whole x whole = has_length x.candidates x.live whole.each whole.live where
@@ -178,7 +178,7 @@ pub IsContent-fold : (blocks : ℕ) (c : Content) (log : List Recorded) → All 
 IsContent-fold blocks c [] sizes whole = whole
 IsContent-fold blocks c (r ∷ log) sizes whole = IsContent-fold blocks (after c r) log (All-tail (λ q. page_size q ≡ 4096) r log sizes) (IsContent-after blocks c r (All-head (λ q. page_size q ≡ 4096) r log sizes) whole)
 
-pub held_whole : (blocks : ℕ) (start : Image) (log : List Recorded) → AreSectors (8 * blocks) start → All (λ r. page_size r ≡ 4096) log → IsContent blocks (held_after start log)
+pub held_whole : (blocks : ℕ) (start : DiskImage) (log : List Recorded) → AreSectors (8 * blocks) start → All (λ r. page_size r ≡ 4096) log → IsContent blocks (held_after start log)
 held_whole blocks start log whole sizes = IsContent-fold blocks (settled start) log sizes (IsContent-settled blocks start whole)
 
 -- Moments.
@@ -189,32 +189,32 @@ length-after c (FailedWrite b page pick) = length-written (picks pick) b page c
 length-after c Sync = length-settled (as_it_reads c) ∙ length-as_it_reads c
 length-after c FailedSync = refl
 
-pub held_after-push : (start : Image) (log : List Recorded) (r : Recorded) → held_after start (log ++ r ∷ []) ≡ after (held_after start log) r
+pub held_after-push : (start : DiskImage) (log : List Recorded) (r : Recorded) → held_after start (log ++ r ∷ []) ≡ after (held_after start log) r
 held_after-push start log r = fold_push after (settled start) log r
 
-pub held_at-all : (start : Image) (log : List Recorded) (k : ℕ) → length log ≤ k → held_at start log k ≡ held_after start log
+pub held_at-all : (start : DiskImage) (log : List Recorded) (k : ℕ) → length log ≤ k → held_at start log k ≡ held_after start log
 held_at-all start log k le = ap (held_after start) (take_all k log le)
 
-pub held_at-earlier : (start : Image) (log : List Recorded) (r : Recorded) (k : ℕ) → k ≤ length log → held_at start (log ++ r ∷ []) k ≡ held_at start log k
+pub held_at-earlier : (start : DiskImage) (log : List Recorded) (r : Recorded) (k : ℕ) → k ≤ length log → held_at start (log ++ r ∷ []) k ≡ held_at start log k
 held_at-earlier start log r k le = ap (held_after start) (take-append-le k log (r ∷ []) le)
 
-IsMixture-image : (c : Content) (v : Image) → IsImage c v → IsMixture c c v
+IsMixture-image : (c : Content) (v : DiskImage) → IsImage c v → IsMixture c c v
 IsMixture-image c v image = record { size = image.size; each = λ s lt. inl (image.chosen s (omega (arith, image.size))) }
 
-pub IsImage-mixture : (c : Content) (v : Image) → IsMixture c c v → IsImage c v
+pub IsImage-mixture : (c : Content) (v : DiskImage) → IsMixture c c v → IsImage c v
 IsImage-mixture c v mixed = record { size = mixed.size; chosen = λ s lt. elim (mixed.each s (omega (arith, mixed.size))) [ inl h ↦ h | inr h ↦ h ] }
 
-pub along : (c d e f : Content) (v : Image) → c ≡ e → d ≡ f → IsMixture c d v → IsMixture e f v
+pub along : (c d e f : Content) (v : DiskImage) → c ≡ e → d ≡ f → IsMixture c d v → IsMixture e f v
 along c d e f v p q mixed = subst (λ (x : Content). IsMixture e x v) q (subst (λ (x : Content). IsMixture x d v) p mixed)
 
 -- this moment is one of those since an earlier one
-pub WasLeft-now : (start : Image) (log : List Recorded) (t : ℕ) (v : Image) → t ≤ length log → IsImage (held_after start log) v → WasLeft start log t v
+pub WasLeft-now : (start : DiskImage) (log : List Recorded) (t : ℕ) (v : DiskImage) → t ≤ length log → IsImage (held_after start log) v → WasLeft start log t v
 WasLeft-now start log t v le image =
     let all : held_after start log ≡ held_at start log (length log) = sym (held_at-all start log (length log) (omega arith)) in
     let more : held_after start log ≡ held_at start log (length log + 1) = sym (held_at-all start log (length log + 1) (omega arith)) in
     (length log, le, omega arith, along (held_after start log) (held_after start log) (held_at start log (length log)) (held_at start log (length log + 1)) v all more (IsMixture-image (held_after start log) v image))
 
 -- since this moment there is no other
-pub WasLeft-only : (start : Image) (log : List Recorded) (v : Image) → WasLeft start log (length log) v → IsImage (held_after start log) v
+pub WasLeft-only : (start : DiskImage) (log : List Recorded) (v : DiskImage) → WasLeft start log (length log) v → IsImage (held_after start log) v
 WasLeft-only start log v (k, low, high, mixed) =
     IsImage-mixture (held_after start log) v (along (held_at start log k) (held_at start log (k + 1)) (held_after start log) (held_after start log) v (held_at-all start log k low) (held_at-all start log (k + 1) (omega arith)) mixed)

@@ -1,5 +1,5 @@
 ghost use Rattle.std.specs.Prelude.{◌≡◌, ℕ, ◌<◌, ◌≤◌, Bool, IsTrue, Option, IsSome, IfSome, OnOk, OnErr};
-ghost use Rattle.definitions.specs.Disk.{Content, Image, IsContent, IsImage, as_it_reads, block, Writes, FailsToWrite, Syncs, Restarts, Changes, Elapses, raised, HasRisen};
+ghost use Rattle.definitions.specs.Disk.{Content, DiskImage, IsContent, IsImage, as_it_reads, block, Writes, FailsToWrite, Syncs, Restarts, Changes, Elapses, raised, HasRisen};
 
 use page_core::{Failed, Page};
 
@@ -34,7 +34,7 @@ pub trait Disk {
     ghost moment: { Self → ℕ };
 
     /// The images that a power cut at some moment from that one on might have left, during a call or between two.
-    ghost left_since: { Self → ℕ → Image → Type 0 };
+    ghost left_since: { Self → ℕ → DiskImage → Type 0 };
 
     /// How many blocks the disk has.
     fn blocks(&self) -> u32
@@ -123,10 +123,10 @@ pub trait Disk {
     ghost tells_content: { (d : Self) → IsTrue (tells_moments d) → IsSome (content d) };
 
     /// This moment is one of those since an earlier one.
-    ghost counts_now: { (d : Self) (t : ℕ) (v : Image) → IsTrue (tells_moments d) → t ≤ moment d →
+    ghost counts_now: { (d : Self) (t : ℕ) (v : DiskImage) → IsTrue (tells_moments d) → t ≤ moment d →
         IfSome (content d) (λ held. IsImage held v → left_since d t v) };
 
     /// Since this moment there is no other.
-    ghost only_now: { (d : Self) (v : Image) → IsTrue (tells_moments d) → left_since d (moment d) v →
+    ghost only_now: { (d : Self) (v : DiskImage) → IsTrue (tells_moments d) → left_since d (moment d) v →
         IfSome (content d) (λ held. IsImage held v) };
 }

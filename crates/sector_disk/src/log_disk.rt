@@ -36,7 +36,7 @@ pub struct LogDisk {
 
 impl LogDisk {
     ghost use Rattle.std.specs.Prelude.{IsTrue, IsErr, [], ◌↔◌};
-    ghost use Rattle.definitions.specs.Disk.{Image, Restarts, settled};
+    ghost use Rattle.definitions.specs.Disk.{DiskImage, Restarts, settled};
     ghost use Rattle.sector_disk.specs.Recorded.{held_at};
     ghost use Rattle.sector_disk.specs.Sectors.{IsPicked};
     ghost use Rattle.sector_disk.specs.LogDisk.{IsNew, IsFull, content, moment, left_since, first_sectors, recorded, durable_sectors, live_sectors, KeepsArmed, IsOrdered, IsCalled, LeavesAll};
@@ -61,7 +61,7 @@ impl LogDisk {
     /// restart it begins a new record.
     pub fn restart_at(&mut self, calls: u32, pick: u64)
         ensures restarted { Restarts (held_at (first_sectors self.old) (recorded self.old) calls) (content self.new) }
-        ensures past { calls ≤ moment self.old → (v : Image) × left_since self.old calls v × (content self.new ≡ settled v) }
+        ensures past { calls ≤ moment self.old → (v : DiskImage) × left_since self.old calls v × (content self.new ≡ settled v) }
         ensures picked { let held = held_at (first_sectors self.old) (recorded self.old) calls in IsPicked pick (as_synced held) (as_it_reads held) (live_sectors self.new) }
         ensures durable { durable_sectors self.new ≡ live_sectors self.new }
         ensures first { first_sectors self.new ≡ live_sectors self.new }

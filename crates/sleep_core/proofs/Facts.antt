@@ -39,7 +39,7 @@ header_read h b blocks page c told whole is lt e read =
     got ∙ ap (disk.block (disk.as_it_reads c)) is
     ∙ sym (cond-true (ltb (block_of_slot h 0) (blocks_of (disk.as_it_reads c))) (disk.block (disk.as_it_reads c) (block_of_slot h 0)) zero_page (lt-ltb (block_of_slot h 0) (blocks_of (disk.as_it_reads c)) here))
 
-pub same_area : (h : Hardware) (v : disk.Image) → IsSameArea h v v
+pub same_area : (h : Hardware) (v : disk.DiskImage) → IsSameArea h v v
 same_area h v = record { blocks = refl; header = record { front = refl; signature = refl } }
 
 -- the same page frames name the same slots

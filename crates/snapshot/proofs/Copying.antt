@@ -5,7 +5,7 @@ use Rattle.std.proofs.lemmas.List.{length-map, length-take-le, get_or-map, same_
 use Rattle.std.proofs.lemmas.List.Elements.{Contains-append_left, Contains-get_or}
 use Rattle.std.specs.List.{Contains}
 use Rattle.definitions.specs.Zones.{AreApart, top}
-use Rattle.definitions.specs.Tables.{entry_at, flags_of, is_saveable, frame}
+use Rattle.definitions.specs.Tables.{entry_at, page_flags, is_saveable, frame}
 use Rattle.definitions.specs.Lists.{saveable_frames, free_frames}
 use Rattle.definitions.proofs.ZoneLists.{Contains-from_saveable_frames, Contains-from_free_frames}
 use Rattle.definitions.proofs.ZoneNumbers.{below_top}
@@ -16,8 +16,8 @@ Contains-from_take n xs x in' =
     subst (λ (ys : List ℕ). Contains ys x) (take-append-drop n xs) (Contains-append_left (take n xs) (drop n xs) x in')
 
 -- a page frame whose entry is FREE alone is not saved
-free_is_not_saved : (entry : ℕ) → entry ≡ 1 → is_saveable (flags_of entry) ≡ false
-free_is_not_saved entry is = ap (λ e. is_saveable (flags_of e)) is
+free_is_not_saved : (entry : ℕ) → entry ≡ 1 → is_saveable (page_flags entry) ≡ false
+free_is_not_saved entry is = ap (λ e. is_saveable (page_flags e)) is
 
 pub apart : (zones : List (ℕ × ℕ)) (table : ℕ) (frames : List (List ℕ)) (n : ℕ) → AreDisjoint (saveable_frames zones table frames) (take n (free_frames zones table frames))
 apart zones table frames n p saved copy =

@@ -82,11 +82,11 @@ block_some area free bs blocks k page stream lt =
     omega arith
 
 -- an image that reads as the disk did, but for the header block
-pub record IsOver (u v : disk.Image) : Type 0 where
+pub record DiffersInHeader (u v : disk.DiskImage) : Type 0 where
   pub size : length v ≡ length u
   pub others : (b : ℕ) → 0 < b → disk.block v b ≡ disk.block u b
 
-all_read : (area : Area) (free bs : List ℕ) (blocks : ℕ) (u v : disk.Image) → IsWholeFor area free bs blocks → IsReadyFor area free bs u → IsOver u v → ReadAsMade (first_blocks area) free (all_pages bs) (page_at bs) (all_pages bs + maps_of (all_pages bs)) v
+all_read : (area : Area) (free bs : List ℕ) (blocks : ℕ) (u v : disk.DiskImage) → IsWholeFor area free bs blocks → IsReadyFor area free bs u → DiffersInHeader u v → ReadAsMade (first_blocks area) free (all_pages bs) (page_at bs) (all_pages bs + maps_of (all_pages bs)) v
 all_read area free bs blocks u v stream ready over k lt =
     let n = all_pages bs in
     let size = stream.size in
@@ -97,7 +97,7 @@ all_read area free bs blocks u v stream ready over k lt =
     over.others (laid_write (first_blocks area) free n page k).0 (block_some area free bs blocks k page stream lt) ∙ ready.written (omega arith) k (subst (λ (m : ℕ). k < m) (sym all) lt)
 
 -- where it is marked, the stream has come in
-pub come_in : (area : Area) (free bs : List ℕ) (blocks : ℕ) (x : disk.Content) (v : disk.Image) → IsWholeFor area free bs blocks → disk.IsContent blocks x → IsReadyFor area free bs (disk.as_it_reads x) → IsOver (disk.as_it_reads x) v →
+pub come_in : (area : Area) (free bs : List ℕ) (blocks : ℕ) (x : disk.Content) (v : disk.DiskImage) → IsWholeFor area free bs blocks → disk.IsContent blocks x → IsReadyFor area free bs (disk.as_it_reads x) → DiffersInHeader (disk.as_it_reads x) v →
     disk.block v 0 ≡ marked (disk.block (disk.as_it_reads x) 0) (laid_block (first_blocks area) free 0) 2 0 → HasComeIn area bs v
 come_in area free bs blocks x v stream is ready over header =
     let u = disk.as_it_reads x in
@@ -120,8 +120,8 @@ comes_in area free bs s x y into whole is marks ready v in' =
     let has = marks.marked in
     let one : v ≡ w = IsImage-settled w v (subst (λ (c : disk.Content). disk.IsImage c v) has.one_image in') in
     let first : laid_block s.map free 0 ≡ laid_block (first_blocks area) free 0 = ap (λ m. laid_block m free 0) into.map_is in
-    let over : IsOver (disk.as_it_reads x) w = record { size = length-as_it_reads y ∙ has.size ∙ sym (length-as_it_reads x); others = has.others } in
-    subst (λ (z : disk.Image). HasComeIn area bs z) (sym one)
+    let over : DiffersInHeader (disk.as_it_reads x) w = record { size = length-as_it_reads y ∙ has.size ∙ sym (length-as_it_reads x); others = has.others } in
+    subst (λ (z : disk.DiskImage). HasComeIn area bs z) (sym one)
     (come_in area free bs s.blocks x w stream is ready over (has.header ∙ ap (λ f. marked (disk.block (disk.as_it_reads x) 0) f 2 0) first))
 
 pub told_comes_in : (area : Area) (free bs : List ℕ) (s : StreamIn) (blocks : ℕ) (a b : Option disk.Content) → TakesInto area free bs s → short_fault bs ≡ None → blocks ≡ s.blocks → IfSome a (disk.IsContent blocks) →
@@ -133,7 +133,7 @@ told_comes_in area free bs s blocks a b into whole count is marks =
 -- A power cut in the midst of a finish.
 
 -- an image that a cut might leave, and not before, has the whole stream if it is marked
-tried_whole : (area : Area) (free bs : List ℕ) (blocks first : ℕ) (x : disk.Content) (v : disk.Image) → IsWholeFor area free bs blocks → disk.IsContent blocks x → IsReadyFor area free bs (disk.as_it_reads x) → first ≡ laid_block (first_blocks area) free 0 →
+tried_whole : (area : Area) (free bs : List ℕ) (blocks first : ℕ) (x : disk.Content) (v : disk.DiskImage) → IsWholeFor area free bs blocks → disk.IsContent blocks x → IsReadyFor area free bs (disk.as_it_reads x) → first ≡ laid_block (first_blocks area) free 0 →
     IsTried (marked (disk.block (disk.as_it_reads x) 0) first 2 0) (disk.as_it_reads x) v → IsMarked (disk.block v 0) → HasComeIn area bs v
 tried_whole area free bs blocks first x v stream is ready first_is tried is_marked =
     let u = disk.as_it_reads x in
@@ -146,7 +146,7 @@ tried_whole area free bs blocks first x v stream is ready first_is tried is_mark
       | inr back ↦ absurd (unmarked page (taken_back (marked page first 2 0)) tried.area (taken_back-marked page first 2 0 whole) (subst IsMarked back is_marked))
     ]
 
-pub told_whole : (area : Area) (free bs : List ℕ) (s : StreamIn) (blocks m n : ℕ) (past since : ℕ → disk.Image → Type 0) (a : Option disk.Content) → TakesInto area free bs s → short_fault bs ≡ None → blocks ≡ s.blocks →
+pub told_whole : (area : Area) (free bs : List ℕ) (s : StreamIn) (blocks m n : ℕ) (past since : ℕ → disk.DiskImage → Type 0) (a : Option disk.Content) → TakesInto area free bs s → short_fault bs ≡ None → blocks ≡ s.blocks →
     IfSome a (disk.IsContent blocks) → IfSome a (λ held. ElapsesOverMark (laid_block s.map free 0) m n past since held) → IfSome a (MarksWhole area free bs m past since)
 told_whole area free bs s blocks m n past since None into whole count is elapses = tt
 told_whole area free bs s blocks m n past since (Some x) into whole count is elapses = λ ready t v le left is_marked.
@@ -157,7 +157,7 @@ told_whole area free bs s blocks m n past since (Some x) into whole count is ela
     ]
 
 -- where no call was made
-pub none_whole : (area : Area) (free bs : List ℕ) (m : ℕ) (past : ℕ → disk.Image → Type 0) (a : Option disk.Content) → IfSome a (MarksWhole area free bs m past past)
+pub none_whole : (area : Area) (free bs : List ℕ) (m : ℕ) (past : ℕ → disk.DiskImage → Type 0) (a : Option disk.Content) → IfSome a (MarksWhole area free bs m past past)
 none_whole area free bs m past None = tt
 none_whole area free bs m past (Some x) = λ ready t v le left is_marked. inl left
 

@@ -76,7 +76,7 @@ pub record IsWholeFor (area : Area) (free bs : List ℕ) (blocks : ℕ) : Type 0
   pub usable : AreUsable area free
 
 -- an image whose header block is this one's, marked, and whose other blocks read as the stream's writes were made
-pub record IsMarkedOver (area : Area) (free bs page : List ℕ) (blocks : ℕ) (v : disk.Image) : Type 0 where
+pub record IsMarkedOver (area : Area) (free bs page : List ℕ) (blocks : ℕ) (v : disk.DiskImage) : Type 0 where
   pub size : length v ≡ 8 * blocks
   pub some : 0 < blocks
   pub whole : IsPage page
@@ -116,11 +116,11 @@ plain : (f : Format) (n : ℕ) → n ≡ 0 → f ≡ Plain → (n ≢ 0) ↔ (f 
 plain f n none is = (λ ne. absurd (ne none), λ skip. cc)
 
 -- the header block of a machine with these extents
-record HasHeaderAt (h : Hardware) (page : List ℕ) (v : disk.Image) : Type 0 where
+record HasHeaderAt (h : Hardware) (page : List ℕ) (v : disk.DiskImage) : Type 0 where
   pub header : header_of h v ≡ page
   pub blocks_some : block_of_slot h 0 < blocks_of v
 
-header_at : (area : Area) (free bs page : List ℕ) (blocks : ℕ) (v : disk.Image) (h : Hardware) → IsMarkedOver area free bs page blocks v → h.extents ≡ first_blocks area → HasHeaderAt h (marked page (laid_block (first_blocks area) free 0) 2 0) v
+header_at : (area : Area) (free bs page : List ℕ) (blocks : ℕ) (v : disk.DiskImage) (h : Hardware) → IsMarkedOver area free bs page blocks v → h.extents ≡ first_blocks area → HasHeaderAt h (marked page (laid_block (first_blocks area) free 0) 2 0) v
 header_at area free bs page blocks v h over is =
     let zero_block : block_of_slot h 0 ≡ 0 = ap (λ x. block_of x 0) is in
     let size = over.size in
@@ -131,7 +131,7 @@ header_at area free bs page blocks v h over is =
       blocks_some = below;
     }
 
-usable_laid : (area : Area) (free bs page : List ℕ) (blocks : ℕ) (v : disk.Image) (h : Hardware) → IsWholeFor area free bs blocks → IsMarkedOver area free bs page blocks v → h.extents ≡ first_blocks area →
+usable_laid : (area : Area) (free bs page : List ℕ) (blocks : ℕ) (v : disk.DiskImage) (h : Hardware) → IsWholeFor area free bs blocks → IsMarkedOver area free bs page blocks v → h.extents ≡ first_blocks area →
     laying.AreUsable h v free (length (pages_of_stream bs) + maps_of (length (pages_of_stream bs)))
 usable_laid area free bs page blocks v h stream over is =
     let size = over.size in
@@ -158,7 +158,7 @@ usable_laid area free bs page blocks v h stream over is =
       fits = omega arith;
     }
 
-reads_laid : (area : Area) (free bs page : List ℕ) (blocks : ℕ) (v : disk.Image) (h : Hardware) → IsMarkedOver area free bs page blocks v → h.extents ≡ first_blocks area → laying.ReadsLaid h free (pages_of_stream bs) v
+reads_laid : (area : Area) (free bs page : List ℕ) (blocks : ℕ) (v : disk.DiskImage) (h : Hardware) → IsMarkedOver area free bs page blocks v → h.extents ≡ first_blocks area → laying.ReadsLaid h free (pages_of_stream bs) v
 reads_laid area free bs page blocks v h over is k lt =
     let stream = pages_of_stream bs in
     let n = all_pages bs in
@@ -170,7 +170,7 @@ reads_laid area free bs page blocks v h over is k lt =
     let Q : ℕ → Type 0 = λ m. disk.block v (laid_write h.extents free m (get_or stream i []) k).0 ≡ (laid_write h.extents free m (get_or stream i []) k).1 in
     subst Q (sym count) (subst P (sym is) (subst (λ (w : ℕ × List ℕ). disk.block v w.0 ≡ w.1) same (over.written k within)))
 
-holds_stream : (area : Area) (free bs page : List ℕ) (blocks : ℕ) (v : disk.Image) (h : Hardware) → IsWholeFor area free bs blocks → IsMarkedOver area free bs page blocks v → h.extents ≡ first_blocks area → HoldsStream h bs v
+holds_stream : (area : Area) (free bs page : List ℕ) (blocks : ℕ) (v : disk.DiskImage) (h : Hardware) → IsWholeFor area free bs blocks → IsMarkedOver area free bs page blocks v → h.extents ≡ first_blocks area → HoldsStream h bs v
 holds_stream area free bs page blocks v h stream over is =
     let n = all_pages bs in
     let first = laid_block (first_blocks area) free 0 in
@@ -214,7 +214,7 @@ image_pages_are i bs of size =
     get_or-map-range_with_len (page_at bs) 0 n k k [] below (zero-add k)
     ∙ ap (λ b. page_at b k) (sym of.bytes) ∙ page_of_joined (stream_of i) k of.pages (omega arith))
 
-holds_image : (h : Hardware) (i : Image) (bs : List ℕ) (v : disk.Image) → AreOfImage i bs → length bs ≡ 4096 * all_pages bs → HoldsStream h bs v → Holds h v i
+holds_image : (h : Hardware) (i : Image) (bs : List ℕ) (v : disk.DiskImage) → AreOfImage i bs → length bs ≡ 4096 * all_pages bs → HoldsStream h bs v → Holds h v i
 holds_image h i bs v of size holds =
     let b = image_of (header_of h v) in
     let has = holds.whole.1 in
@@ -228,7 +228,7 @@ holds_image h i bs v of size holds =
       pages_apart = λ s k page e lt. absurd (none_some (i.slots s) page (of.no_slots s) e);
     }
 
-pub has_come_in : (area : Area) (free bs page : List ℕ) (blocks : ℕ) (v : disk.Image) → IsWholeFor area free bs blocks → IsMarkedOver area free bs page blocks v → HasComeIn area bs v
+pub has_come_in : (area : Area) (free bs page : List ℕ) (blocks : ℕ) (v : disk.DiskImage) → IsWholeFor area free bs blocks → IsMarkedOver area free bs page blocks v → HasComeIn area bs v
 has_come_in area free bs page blocks v stream over = record {
   stream = λ h is. holds_stream area free bs page blocks v h stream over is;
   image = λ h is i of. holds_image h i bs v of stream.size (holds_stream area free bs page blocks v h stream over is);

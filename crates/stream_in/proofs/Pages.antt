@@ -3,7 +3,7 @@ use Rattle.std.proofs.Common.{◌≡◌, ◌⊎◌, ℕ, ◌+◌, ◌-◌, ◌*�
 use Rattle.std.proofs.lemmas.Bool.{cases_eq, or_left, eq-eqb}
 use Rattle.std.proofs.lemmas.List.{take-append-le, drop-append-le, length-take-le, get_or-take, get_or-drop}
 use Rattle.std.proofs.lemmas.Grind.{same_number_lists}
-use Rattle.definitions.specs.Disk.{Content, Changes, Image, as_it_reads, block}
+use Rattle.definitions.specs.Disk.{Content, Changes, DiskImage, as_it_reads, block}
 use Rattle.stream_in.proofs.Contents.{changes_none, changes_then}
 use Rattle.swap_slots.specs.declared.table.SlotTable.{SlotTable}
 use Rattle.plain_machine.specs.Image.{maps_of}
@@ -28,7 +28,7 @@ before_page count k j lt = elim (cases_eq (j % 512) 511) [
   | inr ne ↦ inr (omega arith)
 ]
 
-read_more : (extents : List (ℕ × ℕ × ℕ)) (free bs part : List ℕ) (count k : ℕ) (v : Image) → 4096 * k ≤ length bs → ReadAsMade extents free count (page_at bs) (k + k / 511) v → ReadAsMade extents free count (page_at (bs ++ part)) (k + k / 511) v
+read_more : (extents : List (ℕ × ℕ × ℕ)) (free bs part : List ℕ) (count k : ℕ) (v : DiskImage) → 4096 * k ≤ length bs → ReadAsMade extents free count (page_at bs) (k + k / 511) v → ReadAsMade extents free count (page_at (bs ++ part)) (k + k / 511) v
 read_more extents free bs part count k v whole read j lt =
     let which : (is_map_write count j ≡ true) ⊎ (page_at bs (page_of_write j) ≡ page_at (bs ++ part) (page_of_write j)) = elim (before_page count k j lt) [
       | inl is ↦ inl is
@@ -38,14 +38,14 @@ read_more extents free bs part count k v whole read j lt =
     subst (λ (w : ℕ × List ℕ). block v w.0 ≡ w.1) same (read j lt)
 
 -- the same, of equal counts
-read_same : (extents : List (ℕ × ℕ × ℕ)) (free : List ℕ) (c d k m : ℕ) (pages : ℕ → List ℕ) (v : Image) → c ≡ d → k ≡ m → ReadAsMade extents free c pages k v → ReadAsMade extents free d pages m v
+read_same : (extents : List (ℕ × ℕ × ℕ)) (free : List ℕ) (c d k m : ℕ) (pages : ℕ → List ℕ) (v : DiskImage) → c ≡ d → k ≡ m → ReadAsMade extents free c pages k v → ReadAsMade extents free d pages m v
 read_same extents free c d k m pages v e f h =
     let P : ℕ → Type 0 = λ n. ReadAsMade extents free n pages k v in
     let Q : ℕ → Type 0 = λ n. ReadAsMade extents free d pages n v in
     subst Q f (subst P e h)
 
 -- the page isn't full, and the stream goes on
-pub written_part : (extents : List (ℕ × ℕ × ℕ)) (free bs part : List ℕ) (v : Image) → (length bs % 4096) + length part < 4096 → (4096 ≤ length bs → length bs < 4096 * all_pages bs) → AreWritten extents free bs v → AreWritten extents free (bs ++ part) v
+pub written_part : (extents : List (ℕ × ℕ × ℕ)) (free bs part : List ℕ) (v : DiskImage) → (length bs % 4096) + length part < 4096 → (4096 ≤ length bs → length bs < 4096 * all_pages bs) → AreWritten extents free bs v → AreWritten extents free (bs ++ part) v
 written_part extents free bs part v few more written late' =
     let behind = length-append bs part in
     let late : 4096 ≤ length bs = omega arith in

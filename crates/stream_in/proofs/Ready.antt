@@ -3,7 +3,7 @@ use Rattle.std.proofs.Common.{◌≡◌, ℕ, ◌+◌, ◌*◌, ◌/◌, ◌<◌
 use Rattle.std.proofs.lemmas.Bool.{cases_lt, ltb-true}
 use Rattle.std.proofs.lemmas.List.{get_or_past}
 use Rattle.std.proofs.lemmas.List.Elements.{Contains-get_or}
-use Rattle.definitions.specs.Disk.{Content, Image, Changes, as_it_reads, block, sector}
+use Rattle.definitions.specs.Disk.{Content, DiskImage, Changes, as_it_reads, block, sector}
 use Rattle.definitions.proofs.DiskLaws.{block-same, length-as_it_reads}
 use Rattle.sig_header.specs.AreaKind.{area_kind}
 use Rattle.sig_header.specs.declared.area.Area.{Area}
@@ -52,7 +52,7 @@ told_ready area free bs more extents a b usable is keeps writes =
     told area free bs more (Some x) (Some y) usable keeps writes = stays area free bs more x y usable keeps writes
 
 -- A cut in the midst of a feed.
-pub no_header : (area : Area) (free : List ℕ) (extents : List (ℕ × ℕ × ℕ)) (m n : ℕ) (past since : ℕ → Image → Type 0) → AreUsable area free → extents ≡ first_blocks area → ElapsesOutside extents free m n past since → AddsNoHeader m past since
+pub no_header : (area : Area) (free : List ℕ) (extents : List (ℕ × ℕ × ℕ)) (m n : ℕ) (past since : ℕ → DiskImage → Type 0) → AreUsable area free → extents ≡ first_blocks area → ElapsesOutside extents free m n past since → AddsNoHeader m past since
 no_header area free extents m n past since usable is elapses t v le left =
     let from = elapses.nothing_else t v le left in
     let agree = from.2 in

@@ -2,7 +2,7 @@
 use Rattle.std.proofs.Common.{◌≡◌, ◌⊎◌, ℕ, ◌<◌, eqb, List, length, Option, None, IfSome, false, refl, sym, ap, ◌∙◌, subst, inl, inr, arith}
 use Rattle.std.proofs.lemmas.Bool.{cond-false, ne_eqb}
 use Rattle.definitions.specs.Bytes.{IsPage, AgreeBut, zero_page}
-use Rattle.definitions.specs.Disk.{Content, Image, Changes, IsContent, as_it_reads, block, settled, Writes, Syncs, SameOutside}
+use Rattle.definitions.specs.Disk.{Content, DiskImage, Changes, IsContent, as_it_reads, block, settled, Writes, Syncs, SameOutside}
 use Rattle.definitions.specs.SwapHeader.{IsMarked, marked, taken_back}
 use Rattle.definitions.proofs.DiskLaws.{as_it_reads-settled, length-settled, length-as_it_reads, block-other}
 use Rattle.plain_machine.proofs.DiskBlocks.{block-written}
@@ -93,7 +93,7 @@ left_over page Unsure a b c same either gone unsure =
 
 -- The header block that is read behind a sync.
 
-pub first_block-some : (blocks : ℕ) (v : Image) → 0 < blocks → first_block blocks v ≡ block v 0
+pub first_block-some : (blocks : ℕ) (v : DiskImage) → 0 < blocks → first_block blocks v ≡ block v 0
 first_block-some blocks v some = cond-false (eqb blocks 0) zero_page (block v 0) (ne_eqb blocks 0 (λ e. omega arith))
 
 pub header_read : (blocks : ℕ) (page : List ℕ) (a b : Option Content) → 0 < blocks → Changes Syncs a b → IfSome b (λ held. page ≡ first_block blocks (as_it_reads held)) → IfSome a (λ held. page ≡ block (as_it_reads held) 0)

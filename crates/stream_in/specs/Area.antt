@@ -12,7 +12,7 @@ use Rattle.plain_machine.specs.declared.no_swap.NoSwap.{NoSwap}
 use Rattle.plain_machine.specs.declared.no_swap.NoSwap.TheVariants as no_swap
 
 -- block 0 of a disk of so many blocks; where there is none it counts as zeros
-abbrev pub first_block : ℕ → disk.Image → List ℕ
+abbrev pub first_block : ℕ → disk.DiskImage → List ℕ
 first_block blocks v = if blocks == 0 then zero_page else disk.block v 0
 
 -- why an area's slots are no blocks of the disk, or more than a slot table holds

@@ -20,13 +20,13 @@ first_blocks area = (0, area.last + 1, 0) ∷ []
 
 -- The chain from the first map that the header names is these blocks, for as many pages as the stream says that it has. They read as
 -- the stream's pages, so one after another as its bytes (get_swap_reader and swap_read_page, kernel/power/swap.c).
-pub record HasChain (h : Hardware) (bs : List ℕ) (v : disk.Image) (blocks : List ℕ) : Type 0 where
+pub record HasChain (h : Hardware) (bs : List ℕ) (v : disk.DiskImage) (blocks : List ℕ) : Type 0 where
   pub chain_is : chain h v (image_of (header_of h v)) (all_pages bs) ≡ Ok blocks
   pub pages : map (disk.block v) blocks ≡ map (page_at bs) (range_with_len 0 (all_pages bs))
   pub bytes : concat (map (disk.block v) blocks) ≡ bs
 
 -- The disk is marked, with SF_NOCOMPRESS_MODE as the only flag, and has the stream byte for byte.
-pub record HoldsStream (h : Hardware) (bs : List ℕ) (v : disk.Image) : Type 0 where
+pub record HoldsStream (h : Hardware) (bs : List ℕ) (v : disk.DiskImage) : Type 0 where
   pub marked : Marked h v
   pub flags : flags_of (header_of h v) ≡ 2
   pub whole : (blocks : List ℕ) × HasChain h bs v blocks
@@ -39,12 +39,12 @@ pub record AreOfImage (i : Image) (bs : List ℕ) : Type 0 where
   pub no_slots : (s : ℕ) → i.slots s ≡ None
 
 -- For each machine whose swap area lies so, the disk has the stream, and holds the image that it is of.
-pub record HasComeIn (area : Area) (bs : List ℕ) (v : disk.Image) : Type 0 where
+pub record HasComeIn (area : Area) (bs : List ℕ) (v : disk.DiskImage) : Type 0 where
   pub stream : (h : Hardware) → h.extents ≡ first_blocks area → HoldsStream h bs v
   pub image : (h : Hardware) → h.extents ≡ first_blocks area → (i : Image) → AreOfImage i bs → Holds h v i
 
 -- A disk that reads so has the header block of this area, and the writes of these bytes to these slots.
-pub record IsReadyFor (area : Area) (free bs : List ℕ) (v : disk.Image) : Type 0 where
+pub record IsReadyFor (area : Area) (free bs : List ℕ) (v : disk.DiskImage) : Type 0 where
   pub header : area_kind (disk.block v 0) ≡ kind.Swap area
   pub written : AreWritten (first_blocks area) free bs v
 
@@ -54,4 +54,4 @@ StaysReady area free bs more old new = IsReadyFor area free bs (disk.as_it_reads
 
 -- where the disk was ready for it, the stream has come in, in each image that a cut may leave
 abbrev pub ComesIn : Area → List ℕ → List ℕ → disk.Content → disk.Content → Type 0
-ComesIn area free bs old new = IsReadyFor area free bs (disk.as_it_reads old) → (v : disk.Image) → disk.IsImage new v → HasComeIn area bs v
+ComesIn area free bs old new = IsReadyFor area free bs (disk.as_it_reads old) → (v : disk.DiskImage) → disk.IsImage new v → HasComeIn area bs v

@@ -7,14 +7,14 @@ use Rattle.stream_in.specs.declared.stop.InStop.TheVariants.{NoMemory, NoSlots, 
 use Rattle.stream_in.specs.declared.stop.InStop.TheVariants as stop
 
 -- a call of the disk failed
-abbrev pub IsFault : InStop → Type 0
-IsFault NoMemory = ⊥
-IsFault (stop.NoSwap why) = ⊥
-IsFault (NoSlots free need) = ⊥
-IsFault (Stream fault) = ⊥
-IsFault (ReadFault left) = ⊤
-IsFault (WriteFault left) = ⊤
-IsFault (SyncFault left) = ⊤
+abbrev pub IsDiskStop : InStop → Type 0
+IsDiskStop NoMemory = ⊥
+IsDiskStop (stop.NoSwap why) = ⊥
+IsDiskStop (NoSlots free need) = ⊥
+IsDiskStop (Stream fault) = ⊥
+IsDiskStop (ReadFault left) = ⊤
+IsDiskStop (WriteFault left) = ⊤
+IsDiskStop (SyncFault left) = ⊤
 
 -- the stops that marking an image may end with
 abbrev pub IsOfHeader : InStop → Type 0

@@ -1,7 +1,7 @@
 -- What the writes of a stream have left on the disk.
 use Rattle.std.specs.Prelude.{◌≡◌, ◌<◌, ◌≤◌, ℕ, ◌*◌, ◌/◌, List, ◌++◌, length, slice_index}
 use Rattle.definitions.specs.Bytes.{bytes_at}
-use Rattle.definitions.specs.Disk.{Content, Image, as_it_reads, block}
+use Rattle.definitions.specs.Disk.{Content, DiskImage, as_it_reads, block}
 use Rattle.definitions.specs.Slots.{IsFileMap}
 use Rattle.plain_machine.specs.Laid.{laid_write, page_of_write}
 use Rattle.stream_check.specs.Grammar.{all_pages}
@@ -12,7 +12,7 @@ abbrev pub AreOfMap : List (ℕ × ℕ × ℕ) → List ℕ → Type 0
 AreOfMap extents free = (slots : ℕ) × IsFileMap extents slots × ((place : ℕ) → place < length free → slice_index free place < slots)
 
 -- The first k writes of Laid of a stream of so many pages, whose page i is `pages i`, read as they were made.
-abbrev pub ReadAsMade : List (ℕ × ℕ × ℕ) → List ℕ → ℕ → (ℕ → List ℕ) → ℕ → Image → Type 0
+abbrev pub ReadAsMade : List (ℕ × ℕ × ℕ) → List ℕ → ℕ → (ℕ → List ℕ) → ℕ → DiskImage → Type 0
 ReadAsMade extents free count pages k v =
     (j : ℕ) → j < k → block v (laid_write extents free count (pages (page_of_write j)) j).0 ≡ (laid_write extents free count (pages (page_of_write j)) j).1
 
@@ -25,7 +25,7 @@ abbrev pub page_at : List ℕ → ℕ → List ℕ
 page_at bs i = bytes_at 4096 bs (4096 * i)
 
 -- Of the stream of these bytes the writes that its whole pages take read as they were made.
-abbrev pub AreWritten : List (ℕ × ℕ × ℕ) → List ℕ → List ℕ → Image → Type 0
+abbrev pub AreWritten : List (ℕ × ℕ × ℕ) → List ℕ → List ℕ → DiskImage → Type 0
 AreWritten extents free bs v = 4096 ≤ length bs → ReadAsMade extents free (all_pages bs) (page_at bs) (writes_after (all_pages bs) (length bs / 4096)) v
 
 -- with more bytes, more is written

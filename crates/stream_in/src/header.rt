@@ -1,5 +1,5 @@
 ghost use Rattle.std.specs.Prelude.{◌≡◌, ◌⊎◌, ℕ, ◌+◌, ◌<◌, ◌≤◌, Some, None, Err, IsTrue, OnOk, IfOk, IfErr, IfSome};
-ghost use Rattle.definitions.specs.Disk.{Content, Image, as_it_reads, block, Changes, HasRisen, SameOutside, Syncs};
+ghost use Rattle.definitions.specs.Disk.{Content, DiskImage, as_it_reads, block, Changes, HasRisen, SameOutside, Syncs};
 ghost use Rattle.definitions.specs.SwapHeader.{taken_back};
 ghost use Rattle.sig_header.specs.AreaKind.{area_kind};
 ghost use Rattle.plain_machine.specs.UsableArea.{kind_fault};
@@ -8,7 +8,7 @@ ghost use Rattle.stream_in.specs.Moments.{AddsNoImage, TriesMark, ElapsesAlike, 
 ghost use Rattle.stream_in.specs.Marking.{HasHeader, Marks, LeavesAt, LeavesMark};
 ghost use Rattle.stream_in.specs.declared.stop.InStop.TheVariants as stop;
 ghost use Rattle.plain_machine.specs.declared.reply.Left.TheVariants as left;
-ghost use Rattle.stream_in.specs.Stops.{IsFault, IsOfHeader, IfNoSwap};
+ghost use Rattle.stream_in.specs.Stops.{IsDiskStop, IsOfHeader, IfNoSwap};
 
 use crate::InStop;
 use crate::area::version_1;
@@ -52,7 +52,7 @@ pub(crate) fn mark_image<D: Disk>(disk: &mut D, first: u32) -> Result<(), InStop
     ensures stops { IfErr result (λ why. IsOfHeader why) }
     ensures no_swap { IfErr result (λ why. IfNoSwap why (λ reason. IfSome (D.content disk.old)
         (λ held. kind_fault (area_kind (block (as_it_reads held) 0)) ≡ Some reason))) }
-    ensures cause { IfErr result (λ why. IsFault why → HasRisen (D.faults disk.old) (D.faults disk.new)) }
+    ensures cause { IfErr result (λ why. IsDiskStop why → HasRisen (D.faults disk.old) (D.faults disk.new)) }
     ensures calls { D.calls disk.new ≤ D.calls disk.old + 6 }
     ensures faults { D.faults disk.old ≤ D.faults disk.new }
     ensures orders { D.orders disk.new ≡ D.orders disk.old }
@@ -77,7 +77,7 @@ fn header_to_mark<D: Disk>(disk: &mut D) -> Result<Page, InStop>
     ensures stops { IfErr result (λ why. IsOfHeader why) }
     ensures no_swap { IfErr result (λ why. IfNoSwap why (λ reason. IfSome (D.content disk.old)
         (λ held. kind_fault (area_kind (block (as_it_reads held) 0)) ≡ Some reason))) }
-    ensures cause { IfErr result (λ why. IsFault why → HasRisen (D.faults disk.old) (D.faults disk.new)) }
+    ensures cause { IfErr result (λ why. IsDiskStop why → HasRisen (D.faults disk.old) (D.faults disk.new)) }
     ensures calls { D.calls disk.new ≤ D.calls disk.old + 2 }
     ensures faults { D.faults disk.old ≤ D.faults disk.new }
     ensures orders { D.orders disk.new ≡ D.orders disk.old }
@@ -105,14 +105,14 @@ fn write_mark<D: Disk>(disk: &mut D, marked: &Page) -> Result<(), InStop>
     ensures leaves { IfErr result (λ why. Changes (LeavesMark marked.now why) (D.content disk.old) (D.content disk.new)) }
     ensures stops { IfErr result (λ why. IsOfHeader why) }
     ensures no_swap { IfErr result (λ why. IfNoSwap why (λ reason. ⊥)) }
-    ensures cause { IfErr result (λ why. IsFault why → HasRisen (D.faults disk.old) (D.faults disk.new)) }
+    ensures cause { IfErr result (λ why. IsDiskStop why → HasRisen (D.faults disk.old) (D.faults disk.new)) }
     ensures calls { D.calls disk.new ≤ D.calls disk.old + 4 }
     ensures faults { D.faults disk.old ≤ D.faults disk.new }
     ensures orders { D.orders disk.new ≡ D.orders disk.old }
     ensures blocks { D.block_count disk.new ≡ D.block_count disk.old }
     ensures telling { D.tells_moments disk.new ≡ D.tells_moments disk.old }
-    ensures lies { (u : Image) → IfSome (D.content disk.old) (LiesOver marked.now u) → IfSome (D.content disk.new) (LiesOver marked.now u) }
-    ensures time { IsTrue (D.tells_moments disk.old) → (u : Image) → IfSome (D.content disk.old) (LiesOver marked.now u) →
+    ensures lies { (u : DiskImage) → IfSome (D.content disk.old) (LiesOver marked.now u) → IfSome (D.content disk.new) (LiesOver marked.now u) }
+    ensures time { IsTrue (D.tells_moments disk.old) → (u : DiskImage) → IfSome (D.content disk.old) (LiesOver marked.now u) →
         ElapsesTrying marked.now u (D.moment disk.old) (D.moment disk.new) (D.left_since disk.old) (D.left_since disk.new) }
 {
     let _ = marked.as_bytes();
@@ -137,8 +137,8 @@ fn undo<D: Disk>(disk: &mut D, marked: &Page) -> Left
     ensures orders { D.orders disk.new ≡ D.orders disk.old }
     ensures blocks { D.block_count disk.new ≡ D.block_count disk.old }
     ensures telling { D.tells_moments disk.new ≡ D.tells_moments disk.old }
-    ensures lies { (u : Image) → IfSome (D.content disk.old) (LiesOver marked.now u) → IfSome (D.content disk.new) (LiesOver marked.now u) }
-    ensures time { IsTrue (D.tells_moments disk.old) → (u : Image) → IfSome (D.content disk.old) (LiesOver marked.now u) →
+    ensures lies { (u : DiskImage) → IfSome (D.content disk.old) (LiesOver marked.now u) → IfSome (D.content disk.new) (LiesOver marked.now u) }
+    ensures time { IsTrue (D.tells_moments disk.old) → (u : DiskImage) → IfSome (D.content disk.old) (LiesOver marked.now u) →
         ElapsesTrying marked.now u (D.moment disk.old) (D.moment disk.new) (D.left_since disk.old) (D.left_since disk.new) }
 {
     let back = take_back(marked);

@@ -11,7 +11,7 @@ ghost use Rattle.stream_in.specs.Putting.{is_map_next, IsPagePut, HasCounts, Can
 ghost use Rattle.stream_check.specs.Grammar.{all_pages};
 ghost use Rattle.definitions.specs.InfoPage.{info_of};
 ghost use Rattle.swap_slots.specs.Table.{free_in};
-ghost use Rattle.stream_in.specs.Stops.{IsOfPage, IsFault};
+ghost use Rattle.stream_in.specs.Stops.{IsOfPage, IsDiskStop};
 ghost use Rattle.stream_in.specs.declared.stop.InStop.TheVariants as stop;
 
 use crate::InStop;
@@ -55,7 +55,7 @@ pub(crate) fn put_full<D: Disk>(
     ensures time { IsTrue (D.tells_moments disk.old) → (free : List ℕ) → CanPut free frames.old table.now map.now (D.block_count disk.old) page.now writer →
         ElapsesOutside map.now free (D.moment disk.old) (D.moment disk.new) (D.left_since disk.old) (D.left_since disk.new) }
 
-    ensures cause { IfErr result (λ why. IsFault why → HasRisen (D.faults disk.old) (D.faults disk.new)) }
+    ensures cause { IfErr result (λ why. IsDiskStop why → HasRisen (D.faults disk.old) (D.faults disk.new)) }
     ensures faults { D.faults disk.old ≤ D.faults disk.new }
     ensures calls { D.calls disk.new ≤ D.calls disk.old + 3 }
     ensures orders { D.orders disk.new ≡ D.orders disk.old }
@@ -93,7 +93,7 @@ fn at_page(
         (told need : ℕ) → result ≡ Err (stop.NoSlots told need) → HasTooFew free page.now writer told need }
     ensures table { IfOk result (λ next. next.table ≡ table.now) }
     ensures stops { IfErr result (λ why. IsOfPage why) }
-    ensures no_fault { IfErr result (λ why. IsFault why → ⊥) }
+    ensures no_fault { IfErr result (λ why. IsDiskStop why → ⊥) }
 
     ensures len { length frames.new ≡ length frames.old }
     ensures runs { Matches frames.new table.now runs.new }

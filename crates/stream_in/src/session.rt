@@ -55,7 +55,7 @@ pub struct StreamIn {
 impl StreamIn {
     ghost use Rattle.stream_check.specs.Grammar.{first_fault, short_fault, image_pages};
     ghost use Rattle.stream_check.specs.declared.fault.StreamFault.{StreamFault};
-    ghost use Rattle.stream_in.specs.Stops.{IsFault, IsOfOpen, IsOfFeed, IsOfFinish, IfNoSwap};
+    ghost use Rattle.stream_in.specs.Stops.{IsDiskStop, IsOfOpen, IsOfFeed, IsOfFinish, IfNoSwap};
     ghost use Rattle.stream_in.specs.Session.{IsOpened, IsFed, IsGoing, IsSession, HasTooFewFor, TakesInto};
     ghost use Rattle.stream_in.specs.declared.stop.InStop.{InStop};
     ghost use Rattle.stream_in.specs.declared.stop.InStop.TheVariants as stop;
@@ -76,7 +76,7 @@ impl StreamIn {
         ensures count { IfOk result (λ s. s.blocks ≡ D.block_count disk.old) }
 
         ensures content { D.content disk.new ≡ D.content disk.old }
-        ensures cause { IfErr result (λ why. IsFault why → HasRisen (D.faults disk.old) (D.faults disk.new)) }
+        ensures cause { IfErr result (λ why. IsDiskStop why → HasRisen (D.faults disk.old) (D.faults disk.new)) }
         ensures faults { D.faults disk.old ≤ D.faults disk.new }
         ensures calls { D.calls disk.new ≤ D.calls disk.old + 1 }
         ensures orders { D.orders disk.new ≡ D.orders disk.old }
@@ -158,7 +158,7 @@ impl StreamIn {
         ensures same { self.new.blocks ≡ self.old.blocks }
         ensures map { self.new.map ≡ self.old.map }
 
-        ensures cause { IsGoing self.old → IfErr result (λ why. IsFault why → HasRisen (D.faults disk.old) (D.faults disk.new)) }
+        ensures cause { IsGoing self.old → IfErr result (λ why. IsDiskStop why → HasRisen (D.faults disk.old) (D.faults disk.new)) }
         ensures faults { D.faults disk.old ≤ D.faults disk.new }
         ensures calls { (free bs : List ℕ) → IsFed free bs self.old →
             D.calls disk.new ≤ D.calls disk.old + 3 * (length (bs ++ piece.now) / 4096 - length bs / 4096) }
@@ -206,7 +206,7 @@ impl StreamIn {
         ensures same { self.new.blocks ≡ self.old.blocks }
         ensures map { self.new.map ≡ self.old.map }
 
-        ensures cause { IfErr result (λ why. IsFault why → HasRisen (D.faults disk.old) (D.faults disk.new)) }
+        ensures cause { IfErr result (λ why. IsDiskStop why → HasRisen (D.faults disk.old) (D.faults disk.new)) }
         ensures faults { D.faults disk.old ≤ D.faults disk.new }
         ensures calls { D.calls disk.new ≤ D.calls disk.old + 3 * ((begun + length part.now) / 4096) }
         ensures orders { D.orders disk.new ≡ D.orders disk.old }
@@ -255,7 +255,7 @@ impl StreamIn {
         ensures no_swap { IsGoing self → IfErr result (λ why. IfNoSwap why (λ reason. IfSome (D.content disk.old)
             (λ held. kind_fault (area_kind (block (as_it_reads held) 0)) ≡ Some reason))) }
 
-        ensures cause { IsGoing self → IfErr result (λ why. IsFault why → HasRisen (D.faults disk.old) (D.faults disk.new)) }
+        ensures cause { IsGoing self → IfErr result (λ why. IsDiskStop why → HasRisen (D.faults disk.old) (D.faults disk.new)) }
         ensures faults { D.faults disk.old ≤ D.faults disk.new }
         ensures calls { D.calls disk.new ≤ D.calls disk.old + 6 }
         ensures orders { D.orders disk.new ≡ D.orders disk.old }

@@ -1,5 +1,5 @@
 ghost use Rattle.std.specs.Prelude.{◌≡◌, ℕ, ◌+◌, ◌-◌, ◌<◌, ◌≤◌, ◌↔◌, IsTrue, IsOk, IsNone, IfOk, IfSome, List, length};
-ghost use Rattle.definitions.specs.Slots.{block_of, extent_at, slots_before, slots_of, LieApart, IsInOrder, IsFileMap, IsFault};
+ghost use Rattle.definitions.specs.Slots.{block_of, extent_at, slots_before, slots_of, LieApart, IsInOrder, IsFileMap, IsExtentFault};
 ghost use Rattle.swap_slots.specs.Extents.{Follows};
 
 use std::marker::Model;
@@ -37,7 +37,7 @@ impl FileMap {
     pub fn of(extents: &[(u32, u32, u32)], slots: u32) -> Result<FileMap, u32>
         ensures ok { IsOk result ↔ IsFileMap extents.now slots }
         ensures map { IfOk result (λ map. map ≡ extents.now) }
-        ensures refused { (at : ℕ) → (result ≡ Err at) ↔ IsFault extents.now slots at }
+        ensures refused { (at : ℕ) → (result ≡ Err at) ↔ IsExtentFault extents.now slots at }
     {
         if extents.is_empty() || extents.len() > MOST_EXTENTS {
             return Err(0);

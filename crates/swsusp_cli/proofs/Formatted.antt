@@ -20,7 +20,7 @@ pub record CanFormat (script : ScriptValue) (blocks : ℕ) : Type 0 where
 
 -- The disk afterwards.
 
-header_within : (h : Hardware) (v : disk.Image) → block_of_slot h 0 < blocks_of v → header_of h v ≡ disk.block v (block_of_slot h 0)
+header_within : (h : Hardware) (v : disk.DiskImage) → block_of_slot h 0 < blocks_of v → header_of h v ≡ disk.block v (block_of_slot h 0)
 header_within h v within = ap (λ (t : Bool). cond t (disk.block v (block_of_slot h 0)) zero_page) (lt-ltb (block_of_slot h 0) (blocks_of v) within)
 
 -- it carries no mark
@@ -61,7 +61,7 @@ formats_leaves h blocks last bad b c d whole formats other = record {
       let is = IsImage-after_sync mid d v formats.2 in' in
       let stays = sector_stays (block_of_slot h 0) b s c mid others other low high in
       let reads : slice_index_or v s [] ≡ slice_index_or (disk.as_it_reads c) s [] =
-      ap (λ (u : disk.Image). slice_index_or u s []) is ∙ live_at mid s ∙ ap (λ (x : disk.Sector). x.live) stays ∙ sym (live_at c s) in
+      ap (λ (u : disk.DiskImage). slice_index_or u s []) is ∙ live_at mid s ∙ ap (λ (x : disk.Sector). x.live) stays ∙ sym (live_at c s) in
       let size : length v ≡ length c = ap length is ∙ length-as_it_reads mid ∙ others.size in
       subst (Contains (disk.sector c s).candidates) (sym reads) ((IsImage-as_it_reads blocks c whole).chosen s (omega arith));
 }

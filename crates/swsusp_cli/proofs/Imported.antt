@@ -4,7 +4,7 @@ use Rattle.std.proofs.lemmas.Bool.{and_parts, leb-true, cond-true}
 use Rattle.std.proofs.lemmas.Bool.Decides.{eqb_tells}
 use Rattle.std.proofs.lemmas.List.Elements.{Contains-get_or}
 use Rattle.definitions.specs.Disk.{Sector, Content, Changes, HasRisen, as_it_reads, block, sector}
-use Rattle.definitions.specs.Streams.{IsOver}
+use Rattle.definitions.specs.Streams.{IsUsedUp}
 use Rattle.definitions.specs.SwapHeader.{marked}
 use Rattle.definitions.proofs.DiskLaws.{block-same, length-as_it_reads}
 use Rattle.sig_header.specs.AreaKind.{area_kind}
@@ -27,7 +27,7 @@ use Rattle.stream_in.specs.Marking.{Marks, LeavesAt}
 use Rattle.stream_in.specs.Outside.{IsBlockOf, KeepsOutside}
 use Rattle.stream_in.specs.Putting.{writes_after}
 use Rattle.stream_in.specs.Session.{IsOpened, IsOutput}
-use Rattle.stream_in.specs.Stops.{IsFault, IsOfOpen, IsOfFinish, IfNoSwap}
+use Rattle.stream_in.specs.Stops.{IsDiskStop, IsOfOpen, IsOfFinish, IfNoSwap}
 use Rattle.stream_in.specs.Written.{page_at}
 use Rattle.stream_in.specs.declared.session.StreamIn.{StreamIn}
 use Rattle.stream_in.specs.declared.stop.InStop.{InStop}
@@ -239,7 +239,7 @@ ends_stopped area free bs why s left left' d e f opened stopped = by_why why sto
   called : IsCalled (1 + 3 * (length bs / 4096)) d f
   called = called_then 1 (3 * (length bs / 4096)) (1 + 3 * (length bs / 4096)) d e f opened.called stopped.called (omega arith)
 
-  by_why : (why : InStop) → IsStopFor free bs why → (IsFault why → HasRisen e.faults f.faults) → Ends left left' d f (Err (Session why))
+  by_why : (why : InStop) → IsStopFor free bs why → (IsDiskStop why → HasRisen e.faults f.faults) → Ends left left' d f (Err (Session why))
   by_why stop.NoMemory is risen = absurd is
   by_why (stop.NoSwap why) is risen = absurd is
   by_why (stop.NoSlots told need) is risen = (area, free, bs, record { area_is = opened.area_is; bytes = bytes; too_few = is; content = content; called = called })
@@ -260,7 +260,7 @@ not_short : (bs : List ℕ) (r : Result ℕ InStop) (n : ℕ) (o : Option Stream
 not_short bs r n None is short e = refl
 not_short bs r n (Some fault) is short e = let not = (short fault).1 e in cc
 
-pub ends_imported : (area : Area) (free bs : List ℕ) (s s' : StreamIn) (r : Result ℕ InStop) (n : ℕ) (left left' : Option (List ℕ)) (d e f g : DiskView) → HasOpened area free s d e → HasFed free bs s s' left left' e f → IsOver left' →
+pub ends_imported : (area : Area) (free bs : List ℕ) (s s' : StreamIn) (r : Result ℕ InStop) (n : ℕ) (left left' : Option (List ℕ)) (d e f g : DiskView) → HasOpened area free s d e → HasFed free bs s s' left left' e f → IsUsedUp left' →
     r ≡ Ok n → n ≡ image_pages bs → ((fault : StreamFault) → (r ≡ Err (stop.Stream fault)) ↔ (short_fault bs ≡ Some fault)) → Changes (Marks (laid_block s'.map free 0)) f.content g.content → Changes (ComesIn area free bs) f.content g.content → IsCalled 6 f g →
     Ends left left' d g (Ok n)
 ends_imported area free bs s s' r n left left' d e f g opened fed over is pages short marks comes called =
@@ -295,7 +295,7 @@ ends_imported area free bs s s' r n left left' d e f g opened fed over is pages 
 
 -- The area wasn't opened.
 pub ends_unopened : (why : InStop) (left left' : Option (List ℕ)) (d e : DiskView) → IsOfOpen why → IfNoSwap why (λ reason. IfSome d.content (λ held. open_fault d.blocks (area_kind (first_block d.blocks (as_it_reads held))) ≡ Some reason)) →
-    (why ≡ stop.NoMemory → e ≡ d) → left' ≡ left → e.content ≡ d.content → IsCalled 1 d e → (IsFault why → HasRisen d.faults e.faults) → Ends left left' d e (Err (Session why))
+    (why ≡ stop.NoMemory → e ≡ d) → left' ≡ left → e.content ≡ d.content → IsCalled 1 d e → (IsDiskStop why → HasRisen d.faults e.faults) → Ends left left' d e (Err (Session why))
 ends_unopened stop.NoMemory left left' d e of says untouched unread content called risen = (unread, untouched refl)
 ends_unopened (stop.NoSwap why) left left' d e of says untouched unread content called risen = inl (record { says = says; unread = unread; content = content; called = called })
 ends_unopened (stop.NoSlots told need) left left' d e of says untouched unread content called risen = absurd of
@@ -321,9 +321,9 @@ untold area free bs reason blocks (Some x) (Some y) some slots holds is fault =
 marks_not : (why : InStop) (area : Area) (free bs : List ℕ) (x y z : Content) → AreUsable area free → Holds (whole_map area) free bs x y → LeavesAt why y z → MarksNot why area free bs x z
 marks_not why area free bs x y z slots holds leaves = (y, has_written area free bs x y slots holds, leaves)
 
-pub ends_unfinished : (area : Area) (free bs : List ℕ) (s s' : StreamIn) (r : Result ℕ InStop) (why : InStop) (left left' : Option (List ℕ)) (d e f g : DiskView) → HasOpened area free s d e → HasFed free bs s s' left left' e f → IsOver left' →
+pub ends_unfinished : (area : Area) (free bs : List ℕ) (s s' : StreamIn) (r : Result ℕ InStop) (why : InStop) (left left' : Option (List ℕ)) (d e f g : DiskView) → HasOpened area free s d e → HasFed free bs s s' left left' e f → IsUsedUp left' →
     r ≡ Err why → IsOfFinish why → ((fault : StreamFault) → (r ≡ Err (stop.Stream fault)) ↔ (short_fault bs ≡ Some fault)) → IfNoSwap why (λ reason. IfSome f.content (λ held. kind_fault (area_kind (block (as_it_reads held) 0)) ≡ Some reason)) →
-    ((fault : StreamFault) → r ≡ Err (stop.Stream fault) → g ≡ f) → Changes (LeavesAt why) f.content g.content → IsCalled 6 f g → (IsFault why → HasRisen f.faults g.faults) → Ends left left' d g (Err (Session why))
+    ((fault : StreamFault) → r ≡ Err (stop.Stream fault) → g ≡ f) → Changes (LeavesAt why) f.content g.content → IsCalled 6 f g → (IsDiskStop why → HasRisen f.faults g.faults) → Ends left left' d g (Err (Session why))
 ends_unfinished area free bs s s' r why left left' d e f g opened fed over is of short no_swap untouched leaves called risen = by_why why is of no_swap leaves risen where
   sound : first_fault bs ≡ None
   sound = fed.fed.taken.read.sound
@@ -367,7 +367,7 @@ ends_unfinished area free bs s s' r why left left' d e f g opened fed over is of
     },
   )
 
-  by_why : (why : InStop) → r ≡ Err why → IsOfFinish why → IfNoSwap why (λ reason. IfSome f.content (λ held. kind_fault (area_kind (block (as_it_reads held) 0)) ≡ Some reason)) → Changes (LeavesAt why) f.content g.content → (IsFault why → HasRisen f.faults g.faults) → Ends left left' d g (Err (Session why))
+  by_why : (why : InStop) → r ≡ Err why → IsOfFinish why → IfNoSwap why (λ reason. IfSome f.content (λ held. kind_fault (area_kind (block (as_it_reads held) 0)) ≡ Some reason)) → Changes (LeavesAt why) f.content g.content → (IsDiskStop why → HasRisen f.faults g.faults) → Ends left left' d g (Err (Session why))
   by_why stop.NoMemory is of no_swap leaves risen = absurd of
   by_why (stop.NoSwap reason) is of no_swap leaves risen =
       let other : (fault : StreamFault) → stop.NoSwap reason ≡ stop.Stream fault → ⊥ = λ fault e. cc in

@@ -4,7 +4,7 @@ use Rattle.std.proofs.lemmas.List.{take_all, length-take}
 use Rattle.std.proofs.Math.Nat.{min-le_left, min-le_right}
 use Rattle.std.proofs.lemmas.Bool.{lt-ltb, false≢true}
 use Rattle.std.proofs.lemmas.Option.{none-some}
-use Rattle.definitions.specs.Streams.{IsOver, HandsOut}
+use Rattle.definitions.specs.Streams.{IsUsedUp, HandsOut}
 use Rattle.script.specs.Grammar.{ScriptValue, script_of, value_of, line_count, lines_of}
 use Rattle.script.specs.declared.fault.FaultKind.TheVariants as kind
 use Rattle.script.specs.declared.fault.ScriptFault.{ScriptFault}
@@ -36,7 +36,7 @@ script_read (Some old) None items bytes answer read says e = absurd read
 script_read (Some old) (Some new) items bytes answer read says e = ap script_of (sym (ap value_or e)) ∙ same_script old items new read.0 read.1 ∙ says
 
 -- a script that isn't too long was read to its end
-pub read_over : (before after : Option (List ℕ)) (items : List ℕ) (script : ScriptValue) → IsReadAs before items after → script_of items ≡ Ok script → IsOver after
+pub read_over : (before after : Option (List ℕ)) (items : List ℕ) (script : ScriptValue) → IsReadAs before items after → script_of items ≡ Ok script → IsUsedUp after
 read_over None None items script read says = tt
 read_over None (Some new) items script read says = absurd read
 read_over (Some old) None items script read says = absurd read

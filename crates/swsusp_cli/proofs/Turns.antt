@@ -30,7 +30,7 @@ use Rattle.protocol_laws.proofs.ReplaySteps.{same_steps, stays_of_replay}
 use Rattle.swsusp_cli.proofs.Blocks.{unwritten_here}
 
 -- a run and one step more
-pub run_more : (h : Hardware) (v : disk.Image) (a : State) (es : List Event) (rs : List Reply) (b : State) (e : Event) (r : Reply) (b' : State) → Run h v a es rs b → Step h v b e r b' → Run h v a (es ++ e ∷ []) (rs ++ r ∷ []) b'
+pub run_more : (h : Hardware) (v : disk.DiskImage) (a : State) (es : List Event) (rs : List Reply) (b : State) (e : Event) (r : Reply) (b' : State) → Run h v a es rs b → Step h v b e r b' → Run h v a (es ++ e ∷ []) (rs ++ r ∷ []) b'
 run_more h v a [] [] b e r b' run step = (b', subst (λ (s : State). Step h v s e r b') run step, refl)
 run_more h v a [] (q ∷ rs) b e r b' run step = absurd run
 run_more h v a (d ∷ es) [] b e r b' run step = absurd run
@@ -73,10 +73,10 @@ whole_of blocks told c e h = subst (λ (o : Option disk.Content). IfSome o (disk
 
 -- One area.
 
-same_area : (h : Hardware) (v : disk.Image) → IsSameArea h v v
+same_area : (h : Hardware) (v : disk.DiskImage) → IsSameArea h v v
 same_area h v = record { blocks = refl; header = record { front = refl; signature = refl } }
 
-same_area_then : (h : Hardware) (u v w : disk.Image) → IsSameArea h u v → IsSameArea h v w → IsSameArea h u w
+same_area_then : (h : Hardware) (u v w : disk.DiskImage) → IsSameArea h u v → IsSameArea h v w → IsSameArea h u w
 same_area_then h u v w first then = record {
   blocks = then.blocks ∙ first.blocks;
   header = record { front = then.header.front ∙ first.header.front; signature = then.header.signature ∙ first.header.signature };

@@ -2,7 +2,7 @@
 use Rattle.std.specs.Prelude.{◌≡◌, ◌≤◌, ◌+◌, ℕ, List, [], ◌++◌, codes, decimal, Bool, true, false, if◌then◌else◌, Option, Some, Ok, Err}
 use Rattle.page_core.specs.declared.format.Format.{Format}
 use Rattle.definitions.specs.Disk as disk
-use Rattle.definitions.specs.Streams.{IsOver}
+use Rattle.definitions.specs.Streams.{IsUsedUp}
 use Rattle.dump_file.specs.Dump.{DumpValue, dump_of}
 use Rattle.dump_file.specs.declared.dump.DumpFault.{DumpFault}
 use Rattle.dump_file.specs.declared.dump.DumpKind.{DumpKind}
@@ -48,7 +48,7 @@ pub record IsNoDump (x x' : View) (status : Status) (fault : DumpFault) : Type 0
 -- what was left is this dump, and is read to its end
 pub record IsDump (x x' : View) (dump : DumpValue) : Type 0 where
   pub says : (bytes : List ℕ) → x.left ≡ Some bytes → dump_of bytes ≡ Ok dump
-  pub over : IsOver x'.left
+  pub over : IsUsedUp x'.left
 
 -- What is told at the end: the line of the last reply, on out after a hibernation that ended well, else on note. The status says
 -- whether it was refused, or a call of the disk failed.
@@ -68,7 +68,7 @@ hibernation_told ended = if is_hibernated ended.reply then record { status = Don
 pub record HasAnswered (f : Format) (size : Option ℕ) (x x' : View) (status : Status) (dump : DumpValue) (ended : Ended) : Type 0 where
   pub dump_is : IsDump x x' dump
   pub told : Tells (hibernation_told ended) status x x'
-  pub ends : (v : disk.Image) → x.disk.content ≡ Some (disk.settled v) → (Marked dump.hw v → HasOriginal dump.hw v) → HasHibernated dump.hw (machine_to_save dump.hw dump.memory size v) f v ended x'.disk.content
+  pub ends : (v : disk.DiskImage) → x.disk.content ≡ Some (disk.settled v) → (Marked dump.hw v → HasOriginal dump.hw v) → HasHibernated dump.hw (machine_to_save dump.hw dump.memory size v) f v ended x'.disk.content
   pub calls : x'.disk.calls ≤ x.disk.calls + 66002
   pub orders : x'.disk.orders ≡ x.disk.orders
 
@@ -81,6 +81,6 @@ pub data Hibernates (f : Format) (size : Option ℕ) (x x' : View) (status : Sta
 
 -- A crash since the command began leaves no image that is marked and doesn't hold the image of the dump that was read, over a disk that had
 -- one image, which wasn't marked. `left` is what the input had, `told` what the disk held, and `since` what a crash may leave.
-pub record SavesInside (f : Format) (size : Option ℕ) (left : Option (List ℕ)) (told : Option disk.Content) (since : disk.Image → Type 0) : Type 0 where
-  pub leaves : (bytes : List ℕ) (dump : DumpValue) (v w : disk.Image) → left ≡ Some bytes → dump_of bytes ≡ Ok dump → told ≡ Some (disk.settled v) → (Marked dump.hw v → ⊥) →
+pub record SavesInside (f : Format) (size : Option ℕ) (left : Option (List ℕ)) (told : Option disk.Content) (since : disk.DiskImage → Type 0) : Type 0 where
+  pub leaves : (bytes : List ℕ) (dump : DumpValue) (v w : disk.DiskImage) → left ≡ Some bytes → dump_of bytes ≡ Ok dump → told ≡ Some (disk.settled v) → (Marked dump.hw v → ⊥) →
       since w → IsUnmarkedOrHolds dump.hw (image_to_save dump.hw (machine_to_save dump.hw dump.memory size v) f) w

@@ -1,13 +1,13 @@
 -- A session that is fed what a source hands out.
 use Rattle.std.specs.Prelude.{◌≡◌, ◌≤◌, ℕ, ◌+◌, ◌*◌, ◌/◌, List, length, Option, Some, Result, Ok, Err, ⊤}
 use Rattle.definitions.specs.Disk.{Content, Changes, HasRisen, as_it_reads}
-use Rattle.definitions.specs.Streams.{HandsOut, IsOver}
+use Rattle.definitions.specs.Streams.{HandsOut, IsUsedUp}
 use Rattle.plain_machine.specs.declared.reply.Left.TheVariants.{Same}
 use Rattle.stream_check.specs.Grammar.{first_fault}
 use Rattle.stream_check.specs.Taken.{most_bytes}
 use Rattle.stream_in.specs.Outside.{KeepsOutside}
 use Rattle.stream_in.specs.Session.{IsFed, HasTooFewFor}
-use Rattle.stream_in.specs.Stops.{IsFault}
+use Rattle.stream_in.specs.Stops.{IsDiskStop}
 use Rattle.stream_in.specs.Written.{AreWritten}
 use Rattle.stream_in.specs.declared.session.StreamIn.{StreamIn}
 use Rattle.stream_in.specs.declared.stop.InStop.{InStop}
@@ -54,12 +54,12 @@ pub record HasStopped (free bs : List ℕ) (why : InStop) (s : StreamIn) (left l
   pub few : length bs ≤ most_bytes + 1
   pub content : Changes (KeepsOutside s.map free) d.content d'.content
   pub called : IsCalled (3 * (length bs / 4096)) d d'
-  pub risen : IsFault why → HasRisen d.faults d'.faults
+  pub risen : IsDiskStop why → HasRisen d.faults d'.faults
 
 -- the disk failed, or the source
 abbrev pub IsOfDisk : ImportStop → Type 0
 IsOfDisk Source = ⊥
-IsOfDisk (Session why) = IsFault why
+IsOfDisk (Session why) = IsDiskStop why
 
 abbrev pub IsOfSource : ImportStop → Type 0
 IsOfSource Source = ⊤
@@ -67,6 +67,6 @@ IsOfSource (Session why) = ⊥
 
 -- The input came to its end; or it failed; or the session stopped.
 abbrev pub Feeds : List ℕ → StreamIn → StreamIn → Option (List ℕ) → Option (List ℕ) → DiskView → DiskView → Result (Unit {0}) ImportStop → Type 0
-Feeds free s s' left left' d d' (Ok u) = (bs : List ℕ) × HasFed free bs s s' left left' d d' × IsOver left'
+Feeds free s s' left left' d d' (Ok u) = (bs : List ℕ) × HasFed free bs s s' left left' d d' × IsUsedUp left'
 Feeds free s s' left left' d d' (Err Source) = (bs : List ℕ) × HasFed free bs s s' left left' d d'
 Feeds free s s' left left' d d' (Err (Session why)) = (bs : List ℕ) × HasStopped free bs why s left left' d d'

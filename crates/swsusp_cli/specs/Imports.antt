@@ -1,7 +1,7 @@
 -- How `import` may end: the area is opened, the input's bytes go into it as they are read, and it is marked.
 use Rattle.std.specs.Prelude.{◌≡◌, ◌≤◌, ◌<◌, ◌⊎◌, ℕ, ◌+◌, ◌*◌, ◌/◌, List, [], ◌∷◌, ◌++◌, length, codes, decimal, Option, Some, None, Result, Ok, Err, IfSome, Contains}
-use Rattle.definitions.specs.Disk.{Changes, Content, HasRisen, Image, IsImage, as_it_reads, block, sector, settled}
-use Rattle.definitions.specs.Streams.{HandsOut, IsOver}
+use Rattle.definitions.specs.Disk.{Changes, Content, HasRisen, DiskImage, IsImage, as_it_reads, block, sector, settled}
+use Rattle.definitions.specs.Streams.{HandsOut, IsUsedUp}
 use Rattle.definitions.specs.SwapHeader.{marked}
 use Rattle.sig_header.specs.AreaKind.{area_kind}
 use Rattle.sig_header.specs.declared.area.Area.{Area}
@@ -96,7 +96,7 @@ pub record Stores (area : Area) (free bs : List ℕ) (old new : Content) : Type 
   pub one_image : new ≡ settled (as_it_reads new)
   pub header : block (as_it_reads new) 0 ≡ marked (block (as_it_reads old) 0) (laid_block (whole_map area) free 0) 2 0
   pub laid : ReadAsMade (whole_map area) free (all_pages bs) (page_at bs) (all_pages bs + maps_of (all_pages bs)) (as_it_reads new)
-  pub comes_in : (v : Image) → IsImage new v → HasComeIn area bs v
+  pub comes_in : (v : DiskImage) → IsImage new v → HasComeIn area bs v
   pub others : (b : ℕ) → 0 < b → (IsUsable area b → ⊥) → block (as_it_reads new) b ≡ block (as_it_reads old) b
 
 -- All was written, and then a call failed by which the area was to be marked; what it says that is left of the image.
@@ -120,7 +120,7 @@ IsStream bs = (first_fault bs ≡ None) × (short_fault bs ≡ None)
 
 -- the first fault of the bytes so far, or they are all that there is and no whole stream
 abbrev pub HasStreamFault : List ℕ → StreamFault → Option (List ℕ) → Type 0
-HasStreamFault bs fault left' = (first_fault bs ≡ Some fault) ⊎ ((first_fault bs ≡ None) × (short_fault bs ≡ Some fault) × IsOver left')
+HasStreamFault bs fault left' = (first_fault bs ≡ Some fault) ⊎ ((first_fault bs ≡ None) × (short_fault bs ≡ Some fault) × IsUsedUp left')
 
 -- What was done. The disk is called once to open the area, three times at most for each page that is read whole, and six times at
 -- most to mark it.
@@ -129,7 +129,7 @@ HasStreamFault bs fault left' = (first_fault bs ≡ Some fault) ⊎ ((first_faul
 pub record IsImported (n : ℕ) (area : Area) (free bs : List ℕ) (left left' : Option (List ℕ)) (d d' : DiskView) : Type 0 where
   pub area_is : IsArea d area free
   pub bytes : AreRead bs left left'
-  pub over : IsOver left'
+  pub over : IsUsedUp left'
   pub stream : IsStream bs
   pub pages : n ≡ image_pages bs
   pub enough : all_pages bs + 1026 ≤ length free
@@ -151,7 +151,7 @@ pub record HasNoArea (why : NoSwap) (left left' : Option (List ℕ)) (d d' : Dis
 pub record HasNoMore (left left' : Option (List ℕ)) (d d' : DiskView) : Type 0 where
   pub bs : List ℕ
   pub bytes : AreRead bs left left'
-  pub over : IsOver left'
+  pub over : IsUsedUp left'
   pub stream : IsStream bs
   pub untold : d.content ≡ None
   pub called : IsCalled (7 + 3 * (length bs / 4096)) d d'
@@ -199,7 +199,7 @@ pub record IsUnwritten (area : Area) (free bs : List ℕ) (left left' : Option (
 pub record IsUnmarked (why : InStop) (area : Area) (free bs : List ℕ) (left left' : Option (List ℕ)) (d d' : DiskView) : Type 0 where
   pub area_is : IsArea d area free
   pub bytes : AreRead bs left left'
-  pub over : IsOver left'
+  pub over : IsUsedUp left'
   pub stream : IsStream bs
   pub content : Changes (MarksNot why area free bs) d.content d'.content
   pub called : IsCalled (7 + 3 * (length bs / 4096)) d d'

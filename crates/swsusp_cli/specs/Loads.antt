@@ -36,7 +36,7 @@ resume_told h m ended = if is_resumed ended.reply then written_told h m else sto
 pub record HasLoaded (check : IdentCheck) (x x' : View) (status : Status) (dump : DumpValue) (memory : Memory) (ended : Ended) : Type 0 where
   pub dump_is : IsDump x x' dump
   pub told : Tells (resume_told dump.hw memory ended) status x x'
-  pub ends : (v : disk.Image) → x.disk.content ≡ Some (disk.settled v) → (Marked dump.hw v → HasOriginal dump.hw v) → HasResumed dump.hw dump.memory check v memory ended x'.disk.content
+  pub ends : (v : disk.DiskImage) → x.disk.content ≡ Some (disk.settled v) → (Marked dump.hw v → HasOriginal dump.hw v) → HasResumed dump.hw dump.memory check v memory ended x'.disk.content
   pub calls : x'.disk.calls ≤ x.disk.calls + 66000
   pub orders : x'.disk.orders ≡ x.disk.orders
 
@@ -48,6 +48,6 @@ pub data Resumes (check : IdentCheck) (x x' : View) (status : Status) : Type 0 w
   answered : (dump : DumpValue) (memory : Memory) (ended : Ended) → HasLoaded check x x' status dump memory ended → Resumes check x x' status
 
 -- A crash since the command began leaves the disk as it was, but for block(0), which is as it was or taken back.
-pub record LoadsInside (left : Option (List ℕ)) (told : Option disk.Content) (since : disk.Image → Type 0) : Type 0 where
-  pub leaves : (bytes : List ℕ) (dump : DumpValue) (v w : disk.Image) → left ≡ Some bytes → dump_of bytes ≡ Ok dump → told ≡ Some (disk.settled v) → (Marked dump.hw v → HasOriginal dump.hw v) →
+pub record LoadsInside (left : Option (List ℕ)) (told : Option disk.Content) (since : disk.DiskImage → Type 0) : Type 0 where
+  pub leaves : (bytes : List ℕ) (dump : DumpValue) (v w : disk.DiskImage) → left ≡ Some bytes → dump_of bytes ≡ Ok dump → told ≡ Some (disk.settled v) → (Marked dump.hw v → HasOriginal dump.hw v) →
       since w → IsTakenBack dump.hw v w

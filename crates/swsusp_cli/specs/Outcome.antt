@@ -1,7 +1,7 @@
 -- How a replay may end.
 use Rattle.std.specs.Prelude.{◌≡◌, ◌≤◌, ◌<◌, ℕ, List, [], length, Some, Ok, Err}
 use Rattle.definitions.specs.Disk as disk
-use Rattle.definitions.specs.Streams.{IsOver}
+use Rattle.definitions.specs.Streams.{IsUsedUp}
 use Rattle.script.specs.Grammar.{ScriptValue, script_of}
 use Rattle.script.specs.declared.fault.ScriptFault.{ScriptFault}
 use Rattle.swsusp_cli.specs.Answer.{Told, memory_told}
@@ -35,7 +35,7 @@ Tells told status x x' = IsTold told status x.out x'.out x.note x'.note
 -- what was left is this script, and is read to its end
 pub record IsScript (x x' : View) (script : ScriptValue) : Type 0 where
   pub says : (bytes : List ℕ) → x.left ≡ Some bytes → script_of bytes ≡ Ok script
-  pub over : IsOver x'.left
+  pub over : IsUsedUp x'.left
   pub few : length script.events ≤ 100000
 
 -- the input is no script: its first fault is told, and the disk isn't called

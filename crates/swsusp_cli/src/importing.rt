@@ -1,9 +1,9 @@
 ghost use Rattle.std.specs.Prelude.{◌≡◌, ◌≢◌, ◌⊎◌, ◌≤◌, ◌<◌, ◌++◌, List, ℕ, [], IfOk, IfErr, OnErr, length, vec_len};
 ghost use Rattle.definitions.specs.Disk.{HasRisen};
-ghost use Rattle.definitions.specs.Streams.{HandsOut, IsOver};
+ghost use Rattle.definitions.specs.Streams.{HandsOut, IsUsedUp};
 ghost use Rattle.plain_machine.specs.Replies.{line_of};
 ghost use Rattle.stream_in.specs.Session.{IsFed};
-ghost use Rattle.stream_in.specs.Stops.{IsFault};
+ghost use Rattle.stream_in.specs.Stops.{IsDiskStop};
 ghost use Rattle.stream_in.specs.Written.{AreOfMap};
 ghost use Rattle.swsusp_cli.specs.Answer.{Told};
 ghost use Rattle.swsusp_cli.specs.AnswerOf.{told_by};
@@ -140,7 +140,7 @@ fn read_piece<I: Source>(input: &mut I, piece: &mut [u8], most: usize) -> Result
     ensures count { IfOk result (λ k. k ≤ length piece.new) }
     ensures few { IfOk result (λ k. k ≤ most) }
     ensures bytes { IfOk result (λ k. HandsOut k piece.new (I.remaining input.old) (I.remaining input.new)) }
-    ensures end { IfOk result (λ k. k ≡ 0 → IsOver (I.remaining input.new)) }
+    ensures end { IfOk result (λ k. k ≡ 0 → IsUsedUp (I.remaining input.new)) }
     ensures failed { OnErr result (I.remaining input.new ≡ I.remaining input.old) }
     ensures counted { I.faults input.old ≤ I.faults input.new }
     ensures cause { OnErr result (HasRisen (I.faults input.old) (I.faults input.new)) }
@@ -170,7 +170,7 @@ fn not_imported(stop: InStop) -> Answer
     ensures told { told_by result ≡ stop_told stop }
     ensures stream { result.status ≢ Status.Stream }
     ensures words { result.status ≢ Status.Words }
-    ensures device { result.status ≡ Status.Device → IsFault stop }
+    ensures device { result.status ≡ Status.Device → IsDiskStop stop }
 {
     match stop {
         InStop::NoMemory => no_memory(),

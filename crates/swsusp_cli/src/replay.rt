@@ -1,6 +1,6 @@
 ghost use Rattle.std.specs.Prelude.{◌≡◌, ◌≢◌, ◌⊎◌, ◌≤◌, ◌+◌, ◌<◌, ◌^◌, Some, Ok, Err, IfOk, List, ℕ, All, length};
 ghost use Rattle.definitions.specs.Disk.{HasRisen};
-ghost use Rattle.definitions.specs.Streams.{IsOver};
+ghost use Rattle.definitions.specs.Streams.{IsUsedUp};
 ghost use Rattle.script.specs.Grammar.{ScriptValue};
 ghost use Rattle.plain_machine.specs.Fitting.{IsFitting};
 ghost use Rattle.swsusp_cli.specs.AnswerOf.{told_by};

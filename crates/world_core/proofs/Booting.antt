@@ -27,20 +27,20 @@ use Rattle.world_core.proofs.Rows.{same_area, accepted_step, refused_step, row_a
 
 -- What a smaller choice of images keeps.
 
-pub held_by_images : (h : Hardware) (c c' : disk.Content) (held : Held) → ((v : disk.Image) → disk.IsImage c' v → disk.IsImage c v) → IsHeld h c held → IsHeld h c' held
+pub held_by_images : (h : Hardware) (c c' : disk.Content) (held : Held) → ((v : disk.DiskImage) → disk.IsImage c' v → disk.IsImage c v) → IsHeld h c held → IsHeld h c' held
 held_by_images h c c' nothing fewer is = λ v in'. is v (fewer v in')
 held_by_images h c c' (sure (own i)) fewer is = λ v in'. is v (fewer v in')
 held_by_images h c c' (sure other) fewer is = λ v in'. is v (fewer v in')
 held_by_images h c c' (maybe (own i)) fewer is = λ v in'. is v (fewer v in')
 held_by_images h c c' (maybe other) fewer is = is
 
-pub header_by_images : (h : Hardware) (c c' : disk.Content) → ((v : disk.Image) → disk.IsImage c' v → disk.IsImage c v) → disk.as_it_reads c' ≡ disk.as_it_reads c → IsHeader h c → IsHeader h c'
+pub header_by_images : (h : Hardware) (c c' : disk.Content) → ((v : disk.DiskImage) → disk.IsImage c' v → disk.IsImage c v) → disk.as_it_reads c' ≡ disk.as_it_reads c → IsHeader h c → IsHeader h c'
 header_by_images h c c' fewer reads is = record {
   unmarked = λ v in'. is.unmarked v (fewer v in');
-  one = λ v in'. subst (λ (w : disk.Image). AgreeOnArea (area_block h v) (area_block h w)) (sym reads) (is.one v (fewer v in'));
+  one = λ v in'. subst (λ (w : disk.DiskImage). AgreeOnArea (area_block h v) (area_block h w)) (sym reads) (is.one v (fewer v in'));
 }
 
-pub fewer_after_sync : (blocks : ℕ) (c c' : disk.Content) → disk.IsContent blocks c → disk.Syncs c c' → (v : disk.Image) → disk.IsImage c' v → disk.IsImage c v
+pub fewer_after_sync : (blocks : ℕ) (c c' : disk.Content) → disk.IsContent blocks c → disk.Syncs c c' → (v : disk.DiskImage) → disk.IsImage c' v → disk.IsImage c v
 fewer_after_sync blocks c c' whole syncs v in' = subst (disk.IsImage c) (sym (IsImage-after_sync c c' v syncs in')) (IsImage-as_it_reads blocks c whole)
 
 pub reads_after_sync : (c c' : disk.Content) → disk.Syncs c c' → disk.as_it_reads c' ≡ disk.as_it_reads c

@@ -6,7 +6,7 @@ use Rattle.std.proofs.lemmas.Option.{none-some}
 use Rattle.definitions.specs.Bytes.{IsPage}
 use Rattle.definitions.specs.Disk as disk
 use Rattle.definitions.specs.Lists.{saveable_frames}
-use Rattle.definitions.specs.Tables.{HasTable, entry_at, flags_of, owner_of, is_saveable, with_entry, with_entries}
+use Rattle.definitions.specs.Tables.{HasTable, entry_at, page_flags, owner_of, is_saveable, with_entry, with_entries}
 use Rattle.definitions.specs.Zones.{numbers, top}
 use Rattle.definitions.proofs.Ascending.{Contains-head, Contains-tail}
 use Rattle.definitions.proofs.FrameSets.{Contains-from_filter}
@@ -58,15 +58,15 @@ or_none true c = refl
 or_none false true = refl
 or_none false false = refl
 
-may_drop_is : (h : Hardware) (m : Memory) (p : ℕ) → may_drop (runs_of_tables h) h.frame_table m p ≡ (eqb (flags_of (frame_entry h m p)) 64 && not (is_table_frame h p))
+may_drop_is : (h : Hardware) (m : Memory) (p : ℕ) → may_drop (runs_of_tables h) h.frame_table m p ≡ (eqb (page_flags (frame_entry h m p)) 64 && not (is_table_frame h p))
 may_drop_is h m p =
-    ap (λ (b : Bool). eqb (flags_of (frame_entry h m p)) 64 && not b)
+    ap (λ (b : Bool). eqb (page_flags (frame_entry h m p)) 64 && not b)
     (or_none (is_of_table h.frame_table (top h.zones) p) (is_of_table h.slot_table h.slots p))
 
 pub dropped_is : (h : Hardware) (m : Memory) (want : ℕ) → dropped_frames h.zones h.frame_table (runs_of_tables h) want m ≡ dropped_by h m want
 dropped_is h m want =
     ap (take (length (saveable h m) - want))
-    (filter_agree_within (may_drop (runs_of_tables h) h.frame_table m) (λ p. eqb (flags_of (frame_entry h m p)) 64 && not (is_table_frame h p)) (numbers h.zones) (λ p in'. may_drop_is h m p))
+    (filter_agree_within (may_drop (runs_of_tables h) h.frame_table m) (λ p. eqb (page_flags (frame_entry h m p)) 64 && not (is_table_frame h p)) (numbers h.zones) (λ p in'. may_drop_is h m p))
 
 -- a page frame that is dropped
 pub record IsDropped (h : Hardware) (p : ℕ) : Type 0 where
@@ -79,23 +79,23 @@ not_false false e = refl
 
 pub is_dropped : (h : Hardware) (m : Memory) (want p : ℕ) → Contains (dropped_by h m want) p → IsDropped h p
 is_dropped h m want p in' =
-    let test : ℕ → Bool = λ q. eqb (flags_of (frame_entry h m q)) 64 && not (is_table_frame h q) in
+    let test : ℕ → Bool = λ q. eqb (page_flags (frame_entry h m q)) 64 && not (is_table_frame h q) in
     let picked = Contains-from_filter test (numbers h.zones) p (Contains-from_take (length (saveable h m) - want) (droppable h m) p in') in
-    let parts = and_parts (eqb (flags_of (frame_entry h m p)) 64) (not (is_table_frame h p)) picked.1 in
+    let parts = and_parts (eqb (page_flags (frame_entry h m p)) 64) (not (is_table_frame h p)) picked.1 in
     record { valid = picked.0; apart = λ of. both_ways (is_table_frame h p) (not_false (is_table_frame h p) parts.1) (table_frame-test h p of) }
 
 -- Page frames as the world shows them, and memory.
 
 frames_shown : (h : Hardware) (frames m : Memory) → IsHardware h → Mirrors h frames m → droppable h m ≡ droppable h frames
 frames_shown h frames m hw mirrors =
-    filter_agree_within (λ p. eqb (flags_of (frame_entry h m p)) 64 && not (is_table_frame h p)) (λ p. eqb (flags_of (frame_entry h frames p)) 64 && not (is_table_frame h p)) (numbers h.zones)
-    (λ p in'. ap (λ (e : ℕ). eqb (flags_of e) 64 && not (is_table_frame h p)) (mirrors-frame_entry h frames m p hw mirrors in'))
+    filter_agree_within (λ p. eqb (page_flags (frame_entry h m p)) 64 && not (is_table_frame h p)) (λ p. eqb (page_flags (frame_entry h frames p)) 64 && not (is_table_frame h p)) (numbers h.zones)
+    (λ p in'. ap (λ (e : ℕ). eqb (page_flags e) 64 && not (is_table_frame h p)) (mirrors-frame_entry h frames m p hw mirrors in'))
 
 saveable_shown : (h : Hardware) (frames m : Memory) → IsHardware h → Mirrors h frames m → saveable h m ≡ saveable h frames
 unfolding saveable_frames
 saveable_shown h frames m hw mirrors =
-    filter_agree_within (λ p. is_saveable (flags_of (frame_entry h m p))) (λ p. is_saveable (flags_of (frame_entry h frames p))) (numbers h.zones)
-    (λ p in'. ap (λ (e : ℕ). is_saveable (flags_of e)) (mirrors-frame_entry h frames m p hw mirrors in'))
+    filter_agree_within (λ p. is_saveable (page_flags (frame_entry h m p))) (λ p. is_saveable (page_flags (frame_entry h frames p))) (numbers h.zones)
+    (λ p in'. ap (λ (e : ℕ). is_saveable (page_flags e)) (mirrors-frame_entry h frames m p hw mirrors in'))
 
 dropped_shown : (h : Hardware) (frames m : Memory) (want : ℕ) → IsHardware h → Mirrors h frames m → dropped_by h m want ≡ dropped_by h frames want
 dropped_shown h frames m want hw mirrors =

@@ -110,7 +110,7 @@ settles_held h c from dump (maybe other) false here one is marked unmarked =
     (nothing, (0, omega arith, refl), tt, λ w in' m. unmarked refl (subst (Marked h) (one w (disk.as_it_reads c) in' here) m))
 
 -- What has come about at the end of a boot, over a disk that reads v.
-pub record Ends (from : BootFrom) (old new : World) (v : disk.Image) (image : Bool) : Type 0 where
+pub record Ends (from : BootFrom) (old new : World) (v : disk.DiskImage) (image : Bool) : Type 0 where
   pub core : new.core ≡ Runs
   pub hardware : hardware_of new ≡ hardware_of old
   pub area : StartsOver from (hardware_of old) v old.frames new.machine.area
@@ -120,7 +120,7 @@ pub record Ends (from : BootFrom) (old new : World) (v : disk.Image) (image : Bo
   pub marked : image ≡ true → Marked (hardware_of old) v
   pub unmarked : image ≡ false → Marked (hardware_of old) v → ⊥
 
-frames_fresh : (old new : World) (v : disk.Image) (image : Bool) → Ends Fresh old new v image → old.frames ≡ fresh_frames (hardware_of old) → new.frames ≡ fresh_memory (hardware_of old) (fresh_slot (hardware_of old) v)
+frames_fresh : (old new : World) (v : disk.DiskImage) (image : Bool) → Ends Fresh old new v image → old.frames ≡ fresh_frames (hardware_of old) → new.frames ≡ fresh_memory (hardware_of old) (fresh_slot (hardware_of old) v)
 unfolding fresh_memory
 frames_fresh old new v image ends fresh =
     let h = hardware_of old in
@@ -128,14 +128,14 @@ frames_fresh old new v image ends fresh =
     ∙ each-same (slot_of_area new.machine.area) (fresh_slot h v) (range_with_len 0 h.slots) h.slot_table (fresh_frames h) (λ s. slot_read h v new.machine.area s ends.area)
 
 -- no slot of fresh memory is an image's
-fresh_value : (h : Hardware) (v : disk.Image) (area : Result Area NoSwap) (s : ℕ) → IsAreaOf h v area → (fresh_slot h v s ≡ bad_slot) ⊎ (fresh_slot h v s ≡ 0)
+fresh_value : (h : Hardware) (v : disk.DiskImage) (area : Result Area NoSwap) (s : ℕ) → IsAreaOf h v area → (fresh_slot h v s ≡ bad_slot) ⊎ (fresh_slot h v s ≡ 0)
 fresh_value h v area s is = let e = slot_read h v area s is in ⊎_elim (λ bad. inl (sym e ∙ bad)) (λ free. inr (sym e ∙ free)) (slot_value area s)
 
-fresh_small : (h : Hardware) (v : disk.Image) (area : Result Area NoSwap) (s : ℕ) → IsAreaOf h v area → fresh_slot h v s < 2 ^ 32
+fresh_small : (h : Hardware) (v : disk.DiskImage) (area : Result Area NoSwap) (s : ℕ) → IsAreaOf h v area → fresh_slot h v s < 2 ^ 32
 fresh_small h v area s is =
     ⊎_elim (λ (e : fresh_slot h v s ≡ bad_slot). let r : fresh_slot h v s < 2 ^ 32 = omega arith in r) (λ (e : fresh_slot h v s ≡ 0). let r : fresh_slot h v s < 2 ^ 32 = omega arith in r) (fresh_value h v area s is)
 
-fresh_plain : (h : Hardware) (v : disk.Image) (area : Result Area NoSwap) (s : ℕ) → IsHardware h → IsAreaOf h v area → s < h.slots → raw_slot_entry h (fresh_memory h (fresh_slot h v)) s ≡ image_slot → ⊥
+fresh_plain : (h : Hardware) (v : disk.DiskImage) (area : Result Area NoSwap) (s : ℕ) → IsHardware h → IsAreaOf h v area → s < h.slots → raw_slot_entry h (fresh_memory h (fresh_slot h v)) s ≡ image_slot → ⊥
 fresh_plain h v area s hw is lt e =
     let at = slot_entry-fresh_memory h (fresh_slot h v) s hw (λ k. fresh_small h v area k is) lt in
     ⊎_elim (λ (b : fresh_slot h v s ≡ bad_slot). let r : ⊥ = omega arith in r) (λ (f : fresh_slot h v s ≡ 0). let r : ⊥ = omega arith in r) (fresh_value h v area s is)
@@ -143,7 +143,7 @@ fresh_plain h v area s hw is lt e =
 no_operation : (flights : List Flight) (t : ℕ) → flights ≡ replicate 64 Nothing → None ≡ flights_in flights t
 no_operation flights t none = sym (ap (λ (fs : List Flight). flights_in fs t) none ∙ flights-none 64 t)
 
-shows_running : (old new : World) (v : disk.Image) (image : Bool) (dump : Memory) (now : Held) → Ends Fresh old new v image → IsHardware (hardware_of old) → old.frames ≡ fresh_frames (hardware_of old) → ShowsHeld new.machine.held now →
+shows_running : (old new : World) (v : disk.DiskImage) (image : Bool) (dump : Memory) (now : Held) → Ends Fresh old new v image → IsHardware (hardware_of old) → old.frames ≡ fresh_frames (hardware_of old) → ShowsHeld new.machine.held now →
     ShowsRunning (hardware_of old) (shown new) (booted (hardware_of old) v Fresh dump now)
 shows_running old new v image dump now ends hw fresh flag =
     let h = hardware_of old in
@@ -158,7 +158,7 @@ shows_running old new v image dump now ends hw fresh flag =
           (λ s. ap (is_slot_entry s) (sym (slot_read h v new.machine.area s ends.area)) ∙ slot_well new.machine.area s);
     }
 
-names_own : (h : Hardware) (s : Shown) (v : disk.Image) (i : Image) → ((k : ℕ) → k < h.slots → raw_slot_entry h s.frames k ≡ image_slot → ⊥) → IsOwn h v i → NamesOwn h s i
+names_own : (h : Hardware) (s : Shown) (v : disk.DiskImage) (i : Image) → ((k : ℕ) → k < h.slots → raw_slot_entry h s.frames k ≡ image_slot → ⊥) → IsOwn h v i → NamesOwn h s i
 names_own h s v i plain is = record { memory = is.of_memory.0; image = is.of_memory.1.image; names = λ k lt e. absurd (plain k lt e) }
 
 names_none : (h : Hardware) (s : Shown) (c : disk.Content) (held : Held) → disk.IsImage c (disk.as_it_reads c) → ((k : ℕ) → k < h.slots → raw_slot_entry h s.frames k ≡ image_slot → ⊥) → IsHeld h c held → NamesHeld h s held
@@ -175,13 +175,13 @@ not_a_tasks e (inl bad) some few =
 not_a_tasks e (inr free) some few =
     let is : cond (eqb e image_slot) 0 e ≡ 0 = ap (λ (x : ℕ). cond (eqb x image_slot) 0 x) free in omega arith
 
-fresh_unowned : (h : Hardware) (v : disk.Image) (area : Result Area NoSwap) (s : ℕ) → IsHardware h → IsAreaOf h v area → IsTaskSlot h (fresh_memory h (fresh_slot h v)) s → ⊥
+fresh_unowned : (h : Hardware) (v : disk.DiskImage) (area : Result Area NoSwap) (s : ℕ) → IsHardware h → IsAreaOf h v area → IsTaskSlot h (fresh_memory h (fresh_slot h v)) s → ⊥
 fresh_unowned h v area s hw is task =
     let at = slot_entry-fresh_memory h (fresh_slot h v) s hw (λ k. fresh_small h v area k is) task.0 in
     not_a_tasks (raw_slot_entry h (fresh_memory h (fresh_slot h v)) s) (⊎_elim (λ bad. inl (at ∙ bad)) (λ free. inr (at ∙ free)) (fresh_value h v area s is)) task.1 task.2
 
 -- the bad slots of the table are the area's
-bad_slots_are : (h : Hardware) (v : disk.Image) (area : Result Area NoSwap) → IsHardware h → IsAreaOf h v area → area_fault h v ≡ None → bad_set_fault h (fresh_memory h (fresh_slot h v)) (area_kind (area_block h v)) ≡ None
+bad_slots_are : (h : Hardware) (v : disk.DiskImage) (area : Result Area NoSwap) → IsHardware h → IsAreaOf h v area → area_fault h v ≡ None → bad_set_fault h (fresh_memory h (fresh_slot h v)) (area_kind (area_block h v)) ≡ None
 bad_slots_are h v (Err why) hw is none = absurd (none-some why (sym none ∙ is))
 bad_slots_are h v (Ok area) hw is none =
     let m = fresh_memory h (fresh_slot h v) in
@@ -229,7 +229,7 @@ stands_on old new c image dump now here ends hw fresh flag held header =
 -- A dump's memory runs as it is.
 
 -- the tasks' slots of the dump, where the area can be used
-kept_slots : (h : Hardware) (v : disk.Image) (m : Memory) (fault : Option NoSwap) → AreTaskSlots h fault m no_flights (cond (is_none fault) (slots_in h v m) no_slots)
+kept_slots : (h : Hardware) (v : disk.DiskImage) (m : Memory) (fault : Option NoSwap) → AreTaskSlots h fault m no_flights (cond (is_none fault) (slots_in h v m) no_slots)
 kept_slots h v m None = record {
   usable = λ s page e. refl;
   tasks = λ s page e. (has_page h v m s page e).0;
@@ -243,15 +243,15 @@ kept_slots h v m (Some why) = record {
   paged = λ none s is not. absurd (none-some why (sym none));
 }
 
-kept_pages : (h : Hardware) (v : disk.Image) (m : Memory) (fault : Option NoSwap) (s : ℕ) (page : List ℕ) → cond (is_none fault) (slots_in h v m) no_slots s ≡ Some page → disk.block v (block_of_slot h s) ≡ page
+kept_pages : (h : Hardware) (v : disk.DiskImage) (m : Memory) (fault : Option NoSwap) (s : ℕ) (page : List ℕ) → cond (is_none fault) (slots_in h v m) no_slots s ≡ Some page → disk.block v (block_of_slot h s) ≡ page
 kept_pages h v m None s page e = (has_page h v m s page e).1
 kept_pages h v m (Some why) s page e = absurd (none-some page e)
 
-kept_reason : (h : Hardware) (v : disk.Image) (m : Memory) (area : Result Area NoSwap) → StartsOver Kept h v m area → dump_area_fault h v m ≡ reason_of area
+kept_reason : (h : Hardware) (v : disk.DiskImage) (m : Memory) (area : Result Area NoSwap) → StartsOver Kept h v m area → dump_area_fault h v m ≡ reason_of area
 kept_reason h v m (Ok area) is = is.1
 kept_reason h v m (Err why) is = is
 
-shows_kept : (old new : World) (v : disk.Image) (image : Bool) (dump : Memory) (now : Held) → Ends Kept old new v image → old.frames ≡ dump → Fits (hardware_of old) dump → ShowsHeld new.machine.held now →
+shows_kept : (old new : World) (v : disk.DiskImage) (image : Bool) (dump : Memory) (now : Held) → Ends Kept old new v image → old.frames ≡ dump → Fits (hardware_of old) dump → ShowsHeld new.machine.held now →
     ShowsRunning (hardware_of old) (shown new) (booted (hardware_of old) v Kept dump now)
 shows_kept old new v image dump now ends is fits flag =
     let h = hardware_of old in
@@ -326,7 +326,7 @@ boot_ends old new blocks c from image whole core ends hw =
       },
     ))
 
-read_fault_in : (h : Hardware) (v : disk.Image) (from : BootFrom) (dump : Memory) (held : Held) → Contains (boot_outcomes h v from dump held ++ (reply.ReadFault Same, off held None) ∷ []) (reply.ReadFault Same, off held None)
+read_fault_in : (h : Hardware) (v : disk.DiskImage) (from : BootFrom) (dump : Memory) (held : Held) → Contains (boot_outcomes h v from dump held ++ (reply.ReadFault Same, off held None) ∷ []) (reply.ReadFault Same, off held None)
 read_fault_in h v from dump nothing = (1, omega arith, refl)
 read_fault_in h v from dump (sure x) = (1, omega arith, refl)
 read_fault_in h v from dump (maybe x) = (2, omega arith, refl)
@@ -356,7 +356,7 @@ when_marked : (b : Bool) (M : Type 0) → (b ≡ false → M → ⊥) → M → 
 when_marked true M un m = refl
 when_marked false M un m = absurd (un refl m)
 
-pub tells_mark : (from : BootFrom) (old new : World) (v : disk.Image) (image : Bool) → old.core ≡ BootSynced from → Ends from old new v image → TellsMark old (reply.Booted image) v
+pub tells_mark : (from : BootFrom) (old new : World) (v : disk.DiskImage) (image : Bool) → old.core ≡ BootSynced from → Ends from old new v image → TellsMark old (reply.Booted image) v
 tells_mark from old new v image core ends = record {
   boots = λ other is. (ends.marked, when_marked image (Marked (hardware_of old) v) ends.unmarked);
   finds = λ loads at. absurd (false≢true (sym (ap is_loading core) ∙ ap is_loading loads));

@@ -30,7 +30,7 @@ pub header_read : (h : Hardware) (blocks : ℕ) (c : disk.Content) → disk.IsCo
 header_read h blocks c whole =
     ap (λ (n : ℕ). cond (nat_lt (block_of_slot h 0) n) (disk.block (disk.as_it_reads c) (block_of_slot h 0)) zero_page) (sym (blocks_told blocks c whole))
 
-pub kind_read : (h : Hardware) (v : disk.Image) → area_kind_of (header_of h v) ≡ area_kind (area_block h v)
+pub kind_read : (h : Hardware) (v : disk.DiskImage) → area_kind_of (header_of h v) ≡ area_kind (area_block h v)
 kind_read h v =
     by_test (is_image (area_kind (header_of h v))) ∙ ap (λ (b : Bool). area_kind (cond b (taken_back (header_of h v)) (header_of h v))) (image_by_signature (header_of h v)) where
       by_test : (b : Bool) → cond b (area_kind (taken_back (header_of h v))) (area_kind (header_of h v)) ≡ area_kind (cond b (taken_back (header_of h v)) (header_of h v))
@@ -40,25 +40,25 @@ kind_read h v =
 -- The area that a world uses, and why it doesn't.
 
 -- it is the block's, and usable; or this is why it isn't
-abbrev pub IsAreaOf : Hardware → disk.Image → Result Area NoSwap → Type 0
+abbrev pub IsAreaOf : Hardware → disk.DiskImage → Result Area NoSwap → Type 0
 IsAreaOf h v (Ok area) = (area_kind (area_block h v) ≡ Swap area) × (area_fault h v ≡ None)
 IsAreaOf h v (Err why) = area_fault h v ≡ Some why
 
-pub reason_read : (h : Hardware) (v : disk.Image) (area : Result Area NoSwap) → IsAreaOf h v area → area_fault h v ≡ reason_of area
+pub reason_read : (h : Hardware) (v : disk.DiskImage) (area : Result Area NoSwap) → IsAreaOf h v area → area_fault h v ≡ reason_of area
 reason_read h v (Ok area) is = is.1
 reason_read h v (Err why) is = is
 
-pub slot_read : (h : Hardware) (v : disk.Image) (area : Result Area NoSwap) (s : ℕ) → IsAreaOf h v area → slot_of_area area s ≡ fresh_slot h v s
+pub slot_read : (h : Hardware) (v : disk.DiskImage) (area : Result Area NoSwap) (s : ℕ) → IsAreaOf h v area → slot_of_area area s ≡ fresh_slot h v s
 slot_read h v (Ok area) s is =
     ap (λ (kind : AreaKind). cond (has (bad_slots_in kind) s) bad_slot 0) (sym is.0)
     ∙ ap (λ (fault : Option NoSwap). cond (is_some fault || has (bad_slots_in (area_kind (area_block h v))) s) bad_slot 0) (sym is.1)
 slot_read h v (Err why) s is = ap (λ (fault : Option NoSwap). cond (is_some fault || has (bad_slots_in (area_kind (area_block h v))) s) bad_slot 0) (sym is)
 
 -- over a dump's memory it is the block's too, and its bad slots are just those of the memory
-abbrev pub IsKeptAreaOf : Hardware → disk.Image → Memory → Result Area NoSwap → Type 0
+abbrev pub IsKeptAreaOf : Hardware → disk.DiskImage → Memory → Result Area NoSwap → Type 0
 IsKeptAreaOf h v m (Ok area) = (area_kind (area_block h v) ≡ Swap area) × (dump_area_fault h v m ≡ None)
 IsKeptAreaOf h v m (Err why) = dump_area_fault h v m ≡ Some why
 
-abbrev pub StartsOver : BootFrom → Hardware → disk.Image → Memory → Result Area NoSwap → Type 0
+abbrev pub StartsOver : BootFrom → Hardware → disk.DiskImage → Memory → Result Area NoSwap → Type 0
 StartsOver Fresh h v m area = IsAreaOf h v area
 StartsOver Kept h v m area = IsKeptAreaOf h v m area

@@ -51,16 +51,16 @@ use Rattle.world_core.specs.StandsFor.{StandsFor, IsBusyIn, IsOff, activity_of, 
 use Rattle.world_core.specs.Row.{GoesOn, IsRow}
 use Rattle.world_core.proofs.Cases.{activity_for, activity_by, rests_by, at_rest, at_run, at_boot, at_sleep}
 
-pub refused_step : (h : Hardware) (v : disk.Image) (a : State) (e : Event) (r : Reply) → refusal h a e ≡ Some r → Step h v a e r a
+pub refused_step : (h : Hardware) (v : disk.DiskImage) (a : State) (e : Event) (r : Reply) → refusal h a e ≡ Some r → Step h v a e r a
 unfolding outcomes
 refused_step h v a e r why = subst (λ (o : Option Reply). Contains (refused_or a o (accepted h v a e)) (r, a)) (sym why) (0, omega arith, refl)
 
-pub accepted_step : (h : Hardware) (v : disk.Image) (a : State) (e : Event) (r : Reply) (b : State) → refusal h a e ≡ None → Contains (accepted h v a e) (r, b) → Step h v a e r b
+pub accepted_step : (h : Hardware) (v : disk.DiskImage) (a : State) (e : Event) (r : Reply) (b : State) → refusal h a e ≡ None → Contains (accepted h v a e) (r, b) → Step h v a e r b
 unfolding outcomes
 accepted_step h v a e r b none in' = subst (λ (o : Option Reply). Contains (refused_or a o (accepted h v a e)) (r, b)) (sym none) in'
 
 -- a disk that reads the same has the same area
-pub same_area : (h : Hardware) (v w : disk.Image) → w ≡ v → IsSameArea h v w
+pub same_area : (h : Hardware) (v w : disk.DiskImage) → w ≡ v → IsSameArea h v w
 same_area h v w e = subst (IsSameArea h v) (sym e) (record { blocks = refl; header = record { front = refl; signature = refl } })
 
 -- a refused event leaves the world

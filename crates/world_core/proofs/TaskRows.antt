@@ -129,7 +129,7 @@ out_of_flight h a t s p task flight =
     (subst (λ (own : Bool). Contains (cond own (rows.out_block h (a.flights t)) []) (block_of_slot h s)) (sym (eq-eqb t t refl))
     (subst (λ (f : Option Flight). Contains (rows.out_block h f) (block_of_slot h s)) (sym flight) (0, omega arith, refl)))
 
-area_of_header : (h : Hardware) (v w : disk.Image) → SameHeader h w v → IsSameArea h v w
+area_of_header : (h : Hardware) (v w : disk.DiskImage) → SameHeader h w v → IsSameArea h v w
 area_of_header h v w same = record {
   blocks = same.blocks;
   header = record {

@@ -69,14 +69,14 @@ Restores (event.Step actor.Core) old new (reply.Resumed n) before now =
 Restores _ old new _ before now = ⊤
 
 -- what the last step of a boot says of an image on the disk v, unless the disk failed
-abbrev pub BootsMark : Hardware → Reply → disk.Image → Type 0
+abbrev pub BootsMark : Hardware → Reply → disk.DiskImage → Type 0
 BootsMark h (reply.Booted image) v = (image ≡ true) ↔ Marked h v
 BootsMark h (reply.ReadFault left) v = ⊤
 BootsMark h _ v = ⊥
 
 -- There exactly when: a boot that ends says that an image is there just where block(0) of the disk v is marked, and so does the second
 -- step of a resume.
-pub record TellsMark (w : World) (r : Reply) (v : disk.Image) : Type 0 where
+pub record TellsMark (w : World) (r : Reply) (v : disk.DiskImage) : Type 0 where
   pub boots : (from : BootFrom) → w.core ≡ BootSynced from → BootsMark (hardware_of w) r v
   pub finds : w.core ≡ Loading → w.load.stage ≡ stage.Find → FindsMark (hardware_of w) r v
 

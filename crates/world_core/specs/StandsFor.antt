@@ -173,5 +173,5 @@ pub record IsNew (h : Hardware) (kept : Option Memory) (w : World) : Type 0 wher
   pub hardware : hardware_of w ≡ h
   pub at_rest : IsOff w
   pub blocks : blocks_of w ≡ 0
-  pub unmarked : (v : disk.Image) → (Marked h v → ⊥) → StandsFor w (disk.settled v) (off nothing kept)
-  pub marked : (v : disk.Image) → Marked h v → HasOriginal h v → StandsFor w (disk.settled v) (off (sure other) kept)
+  pub unmarked : (v : disk.DiskImage) → (Marked h v → ⊥) → StandsFor w (disk.settled v) (off nothing kept)
+  pub marked : (v : disk.DiskImage) → Marked h v → HasOriginal h v → StandsFor w (disk.settled v) (off (sure other) kept)

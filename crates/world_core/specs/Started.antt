@@ -23,7 +23,7 @@ use Rattle.world_core.specs.World.{World}
 use Rattle.world_core.specs.StandsFor.{hardware_of, blocks_of}
 
 -- block b of a disk of so many blocks, zeros where it isn't below them
-abbrev pub header_at : ℕ → ℕ → disk.Image → List ℕ
+abbrev pub header_at : ℕ → ℕ → disk.DiskImage → List ℕ
 header_at b blocks v = if nat_lt b blocks then disk.block v b else zero_page
 
 -- what a header block says of the area, taken back where it is marked

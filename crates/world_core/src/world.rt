@@ -62,7 +62,7 @@ impl Model for World {
 
 impl World {
     ghost use Rattle.plain_machine.specs.Fitting.{IsFitting, IsFittingActor};
-    ghost use Rattle.definitions.specs.Disk.{Content, Image, IsMixture, HasRisen, Changes, Elapses};
+    ghost use Rattle.definitions.specs.Disk.{Content, DiskImage, IsMixture, HasRisen, Changes, Elapses};
     ghost use Rattle.plain_machine.specs.declared.event.Event.TheVariants as event;
     ghost use Rattle.plain_machine.specs.declared.event.Actor.TheVariants as actor;
     ghost use Rattle.plain_machine.specs.State.{State};
@@ -165,7 +165,7 @@ impl World {
         ensures orders { D.orders disk.new ≡ orders_after event (D.orders disk.old) }
         ensures cut { RestartsAt event (D.content disk.old) (D.content disk.new) }
         ensures telling { D.tells_moments disk.new ≡ D.tells_moments disk.old }
-        ensures inside { IsNoCut event → IsTrue (D.tells_moments disk.old) → (v : Image) → D.left_since disk.new (D.moment disk.old) v →
+        ensures inside { IsNoCut event → IsTrue (D.tells_moments disk.old) → (v : DiskImage) → D.left_since disk.new (D.moment disk.old) v →
             Changes (λ old new. IsMixture old new v) (D.content disk.old) (D.content disk.new) }
         ensures time { IsNoCut event → IsTrue (D.tells_moments disk.old) → Changes (Elapses (D.moment disk.old) (D.moment disk.new)
             (D.left_since disk.old) (D.left_since disk.new)) (D.content disk.old) (D.content disk.new) }

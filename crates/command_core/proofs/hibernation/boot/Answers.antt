@@ -6,7 +6,7 @@ use Rattle.plain_machine.specs.State.{off}
 use Rattle.plain_machine.specs.declared.reply.Reply.TheVariants as reply
 use Rattle.world_core.specs.StandsFor.{hardware_of}
 use Rattle.command_core.specs.Hibernation.{held_at_first}
-use Rattle.command_core.specs.Turns.{IsFault, Point}
+use Rattle.command_core.specs.Turns.{EndsInFault, Point}
 use Rattle.command_core.proofs.Crashes.{still_first, still_untouched}
 use Rattle.command_core.proofs.Begun.{told_whole, untouched_first, boots_first, boots_second, boots_third}
 use Rattle.command_core.proofs.hibernation.boot.Goals as goal
@@ -28,7 +28,7 @@ returns-then-not-goes_on-clause-booted g c = λ v told original.
         content = fails.1.content;
         told = fails.1.told;
         unwritten = fails.1.unwritten;
-        fault = subst IsFault (sym c.after.ensures.reply) fails.1.fault;
+        fault = subst EndsInFault (sym c.after.ensures.reply) fails.1.fault;
         failed = c.after.ensures.failed.1 fails.1.new_fault;
       }
     ]
@@ -55,7 +55,7 @@ returns-then-not-is_booted-clause-booted g c = λ v told original.
               content = fails.1.content;
               told = fails.1.told;
               unwritten = fails.1.unwritten;
-              fault = subst IsFault (sym c.after-then-not-is_booted.ensures.reply) fails.1.fault;
+              fault = subst EndsInFault (sym c.after-then-not-is_booted.ensures.reply) fails.1.fault;
               failed = c.after-then-not-is_booted.ensures.failed.1 fails.1.new_fault;
             }
           ]

@@ -51,11 +51,11 @@ returns-clause-hibernated g c = λ v told original.
     ]
 
 -- a disk that isn't marked has no original to look for
-unmarked_original : (h : Hardware) (v : disk.Image) → (Marked h v → ⊥) → Marked h v → HasOriginal h v
+unmarked_original : (h : Hardware) (v : disk.DiskImage) → (Marked h v → ⊥) → Marked h v → HasOriginal h v
 unmarked_original h v never marked = absurd (never marked)
 
-itself_unmarked : (h : Hardware) (i : Image) (v w : disk.Image) → (Marked h v → ⊥) → w ≡ v → IsUnmarkedOrHolds h i w
-itself_unmarked h i v w never is = inl (subst (λ (u : disk.Image). Marked h u → ⊥) (sym is) never)
+itself_unmarked : (h : Hardware) (i : Image) (v w : disk.DiskImage) → (Marked h v → ⊥) → w ≡ v → IsUnmarkedOrHolds h i w
+itself_unmarked h i v w never is = inl (subst (λ (u : disk.DiskImage). Marked h u → ⊥) (sym is) never)
 
 pub returns-in-Err-clause-inside : goal.returns-in-Err-clause-inside
 returns-in-Err-clause-inside g c = λ tells v told never w left.

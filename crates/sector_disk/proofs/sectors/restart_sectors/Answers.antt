@@ -1,5 +1,5 @@
 use Rattle.std.proofs.Common.{◌≡◌, ◌∙◌, subst, length, All, arith}
-use Rattle.definitions.specs.Disk.{Image}
+use Rattle.definitions.specs.Disk.{DiskImage}
 use Rattle.sector_disk.proofs.SectorLaws.{same_everywhere, same_both_put, length_part, All-put_mid, All-from_nil}
 use Rattle.sector_disk.proofs.sectors.restart_sectors.Goals as goal
 
@@ -10,7 +10,7 @@ returns-then-low-high-clause-durable c =
 
 pub returns-then-low-high-clause-whole : goal.returns-then-low-high-clause-whole
 returns-then-low-high-clause-whole c =
-    subst (λ (xs : Image). All (λ bytes. length bytes ≡ 512) xs) (returns-then-low-high-clause-durable c)
+    subst (λ (xs : DiskImage). All (λ bytes. length bytes ≡ 512) xs) (returns-then-low-high-clause-durable c)
     (All-put_mid (λ bytes. length bytes ≡ 512) _ _ c.args.durable.now c.copy_picked.new.into (All-from_nil (λ bytes. length bytes ≡ 512) c.args.durable.now c.told-durable) c.copy_picked.ensures.whole)
 
 pub returns-else-low-high-clause-durable : goal.returns-else-low-high-clause-durable

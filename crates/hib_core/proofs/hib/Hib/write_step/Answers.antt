@@ -4,7 +4,7 @@ use Rattle.std.specs.Option.{option_copied, option_copied_mut}
 use Rattle.definitions.specs.Disk.{Changes}
 use Rattle.memory_bitmap.specs.FrameSet.{FrameSet}
 use Rattle.pfn_pack.specs.Places.{members_in}
-use Rattle.image_write.specs.Writing.{Writing, IsWriting, IsReading, Makes, FailsToMake, page_next, write_next, stream_of_sets}
+use Rattle.image_write.specs.Writing.{Writing, IsWriting, HasReadCopies, Makes, FailsToMake, page_next, write_next, stream_of_sets}
 use Rattle.hib_core.proofs.Stepping.{goes_on_succeeds, zeros_members, three_sets, writer_is, can_write_on}
 use Rattle.hib_core.proofs.hib.Hib.write_step.Goals as goal
 
@@ -13,9 +13,9 @@ step-requires-clause-reading g c =
     let can = c.requires.ready.write c.requires.stage in
     let has = sym c.as_mut.ensures.value ∙ ap option_copied_mut c.unwrap-writer.ensures in
     let at = writer_is c.args.machine.now.hw c.args.machine.now.blocks c.args.frames.now c.args.self.now c.unwrap-writer.result.now can has in
-    let read : IsReading c.args.self.now.snapshot.origs c.args.self.now.snapshot.copies c.args.self.now.snapshot.zeros c.unwrap-writer.result.now =
-    subst (IsReading c.args.self.now.snapshot.origs c.args.self.now.snapshot.copies c.args.self.now.snapshot.zeros) at can.reading in
-    three_sets (λ o p z. IsReading o p z c.unwrap-writer.result.now) c.args.self.now.snapshot.origs c.origs-origs.result.now.members c.args.self.now.snapshot.copies c.copies-copies.result.now.members
+    let read : HasReadCopies c.args.self.now.snapshot.origs c.args.self.now.snapshot.copies c.args.self.now.snapshot.zeros c.unwrap-writer.result.now =
+    subst (HasReadCopies c.args.self.now.snapshot.origs c.args.self.now.snapshot.copies c.args.self.now.snapshot.zeros) at can.reading in
+    three_sets (λ o p z. HasReadCopies o p z c.unwrap-writer.result.now) c.args.self.now.snapshot.origs c.origs-origs.result.now.members c.args.self.now.snapshot.copies c.copies-copies.result.now.members
     c.args.self.now.snapshot.zeros (members_in (option_copied c.zeros-zeros.result))
     (sym (ap (λ (s : FrameSet). s.members) c.origs-origs.ensures)) (sym (ap (λ (s : FrameSet). s.members) c.copies-copies.ensures))
     (sym (zeros_members c.zeros-zeros.result c.args.self.now.snapshot.zones c.args.self.now.snapshot.zeros c.zeros-zeros.ensures.set c.zeros-zeros.ensures.plain)) read
@@ -64,6 +64,6 @@ pub returns-clause-more : goal.returns-clause-more
 returns-clause-more g c = λ goes.
     can_write_on c.args.machine.now.hw c.args.machine.now.blocks c.args.frames.now c.step.new.frames c.args.self.now c.unwrap-writer.result.now c.step.new.self (c.requires.ready.write c.requires.stage)
     (sym c.as_mut.ensures.value ∙ ap option_copied_mut c.unwrap-writer.ensures) c.step.ensures.image (c.step.ensures.made (goes_on_succeeds c.step.result goes)) (λ free is. c.step.ensures.writing free is goes)
-    (three_sets (λ o p z. IsReading o p z c.step.new.self) c.origs-origs.result.now.members c.args.self.now.snapshot.origs c.copies-copies.result.now.members c.args.self.now.snapshot.copies (members_in (option_copied c.zeros-zeros.result)) c.args.self.now.snapshot.zeros
+    (three_sets (λ o p z. HasReadCopies o p z c.step.new.self) c.origs-origs.result.now.members c.args.self.now.snapshot.origs c.copies-copies.result.now.members c.args.self.now.snapshot.copies (members_in (option_copied c.zeros-zeros.result)) c.args.self.now.snapshot.zeros
     (ap (λ (s : FrameSet). s.members) c.origs-origs.ensures) (ap (λ (s : FrameSet). s.members) c.copies-copies.ensures)
     (zeros_members c.zeros-zeros.result c.args.self.now.snapshot.zones c.args.self.now.snapshot.zeros c.zeros-zeros.ensures.set c.zeros-zeros.ensures.plain) (c.step.ensures.reading goes)) c.step.ensures.len

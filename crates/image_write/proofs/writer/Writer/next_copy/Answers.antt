@@ -7,7 +7,7 @@ use Rattle.pfn_pack.proofs.Filling.{length-marked}
 use Rattle.plain_machine.specs.Laid.{page_of_write}
 use Rattle.image_write.specs.Copies.{IsPassed, with_data, data_pages}
 use Rattle.image_write.specs.Kept.{writing}
-use Rattle.image_write.specs.Writing.{Writing, IsReading, AreOfImage, data_written, stream_of_sets}
+use Rattle.image_write.specs.Writing.{Writing, HasReadCopies, AreOfImage, data_written, stream_of_sets}
 use Rattle.image_write.proofs.Heads.{saved_page_at}
 use Rattle.image_write.proofs.writer.Writer.next_copy.Goals as goal
 
@@ -19,7 +19,7 @@ returns-clause-page c =
     let copies = c.args.copies.now.members in
     let zeros = members_in (option_copied c.args.zeros) in
     let sets : AreOfImage w.info origs copies zeros = subst (λ (v : Writing). AreOfImage v.info origs copies zeros) (sym is) c.requires.sets in
-    let reading : IsReading origs copies zeros w = subst (λ (v : Writing). IsReading origs copies zeros v) (sym is) c.requires.reading in
+    let reading : HasReadCopies origs copies zeros w = subst (λ (v : Writing). HasReadCopies origs copies zeros v) (sym is) c.requires.reading in
     let page : page_of_write w.written < w.info.pages = subst (λ (v : Writing). page_of_write v.written < v.info.pages) (sym is) c.requires.page in
     let with_page : meta_of w.info.image_pages < page_of_write w.written = subst (λ (v : Writing). meta_of v.info.image_pages < page_of_write v.written) (sym is) c.requires.data in
     let originals = sets.originals in
@@ -49,7 +49,7 @@ returns-clause-reading c =
     let copies = c.args.copies.now.members in
     let zeros = members_in (option_copied c.args.zeros) in
     let sets : AreOfImage w.info origs copies zeros = subst (λ (v : Writing). AreOfImage v.info origs copies zeros) (sym is) c.requires.sets in
-    let reading : IsReading origs copies zeros w = subst (λ (v : Writing). IsReading origs copies zeros v) (sym is) c.requires.reading in
+    let reading : HasReadCopies origs copies zeros w = subst (λ (v : Writing). HasReadCopies origs copies zeros v) (sym is) c.requires.reading in
     let page : page_of_write w.written < w.info.pages = subst (λ (v : Writing). page_of_write v.written < v.info.pages) (sym is) c.requires.page in
     let with_page : meta_of w.info.image_pages < page_of_write w.written = subst (λ (v : Writing). meta_of v.info.image_pages < page_of_write v.written) (sym is) c.requires.data in
     let originals = sets.originals in

@@ -1,5 +1,5 @@
 use Rattle.std.proofs.Common.{◌≡◌, ℕ, ◌≤◌, ◌+◌, length, refl, sym, ap, ◌∙◌, subst, arith}
-use Rattle.definitions.specs.Tables.{table_frames}
+use Rattle.definitions.specs.Tables.{table_frame_count}
 use Rattle.definitions.specs.Zones.{top}
 use Rattle.machine.proofs.Rows.{slot_table_fits}
 use Rattle.memory_bitmap.specs.FrameSet.{FrameSet}
@@ -27,7 +27,7 @@ pub returns-clause-ready : goal.returns-clause-ready
 returns-clause-ready c = λ runs room.
     let h = c.args.machine.now.hw in
     let size : length c.make_loader.new.frames ≡ top h.zones = c.make_loader.ensures.size ∙ c.requires.ready.size in
-    let fits : h.slot_table + table_frames h.slots ≤ length c.make_loader.new.frames = subst (λ (n : ℕ). h.slot_table + table_frames h.slots ≤ n) (sym size) (slot_table_fits h c.make_loader.ensures.hardware) in
+    let fits : h.slot_table + table_frame_count h.slots ≤ length c.make_loader.new.frames = subst (λ (n : ℕ). h.slot_table + table_frame_count h.slots ≤ n) (sym size) (slot_table_fits h c.make_loader.ensures.hardware) in
     record {
       over = record {
         hardware = c.make_loader.ensures.hardware;

@@ -1,5 +1,5 @@
 use Rattle.std.proofs.Common.{◌∙◌, ◌*◌, sym, subst}
-use Rattle.definitions.specs.Disk.{Image}
+use Rattle.definitions.specs.Disk.{DiskImage}
 use Rattle.sector_disk.specs.Sectors.{AreSectors, IsPicked}
 use Rattle.sector_disk.specs.RecordedLaws.{held_whole}
 use Rattle.sector_disk.proofs.Recordings.{reads_new, synced_new, content_restarts}
@@ -21,4 +21,4 @@ returns-clause-restarted c =
     let d = c.args.self.now in
     content_restarts d.disk.blocks c.args.pick d.start.items d.log.items d.disk.durable.items d.disk.live.items c.copy_from_slice.new.self.items c.clear.new.self.items
     (held_whole d.disk.blocks d.start.items d.log.items d.start_whole d.pages_whole) d.synced d.live
-    (subst (λ (v : Image). IsPicked c.args.pick d.disk.durable.items d.disk.live.items v) (sym (c.copy_from_slice.ensures.items ∙ c.live.ensures.sectors)) c.restart.ensures.picked) c.clear.ensures.items
+    (subst (λ (v : DiskImage). IsPicked c.args.pick d.disk.durable.items d.disk.live.items v) (sym (c.copy_from_slice.ensures.items ∙ c.live.ensures.sectors)) c.restart.ensures.picked) c.clear.ensures.items

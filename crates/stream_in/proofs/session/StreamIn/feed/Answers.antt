@@ -3,7 +3,7 @@ use Rattle.std.proofs.lemmas.List.{length-take-le, take_all}
 use Rattle.stream_check.specs.Grammar.{first_fault}
 use Rattle.stream_check.proofs.Steps.{first_fault-stays}
 use Rattle.stream_in.specs.Session.{IsGoing, IsFed, HasTooFewFor}
-use Rattle.definitions.specs.Disk.{Changes, Image}
+use Rattle.definitions.specs.Disk.{Changes, DiskImage}
 use Rattle.stream_in.specs.Written.{AreOfMap, WritesOn}
 use Rattle.stream_in.proofs.Pages.{on_none, on_then}
 use Rattle.stream_in.proofs.Outsides.{keeps_none, told_then, told_same}
@@ -25,7 +25,7 @@ more_calls size at end taken part before now first le taken_is part_is h i =
     omega arith
 
 -- time goes on over one more part
-time_more : (x y : List (ℕ × ℕ × ℕ)) (free : List ℕ) (m n o : ℕ) (p q r : ℕ → Image → Type 0) → y ≡ x → ElapsesOutside x free m n p q → ElapsesOutside y free n o q r → ElapsesOutside x free m o p r
+time_more : (x y : List (ℕ × ℕ × ℕ)) (free : List ℕ) (m n o : ℕ) (p q r : ℕ → DiskImage → Type 0) → y ≡ x → ElapsesOutside x free m n p q → ElapsesOutside y free n o q r → ElapsesOutside x free m o p r
 time_more x y free m n o p q r same first second = outside_then x free m n o p q r first (outside_same x y free n o q r same second)
 
 pub loop-at-preserved : goal.loop-at-preserved

@@ -1,6 +1,6 @@
 use Rattle.std.proofs.Common.{◌≡◌, ◌<◌, ◌++◌, refl, ℕ, ◌+◌, ◌%◌, ◌≤◌, List, length, Option, Err, sym, ap, subst, ◌∙◌, arith, rules}
 use Rattle.std.proofs.lemmas.Result.{err_from_is_err_and}
-use Rattle.definitions.specs.Tables.{table_frames}
+use Rattle.definitions.specs.Tables.{table_frame_count}
 use Rattle.image_write.specs.Writing.{Writing}
 use Rattle.stream_in.specs.declared.stop.InStop.TheVariants as stop
 use Rattle.stream_in.specs.declared.session.StreamIn.{StreamIn}
@@ -106,7 +106,7 @@ returns-clause-taken g c = λ free bs fed.
     record {
       taken = c.in_ok-take.ensures.taken bs fed.taken;
       going = fed.going;
-      table_in = subst (λ n. s.table.first + table_frames s.table.slots ≤ n) (sym c.put_full.ensures.len) fed.table_in;
+      table_in = subst (λ n. s.table.first + table_frame_count s.table.slots ≤ n) (sym c.put_full.ensures.len) fed.table_in;
       matched = c.put_full.ensures.runs;
       page_is = page_closed bs c.args.part.now _ (omega arith);
       few = fed.few;
