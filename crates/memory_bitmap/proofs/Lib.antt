@@ -1,5 +1,6 @@
 pub mod Changes
 pub mod Empty
+pub mod Filled
 pub mod Keeping
 pub mod Members
 pub mod Search

@@ -1,5 +1,5 @@
 -- The bits of a block: 512 words of 64 bits, bit k being bit k mod 64 of word k / 64.
-use Rattle.std.specs.Prelude.{◌≡◌, ℕ, ◌/◌, ◌%◌, ◌-◌, ◌<◌, ◌≤◌, List, slice_index}
+use Rattle.std.specs.Prelude.{◌≡◌, ℕ, ◌/◌, ◌%◌, ◌-◌, ◌<◌, ◌≤◌, ◌↔◌, List, [], slice_index, slice_index_or}
 use Rattle.std.specs.Int.{bit_at}
 use Rattle.definitions.specs.Zones.{zone_at, InZone}
 
@@ -31,3 +31,11 @@ pub record ChangesBit (k v : ℕ) (old new : List ℕ) : Type 0 where
 -- every bit is 0
 abbrev pub IsEmptyBlock : List ℕ → Type 0
 IsEmptyBlock words = (k : ℕ) → bit_of words k ≡ 0
+
+-- bit k is 1 for each k below the count, and for no other
+abbrev pub HasFirstBits : ℕ → List ℕ → Type 0
+HasFirstBits count words = (k : ℕ) → (bit_of words k ≡ 1) ↔ (k < count)
+
+-- in each block the bits of its page frames are 1, and no other
+abbrev pub AreFilled : List (ℕ × ℕ) → List (List ℕ) → Type 0
+AreFilled runs bits = (j : ℕ) → HasFirstBits (zone_at runs j).1 (slice_index_or bits j [])

@@ -1,5 +1,5 @@
-ghost use Rattle.std.specs.Prelude.{◌≡◌, ℕ, ◌+◌, ◌-◌, ◌*◌, ◌/◌, ◌%◌, ◌<◌, ◌≤◌, ◌↔◌, IsTrue, MatchOption, IfOk, All, length, vec_len};
-ghost use Rattle.memory_bitmap.specs.Bits.{bit_of, AllClear, IsFirstBit, ChangesBit, IsEmptyBlock};
+ghost use Rattle.std.specs.Prelude.{◌≡◌, ℕ, ◌+◌, ◌-◌, ◌*◌, ◌/◌, ◌%◌, ◌<◌, ◌≤◌, ◌↔◌, ◌^◌, IsTrue, MatchOption, IfOk, All, length, vec_len, min};
+ghost use Rattle.memory_bitmap.specs.Bits.{bit_of, AllClear, IsFirstBit, ChangesBit, IsEmptyBlock, HasFirstBits};
 
 use page_core::NoMemory;
 use std::alloc::Global;
@@ -83,5 +83,26 @@ pub fn clear_blocks(blocks: &mut [[u64; WORDS]])
 {
     for block in blocks.iter_mut() {
         *block = empty_block();
+    }
+}
+
+/// Makes the first `count` bits 1, and the others 0.
+pub fn fill_first(block: &mut [u64; WORDS], count: usize)
+    requires { count ≤ 32768 }
+    ensures { HasFirstBits count block.new }
+{
+    for word in 0..WORDS {
+        block[word] = first_ones(count.saturating_sub(64 * word));
+    }
+}
+
+/// The word whose first `count` bits are 1, or all where it has no more.
+fn first_ones(count: usize) -> u64
+    ensures { result ≡ 2 ^ min count 64 - 1 }
+{
+    if count < 64 {
+        (1 << count) - 1
+    } else {
+        u64::MAX
     }
 }

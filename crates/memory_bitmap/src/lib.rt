@@ -3,14 +3,16 @@
 
 mod block;
 
-ghost use Rattle.std.specs.Prelude.{◌≡◌, ℕ, ◌+◌, ◌-◌, ◌*◌, ◌/◌, ◌<◌, ◌≤◌, ◌↔◌, ◌++◌, [], IsTrue, IfOk, OnOk, MatchOption, List, length, vec_len, slice_index};
+ghost use Rattle.std.specs.Prelude.{◌≡◌, ℕ, ◌+◌, ◌-◌, ◌*◌, ◌/◌, ◌<◌, ◌≤◌, ◌↔◌, ◌++◌, [], IsTrue, IfOk, OnOk, MatchOption, List, length, vec_len, slice_index, All};
 ghost use Rattle.std.specs.List.{Contains};
 ghost use Rattle.definitions.specs.Zones.{numbers, first_from, zone_at, IsZone, AreZones};
 ghost use Rattle.definitions.specs.FrameSets.{inserted, removed, zone_blocks, blocks, HoldsBits};
 ghost use Rattle.memory_bitmap.specs.FrameSet.{FrameSet, IsFrameSet};
-ghost use Rattle.memory_bitmap.specs.Bits.{IsPlace};
+ghost use Rattle.memory_bitmap.specs.Bits.{IsPlace, AreFilled};
 
-use block::{WORDS, clear_bit, clear_blocks, empty_blocks, first_bit, has_bit, set_bit};
+use block::{
+    WORDS, clear_bit, clear_blocks, empty_blocks, fill_first, first_bit, has_bit, set_bit,
+};
 use page_core::NoMemory;
 use std::alloc::Global;
 use std::marker::Model;
@@ -117,6 +119,24 @@ impl Bitmap {
         self.len = 0;
     }
 
+    /// Puts every valid page frame into the set.
+    pub fn set_all(&mut self)
+        ensures all { self.new ≡ record self.old { members = numbers self.old.zones } }
+        ensures set { IsFrameSet self.new }
+    {
+        fill_blocks(&mut self.bits, &self.runs);
+        self.len = self.zones.count();
+    }
+
+    /// Makes the set the same as another one.
+    pub fn copy_from(&mut self, members: &Bitmap)
+        requires { members.now.zones ≡ self.old.zones }
+        ensures { self.new ≡ members.now }
+    {
+        self.bits.copy_from_slice(&members.bits);
+        self.len = members.len;
+    }
+
     /// How many blocks of bits there are. The blocks of all zones are numbered in order from 0.
     pub fn blocks(&self) -> u32
         ensures { result ≡ length (blocks self.now.zones) }
@@ -158,6 +178,17 @@ fn add_blocks(runs: &mut Vec<(u32, u32)>, zone: (u32, u32)) -> Result<(), NoMemo
             .map_err(|_| NoMemory)?;
     }
     Ok(())
+}
+
+/// Makes the bits of each block's page frames 1, and the others 0.
+fn fill_blocks(bits: &mut [[u64; WORDS]], runs: &[(u32, u32)])
+    requires blocks { length bits.old ≡ length runs.now }
+    requires few { All (λ run. run.1 ≤ 32768) runs.now }
+    ensures { AreFilled runs.now bits.new }
+{
+    for (b, &(_, count)) in runs.iter().enumerate() {
+        fill_first(&mut bits[b], count as usize);
+    }
 }
 
 /// Where the bit of a page frame stands: its block, and the place in it.

@@ -18,7 +18,7 @@ use page_core::{NoMemory, Page};
 use relocate::{Steps, Work, execute, sequence};
 use restore_list::RestoreList;
 use safe_pages::{Placement, TooFew};
-use sets::{copy_members, mark_with_data, zero_apart};
+use sets::{mark_with_data, zero_apart};
 use std::alloc::Global;
 use std::marker::{Brand, Model};
 use std::sync::ledger::{Blank, Ledger};
@@ -79,7 +79,7 @@ impl Waiting {
         self.ready = false;
         self.loaded = 0;
         self.origs.clear_all();
-        copy_members(&mut self.free, free);
+        self.free.copy_from(free);
     }
 
     /// Plans where the pages of these originals wait, all but those without data. Refused where too few page frames are

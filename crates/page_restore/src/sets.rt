@@ -7,20 +7,6 @@ ghost use Rattle.page_restore.specs.Waiting.{with_data};
 use frame_arena::Frames;
 use memory_bitmap::Bitmap;
 
-/// Makes a set the same as another one.
-pub(crate) fn copy_members(set: &mut Bitmap, members: &Bitmap)
-    requires { set.old.zones ≡ members.now.zones }
-    ensures { set.new ≡ members.now }
-{
-    set.clear_all();
-    let mut from = 0;
-    for _ in 0..members.len() {
-        let p = members.first_from(from).unwrap();
-        set.set(p);
-        from = p + 1;
-    }
-}
-
 /// Makes the set that of the originals that aren't among those without data.
 pub(crate) fn mark_with_data(set: &mut Bitmap, origs: &Bitmap, zeros: &Bitmap)
     requires { set.old.zones ≡ origs.now.zones }

@@ -1,7 +1,8 @@
-ghost use Rattle.std.specs.Prelude.{◌≡◌, ◌≤◌, ◌<◌, ◌&&◌, ℕ, not, [], length, Contains};
+ghost use Rattle.std.specs.Prelude.{◌≡◌, ◌≤◌, ◌<◌, ◌&&◌, ℕ, not, [], length, take, filter, nat_le, Contains};
 ghost use Rattle.definitions.specs.Bytes.{filled_page};
 ghost use Rattle.definitions.specs.Tables.{frame};
 ghost use Rattle.definitions.specs.Zones.{top};
+ghost use Rattle.memory_bitmap.specs.FrameSet.{IsFrameSet};
 ghost use Rattle.plain_machine.specs.Machine.{IsHardware, unused};
 ghost use Rattle.plain_machine.specs.Loader.{left_free, loader_frame, is_in_ranges, is_in_regions};
 ghost use Rattle.plain_machine.specs.declared.event.Loader.TheVariants as loader;
@@ -98,41 +99,55 @@ fn mark_left_free(set: &mut Bitmap, hw: &Hardware, ranges: &Ranges)
     ensures set { set.new ≡ record set.old { members = left_free hw.now [] (loader.Ranges ranges.now) } }
     ensures hardware { IsHardware hw.now }
 {
-    set.clear_all();
-    let zones = hw.zones();
-    let mut from = 0;
-    for _ in 0..zones.count() {
-        let p = zones.next(from).unwrap();
-        if is_left_free(hw, ranges, p) {
-            set.set(p);
-        }
-        from = p + 1;
+    set.set_all();
+    clear_ranges(set, ranges);
+    clear_regions(set, hw);
+}
+
+/// Takes the page frames of the ranges out of the set.
+fn clear_ranges(set: &mut Bitmap, ranges: &Ranges)
+    requires { IsFrameSet set.old }
+    ensures { set.new ≡ record set.old { members = filter (λ p. not (is_in_ranges ranges.now p)) set.old.members } }
+{
+    for &(first, last) in listed(ranges) {
+        clear_between(set, first, last);
     }
 }
 
-/// Whether neither a range nor a region with flags has the page frame.
-fn is_left_free(hw: &Hardware, ranges: &Ranges, p: u32) -> bool
-    ensures { result ≡ (not (is_in_ranges ranges.now p) && not (is_in_regions hw.now p)) }
+/// The ranges up to their count.
+fn listed(ranges: &Ranges) -> &[(u32, u32)]
+    ensures { result.now ≡ take ranges.now.count ranges.now.list }
 {
-    !is_in_ranges(ranges, p) && !is_in_regions(hw, p)
+    let all = ranges.list.as_slice();
+    all.get(..ranges.count as usize).unwrap_or(all)
 }
 
-/// Whether one of the ranges, both ends included, has the page frame.
-fn is_in_ranges(ranges: &Ranges, p: u32) -> bool
-    ensures { result ≡ is_in_ranges ranges.now p }
+/// Takes the page frames of regions with flags out of the set.
+fn clear_regions(set: &mut Bitmap, hw: &Hardware)
+    requires { IsFrameSet set.old }
+    ensures set { set.new ≡ record set.old { members = filter (λ p. not (is_in_regions hw.now p)) set.old.members } }
+    ensures hardware { IsHardware hw.now }
 {
-    ranges
-        .list
-        .iter()
-        .take(ranges.count as usize)
-        .any(|&(first, last)| first <= p && p <= last)
+    for &(start, count, flags) in hw.regions() {
+        if flags != 0 {
+            clear_between(set, start, start + count - 1);
+        }
+    }
 }
 
-/// Whether a region with flags has the page frame.
-fn is_in_regions(hw: &Hardware, p: u32) -> bool
-    ensures { result ≡ is_in_regions hw.now p }
+/// Takes the page frames from `first` to `last`, both included, out of the set.
+fn clear_between(set: &mut Bitmap, first: u32, last: u32)
+    requires { IsFrameSet set.old }
+    ensures { set.new ≡ record set.old { members = filter (λ p. not (nat_le first p && nat_le p last)) set.old.members } }
 {
-    hw.regions().iter().any(|&(start, count, flags)| start <= p && p - start < count && flags != 0)
+    let mut from = first;
+    while let Some(p) = set.first_from(from) {
+        if p > last {
+            break;
+        }
+        set.clear(p);
+        from = p + 1;
+    }
 }
 
 /// Fills each page frame that isn't in the set.
