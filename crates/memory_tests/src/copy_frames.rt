@@ -22,8 +22,7 @@ fn picks_the_lowest(rt: HostRuntime) -> Result<(), Fail> {
     let zones = Zones::of(&[(0, 100)])?;
     let mut frames = Frames::create(rt.alloc(), 100)?;
     let mut set = Bitmap::create(rt.alloc(), &zones)?;
-    assert_eq!(rt; frames.len(), 100);
-    assert_eq!(rt; zones.top(), 100);
+    assert!(rt; frames.len() == 100 && zones.top() == 100);
     set_entry(&mut frames, 0, 4, PageFlags::FREE, 0);
     set_entry(&mut frames, 0, 7, PageFlags::FREE, 0);
     set_entry(&mut frames, 0, 99, PageFlags::FREE, 0);
@@ -33,8 +32,9 @@ fn picks_the_lowest(rt: HostRuntime) -> Result<(), Fail> {
         table: 0,
     };
     pick(&view, 2, &mut set);
-    assert_eq!(rt; set.len(), 2);
-    assert_eq!(rt; set.first_from(0), Some(4));
-    assert_eq!(rt; set.first_from(5), Some(7));
+    assert_eq!(rt;
+        (set.len(), set.first_from(0), set.first_from(5)),
+        (2, Some(4), Some(7))
+    );
     Ok(())
 }

@@ -20,10 +20,8 @@ fn keeps_bits_in_blocks(rt: HostRuntime) -> Result<(), Fail> {
     let mut set = Bitmap::create(rt.alloc(), &zones)?;
     put(&mut set, &zones, 32772);
     put(&mut set, &zones, 32773);
-    assert_eq!(rt; set.blocks(), 2);
-    assert_eq!(rt; set.words(0)[511], 9223372036854775808);
-    assert_eq!(rt; set.words(1)[0], 1);
-    assert_eq!(rt; set.first_from(33), Some(32772));
+    assert_eq!(rt; (set.blocks(), set.first_from(33)), (2, Some(32772)));
+    assert_eq!(rt; (set.words(0)[511], set.words(1)[0]), (1 << 63, 1));
     Ok(())
 }
 
@@ -34,13 +32,11 @@ fn takes_page_frames_out(rt: HostRuntime) -> Result<(), Fail> {
     put(&mut set, &zones, 65535);
     put(&mut set, &zones, 7);
     put(&mut set, &zones, 7);
-    assert_eq!(rt; set.len(), 2);
-    assert!(rt; set.has(7) && !set.has(8) && !set.has(100));
+    assert!(rt; set.len() == 2 && set.has(7) && !set.has(8) && !set.has(100));
     take(&mut set, &zones, 7);
     take(&mut set, &zones, 8);
     assert_eq!(rt; set.first_from(0), Some(65535));
     set.clear_all();
-    assert_eq!(rt; set.len(), 0);
-    assert_eq!(rt; set.first_from(0), None);
+    assert_eq!(rt; (set.len(), set.first_from(0)), (0, None));
     Ok(())
 }

@@ -22,10 +22,8 @@ fn reads_the_numbers_of_an_image(rt: HostRuntime) -> Result<(), Fail> {
     assert_eq!(rt; zones.zone(0), Some((0, 4096)));
     let page = page_of(&[0, 1, 2, 3, 4, 5, 6, 10, u64::MAX]);
     let answer = Unpack::begin(8, Format::Plain).feed(&page, &zones, &mut origs, &mut zeros);
-    assert_eq!(rt; answer, Ok(()));
-    assert_eq!(rt; origs.len(), 8);
-    assert_eq!(rt; origs.first_from(7), Some(10));
-    assert_eq!(rt; zeros.len(), 0);
+    let listed = (origs.len(), origs.first_from(7), zeros.len());
+    assert_eq!(rt; (answer, listed), (Ok(()), (8, Some(10), 0)));
     Ok(())
 }
 
@@ -37,11 +35,15 @@ fn tells_pages_without_data(rt: HostRuntime) -> Result<(), Fail> {
     let marked = [4, (1 << 63) + 5, (1 << 63) + 6, 10, u64::MAX];
     let page = page_of(&marked);
     let answer = Unpack::begin(4, Format::SkipZeros).feed(&page, &zones, &mut origs, &mut zeros);
-    assert_eq!(rt; answer, Ok(()));
-    assert_eq!(rt; origs.len(), 4);
-    assert_eq!(rt; zeros.first_from(0), Some(5));
-    assert_eq!(rt; zeros.first_from(6), Some(6));
-    assert_eq!(rt; zeros.first_from(7), None);
+    assert_eq!(rt; (answer, origs.len()), (Ok(()), 4));
+    assert_eq!(rt;
+        [
+            zeros.first_from(0),
+            zeros.first_from(6),
+            zeros.first_from(7)
+        ],
+        [Some(5), Some(6), None]
+    );
     Ok(())
 }
 

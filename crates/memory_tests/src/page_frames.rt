@@ -34,11 +34,18 @@ fn one_frame_at_a_time(rt: HostRuntime) -> Result<(), Fail> {
     frames.copy(0, 2);
     frames.put_u32(2, 4, 9);
     frames.zero(0);
-    assert_eq!(rt; frames.len(), 3);
-    assert_eq!(rt; frames.word(0, 0), 0);
-    assert_eq!(rt; frames.page(1).as_bytes()[4095], 165);
-    assert_eq!(rt; frames.u32_at(2, 0), 0x05060708);
-    assert_eq!(rt; frames.word(2, 0), 0x0000000905060708);
+    assert_eq!(rt;
+        (
+            frames.len(),
+            frames.page(1).as_bytes()[4095],
+            frames.u32_at(2, 0)
+        ),
+        (3, 165, 0x05060708)
+    );
+    assert_eq!(rt;
+        [frames.word(0, 0), frames.word(2, 0)],
+        [0, 0x0000000905060708]
+    );
     Ok(())
 }
 
@@ -48,9 +55,7 @@ fn all_frames_are_zeroed(rt: HostRuntime) -> Result<(), Fail> {
     frames.zero_all();
     frames.set_word(1, 511, 7);
     frames.zero_all();
-    assert_eq!(rt; frames.len(), 2);
-    assert_eq!(rt; *frames.page(0).as_bytes(), [0; 4096]);
-    assert_eq!(rt; *frames.page(1).as_bytes(), [0; 4096]);
+    assert!(rt; frames.page(0).is_zero() && frames.page(1).is_zero());
     Ok(())
 }
 

@@ -23,13 +23,13 @@ fn runs_of_slots(rt: HostRuntime) -> Result<(), Fail> {
         [runs.run(0), runs.run(1), runs.run(2)],
         [Some((3, 2)), Some((6, 2995)), None]
     );
-    assert_eq!(rt; table.free_count(&frames, &runs), 2997);
+    let free = table.free_count(&frames, &runs);
     table.give(&mut frames, &mut runs, 1);
     assert_eq!(rt;
         [runs.run(0), runs.run(1), runs.run(2)],
         [Some((1, 1)), Some((3, 2)), Some((6, 2995))]
     );
-    assert_eq!(rt; table.owner(&frames, 2), 65536);
+    assert_eq!(rt; (free, table.owner(&frames, 2)), (2997, 65536));
     table.give_image(&mut frames, &mut runs);
     assert_eq!(rt;
         [runs.run(0), runs.run(1), runs.run(2)],
@@ -55,12 +55,26 @@ fn slots_on_blocks(rt: HostRuntime) -> Result<(), Fail> {
 
 #[test]
 fn extents_at_fault(rt: HostRuntime) -> Result<(), Fail> {
-    assert_eq!(rt; FileMap::of(&[], 2).err(), Some(0));
-    assert_eq!(rt; FileMap::of(&[(1, 2, 0)], 2).err(), Some(0));
-    assert_eq!(rt; FileMap::of(&[(0, 2, 7), (2, 2, 8)], 4).err(), Some(1));
-    assert_eq!(rt; FileMap::of(&[(0, 2, 7), (2, 2, 0)], 4).err(), Some(1));
-    assert_eq!(rt; FileMap::of(&[(0, 2, 7), (2, 0, 9)], 2).err(), Some(1));
-    assert_eq!(rt; FileMap::of(&[(0, 2, 4294967294)], 2).err(), Some(0));
-    assert_eq!(rt; FileMap::of(&[(0, 2, 0)], 3).err(), Some(1));
+    let faults = [
+        FileMap::of(&[], 2).err(),
+        FileMap::of(&[(1, 2, 0)], 2).err(),
+        FileMap::of(&[(0, 2, 7), (2, 2, 8)], 4).err(),
+        FileMap::of(&[(0, 2, 7), (2, 2, 0)], 4).err(),
+        FileMap::of(&[(0, 2, 7), (2, 0, 9)], 2).err(),
+        FileMap::of(&[(0, 2, 4294967294)], 2).err(),
+        FileMap::of(&[(0, 2, 0)], 3).err(),
+    ];
+    assert_eq!(rt;
+        faults,
+        [
+            Some(0),
+            Some(0),
+            Some(1),
+            Some(1),
+            Some(1),
+            Some(0),
+            Some(1)
+        ]
+    );
     Ok(())
 }

@@ -47,8 +47,7 @@ fn marks_saveable_and_zero(rt: HostRuntime) -> Result<(), Fail> {
     let zones = Zones::of(&[(0, 100)])?;
     let mut frames = Frames::create(rt.alloc(), 100)?;
     let mut snapshot = Snapshot::create(rt.alloc(), &zones)?;
-    assert_eq!(rt; frames.len(), 100);
-    assert_eq!(rt; zones.top(), 100);
+    assert!(rt; frames.len() == 100 && zones.top() == 100);
     // Of the saved ones page frame 0 has the frame table, and 7 alone stays zero.
     set_flags(&mut frames);
     frames.set_word(2, 511, 1);
@@ -64,13 +63,13 @@ fn marks_saveable_and_zero(rt: HostRuntime) -> Result<(), Fail> {
         need: 1030,
     };
     assert_eq!(rt; snapshot.count(&view, Format::SkipZeros), Err(short));
-    assert_eq!(rt; snapshot.origs().len(), 5);
-    assert_eq!(rt; snapshot.copies().len(), 0);
-    let zeros = snapshot.zeros().expect(&rt, "zeros");
-    assert_eq!(rt; zeros.len(), 1);
-    assert!(rt; zeros.has(7));
-    assert_eq!(rt; snapshot.count(&view, Format::Plain), Err(short));
-    assert!(rt; snapshot.zeros().is_none());
+    let marked = snapshot.zeros().map(|zeros| (zeros.len(), zeros.has(7)));
+    assert_eq!(rt;
+        (snapshot.origs().len(), snapshot.copies().len(), marked),
+        (5, 0, Some((1, true)))
+    );
+    let plain = snapshot.count(&view, Format::Plain);
+    assert_eq!(rt; (plain, snapshot.zeros().is_none()), (Err(short), true));
     Ok(())
 }
 
@@ -79,8 +78,7 @@ fn takes_where_just_enough_are_free(rt: HostRuntime) -> Result<(), Fail> {
     let zones = Zones::of(&[(0, 4025)])?;
     let mut frames = Frames::create(rt.alloc(), 4025)?;
     let mut snapshot = Snapshot::create(rt.alloc(), &zones)?;
-    assert_eq!(rt; frames.len(), 4025);
-    assert_eq!(rt; zones.top(), 4025);
+    assert!(rt; frames.len() == 4025 && zones.top() == 4025);
     free_rest(&mut frames);
     frames.set_word(1499, 7, 77);
     frames.set_word(3000, 7, 33);
@@ -89,16 +87,21 @@ fn takes_where_just_enough_are_free(rt: HostRuntime) -> Result<(), Fail> {
         free: 2524,
         need: 2525,
     };
-    assert_eq!(rt; take(&mut snapshot, &mut frames, &zones), Err(short));
-    assert_eq!(rt; frames.word(2999, 7), 0);
+    let refused = take(&mut snapshot, &mut frames, &zones);
+    assert_eq!(rt; (refused, frames.word(2999, 7)), (Err(short), 0));
     set_entry(&mut frames, 0, 2000, PageFlags::FREE, 0);
     let counts = take(&mut snapshot, &mut frames, &zones);
     // Not zero are 1499, and of the frame table the page frames 1 to 3, which have entries of free page frames.
     assert_eq!(rt; counts, Ok(Counts { n: 1500, d: 4 }));
-    assert_eq!(rt; snapshot.copies().len(), 1500);
-    assert_eq!(rt; snapshot.copies().first_from(0), Some(1500));
-    assert_eq!(rt; frames.word(2999, 7), 77);
-    assert_eq!(rt; frames.word(1499, 7), 77);
-    assert_eq!(rt; frames.word(3000, 7), 33);
+    let copies = snapshot.copies();
+    assert_eq!(rt; (copies.len(), copies.first_from(0)), (1500, Some(1500)));
+    assert_eq!(rt;
+        [
+            frames.word(2999, 7),
+            frames.word(1499, 7),
+            frames.word(3000, 7)
+        ],
+        [77, 77, 33]
+    );
     Ok(())
 }

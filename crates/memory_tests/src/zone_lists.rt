@@ -22,13 +22,12 @@ fn refuses_the_first_fault(rt: HostRuntime) {
 #[test]
 fn tells_the_valid_numbers(rt: HostRuntime) -> Result<(), Fail> {
     let zones = Zones::of(&[(5, 10), (65530, 6)])?;
-    assert_eq!(rt; zones.count(), 16);
-    assert_eq!(rt; zones.top(), 65536);
+    assert_eq!(rt; (zones.count(), zones.top()), (16, 65536));
     assert!(rt; zones.valid(14) && !zones.valid(15) && zones.valid(65535));
-    assert_eq!(rt; zones.next(0), Some(5));
-    assert_eq!(rt; zones.next(15), Some(65530));
-    assert_eq!(rt; zones.next(65536), None);
-    assert_eq!(rt; zones.zone(1), Some((65530, 6)));
-    assert_eq!(rt; zones.zone(2), None);
+    assert_eq!(rt;
+        [zones.next(0), zones.next(15), zones.next(65536)],
+        [Some(5), Some(65530), None]
+    );
+    assert_eq!(rt; [zones.zone(1), zones.zone(2)], [Some((65530, 6)), None]);
     Ok(())
 }

@@ -116,91 +116,93 @@ fn relocate<L: Ledger>(
     Ok(entries)
 }
 
-#[test]
-fn puts_moves_in_order(rt: HostRuntime) -> Result<(), Fail> {
+/// The entries of the restore list of these moves, in a machine with page frames 0 to 4095. List frame 40, bounce frame 41.
+fn entries_of(alloc: Global, moves: &[(u32, u32)]) -> Result<Vec<(u32, u32, u32)>, Fail> {
     let zones = Zones::of(&[(0, 4096)])?;
-    let mut frames = Frames::create(rt.alloc(), 4096)?;
-    let mut work = Work::create(rt.alloc(), 4096)?;
-    assert_eq!(rt; zones.top(), 4096);
-    // The moves, and the entries of their restore list. List frame 40, bounce frame 41.
-    let cases: [(&[(u32, u32)], &[(u32, u32, u32)]); 7] = [
-        // two page frames change places
-        (
-            &[(20, 21), (21, 20)],
-            &[(20, 41, 1), (21, 20, 1), (41, 21, 1)],
-        ),
-        // a page stays where it is
-        (&[(7, 7)], &[]),
-        // ten page frames move up by two: from the highest target on
-        (
-            &[
-                (100, 102),
-                (101, 103),
-                (102, 104),
-                (103, 105),
-                (104, 106),
-                (105, 107),
-                (106, 108),
-                (107, 109),
-                (108, 110),
-                (109, 111),
-            ],
-            &[(100, 102, 10)],
-        ),
-        // and down by two: from the lowest target on
-        (
-            &[(102, 100), (103, 101), (104, 102), (105, 103)],
-            &[(102, 100, 4)],
-        ),
-        // pages that wait at the end of memory
-        (
-            &[
-                (4088, 0),
-                (4089, 1),
-                (4090, 2),
-                (4091, 3),
-                (4092, 4),
-                (4093, 5),
-                (4094, 6),
-                (4095, 10),
-            ],
-            &[(4095, 10, 1), (4088, 0, 7)],
-        ),
-        // a path: 6 is free for the page of 3, then 3 for that of 9, then 9 for that of 5
-        (
-            &[(9, 3), (3, 6), (5, 9)],
-            &[(3, 6, 1), (9, 3, 1), (5, 9, 1)],
-        ),
-        // three page frames in a cycle, and a page beside it
-        (
-            &[(10, 11), (11, 12), (12, 10), (30, 13)],
-            &[
-                (30, 13, 1),
-                (10, 41, 1),
-                (12, 10, 1),
-                (11, 12, 1),
-                (41, 11, 1),
-            ],
-        ),
-    ];
-    for (moves, want) in cases {
-        let placement = place(rt.alloc(), &zones, moves, 40, 41).ok_or("no placement")?;
-        let entries = relocate::<Brand>(
-            rt.alloc(),
-            &placement,
-            &mut work,
-            &mut frames,
-            Blank::new(1),
-        )?;
-        assert_eq!(rt; entries.as_slice(), want);
+    let mut frames = Frames::create(alloc, 4096)?;
+    let mut work = Work::create(alloc, 4096)?;
+    let placement = place(alloc, &zones, moves, 40, 41).ok_or("no placement")?;
+    if zones.top() != 4096 {
+        return Err("other page frames".into());
     }
+    let entries = relocate::<Brand>(alloc, &placement, &mut work, &mut frames, Blank::new(1))?;
+    Ok(entries)
+}
+
+#[test]
+fn two_page_frames_change_places(rt: HostRuntime) -> Result<(), Fail> {
+    let entries = entries_of(rt.alloc(), &[(20, 21), (21, 20)])?;
+    assert_eq!(rt;
+        entries.as_slice(),
+        [(20, 41, 1), (21, 20, 1), (41, 21, 1)].as_slice()
+    );
+    Ok(())
+}
+
+#[test]
+fn a_page_stays_where_it_is(rt: HostRuntime) -> Result<(), Fail> {
+    let entries = entries_of(rt.alloc(), &[(7, 7)])?;
+    assert_eq!(rt; entries.len(), 0);
+    Ok(())
+}
+
+// Up by two from the highest target on, and down by two from the lowest.
+#[test]
+fn page_frames_in_a_row(rt: HostRuntime) -> Result<(), Fail> {
+    let up = entries_of(
+        rt.alloc(),
+        &[(100, 102), (101, 103), (102, 104), (103, 105)],
+    )?;
+    assert_eq!(rt; up.as_slice(), [(100, 102, 4)].as_slice());
+    let down = entries_of(
+        rt.alloc(),
+        &[(102, 100), (103, 101), (104, 102), (105, 103)],
+    )?;
+    assert_eq!(rt; down.as_slice(), [(102, 100, 4)].as_slice());
+    Ok(())
+}
+
+#[test]
+fn pages_that_wait_at_the_end_of_memory(rt: HostRuntime) -> Result<(), Fail> {
+    let entries = entries_of(rt.alloc(), &[(4093, 0), (4094, 1), (4095, 10)])?;
+    assert_eq!(rt;
+        entries.as_slice(),
+        [(4095, 10, 1), (4093, 0, 2)].as_slice()
+    );
+    Ok(())
+}
+
+// 6 is free for the page of 3, then 3 for that of 9, then 9 for that of 5.
+#[test]
+fn a_path(rt: HostRuntime) -> Result<(), Fail> {
+    let entries = entries_of(rt.alloc(), &[(9, 3), (3, 6), (5, 9)])?;
+    assert_eq!(rt;
+        entries.as_slice(),
+        [(3, 6, 1), (9, 3, 1), (5, 9, 1)].as_slice()
+    );
+    Ok(())
+}
+
+#[test]
+fn a_cycle_and_a_page_beside_it(rt: HostRuntime) -> Result<(), Fail> {
+    let entries = entries_of(rt.alloc(), &[(10, 11), (11, 12), (12, 10), (30, 13)])?;
+    assert_eq!(rt;
+        entries.as_slice(),
+        [
+            (30, 13, 1),
+            (10, 41, 1),
+            (12, 10, 1),
+            (11, 12, 1),
+            (41, 11, 1),
+        ]
+        .as_slice()
+    );
     Ok(())
 }
 
 #[test]
 fn moves_a_planned_image(rt: HostRuntime) -> Result<(), Fail> {
     let zones = Zones::of(&[(0, 4096)])?;
-    assert_eq!(rt; zones.top(), 4096);
     let mut frames = Frames::create(rt.alloc(), 4096)?;
     let mut work = Work::create(rt.alloc(), 4096)?;
     let mut placement = Placement::create(rt.alloc(), &zones)?;
@@ -211,6 +213,7 @@ fn moves_a_planned_image(rt: HostRuntime) -> Result<(), Fail> {
     placement.plan(&origs, &free)?;
     frames.fill(481, 1);
     frames.fill(1999, 2);
+    assert!(rt; zones.top() == 4096 && frames.len() == 4096);
     let entries = relocate::<Brand>(
         rt.alloc(),
         &placement,
@@ -222,31 +225,10 @@ fn moves_a_planned_image(rt: HostRuntime) -> Result<(), Fail> {
         entries.as_slice(),
         [(481, 0, 1019), (1519, 1019, 481)].as_slice()
     );
-    assert_eq!(rt; frames.len(), 4096);
-    assert_eq!(rt; frames.word(0, 511), 0x0101_0101_0101_0101);
-    assert_eq!(rt; frames.word(1499, 511), 0x0202_0202_0202_0202);
-    Ok(())
-}
-
-#[test]
-fn swaps_two_frames(rt: HostRuntime) -> Result<(), Fail> {
-    let zones = Zones::of(&[(0, 64)])?;
-    assert_eq!(rt; zones.top(), 64);
-    let mut frames = Frames::create(rt.alloc(), 64)?;
-    let mut work = Work::create(rt.alloc(), 64)?;
-    frames.fill(20, 7);
-    frames.fill(21, 9);
-    let placement = place(rt.alloc(), &zones, &[(20, 21), (21, 20)], 40, 41).ok_or("no placement")?;
-    let entries = relocate::<Brand>(
-        rt.alloc(),
-        &placement,
-        &mut work,
-        &mut frames,
-        Blank::new(1),
-    )?;
-    assert_eq!(rt; entries.len(), 3);
-    assert_eq!(rt; frames.word(20, 511), 0x0909_0909_0909_0909);
-    assert_eq!(rt; frames.word(21, 0), 0x0707_0707_0707_0707);
+    assert_eq!(rt;
+        [frames.word(0, 511), frames.word(1499, 511)],
+        [0x0101_0101_0101_0101, 0x0202_0202_0202_0202]
+    );
     Ok(())
 }
 

@@ -40,12 +40,10 @@ fn plans_from_the_loaders_page_frames(rt: HostRuntime) -> Result<(), Fail> {
     add_range(&mut free, &zones, 0, 2000);
     placement.plan(&origs, &free)?;
     let list = placement.list_frames();
-    assert_eq!(rt; list.len(), 18);
-    assert_eq!(rt; list.first().copied(), Some(1500));
-    assert_eq!(rt; list.last().copied(), Some(1517));
-    assert_eq!(rt; placement.bounce(), 1518);
+    let ends = (list.first().copied(), list.last().copied());
+    assert_eq!(rt; (list.len(), ends), (18, (Some(1500), Some(1517))));
     let moves = placement.moves();
-    assert_eq!(rt; moves.len(), 1500);
+    assert_eq!(rt; (placement.bounce(), moves.len()), (1518, 1500));
     for (k, frame) in [(0, 481), (1018, 1499), (1019, 1519), (1499, 1999)] {
         assert_eq!(rt; moves.get(k as usize).copied(), Some((frame, k)));
         if (k as usize) < moves.len() {
@@ -61,7 +59,6 @@ fn takes_what_it_is_given(rt: HostRuntime) -> Result<(), Fail> {
     let placement = Placement::given(rt.alloc(), &zones, &[(1, 2), (2, 1)], &[5], 6)?;
     assert_eq!(rt; placement.moves(), [(1, 2), (2, 1)].as_slice());
     assert_eq!(rt; placement.list_frames(), [5].as_slice());
-    assert_eq!(rt; placement.bounce(), 6);
-    assert_eq!(rt; placement.frame_for(1), 2);
+    assert_eq!(rt; (placement.bounce(), placement.frame_for(1)), (6, 2));
     Ok(())
 }

@@ -25,17 +25,18 @@ fn lists_in_two_frames(rt: HostRuntime) -> Result<(), Fail> {
     let mut frames = Frames::create(rt.alloc(), 8)?;
     let placement = Placement::given(rt.alloc(), &zones, &[], &[5, 3], 7)?;
     let mut list = RestoreList::begin(&mut frames, &placement);
-    assert_eq!(rt; list.len(), 0);
     add(&mut list, &mut frames, 171);
-    assert_eq!(rt; list.len(), 171);
-    assert_eq!(rt; list.entry(&frames, 0), (0, 1, 1));
-    assert_eq!(rt; list.entry(&frames, 169), (169, 170, 1));
-    assert_eq!(rt; list.entry(&frames, 170), (170, 171, 1));
-    assert_eq!(rt; frames.word(5, 0), 3);
-    assert_eq!(rt; frames.word(5, 508), 169);
-    assert_eq!(rt; frames.word(5, 511), 0);
-    assert_eq!(rt; frames.word(3, 0), 18446744073709551615);
-    assert_eq!(rt; frames.word(3, 1), 170);
-    assert_eq!(rt; frames.word(3, 4), 0);
+    let entries = [
+        list.entry(&frames, 0),
+        list.entry(&frames, 169),
+        list.entry(&frames, 170),
+    ];
+    assert_eq!(rt; entries, [(0, 1, 1), (169, 170, 1), (170, 171, 1)]);
+    let first = [frames.word(5, 0), frames.word(5, 508), frames.word(5, 511)];
+    let second = [frames.word(3, 0), frames.word(3, 1), frames.word(3, 4)];
+    assert_eq!(rt;
+        (list.len(), first, second),
+        (171, [3, 169, 0], [u64::MAX, 170, 0])
+    );
     Ok(())
 }

@@ -1,4 +1,4 @@
-ghost use Rattle.std.specs.Prelude.{◌≡◌, ◌≤◌, true, length};
+ghost use Rattle.std.specs.Prelude.{◌≡◌, ◌≤◌, ◌<◌, true, length};
 ghost use Rattle.definitions.specs.Zones.{top};
 
 use frame_arena::Frames;
@@ -47,12 +47,23 @@ fn place_numbered(waiting: &mut Waiting, frames: &mut Frames)
     }
 }
 
+/// The word at a place of each of the first 16 page frames.
+fn words_at(frames: &Frames, at: usize) -> [u64; 16]
+    requires frames { 16 ≤ length frames.now }
+    requires within { at < 512 }
+{
+    let mut words = [0; 16];
+    for p in 0..16 {
+        words[p as usize] = frames.word(p, at);
+    }
+    words
+}
+
 #[test]
 fn brings_pages_home(rt: HostRuntime) -> Result<(), Fail> {
     let zones = Zones::of(&[(0, 16)])?;
     let mut frames = Frames::create(rt.alloc(), 16)?;
-    assert_eq!(rt; zones.top(), 16);
-    assert_eq!(rt; frames.len(), 16);
+    assert!(rt; zones.top() == 16 && frames.len() == 16);
     fill_all(&mut frames);
     let mut origs = Bitmap::create(rt.alloc(), &zones)?;
     let mut zeros = Bitmap::create(rt.alloc(), &zones)?;
@@ -66,30 +77,24 @@ fn brings_pages_home(rt: HostRuntime) -> Result<(), Fail> {
     waiting.plan(&origs, &zeros)?;
     assert_eq!(rt; waiting.left(), 4);
     place_numbered(&mut waiting, &mut frames);
-    assert_eq!(rt; waiting.left(), 0);
-    assert_eq!(rt; frames.word(12, 511), 1);
-    assert_eq!(rt; frames.word(13, 511), 2);
-    assert_eq!(rt; frames.word(14, 511), 3);
-    assert_eq!(rt; frames.word(15, 511), 4);
-    assert_eq!(rt; frames.word(15, 0), 0);
-    assert_eq!(rt; frames.word(5, 511), OLD);
+    let mut placed = [OLD; 16];
+    placed[12..].copy_from_slice(&[1, 2, 3, 4]);
+    assert_eq!(rt; words_at(&frames, 511), placed);
     waiting.finish(&mut frames, &origs);
-    let home = [OLD, 1, 0, OLD, 0, 2, 0, 0, 0, 0, OLD, OLD, 0, 3, 4, 0];
-    for (p, last) in home.iter().enumerate() {
-        assert_eq!(rt; frames.word(p as u32, 511), *last, "page frame {p}");
-    }
-    assert_eq!(rt; frames.word(3, 0), OLD);
-    assert_eq!(rt; frames.word(4, 0), 0);
-    assert_eq!(rt; frames.word(6, 0), 0);
+    let last = [OLD, 1, 0, OLD, 0, 2, 0, 0, 0, 0, OLD, OLD, 0, 3, 4, 0];
+    let first = [OLD, 0, 0, OLD, 0, 0, 0, 0, 0, 0, OLD, OLD, 0, 0, 0, 0];
+    assert_eq!(rt;
+        (words_at(&frames, 511), words_at(&frames, 0)),
+        (last, first)
+    );
     Ok(())
 }
 
 #[test]
 fn brings_no_page(rt: HostRuntime) -> Result<(), Fail> {
-    let zones = Zones::of(&[(0, 10)])?;
-    let mut frames = Frames::create(rt.alloc(), 10)?;
-    assert_eq!(rt; zones.top(), 10);
-    assert_eq!(rt; frames.len(), 10);
+    let zones = Zones::of(&[(0, 16)])?;
+    let mut frames = Frames::create(rt.alloc(), 16)?;
+    assert!(rt; zones.top() == 16 && frames.len() == 16);
     fill_all(&mut frames);
     let mut origs = Bitmap::create(rt.alloc(), &zones)?;
     add(&mut origs, &zones, &[3, 7]);
@@ -100,10 +105,10 @@ fn brings_no_page(rt: HostRuntime) -> Result<(), Fail> {
     waiting.plan(&origs, &origs)?;
     assert_eq!(rt; waiting.left(), 0);
     waiting.finish(&mut frames, &origs);
-    let home = [OLD, OLD, OLD, 0, OLD, OLD, 0, 0, 0, 0];
-    for (p, last) in home.iter().enumerate() {
-        assert_eq!(rt; frames.word(p as u32, 511), *last, "page frame {p}");
-    }
+    let mut home = [OLD; 16];
+    home[3] = 0;
+    home[6..10].copy_from_slice(&[0; 4]);
+    assert_eq!(rt; words_at(&frames, 511), home);
     Ok(())
 }
 
