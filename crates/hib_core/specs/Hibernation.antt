@@ -1,5 +1,5 @@
 -- A hibernation or a settling, and what a machine shows while it is at it.
-use Rattle.std.specs.Prelude.{◌≡◌, ℕ, List, [], Bool, true, false}
+use Rattle.std.specs.Prelude.{◌≡◌, ℕ, List, [], Bool, true, false, None}
 use Rattle.plain_machine.specs.Machine.{Memory}
 use Rattle.plain_machine.specs.Shows.{Shown, Activity, rests, runs, hibernates, undoes, settles, sleeps}
 use Rattle.plain_machine.specs.declared.held.Held.{Held}
@@ -85,6 +85,7 @@ shown_by machine frames hib = record {
   frames = frames;
   header = hib.header;
   copies = hib.snapshot.copies;
+  resume = None;
   loaded = [];
 }
 
@@ -99,6 +100,7 @@ running_by machine frames = record {
   frames = frames;
   header = [];
   copies = [];
+  resume = None;
   loaded = [];
 }
 

@@ -7,13 +7,13 @@ use Rattle.definitions.specs.InfoPage.{info_of}
 use Rattle.definitions.specs.declared.info.Ident.{Ident}
 use Rattle.plain_machine.specs.Machine.{Hardware, valid_count}
 use Rattle.plain_machine.specs.Chain.{or_else}
-use Rattle.plain_machine.specs.Trace.{page_at, info_in, meta_in, place, place_count, read_cause, next_cause}
+use Rattle.plain_machine.specs.Trace.{page_at, info_in, meta_in, place, place_count, read_cause, next_cause, data_frames}
 use Rattle.plain_machine.specs.declared.event.IdentCheck.{IdentCheck}
 use Rattle.plain_machine.specs.declared.reply.Reply.{Reply}
 use Rattle.image_read.specs.Causes.{reply_of}
 use Rattle.image_read.specs.Reading.{Reading, IsReady}
 use Rattle.image_read.specs.Taking.{Takes, Advances, with_data}
-use Rattle.image_read.specs.Stream.{HasReadPlaces, place_block, pages_read, known_pages, told, data_frames, frame_at}
+use Rattle.image_read.specs.Stream.{HasReadPlaces, place_block, pages_read, known_pages, told, frame_at}
 use Rattle.image_read.specs.Answers.{Compares, Gives}
 use Rattle.image_read.specs.declared.cause.Cause.{Cause}
 use Rattle.image_read.proofs.Over.{as_reply, cases_listed}

@@ -15,4 +15,3 @@ pub mod ReadData
 pub mod Next
 pub mod Gives
 pub mod Steps
-pub mod TraceAt

@@ -6,7 +6,7 @@ use Rattle.definitions.specs.SwapMap.{map_entry, map_link}
 use Rattle.swap_map.specs.MapPages.{NumberedPage}
 use Rattle.plain_machine.specs.Machine.{Hardware}
 use Rattle.plain_machine.specs.Chain.{is_fault_of, map_block, entry_block, map_fault, or_else, block_fault as block_cause}
-use Rattle.plain_machine.specs.Trace.{first_map, info_in, place, place_count, place_cause, read_cause, next_cause, step_cause}
+use Rattle.plain_machine.specs.Trace.{first_map, info_in, place, place_count, place_cause, read_cause, next_cause}
 use Rattle.plain_machine.specs.declared.event.IdentCheck.{IdentCheck}
 use Rattle.plain_machine.specs.declared.reply.Reply.{Reply}
 use Rattle.plain_machine.specs.declared.reply.Reply.TheVariants as reply
@@ -14,7 +14,7 @@ use Rattle.image_read.specs.Causes.{reply_of}
 use Rattle.image_read.specs.Reading.{Reading}
 use Rattle.image_read.specs.Faults.{block_fault, named_block, named_fault}
 use Rattle.image_read.specs.Taking.{Advances}
-use Rattle.image_read.specs.Stream.{IsAreaOf, HasReadPlaces, place_block, pages_read, known_pages}
+use Rattle.image_read.specs.Stream.{IsAreaOf, HasReadPlaces, place_block, pages_read, known_pages, step_cause}
 use Rattle.image_read.specs.declared.cause.Cause.{Cause}
 use Rattle.image_read.specs.declared.cause.Cause.TheVariants.{BadBlock, ChainEnds}
 use Rattle.image_read.proofs.Over.{as_reply, as_reply-cond, cond-none, same_fault}

@@ -11,11 +11,11 @@ use Rattle.definitions.specs.Zones.{first_from}
 use Rattle.definitions.proofs.Ascending.{Contains-nil, Contains-cons_cases, first_from-some}
 use Rattle.pfn_pack.specs.Unpacked.{Unpacked}
 use Rattle.plain_machine.specs.Machine.{Hardware}
-use Rattle.plain_machine.specs.Trace.{page_at, info_in, format_in, meta_in, place, place_count, read_cause, numbers_cause}
+use Rattle.plain_machine.specs.Trace.{page_at, info_in, format_in, meta_in, place, place_count, read_cause, numbers_cause, data_frames}
 use Rattle.plain_machine.specs.declared.event.IdentCheck.{IdentCheck}
 use Rattle.image_read.specs.Reading.{Reading}
 use Rattle.image_read.specs.Taking.{with_data, after_frame}
-use Rattle.image_read.specs.Stream.{HasReadPlaces, pages_read, known_pages, numbers_read, frames_in, marked_in, data_frames, last_number, frame_after, frame_at}
+use Rattle.image_read.specs.Stream.{HasReadPlaces, pages_read, known_pages, numbers_read, frames_in, marked_in, last_number, frame_after, frame_at}
 use Rattle.image_read.proofs.NextFrame.{IsStrictlyIncreasing-with_data}
 use Rattle.image_read.proofs.Places.{at_page, pages_left}
 use Rattle.image_read.proofs.Read.{IsRead, known, saved_is, told_all, told_more}

@@ -13,7 +13,7 @@ use Rattle.pfn_pack.specs.Unpacked.{Unpacked}
 use Rattle.plain_machine.specs.Machine.{Hardware, valid_count}
 use Rattle.plain_machine.specs.Chain.{or_else}
 use Rattle.plain_machine.specs.Trace as trace
-use Rattle.plain_machine.specs.Trace.{first_map, info_in, format_in, meta_in, map_at, page_at, place, place_count, read_cause, step_cause, stream_page, info_cause, identity_cause, memory_cause, counts_cause}
+use Rattle.plain_machine.specs.Trace.{first_map, info_in, format_in, meta_in, map_at, page_at, place, place_count, read_cause, stream_page, info_cause, identity_cause, memory_cause, counts_cause, data_frames}
 use Rattle.plain_machine.specs.declared.event.IdentCheck.{IdentCheck}
 use Rattle.plain_machine.specs.declared.event.IdentCheck.TheVariants.{Compare, Skip}
 use Rattle.plain_machine.specs.declared.reply.Reply.{Reply}
@@ -22,7 +22,7 @@ use Rattle.image_read.specs.Reading.{Reading}
 use Rattle.image_read.specs.Faults.{info_fault, identity_fault, size_fault, counts_fault, field_fault}
 use Rattle.image_read.specs.Taking.{with_info}
 use Rattle.image_read.specs.Answers.{Compares}
-use Rattle.image_read.specs.Stream.{HasReadPlaces, place_block, pages_read, numbers_read, frames_in, marked_in, data_frames, last_number, told, frame_after}
+use Rattle.image_read.specs.Stream.{HasReadPlaces, place_block, pages_read, numbers_read, frames_in, marked_in, last_number, told, frame_after, step_cause}
 use Rattle.image_read.specs.declared.cause.Cause.TheVariants.{MemorySize, BadCounts}
 use Rattle.image_read.proofs.Over.{as_reply, as_reply-or_else, as_reply-cond}
 use Rattle.image_read.proofs.Counts.{info_sound, good_counts}

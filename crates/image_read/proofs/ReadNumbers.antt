@@ -11,13 +11,13 @@ use Rattle.pfn_pack.specs.Numbers as pack
 use Rattle.pfn_pack.specs.declared.unpack.PfnFault.{PfnFault}
 use Rattle.plain_machine.specs.Machine.{Hardware}
 use Rattle.plain_machine.specs.Chain.{or_else, first_some}
-use Rattle.plain_machine.specs.Trace.{Place, page_at, info_in, format_in, meta_in, d_in, place, place_count, read_cause, stream_page, number_cause, end_cause, listed_cause, numbers_cause}
+use Rattle.plain_machine.specs.Trace.{Place, page_at, info_in, format_in, meta_in, d_in, place, place_count, read_cause, stream_page, number_cause, end_cause, listed_cause, numbers_cause, data_frames}
 use Rattle.plain_machine.specs.declared.event.IdentCheck.{IdentCheck}
 use Rattle.plain_machine.specs.declared.reply.Reply.{Reply}
 use Rattle.image_read.specs.Reading.{Reading, IsReady}
 use Rattle.image_read.specs.Faults.{pages_fault}
 use Rattle.image_read.specs.Taking.{numbers_fault, listing_fault, pfn_cause, with_numbers, all_read}
-use Rattle.image_read.specs.Stream.{HasReadPlaces, place_block, pages_read, known_pages, known_saved, numbers_read, frames_in, marked_in, data_frames, last_number, told, frame_after}
+use Rattle.image_read.specs.Stream.{HasReadPlaces, place_block, pages_read, known_pages, known_saved, numbers_read, frames_in, marked_in, last_number, told, frame_after}
 use Rattle.image_read.specs.declared.cause.Cause.{Cause}
 use Rattle.image_read.specs.declared.cause.Cause.TheVariants.{BadCounts}
 use Rattle.image_read.proofs.Over.{as_reply, as_reply-or_else, as_reply-cond, or_else-none}

@@ -16,7 +16,8 @@ use Rattle.pfn_pack.proofs.Firsts.{first_below-none}
 use Rattle.pfn_pack.proofs.Listing.{numbers_in-none, numbers_in-more, up_to_numbers, above_all}
 use Rattle.plain_machine.specs.Machine.{Hardware}
 use Rattle.plain_machine.specs.Trace as trace
-use Rattle.image_read.specs.Stream.{frames_in, marked_in, data_frames}
+use Rattle.image_read.specs.Stream.{frames_in, marked_in}
+use Rattle.plain_machine.specs.Trace.{data_frames}
 use Rattle.image_read.specs.Taking.{with_data}
 use Rattle.image_read.proofs.Blocks.{any_of, some_of}
 

@@ -4,12 +4,12 @@ use Rattle.definitions.specs.Disk as disk
 use Rattle.definitions.specs.declared.info.Ident.{Ident}
 use Rattle.plain_machine.specs.Machine.{Hardware, block_of_slot}
 use Rattle.plain_machine.specs.Chain.{blocks_of}
-use Rattle.plain_machine.specs.Trace.{place, read_cause, step_cause}
+use Rattle.plain_machine.specs.Trace.{place, read_cause}
 use Rattle.plain_machine.specs.declared.event.IdentCheck.{IdentCheck}
 use Rattle.plain_machine.specs.declared.event.IdentCheck.TheVariants.{Compare, Skip}
 use Rattle.image_read.specs.Causes.{reply_of}
 use Rattle.image_read.specs.Reading.{Reading, HasReadAll, IsReady}
-use Rattle.image_read.specs.Stream.{HasReadPlaces, AreListed, place_block, frame_at, told, pages_read}
+use Rattle.image_read.specs.Stream.{HasReadPlaces, AreListed, place_block, frame_at, told, pages_read, step_cause}
 use Rattle.image_read.specs.declared.cause.Cause.{Cause}
 use Rattle.image_read.specs.declared.reader.ReadStep.{ReadStep}
 use Rattle.image_read.specs.declared.reader.ReadStep.TheVariants.{More, Page, Done, Fault, Refused}

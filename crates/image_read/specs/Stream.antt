@@ -8,9 +8,10 @@ use Rattle.definitions.specs.Disk as disk
 use Rattle.definitions.specs.SwapHeader.{last_page_of}
 use Rattle.pfn_pack.specs.Unpacked.{Unpacked}
 use Rattle.plain_machine.specs.Machine.{Hardware}
-use Rattle.plain_machine.specs.Chain.{blocks_of, header_of, is_at_fault, map_block, entry_block}
-use Rattle.plain_machine.specs.Trace.{first_map, info_in, format_in, meta_in, number_in, number_word, is_marked_by, Place, map_at, page_at, place, place_count, step_cause}
+use Rattle.plain_machine.specs.Chain.{blocks_of, header_of, is_at_fault, map_block, entry_block, or_else}
+use Rattle.plain_machine.specs.Trace.{data_frames, first_map, info_in, format_in, meta_in, number_in, number_word, is_marked_by, Place, map_at, page_at, place, place_count, read_cause, next_cause}
 use Rattle.plain_machine.specs.declared.event.IdentCheck.{IdentCheck}
+use Rattle.plain_machine.specs.declared.reply.Reply.{Reply}
 use Rattle.image_read.specs.Reading.{Reading}
 
 -- the block of a place
@@ -40,11 +41,6 @@ frames_in h v m = map (number_in h v) (range_with_len 0 m)
 
 unfoldable pub marked_in : Hardware → disk.DiskImage → ℕ → List ℕ
 marked_in h v m = map (number_in h v) (filter (λ j. is_marked_by (format_in h v) (number_word h v j)) (range_with_len 0 m))
-
--- the page frames that have data pages, in the order of the stream
-unfoldable pub data_frames : Hardware → disk.DiskImage → List ℕ
-data_frames h v =
-    map (number_in h v) (filter (λ j. not (is_marked_by (format_in h v) (number_word h v j))) (range_with_len 0 (info_in h v).image_pages))
 
 abbrev pub last_number : Hardware → disk.DiskImage → ℕ → Option ℕ
 last_number h v zero = None
@@ -92,6 +88,10 @@ pub record AreListed (h : Hardware) (v : disk.DiskImage) (n : ℕ) (origs zeros 
   pub marks : zeros ≡ marked_in h v (info_in h v).image_pages
   pub rising : IsStrictlyIncreasing origs
   pub whole : (info_in h v).pages ≡ length (data_frames h v) + meta_in h v + 1
+
+-- what is wrong at the end of the step that reads place t, but for the loader's room, of which a reader knows nothing
+abbrev pub step_cause : Hardware → disk.DiskImage → IdentCheck → ℕ → Option Reply
+step_cause h v check t = or_else (read_cause h v check (place t)) (next_cause h v t)
 
 -- The first t places of the disk v were read, and nothing is wrong with them.
 pub record HasReadPlaces (h : Hardware) (v : disk.DiskImage) (check : IdentCheck) (r : Reading) (t : ℕ) (origs zeros : List ℕ) : Type 0 where

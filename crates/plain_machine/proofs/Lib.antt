@@ -9,3 +9,4 @@ pub mod PastEnd
 pub mod Restoring
 pub mod SameMemory
 pub mod Seen
+pub mod Traces

@@ -6,6 +6,8 @@ use Rattle.definitions.specs.Lists.{image_slots}
 use Rattle.plain_machine.specs.Machine.{Hardware, Memory, IsSameMemory, Fits}
 use Rattle.plain_machine.specs.State.{State, off, on, booting, hibernating, undoing, settling, waking, loading, asleep, Running, Held, nothing, sure, maybe, Flight}
 use Rattle.plain_machine.specs.declared.event.BootFrom.{BootFrom}
+use Rattle.plain_machine.specs.declared.event.IdentCheck.{IdentCheck}
+use Rattle.plain_machine.specs.declared.event.Loader.{Loader}
 use Rattle.plain_machine.specs.declared.reply.UndoCall.{UndoCall}
 use Rattle.plain_machine.specs.declared.held.Held.{Held as HeldFlag}
 use Rattle.plain_machine.specs.declared.held.Held.TheVariants.{No, Yes, Perhaps}
@@ -37,7 +39,8 @@ activity_in (asleep i held a) = sleeps
 
 -- What a world shows: what it is at, whether it keeps a dump's memory, whether it holds an image, why its area can't be
 -- used, the tasks' unfinished operations, the content of its page frames, the block that it keeps between two calls of the
--- disk, the page frames of its copies, and the pages that a resume has read, by page frame.
+-- disk, the page frames of its copies, and of a resume that is under way loader and check and the pages that it has read, by
+-- page frame.
 pub record Shown : Type 0 where
   pub activity : Activity
   pub keeps_dump : Bool
@@ -47,6 +50,7 @@ pub record Shown : Type 0 where
   pub frames : Memory
   pub header : List ℕ
   pub copies : List ℕ
+  pub resume : Option (Loader × IdentCheck)
   pub loaded : List (ℕ × List ℕ)
 
 -- no, yes or perhaps: what is held

@@ -1,6 +1,7 @@
 -- [stands]: when a world and a disk stand for a state of the plain machine. Each part is a definition of its own.
 -- It has no counterpart in Linux: it is what the promises are about.
 use Rattle.std.specs.Prelude.{◌≡◌, ◌≢◌, ◌<◌, ◌≤◌, ◌⊎◌, ℕ, ◌+◌, ◌-◌, ◌/◌, true, List, [], length, map, take, Option, Some, None, IsSome, Contains, All, bit_and, ⊤}
+use Rattle.std.specs.List.{zip}
 use Rattle.definitions.specs.Disk as disk
 use Rattle.definitions.specs.Bytes.{bytes_at}
 use Rattle.definitions.specs.SwapHeader.{IsMarked, taken_back, flags_of, hw_sig_of}
@@ -16,12 +17,14 @@ use Rattle.plain_machine.specs.Mark.{HasMark}
 use Rattle.plain_machine.specs.Fitting.{IsTask}
 use Rattle.plain_machine.specs.Loader.{left_free, loader_frame}
 use Rattle.plain_machine.specs.UsableArea.{area_block, area_fault, bad_set_fault, dump_area_fault}
-use Rattle.plain_machine.specs.State.{State, off, on, booting, hibernating, undoing, settling, waking, loading, asleep, Running, Flight, goes_out, comes_in, Held, nothing, sure, maybe, Saved, own, other, Load, found_own, found_other, held_in}
+use Rattle.plain_machine.specs.State.{State, off, on, booting, hibernating, undoing, settling, waking, loading, asleep, Running, Flight, goes_out, comes_in, Held, nothing, sure, maybe, Saved, own, other, Load, Found, not_yet, found_own, found_other, held_in}
 use Rattle.plain_machine.specs.Shows.{Shown, activity_in, ShowsRunning, ShowsKept}
 use Rattle.plain_machine.specs.Step.{fresh_frames, no_flights}
+use Rattle.plain_machine.specs.Trace.{meta_in, data_frames, data_pages}
 use Rattle.plain_machine.specs.declared.no_swap.NoSwap.{NoSwap}
 use Rattle.plain_machine.specs.declared.event.BootFrom.{BootFrom}
 use Rattle.plain_machine.specs.declared.event.BootFrom.TheVariants.{Fresh, Kept}
+use Rattle.plain_machine.specs.declared.event.Loader.TheVariants.{Table}
 
 -- every image of the disk has P
 abbrev pub EachImage : disk.Content → (disk.DiskImage → Type 0) → Type 0
@@ -182,11 +185,33 @@ pages_read k = k - 4 - (k - 4 + 511) / 512
 abbrev pub data_read : Image → ℕ → ℕ
 data_read i k = pages_read k - (meta_of (n_of i) + 1)
 
--- The pages read so far are the image's first ones with data, the others are the loader's. Every image of the disk is the one
--- that the second step found, but for block(0). From step 4 on none is marked.
-pub record IsLoading (h : Hardware) (shown : Shown) (c : disk.Content) (load : Load) (k : ℕ) : Type 0 where
+-- another's image on the disk v has so many of them
+abbrev pub data_read_in : Hardware → disk.DiskImage → ℕ → ℕ
+data_read_in h v k = pages_read k - (meta_in h v + 1)
+
+-- What a resume shows after k steps: its loader and its check, the page frames that the loader holds, and the pages with data
+-- that were read, by page frame.
+pub record ShowsResume (h : Hardware) (shown : Shown) (load : Load) (k : ℕ) : Type 0 where
+  pub told : shown.resume ≡ Some (load.loader, load.check)
   pub kept : (p : ℕ) → p < top h.zones → (Contains (left_free h load.dump load.loader) p → ⊥) → frame shown.frames p ≡ loader_frame load.dump load.loader p
   pub read : (i : Image) → load.found ≡ found_own i → shown.loaded ≡ take (data_read i k) (with_data i)
+  pub read_other : (v : disk.DiskImage) → load.found ≡ found_other v → shown.loaded ≡ zip (data_frames h v) (data_pages h v (data_read_in h v k))
+
+-- a dump's loader has a memory that fits
+abbrev pub FitsLoader : Hardware → Load → Type 0
+FitsLoader h load = load.loader ≡ Table → Fits h load.dump
+
+abbrev pub IsFound : Found → Type 0
+IsFound not_yet = ⊥
+IsFound (found_own i) = ⊤
+IsFound (found_other v) = ⊤
+
+-- From the second step on it is known which image is read. Every image of the disk is the one that this step found, but for
+-- block(0). From the fourth on none is marked.
+pub record IsLoading (h : Hardware) (shown : Shown) (c : disk.Content) (load : Load) (k : ℕ) : Type 0 where
+  pub shows : ShowsResume h shown load k
+  pub fits : FitsLoader h load
+  pub found : 2 ≤ k → IsFound load.found
   pub own : (i : Image) → load.found ≡ found_own i → (v : disk.DiskImage) × Holds h v i × IsOwn h v i × EachImage c (IsTakenBack h v)
   pub others : (v : disk.DiskImage) → load.found ≡ found_other v → EachImage c (IsTakenBack h v)
   pub taken_back : 4 ≤ k → EachImage c (λ v. Marked h v → ⊥)

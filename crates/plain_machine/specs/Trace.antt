@@ -70,6 +70,19 @@ words_in h v = map (number_word h v) (range_with_len 0 (info_in h v).image_pages
 abbrev pub d_in : Hardware → disk.DiskImage → ℕ
 d_in h v = length (filter (λ w. not (is_marked_by (format_in h v) w)) (words_in h v))
 
+-- the page frames that have data pages, in the order of the stream
+unfoldable pub data_frames : Hardware → disk.DiskImage → List ℕ
+data_frames h v =
+    map (number_in h v) (filter (λ j. not (is_marked_by (format_in h v) (number_word h v j))) (range_with_len 0 (info_in h v).image_pages))
+
+-- data page m of the stream, from 0
+abbrev pub data_page : Hardware → disk.DiskImage → ℕ → List ℕ
+data_page h v m = stream_page h v (1 + meta_in h v + m)
+
+-- the first m data pages
+abbrev pub data_pages : Hardware → disk.DiskImage → ℕ → List (List ℕ)
+data_pages h v m = map (data_page h v) (range_with_len 0 m)
+
 -- the saved pages: page frame numbers with their pages, those with data taken from the stream in order
 abbrev pub saved_from : Hardware → disk.DiskImage → ℕ → List ℕ → List (ℕ × List ℕ)
 saved_from h v k [] = []
@@ -179,12 +192,13 @@ want_cause h dump v loader (page_at k) = if k == meta_in h v then room_cause h d
 abbrev pub content_cause : Hardware → Memory → disk.DiskImage → Loader → IdentCheck → Place → Option Reply
 content_cause h dump v loader check here = or_else (read_cause h v check here) (want_cause h dump v loader here)
 
--- what is wrong at the end of the step that reads place t: with what was read, or with the block that is wanted next
+-- what is wrong with the block that is wanted after place t, which is tested at the end of the step that reads place t
 abbrev pub next_cause : Hardware → disk.DiskImage → ℕ → Option Reply
 next_cause h v t = if nat_lt (t + 1) (place_count (info_in h v).pages) then place_cause h v (place (t + 1)) else None
 
-abbrev pub step_cause : Hardware → disk.DiskImage → IdentCheck → ℕ → Option Reply
-step_cause h v check t = or_else (read_cause h v check (place t)) (next_cause h v t)
+-- what is wrong at the end of the step that reads place t
+abbrev pub cause_at : Hardware → Memory → disk.DiskImage → Loader → IdentCheck → ℕ → Option Reply
+cause_at h dump v loader check t = or_else (content_cause h dump v loader check (place t)) (next_cause h v t)
 
 -- The slots of the tasks in the restored memory, with their pages as the disk reads.
 abbrev pub slots_in : Hardware → disk.DiskImage → Memory → SlotPages
@@ -205,20 +219,6 @@ last_reply h dump v (loaders.Ranges ranges) =
     unwrap_or (tables_cause h v (restored_in h dump v (loaders.Ranges ranges))) (reply.Resumed (info_in h v).image_pages)
 last_reply h dump v loaders.Table = reply.Resumed (info_in h v).image_pages
 
--- a cause ends the list; without one step k answers Loading, and the others follow
-abbrev pub stop_or_go : Option Reply → ℕ → List Reply → List Reply
-stop_or_go None k replies = reply.Loading k ∷ replies
-stop_or_go (Some cause) k replies = cause ∷ []
-
--- The replies of step k, which reads the first of these places, and of the steps after it. The block that the next
--- step would read is tested at the end of the step before it.
-abbrev pub replies_from : Hardware → Memory → disk.DiskImage → Loader → IdentCheck → ℕ → List Place → List Reply
-replies_from h dump v loader check k [] = []
-replies_from h dump v loader check k (here ∷ []) =
-    unwrap_or (content_cause h dump v loader check here) (last_reply h dump v loader) ∷ []
-replies_from h dump v loader check k (here ∷ next ∷ rest) =
-    stop_or_go (or_else (content_cause h dump v loader check here) (place_cause h v next)) k (replies_from h dump v loader check (k + 1) (next ∷ rest))
-
 -- at the end of step 4, once the block is taken back
 abbrev pub taken_back_cause : Hardware → disk.DiskImage → Option Reply
 taken_back_cause h v =
@@ -231,9 +231,20 @@ header_cause h v =
     if not (pointwise nat_eq (sig_of (header_of h v)) image_signature) then Some reply.NoImage
     else (if not (is_set (flags_of (header_of h v)) 2) then Some (reply.Compressed (flags_of (header_of h v))) else None)
 
+-- what is wrong at the end of each step, in order: the first syncs, the third writes the block taken back, and the fifth and
+-- later ones read a place each
+abbrev pub causes : Hardware → Memory → disk.DiskImage → Loader → IdentCheck → List (Option Reply)
+causes h dump v loader check =
+    None ∷ header_cause h v ∷ None ∷ taken_back_cause h v
+    ∷ map (cause_at h dump v loader check) (range_with_len 0 (place_count (info_in h v).pages))
+
+-- the replies of step k and of those after it, by their causes: Loading up to the first cause, or else up to the last reply
+abbrev pub replies_to : Reply → ℕ → List (Option Reply) → List Reply
+replies_to last k [] = []
+replies_to last k (Some cause ∷ rest) = cause ∷ []
+replies_to last k (None ∷ []) = last ∷ []
+replies_to last k (None ∷ next ∷ rest) = reply.Loading k ∷ replies_to last (k + 1) (next ∷ rest)
+
 -- Loading{1}, Loading{2} and so on, up to Resumed{n} or the first cause
 unfoldable pub trace : Hardware → Memory → disk.DiskImage → Loader → IdentCheck → List Reply
-trace h dump v loader check =
-    reply.Loading 1 ∷ stop_or_go (header_cause h v) 2
-    (reply.Loading 3 ∷ stop_or_go (taken_back_cause h v) 4
-    (replies_from h dump v loader check 5 (places (info_in h v).pages)))
+trace h dump v loader check = replies_to (last_reply h dump v loader) 1 (causes h dump v loader check)

@@ -7,7 +7,7 @@ use Rattle.plain_machine.specs.Machine.{Hardware, Memory}
 use Rattle.plain_machine.specs.Chain.{header_of, Marked, Holds}
 use Rattle.plain_machine.specs.Image.{Image}
 use Rattle.plain_machine.specs.Shows.{Shown, rests}
-use Rattle.plain_machine.specs.Stands.{Stands, IsHeld, IsOwn, IsTakenBack, HasOneImage}
+use Rattle.plain_machine.specs.Stands.{Stands, IsHeld, IsOwn, IsTakenBack, HasOneImage, FitsLoader}
 use Rattle.plain_machine.specs.State.{off, loading, Held, nothing, sure, maybe, own, other, Load, Found, not_yet, found_own, found_other}
 use Rattle.protocol_laws.specs.Loads.{ShowsLoad}
 use Rattle.protocol_laws.specs.Resuming.{IsHeldOwn, with_found}
@@ -45,14 +45,15 @@ same_own i j e = ap image_or e where
 
 -- The begin.
 
-pub load_begins : (h : Hardware) (shown shown' : Shown) (c : disk.Content) (held : Held) (kept : Option Memory) (load : Load) → Stands h shown c (off held kept) → load.held ≡ held → load.found ≡ not_yet → ShowsLoad h shown' load 0 → Stands h shown' c (loading load 0)
-load_begins h shown shown' c held kept load stands is fresh shows = record {
+pub load_begins : (h : Hardware) (shown shown' : Shown) (c : disk.Content) (held : Held) (kept : Option Memory) (load : Load) → Stands h shown c (off held kept) → load.held ≡ held → load.found ≡ not_yet → FitsLoader h load → ShowsLoad h shown' load 0 → Stands h shown' c (loading load 0)
+load_begins h shown shown' c held kept load stands is fresh fits shows = record {
   activity = shows.activity;
   parts = (
     (subst (IsHeld h c) (sym is) stands.parts.1.0, stands.parts.1.1),
     record {
-      kept = shows.kept;
-      read = shows.read;
+      shows = shows.shows;
+      fits = fits;
+      found = λ le. absurd (omega arith);
       own = λ i e. absurd (found_something i (sym fresh ∙ e));
       others = λ v e. absurd (found_another v (sym fresh ∙ e));
       taken_back = λ le. absurd (omega arith);
@@ -91,8 +92,9 @@ load_syncs h shown shown' c c' blocks load whole stands syncs shows =
       parts = (
         (held_by_fewer h c c' load.held fewer stands.parts.0.0, header_kept h c c' (by_sync h blocks c c' whole syncs) stands.parts.0.1),
         record {
-          kept = shows.kept;
-          read = shows.read;
+          shows = shows.shows;
+          fits = was.fits;
+          found = λ le. absurd (omega arith);
           own = λ i e. let o = was.own i e in (o.0, o.1, o.2, λ v in'. o.3 v (fewer v in'));
           others = λ v e w in'. was.others v e w (fewer w in');
           taken_back = λ le. absurd (omega arith);
@@ -136,8 +138,9 @@ finds_own h shown shown' c blocks load i whole stands held marked header shows =
       parts = (
         ((λ w in'. let e = one v w here in' in (subst (λ (u : disk.DiskImage). Holds h u i) e there.0, subst (λ (u : disk.DiskImage). IsOwn h u i) e there.1)), stands.parts.0.1),
         record {
-          kept = shows.kept;
-          read = shows.read;
+          shows = shows.shows;
+          fits = stands.parts.1.fits;
+          found = λ le. tt;
           own = λ j e. let is = same_own i j e in (v, subst (Holds h v) is there.0, subst (IsOwn h v) is there.1, λ w in'. itself h v w (one w v in' here));
           others = λ w e. absurd (own_isn't_other i w e);
           taken_back = λ le. absurd (omega arith);

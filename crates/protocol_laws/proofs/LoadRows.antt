@@ -1,12 +1,13 @@
 -- Whole rows of a resume.
 use Rattle.protocol_laws.proofs.Leaving.{leaves_loading}
 use Rattle.protocol_laws.proofs.Unwritten.{block_same, block_synced, unwritten_header}
-use Rattle.std.proofs.Common.{◌≡◌, ◌<◌, ◌≤◌, ◌-◌, ◌/◌, ℕ, ◌+◌, inl, inr, true, List, [], take, Option, Some, None, unwrap_or, refl, sym, ap, ap₂, ◌∙◌, subst, arith, Contains}
+use Rattle.std.proofs.Common.{◌≡◌, ◌<◌, ◌≤◌, ◌-◌, ◌/◌, ℕ, ◌+◌, inl, inr, true, List, [], ◌∷◌, take, Option, Some, None, unwrap_or, refl, sym, ap, ap₂, ◌∙◌, subst, arith, Contains}
 use Rattle.std.proofs.lemmas.Option.{same_Some, none-some}
 use Rattle.definitions.specs.Disk as disk
 use Rattle.definitions.specs.NumberPages.{meta_of}
 use Rattle.definitions.specs.SwapHeader.{taken_back, sig_of, image_signature}
 use Rattle.std.specs.Cmp.Lexicographic.{other_text}
+use Rattle.std.specs.List.{zip}
 use Rattle.std.proofs.lemmas.Bool.{cond-true, true_from_ne_false}
 use Rattle.definitions.specs.Tables.{frame}
 use Rattle.definitions.proofs.DiskLaws.{IsImage-as_it_reads, IsImage-after_sync}
@@ -16,10 +17,10 @@ use Rattle.plain_machine.specs.Image.{Image, n_of, with_data, SlotPages}
 use Rattle.definitions.specs.Zones.{top}
 use Rattle.plain_machine.specs.Loader.{restored, left_free, loader_frame}
 use Rattle.plain_machine.specs.Shows.{Shown, runs, loads, ShowsRunning, seen_frames}
-use Rattle.plain_machine.specs.Stands.{Stands, IsHeld, IsOwn, NamesOnly}
+use Rattle.plain_machine.specs.Stands.{Stands, IsHeld, IsOwn, NamesOnly, data_read_in}
 use Rattle.plain_machine.specs.State.{State, Running, off, on, loading, Held, nothing, sure, maybe, own, other, perhaps, Load, Found, not_yet, found_own, found_other, held_while_loading}
 use Rattle.plain_machine.specs.Step.{Outcome, Step, own_step, other_step as other_step_of, resumed, no_flights, no_slots, load_fault, other_state}
-use Rattle.plain_machine.specs.Trace.{info_in, place, place_count, content_cause, next_cause, header_cause, taken_back_cause, restored_in, slots_in, tables_cause}
+use Rattle.plain_machine.specs.Trace.{info_in, meta_in, data_frames, data_pages, place_count, cause_at, header_cause, taken_back_cause, restored_in, slots_in, tables_cause}
 use Rattle.plain_machine.specs.declared.event.Actor.TheVariants as actor
 use Rattle.plain_machine.specs.declared.event.Event.TheVariants as event
 use Rattle.plain_machine.specs.declared.event.Loader.{Loader}
@@ -503,17 +504,26 @@ read_resumed_off_row h shown shown' c load v k n reads from says rest =
 none_read : (k meta : ℕ) → k ≤ 6 → k - 4 - (k - 4 + 511) / 512 - (meta + 1) ≡ 0
 none_read k meta few = omega arith
 
-pub shows_none_read : (h : Hardware) (shown : Shown) (load : Load) (k : ℕ) → k ≤ 6 → shown.activity ≡ loads k →
+pub zip-nil : (xs : List ℕ) (none : List (List ℕ)) → none ≡ [] → zip xs none ≡ []
+zip-nil [] none e = refl
+zip-nil (x ∷ xs) [] e = refl
+zip-nil (x ∷ xs) (y ∷ ys) e = cc
+
+pub shows_none_read : (h : Hardware) (shown : Shown) (load : Load) (k : ℕ) → k ≤ 6 → shown.activity ≡ loads k → shown.resume ≡ Some (load.loader, load.check) →
     ((p : ℕ) → p < top h.zones → (Contains (left_free h load.dump load.loader) p → ⊥) → frame shown.frames p ≡ loader_frame load.dump load.loader p) → shown.loaded ≡ [] → ShowsLoad h shown load k
-shows_none_read h shown load k few activity kept none = record {
+shows_none_read h shown load k few activity told kept none = record {
   activity = activity;
-  kept = kept;
-  read = λ i e. none ∙ sym (ap (λ (n : ℕ). take n (with_data i)) (none_read k (meta_of (n_of i)) few));
+  shows = record {
+    told = told;
+    kept = kept;
+    read = λ i e. none ∙ sym (ap (λ (n : ℕ). take n (with_data i)) (none_read k (meta_of (n_of i)) few));
+    read_other = λ v e. none ∙ sym (zip-nil (data_frames h v) (data_pages h v (data_read_in h v k)) (ap (data_pages h v) (none_read k (meta_in h v) few)));
+  };
 }
 
-pub cause_ends : (h : Hardware) (load : Load) (v : disk.DiskImage) (t : ℕ) (r : Reply) → or_else (content_cause h load.dump v load.loader load.check (place t)) (next_cause h v t) ≡ Some r → IsStop r
+pub cause_ends : (h : Hardware) (load : Load) (v : disk.DiskImage) (t : ℕ) (r : Reply) → cause_at h load.dump v load.loader load.check t ≡ Some r → IsStop r
 cause_ends h load v t r e =
-    stop_kind r (cause_stops (or_else (content_cause h load.dump v load.loader load.check (place t)) (next_cause h v t)) r (stops_cause h load.dump v load.loader load.check t) e)
+    stop_kind r (cause_stops (cause_at h load.dump v load.loader load.check t) r (stops_cause h load.dump v load.loader load.check t) e)
 
 pub tables_end : (h : Hardware) (load : Load) (v : disk.DiskImage) (r : Reply) → tables_cause h v (restored_in h load.dump v load.loader) ≡ Some r → IsStop r
 tables_end h load v r e = stop_kind r (cause_stops (tables_cause h v (restored_in h load.dump v load.loader)) r (stops_tables h v (restored_in h load.dump v load.loader)) e)

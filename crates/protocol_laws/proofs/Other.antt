@@ -43,8 +43,9 @@ finds_other h shown shown' c blocks load whole stands held marked header shows =
       parts = (
         (all_marked h shown c blocks load whole stands marked, stands.parts.0.1),
         record {
-          kept = shows.kept;
-          read = shows.read;
+          shows = shows.shows;
+          fits = stands.parts.1.fits;
+          found = λ le. tt;
           own = λ i e. absurd (own_isn't_other i v (sym e));
           others = λ u e w in'. subst (λ (x : disk.DiskImage). IsTakenBack h x w) (same_other v u e) (itself h v w (one w v in' here));
           taken_back = λ le. absurd (omega arith);
@@ -146,8 +147,9 @@ takes_other_back h shown shown' c c' blocks load v hw whole after stands writes 
       parts = (
         (tt, still_header h shown c c' blocks before after (inl writes)),
         record {
-          kept = shows.kept;
-          read = shows.read;
+          shows = shows.shows;
+          fits = stands.parts.1.fits;
+          found = λ le. tt;
           own = λ i e. absurd (own_isn't_other i v (sym e));
           others = λ x e u in'. subst (λ (y : disk.DiskImage). IsTakenBack h y u) (same_other v x e) (back_again h v w u page found (each_taken_back h shown c c' blocks u before (inl writes) in'));
           taken_back = λ le. absurd (omega arith);

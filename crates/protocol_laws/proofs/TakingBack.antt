@@ -69,8 +69,9 @@ takes_back h shown shown' c c' blocks load i hw whole after stands writes shows 
       parts = (
         stands_off h shown c c' blocks load i whole after stands (inl writes),
         record {
-          kept = shows.kept;
-          read = shows.read;
+          shows = shows.shows;
+          fits = stands.parts.1.fits;
+          found = λ le. tt;
           own = λ j e.
               let is = same_own i j e in
               (v, subst (Holds h v) is held.0, subst (IsOwn h v) is held.1, λ w in'. each_taken_back h shown c c' blocks w before (inl writes) in');
@@ -104,8 +105,9 @@ unmarked_synced h shown shown' c c' blocks load whole stands syncs shows =
       parts = (
         (none, header_kept h c c' (by_sync h blocks c c' whole syncs) stands.parts.0.1),
         record {
-          kept = shows.kept;
-          read = shows.read;
+          shows = shows.shows;
+          fits = was.fits;
+          found = λ le. was.found (omega arith);
           own = λ j e. let o = was.own j e in (o.0, o.1, o.2, λ w in'. subst (IsTakenBack h o.0) (sym (is w in')) (o.3 (disk.as_it_reads c) here));
           others = λ v e w in'. subst (IsTakenBack h v) (sym (is w in')) (was.others v e (disk.as_it_reads c) here);
           taken_back = λ le. none;
@@ -143,7 +145,7 @@ page_read h shown shown' c load k le stands shows =
       activity = shows.activity;
       parts = (
         (was_none h c load k le stands.parts.0.0, stands.parts.0.1),
-        record { kept = shows.kept; read = shows.read; own = was.own; others = was.others; taken_back = λ more. was.taken_back le },
+        record { shows = shows.shows; fits = was.fits; found = λ more. was.found (omega arith); own = was.own; others = was.others; taken_back = λ more. was.taken_back le },
         (λ e. elim e [ inl one ↦ absurd (omega arith) | inr two ↦ absurd (omega arith) ]),
         (λ e. absurd (omega arith)),
         (λ e. absurd (omega arith)),

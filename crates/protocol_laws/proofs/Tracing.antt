@@ -1,7 +1,7 @@
 -- The trace over a disk that holds an own image.
 use Rattle.std.proofs.Common.{◌≡◌, ◌≢◌, ℕ, ◌+◌, ◌-◌, ◌/◌, ◌%◌, ◌<◌, ◌≤◌, ◌⊎◌, inl, inr, zero, suc, Bool, true, false, cond, eqb, ltb, not, ◌&&◌, max, List, ◌∷◌, length, map, Option, Some, None, slice_get, unwrap_or, is_none, refl, sym, ap, ap₂, ◌∙◌, arith}
 use Rattle.std.specs.List.{range_with_len}
-use Rattle.std.proofs.lemmas.Bool.{cases_eq, cases_lt, cases_Bool, eq-eqb, ne_eqb, cond-true, cond-false, leb-true, leb-false, lt-ltb, ltb-true}
+use Rattle.std.proofs.lemmas.Bool.{cases_eq, cases_lt, cases_Bool, eq-eqb, ne_eqb, cond-true, cond-false, leb-true, leb-false, lt-ltb, ltb-true, ltb-false}
 use Rattle.definitions.specs.Disk as disk
 use Rattle.definitions.specs.NumberPages.{meta_of}
 use Rattle.definitions.specs.Zones.{top}
@@ -14,7 +14,7 @@ use Rattle.plain_machine.specs.Loader.{left_free, need, restored, restored_page}
 use Rattle.plain_machine.specs.Stands.{IsOwn}
 use Rattle.plain_machine.specs.State.{Load, loading}
 use Rattle.plain_machine.specs.Step.{Outcome, has_room, too_few, resumed}
-use Rattle.plain_machine.specs.Trace.{info_in, meta_in, d_in, image_in, map_at, page_at, place, place_count, place_cause, want_cause, room_cause, content_cause, tables_cause, restored_in, last_reply, header_cause, taken_back_cause, stop_or_go, replies_from, places, trace}
+use Rattle.plain_machine.specs.Trace.{info_in, meta_in, d_in, image_in, map_at, page_at, place, place_count, place_cause, want_cause, room_cause, content_cause, tables_cause, restored_in, next_cause, cause_at, last_reply, trace}
 use Rattle.plain_machine.specs.UsableArea.{dump_area_fault}
 use Rattle.plain_machine.specs.declared.no_swap.NoSwap.{NoSwap}
 use Rattle.plain_machine.specs.declared.event.Loader.{Loader}
@@ -23,12 +23,13 @@ use Rattle.plain_machine.specs.declared.event.IdentCheck.{IdentCheck}
 use Rattle.plain_machine.specs.declared.reply.Reply.{Reply}
 use Rattle.plain_machine.specs.declared.reply.Reply.TheVariants as reply
 use Rattle.image_laws.proofs.Decoding.{meta_is, decodes}
-use Rattle.image_read.proofs.TraceAt.{cause_at, reply_or, last_at, trace_at, trace_ends}
 use Rattle.protocol_laws.specs.OwnTrace.{own_reply, Comes}
+use Rattle.protocol_laws.specs.TraceAt.{reply_past, reply_at}
 use Rattle.protocol_laws.proofs.OwnCauses.{IsOwnDisk, info_is, some_saved, few_saved, both_none, own_sayable}
 use Rattle.protocol_laws.proofs.OwnChain.{no_header_cause, no_taken_back_cause, no_place_cause}
 use Rattle.protocol_laws.proofs.OwnNumbers.{d_is, no_read_cause}
 use Rattle.protocol_laws.proofs.Restored.{restored_fits, fits_no_fault, restored_area}
+use Rattle.protocol_laws.proofs.TraceAt.{traces_at}
 
 -- Sizes.
 
@@ -127,14 +128,29 @@ want_few h v i load t is here none = want_here h v i load t is here ∙ no_room 
 content_by_want : (h : Hardware) (v : disk.DiskImage) (i : Image) (load : Load) (t : ℕ) → IsOwnDisk h v i → content_cause h load.dump v load.loader load.check (place t) ≡ want_cause h load.dump v load.loader (place t)
 content_by_want h v i load t is = ap (λ (o : Option Reply). or_else o (want_cause h load.dump v load.loader (place t))) (no_read_cause h v i load.check (place t) is)
 
-no_cause : (h : Hardware) (v : disk.DiskImage) (i : Image) (load : Load) (t : ℕ) → IsOwnDisk h v i → GoesOn h load i t → t + 1 < maps_read (pages_of i) + pages_of i → cause_at h load.dump v load.loader load.check t ≡ None
-no_cause h v i load t is goes lt =
-    both_none (content_cause h load.dump v load.loader load.check (place t)) (place_cause h v (place (t + 1)))
-    (content_by_want h v i load t is ∙ no_want h v i load t is goes) (no_place_cause h v i (t + 1) is.holds lt)
+no_next : (h : Hardware) (v : disk.DiskImage) (i : Image) (t : ℕ) → IsOwnDisk h v i → next_cause h v t ≡ None
+no_next h v i t is =
+    let count = count_is h v i is in
+    elim (cases_Bool (ltb (t + 1) (place_count (info_in h v).pages))) [
+      | inl more ↦ (
+          let lt = ltb-true (t + 1) (place_count (info_in h v).pages) more in
+          cond-true (ltb (t + 1) (place_count (info_in h v).pages)) (place_cause h v (place (t + 1))) None more ∙ no_place_cause h v i (t + 1) is.holds (omega arith)
+          )
+      | inr last ↦ cond-false (ltb (t + 1) (place_count (info_in h v).pages)) (place_cause h v (place (t + 1))) None last
+    ]
+
+no_cause : (h : Hardware) (v : disk.DiskImage) (i : Image) (load : Load) (t : ℕ) → IsOwnDisk h v i → GoesOn h load i t → cause_at h load.dump v load.loader load.check t ≡ None
+no_cause h v i load t is goes =
+    both_none (content_cause h load.dump v load.loader load.check (place t)) (next_cause h v t)
+    (content_by_want h v i load t is ∙ no_want h v i load t is goes) (no_next h v i t is)
 
 earlier_goes : (h : Hardware) (load : Load) (i : Image) (k t s : ℕ) → k ≡ t + 4 → s < t → Comes h load i k → GoesOn h load i s
 earlier_goes h load i k t s is lt (inl early) = inl (λ e. omega arith)
 earlier_goes h load i k t s is lt (inr room) = inr room
+
+earlier_comes : (h : Hardware) (load : Load) (i : Image) (k j : ℕ) → j < k → Comes h load i k → Comes h load i j
+earlier_comes h load i k j lt (inl early) = inl (omega arith)
+earlier_comes h load i k j lt (inr room) = inr room
 
 -- What the plain machine answers.
 
@@ -195,73 +211,73 @@ ends_resumed h v i dump Table is = ap (λ (x : Info). reply.Resumed x.image_page
 
 -- The trace.
 
-first_reply : (h : Hardware) (dump : Memory) (v : disk.DiskImage) (loader : Loader) (check : IdentCheck) (k : ℕ) → header_cause h v ≡ None → taken_back_cause h v ≡ None → 1 ≤ k → k < 4 → slice_get (trace h dump v loader check) k ≡ Some (reply.Loading (k + 1))
-unfolding trace
-first_reply h dump v loader check zero header back some few = absurd (omega arith)
-first_reply h dump v loader check (suc zero) header back some few =
-    ap (λ o. slice_get (stop_or_go o 2 (reply.Loading 3 ∷ stop_or_go (taken_back_cause h v) 4 (replies_from h dump v loader check 5 (places (info_in h v).pages)))) 0) header
-first_reply h dump v loader check (suc (suc zero)) header back some few =
-    ap (λ o. slice_get (stop_or_go o 2 (reply.Loading 3 ∷ stop_or_go (taken_back_cause h v) 4 (replies_from h dump v loader check 5 (places (info_in h v).pages)))) 1) header
-first_reply h dump v loader check (suc (suc (suc zero))) header back some few =
-    ap₂ (λ o p. slice_get (stop_or_go o 2 (reply.Loading 3 ∷ stop_or_go p 4 (replies_from h dump v loader check 5 (places (info_in h v).pages)))) 2) header back
-first_reply h dump v loader check (suc (suc (suc (suc k)))) header back some few = absurd (omega arith)
+early_reply : (h : Hardware) (load : Load) (i : Image) (k : ℕ) → k < 4 → 1 ≤ n_of i → own_reply h load i k ≡ reply.Loading (k + 1)
+early_reply h load i k early some =
+    ap (λ (o : Outcome). o.0) (cond-false (eqb (k + 1) (6 + meta i) && not (has_room h load (d_of i))) (too_few h load (d_of i)) (late h load i k)
+    (ap (λ (b : Bool). b && not (has_room h load (d_of i))) (ne_eqb (k + 1) (6 + meta i) (λ e. omega arith))))
+    ∙ late_loading h load i k (λ e. omega arith)
 
-later_reply : (h : Hardware) (v : disk.DiskImage) (i : Image) (load : Load) (k t : ℕ) → IsOwnDisk h v i → k ≡ t + 4 → k < resume_steps i → Comes h load i k → slice_get (trace h load.dump v load.loader load.check) (t + 4) ≡ Some (own_reply h load i k)
-later_reply h v i load k t is four lt comes =
-    let header = no_header_cause h v i is.holds in
-    let back = no_taken_back_cause h v i is.holds is.own in
+-- what comes past a step without a cause
+past_is : (h : Hardware) (v : disk.DiskImage) (i : Image) (load : Load) (k t : ℕ) → IsOwnDisk h v i → k ≡ t + 4 → k < resume_steps i → GoesOn h load i t → reply_past h load.dump v load.loader t ≡ own_reply h load i k
+past_is h v i load k t is four lt goes =
     let count = count_is h v i is in
-    let before : (s : ℕ) → s < t → cause_at h load.dump v load.loader load.check s ≡ None = λ s s_lt. no_cause h v i load s is (earlier_goes h load i k t s four s_lt comes) (omega arith) in
-    elim (cases_lt (t + 1) (maps_read (pages_of i) + pages_of i)) [
-      | inl more ↦
-          trace_at h load.dump v load.loader load.check t header back before (omega arith)
-          ∙ ap Some (elim (cases_Bool (has_room h load (d_of i))) [
-            | inl room ↦ on_way (inr room) more
-            | inr none ↦ elim (cases_eq t (meta i + 1)) [
-              | inl here ↦
-                  ap (λ (o : Option Reply). reply_or (or_else o (place_cause h v (place (t + 1)))) (t + 5)) (content_by_want h v i load t is ∙ want_few h v i load t is here none)
-                  ∙ sym (own_few h load i k (omega arith) none)
-              | inr other ↦ on_way (inl other) more
-            ]
-          ])
-      | inr last ↦
-          trace_ends h load.dump v load.loader load.check t header back before (omega arith)
-          ∙ ap Some (elim (cases_Bool (has_room h load (d_of i))) [
-            | inl room ↦ at_end (inr room) last
-            | inr none ↦ elim (cases_eq t (meta i + 1)) [
-              | inl here ↦
-                  ap (λ (o : Option Reply). unwrap_or o (last_reply h load.dump v load.loader)) (content_by_want h v i load t is ∙ want_few h v i load t is here none)
-                  ∙ sym (own_few h load i k (omega arith) none)
-              | inr other ↦ at_end (inl other) last
-            ]
-          ])
-    ] where
-      on_way : GoesOn h load i t → t + 1 < maps_read (pages_of i) + pages_of i → reply_or (cause_at h load.dump v load.loader load.check t) (t + 5) ≡ own_reply h load i k
-      on_way goes more =
-          let number : t + 5 ≡ k + 1 = omega arith in
-          ap (λ (o : Option Reply). reply_or o (t + 5)) (no_cause h v i load t is goes more) ∙ ap (λ (n : ℕ). reply.Loading n) number
-          ∙ sym (own_late h load i k t four goes ∙ late_loading h load i k (λ e. omega arith))
+    let step = own_late h load i k t four goes in
+    elim (cases_Bool (ltb (t + 1) (place_count (info_in h v).pages))) [
+      | inl more ↦ (
+          let less = ltb-true (t + 1) (place_count (info_in h v).pages) more in
+          let number : 5 + t ≡ k + 1 = omega arith in
+          cond-true (ltb (t + 1) (place_count (info_in h v).pages)) (reply.Loading (5 + t)) (last_reply h load.dump v load.loader) more
+          ∙ ap (λ (n : ℕ). reply.Loading n) number ∙ sym (step ∙ late_loading h load i k (λ e. omega arith))
+          )
+      | inr last ↦ (
+          let no_less : place_count (info_in h v).pages ≤ t + 1 = ltb-false (t + 1) (place_count (info_in h v).pages) last in
+          cond-false (ltb (t + 1) (place_count (info_in h v).pages)) (reply.Loading (5 + t)) (last_reply h load.dump v load.loader) last
+          ∙ ends_resumed h v i load.dump load.loader is ∙ sym (step ∙ late_resumed h load i k (omega arith))
+          )
+    ]
 
-      at_end : GoesOn h load i t → maps_read (pages_of i) + pages_of i ≤ t + 1 → last_at h load.dump v load.loader load.check t ≡ own_reply h load i k
-      at_end goes last =
-          ap (λ (o : Option Reply). unwrap_or o (last_reply h load.dump v load.loader)) (content_by_want h v i load t is ∙ no_want h v i load t is goes)
-          ∙ ends_resumed h v i load.dump load.loader is ∙ sym (own_late h load i k t four goes ∙ late_resumed h load i k (omega arith))
+later_reply : (h : Hardware) (v : disk.DiskImage) (i : Image) (load : Load) (k t : ℕ) → IsOwnDisk h v i → k ≡ t + 4 → k < resume_steps i → Comes h load i k → unwrap_or (cause_at h load.dump v load.loader load.check t) (reply_past h load.dump v load.loader t) ≡ own_reply h load i k
+later_reply h v i load k t is four lt comes = elim (cases_Bool (has_room h load (d_of i))) [
+  | inl room ↦ goes_on (inr room)
+  | inr none ↦ elim (cases_eq t (meta i + 1)) [
+    | inl here ↦
+        ap (λ (o : Option Reply). unwrap_or (or_else o (next_cause h v t)) (reply_past h load.dump v load.loader t)) (content_by_want h v i load t is ∙ want_few h v i load t is here none)
+        ∙ sym (own_few h load i k (omega arith) none)
+    | inr other ↦ goes_on (inl other)
+  ]
+] where
+  goes_on : GoesOn h load i t → unwrap_or (cause_at h load.dump v load.loader load.check t) (reply_past h load.dump v load.loader t) ≡ own_reply h load i k
+  goes_on goes =
+      ap (λ (o : Option Reply). unwrap_or o (reply_past h load.dump v load.loader t)) (no_cause h v i load t is goes)
+      ∙ past_is h v i load k t is four lt goes
+
+-- a step over an own image answers what the plain machine does
+reply_own : (h : Hardware) (v : disk.DiskImage) (i : Image) (load : Load) (k : ℕ) → IsOwnDisk h v i → 1 ≤ k → k < resume_steps i → Comes h load i k → reply_at h load.dump v load.loader load.check k ≡ own_reply h load i k
+reply_own h v i load zero is some lt comes = absurd (omega arith)
+reply_own h v i load (suc zero) is some lt comes =
+    ap (λ (o : Option Reply). unwrap_or o (reply.Loading 2)) (no_header_cause h v i is.holds) ∙ sym (early_reply h load i 1 (omega arith) (are_few h v i is).some)
+reply_own h v i load (suc (suc zero)) is some lt comes = sym (early_reply h load i 2 (omega arith) (are_few h v i is).some)
+reply_own h v i load (suc (suc (suc zero))) is some lt comes =
+    ap (λ (o : Option Reply). unwrap_or o (reply.Loading 4)) (no_taken_back_cause h v i is.holds is.own) ∙ sym (early_reply h load i 3 (omega arith) (are_few h v i is).some)
+reply_own h v i load (suc (suc (suc (suc t)))) is some lt comes = later_reply h v i load (suc (suc (suc (suc t)))) t is (omega arith) lt comes
+
+-- and each before it went on
+gone_on : (h : Hardware) (v : disk.DiskImage) (i : Image) (load : Load) (k j : ℕ) → IsOwnDisk h v i → k < resume_steps i → Comes h load i k → j < k → reply_at h load.dump v load.loader load.check j ≡ reply.Loading (j + 1)
+gone_on h v i load k zero is lt comes j_lt = refl
+gone_on h v i load k (suc j) is lt comes j_lt =
+    let some = (are_few h v i is).some in
+    let goes = earlier_comes h load i k (suc j) j_lt comes in
+    reply_own h v i load (suc j) is (omega arith) (omega arith) goes
+    ∙ (elim (cases_lt (suc j) 4) [
+      | inl early ↦ early_reply h load i (suc j) early some
+      | inr late_step ↦
+          own_late h load i (suc j) (suc j - 4) (omega arith) (earlier_goes h load i k (k - 4) (suc j - 4) (omega arith) (omega arith) comes)
+          ∙ late_loading h load i (suc j) (λ e. omega arith)
+    ])
 
 pub traces_own : (h : Hardware) (v : disk.DiskImage) (i : Image) (load : Load) (k : ℕ) → IsHardware h → Holds h v i → IsOwn h v i → 1 ≤ k → k < resume_steps i → Comes h load i k → slice_get (trace h load.dump v load.loader load.check) k ≡ Some (own_reply h load i k)
 traces_own h v i load k hw holds own some lt comes =
     let is : IsOwnDisk h v i = record { hardware = hw; holds = holds; own = own; sayable = own_sayable h v i hw own } in
-    let sizes = are_few h v i is in
-    let n = sizes.some in
-    elim (cases_lt k 4) [
-      | inl early ↦
-          first_reply h load.dump v load.loader load.check k (no_header_cause h v i holds) (no_taken_back_cause h v i holds own) some early
-          ∙ ap Some (sym (early_reply early n))
-      | inr late_step ↦
-          let four : k - 4 + 4 ≡ k = omega arith in
-          ap (slice_get (trace h load.dump v load.loader load.check)) (sym four) ∙ later_reply h v i load k (k - 4) is (sym four) lt comes
-    ] where
-      early_reply : k < 4 → 1 ≤ n_of i → own_reply h load i k ≡ reply.Loading (k + 1)
-      early_reply early some_n =
-          ap (λ (o : Outcome). o.0) (cond-false (eqb (k + 1) (6 + meta i) && not (has_room h load (d_of i))) (too_few h load (d_of i)) (late h load i k)
-          (ap (λ (b : Bool). b && not (has_room h load (d_of i))) (ne_eqb (k + 1) (6 + meta i) (λ e. omega arith))))
-          ∙ late_loading h load i k (λ e. omega arith)
+    let count = count_is h v i is in
+    traces_at h load.dump v load.loader load.check k (omega arith) (λ j j_lt. gone_on h v i load k j is lt comes j_lt)
+    ∙ ap Some (reply_own h v i load k is some lt comes)

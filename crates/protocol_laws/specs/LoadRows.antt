@@ -7,14 +7,14 @@ use Rattle.definitions.specs.SwapHeader.{taken_back}
 use Rattle.definitions.specs.Tables.{frame}
 use Rattle.definitions.specs.Zones.{top}
 use Rattle.plain_machine.specs.Machine.{Hardware, IsHardware, block_of_slot}
-use Rattle.plain_machine.specs.Chain.{header_of, Holds, or_else}
+use Rattle.plain_machine.specs.Chain.{header_of, Holds}
 use Rattle.plain_machine.specs.Image.{SlotPages}
 use Rattle.plain_machine.specs.Loader.{left_free, loader_frame}
 use Rattle.plain_machine.specs.Shows.{Shown, rests, runs, loads, ShowsRunning}
 use Rattle.plain_machine.specs.Stands.{Stands, NamesOnly, IsOwn}
 use Rattle.plain_machine.specs.State.{State, off, on, loading, Running, nothing, sure, other, perhaps, Load, Found, not_yet, found_own, found_other, held_while_loading}
 use Rattle.plain_machine.specs.Step.{no_flights, no_slots}
-use Rattle.plain_machine.specs.Trace.{info_in, place, place_count, header_cause, taken_back_cause, content_cause, next_cause, tables_cause, restored_in}
+use Rattle.plain_machine.specs.Trace.{info_in, place_count, header_cause, taken_back_cause, cause_at, tables_cause, restored_in}
 use Rattle.plain_machine.specs.declared.event.Actor.TheVariants as actor
 use Rattle.plain_machine.specs.declared.event.Event.TheVariants as event
 use Rattle.plain_machine.specs.declared.event.Loader.TheVariants as loader
@@ -176,7 +176,7 @@ ReadFaultRow =
 -- up to the info page no page with data is read
 abbrev pub ShowsNoneRead : Type 0
 ShowsNoneRead =
-    (h : Hardware) (shown : Shown) (load : Load) (k : ℕ) → k ≤ 6 → shown.activity ≡ loads k →
+    (h : Hardware) (shown : Shown) (load : Load) (k : ℕ) → k ≤ 6 → shown.activity ≡ loads k → shown.resume ≡ Some (load.loader, load.check) →
     ((p : ℕ) → p < top h.zones → (Contains (left_free h load.dump load.loader) p → ⊥) → frame shown.frames p ≡ loader_frame load.dump load.loader p) → shown.loaded ≡ [] → ShowsLoad h shown load k
 
 -- up to the fourth step the header's tests alone have to be passed
@@ -190,7 +190,7 @@ GoneOnNext =
 -- what is wrong with a place, or with the restored tables, ends the resume
 abbrev pub CauseStops : Type 0
 CauseStops =
-    (h : Hardware) (load : Load) (v : disk.DiskImage) (t : ℕ) (r : Reply) → or_else (content_cause h load.dump v load.loader load.check (place t)) (next_cause h v t) ≡ Some r → IsStop r
+    (h : Hardware) (load : Load) (v : disk.DiskImage) (t : ℕ) (r : Reply) → cause_at h load.dump v load.loader load.check t ≡ Some r → IsStop r
 
 abbrev pub TablesStop : Type 0
 TablesStop = (h : Hardware) (load : Load) (v : disk.DiskImage) (r : Reply) → tables_cause h v (restored_in h load.dump v load.loader) ≡ Some r → IsStop r

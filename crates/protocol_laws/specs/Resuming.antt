@@ -8,7 +8,7 @@ use Rattle.plain_machine.specs.Chain.{header_of, Marked}
 use Rattle.plain_machine.specs.Image.{Image}
 use Rattle.plain_machine.specs.Loader.{restored}
 use Rattle.plain_machine.specs.Shows.{Shown, rests, runs, ShowsRunning}
-use Rattle.plain_machine.specs.Stands.{Stands, NamesOnly}
+use Rattle.plain_machine.specs.Stands.{Stands, NamesOnly, FitsLoader}
 use Rattle.plain_machine.specs.State.{off, on, loading, Running, Held, nothing, sure, maybe, own, Load, not_yet, found_own, held_while_loading}
 use Rattle.plain_machine.specs.Step.{no_flights}
 use Rattle.protocol_laws.specs.Loads.{ShowsLoad}
@@ -34,7 +34,7 @@ resumed_running h load i = record {
 -- The begin, and the first sync.
 abbrev pub LoadBegins : Type 0
 LoadBegins =
-    (h : Hardware) (shown shown' : Shown) (c : Content) (held : Held) (kept : Option Memory) (load : Load) → Stands h shown c (off held kept) → load.held ≡ held → load.found ≡ not_yet → ShowsLoad h shown' load 0 → Stands h shown' c (loading load 0)
+    (h : Hardware) (shown shown' : Shown) (c : Content) (held : Held) (kept : Option Memory) (load : Load) → Stands h shown c (off held kept) → load.held ≡ held → load.found ≡ not_yet → FitsLoader h load → ShowsLoad h shown' load 0 → Stands h shown' c (loading load 0)
 
 abbrev pub LoadSyncs : Type 0
 LoadSyncs =

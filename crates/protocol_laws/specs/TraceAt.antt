@@ -2,8 +2,7 @@
 use Rattle.std.specs.Prelude.{◌≡◌, ◌<◌, ℕ, ◌+◌, nat_lt, if◌then◌else◌, Some, unwrap_or, slice_get, zero, suc}
 use Rattle.definitions.specs.Disk as disk
 use Rattle.plain_machine.specs.Machine.{Hardware, Memory}
-use Rattle.plain_machine.specs.Chain.{or_else}
-use Rattle.plain_machine.specs.Trace.{trace, info_in, place, place_count, header_cause, taken_back_cause, content_cause, next_cause, last_reply}
+use Rattle.plain_machine.specs.Trace.{trace, info_in, place_count, header_cause, taken_back_cause, cause_at, last_reply}
 use Rattle.plain_machine.specs.declared.event.Loader.{Loader}
 use Rattle.plain_machine.specs.declared.event.IdentCheck.{IdentCheck}
 use Rattle.plain_machine.specs.declared.reply.Reply.{Reply}
@@ -21,7 +20,7 @@ reply_at h dump v loader check (suc zero) = unwrap_or (header_cause h v) (reply.
 reply_at h dump v loader check (suc (suc zero)) = reply.Loading 3
 reply_at h dump v loader check (suc (suc (suc zero))) = unwrap_or (taken_back_cause h v) (reply.Loading 4)
 reply_at h dump v loader check (suc (suc (suc (suc t)))) =
-    unwrap_or (or_else (content_cause h dump v loader check (place t)) (next_cause h v t)) (reply_past h dump v loader t)
+    unwrap_or (cause_at h dump v loader check t) (reply_past h dump v loader t)
 
 -- Where each step before answered Loading, the trace has that reply.
 abbrev pub TracesAt : Type 0

@@ -17,12 +17,12 @@ use Rattle.plain_machine.specs.Loader.{left_free, loader_frame, has, saved_page,
 use Rattle.plain_machine.specs.State.{nothing}
 use Rattle.plain_machine.specs.declared.held.Held.{Held}
 use Rattle.plain_machine.specs.Shows.{ShowsHeld, seen_frames}
-use Rattle.plain_machine.specs.Trace.{info_in, format_in, meta_in, number_in, number_word, is_marked_by, stream_page, saved_from, image_in, restored_in}
+use Rattle.plain_machine.specs.Trace.{info_in, format_in, meta_in, number_in, number_word, is_marked_by, stream_page, saved_from, image_in, restored_in, data_frames}
 use Rattle.plain_machine.specs.declared.event.Loader.{Loader}
 use Rattle.plain_machine.proofs.Fresh.{seen-plain}
 use Rattle.plain_machine.proofs.Restoring.{frame-restored}
 use Rattle.plain_machine.proofs.SameMemory.{same_refl}
-use Rattle.image_read.specs.Stream.{frames_in, data_frames}
+use Rattle.image_read.specs.Stream.{frames_in}
 use Rattle.restore_laws.specs.DataPages.{listed_frames}
 use Rattle.restore_laws.specs.Restored.{AreAllRead, RestoredIn, RunsAsRestored, NamesNone}
 

@@ -5,8 +5,8 @@ use Rattle.std.proofs.lemmas.Option.{same_Some, none-some, slice_get_within, sli
 use Rattle.std.specs.List.Sorted.{IsStrictlyIncreasing}
 use Rattle.definitions.specs.Disk as disk
 use Rattle.plain_machine.specs.Machine.{Hardware}
-use Rattle.plain_machine.specs.Trace.{Place, info_in, meta_in, stream_page, place_count}
-use Rattle.image_read.specs.Stream.{frames_in, marked_in, pages_read, numbers_read, data_frames, frame_at, place_block, told}
+use Rattle.plain_machine.specs.Trace.{Place, info_in, meta_in, stream_page, place_count, data_frames}
+use Rattle.image_read.specs.Stream.{frames_in, marked_in, pages_read, numbers_read, frame_at, place_block, told}
 use Rattle.image_read.specs.Taking as taking
 use Rattle.image_read.proofs.Places.{at_map, at_page, read_at_map, read_at_page}
 use Rattle.image_read.proofs.Read.{known, saved_is, told_all, told_more}

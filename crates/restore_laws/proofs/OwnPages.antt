@@ -10,11 +10,10 @@ use Rattle.definitions.specs.declared.info.Info.{Info}
 use Rattle.plain_machine.specs.Machine.{Hardware}
 use Rattle.plain_machine.specs.Chain.{Holds}
 use Rattle.plain_machine.specs.Image.{Image, n_of, numbers_of, has_data, with_data, without_data}
-use Rattle.plain_machine.specs.Trace.{format_in, number_in, number_word, is_marked_by}
+use Rattle.plain_machine.specs.Trace.{format_in, number_in, number_word, is_marked_by, data_frames, data_page, data_pages}
 use Rattle.image_laws.specs.Decoding.{IsSayable}
 use Rattle.image_laws.proofs.Decoding.{word_is, format_is, meta_is, says_info, says_numbers, says_pages, is_skipped, not_marked, zeros_of}
-use Rattle.image_read.specs.Stream.{data_frames}
-use Rattle.restore_laws.specs.DataPages.{data_page, data_pages, OwnRead, OwnFrames, OwnPages}
+use Rattle.restore_laws.specs.DataPages.{OwnRead, OwnFrames, OwnPages}
 
 abbrev Saved : Type 0
 Saved = ℕ × List ℕ

@@ -7,11 +7,11 @@ use Rattle.plain_machine.specs.Machine.{Hardware}
 use Rattle.plain_machine.specs.Chain.{Holds}
 use Rattle.plain_machine.specs.Image.{Image, d_of, with_data}
 use Rattle.plain_machine.specs.Stands.{data_read}
-use Rattle.plain_machine.specs.Trace.{info_in, meta_in, d_in, stream_page, place, place_count}
+use Rattle.plain_machine.specs.Trace.{data_page, data_pages, info_in, meta_in, d_in, place, place_count, data_frames}
 use Rattle.plain_machine.specs.declared.event.IdentCheck.{IdentCheck}
 use Rattle.image_laws.specs.Decoding.{IsSayable}
 use Rattle.image_read.specs.Reading.{Reading}
-use Rattle.image_read.specs.Stream.{HasReadPlaces, pages_read, frames_in, marked_in, data_frames, frame_at, place_block, told}
+use Rattle.image_read.specs.Stream.{HasReadPlaces, pages_read, frames_in, marked_in, frame_at, place_block, told}
 use Rattle.image_read.specs.Taking as taking
 use Rattle.page_restore.specs.Waiting as waiting
 
@@ -25,14 +25,6 @@ listed_marks h v = marked_in h v (info_in h v).image_pages
 -- how many data pages the first t places have
 abbrev pub data_before : Hardware → disk.DiskImage → ℕ → ℕ
 data_before h v t = pages_read t - 1 - meta_in h v
-
--- data page m of the stream, from 0
-abbrev pub data_page : Hardware → disk.DiskImage → ℕ → List ℕ
-data_page h v m = stream_page h v (1 + meta_in h v + m)
-
--- the first m data pages
-abbrev pub data_pages : Hardware → disk.DiskImage → ℕ → List (List ℕ)
-data_pages h v m = map (data_page h v) (range_with_len 0 m)
 
 -- The page frames with data pages are those that are listed without a mark, as the reader says it and as the pages wait.
 abbrev pub ReadsWithData : Type 0

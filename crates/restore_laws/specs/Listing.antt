@@ -2,12 +2,12 @@
 use Rattle.std.specs.Prelude.{◌≡◌, ◌↔◌, ℕ, ◌+◌, List, Some, None}
 use Rattle.definitions.specs.Disk as disk
 use Rattle.plain_machine.specs.Machine.{Hardware, Memory}
-use Rattle.plain_machine.specs.Trace.{info_in, meta_in, place, page_at, read_cause, step_cause, next_cause, content_cause, room_cause}
+use Rattle.plain_machine.specs.Trace.{info_in, meta_in, place, page_at, read_cause, next_cause, content_cause, room_cause}
 use Rattle.plain_machine.specs.declared.event.IdentCheck.{IdentCheck}
 use Rattle.plain_machine.specs.declared.event.Loader.{Loader}
 use Rattle.image_read.specs.Answers.{told_after}
 use Rattle.image_read.specs.Reading.{Reading}
-use Rattle.image_read.specs.Stream.{HasReadPlaces, pages_read, told}
+use Rattle.image_read.specs.Stream.{HasReadPlaces, pages_read, told, step_cause}
 
 -- the numbers aren't all read before place t, and are behind it
 abbrev pub IsListedAt : Hardware → disk.DiskImage → ℕ → Type 0

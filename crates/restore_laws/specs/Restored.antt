@@ -11,14 +11,13 @@ use Rattle.plain_machine.specs.Shows.{Shown, RunsAs}
 use Rattle.plain_machine.specs.Stands.{NamesOnly}
 use Rattle.plain_machine.specs.State.{Load, Flight}
 use Rattle.plain_machine.specs.Step.{no_slots}
-use Rattle.plain_machine.specs.Trace.{restored_in}
+use Rattle.plain_machine.specs.Trace.{restored_in, data_frames, data_pages}
 use Rattle.plain_machine.specs.declared.event.Loader.{Loader}
 use Rattle.plain_machine.specs.declared.held.Held.{Held}
 use Rattle.plain_machine.specs.declared.held.Held.TheVariants.{No}
 use Rattle.plain_machine.specs.declared.no_swap.NoSwap.{NoSwap}
-use Rattle.image_read.specs.Stream.{data_frames}
 use Rattle.protocol_laws.specs.LoadRows.{running_with}
-use Rattle.restore_laws.specs.DataPages.{listed_frames, data_pages}
+use Rattle.restore_laws.specs.DataPages.{listed_frames}
 
 -- All data pages of the disk v wait in these page frames, and those that weren't free to the loader are as it had them.
 pub record AreAllRead (h : Hardware) (dump : Memory) (v : disk.DiskImage) (loader : Loader) (w : Awaiting) (origs : List ℕ) (frames : Memory) : Type 0 where

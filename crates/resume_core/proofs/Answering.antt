@@ -6,12 +6,12 @@ use Rattle.std.proofs.lemmas.Option.{none-some}
 use Rattle.definitions.specs.Disk as disk
 use Rattle.plain_machine.specs.Machine.{Hardware, Memory}
 use Rattle.plain_machine.specs.Chain.{or_else}
-use Rattle.plain_machine.specs.Trace.{info_in, meta_in, place, place_count, read_cause, want_cause, room_cause, content_cause, next_cause, step_cause, last_reply}
+use Rattle.plain_machine.specs.Trace.{info_in, meta_in, place, place_count, read_cause, want_cause, room_cause, content_cause, next_cause, last_reply}
 use Rattle.plain_machine.specs.declared.event.Loader.{Loader}
 use Rattle.plain_machine.specs.declared.event.IdentCheck.{IdentCheck}
 use Rattle.plain_machine.specs.declared.reply.Reply.{Reply}
 use Rattle.plain_machine.specs.declared.reply.Reply.TheVariants as reply
-use Rattle.image_read.specs.Stream.{pages_read, told, numbers_read}
+use Rattle.image_read.specs.Stream.{pages_read, told, numbers_read, step_cause}
 use Rattle.image_read.proofs.Places.{at_map, at_page, read_at_page}
 use Rattle.protocol_laws.specs.TraceAt.{reply_at, reply_past}
 

@@ -1,13 +1,13 @@
 -- The row of a begin.
 use Rattle.protocol_laws.proofs.Unwritten.{block_same}
-use Rattle.std.proofs.lemmas.Bool.{true≢false}
-use Rattle.std.proofs.Common.{◌≡◌, ◌<◌, ℕ, true, ◌&&◌, List, [], Contains, Option, Some, None, is_none, unwrap_or, refl, sym, ap, ◌∙◌, subst, arith}
+use Rattle.std.proofs.lemmas.Bool.{true≢false, false≢true}
+use Rattle.std.proofs.Common.{◌≡◌, ◌<◌, ℕ, true, ◌&&◌, List, [], Contains, Option, Some, None, is_none, unwrap_or, refl, sym, ap, ap₂, ◌∙◌, subst, arith}
 use Rattle.std.specs.List.{zip}
 use Rattle.definitions.specs.Disk as disk
 use Rattle.definitions.specs.Tables.{frame}
 use Rattle.definitions.specs.Zones.{top}
 use Rattle.page_restore.specs.Waiting.{waiting_pages}
-use Rattle.plain_machine.specs.Machine.{Hardware, Memory}
+use Rattle.plain_machine.specs.Machine.{Hardware, Memory, Fits}
 use Rattle.plain_machine.specs.Loader.{left_free, loader_frame}
 use Rattle.plain_machine.specs.Refusals.{refusal, refused_if}
 use Rattle.plain_machine.specs.Shows.{Shown, ShowsKept}
@@ -48,6 +48,13 @@ page_is : (h : Hardware) (kept : Option Memory) (frames : Memory) (shown : Shown
 page_is h kept frames shown (loader.Ranges ranges) p has shows = refl
 page_is h kept frames shown loader.Table p has shows = ap (λ (o : Option Memory). loader_frame (unwrap_or o []) loader.Table p) (kept_is h frames shown kept has shows)
 
+fits_is : (h : Hardware) (kept : Option Memory) (frames : Memory) (shown : Shown) (l : Loader) → HasLoaderMemory l frames shown → ShowsKept h shown kept → l ≡ loader.Table → Fits h (unwrap_or kept [])
+fits_is h kept frames shown (loader.Ranges ranges) has shows table = absurd (ranges_differ table) where
+  ranges_differ : loader.Ranges ranges ≡ loader.Table → ⊥
+  ranges_differ e = cc
+fits_is h None frames shown loader.Table has shows table = absurd (false≢true (sym shows ∙ has.0))
+fits_is h (Some m) frames shown loader.Table has shows table = shows.2
+
 -- the state that it begins
 abbrev begun : Held → Option Memory → Loader → IdentCheck → Resume
 begun held kept l check = record { held = held; found = not_yet; loader = l; dump = unwrap_or kept []; check = check }
@@ -76,11 +83,11 @@ begun_row machine frames frames' load x check is shown c held kept has stands =
       record {
         step = begin_step h (disk.as_it_reads c) held kept x check (goes h held kept frames shown x check has shows);
         stands = record {
-          stands = load_begins h shown (shown_by machine frames' load) c held kept l stands refl refl
-              (shows_none_read h (shown_by machine frames' load) l 0 (omega arith) (activity_is load stage.Sync is.at) (λ p lt free. is.kept p lt (λ member. free (subst (λ (members : List ℕ). Contains members p) (sym (free_is h kept frames shown x has shows)) member)) ∙ sym (page_is h kept frames shown x p has shows))
+          stands = load_begins h shown (shown_by machine frames' load) c held kept l stands refl refl (fits_is h kept frames shown x has shows)
+              (shows_none_read h (shown_by machine frames' load) l 0 (omega arith) (activity_is load stage.Sync is.at) (ap₂ (λ (y : Loader) (z : IdentCheck). Some (y, z)) is.is_loader is.checks) (λ p lt free. is.kept p lt (λ member. free (subst (λ (members : List ℕ). Contains members p) (sym (free_is h kept frames shown x has shows)) member)) ∙ sym (page_is h kept frames shown x p has shows))
               (ap (λ (xs : List ℕ). zip xs (waiting_pages frames' load.waiting)) is.none));
           resume = record {
-            loader = record { loader = is.is_loader; free = is.free ∙ sym (free_is h kept frames shown x has shows); check = is.checks };
+            free = is.free ∙ sym (free_is h kept frames shown x has shows);
             knows = subst (λ (s : Stage). KnowsAt s machine frames' load c l 0) (sym is.at) (is.origs, is.zeros, is.none);
           };
           ended = tt;

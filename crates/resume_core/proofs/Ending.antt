@@ -16,7 +16,7 @@ use Rattle.page_restore.specs.Waiting.{restored_page}
 use Rattle.plain_machine.specs.Machine.{Hardware, Memory, IsHardware, tables_fault}
 use Rattle.plain_machine.specs.Chain.{header_of, blocks_of, Marked}
 use Rattle.plain_machine.specs.State.{off, on, loading, nothing, Load as Resume, Found, not_yet, found_own, found_other}
-use Rattle.plain_machine.specs.Trace.{info_in, place_count, number_in, header_cause, tables_cause, restored_in, last_reply}
+use Rattle.plain_machine.specs.Trace.{info_in, place_count, number_in, header_cause, tables_cause, restored_in, last_reply, data_pages}
 use Rattle.plain_machine.specs.UsableArea.{area_block, area_fault, fit_fault, kind_or_fit_fault, has_bad_slots_of}
 use Rattle.plain_machine.specs.declared.event.Loader.{Loader}
 use Rattle.plain_machine.specs.declared.event.Loader.TheVariants as loader
@@ -29,7 +29,6 @@ use Rattle.protocol_laws.proofs.LoadReplies.{a_mark}
 use Rattle.protocol_laws.proofs.OwnCauses.{own_sayable}
 use Rattle.protocol_laws.proofs.Tracing.{restored_is}
 use Rattle.protocol_laws.proofs.Marking.{area_block-marked}
-use Rattle.restore_laws.specs.DataPages.{data_pages}
 use Rattle.restore_laws.specs.Restored.{AreAllRead}
 use Rattle.restore_laws.proofs.BroughtBack.{are_restored, names_none, runs_as_restored}
 use Rattle.restore_laws.proofs.DataPlaces.{all_read, listed_sets}

@@ -1,5 +1,6 @@
 -- What is known of a resume before a step, in the state that it stands for.
-use Rattle.std.proofs.Common.{◌≡◌, ◌<◌, ℕ, List, Contains, Option, Some, None, refl, sym, ap, ◌∙◌, subst, arith}
+use Rattle.std.proofs.Common.{◌≡◌, ◌<◌, ℕ, List, Contains, Option, Some, None, refl, sym, ap, ap₂, ◌∙◌, subst, arith}
+use Rattle.std.proofs.lemmas.Option.{same_Some}
 use Rattle.std.specs.Option.{IfSome}
 use Rattle.definitions.proofs.DiskLaws.{length-as_it_reads}
 use Rattle.std.specs.List.{zip}
@@ -8,6 +9,8 @@ use Rattle.page_restore.specs.Waiting.{waiting_pages}
 use Rattle.plain_machine.specs.Machine.{Hardware, Memory}
 use Rattle.plain_machine.specs.Chain.{blocks_of}
 use Rattle.plain_machine.specs.Loader.{left_free, loader_frame}
+use Rattle.plain_machine.specs.declared.event.Loader.{Loader}
+use Rattle.plain_machine.specs.declared.event.IdentCheck.{IdentCheck}
 use Rattle.plain_machine.specs.Shows.{loads}
 use Rattle.plain_machine.specs.State.{State, loading, Load as Resume}
 use Rattle.plain_machine.specs.declared.event.Event.{Event}
@@ -70,15 +73,37 @@ pub stopped_early : (machine : Machine) (frames : Memory) (c : disk.Content) (r 
 stopped_early machine frames c (reply.Resumed n) a b stop = absurd stop
 stopped_early machine frames c _ a b stop = tt
 
+-- Loader and check are those that are shown.
+
+abbrev pub Asked : Type 0
+Asked = Loader × IdentCheck
+
+abbrev pub asked_of : Load → Asked
+asked_of load = (load.loader, load.check)
+
+abbrev pub asked_by : Resume → Asked
+asked_by l = (l.loader, l.check)
+
+pub load_told : (machine : Machine) (frames : Memory) (load : Load) (c : disk.Content) (l : Resume) (k : ℕ) → StandsFor machine frames load c (loading l k) → asked_of load ≡ asked_by l
+load_told machine frames load c l k s = same_Some (asked_of load) (asked_by l) s.stands.parts.1.shows.told
+
+pub told_by : (load : Load) (l : Resume) {h : Hardware} → HasLoader h load l → Some (asked_of load) ≡ Some (asked_by l)
+told_by load l has = ap₂ (λ (x : Loader) (y : IdentCheck). Some (x, y)) has.loader has.check
+
+pub loader_of : (machine : Machine) (frames : Memory) (load : Load) (c : disk.Content) (l : Resume) (k : ℕ) → StandsFor machine frames load c (loading l k) → HasLoader machine.hw load l
+loader_of machine frames load c l k s =
+    let told = load_told machine frames load c l k s in
+    record { loader = ap (λ (t : Asked). t.0) told; free = s.resume.free; check = ap (λ (t : Asked). t.1) told }
+
 pub same_loader : (h : Hardware) (load load' : Load) (l : Resume) → load'.waiting.free ≡ load.waiting.free → load'.loader ≡ load.loader → load'.check ≡ load.check → HasLoader h load l → HasLoader h load' l
 same_loader h load load' l free same check has = record { loader = same ∙ has.loader; free = free ∙ has.free; check = check ∙ has.check }
 
 -- up to the info page nothing is shown of the pages
-pub shows_none : (machine : Machine) (frames : Memory) (load load' : Load) (c : disk.Content) (l l' : Resume) (j k : ℕ) → StandsFor machine frames load c (loading l j) → l'.loader ≡ l.loader → l'.dump ≡ l.dump → activity_of load' ≡ loads k → k < 7 → NoneWaits load' →
+pub shows_none : (machine : Machine) (frames : Memory) (load load' : Load) (c : disk.Content) (l l' : Resume) (j k : ℕ) → StandsFor machine frames load c (loading l j) → l'.loader ≡ l.loader → l'.dump ≡ l.dump → activity_of load' ≡ loads k → asked_of load' ≡ asked_by l' → k < 7 → NoneWaits load' →
     ShowsLoad machine.hw (shown_by machine frames load') l' k
-shows_none machine frames load load' c l l' j k s loader dump activity few none =
-    let kept = s.stands.parts.1.kept in
-    shows_none_read machine.hw (shown_by machine frames load') l' k (omega arith) activity
+shows_none machine frames load load' c l l' j k s loader dump activity told few none =
+    let kept = s.stands.parts.1.shows.kept in
+    shows_none_read machine.hw (shown_by machine frames load') l' k (omega arith) activity (ap Some told)
     (λ p lt free. kept p lt (λ has. free (subst (λ d. Contains (left_free machine.hw d l'.loader) p) (sym dump) (subst (λ x. Contains (left_free machine.hw l.dump x) p) (sym loader) has)))
     ∙ ap (λ d. loader_frame d l.loader p) (sym dump) ∙ ap (λ x. loader_frame l'.dump x p) (sym loader))
     (ap (λ (xs : List ℕ). zip xs (waiting_pages frames load'.waiting)) none)

@@ -28,7 +28,7 @@ use Rattle.resume_core.specs.declared.load.Stage.{Stage}
 use Rattle.resume_core.specs.declared.load.Stage.TheVariants as stage
 use Rattle.resume_core.proofs.Headers.{header_faults}
 use Rattle.protocol_laws.proofs.LoadRows.{load_sync_row, load_sync_fault_row, find_none_row, find_compressed_row, find_row, find_fault_row}
-use Rattle.resume_core.proofs.Facts.{row_at_load, leads, same_loader, shows_none, count_of}
+use Rattle.resume_core.proofs.Facts.{row_at_load, leads, shows_none, count_of, load_told}
 
 abbrev pub stopped : Load → Load
 stopped load = record load { stage = stage.Rest }
@@ -49,8 +49,8 @@ synced_row machine frames load c c' at whole syncs =
       loading l 1,
       leads machine frames new (reply.Loading 1) c c' (loading l 0) (loading l 1) tt
           (load_sync_row machine.hw (shown_by machine frames load) (shown_by machine frames new) c c' machine.blocks l whole s.stands syncs
-          (shows_none machine frames load new c l l 0 1 s refl refl refl (omega arith) knows.2))
-          (record { loader = same_loader machine.hw load new l refl refl refl s.resume.loader; knows = knows }),
+          (shows_none machine frames load new c l l 0 1 s refl refl refl (load_told machine frames load c l 0 s) (omega arith) knows.2))
+          (record { free = s.resume.free; knows = knows }),
     ))
 
 pub sync_failed_row : (machine : Machine) (frames : Memory) (load : Load) (c : disk.Content) → load.stage ≡ stage.Sync →
@@ -111,9 +111,9 @@ found_row machine frames load header mark c hardware at whole read none marks =
     let l' = with_finding l found.0 in (
       loading l' 2,
       leads machine frames new (reply.Loading 2) c c (loading l 1) (loading l' 2) tt
-          (found.2 (shows_none machine frames load new c l l' 1 2 s refl refl refl (omega arith) knows.2))
+          (found.2 (shows_none machine frames load new c l l' 1 2 s refl refl refl (load_told machine frames load c l 1 s) (omega arith) knows.2))
           (record {
-            loader = (let has = s.resume.loader in record { loader = has.loader; free = has.free; check = has.check });
+            free = s.resume.free;
             knows = (
               v,
               record { found = found.1; uncaused = uncaused; header = read; mark = marks ∙ ap mark_of read; reads = λ b lt ne. refl; blocks = count_of machine.blocks c whole; area = ap (λ (p : List ℕ). swap_area (area_kind p)) (area_block-marked machine.hw v (a_mark machine.hw v None uncaused (λ e. none-some reply.NoImage e)) ∙ ap taken_back (sym read)) },

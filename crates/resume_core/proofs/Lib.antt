@@ -1,3 +1,4 @@
+pub mod Clearing
 pub mod Cases
 pub mod Facts
 pub mod Headers

@@ -5,7 +5,7 @@ use Rattle.definitions.specs.Disk as disk
 use Rattle.image_read.specs.Answers.{Reads, Answers}
 use Rattle.image_read.specs.Reading.{Reading}
 use Rattle.image_read.specs.Stream as stream
-use Rattle.image_read.specs.Stream.{pages_read, told, known_pages}
+use Rattle.image_read.specs.Stream.{pages_read, told, known_pages, step_cause}
 use Rattle.image_read.specs.declared.reader.ReadStep.{ReadStep}
 use Rattle.image_read.specs.declared.reader.ReadStep.TheVariants as read_step
 use Rattle.page_restore.specs.Waiting.{waiting_pages}
@@ -14,7 +14,7 @@ use Rattle.plain_machine.specs.Image.{Image, with_data}
 use Rattle.plain_machine.specs.Shows.{loads}
 use Rattle.plain_machine.specs.Stands.{data_read}
 use Rattle.plain_machine.specs.State.{off, loading, nothing, found_own, Load as Resume}
-use Rattle.plain_machine.specs.Trace.{info_in, place_count, step_cause}
+use Rattle.plain_machine.specs.Trace.{info_in, place_count, data_frames, data_pages}
 use Rattle.plain_machine.specs.declared.event.Event.TheVariants as event
 use Rattle.plain_machine.specs.declared.event.Actor.TheVariants as actor
 use Rattle.plain_machine.specs.declared.reply.Reply.{Reply}
@@ -42,12 +42,15 @@ use Rattle.page_restore.specs.Waiting.{Awaiting}
 use Rattle.plain_machine.specs.Machine.{IsHardware}
 use Rattle.plain_machine.specs.declared.event.IdentCheck.{IdentCheck}
 use Rattle.resume_core.proofs.TakingBack.{found_still}
-use Rattle.resume_core.proofs.Facts.{row_at_load, leads, same_loader}
+use Rattle.resume_core.proofs.Facts.{row_at_load, leads, same_loader, loader_of, told_by}
 use Rattle.resume_core.proofs.Finding.{knows_at, activity_is}
 use Rattle.resume_core.proofs.Answering.{goes_reply, no_want_before, more_to_read}
 use Rattle.protocol_laws.proofs.LoadRows.{read_row, read_fault_row}
 use Rattle.protocol_laws.proofs.LoadReplies.{gone_next}
-use Rattle.resume_core.proofs.OwnImage.{none_read_yet}
+use Rattle.protocol_laws.proofs.LoadRows.{zip-nil}
+use Rattle.restore_laws.specs.DataPages.{data_before}
+use Rattle.restore_laws.proofs.DataPlaces.{none_before}
+use Rattle.resume_core.proofs.OwnImage.{none_read_yet, other_pages}
 
 -- a resume that reads blocks of the chain, by the state that it stands for
 abbrev pub IsAtRead : Machine → Memory → Load → disk.Content → Type 0
@@ -134,15 +137,22 @@ more_row machine frames load m few unlisted counted c l v k read none waits =
     let at : k - 4 + 1 ≡ k + 1 - 4 = omega arith in
     let shows : ShowsLoad h (shown_by machine frames new) l (k + 1) = record {
       activity = refl;
-      kept = read.kept;
-      read = λ i own. ap (λ (xs : List ℕ). zip xs (waiting_pages frames load.waiting)) waits ∙ none_shown h v l i (k - 4 + 1) (k + 1) read.reading.hardware (omega arith) read.found.found own none';
+      shows = record {
+        told = told_by load l read.loader;
+        kept = read.kept;
+        read = λ i own. ap (λ (xs : List ℕ). zip xs (waiting_pages frames load.waiting)) waits ∙ none_shown h v l i (k - 4 + 1) (k + 1) read.reading.hardware (omega arith) read.found.found own none';
+        read_other = λ w other.
+            ap (λ (xs : List ℕ). zip xs (waiting_pages frames load.waiting)) waits
+            ∙ sym (zip-nil (data_frames h v) (data_pages h v (data_before h v (k - 4 + 1))) (ap (data_pages h v) (none_before h v (k - 4 + 1) none')))
+            ∙ other_pages h v w l (k - 4 + 1) (k + 1) (omega arith) read.found.found other;
+      };
     } in
     subst (λ (n : ℕ). LeadsOn machine frames (record load { stage = stage.List; made = n }) (reply.Loading n) c l k) (sym m_is) (
       loading l (k + 1),
       leads machine frames new (reply.Loading (k + 1)) c c (loading l k) (loading l (k + 1)) tt
           (read_row h read.shown (shown_by machine frames new) c l v k read.reading goes shows)
           (record {
-            loader = same_loader h load new l refl refl refl read.loader;
+            free = read.loader.free;
             knows = (
               v,
               found_still machine load new c c l v refl refl read.found.reads refl read.found,
@@ -207,11 +217,11 @@ listed_on machine frames load mid machine' frames' load' result r c hardware at 
       shown = shown_by machine frames load;
       whole = whole;
       reading = record { hardware = hardware; late = late; within = knows.3; stands = s.stands; found = knows.1.found; gone_on = knows.2 };
-      loader = same_loader h load mid l (ap (λ (w : Awaiting). w.free) waiting) (ap (λ (x : Load). x.loader) is) check s.resume.loader;
+      loader = same_loader h load mid l (ap (λ (w : Awaiting). w.free) waiting) (ap (λ (x : Load). x.loader) is) check (loader_of machine frames load c l load.made s);
       found = found_still machine load mid c c l v (ap (λ (x : Load). x.header) is) (ap (λ (x : Load). x.mark) is) knows.1.reads refl knows.1;
-      sound = subst (λ (x : IdentCheck). step_cause h v x t ≡ None) s.resume.loader.check read.0;
+      sound = subst (λ (x : IdentCheck). step_cause h v x t ≡ None) (loader_of machine frames load c l load.made s).check read.0;
       read = read.1;
-      kept = s.stands.parts.1.kept;
+      kept = s.stands.parts.1.shows.kept;
       made = ap (λ (x : Load). x.made) is;
     })
     knows.5 (ap (λ (w : Awaiting). w.originals) waiting ∙ knows.6) in (

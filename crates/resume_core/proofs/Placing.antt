@@ -13,7 +13,7 @@ use Rattle.image_read.specs.Causes.{reply_of}
 use Rattle.image_read.specs.Reading.{Reading, HasReadAll}
 use Rattle.image_read.specs.Taking as taking
 use Rattle.image_read.specs.Stream as stream
-use Rattle.image_read.specs.Stream.{pages_read, told, data_frames, frames_in, marked_in, numbers_read, frame_at, place_block}
+use Rattle.image_read.specs.Stream.{pages_read, told, frames_in, marked_in, numbers_read, frame_at, place_block, step_cause}
 use Rattle.image_read.specs.Answers.{Reads, Answers, told_after}
 use Rattle.image_read.specs.declared.cause.Cause.{Cause}
 use Rattle.image_read.specs.declared.cause.Cause.TheVariants as cause
@@ -39,26 +39,25 @@ use Rattle.plain_machine.specs.Loader.{left_free}
 use Rattle.plain_machine.specs.Image as image
 use Rattle.plain_machine.specs.Stands.{data_read}
 use Rattle.plain_machine.specs.State.{off, loading, nothing, Load as Resume}
-use Rattle.plain_machine.specs.Trace.{info_in, meta_in, stream_page, d_in, place, Place, place_count, read_cause, want_cause, room_cause, content_cause, next_cause, step_cause}
+use Rattle.plain_machine.specs.Trace.{info_in, meta_in, stream_page, d_in, place, Place, place_count, read_cause, want_cause, room_cause, content_cause, next_cause, data_frames, data_page, data_pages}
 use Rattle.plain_machine.specs.declared.event.Loader.{Loader}
 use Rattle.plain_machine.specs.declared.reply.Reply.{Reply}
 use Rattle.plain_machine.specs.declared.reply.Reply.TheVariants as reply
 use Rattle.protocol_laws.specs.LoadRows.{IsStop, IsFoundOn}
 use Rattle.protocol_laws.specs.TraceAt.{reply_past}
 use Rattle.protocol_laws.specs.Loads.{ShowsLoad}
-use Rattle.restore_laws.specs.DataPages.{data_page, data_pages}
 use Rattle.machine.specs.declared.machine.Machine.{Machine}
 use Rattle.resume_core.specs.Loading.{shown_by}
 use Rattle.resume_core.specs.Reader.{room_refusal, refusal_behind}
 use Rattle.resume_core.specs.Row.{HasReader, HasRead, HavePlaces, ListsOn, ReadsOn, LeadsOn}
 use Rattle.resume_core.specs.declared.load.Load.{Load}
 use Rattle.resume_core.specs.declared.load.Stage.TheVariants as stage
-use Rattle.resume_core.proofs.Facts.{stopped_early, leads, same_loader, row_at_load}
+use Rattle.resume_core.proofs.Facts.{stopped_early, leads, same_loader, loader_of, told_by, row_at_load}
 use Rattle.resume_core.proofs.Finding.{activity_is, knows_at}
 use Rattle.resume_core.proofs.TakingBack.{found_still}
 use Rattle.resume_core.proofs.Answering.{late_reply, no_want_before, goes_reply, room_reply, stops_reply, no_want_after, no_read_cause, all_read, more_to_read}
 use Rattle.resume_core.proofs.Listing.{SavesFew, HasNoCause, read_on, not_over}
-use Rattle.resume_core.proofs.OwnImage.{pages_are, count_is}
+use Rattle.resume_core.proofs.OwnImage.{pages_are, other_pages, count_is}
 use Rattle.protocol_laws.proofs.LoadRows.{read_row, read_stop_row, cause_ends}
 use Rattle.protocol_laws.proofs.LoadReplies.{gone_next}
 use Rattle.protocol_laws.proofs.OwnCauses.{own_sayable}
@@ -223,19 +222,25 @@ going_row machine frames load m few not_over counted c l v k read places room =
     let at : k - 4 + 1 ≡ k + 1 - 4 = omega arith in
     let shows : ShowsLoad h (shown_by machine frames new) l (k + 1) = record {
       activity = refl;
-      kept = read.kept;
-      read = λ i own.
-          let holds = subst (IsFoundOn h v) own read.found.found in
-          let is : 4 + (k - 4 + 1) ≡ k + 1 = omega arith in
-          ap₂ zip places.originals places.pages
-          ∙ pages_are h v i (k - 4 + 1) load.waiting.loaded holds.0 (own_sayable h v i read.reading.hardware holds.1) places.loaded few_loaded ∙ ap (λ (n : ℕ). take (data_read i n) (image.with_data i)) is;
+      shows = record {
+        told = told_by load l read.loader;
+        kept = read.kept;
+        read = λ i own.
+            let holds = subst (IsFoundOn h v) own read.found.found in
+            let is : 4 + (k - 4 + 1) ≡ k + 1 = omega arith in
+            ap₂ zip places.originals places.pages
+            ∙ pages_are h v i (k - 4 + 1) load.waiting.loaded holds.0 (own_sayable h v i read.reading.hardware holds.1) places.loaded few_loaded ∙ ap (λ (n : ℕ). take (data_read i n) (image.with_data i)) is;
+        read_other = λ w other.
+            ap₂ zip places.originals places.pages ∙ ap (λ (m : ℕ). zip (data_frames h v) (data_pages h v m)) places.loaded
+            ∙ other_pages h v w l (k - 4 + 1) (k + 1) (omega arith) read.found.found other;
+      };
     } in
     subst (λ (n : ℕ). LeadsOn machine frames (record load { stage = stage.Read; made = n }) (reply.Loading n) c l k) (sym m_is) (
       loading l (k + 1),
       leads machine frames new (reply.Loading (k + 1)) c c (loading l k) (loading l (k + 1)) tt
           (read_row h read.shown (shown_by machine frames new) c l v k read.reading goes shows)
           (record {
-            loader = same_loader h load new l refl refl refl read.loader;
+            free = read.loader.free;
             knows = (
               v,
               found_still machine load new c c l v refl refl read.found.reads refl read.found,
@@ -280,7 +285,7 @@ refused_row machine frames load mid load' result why c hardware at late is answe
     let v = knows.0 in
     let answered = answers v (k - 4) knows.4 knows.1.reads in
     let a = subst (λ (x : ReadStep). Answers h v load.check (k - 4) x answered.before answered.after mid.origs.members mid.zeros.members mid.page) is answered.answers in
-    let cause : step_cause h v l.check (k - 4) ≡ Some (reply_of why) = subst (λ (x : IdentCheck). step_cause h v x (k - 4) ≡ Some (reply_of why)) s.resume.loader.check a.0 in
+    let cause : step_cause h v l.check (k - 4) ≡ Some (reply_of why) = subst (λ (x : IdentCheck). step_cause h v x (k - 4) ≡ Some (reply_of why)) (loader_of machine frames load c l k s).check a.0 in
     let want = no_want_after h l.dump v l.loader (k - 4) knows.5.listed in (
       off nothing None,
       leads machine frames load' (reply_of why) c c (loading l k) (off nothing None) (stopped_early machine frames c (reply_of why) (loading l k) (off nothing None) (cause_stop why))
@@ -320,11 +325,11 @@ read_on_row machine frames frames' load mid after machine' frames'' load' result
       shown = shown_by machine frames load;
       whole = whole;
       reading = record { hardware = hardware; late = late; within = knows.3; stands = s.stands; found = knows.1.found; gone_on = knows.2 };
-      loader = same_loader h load after l free' (ap (λ (x : Load). x.loader) is' ∙ ap (λ (x : Load). x.loader) is) check' s.resume.loader;
+      loader = same_loader h load after l free' (ap (λ (x : Load). x.loader) is' ∙ ap (λ (x : Load). x.loader) is) check' (loader_of machine frames load c l load.made s);
       found = found_still machine load after c c l v (ap (λ (x : Load). x.header) is' ∙ ap (λ (x : Load). x.header) is) (ap (λ (x : Load). x.mark) is' ∙ ap (λ (x : Load). x.mark) is) knows.1.reads refl knows.1;
-      sound = subst (λ (x : IdentCheck). step_cause h v x t ≡ None) s.resume.loader.check read.0;
+      sound = subst (λ (x : IdentCheck). step_cause h v x t ≡ None) (loader_of machine frames load c l load.made s).check read.0;
       read = subst (λ (x : Load). HasReader h v x (t + 1)) (sym is') (record { reader = read.1.reader; has = read.1.has; reading = read.1.reading });
-      kept = λ p lt not. others p (λ has. not (subst (λ (ps : List ℕ). Contains ps p) s.resume.loader.free has)) ∙ s.stands.parts.1.kept p lt not;
+      kept = λ p lt not. others p (λ has. not (subst (λ (ps : List ℕ). Contains ps p) s.resume.free has)) ∙ s.stands.parts.1.shows.kept p lt not;
       made = ap (λ (x : Load). x.made) is' ∙ ap (λ (x : Load). x.made) is;
     })
     (keeps v t was answered within knows.5)
@@ -480,8 +485,8 @@ refused_list_row machine frames load mid load' result why r c hardware at late i
     let v = knows.0 in
     let answered = answers v (k - 4) knows.4 knows.1.reads in
     let a = subst (λ (x : ReadStep). Answers h v load.check (k - 4) x answered.before answered.after mid.origs.members mid.zeros.members mid.page) refused answered.answers in
-    let checks = s.resume.loader.check in
-    let free : length mid.waiting.free ≡ length (left_free h l.dump l.loader) = ap (λ (x : Load). length x.waiting.free) is ∙ ap length s.resume.loader.free in
+    let checks = (loader_of machine frames load c l k s).check in
+    let free : length mid.waiting.free ≡ length (left_free h l.dump l.loader) = ap (λ (x : Load). length x.waiting.free) is ∙ ap length s.resume.free in
     let causes : all_causes h l.dump v l.loader load.check (k - 4) ≡ Some r =
     refusal_is h l.dump v l.loader load.check (k - 4) (length mid.waiting.free) (length (with_data mid.origs.members mid.zeros.members)) answered.after.listed why a.0 a.1 knows.5 free
     (λ n listed. let sets = a.2 n listed in ap length (listed_data h v mid.origs.members mid.zeros.members sets.frames sets.marks sets.rising) ∙ sym (count_is h v))

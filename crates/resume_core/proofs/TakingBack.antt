@@ -33,7 +33,7 @@ use Rattle.resume_core.specs.declared.load.Load.{Load}
 use Rattle.resume_core.specs.declared.load.Stage.TheVariants as stage
 use Rattle.protocol_laws.proofs.LoadReplies.{cause_stops, stop_kind, gone_next}
 use Rattle.protocol_laws.proofs.Stopping.{stops_taken_back}
-use Rattle.resume_core.proofs.Facts.{stopped_early, row_at_load, leads, same_loader, shows_none}
+use Rattle.resume_core.proofs.Facts.{stopped_early, row_at_load, leads, shows_none, load_told}
 use Rattle.protocol_laws.proofs.LoadRows.{take_back_row, take_back_fault_row, back_sync_row, back_sync_stop_row, back_sync_fault_row}
 use Rattle.resume_core.proofs.Finding.{stopped, knows_at, activity_is}
 
@@ -75,11 +75,11 @@ back_row machine frames load c c' hardware at whole whole' writes =
     (λ l s.
     let knows = knows_at machine frames load c l 2 stage.TakeBack at s in
     let goes = take_back_row machine.hw (shown_by machine frames load) (shown_by machine frames new) c c' machine.blocks l knows.0 hardware whole whole' s.stands knows.1.found knows.2 writes
-    (shows_none machine frames load new c l l 2 3 s refl refl refl (omega arith) knows.5) in (
+    (shows_none machine frames load new c l l 2 3 s refl refl refl (load_told machine frames load c l 2 s) (omega arith) knows.5) in (
       loading l 3,
       leads machine frames new (reply.Loading 3) c c' (loading l 2) (loading l 3) tt goes
           (record {
-            loader = same_loader machine.hw load new l refl refl refl s.resume.loader;
+            free = s.resume.free;
             knows = (
               knows.0,
               found_still machine load new c c' l knows.0 refl refl (reads_after machine.hw knows.0 (taken_back load.header) c c' knows.1.reads (inl writes)) (same_swap_area machine.hw (disk.as_it_reads c) (disk.as_it_reads c') goes.area) knows.1,
@@ -118,11 +118,11 @@ opened_row machine frames load r c c' hardware at whole syncs opens =
     let v = knows.0 in
     let opened_at = opens v (record { mark = knows.1.mark; blocks = sym knows.1.blocks }) in
     let goes = back_sync_row machine.hw (shown_by machine frames load) (shown_by machine frames new) c c' machine.blocks l v hardware whole s.stands knows.1.found knows.2 syncs opened_at.0
-    (shows_none machine frames load new c l l 3 4 s refl refl refl (omega arith) knows.5) in (
+    (shows_none machine frames load new c l l 3 4 s refl refl refl (load_told machine frames load c l 3 s) (omega arith) knows.5) in (
       loading l 4,
       leads machine frames new (reply.Loading 4) c c' (loading l 3) (loading l 4) tt goes
           (record {
-            loader = same_loader machine.hw load new l refl refl refl s.resume.loader;
+            free = s.resume.free;
             knows = (
               v,
               found_still machine load new c c' l v refl refl (reads_synced machine.hw v c c' knows.1.reads syncs) (same_swap_area machine.hw (disk.as_it_reads c) (disk.as_it_reads c') goes.area) knows.1,

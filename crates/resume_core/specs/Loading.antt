@@ -1,5 +1,5 @@
 -- A resume, and what a machine shows while it is at it.
-use Rattle.std.specs.Prelude.{◌≡◌, ℕ, ⊤, Bool, true, false, List, []}
+use Rattle.std.specs.Prelude.{◌≡◌, ℕ, ⊤, Bool, true, false, List, [], Some}
 use Rattle.std.specs.List.{zip}
 use Rattle.definitions.specs.Disk as disk
 use Rattle.plain_machine.specs.Machine.{Hardware, Memory}
@@ -55,7 +55,7 @@ abbrev pub is_idle : Reply → Bool
 is_idle reply.Idle = true
 is_idle _ = false
 
--- what is shown: the header block that was found, and the pages that wait, by page frame
+-- what is shown: the header block that was found, the loader and the check, and the pages that wait, by page frame
 abbrev pub shown_by : Machine → Memory → Load → Shown
 shown_by machine frames load = record {
   activity = activity_of load;
@@ -66,6 +66,7 @@ shown_by machine frames load = record {
   frames = frames;
   header = load.header;
   copies = [];
+  resume = Some (load.loader, load.check);
   loaded = zip load.waiting.originals (waiting_pages frames load.waiting);
 }
 

@@ -16,7 +16,7 @@ use Rattle.plain_machine.specs.UsableArea.{area_block}
 use Rattle.plain_machine.specs.Shows.{Shown}
 use Rattle.plain_machine.specs.State.{State, off, on, booting, hibernating, undoing, settling, waking, loading, asleep, Held, Load as Resume, Found, not_yet, found_own, found_other}
 use Rattle.plain_machine.specs.Stands.{Stands}
-use Rattle.plain_machine.specs.Trace.{info_in, place_count, header_cause, step_cause, want_cause, place, restored_in}
+use Rattle.plain_machine.specs.Trace.{info_in, place_count, header_cause, want_cause, place, restored_in, data_frames, data_pages}
 use Rattle.plain_machine.specs.declared.event.Event.{Event}
 use Rattle.plain_machine.specs.declared.event.Event.TheVariants as event
 use Rattle.plain_machine.specs.declared.event.Actor.TheVariants as actor
@@ -28,11 +28,11 @@ use Rattle.plain_machine.specs.declared.reply.Reply.TheVariants as reply
 use Rattle.image_read.specs.Answers.{Reads}
 use Rattle.image_read.specs.Reading.{Reading}
 use Rattle.image_read.specs.Stream as stream
-use Rattle.image_read.specs.Stream.{data_frames, pages_read, told}
+use Rattle.image_read.specs.Stream.{pages_read, told, step_cause}
 use Rattle.protocol_laws.specs.LoadRows as load_rows
 use Rattle.protocol_laws.specs.LoadRows.{IsFoundIn, HaveGoneOn}
 use Rattle.protocol_laws.specs.Rows as rows
-use Rattle.restore_laws.specs.DataPages.{data_before, data_pages}
+use Rattle.restore_laws.specs.DataPages.{data_before}
 use Rattle.machine.specs.declared.machine.Machine.{Machine}
 use Rattle.resume_core.specs.Loading.{shown_by}
 use Rattle.resume_core.specs.declared.load.Load.{Load}
@@ -99,9 +99,9 @@ KnowsAt stage.Read machine frames load c l k =
     × HasReader machine.hw v load (k - 4) × HavePlaces machine.hw v frames load.waiting (k - 4)
 KnowsAt _ machine frames load c l k = (load.origs.members ≡ []) × (load.zeros.members ≡ []) × NoneWaits load
 
--- The resume is the one that a state is at.
+-- The resume is the one that a state is at. (Loader and check are shown.)
 pub record IsOf (machine : Machine) (frames : Memory) (load : Load) (c : disk.Content) (l : Resume) (k : ℕ) : Type 0 where
-  pub loader : HasLoader machine.hw load l
+  pub free : load.waiting.free ≡ left_free machine.hw l.dump l.loader
   pub knows : KnowsAt load.stage machine frames load c l k
 
 abbrev pub IsOfState : Machine → Memory → Load → disk.Content → State → Type 0

@@ -1,5 +1,5 @@
 -- A waking, and what a machine shows while it is at it, while it sleeps, and when it runs.
-use Rattle.std.specs.Prelude.{◌≡◌, ◌⊎◌, ℕ, Bool, true, false, List, []}
+use Rattle.std.specs.Prelude.{◌≡◌, ◌⊎◌, ℕ, Bool, true, false, List, [], None}
 use Rattle.plain_machine.specs.Machine.{Memory}
 use Rattle.plain_machine.specs.Shows.{Shown, Activity, runs, sleeps, wakes}
 use Rattle.plain_machine.specs.declared.reply.Left.TheVariants.{Same, Unsure}
@@ -56,6 +56,7 @@ shown_at machine frames activity header = record {
   frames = frames;
   header = header;
   copies = [];
+  resume = None;
   loaded = [];
 }
 

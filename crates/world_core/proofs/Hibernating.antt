@@ -6,6 +6,8 @@ use Rattle.definitions.specs.Disk as disk
 use Rattle.sig_header.specs.declared.area.Area.{Area}
 use Rattle.sig_header.specs.declared.area.AreaKind.{AreaKind}
 use Rattle.sig_header.specs.declared.area.AreaKind.TheVariants.{Swap}
+use Rattle.plain_machine.specs.declared.event.IdentCheck.{IdentCheck}
+use Rattle.plain_machine.specs.declared.event.Loader.{Loader}
 use Rattle.plain_machine.specs.Image.{Image}
 use Rattle.plain_machine.specs.Machine.{Hardware, Memory}
 use Rattle.plain_machine.specs.Shows.{Shown, Activity, rests, runs, hibernates, undoes, settles, sleeps, ShowsKept, loads}
@@ -165,8 +167,8 @@ still_hibernating w c a core stands resume = record {
 }
 
 -- what an operation shows of a world, but for the activity, is seen no more once the world is off or runs
-abbrev pub shown_in : World → Activity → List ℕ → List ℕ → List (ℕ × List ℕ) → Shown
-shown_in w activity header copies loaded = record {
+abbrev pub shown_in : World → Activity → List ℕ → List ℕ → Option (Loader × IdentCheck) → List (ℕ × List ℕ) → Shown
+shown_in w activity header copies resume loaded = record {
   activity = activity;
   keeps_dump = false;
   held = w.machine.held;
@@ -175,22 +177,23 @@ shown_in w activity header copies loaded = record {
   frames = w.frames;
   header = header;
   copies = copies;
+  resume = resume;
   loaded = loaded;
 }
 
-kept_same : (w : World) (activity : Activity) (header copies : List ℕ) (loaded : List (ℕ × List ℕ)) (kept : Option Memory) → w.core ≡ Off false → ShowsKept (hardware_of w) (shown_in w activity header copies loaded) kept → ShowsKept (hardware_of w) (shown w) kept
-kept_same w activity header copies loaded None core shows = ap keeps_dump core
-kept_same w activity header copies loaded (Some m) core shows = absurd (false≢true shows.0)
+kept_same : (w : World) (activity : Activity) (header copies : List ℕ) (resume : Option (Loader × IdentCheck)) (loaded : List (ℕ × List ℕ)) (kept : Option Memory) → w.core ≡ Off false → ShowsKept (hardware_of w) (shown_in w activity header copies resume loaded) kept → ShowsKept (hardware_of w) (shown w) kept
+kept_same w activity header copies resume loaded None core shows = ap keeps_dump core
+kept_same w activity header copies resume loaded (Some m) core shows = absurd (false≢true shows.0)
 
-pub then_off : (w : World) (c : disk.Content) (activity : Activity) (header copies : List ℕ) (loaded : List (ℕ × List ℕ)) (held : Held) (kept : Option Memory) → w.core ≡ Off false → Stands (hardware_of w) (shown_in w activity header copies loaded) c (off held kept) → StandsFor w c (off held kept)
-then_off w c activity header copies loaded held kept core stands = record {
-  stands = record { activity = activity_by w (Off false) core; parts = (kept_same w activity header copies loaded kept core stands.parts.0, stands.parts.1) };
+pub then_off : (w : World) (c : disk.Content) (activity : Activity) (header copies : List ℕ) (resume : Option (Loader × IdentCheck)) (loaded : List (ℕ × List ℕ)) (held : Held) (kept : Option Memory) → w.core ≡ Off false → Stands (hardware_of w) (shown_in w activity header copies resume loaded) c (off held kept) → StandsFor w c (off held kept)
+then_off w c activity header copies resume loaded held kept core stands = record {
+  stands = record { activity = activity_by w (Off false) core; parts = (kept_same w activity header copies resume loaded kept core stands.parts.0, stands.parts.1) };
   image = tt;
   resume = tt;
 }
 
-pub then_running : (w : World) (c : disk.Content) (activity : Activity) (header copies : List ℕ) (loaded : List (ℕ × List ℕ)) (a : Running) → w.core ≡ Runs → Stands (hardware_of w) (shown_in w activity header copies loaded) c (on a) → StandsFor w c (on a)
-then_running w c activity header copies loaded a core stands =
+pub then_running : (w : World) (c : disk.Content) (activity : Activity) (header copies : List ℕ) (resume : Option (Loader × IdentCheck)) (loaded : List (ℕ × List ℕ)) (a : Running) → w.core ≡ Runs → Stands (hardware_of w) (shown_in w activity header copies resume loaded) c (on a) → StandsFor w c (on a)
+then_running w c activity header copies resume loaded a core stands =
     let before = stands.parts.1 in
     record {
       stands = record {
@@ -202,7 +205,7 @@ then_running w c activity header copies loaded a core stands =
             task_slots = before.task_slots;
             flights = before.flights;
             slot_pages = before.slot_pages;
-            names = names_same (hardware_of w) (shown_in w activity header copies loaded) (shown w) a.held (λ k lt. refl) before.names;
+            names = names_same (hardware_of w) (shown_in w activity header copies resume loaded) (shown w) a.held (λ k lt. refl) before.names;
             header = before.header;
             area = before.area;
           },
@@ -212,8 +215,8 @@ then_running w c activity header copies loaded a core stands =
       resume = tt;
     }
 
-pub then_asleep : (w : World) (c : disk.Content) (activity : Activity) (header copies : List ℕ) (loaded : List (ℕ × List ℕ)) (i : Image) (held : Held) (a : Running) → w.core ≡ Asleep → Stands (hardware_of w) (shown_in w activity header copies loaded) c (sleeping i held a) → StandsFor w c (sleeping i held a)
-then_asleep w c activity header copies loaded i held a core stands =
+pub then_asleep : (w : World) (c : disk.Content) (activity : Activity) (header copies : List ℕ) (resume : Option (Loader × IdentCheck)) (loaded : List (ℕ × List ℕ)) (i : Image) (held : Held) (a : Running) → w.core ≡ Asleep → Stands (hardware_of w) (shown_in w activity header copies resume loaded) c (sleeping i held a) → StandsFor w c (sleeping i held a)
+then_asleep w c activity header copies resume loaded i held a core stands =
     let behind = stands.parts.0 in
     record {
       stands = record {
@@ -228,7 +231,7 @@ then_asleep w c activity header copies loaded i held a core stands =
             header = behind.header;
             area = behind.area;
           },
-          names_same (hardware_of w) (shown_in w activity header copies loaded) (shown w) held (λ k lt. refl) stands.parts.1,
+          names_same (hardware_of w) (shown_in w activity header copies resume loaded) (shown w) held (λ k lt. refl) stands.parts.1,
           stands.parts.2,
         );
       };
@@ -238,15 +241,15 @@ then_asleep w c activity header copies loaded i held a core stands =
 
 -- the states of a hibernation are those of the world that is at what it is at
 world_stands : (w : World) (c : disk.Content) (b : State) → w.core ≡ core_at (hibernation.activity_of w.hib) → hib_row.StandsFor w.machine w.frames w.hib c b → StandsFor w c b
-world_stands w c (off held kept) core stands = then_off w c (hibernation.activity_of w.hib) w.hib.header w.hib.snapshot.copies [] held kept (core ∙ ap core_at stands.stands.activity) stands.stands
-world_stands w c (on a) core stands = then_running w c (hibernation.activity_of w.hib) w.hib.header w.hib.snapshot.copies [] a (core ∙ ap core_at stands.stands.activity) stands.stands
+world_stands w c (off held kept) core stands = then_off w c (hibernation.activity_of w.hib) w.hib.header w.hib.snapshot.copies None [] held kept (core ∙ ap core_at stands.stands.activity) stands.stands
+world_stands w c (on a) core stands = then_running w c (hibernation.activity_of w.hib) w.hib.header w.hib.snapshot.copies None [] a (core ∙ ap core_at stands.stands.activity) stands.stands
 world_stands w c (hibernating suspends i a k) core stands = still_hibernating w c (hibernating suspends i a k) (core ∙ ap core_at stands.stands.activity) stands tt
 world_stands w c (undoing i call a k) core stands = still_hibernating w c (undoing i call a k) (core ∙ ap core_at stands.stands.activity) stands tt
 world_stands w c (booting from dump held k) core stands = never_at w.hib _ refl stands.stands.activity
 world_stands w c (settling a k) core stands = still_hibernating w c (settling a k) (core ∙ ap core_at stands.stands.activity) stands tt
 world_stands w c (waking i held a k) core stands = never_at w.hib _ refl stands.stands.activity
 world_stands w c (loading load k) core stands = never_at w.hib _ refl stands.stands.activity
-world_stands w c (sleeping i held a) core stands = then_asleep w c (hibernation.activity_of w.hib) w.hib.header w.hib.snapshot.copies [] i held a (core ∙ ap core_at stands.stands.activity) stands.stands
+world_stands w c (sleeping i held a) core stands = then_asleep w c (hibernation.activity_of w.hib) w.hib.header w.hib.snapshot.copies None [] i held a (core ∙ ap core_at stands.stands.activity) stands.stands
 
 -- The rows.
 

@@ -147,7 +147,7 @@ reason_same (Err why) = refl
 
 -- a resume as the world shows it
 abbrev shown_loading : World → Shown
-shown_loading w = shown_in w (resumption.activity_of w.load) w.load.header [] (zip w.load.waiting.originals (waiting_pages w.frames w.load.waiting))
+shown_loading w = shown_in w (resumption.activity_of w.load) w.load.header [] (Some (w.load.loader, w.load.check)) (zip w.load.waiting.originals (waiting_pages w.frames w.load.waiting))
 
 with_reason : World → Option NoSwap → Shown
 with_reason w why = record (shown_loading w) { unusable = why }
@@ -182,9 +182,9 @@ standing machine frames load r a c b after = record { stands = after.stands; res
 -- the states of a resume are those of the world that is at what it is at
 world_stands : (w : World) (c : disk.Content) (b : State) → w.core ≡ core_at (resumption.activity_of w.load) → resume_row.StandsFor w.machine w.frames w.load c b → StandsFor w c b
 world_stands w c (off held kept) core stands =
-    then_off w c (resumption.activity_of w.load) w.load.header [] (zip w.load.waiting.originals (waiting_pages w.frames w.load.waiting)) held kept (core ∙ ap core_at stands.stands.activity) (as_shown w c (off held kept) stands)
+    then_off w c (resumption.activity_of w.load) w.load.header [] (Some (w.load.loader, w.load.check)) (zip w.load.waiting.originals (waiting_pages w.frames w.load.waiting)) held kept (core ∙ ap core_at stands.stands.activity) (as_shown w c (off held kept) stands)
 world_stands w c (on a) core stands =
-    then_running w c (resumption.activity_of w.load) w.load.header [] (zip w.load.waiting.originals (waiting_pages w.frames w.load.waiting)) a (core ∙ ap core_at stands.stands.activity) (as_shown w c (on a) stands)
+    then_running w c (resumption.activity_of w.load) w.load.header [] (Some (w.load.loader, w.load.check)) (zip w.load.waiting.originals (waiting_pages w.frames w.load.waiting)) a (core ∙ ap core_at stands.stands.activity) (as_shown w c (on a) stands)
 world_stands w c (loading load k) core stands = still_loading w c load k (core ∙ ap core_at stands.stands.activity) stands
 world_stands w c (booting from dump held k) core stands = never_at w.load _ refl stands.stands.activity
 world_stands w c (hibernating suspends i a k) core stands = never_at w.load _ refl stands.stands.activity

@@ -9,6 +9,7 @@ use Rattle.plain_machine.specs.State.{State, off, nothing, sure, other}
 use Rattle.machine.specs.Flights.{flights_in}
 use Rattle.plain_machine.specs.Shows.{Shown, Activity, rests, runs, boots, hibernates, undoes, settles, wakes, sleeps, loads}
 use Rattle.plain_machine.specs.Stands.{Stands}
+use Rattle.plain_machine.specs.declared.event.IdentCheck.{IdentCheck}
 use Rattle.plain_machine.specs.declared.event.Loader.{Loader}
 use Rattle.plain_machine.specs.declared.reply.Reply.{Reply}
 use Rattle.plain_machine.specs.declared.reply.Reply.TheVariants as reply
@@ -97,6 +98,17 @@ copies_of Asleep hib = []
 copies_of Waking hib = []
 copies_of Loading hib = []
 
+-- loader and check of a resume
+abbrev pub resume_of : Core → Load → Option (Loader × IdentCheck)
+resume_of (Off keeps) load = None
+resume_of Running load = None
+resume_of (BootBegun from) load = None
+resume_of (BootSynced from) load = None
+resume_of Hibernating load = None
+resume_of Asleep load = None
+resume_of Waking load = None
+resume_of Loading load = Some (load.loader, load.check)
+
 abbrev pub loaded_of : Core → Memory → Load → List (ℕ × List ℕ)
 loaded_of (Off keeps) frames load = []
 loaded_of Running frames load = []
@@ -108,7 +120,7 @@ loaded_of Waking frames load = []
 loaded_of Loading frames load = zip load.waiting.originals (waiting_pages frames load.waiting)
 
 -- What is shown between two calls of the disk: a hibernation keeps a block and has copies, a settling or a waking keeps one, a resume keeps one
--- and has loaded pages.
+-- and has a loader, a check and loaded pages.
 abbrev pub shown_at : Core → Machine → Memory → Hib → Load → Waker → Shown
 shown_at core machine frames hib load waker = record {
   activity = activity_of core hib load waker;
@@ -119,6 +131,7 @@ shown_at core machine frames hib load waker = record {
   frames = frames;
   header = header_of core hib load waker;
   copies = copies_of core hib;
+  resume = resume_of core load;
   loaded = loaded_of core frames load;
 }
 
