@@ -19,7 +19,7 @@ use Rattle.plain_machine.specs.declared.reply.Reply.{Reply}
 use Rattle.plain_machine.specs.declared.reply.Reply.TheVariants as reply
 use Rattle.protocol_laws.specs.Rows.{LeavesBlock, IsNewFault, blocks_written, out_block}
 use Rattle.protocol_laws.proofs.Unwritten.{block_same}
-use Rattle.world_core.specs.Row.{HasRow, Restores}
+use Rattle.world_core.specs.Row.{SimulatesWhereTold, Restores}
 use Rattle.world_core.specs.StandsFor.{StandsFor, IsNew, hardware_of}
 use Rattle.world_core.specs.World.{World}
 use Rattle.command_core.specs.Hibernation.{held_at_first, machine_of_dump, is_booted, IsUp, machine_to_save}
@@ -118,7 +118,7 @@ pub record FailsAt (v : disk.DiskImage) (r : Reply) (now : Option disk.Content) 
   pub new_fault : IsNewFault r
 
 pub boots_first : (w w' : World) (v : disk.DiskImage) (r : Reply) (blocks blocks' : ℕ) (before now : Option disk.Content) → before ≡ Some (disk.settled v) → IsNew (hardware_of w) (Some w.frames) w → (Marked (hardware_of w) v → HasOriginal (hardware_of w) v) → IfSome before (disk.IsContent blocks) → hardware_of w' ≡ hardware_of w →
-    HasRow (event.Boot Kept) w w' r before now → Restores (event.Boot Kept) w w' r before now → IfSome now (disk.IsContent blocks') → BootsAt (hardware_of w) w.frames v 0 w' now
+    SimulatesWhereTold (event.Boot Kept) w w' r before now → Restores (event.Boot Kept) w w' r before now → IfSome now (disk.IsContent blocks') → BootsAt (hardware_of w) w.frames v 0 w' now
 boots_first w w' v r blocks blocks' before now told new original whole hw row restores whole' =
     let h = hardware_of w in
     let m = w.frames in
@@ -136,14 +136,14 @@ boots_first w w' v r blocks blocks' before now told new original whole hw row re
     }
 
 boot_turn : (h : Hardware) (m : Memory) (v : disk.DiskImage) (k : ℕ) (w w' : World) (r : Reply) (blocks : ℕ) (before now : Option disk.Content) (at : BootsAt h m v k w before) → hardware_of w ≡ h → hardware_of w' ≡ hardware_of w →
-    HasRow (event.Step actor.Core) w w' r before now → Restores (event.Step actor.Core) w w' r before now → IfSome now (disk.IsContent blocks) → Turned h (event.Step actor.Core) at.point w' r true now
+    SimulatesWhereTold (event.Step actor.Core) w w' r before now → Restores (event.Step actor.Core) w w' r before now → IfSome now (disk.IsContent blocks) → Turned h (event.Step actor.Core) at.point w' r true now
 boot_turn h m v k w w' r blocks before now at is hw row restores whole = turned h (event.Step actor.Core) at.point w w' r true blocks before now is at.told at.stands hw row restores whole (λ x. refl) (λ x. refl) (λ x. inl at.failed)
 
 still_untouched : (h : Hardware) (m : Memory) (v : disk.DiskImage) (k : ℕ) (w w' : World) (r : Reply) (before now : Option disk.Content) (at : BootsAt h m v k w before) (turn : Turned h (event.Step actor.Core) at.point w' r true now) → IsUntouched v turn.new
 still_untouched h m v k w w' r before now at turn = untouched_then h (event.Step actor.Core) v at.point turn.new at.untouched turn.turn (boot_writes h m (held_at_first h v) k at.point.state at.state)
 
 pub boots_second : (h : Hardware) (m : Memory) (v : disk.DiskImage) (w w' : World) (r : Reply) (blocks : ℕ) (before now : Option disk.Content) → BootsAt h m v 0 w before → hardware_of w ≡ h → hardware_of w' ≡ hardware_of w →
-    HasRow (event.Step actor.Core) w w' r before now → Restores (event.Step actor.Core) w w' r before now → IfSome now (disk.IsContent blocks) → ((goes_on r ≡ true) × BootsAt h m v 1 w' now) ⊎ ((goes_on r ≡ false) × FailsAt v r now)
+    SimulatesWhereTold (event.Step actor.Core) w w' r before now → Restores (event.Step actor.Core) w w' r before now → IfSome now (disk.IsContent blocks) → ((goes_on r ≡ true) × BootsAt h m v 1 w' now) ⊎ ((goes_on r ≡ false) × FailsAt v r now)
 boots_second h m v w w' r blocks before now at is hw row restores whole =
     let turn = boot_turn h m v 0 w w' r blocks before now at is hw row restores whole in
     let held = held_at_first h v in
@@ -159,7 +159,7 @@ boots_second h m v w w' r blocks before now at is hw row restores whole =
     ]
 
 pub boots_third : (h : Hardware) (m : Memory) (v : disk.DiskImage) (w w' : World) (r : Reply) (first blocks : ℕ) (before now : Option disk.Content) → disk.IsContent first (disk.settled v) → BootsAt h m v 1 w before → hardware_of w ≡ h → hardware_of w' ≡ hardware_of w →
-    HasRow (event.Step actor.Core) w w' r before now → Restores (event.Step actor.Core) w w' r before now → IfSome now (disk.IsContent blocks) → ((is_booted r ≡ true) × IsUp h (machine_of_dump h m v) v w' now) ⊎ ((is_booted r ≡ false) × FailsAt v r now)
+    SimulatesWhereTold (event.Step actor.Core) w w' r before now → Restores (event.Step actor.Core) w w' r before now → IfSome now (disk.IsContent blocks) → ((is_booted r ≡ true) × IsUp h (machine_of_dump h m v) v w' now) ⊎ ((is_booted r ≡ false) × FailsAt v r now)
 boots_third h m v w w' r first blocks before now whole at is hw row restores whole' =
     let turn = boot_turn h m v 1 w w' r blocks before now at is hw row restores whole' in
     let held = held_at_first h v in
@@ -190,7 +190,7 @@ boots_third h m v w w' r first blocks before now whole at is hw row restores who
 
 -- Cached page frames are dropped of a machine that has booted, over the same disk.
 pub up_shrunk : (h : Hardware) (m : Memory) (v : disk.DiskImage) (want : ℕ) (w w' : World) (r : Reply) (blocks : ℕ) (before now : Option disk.Content) → IsUp h (machine_of_dump h m v) v w before → hardware_of w ≡ h → hardware_of w' ≡ hardware_of w →
-    HasRow (event.Shrink want) w w' r before now → Restores (event.Shrink want) w w' r before now → IfSome now (disk.IsContent blocks) → IsUp h (machine_to_save h m (Some want) v) v w' now
+    SimulatesWhereTold (event.Shrink want) w w' r before now → Restores (event.Shrink want) w w' r before now → IfSome now (disk.IsContent blocks) → IsUp h (machine_to_save h m (Some want) v) v w' now
 up_shrunk h m v want w w' r blocks before now up hw same row restores whole =
     let a = machine_of_dump h m v in
     let p : Point = record { reply = reply.Idle; failed = true; state = on a; content = up.content; frames = w.frames } in

@@ -1,9 +1,9 @@
 -- What a crash inside a hibernation or a resume may leave.
-use Rattle.std.proofs.Common.{◌≡◌, ◌≢◌, ◌⊎◌, inl, inr, ◌<◌, ◌≤◌, ℕ, ◌+◌, ◌-◌, ◌/◌, zero, suc, eqb, ltb, Bool, true, false, cond, List, [], ◌∷◌, length, slice_index_or, Option, Some, refl, sym, ap, ◌∙◌, subst, arith, Contains}
+use Rattle.std.proofs.Common.{◌≡◌, ◌≢◌, ◌⊎◌, inl, inr, ◌<◌, ℕ, ◌+◌, ◌/◌, zero, suc, false, List, [], ◌∷◌, length, slice_index_or, Option, Some, None, refl, sym, ap, ◌∙◌, subst, arith, Contains}
 use Rattle.std.specs.Cmp.Lexicographic.{same_text, other_text}
 use Rattle.std.specs.Option.{IfSome}
 use Rattle.std.specs.List.{AllByRecursion}
-use Rattle.std.proofs.lemmas.Bool.{cases_Bool, cases_eq, cases_lt, cond-true, cond-false, lt-ltb, le-ltb, eq-eqb, ne_eqb, false≢true}
+use Rattle.std.proofs.lemmas.Bool.{cases_Bool, cases_eq, cases_lt, false≢true}
 use Rattle.std.proofs.lemmas.List.Elements.{All-from_recursion, All-contains}
 use Rattle.page_core.specs.declared.format.Format.{Format}
 use Rattle.definitions.specs.Disk as disk
@@ -13,20 +13,20 @@ use Rattle.plain_machine.specs.Chain.{Holds, Marked, blocks_of, header_of, is_ma
 use Rattle.plain_machine.specs.Image.{Image, hibernate_steps}
 use Rattle.plain_machine.specs.Machine.{Hardware, Memory, block_of_slot}
 use Rattle.plain_machine.specs.Refusals.{refusal}
-use Rattle.plain_machine.specs.Shows.{Shown}
+use Rattle.plain_machine.specs.Shows.{WorldView}
 use Rattle.plain_machine.specs.Stands.{Stands, EachImage, IsHeader, IsHeld, IsTakenBack}
+use Rattle.plain_machine.specs.Calls.{HibernationCall, writes_page, syncs_pages, reads_header, writes_mark, syncs_mark, hibernation_call, load_call}
+use Rattle.plain_machine.proofs.Calls.{IsAt as IsCallAt, is_at, call_marks}
 use Rattle.plain_machine.specs.State.{State, off, on, booting, hibernating, undoing, settling, waking, loading, asleep, Running, held_in, nothing, maybe, own}
-use Rattle.plain_machine.specs.Step.{Step, Outcome, hibernate_step, hibernated}
+use Rattle.plain_machine.specs.Step.{Step, Outcome, hibernation_outcomes, hibernate_step}
 use Rattle.plain_machine.specs.declared.event.Actor.TheVariants as actor
 use Rattle.plain_machine.specs.declared.event.Event.TheVariants as event
 use Rattle.plain_machine.specs.declared.event.IdentCheck.{IdentCheck}
-use Rattle.plain_machine.specs.declared.reply.Left.TheVariants.{Same}
 use Rattle.plain_machine.specs.declared.reply.Reply.{Reply}
-use Rattle.plain_machine.specs.declared.reply.Reply.TheVariants as reply
 use Rattle.plain_machine.specs.declared.reply.UndoCall.{UndoCall}
-use Rattle.plain_machine.specs.declared.reply.UndoCall.TheVariants as undo
-use Rattle.protocol_laws.specs.Rows.{LeavesBlock, LeavesHeader, blocks_written, block_of_step}
-use Rattle.protocol_laws.specs.Steps.{write_of_step}
+use Rattle.protocol_laws.specs.Rows.{LeavesBlock, LeavesHeader, blocks_written, block_of_load}
+use Rattle.protocol_laws.proofs.Back.{held_before, held_behind, before_mark}
+use Rattle.protocol_laws.proofs.Unwritten.{mark_at, none_past}
 use Rattle.protocol_laws.proofs.Inside.{left_candidate, image_left, images_left, mark_inside, undo_inside, none_marked, AreTakenBack, taken_inside, taken_itself, taken_after}
 use Rattle.command_core.specs.Turns.{Point, StandsAt, IsTurn, AreSteps, IsLeftInside, IsStill, goes_on}
 use Rattle.command_core.proofs.Begun.{IsUntouched}
@@ -39,27 +39,27 @@ use Rattle.command_core.proofs.Saved.{IsWrittenAt, state_of, all_after, refuses_
 
 -- What stands for a state says of its disk.
 
-held_by : (h : Hardware) (shown : Shown) (c : disk.Content) (a : State) → Stands h shown c a → IsHeld h c (held_in a)
-held_by h shown c (off held kept) stands = stands.parts.1.0
-held_by h shown c (on a) stands = stands.parts.1.held
-held_by h shown c (booting from dump held k) stands = stands.parts.1.0
-held_by h shown c (hibernating suspends i a k) stands = stands.parts.0.held
-held_by h shown c (undoing i call a k) stands = stands.parts.0.held
-held_by h shown c (settling a k) stands = stands.parts.0.held
-held_by h shown c (waking i held a k) stands = stands.parts.0.held
-held_by h shown c (loading load k) stands = stands.parts.0.0
-held_by h shown c (asleep i held a) stands = stands.parts.0.held
+held_by : (h : Hardware) (shown : WorldView) (c : disk.Content) (a : State) → Stands h shown c a → IsHeld h c (held_in a)
+held_by h shown c (off held kept) stands = stands.parts.held
+held_by h shown c (on a) stands = stands.parts.disk.held
+held_by h shown c (booting from dump held k) stands = stands.parts.held
+held_by h shown c (hibernating suspends i a k) stands = stands.parts.behind.held
+held_by h shown c (undoing i call a k) stands = stands.parts.behind.held
+held_by h shown c (settling a k) stands = stands.parts.behind.held
+held_by h shown c (waking i held a k) stands = stands.parts.behind.held
+held_by h shown c (loading load k) stands = stands.parts.held
+held_by h shown c (asleep i held a) stands = stands.parts.behind.held
 
-header_by : (h : Hardware) (shown : Shown) (c : disk.Content) (a : State) → Stands h shown c a → IsHeader h c
-header_by h shown c (off held kept) stands = stands.parts.1.1
-header_by h shown c (on a) stands = stands.parts.1.header
-header_by h shown c (booting from dump held k) stands = stands.parts.1.1
-header_by h shown c (hibernating suspends i a k) stands = stands.parts.0.header
-header_by h shown c (undoing i call a k) stands = stands.parts.0.header
-header_by h shown c (settling a k) stands = stands.parts.0.header
-header_by h shown c (waking i held a k) stands = stands.parts.0.header
-header_by h shown c (loading load k) stands = stands.parts.0.1
-header_by h shown c (asleep i held a) stands = stands.parts.0.header
+header_by : (h : Hardware) (shown : WorldView) (c : disk.Content) (a : State) → Stands h shown c a → IsHeader h c
+header_by h shown c (off held kept) stands = stands.parts.header
+header_by h shown c (on a) stands = stands.parts.disk.header
+header_by h shown c (booting from dump held k) stands = stands.parts.header
+header_by h shown c (hibernating suspends i a k) stands = stands.parts.behind.header
+header_by h shown c (undoing i call a k) stands = stands.parts.behind.header
+header_by h shown c (settling a k) stands = stands.parts.behind.header
+header_by h shown c (waking i held a k) stands = stands.parts.behind.header
+header_by h shown c (loading load k) stands = stands.parts.header
+header_by h shown c (asleep i held a) stands = stands.parts.behind.header
 
 stands_after : (h : Hardware) (n : ℕ) (start end : Point) → StandsAt h start → AreSteps h n start end → StandsAt h end
 stands_after h zero start end here are = subst (StandsAt h) (sym are) here
@@ -89,10 +89,6 @@ leaves_all h p q turn none = λ b. turn.unwritten b (λ in'. none_in b (subst (�
 
 -- A hibernation's outcomes.
 
-all_either : (P : Outcome → Type 0) (b : Bool) (xs ys : List Outcome) → AllByRecursion P xs → AllByRecursion P ys → AllByRecursion P (cond b xs ys)
-all_either P true xs ys p q = p
-all_either P false xs ys p q = q
-
 of_all : (P : Outcome → Type 0) (os : List Outcome) (o : Outcome) → AllByRecursion P os → Contains os o → P o
 of_all P os o all in' = All-contains P os o (All-from_recursion P os all) in'
 
@@ -100,27 +96,16 @@ of_all P os o all in' = All-contains P os o (All-from_recursion P os all) in'
 abbrev HoldsNone : Running → Outcome → Type 0
 HoldsNone a o = a.held ≡ nothing → held_in o.1 ≡ nothing
 
-held_early : (i : Image) (a : Running) (k : ℕ) → k < hibernate_steps i - 1 → held_in (hibernating false i a k) ≡ nothing
-held_early i a k lt = cond-true (ltb k (hibernate_steps i - 1)) nothing (maybe (own i)) (lt-ltb k (hibernate_steps i - 1) lt)
+none_by_call : (i : Image) (a : Running) (k : ℕ) (call : Option HibernationCall) → IsCallAt call k (hibernate_steps i) → k + 2 < hibernate_steps i → AllByRecursion (HoldsNone a) (hibernation_outcomes false i a k call)
+none_by_call i a k None at lt = tt
+none_by_call i a k (Some writes_page) at lt = ((λ unheld. held_before false i a (k + 1) (omega arith)), ((λ unheld. unheld), tt))
+none_by_call i a k (Some syncs_pages) at lt = ((λ unheld. held_before false i a (k + 1) (omega arith)), ((λ unheld. unheld), tt))
+none_by_call i a k (Some reads_header) at lt = ((λ unheld. held_before false i a (k + 1) (omega arith)), ((λ unheld. unheld), tt))
+none_by_call i a k (Some writes_mark) at lt = absurd (omega arith)
+none_by_call i a k (Some syncs_mark) at lt = absurd (omega arith)
 
 early_none : (i : Image) (a : Running) (k : ℕ) → k + 2 < hibernate_steps i → AllByRecursion (HoldsNone a) (hibernate_step false i a k)
-early_none i a k lt =
-    let last = hibernate_steps i in
-    let P : Outcome → Type 0 = HoldsNone a in
-    let next : Outcome = (reply.More (k + 1) last, hibernating false i a (k + 1)) in
-    let goes : P next = λ unheld. held_early i a (k + 1) (omega arith) in
-    let written : List Outcome = next ∷ (reply.WriteFault Same, on a) ∷ [] in
-    let synced : List Outcome = next ∷ (reply.SyncFault Same, on a) ∷ [] in
-    let read : List Outcome = next ∷ (reply.ReadFault Same, on a) ∷ [] in
-    let marked : List Outcome = next ∷ (reply.Undo undo.Write 0, undoing i undo.Write a 0) ∷ [] in
-    let ended : List Outcome = hibernated false i a ∷ (reply.Undo undo.Sync 0, undoing i undo.Sync a 0) ∷ [] in
-    let end = cond (eqb (k + 1) last) ended [] in
-    let rest : cond (eqb (k + 1) (last - 1)) marked end ≡ [] =
-    cond-false (eqb (k + 1) (last - 1)) marked end (ne_eqb (k + 1) (last - 1) (λ e. omega arith)) ∙ cond-false (eqb (k + 1) last) ended [] (ne_eqb (k + 1) last (λ e. omega arith)) in
-    all_either P (ltb (k + 1) (last - 3)) written (cond (eqb (k + 1) (last - 3)) synced (cond (eqb (k + 1) (last - 2)) read (cond (eqb (k + 1) (last - 1)) marked end))) (goes, ((λ unheld. unheld), tt))
-    (all_either P (eqb (k + 1) (last - 3)) synced (cond (eqb (k + 1) (last - 2)) read (cond (eqb (k + 1) (last - 1)) marked end)) (goes, ((λ unheld. unheld), tt))
-    (all_either P (eqb (k + 1) (last - 2)) read (cond (eqb (k + 1) (last - 1)) marked end) (goes, ((λ unheld. unheld), tt))
-    (subst (AllByRecursion P) (sym rest) tt)))
+early_none i a k lt = none_by_call i a k (hibernation_call i k) (is_at i k) lt
 
 later_none : (i : Image) (a : Running) (k : ℕ) (r : Reply) (b : State) → k + 2 < hibernate_steps i → Contains (hibernate_step false i a k) (r, b) → a.held ≡ nothing → held_in b ≡ nothing
 later_none i a k r b lt in' unheld = of_all (HoldsNone a) (hibernate_step false i a k) (r, b) (early_none i a k lt) in' unheld
@@ -129,37 +114,10 @@ later_none i a k r b lt in' unheld = of_all (HoldsNone a) (hibernate_step false 
 abbrev HoldsMaybe : Image → Outcome → Type 0
 HoldsMaybe i o = held_in o.1 ≡ maybe (own i)
 
-held_late : (i : Image) (a : Running) (k : ℕ) → hibernate_steps i - 1 ≤ k → held_in (hibernating false i a k) ≡ maybe (own i)
-held_late i a k le = cond-false (ltb k (hibernate_steps i - 1)) nothing (maybe (own i)) (le-ltb k (hibernate_steps i - 1) le)
-
 mark_maybe : (i : Image) (a : Running) (k : ℕ) (r : Reply) (b : State) → k + 2 ≡ hibernate_steps i → Contains (hibernate_step false i a k) (r, b) → held_in b ≡ maybe (own i)
 mark_maybe i a k r b at in' =
-    let last = hibernate_steps i in
-    let next : Outcome = (reply.More (k + 1) last, hibernating false i a (k + 1)) in
-    let written : List Outcome = next ∷ (reply.WriteFault Same, on a) ∷ [] in
-    let synced : List Outcome = next ∷ (reply.SyncFault Same, on a) ∷ [] in
-    let read : List Outcome = next ∷ (reply.ReadFault Same, on a) ∷ [] in
-    let marked : List Outcome = next ∷ (reply.Undo undo.Write 0, undoing i undo.Write a 0) ∷ [] in
-    let ended : List Outcome = hibernated false i a ∷ (reply.Undo undo.Sync 0, undoing i undo.Sync a 0) ∷ [] in
-    let end = cond (eqb (k + 1) last) ended [] in
-    let here : hibernate_step false i a k ≡ marked =
-    cond-false (ltb (k + 1) (last - 3)) written (cond (eqb (k + 1) (last - 3)) synced (cond (eqb (k + 1) (last - 2)) read (cond (eqb (k + 1) (last - 1)) marked end))) (le-ltb (k + 1) (last - 3) (omega arith))
-    ∙ cond-false (eqb (k + 1) (last - 3)) synced (cond (eqb (k + 1) (last - 2)) read (cond (eqb (k + 1) (last - 1)) marked end)) (ne_eqb (k + 1) (last - 3) (λ e. omega arith))
-    ∙ cond-false (eqb (k + 1) (last - 2)) read (cond (eqb (k + 1) (last - 1)) marked end) (ne_eqb (k + 1) (last - 2) (λ e. omega arith))
-    ∙ cond-true (eqb (k + 1) (last - 1)) marked end (eq-eqb (k + 1) (last - 1) (omega arith)) in
-    of_all (HoldsMaybe i) marked (r, b) (held_late i a (k + 1) (omega arith), (refl, tt)) (subst (λ (os : List Outcome). Contains os (r, b)) here in')
-
--- The blocks that its last steps write.
-
-mark_block : (h : Hardware) (a : Running) (i : Image) (k : ℕ) → k + 2 ≡ hibernate_steps i → block_of_step h a i k ≡ block_of_slot h 0 ∷ []
-mark_block h a i k at =
-    let header = cond (eqb (k + 2) (hibernate_steps i)) (block_of_slot h 0 ∷ []) [] in
-    cond-false (ltb (k + 4) (hibernate_steps i)) ((write_of_step h a i k).0 ∷ []) header (le-ltb (k + 4) (hibernate_steps i) (omega arith)) ∙ cond-true (eqb (k + 2) (hibernate_steps i)) (block_of_slot h 0 ∷ []) [] (eq-eqb (k + 2) (hibernate_steps i) at)
-
-last_block : (h : Hardware) (a : Running) (i : Image) (k : ℕ) → k + 1 ≡ hibernate_steps i → block_of_step h a i k ≡ []
-last_block h a i k at =
-    let header = cond (eqb (k + 2) (hibernate_steps i)) (block_of_slot h 0 ∷ []) [] in
-    cond-false (ltb (k + 4) (hibernate_steps i)) ((write_of_step h a i k).0 ∷ []) header (le-ltb (k + 4) (hibernate_steps i) (omega arith)) ∙ cond-false (eqb (k + 2) (hibernate_steps i)) (block_of_slot h 0 ∷ []) [] (ne_eqb (k + 2) (hibernate_steps i) (λ e. omega arith))
+    of_all (HoldsMaybe i) (hibernation_outcomes false i a k (Some writes_mark)) (r, b) (held_behind false i a (k + 1) (omega arith), (refl, tt))
+    (subst (λ (call : Option HibernationCall). Contains (hibernation_outcomes false i a k call) (r, b)) (call_marks i k at) in')
 
 in_one : (x b : ℕ) → Contains (x ∷ []) b → b ≡ x
 in_one x b (zero, lt, e) = sym e
@@ -186,7 +144,7 @@ hibernating_inside h i a blocks k p q w whole at is turn mixed marked =
     let held' = held_by h turn.stands.0 c' q.state turn.stands.1 in
     elim (cases_eq (k + 2) (hibernate_steps i)) [
       | inl mark ↦
-          let unmarked : IsHeld h c nothing = subst (IsHeld h c) (held_early i a k (omega arith)) held in
+          let unmarked : IsHeld h c nothing = subst (IsHeld h c) (held_before false i a k (omega arith)) held in
           let later : IsHeld h c' (maybe (own i)) = subst (IsHeld h c') (mark_maybe i a k q.reply q.state mark step) held' in
           mark_inside h blocks c c' i w
           (record {
@@ -195,23 +153,23 @@ hibernating_inside h i a blocks k p q w whole at is turn mixed marked =
             header = header_by h at.0 c (hibernating false i a k) stands;
             header_after = header_by h turn.stands.0 c' q.state turn.stands.1;
             area = turn.area;
-            others = leaves_others h p q turn (ap (blocks_written h) is ∙ mark_block h a i k mark);
+            others = leaves_others h p q turn (ap (blocks_written h) is ∙ mark_at h a i k mark);
             mixed = mixed;
-          }) (stands.parts.5 (omega arith)).0 unmarked (λ v in'. (later v in').0) marked
+          }) (before_mark h at.0 c false i a k mark stands).one unmarked (λ v in'. (later v in').0) marked
       | inr other ↦ elim (cases_lt (k + 2) (hibernate_steps i)) [
         | inl early ↦
-            let unmarked : IsHeld h c nothing = subst (IsHeld h c) (held_early i a k (omega arith)) held in
-            let still : IsHeld h c' nothing = subst (IsHeld h c') (later_none i a k q.reply q.state early step stands.parts.1.unheld) held' in
+            let unmarked : IsHeld h c nothing = subst (IsHeld h c) (held_before false i a k (omega arith)) held in
+            let still : IsHeld h c' nothing = subst (IsHeld h c') (later_none i a k q.reply q.state early step stands.parts.accepted.unheld) held' in
             absurd (none_marked h blocks c c' w whole after unmarked still mixed marked)
         | inr late ↦
-            let there : IsHeld h c (maybe (own i)) = subst (IsHeld h c) (held_late i a k (omega arith)) held in
-            let last : k + 1 ≡ hibernate_steps i = omega arith in
-            either_holds h i w marked (there w (image_left blocks c c' w whole after (leaves_all h p q turn (ap (blocks_written h) is ∙ last_block h a i k last)) mixed)).0
+            let there : IsHeld h c (maybe (own i)) = subst (IsHeld h c) (held_behind false i a k (omega arith)) held in
+            either_holds h i w marked (there w (image_left blocks c c' w whole after (leaves_all h p q turn (ap (blocks_written h) is ∙ none_past h a i k (omega arith))) mixed)).0
       ]
     ]
 
 undo_block : (h : Hardware) (i : Image) (call : UndoCall) (a : Running) (k : ℕ) → blocks_written h (undoing i call a (suc k)) ≡ []
-undo_block h i call a k = cond-false (eqb (suc k) 0) (block_of_slot h 0 ∷ []) [] (ne_eqb (suc k) 0 (λ e. omega arith))
+undo_block h i call a zero = refl
+undo_block h i call a (suc k) = refl
 
 -- Inside a step of an undo.
 undoing_inside : (h : Hardware) (i : Image) (call : UndoCall) (a : Running) (blocks k : ℕ) (p q : Point) (w : disk.DiskImage) → disk.IsContent blocks p.content → StandsAt h p → p.state ≡ undoing i call a k → IsTurn h (event.Step actor.Core) p q → disk.IsMixture p.content q.content w → Marked h w → Holds h w i
@@ -228,13 +186,13 @@ undoing_inside h i call a blocks zero p q w whole at is turn mixed marked =
       area = turn.area;
       others = leaves_others h p q turn (ap (blocks_written h) is);
       mixed = mixed;
-    }) (subst (λ (s : State). LeavesHeader h s c c') is turn.header) (λ v in'. (stands.parts.0.held v in').0) marked
+    }) (subst (λ (s : State). LeavesHeader h s c c') is turn.header) (λ v in'. (stands.parts.behind.held v in').0) marked
 undoing_inside h i call a blocks (suc k) p q w whole at is turn mixed marked =
     let c = p.content in
     let c' = q.content in
     let stands : Stands h at.0 c (undoing i call a (suc k)) = subst (Stands h at.0 c) is at.1 in
     let after = same_blocks blocks turn.blocks c c' whole turn.whole turn.area.blocks in
-    either_holds h i w marked (stands.parts.0.held w (image_left blocks c c' w whole after (leaves_all h p q turn (ap (blocks_written h) is ∙ undo_block h i call a k)) mixed)).0
+    either_holds h i w marked (stands.parts.behind.held w (image_left blocks c c' w whole after (leaves_all h p q turn (ap (blocks_written h) is ∙ undo_block h i call a k)) mixed)).0
 
 either_inside : (h : Hardware) (i : Image) (a : Running) (blocks : ℕ) (p q : Point) (w : disk.DiskImage) → disk.IsContent blocks p.content → StandsAt h p → IsWrittenAt i a p.state → IsTurn h (event.Step actor.Core) p q → disk.IsMixture p.content q.content w → Marked h w → Holds h w i
 either_inside h i a blocks p q w whole at (inl is) turn mixed marked = hibernating_inside h i a blocks is.0 p q w whole at is.1 turn mixed marked
@@ -273,8 +231,10 @@ taken_left h blocks v p q was turn none =
 
 later_writes : (h : Hardware) (m : Memory) (check : IdentCheck) (v : disk.DiskImage) (n : ℕ) (s : State) → s ≡ state_at h m check v (suc (suc (suc n))) → (b : ℕ) → Contains (blocks_written h s) b → ⊥
 later_writes h m check v n s is b in' =
-    let none = cond-false (eqb (suc (suc (suc n))) 2) (block_of_slot h 0 ∷ []) [] (ne_eqb (suc (suc (suc n))) 2 (λ e. omega arith)) in
-    none_in b (subst (λ (bs : List ℕ). Contains bs b) none (subst (λ (x : State). Contains (blocks_written h x) b) is in'))
+    none_in b (subst (λ (bs : List ℕ). Contains bs b) (reads_alone n) (subst (λ (x : State). Contains (blocks_written h x) b) is in')) where
+      reads_alone : (k : ℕ) → block_of_load h (load_call (suc (suc (suc k)))) ≡ []
+      reads_alone zero = refl
+      reads_alone (suc k) = refl
 
 taken_turn : (h : Hardware) (m : Memory) (check : IdentCheck) (v : disk.DiskImage) (blocks n : ℕ) (p q : Point) → disk.IsContent blocks (disk.settled v) → IsAfter h m check v n p → IsTaken h v blocks p → p.state ≡ state_at h m check v n → IsTurn h (event.Step actor.Core) p q → IsTaken h v blocks q
 taken_turn h m check v blocks zero p q first is was state turn = taken_left h blocks v p q was turn (early_writes h m check v 0 p.state (omega arith) state)

@@ -1,5 +1,5 @@
 -- A hibernation step by step: what it is at after so many, and that it ends.
-use Rattle.std.proofs.Common.{◌≡◌, ◌⊎◌, inl, inr, ◌≤◌, ◌<◌, ℕ, ◌+◌, ◌-◌, zero, suc, eqb, ltb, Bool, true, false, cond, List, ◌∷◌, [], None, refl, sym, subst, arith, Contains}
+use Rattle.std.proofs.Common.{◌≡◌, ◌⊎◌, inl, inr, ◌≤◌, ◌<◌, ℕ, ◌+◌, zero, suc, Bool, true, false, List, [], Option, Some, None, refl, sym, subst, arith, Contains}
 use Rattle.std.specs.List.{AllByRecursion}
 use Rattle.std.proofs.lemmas.Bool.{cases_lt, false≢true}
 use Rattle.std.proofs.lemmas.List.Elements.{All-from_recursion, All-contains}
@@ -7,11 +7,12 @@ use Rattle.definitions.specs.Disk as disk
 use Rattle.plain_machine.specs.Image.{Image, n_of, hibernate_steps}
 use Rattle.plain_machine.specs.Machine.{Hardware}
 use Rattle.plain_machine.specs.State.{State, Running, off, on, hibernating, undoing, nothing, sure, maybe, own}
+use Rattle.plain_machine.specs.Calls.{HibernationCall, writes_page, syncs_pages, reads_header, writes_mark, syncs_mark, hibernation_call}
 use Rattle.plain_machine.specs.Refusals.{refusal}
-use Rattle.plain_machine.specs.Step.{Step, Outcome, outcomes, hibernated, hibernate_step, undo_step, undone_fault}
+use Rattle.plain_machine.specs.Step.{Step, Outcome, outcomes, hibernation_outcomes, hibernate_step, undo_step, undone_fault}
 use Rattle.plain_machine.specs.declared.event.Actor.TheVariants as actor
 use Rattle.plain_machine.specs.declared.event.Event.TheVariants as event
-use Rattle.plain_machine.specs.declared.reply.Left.TheVariants.{Same, Gone, Unsure}
+use Rattle.plain_machine.specs.declared.reply.Left.TheVariants.{Gone, Unsure}
 use Rattle.plain_machine.specs.declared.reply.Reply.{Reply}
 use Rattle.plain_machine.specs.declared.reply.Reply.TheVariants as reply
 use Rattle.plain_machine.specs.declared.reply.UndoCall.{UndoCall}
@@ -34,31 +35,13 @@ IsAt i a n _ b failed = ⊥
 abbrev LeadsOn : Image → Running → ℕ → Bool → Outcome → Type 0
 LeadsOn i a n failed outcome = (now : Bool) → (IsNewFault outcome.0 → now ≡ true) → (failed ≡ true → now ≡ true) → IsAt i a (n + 1) outcome.0 outcome.1 now
 
-all_either : (i : Image) (a : Running) (n : ℕ) (failed b : Bool) (xs ys : List Outcome) → AllByRecursion (LeadsOn i a n failed) xs → AllByRecursion (LeadsOn i a n failed) ys → AllByRecursion (LeadsOn i a n failed) (cond b xs ys)
-all_either i a n failed true xs ys p q = p
-all_either i a n failed false xs ys p q = q
-
-write_leads : (i : Image) (a : Running) (n : ℕ) (failed : Bool) → n < hibernate_steps i → AllByRecursion (LeadsOn i a n failed) (hibernate_step false i a n)
-write_leads i a n failed before =
-    let last = hibernate_steps i in
-    let next : Outcome = (reply.More (n + 1) last, hibernating false i a (n + 1)) in
-    let written = next ∷ (reply.WriteFault Same, on a) ∷ [] in
-    let synced = next ∷ (reply.SyncFault Same, on a) ∷ [] in
-    let read = next ∷ (reply.ReadFault Same, on a) ∷ [] in
-    let marked = next ∷ (reply.Undo undo.Write 0, undoing i undo.Write a 0) ∷ [] in
-    let ended = hibernated false i a ∷ (reply.Undo undo.Sync 0, undoing i undo.Sync a 0) ∷ [] in
-    let end = cond (eqb (n + 1) last) ended [] in
-    all_either i a n failed (ltb (n + 1) (last - 3)) written (cond (eqb (n + 1) (last - 3)) synced (cond (eqb (n + 1) (last - 2)) read (cond (eqb (n + 1) (last - 1)) marked end)))
-    ((λ now new old. refl), ((λ now new old. new tt), tt))
-    (all_either i a n failed (eqb (n + 1) (last - 3)) synced (cond (eqb (n + 1) (last - 2)) read (cond (eqb (n + 1) (last - 1)) marked end))
-    ((λ now new old. refl), ((λ now new old. new tt), tt))
-    (all_either i a n failed (eqb (n + 1) (last - 2)) read (cond (eqb (n + 1) (last - 1)) marked end)
-    ((λ now new old. refl), ((λ now new old. new tt), tt))
-    (all_either i a n failed (eqb (n + 1) (last - 1)) marked end
-    ((λ now new old. refl), ((λ now new old. ((undo.Write, refl), omega arith, omega arith, new tt)), tt))
-    (all_either i a n failed (eqb (n + 1) last) ended []
-    ((λ now new old. (refl, refl)), ((λ now new old. ((undo.Sync, refl), omega arith, omega arith, new tt)), tt))
-    tt))))
+write_leads : (i : Image) (a : Running) (n : ℕ) (failed : Bool) (call : Option HibernationCall) → n < hibernate_steps i → AllByRecursion (LeadsOn i a n failed) (hibernation_outcomes false i a n call)
+write_leads i a n failed None before = tt
+write_leads i a n failed (Some writes_page) before = ((λ now new old. refl), ((λ now new old. new tt), tt))
+write_leads i a n failed (Some syncs_pages) before = ((λ now new old. refl), ((λ now new old. new tt), tt))
+write_leads i a n failed (Some reads_header) before = ((λ now new old. refl), ((λ now new old. new tt), tt))
+write_leads i a n failed (Some writes_mark) before = ((λ now new old. refl), ((λ now new old. ((undo.Write, refl), omega arith, omega arith, new tt)), tt))
+write_leads i a n failed (Some syncs_mark) before = ((λ now new old. (refl, refl)), ((λ now new old. ((undo.Sync, refl), omega arith, omega arith, new tt)), tt))
 
 undone_leads : (i : Image) (a : Running) (n : ℕ) (call : UndoCall) (b : State) → LeadsOn i a n true (undone_fault call Gone, b)
 undone_leads i a n undo.Write b = λ now new old. old refl
@@ -100,7 +83,7 @@ leads_by i a n failed os r b all is = All-contains (LeadsOn i a n failed) os (r,
 pub step_more : (h : Hardware) (v : disk.DiskImage) (i : Image) (a : Running) (n : ℕ) (r r' : Reply) (b b' : State) (failed now : Bool) → IsAt i a n r b failed → goes_on r ≡ true → Step h v b (event.Step actor.Core) r' b' → (IsNewFault r' → now ≡ true) → (failed ≡ true → now ≡ true) → IsAt i a (n + 1) r' b' now
 step_more h v i a n (reply.More k of) r' b b' failed now at goes step new old =
     let is = hibernating_step h v i a n r' b' (subst (λ (s : State). Step h v s (event.Step actor.Core) r' b') at step) in
-    leads_by i a n failed (hibernate_step false i a n) r' b' (write_leads i a n failed (before_end i a n (r', b') is)) is now new old
+    leads_by i a n failed (hibernate_step false i a n) r' b' (write_leads i a n failed (hibernation_call i n) (before_end i a n (r', b') is)) is now new old
 step_more h v i a n (reply.Undo call k) r' b b' failed now at goes step new old =
     let c = at.0.0 in
     let is = undoing_step h v i c a k r' b' (subst (λ (s : State). Step h v s (event.Step actor.Core) r' b') at.0.1 step) in

@@ -1,5 +1,5 @@
 -- A whole resume: from the world before it to what it answers at the end.
-use Rattle.std.proofs.Common.{◌≡◌, ◌≢◌, ◌⊎◌, inl, inr, ◌≤◌, ℕ, zero, suc, eqb, nat_eq, Bool, true, false, cond, not, length, ◌∷◌, [], Option, Some, None, slice_get, unwrap_or, refl, sym, ap, ◌∙◌, subst, arith, Contains}
+use Rattle.std.proofs.Common.{◌≡◌, ◌≢◌, ◌⊎◌, inl, inr, ◌≤◌, ℕ, zero, suc, nat_eq, Bool, true, false, cond, not, length, [], Option, Some, None, slice_get, unwrap_or, refl, sym, ap, ◌∙◌, subst, arith, Contains}
 use Rattle.std.specs.Cmp.Lexicographic.{pointwise}
 use Rattle.std.proofs.lemmas.Bool.{false≢true}
 use Rattle.std.proofs.lemmas.Option.{slice_get_within, same_Some}
@@ -9,6 +9,7 @@ use Rattle.definitions.specs.Zones.{AreZones}
 use Rattle.plain_machine.specs.Chain.{Marked, header_of}
 use Rattle.plain_machine.specs.Machine.{Hardware, Memory, block_of_slot}
 use Rattle.plain_machine.specs.Stands.{EachImage}
+use Rattle.plain_machine.specs.Calls.{load_call}
 use Rattle.plain_machine.specs.State.{State, off, loading, nothing}
 use Rattle.plain_machine.specs.Trace.{header_cause, is_set, restored_in}
 use Rattle.plain_machine.specs.declared.event.Actor.TheVariants as actor
@@ -19,6 +20,7 @@ use Rattle.plain_machine.specs.declared.reply.Reply.{Reply}
 use Rattle.plain_machine.specs.declared.reply.Reply.TheVariants as reply
 use Rattle.plain_machine.specs.Refusals.{refusal}
 use Rattle.plain_machine.specs.Step.{Step, outcomes}
+use Rattle.protocol_laws.proofs.WrittenWhileHeld.{header_of_load}
 use Rattle.protocol_laws.specs.Rows.{LeavesBlock, blocks_written, IsNewFault}
 use Rattle.world_core.specs.StandsFor.{StandsFor, hardware_of}
 use Rattle.world_core.specs.World.{World}
@@ -59,15 +61,10 @@ early_writes h m check v zero s few is b in' = none_in b (subst (λ (x : State).
 early_writes h m check v (suc zero) s few is b in' = none_in b (subst (λ (x : State). Contains (blocks_written h x) b) is in')
 early_writes h m check v (suc (suc n)) s few is b in' = absurd (omega arith)
 
-in_third : (x b : ℕ) (third : Bool) → Contains (cond third (x ∷ []) []) b → b ≡ x
-in_third x b true (zero, lt, e) = sym e
-in_third x b true (suc k, lt, e) = absurd (omega arith)
-in_third x b false in' = absurd (none_in b in')
-
 pub header_alone : (h : Hardware) (m : Memory) (check : IdentCheck) (v : disk.DiskImage) (n : ℕ) (s : State) → s ≡ state_at h m check v n → (b : ℕ) → b ≢ block_of_slot h 0 → Contains (blocks_written h s) b → ⊥
 header_alone h m check v zero s is b other in' = early_writes h m check v 0 s (omega arith) is b in'
 header_alone h m check v (suc zero) s is b other in' = early_writes h m check v 1 s (omega arith) is b in'
-header_alone h m check v (suc (suc n)) s is b other in' = other (in_third (block_of_slot h 0) b (eqb (suc (suc n)) 2) (subst (λ (x : State). Contains (blocks_written h x) b) is in'))
+header_alone h m check v (suc (suc n)) s is b other in' = other (header_of_load h b (load_call (suc (suc n))) (subst (λ (x : State). Contains (blocks_written h x) b) is in'))
 
 -- after n steps
 pub record IsAfter (h : Hardware) (m : Memory) (check : IdentCheck) (v : disk.DiskImage) (n : ℕ) (p : Point) : Type 0 where
@@ -209,7 +206,7 @@ off_or_left (reply.Compressed flags) b is = inl tt
 off_or_left r b is = inr is
 
 unmarked_off : (h : Hardware) (world : World) (c : disk.Content) (b : State) → StandsFor world c b → b ≡ off nothing None → EachImage c (λ w. Marked (hardware_of world) w → ⊥)
-unmarked_off h world c b stands is = (subst (StandsFor world c) is stands).stands.parts.1.0
+unmarked_off h world c b stands is = (subst (StandsFor world c) is stands).stands.parts.held
 
 unmarked_or_left : (h : Hardware) (world : World) (c : disk.Content) (r : Reply) (b : State) → hardware_of world ≡ h → StandsFor world c b → LeavesMark r ⊎ (b ≡ off nothing None) → LeavesMark r ⊎ EachImage c (λ w. Marked h w → ⊥)
 unmarked_or_left h world c r b hw stands (inl left) = inl left

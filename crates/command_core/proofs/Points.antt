@@ -17,7 +17,7 @@ use Rattle.plain_machine.specs.declared.reply.Reply.TheVariants as reply
 use Rattle.protocol_laws.specs.Rows.{LeavesBlock, IsNewFault}
 use Rattle.protocol_laws.proofs.WrittenWhileHeld.{at_written}
 use Rattle.resume_core.specs.Row.{restored_by}
-use Rattle.world_core.specs.Row.{HasRow, Restores, IsCalled}
+use Rattle.world_core.specs.Row.{SimulatesWhereTold, Restores, IsCalled}
 use Rattle.world_core.specs.StandsFor.{StandsFor, hardware_of, shown}
 use Rattle.world_core.specs.World.{World}
 use Rattle.command_core.specs.Turns.{Point, IsTurn, AreSteps, HaveMade, Elapsed, goes_on}
@@ -60,7 +60,7 @@ restored_here h e old new r before now c load k n hw told restores step resumed 
     subst (λ (g : Hardware). new.frames ≡ restored_by g load) hw ended.2.2.memory
 
 turned_here : (e : Event) (point : Point) (old new : World) (r : Reply) (failed : Bool) (blocks : ℕ) (before now : Option disk.Content) → before ≡ Some point.content → StandsFor old point.content point.state → hardware_of new ≡ hardware_of old →
-    HasRow e old new r before now → Restores e old new r before now → IfSome now (disk.IsContent blocks) → (IsNewFault r → failed ≡ true) → (point.failed ≡ true → failed ≡ true) → (failed ≡ true → (point.failed ≡ true) ⊎ IsNewFault r) → Turned (hardware_of old) e point new r failed now
+    SimulatesWhereTold e old new r before now → Restores e old new r before now → IfSome now (disk.IsContent blocks) → (IsNewFault r → failed ≡ true) → (point.failed ≡ true → failed ≡ true) → (failed ≡ true → (point.failed ≡ true) ⊎ IsNewFault r) → Turned (hardware_of old) e point new r failed now
 turned_here e point old new r failed blocks before now told stands hw row restores whole noticed noted no_other =
     let turn = row point.content told in
     let goes = turn.2 point.state stands in
@@ -88,7 +88,7 @@ turned_here e point old new r failed blocks before now told stands hw row restor
     }
 
 pub turned : (h : Hardware) (e : Event) (point : Point) (old new : World) (r : Reply) (failed : Bool) (blocks : ℕ) (before now : Option disk.Content) → hardware_of old ≡ h → before ≡ Some point.content → StandsFor old point.content point.state → hardware_of new ≡ hardware_of old →
-    HasRow e old new r before now → Restores e old new r before now → IfSome now (disk.IsContent blocks) → (IsNewFault r → failed ≡ true) → (point.failed ≡ true → failed ≡ true) → (failed ≡ true → (point.failed ≡ true) ⊎ IsNewFault r) → Turned h e point new r failed now
+    SimulatesWhereTold e old new r before now → Restores e old new r before now → IfSome now (disk.IsContent blocks) → (IsNewFault r → failed ≡ true) → (point.failed ≡ true → failed ≡ true) → (failed ≡ true → (point.failed ≡ true) ⊎ IsNewFault r) → Turned h e point new r failed now
 turned h e point old new r failed blocks before now is told stands hw row restores whole noticed noted no_other =
     subst (λ (g : Hardware). Turned g e point new r failed now) is (turned_here e point old new r failed blocks before now told stands hw row restores whole noticed noted no_other)
 
@@ -110,7 +110,7 @@ made_first h world r a c now told stands = record {
 }
 
 pub made_more : (h : Hardware) (start : Point) (old new : World) (n : ℕ) (r r' : Reply) (failed failed' : Bool) (blocks : ℕ) (before now : Option disk.Content) → hardware_of old ≡ h → HaveMade h old start n r failed before → goes_on r ≡ true → hardware_of new ≡ hardware_of old →
-    HasRow (event.Step actor.Core) old new r' before now → Restores (event.Step actor.Core) old new r' before now → IfSome now (disk.IsContent blocks) → (IsNewFault r' → failed' ≡ true) → (failed ≡ true → failed' ≡ true) → (failed' ≡ true → (failed ≡ true) ⊎ IsNewFault r') → HaveMade h new start (n + 1) r' failed' now
+    SimulatesWhereTold (event.Step actor.Core) old new r' before now → Restores (event.Step actor.Core) old new r' before now → IfSome now (disk.IsContent blocks) → (IsNewFault r' → failed' ≡ true) → (failed ≡ true → failed' ≡ true) → (failed' ≡ true → (failed ≡ true) ⊎ IsNewFault r') → HaveMade h new start (n + 1) r' failed' now
 made_more h start old new n r r' failed failed' blocks before now is made goes hw row restores whole noticed noted no_other =
     let turn = turned h (event.Step actor.Core) made.end old new r' failed' blocks before now is made.told made.stands hw row restores whole noticed (λ e. noted (sym made.failed_is ∙ e)) (earlier_or r' failed failed' made.end made.failed_is no_other) in
     record {
@@ -132,7 +132,7 @@ pub elapsed_first : (h : Hardware) (start : Point) (m : ℕ) (past : ℕ → dis
 elapsed_first h start m past = record { later = omega arith; nothing_else = λ t w le left. inl left }
 
 pub elapsed_more : (h : Hardware) (start : Point) (old new : World) (n : ℕ) (r r' : Reply) (failed failed' : Bool) (blocks : ℕ) (before now : Option disk.Content) (m0 m m' : ℕ) (first past since : ℕ → disk.DiskImage → Type 0) → hardware_of old ≡ h → HaveMade h old start n r failed before → goes_on r ≡ true → hardware_of new ≡ hardware_of old →
-    HasRow (event.Step actor.Core) old new r' before now → Restores (event.Step actor.Core) old new r' before now → IfSome now (disk.IsContent blocks) → (IsNewFault r' → failed' ≡ true) → (failed ≡ true → failed' ≡ true) → (failed' ≡ true → (failed ≡ true) ⊎ IsNewFault r') →
+    SimulatesWhereTold (event.Step actor.Core) old new r' before now → Restores (event.Step actor.Core) old new r' before now → IfSome now (disk.IsContent blocks) → (IsNewFault r' → failed' ≡ true) → (failed ≡ true → failed' ≡ true) → (failed' ≡ true → (failed ≡ true) ⊎ IsNewFault r') →
     Elapsed h start m0 m first past → disk.Changes (disk.Elapses m m' past since) before now → Elapsed h start m0 m' first since
 elapsed_more h start old new n r r' failed failed' blocks before now m0 m m' first past since is made goes hw row restores whole noticed noted no_other so_far changes =
     let turn = turned h (event.Step actor.Core) made.end old new r' failed' blocks before now is made.told made.stands hw row restores whole noticed (λ e. noted (sym made.failed_is ∙ e)) (earlier_or r' failed failed' made.end made.failed_is no_other) in

@@ -1,20 +1,21 @@
 -- A resume into a dump's memory step by step: what it is at after so many, and that it ends.
-use Rattle.std.proofs.Common.{◌≡◌, ◌⊎◌, inl, inr, ◌<◌, ℕ, ◌+◌, zero, suc, eqb, ltb, Bool, true, false, cond, ◌||◌, not, List, ◌∷◌, [], Option, Some, None, slice_get, unwrap_or, refl, sym, ap, ◌∙◌, subst, arith, Contains}
+use Rattle.std.proofs.Common.{◌≡◌, ◌⊎◌, inl, inr, ◌<◌, ℕ, ◌+◌, zero, suc, ltb, Bool, true, false, cond, ◌||◌, not, List, ◌∷◌, [], Option, Some, None, slice_get, unwrap_or, refl, sym, ap, ◌∙◌, subst, arith, Contains}
 use Rattle.std.specs.List.{AllByRecursion}
-use Rattle.std.proofs.lemmas.Bool.{cond-true, cond-false, ne_eqb, false≢true}
+use Rattle.std.proofs.lemmas.Bool.{cond-true, false≢true}
 use Rattle.std.proofs.lemmas.List.Elements.{All-from_recursion, All-contains}
 use Rattle.definitions.specs.Disk as disk
 use Rattle.plain_machine.specs.Chain.{is_marked_disk}
 use Rattle.plain_machine.specs.Machine.{Hardware, Memory}
-use Rattle.plain_machine.specs.State.{State, off, loading, nothing, sure, other, Load, perhaps, not_yet, found_other, held_while_loading}
+use Rattle.plain_machine.specs.Calls.{reads_mark, takes_back, syncs_back, LoadCall, syncs_first, of_mark, reads_image, load_call}
+use Rattle.plain_machine.specs.State.{State, off, loading, nothing, sure, other, Load, not_yet, found_other}
 use Rattle.plain_machine.specs.Refusals.{refusal}
-use Rattle.plain_machine.specs.Step.{Step, Outcome, outcomes, only, load_step, load_fault, load_answers, loaded_step, find_step, other_step, other_state, no_image, has_place}
+use Rattle.plain_machine.specs.Step.{Step, Outcome, outcomes, only, load_step, load_fault, fault_of_load, load_answers, find_step, other_step, other_state, no_image, has_place}
 use Rattle.plain_machine.specs.Trace.{trace}
 use Rattle.plain_machine.specs.declared.event.Actor.TheVariants as actor
 use Rattle.plain_machine.specs.declared.event.Event.TheVariants as event
 use Rattle.plain_machine.specs.declared.event.IdentCheck.{IdentCheck}
 use Rattle.plain_machine.specs.declared.event.Loader.TheVariants.{Table}
-use Rattle.plain_machine.specs.declared.reply.Left.TheVariants.{Same, Gone, Unsure}
+use Rattle.plain_machine.specs.declared.reply.Left.TheVariants.{Gone}
 use Rattle.plain_machine.specs.declared.reply.Reply.{Reply}
 use Rattle.plain_machine.specs.declared.reply.Reply.TheVariants as reply
 use Rattle.protocol_laws.specs.Rows.{IsNewFault}
@@ -78,23 +79,16 @@ AllLead h m check v n os = AllByRecursion (LeadsOn h m check v n) os
 leads_by : (h : Hardware) (m : Memory) (check : IdentCheck) (v : disk.DiskImage) (n : ℕ) (os : List Outcome) (r : Reply) (b : State) → AllByRecursion (LeadsOn h m check v n) os → Contains os (r, b) → LeadsOn h m check v n (r, b)
 leads_by h m check v n os r b all is = All-contains (LeadsOn h m check v n) os (r, b) (All-from_recursion (LeadsOn h m check v n) os all) is
 
-lead_either : (h : Hardware) (m : Memory) (check : IdentCheck) (v : disk.DiskImage) (n : ℕ) (b : Bool) (x y : Outcome) → LeadsOn h m check v n x → LeadsOn h m check v n y → LeadsOn h m check v n (cond b x y)
-lead_either h m check v n true x y p q = p
-lead_either h m check v n false x y p q = q
-
 all_either : (h : Hardware) (m : Memory) (check : IdentCheck) (v : disk.DiskImage) (n : ℕ) (b : Bool) (xs ys : List Outcome) → AllByRecursion (LeadsOn h m check v n) xs → AllByRecursion (LeadsOn h m check v n) ys → AllByRecursion (LeadsOn h m check v n) (cond b xs ys)
 all_either h m check v n true xs ys p q = p
 all_either h m check v n false xs ys p q = q
 
-fault_leads : (h : Hardware) (m : Memory) (check : IdentCheck) (v : disk.DiskImage) (n : ℕ) (load : Load) (k : ℕ) → LeadsOn h m check v n (load_fault load k)
-fault_leads h m check v n load k =
-    let unsure = off (perhaps (held_while_loading load 2)) None in
-    let last = cond (eqb k 3) (reply.SyncFault Unsure, unsure) (reply.ReadFault Gone, off nothing None) in
-    let third = cond (eqb k 2) (reply.WriteFault Unsure, unsure) last in
-    lead_either h m check v n (eqb k 0) (reply.SyncFault Same, off load.held None) (cond (eqb k 1) (reply.ReadFault Same, off load.held None) third) (λ now new. inl (tt, new tt, tt))
-    (lead_either h m check v n (eqb k 1) (reply.ReadFault Same, off load.held None) third (λ now new. inl (tt, new tt, tt))
-    (lead_either h m check v n (eqb k 2) (reply.WriteFault Unsure, unsure) last (λ now new. inl (tt, new tt, tt))
-    (lead_either h m check v n (eqb k 3) (reply.SyncFault Unsure, unsure) (reply.ReadFault Gone, off nothing None) (λ now new. inl (tt, new tt, tt)) (λ now new. inl (tt, new tt, refl)))))
+fault_leads : (h : Hardware) (m : Memory) (check : IdentCheck) (v : disk.DiskImage) (n : ℕ) (load : Load) (call : LoadCall) → LeadsOn h m check v n (fault_of_load load call)
+fault_leads h m check v n load syncs_first = λ now new. inl (tt, new tt, tt)
+fault_leads h m check v n load (of_mark reads_mark) = λ now new. inl (tt, new tt, tt)
+fault_leads h m check v n load (of_mark takes_back) = λ now new. inl (tt, new tt, tt)
+fault_leads h m check v n load (of_mark syncs_back) = λ now new. inl (tt, new tt, tt)
+fault_leads h m check v n load reads_image = λ now new. inl (tt, new tt, refl)
 
 -- The trace's entry.
 
@@ -152,7 +146,7 @@ pub first_entry : (h : Hardware) (m : Memory) (check : IdentCheck) (v : disk.Dis
 first_entry h m check v = traces_at h m v Table check 0 (omega arith) (λ j lt. absurd (omega arith))
 
 first_leads : (h : Hardware) (m : Memory) (check : IdentCheck) (v w : disk.DiskImage) → AllByRecursion (LeadsOn h m check v 0) (load_step h w (begun h m check v) 0)
-first_leads h m check v w = (fault_leads h m check v 0 (begun h m check v) 0, ((λ now new. (refl, first_entry h m check v)), tt))
+first_leads h m check v w = (fault_leads h m check v 0 (begun h m check v) (load_call 0), ((λ now new. (refl, first_entry h m check v)), tt))
 
 at_first : (h : Hardware) (m : Memory) (check : IdentCheck) (v : disk.DiskImage) (j : ℕ) → j < 1 → reply_at h m v Table check j ≡ reply.Loading (j + 1)
 at_first h m check v zero lt = refl
@@ -174,21 +168,19 @@ find_leads h m check v true e = all_either h m check v 1 (is_marked_disk h v) (o
 find_leads h m check v false e = none_leads h m check v e
 
 second_leads : (h : Hardware) (m : Memory) (check : IdentCheck) (v : disk.DiskImage) → AllByRecursion (LeadsOn h m check v 1) (load_step h v (begun h m check v) 1)
-second_leads h m check v = (fault_leads h m check v 1 (begun h m check v) 1, find_leads h m check v (is_marked_disk h v) refl)
+second_leads h m check v = (fault_leads h m check v 1 (begun h m check v) (load_call 1), find_leads h m check v (is_marked_disk h v) refl)
 
 later_answers : (h : Hardware) (m : Memory) (check : IdentCheck) (v w : disk.DiskImage) (n : ℕ) → load_answers h w (found h m check v) (suc (suc n)) ≡ other_step h (found h m check v) v (suc (suc n))
-later_answers h m check v w n =
-    let load = found h m check v in
-    let k = suc (suc n) in
-    cond-false (eqb k 0) (only (reply.Loading 1) (loading load 1)) (cond (eqb k 1) (find_step h w load load.held) (loaded_step h load load.found k)) (ne_eqb k 0 (λ e. omega arith))
-    ∙ cond-false (eqb k 1) (find_step h w load load.held) (loaded_step h load load.found k) (ne_eqb k 1 (λ e. omega arith))
+later_answers h m check v w zero = refl
+later_answers h m check v w (suc zero) = refl
+later_answers h m check v w (suc (suc n)) = refl
 
 later_leads : (h : Hardware) (m : Memory) (check : IdentCheck) (v w : disk.DiskImage) (n : ℕ) → AllByRecursion (LeadsOn h m check v (suc (suc n))) (load_step h w (found h m check v) (suc (suc n)))
 later_leads h m check v w n =
     let load = found h m check v in
     let k = suc (suc n) in
     all_either h m check v k (ltb k 4 || has_place h load load.found k) (load_fault load k ∷ load_answers h w load k) []
-    (fault_leads h m check v k load k, subst (AllByRecursion (LeadsOn h m check v k)) (sym (later_answers h m check v w n)) (other_leads h m check v (suc n))) tt
+    (fault_leads h m check v k load (load_call k), subst (AllByRecursion (LeadsOn h m check v k)) (sym (later_answers h m check v w n)) (other_leads h m check v (suc n))) tt
 
 -- Over the disk as it reads at a step; the second step finds it as it was.
 step_by : (h : Hardware) (m : Memory) (check : IdentCheck) (v w : disk.DiskImage) (n : ℕ) (r : Reply) (b : State) → (n ≡ 1 → w ≡ v) → Step h w (state_at h m check v n) (event.Step actor.Core) r b → LeadsOn h m check v n (r, b)

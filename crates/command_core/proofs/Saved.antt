@@ -1,5 +1,5 @@
 -- A whole hibernation: from the world before it to what it answers at the end.
-use Rattle.std.proofs.Common.{◌≡◌, ◌⊎◌, inl, inr, ◌≤◌, ℕ, ◌+◌, zero, suc, eqb, Bool, true, false, cond, length, map, filter, List, ◌∷◌, [], Option, Some, None, unwrap_or, refl, sym, ap, ◌∙◌, subst, arith, Contains}
+use Rattle.std.proofs.Common.{◌≡◌, ◌⊎◌, inl, inr, ◌≤◌, ℕ, ◌+◌, zero, suc, Bool, true, false, cond, length, map, filter, List, ◌∷◌, [], Option, Some, None, unwrap_or, refl, sym, ap, ◌∙◌, subst, arith, Contains}
 use Rattle.std.specs.List.{AllByRecursion}
 use Rattle.std.proofs.lemmas.Bool.{false≢true}
 use Rattle.std.proofs.lemmas.List.Elements.{All-from_recursion, All-contains}
@@ -14,6 +14,7 @@ use Rattle.plain_machine.specs.Image.{Image, image_of_memory, n_of, d_of, hibern
 use Rattle.plain_machine.specs.Machine.{Hardware, Memory, block_of_slot, saveable}
 use Rattle.plain_machine.specs.Refusals.{refusal, refused_if, busy, busy_task, busy_reply, closed, no_swap, no_frames, no_slots, hibernate_refusal}
 use Rattle.plain_machine.specs.Stands.{EachImage, laid_blocks}
+use Rattle.plain_machine.specs.Calls.{undo_call}
 use Rattle.plain_machine.specs.State.{State, Running, off, on, hibernating, undoing, sure, own}
 use Rattle.plain_machine.specs.declared.event.Event.TheVariants as event
 use Rattle.plain_machine.specs.declared.no_swap.NoSwap.{NoSwap}
@@ -109,7 +110,7 @@ state_of i a n _ b failed at goes = absurd (false≢true goes)
 
 written_in : (h : Hardware) (i : Image) (a : Running) (s : State) (b : ℕ) → IsWrittenAt i a s → Contains (blocks_written h s) b → Contains (block_of_slot h 0 ∷ laid_blocks h a i) b
 written_in h i a s b (inl is) in' = step_in_laid h a i is.0 b (subst (λ (x : State). Contains (blocks_written h x) b) is.1 in')
-written_in h i a s b (inr is) in' = (0, omega arith, sym (header_alone h b (eqb is.1 0) (subst (λ (x : State). Contains (blocks_written h x) b) is.2 in')))
+written_in h i a s b (inr is) in' = (0, omega arith, sym (header_alone h b (undo_call is.1) (subst (λ (x : State). Contains (blocks_written h x) b) is.2 in')))
 
 pub record IsAfter (h : Hardware) (i : Image) (a : Running) (v : disk.DiskImage) (p : Point) : Type 0 where
   pub blocks : ℕ
@@ -233,7 +234,7 @@ over_at_last steps n r (inl over) few short = over
 over_at_last steps n r (inr most) few short = absurd (omega arith)
 
 holds_by : (world : World) (c : disk.Content) (b : State) (i : Image) → StandsFor world c b → b ≡ off (sure (own i)) None → EachImage c (λ w. Holds (hardware_of world) w i)
-holds_by world c b i stands is = λ w here. ((subst (StandsFor world c) is stands).stands.parts.1.0 w here).0
+holds_by world c b i stands is = λ w here. ((subst (StandsFor world c) is stands).stands.parts.held w here).0
 
 fault_no_end : (r : Reply) (n : ℕ) → EndsInFault r → r ≡ reply.Hibernated n → ⊥
 fault_no_end r n is e = subst EndsInFault e is

@@ -2,7 +2,7 @@
 use Rattle.std.specs.Prelude.{◌≡◌, ◌⊎◌, ◌≤◌, ℕ, zero, suc, Bool, true, false, Option, Some, Contains, ⊤}
 use Rattle.definitions.specs.Disk as disk
 use Rattle.plain_machine.specs.Machine.{Hardware, Memory}
-use Rattle.plain_machine.specs.Shows.{Shown}
+use Rattle.plain_machine.specs.Shows.{WorldView}
 use Rattle.plain_machine.specs.Stands.{Stands}
 use Rattle.plain_machine.specs.State.{State, loading, Load}
 use Rattle.plain_machine.specs.Step.{Step}
@@ -42,7 +42,7 @@ pub record Point : Type 0 where
 
 -- something stands for the state over that disk
 abbrev pub StandsAt : Hardware → Point → Type 0
-StandsAt h p = (shown : Shown) × Stands h shown p.content p.state
+StandsAt h p = (shown : WorldView) × Stands h shown p.content p.state
 
 -- The plain machine gives the reply to this event, and goes on to the state, for which the disk stands. The area on the disk stays, no
 -- other block is written than it may write, and block(0) is left so. A call that failed is noticed, and none else. Where a resume has ended

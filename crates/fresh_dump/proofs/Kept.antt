@@ -1,7 +1,7 @@
 -- Laws of the slots that are kept.
 use Rattle.std.proofs.Common.{◌≡◌, ◌||◌, ◌&&◌, ℕ, ◌^◌, ◌<◌, Bool, true, false, cond, not, refl, sym, ap, subst, arith, eqb}
 use Rattle.plain_machine.specs.Machine.{Hardware, Memory, IsHardware, Fits, is_slot_entry, raw_slot_entry}
-use Rattle.plain_machine.specs.Step.{fresh_memory}
+use Rattle.plain_machine.specs.FreshMemory.{fresh_memory}
 use Rattle.plain_machine.proofs.Fresh.{fits-fresh_memory}
 use Rattle.fresh_dump.specs.KeptSlots.{kept_entry, kept_slot}
 

@@ -6,7 +6,7 @@ ghost use Rattle.std.specs.List.{range_with_len};
 ghost use Rattle.definitions.specs.Tables.{with_entry};
 ghost use Rattle.definitions.specs.Zones.{top};
 ghost use Rattle.plain_machine.specs.Machine.{Fits, IsHardware};
-ghost use Rattle.plain_machine.specs.Step.{fresh_memory, with_each_entry};
+ghost use Rattle.plain_machine.specs.FreshMemory.{fresh_memory, with_each_entry};
 ghost use Rattle.fresh_dump.specs.KeptSlots.{kept_entry, kept_slot};
 
 use frame_arena::Frames;
@@ -37,7 +37,6 @@ pub fn make_fresh(alloc: Global, dump: &mut Dump) -> Result<(), NoMemory>
 }
 
 /// The fresh memory of a machine that had this memory.
-#[tactic(auto, unfolding(plain_machine::specs::Step::fresh_memory))]
 fn fresh_frames(alloc: Global, hw: &Hardware, before: &Frames) -> Result<Frames, NoMemory>
     requires { length before.now ≡ top hw.now.zones }
     ensures fresh { IfOk result (λ frames. frames ≡ fresh_memory hw.now (kept_slot hw.now before.now)) }

@@ -22,12 +22,11 @@ use Rattle.plain_machine.specs.declared.no_swap.NoSwap.{NoSwap}
 use Rattle.plain_machine.specs.declared.reply.Reply.{Reply}
 use Rattle.plain_machine.specs.declared.reply.Reply.TheVariants as reply
 use Rattle.protocol_laws.specs.Snapshots.{NamesNone, IsTakenFrom}
-use Rattle.protocol_laws.specs.Writers.{slot_table_of}
 use Rattle.machine.specs.declared.machine.Machine.{Machine}
 use Rattle.hib_core.specs.Begin.{IsRefused, busy_of}
 use Rattle.hib_core.specs.Begin as begin
 use Rattle.machine.specs.Flights.{flights_in}
-use Rattle.machine.specs.Running.{reason_of}
+use Rattle.machine.specs.Running.{reason_of, slot_table_of}
 use Rattle.hib_core.specs.Hibernation.{running_by}
 use Rattle.hib_core.specs.declared.hib.Hib.{Hib}
 use Rattle.protocol_laws.proofs.Sets.{shown_lists, shown_free_slots}
@@ -53,9 +52,9 @@ unheld (maybe x) shows = absurd shows
 pub seen : (machine : Machine) (frames : Memory) (f : Format) (c : disk.Content) (a : Running) → IsHardware machine.hw → machine.held ≡ No → Stands machine.hw (running_by machine frames) c (on a) → IsSeen machine.hw frames f a
 seen machine frames f c a hw unmarked stands =
     let h = machine.hw in
-    let runs = stands.parts.0 in
+    let runs = stands.parts.memory in
     let held : a.held ≡ nothing = unheld a.held (subst (λ (flag : HeldFlag). ShowsHeld flag a.held) unmarked runs.held) in
-    let names : NamesHeld h (running_by machine frames) nothing = subst (NamesHeld h (running_by machine frames)) held stands.parts.1.names in
+    let names : NamesHeld h (running_by machine frames) nothing = subst (NamesHeld h (running_by machine frames)) held stands.parts.disk.names in
     let none : NamesNone h frames = λ s lt e. Contains-nil _ (names s lt e) in
     let lists = shown_lists h a.memory frames hw runs.fits runs.same in
     record {
@@ -114,14 +113,14 @@ refused_busy machine frames f t flies c a stands =
     let h = machine.hw in
     let i = image_of_memory h a.memory a.slots f in
     stop_at (busy a) (or_else (closed a) (or_else (no_swap a.unusable) (or_else (no_frames h a i) (no_slots h a i)))) (reply.Busy t)
-    (busy_is machine a stands.parts.0.flights ∙ ap busy_reply flies)
+    (busy_is machine a stands.parts.memory.flights ∙ ap busy_reply flies)
 
 pub refused_closed : (machine : Machine) (frames : Memory) (f : Format) → busy_of machine ≡ None → machine.held ≢ No → IsRefused machine frames f reply.Closed
 unfolding refusal
 refused_closed machine frames f idle ne c a stands =
     let h = machine.hw in
     let i = image_of_memory h a.memory a.slots f in
-    let runs = stands.parts.0 in
+    let runs = stands.parts.memory in
     let behind = or_else (no_swap a.unusable) (or_else (no_frames h a i) (no_slots h a i)) in
     open_at (busy a) (or_else (closed a) behind) (not_busy machine a idle runs.flights)
     ∙ stop_at (closed a) behind reply.Closed (test_holds (is_held a.held) reply.Closed (is_held_shown machine.held a.held ne runs.held))
@@ -131,7 +130,7 @@ unfolding refusal
 refused_no_swap machine frames f why hw idle unmarked unusable c a stands =
     let h = machine.hw in
     let i = image_of_memory h a.memory a.slots f in
-    let runs = stands.parts.0 in
+    let runs = stands.parts.memory in
     let is = seen machine frames f c a hw unmarked stands in
     let behind = or_else (no_frames h a i) (no_slots h a i) in
     open_at (busy a) (or_else (closed a) (or_else (no_swap a.unusable) behind)) (not_busy machine a idle runs.flights)
@@ -146,7 +145,7 @@ unfolding refusal
 up_to_counts machine frames f c a hw idle unmarked usable stands =
     let h = machine.hw in
     let i = image_of_memory h a.memory a.slots f in
-    let runs = stands.parts.0 in
+    let runs = stands.parts.memory in
     let is = seen machine frames f c a hw unmarked stands in
     let behind = or_else (no_frames h a i) (no_slots h a i) in
     open_at (busy a) (or_else (closed a) (or_else (no_swap a.unusable) behind)) (not_busy machine a idle runs.flights)

@@ -22,7 +22,7 @@ use Rattle.plain_machine.specs.Machine.{Hardware, Memory, IsHardware, IsOfTable,
 use Rattle.plain_machine.specs.UsableArea.{fit_fault}
 use Rattle.plain_machine.specs.declared.no_swap.NoSwap.{NoSwap}
 use Rattle.plain_machine.proofs.SameMemory.{filter_agree_within, entry-same, of_slot_table}
-use Rattle.protocol_laws.specs.Writers.{slot_table_of}
+use Rattle.machine.specs.Running.{slot_table_of}
 use Rattle.protocol_laws.proofs.Places.{usable_fits}
 use Rattle.machine.specs.declared.machine.Machine.{Machine}
 use Rattle.hib_core.specs.Begin.{IsCounted, pages_of, info_of}

@@ -1,17 +1,17 @@
 -- Page frames that aren't free stay: what a call of a hibernation or a settling leaves, with the image's slots given back.
-use Rattle.std.proofs.Common.{◌≡◌, ◌≢◌, ◌⊎◌, ◌<◌, ◌≤◌, ◌+◌, ◌-◌, ◌/◌, ◌*◌, ◌%◌, ℕ, inl, inr, List, [], ◌∷◌, length, Contains, eqb, refl, sym, ap, ◌∙◌, subst, arith, set}
+use Rattle.std.proofs.Common.{◌≡◌, ◌⊎◌, ◌<◌, ◌≤◌, ◌+◌, ◌/◌, ◌*◌, ◌%◌, ℕ, inl, inr, List, [], ◌∷◌, length, Contains, eqb, sym, ap, ◌∙◌, subst, arith, set}
 use Rattle.std.specs.List.{range_with_len}
 use Rattle.std.proofs.lemmas.Bool.{cases_lt}
 use Rattle.definitions.specs.Bytes.{with_number}
 use Rattle.definitions.specs.Lists.{image_slots}
 use Rattle.definitions.specs.Tables.{frame, entry_at, with_entry, with_entries}
-use Rattle.definitions.specs.Zones.{numbers, top}
+use Rattle.definitions.specs.Zones.{top}
 use Rattle.definitions.proofs.Ascending.{Contains-head, Contains-tail}
 use Rattle.definitions.proofs.FreeSlots.{image_slot as named}
 use Rattle.definitions.proofs.TableEntries.{length-with_entry}
 use Rattle.definitions.proofs.ZoneLists.{Contains-from_free_frames}
 use Rattle.definitions.proofs.ZoneNumbers.{range-bounds}
-use Rattle.plain_machine.specs.Machine.{Hardware, Memory, IsHardware, IsSameMemory, IsOfTable, unused, frame_entry, table_len}
+use Rattle.plain_machine.specs.Machine.{Hardware, Memory, IsHardware, IsSameMemory, IsOfTable, table_len}
 use Rattle.plain_machine.specs.Shows.{seen_frames}
 use Rattle.plain_machine.proofs.SameMemory.{filter_agree_within, entry-same, of_slot_table, frame-set_both, same_by, same_refl}
 use Rattle.plain_machine.proofs.Seen.{frame-seen}

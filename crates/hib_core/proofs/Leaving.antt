@@ -21,8 +21,7 @@ use Rattle.plain_machine.specs.declared.reply.Reply.{Reply}
 use Rattle.plain_machine.specs.declared.reply.UndoCall.{UndoCall}
 use Rattle.plain_machine.specs.declared.reply.UndoCall.TheVariants as undo
 use Rattle.plain_machine.proofs.SameMemory.{entry-same, of_frame_table}
-use Rattle.protocol_laws.specs.Writers.{slot_table_of}
-use Rattle.machine.specs.Running.{AreReserved}
+use Rattle.machine.specs.Running.{AreReserved, slot_table_of}
 use Rattle.machine.specs.declared.machine.Machine.{Machine}
 use Rattle.snapshot.specs.Taken.{Taken}
 use Rattle.snapshot.specs.declared.Counts.{Counts}
@@ -32,7 +31,8 @@ use Rattle.hib_core.specs.Ready.{CanWrite}
 use Rattle.hib_core.specs.Writes.{Writes}
 use Rattle.hib_core.specs.declared.hib.Hib.{Hib}
 use Rattle.hib_core.specs.declared.hib.Stage.{Stage}
-use Rattle.hib_core.proofs.Facts.{same_writer}
+use Rattle.hib_core.specs.declared.hib.Ending.{Ending}
+use Rattle.hib_core.specs.declared.hib.Saving.{Saving}
 
 -- no slot is taken
 pub takes_none : (h : Hardware) (m : Memory) → TakesSlots h m m
@@ -46,20 +46,17 @@ next_free : (free : List ℕ) (k s : ℕ) (b : Bool) (n : ℕ) → Contains (con
 next_free free k s true n in' = absurd (Contains-nil s in')
 next_free free k s false n in' = Contains-from_take n (drop (taken_after k) free) s in'
 
-pub takes_next : (h : Hardware) (blocks : ℕ) (frames frames' : Memory) (hib hib' : Hib) (R : ℕ × List ℕ → Content → Content → Type 0) (before now : Option Content) → CanWrite h blocks frames hib → Writes R frames frames' hib hib' before now → TakesSlots h frames frames'
-takes_next h blocks frames frames' hib hib' R before now can writes =
-    let w = writes.writer in
-    let same : can.writer ≡ w = same_writer can.writer w (sym can.has ∙ writes.has) in
+pub takes_next : (h : Hardware) (blocks : ℕ) (frames frames' : Memory) (sets : Taken) (saving : Saving) (w w' : Writing) (R : ℕ × List ℕ → Content → Content → Type 0) (before now : Option Content) → CanWrite h blocks frames sets saving w → Writes R frames frames' sets w w' before now → TakesSlots h frames frames'
+takes_next h blocks frames frames' sets saving w w' R before now can writes =
     let free : List ℕ = can.ready.0 in
-    let writing : IsWriting free frames w = subst (IsWriting free frames) same can.ready.1 in
-    let first : w.table ≡ slot_table_of h = sym (ap (λ (x : Writing). x.table) same) ∙ can.table in
-    let left : free_in frames (slot_table_of h) ≡ drop (taken_after w.written) free = sym (ap (free_in frames) first) ∙ writing.slots.left in
+    let writing : IsWriting free frames w = can.ready.1 in
+    let left : free_in frames (slot_table_of h) ≡ drop (taken_after w.written) free = sym (ap (free_in frames) can.table) ∙ writing.slots.left in
     record {
       slots = slots_of_write w.info free w.written;
       free = λ s in'.
           free_slot h.slots h.slot_table frames s
           (subst (λ (xs : List ℕ). Contains xs s) (sym left) (next_free free w.written s (is_map_write w.info.pages w.written) (cond (eqb (w.written % 512) 510) 2 1) in'));
-      taken = writes.taken free writing ∙ ap (λ (t : SlotTable). with_entries frames t.first (slots_of_write w.info free w.written) image_slot) first;
+      taken = writes.taken free writing ∙ ap (λ (t : SlotTable). with_entries frames t.first (slots_of_write w.info free w.written) image_slot) can.table;
     }
 
 -- No page frame's entry changes.
@@ -102,8 +99,8 @@ pub entries_begun : (h : Hardware) (old new : Memory) → IsHardware h → AreRe
 entries_begun h old new hw reserved begins p in' = entries_taken h begins.copied new hw begins.takes p in' ∙ entries_copied h old new hw reserved begins p in'
 
 -- What a hibernation's begin leaves.
-pub begins_image : (machine : Machine) (frames frames' : Memory) (hib hib' : Hib) (counts : Counts) → IsTaken machine frames frames' hib hib' counts → BeginsImage machine.hw frames frames'
-begins_image machine frames frames' hib hib' counts is =
+pub begins_image : (machine : Machine) (frames frames' : Memory) (hib hib' : Hib) (counts : Counts) (last : Ending) → IsTaken machine frames frames' hib hib' counts last → BeginsImage machine.hw frames frames'
+begins_image machine frames frames' hib hib' counts last is =
     let copies : hib'.snapshot.copies ≡ take (length hib.snapshot.origs) (unused machine.hw frames) = ap (λ (s : Taken). s.copies) is.snapshot in
     let free = free_in is.copied (slot_table_of machine.hw) in
     record {

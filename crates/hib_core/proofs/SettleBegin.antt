@@ -1,6 +1,5 @@
 -- The rows of the begin of a settling, and what its next step needs.
 use Rattle.std.proofs.Common.{◌≡◌, ◌≢◌, ◌<◌, ◌^◌, ℕ, refl, sym, ap, ◌∙◌, subst, arith, Some, None, not}
-use Rattle.std.proofs.lemmas.Bool.{false≢true}
 use Rattle.definitions.specs.Disk as disk
 use Rattle.swap_slots.specs.Runs.{SlotRuns}
 use Rattle.plain_machine.specs.Machine.{Memory, IsHardware}
@@ -29,14 +28,14 @@ use Rattle.hib_core.proofs.BeginRefusals.{unheld, open_at, stop_at, test_holds, 
 use Rattle.hib_core.proofs.BeginRows.{idle_stands}
 use Rattle.hib_core.proofs.BeginTables.{slot_table_lies}
 use Rattle.hib_core.proofs.Cases.{at_run}
-use Rattle.hib_core.proofs.Facts.{names_same, is_write}
 use Rattle.hib_core.proofs.Plain.{accepted_step, refused_step}
-use Rattle.hib_core.proofs.Syncing.{same_area}
+use Rattle.protocol_laws.proofs.Named.{names_same}
+use Rattle.protocol_laws.proofs.Same.{same_area}
 
 holds_nothing : (machine : Machine) (frames : Memory) (c : disk.Content) (a : Running) → busy_of machine ≡ None → machine.held ≡ No → Stands machine.hw (running_by machine frames) c (on a) → refusal machine.hw (on a) event.Settle ≡ Some reply.NothingHeld
 unfolding refusal
 holds_nothing machine frames c a idle none stands =
-    let runs = stands.parts.0 in
+    let runs = stands.parts.memory in
     let held = unheld a.held (subst (λ (flag : HeldFlag). ShowsHeld flag a.held) none runs.held) in
     open_at (busy a) (refused_if (not (is_held a.held)) reply.NothingHeld) (not_busy machine a idle runs.flights)
     ∙ test_holds (not (is_held a.held)) reply.NothingHeld (ap not (ap is_held held))
@@ -44,14 +43,14 @@ holds_nothing machine frames c a idle none stands =
 holds_image : (machine : Machine) (frames : Memory) (c : disk.Content) (a : Running) → busy_of machine ≡ None → machine.held ≢ No → Stands machine.hw (running_by machine frames) c (on a) → refusal machine.hw (on a) event.Settle ≡ None
 unfolding refusal
 holds_image machine frames c a idle some stands =
-    let runs = stands.parts.0 in
+    let runs = stands.parts.memory in
     open_at (busy a) (refused_if (not (is_held a.held)) reply.NothingHeld) (not_busy machine a idle runs.flights)
     ∙ test_fails (not (is_held a.held)) reply.NothingHeld (ap not (is_held_shown machine.held a.held some runs.held))
 
 is_busy : (machine : Machine) (frames : Memory) (c : disk.Content) (a : Running) (t : ℕ) → busy_of machine ≡ Some t → Stands machine.hw (running_by machine frames) c (on a) → refusal machine.hw (on a) event.Settle ≡ Some (reply.Busy t)
 unfolding refusal
 is_busy machine frames c a t flies stands =
-    stop_at (busy a) (refused_if (not (is_held a.held)) reply.NothingHeld) (reply.Busy t) (busy_is machine a stands.parts.0.flights ∙ ap busy_reply flies)
+    stop_at (busy a) (refused_if (not (is_held a.held)) reply.NothingHeld) (reply.Busy t) (busy_is machine a stands.parts.memory.flights ∙ ap busy_reply flies)
 
 -- a settling that is refused, for a reason that each running state has
 refused_settle_row : (machine : Machine) (frames : Memory) (hib : Hib) (r : Reply) (c : disk.Content) → ((a : Running) → Stands machine.hw (running_by machine frames) c (on a) → refusal machine.hw (on a) event.Settle ≡ Some r) → IsBegun machine frames frames (record hib { stage = stage.Idle }) job.Settle r c
@@ -85,12 +84,12 @@ settle_begun_row machine frames hib c idle some s stands =
     let a : Running = at.0 in
     let here : Stands machine.hw (running_by machine frames) c (on a) = subst (Stands machine.hw (running_by machine frames) c) at.1 stands in
     let goes = holds_image machine frames c a idle some here in
-    let names = names_same machine.hw (running_by machine frames) (shown_by machine frames new) a.held refl here.parts.1.names in (
+    let names = names_same machine.hw (running_by machine frames) (shown_by machine frames new) a.held refl here.parts.disk.names in (
       settling a 0,
       record {
         step = subst (λ (t : State). Step machine.hw (disk.as_it_reads c) t event.Settle (reply.More 0 3) (settling a 0)) (sym at.1)
             (accepted_step machine.hw (disk.as_it_reads c) (on a) event.Settle (reply.More 0 3) (settling a 0) goes (0, omega arith, refl));
-        stands = record { stands = settle_begins machine.hw (running_by machine frames) (shown_by machine frames new) c a here refl here.parts.0 names; image = tt };
+        stands = record { stands = settle_begins machine.hw (running_by machine frames) (shown_by machine frames new) c a here refl here.parts.memory names; image = tt };
         area = same_area machine.hw (disk.as_it_reads c);
         unwritten = λ b not_in. block_same b _;
         leaves = tt;
@@ -106,6 +105,5 @@ can_settle machine frames runs hib hw few some can = record {
   table = slot_table_lies machine.hw frames hw can.run.size;
   matches = can.run.matches;
   header = can.header some;
-  place = tt;
-  write = λ e. absurd (false≢true (ap is_write e));
+  next = tt;
 }

@@ -23,41 +23,39 @@ use Rattle.protocol_laws.proofs.Unwritten.{block_same, block_synced, unwritten_h
 use Rattle.machine.specs.declared.machine.Machine.{Machine}
 use Rattle.machine.specs.Flights.{flights_in}
 use Rattle.machine.specs.Running.{reason_of}
-use Rattle.hib_core.specs.Hibernation.{shown_by, activity_at, perhaps_held}
+use Rattle.hib_core.specs.Hibernation.{shown_by, activity_at, perhaps_held, header_at}
 use Rattle.hib_core.specs.Ready.{CanStep}
-use Rattle.hib_core.specs.Row.{IsRow}
+use Rattle.hib_core.specs.Row.{Simulates}
 use Rattle.hib_core.specs.declared.hib.Hib.{Hib}
-use Rattle.hib_core.specs.declared.hib.Stage.{Stage}
 use Rattle.hib_core.specs.declared.hib.Stage.TheVariants as stage
-use Rattle.hib_core.proofs.Facts.{row_at_settling, names_same}
+use Rattle.hib_core.proofs.Facts.{row_at_settling}
 use Rattle.hib_core.proofs.Plain.{may_settle_read, settle_read_may_fail, may_settle_write, settle_write_may_fail, may_settle, settle_sync_may_fail}
-use Rattle.hib_core.proofs.Syncing.{same_area}
+use Rattle.hib_core.proofs.Syncing.{gone_on}
 use Rattle.protocol_laws.proofs.AreaKept.{kept_by_sync}
 use Rattle.protocol_laws.proofs.Taking.{none_left, runs_given_back}
 use Rattle.hib_core.proofs.Undoing.{certain}
+use Rattle.protocol_laws.proofs.Named.{names_same}
+use Rattle.protocol_laws.proofs.Same.{same_area}
 
 -- the machine where what is held is perhaps held
 abbrev pub unsettled : Machine → Machine
 unsettled machine = record machine { held = perhaps_held machine.held }
 
-at_step : (hib : Hib) (s : Stage) → hib.stage ≡ s → activity_at hib.ending hib.stage hib.made ≡ activity_at hib.ending s hib.made
-at_step hib s at = ap (λ (t : Stage). activity_at hib.ending t hib.made) at
-
 on_disk : (machine : Machine) (frames : Memory) (runs : SlotRuns) (hib : Hib) (c : disk.Content) → CanStep machine frames runs hib → disk.IsContent machine.blocks c → IsOnDisk machine.hw machine.blocks c
 on_disk machine frames runs hib c can whole = record { hardware = can.hardware; content = whole; header = can.header }
 
 pub settle_read_row : (machine : Machine) (frames : Memory) (hib : Hib) (header : List ℕ) (c : disk.Content) → hib.stage ≡ stage.SettleRead → header ≡ header_of machine.hw (disk.as_it_reads c) →
-    IsRow machine frames hib machine frames (record hib { header = header; stage = stage.SettleWrite }) (event.Step actor.Core) (reply.More 1 3) c c
+    Simulates machine frames hib machine frames (gone_on hib (stage.SettleWrite header)) (event.Step actor.Core) (reply.More 1 3) c c
 settle_read_row machine frames hib header c at read =
-    let new = record hib { header = header; stage = stage.SettleWrite } in
-    row_at_settling machine frames hib machine frames new (event.Step actor.Core) (reply.More 1 3) c c 0 (at_step hib stage.SettleRead at)
+    let new = gone_on hib (stage.SettleWrite header) in
+    row_at_settling machine frames hib machine frames new (event.Step actor.Core) (reply.More 1 3) c c 0 (ap activity_at at)
     (λ a s. (
       settling a 1,
       record {
         step = may_settle_read machine.hw (disk.as_it_reads c) a;
         stands = record {
           stands = settle_reads machine.hw (shown_by machine frames hib) (shown_by machine frames new) c a s.stands read refl
-              s.stands.parts.0.shows (names_same machine.hw (shown_by machine frames hib) (shown_by machine frames new) a.held refl s.stands.parts.1);
+              s.stands.parts.behind.memory (names_same machine.hw (shown_by machine frames hib) (shown_by machine frames new) a.held refl s.stands.parts.names);
           image = tt;
         };
         area = same_area machine.hw (disk.as_it_reads c);
@@ -67,18 +65,18 @@ settle_read_row machine frames hib header c at read =
       },
     ))
 
-pub settle_read_failed_row : (machine : Machine) (frames : Memory) (hib : Hib) (header : List ℕ) (c : disk.Content) → hib.stage ≡ stage.SettleRead →
-    IsRow machine frames hib machine frames (record hib { header = header; stage = stage.Idle }) (event.Step actor.Core) (reply.ReadFault Same) c c
-settle_read_failed_row machine frames hib header c at =
-    let new = record hib { header = header; stage = stage.Idle } in
-    row_at_settling machine frames hib machine frames new (event.Step actor.Core) (reply.ReadFault Same) c c 0 (at_step hib stage.SettleRead at)
+pub settle_read_failed_row : (machine : Machine) (frames : Memory) (hib : Hib) (c : disk.Content) → hib.stage ≡ stage.SettleRead →
+    Simulates machine frames hib machine frames (record hib { stage = stage.Idle }) (event.Step actor.Core) (reply.ReadFault Same) c c
+settle_read_failed_row machine frames hib c at =
+    let new = record hib { stage = stage.Idle } in
+    row_at_settling machine frames hib machine frames new (event.Step actor.Core) (reply.ReadFault Same) c c 0 (ap activity_at at)
     (λ a s. (
       on a,
       record {
         step = settle_read_may_fail machine.hw (disk.as_it_reads c) a;
         stands = record {
           stands = settle_read_fails machine.hw (shown_by machine frames hib) (shown_by machine frames new) c a s.stands refl
-              s.stands.parts.0.shows (names_same machine.hw (shown_by machine frames hib) (shown_by machine frames new) a.held refl s.stands.parts.1);
+              s.stands.parts.behind.memory (names_same machine.hw (shown_by machine frames hib) (shown_by machine frames new) a.held refl s.stands.parts.names);
           image = tt;
         };
         area = same_area machine.hw (disk.as_it_reads c);
@@ -88,19 +86,20 @@ settle_read_failed_row machine frames hib header c at =
       },
     ))
 
-pub settle_write_row : (machine : Machine) (frames : Memory) (runs : SlotRuns) (hib : Hib) (c c' : disk.Content) → CanStep machine frames runs hib → hib.stage ≡ stage.SettleWrite → disk.IsContent machine.blocks c → disk.IsContent machine.blocks c' →
-    disk.Writes (block_of_slot machine.hw 0) (unmarked_block hib.header) c c' → IsRow machine frames hib machine frames (record hib { header = unmarked_block hib.header; stage = stage.SettleSync }) (event.Step actor.Core) (reply.More 2 3) c c'
-settle_write_row machine frames runs hib c c' can at whole whole' writes =
-    let new = record hib { header = unmarked_block hib.header; stage = stage.SettleSync } in
+pub settle_write_row : (machine : Machine) (frames : Memory) (runs : SlotRuns) (hib : Hib) (header : List ℕ) (c c' : disk.Content) → CanStep machine frames runs hib → hib.stage ≡ stage.SettleWrite header → disk.IsContent machine.blocks c → disk.IsContent machine.blocks c' →
+    disk.Writes (block_of_slot machine.hw 0) (unmarked_block header) c c' → Simulates machine frames hib machine frames (gone_on hib stage.SettleSync) (event.Step actor.Core) (reply.More 2 3) c c'
+settle_write_row machine frames runs hib header c c' can at whole whole' wrote =
+    let new = gone_on hib stage.SettleSync in
+    let writes = subst (λ (p : List ℕ). disk.Writes (block_of_slot machine.hw 0) (unmarked_block p) c c') (sym (ap header_at at)) wrote in
     let over = on_disk machine frames runs hib c can whole in
-    row_at_settling machine frames hib machine frames new (event.Step actor.Core) (reply.More 2 3) c c' 1 (at_step hib stage.SettleWrite at)
+    row_at_settling machine frames hib machine frames new (event.Step actor.Core) (reply.More 2 3) c c' 1 (ap activity_at at)
     (λ a s. (
       settling a 2,
       record {
         step = may_settle_write machine.hw (disk.as_it_reads c) a;
         stands = record {
           stands = settle_writes machine.hw (shown_by machine frames hib) (shown_by machine frames new) c c' machine.blocks a over whole' s.stands writes refl
-              s.stands.parts.0.shows (names_same machine.hw (shown_by machine frames hib) (shown_by machine frames new) a.held refl s.stands.parts.1);
+              s.stands.parts.behind.memory (names_same machine.hw (shown_by machine frames hib) (shown_by machine frames new) a.held refl s.stands.parts.names);
           image = tt;
         };
         area = settle_keeps_area machine.hw (shown_by machine frames hib) c c' machine.blocks a over s.stands (inl writes);
@@ -126,20 +125,21 @@ shows_perhaps Perhaps (maybe x) shows = tt
 runs_unsettled : (h : Hardware) (flag : HeldFlag) (why : Option NoSwap) (operations : ℕ → Option Flight) (frames : Memory) (a : Running) → RunsAs h flag why operations frames a → RunsAs h (perhaps_held flag) why operations frames (with_held a (perhaps a.held))
 runs_unsettled h flag why operations frames a runs = record { held = shows_perhaps flag a.held runs.held; unusable = runs.unusable; flights = runs.flights; same = runs.same; fits = runs.fits }
 
-pub settle_write_failed_row : (machine : Machine) (frames : Memory) (runs : SlotRuns) (hib : Hib) (c c' : disk.Content) → CanStep machine frames runs hib → hib.stage ≡ stage.SettleWrite → disk.IsContent machine.blocks c → disk.IsContent machine.blocks c' →
-    disk.FailsToWrite (block_of_slot machine.hw 0) (unmarked_block hib.header) c c' → IsRow machine frames hib (unsettled machine) frames (record hib { header = unmarked_block hib.header; stage = stage.Idle }) (event.Step actor.Core) (reply.WriteFault Unsure) c c'
-settle_write_failed_row machine frames runs hib c c' can at whole whole' fails =
-    let new = record hib { header = unmarked_block hib.header; stage = stage.Idle } in
+pub settle_write_failed_row : (machine : Machine) (frames : Memory) (runs : SlotRuns) (hib : Hib) (header : List ℕ) (c c' : disk.Content) → CanStep machine frames runs hib → hib.stage ≡ stage.SettleWrite header → disk.IsContent machine.blocks c → disk.IsContent machine.blocks c' →
+    disk.FailsToWrite (block_of_slot machine.hw 0) (unmarked_block header) c c' → Simulates machine frames hib (unsettled machine) frames (record hib { stage = stage.Idle }) (event.Step actor.Core) (reply.WriteFault Unsure) c c'
+settle_write_failed_row machine frames runs hib header c c' can at whole whole' failed =
+    let new = record hib { stage = stage.Idle } in
+    let fails = subst (λ (p : List ℕ). disk.FailsToWrite (block_of_slot machine.hw 0) (unmarked_block p) c c') (sym (ap header_at at)) failed in
     let over = on_disk machine frames runs hib c can whole in
-    row_at_settling machine frames hib (unsettled machine) frames new (event.Step actor.Core) (reply.WriteFault Unsure) c c' 1 (at_step hib stage.SettleWrite at)
+    row_at_settling machine frames hib (unsettled machine) frames new (event.Step actor.Core) (reply.WriteFault Unsure) c c' 1 (ap activity_at at)
     (λ a s. (
       on (with_held a (perhaps a.held)),
       record {
         step = settle_write_may_fail machine.hw (disk.as_it_reads c) a;
         stands = record {
           stands = settle_write_fails machine.hw (shown_by machine frames hib) (shown_by (unsettled machine) frames new) c c' machine.blocks a over whole' s.stands fails refl
-              (runs_unsettled machine.hw machine.held (reason_of machine.area) (flights_in machine.flights) frames a s.stands.parts.0.shows)
-              (names_same machine.hw (shown_by machine frames hib) (shown_by (unsettled machine) frames new) a.held refl s.stands.parts.1);
+              (runs_unsettled machine.hw machine.held (reason_of machine.area) (flights_in machine.flights) frames a s.stands.parts.behind.memory)
+              (names_same machine.hw (shown_by machine frames hib) (shown_by (unsettled machine) frames new) a.held refl s.stands.parts.names);
           image = tt;
         };
         area = settle_keeps_area machine.hw (shown_by machine frames hib) c c' machine.blocks a over s.stands (inr fails);
@@ -150,15 +150,15 @@ settle_write_failed_row machine frames runs hib c c' can at whole whole' fails =
     ))
 
 pub settled_row : (machine : Machine) (frames frames' : Memory) (runs : SlotRuns) (hib : Hib) (c c' : disk.Content) → CanStep machine frames runs hib → All IsPage frames → hib.stage ≡ stage.SettleSync → disk.IsContent machine.blocks c →
-    disk.Syncs c c' → frames' ≡ seen_frames machine.hw frames → IsRow machine frames hib (certain machine) frames' (record hib { stage = stage.Idle }) (event.Step actor.Core) reply.Settled c c'
+    disk.Syncs c c' → frames' ≡ seen_frames machine.hw frames → Simulates machine frames hib (certain machine) frames' (record hib { stage = stage.Idle }) (event.Step actor.Core) reply.Settled c c'
 settled_row machine frames frames' runs hib c c' can pages at whole syncs given =
     let new = record hib { stage = stage.Idle } in
-    row_at_settling machine frames hib (certain machine) frames' new (event.Step actor.Core) reply.Settled c c' 2 (at_step hib stage.SettleSync at)
+    row_at_settling machine frames hib (certain machine) frames' new (event.Step actor.Core) reply.Settled c c' 2 (ap activity_at at)
     (λ a s.
     let memory : IsMemoryOf machine.hw frames = record { pages = pages; table = can.table } in
     let back : RunsAs machine.hw machine.held (reason_of machine.area) (flights_in machine.flights) frames' a =
     subst (λ (m : Memory). RunsAs machine.hw machine.held (reason_of machine.area) (flights_in machine.flights) m a) (sym given)
-    (runs_given_back machine.hw machine.held (reason_of machine.area) (flights_in machine.flights) frames a memory s.stands.parts.0.shows) in
+    (runs_given_back machine.hw machine.held (reason_of machine.area) (flights_in machine.flights) frames a memory s.stands.parts.behind.memory) in
     let shows : RunsAs machine.hw No (reason_of machine.area) (flights_in machine.flights) frames' (with_held a nothing) =
     record { held = tt; unusable = back.unusable; flights = back.flights; same = back.same; fits = back.fits } in
     let names : NamesOnly machine.hw (shown_by (certain machine) frames' new) [] =
@@ -178,18 +178,18 @@ settled_row machine frames frames' runs hib c c' can pages at whole syncs given 
     ))
 
 pub settle_sync_failed_row : (machine : Machine) (frames : Memory) (hib : Hib) (c : disk.Content) → hib.stage ≡ stage.SettleSync →
-    IsRow machine frames hib (unsettled machine) frames (record hib { stage = stage.Idle }) (event.Step actor.Core) (reply.SyncFault Unsure) c c
+    Simulates machine frames hib (unsettled machine) frames (record hib { stage = stage.Idle }) (event.Step actor.Core) (reply.SyncFault Unsure) c c
 settle_sync_failed_row machine frames hib c at =
     let new = record hib { stage = stage.Idle } in
-    row_at_settling machine frames hib (unsettled machine) frames new (event.Step actor.Core) (reply.SyncFault Unsure) c c 2 (at_step hib stage.SettleSync at)
+    row_at_settling machine frames hib (unsettled machine) frames new (event.Step actor.Core) (reply.SyncFault Unsure) c c 2 (ap activity_at at)
     (λ a s. (
       on (with_held a (perhaps a.held)),
       record {
         step = settle_sync_may_fail machine.hw (disk.as_it_reads c) a;
         stands = record {
           stands = settle_sync_fails machine.hw (shown_by machine frames hib) (shown_by (unsettled machine) frames new) c a s.stands refl
-              (runs_unsettled machine.hw machine.held (reason_of machine.area) (flights_in machine.flights) frames a s.stands.parts.0.shows)
-              (names_same machine.hw (shown_by machine frames hib) (shown_by (unsettled machine) frames new) a.held refl s.stands.parts.1);
+              (runs_unsettled machine.hw machine.held (reason_of machine.area) (flights_in machine.flights) frames a s.stands.parts.behind.memory)
+              (names_same machine.hw (shown_by machine frames hib) (shown_by (unsettled machine) frames new) a.held refl s.stands.parts.names);
           image = tt;
         };
         area = same_area machine.hw (disk.as_it_reads c);

@@ -3,7 +3,7 @@ use Rattle.protocol_laws.proofs.Leaving.{leaves_undoing}
 use Rattle.protocol_laws.proofs.Unwritten.{block_same, block_synced, unwritten_header}
 use Rattle.protocol_laws.proofs.HeaderLeft.{marks_same, marks_synced}
 use Rattle.protocol_laws.proofs.Undone.{undo_adds_no_mark, takes_mark_back, undo_write_fails, undo_syncs, undo_sync_fails}
-use Rattle.std.proofs.Common.{◌≡◌, List, All, [], inl, inr, refl, sym, ap, ◌∙◌, subst}
+use Rattle.std.proofs.Common.{◌≡◌, List, All, [], inl, inr, refl, sym, ap, ◌∙◌, subst, ℕ}
 use Rattle.definitions.specs.Bytes.{IsPage}
 use Rattle.definitions.specs.Disk as disk
 use Rattle.definitions.specs.SwapHeader.{taken_back}
@@ -29,17 +29,17 @@ use Rattle.machine.specs.declared.machine.Machine.{Machine}
 use Rattle.machine.specs.Flights.{flights_in}
 use Rattle.machine.specs.Running.{reason_of}
 use Rattle.machine.specs.declared.flight.Flight.{Flight}
-use Rattle.hib_core.specs.Hibernation.{shown_by, activity_at}
+use Rattle.hib_core.specs.Hibernation.{shown_by, activity_at, header_at}
 use Rattle.hib_core.specs.Ready.{CanStep}
-use Rattle.hib_core.specs.Row.{StandsFor, IsRow}
+use Rattle.hib_core.specs.Row.{StandsFor, Simulates}
 use Rattle.hib_core.specs.declared.hib.Hib.{Hib}
-use Rattle.hib_core.specs.declared.hib.Stage.{Stage}
 use Rattle.hib_core.specs.declared.hib.Stage.TheVariants as stage
 use Rattle.hib_core.proofs.Facts.{is_over, row_at_undo, still_of}
 use Rattle.hib_core.proofs.Plain.{may_take_back, take_back_may_fail, may_end_undo, end_undo_may_fail}
 use Rattle.protocol_laws.proofs.AreaKept.{kept_by_sync, kept_by_header}
 use Rattle.protocol_laws.proofs.Taking.{none_left, runs_given_back}
-use Rattle.hib_core.proofs.Syncing.{same_area}
+use Rattle.hib_core.proofs.Syncing.{gone_on}
+use Rattle.protocol_laws.proofs.Same.{same_area}
 
 -- the machine where an image may be held, and where none is
 abbrev pub unsure : Machine → Machine
@@ -49,17 +49,21 @@ abbrev pub certain : Machine → Machine
 certain machine = record machine { held = No }
 
 -- the write of the header block taken back leaves the area, failed or not
-back_keeps : (machine : Machine) (frames : Memory) (runs : SlotRuns) (hib : Hib) (c c' : disk.Content) (i : Image) (call : UndoCall) (a : Running) → CanStep machine frames runs hib → disk.IsContent machine.blocks c → IsPage (taken_back hib.header) →
-    StandsFor machine frames hib c (undoing i call a 0) → Tries (block_of_slot machine.hw 0) (taken_back hib.header) c c' → IsSameArea machine.hw (disk.as_it_reads c) (disk.as_it_reads c')
+back_keeps : (machine : Machine) (frames : Memory) (runs : SlotRuns) (hib : Hib) (c c' : disk.Content) (i : Image) (call : UndoCall) (a : Running) → CanStep machine frames runs hib → disk.IsContent machine.blocks c → IsPage (taken_back (header_at hib.stage)) →
+    StandsFor machine frames hib c (undoing i call a 0) → Tries (block_of_slot machine.hw 0) (taken_back (header_at hib.stage)) c c' → IsSameArea machine.hw (disk.as_it_reads c) (disk.as_it_reads c')
 back_keeps machine frames runs hib c c' i call a can whole page s tries =
-    let mark = s.stands.parts.4 refl in
-    kept_by_header machine.hw machine.blocks (taken_back hib.header) c c' whole can.header page mark.unmarked mark.area tries
+    let mark = s.stands.parts.before in
+    kept_by_header machine.hw machine.blocks (taken_back (header_at hib.stage)) c c' whole can.header page mark.unmarked mark.area tries
 
-pub back_row : (machine : Machine) (frames : Memory) (runs : SlotRuns) (hib : Hib) (c c' : disk.Content) (call : UndoCall) → CanStep machine frames runs hib → IsPage hib.header → IsPage (taken_back hib.header) → hib.stage ≡ stage.TakeBack call → disk.IsContent machine.blocks c → disk.IsContent machine.blocks c' →
-    disk.Writes (block_of_slot machine.hw 0) (taken_back hib.header) c c' → IsRow machine frames hib machine frames (record hib { stage = stage.EndUndo call }) (event.Step actor.Core) (reply.Undo call 1) c c'
-back_row machine frames runs hib c c' call can page back at whole whole' writes =
-    let new = record hib { stage = stage.EndUndo call } in
-    row_at_undo machine frames hib machine frames new (event.Step actor.Core) (reply.Undo call 1) c c' call 0 (ap (λ (s : Stage). activity_at hib.ending s hib.made) at)
+pub back_row : (machine : Machine) (frames : Memory) (runs : SlotRuns) (hib : Hib) (c c' : disk.Content) (call : UndoCall) (header : List ℕ) → CanStep machine frames runs hib → IsPage header → IsPage (taken_back header) → hib.stage ≡ stage.TakeBack call header → disk.IsContent machine.blocks c → disk.IsContent machine.blocks c' →
+    disk.Writes (block_of_slot machine.hw 0) (taken_back header) c c' → Simulates machine frames hib machine frames (gone_on hib (stage.EndUndo call)) (event.Step actor.Core) (reply.Undo call 1) c c'
+back_row machine frames runs hib c c' call header can header_page back_page at whole whole' wrote =
+    let new = gone_on hib (stage.EndUndo call) in
+    let kept : header ≡ header_at hib.stage = sym (ap header_at at) in
+    let page : IsPage (header_at hib.stage) = subst IsPage kept header_page in
+    let back : IsPage (taken_back (header_at hib.stage)) = subst (λ (p : List ℕ). IsPage (taken_back p)) kept back_page in
+    let writes = subst (λ (p : List ℕ). disk.Writes (block_of_slot machine.hw 0) (taken_back p) c c') kept wrote in
+    row_at_undo machine frames hib machine frames new (event.Step actor.Core) (reply.Undo call 1) c c' call 0 (ap activity_at at)
     (λ i a s.
     let of = s.image in (
       undoing i call a 1,
@@ -67,8 +71,8 @@ back_row machine frames runs hib c c' call can page back at whole whole' writes 
         step = may_take_back machine.hw (disk.as_it_reads c) i call a;
         stands = record {
           stands = takes_mark_back machine.hw (shown_by machine frames hib) (shown_by machine frames new) c c' machine.blocks i call a (is_over machine frames runs hib c a i can whole of) page whole' s.stands writes refl
-              s.stands.parts.0.shows s.stands.parts.2;
-          image = still_of machine.hw frames frames hib a i hib.header (stage.EndUndo call) hib.made refl of;
+              s.stands.parts.behind.memory s.stands.parts.names;
+          image = still_of machine.hw frames frames hib a i (stage.EndUndo call) tt of;
         };
         area = back_keeps machine frames runs hib c c' i call a can whole back s (inl writes);
         unwritten = λ b not. unwritten_header machine.hw [] b c c' writes.others not;
@@ -87,18 +91,22 @@ with_flag h machine machine' frames a i area held flights runs = record {
   fits = runs.fits;
 }
 
-pub back_failed_row : (machine : Machine) (frames : Memory) (runs : SlotRuns) (hib : Hib) (c c' : disk.Content) (call : UndoCall) → CanStep machine frames runs hib → IsPage hib.header → IsPage (taken_back hib.header) → hib.stage ≡ stage.TakeBack call → disk.IsContent machine.blocks c → disk.IsContent machine.blocks c' →
-    disk.FailsToWrite (block_of_slot machine.hw 0) (taken_back hib.header) c c' → IsRow machine frames hib (unsure machine) frames (record hib { stage = stage.Idle }) (event.Step actor.Core) (undone_fault call Unsure) c c'
-back_failed_row machine frames runs hib c c' call can page back at whole whole' fails =
+pub back_failed_row : (machine : Machine) (frames : Memory) (runs : SlotRuns) (hib : Hib) (c c' : disk.Content) (call : UndoCall) (header : List ℕ) → CanStep machine frames runs hib → IsPage header → IsPage (taken_back header) → hib.stage ≡ stage.TakeBack call header → disk.IsContent machine.blocks c → disk.IsContent machine.blocks c' →
+    disk.FailsToWrite (block_of_slot machine.hw 0) (taken_back header) c c' → Simulates machine frames hib (unsure machine) frames (record hib { stage = stage.Idle }) (event.Step actor.Core) (undone_fault call Unsure) c c'
+back_failed_row machine frames runs hib c c' call header can header_page back_page at whole whole' failed =
     let new = record hib { stage = stage.Idle } in
-    row_at_undo machine frames hib (unsure machine) frames new (event.Step actor.Core) (undone_fault call Unsure) c c' call 0 (ap (λ (s : Stage). activity_at hib.ending s hib.made) at)
+    let kept : header ≡ header_at hib.stage = sym (ap header_at at) in
+    let page : IsPage (header_at hib.stage) = subst IsPage kept header_page in
+    let back : IsPage (taken_back (header_at hib.stage)) = subst (λ (p : List ℕ). IsPage (taken_back p)) kept back_page in
+    let fails = subst (λ (p : List ℕ). disk.FailsToWrite (block_of_slot machine.hw 0) (taken_back p) c c') kept failed in
+    row_at_undo machine frames hib (unsure machine) frames new (event.Step actor.Core) (undone_fault call Unsure) c c' call 0 (ap activity_at at)
     (λ i a s. (
       on (with_held a (maybe (own i))),
       record {
         step = take_back_may_fail machine.hw (disk.as_it_reads c) i call a;
         stands = record {
           stands = undo_write_fails machine.hw (shown_by machine frames hib) (shown_by (unsure machine) frames new) c c' machine.blocks i call a (is_over machine frames runs hib c a i can whole s.image) page whole' s.stands fails refl
-              (with_flag machine.hw machine (unsure machine) frames a i refl refl refl s.stands.parts.0.shows) s.stands.parts.2;
+              (with_flag machine.hw machine (unsure machine) frames a i refl refl refl s.stands.parts.behind.memory) s.stands.parts.names;
           image = tt;
         };
         area = back_keeps machine frames runs hib c c' i call a can whole back s (inr fails);
@@ -109,15 +117,15 @@ back_failed_row machine frames runs hib c c' call can page back at whole whole' 
     ))
 
 pub undone_row : (machine : Machine) (frames frames' : Memory) (runs : SlotRuns) (hib : Hib) (c c' : disk.Content) (call : UndoCall) → CanStep machine frames runs hib → All IsPage frames → hib.stage ≡ stage.EndUndo call → disk.IsContent machine.blocks c →
-    disk.Syncs c c' → frames' ≡ seen_frames machine.hw frames → IsRow machine frames hib (certain machine) frames' (record hib { stage = stage.Idle }) (event.Step actor.Core) (undone_fault call Gone) c c'
+    disk.Syncs c c' → frames' ≡ seen_frames machine.hw frames → Simulates machine frames hib (certain machine) frames' (record hib { stage = stage.Idle }) (event.Step actor.Core) (undone_fault call Gone) c c'
 undone_row machine frames frames' runs hib c c' call can pages at whole syncs given =
     let new = record hib { stage = stage.Idle } in
-    row_at_undo machine frames hib (certain machine) frames' new (event.Step actor.Core) (undone_fault call Gone) c c' call 1 (ap (λ (s : Stage). activity_at hib.ending s hib.made) at)
+    row_at_undo machine frames hib (certain machine) frames' new (event.Step actor.Core) (undone_fault call Gone) c c' call 1 (ap activity_at at)
     (λ i a s.
     let memory : IsMemoryOf machine.hw frames = record { pages = pages; table = can.table } in
     let back : RunsAs machine.hw machine.held (reason_of machine.area) (flights_in machine.flights) frames' a =
     subst (λ (m : Memory). RunsAs machine.hw machine.held (reason_of machine.area) (flights_in machine.flights) m a) (sym given)
-    (runs_given_back machine.hw machine.held (reason_of machine.area) (flights_in machine.flights) frames a memory s.stands.parts.0.shows) in
+    (runs_given_back machine.hw machine.held (reason_of machine.area) (flights_in machine.flights) frames a memory s.stands.parts.behind.memory) in
     let shows : RunsAs machine.hw No (reason_of machine.area) (flights_in machine.flights) frames' (with_held a nothing) =
     record { held = tt; unusable = back.unusable; flights = back.flights; same = back.same; fits = back.fits } in
     let names : NamesOnly machine.hw (shown_by (certain machine) frames' new) [] =
@@ -137,17 +145,17 @@ undone_row machine frames frames' runs hib c c' call can pages at whole syncs gi
     ))
 
 pub end_failed_row : (machine : Machine) (frames : Memory) (runs : SlotRuns) (hib : Hib) (c : disk.Content) (call : UndoCall) → CanStep machine frames runs hib → hib.stage ≡ stage.EndUndo call → disk.IsContent machine.blocks c →
-    IsRow machine frames hib (unsure machine) frames (record hib { stage = stage.Idle }) (event.Step actor.Core) (undone_fault call Unsure) c c
+    Simulates machine frames hib (unsure machine) frames (record hib { stage = stage.Idle }) (event.Step actor.Core) (undone_fault call Unsure) c c
 end_failed_row machine frames runs hib c call can at whole =
     let new = record hib { stage = stage.Idle } in
-    row_at_undo machine frames hib (unsure machine) frames new (event.Step actor.Core) (undone_fault call Unsure) c c call 1 (ap (λ (s : Stage). activity_at hib.ending s hib.made) at)
+    row_at_undo machine frames hib (unsure machine) frames new (event.Step actor.Core) (undone_fault call Unsure) c c call 1 (ap activity_at at)
     (λ i a s. (
       on (with_held a (maybe (own i))),
       record {
         step = end_undo_may_fail machine.hw (disk.as_it_reads c) i call a;
         stands = record {
           stands = undo_sync_fails machine.hw (shown_by machine frames hib) (shown_by (unsure machine) frames new) c machine.blocks i call a (is_over machine frames runs hib c a i can whole s.image) s.stands refl
-              (with_flag machine.hw machine (unsure machine) frames a i refl refl refl s.stands.parts.0.shows) s.stands.parts.2;
+              (with_flag machine.hw machine (unsure machine) frames a i refl refl refl s.stands.parts.behind.memory) s.stands.parts.names;
           image = tt;
         };
         area = same_area machine.hw (disk.as_it_reads c);

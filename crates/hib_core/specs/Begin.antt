@@ -20,12 +20,12 @@ use Rattle.plain_machine.specs.declared.event.Event.TheVariants as event
 use Rattle.plain_machine.specs.declared.held.Held.TheVariants.{No}
 use Rattle.plain_machine.specs.declared.reply.Reply.{Reply}
 use Rattle.plain_machine.specs.declared.reply.Reply.TheVariants as reply
-use Rattle.protocol_laws.specs.Writers.{slot_table_of}
 use Rattle.machine.specs.Flights.{flights_in}
-use Rattle.machine.specs.Running.{AreReserved}
+use Rattle.machine.specs.Running.{AreReserved, slot_table_of}
 use Rattle.machine.specs.declared.machine.Machine.{Machine}
 use Rattle.hib_core.specs.Hibernation.{running_by, phase_told, runs_on}
 use Rattle.hib_core.specs.declared.hib.Hib.{Hib}
+use Rattle.hib_core.specs.declared.hib.Ending.{Ending}
 use Rattle.hib_core.specs.declared.hib.Stage.TheVariants as stage
 
 -- The hibernation is refused with this reply in every running state that a machine stands for; a suspend would be with the same one.
@@ -62,12 +62,16 @@ pub record IsCounted (machine : Machine) (frames : Memory) (hib : Hib) (counts :
   pub slots : pages_of counts + 1026 ≤ length (free_in frames (slot_table_of machine.hw))
   pub reserved : AreReserved machine.hw frames
 
+-- how many steps a hibernation has: the writes of the pages and of the maps, and four at the header block
+abbrev pub steps_of : Counts → ℕ
+steps_of counts = pages_of counts + maps_of (pages_of counts) + 4
+
 -- what an image's first page says of it
 abbrev pub info_of : Hardware → Counts → Info
 info_of h counts = record { ident = h.ident; physpages = valid_count h; image_pages = counts.n; pages = pages_of counts }
 
 -- The counted page frames are copied, which leaves all but the copies, and the image's writer has taken the slot of its first map.
-pub record IsTaken (machine : Machine) (frames frames' : Memory) (hib hib' : Hib) (counts : Counts) : Type 0 where
+pub record IsTaken (machine : Machine) (frames frames' : Memory) (hib hib' : Hib) (counts : Counts) (last : Ending) : Type 0 where
   pub copied : Memory
   pub writer : Writing
   pub pages : All IsPage copied
@@ -83,10 +87,4 @@ pub record IsTaken (machine : Machine) (frames frames' : Memory) (hib hib' : Hib
   pub writing : IsWriting (free_in copied (slot_table_of machine.hw)) frames' writer
   pub reading : (origs copies zeros : List ℕ) → HasReadCopies origs copies zeros writer
   pub slots : frames' ≡ with_entries copied machine.hw.slot_table (take 1 (free_in copied (slot_table_of machine.hw))) image_slot
-  pub n : hib'.n ≡ counts.n
-  pub made : hib'.made ≡ 0
-  pub of : hib'.of ≡ pages_of counts + maps_of (pages_of counts) + 4
-  pub first : hib'.first ≡ writer.first
-  pub next : hib'.stage ≡ stage.Write
-  pub ending : hib'.ending ≡ hib.ending
-  pub has : hib'.writer ≡ Some writer
+  pub next : hib'.stage ≡ stage.Write (record { ending = last; saved = counts.n; first = writer.first; done = 0; steps = steps_of counts }) writer

@@ -1,7 +1,7 @@
 -- A hibernation or a settling, and what a machine shows while it is at it.
 use Rattle.std.specs.Prelude.{◌≡◌, ℕ, List, [], Bool, true, false, None}
 use Rattle.plain_machine.specs.Machine.{Memory}
-use Rattle.plain_machine.specs.Shows.{Shown, Activity, rests, runs, hibernates, undoes, settles, sleeps}
+use Rattle.plain_machine.specs.Shows.{WorldView, Activity, rests, runs, hibernates, undoes, settles, sleeps}
 use Rattle.plain_machine.specs.declared.held.Held.{Held}
 use Rattle.plain_machine.specs.declared.held.Held.TheVariants.{No, Yes, Perhaps}
 use Rattle.plain_machine.specs.declared.reply.Reply.{Reply}
@@ -12,6 +12,7 @@ use Rattle.machine.specs.declared.machine.Machine.{Machine}
 use Rattle.hib_core.specs.declared.hib.Ending.{Ending}
 use Rattle.hib_core.specs.declared.hib.Ending.TheVariants as ending
 use Rattle.hib_core.specs.declared.hib.Hib.{Hib}
+use Rattle.hib_core.specs.declared.hib.Saving.{Saving}
 use Rattle.hib_core.specs.declared.hib.Stage.{Stage}
 use Rattle.hib_core.specs.declared.hib.Stage.TheVariants as stage
 
@@ -20,24 +21,35 @@ abbrev pub suspends_at : Ending → Bool
 suspends_at ending.SwitchesOff = false
 suspends_at ending.Sleeps = true
 
--- what a machine is at, by how a hibernation ends, the step that is next and how many are made
-abbrev pub activity_at : Ending → Stage → ℕ → Activity
-activity_at last stage.Idle made = runs
-activity_at last stage.Over made = rests
-activity_at last stage.Asleep made = sleeps
-activity_at last stage.Write made = hibernates (suspends_at last) made
-activity_at last stage.Sync made = hibernates (suspends_at last) made
-activity_at last stage.Read made = hibernates (suspends_at last) made
-activity_at last stage.Mark made = hibernates (suspends_at last) made
-activity_at last stage.End made = hibernates (suspends_at last) made
-activity_at last (stage.TakeBack call) made = undoes call 0
-activity_at last (stage.EndUndo call) made = undoes call 1
-activity_at last stage.SettleRead made = settles 0
-activity_at last stage.SettleWrite made = settles 1
-activity_at last stage.SettleSync made = settles 2
+-- what a machine is at while it saves an image, and by the step that is next
+abbrev pub activity_saving : Saving → Activity
+activity_saving saving = hibernates (suspends_at saving.ending) saving.done
+
+abbrev pub activity_at : Stage → Activity
+activity_at stage.Idle = runs
+activity_at stage.Over = rests
+activity_at stage.Asleep = sleeps
+activity_at (stage.Write saving writer) = activity_saving saving
+activity_at (stage.Sync saving) = activity_saving saving
+activity_at (stage.Read saving) = activity_saving saving
+activity_at (stage.Mark saving header) = activity_saving saving
+activity_at (stage.End saving header) = activity_saving saving
+activity_at (stage.TakeBack call header) = undoes call 0
+activity_at (stage.EndUndo call) = undoes call 1
+activity_at stage.SettleRead = settles 0
+activity_at (stage.SettleWrite header) = settles 1
+activity_at stage.SettleSync = settles 2
 
 abbrev pub activity_of : Hib → Activity
-activity_of hib = activity_at hib.ending hib.stage hib.made
+activity_of hib = activity_at hib.stage
+
+-- the header block that is kept between two calls of the disk, where one is
+abbrev pub header_at : Stage → List ℕ
+header_at (stage.Mark saving header) = header
+header_at (stage.End saving header) = header
+header_at (stage.TakeBack call header) = header
+header_at (stage.SettleWrite header) = header
+header_at _ = []
 
 -- Whether it has a step to make, or has none: then the machine runs, is off, or sleeps.
 pub data Phase : Type 0 where
@@ -69,13 +81,8 @@ perhaps_held No = No
 perhaps_held Yes = Perhaps
 perhaps_held Perhaps = Perhaps
 
--- whether a reply says that there was nothing to do
-abbrev pub is_idle : Reply → Bool
-is_idle reply.Idle = true
-is_idle _ = false
-
 -- what is shown: the block that is kept, and the page frames of the copies
-abbrev pub shown_by : Machine → Memory → Hib → Shown
+abbrev pub shown_by : Machine → Memory → Hib → WorldView
 shown_by machine frames hib = record {
   activity = activity_of hib;
   keeps_dump = false;
@@ -83,14 +90,14 @@ shown_by machine frames hib = record {
   unusable = reason_of machine.area;
   flights = flights_in machine.flights;
   frames = frames;
-  header = hib.header;
+  header = header_at hib.stage;
   copies = hib.snapshot.copies;
   resume = None;
   loaded = [];
 }
 
 -- what a machine that runs shows
-abbrev pub running_by : Machine → Memory → Shown
+abbrev pub running_by : Machine → Memory → WorldView
 running_by machine frames = record {
   activity = runs;
   keeps_dump = false;

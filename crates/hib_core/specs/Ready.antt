@@ -1,15 +1,16 @@
 -- What a step of a hibernation or a settling needs of the machine, whatever its disk tells.
-use Rattle.std.specs.Prelude.{◌≡◌, ◌≢◌, ◌<◌, ◌^◌, ℕ, ◌+◌, length, All, Some, ⊤}
+use Rattle.std.specs.Prelude.{◌≡◌, ◌≢◌, ◌<◌, ◌^◌, ℕ, ◌+◌, length, All, ⊤}
 use Rattle.definitions.specs.Zones.{top}
 use Rattle.swap_slots.specs.Runs.{SlotRuns}
 use Rattle.swap_slots.specs.Table.{LiesIn, Matches}
 use Rattle.plain_machine.specs.Machine.{Hardware, Memory, IsHardware, block_of_slot}
 use Rattle.plain_machine.specs.declared.held.Held.TheVariants.{No}
 use Rattle.image_write.specs.Writing.{Writing, IsReady, AreOfImage, HasReadCopies, writes_of}
-use Rattle.protocol_laws.specs.Writers.{slot_table_of}
-use Rattle.machine.specs.Running.{CanRun}
+use Rattle.machine.specs.Running.{CanRun, slot_table_of}
 use Rattle.machine.specs.declared.machine.Machine.{Machine}
 use Rattle.hib_core.specs.declared.hib.Hib.{Hib}
+use Rattle.hib_core.specs.declared.hib.Saving.{Saving}
+use Rattle.snapshot.specs.Taken.{Taken}
 use Rattle.hib_core.specs.declared.hib.Stage.{Stage}
 use Rattle.hib_core.specs.declared.hib.Stage.TheVariants as stage
 
@@ -23,26 +24,24 @@ is_busy_at _ = ⊤
 abbrev pub IsBusy : Hib → Type 0
 IsBusy hib = is_busy_at hib.stage
 
--- the step that is next after so many of all
-abbrev pub IsPlace : Stage → ℕ → ℕ → Type 0
-IsPlace stage.Write made of = made + 4 < of
-IsPlace stage.Sync made of = made + 4 ≡ of
-IsPlace stage.Read made of = made + 3 ≡ of
-IsPlace stage.Mark made of = made + 2 ≡ of
-IsPlace stage.End made of = made + 1 ≡ of
-IsPlace _ made of = ⊤
-
--- a writer that makes its write number `made`, from 0, of the image of these sets, on a disk of so many blocks
-pub record CanWrite (h : Hardware) (blocks : ℕ) (frames : Memory) (hib : Hib) : Type 0 where
-  pub writer : Writing
-  pub has : hib.writer ≡ Some writer
+-- a writer that makes the write behind the steps that are done, of the image of these sets, on a disk of so many blocks
+pub record CanWrite (h : Hardware) (blocks : ℕ) (frames : Memory) (sets : Taken) (saving : Saving) (writer : Writing) : Type 0 where
   pub table : writer.table ≡ slot_table_of h
-  pub made : writer.written ≡ hib.made
-  pub of : writes_of writer.info + 4 ≡ hib.of
+  pub done : writer.written ≡ saving.done
+  pub steps : writes_of writer.info + 4 ≡ saving.steps
   pub ready : IsReady blocks frames writer
-  pub sets : AreOfImage writer.info hib.snapshot.origs hib.snapshot.copies hib.snapshot.zeros
-  pub copies : All (λ p. p < length frames) hib.snapshot.copies
-  pub reading : HasReadCopies hib.snapshot.origs hib.snapshot.copies hib.snapshot.zeros writer
+  pub image : AreOfImage writer.info sets.origs sets.copies sets.zeros
+  pub copies : All (λ p. p < length frames) sets.copies
+  pub reading : HasReadCopies sets.origs sets.copies sets.zeros writer
+
+-- what the step that is next needs: the last four come behind all writes
+abbrev pub CanMake : Stage → Hardware → ℕ → Memory → Taken → Type 0
+CanMake (stage.Write saving writer) h blocks frames sets = (saving.done + 4 < saving.steps) × CanWrite h blocks frames sets saving writer
+CanMake (stage.Sync saving) h blocks frames sets = saving.done + 4 ≡ saving.steps
+CanMake (stage.Read saving) h blocks frames sets = saving.done + 3 ≡ saving.steps
+CanMake (stage.Mark saving header) h blocks frames sets = saving.done + 2 ≡ saving.steps
+CanMake (stage.End saving header) h blocks frames sets = saving.done + 1 ≡ saving.steps
+CanMake _ h blocks frames sets = ⊤
 
 -- The machine is one, with a disk of so many blocks. Memory has its page frames, the runs are those of its slot table, and the header block is one of the disk's.
 pub record CanStep (machine : Machine) (frames : Memory) (runs : SlotRuns) (hib : Hib) : Type 0 where
@@ -52,8 +51,7 @@ pub record CanStep (machine : Machine) (frames : Memory) (runs : SlotRuns) (hib 
   pub table : LiesIn frames (slot_table_of machine.hw)
   pub matches : Matches frames (slot_table_of machine.hw) runs
   pub header : block_of_slot machine.hw 0 < machine.blocks
-  pub place : IsPlace hib.stage hib.made hib.of
-  pub write : hib.stage ≡ stage.Write → CanWrite machine.hw machine.blocks frames hib
+  pub next : CanMake hib.stage machine.hw machine.blocks frames hib.snapshot
 
 -- all but what is held stays
 pub record IsSameMachine (old new : Machine) : Type 0 where

@@ -1,5 +1,5 @@
 -- The rows of the plain machine that a hibernation or a settling makes.
-use Rattle.std.specs.Prelude.{◌≡◌, ℕ, Contains, Option, Some, ⊤}
+use Rattle.std.specs.Prelude.{◌≡◌, ℕ, Contains, Option, ⊤}
 use Rattle.page_core.specs.declared.format.Format.{Format}
 use Rattle.definitions.specs.Disk as disk
 use Rattle.plain_machine.specs.Machine.{Hardware, Memory, IsOfTable, unused_slots}
@@ -11,7 +11,6 @@ use Rattle.plain_machine.specs.declared.event.Event.{Event}
 use Rattle.plain_machine.specs.declared.event.Event.TheVariants as event
 use Rattle.plain_machine.specs.declared.reply.Reply.{Reply}
 use Rattle.image_laws.specs.Decoding.{IsSayable}
-use Rattle.image_write.specs.Writing.{Writing}
 use Rattle.protocol_laws.specs.Rows as rows
 use Rattle.protocol_laws.specs.Writers.{IsWriterOf}
 use Rattle.machine.specs.declared.machine.Machine.{Machine}
@@ -19,21 +18,35 @@ use Rattle.hib_core.specs.Hibernation.{shown_by, running_by}
 use Rattle.hib_core.specs.declared.hib.Ending.{Ending}
 use Rattle.hib_core.specs.declared.hib.Ending.TheVariants as ending
 use Rattle.hib_core.specs.declared.hib.Hib.{Hib}
+use Rattle.hib_core.specs.declared.hib.Saving.{Saving}
+use Rattle.hib_core.specs.declared.hib.Stage.{Stage}
 use Rattle.hib_core.specs.declared.hib.Job.{Job}
 use Rattle.hib_core.specs.declared.hib.Job.TheVariants as job
 use Rattle.hib_core.specs.declared.hib.Stage.TheVariants as stage
 
--- The numbers and sets of a hibernation are those of the image that a machine is saving.
+-- The numbers of a hibernation are those of the image that a machine is saving.
+pub record IsSavingOf (h : Hardware) (a : Running) (i : Image) (saving : Saving) : Type 0 where
+  pub saved : saving.saved ≡ n_of i
+  pub steps : saving.steps ≡ hibernate_steps i
+  pub first : saving.first ≡ laid_block h.extents (unused_slots h a.memory) 0
+
+-- so they are at each step of it, and its writer is the image's
+abbrev pub IsStageOf : Stage → Hardware → Memory → Running → Image → Type 0
+IsStageOf (stage.Write saving writer) h frames a i = IsSavingOf h a i saving × IsWriterOf h a i saving.done frames writer
+IsStageOf (stage.Sync saving) h frames a i = IsSavingOf h a i saving
+IsStageOf (stage.Read saving) h frames a i = IsSavingOf h a i saving
+IsStageOf (stage.Mark saving header) h frames a i = IsSavingOf h a i saving
+IsStageOf (stage.End saving header) h frames a i = IsSavingOf h a i saving
+IsStageOf _ h frames a i = ⊤
+
+-- The sets of a hibernation are those of the image.
 pub record IsOf (h : Hardware) (frames : Memory) (hib : Hib) (a : Running) (i : Image) : Type 0 where
   pub sayable : IsSayable i
-  pub saved : hib.n ≡ n_of i
-  pub steps : hib.of ≡ hibernate_steps i
   pub format : hib.snapshot.format ≡ i.format
   pub origs : hib.snapshot.origs ≡ numbers_of i
   pub zeros : hib.snapshot.zeros ≡ without_data i
-  pub first : hib.first ≡ laid_block h.extents (unused_slots h a.memory) 0
   pub apart : (p : ℕ) → Contains hib.snapshot.copies p → IsOfTable h.slot_table h.slots p → ⊥
-  pub writing : hib.stage ≡ stage.Write → (w : Writing) → hib.writer ≡ Some w → IsWriterOf h a i hib.made frames w
+  pub numbers : IsStageOf hib.stage h frames a i
 
 abbrev pub IsOfState : Hardware → Memory → Hib → State → Type 0
 IsOfState h frames hib (hibernating suspends i a k) = IsOf h frames hib a i
@@ -52,13 +65,13 @@ pub record StandsFor (machine : Machine) (frames : Memory) (hib : Hib) (c : disk
   pub image : IsOfState machine.hw frames hib a
 
 -- the row of an event over these contents of the disk, and over a disk that tells its content
-abbrev pub IsRow : Machine → Memory → Hib → Machine → Memory → Hib → Event → Reply → disk.Content → disk.Content → Type 0
-IsRow machine frames hib machine' frames' hib' e r c c' =
-    rows.IsRow machine.hw (StandsFor machine frames hib) (StandsFor machine' frames' hib') e r c c'
+abbrev pub Simulates : Machine → Memory → Hib → Machine → Memory → Hib → Event → Reply → disk.Content → disk.Content → Type 0
+Simulates machine frames hib machine' frames' hib' e r c c' =
+    rows.Simulates machine.hw (StandsFor machine frames hib) (StandsFor machine' frames' hib') e r c c'
 
-abbrev pub HasRow : Machine → Memory → Hib → Machine → Memory → Hib → Event → Reply → Option disk.Content → Option disk.Content → Type 0
-HasRow machine frames hib machine' frames' hib' e r before now =
-    rows.HasRow machine.hw (StandsFor machine frames hib) (StandsFor machine' frames' hib') e r before now
+abbrev pub SimulatesWhereTold : Machine → Memory → Hib → Machine → Memory → Hib → Event → Reply → Option disk.Content → Option disk.Content → Type 0
+SimulatesWhereTold machine frames hib machine' frames' hib' e r before now =
+    rows.SimulatesWhereTold machine.hw (StandsFor machine frames hib) (StandsFor machine' frames' hib') e r before now
 
 -- the job that saves memory and ends so
 abbrev pub saving : Ending → Format → Job
@@ -74,4 +87,4 @@ event_of job.Settle = event.Settle
 -- The row of the begin of a job, by a machine that runs.
 abbrev pub IsBegun : Machine → Memory → Memory → Hib → Job → Reply → disk.Content → Type 0
 IsBegun machine frames frames' hib' asked r c =
-    rows.IsRow machine.hw (λ held s. Stands machine.hw (running_by machine frames) held s) (StandsFor machine frames' hib') (event_of asked) r c c
+    rows.Simulates machine.hw (λ held s. Stands machine.hw (running_by machine frames) held s) (StandsFor machine frames' hib') (event_of asked) r c c

@@ -4,16 +4,15 @@ ghost use Rattle.definitions.specs.Lists.{saveable_frames};
 ghost use Rattle.definitions.specs.Tables.{HasTable};
 ghost use Rattle.definitions.specs.Zones.{top};
 ghost use Rattle.definitions.specs.NumberPages.{meta_of};
-ghost use Rattle.hib_core.specs.Begin.{pages_of, info_of};
-ghost use Rattle.plain_machine.specs.Image.{maps_of};
+ghost use Rattle.hib_core.specs.Begin.{pages_of, steps_of, info_of};
 ghost use Rattle.plain_machine.specs.Machine.{IsOfTable};
 ghost use Rattle.hib_core.specs.Hibernation.{under_way, runs_on};
 ghost use Rattle.plain_machine.specs.declared.reply.Reply.TheVariants as reply;
 ghost use Rattle.protocol_laws.specs.Rows.{IsNewFault};
-ghost use Rattle.protocol_laws.specs.Writers.{slot_table_of};
+ghost use Rattle.machine.specs.Running.{slot_table_of};
 ghost use Rattle.swap_slots.specs.Table.{LiesIn, Matches};
 
-use crate::hib::{Ending, Stage};
+use crate::hib::{Ending, Saving, Stage};
 use crate::write::slot_table;
 use crate::{Hib, Job};
 use frame_arena::Frames;
@@ -95,9 +94,8 @@ impl Hib {
         let _blocks = machine.blocks;
         let _zones = machine.hw.zones();
         self.stage = Stage::Idle;
-        self.ending = ending;
         match self.accept(machine, frames, runs, format) {
-            Ok(counts) => self.take(machine, frames, runs, counts),
+            Ok(counts) => self.take(machine, frames, runs, counts, ending),
             Err(reply) => reply,
         }
     }
@@ -161,11 +159,12 @@ impl Hib {
         frames: &mut Frames,
         runs: &mut FreeRuns,
         counts: Counts,
+        ending: Ending,
     ) -> Reply
         requires ready { CanBegin machine.now frames.old runs.old self.old }
         requires counted { IsCounted machine.now frames.old self.old counts }
-        ensures taken { IsTaken machine.now frames.old frames.new self.old self.new counts }
-        ensures reply { result ≡ reply.More 0 self.new.of }
+        ensures taken { IsTaken machine.now frames.old frames.new self.old self.new counts ending }
+        ensures reply { result ≡ reply.More 0 (steps_of counts) }
         ensures matches { Matches frames.new (slot_table_of machine.now.hw) runs.new }
         ensures size { length frames.new ≡ length frames.old }
     {
@@ -177,13 +176,15 @@ impl Hib {
         let info = info_of(&machine.hw, counts);
         let (slots, map) = (slot_table(&machine.hw), machine.hw.extents());
         let writer = Writer::begin(frames, runs, &slots, map, &info);
-        self.first = writer.first();
-        self.n = counts.n;
-        self.made = 0;
-        self.of = steps_of(counts);
-        self.stage = Stage::Write;
-        self.writer = Some(writer);
-        Reply::More { k: 0, of: self.of }
+        let saving = Saving {
+            ending,
+            saved: counts.n,
+            first: writer.first(),
+            done: 0,
+            steps: steps_of(counts),
+        };
+        self.stage = Stage::Write(saving, writer);
+        saving.more()
     }
 }
 
@@ -200,7 +201,7 @@ fn pages_of(counts: Counts) -> u32
 fn steps_of(counts: Counts) -> u32
     requires saved { counts.n ≤ 65536 }
     requires some { counts.d ≤ counts.n }
-    ensures { result ≡ pages_of counts + maps_of (pages_of counts) + 4 }
+    ensures { result ≡ steps_of counts }
 {
     let pages = pages_of(counts);
     pages + pages / 511 + 1 + 4

@@ -1,4 +1,5 @@
-ghost use Rattle.std.specs.Prelude.{◌≡◌, false, ◌<◌, IfOk};
+ghost use Rattle.std.specs.Prelude.{◌≡◌, false, ◌<◌, ◌+◌, IfOk};
+ghost use Rattle.plain_machine.specs.declared.reply.Reply.TheVariants as reply;
 ghost use Rattle.hib_core.specs.Hibernation.{IsIdle};
 ghost use Rattle.sector_disk.specs.Called.{Called, OneCall};
 
@@ -30,8 +31,21 @@ pub(crate) enum Ending {
     Sleeps,
 }
 
-/// What is done next.
+/// An image that is being saved.
 #[derive(Clone, Copy, Debug, PartialEq, Eq)]
+pub(crate) struct Saving {
+    pub(crate) ending: Ending,
+    /// How many page frames are saved.
+    pub(crate) saved: u32,
+    /// The block of the first map.
+    pub(crate) first: u32,
+    /// Steps made, and steps in all.
+    pub(crate) done: u32,
+    pub(crate) steps: u32,
+}
+
+/// What is done next, with what it is done with.
+#[derive(Drop)]
 pub(crate) enum Stage {
     /// Nothing: the machine runs.
     Idle,
@@ -40,23 +54,23 @@ pub(crate) enum Stage {
     /// Nothing: the image is on the disk, and the machine sleeps.
     Asleep,
     /// A page or a map is written.
-    Write,
+    Write(Saving, Writer),
     /// What was written is synced.
-    Sync,
+    Sync(Saving),
     /// The header block is read.
-    Read,
+    Read(Saving),
     /// The header block is written with the mark.
-    Mark,
+    Mark(Saving, Page),
     /// The mark is synced.
-    End,
-    /// After a call that failed, the header block is written taken back.
-    TakeBack(UndoCall),
+    End(Saving, Page),
+    /// After a call that failed, the marked header block is written taken back.
+    TakeBack(UndoCall, Page),
     /// That is synced.
     EndUndo(UndoCall),
     /// Of a settling: the header block is read.
     SettleRead,
     /// It is written taken back.
-    SettleWrite,
+    SettleWrite(Page),
     /// That is synced.
     SettleSync,
 }
@@ -65,28 +79,40 @@ pub(crate) enum Stage {
 #[derive(Drop)]
 pub struct Hib {
     pub(crate) snapshot: Snapshot,
-    /// The header block, from its read on; then the marked one, or that taken back.
-    pub(crate) header: Page,
     pub(crate) stage: Stage,
-    pub(crate) ending: Ending,
-    /// Steps made, and steps in all.
-    pub(crate) made: u32,
-    pub(crate) of: u32,
-    /// How many page frames are saved.
-    pub(crate) n: u32,
-    /// The block of the first map.
-    pub(crate) first: u32,
-    pub(crate) writer: Option<Writer>,
+}
+
+impl Saving {
+    /// A step is made.
+    pub(crate) fn after_step(self) -> Saving
+        requires { self.done < self.steps }
+        ensures { result ≡ record self { done = self.done + 1 } }
+    {
+        Saving {
+            done: self.done + 1,
+            ..self
+        }
+    }
+
+    /// What is told of it.
+    pub(crate) fn more(self) -> Reply
+        ensures { result ≡ reply.More self.done self.steps }
+    {
+        Reply::More {
+            k: self.done,
+            of: self.steps,
+        }
+    }
 }
 
 impl Hib {
     ghost use Rattle.plain_machine.specs.declared.event.Event.TheVariants as event;
     ghost use Rattle.plain_machine.specs.declared.event.Actor.TheVariants as actor;
-    ghost use Rattle.protocol_laws.specs.Rows.{IsNewFault};
-    ghost use Rattle.hib_core.specs.Hibernation.{phase_of, phase_told, is_idle};
+    ghost use Rattle.protocol_laws.specs.Rows.{IsNewFault, is_idle};
+    ghost use Rattle.hib_core.specs.Hibernation.{phase_of, phase_told};
     ghost use Rattle.hib_core.specs.Ready.{CanStep, IsBusy, IsSameMachine};
     ghost use Rattle.hib_core.specs.Leaving.{Leaves, change_of};
-    ghost use Rattle.hib_core.specs.Row.{HasRow};
+    ghost use Rattle.hib_core.specs.Row.{SimulatesWhereTold};
 
     /// No hibernation, with the memory for every one of this machine.
     pub fn create(alloc: Global, hw: &Hardware) -> Result<Hib, NoMemory>
@@ -95,14 +121,7 @@ impl Hib {
         let snapshot = Snapshot::create(alloc, hw.zones())?;
         Ok(Hib {
             snapshot,
-            header: Page::zero(),
             stage: Stage::Idle,
-            ending: Ending::SwitchesOff,
-            made: 0,
-            of: 0,
-            n: 0,
-            first: 0,
-            writer: None,
         })
     }
 
@@ -117,7 +136,7 @@ impl Hib {
         requires ready { CanStep machine.old frames.old runs.old self.old }
         requires blocks { D.block_count disk.old ≡ machine.old.blocks }
         requires busy { IsBusy self.old }
-        ensures row { HasRow machine.old frames.old self.old machine.new frames.new self.new (event.Step actor.Core) result (D.content disk.old) (D.content disk.new) }
+        ensures row { SimulatesWhereTold machine.old frames.old self.old machine.new frames.new self.new (event.Step actor.Core) result (D.content disk.old) (D.content disk.new) }
         ensures phase { phase_of self.new ≡ phase_told result }
         ensures zones { self.new.snapshot.zones ≡ self.old.snapshot.zones }
         ensures works { is_idle result ≡ false }
@@ -127,15 +146,15 @@ impl Hib {
         ensures called { Called D.Disk OneCall (IsNewFault result) disk.old disk.new }
     {
         match self.stage {
-            Stage::Write => self.write_next(machine, frames, runs, disk),
-            Stage::Sync => self.sync_pages(machine, frames, runs, disk),
-            Stage::Read => self.read_header(machine, frames, runs, disk),
-            Stage::Mark => self.write_mark(machine, frames, runs, disk),
-            Stage::End => self.sync_mark(machine, frames, runs, disk),
-            Stage::TakeBack(call) => self.take_back(machine, frames, runs, disk, call),
-            Stage::EndUndo(call) => self.end_undo(machine, frames, runs, disk, call),
+            Stage::Write(..) => self.write_next(machine, frames, runs, disk),
+            Stage::Sync(saving) => self.sync_pages(saving, machine, frames, runs, disk),
+            Stage::Read(saving) => self.read_header(saving, machine, frames, runs, disk),
+            Stage::Mark(..) => self.write_mark(machine, frames, runs, disk),
+            Stage::End(..) => self.sync_mark(machine, frames, runs, disk),
+            Stage::TakeBack(..) => self.take_back(machine, frames, runs, disk),
+            Stage::EndUndo(call) => self.end_undo(call, machine, frames, runs, disk),
             Stage::SettleRead => self.settle_read(machine, frames, runs, disk),
-            Stage::SettleWrite => self.settle_write(machine, frames, runs, disk),
+            Stage::SettleWrite(_) => self.settle_write(machine, frames, runs, disk),
             Stage::SettleSync => self.settle_sync(machine, frames, runs, disk),
             Stage::Idle | Stage::Over | Stage::Asleep => unreachable!(),
         }

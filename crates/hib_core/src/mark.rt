@@ -1,5 +1,5 @@
-ghost use Rattle.std.specs.Prelude.{◌≡◌, false, ◌+◌, ◌<◌};
-ghost use Rattle.protocol_laws.specs.Rows.{IsNewFault};
+ghost use Rattle.std.specs.Prelude.{◌≡◌, false, ℕ, List, ◌+◌, ◌<◌};
+ghost use Rattle.protocol_laws.specs.Rows.{IsNewFault, is_idle};
 ghost use Rattle.plain_machine.specs.declared.reply.Reply.TheVariants as reply;
 ghost use Rattle.plain_machine.specs.Mark.{mark_flags};
 ghost use Rattle.sector_disk.specs.Called.{Called, OneCall};
@@ -8,10 +8,12 @@ use crate::Hib;
 use crate::hib::{Ending, Stage};
 use frame_arena::Frames;
 use machine::Machine;
-use page_core::Failed;
+use page_core::{Failed, Page};
 use plain_machine::{Reply, UndoCall};
 use sector_disk::Disk;
 use sig_header::mark;
+use snapshot::Snapshot;
+use std::mem::replace;
 use swap_slots::FreeRuns;
 
 /// SF_NOCOMPRESS_MODE (kernel/power/power.h).
@@ -24,11 +26,12 @@ const SKIPS_ZEROS: u32 = 256;
 impl Hib {
     ghost use Rattle.plain_machine.specs.declared.event.Event.TheVariants as event;
     ghost use Rattle.plain_machine.specs.declared.event.Actor.TheVariants as actor;
+    ghost use Rattle.hib_core.specs.declared.hib.Saving.{Saving};
     ghost use Rattle.hib_core.specs.declared.hib.Stage.TheVariants as stage;
-    ghost use Rattle.hib_core.specs.Hibernation.{phase_of, phase_told, is_idle};
+    ghost use Rattle.hib_core.specs.Hibernation.{phase_of, phase_told};
     ghost use Rattle.hib_core.specs.Ready.{CanStep};
     ghost use Rattle.hib_core.specs.Leaving.{Leaves, change_of};
-    ghost use Rattle.hib_core.specs.Row.{HasRow};
+    ghost use Rattle.hib_core.specs.Row.{SimulatesWhereTold};
 
     /// Writes the header block with the mark. Where that fails the mark may be there or not: an undo begins.
     pub(crate) fn write_mark<D: Disk>(
@@ -40,8 +43,8 @@ impl Hib {
     ) -> Reply
         requires ready { CanStep machine.now frames.now runs.now self.old }
         requires blocks { D.block_count disk.old ≡ machine.now.blocks }
-        requires stage { self.old.stage ≡ stage.Mark }
-        ensures row { HasRow machine.now frames.now self.old machine.now frames.now self.new (event.Step actor.Core) result (D.content disk.old) (D.content disk.new) }
+        requires at { (saving : Saving) × (header : List ℕ) × (self.old.stage ≡ stage.Mark saving header) }
+        ensures row { SimulatesWhereTold machine.now frames.now self.old machine.now frames.now self.new (event.Step actor.Core) result (D.content disk.old) (D.content disk.new) }
         ensures phase { phase_of self.new ≡ phase_told result }
         ensures zones { self.new.snapshot.zones ≡ self.old.snapshot.zones }
         ensures works { is_idle result ≡ false }
@@ -49,12 +52,19 @@ impl Hib {
         ensures memory { Leaves (change_of result self.old.stage) machine.now.hw frames.now frames.now }
         ensures called { Called D.Disk OneCall (IsNewFault result) disk.old disk.new }
     {
-        let (first, flags) = (u64::from(self.first), self.flags());
-        self.header = mark(&self.header, first, flags, machine.hw.hw_sig());
+        let Stage::Mark(saving, header) = &self.stage else {
+            unreachable!()
+        };
+        let (first, flags) = (u64::from(saving.first), flags(&self.snapshot));
+        let marked = mark(header, first, flags, machine.hw.hw_sig());
         let block = machine.hw.extents().block(0);
-        match disk.write(block as u32, &self.header) {
-            Ok(()) => self.go_on(Stage::End),
-            Err(Failed) => self.begin_undo(UndoCall::Write),
+        match disk.write(block as u32, &marked) {
+            Ok(()) => {
+                let saving = saving.after_step();
+                self.stage = Stage::End(saving, marked);
+                saving.more()
+            }
+            Err(Failed) => self.begin_undo(UndoCall::Write, marked),
         }
     }
 
@@ -68,8 +78,8 @@ impl Hib {
     ) -> Reply
         requires ready { CanStep machine.now frames.now runs.now self.old }
         requires blocks { D.block_count disk.old ≡ machine.now.blocks }
-        requires stage { self.old.stage ≡ stage.End }
-        ensures row { HasRow machine.now frames.now self.old machine.now frames.now self.new (event.Step actor.Core) result (D.content disk.old) (D.content disk.new) }
+        requires at { (saving : Saving) × (header : List ℕ) × (self.old.stage ≡ stage.End saving header) }
+        ensures row { SimulatesWhereTold machine.now frames.now self.old machine.now frames.now self.new (event.Step actor.Core) result (D.content disk.old) (D.content disk.new) }
         ensures phase { phase_of self.new ≡ phase_told result }
         ensures zones { self.new.snapshot.zones ≡ self.old.snapshot.zones }
         ensures works { is_idle result ≡ false }
@@ -77,36 +87,40 @@ impl Hib {
         ensures memory { Leaves (change_of result self.old.stage) machine.now.hw frames.now frames.now }
         ensures called { Called D.Disk OneCall (IsNewFault result) disk.old disk.new }
     {
+        let Stage::End(saving, header) = replace(&mut self.stage, Stage::Idle) else {
+            unreachable!()
+        };
         match disk.sync() {
-            Ok(()) => match self.ending {
+            Ok(()) => match saving.ending {
                 Ending::SwitchesOff => {
                     self.stage = Stage::Over;
-                    Reply::Hibernated { n: self.n }
+                    Reply::Hibernated { n: saving.saved }
                 }
                 Ending::Sleeps => {
                     self.stage = Stage::Asleep;
-                    Reply::Asleep { n: self.n }
+                    Reply::Asleep { n: saving.saved }
                 }
             },
-            Err(Failed) => self.begin_undo(UndoCall::Sync),
+            Err(Failed) => self.begin_undo(UndoCall::Sync, header),
         }
     }
 
-    /// The flags of the mark.
-    fn flags(&self) -> u32
-        ensures { result ≡ mark_flags self.now.snapshot.format }
-    {
-        match self.snapshot.zeros() {
-            None => NOCOMPRESS_MODE,
-            Some(_) => NOCOMPRESS_MODE + SKIPS_ZEROS,
-        }
-    }
-
-    fn begin_undo(&mut self, call: UndoCall) -> Reply
-        ensures hib { self.new ≡ record self.old { stage = stage.TakeBack call } }
+    /// The mark may be there or not: the block with it is kept, to be taken back.
+    fn begin_undo(&mut self, call: UndoCall, marked: Page) -> Reply
+        ensures hib { self.new ≡ record self.old { stage = stage.TakeBack call marked } }
         ensures reply { result ≡ reply.Undo call 0 }
     {
-        self.stage = Stage::TakeBack(call);
+        self.stage = Stage::TakeBack(call, marked);
         Reply::Undo { call, k: 0 }
+    }
+}
+
+/// The flags of the mark.
+fn flags(snapshot: &Snapshot) -> u32
+    ensures { result ≡ mark_flags snapshot.now.format }
+{
+    match snapshot.zeros() {
+        None => NOCOMPRESS_MODE,
+        Some(_) => NOCOMPRESS_MODE + SKIPS_ZEROS,
     }
 }

@@ -1,10 +1,10 @@
-ghost use Rattle.std.specs.Prelude.{◌≡◌, false, ◌⊎◌, nat_eq};
+ghost use Rattle.std.specs.Prelude.{◌≡◌, false, ℕ, List, ◌⊎◌, nat_eq};
 ghost use Rattle.std.specs.Cmp.Lexicographic.{pointwise};
 ghost use Rattle.definitions.specs.Disk.{Content};
 ghost use Rattle.definitions.specs.SwapHeader.{sig_of, image_signature};
-ghost use Rattle.protocol_laws.specs.Rows.{IsNewFault};
+ghost use Rattle.protocol_laws.specs.Rows.{IsNewFault, is_idle};
 ghost use Rattle.protocol_laws.specs.Settling.{unmarked_block};
-ghost use Rattle.hib_core.specs.Hibernation.{is_idle, perhaps_held, under_way, runs_on};
+ghost use Rattle.hib_core.specs.Hibernation.{perhaps_held, under_way, runs_on};
 ghost use Rattle.sector_disk.specs.Called.{Called, OneCall};
 
 use crate::Hib;
@@ -30,7 +30,7 @@ impl Hib {
     ghost use Rattle.hib_core.specs.Hibernation.{phase_of, phase_told};
     ghost use Rattle.hib_core.specs.Ready.{CanBegin, CanStep, IsBusy, IsSameMachine};
     ghost use Rattle.hib_core.specs.Leaving.{Leaves, change_of};
-    ghost use Rattle.hib_core.specs.Row.{HasRow, IsBegun};
+    ghost use Rattle.hib_core.specs.Row.{SimulatesWhereTold, IsBegun};
 
     /// Begins a settling, or refuses it where a task has an unfinished operation, or nothing is held.
     pub(crate) fn settle(&mut self, machine: &Machine, frames: &Frames, runs: &FreeRuns) -> Reply
@@ -68,8 +68,8 @@ impl Hib {
     ) -> Reply
         requires ready { CanStep machine.now frames.now runs.now self.old }
         requires blocks { D.block_count disk.old ≡ machine.now.blocks }
-        requires stage { self.old.stage ≡ stage.SettleRead }
-        ensures row { HasRow machine.now frames.now self.old machine.now frames.now self.new (event.Step actor.Core) result (D.content disk.old) (D.content disk.new) }
+        requires at { self.old.stage ≡ stage.SettleRead }
+        ensures row { SimulatesWhereTold machine.now frames.now self.old machine.now frames.now self.new (event.Step actor.Core) result (D.content disk.old) (D.content disk.new) }
         ensures phase { phase_of self.new ≡ phase_told result }
         ensures zones { self.new.snapshot.zones ≡ self.old.snapshot.zones }
         ensures works { is_idle result ≡ false }
@@ -78,9 +78,10 @@ impl Hib {
         ensures called { Called D.Disk OneCall (IsNewFault result) disk.old disk.new }
     {
         let block = machine.hw.extents().block(0);
-        match disk.read(block as u32, &mut self.header) {
+        let mut header = Page::zero();
+        match disk.read(block as u32, &mut header) {
             Ok(()) => {
-                self.stage = Stage::SettleWrite;
+                self.stage = Stage::SettleWrite(header);
                 Reply::More { k: 1, of: STEPS }
             }
             Err(Failed) => {
@@ -100,8 +101,8 @@ impl Hib {
     ) -> Reply
         requires ready { CanStep machine.old frames.now runs.now self.old }
         requires blocks { D.block_count disk.old ≡ machine.old.blocks }
-        requires stage { self.old.stage ≡ stage.SettleWrite }
-        ensures row { HasRow machine.old frames.now self.old machine.new frames.now self.new (event.Step actor.Core) result (D.content disk.old) (D.content disk.new) }
+        requires at { (header : List ℕ) × (self.old.stage ≡ stage.SettleWrite header) }
+        ensures row { SimulatesWhereTold machine.old frames.now self.old machine.new frames.now self.new (event.Step actor.Core) result (D.content disk.old) (D.content disk.new) }
         ensures phase { phase_of self.new ≡ phase_told result }
         ensures zones { self.new.snapshot.zones ≡ self.old.snapshot.zones }
         ensures works { is_idle result ≡ false }
@@ -110,10 +111,13 @@ impl Hib {
         ensures machine { IsSameMachine machine.old machine.new }
         ensures called { Called D.Disk OneCall (IsNewFault result) disk.old disk.new }
     {
+        let Stage::SettleWrite(header) = &mut self.stage else {
+            unreachable!()
+        };
         let block = machine.hw.extents().block(0);
-        self.unmark();
-        let _ = self.header.as_bytes();
-        match disk.write(block as u32, &self.header) {
+        unmark(header);
+        let _ = header.as_bytes();
+        match disk.write(block as u32, header) {
             Ok(()) => {
                 self.stage = Stage::SettleSync;
                 Reply::More { k: 2, of: STEPS }
@@ -135,8 +139,8 @@ impl Hib {
     ) -> Reply
         requires ready { CanStep machine.old frames.old runs.old self.old }
         requires blocks { D.block_count disk.old ≡ machine.old.blocks }
-        requires stage { self.old.stage ≡ stage.SettleSync }
-        ensures row { HasRow machine.old frames.old self.old machine.new frames.new self.new (event.Step actor.Core) result (D.content disk.old) (D.content disk.new) }
+        requires at { self.old.stage ≡ stage.SettleSync }
+        ensures row { SimulatesWhereTold machine.old frames.old self.old machine.new frames.new self.new (event.Step actor.Core) result (D.content disk.old) (D.content disk.new) }
         ensures phase { phase_of self.new ≡ phase_told result }
         ensures zones { self.new.snapshot.zones ≡ self.old.snapshot.zones }
         ensures works { is_idle result ≡ false }
@@ -158,15 +162,6 @@ impl Hib {
         }
     }
 
-    /// Takes the header block that is kept back, where it is marked.
-    fn unmark(&mut self)
-        ensures { self.new ≡ record self.old { header = unmarked_block self.old.header } }
-    {
-        if is_marked(&self.header) {
-            self.header = take_back(&self.header);
-        }
-    }
-
     /// The image may still be there: the machine runs, with that known, and the image's slots stay taken.
     fn stop_unsure(&mut self, machine: &mut Machine)
         ensures hib { self.new ≡ record self.old { stage = stage.Idle } }
@@ -174,6 +169,15 @@ impl Hib {
     {
         self.stage = Stage::Idle;
         machine.held = perhaps(machine.held);
+    }
+}
+
+/// Takes a header block back, where it is marked.
+fn unmark(header: &mut Page)
+    ensures { header.new ≡ unmarked_block header.old }
+{
+    if is_marked(header) {
+        *header = take_back(header);
     }
 }
 

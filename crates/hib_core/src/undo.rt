@@ -1,6 +1,5 @@
-ghost use Rattle.std.specs.Prelude.{◌≡◌, false, ◌<◌};
-ghost use Rattle.protocol_laws.specs.Rows.{IsNewFault};
-ghost use Rattle.hib_core.specs.Hibernation.{is_idle};
+ghost use Rattle.std.specs.Prelude.{◌≡◌, false, ℕ, List, ◌<◌};
+ghost use Rattle.protocol_laws.specs.Rows.{IsNewFault, is_idle};
 ghost use Rattle.plain_machine.specs.Step.{undone_fault};
 ghost use Rattle.plain_machine.specs.declared.held.Held.TheVariants.{Perhaps};
 ghost use Rattle.plain_machine.specs.declared.reply.Left.TheVariants.{Unsure};
@@ -20,11 +19,12 @@ use swap_slots::FreeRuns;
 impl Hib {
     ghost use Rattle.plain_machine.specs.declared.event.Event.TheVariants as event;
     ghost use Rattle.plain_machine.specs.declared.event.Actor.TheVariants as actor;
+    ghost use Rattle.plain_machine.specs.declared.reply.UndoCall.{UndoCall};
     ghost use Rattle.hib_core.specs.declared.hib.Stage.TheVariants as stage;
     ghost use Rattle.hib_core.specs.Hibernation.{phase_of, phase_told};
     ghost use Rattle.hib_core.specs.Ready.{CanStep, IsSameMachine};
     ghost use Rattle.hib_core.specs.Leaving.{Leaves, change_of};
-    ghost use Rattle.hib_core.specs.Row.{HasRow};
+    ghost use Rattle.hib_core.specs.Row.{SimulatesWhereTold};
 
     /// Writes the header block taken back.
     pub(crate) fn take_back<D: Disk>(
@@ -33,12 +33,11 @@ impl Hib {
         frames: &Frames,
         runs: &FreeRuns,
         disk: &mut D,
-        call: UndoCall,
     ) -> Reply
         requires ready { CanStep machine.old frames.now runs.now self.old }
         requires blocks { D.block_count disk.old ≡ machine.old.blocks }
-        requires stage { self.old.stage ≡ stage.TakeBack call }
-        ensures row { HasRow machine.old frames.now self.old machine.new frames.now self.new (event.Step actor.Core) result (D.content disk.old) (D.content disk.new) }
+        requires at { (call : UndoCall) × (header : List ℕ) × (self.old.stage ≡ stage.TakeBack call header) }
+        ensures row { SimulatesWhereTold machine.old frames.now self.old machine.new frames.now self.new (event.Step actor.Core) result (D.content disk.old) (D.content disk.new) }
         ensures phase { phase_of self.new ≡ phase_told result }
         ensures zones { self.new.snapshot.zones ≡ self.old.snapshot.zones }
         ensures works { is_idle result ≡ false }
@@ -47,9 +46,13 @@ impl Hib {
         ensures machine { IsSameMachine machine.old machine.new }
         ensures called { Called D.Disk OneCall (IsNewFault result) disk.old disk.new }
     {
+        let Stage::TakeBack(call, header) = &self.stage else {
+            unreachable!()
+        };
+        let call = *call;
         let block = machine.hw.extents().block(0);
-        let back = take_back(&self.header);
-        let _ = self.header.as_bytes();
+        let back = take_back(header);
+        let _ = header.as_bytes();
         let _ = back.as_bytes();
         match disk.write(block as u32, &back) {
             Ok(()) => {
@@ -63,16 +66,16 @@ impl Hib {
     /// Syncs that: no image is there any more, and the machine runs.
     pub(crate) fn end_undo<D: Disk>(
         &mut self,
+        call: UndoCall,
         machine: &mut Machine,
         frames: &mut Frames,
         runs: &mut FreeRuns,
         disk: &mut D,
-        call: UndoCall,
     ) -> Reply
         requires ready { CanStep machine.old frames.old runs.old self.old }
         requires blocks { D.block_count disk.old ≡ machine.old.blocks }
-        requires stage { self.old.stage ≡ stage.EndUndo call }
-        ensures row { HasRow machine.old frames.old self.old machine.new frames.new self.new (event.Step actor.Core) result (D.content disk.old) (D.content disk.new) }
+        requires at { self.old.stage ≡ stage.EndUndo call }
+        ensures row { SimulatesWhereTold machine.old frames.old self.old machine.new frames.new self.new (event.Step actor.Core) result (D.content disk.old) (D.content disk.new) }
         ensures phase { phase_of self.new ≡ phase_told result }
         ensures zones { self.new.snapshot.zones ≡ self.old.snapshot.zones }
         ensures works { is_idle result ≡ false }

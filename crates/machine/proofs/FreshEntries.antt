@@ -2,7 +2,7 @@
 use Rattle.std.proofs.Common.{◌≡◌, ℕ, Bool, false, cond, ap}
 use Rattle.std.specs.List.{find}
 use Rattle.plain_machine.specs.Machine.{Hardware, is_table_frame}
-use Rattle.plain_machine.specs.Step.{fresh_entry, region_flags}
+use Rattle.plain_machine.specs.FreshMemory.{fresh_entry, region_flags}
 use Rattle.machine.specs.HardFault.{is_in_region}
 
 -- a page frame of no table has the flags of its region, or is free

@@ -31,7 +31,7 @@ use Rattle.plain_machine.proofs.SameMemory.{filter_agree_within, same_table, sam
 use Rattle.plain_machine.proofs.Seen.{length-seen}
 use Rattle.machine.specs.Flights.{flights_in}
 use Rattle.machine.specs.Running.{reason_of}
-use Rattle.machine.specs.TaskRow.{HasFrameRow, HasRow, ShowsAs, NamesNone, own_refusal}
+use Rattle.machine.specs.TaskRow.{HasFrameRow, SimulatesRequest, ShowsAs, NamesNone, own_refusal}
 use Rattle.machine.specs.declared.machine.Machine.{Machine}
 use Rattle.machine.proofs.Rows.{Mirrors, mirrors_of, own_shown, slot_table_fits, step_done, step_refused}
 use Rattle.machine.proofs.SlotWrites.{HasSlots, seen_slot, slot_entry-seen, slot_entry-image, slot_entry-set_same, slot_entry-set_apart, frame_entry-slot_set}
@@ -131,7 +131,7 @@ not_in_flight None e = refl
 not_in_flight (Some flight) e = absurd (false≢true (sym e))
 
 -- a request that looks at page frames alone
-pub row_of_frames : (machine : Machine) (frames new : Memory) (t : ℕ) (o : TaskOp) (r : Reply) → flights_in machine.flights t ≡ None → HasFrameRow machine.hw t o frames new r → HasRow machine frames t o machine new r
+pub row_of_frames : (machine : Machine) (frames new : Memory) (t : ℕ) (o : TaskOp) (r : Reply) → flights_in machine.flights t ≡ None → HasFrameRow machine.hw t o frames new r → SimulatesRequest machine frames t o machine new r
 row_of_frames machine frames new t o r idle row = λ none a shows. row machine.held (reason_of machine.area) (flights_in machine.flights) idle a shows
 
 -- one of a task whose operation isn't finished
@@ -144,7 +144,7 @@ step_in_flight : (h : Hardware) (v : disk.DiskImage) (t : ℕ) (o : TaskOp) (a :
 unfolding outcomes
 step_in_flight h v t o a e = subst (λ (w : Option Reply). Contains (refused_or (on a) w (requested h a t o)) (reply.InFlight, on a)) (sym (why_in_flight h t o a e)) (0, omega arith, refl)
 
-pub row_in_flight : (machine : Machine) (frames : Memory) (t : ℕ) (o : TaskOp) → is_some (flights_in machine.flights t) ≡ true → HasRow machine frames t o machine frames reply.InFlight
+pub row_in_flight : (machine : Machine) (frames : Memory) (t : ℕ) (o : TaskOp) → is_some (flights_in machine.flights t) ≡ true → SimulatesRequest machine frames t o machine frames reply.InFlight
 row_in_flight machine frames t o flies = λ none a shows. (
   a,
   record {
@@ -157,7 +157,7 @@ row_in_flight machine frames t o flies = λ none a shows. (
   refl,
 )
 
-pub swap_refused : (machine : Machine) (frames : Memory) (t : ℕ) (o : TaskOp) (r : Reply) → flights_in machine.flights t ≡ None → (NamesNone machine frames → (a : Running) → ShowsAs machine frames a → op_refusal machine.hw a t o ≡ Some r) → HasRow machine frames t o machine frames r
+pub swap_refused : (machine : Machine) (frames : Memory) (t : ℕ) (o : TaskOp) (r : Reply) → flights_in machine.flights t ≡ None → (NamesNone machine frames → (a : Running) → ShowsAs machine frames a → op_refusal machine.hw a t o ≡ Some r) → SimulatesRequest machine frames t o machine frames r
 swap_refused machine frames t o r idle why = λ none a shows. (
   a,
   record {
@@ -174,7 +174,7 @@ swap_refused machine frames t o r idle why = λ none a shows. (
 pub swap_begun : (machine machine' : Machine) (frames new : Memory) (t : ℕ) (o : TaskOp) (r : Reply) (next : Memory → Memory) (flight : Flight) → flights_in machine.flights t ≡ None →
     ((u : ℕ) → flights_in machine'.flights u ≡ with_flight (flights_in machine.flights) t (Some flight) u) →
     (NamesNone machine frames → (a : Running) → ShowsAs machine frames a → (op_refusal machine.hw a t o ≡ None) × Contains (requested machine.hw a t o) (r, on (record a { memory = next a.memory; flights = with_flight a.flights t (Some flight) })) × Mirrors machine.hw new (next a.memory)) →
-    ((s : ℕ) → s < machine.hw.slots → raw_slot_entry machine.hw new s ≡ 65536 → raw_slot_entry machine.hw frames s ≡ 65536) → HasRow machine frames t o machine' new r
+    ((s : ℕ) → s < machine.hw.slots → raw_slot_entry machine.hw new s ≡ 65536 → raw_slot_entry machine.hw frames s ≡ 65536) → SimulatesRequest machine frames t o machine' new r
 swap_begun machine machine' frames new t o r next flight idle now asked named = λ none a shows.
     let it = asked none a shows in
     let b : Running = record a { memory = next a.memory; flights = with_flight a.flights t (Some flight) } in (
@@ -219,14 +219,14 @@ abbrev in_rest : Hardware → Running → ℕ → ℕ → Option Reply
 in_rest h a t s = refused_if (not (owns_slot h a t s)) reply.NoSlotHere
 
 -- not the task's page frame
-pub out_not_own : (machine : Machine) (frames : Memory) (t p : ℕ) (r : Reply) → IsHardware machine.hw → length frames ≡ top machine.hw.zones → flights_in machine.flights t ≡ None → own_refusal machine.hw frames t p ≡ Some r → HasRow machine frames t (op.Out p) machine frames r
+pub out_not_own : (machine : Machine) (frames : Memory) (t p : ℕ) (r : Reply) → IsHardware machine.hw → length frames ≡ top machine.hw.zones → flights_in machine.flights t ≡ None → own_refusal machine.hw frames t p ≡ Some r → SimulatesRequest machine frames t (op.Out p) machine frames r
 out_not_own machine frames t p r hw size idle refused =
     swap_refused machine frames t (op.Out p) r idle (λ none a shows.
     let mirrors = shows-mirrors machine frames a shows size in
     first_refusal (refused_if (not (is_valid machine.hw p)) reply.NoFrame) (refused_if (not (eqb (owner_of (frame_entry machine.hw a.memory p)) t)) reply.NotOwner) (out_rest machine.hw a) r
     (own_shown machine.hw frames a.memory t p hw mirrors ∙ refused))
 
-pub in_not_own : (machine : Machine) (frames : Memory) (t s p : ℕ) (r : Reply) → IsHardware machine.hw → length frames ≡ top machine.hw.zones → flights_in machine.flights t ≡ None → own_refusal machine.hw frames t p ≡ Some r → HasRow machine frames t (op.TakeIn s p) machine frames r
+pub in_not_own : (machine : Machine) (frames : Memory) (t s p : ℕ) (r : Reply) → IsHardware machine.hw → length frames ≡ top machine.hw.zones → flights_in machine.flights t ≡ None → own_refusal machine.hw frames t p ≡ Some r → SimulatesRequest machine frames t (op.TakeIn s p) machine frames r
 in_not_own machine frames t s p r hw size idle refused =
     swap_refused machine frames t (op.TakeIn s p) r idle (λ none a shows.
     let mirrors = shows-mirrors machine frames a shows size in
@@ -259,7 +259,7 @@ held_none flag nothing none shows = refl
 held_none flag (sure i) none shows = absurd (subst (λ (f : HeldFlag). ShowsHeld f (sure i)) none shows)
 held_none flag (maybe i) none shows = absurd (subst (λ (f : HeldFlag). ShowsHeld f (maybe i)) none shows)
 
-pub out_closed : (machine : Machine) (frames : Memory) (t p : ℕ) → IsHardware machine.hw → length frames ≡ top machine.hw.zones → flights_in machine.flights t ≡ None → own_refusal machine.hw frames t p ≡ None → machine.held ≢ No → HasRow machine frames t (op.Out p) machine frames reply.Closed
+pub out_closed : (machine : Machine) (frames : Memory) (t p : ℕ) → IsHardware machine.hw → length frames ≡ top machine.hw.zones → flights_in machine.flights t ≡ None → own_refusal machine.hw frames t p ≡ None → machine.held ≢ No → SimulatesRequest machine frames t (op.Out p) machine frames reply.Closed
 out_closed machine frames t p hw size idle owned held =
     swap_refused machine frames t (op.Out p) reply.Closed idle (λ none a shows.
     out_owned machine frames t p a hw size owned shows
@@ -317,7 +317,7 @@ out_unheld machine frames t p a hw size owned held shows =
     ∙ ap (λ (b : Bool). or_else (refused_if b reply.Closed) (refused_if (is_none (free_slots_of machine.hw a)) reply.NoSlot)) (held_none machine.held a.held held shows.held)
 
 pub out_no_slot : (machine : Machine) (frames : Memory) (t p : ℕ) → IsHardware machine.hw → HasSlots machine.hw frames → length frames ≡ top machine.hw.zones → flights_in machine.flights t ≡ None → own_refusal machine.hw frames t p ≡ None → machine.held ≡ No →
-    (is_ok machine.area ≡ true → slice_get (free_slots machine.hw.slots machine.hw.slot_table frames) 0 ≡ None) → HasRow machine frames t (op.Out p) machine frames reply.NoSlot
+    (is_ok machine.area ≡ true → slice_get (free_slots machine.hw.slots machine.hw.slot_table frames) 0 ≡ None) → SimulatesRequest machine frames t (op.Out p) machine frames reply.NoSlot
 out_no_slot machine frames t p hw has size idle owned held full =
     swap_refused machine frames t (op.Out p) reply.NoSlot idle (λ none a shows.
     out_unheld machine frames t p a hw size owned held shows
@@ -333,7 +333,7 @@ requested_out h a t p s e =
 
 pub out_begun : (machine machine' : Machine) (frames : Memory) (t p s : ℕ) → IsHardware machine.hw → HasSlots machine.hw frames → IsTask t → length frames ≡ top machine.hw.zones → flights_in machine.flights t ≡ None → own_refusal machine.hw frames t p ≡ None → machine.held ≡ No → is_ok machine.area ≡ true →
     slice_get (free_slots machine.hw.slots machine.hw.slot_table frames) 0 ≡ Some s → s < machine.hw.slots → raw_slot_entry machine.hw frames s ≡ 0 →
-    ((u : ℕ) → flights_in machine'.flights u ≡ with_flight (flights_in machine.flights) t (Some (goes_out s p)) u) → HasRow machine frames t (op.Out p) machine' (with_entry frames machine.hw.slot_table s t) (reply.Slot s)
+    ((u : ℕ) → flights_in machine'.flights u ≡ with_flight (flights_in machine.flights) t (Some (goes_out s p)) u) → SimulatesRequest machine frames t (op.Out p) machine' (with_entry frames machine.hw.slot_table s t) (reply.Slot s)
 out_begun machine machine' frames t p s hw has task size idle owned held ok least lt free now =
     let h = machine.hw in
     let few = task.few in
@@ -381,14 +381,14 @@ in_owns machine frames t s a hw has task size shows =
     owner_same t (raw_slot_entry h frames s) (slot_entry h a.memory s) task (λ image. entry ∙ slot_entry-image h frames s has lt image) (λ ne. entry ∙ slot_entry-seen h frames s has ne))
 
 pub in_no_slot : (machine : Machine) (frames : Memory) (t s p : ℕ) → IsHardware machine.hw → HasSlots machine.hw frames → IsTask t → length frames ≡ top machine.hw.zones → flights_in machine.flights t ≡ None → own_refusal machine.hw frames t p ≡ None →
-    (is_ok machine.area && nat_lt s machine.hw.slots && eqb (raw_slot_entry machine.hw frames s) t) ≡ false → HasRow machine frames t (op.TakeIn s p) machine frames reply.NoSlotHere
+    (is_ok machine.area && nat_lt s machine.hw.slots && eqb (raw_slot_entry machine.hw frames s) t) ≡ false → SimulatesRequest machine frames t (op.TakeIn s p) machine frames reply.NoSlotHere
 in_no_slot machine frames t s p hw has task size idle owned other =
     swap_refused machine frames t (op.TakeIn s p) reply.NoSlotHere idle (λ none a shows.
     in_owned machine frames t s p a hw size owned shows ∙ ap (λ (b : Bool). refused_if (not b) reply.NoSlotHere) (in_owns machine frames t s a hw has task size shows ∙ other))
 
 pub in_begun : (machine machine' : Machine) (frames : Memory) (t s p : ℕ) → IsHardware machine.hw → HasSlots machine.hw frames → IsTask t → length frames ≡ top machine.hw.zones → flights_in machine.flights t ≡ None → own_refusal machine.hw frames t p ≡ None →
     (is_ok machine.area && nat_lt s machine.hw.slots && eqb (raw_slot_entry machine.hw frames s) t) ≡ true →
-    ((u : ℕ) → flights_in machine'.flights u ≡ with_flight (flights_in machine.flights) t (Some (comes_in s p)) u) → HasRow machine frames t (op.TakeIn s p) machine' frames (reply.Reading s)
+    ((u : ℕ) → flights_in machine'.flights u ≡ with_flight (flights_in machine.flights) t (Some (comes_in s p)) u) → SimulatesRequest machine frames t (op.TakeIn s p) machine' frames (reply.Reading s)
 in_begun machine machine' frames t s p hw has task size idle owned own now =
     swap_begun machine machine' frames frames t (op.TakeIn s p) (reply.Reading s) (λ m. m) (comes_in s p) idle now
     (λ none a shows. (

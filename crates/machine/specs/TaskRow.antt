@@ -55,8 +55,8 @@ StepsOn machine frames e machine' frames' r a b =
 
 -- The row of the plain machine for a task's request: whichever running state the machine showed, the reply is a step of it. The pages
 -- in the tasks' slots stay.
-abbrev pub HasRow : Machine → Memory → ℕ → TaskOp → Machine → Memory → Reply → Type 0
-HasRow machine frames t o machine' frames' r =
+abbrev pub SimulatesRequest : Machine → Memory → ℕ → TaskOp → Machine → Memory → Reply → Type 0
+SimulatesRequest machine frames t o machine' frames' r =
     NamesNone machine frames → (a : Running) → ShowsAs machine frames a → (b : Running) × StepsOn machine frames (Task t o) machine' frames' r a b × (b.slots ≡ a.slots)
 
 -- a reply that refuses what a task asks of a machine that runs

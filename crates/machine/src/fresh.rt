@@ -3,7 +3,7 @@ ghost use Rattle.std.specs.List.{range_with_len, list_any, find};
 ghost use Rattle.definitions.specs.Tables.{HasTable, with_entry};
 ghost use Rattle.definitions.specs.Zones.{top};
 ghost use Rattle.plain_machine.specs.Machine.{is_table_frame, is_of_table};
-ghost use Rattle.plain_machine.specs.Step.{fresh_frames, fresh_entry, region_flags, with_each_entry};
+ghost use Rattle.plain_machine.specs.FreshMemory.{fresh_frames, fresh_entry, region_flags, with_each_entry};
 ghost use Rattle.machine.specs.HardFault.{is_in_region};
 ghost use Rattle.machine.specs.FreshSlots.{slot_of_area};
 

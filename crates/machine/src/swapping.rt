@@ -27,7 +27,7 @@ impl Machine {
     ghost use Rattle.machine.specs.Flights.{flights_in};
     ghost use Rattle.machine.specs.Landing.{Answers, CallsDisk, Ends, HasEnd};
     ghost use Rattle.machine.specs.Running.{CanRun, slot_table_of};
-    ghost use Rattle.machine.specs.TaskRow.{HasRow, IsRefusal};
+    ghost use Rattle.machine.specs.TaskRow.{SimulatesRequest, IsRefusal};
 
     /// Makes the call of the disk that ends a task's operation, which is unfinished no more. An out writes its page frame to the slot;
     /// where that fails the slot is given back. An in reads the slot into its page frame and gives the slot back; where that fails
@@ -98,7 +98,7 @@ impl Machine {
         requires task { IsTask t }
         requires ready { CanRun self.old frames.old runs.old }
         requires idle { flights_in self.old.flights t ≡ None }
-        ensures row { HasRow self.old frames.old t (op.Out p) self.new frames.new result }
+        ensures row { SimulatesRequest self.old frames.old t (op.Out p) self.new frames.new result }
         ensures ready { CanRun self.new frames.new runs.new }
         ensures no_fault { IsFault result → ⊥ }
         ensures machine { self.new ≡ record self.old { flights = self.new.flights } }
@@ -133,7 +133,7 @@ impl Machine {
         requires task { IsTask t }
         requires ready { CanRun self.old frames.now runs.now }
         requires idle { flights_in self.old.flights t ≡ None }
-        ensures row { HasRow self.old frames.now t (op.TakeIn slot p) self.new frames.now result }
+        ensures row { SimulatesRequest self.old frames.now t (op.TakeIn slot p) self.new frames.now result }
         ensures ready { CanRun self.new frames.now runs.now }
         ensures no_fault { IsFault result → ⊥ }
         ensures machine { self.new ≡ record self.old { flights = self.new.flights } }

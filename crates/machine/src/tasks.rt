@@ -19,14 +19,14 @@ use swap_slots::FreeRuns;
 
 impl Machine {
     ghost use Rattle.machine.specs.Running.{CanRun};
-    ghost use Rattle.machine.specs.TaskRow.{HasRow, IsRefusal};
+    ghost use Rattle.machine.specs.TaskRow.{SimulatesRequest, IsRefusal};
 
     /// What a task asks of a machine that runs: it is done or begun, or refused and nothing changes.
     pub fn task(&mut self, frames: &mut Frames, runs: &mut FreeRuns, t: u32, op: TaskOp) -> Reply
         requires task { IsTask t }
         requires op { IsFittingOp op }
         requires ready { CanRun self.old frames.old runs.old }
-        ensures row { HasRow self.old frames.old t op self.new frames.new result }
+        ensures row { SimulatesRequest self.old frames.old t op self.new frames.new result }
         ensures ready { CanRun self.new frames.new runs.new }
         ensures no_fault { IsFault result → ⊥ }
         ensures machine { self.new ≡ record self.old { flights = self.new.flights } }

@@ -28,7 +28,7 @@ pub runs_with : (w : World) (c : disk.Content) (end : State) (h : Hardware) (m :
 runs_with w c end h m core hw frames stands =
     let run = at_run end (sym (activity_by w Runs core) ∙ activity_for w c end stands) in
     let parts = on_parts w c run.0 (subst (StandsFor w c) run.1 stands) in
-    (run.0, run.1, subst (λ (g : Hardware). IsSameMemory g run.0.memory m) hw (subst (IsSameMemory (hardware_of w) run.0.memory) (sym frames) parts.0.same))
+    (run.0, run.1, subst (λ (g : Hardware). IsSameMemory g run.0.memory m) hw (subst (IsSameMemory (hardware_of w) run.0.memory) (sym frames) parts.memory.same))
 
 -- one that doesn't run stands for none
 pub runs_not : (w : World) (c : disk.Content) (end : State) → ((c : disk.Content) (a : State) → StandsFor w c a → activity_in a ≢ runs) → StandsFor w c end → RunsNot end

@@ -10,7 +10,7 @@ use Rattle.plain_machine.specs.Machine.{Memory}
 use Rattle.plain_machine.specs.Premises.{HasOriginal}
 use Rattle.plain_machine.specs.Replies.{line_of}
 use Rattle.plain_machine.specs.declared.event.IdentCheck.TheVariants.{Compare}
-use Rattle.swsusp_cli.specs.Answer.{Told, memory_told}
+use Rattle.swsusp_cli.specs.Answer.{RunResult, memory_told}
 use Rattle.swsusp_cli.specs.Dumps.{IsDump, IsNoDump, stopped_told}
 use Rattle.swsusp_cli.specs.Loads.{is_resumed}
 use Rattle.swsusp_cli.specs.Outcome.{IsOutOfMemory, IsUnread, Tells}
@@ -19,7 +19,7 @@ use Rattle.swsusp_cli.specs.declared.status.Status.{Status}
 use Rattle.swsusp_cli.specs.declared.status.Status.TheVariants.{Done}
 
 -- a resume that would end well is told on out, and why it wouldn't as a note
-abbrev pub foretold_told : Ended → Told
+abbrev pub foretold_told : Ended → RunResult
 foretold_told ended = if is_resumed ended.reply then record { status = Done; out = line_of ended.reply; note = [] } else stopped_told ended
 
 -- the disk was only read

@@ -6,7 +6,7 @@ use Rattle.plain_machine.specs.State.{State, Running, on}
 use Rattle.plain_machine.specs.declared.reply.Reply.{Reply}
 use Rattle.script.specs.Grammar.{ScriptValue}
 use Rattle.script.specs.declared.fault.ScriptFault.{ScriptFault}
-use Rattle.swsusp_cli.specs.Answer.{Told, line}
+use Rattle.swsusp_cli.specs.Answer.{RunResult, line}
 use Rattle.swsusp_cli.specs.Formatting.{LieBelow}
 use Rattle.swsusp_cli.specs.Loads.{written_told}
 use Rattle.swsusp_cli.specs.Outcome.{IsNoScript, IsOutOfMemory, IsScript, IsTooSmall, IsUnformatted, IsUnread, Tells}
@@ -17,7 +17,7 @@ use Rattle.swsusp_cli.specs.declared.status.Status.{Status}
 use Rattle.swsusp_cli.specs.declared.status.Status.TheVariants.{Refused}
 
 -- no machine runs
-abbrev pub idle_told : Told
+abbrev pub idle_told : RunResult
 idle_told = record { status = Refused; out = []; note = line (codes "no machine runs") }
 
 -- the machine runs, and this is its memory, but for what free page frames hold

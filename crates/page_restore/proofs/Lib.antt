@@ -5,3 +5,4 @@ mod Members
 mod Moving
 mod Placing
 pub mod Walk
+pub mod WithData

@@ -1,6 +1,6 @@
 -- Pages of an image that wait until all of them go to their own page frames (prepare_image and get_buffer,
 -- kernel/power/snapshot.c).
-use Rattle.std.specs.Prelude.{ℕ, ◌==◌, ◌||◌, Bool, not, List, [], ◌∷◌, Option, Some, None, map, take, filter, if◌then◌else◌}
+use Rattle.std.specs.Prelude.{ℕ, ◌==◌, ◌||◌, not, List, [], ◌∷◌, Option, Some, None, map, take, filter, if◌then◌else◌}
 use Rattle.std.specs.List.{list_any, zip}
 use Rattle.definitions.specs.Bytes.{zero_page}
 use Rattle.definitions.specs.Tables.{frame}
@@ -32,9 +32,9 @@ abbrev pub page_or : Option (List ℕ) → List ℕ → List ℕ
 page_or (Some page) other = page
 page_or None other = other
 
--- What page frame p has once the image is back: an original with data has the page that waited for it, any other original
--- and any other page frame that was free to the loader is zero, and the rest is as before.
+-- What page frame p has once the image is back: an original with data has the page that waited for it, any other page frame
+-- that is to be cleared or was free to the loader is zero, and the rest is as before.
 unfoldable pub restored_page : List (List ℕ) → Awaiting → List ℕ → ℕ → List ℕ
-restored_page frames w origs p =
+restored_page frames w cleared p =
     page_or (saved_page (zip w.originals (waiting_pages frames w)) p)
-    (if list_any (λ q. q == p) origs || list_any (λ q. q == p) w.free then zero_page else frame frames p)
+    (if list_any (λ q. q == p) cleared || list_any (λ q. q == p) w.free then zero_page else frame frames p)

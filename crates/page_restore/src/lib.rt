@@ -133,20 +133,20 @@ impl Waiting {
         self.loaded += 1;
     }
 
-    /// Brings all pages to their page frames at once. Every other original is zero afterwards, and so is every other page
-    /// frame that was free to the loader (swsusp_arch_resume, and clear_free_pages of kernel/power/snapshot.c).
-    pub fn finish(&mut self, frames: &mut Frames, origs: &Bitmap)
+    /// Brings the pages to their page frames at once. Once all are placed, every other page frame of `cleared`, which are the
+    /// originals or those of them without data, is zero afterwards, and so is every other page frame that was free to the loader
+    /// (swsusp_arch_resume, and clear_free_pages of kernel/power/snapshot.c).
+    pub fn finish(&mut self, frames: &mut Frames, cleared: &Bitmap)
         requires ready { self.old.placement.ready ≡ true }
-        requires loaded { self.old.loaded ≡ length self.old.originals }
         requires frames { top self.old.zones ≤ length frames.old }
-        requires origs { origs.now.zones ≡ self.old.zones }
-        ensures restored { (p : ℕ) → frame frames.new p ≡ restored_page frames.old self.old origs.now.members p }
+        requires cleared { cleared.now.zones ≡ self.old.zones }
+        ensures restored { self.old.loaded ≡ length self.old.originals → (p : ℕ) → frame frames.new p ≡ restored_page frames.old self.old cleared.now.members p }
         ensures size { length frames.new ≡ length frames.old }
         ensures waiting { self.new ≡ self.old }
     {
         move_pages::<Brand>(&self.placement, &mut self.work, frames, Blank::new(1));
         zero_apart(frames, &self.free, &self.origs);
-        zero_apart(frames, origs, &self.origs);
+        zero_apart(frames, cleared, &self.origs);
     }
 }
 

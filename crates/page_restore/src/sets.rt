@@ -12,12 +12,14 @@ pub(crate) fn mark_with_data(set: &mut Bitmap, origs: &Bitmap, zeros: &Bitmap)
     requires { set.old.zones ≡ origs.now.zones }
     ensures { set.new ≡ record set.old { members = with_data origs.now.members zeros.now.members } }
 {
-    set.clear_all();
+    set.copy_from(origs);
+    // So its members are valid.
+    let _ = origs.len();
     let mut from = 0;
-    for _ in 0..origs.len() {
-        let p = origs.first_from(from).unwrap();
-        if !zeros.has(p) {
-            set.set(p);
+    for _ in 0..zeros.len() {
+        let p = zeros.first_from(from).unwrap();
+        if set.has(p) {
+            set.clear(p);
         }
         from = p + 1;
     }

@@ -6,7 +6,7 @@ use Rattle.definitions.specs.Bytes.{IsPage}
 use Rattle.definitions.specs.Tables.{frame, entry_at, with_entry, HasTable, table_frame_count}
 use Rattle.definitions.proofs.Ascending.{Contains-nil, Contains-head, Contains-tail, Contains-cons_cases}
 use Rattle.definitions.proofs.TableEntries.{entry_frame_within, length-with_entry, entry_at-with_entry_same, entry_at-with_entry_other, frame-with_entry_other, IsPage-with_entry, HasTable-with_entry}
-use Rattle.plain_machine.specs.Step.{with_each_entry}
+use Rattle.plain_machine.specs.FreshMemory.{with_each_entry}
 
 pub each-none : (e : ℕ → ℕ) (table : ℕ) (m : List (List ℕ)) → with_each_entry e [] table m ≡ m
 unfolding with_each_entry

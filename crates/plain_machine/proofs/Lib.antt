@@ -1,9 +1,11 @@
 pub mod BadSlots
+pub mod Calls
 pub mod DiskBlocks
 pub mod EachEntry
 pub mod Examples
 pub mod Flights
 pub mod Fresh
+pub mod FreshPages
 pub mod LaidChain
 pub mod PastEnd
 pub mod Restoring

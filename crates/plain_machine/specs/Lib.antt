@@ -1,7 +1,9 @@
 pub mod Area
+pub mod Calls
 pub mod Chain
 pub mod Faults
 pub mod Fitting
+pub mod FreshMemory
 pub mod Image
 pub mod Laid
 pub mod Loader

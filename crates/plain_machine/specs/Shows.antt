@@ -41,7 +41,7 @@ activity_in (asleep i held a) = sleeps
 -- used, the tasks' unfinished operations, the content of its page frames, the block that it keeps between two calls of the
 -- disk, the page frames of its copies, and of a resume that is under way loader and check and the pages that it has read, by
 -- page frame.
-pub record Shown : Type 0 where
+pub record WorldView : Type 0 where
   pub activity : Activity
   pub keeps_dump : Bool
   pub held : HeldFlag
@@ -79,10 +79,10 @@ pub record RunsAs (h : Hardware) (flag : HeldFlag) (why : Option NoSwap) (operat
   pub fits : Fits h a.memory
 
 -- a world whose running state, from before an operation or now, is this one
-abbrev pub ShowsRunning : Hardware → Shown → Running → Type 0
+abbrev pub ShowsRunning : Hardware → WorldView → Running → Type 0
 ShowsRunning h shown a = RunsAs h shown.held shown.unusable shown.flights shown.frames a
 
 -- A world that is off shows whether it keeps a dump's memory, and just its page frames: a loader's free ones count too.
-abbrev pub ShowsKept : Hardware → Shown → Option Memory → Type 0
+abbrev pub ShowsKept : Hardware → WorldView → Option Memory → Type 0
 ShowsKept h shown None = shown.keeps_dump ≡ false
 ShowsKept h shown (Some m) = (shown.keeps_dump ≡ true) × (shown.frames ≡ m) × Fits h m

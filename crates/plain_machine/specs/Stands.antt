@@ -10,16 +10,18 @@ use Rattle.definitions.specs.Zones.{top}
 use Rattle.sig_header.specs.AreaKind.{area_kind}
 use Rattle.plain_machine.specs.Machine.{Hardware, Memory, block_of_slot, raw_slot_entry, slot_entry, frame_entry, image_slot, is_slot_of, is_valid, Fits, unused_slots}
 use Rattle.definitions.specs.NumberPages.{meta_of}
-use Rattle.plain_machine.specs.Image.{Image, SlotPages, n_of, with_data, maps_of, pages_of, stream_of, hibernate_steps, image_of_memory}
+use Rattle.plain_machine.specs.Image.{Image, SlotPages, n_of, with_data, maps_of, pages_of, stream_of, image_of_memory}
 use Rattle.plain_machine.specs.Laid.{laid, laid_block}
 use Rattle.plain_machine.specs.Chain.{Holds, Marked, header_of, blocks_of}
 use Rattle.plain_machine.specs.Mark.{HasMark}
 use Rattle.plain_machine.specs.Fitting.{IsTask}
 use Rattle.plain_machine.specs.Loader.{left_free, loader_frame}
 use Rattle.plain_machine.specs.UsableArea.{area_block, area_fault, bad_set_fault, dump_area_fault}
-use Rattle.plain_machine.specs.State.{State, off, on, booting, hibernating, undoing, settling, waking, loading, asleep, Running, Flight, goes_out, comes_in, Held, nothing, sure, maybe, Saved, own, other, Load, Found, not_yet, found_own, found_other, held_in}
-use Rattle.plain_machine.specs.Shows.{Shown, activity_in, ShowsRunning, ShowsKept}
-use Rattle.plain_machine.specs.Step.{fresh_frames, no_flights}
+use Rattle.plain_machine.specs.State.{State, off, on, booting, hibernating, undoing, settling, waking, loading, asleep, Running, Flight, goes_out, comes_in, Held, nothing, sure, maybe, Saved, own, other, Load, Found, not_yet, found_own, found_other, held_while_loading, held_hibernating, held_back}
+use Rattle.plain_machine.specs.Calls.{BootCall, reads_area, boot_call, HibernationCall, reads_header, writes_mark, syncs_mark, hibernation_call, are_synced_before, BackCall, reads_mark, takes_back, syncs_back, back_call, undo_call, LoadCall, of_mark, load_call}
+use Rattle.plain_machine.specs.Shows.{WorldView, activity_in, ShowsRunning, ShowsKept}
+use Rattle.plain_machine.specs.FreshMemory.{fresh_frames}
+use Rattle.plain_machine.specs.Step.{no_flights}
 use Rattle.plain_machine.specs.Trace.{meta_in, data_frames, data_pages}
 use Rattle.plain_machine.specs.declared.no_swap.NoSwap.{NoSwap}
 use Rattle.plain_machine.specs.declared.event.BootFrom.{BootFrom}
@@ -92,7 +94,7 @@ HaveSlotPages h c slots =
     (s : ℕ) (page : List ℕ) → slots s ≡ Some page → disk.block (disk.as_it_reads c) (block_of_slot h s) ≡ page
 
 -- the slots that the table names as the image's lie on these blocks
-abbrev pub NamesOnly : Hardware → Shown → List ℕ → Type 0
+abbrev pub NamesOnly : Hardware → WorldView → List ℕ → Type 0
 NamesOnly h shown blocks =
     (s : ℕ) → s < h.slots → raw_slot_entry h shown.frames s ≡ image_slot → Contains blocks (block_of_slot h s)
 
@@ -105,16 +107,16 @@ laid_blocks h a i = blocks_laid h a.memory i
 
 -- The slots that are named as an image's: those of the held one lie on its blocks, also where it is only perhaps there. Of
 -- another's image no slot is named so.
-pub record NamesOwn (h : Hardware) (shown : Shown) (i : Image) : Type 0 where
+pub record NamesOwn (h : Hardware) (shown : WorldView) (i : Image) : Type 0 where
   pub memory : Memory
   pub image : i ≡ image_of_memory h memory i.slots i.format
   pub names : NamesOnly h shown (blocks_laid h memory i)
 
-abbrev pub NamesSaved : Hardware → Shown → Saved → Type 0
+abbrev pub NamesSaved : Hardware → WorldView → Saved → Type 0
 NamesSaved h shown (own i) = NamesOwn h shown i
 NamesSaved h shown other = NamesOnly h shown []
 
-abbrev pub NamesHeld : Hardware → Shown → Held → Type 0
+abbrev pub NamesHeld : Hardware → WorldView → Held → Type 0
 NamesHeld h shown nothing = NamesOnly h shown []
 NamesHeld h shown (sure x) = NamesSaved h shown x
 NamesHeld h shown (maybe x) = NamesSaved h shown x
@@ -164,10 +166,10 @@ pub record HasLaid (h : Hardware) (c : disk.Content) (i : Image) (a : Running) :
 
 -- What the first k steps wrote reads as laid, and the copies are the image's pages. After the first sync every image of the
 -- disk has it.
-pub record IsWritten (h : Hardware) (shown : Shown) (c : disk.Content) (i : Image) (a : Running) (k : ℕ) : Type 0 where
+pub record IsWritten (h : Hardware) (shown : WorldView) (c : disk.Content) (i : Image) (a : Running) (k : ℕ) : Type 0 where
   pub laid : All (Reads (disk.as_it_reads c)) (take k (laid_writes h a i))
   pub copies : map (frame shown.frames) shown.copies ≡ map (λ saved. saved.1) i.frames
-  pub durable : hibernate_steps i - 3 ≤ k → HasLaid h c i a
+  pub durable : are_synced_before (hibernation_call i k) ≡ true → HasLaid h c i a
 
 -- 5. Loading.
 
@@ -191,7 +193,7 @@ data_read_in h v k = pages_read k - (meta_in h v + 1)
 
 -- What a resume shows after k steps: its loader and its check, the page frames that the loader holds, and the pages with data
 -- that were read, by page frame.
-pub record ShowsResume (h : Hardware) (shown : Shown) (load : Load) (k : ℕ) : Type 0 where
+pub record ShowsResume (h : Hardware) (shown : WorldView) (load : Load) (k : ℕ) : Type 0 where
   pub told : shown.resume ≡ Some (load.loader, load.check)
   pub kept : (p : ℕ) → p < top h.zones → (Contains (left_free h load.dump load.loader) p → ⊥) → frame shown.frames p ≡ loader_frame load.dump load.loader p
   pub read : (i : Image) → load.found ≡ found_own i → shown.loaded ≡ take (data_read i k) (with_data i)
@@ -208,7 +210,7 @@ IsFound (found_other v) = ⊤
 
 -- From the second step on it is known which image is read. Every image of the disk is the one that this step found, but for
 -- block(0). From the fourth on none is marked.
-pub record IsLoading (h : Hardware) (shown : Shown) (c : disk.Content) (load : Load) (k : ℕ) : Type 0 where
+pub record IsLoading (h : Hardware) (shown : WorldView) (c : disk.Content) (load : Load) (k : ℕ) : Type 0 where
   pub shows : ShowsResume h shown load k
   pub fits : FitsLoader h load
   pub found : 2 ≤ k → IsFound load.found
@@ -220,14 +222,53 @@ pub record IsLoading (h : Hardware) (shown : Shown) (c : disk.Content) (load : L
 abbrev pub HasOneImage : disk.Content → Type 0
 HasOneImage c = (v w : disk.DiskImage) → disk.IsImage c v → disk.IsImage c w → v ≡ w
 
-abbrev pub KeepsHeader : Hardware → Shown → disk.Content → Type 0
+abbrev pub KeepsHeader : Hardware → WorldView → disk.Content → Type 0
 KeepsHeader h shown c = shown.header ≡ header_of h (disk.as_it_reads c)
 
-pub record KeepsMark (h : Hardware) (shown : Shown) (c : disk.Content) (i : Image) (a : Running) : Type 0 where
+pub record KeepsMark (h : Hardware) (shown : WorldView) (c : disk.Content) (i : Image) (a : Running) : Type 0 where
   pub marked : IsMarked shown.header
   pub mark : HasMark h i.format (first_map_block h a) shown.header
   pub unmarked : IsMarked (taken_back shown.header) → ⊥
   pub area : AgreeOnArea (taken_back shown.header) (area_block h (disk.as_it_reads c))
+
+-- What there is before the call that comes next.
+
+abbrev pub IsBeforeBoot : disk.Content → Option BootCall → Type 0
+IsBeforeBoot c (Some reads_area) = HasOneImage c
+IsBeforeBoot c call = ⊤
+
+pub record IsBeforeMark (h : Hardware) (shown : WorldView) (c : disk.Content) : Type 0 where
+  pub one : HasOneImage c
+  pub header : KeepsHeader h shown c
+
+pub record IsBeforeLastSync (h : Hardware) (shown : WorldView) (c : disk.Content) (i : Image) (a : Running) : Type 0 where
+  pub mark : KeepsMark h shown c i a
+  pub holds : Holds h (disk.as_it_reads c) i
+
+abbrev pub IsBeforeCall : Hardware → WorldView → disk.Content → Image → Running → Option HibernationCall → Type 0
+IsBeforeCall h shown c i a (Some reads_header) = HasOneImage c
+IsBeforeCall h shown c i a (Some writes_mark) = IsBeforeMark h shown c
+IsBeforeCall h shown c i a (Some syncs_mark) = IsBeforeLastSync h shown c i a
+IsBeforeCall h shown c i a call = ⊤
+
+abbrev pub ReadsUnmarked : Hardware → disk.Content → Type 0
+ReadsUnmarked h c = Marked h (disk.as_it_reads c) → ⊥
+
+abbrev pub IsBeforeUndo : Hardware → WorldView → disk.Content → Image → Running → Option BackCall → Type 0
+IsBeforeUndo h shown c i a (Some takes_back) = KeepsMark h shown c i a
+IsBeforeUndo h shown c i a (Some syncs_back) = ReadsUnmarked h c
+IsBeforeUndo h shown c i a call = ⊤
+
+abbrev pub IsBeforeBack : Hardware → WorldView → disk.Content → Option BackCall → Type 0
+IsBeforeBack h shown c (Some takes_back) = KeepsHeader h shown c
+IsBeforeBack h shown c (Some syncs_back) = ReadsUnmarked h c
+IsBeforeBack h shown c call = ⊤
+
+abbrev pub IsBeforeLoad : Hardware → WorldView → disk.Content → LoadCall → Type 0
+IsBeforeLoad h shown c (of_mark reads_mark) = HasOneImage c
+IsBeforeLoad h shown c (of_mark takes_back) = IsBeforeMark h shown c
+IsBeforeLoad h shown c (of_mark syncs_back) = ReadsUnmarked h c
+IsBeforeLoad h shown c call = ⊤
 
 -- 7. Asleep and waking: the image is the held one, and that of the memory that is kept.
 pub record IsSaved (h : Hardware) (i : Image) (held : Held) (a : Running) : Type 0 where
@@ -236,11 +277,13 @@ pub record IsSaved (h : Hardware) (i : Image) (held : Held) (a : Running) : Type
 
 -- Stands, by the state: what the world shows is the state's, and what the disk may hold is as its parts say.
 
-abbrev pub StandsOff : Hardware → disk.Content → Held → Type 0
-StandsOff h c held = IsHeld h c held × IsHeader h c
+pub record StandsOff (h : Hardware) (shown : WorldView) (c : disk.Content) (image : Held) (kept : Option Memory) : Type 0 where
+  pub memory : ShowsKept h shown kept
+  pub held : IsHeld h c image
+  pub header : IsHeader h c
 
 -- the disk of a running state
-pub record StandsOn (h : Hardware) (shown : Shown) (c : disk.Content) (a : Running) : Type 0 where
+pub record StandsOn (h : Hardware) (shown : WorldView) (c : disk.Content) (a : Running) : Type 0 where
   pub held : IsHeld h c a.held
   pub task_slots : AreTaskSlots h a.unusable a.memory a.flights a.slots
   pub flights : HasFlights h a
@@ -249,10 +292,14 @@ pub record StandsOn (h : Hardware) (shown : Shown) (c : disk.Content) (a : Runni
   pub header : IsHeader h c
   pub area : HasArea h c a
 
--- that of an operation, behind which a running state waits, and where another image is held
-pub record StandsBehind (h : Hardware) (shown : Shown) (c : disk.Content) (a : Running) (image : Held) : Type 0 where
+pub record StandsRunning (h : Hardware) (shown : WorldView) (c : disk.Content) (a : Running) : Type 0 where
+  pub memory : ShowsRunning h shown a
+  pub disk : StandsOn h shown c a
+
+-- an operation, behind which a running state waits, and where this image is held
+pub record StandsBehind (h : Hardware) (shown : WorldView) (c : disk.Content) (a : Running) (image : Held) : Type 0 where
+  pub memory : ShowsRunning h shown a
   pub held : IsHeld h c image
-  pub shows : ShowsRunning h shown a
   pub task_slots : AreTaskSlots h a.unusable a.memory a.flights a.slots
   pub flights : HasFlights h a
   pub slot_pages : HaveSlotPages h c a.slots
@@ -260,36 +307,64 @@ pub record StandsBehind (h : Hardware) (shown : Shown) (c : disk.Content) (a : R
   pub area : HasArea h c a
 
 -- a boot from fresh memory has its page frames from the begin on; one from a dump's memory has that
-abbrev pub ShowsBoot : Hardware → Shown → BootFrom → Memory → Type 0
+abbrev pub ShowsBoot : Hardware → WorldView → BootFrom → Memory → Type 0
 ShowsBoot h shown Fresh dump = shown.frames ≡ fresh_frames h
 ShowsBoot h shown Kept dump = (shown.frames ≡ dump) × Fits h dump
 
--- the parts that a state has
-abbrev pub HasParts : Hardware → Shown → disk.Content → State → Type 0
-HasParts h shown c (off held kept) = ShowsKept h shown kept × StandsOff h c held
-HasParts h shown c (on a) = ShowsRunning h shown a × StandsOn h shown c a
-HasParts h shown c (booting from dump held k) = ShowsBoot h shown from dump × StandsOff h c held × (k ≡ 1 → HasOneImage c)
-HasParts h shown c (hibernating suspends i a k) =
-    StandsBehind h shown c a (held_in (hibernating suspends i a k)) × IsAccepted h a i × NamesOnly h shown (laid_blocks h a i) × IsWritten h shown c i a k
-    × (k ≡ hibernate_steps i - 3 → HasOneImage c)
-    × (k ≡ hibernate_steps i - 2 → HasOneImage c × KeepsHeader h shown c)
-    × (k ≡ hibernate_steps i - 1 → KeepsMark h shown c i a × Holds h (disk.as_it_reads c) i)
-HasParts h shown c (undoing i call a k) =
-    StandsBehind h shown c a (maybe (own i)) × IsAccepted h a i × NamesOnly h shown (laid_blocks h a i) × HasLaid h c i a
-    × (k ≡ 0 → KeepsMark h shown c i a)
-    × (k ≡ 1 → Marked h (disk.as_it_reads c) → ⊥)
-HasParts h shown c (settling a k) =
-    StandsBehind h shown c a (held_in (settling a k)) × NamesHeld h shown a.held × (k ≡ 1 → KeepsHeader h shown c)
-    × (k ≡ 2 → Marked h (disk.as_it_reads c) → ⊥)
-HasParts h shown c (waking i held a k) =
-    StandsBehind h shown c a (held_in (waking i held a k)) × NamesHeld h shown held × IsSaved h i held a
-    × (k ≡ 1 → KeepsHeader h shown c) × (k ≡ 2 → Marked h (disk.as_it_reads c) → ⊥)
-HasParts h shown c (loading load k) =
-    StandsOff h c (held_in (loading load k)) × IsLoading h shown c load k × ((k ≡ 1) ⊎ (k ≡ 2) → HasOneImage c)
-    × (k ≡ 2 → KeepsHeader h shown c) × (k ≡ 3 → Marked h (disk.as_it_reads c) → ⊥)
-HasParts h shown c (asleep i held a) = StandsBehind h shown c a held × NamesHeld h shown held × IsSaved h i held a
+pub record StandsBooting (h : Hardware) (shown : WorldView) (c : disk.Content) (from : BootFrom) (dump : Memory) (image : Held) (k : ℕ) : Type 0 where
+  pub memory : ShowsBoot h shown from dump
+  pub held : IsHeld h c image
+  pub header : IsHeader h c
+  pub before : IsBeforeBoot c (boot_call k)
+
+pub record StandsHibernating (h : Hardware) (shown : WorldView) (c : disk.Content) (i : Image) (a : Running) (k : ℕ) : Type 0 where
+  pub behind : StandsBehind h shown c a (held_hibernating i (hibernation_call i k))
+  pub accepted : IsAccepted h a i
+  pub names : NamesOnly h shown (laid_blocks h a i)
+  pub written : IsWritten h shown c i a k
+  pub before : IsBeforeCall h shown c i a (hibernation_call i k)
+
+pub record StandsUndoing (h : Hardware) (shown : WorldView) (c : disk.Content) (i : Image) (a : Running) (k : ℕ) : Type 0 where
+  pub behind : StandsBehind h shown c a (maybe (own i))
+  pub accepted : IsAccepted h a i
+  pub names : NamesOnly h shown (laid_blocks h a i)
+  pub laid : HasLaid h c i a
+  pub before : IsBeforeUndo h shown c i a (undo_call k)
+
+pub record StandsSettling (h : Hardware) (shown : WorldView) (c : disk.Content) (a : Running) (k : ℕ) : Type 0 where
+  pub behind : StandsBehind h shown c a (held_back a.held (back_call k))
+  pub names : NamesHeld h shown a.held
+  pub before : IsBeforeBack h shown c (back_call k)
+
+pub record StandsWaking (h : Hardware) (shown : WorldView) (c : disk.Content) (i : Image) (held : Held) (a : Running) (k : ℕ) : Type 0 where
+  pub behind : StandsBehind h shown c a (held_back held (back_call k))
+  pub names : NamesHeld h shown held
+  pub saved : IsSaved h i held a
+  pub before : IsBeforeBack h shown c (back_call k)
+
+pub record StandsLoading (h : Hardware) (shown : WorldView) (c : disk.Content) (load : Load) (k : ℕ) : Type 0 where
+  pub held : IsHeld h c (held_while_loading load k)
+  pub header : IsHeader h c
+  pub resume : IsLoading h shown c load k
+  pub before : IsBeforeLoad h shown c (load_call k)
+
+pub record StandsAsleep (h : Hardware) (shown : WorldView) (c : disk.Content) (i : Image) (held : Held) (a : Running) : Type 0 where
+  pub behind : StandsBehind h shown c a held
+  pub names : NamesHeld h shown held
+  pub saved : IsSaved h i held a
+
+abbrev pub HasParts : Hardware → WorldView → disk.Content → State → Type 0
+HasParts h shown c (off held kept) = StandsOff h shown c held kept
+HasParts h shown c (on a) = StandsRunning h shown c a
+HasParts h shown c (booting from dump held k) = StandsBooting h shown c from dump held k
+HasParts h shown c (hibernating suspends i a k) = StandsHibernating h shown c i a k
+HasParts h shown c (undoing i call a k) = StandsUndoing h shown c i a k
+HasParts h shown c (settling a k) = StandsSettling h shown c a k
+HasParts h shown c (waking i held a k) = StandsWaking h shown c i held a k
+HasParts h shown c (loading load k) = StandsLoading h shown c load k
+HasParts h shown c (asleep i held a) = StandsAsleep h shown c i held a
 
 -- A world that shows this and a disk with this content stand for a state: it shows what the state is at, and its parts hold.
-pub record Stands (h : Hardware) (shown : Shown) (c : disk.Content) (a : State) : Type 0 where
+pub record Stands (h : Hardware) (shown : WorldView) (c : disk.Content) (a : State) : Type 0 where
   pub activity : shown.activity ≡ activity_in a
   pub parts : HasParts h shown c a

@@ -1,9 +1,10 @@
 -- The states of the plain machine. It has no bitmap, copy frame, map page, safe frame or write order.
 -- In Linux what passes between them is hibernate and software_resume, kernel/power/hibernate.c.
-use Rattle.std.specs.Prelude.{ℕ, ◌-◌, ◌==◌, Bool, nat_lt, Option, None, if◌then◌else◌}
+use Rattle.std.specs.Prelude.{ℕ, Bool, Option, Some, None}
 use Rattle.definitions.specs.Disk as disk
 use Rattle.plain_machine.specs.Machine.{Memory}
-use Rattle.plain_machine.specs.Image.{Image, SlotPages, hibernate_steps}
+use Rattle.plain_machine.specs.Image.{Image, SlotPages}
+use Rattle.plain_machine.specs.Calls.{HibernationCall, writes_page, syncs_pages, reads_header, writes_mark, syncs_mark, hibernation_call, BackCall, reads_mark, takes_back, syncs_back, back_call, LoadCall, syncs_first, of_mark, reads_image, load_call}
 use Rattle.plain_machine.specs.declared.no_swap.NoSwap.{NoSwap}
 use Rattle.plain_machine.specs.declared.event.BootFrom.{BootFrom}
 use Rattle.plain_machine.specs.declared.event.Loader.{Loader}
@@ -73,22 +74,42 @@ saved_found not_yet held = held
 saved_found (found_own i) held = sure (own i)
 saved_found (found_other v) held = sure other
 
--- what is on the disk while a resume has made k steps
+-- what is on the disk before a call of a resume
+abbrev pub held_loading : Load → LoadCall → Held
+held_loading load syncs_first = load.held
+held_loading load (of_mark reads_mark) = load.held
+held_loading load (of_mark takes_back) = saved_found load.found load.held
+held_loading load (of_mark syncs_back) = perhaps (saved_found load.found load.held)
+held_loading load reads_image = nothing
+
 abbrev pub held_while_loading : Load → ℕ → Held
-held_while_loading load k =
-    if nat_lt k 2 then load.held
-    else (if k == 2 then saved_found load.found load.held
-    else (if k == 3 then perhaps (saved_found load.found load.held) else nothing))
+held_while_loading load k = held_loading load (load_call k)
+
+-- before a call of a hibernation: its image is perhaps there from the write of the mark on
+abbrev pub held_hibernating : Image → Option HibernationCall → Held
+held_hibernating i (Some writes_page) = nothing
+held_hibernating i (Some syncs_pages) = nothing
+held_hibernating i (Some reads_header) = nothing
+held_hibernating i (Some writes_mark) = nothing
+held_hibernating i (Some syncs_mark) = maybe (own i)
+held_hibernating i None = maybe (own i)
+
+-- and before one that takes what is held back
+abbrev pub held_back : Held → Option BackCall → Held
+held_back held (Some reads_mark) = held
+held_back held (Some takes_back) = held
+held_back held (Some syncs_back) = perhaps held
+held_back held None = perhaps held
 
 -- what is on the disk in a state
 abbrev pub held_in : State → Held
 held_in (off held kept) = held
 held_in (on a) = a.held
 held_in (booting from dump held k) = held
-held_in (hibernating suspends i a k) = if nat_lt k (hibernate_steps i - 1) then nothing else maybe (own i)
+held_in (hibernating suspends i a k) = held_hibernating i (hibernation_call i k)
 held_in (undoing i call a k) = maybe (own i)
-held_in (settling a k) = if nat_lt k 2 then a.held else perhaps a.held
-held_in (waking i held a k) = if nat_lt k 2 then held else perhaps held
+held_in (settling a k) = held_back a.held (back_call k)
+held_in (waking i held a k) = held_back held (back_call k)
 held_in (loading load k) = held_while_loading load k
 held_in (asleep i held a) = held
 

@@ -1,12 +1,11 @@
 -- [step]: what the machine may answer, and the state after it. A pair that isn't among the outcomes can't come.
 -- In Linux: hibernation_snapshot, create_image and software_resume, kernel/power/hibernate.c; swsusp_write, mark_swapfiles,
 -- swsusp_check and swsusp_unmark, kernel/power/swap.c.
-use Rattle.std.specs.Prelude.{◌≡◌, ℕ, ◌+◌, ◌-◌, ◌*◌, ◌==◌, ◌&&◌, ◌||◌, Bool, true, false, not, nat_lt, nat_le, List, [], ◌∷◌, ◌++◌, length, filter, take, replicate, Option, Some, None, if◌then◌else◌, is_none, is_some, unwrap_or, slice_get, slice_set, Contains}
-use Rattle.std.specs.List.{range_with_len, find}
+use Rattle.std.specs.Prelude.{◌≡◌, ℕ, ◌+◌, ◌-◌, ◌*◌, ◌==◌, ◌&&◌, ◌||◌, Bool, true, false, not, nat_lt, nat_le, List, [], ◌∷◌, ◌++◌, length, filter, take, Option, Some, None, if◌then◌else◌, is_none, is_some, unwrap_or, slice_get, slice_set, Contains}
 use Rattle.page_core.specs.declared.format.Format.{Format}
 use Rattle.definitions.specs.Bytes.{zero_page, word, with_word}
 use Rattle.definitions.specs.Disk as disk
-use Rattle.definitions.specs.Zones.{numbers, top}
+use Rattle.definitions.specs.Zones.{numbers}
 use Rattle.definitions.specs.Tables.{frame, with_entry, with_entries, page_flags}
 use Rattle.definitions.specs.NumberPages.{meta_of}
 use Rattle.sig_header.specs.AreaKind.{area_kind}
@@ -16,7 +15,9 @@ use Rattle.plain_machine.specs.Loader.{has, left_free, need, restored}
 use Rattle.plain_machine.specs.Trace.{trace, restored_in, slots_in}
 use Rattle.plain_machine.specs.UsableArea.{area_fault, dump_area_fault, area_block, bad_slots_in}
 use Rattle.plain_machine.specs.Chain.{is_marked_disk}
-use Rattle.plain_machine.specs.State.{State, off, on, booting, hibernating, undoing, settling, waking, loading, asleep, Running, Held, nothing, sure, maybe, perhaps, own, other, Flight, goes_out, comes_in, Load, Found, not_yet, found_own, found_other, held_in, kept_in, held_while_loading}
+use Rattle.plain_machine.specs.State.{State, off, on, booting, hibernating, undoing, settling, waking, loading, asleep, Running, Held, nothing, sure, maybe, perhaps, own, other, Flight, goes_out, comes_in, Load, Found, not_yet, found_own, found_other, held_in, kept_in, saved_found}
+use Rattle.plain_machine.specs.Calls.{BootCall, syncs_disk, reads_area, boot_call, HibernationCall, writes_page, syncs_pages, reads_header, writes_mark, syncs_mark, hibernation_call, BackCall, reads_mark, takes_back, syncs_back, back_call, undo_call, LoadCall, syncs_first, of_mark, reads_image, load_call}
+use Rattle.plain_machine.specs.FreshMemory.{fresh_memory}
 use Rattle.plain_machine.specs.Refusals.{refusal, free_slots_of}
 use Rattle.plain_machine.specs.declared.event.Event.{Event}
 use Rattle.plain_machine.specs.declared.event.Event.TheVariants as event
@@ -102,27 +103,6 @@ task_step h a t (Some flight) = finished h a t flight
 
 -- Booting.
 
--- the frame table of fresh memory: table frames 0, region frames their flags, all others free; slots free but the bad ones
-abbrev pub region_flags : Option (ℕ × ℕ × ℕ) → ℕ
-region_flags None = 1
-region_flags (Some r) = r.2
-
-unfoldable pub fresh_entry : Hardware → ℕ → ℕ
-fresh_entry h p =
-    if is_table_frame h p then 0 else region_flags (find (λ r. nat_le r.0 p && nat_lt p (r.0 + r.1)) h.regions)
-
--- memory with the entry of each of these numbers set by a rule
-unfoldable pub with_each_entry : (ℕ → ℕ) → List ℕ → ℕ → Memory → Memory
-with_each_entry entry [] table m = m
-with_each_entry entry (k ∷ ks) table m = with_each_entry entry ks table (with_entry m table k (entry k))
-
--- [tables]: all page frames zero but the frame table, and then with these slots
-unfoldable pub fresh_frames : Hardware → Memory
-fresh_frames h = with_each_entry (fresh_entry h) (numbers h.zones) h.frame_table (replicate (top h.zones) zero_page)
-
-unfoldable pub fresh_memory : Hardware → (ℕ → ℕ) → Memory
-fresh_memory h slots = with_each_entry slots (range_with_len 0 h.slots) h.slot_table (fresh_frames h)
-
 abbrev pub fresh_slot : Hardware → disk.DiskImage → ℕ → ℕ
 fresh_slot h v s =
     if is_some (area_fault h v) || has (bad_slots_in (area_kind (area_block h v))) s then bad_slot else 0
@@ -157,57 +137,71 @@ boot_outcomes h v from dump (maybe x) =
     (reply.Booted false, on (booted h v from dump nothing)) ∷ (reply.Booted true, on (booted h v from dump (sure x))) ∷ []
 
 abbrev pub boot_step : Hardware → disk.DiskImage → BootFrom → Memory → Held → ℕ → List Outcome
-boot_step h v from dump held k =
-    if k == 0 then done_or (reply.More 1 2) (booting from dump held 1) (reply.SyncFault Same) (off held None)
-    else (if k == 1 then boot_outcomes h v from dump held ++ only (reply.ReadFault Same) (off held None)
-    else [])
+boot_step h v from dump held k = by_call (boot_call k) where
+  by_call : Option BootCall → List Outcome
+  by_call None = []
+  by_call (Some syncs_disk) = done_or (reply.More 1 2) (booting from dump held 1) (reply.SyncFault Same) (off held None)
+  by_call (Some reads_area) = boot_outcomes h v from dump held ++ only (reply.ReadFault Same) (off held None)
 
--- Hibernating: the page and map writes, a sync, a read of block(0), the write of the mark, a sync.
+-- Hibernating.
 
 abbrev pub hibernated : Bool → Image → Running → Outcome
 hibernated false i a = (reply.Hibernated (n_of i), off (sure (own i)) None)
 hibernated true i a = (reply.Asleep (n_of i), asleep i (sure (own i)) a)
 
--- step k + 1 of N
+-- step k + 1, and its reply where more follow
+abbrev pub hibernates_on : Bool → Image → Running → ℕ → Outcome
+hibernates_on suspends i a k = (reply.More (k + 1) (hibernate_steps i), hibernating suspends i a (k + 1))
+
+-- by the call that it makes
+abbrev pub hibernation_outcomes : Bool → Image → Running → ℕ → Option HibernationCall → List Outcome
+hibernation_outcomes suspends i a k None = []
+hibernation_outcomes suspends i a k (Some writes_page) = hibernates_on suspends i a k ∷ (reply.WriteFault Same, on a) ∷ []
+hibernation_outcomes suspends i a k (Some syncs_pages) = hibernates_on suspends i a k ∷ (reply.SyncFault Same, on a) ∷ []
+hibernation_outcomes suspends i a k (Some reads_header) = hibernates_on suspends i a k ∷ (reply.ReadFault Same, on a) ∷ []
+hibernation_outcomes suspends i a k (Some writes_mark) = hibernates_on suspends i a k ∷ (reply.Undo undo.Write 0, undoing i undo.Write a 0) ∷ []
+hibernation_outcomes suspends i a k (Some syncs_mark) = hibernated suspends i a ∷ (reply.Undo undo.Sync 0, undoing i undo.Sync a 0) ∷ []
+
 abbrev pub hibernate_step : Bool → Image → Running → ℕ → List Outcome
-hibernate_step suspends i a k =
-    let last = hibernate_steps i in
-    let next : Outcome = (reply.More (k + 1) last, hibernating suspends i a (k + 1)) in
-    if nat_lt (k + 1) (last - 3) then next ∷ (reply.WriteFault Same, on a) ∷ []
-    else (if k + 1 == last - 3 then next ∷ (reply.SyncFault Same, on a) ∷ []
-    else (if k + 1 == last - 2 then next ∷ (reply.ReadFault Same, on a) ∷ []
-    else (if k + 1 == last - 1 then next ∷ (reply.Undo undo.Write 0, undoing i undo.Write a 0) ∷ []
-    else (if k + 1 == last then hibernated suspends i a ∷ (reply.Undo undo.Sync 0, undoing i undo.Sync a 0) ∷ []
-    else []))))
+hibernate_step suspends i a k = hibernation_outcomes suspends i a k (hibernation_call i k)
 
 abbrev pub undone_fault : UndoCall → Left → Reply
 undone_fault undo.Write left = reply.WriteFault left
 undone_fault undo.Sync left = reply.SyncFault left
 
 abbrev pub undo_step : Image → UndoCall → Running → ℕ → List Outcome
-undo_step i call a k =
-    let failed : Outcome = (undone_fault call Unsure, on (record a { held = maybe (own i) })) in
-    if k == 0 then (reply.Undo call 1, undoing i call a 1) ∷ failed ∷ []
-    else (if k == 1 then (undone_fault call Gone, on (record a { held = nothing })) ∷ failed ∷ []
-    else [])
+undo_step i call a k = by_call (undo_call k) where
+  failed : Outcome
+  failed = (undone_fault call Unsure, on (record a { held = maybe (own i) }))
 
--- Settling and waking: a read of block(0), its write taken back, a sync.
+  by_call : Option BackCall → List Outcome
+  by_call (Some takes_back) = (reply.Undo call 1, undoing i call a 1) ∷ failed ∷ []
+  by_call (Some syncs_back) = (undone_fault call Gone, on (record a { held = nothing })) ∷ failed ∷ []
+  by_call _ = []
+
+-- Settling and waking.
 
 abbrev pub settle_step : Running → ℕ → List Outcome
-settle_step a k =
-    let uncertain = on (record a { held = perhaps a.held }) in
-    if k == 0 then done_or (reply.More 1 3) (settling a 1) (reply.ReadFault Same) (on a)
-    else (if k == 1 then done_or (reply.More 2 3) (settling a 2) (reply.WriteFault Unsure) uncertain
-    else (if k == 2 then done_or reply.Settled (on (record a { held = nothing })) (reply.SyncFault Unsure) uncertain
-    else []))
+settle_step a k = by_call (back_call k) where
+  uncertain : State
+  uncertain = on (record a { held = perhaps a.held })
+
+  by_call : Option BackCall → List Outcome
+  by_call None = []
+  by_call (Some reads_mark) = done_or (reply.More 1 3) (settling a 1) (reply.ReadFault Same) (on a)
+  by_call (Some takes_back) = done_or (reply.More 2 3) (settling a 2) (reply.WriteFault Unsure) uncertain
+  by_call (Some syncs_back) = done_or reply.Settled (on (record a { held = nothing })) (reply.SyncFault Unsure) uncertain
 
 abbrev pub wake_step : Image → Held → Running → ℕ → List Outcome
-wake_step i held a k =
-    let uncertain = asleep i (perhaps held) a in
-    if k == 0 then done_or (reply.More 1 3) (waking i held a 1) (reply.ReadFault Same) (asleep i held a)
-    else (if k == 1 then done_or (reply.More 2 3) (waking i held a 2) (reply.WriteFault Unsure) uncertain
-    else (if k == 2 then done_or reply.Woken (on (record a { held = nothing })) (reply.SyncFault Unsure) uncertain
-    else []))
+wake_step i held a k = by_call (back_call k) where
+  uncertain : State
+  uncertain = asleep i (perhaps held) a
+
+  by_call : Option BackCall → List Outcome
+  by_call None = []
+  by_call (Some reads_mark) = done_or (reply.More 1 3) (waking i held a 1) (reply.ReadFault Same) (asleep i held a)
+  by_call (Some takes_back) = done_or (reply.More 2 3) (waking i held a 2) (reply.WriteFault Unsure) uncertain
+  by_call (Some syncs_back) = done_or reply.Woken (on (record a { held = nothing })) (reply.SyncFault Unsure) uncertain
 
 -- Resuming.
 
@@ -217,14 +211,16 @@ resumed m slots (loader.Ranges ranges) =
     on (record { memory = m; slots = slots; flights = no_flights; unusable = None; held = nothing })
 resumed m slots loader.Table = off nothing None
 
--- the fault of the device call of step k + 1 of a resume
+-- the fault of a call of a resume
+abbrev pub fault_of_load : Load → LoadCall → Outcome
+fault_of_load load syncs_first = (reply.SyncFault Same, off load.held None)
+fault_of_load load (of_mark reads_mark) = (reply.ReadFault Same, off load.held None)
+fault_of_load load (of_mark takes_back) = (reply.WriteFault Unsure, off (perhaps (saved_found load.found load.held)) None)
+fault_of_load load (of_mark syncs_back) = (reply.SyncFault Unsure, off (perhaps (saved_found load.found load.held)) None)
+fault_of_load load reads_image = (reply.ReadFault Gone, off nothing None)
+
 abbrev pub load_fault : Load → ℕ → Outcome
-load_fault load k =
-    if k == 0 then (reply.SyncFault Same, off load.held None)
-    else (if k == 1 then (reply.ReadFault Same, off load.held None)
-    else (if k == 2 then (reply.WriteFault Unsure, off (perhaps (held_while_loading load 2)) None)
-    else (if k == 3 then (reply.SyncFault Unsure, off (perhaps (held_while_loading load 2)) None)
-    else (reply.ReadFault Gone, off nothing None))))
+load_fault load k = fault_of_load load (load_call k)
 
 abbrev pub has_room : Hardware → Load → ℕ → Bool
 has_room h load d = nat_le (need d) (length (left_free h load.dump load.loader))
@@ -277,9 +273,11 @@ has_place h load (found_own i) k = nat_lt k (resume_steps i)
 has_place h load (found_other v) k = nat_lt k (length (trace h load.dump v load.loader load.check))
 
 abbrev pub load_answers : Hardware → disk.DiskImage → Load → ℕ → List Outcome
-load_answers h v load k =
-    if k == 0 then only (reply.Loading 1) (loading load 1)
-    else (if k == 1 then find_step h v load load.held else loaded_step h load load.found k)
+load_answers h v load k = by_call (load_call k) where
+  by_call : LoadCall → List Outcome
+  by_call syncs_first = only (reply.Loading 1) (loading load 1)
+  by_call (of_mark reads_mark) = find_step h v load load.held
+  by_call call = loaded_step h load load.found k
 
 abbrev pub load_step : Hardware → disk.DiskImage → Load → ℕ → List Outcome
 load_step h v load k =

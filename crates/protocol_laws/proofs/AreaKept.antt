@@ -10,8 +10,8 @@ use Rattle.definitions.specs.SwapHeader.{IsMarked, image_signature, sig_of, mark
 use Rattle.definitions.proofs.DiskLaws.{length-as_it_reads, IsImage-as_it_reads, block-same, as_it_reads-settled}
 use Rattle.definitions.proofs.Marks.{length-marked, taken_back-marked}
 use Rattle.plain_machine.specs.Machine.{Hardware, block_of_slot}
-use Rattle.plain_machine.specs.Chain.{header_of, blocks_of, Marked}
-use Rattle.plain_machine.specs.Stands.{AgreeOnArea, IsHeader}
+use Rattle.plain_machine.specs.Chain.{header_of, blocks_of}
+use Rattle.plain_machine.specs.Stands.{AgreeOnArea}
 use Rattle.plain_machine.specs.UsableArea.{area_block}
 use Rattle.image_laws.specs.ImageBlocks.{Tries}
 use Rattle.image_laws.proofs.ImageBlocks.{failed, long, sector_of_block, block_of_sectors, same_sector, taken_back_within, length-taken_back, marked_within}
@@ -21,6 +21,7 @@ use Rattle.protocol_laws.proofs.HeaderBack.{marked_on_disk}
 use Rattle.protocol_laws.proofs.MarkFields.{marked-is_marked}
 use Rattle.protocol_laws.proofs.Marking.{header_is, length-block, image_blocks, area_of, area_of-unmarked, area_of-marked, area_block-marked, area_block-unmarked}
 use Rattle.protocol_laws.proofs.Same.{SameHeader, same_header, same_area_block, by_other_write}
+use Rattle.protocol_laws.specs.AreaKept.{KeptByHeader, KeptByMark, KeptByOtherWrite, KeptByTakingBack, KeptBySync}
 
 agree_itself : (page : List ℕ) → AgreeOnArea page page
 agree_itself page = record { front = refl; signature = refl }
@@ -30,11 +31,11 @@ by_same_header h v w same = record { blocks = same.blocks; header = subst (Agree
 
 -- Calls that leave block(0).
 
-pub kept_by_other_write : (h : Hardware) (blocks b : ℕ) (page : List ℕ) (c c' : disk.Content) → disk.IsContent blocks c → b ≢ block_of_slot h 0 → Tries b page c c' → IsSameArea h (disk.as_it_reads c) (disk.as_it_reads c')
+pub kept_by_other_write : KeptByOtherWrite
 kept_by_other_write h blocks b page c c' whole apart tries =
     by_same_header h (disk.as_it_reads c) (disk.as_it_reads c') (by_other_write h blocks b page c c' whole tries (λ e. apart (sym e))).reads
 
-pub kept_by_sync : (h : Hardware) (c c' : disk.Content) → disk.Syncs c c' → IsSameArea h (disk.as_it_reads c) (disk.as_it_reads c')
+pub kept_by_sync : KeptBySync
 kept_by_sync h c c' syncs =
     let e : disk.as_it_reads c' ≡ disk.as_it_reads c = ap disk.as_it_reads syncs ∙ as_it_reads-settled (disk.as_it_reads c) in
     by_same_header h (disk.as_it_reads c) (disk.as_it_reads c') (record { blocks = ap blocks_of e; header = ap (header_of h) e })
@@ -143,8 +144,7 @@ within_by_area header page whole whole' agree = record {
   after = λ i le. get_or_past header i 0 (omega arith) ∙ sym (get_or_past page i 0 (omega arith));
 }
 
-pub kept_by_header : (h : Hardware) (blocks : ℕ) (page : List ℕ) (c c' : disk.Content) → disk.IsContent blocks c → block_of_slot h 0 < blocks → IsPage page → (IsMarked page → ⊥) → AgreeOnArea page (area_block h (disk.as_it_reads c)) →
-    Tries (block_of_slot h 0) page c c' → IsSameArea h (disk.as_it_reads c) (disk.as_it_reads c')
+pub kept_by_header : KeptByHeader
 kept_by_header h blocks page c c' whole lt is_page unmarked agree tries =
     let v = disk.as_it_reads c in
     let here = is_here h blocks c whole lt in
@@ -156,8 +156,7 @@ kept_by_header h blocks page c c' whole lt is_page unmarked agree tries =
       tries = tries;
     }) (subst (λ (p : List ℕ). AgreeOnArea p (area_block h v)) (sym (area_of-unmarked page unmarked)) agree)
 
-pub kept_by_taking_back : (h : Hardware) (blocks : ℕ) (c c' : disk.Content) → disk.IsContent blocks c → IsHeader h c → Marked h (disk.as_it_reads c) →
-    Tries (block_of_slot h 0) (taken_back (header_of h (disk.as_it_reads c))) c c' → IsSameArea h (disk.as_it_reads c) (disk.as_it_reads c')
+pub kept_by_taking_back : KeptByTakingBack
 kept_by_taking_back h blocks c c' whole header is_marked tries =
     let v = disk.as_it_reads c in
     let image = IsImage-as_it_reads blocks c whole in
@@ -169,8 +168,7 @@ kept_by_taking_back h blocks c c' whole header is_marked tries =
     kept_by_header h blocks (taken_back (header_of h v)) c c' whole lt (length-taken_back (header_of h v) here.page) (λ m. header.unmarked v image (subst IsMarked (sym area) m))
     (subst (AgreeOnArea (taken_back (header_of h v))) (sym area) (agree_itself (taken_back (header_of h v)))) tries
 
-pub kept_by_mark : (h : Hardware) (blocks first flags hw : ℕ) (c c' : disk.Content) → disk.IsContent blocks c → block_of_slot h 0 < blocks → (Marked h (disk.as_it_reads c) → ⊥) →
-    Tries (block_of_slot h 0) (marked (header_of h (disk.as_it_reads c)) first flags hw) c c' → IsSameArea h (disk.as_it_reads c) (disk.as_it_reads c')
+pub kept_by_mark : KeptByMark
 kept_by_mark h blocks first flags hw c c' whole lt unmarked tries =
     let v = disk.as_it_reads c in
     let header = header_of h v in

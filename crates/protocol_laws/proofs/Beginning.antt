@@ -5,22 +5,19 @@ use Rattle.std.proofs.lemmas.Bool.{cases_lt, lt-ltb, false≢true}
 use Rattle.std.proofs.lemmas.Option.{none-some}
 use Rattle.std.proofs.lemmas.List.FromFn.{length-range_with_len}
 use Rattle.std.proofs.lemmas.List.Sums.{count_by-le-length, length-filter}
-use Rattle.page_core.specs.declared.format.Format.{Format}
-use Rattle.definitions.specs.Disk as disk
 use Rattle.plain_machine.specs.Machine.{Hardware, IsHardware, unused_slots, slot_entry}
 use Rattle.plain_machine.specs.Chain.{or_else}
 use Rattle.plain_machine.specs.Image.{image_of_memory, pages_of, maps_of}
 use Rattle.plain_machine.specs.Refusals.{refusal, refused_if, is_held, busy, closed, no_swap, no_frames, no_slots}
-use Rattle.plain_machine.specs.Shows.{Shown, hibernates}
-use Rattle.plain_machine.specs.Stands.{Stands, IsHeld, IsAccepted}
-use Rattle.plain_machine.specs.State.{on, hibernating, Running, Held, nothing, sure, maybe}
-use Rattle.plain_machine.specs.declared.event.Event.TheVariants as event
+use Rattle.plain_machine.specs.Stands.{IsHeld, IsBeforeCall}
+use Rattle.plain_machine.specs.State.{Running, Held, nothing, sure, maybe}
 use Rattle.plain_machine.specs.declared.no_swap.NoSwap.{NoSwap}
 use Rattle.plain_machine.specs.declared.reply.Reply.{Reply}
 use Rattle.plain_machine.specs.declared.reply.Reply.TheVariants as reply
-use Rattle.protocol_laws.specs.Steps.{ShowsCopies}
 use Rattle.plain_machine.proofs.Flights.{idle_tasks}
+use Rattle.plain_machine.proofs.Calls.{call_writes, synced_at}
 use Rattle.protocol_laws.proofs.Back.{held_before}
+use Rattle.protocol_laws.specs.Hibernating.{IsAcceptedUnlessRefused, Begins}
 
 -- What isn't refused.
 
@@ -61,7 +58,7 @@ room_suffices : (pages slots : ℕ) → pages + 1026 ≤ slots → slots ≤ 131
 room_suffices pages slots enough few = omega arith
 
 -- a hibernation that isn't refused is accepted
-pub accepts : (h : Hardware) (a : Running) (f : Format) → IsHardware h → refusal h (on a) (event.Hibernate f) ≡ None → IsAccepted h a (image_of_memory h a.memory a.slots f)
+pub accepts : IsAcceptedUnlessRefused
 unfolding refusal
 accepts h a f hw none =
     let i = image_of_memory h a.memory a.slots f in
@@ -80,33 +77,30 @@ accepts h a f hw none =
       room = room_suffices (pages_of i) free enough (few_slots h a hw);
     }
 
-pub begins : (h : Hardware) (shown shown' : Shown) (c : disk.Content) (a : Running) (f : Format) (suspends : Bool) → IsHardware h → Stands h shown c (on a) → refusal h (on a) (event.Hibernate f) ≡ None →
-    shown'.activity ≡ hibernates suspends 0 → ShowsCopies h shown' a (image_of_memory h a.memory a.slots f) → Stands h shown' c (hibernating suspends (image_of_memory h a.memory a.slots f) a 0)
+pub begins : Begins
 begins h shown shown' c a f suspends hw stands none activity shows =
     let i = image_of_memory h a.memory a.slots f in
     let accepted = accepts h a f hw none in
-    let was = stands.parts.1 in
+    let was = stands.parts.disk in
     record {
       activity = activity;
-      parts = (
-        record {
+      parts = record {
+        behind = record {
+          memory = shows.shows;
           held = subst (IsHeld h c) (accepted.unheld ∙ sym (held_before suspends i a 0 (omega arith))) was.held;
-          shows = shows.shows;
           task_slots = was.task_slots;
           flights = was.flights;
           slot_pages = was.slot_pages;
           header = was.header;
           area = was.area;
-        },
-        accepted,
-        shows.names,
-        record {
+        };
+        accepted = accepted;
+        names = shows.names;
+        written = record {
           laid = λ k d lt. absurd (omega arith);
           copies = shows.copies;
-          durable = λ le. absurd (omega arith);
-        },
-        (λ e. absurd (omega arith)),
-        (λ e. absurd (omega arith)),
-        (λ e. absurd (omega arith)),
-      );
+          durable = λ synced. absurd (let few = synced_at i 0 synced in omega arith);
+        };
+        before = subst (IsBeforeCall h shown' c i a) (sym (call_writes i 0 (omega arith))) tt;
+      };
     }

@@ -8,7 +8,7 @@ use Rattle.image_laws.specs.ImageBlocks.{Tries}
 use Rattle.plain_machine.specs.Machine.{Hardware, IsHardware, block_of_slot}
 use Rattle.plain_machine.specs.Chain.{header_of, Marked, Holds}
 use Rattle.plain_machine.specs.Image.{Image}
-use Rattle.plain_machine.specs.Shows.{Shown, ShowsRunning}
+use Rattle.plain_machine.specs.Shows.{WorldView, ShowsRunning}
 use Rattle.plain_machine.specs.Stands.{StandsBehind, StandsOn, KeepsHeader, IsHeld, IsOwn, IsFlight, HasFlights, NamesOnly, NamesHeld}
 use Rattle.plain_machine.specs.State.{Running, Held, nothing, sure, maybe, own, other, perhaps}
 use Rattle.protocol_laws.specs.Rows.{IsSameArea}
@@ -21,10 +21,10 @@ use Rattle.protocol_laws.proofs.Same.{header_kept, area_kept, by_sync}
 use Rattle.protocol_laws.proofs.Unmarking.{IsUnmarking, Torn, still, back, torn, kind_torn, own_torn, area_page, header_still, area_still, slots_still}
 
 -- It waits over the same disk.
-pub waits_on : (h : Hardware) (shown shown' : Shown) (c : disk.Content) (a : Running) (held : Held) → StandsBehind h shown c a held → ShowsRunning h shown' a → StandsBehind h shown' c a held
+pub waits_on : (h : Hardware) (shown shown' : WorldView) (c : disk.Content) (a : Running) (held : Held) → StandsBehind h shown c a held → ShowsRunning h shown' a → StandsBehind h shown' c a held
 waits_on h shown shown' c a held was shows = record {
   held = was.held;
-  shows = shows;
+  memory = shows;
   task_slots = was.task_slots;
   flights = was.flights;
   slot_pages = was.slot_pages;
@@ -33,7 +33,7 @@ waits_on h shown shown' c a held was shows = record {
 }
 
 -- What is written is the block that says of the area what each image says.
-pub unmarking : (h : Hardware) (shown : Shown) (c : disk.Content) (blocks : ℕ) (a : Running) (held : Held) → IsOnDisk h blocks c → StandsBehind h shown c a held → KeepsHeader h shown c → IsUnmarking h (unmarked_block shown.header) c blocks
+pub unmarking : (h : Hardware) (shown : WorldView) (c : disk.Content) (blocks : ℕ) (a : Running) (held : Held) → IsOnDisk h blocks c → StandsBehind h shown c a held → KeepsHeader h shown c → IsUnmarking h (unmarked_block shown.header) c blocks
 unmarking h shown c blocks a held over was keeps =
     let v = disk.as_it_reads c in
     let here = IsImage-as_it_reads blocks c over.content in
@@ -75,7 +75,7 @@ held_tried h page c c' blocks (maybe (own i)) un tries is = λ v in'. own_held h
 held_tried h page c c' blocks (sure other) un tries is = tt
 held_tried h page c c' blocks (maybe other) un tries is = tt
 
-pub names_perhaps : (h : Hardware) (shown : Shown) (held : Held) → NamesHeld h shown held → NamesHeld h shown (perhaps held)
+pub names_perhaps : (h : Hardware) (shown : WorldView) (held : Held) → NamesHeld h shown held → NamesHeld h shown (perhaps held)
 names_perhaps h shown nothing names = names
 names_perhaps h shown (sure x) names = names
 names_perhaps h shown (maybe x) names = names
@@ -92,19 +92,19 @@ flights_still h a held none has = record {
 }
 
 -- After the write, failed or not, the machine waits, or runs.
-pub waits_tried : (h : Hardware) (shown shown' : Shown) (page : List ℕ) (c c' : disk.Content) (blocks : ℕ) (a : Running) (held : Held) → IsHardware h → IsUnmarking h page c blocks → disk.IsContent blocks c' → Tries (block_of_slot h 0) page c c' →
+pub waits_tried : (h : Hardware) (shown shown' : WorldView) (page : List ℕ) (c c' : disk.Content) (blocks : ℕ) (a : Running) (held : Held) → IsHardware h → IsUnmarking h page c blocks → disk.IsContent blocks c' → Tries (block_of_slot h 0) page c c' →
     StandsBehind h shown c a held → ShowsRunning h shown' a → StandsBehind h shown' c' a (perhaps held)
 waits_tried h shown shown' page c c' blocks a held hardware un after tries was shows = record {
   held = held_tried h page c c' blocks held un tries was.held;
-  shows = shows;
+  memory = shows;
   task_slots = was.task_slots;
   flights = was.flights;
-  slot_pages = slots_read h c c' a.slots (slots_still h page c c' a hardware was.shows.fits was.task_slots tries) was.slot_pages;
+  slot_pages = slots_read h c c' a.slots (slots_still h page c c' a hardware was.memory.fits was.task_slots tries) was.slot_pages;
   header = header_still h page c c' blocks un after tries;
   area = area_still h page c c' blocks a un after tries was.area;
 }
 
-pub runs_unsure : (h : Hardware) (shown shown' : Shown) (c : disk.Content) (a : Running) → StandsBehind h shown c a (perhaps a.held) → NamesHeld h shown' a.held → StandsOn h shown' c (with_held a (perhaps a.held))
+pub runs_unsure : (h : Hardware) (shown shown' : WorldView) (c : disk.Content) (a : Running) → StandsBehind h shown c a (perhaps a.held) → NamesHeld h shown' a.held → StandsOn h shown' c (with_held a (perhaps a.held))
 runs_unsure h shown shown' c a was names = record {
   held = was.held;
   task_slots = was.task_slots;
@@ -116,7 +116,7 @@ runs_unsure h shown shown' c a was names = record {
 }
 
 -- After the sync no image is there, and it runs.
-pub runs_synced : (h : Hardware) (shown shown' : Shown) (c c' : disk.Content) (blocks : ℕ) (a : Running) (held : Held) → disk.IsContent blocks c → disk.Syncs c c' → (Marked h (disk.as_it_reads c) → ⊥) →
+pub runs_synced : (h : Hardware) (shown shown' : WorldView) (c c' : disk.Content) (blocks : ℕ) (a : Running) (held : Held) → disk.IsContent blocks c → disk.Syncs c c' → (Marked h (disk.as_it_reads c) → ⊥) →
     StandsBehind h shown c a held → NamesOnly h shown' [] → StandsOn h shown' c' (with_held a nothing)
 runs_synced h shown shown' c c' blocks a held whole syncs unmarked was names =
     let keeps = by_sync h blocks c c' whole syncs in

@@ -1,16 +1,14 @@
 -- The first four steps of a resume: a sync, the read of block(0), its write taken back, a sync.
-use Rattle.std.proofs.Common.{◌≡◌, ℕ, inl, inr, Bool, true, false, length, Option, None, refl, sym, ap, ◌∙◌, subst, arith}
+use Rattle.std.proofs.Common.{◌≡◌, ℕ, inl, inr, Bool, true, false, length, sym, ap, ◌∙◌, subst, arith}
 use Rattle.std.proofs.lemmas.Bool.{false≢true}
 use Rattle.definitions.specs.Disk as disk
 use Rattle.definitions.proofs.DiskLaws.{as_it_reads-settled, IsImage-after_sync, IsImage-as_it_reads}
-use Rattle.plain_machine.specs.Machine.{Hardware, Memory}
+use Rattle.plain_machine.specs.Machine.{Hardware}
 use Rattle.plain_machine.specs.Chain.{header_of, Marked, Holds}
 use Rattle.plain_machine.specs.Image.{Image}
-use Rattle.plain_machine.specs.Shows.{Shown, rests}
-use Rattle.plain_machine.specs.Stands.{Stands, IsHeld, IsOwn, IsTakenBack, HasOneImage, FitsLoader}
-use Rattle.plain_machine.specs.State.{off, loading, Held, nothing, sure, maybe, own, other, Load, Found, not_yet, found_own, found_other}
-use Rattle.protocol_laws.specs.Loads.{ShowsLoad}
-use Rattle.protocol_laws.specs.Resuming.{IsHeldOwn, with_found}
+use Rattle.plain_machine.specs.Stands.{IsHeld, IsOwn, IsTakenBack, HasOneImage}
+use Rattle.plain_machine.specs.State.{Held, nothing, sure, maybe, own, other, Found, not_yet, found_own, found_other}
+use Rattle.protocol_laws.specs.Resuming.{IsHeldOwn, FindsNone, FindsOwn, LoadBegins, LoadSyncs}
 use Rattle.protocol_laws.proofs.Same.{header_kept, by_sync}
 
 -- What was found.
@@ -45,23 +43,22 @@ same_own i j e = ap image_or e where
 
 -- The begin.
 
-pub load_begins : (h : Hardware) (shown shown' : Shown) (c : disk.Content) (held : Held) (kept : Option Memory) (load : Load) → Stands h shown c (off held kept) → load.held ≡ held → load.found ≡ not_yet → FitsLoader h load → ShowsLoad h shown' load 0 → Stands h shown' c (loading load 0)
+pub load_begins : LoadBegins
 load_begins h shown shown' c held kept load stands is fresh fits shows = record {
   activity = shows.activity;
-  parts = (
-    (subst (IsHeld h c) (sym is) stands.parts.1.0, stands.parts.1.1),
-    record {
+  parts = record {
+    held = subst (IsHeld h c) (sym is) stands.parts.held;
+    header = stands.parts.header;
+    resume = record {
       shows = shows.shows;
       fits = fits;
       found = λ le. absurd (omega arith);
       own = λ i e. absurd (found_something i (sym fresh ∙ e));
       others = λ v e. absurd (found_another v (sym fresh ∙ e));
       taken_back = λ le. absurd (omega arith);
-    },
-    (λ e. elim e [ inl one ↦ absurd (omega arith) | inr two ↦ absurd (omega arith) ]),
-    (λ e. absurd (omega arith)),
-    (λ e. absurd (omega arith)),
-  );
+    };
+    before = tt;
+  };
 }
 
 -- What fewer images keep.
@@ -83,38 +80,37 @@ reads_by_sync : (c c' : disk.Content) → disk.Syncs c c' → disk.as_it_reads c
 reads_by_sync c c' syncs = ap disk.as_it_reads syncs ∙ as_it_reads-settled (disk.as_it_reads c)
 
 -- the first sync
-pub load_syncs : (h : Hardware) (shown shown' : Shown) (c c' : disk.Content) (blocks : ℕ) (load : Load) → disk.IsContent blocks c → Stands h shown c (loading load 0) → disk.Syncs c c' → ShowsLoad h shown' load 1 → Stands h shown' c' (loading load 1)
+pub load_syncs : LoadSyncs
 load_syncs h shown shown' c c' blocks load whole stands syncs shows =
     let fewer = fewer_by_sync blocks c c' whole syncs in
-    let was = stands.parts.1 in
+    let was = stands.parts.resume in
     record {
       activity = shows.activity;
-      parts = (
-        (held_by_fewer h c c' load.held fewer stands.parts.0.0, header_kept h c c' (by_sync h blocks c c' whole syncs) stands.parts.0.1),
-        record {
+      parts = record {
+        held = held_by_fewer h c c' load.held fewer stands.parts.held;
+        header = header_kept h c c' (by_sync h blocks c c' whole syncs) stands.parts.header;
+        resume = record {
           shows = shows.shows;
           fits = was.fits;
           found = λ le. absurd (omega arith);
           own = λ i e. let o = was.own i e in (o.0, o.1, o.2, λ v in'. o.3 v (fewer v in'));
           others = λ v e w in'. was.others v e w (fewer w in');
           taken_back = λ le. absurd (omega arith);
-        },
-        (λ e. one_by_sync c c' syncs),
-        (λ e. absurd (omega arith)),
-        (λ e. absurd (omega arith)),
-      );
+        };
+        before = one_by_sync c c' syncs;
+      };
     }
 
 -- The read of block(0).
 
 -- no mark: no image is held
-pub finds_none : (h : Hardware) (shown shown' : Shown) (c : disk.Content) (blocks : ℕ) (load : Load) → disk.IsContent blocks c → Stands h shown c (loading load 1) → (Marked h (disk.as_it_reads c) → ⊥) → shown'.activity ≡ rests → shown'.keeps_dump ≡ false → Stands h shown' c (off nothing None)
+pub finds_none : FindsNone
 finds_none h shown shown' c blocks load whole stands unmarked activity kept =
-    let one = stands.parts.2 (inl refl) in
+    let one = stands.parts.before in
     let here = IsImage-as_it_reads blocks c whole in
     record {
       activity = activity;
-      parts = (kept, (λ v in' m. unmarked (subst (Marked h) (one v (disk.as_it_reads c) in' here) m), stands.parts.0.1));
+      parts = record { memory = kept; held = λ v in' m. unmarked (subst (Marked h) (one v (disk.as_it_reads c) in' here) m); header = stands.parts.header };
     }
 
 own_there : (h : Hardware) (c : disk.Content) (held : Held) (i : Image) (v : disk.DiskImage) → IsHeldOwn held i → IsHeld h c held → disk.IsImage c v → Marked h v → Holds h v i × IsOwn h v i
@@ -126,27 +122,25 @@ own_there h c held i v (inr is) there in' marked =
 pub itself : (h : Hardware) (v w : disk.DiskImage) → w ≡ v → IsTakenBack h v w
 itself h v w e = record { size = ap length e; others = λ b lt apart. ap (λ (u : disk.DiskImage). disk.block u b) e; header = inl (ap (header_of h) e) }
 
-pub finds_own : (h : Hardware) (shown shown' : Shown) (c : disk.Content) (blocks : ℕ) (load : Load) (i : Image) → disk.IsContent blocks c → Stands h shown c (loading load 1) → IsHeldOwn load.held i → Marked h (disk.as_it_reads c) →
-    shown'.header ≡ header_of h (disk.as_it_reads c) → ShowsLoad h shown' (with_found load i) 2 → Stands h shown' c (loading (with_found load i) 2)
+pub finds_own : FindsOwn
 finds_own h shown shown' c blocks load i whole stands held marked header shows =
     let v = disk.as_it_reads c in
-    let one = stands.parts.2 (inl refl) in
+    let one = stands.parts.before in
     let here = IsImage-as_it_reads blocks c whole in
-    let there = own_there h c load.held i v held stands.parts.0.0 here marked in
+    let there = own_there h c load.held i v held stands.parts.held here marked in
     record {
       activity = shows.activity;
-      parts = (
-        ((λ w in'. let e = one v w here in' in (subst (λ (u : disk.DiskImage). Holds h u i) e there.0, subst (λ (u : disk.DiskImage). IsOwn h u i) e there.1)), stands.parts.0.1),
-        record {
+      parts = record {
+        held = λ w in'. let e = one v w here in' in (subst (λ (u : disk.DiskImage). Holds h u i) e there.0, subst (λ (u : disk.DiskImage). IsOwn h u i) e there.1);
+        header = stands.parts.header;
+        resume = record {
           shows = shows.shows;
-          fits = stands.parts.1.fits;
+          fits = stands.parts.resume.fits;
           found = λ le. tt;
           own = λ j e. let is = same_own i j e in (v, subst (Holds h v) is there.0, subst (IsOwn h v) is there.1, λ w in'. itself h v w (one w v in' here));
           others = λ w e. absurd (own_isn't_other i w e);
           taken_back = λ le. absurd (omega arith);
-        },
-        (λ e. one),
-        (λ e. header),
-        (λ e. absurd (omega arith)),
-      );
+        };
+        before = record { one = one; header = header };
+      };
     }

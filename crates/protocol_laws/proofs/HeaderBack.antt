@@ -9,7 +9,7 @@ use Rattle.definitions.proofs.DiskLaws.{length-as_it_reads, IsImage-as_it_reads}
 use Rattle.definitions.proofs.PageBytes.{get_or-zero_page}
 use Rattle.plain_machine.specs.Machine.{Hardware, block_of_slot}
 use Rattle.plain_machine.specs.Chain.{header_of, blocks_of, Marked}
-use Rattle.plain_machine.specs.Shows.{Shown}
+use Rattle.plain_machine.specs.Shows.{WorldView}
 use Rattle.plain_machine.specs.Stands.{IsHeader, IsTakenBack, AgreeOnArea, HasOneImage}
 use Rattle.plain_machine.specs.UsableArea.{area_block}
 use Rattle.plain_machine.proofs.DiskBlocks.{block-written}
@@ -39,7 +39,7 @@ marked_on_disk h v marked = elim (cases_lt (block_of_slot h 0) (blocks_of v)) [
 ]
 
 -- Before the write: one image, and block(0) as the world keeps it.
-pub record IsBefore (h : Hardware) (shown : Shown) (c : disk.Content) (blocks : ℕ) : Type 0 where
+pub record IsBefore (h : Hardware) (shown : WorldView) (c : disk.Content) (blocks : ℕ) : Type 0 where
   pub content : disk.IsContent blocks c
   pub one : HasOneImage c
   pub on_disk : block_of_slot h 0 < blocks
@@ -49,7 +49,7 @@ pub record IsBefore (h : Hardware) (shown : Shown) (c : disk.Content) (blocks : 
   pub marked : IsMarked shown.header
   pub back_unmarked : IsMarked (taken_back shown.header) → ⊥
 
-pub is_before : (h : Hardware) (shown : Shown) (c : disk.Content) (blocks : ℕ) → disk.IsContent blocks c → HasOneImage c → shown.header ≡ header_of h (disk.as_it_reads c) → Marked h (disk.as_it_reads c) → IsHeader h c → IsBefore h shown c blocks
+pub is_before : (h : Hardware) (shown : WorldView) (c : disk.Content) (blocks : ℕ) → disk.IsContent blocks c → HasOneImage c → shown.header ≡ header_of h (disk.as_it_reads c) → Marked h (disk.as_it_reads c) → IsHeader h c → IsBefore h shown c blocks
 is_before h shown c blocks whole one keeps marked is =
     let v = disk.as_it_reads c in
     let here = IsImage-as_it_reads blocks c whole in
@@ -69,11 +69,11 @@ is_before h shown c blocks whole one keeps marked is =
     }
 
 -- An image after the write, failed or not: the one of before, or with the block taken back.
-pub data TornBack (h : Hardware) (shown : Shown) (c : disk.Content) (v : disk.DiskImage) : Type 0 where
+pub data TornBack (h : Hardware) (shown : WorldView) (c : disk.Content) (v : disk.DiskImage) : Type 0 where
   still : disk.IsImage c v → TornBack h shown c v
   back : (w : disk.DiskImage) → disk.IsImage c w → SameBut (block_of_slot h 0) v w → disk.block v (block_of_slot h 0) ≡ taken_back shown.header → TornBack h shown c v
 
-pub torn_back : (h : Hardware) (shown : Shown) (c c' : disk.Content) (blocks : ℕ) (v : disk.DiskImage) → IsBefore h shown c blocks → Tries (block_of_slot h 0) (taken_back shown.header) c c' → disk.IsImage c' v → TornBack h shown c v
+pub torn_back : (h : Hardware) (shown : WorldView) (c c' : disk.Content) (blocks : ℕ) (v : disk.DiskImage) → IsBefore h shown c blocks → Tries (block_of_slot h 0) (taken_back shown.header) c c' → disk.IsImage c' v → TornBack h shown c v
 torn_back h shown c c' blocks v before tries in' =
     let here = IsImage-as_it_reads blocks c before.content in
     elim (torn_image blocks (block_of_slot h 0) (taken_back shown.header) c c' v before.content before.on_disk (length-taken_back shown.header before.page) tries
@@ -82,7 +82,7 @@ torn_back h shown c c' blocks v before tries in' =
       | inr taken ↦ back taken.1.0 taken.1.1 taken.1.2 taken.0
     ]
 
-pub header_back : (h : Hardware) (shown : Shown) (c : disk.Content) (blocks : ℕ) (v w : disk.DiskImage) → IsBefore h shown c blocks → disk.IsImage c w → SameBut (block_of_slot h 0) v w → disk.block v (block_of_slot h 0) ≡ taken_back shown.header → header_of h v ≡ taken_back shown.header
+pub header_back : (h : Hardware) (shown : WorldView) (c : disk.Content) (blocks : ℕ) (v w : disk.DiskImage) → IsBefore h shown c blocks → disk.IsImage c w → SameBut (block_of_slot h 0) v w → disk.block v (block_of_slot h 0) ≡ taken_back shown.header → header_of h v ≡ taken_back shown.header
 header_back h shown c blocks v w before in_w same taken =
     let lt = before.on_disk in
     let n = image_blocks blocks c w before.content in_w in
@@ -90,7 +90,7 @@ header_back h shown c blocks v w before in_w same taken =
     header_is h v (omega arith) ∙ taken
 
 -- what each says of the area: the block taken back
-pub area_back : (h : Hardware) (shown : Shown) (c : disk.Content) (blocks : ℕ) (v : disk.DiskImage) → IsBefore h shown c blocks → TornBack h shown c v → area_block h v ≡ taken_back shown.header
+pub area_back : (h : Hardware) (shown : WorldView) (c : disk.Content) (blocks : ℕ) (v : disk.DiskImage) → IsBefore h shown c blocks → TornBack h shown c v → area_block h v ≡ taken_back shown.header
 area_back h shown c blocks v before (still was) =
     let here = IsImage-as_it_reads blocks c before.content in
     let same : header_of h v ≡ shown.header = ap (header_of h) (before.one v (disk.as_it_reads c) was here) ∙ before.header in
@@ -99,7 +99,7 @@ area_back h shown c blocks v before (back w in_w same taken) =
     let header = header_back h shown c blocks v w before in_w same taken in
     area_block-unmarked h v (λ m. before.back_unmarked (subst IsMarked header m)) ∙ header
 
-pub taken_from : (h : Hardware) (shown : Shown) (c : disk.Content) (blocks : ℕ) (v : disk.DiskImage) → IsBefore h shown c blocks → TornBack h shown c v → IsTakenBack h (disk.as_it_reads c) v
+pub taken_from : (h : Hardware) (shown : WorldView) (c : disk.Content) (blocks : ℕ) (v : disk.DiskImage) → IsBefore h shown c blocks → TornBack h shown c v → IsTakenBack h (disk.as_it_reads c) v
 taken_from h shown c blocks v before (still was) =
     let e = before.one v (disk.as_it_reads c) was (IsImage-as_it_reads blocks c before.content) in
     record { size = ap length e; others = λ b lt apart. ap (λ (u : disk.DiskImage). disk.block u b) e; header = inl (ap (header_of h) e) }
@@ -113,7 +113,7 @@ taken_from h shown c blocks v before (back w in_w same taken) =
 
 -- What is there after the write.
 
-pub still_header : (h : Hardware) (shown : Shown) (c c' : disk.Content) (blocks : ℕ) → IsBefore h shown c blocks → disk.IsContent blocks c' → Tries (block_of_slot h 0) (taken_back shown.header) c c' → IsHeader h c'
+pub still_header : (h : Hardware) (shown : WorldView) (c c' : disk.Content) (blocks : ℕ) → IsBefore h shown c blocks → disk.IsContent blocks c' → Tries (block_of_slot h 0) (taken_back shown.header) c c' → IsHeader h c'
 still_header h shown c c' blocks before after tries =
     let page : (v : disk.DiskImage) → disk.IsImage c' v → area_block h v ≡ taken_back shown.header = λ v in'. area_back h shown c blocks v before (torn_back h shown c c' blocks v before tries in') in
     record {
@@ -121,10 +121,10 @@ still_header h shown c c' blocks before after tries =
       one = λ v in'. let e = page v in' ∙ sym (page (disk.as_it_reads c') (IsImage-as_it_reads blocks c' after)) in subst (AgreeOnArea (area_block h v)) e (record { front = refl; signature = refl });
     }
 
-pub each_taken_back : (h : Hardware) (shown : Shown) (c c' : disk.Content) (blocks : ℕ) (v : disk.DiskImage) → IsBefore h shown c blocks → Tries (block_of_slot h 0) (taken_back shown.header) c c' → disk.IsImage c' v → IsTakenBack h (disk.as_it_reads c) v
+pub each_taken_back : (h : Hardware) (shown : WorldView) (c c' : disk.Content) (blocks : ℕ) (v : disk.DiskImage) → IsBefore h shown c blocks → Tries (block_of_slot h 0) (taken_back shown.header) c c' → disk.IsImage c' v → IsTakenBack h (disk.as_it_reads c) v
 each_taken_back h shown c c' blocks v before tries in' = taken_from h shown c blocks v before (torn_back h shown c c' blocks v before tries in')
 
-pub reads_unmarked : (h : Hardware) (shown : Shown) (c c' : disk.Content) (blocks : ℕ) → IsBefore h shown c blocks → disk.IsContent blocks c' → disk.Writes (block_of_slot h 0) (taken_back shown.header) c c' → Marked h (disk.as_it_reads c') → ⊥
+pub reads_unmarked : (h : Hardware) (shown : WorldView) (c c' : disk.Content) (blocks : ℕ) → IsBefore h shown c blocks → disk.IsContent blocks c' → disk.Writes (block_of_slot h 0) (taken_back shown.header) c c' → Marked h (disk.as_it_reads c') → ⊥
 reads_unmarked h shown c c' blocks before after writes marked =
     let v' = disk.as_it_reads c' in
     let lt = before.on_disk in

@@ -1,12 +1,12 @@
 -- What a step leaves of block(0).
-use Rattle.std.proofs.Common.{◌≡◌, ◌⊎◌, ℕ, List, inl, inr, refl, sym, ap, ◌∙◌, subst}
+use Rattle.std.proofs.Common.{◌≡◌, ℕ, List, inl, refl, sym, ap, subst}
 use Rattle.definitions.specs.Disk as disk
 use Rattle.definitions.specs.SwapHeader.{IsMarked, taken_back}
 use Rattle.definitions.proofs.DiskLaws.{IsImage-after_sync, IsImage-as_it_reads, IsImage-settled}
 use Rattle.image_laws.specs.ImageBlocks.{Tries}
 use Rattle.plain_machine.specs.Machine.{Hardware, block_of_slot}
 use Rattle.plain_machine.specs.Chain.{header_of, Marked}
-use Rattle.plain_machine.specs.Shows.{Shown}
+use Rattle.plain_machine.specs.Shows.{WorldView}
 use Rattle.plain_machine.specs.State.{State, off, on, booting, hibernating, undoing, settling, waking, loading, asleep}
 use Rattle.protocol_laws.specs.Rows.{KeepsHeaderOrTakesBack, AddsNoMark, LeavesHeader}
 use Rattle.protocol_laws.proofs.HeaderBack.{IsBefore, each_taken_back}
@@ -55,7 +55,7 @@ left_cut h (loading load k) c c' restarts = λ w in'. (w, image_cut c c' w resta
 left_cut h (asleep i held a) c c' restarts = tt
 
 -- where it is written taken back
-pub header_written : (h : Hardware) (shown : Shown) (c c' : disk.Content) (blocks : ℕ) → IsBefore h shown c blocks → Tries (block_of_slot h 0) (taken_back shown.header) c c' → KeepsHeaderOrTakesBack h c c'
+pub header_written : (h : Hardware) (shown : WorldView) (c c' : disk.Content) (blocks : ℕ) → IsBefore h shown c blocks → Tries (block_of_slot h 0) (taken_back shown.header) c c' → KeepsHeaderOrTakesBack h c c'
 header_written h shown c c' blocks before tries =
     λ w in'. (disk.as_it_reads c, IsImage-as_it_reads blocks c before.content, (each_taken_back h shown c c' blocks w before tries in').header)
 

@@ -1,13 +1,13 @@
 -- What a crash inside a call of the disk may leave: sector by sector what the disk held before the call, or after it.
-use Rattle.std.proofs.Common.{◌≡◌, ◌≢◌, ◌⊎◌, inl, inr, ◌<◌, ◌≤◌, ℕ, ◌+◌, ◌*◌, ◌/◌, ◌%◌, All, Contains, List, [], length, get_or, set, take, drop, ltb, refl, sym, ap, ◌∙◌, subst, arith}
+use Rattle.std.proofs.Common.{◌≡◌, ◌≢◌, ◌⊎◌, inl, inr, ◌<◌, ◌≤◌, ℕ, ◌+◌, ◌*◌, ◌/◌, ◌%◌, All, Contains, List, [], length, get_or, set, take, drop, ltb, sym, ap, ◌∙◌, subst, arith}
 use Rattle.std.proofs.lemmas.Bool.{cases_eq, cases_lt, cond-false, le-ltb}
 use Rattle.std.proofs.lemmas.List.{ext_get_or, get_or-take, get_or-drop, get_or_default, get_or-set_same, length-set, length-take-le, length-drop}
 use Rattle.std.proofs.lemmas.List.Elements.{All-contains}
 use Rattle.definitions.specs.Bytes.{IsPage, AgreeBut, zero_page}
 use Rattle.definitions.specs.Disk as disk
 use Rattle.definitions.specs.Disk.{block, sector_bytes, no_sector}
-use Rattle.definitions.specs.SwapHeader.{IsMarked, sig_of, image_signature, taken_back}
-use Rattle.definitions.proofs.DiskLaws.{IsImage-as_it_reads, length-as_it_reads, IsImage-settled, length-settled, as_it_reads-settled, block-same}
+use Rattle.definitions.specs.SwapHeader.{sig_of, taken_back}
+use Rattle.definitions.proofs.DiskLaws.{IsImage-as_it_reads, length-as_it_reads, length-settled, as_it_reads-settled, block-same}
 use Rattle.plain_machine.specs.Machine.{Hardware, block_of_slot}
 use Rattle.plain_machine.specs.Chain.{header_of, blocks_of, Marked, Holds}
 use Rattle.plain_machine.specs.Image.{Image}

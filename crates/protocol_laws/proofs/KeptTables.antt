@@ -1,16 +1,15 @@
 -- Memories that are the same have the same tables.
-use Rattle.std.proofs.Common.{◌≡◌, ◌<◌, ℕ, length, eqb, ap, ◌∙◌, arith, All}
+use Rattle.std.proofs.Common.{◌≡◌, ◌<◌, ℕ, eqb, ap, ◌∙◌, arith}
 use Rattle.std.specs.List.{range_with_len}
-use Rattle.definitions.specs.Bytes.{IsPage}
 use Rattle.definitions.specs.Lists.{free_slots}
-use Rattle.definitions.specs.Slots.{free_runs, runs_of}
+use Rattle.definitions.specs.Slots.{runs_of}
 use Rattle.definitions.specs.Tables.{owner_of, page_flags, is_saveable}
-use Rattle.definitions.specs.Zones.{top}
 use Rattle.definitions.proofs.ZoneNumbers.{range-bounds}
-use Rattle.plain_machine.specs.Machine.{Hardware, Memory, IsHardware, Fits, IsSameMemory, raw_slot_entry, is_well_formed, is_slot_entry}
+use Rattle.plain_machine.specs.Machine.{Hardware, Memory, raw_slot_entry, is_well_formed, is_slot_entry}
 use Rattle.plain_machine.proofs.SameMemory.{filter_agree_within, same_entry, same_slot_entry, table_frame_valid}
+use Rattle.protocol_laws.specs.KeptTables.{FitsCarried, RunsSame}
 
-pub fits_carried : (h : Hardware) (m n : Memory) → IsHardware h → Fits h m → IsSameMemory h m n → All IsPage n → length n ≡ top h.zones → Fits h n
+pub fits_carried : FitsCarried
 fits_carried h m n hw fits same pages size = record {
   pages = pages;
   size = size;
@@ -27,5 +26,5 @@ free_same h m n same =
     filter_agree_within (λ s. eqb (raw_slot_entry h n s) 0) (λ s. eqb (raw_slot_entry h m s) 0) (range_with_len 0 h.slots)
     (λ s in'. let bounds = range-bounds 0 h.slots s in' in let below = bounds.1 in ap (λ (x : ℕ). eqb x 0) (same s (omega arith)))
 
-pub runs_same : (h : Hardware) (m n : Memory) → ((k : ℕ) → k < h.slots → raw_slot_entry h n k ≡ raw_slot_entry h m k) → free_runs h.slots h.slot_table n ≡ free_runs h.slots h.slot_table m
+pub runs_same : RunsSame
 runs_same h m n same = ap runs_of (free_same h m n same)

@@ -1,3 +1,5 @@
+pub mod Told
+pub mod Named
 pub mod Same
 pub mod Places
 pub mod Laid

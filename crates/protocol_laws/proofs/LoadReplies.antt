@@ -18,7 +18,7 @@ use Rattle.plain_machine.specs.declared.event.Ranges.{Ranges as RangeList}
 use Rattle.plain_machine.specs.declared.event.IdentCheck.{IdentCheck}
 use Rattle.plain_machine.specs.declared.reply.Reply.{Reply}
 use Rattle.plain_machine.specs.declared.reply.Reply.TheVariants as reply
-use Rattle.protocol_laws.specs.LoadRows.{HaveGoneOn, IsStop}
+use Rattle.protocol_laws.specs.LoadRows.{HaveGoneOn, IsStop, GoneOnEarly, GoneOnNext}
 use Rattle.protocol_laws.specs.OwnTrace.{own_reply, Comes}
 use Rattle.protocol_laws.specs.TraceAt.{reply_past, reply_at}
 use Rattle.protocol_laws.proofs.OwnCauses.{IsOwnDisk}
@@ -41,13 +41,13 @@ differ r s e apart = absurd (apart (ap kind e))
 
 -- What has gone on.
 
-pub gone_early : (h : Hardware) (load : Load) (v : disk.DiskImage) (k : ℕ) → k ≤ 3 → header_cause h v ≡ None → HaveGoneOn h load v k
+pub gone_early : GoneOnEarly
 gone_early h load v k few header zero some lt = absurd (omega arith)
 gone_early h load v k few header (suc zero) some lt = ap (λ (o : Option Reply). unwrap_or o (reply.Loading 2)) header
 gone_early h load v k few header (suc (suc zero)) some lt = refl
 gone_early h load v k few header (suc (suc (suc j))) some lt = absurd (omega arith)
 
-pub gone_next : (h : Hardware) (load : Load) (v : disk.DiskImage) (k : ℕ) → HaveGoneOn h load v k → reply_at h load.dump v load.loader load.check k ≡ reply.Loading (k + 1) → HaveGoneOn h load v (k + 1)
+pub gone_next : GoneOnNext
 gone_next h load v k gone here j some lt = elim (cases_lt j k) [
   | inl before ↦ gone j some before
   | inr le ↦ (let is : k ≡ j = omega arith in subst (λ (x : ℕ). reply_at h load.dump v load.loader load.check x ≡ reply.Loading (x + 1)) is here)

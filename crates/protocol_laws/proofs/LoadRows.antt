@@ -9,14 +9,12 @@ use Rattle.definitions.specs.SwapHeader.{taken_back, sig_of, image_signature}
 use Rattle.std.specs.Cmp.Lexicographic.{other_text}
 use Rattle.std.specs.List.{zip}
 use Rattle.std.proofs.lemmas.Bool.{cond-true, true_from_ne_false}
-use Rattle.definitions.specs.Tables.{frame}
 use Rattle.definitions.proofs.DiskLaws.{IsImage-as_it_reads, IsImage-after_sync}
 use Rattle.plain_machine.specs.Machine.{Hardware, Memory, IsHardware, IsSameMemory, Fits, block_of_slot}
-use Rattle.plain_machine.specs.Chain.{header_of, Marked, is_marked_disk, Holds, or_else}
+use Rattle.plain_machine.specs.Chain.{header_of, Marked, is_marked_disk, Holds}
 use Rattle.plain_machine.specs.Image.{Image, n_of, with_data, SlotPages}
-use Rattle.definitions.specs.Zones.{top}
-use Rattle.plain_machine.specs.Loader.{restored, left_free, loader_frame}
-use Rattle.plain_machine.specs.Shows.{Shown, runs, loads, ShowsRunning, seen_frames}
+use Rattle.plain_machine.specs.Loader.{restored}
+use Rattle.plain_machine.specs.Shows.{WorldView, runs, ShowsRunning, seen_frames}
 use Rattle.plain_machine.specs.Stands.{Stands, IsHeld, IsOwn, NamesOnly, data_read_in}
 use Rattle.plain_machine.specs.State.{State, Running, off, on, loading, Held, nothing, sure, maybe, own, other, perhaps, Load, Found, not_yet, found_own, found_other, held_while_loading}
 use Rattle.plain_machine.specs.Step.{Outcome, Step, own_step, other_step as other_step_of, resumed, no_flights, no_slots, load_fault, other_state}
@@ -31,7 +29,7 @@ use Rattle.plain_machine.specs.declared.reply.Reply.{Reply}
 use Rattle.plain_machine.specs.declared.reply.Reply.TheVariants as reply
 use Rattle.image_laws.specs.ImageBlocks.{Tries}
 use Rattle.protocol_laws.specs.Loads.{ShowsLoad}
-use Rattle.protocol_laws.specs.LoadRows.{IsFoundOn, IsFoundIn, with_finding, Goes, ShowsRest, HaveGoneOn, running_with, IsStop, IsBeforeRead}
+use Rattle.protocol_laws.specs.LoadRows.{IsFoundOn, IsFoundIn, with_finding, Goes, ShowsRest, HaveGoneOn, running_with, IsStop, IsBeforeRead, BackSyncFaultRow, BackSyncRow, BackSyncStopRow, CauseStops, FindCompressedRow, FindFaultRow, FindNoneRow, LoadSyncFaultRow, LoadSyncRow, ReadFaultRow, ReadResumedOffRow, ReadResumedRow, ReadRow, ReadStopRow, ShowsNoneRead, TablesStop, TakeBackFaultRow, TakeBackRow}
 use Rattle.protocol_laws.specs.Resuming.{IsHeldOwn, with_found}
 use Rattle.protocol_laws.specs.ResumingOther.{IsHeldOther, with_found_other}
 use Rattle.protocol_laws.specs.OwnTrace.{own_reply}
@@ -48,7 +46,7 @@ use Rattle.protocol_laws.proofs.OtherResumed.{resumes_other}
 use Rattle.protocol_laws.proofs.OwnCauses.{IsOwnDisk, own_sayable}
 use Rattle.protocol_laws.proofs.OwnChain.{no_header_cause, no_taken_back_cause}
 use Rattle.protocol_laws.proofs.Resumed.{load_stops, load_fails, resumes}
-use Rattle.protocol_laws.proofs.Same.{header_kept, by_sync}
+use Rattle.protocol_laws.proofs.Same.{same_area, header_kept, by_sync}
 use Rattle.protocol_laws.proofs.Stopping.{stops_tables, stops_taken_back}
 use Rattle.protocol_laws.proofs.TakingBack.{takes_back, take_back_fails, unmarked_synced, page_read}
 use Rattle.protocol_laws.proofs.Tracing.{restored_is, few_reply}
@@ -56,13 +54,9 @@ use Rattle.protocol_laws.proofs.Tracing.{restored_is, few_reply}
 abbrev running_of : Memory → SlotPages → Running
 running_of m slots = record { memory = m; slots = slots; flights = no_flights; unusable = None; held = nothing }
 
-same_area : (h : Hardware) (v : disk.DiskImage) → IsSameArea h v v
-same_area h v = record { blocks = refl; header = record { front = refl; signature = refl } }
-
 -- The first sync, and the read of block(0).
 
-pub load_sync_row : (h : Hardware) (shown shown' : Shown) (c c' : disk.Content) (blocks : ℕ) (load : Load) → disk.IsContent blocks c → Stands h shown c (loading load 0) →
-    disk.Syncs c c' → ShowsLoad h shown' load 1 → Goes h shown' (reply.Loading 1) c c' (loading load 0) (loading load 1)
+pub load_sync_row : LoadSyncRow
 load_sync_row h shown shown' c c' blocks load whole stands syncs shows = record {
   step = by_core h (disk.as_it_reads c) load 0 (reply.Loading 1) (loading load 1) refl (1, omega arith, refl);
   stands = load_syncs h shown shown' c c' blocks load whole stands syncs shows;
@@ -73,7 +67,7 @@ load_sync_row h shown shown' c c' blocks load whole stands syncs shows = record 
 }
 
 -- a call that fails before block(0) is written
-early_fault : (h : Hardware) (shown shown' : Shown) (c : disk.Content) (load : Load) (k : ℕ) (r : Reply) → IsThere h load load.found k → held_while_loading load k ≡ load.held → load_fault load k ≡ (r, off load.held None) → Stands h shown c (loading load k) → ShowsRest shown' →
+early_fault : (h : Hardware) (shown shown' : WorldView) (c : disk.Content) (load : Load) (k : ℕ) (r : Reply) → IsThere h load load.found k → held_while_loading load k ≡ load.held → load_fault load k ≡ (r, off load.held None) → Stands h shown c (loading load k) → ShowsRest shown' →
     Goes h shown' r c c (loading load k) (off load.held None)
 early_fault h shown shown' c load k r there held fault stands rest = record {
   step = fault_step h (disk.as_it_reads c) load k r (off load.held None) there fault;
@@ -84,10 +78,10 @@ early_fault h shown shown' c load k r there held fault stands rest = record {
   leaves = leaves_loading h r load k c;
 }
 
-pub load_sync_fault_row : (h : Hardware) (shown shown' : Shown) (c : disk.Content) (load : Load) → Stands h shown c (loading load 0) → ShowsRest shown' → Goes h shown' (reply.SyncFault Same) c c (loading load 0) (off load.held None)
+pub load_sync_fault_row : LoadSyncFaultRow
 load_sync_fault_row h shown shown' c load = early_fault h shown shown' c load 0 (reply.SyncFault Same) refl refl refl
 
-pub find_fault_row : (h : Hardware) (shown shown' : Shown) (c : disk.Content) (load : Load) → Stands h shown c (loading load 1) → ShowsRest shown' → Goes h shown' (reply.ReadFault Same) c c (loading load 1) (off load.held None)
+pub find_fault_row : FindFaultRow
 find_fault_row h shown shown' c load = early_fault h shown shown' c load 1 (reply.ReadFault Same) refl refl refl
 
 not_no_image : (flags : ℕ) → Some (reply.Compressed flags) ≡ Some reply.NoImage → ⊥
@@ -104,12 +98,11 @@ none_step h c v load (maybe (own i)) is there here says = find_goes h v load (ma
 none_step h c v load (maybe other) is there here says =
     find_goes h v load (maybe other) reply.NoImage (off nothing None) is (finds_traced h v load reply.NoImage (off nothing None) (header_reply h v reply.NoImage says) refl)
 
-pub find_none_row : (h : Hardware) (shown shown' : Shown) (c : disk.Content) (blocks : ℕ) (load : Load) → disk.IsContent blocks c → Stands h shown c (loading load 1) →
-    header_cause h (disk.as_it_reads c) ≡ Some reply.NoImage → ShowsRest shown' → Goes h shown' reply.NoImage c c (loading load 1) (off nothing None)
+pub find_none_row : FindNoneRow
 find_none_row h shown shown' c blocks load whole stands says rest =
     let v = disk.as_it_reads c in
     record {
-      step = none_step h c v load load.held refl stands.parts.0.0 (IsImage-as_it_reads blocks c whole) says;
+      step = none_step h c v load load.held refl stands.parts.held (IsImage-as_it_reads blocks c whole) says;
       stands = finds_none h shown shown' c blocks load whole stands (no_mark h v says) rest.0 rest.1;
       area = same_area h v;
       unwritten = λ b not. block_same b _;
@@ -139,11 +132,10 @@ other_step h v load r b (inl is) marked says state =
     (subst (λ (xs : List Outcome). Contains xs (r, b)) (sym (cond-true (is_marked_disk h v) (other_step_of h (with_found_other load v) v 1) [] (is_signed h v marked))) (finds_traced h v load r b says state))
 other_step h v load r b (inr is) marked says state = find_goes h v load (maybe other) r b is (finds_traced h v load r b says state)
 
-pub find_compressed_row : (h : Hardware) (shown shown' : Shown) (c : disk.Content) (blocks flags : ℕ) (load : Load) → disk.IsContent blocks c → Stands h shown c (loading load 1) →
-    header_cause h (disk.as_it_reads c) ≡ Some (reply.Compressed flags) → ShowsRest shown' → Goes h shown' (reply.Compressed flags) c c (loading load 1) (off (sure other) None)
+pub find_compressed_row : FindCompressedRow
 find_compressed_row h shown shown' c blocks flags load whole stands says rest =
     let v = disk.as_it_reads c in
-    let held = compressed_other h c v load.held flags stands.parts.0.0 (IsImage-as_it_reads blocks c whole) says in
+    let held = compressed_other h c v load.held flags stands.parts.held (IsImage-as_it_reads blocks c whole) says in
     record {
       step = other_step h v load (reply.Compressed flags) (off (sure other) None) held (a_mark h v (Some (reply.Compressed flags)) says (not_no_image flags)) (header_reply h v (reply.Compressed flags) says) refl;
       stands = stops_at_other h shown shown' c blocks load whole stands held (a_mark h v (Some (reply.Compressed flags)) says (not_no_image flags)) rest.0 rest.1;
@@ -156,12 +148,12 @@ find_compressed_row h shown shown' c blocks flags load whole stands says rest =
 -- Else the image is found.
 
 -- what is found, and the row of it
-abbrev Finds : Hardware → Shown → disk.Content → Load → Type 0
+abbrev Finds : Hardware → WorldView → disk.Content → Load → Type 0
 Finds h shown' c load =
     (found : Found) × IsFoundIn h (with_finding load found) (disk.as_it_reads c) ×
     (ShowsLoad h shown' (with_finding load found) 2 → Goes h shown' (reply.Loading 2) c c (loading load 1) (loading (with_finding load found) 2))
 
-finds_it_own : (h : Hardware) (shown shown' : Shown) (c : disk.Content) (blocks : ℕ) (load : Load) (i : Image) → IsHardware h → disk.IsContent blocks c → Stands h shown c (loading load 1) → Marked h (disk.as_it_reads c) →
+finds_it_own : (h : Hardware) (shown shown' : WorldView) (c : disk.Content) (blocks : ℕ) (load : Load) (i : Image) → IsHardware h → disk.IsContent blocks c → Stands h shown c (loading load 1) → Marked h (disk.as_it_reads c) →
     shown'.header ≡ header_of h (disk.as_it_reads c) → IsHeldOwn load.held i → Holds h (disk.as_it_reads c) i → IsOwn h (disk.as_it_reads c) i → Step h (disk.as_it_reads c) (loading load 1) (event.Step actor.Core) (reply.Loading 2) (loading (with_found load i) 2) →
     Finds h shown' c load
 finds_it_own h shown shown' c blocks load i hw whole stands marked header held holds is step = (
@@ -170,7 +162,7 @@ finds_it_own h shown shown' c blocks load i hw whole stands marked header held h
   λ shows. record { step = step; stands = finds_own h shown shown' c blocks load i whole stands held marked header shows; unwritten = λ b not. block_same b _; area = same_area h (disk.as_it_reads c); leaves = tt; header = header_same h c },
 )
 
-finds_it_other : (h : Hardware) (shown shown' : Shown) (c : disk.Content) (blocks : ℕ) (load : Load) → disk.IsContent blocks c → Stands h shown c (loading load 1) → Marked h (disk.as_it_reads c) →
+finds_it_other : (h : Hardware) (shown shown' : WorldView) (c : disk.Content) (blocks : ℕ) (load : Load) → disk.IsContent blocks c → Stands h shown c (loading load 1) → Marked h (disk.as_it_reads c) →
     shown'.header ≡ header_of h (disk.as_it_reads c) → header_cause h (disk.as_it_reads c) ≡ None → IsHeldOther load.held → Finds h shown' c load
 finds_it_other h shown shown' c blocks load whole stands marked header says held =
     let v = disk.as_it_reads c in (
@@ -186,7 +178,7 @@ finds_it_other h shown shown' c blocks load whole stands marked header says held
       },
     )
 
-finds_held : (h : Hardware) (shown shown' : Shown) (c : disk.Content) (blocks : ℕ) (load : Load) (held : Held) → load.held ≡ held → IsHeld h c held → IsHardware h → disk.IsContent blocks c → Stands h shown c (loading load 1) →
+finds_held : (h : Hardware) (shown shown' : WorldView) (c : disk.Content) (blocks : ℕ) (load : Load) (held : Held) → load.held ≡ held → IsHeld h c held → IsHardware h → disk.IsContent blocks c → Stands h shown c (loading load 1) →
     Marked h (disk.as_it_reads c) → header_cause h (disk.as_it_reads c) ≡ None → shown'.header ≡ header_of h (disk.as_it_reads c) → Finds h shown' c load
 finds_held h shown shown' c blocks load nothing is there hw whole stands marked says header = absurd (there (disk.as_it_reads c) (IsImage-as_it_reads blocks c whole) marked)
 finds_held h shown shown' c blocks load (sure (own i)) is there hw whole stands marked says header =
@@ -202,10 +194,10 @@ finds_held h shown shown' c blocks load (maybe (own i)) is there hw whole stands
     (find_goes h v load (maybe (own i)) (reply.Loading 2) (loading (with_found load i) 2) is (0, omega arith, refl))
 finds_held h shown shown' c blocks load (maybe other) is there hw whole stands marked says header = finds_it_other h shown shown' c blocks load whole stands marked header says (inr is)
 
-pub find_row : (h : Hardware) (shown shown' : Shown) (c : disk.Content) (blocks : ℕ) (load : Load) → IsHardware h → disk.IsContent blocks c → Stands h shown c (loading load 1) →
+pub find_row : (h : Hardware) (shown shown' : WorldView) (c : disk.Content) (blocks : ℕ) (load : Load) → IsHardware h → disk.IsContent blocks c → Stands h shown c (loading load 1) →
     header_cause h (disk.as_it_reads c) ≡ None → shown'.header ≡ header_of h (disk.as_it_reads c) → Finds h shown' c load
 find_row h shown shown' c blocks load hw whole stands says header =
-    finds_held h shown shown' c blocks load load.held refl stands.parts.0.0 hw whole stands (a_mark h (disk.as_it_reads c) None says (λ e. none-some reply.NoImage e)) says header
+    finds_held h shown shown' c blocks load load.held refl stands.parts.held hw whole stands (a_mark h (disk.as_it_reads c) None says (λ e. none-some reply.NoImage e)) says header
 
 -- A step that goes on.
 
@@ -233,29 +225,28 @@ loading_step h w v load (found_other u) k hw is gone late within says =
 
 -- The write of block(0) taken back.
 
-marked_before : (h : Hardware) (shown : Shown) (c : disk.Content) (blocks : ℕ) (load : Load) (v : disk.DiskImage) (found : Found) → disk.IsContent blocks c → Stands h shown c (loading (with_finding load found) 2) → IsFoundOn h v found → Marked h (disk.as_it_reads c)
+marked_before : (h : Hardware) (shown : WorldView) (c : disk.Content) (blocks : ℕ) (load : Load) (v : disk.DiskImage) (found : Found) → disk.IsContent blocks c → Stands h shown c (loading (with_finding load found) 2) → IsFoundOn h v found → Marked h (disk.as_it_reads c)
 marked_before h shown c blocks load v not_yet whole stands is = absurd is
-marked_before h shown c blocks load v (found_own i) whole stands is = (stands.parts.0.0 (disk.as_it_reads c) (IsImage-as_it_reads blocks c whole)).0.marked
-marked_before h shown c blocks load v (found_other u) whole stands is = stands.parts.0.0 (disk.as_it_reads c) (IsImage-as_it_reads blocks c whole)
+marked_before h shown c blocks load v (found_own i) whole stands is = (stands.parts.held (disk.as_it_reads c) (IsImage-as_it_reads blocks c whole)).0.marked
+marked_before h shown c blocks load v (found_other u) whole stands is = stands.parts.held (disk.as_it_reads c) (IsImage-as_it_reads blocks c whole)
 
-back_area : (h : Hardware) (shown : Shown) (c c' : disk.Content) (blocks : ℕ) (load : Load) (v : disk.DiskImage) → disk.IsContent blocks c → Stands h shown c (loading load 2) → IsFoundIn h load v → Tries (block_of_slot h 0) (taken_back shown.header) c c' →
+back_area : (h : Hardware) (shown : WorldView) (c c' : disk.Content) (blocks : ℕ) (load : Load) (v : disk.DiskImage) → disk.IsContent blocks c → Stands h shown c (loading load 2) → IsFoundIn h load v → Tries (block_of_slot h 0) (taken_back shown.header) c c' →
     IsSameArea h (disk.as_it_reads c) (disk.as_it_reads c')
 back_area h shown c c' blocks load v whole stands is tries =
-    kept_by_taking_back h blocks c c' whole stands.parts.0.1 (marked_before h shown c blocks load v load.found whole stands is)
-    (subst (λ (page : List ℕ). Tries (block_of_slot h 0) (taken_back page) c c') (stands.parts.3 refl) tries)
+    kept_by_taking_back h blocks c c' whole stands.parts.header (marked_before h shown c blocks load v load.found whole stands is)
+    (subst (λ (page : List ℕ). Tries (block_of_slot h 0) (taken_back page) c c') stands.parts.before.header tries)
 
-header_tried : (h : Hardware) (shown : Shown) (c c' : disk.Content) (blocks : ℕ) (load : Load) (v : disk.DiskImage) → disk.IsContent blocks c → Stands h shown c (loading load 2) → IsFoundIn h load v → Tries (block_of_slot h 0) (taken_back shown.header) c c' → KeepsHeaderOrTakesBack h c c'
+header_tried : (h : Hardware) (shown : WorldView) (c c' : disk.Content) (blocks : ℕ) (load : Load) (v : disk.DiskImage) → disk.IsContent blocks c → Stands h shown c (loading load 2) → IsFoundIn h load v → Tries (block_of_slot h 0) (taken_back shown.header) c c' → KeepsHeaderOrTakesBack h c c'
 header_tried h shown c c' blocks load v whole stands is tries =
-    header_written h shown c c' blocks (is_before h shown c blocks whole (stands.parts.2 (inr refl)) (stands.parts.3 refl) (marked_before h shown c blocks load v load.found whole stands is) stands.parts.0.1) tries
+    header_written h shown c c' blocks (is_before h shown c blocks whole stands.parts.before.one stands.parts.before.header (marked_before h shown c blocks load v load.found whole stands is) stands.parts.header) tries
 
-back_stands : (h : Hardware) (shown shown' : Shown) (c c' : disk.Content) (blocks : ℕ) (load : Load) (v : disk.DiskImage) (found : Found) → IsHardware h → disk.IsContent blocks c → disk.IsContent blocks c' → Stands h shown c (loading (with_finding load found) 2) →
+back_stands : (h : Hardware) (shown shown' : WorldView) (c c' : disk.Content) (blocks : ℕ) (load : Load) (v : disk.DiskImage) (found : Found) → IsHardware h → disk.IsContent blocks c → disk.IsContent blocks c' → Stands h shown c (loading (with_finding load found) 2) →
     IsFoundOn h v found → disk.Writes (block_of_slot h 0) (taken_back shown.header) c c' → ShowsLoad h shown' (with_finding load found) 3 → Stands h shown' c' (loading (with_finding load found) 3)
 back_stands h shown shown' c c' blocks load v not_yet hw whole after stands is writes shows = absurd is
 back_stands h shown shown' c c' blocks load v (found_own i) hw whole after stands is writes shows = takes_back h shown shown' c c' blocks load i hw whole after stands writes shows
 back_stands h shown shown' c c' blocks load v (found_other u) hw whole after stands is writes shows = takes_other_back h shown shown' c c' blocks load u hw whole after stands writes shows
 
-pub take_back_row : (h : Hardware) (shown shown' : Shown) (c c' : disk.Content) (blocks : ℕ) (load : Load) (v : disk.DiskImage) → IsHardware h → disk.IsContent blocks c → disk.IsContent blocks c' → Stands h shown c (loading load 2) →
-    IsFoundIn h load v → HaveGoneOn h load v 2 → disk.Writes (block_of_slot h 0) (taken_back shown.header) c c' → ShowsLoad h shown' load 3 → Goes h shown' (reply.Loading 3) c c' (loading load 2) (loading load 3)
+pub take_back_row : TakeBackRow
 take_back_row h shown shown' c c' blocks load v hw whole after stands is gone writes shows = record {
   step = loading_step h (disk.as_it_reads c) v load load.found 2 hw is gone (omega arith) (omega arith) refl;
   stands = back_stands h shown shown' c c' blocks load v load.found hw whole after stands is writes shows;
@@ -265,14 +256,13 @@ take_back_row h shown shown' c c' blocks load v hw whole after stands is gone wr
   leaves = tt;
 }
 
-back_fails : (h : Hardware) (shown shown' : Shown) (c c' : disk.Content) (blocks : ℕ) (load : Load) (v : disk.DiskImage) (found : Found) → IsHardware h → disk.IsContent blocks c → disk.IsContent blocks c' → Stands h shown c (loading (with_finding load found) 2) →
+back_fails : (h : Hardware) (shown shown' : WorldView) (c c' : disk.Content) (blocks : ℕ) (load : Load) (v : disk.DiskImage) (found : Found) → IsHardware h → disk.IsContent blocks c → disk.IsContent blocks c' → Stands h shown c (loading (with_finding load found) 2) →
     IsFoundOn h v found → disk.FailsToWrite (block_of_slot h 0) (taken_back shown.header) c c' → ShowsRest shown' → Stands h shown' c' (off (perhaps (held_while_loading (with_finding load found) 2)) None)
 back_fails h shown shown' c c' blocks load v not_yet hw whole after stands is fails rest = absurd is
 back_fails h shown shown' c c' blocks load v (found_own i) hw whole after stands is fails rest = take_back_fails h shown shown' c c' blocks load i hw whole after stands fails rest.0 rest.1
 back_fails h shown shown' c c' blocks load v (found_other u) hw whole after stands is fails rest = take_other_back_fails h shown shown' c c' blocks load u hw whole after stands fails rest.0 rest.1
 
-pub take_back_fault_row : (h : Hardware) (shown shown' : Shown) (c c' : disk.Content) (blocks : ℕ) (load : Load) (v : disk.DiskImage) → IsHardware h → disk.IsContent blocks c → disk.IsContent blocks c' → Stands h shown c (loading load 2) →
-    IsFoundIn h load v → disk.FailsToWrite (block_of_slot h 0) (taken_back shown.header) c c' → ShowsRest shown' → Goes h shown' (reply.WriteFault Unsure) c c' (loading load 2) (off (perhaps (held_while_loading load 2)) None)
+pub take_back_fault_row : TakeBackFaultRow
 take_back_fault_row h shown shown' c c' blocks load v hw whole after stands is fails rest = record {
   step = fault_step h (disk.as_it_reads c) load 2 (reply.WriteFault Unsure) (off (perhaps (held_while_loading load 2)) None) refl refl;
   stands = back_fails h shown shown' c c' blocks load v load.found hw whole after stands is fails rest;
@@ -284,8 +274,7 @@ take_back_fault_row h shown shown' c c' blocks load v hw whole after stands is f
 
 -- The sync behind it.
 
-pub back_sync_row : (h : Hardware) (shown shown' : Shown) (c c' : disk.Content) (blocks : ℕ) (load : Load) (v : disk.DiskImage) → IsHardware h → disk.IsContent blocks c → Stands h shown c (loading load 3) →
-    IsFoundIn h load v → HaveGoneOn h load v 3 → disk.Syncs c c' → taken_back_cause h v ≡ None → ShowsLoad h shown' load 4 → Goes h shown' (reply.Loading 4) c c' (loading load 3) (loading load 4)
+pub back_sync_row : BackSyncRow
 back_sync_row h shown shown' c c' blocks load v hw whole stands is gone syncs none shows = record {
   step = loading_step h (disk.as_it_reads c) v load load.found 3 hw is gone (omega arith) (omega arith) (ap (λ (o : Option Reply). unwrap_or o (reply.Loading 4)) none);
   stands = unmarked_synced h shown shown' c c' blocks load whole stands syncs shows;
@@ -304,15 +293,14 @@ back_stop_step h w v load (found_other u) r is gone says =
     (other_goes h w v load 3 r (off nothing None) (omega arith) (traced_at h load v 3 r (omega arith) gone (ap (λ (o : Option Reply). unwrap_or o (reply.Loading 4)) says))
     (stopped_off h (with_found_other load v) v 3 r (cause_stops (taken_back_cause h v) r (stops_taken_back h v) says)))
 
-pub back_sync_stop_row : (h : Hardware) (shown shown' : Shown) (c c' : disk.Content) (blocks : ℕ) (load : Load) (v : disk.DiskImage) (r : Reply) → IsHardware h → disk.IsContent blocks c → Stands h shown c (loading load 3) →
-    IsFoundIn h load v → HaveGoneOn h load v 3 → disk.Syncs c c' → taken_back_cause h v ≡ Some r → ShowsRest shown' → Goes h shown' r c c' (loading load 3) (off nothing None)
+pub back_sync_stop_row : BackSyncStopRow
 back_sync_stop_row h shown shown' c c' blocks load v r hw whole stands is gone syncs says rest =
-    let unmarked : Marked h (disk.as_it_reads c) → ⊥ = stands.parts.4 refl in
+    let unmarked : Marked h (disk.as_it_reads c) → ⊥ = stands.parts.before in
     record {
       step = back_stop_step h (disk.as_it_reads c) v load load.found r is gone says;
       stands = record {
         activity = rest.0;
-        parts = (rest.1, ((λ w in' m. unmarked (subst (Marked h) (IsImage-after_sync c c' w syncs in') m)), header_kept h c c' (by_sync h blocks c c' whole syncs) stands.parts.0.1));
+        parts = record { memory = rest.1; held = λ w in' m. unmarked (subst (Marked h) (IsImage-after_sync c c' w syncs in') m); header = header_kept h c c' (by_sync h blocks c c' whole syncs) stands.parts.header };
       };
       area = kept_by_sync h c c' syncs;
       unwritten = λ b not. block_synced blocks b c c' whole syncs;
@@ -320,10 +308,10 @@ back_sync_stop_row h shown shown' c c' blocks load v r hw whole stands is gone s
       leaves = leaves_loading h r load 3 c';
     }
 
-pub back_sync_fault_row : (h : Hardware) (shown shown' : Shown) (c : disk.Content) (load : Load) → Stands h shown c (loading load 3) → ShowsRest shown' → Goes h shown' (reply.SyncFault Unsure) c c (loading load 3) (off (perhaps (held_while_loading load 2)) None)
+pub back_sync_fault_row : BackSyncFaultRow
 back_sync_fault_row h shown shown' c load stands rest = record {
   step = fault_step h (disk.as_it_reads c) load 3 (reply.SyncFault Unsure) (off (perhaps (held_while_loading load 2)) None) refl refl;
-  stands = record { activity = rest.0; parts = (rest.1, stands.parts.0) };
+  stands = record { activity = rest.0; parts = record { memory = rest.1; held = stands.parts.held; header = stands.parts.header } };
   area = same_area h (disk.as_it_reads c);
   unwritten = λ b not. block_same b _;
   header = header_same h c;
@@ -332,8 +320,7 @@ back_sync_fault_row h shown shown' c load stands rest = record {
 
 -- The reads of maps and pages.
 
-pub read_row : (h : Hardware) (shown shown' : Shown) (c : disk.Content) (load : Load) (v : disk.DiskImage) (k : ℕ) → IsBeforeRead h shown c load v k →
-    reply_at h load.dump v load.loader load.check k ≡ reply.Loading (k + 1) → ShowsLoad h shown' load (k + 1) → Goes h shown' (reply.Loading (k + 1)) c c (loading load k) (loading load (k + 1))
+pub read_row : ReadRow
 read_row h shown shown' c load v k reads says shows =
     let late = reads.late in
     record {
@@ -365,8 +352,7 @@ stop_step h w v load (found_other u) k r hw is gone late within says stop =
     (other_goes h w v load k r (off nothing None) (omega arith) (traced_at h load v k r within gone says)
     (stopped_off h (with_found_other load v) v k r (stop_late h load.dump v load.loader load.check k r late says stop)))
 
-pub read_stop_row : (h : Hardware) (shown shown' : Shown) (c : disk.Content) (load : Load) (v : disk.DiskImage) (k : ℕ) (r : Reply) → IsBeforeRead h shown c load v k →
-    reply_at h load.dump v load.loader load.check k ≡ r → IsStop r → ShowsRest shown' → Goes h shown' r c c (loading load k) (off nothing None)
+pub read_stop_row : ReadStopRow
 read_stop_row h shown shown' c load v k r reads says stop rest = record {
   step = stop_step h (disk.as_it_reads c) v load load.found k r reads.hardware reads.found reads.gone_on reads.late reads.within says stop;
   stands = load_stops h shown shown' c load k reads.late reads.stands rest.0 rest.1;
@@ -384,7 +370,7 @@ reading_there h load v (found_other u) k hw is gone within =
     subst (λ (x : disk.DiskImage). IsThere h load (found_other x) k) is
     (there_other h load v k (reply_at h load.dump v load.loader load.check k) (traced_at h load v k (reply_at h load.dump v load.loader load.check k) within gone refl))
 
-pub read_fault_row : (h : Hardware) (shown shown' : Shown) (c : disk.Content) (load : Load) (v : disk.DiskImage) (k : ℕ) → IsBeforeRead h shown c load v k → ShowsRest shown' → Goes h shown' (reply.ReadFault Gone) c c (loading load k) (off nothing None)
+pub read_fault_row : ReadFaultRow
 read_fault_row h shown shown' c load v k reads rest = record {
   step = fault_step h (disk.as_it_reads c) load k (reply.ReadFault Gone) (off nothing None) (reading_there h load v load.found k reads.hardware reads.found reads.gone_on reads.within) (late_fault load k reads.late);
   stands = load_stops h shown shown' c load k reads.late reads.stands rest.0 rest.1;
@@ -397,7 +383,7 @@ read_fault_row h shown shown' c load v k reads rest = record {
 -- The end.
 
 -- memory alone is looked at
-shows_memory : (h : Hardware) (shown : Shown) (m n : Memory) (slots slots' : SlotPages) → m ≡ n → ShowsRunning h shown (running_of m slots) → ShowsRunning h shown (running_of n slots')
+shows_memory : (h : Hardware) (shown : WorldView) (m n : Memory) (slots slots' : SlotPages) → m ≡ n → ShowsRunning h shown (running_of m slots) → ShowsRunning h shown (running_of n slots')
 shows_memory h shown m n slots slots' e shows = record {
   held = shows.held;
   unusable = shows.unusable;
@@ -407,7 +393,7 @@ shows_memory h shown m n slots slots' e shows = record {
 }
 
 -- the row of a resume that ends well
-abbrev EndsWell : Hardware → Shown → disk.Content → Load → disk.DiskImage → Found → ℕ → ℕ → Type 0
+abbrev EndsWell : Hardware → WorldView → disk.Content → Load → disk.DiskImage → Found → ℕ → ℕ → Type 0
 EndsWell h shown' c load v found k n = (slots : SlotPages) × Goes h shown' (reply.Resumed n) c c (loading (with_finding load found) k) (on (running_with h load v slots))
 
 own_end : (h : Hardware) (load : Load) (i : Image) (k n : ℕ) → own_reply h load i k ≡ reply.Resumed n → own_step h load i k ≡ (reply.Resumed n, resumed (restored h load.dump load.loader i) i.slots load.loader)
@@ -419,7 +405,7 @@ own_end h load i k n answers = elim (own_outcome h load i k) [
   ]
 ]
 
-own_ends : (h : Hardware) (shown shown' : Shown) (c : disk.Content) (blocks : ℕ) (load : Load) (ranges : Ranges) (v : disk.DiskImage) (i : Image) (k n : ℕ) → disk.IsContent blocks c → IsBeforeRead h shown c (with_found load i) v k → load.loader ≡ loader.Ranges ranges →
+own_ends : (h : Hardware) (shown shown' : WorldView) (c : disk.Content) (blocks : ℕ) (load : Load) (ranges : Ranges) (v : disk.DiskImage) (i : Image) (k n : ℕ) → disk.IsContent blocks c → IsBeforeRead h shown c (with_found load i) v k → load.loader ≡ loader.Ranges ranges →
     reply_at h load.dump v load.loader load.check k ≡ reply.Resumed n → shown'.activity ≡ runs → ShowsRunning h shown' (running_with h load v no_slots) → NamesOnly h shown' [] → EndsWell h shown' c load v (found_own i) k n
 own_ends h shown shown' c blocks load ranges v i k n whole reads scripted says activity shows names =
     let late = reads.late in
@@ -441,7 +427,7 @@ own_ends h shown shown' c blocks load ranges v i k n whole reads scripted says a
       },
     )
 
-other_ends : (h : Hardware) (shown shown' : Shown) (c : disk.Content) (blocks : ℕ) (load : Load) (ranges : Ranges) (v : disk.DiskImage) (k n : ℕ) → disk.IsContent blocks c → IsBeforeRead h shown c (with_found_other load v) v k → load.loader ≡ loader.Ranges ranges →
+other_ends : (h : Hardware) (shown shown' : WorldView) (c : disk.Content) (blocks : ℕ) (load : Load) (ranges : Ranges) (v : disk.DiskImage) (k n : ℕ) → disk.IsContent blocks c → IsBeforeRead h shown c (with_found_other load v) v k → load.loader ≡ loader.Ranges ranges →
     reply_at h load.dump v load.loader load.check k ≡ reply.Resumed n → shown'.activity ≡ runs → ShowsRunning h shown' (running_with h load v no_slots) → NamesOnly h shown' [] → EndsWell h shown' c load v (found_other v) k n
 other_ends h shown shown' c blocks load ranges v k n whole reads scripted says activity shows names =
     let late = reads.late in
@@ -462,7 +448,7 @@ other_ends h shown shown' c blocks load ranges v k n whole reads scripted says a
       },
     )
 
-ends_well : (h : Hardware) (shown shown' : Shown) (c : disk.Content) (blocks : ℕ) (load : Load) (ranges : Ranges) (v : disk.DiskImage) (found : Found) (k n : ℕ) → disk.IsContent blocks c → IsBeforeRead h shown c (with_finding load found) v k → load.loader ≡ loader.Ranges ranges →
+ends_well : (h : Hardware) (shown shown' : WorldView) (c : disk.Content) (blocks : ℕ) (load : Load) (ranges : Ranges) (v : disk.DiskImage) (found : Found) (k n : ℕ) → disk.IsContent blocks c → IsBeforeRead h shown c (with_finding load found) v k → load.loader ≡ loader.Ranges ranges →
     reply_at h load.dump v load.loader load.check k ≡ reply.Resumed n → shown'.activity ≡ runs → ShowsRunning h shown' (running_with h load v no_slots) → NamesOnly h shown' [] → EndsWell h shown' c load v found k n
 ends_well h shown shown' c blocks load ranges v not_yet k n whole reads scripted says activity shows names = absurd reads.found
 ends_well h shown shown' c blocks load ranges v (found_own i) k n whole reads scripted says activity shows names = own_ends h shown shown' c blocks load ranges v i k n whole reads scripted says activity shows names
@@ -470,9 +456,7 @@ ends_well h shown shown' c blocks load ranges v (found_other u) k n whole reads 
     subst (λ (x : disk.DiskImage). IsBeforeRead h shown c (with_found_other load x) v k → EndsWell h shown' c load v (found_other x) k n) reads.found
     (λ here. other_ends h shown shown' c blocks load ranges v k n whole here scripted says activity shows names) reads
 
-pub read_resumed_row : (h : Hardware) (shown shown' : Shown) (c : disk.Content) (blocks : ℕ) (load : Load) (ranges : Ranges) (v : disk.DiskImage) (k n : ℕ) → disk.IsContent blocks c → IsBeforeRead h shown c load v k → load.loader ≡ loader.Ranges ranges →
-    reply_at h load.dump v load.loader load.check k ≡ reply.Resumed n → shown'.activity ≡ runs → ShowsRunning h shown' (running_with h load v no_slots) → NamesOnly h shown' [] →
-    (slots : SlotPages) × Goes h shown' (reply.Resumed n) c c (loading load k) (on (running_with h load v slots))
+pub read_resumed_row : ReadResumedRow
 read_resumed_row h shown shown' c blocks load ranges v k n = ends_well h shown shown' c blocks load ranges v load.found k n
 
 off_step : (h : Hardware) (w v : disk.DiskImage) (load : Load) (found : Found) (k n : ℕ) → IsHardware h → IsFoundOn h v found → HaveGoneOn h load v k → 2 ≤ k → k < 4 + place_count (info_in h v).pages → load.loader ≡ loader.Table →
@@ -486,8 +470,7 @@ off_step h w v load (found_other u) k n hw is gone late within from says =
     subst (λ (x : disk.DiskImage). Step h w (loading (with_found_other load x) k) (event.Step actor.Core) (reply.Resumed n) (off nothing None)) is
     (other_goes h w v load k (reply.Resumed n) (off nothing None) late (traced_at h load v k (reply.Resumed n) within gone says) (ap (resumed m (slots_in h v m)) from))
 
-pub read_resumed_off_row : (h : Hardware) (shown shown' : Shown) (c : disk.Content) (load : Load) (v : disk.DiskImage) (k n : ℕ) → IsBeforeRead h shown c load v k → load.loader ≡ loader.Table →
-    reply_at h load.dump v load.loader load.check k ≡ reply.Resumed n → ShowsRest shown' → Goes h shown' (reply.Resumed n) c c (loading load k) (off nothing None)
+pub read_resumed_off_row : ReadResumedOffRow
 read_resumed_off_row h shown shown' c load v k n reads from says rest =
     let late = reads.late in
     record {
@@ -509,8 +492,7 @@ zip-nil [] none e = refl
 zip-nil (x ∷ xs) [] e = refl
 zip-nil (x ∷ xs) (y ∷ ys) e = cc
 
-pub shows_none_read : (h : Hardware) (shown : Shown) (load : Load) (k : ℕ) → k ≤ 6 → shown.activity ≡ loads k → shown.resume ≡ Some (load.loader, load.check) →
-    ((p : ℕ) → p < top h.zones → (Contains (left_free h load.dump load.loader) p → ⊥) → frame shown.frames p ≡ loader_frame load.dump load.loader p) → shown.loaded ≡ [] → ShowsLoad h shown load k
+pub shows_none_read : ShowsNoneRead
 shows_none_read h shown load k few activity told kept none = record {
   activity = activity;
   shows = record {
@@ -521,9 +503,9 @@ shows_none_read h shown load k few activity told kept none = record {
   };
 }
 
-pub cause_ends : (h : Hardware) (load : Load) (v : disk.DiskImage) (t : ℕ) (r : Reply) → cause_at h load.dump v load.loader load.check t ≡ Some r → IsStop r
+pub cause_ends : CauseStops
 cause_ends h load v t r e =
     stop_kind r (cause_stops (cause_at h load.dump v load.loader load.check t) r (stops_cause h load.dump v load.loader load.check t) e)
 
-pub tables_end : (h : Hardware) (load : Load) (v : disk.DiskImage) (r : Reply) → tables_cause h v (restored_in h load.dump v load.loader) ≡ Some r → IsStop r
+pub tables_end : TablesStop
 tables_end h load v r e = stop_kind r (cause_stops (tables_cause h v (restored_in h load.dump v load.loader)) r (stops_tables h v (restored_in h load.dump v load.loader)) e)

@@ -1,6 +1,6 @@
 -- Steps of the plain machine while it resumes.
 use Rattle.std.proofs.Common.{◌≡◌, ◌<◌, ◌≤◌, ◌⊎◌, ℕ, ◌+◌, inl, inr, zero, suc, eqb, ltb, Bool, true, false, cond, not, ◌&&◌, ◌||◌, length, List, [], ◌∷◌, Option, Some, None, slice_get, unwrap_or, refl, sym, ap, ◌∙◌, subst, arith, Contains}
-use Rattle.std.proofs.lemmas.Bool.{cond-true, cond-false, ne_eqb, lt-ltb, false≢true}
+use Rattle.std.proofs.lemmas.Bool.{cond-true, lt-ltb, false≢true}
 use Rattle.std.proofs.lemmas.Option.{slice_get_within}
 use Rattle.definitions.specs.Disk as disk
 use Rattle.definitions.specs.NumberPages.{meta_of}
@@ -8,12 +8,13 @@ use Rattle.plain_machine.specs.Machine.{Hardware}
 use Rattle.plain_machine.specs.Image.{Image, n_of, d_of, resume_steps}
 use Rattle.plain_machine.specs.Loader.{restored}
 use Rattle.plain_machine.specs.Refusals.{refusal}
-use Rattle.plain_machine.specs.State.{State, off, loading, nothing, Held, perhaps, Load, Found, found_own, found_other, saved_found}
-use Rattle.plain_machine.specs.Step.{Outcome, Step, outcomes, only, load_answers, has_place, load_fault, loaded_step, find_step, own_step, other_step, other_state, has_room, too_few, resumed}
+use Rattle.plain_machine.specs.State.{State, off, loading, nothing, Held, Load, Found, found_own, found_other}
+use Rattle.plain_machine.proofs.Calls.{load_call-late}
+use Rattle.plain_machine.specs.Step.{Outcome, Step, outcomes, only, load_answers, has_place, load_fault, fault_of_load, loaded_step, find_step, own_step, other_step, other_state, has_room, too_few, resumed}
 use Rattle.plain_machine.specs.Trace.{trace, header_cause}
 use Rattle.plain_machine.specs.declared.event.Actor.TheVariants as actor
 use Rattle.plain_machine.specs.declared.event.Event.TheVariants as event
-use Rattle.plain_machine.specs.declared.reply.Left.TheVariants.{Same, Gone, Unsure}
+use Rattle.plain_machine.specs.declared.reply.Left.TheVariants.{Gone}
 use Rattle.plain_machine.specs.declared.reply.Reply.{Reply}
 use Rattle.plain_machine.specs.declared.reply.Reply.TheVariants as reply
 use Rattle.protocol_laws.specs.Resuming.{with_found}
@@ -49,25 +50,24 @@ pub fault_step : (h : Hardware) (v : disk.DiskImage) (load : Load) (k : ℕ) (r 
 fault_step h v load k r b there e = by_core h v load k r b there (0, omega arith, e)
 
 pub late_fault : (load : Load) (k : ℕ) → 4 ≤ k → load_fault load k ≡ (reply.ReadFault Gone, off nothing None)
-late_fault load k le =
-    let fourth : Outcome = (reply.SyncFault Unsure, off (perhaps (saved_found load.found load.held)) None) in
-    let third : Outcome = (reply.WriteFault Unsure, off (perhaps (saved_found load.found load.held)) None) in
-    let later : Outcome = (reply.ReadFault Gone, off nothing None) in
-    cond-false (eqb k 0) (reply.SyncFault Same, off load.held None) (cond (eqb k 1) (reply.ReadFault Same, off load.held None) (cond (eqb k 2) third (cond (eqb k 3) fourth later))) (ne_eqb k 0 (λ e. omega arith))
-    ∙ cond-false (eqb k 1) (reply.ReadFault Same, off load.held None) (cond (eqb k 2) third (cond (eqb k 3) fourth later)) (ne_eqb k 1 (λ e. omega arith))
-    ∙ cond-false (eqb k 2) third (cond (eqb k 3) fourth later) (ne_eqb k 2 (λ e. omega arith)) ∙ cond-false (eqb k 3) fourth later (ne_eqb k 3 (λ e. omega arith))
+late_fault load k le = ap (fault_of_load load) (load_call-late k le)
 
 -- Behind the second step.
 
 in_tail : {A : Type 0} (x : A) (xs : List A) (y : A) → Contains xs y → Contains (x ∷ xs) y
 in_tail x xs y (k, lt, e) = (suc k, omega arith, e)
 
+found_answers : (h : Hardware) (v : disk.DiskImage) (load : Load) (k : ℕ) → 2 ≤ k → load_answers h v load k ≡ loaded_step h load load.found k
+found_answers h v load zero le = absurd (omega arith)
+found_answers h v load (suc zero) le = absurd (omega arith)
+found_answers h v load (suc (suc zero)) le = refl
+found_answers h v load (suc (suc (suc zero))) le = refl
+found_answers h v load (suc (suc (suc (suc k)))) le = refl
+
 found_step : (h : Hardware) (v : disk.DiskImage) (load : Load) (k : ℕ) (r : Reply) (b : State) → IsThere h load load.found k → 2 ≤ k → Contains (loaded_step h load load.found k) (r, b) → Step h v (loading load k) (event.Step actor.Core) r b
 found_step h v load k r b there le in' =
-    let first = cond-false (eqb k 0) (only (reply.Loading 1) (loading load 1)) (cond (eqb k 1) (find_step h v load load.held) (loaded_step h load load.found k)) (ne_eqb k 0 (λ e. omega arith)) in
-    let second = cond-false (eqb k 1) (find_step h v load load.held) (loaded_step h load load.found k) (ne_eqb k 1 (λ e. omega arith)) in
     by_core h v load k r b there
-    (subst (λ (xs : List Outcome). Contains (load_fault load k ∷ xs) (r, b)) (sym (first ∙ second)) (in_tail (load_fault load k) (loaded_step h load load.found k) (r, b) in'))
+    (subst (λ (xs : List Outcome). Contains (load_fault load k ∷ xs) (r, b)) (sym (found_answers h v load k le)) (in_tail (load_fault load k) (loaded_step h load load.found k) (r, b) in'))
 
 -- An own image.
 

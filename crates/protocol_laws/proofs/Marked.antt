@@ -9,36 +9,37 @@ use Rattle.sig_header.specs.AreaKind.{area_kind}
 use Rattle.sig_header.specs.declared.area.AreaKind.{AreaKind}
 use Rattle.plain_machine.specs.Machine.{Hardware, block_of_slot, unused_slots}
 use Rattle.plain_machine.specs.Chain.{header_of, blocks_of, Marked, Holds}
-use Rattle.plain_machine.specs.Image.{Image, SlotPages, image_of_memory, stream_of, hibernate_steps}
-use Rattle.plain_machine.specs.Shows.{Shown, hibernates, undoes, ShowsRunning}
-use Rattle.plain_machine.specs.Stands.{Stands, StandsBehind, HasLaid, IsHeld, IsOwn, FitsArea, AgreeOnArea, KeepsMark, Reads, laid_writes, first_map_block}
+use Rattle.plain_machine.specs.Image.{Image, SlotPages, image_of_memory, stream_of}
+use Rattle.plain_machine.specs.Shows.{WorldView, ShowsRunning}
+use Rattle.plain_machine.specs.Stands.{Stands, StandsBehind, HasLaid, IsHeld, IsOwn, FitsArea, AgreeOnArea, KeepsMark, Reads, laid_writes, first_map_block, IsBeforeCall}
 use Rattle.plain_machine.specs.Mark.{HasMark}
 use Rattle.plain_machine.proofs.BadSlots.{fits_area, has_area}
-use Rattle.plain_machine.specs.State.{hibernating, undoing, Running, maybe, own}
+use Rattle.plain_machine.specs.State.{hibernating, Running, maybe, own}
 use Rattle.plain_machine.specs.UsableArea.{area_block, area_fault, bad_set_fault, kind_or_fit_fault}
-use Rattle.plain_machine.specs.declared.reply.UndoCall.TheVariants as undo
 use Rattle.image_laws.specs.ImageBlocks.{Tries}
 use Rattle.image_laws.proofs.Images.{earlier_image}
 use Rattle.image_write.proofs.Done.{all_done}
 use Rattle.plain_machine.proofs.DiskBlocks.{block-written}
-use Rattle.protocol_laws.specs.Steps.{IsOverDisk, ShowsCopies, marked_header}
+use Rattle.protocol_laws.specs.Steps.{marked_header}
 use Rattle.protocol_laws.proofs.Same.{reads_kept}
 use Rattle.protocol_laws.proofs.Places.{task_not_header}
 use Rattle.protocol_laws.proofs.Areas.{agree_on_area, area_kind_same, sig_same}
-use Rattle.protocol_laws.proofs.Back.{own_task_slots, ReadsSlots, slots_read, held_behind, unheld}
+use Rattle.plain_machine.proofs.Calls.{call_last, synced_from}
+use Rattle.protocol_laws.proofs.Back.{own_task_slots, ReadsSlots, slots_read, held_behind, unheld, before_mark}
 use Rattle.protocol_laws.proofs.Marking.{IsReady, HasPage, is_kept, the_mark, mark_torn, marked_holds, marked_reads, header_on_disk, image_blocks, header_of_marked, area_block-unmarked, area_block-marked}
+use Rattle.protocol_laws.specs.Hibernating.{MarkFails, MarksOn}
 
 -- Each image is the one of before, or has the mark.
 pub data Torn (h : Hardware) (c : disk.Content) (page : List ℕ) (v : disk.DiskImage) : Type 0 where
   as_before : disk.IsImage c v → Torn h c page v
   with_mark : HasPage h c page v → Torn h c page v
 
-pub record IsTried (h : Hardware) (shown : Shown) (c c' : disk.Content) (blocks : ℕ) (suspends : Bool) (i : Image) (a : Running) (k : ℕ) : Type 0 where
+pub record IsTried (h : Hardware) (shown : WorldView) (c c' : disk.Content) (blocks : ℕ) (suspends : Bool) (i : Image) (a : Running) (k : ℕ) : Type 0 where
   pub ready : IsReady h shown c blocks suspends i a k
   pub after : disk.IsContent blocks c'
   pub tries : Tries (block_of_slot h 0) (marked_header h a i shown.header) c c'
 
-torn : (h : Hardware) (shown : Shown) (c c' : disk.Content) (blocks : ℕ) (suspends : Bool) (i : Image) (a : Running) (k : ℕ) (v : disk.DiskImage) → IsTried h shown c c' blocks suspends i a k → disk.IsImage c' v → Torn h c (marked_header h a i shown.header) v
+torn : (h : Hardware) (shown : WorldView) (c c' : disk.Content) (blocks : ℕ) (suspends : Bool) (i : Image) (a : Running) (k : ℕ) (v : disk.DiskImage) → IsTried h shown c c' blocks suspends i a k → disk.IsImage c' v → Torn h c (marked_header h a i shown.header) v
 torn h shown c c' blocks suspends i a k v is in' =
     elim (mark_torn h shown c c' blocks suspends i a k v is.ready is.tries in') [
       | inl was ↦ as_before was
@@ -61,11 +62,11 @@ says_area_by h header page v e agrees unmarked kind = record {
   kind = ap area_kind e ∙ kind;
 }
 
-says_area : (h : Hardware) (shown : Shown) (c c' : disk.Content) (blocks : ℕ) (suspends : Bool) (i : Image) (a : Running) (k : ℕ) (v : disk.DiskImage) → IsTried h shown c c' blocks suspends i a k → Torn h c (marked_header h a i shown.header) v → SaysArea h shown.header v
+says_area : (h : Hardware) (shown : WorldView) (c c' : disk.Content) (blocks : ℕ) (suspends : Bool) (i : Image) (a : Running) (k : ℕ) (v : disk.DiskImage) → IsTried h shown c c' blocks suspends i a k → Torn h c (marked_header h a i shown.header) v → SaysArea h shown.header v
 says_area h shown c c' blocks suspends i a k v is (as_before was) =
     let kept = is_kept h shown c blocks suspends i a k is.ready in
     let last = is.ready.last in
-    let one = (is.ready.stands.parts.5 (omega arith)).0 in
+    let one = (before_mark h shown c suspends i a k last is.ready.stands).one in
     let here = IsImage-as_it_reads blocks c is.ready.over.content in
     let same : header_of h v ≡ shown.header = ap (header_of h) (one v (disk.as_it_reads c) was here) ∙ sym kept.is in
     says_area_by h shown.header shown.header v (area_block-unmarked h v (λ m. kept.unmarked (subst IsMarked same m)) ∙ same) (record { front = refl; signature = refl }) kept.unmarked refl
@@ -82,7 +83,7 @@ says_area h shown c c' blocks suspends i a k v is (with_mark has) =
 pub agree_both : (p q r : List ℕ) → AgreeOnArea p r → AgreeOnArea q r → AgreeOnArea p q
 agree_both p q r a b = record { front = a.front ∙ sym b.front; signature = a.signature ∙ sym b.signature }
 
-each_says : (h : Hardware) (shown : Shown) (c c' : disk.Content) (blocks : ℕ) (suspends : Bool) (i : Image) (a : Running) (k : ℕ) (v : disk.DiskImage) → IsTried h shown c c' blocks suspends i a k → disk.IsImage c' v → SaysArea h shown.header v
+each_says : (h : Hardware) (shown : WorldView) (c c' : disk.Content) (blocks : ℕ) (suspends : Bool) (i : Image) (a : Running) (k : ℕ) (v : disk.DiskImage) → IsTried h shown c c' blocks suspends i a k → disk.IsImage c' v → SaysArea h shown.header v
 each_says h shown c c' blocks suspends i a k v is in' = says_area h shown c c' blocks suspends i a k v is (torn h shown c c' blocks suspends i a k v is in')
 
 -- An own image.
@@ -90,18 +91,18 @@ each_says h shown c c' blocks suspends i a k v is in' = says_area h shown c c' b
 pub slots_are : (h : Hardware) (a : Running) (i : Image) → i ≡ image_of_memory h a.memory a.slots i.format → i.slots ≡ a.slots
 slots_are h a i is = ap (λ (x : Image). x.slots) is
 
-pub is_own : (h : Hardware) (shown : Shown) (c : disk.Content) (suspends : Bool) (i : Image) (a : Running) (k : ℕ) (v : disk.DiskImage) → Stands h shown c (hibernating suspends i a k) → FitsArea h v a.memory →
+pub is_own : (h : Hardware) (shown : WorldView) (c : disk.Content) (suspends : Bool) (i : Image) (a : Running) (k : ℕ) (v : disk.DiskImage) → Stands h shown c (hibernating suspends i a k) → FitsArea h v a.memory →
     (Marked h v → (bit_and (flags_of (header_of h v)) 8 ≡ 0) ⊎ (hw_sig_of (header_of h v) ≡ h.hw_sig)) → IsOwn h v i
 is_own h shown c suspends i a k v stands area signature =
-    let slots = slots_are h a i stands.parts.1.image in
+    let slots = slots_are h a i stands.parts.accepted.image in
     record {
       of_memory = (
         a.memory,
         record {
-          fits = stands.parts.0.shows.fits;
-          task_slots = own_task_slots h a i stands.parts.1 stands.parts.0.flights stands.parts.0.task_slots;
+          fits = stands.parts.behind.memory.fits;
+          task_slots = own_task_slots h a i stands.parts.accepted stands.parts.behind.flights stands.parts.behind.task_slots;
           fits_area = area;
-          image = subst (λ (u : SlotPages). i ≡ image_of_memory h a.memory u i.format) (sym slots) stands.parts.1.image;
+          image = subst (λ (u : SlotPages). i ≡ image_of_memory h a.memory u i.format) (sym slots) stands.parts.accepted.image;
         },
       );
       signature = signature;
@@ -112,10 +113,10 @@ unfolding area_fault
 area_by_kind h v w blocks kind = ap₂ (λ (n : ℕ) (x : AreaKind). kind_or_fit_fault h n x) blocks kind
 
 -- the area is the one that the running state has
-area_torn : (h : Hardware) (shown : Shown) (c c' : disk.Content) (blocks : ℕ) (suspends : Bool) (i : Image) (a : Running) (k : ℕ) (v : disk.DiskImage) → IsTried h shown c c' blocks suspends i a k → disk.IsImage c' v → FitsArea h v a.memory
+area_torn : (h : Hardware) (shown : WorldView) (c c' : disk.Content) (blocks : ℕ) (suspends : Bool) (i : Image) (a : Running) (k : ℕ) (v : disk.DiskImage) → IsTried h shown c c' blocks suspends i a k → disk.IsImage c' v → FitsArea h v a.memory
 area_torn h shown c c' blocks suspends i a k v is in' =
     let stands = is.ready.stands in
-    let usable = fits_area h c a stands.parts.0.area stands.parts.1.usable in
+    let usable = fits_area h c a stands.parts.behind.area stands.parts.accepted.usable in
     let w = disk.as_it_reads c in
     let says = each_says h shown c c' blocks suspends i a k v is in' in
     let kept = is_kept h shown c blocks suspends i a k is.ready in
@@ -128,7 +129,7 @@ area_torn h shown c c' blocks suspends i a k v is in' =
       bad_slots = ap (bad_set_fault h a.memory) kind ∙ usable.bad_slots;
     }
 
-held_torn : (h : Hardware) (shown : Shown) (c c' : disk.Content) (blocks : ℕ) (suspends : Bool) (i : Image) (a : Running) (k : ℕ) (v : disk.DiskImage) → IsTried h shown c c' blocks suspends i a k → FitsArea h v a.memory → Torn h c (marked_header h a i shown.header) v → ((Marked h v → ⊥) ⊎ Holds h v i) × IsOwn h v i
+held_torn : (h : Hardware) (shown : WorldView) (c c' : disk.Content) (blocks : ℕ) (suspends : Bool) (i : Image) (a : Running) (k : ℕ) (v : disk.DiskImage) → IsTried h shown c c' blocks suspends i a k → FitsArea h v a.memory → Torn h c (marked_header h a i shown.header) v → ((Marked h v → ⊥) ⊎ Holds h v i) × IsOwn h v i
 held_torn h shown c c' blocks suspends i a k v is area (as_before was) =
     let stands = is.ready.stands in
     let last = is.ready.last in
@@ -144,23 +145,23 @@ held_torn h shown c c' blocks suspends i a k v is area (with_mark has) =
       is_own h shown c suspends i a k v stands area (λ m. subst (λ (p : List ℕ). (bit_and (flags_of p) 8 ≡ 0) ⊎ (hw_sig_of p ≡ h.hw_sig)) (sym header) mark.signature),
     )
 
-tried_slots : (h : Hardware) (shown : Shown) (c c' : disk.Content) (blocks : ℕ) (suspends : Bool) (i : Image) (a : Running) (k : ℕ) → IsTried h shown c c' blocks suspends i a k → ReadsSlots h c c' a.slots
+tried_slots : (h : Hardware) (shown : WorldView) (c c' : disk.Content) (blocks : ℕ) (suspends : Bool) (i : Image) (a : Running) (k : ℕ) → IsTried h shown c c' blocks suspends i a k → ReadsSlots h c c' a.slots
 tried_slots h shown c c' blocks suspends i a k is s old e =
-    let behind = is.ready.stands.parts.0 in
+    let behind = is.ready.stands.parts.behind in
     let task = behind.task_slots.tasks s old e in
-    reads_kept (block_of_slot h 0) (block_of_slot h s) (marked_header h a i shown.header) c c' is.tries (task_not_header h a.memory s is.ready.over.hardware behind.shows.fits task.0 task.2)
+    reads_kept (block_of_slot h 0) (block_of_slot h s) (marked_header h a i shown.header) c c' is.tries (task_not_header h a.memory s is.ready.over.hardware behind.memory.fits task.0 task.2)
 
 -- what is behind the mark's write
-pub behind_mark : (h : Hardware) (shown shown' : Shown) (c c' : disk.Content) (blocks : ℕ) (suspends : Bool) (i : Image) (a : Running) (k : ℕ) → IsTried h shown c c' blocks suspends i a k → ShowsRunning h shown' a → StandsBehind h shown' c' a (maybe (own i))
+pub behind_mark : (h : Hardware) (shown shown' : WorldView) (c c' : disk.Content) (blocks : ℕ) (suspends : Bool) (i : Image) (a : Running) (k : ℕ) → IsTried h shown c c' blocks suspends i a k → ShowsRunning h shown' a → StandsBehind h shown' c' a (maybe (own i))
 behind_mark h shown shown' c c' blocks suspends i a k is shows =
-    let behind = is.ready.stands.parts.0 in
+    let behind = is.ready.stands.parts.behind in
     let v' = disk.as_it_reads c' in
     let here' = IsImage-as_it_reads blocks c' is.after in
     let says = each_says h shown c c' blocks suspends i a k v' is here' in
     let area = area_torn h shown c c' blocks suspends i a k v' is here' in
     record {
       held = λ w in_w. held_torn h shown c c' blocks suspends i a k w is (area_torn h shown c c' blocks suspends i a k w is in_w) (torn h shown c c' blocks suspends i a k w is in_w);
-      shows = shows;
+      memory = shows;
       task_slots = behind.task_slots;
       flights = behind.flights;
       slot_pages = slots_read h c c' a.slots (tried_slots h shown c c' blocks suspends i a k is) behind.slot_pages;
@@ -168,10 +169,10 @@ behind_mark h shown shown' c c' blocks suspends i a k is shows =
         unmarked = λ w in_w. (each_says h shown c c' blocks suspends i a k w is in_w).unmarked;
         one = λ w in_w. agree_both (area_block h w) (area_block h v') shown.header (each_says h shown c c' blocks suspends i a k w is in_w).agrees says.agrees;
       };
-      area = has_area h c' a is.ready.stands.parts.1.usable area;
+      area = has_area h c' a is.ready.stands.parts.accepted.usable area;
     }
 
-keeps_mark : (h : Hardware) (shown shown' : Shown) (c c' : disk.Content) (blocks : ℕ) (suspends : Bool) (i : Image) (a : Running) (k : ℕ) → IsTried h shown c c' blocks suspends i a k → shown'.header ≡ marked_header h a i shown.header → KeepsMark h shown' c' i a
+keeps_mark : (h : Hardware) (shown shown' : WorldView) (c c' : disk.Content) (blocks : ℕ) (suspends : Bool) (i : Image) (a : Running) (k : ℕ) → IsTried h shown c c' blocks suspends i a k → shown'.header ≡ marked_header h a i shown.header → KeepsMark h shown' c' i a
 keeps_mark h shown shown' c c' blocks suspends i a k is header =
     let mark = the_mark h shown c blocks suspends i a k is.ready in
     let kept = is_kept h shown c blocks suspends i a k is.ready in
@@ -187,22 +188,22 @@ keeps_mark h shown shown' c c' blocks suspends i a k is header =
 
 -- Every image has what was laid.
 
-written_torn : (h : Hardware) (shown : Shown) (c c' : disk.Content) (blocks : ℕ) (suspends : Bool) (i : Image) (a : Running) (k : ℕ) (v : disk.DiskImage) → IsTried h shown c c' blocks suspends i a k → Torn h c (marked_header h a i shown.header) v → All (Reads v) (laid_writes h a i)
-written_torn h shown c c' blocks suspends i a k v is (as_before was) = let last = is.ready.last in (is.ready.stands.parts.3.durable (omega arith)).blocks v was
+written_torn : (h : Hardware) (shown : WorldView) (c c' : disk.Content) (blocks : ℕ) (suspends : Bool) (i : Image) (a : Running) (k : ℕ) (v : disk.DiskImage) → IsTried h shown c c' blocks suspends i a k → Torn h c (marked_header h a i shown.header) v → All (Reads v) (laid_writes h a i)
+written_torn h shown c c' blocks suspends i a k v is (as_before was) = let last = is.ready.last in (is.ready.stands.parts.written.durable (synced_from i k (omega arith))).blocks v was
 written_torn h shown c c' blocks suspends i a k v is (with_mark has) =
     all_done h.extents (unused_slots h a.memory) (stream_of i) v (marked_reads h shown c blocks suspends i a k (marked_header h a i shown.header) v is.ready has)
 
-slots_torn : (h : Hardware) (shown : Shown) (c c' : disk.Content) (blocks : ℕ) (suspends : Bool) (i : Image) (a : Running) (k : ℕ) (v : disk.DiskImage) (s : ℕ) (page : List ℕ) → IsTried h shown c c' blocks suspends i a k → i.slots s ≡ Some page → Torn h c (marked_header h a i shown.header) v → disk.block v (block_of_slot h s) ≡ page
-slots_torn h shown c c' blocks suspends i a k v s page is e (as_before was) = let last = is.ready.last in (is.ready.stands.parts.3.durable (omega arith)).slots s page e v was
+slots_torn : (h : Hardware) (shown : WorldView) (c c' : disk.Content) (blocks : ℕ) (suspends : Bool) (i : Image) (a : Running) (k : ℕ) (v : disk.DiskImage) (s : ℕ) (page : List ℕ) → IsTried h shown c c' blocks suspends i a k → i.slots s ≡ Some page → Torn h c (marked_header h a i shown.header) v → disk.block v (block_of_slot h s) ≡ page
+slots_torn h shown c c' blocks suspends i a k v s page is e (as_before was) = let last = is.ready.last in (is.ready.stands.parts.written.durable (synced_from i k (omega arith))).slots s page e v was
 slots_torn h shown c c' blocks suspends i a k v s page is e (with_mark has) = (marked_holds h shown c blocks suspends i a k v is.ready has).slots s page e
 
-says_torn : (h : Hardware) (shown : Shown) (c c' : disk.Content) (blocks : ℕ) (suspends : Bool) (i : Image) (a : Running) (k : ℕ) (v : disk.DiskImage) → IsTried h shown c c' blocks suspends i a k → Torn h c (marked_header h a i shown.header) v → Marked h v → HasMark h i.format (first_map_block h a) (header_of h v)
+says_torn : (h : Hardware) (shown : WorldView) (c c' : disk.Content) (blocks : ℕ) (suspends : Bool) (i : Image) (a : Running) (k : ℕ) (v : disk.DiskImage) → IsTried h shown c c' blocks suspends i a k → Torn h c (marked_header h a i shown.header) v → Marked h v → HasMark h i.format (first_map_block h a) (header_of h v)
 says_torn h shown c c' blocks suspends i a k v is (as_before was) marked = let last = is.ready.last in absurd (unheld h shown c suspends i a k (omega arith) is.ready.stands v was marked)
 says_torn h shown c c' blocks suspends i a k v is (with_mark has) marked =
     let lt = header_on_disk h shown c blocks suspends i a k is.ready.over is.ready.stands in
     subst (HasMark h i.format (first_map_block h a)) (sym (header_of_marked h c blocks (marked_header h a i shown.header) v is.ready.over.content lt has)) (the_mark h shown c blocks suspends i a k is.ready).own
 
-has_laid : (h : Hardware) (shown : Shown) (c c' : disk.Content) (blocks : ℕ) (suspends : Bool) (i : Image) (a : Running) (k : ℕ) → IsTried h shown c c' blocks suspends i a k → HasLaid h c' i a
+has_laid : (h : Hardware) (shown : WorldView) (c c' : disk.Content) (blocks : ℕ) (suspends : Bool) (i : Image) (a : Running) (k : ℕ) → IsTried h shown c c' blocks suspends i a k → HasLaid h c' i a
 has_laid h shown c c' blocks suspends i a k is = record {
   blocks = λ v in'. written_torn h shown c c' blocks suspends i a k v is (torn h shown c c' blocks suspends i a k v is in');
   slots = λ s page e v in'. slots_torn h shown c c' blocks suspends i a k v s page is e (torn h shown c c' blocks suspends i a k v is in');
@@ -210,25 +211,22 @@ has_laid h shown c c' blocks suspends i a k is = record {
 }
 
 -- a mark that fails begins an undo
-pub mark_fails : (h : Hardware) (shown shown' : Shown) (c c' : disk.Content) (blocks : ℕ) (suspends : Bool) (i : Image) (a : Running) (k : ℕ) → IsOverDisk h i blocks c → disk.IsContent blocks c' → Stands h shown c (hibernating suspends i a k) → k + 2 ≡ hibernate_steps i →
-    disk.FailsToWrite (block_of_slot h 0) (marked_header h a i shown.header) c c' → shown'.header ≡ marked_header h a i shown.header → shown'.activity ≡ undoes undo.Write 0 → ShowsCopies h shown' a i → Stands h shown' c' (undoing i undo.Write a 0)
+pub mark_fails : MarkFails
 mark_fails h shown shown' c c' blocks suspends i a k over after stands last tries header activity shows =
     let is : IsTried h shown c c' blocks suspends i a k = record { ready = record { over = over; stands = stands; last = last }; after = after; tries = inr tries } in
     record {
       activity = activity;
-      parts = (
-        behind_mark h shown shown' c c' blocks suspends i a k is shows.shows,
-        stands.parts.1,
-        shows.names,
-        has_laid h shown c c' blocks suspends i a k is,
-        (λ e. keeps_mark h shown shown' c c' blocks suspends i a k is header),
-        (λ e. absurd (omega arith)),
-      );
+      parts = record {
+        behind = behind_mark h shown shown' c c' blocks suspends i a k is shows.shows;
+        accepted = stands.parts.accepted;
+        names = shows.names;
+        laid = has_laid h shown c c' blocks suspends i a k is;
+        before = keeps_mark h shown shown' c c' blocks suspends i a k is header;
+      };
     }
 
 -- one that is made is a step of the hibernation
-pub marks_on : (h : Hardware) (shown shown' : Shown) (c c' : disk.Content) (blocks : ℕ) (suspends : Bool) (i : Image) (a : Running) (k : ℕ) → IsOverDisk h i blocks c → disk.IsContent blocks c' → Stands h shown c (hibernating suspends i a k) → k + 2 ≡ hibernate_steps i →
-    disk.Writes (block_of_slot h 0) (marked_header h a i shown.header) c c' → shown'.header ≡ marked_header h a i shown.header → shown'.activity ≡ hibernates suspends (k + 1) → ShowsCopies h shown' a i → Stands h shown' c' (hibernating suspends i a (k + 1))
+pub marks_on : MarksOn
 marks_on h shown shown' c c' blocks suspends i a k over after stands last writes header activity shows =
     let is : IsTried h shown c c' blocks suspends i a k = record { ready = record { over = over; stands = stands; last = last }; after = after; tries = inl writes } in
     let page = marked_header h a i shown.header in
@@ -242,25 +240,24 @@ marks_on h shown shown' c c' blocks suspends i a k over after stands last writes
     let behind = behind_mark h shown shown' c c' blocks suspends i a k is shows.shows in
     record {
       activity = activity;
-      parts = (
-        record {
-          held = subst (IsHeld h c') (sym (held_behind suspends i a (k + 1) (λ lt. omega arith))) behind.held;
-          shows = behind.shows;
+      parts = record {
+        behind = record {
+          memory = behind.memory;
+          held = subst (IsHeld h c') (sym (held_behind suspends i a (k + 1) (omega arith))) behind.held;
           task_slots = behind.task_slots;
           flights = behind.flights;
           slot_pages = behind.slot_pages;
           header = behind.header;
           area = behind.area;
-        },
-        stands.parts.1,
-        shows.names,
-        record {
+        };
+        accepted = stands.parts.accepted;
+        names = shows.names;
+        written = record {
           laid = All-take (Reads v') (k + 1) (laid_writes h a i) (written_torn h shown c c' blocks suspends i a k v' is (with_mark has));
           copies = shows.copies;
-          durable = λ le. has_laid h shown c c' blocks suspends i a k is;
-        },
-        (λ e. absurd (omega arith)),
-        (λ e. absurd (omega arith)),
-        (λ e. (keeps_mark h shown shown' c c' blocks suspends i a k is header, marked_holds h shown c blocks suspends i a k v' is.ready has)),
-      );
+          durable = λ synced. has_laid h shown c c' blocks suspends i a k is;
+        };
+        before = subst (IsBeforeCall h shown' c' i a) (sym (call_last i (k + 1) (omega arith)))
+            (record { mark = keeps_mark h shown shown' c c' blocks suspends i a k is header; holds = marked_holds h shown c blocks suspends i a k v' is.ready has });
+      };
     }

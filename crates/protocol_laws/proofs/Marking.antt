@@ -17,7 +17,7 @@ use Rattle.plain_machine.specs.Machine.{Hardware, block_of_slot, slot_entry, unu
 use Rattle.plain_machine.specs.Chain.{header_of, blocks_of, Holds, chain, map_block, entry_block}
 use Rattle.plain_machine.specs.Image.{Image, stream_of, maps_of, hibernate_steps}
 use Rattle.plain_machine.specs.Laid.{laid_entries, map_place, page_place}
-use Rattle.plain_machine.specs.Shows.{Shown}
+use Rattle.plain_machine.specs.Shows.{WorldView}
 use Rattle.plain_machine.specs.Mark.{mark_flags, HasMark}
 use Rattle.plain_machine.proofs.BadSlots.{fits_area}
 use Rattle.plain_machine.specs.Stands.{Stands, Reads, laid_writes, first_map_block}
@@ -34,7 +34,8 @@ use Rattle.protocol_laws.proofs.Places.{IsUsable, usable_area, free_place, free_
 use Rattle.protocol_laws.proofs.Laid.{count_of, length-stream_of, slot_of_write, done_of_take}
 use Rattle.protocol_laws.proofs.Areas.{last_of_swap}
 use Rattle.protocol_laws.proofs.MarkFields.{marked-is_marked, image_of-marked, flags_of-marked, hw_sig_of-marked, last_page_of-marked}
-use Rattle.protocol_laws.proofs.Back.{unheld}
+use Rattle.plain_machine.proofs.Calls.{synced_from}
+use Rattle.protocol_laws.proofs.Back.{unheld, before_mark}
 
 -- The flags of a mark.
 
@@ -65,7 +66,7 @@ unsigned f hw e = ap (λ (b : Bool). bit_and (cond b (mark_flags f) (bit_or (mar
 
 -- Before the mark.
 
-pub record IsReady (h : Hardware) (shown : Shown) (c : disk.Content) (blocks : ℕ) (suspends : Bool) (i : Image) (a : Running) (k : ℕ) : Type 0 where
+pub record IsReady (h : Hardware) (shown : WorldView) (c : disk.Content) (blocks : ℕ) (suspends : Bool) (i : Image) (a : Running) (k : ℕ) : Type 0 where
   pub over : IsOverDisk h i blocks c
   pub stands : Stands h shown c (hibernating suspends i a k)
   pub last : k + 2 ≡ hibernate_steps i
@@ -81,10 +82,10 @@ pub image_blocks : (blocks : ℕ) (c : disk.Content) (v : disk.DiskImage) → di
 image_blocks blocks c v whole is = blocks_now blocks c v whole is.size
 
 -- block(0) is one that the disk has
-is_usable : (h : Hardware) (shown : Shown) (c : disk.Content) (suspends : Bool) (i : Image) (a : Running) (k : ℕ) → Stands h shown c (hibernating suspends i a k) → IsUsable h (blocks_of (now c)) (area_block h (now c))
-is_usable h shown c suspends i a k stands = usable_area h (now c) (fits_area h c a stands.parts.0.area stands.parts.1.usable).area
+is_usable : (h : Hardware) (shown : WorldView) (c : disk.Content) (suspends : Bool) (i : Image) (a : Running) (k : ℕ) → Stands h shown c (hibernating suspends i a k) → IsUsable h (blocks_of (now c)) (area_block h (now c))
+is_usable h shown c suspends i a k stands = usable_area h (now c) (fits_area h c a stands.parts.behind.area stands.parts.accepted.usable).area
 
-pub header_on_disk : (h : Hardware) (shown : Shown) (c : disk.Content) (blocks : ℕ) (suspends : Bool) (i : Image) (a : Running) (k : ℕ) → IsOverDisk h i blocks c → Stands h shown c (hibernating suspends i a k) → block_of_slot h 0 < blocks
+pub header_on_disk : (h : Hardware) (shown : WorldView) (c : disk.Content) (blocks : ℕ) (suspends : Bool) (i : Image) (a : Running) (k : ℕ) → IsOverDisk h i blocks c → Stands h shown c (hibernating suspends i a k) → block_of_slot h 0 < blocks
 header_on_disk h shown c blocks suspends i a k over stands =
     let some = over.hardware.some_slots in
     let on = (is_usable h shown c suspends i a k stands).on_disk 0 (omega arith) in
@@ -115,13 +116,13 @@ pub record IsKept (h : Hardware) (c : disk.Content) (header : List ℕ) : Type 0
   pub block : disk.block (now c) (block_of_slot h 0) ≡ header
   pub unmarked : IsMarked header → ⊥
 
-pub is_kept : (h : Hardware) (shown : Shown) (c : disk.Content) (blocks : ℕ) (suspends : Bool) (i : Image) (a : Running) (k : ℕ) → IsReady h shown c blocks suspends i a k → IsKept h c shown.header
+pub is_kept : (h : Hardware) (shown : WorldView) (c : disk.Content) (blocks : ℕ) (suspends : Bool) (i : Image) (a : Running) (k : ℕ) → IsReady h shown c blocks suspends i a k → IsKept h c shown.header
 is_kept h shown c blocks suspends i a k ready =
     let stands = ready.stands in
     let last = ready.last in
     let whole = ready.over.content in
     let here = IsImage-as_it_reads blocks c whole in
-    let is : shown.header ≡ header_of h (now c) = (stands.parts.5 (omega arith)).1 in
+    let is : shown.header ≡ header_of h (now c) = (before_mark h shown c suspends i a k last stands).header in
     let lt = header_on_disk h shown c blocks suspends i a k ready.over stands in
     let at = header_is h (now c) (let n = image_blocks blocks c (now c) whole here in omega arith) in
     record {
@@ -164,9 +165,9 @@ area_block-marked h v marked = area_of-marked (header_of h v) marked
 abbrev first_block : Hardware → Running → ℕ
 first_block h a = first_map_block h a
 
-first_fits : (h : Hardware) (shown : Shown) (c : disk.Content) (blocks : ℕ) (suspends : Bool) (i : Image) (a : Running) (k : ℕ) → IsOverDisk h i blocks c → Stands h shown c (hibernating suspends i a k) → first_block h a < 2 ^ 64
+first_fits : (h : Hardware) (shown : WorldView) (c : disk.Content) (blocks : ℕ) (suspends : Bool) (i : Image) (a : Running) (k : ℕ) → IsOverDisk h i blocks c → Stands h shown c (hibernating suspends i a k) → first_block h a < 2 ^ 64
 first_fits h shown c blocks suspends i a k over stands =
-    let free = free_place h a.memory 0 (let room = stands.parts.1.room in omega arith) in
+    let free = free_place h a.memory 0 (let room = stands.parts.accepted.room in omega arith) in
     let on = (is_usable h shown c suspends i a k stands).on_disk (get_or (unused_slots h a.memory) 0 0) free.within in
     let n = image_blocks blocks c (now c) over.content (IsImage-as_it_reads blocks c over.content) in
     let few = over.few in
@@ -209,7 +210,7 @@ is_mark_of h a i header whole first hw =
       back = taken_back-marked header f m h.hw_sig whole;
     }
 
-pub the_mark : (h : Hardware) (shown : Shown) (c : disk.Content) (blocks : ℕ) (suspends : Bool) (i : Image) (a : Running) (k : ℕ) → IsReady h shown c blocks suspends i a k → IsMarkOf h a i shown.header (marked_header h a i shown.header)
+pub the_mark : (h : Hardware) (shown : WorldView) (c : disk.Content) (blocks : ℕ) (suspends : Bool) (i : Image) (a : Running) (k : ℕ) → IsReady h shown c blocks suspends i a k → IsMarkOf h a i shown.header (marked_header h a i shown.header)
 the_mark h shown c blocks suspends i a k ready =
     let kept = is_kept h shown c blocks suspends i a k ready in
     is_mark_of h a i shown.header kept.page (first_fits h shown c blocks suspends i a k ready.over ready.stands) ready.over.hardware.signature
@@ -217,14 +218,14 @@ the_mark h shown c blocks suspends i a k ready =
 -- An image after the mark's write, failed or not.
 
 -- is one of before, or has the marked page, and all else as one of before
-pub mark_torn : (h : Hardware) (shown : Shown) (c c' : disk.Content) (blocks : ℕ) (suspends : Bool) (i : Image) (a : Running) (k : ℕ) (v : disk.DiskImage) → IsReady h shown c blocks suspends i a k →
+pub mark_torn : (h : Hardware) (shown : WorldView) (c c' : disk.Content) (blocks : ℕ) (suspends : Bool) (i : Image) (a : Running) (k : ℕ) (v : disk.DiskImage) → IsReady h shown c blocks suspends i a k →
     Tries (block_of_slot h 0) (marked_header h a i shown.header) c c' → disk.IsImage c' v → disk.IsImage c v ⊎ ((disk.block v (block_of_slot h 0) ≡ marked_header h a i shown.header) × ((w : disk.DiskImage) × disk.IsImage c w × SameBut (block_of_slot h 0) v w))
 mark_torn h shown c c' blocks suspends i a k v ready tries is =
     let kept = is_kept h shown c blocks suspends i a k ready in
     let mark = the_mark h shown c blocks suspends i a k ready in
     let lt = header_on_disk h shown c blocks suspends i a k ready.over ready.stands in
     let last = ready.last in
-    let one = (ready.stands.parts.5 (omega arith)).0 in
+    let one = (before_mark h shown c suspends i a k last ready.stands).one in
     let here = IsImage-as_it_reads blocks c ready.over.content in
     torn_image blocks (block_of_slot h 0) (marked_header h a i shown.header) c c' v ready.over.content lt mark.whole tries
     (λ w in_w. subst (λ (page : List ℕ). AgreeBut 3584 4096 page (marked_header h a i shown.header)) (sym kept.block ∙ ap (λ (u : disk.DiskImage). disk.block u (block_of_slot h 0)) (one (now c) w here in_w)) mark.within) is
@@ -243,21 +244,21 @@ pub header_of_marked : (h : Hardware) (c : disk.Content) (blocks : ℕ) (page : 
 header_of_marked h c blocks page v whole lt has = header_is h v (let n = blocks_of_marked h c blocks page v whole has in omega arith) ∙ has.here
 
 -- it reads as laid
-pub marked_reads : (h : Hardware) (shown : Shown) (c : disk.Content) (blocks : ℕ) (suspends : Bool) (i : Image) (a : Running) (k : ℕ) (page : List ℕ) (v : disk.DiskImage) → IsReady h shown c blocks suspends i a k → HasPage h c page v → ReadsLaid h (unused_slots h a.memory) (stream_of i) v
+pub marked_reads : (h : Hardware) (shown : WorldView) (c : disk.Content) (blocks : ℕ) (suspends : Bool) (i : Image) (a : Running) (k : ℕ) (page : List ℕ) (v : disk.DiskImage) → IsReady h shown c blocks suspends i a k → HasPage h c page v → ReadsLaid h (unused_slots h a.memory) (stream_of i) v
 marked_reads h shown c blocks suspends i a k page v ready has j lt =
     let stands = ready.stands in
     let last = ready.last in
     let free = unused_slots h a.memory in
-    let all = (stands.parts.3.durable (omega arith)).blocks has.from has.was in
+    let all = (stands.parts.written.durable (synced_from i k (omega arith))).blocks has.from has.was in
     let done = done_of_take h a i has.from (count_of i) (omega arith) (All-take (Reads has.from) (count_of i) (laid_writes h a i) all) in
-    let at = slot_of_write h a i j stands.parts.1 lt in
-    let apart : (write_at h.extents free (stream_of i) j).0 ≢ block_of_slot h 0 = λ e. free_not_header h a.memory at.slot ready.over.hardware stands.parts.0.shows.fits at.free (sym e ∙ at.is) in
+    let at = slot_of_write h a i j stands.parts.accepted lt in
+    let apart : (write_at h.extents free (stream_of i) j).0 ≢ block_of_slot h 0 = λ e. free_not_header h a.memory at.slot ready.over.hardware stands.parts.behind.memory.fits at.free (sym e ∙ at.is) in
     has.same.others (write_at h.extents free (stream_of i) j).0 apart ∙ done j lt
 
 slot_within : (f slots last : ℕ) → f < slots → last + 1 ≡ slots → f ≤ last
 slot_within f slots last lt e = omega arith
 
-last_of_header : (h : Hardware) (shown : Shown) (c : disk.Content) (blocks : ℕ) (suspends : Bool) (i : Image) (a : Running) (k : ℕ) → IsReady h shown c blocks suspends i a k → last_page_of shown.header + 1 ≡ h.slots
+last_of_header : (h : Hardware) (shown : WorldView) (c : disk.Content) (blocks : ℕ) (suspends : Bool) (i : Image) (a : Running) (k : ℕ) → IsReady h shown c blocks suspends i a k → last_page_of shown.header + 1 ≡ h.slots
 last_of_header h shown c blocks suspends i a k ready =
     let kept = is_kept h shown c blocks suspends i a k ready in
     let usable = is_usable h shown c suspends i a k ready.stands in
@@ -266,15 +267,15 @@ last_of_header h shown c blocks suspends i a k ready =
     let slots = usable.slots in
     omega arith
 
-marked_usable : (h : Hardware) (shown : Shown) (c : disk.Content) (blocks : ℕ) (suspends : Bool) (i : Image) (a : Running) (k : ℕ) (v : disk.DiskImage) → IsReady h shown c blocks suspends i a k → HasPage h c (marked_header h a i shown.header) v → AreUsable h v (unused_slots h a.memory) (count_of i)
+marked_usable : (h : Hardware) (shown : WorldView) (c : disk.Content) (blocks : ℕ) (suspends : Bool) (i : Image) (a : Running) (k : ℕ) (v : disk.DiskImage) → IsReady h shown c blocks suspends i a k → HasPage h c (marked_header h a i shown.header) v → AreUsable h v (unused_slots h a.memory) (count_of i)
 marked_usable h shown c blocks suspends i a k v ready has =
     let stands = ready.stands in
     let whole = ready.over.content in
     let hw = ready.over.hardware in
-    let fits = stands.parts.0.shows.fits in
+    let fits = stands.parts.behind.memory.fits in
     let size = length-stream_of i in
     let maps = ap maps_of size in
-    let room = stands.parts.1.room in
+    let room = stands.parts.accepted.room in
     let usable = is_usable h shown c suspends i a k stands in
     let lt = header_on_disk h shown c blocks suspends i a k ready.over stands in
     let mark = the_mark h shown c blocks suspends i a k ready in
@@ -298,7 +299,7 @@ marked_usable h shown c blocks suspends i a k v ready has =
     }
 
 -- it holds the image
-pub marked_holds : (h : Hardware) (shown : Shown) (c : disk.Content) (blocks : ℕ) (suspends : Bool) (i : Image) (a : Running) (k : ℕ) (v : disk.DiskImage) → IsReady h shown c blocks suspends i a k → HasPage h c (marked_header h a i shown.header) v → Holds h v i
+pub marked_holds : (h : Hardware) (shown : WorldView) (c : disk.Content) (blocks : ℕ) (suspends : Bool) (i : Image) (a : Running) (k : ℕ) (v : disk.DiskImage) → IsReady h shown c blocks suspends i a k → HasPage h c (marked_header h a i shown.header) v → Holds h v i
 marked_holds h shown c blocks suspends i a k v ready has =
     let stands = ready.stands in
     let whole = ready.over.content in
@@ -308,7 +309,7 @@ marked_holds h shown c blocks suspends i a k v ready has =
     let stream = stream_of i in
     let size = length-stream_of i in
     let maps = ap maps_of size in
-    let room = stands.parts.1.room in
+    let room = stands.parts.accepted.room in
     let lt = header_on_disk h shown c blocks suspends i a k ready.over stands in
     let mark = the_mark h shown c blocks suspends i a k ready in
     let header = header_of_marked h c blocks (marked_header h a i shown.header) v whole lt has in
@@ -318,7 +319,7 @@ marked_holds h shown c blocks suspends i a k v ready has =
       usable = marked_usable h shown c blocks suspends i a k v ready has;
     } in
     let task : (s : ℕ) (page : List ℕ) → i.slots s ≡ Some page → (s < h.slots) × (1 ≤ slot_entry h a.memory s) × (slot_entry h a.memory s ≤ 64) =
-    λ s page e. stands.parts.0.task_slots.tasks s page (sym (ap (λ (x : Image). x.slots s) stands.parts.1.image) ∙ e) in
+    λ s page e. stands.parts.behind.task_slots.tasks s page (sym (ap (λ (x : Image). x.slots s) stands.parts.accepted.image) ∙ e) in
     record {
       marked = subst IsMarked (sym header) mark.is_marked;
       uncompressed = subst (λ (p : List ℕ). bit_and (flags_of p) 2 ≢ 0) (sym header) mark.flags.uncompressed;
@@ -330,7 +331,7 @@ marked_holds h shown c blocks suspends i a k v ready has =
       );
       slots = λ s page e.
           let t = task s page e in
-          has.same.others (block_of_slot h s) (task_not_header h a.memory s hw stands.parts.0.shows.fits t.0 t.2) ∙ (stands.parts.3.durable (omega arith)).slots s page e has.from has.was;
+          has.same.others (block_of_slot h s) (task_not_header h a.memory s hw stands.parts.behind.memory.fits t.0 t.2) ∙ (stands.parts.written.durable (synced_from i k (omega arith))).slots s page e has.from has.was;
       maps_apart = λ s j page e j_lt same.
           let t = task s page e in
           let f = free_place h a.memory (map_place j) (omega arith) in

@@ -1,5 +1,5 @@
 -- A resume of another's image: its first steps.
-use Rattle.std.proofs.Common.{◌≡◌, ℕ, ◌+◌, ◌-◌, ◌<◌, ◌≤◌, inl, inr, false, List, ◌++◌, length, take, drop, get_or, min, None, refl, sym, ap, ◌∙◌, subst, arith, length-append, length-drop}
+use Rattle.std.proofs.Common.{◌≡◌, ℕ, ◌+◌, ◌-◌, ◌<◌, ◌≤◌, inl, inr, List, ◌++◌, length, take, drop, get_or, min, refl, sym, ap, ◌∙◌, subst, arith, length-append, length-drop}
 use Rattle.std.proofs.lemmas.Bool.{cases_lt}
 use Rattle.std.proofs.lemmas.Grind.{same_number_lists}
 use Rattle.std.proofs.lemmas.List.{length-take, get_or-take, get_or-drop, get_or_append_left, get_or-append_right}
@@ -7,14 +7,13 @@ use Rattle.definitions.specs.Bytes.{IsPage, with_bytes}
 use Rattle.definitions.specs.Disk as disk
 use Rattle.definitions.specs.SwapHeader.{orig_sig_of, taken_back}
 use Rattle.definitions.proofs.DiskLaws.{IsImage-as_it_reads}
-use Rattle.plain_machine.specs.Machine.{Hardware, IsHardware, block_of_slot}
+use Rattle.plain_machine.specs.Machine.{Hardware}
 use Rattle.plain_machine.specs.Chain.{header_of, Marked}
-use Rattle.plain_machine.specs.Shows.{Shown, rests}
+use Rattle.plain_machine.specs.Shows.{WorldView}
 use Rattle.plain_machine.specs.Stands.{Stands, IsHeld, IsTakenBack}
-use Rattle.plain_machine.specs.State.{off, loading, sure, maybe, other, Load, Found, not_yet, found_own, found_other}
+use Rattle.plain_machine.specs.State.{loading, sure, other, Load, Found, not_yet, found_own, found_other}
 use Rattle.image_laws.proofs.ImageBlocks.{length-taken_back}
-use Rattle.protocol_laws.specs.Loads.{ShowsLoad}
-use Rattle.protocol_laws.specs.ResumingOther.{IsHeldOther, with_found_other}
+use Rattle.protocol_laws.specs.ResumingOther.{with_found_other, BackSyncOtherFails, BackSyncsOther, FindsOther, ReadsPageOther, StopsAtOther, TakeBackOtherFails, TakesBackOther}
 use Rattle.protocol_laws.proofs.Finding.{own_isn't_other, itself}
 use Rattle.protocol_laws.proofs.HeaderBack.{IsBefore, is_before, still_header, each_taken_back, reads_unmarked}
 use Rattle.protocol_laws.proofs.TakingBack.{unmarked_synced, page_read}
@@ -28,46 +27,43 @@ same_other v w e = ap image_or e where
 
 -- The read of block(0).
 
-all_marked : (h : Hardware) (shown : Shown) (c : disk.Content) (blocks : ℕ) (load : Load) → disk.IsContent blocks c → Stands h shown c (loading load 1) → Marked h (disk.as_it_reads c) → IsHeld h c (sure other)
+all_marked : (h : Hardware) (shown : WorldView) (c : disk.Content) (blocks : ℕ) (load : Load) → disk.IsContent blocks c → Stands h shown c (loading load 1) → Marked h (disk.as_it_reads c) → IsHeld h c (sure other)
 all_marked h shown c blocks load whole stands marked v in' =
-    subst (Marked h) (stands.parts.2 (inl refl) (disk.as_it_reads c) v (IsImage-as_it_reads blocks c whole) in') marked
+    subst (Marked h) (stands.parts.before (disk.as_it_reads c) v (IsImage-as_it_reads blocks c whole) in') marked
 
-pub finds_other : (h : Hardware) (shown shown' : Shown) (c : disk.Content) (blocks : ℕ) (load : Load) → disk.IsContent blocks c → Stands h shown c (loading load 1) → IsHeldOther load.held → Marked h (disk.as_it_reads c) →
-    shown'.header ≡ header_of h (disk.as_it_reads c) → ShowsLoad h shown' (with_found_other load (disk.as_it_reads c)) 2 → Stands h shown' c (loading (with_found_other load (disk.as_it_reads c)) 2)
+pub finds_other : FindsOther
 finds_other h shown shown' c blocks load whole stands held marked header shows =
     let v = disk.as_it_reads c in
-    let one = stands.parts.2 (inl refl) in
+    let one = stands.parts.before in
     let here = IsImage-as_it_reads blocks c whole in
     record {
       activity = shows.activity;
-      parts = (
-        (all_marked h shown c blocks load whole stands marked, stands.parts.0.1),
-        record {
+      parts = record {
+        held = all_marked h shown c blocks load whole stands marked;
+        header = stands.parts.header;
+        resume = record {
           shows = shows.shows;
-          fits = stands.parts.1.fits;
+          fits = stands.parts.resume.fits;
           found = λ le. tt;
           own = λ i e. absurd (own_isn't_other i v (sym e));
           others = λ u e w in'. subst (λ (x : disk.DiskImage). IsTakenBack h x w) (same_other v u e) (itself h v w (one w v in' here));
           taken_back = λ le. absurd (omega arith);
-        },
-        (λ e. one),
-        (λ e. header),
-        (λ e. absurd (omega arith)),
-      );
+        };
+        before = record { one = one; header = header };
+      };
     }
 
-pub stops_at_other : (h : Hardware) (shown shown' : Shown) (c : disk.Content) (blocks : ℕ) (load : Load) → disk.IsContent blocks c → Stands h shown c (loading load 1) → IsHeldOther load.held → Marked h (disk.as_it_reads c) →
-    shown'.activity ≡ rests → shown'.keeps_dump ≡ false → Stands h shown' c (off (sure other) None)
+pub stops_at_other : StopsAtOther
 stops_at_other h shown shown' c blocks load whole stands held marked activity kept = record {
   activity = activity;
-  parts = (kept, (all_marked h shown c blocks load whole stands marked, stands.parts.0.1));
+  parts = record { memory = kept; held = all_marked h shown c blocks load whole stands marked; header = stands.parts.header };
 }
 
 -- The write of block(0) taken back.
 
-before_other : (h : Hardware) (shown : Shown) (c : disk.Content) (blocks : ℕ) (load : Load) (v : disk.DiskImage) → disk.IsContent blocks c → Stands h shown c (loading (with_found_other load v) 2) → IsBefore h shown c blocks
+before_other : (h : Hardware) (shown : WorldView) (c : disk.Content) (blocks : ℕ) (load : Load) (v : disk.DiskImage) → disk.IsContent blocks c → Stands h shown c (loading (with_found_other load v) 2) → IsBefore h shown c blocks
 before_other h shown c blocks load v whole stands =
-    is_before h shown c blocks whole (stands.parts.2 (inr refl)) (stands.parts.3 refl) (stands.parts.0.0 (disk.as_it_reads c) (IsImage-as_it_reads blocks c whole)) stands.parts.0.1
+    is_before h shown c blocks whole stands.parts.before.one stands.parts.before.header (stands.parts.held (disk.as_it_reads c) (IsImage-as_it_reads blocks c whole)) stands.parts.header
 
 -- A block that is taken back twice is the block taken back.
 
@@ -135,45 +131,42 @@ back_again h v w u page first second =
 
 -- Block(0) is written taken back.
 
-pub takes_other_back : (h : Hardware) (shown shown' : Shown) (c c' : disk.Content) (blocks : ℕ) (load : Load) (v : disk.DiskImage) → IsHardware h → disk.IsContent blocks c → disk.IsContent blocks c' → Stands h shown c (loading (with_found_other load v) 2) →
-    disk.Writes (block_of_slot h 0) (taken_back shown.header) c c' → ShowsLoad h shown' (with_found_other load v) 3 → Stands h shown' c' (loading (with_found_other load v) 3)
+pub takes_other_back : TakesBackOther
 takes_other_back h shown shown' c c' blocks load v hw whole after stands writes shows =
     let before = before_other h shown c blocks load v whole stands in
     let w = disk.as_it_reads c in
-    let found = stands.parts.1.others v refl w (IsImage-as_it_reads blocks c whole) in
+    let found = stands.parts.resume.others v refl w (IsImage-as_it_reads blocks c whole) in
     let page : IsPage (header_of h w) = subst IsPage (sym before.header) before.page in
     record {
       activity = shows.activity;
-      parts = (
-        (tt, still_header h shown c c' blocks before after (inl writes)),
-        record {
+      parts = record {
+        held = tt;
+        header = still_header h shown c c' blocks before after (inl writes);
+        resume = record {
           shows = shows.shows;
-          fits = stands.parts.1.fits;
+          fits = stands.parts.resume.fits;
           found = λ le. tt;
           own = λ i e. absurd (own_isn't_other i v (sym e));
           others = λ x e u in'. subst (λ (y : disk.DiskImage). IsTakenBack h y u) (same_other v x e) (back_again h v w u page found (each_taken_back h shown c c' blocks u before (inl writes) in'));
           taken_back = λ le. absurd (omega arith);
-        },
-        (λ e. elim e [ inl one ↦ absurd (omega arith) | inr two ↦ absurd (omega arith) ]),
-        (λ e. absurd (omega arith)),
-        (λ e. reads_unmarked h shown c c' blocks before after writes),
-      );
+        };
+        before = reads_unmarked h shown c c' blocks before after writes;
+      };
     }
 
-pub take_other_back_fails : (h : Hardware) (shown shown' : Shown) (c c' : disk.Content) (blocks : ℕ) (load : Load) (v : disk.DiskImage) → IsHardware h → disk.IsContent blocks c → disk.IsContent blocks c' → Stands h shown c (loading (with_found_other load v) 2) →
-    disk.FailsToWrite (block_of_slot h 0) (taken_back shown.header) c c' → shown'.activity ≡ rests → shown'.keeps_dump ≡ false → Stands h shown' c' (off (maybe other) None)
+pub take_other_back_fails : TakeBackOtherFails
 take_other_back_fails h shown shown' c c' blocks load v hw whole after stands fails activity kept = record {
   activity = activity;
-  parts = (kept, (tt, still_header h shown c c' blocks (before_other h shown c blocks load v whole stands) after (inr fails)));
+  parts = record { memory = kept; held = tt; header = still_header h shown c c' blocks (before_other h shown c blocks load v whole stands) after (inr fails) };
 }
 
 -- The sync behind it.
 
-pub back_syncs_other : (h : Hardware) (shown shown' : Shown) (c c' : disk.Content) (blocks : ℕ) (load : Load) (v : disk.DiskImage) → disk.IsContent blocks c → Stands h shown c (loading (with_found_other load v) 3) → disk.Syncs c c' → ShowsLoad h shown' (with_found_other load v) 4 → Stands h shown' c' (loading (with_found_other load v) 4)
+pub back_syncs_other : BackSyncsOther
 back_syncs_other h shown shown' c c' blocks load v = unmarked_synced h shown shown' c c' blocks (with_found_other load v)
 
-pub back_sync_other_fails : (h : Hardware) (shown shown' : Shown) (c : disk.Content) (load : Load) (v : disk.DiskImage) → Stands h shown c (loading (with_found_other load v) 3) → shown'.activity ≡ rests → shown'.keeps_dump ≡ false → Stands h shown' c (off (maybe other) None)
-back_sync_other_fails h shown shown' c load v stands activity kept = record { activity = activity; parts = (kept, stands.parts.0) }
+pub back_sync_other_fails : BackSyncOtherFails
+back_sync_other_fails h shown shown' c load v stands activity kept = record { activity = activity; parts = record { memory = kept; held = stands.parts.held; header = stands.parts.header } }
 
-pub reads_page_other : (h : Hardware) (shown shown' : Shown) (c : disk.Content) (load : Load) (v : disk.DiskImage) (k : ℕ) → 4 ≤ k → Stands h shown c (loading (with_found_other load v) k) → ShowsLoad h shown' (with_found_other load v) (k + 1) → Stands h shown' c (loading (with_found_other load v) (k + 1))
+pub reads_page_other : ReadsPageOther
 reads_page_other h shown shown' c load v k = page_read h shown shown' c (with_found_other load v) k

@@ -1,26 +1,24 @@
 -- The end of a resume of another's image.
-use Rattle.std.proofs.Common.{◌≡◌, ℕ, ◌/◌, ◌<◌, ◌≤◌, Bool, true, false, cond, ltb, leb, ◌&&◌, List, [], Option, Some, None, IsSome, is_none, refl, sym, ap, ap₂, ◌∙◌, subst, arith}
+use Rattle.std.proofs.Common.{◌≡◌, ℕ, ◌/◌, ◌<◌, ◌≤◌, Bool, true, false, cond, ltb, leb, ◌&&◌, List, Option, Some, None, IsSome, is_none, refl, sym, ap, ap₂, ◌∙◌, subst, arith}
 use Rattle.std.proofs.lemmas.Bool.{false≢true, cond-true, ltb-true, leb-true, lt-ltb, le-leb}
 use Rattle.std.proofs.lemmas.Option.{none-some, cond_some}
 use Rattle.definitions.specs.Disk as disk
 use Rattle.definitions.proofs.DiskLaws.{IsImage-as_it_reads}
 use Rattle.sig_header.specs.AreaKind.{area_kind}
-use Rattle.plain_machine.specs.Machine.{Hardware, Memory, IsHardware, block_of_slot, slot_entry, tables_fault}
-use Rattle.plain_machine.specs.Chain.{blocks_of, Marked, or_else}
-use Rattle.plain_machine.specs.Shows.{Shown, runs, ShowsRunning}
-use Rattle.plain_machine.specs.Stands.{Stands, IsHeld, IsTaskSlot, FitsArea, NamesOnly}
+use Rattle.plain_machine.specs.Machine.{Hardware, Memory, block_of_slot, slot_entry, tables_fault}
+use Rattle.plain_machine.specs.Chain.{blocks_of, or_else}
+use Rattle.plain_machine.specs.Stands.{IsHeld, IsTaskSlot, FitsArea}
 use Rattle.plain_machine.specs.Step.{no_flights}
 use Rattle.plain_machine.proofs.BadSlots.{no_target, no_flights-owned, has_area}
-use Rattle.plain_machine.specs.State.{on, loading, Load}
 use Rattle.plain_machine.specs.Trace.{tables_cause, restored_in, slots_in}
 use Rattle.plain_machine.specs.UsableArea.{area_block, area_fault, bad_set_fault, dump_area_fault, first_fault}
 use Rattle.plain_machine.specs.declared.no_swap.NoSwap.{NoSwap}
 use Rattle.plain_machine.specs.declared.reply.Reply.{Reply}
 use Rattle.plain_machine.specs.declared.reply.Reply.TheVariants as reply
-use Rattle.protocol_laws.specs.ResumingOther.{with_found_other, other_running}
+use Rattle.protocol_laws.specs.ResumingOther.{with_found_other, other_running, ResumesOther}
 use Rattle.protocol_laws.proofs.Places.{usable_area, task_not_header}
 use Rattle.protocol_laws.proofs.TakingBack.{held_later, fits_by_area}
-use Rattle.protocol_laws.proofs.Resumed.{same_area}
+use Rattle.protocol_laws.proofs.Resumed.{area_taken_back}
 
 -- What no fault of the tables says of the area.
 
@@ -76,25 +74,23 @@ is_paged h v m s is =
     let page : Option (List ℕ) = Some (disk.block v (block_of_slot h s)) in
     subst IsSome (sym (cond-true (ltb s h.slots && ltb 0 entry && leb entry 64) page None test)) refl
 
-pub resumes_other : (h : Hardware) (shown shown' : Shown) (c : disk.Content) (blocks : ℕ) (load : Load) (v : disk.DiskImage) (k : ℕ) → IsHardware h → disk.IsContent blocks c → 4 ≤ k → Stands h shown c (loading (with_found_other load v) k) →
-    Marked h v → tables_cause h v (restored_in h load.dump v load.loader) ≡ None →
-    shown'.activity ≡ runs → ShowsRunning h shown' (other_running h load v) → NamesOnly h shown' [] → Stands h shown' c (on (other_running h load v))
+pub resumes_other : ResumesOther
 resumes_other h shown shown' c blocks load v k hw whole le stands marked none activity shows names =
     let m = restored_in h load.dump v load.loader in
     let w = disk.as_it_reads c in
     let here = IsImage-as_it_reads blocks c whole in
-    let taken = stands.parts.1.others v refl w here in
-    let unmarked = stands.parts.1.taken_back le w here in
+    let taken = stands.parts.resume.others v refl w here in
+    let unmarked = stands.parts.resume.taken_back le w here in
     let fits = area_fits h v m none in
     let usable = usable_area h v fits.area in
     let count : blocks_of w ≡ blocks_of v = ap (λ (n : ℕ). n / 8) taken.size in
-    let now = fits_by_area h m w v count (same_area h v w marked unmarked taken) fits in
+    let now = fits_by_area h m w v count (area_taken_back h v w marked unmarked taken) fits in
     record {
       activity = activity;
-      parts = (
-        shows,
-        record {
-          held = subst (IsHeld h c) (held_later (with_found_other load v) k le) stands.parts.0.0;
+      parts = record {
+        memory = shows;
+        disk = record {
+          held = subst (IsHeld h c) (held_later (with_found_other load v) k le) stands.parts.held;
           task_slots = record {
             usable = λ s page e. refl;
             tasks = λ s page e. (has_page h v m s page e).0;
@@ -106,8 +102,8 @@ resumes_other h shown shown' c blocks load v k hw whole le stands marked none ac
               let has = has_page h v m s page e in
               taken.others (block_of_slot h s) (usable.on_disk s has.0.0) (task_not_header h m s hw shows.fits has.0.0 has.0.2) ∙ has.1;
           names = names;
-          header = stands.parts.0.1;
+          header = stands.parts.header;
           area = has_area h c (other_running h load v) refl now;
-        },
-      );
+        };
+      };
     }

@@ -1,25 +1,25 @@
 -- A power cut, at any state.
-use Rattle.std.proofs.Common.{◌≡◌, ℕ, ◌/◌, List, sym, ap, ◌∙◌, subst}
+use Rattle.std.proofs.Common.{ℕ, ◌/◌, List, sym, ap, ◌∙◌, subst}
 use Rattle.definitions.specs.Disk as disk
 use Rattle.definitions.proofs.DiskLaws.{as_it_reads-settled, IsImage-after_restart, length-as_it_reads}
 use Rattle.plain_machine.specs.Machine.{Hardware}
-use Rattle.plain_machine.specs.Shows.{Shown, rests, ShowsKept}
+use Rattle.plain_machine.specs.Shows.{WorldView}
 use Rattle.plain_machine.specs.Stands.{Stands, IsHeld, IsHeader, AgreeOnArea}
-use Rattle.plain_machine.specs.State.{State, off, on, booting, hibernating, undoing, settling, waking, loading, asleep, Held, nothing, sure, maybe, own, other, held_in, kept_in}
+use Rattle.plain_machine.specs.State.{State, off, on, booting, hibernating, undoing, settling, waking, loading, asleep, Held, nothing, sure, maybe, own, other, held_in}
 use Rattle.plain_machine.specs.UsableArea.{area_block}
-use Rattle.protocol_laws.specs.Rows.{IsSameArea}
+use Rattle.protocol_laws.specs.Cuts.{CutKeepsArea, CutsOff}
 
 -- what is held in a state, and its header block
-holds_in : (h : Hardware) (shown : Shown) (c : disk.Content) (a : State) → Stands h shown c a → IsHeld h c (held_in a) × IsHeader h c
-holds_in h shown c (off held kept) stands = stands.parts.1
-holds_in h shown c (on a) stands = (stands.parts.1.held, stands.parts.1.header)
-holds_in h shown c (booting from dump held k) stands = stands.parts.1
-holds_in h shown c (hibernating suspends i a k) stands = (stands.parts.0.held, stands.parts.0.header)
-holds_in h shown c (undoing i call a k) stands = (stands.parts.0.held, stands.parts.0.header)
-holds_in h shown c (settling a k) stands = (stands.parts.0.held, stands.parts.0.header)
-holds_in h shown c (waking i held a k) stands = (stands.parts.0.held, stands.parts.0.header)
-holds_in h shown c (loading load k) stands = stands.parts.0
-holds_in h shown c (asleep i held a) stands = (stands.parts.0.held, stands.parts.0.header)
+holds_in : (h : Hardware) (shown : WorldView) (c : disk.Content) (a : State) → Stands h shown c a → IsHeld h c (held_in a) × IsHeader h c
+holds_in h shown c (off held kept) stands = (stands.parts.held, stands.parts.header)
+holds_in h shown c (on a) stands = (stands.parts.disk.held, stands.parts.disk.header)
+holds_in h shown c (booting from dump held k) stands = (stands.parts.held, stands.parts.header)
+holds_in h shown c (hibernating suspends i a k) stands = (stands.parts.behind.held, stands.parts.behind.header)
+holds_in h shown c (undoing i call a k) stands = (stands.parts.behind.held, stands.parts.behind.header)
+holds_in h shown c (settling a k) stands = (stands.parts.behind.held, stands.parts.behind.header)
+holds_in h shown c (waking i held a k) stands = (stands.parts.behind.held, stands.parts.behind.header)
+holds_in h shown c (loading load k) stands = (stands.parts.held, stands.parts.header)
+holds_in h shown c (asleep i held a) stands = (stands.parts.behind.held, stands.parts.behind.header)
 
 -- each image after a restart is one from before
 fewer : (c c' : disk.Content) (w : disk.DiskImage) → disk.Restarts c c' → disk.IsImage c' w → disk.IsImage c w
@@ -45,12 +45,12 @@ header_still h c c' restarts is = record {
   one = λ v in'. agree (area_block h v) (area_block h (disk.as_it_reads c')) (area_block h (disk.as_it_reads c)) (is.one v (fewer c c' v restarts in')) (is.one (disk.as_it_reads c') (read_before c c' restarts));
 }
 
-pub cuts_off : (h : Hardware) (shown shown' : Shown) (c c' : disk.Content) (a : State) → Stands h shown c a → disk.Restarts c c' → shown'.activity ≡ rests → ShowsKept h shown' (kept_in a) → Stands h shown' c' (off (held_in a) (kept_in a))
+pub cuts_off : CutsOff
 cuts_off h shown shown' c c' a stands restarts activity kept =
     let was = holds_in h shown c a stands in
-    record { activity = activity; parts = (kept, (held_still h c c' (held_in a) restarts was.0, header_still h c c' restarts was.1)) }
+    record { activity = activity; parts = record { memory = kept; held = held_still h c c' (held_in a) restarts was.0; header = header_still h c c' restarts was.1 } }
 
-pub cut_keeps_area : (h : Hardware) (shown : Shown) (c c' : disk.Content) (blocks : ℕ) (a : State) → disk.IsContent blocks c → Stands h shown c a → disk.Restarts c c' → IsSameArea h (disk.as_it_reads c) (disk.as_it_reads c')
+pub cut_keeps_area : CutKeepsArea
 cut_keeps_area h shown c c' blocks a whole stands restarts =
     let header = (holds_in h shown c a stands).1 in
     let before = read_before c c' restarts in

@@ -1,5 +1,5 @@
 -- The steps of a replay.
-use Rattle.std.proofs.Common.{◌≡◌, ℕ, ◌+◌, ◌-◌, ◌||◌, ◌&&◌, ◌++◌, not, length, Bool, true, false, cond, eqb, ltb, List, [], ◌∷◌, Option, Some, None, refl, sym, ap, ap₂, ◌∙◌, subst, Contains, is_some}
+use Rattle.std.proofs.Common.{◌≡◌, ℕ, ◌+◌, ◌-◌, ◌||◌, ◌&&◌, ◌++◌, not, length, Bool, true, false, cond, eqb, ltb, zero, suc, List, [], ◌∷◌, Option, Some, None, refl, sym, ap, ap₂, ◌∙◌, subst, Contains, is_some}
 use Rattle.std.specs.List.{AllByRecursion}
 use Rattle.std.proofs.lemmas.List.Elements.{All-from_recursion, All-contains}
 use Rattle.std.proofs.lemmas.Option.{none-some}
@@ -7,11 +7,13 @@ use Rattle.definitions.specs.Disk as disk
 use Rattle.definitions.specs.NumberPages.{meta_of}
 use Rattle.plain_machine.specs.Machine.{Hardware, Memory, bad_slot, saveable}
 use Rattle.plain_machine.specs.Chain.{blocks_of}
-use Rattle.plain_machine.specs.Image.{Image, SlotPages, n_of, d_of, hibernate_steps, resume_steps}
+use Rattle.plain_machine.specs.Image.{Image, SlotPages, n_of, d_of, resume_steps}
 use Rattle.plain_machine.specs.Loader.{has, restored}
 use Rattle.plain_machine.specs.Refusals.{refusal, start_refusal}
-use Rattle.plain_machine.specs.State.{State, off, on, booting, hibernating, undoing, settling, waking, loading, asleep, Running, Held, nothing, sure, maybe, perhaps, own, other, Flight, goes_out, comes_in, Load, Found, not_yet, found_own, found_other, saved_found, held_in, kept_in}
-use Rattle.plain_machine.specs.Step.{Step, Outcome, only, done_or, outcomes, accepted, refused_or, if_running, woken, requested, task_step, begun, booted, boot_outcomes, boot_step, fresh_memory, no_slots, no_flights, core_step, hibernated, hibernate_step, undo_step, settle_step, wake_step, resumed, find_step, loaded_step, load_step, load_answers, has_place, load_fault, own_step, too_few, has_room, undone_fault, drop_memory, dropped_by}
+use Rattle.plain_machine.specs.State.{State, off, on, booting, hibernating, undoing, settling, waking, loading, asleep, Running, Held, nothing, sure, maybe, perhaps, own, other, Flight, goes_out, comes_in, Load, Found, not_yet, found_own, found_other, saved_found, held_in, kept_in, held_back, held_hibernating, held_loading}
+use Rattle.plain_machine.specs.Calls.{HibernationCall, writes_page, syncs_pages, reads_header, writes_mark, syncs_mark, hibernation_call, BackCall, reads_mark, takes_back, syncs_back, back_call, LoadCall, syncs_first, of_mark, reads_image, load_call}
+use Rattle.plain_machine.specs.Step.{Outcome, only, outcomes, accepted, refused_or, if_running, woken, requested, task_step, begun, booted, boot_outcomes, boot_step, no_slots, no_flights, core_step, hibernated, hibernation_outcomes, hibernate_step, undo_step, settle_step, wake_step, resumed, find_step, loaded_step, load_step, load_answers, has_place, load_fault, fault_of_load, own_step, too_few, has_room, drop_memory, dropped_by}
+use Rattle.plain_machine.specs.FreshMemory.{fresh_memory}
 use Rattle.plain_machine.specs.UsableArea.{area_fault, area_block, bad_slots_in, kind_or_fit_fault}
 use Rattle.plain_machine.specs.declared.event.Actor.TheVariants as actor
 use Rattle.plain_machine.specs.declared.event.BootFrom.{BootFrom}
@@ -23,13 +25,12 @@ use Rattle.plain_machine.specs.declared.event.Loader.TheVariants as loader
 use Rattle.plain_machine.specs.declared.event.TaskOp.{TaskOp}
 use Rattle.plain_machine.specs.declared.event.TaskOp.TheVariants as op
 use Rattle.plain_machine.specs.declared.no_swap.NoSwap.{NoSwap}
-use Rattle.plain_machine.specs.declared.reply.Left.TheVariants.{Same, Gone, Unsure}
+use Rattle.plain_machine.specs.declared.reply.Left.TheVariants.{Same}
 use Rattle.plain_machine.specs.declared.reply.Reply.{Reply}
 use Rattle.plain_machine.specs.declared.reply.Reply.TheVariants as reply
 use Rattle.plain_machine.specs.declared.reply.UndoCall.{UndoCall}
-use Rattle.plain_machine.specs.declared.reply.UndoCall.TheVariants as undo
 use Rattle.sig_header.specs.AreaKind.{area_kind}
-use Rattle.protocol_laws.specs.Replays.{IsOwnHeld, IsOwnFound, IsOfReplay}
+use Rattle.protocol_laws.specs.Replays.{IsOwnHeld, IsOwnFound, IsOfReplay, SameSteps, StaysOfReplay}
 use Rattle.protocol_laws.specs.Rows.{IsSameArea}
 use Rattle.protocol_laws.proofs.Areas.{same_of_kinds}
 
@@ -64,9 +65,9 @@ boots_same h v w dump (maybe x) same =
     ap₂ (λ (a b : Running). (reply.Booted false, on a) ∷ (reply.Booted true, on b) ∷ []) (booted_same h v w dump nothing same) (booted_same h v w dump (sure x) same)
 
 boot_step_same : (h : Hardware) (v w : disk.DiskImage) (from : BootFrom) (dump : Memory) (held : Held) (k : ℕ) → from ≡ Fresh → IsSameArea h v w → boot_step h w from dump held k ≡ boot_step h v from dump held k
-boot_step_same h v w Fresh dump held k fresh same =
-    ap (λ (booted : List Outcome). cond (eqb k 0) (done_or (reply.More 1 2) (booting Fresh dump held 1) (reply.SyncFault Same) (off held None)) (cond (eqb k 1) (booted ++ only (reply.ReadFault Same) (off held None)) []))
-    (boots_same h v w dump held same)
+boot_step_same h v w Fresh dump held zero fresh same = refl
+boot_step_same h v w Fresh dump held (suc zero) fresh same = ap (λ (booted : List Outcome). booted ++ only (reply.ReadFault Same) (off held None)) (boots_same h v w dump held same)
+boot_step_same h v w Fresh dump held (suc (suc k)) fresh same = refl
 boot_step_same h v w Kept dump held k fresh same = absurd (cc)
 
 find_same : (h : Hardware) (v w : disk.DiskImage) (load : Load) (held : Held) → IsOwnHeld held → find_step h w load held ≡ find_step h v load held
@@ -76,10 +77,16 @@ find_same h v w load (sure other) is_own = absurd is_own
 find_same h v w load (maybe (own i)) is_own = refl
 find_same h v w load (maybe other) is_own = absurd is_own
 
+load_answers_same : (h : Hardware) (v w : disk.DiskImage) (load : Load) (k : ℕ) → IsOwnHeld load.held → load_answers h w load k ≡ load_answers h v load k
+load_answers_same h v w load zero is_own = refl
+load_answers_same h v w load (suc zero) is_own = find_same h v w load load.held is_own
+load_answers_same h v w load (suc (suc zero)) is_own = refl
+load_answers_same h v w load (suc (suc (suc zero))) is_own = refl
+load_answers_same h v w load (suc (suc (suc (suc k)))) is_own = refl
+
 load_step_same : (h : Hardware) (v w : disk.DiskImage) (load : Load) (k : ℕ) → IsOwnHeld load.held → load_step h w load k ≡ load_step h v load k
 load_step_same h v w load k is_own =
-    ap (λ (found : List Outcome). cond (ltb k 4 || has_place h load load.found k) (load_fault load k ∷ cond (eqb k 0) (only (reply.Loading 1) (loading load 1)) (cond (eqb k 1) found (loaded_step h load load.found k))) [])
-    (find_same h v w load load.held is_own)
+    ap (λ (answers : List Outcome). cond (ltb k 4 || has_place h load load.found k) (load_fault load k ∷ answers) []) (load_answers_same h v w load k is_own)
 
 core_same : (h : Hardware) (v w : disk.DiskImage) (a : State) → IsSameArea h v w → IsOfReplay a → core_step h w a ≡ core_step h v a
 core_same h v w (off held kept) same of = refl
@@ -110,7 +117,7 @@ outcomes_same : (h : Hardware) (v w : disk.DiskImage) (a : State) (e : Event) �
 unfolding outcomes
 outcomes_same h v w a e same of = ap (refused_or a (refusal h a e)) (accepted_same h v w a e same of)
 
-pub same_steps : (h : Hardware) (v w : disk.DiskImage) (a : State) (e : Event) (r : Reply) (b : State) → IsSameArea h v w → IsOfReplay a → Step h w a e r b → Step h v a e r b
+pub same_steps : SameSteps
 same_steps h v w a e r b same of step = subst (λ (all : List Outcome). Contains all (r, b)) (outcomes_same h v w a e same of) step
 
 -- What is held.
@@ -127,23 +134,36 @@ saved_own not_yet held found is_own = is_own
 saved_own (found_own i) held found is_own = tt
 saved_own (found_other v) held found is_own = absurd found
 
-either_own : (b : Bool) (x y : Held) → IsOwnHeld x → IsOwnHeld y → IsOwnHeld (cond b x y)
-either_own true x y p q = p
-either_own false x y p q = q
+held_back_own : (held : Held) (call : Option BackCall) → IsOwnHeld held → IsOwnHeld (held_back held call)
+held_back_own held (Some reads_mark) is_own = is_own
+held_back_own held (Some takes_back) is_own = is_own
+held_back_own held (Some syncs_back) is_own = perhaps_own held is_own
+held_back_own held None is_own = perhaps_own held is_own
+
+held_hibernating_own : (i : Image) (call : Option HibernationCall) → IsOwnHeld (held_hibernating i call)
+held_hibernating_own i (Some writes_page) = tt
+held_hibernating_own i (Some syncs_pages) = tt
+held_hibernating_own i (Some reads_header) = tt
+held_hibernating_own i (Some writes_mark) = tt
+held_hibernating_own i (Some syncs_mark) = tt
+held_hibernating_own i None = tt
+
+held_loading_own : (load : Load) (call : LoadCall) → IsOwnHeld load.held → IsOwnFound load.found → IsOwnHeld (held_loading load call)
+held_loading_own load syncs_first is_own found = is_own
+held_loading_own load (of_mark reads_mark) is_own found = is_own
+held_loading_own load (of_mark takes_back) is_own found = saved_own load.found load.held found is_own
+held_loading_own load (of_mark syncs_back) is_own found = perhaps_own (saved_found load.found load.held) (saved_own load.found load.held found is_own)
+held_loading_own load reads_image is_own found = tt
 
 held_own : (a : State) → IsOfReplay a → IsOwnHeld (held_in a)
 held_own (off held kept) of = of.0
 held_own (on a) of = of
 held_own (booting from dump held k) of = of.1
-held_own (hibernating suspends i a k) of = either_own (ltb k (hibernate_steps i - 1)) nothing (maybe (own i)) tt tt
+held_own (hibernating suspends i a k) of = held_hibernating_own i (hibernation_call i k)
 held_own (undoing i call a k) of = tt
-held_own (settling a k) of = either_own (ltb k 2) a.held (perhaps a.held) of (perhaps_own a.held of)
-held_own (waking i held a k) of = either_own (ltb k 2) held (perhaps held) of.0 (perhaps_own held of.0)
-held_own (loading load k) of =
-    let found = saved_own load.found load.held of.1 of.0 in
-    either_own (ltb k 2) load.held (cond (eqb k 2) (saved_found load.found load.held) (cond (eqb k 3) (perhaps (saved_found load.found load.held)) nothing)) of.0
-    (either_own (eqb k 2) (saved_found load.found load.held) (cond (eqb k 3) (perhaps (saved_found load.found load.held)) nothing) found
-    (either_own (eqb k 3) (perhaps (saved_found load.found load.held)) nothing (perhaps_own (saved_found load.found load.held) found) tt))
+held_own (settling a k) of = held_back_own a.held (back_call k) of
+held_own (waking i held a k) of = held_back_own held (back_call k) of.0
+held_own (loading load k) of = held_loading_own load (load_call k) of.0 of.1
 held_own (asleep i held a) of = of.0
 
 no_dump_kept : (a : State) → IsOfReplay a → kept_in a ≡ None
@@ -233,72 +253,49 @@ boots_stay h v dump (maybe (own i)) is_own = (tt, (tt, ((tt, refl), tt)))
 boots_stay h v dump (maybe other) is_own = absurd is_own
 
 boot_step_stays : (h : Hardware) (v : disk.DiskImage) (from : BootFrom) (dump : Memory) (held : Held) (k : ℕ) → from ≡ Fresh → IsOwnHeld held → AllStay (boot_step h v from dump held k)
-boot_step_stays h v Fresh dump held k fresh is_own =
-    all_of_either (eqb k 0) (done_or (reply.More 1 2) (booting Fresh dump held 1) (reply.SyncFault Same) (off held None))
-    (cond (eqb k 1) (boot_outcomes h v Fresh dump held ++ only (reply.ReadFault Same) (off held None)) [])
-    ((refl, is_own), ((is_own, refl), tt)) (all_of_either (eqb k 1) (boot_outcomes h v Fresh dump held ++ only (reply.ReadFault Same) (off held None)) [] (boots_stay h v dump held is_own) tt)
+boot_step_stays h v Fresh dump held zero fresh is_own = ((refl, is_own), ((is_own, refl), tt))
+boot_step_stays h v Fresh dump held (suc zero) fresh is_own = boots_stay h v dump held is_own
+boot_step_stays h v Fresh dump held (suc (suc k)) fresh is_own = tt
 boot_step_stays h v Kept dump held k fresh is_own = absurd (cc)
 
 hibernated_stays : (suspends : Bool) (i : Image) (a : Running) → IsOwnHeld a.held → StaysIn (hibernated suspends i a)
 hibernated_stays false i a is_own = (tt, refl)
 hibernated_stays true i a is_own = (tt, is_own)
 
+outcomes_of_call : (suspends : Bool) (i : Image) (a : Running) (k : ℕ) (call : Option HibernationCall) → IsOwnHeld a.held → AllStay (hibernation_outcomes suspends i a k call)
+outcomes_of_call suspends i a k None is_own = tt
+outcomes_of_call suspends i a k (Some writes_page) is_own = (is_own, (is_own, tt))
+outcomes_of_call suspends i a k (Some syncs_pages) is_own = (is_own, (is_own, tt))
+outcomes_of_call suspends i a k (Some reads_header) is_own = (is_own, (is_own, tt))
+outcomes_of_call suspends i a k (Some writes_mark) is_own = (is_own, (is_own, tt))
+outcomes_of_call suspends i a k (Some syncs_mark) is_own = (hibernated_stays suspends i a is_own, (is_own, tt))
+
 hibernate_step_stays : (suspends : Bool) (i : Image) (a : Running) (k : ℕ) → IsOwnHeld a.held → AllStay (hibernate_step suspends i a k)
-hibernate_step_stays suspends i a k is_own =
-    let last = hibernate_steps i in
-    let next : Outcome = (reply.More (k + 1) last, hibernating suspends i a (k + 1)) in
-    let written = next ∷ (reply.WriteFault Same, on a) ∷ [] in
-    let synced = next ∷ (reply.SyncFault Same, on a) ∷ [] in
-    let read = next ∷ (reply.ReadFault Same, on a) ∷ [] in
-    let marked = next ∷ (reply.Undo undo.Write 0, undoing i undo.Write a 0) ∷ [] in
-    let ended = hibernated suspends i a ∷ (reply.Undo undo.Sync 0, undoing i undo.Sync a 0) ∷ [] in
-    let both : IsOwnHeld a.held × (IsOwnHeld a.held × Unit {0}) = (is_own, (is_own, tt)) in
-    let end = cond (eqb (k + 1) last) ended [] in
-    all_of_either (ltb (k + 1) (last - 3)) written (cond (eqb (k + 1) (last - 3)) synced (cond (eqb (k + 1) (last - 2)) read (cond (eqb (k + 1) (last - 1)) marked end))) both
-    (all_of_either (eqb (k + 1) (last - 3)) synced (cond (eqb (k + 1) (last - 2)) read (cond (eqb (k + 1) (last - 1)) marked end)) both
-    (all_of_either (eqb (k + 1) (last - 2)) read (cond (eqb (k + 1) (last - 1)) marked end) both
-    (all_of_either (eqb (k + 1) (last - 1)) marked end both
-    (all_of_either (eqb (k + 1) last) ended [] (hibernated_stays suspends i a is_own, (is_own, tt)) tt))))
+hibernate_step_stays suspends i a k is_own = outcomes_of_call suspends i a k (hibernation_call i k) is_own
 
 undo_step_stays : (i : Image) (call : UndoCall) (a : Running) (k : ℕ) → IsOwnHeld a.held → AllStay (undo_step i call a k)
-undo_step_stays i call a k is_own =
-    let failed : Outcome = (undone_fault call Unsure, on (record a { held = maybe (own i) })) in
-    let ended = (undone_fault call Gone, on (record a { held = nothing })) ∷ failed ∷ [] in
-    all_of_either (eqb k 0) ((reply.Undo call 1, undoing i call a 1) ∷ failed ∷ []) (cond (eqb k 1) ended []) (is_own, (tt, tt)) (all_of_either (eqb k 1) ended [] (tt, (tt, tt)) tt)
+undo_step_stays i call a zero is_own = (is_own, (tt, tt))
+undo_step_stays i call a (suc zero) is_own = (tt, (tt, tt))
+undo_step_stays i call a (suc (suc k)) is_own = tt
 
 settle_step_stays : (a : Running) (k : ℕ) → IsOwnHeld a.held → AllStay (settle_step a k)
-settle_step_stays a k is_own =
-    let uncertain = on (record a { held = perhaps a.held }) in
-    let unsure = perhaps_own a.held is_own in
-    let read = done_or (reply.More 1 3) (settling a 1) (reply.ReadFault Same) (on a) in
-    let written = done_or (reply.More 2 3) (settling a 2) (reply.WriteFault Unsure) uncertain in
-    let synced = done_or reply.Settled (on (record a { held = nothing })) (reply.SyncFault Unsure) uncertain in
-    all_of_either (eqb k 0) read (cond (eqb k 1) written (cond (eqb k 2) synced [])) (is_own, (is_own, tt))
-    (all_of_either (eqb k 1) written (cond (eqb k 2) synced []) (is_own, (unsure, tt)) (all_of_either (eqb k 2) synced [] (tt, (unsure, tt)) tt))
+settle_step_stays a zero is_own = (is_own, (is_own, tt))
+settle_step_stays a (suc zero) is_own = (is_own, (perhaps_own a.held is_own, tt))
+settle_step_stays a (suc (suc zero)) is_own = (tt, (perhaps_own a.held is_own, tt))
+settle_step_stays a (suc (suc (suc k))) is_own = tt
 
 wake_step_stays : (i : Image) (held : Held) (a : Running) (k : ℕ) → IsOwnHeld held → IsOwnHeld a.held → AllStay (wake_step i held a k)
-wake_step_stays i held a k image_own is_own =
-    let uncertain = asleep i (perhaps held) a in
-    let unsure = perhaps_own held image_own in
-    let read = done_or (reply.More 1 3) (waking i held a 1) (reply.ReadFault Same) (asleep i held a) in
-    let written = done_or (reply.More 2 3) (waking i held a 2) (reply.WriteFault Unsure) uncertain in
-    let synced = done_or reply.Woken (on (record a { held = nothing })) (reply.SyncFault Unsure) uncertain in
-    all_of_either (eqb k 0) read (cond (eqb k 1) written (cond (eqb k 2) synced [])) ((image_own, is_own), ((image_own, is_own), tt))
-    (all_of_either (eqb k 1) written (cond (eqb k 2) synced []) ((image_own, is_own), ((unsure, is_own), tt)) (all_of_either (eqb k 2) synced [] (tt, ((unsure, is_own), tt)) tt))
+wake_step_stays i held a zero image_own is_own = ((image_own, is_own), ((image_own, is_own), tt))
+wake_step_stays i held a (suc zero) image_own is_own = ((image_own, is_own), ((perhaps_own held image_own, is_own), tt))
+wake_step_stays i held a (suc (suc zero)) image_own is_own = (tt, ((perhaps_own held image_own, is_own), tt))
+wake_step_stays i held a (suc (suc (suc k))) image_own is_own = tt
 
-load_fault_stays : (load : Load) (k : ℕ) → IsOwnHeld load.held → IsOwnFound load.found → StaysIn (load_fault load k)
-load_fault_stays load k is_own found_is =
-    let saved = saved_found load.found load.held in
-    let unsure = perhaps_own saved (saved_own load.found load.held found_is is_own) in
-    let sync : Outcome = (reply.SyncFault Same, off load.held None) in
-    let read : Outcome = (reply.ReadFault Same, off load.held None) in
-    let write : Outcome = (reply.WriteFault Unsure, off (perhaps saved) None) in
-    let last_sync : Outcome = (reply.SyncFault Unsure, off (perhaps saved) None) in
-    let gone : Outcome = (reply.ReadFault Gone, off nothing None) in
-    stays_in_either (eqb k 0) sync (cond (eqb k 1) read (cond (eqb k 2) write (cond (eqb k 3) last_sync gone))) (is_own, refl)
-    (stays_in_either (eqb k 1) read (cond (eqb k 2) write (cond (eqb k 3) last_sync gone)) (is_own, refl)
-    (stays_in_either (eqb k 2) write (cond (eqb k 3) last_sync gone) (unsure, refl)
-    (stays_in_either (eqb k 3) last_sync gone (unsure, refl) (tt, refl))))
+load_fault_stays : (load : Load) (call : LoadCall) → IsOwnHeld load.held → IsOwnFound load.found → StaysIn (fault_of_load load call)
+load_fault_stays load syncs_first is_own found_is = (is_own, refl)
+load_fault_stays load (of_mark reads_mark) is_own found_is = (is_own, refl)
+load_fault_stays load (of_mark takes_back) is_own found_is = (perhaps_own (saved_found load.found load.held) (saved_own load.found load.held found_is is_own), refl)
+load_fault_stays load (of_mark syncs_back) is_own found_is = (perhaps_own (saved_found load.found load.held) (saved_own load.found load.held found_is is_own), refl)
+load_fault_stays load reads_image is_own found_is = (tt, refl)
 
 find_stays : (h : Hardware) (v : disk.DiskImage) (load : Load) (held : Held) → IsOwnHeld held → IsOwnHeld load.held → AllStay (find_step h v load held)
 find_stays h v load nothing is_own here = ((tt, refl), tt)
@@ -324,13 +321,17 @@ loaded_stays h load not_yet k is_own here found_is = tt
 loaded_stays h load (found_own i) k is_own here found_is = (own_step_stays h load i k here found_is, tt)
 loaded_stays h load (found_other v) k is_own here found_is = absurd is_own
 
+load_answers_stay : (h : Hardware) (v : disk.DiskImage) (load : Load) (k : ℕ) → IsOwnHeld load.held → IsOwnFound load.found → AllStay (load_answers h v load k)
+load_answers_stay h v load zero is_own found_is = ((is_own, found_is), tt)
+load_answers_stay h v load (suc zero) is_own found_is = find_stays h v load load.held is_own is_own
+load_answers_stay h v load (suc (suc zero)) is_own found_is = loaded_stays h load load.found 2 found_is is_own found_is
+load_answers_stay h v load (suc (suc (suc zero))) is_own found_is = loaded_stays h load load.found 3 found_is is_own found_is
+load_answers_stay h v load (suc (suc (suc (suc k)))) is_own found_is = loaded_stays h load load.found (suc (suc (suc (suc k)))) found_is is_own found_is
+
 load_step_stays : (h : Hardware) (v : disk.DiskImage) (load : Load) (k : ℕ) → IsOwnHeld load.held → IsOwnFound load.found → AllStay (load_step h v load k)
 load_step_stays h v load k is_own found_is =
-    all_of_either (ltb k 4 || has_place h load load.found k) (load_fault load k ∷ load_answers h v load k) [] (
-      load_fault_stays load k is_own found_is,
-      all_of_either (eqb k 0) (only (reply.Loading 1) (loading load 1)) (cond (eqb k 1) (find_step h v load load.held) (loaded_step h load load.found k)) ((is_own, found_is), tt)
-          (all_of_either (eqb k 1) (find_step h v load load.held) (loaded_step h load load.found k) (find_stays h v load load.held is_own is_own) (loaded_stays h load load.found k found_is is_own found_is)),
-    ) tt
+    all_of_either (ltb k 4 || has_place h load load.found k) (load_fault load k ∷ load_answers h v load k) []
+    (load_fault_stays load (load_call k) is_own found_is, load_answers_stay h v load k is_own found_is) tt
 
 core_stays : (h : Hardware) (v : disk.DiskImage) (a : State) → IsOfReplay a → AllStay (core_step h v a)
 core_stays h v (off held kept) of = tt
@@ -370,5 +371,5 @@ outcomes_stay : (h : Hardware) (v : disk.DiskImage) (a : State) (e : Event) → 
 unfolding outcomes
 outcomes_stay h v a e of = refused_or_stays a (refusal h a e) (accepted h v a e) of (accepted_stays h v a e of)
 
-pub stays_of_replay : (h : Hardware) (v : disk.DiskImage) (a : State) (e : Event) (r : Reply) (b : State) → IsOfReplay a → Step h v a e r b → IsOfReplay b
+pub stays_of_replay : StaysOfReplay
 stays_of_replay h v a e r b of step = All-contains StaysIn (outcomes h v a e) (r, b) (All-from_recursion StaysIn (outcomes h v a e) (outcomes_stay h v a e of)) step

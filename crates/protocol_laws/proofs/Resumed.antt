@@ -1,5 +1,5 @@
 -- The end of a resume.
-use Rattle.std.proofs.Common.{◌≡◌, ℕ, ◌+◌, ◌/◌, ◌<◌, ◌≤◌, inl, inr, false, [], None, refl, sym, ap, ◌∙◌, subst, arith, Contains}
+use Rattle.std.proofs.Common.{◌≡◌, ℕ, ◌+◌, ◌/◌, ◌<◌, inl, inr, None, refl, sym, ap, ◌∙◌, subst, arith, Contains}
 use Rattle.definitions.specs.Disk as disk
 use Rattle.definitions.specs.Lists.{saveable_frames}
 use Rattle.definitions.specs.SwapHeader.{IsMarked}
@@ -13,9 +13,7 @@ use Rattle.plain_machine.specs.Machine.{Hardware, Memory, IsHardware, Fits, bloc
 use Rattle.plain_machine.specs.Chain.{blocks_of, Marked}
 use Rattle.plain_machine.specs.Image.{Image, image_of_memory}
 use Rattle.plain_machine.specs.Loader.{restored}
-use Rattle.plain_machine.specs.Shows.{Shown, rests, runs, ShowsRunning}
-use Rattle.plain_machine.specs.Stands.{Stands, IsHeld, IsTakenBack, NamesOnly}
-use Rattle.plain_machine.specs.State.{off, on, loading, nothing, Load, held_while_loading}
+use Rattle.plain_machine.specs.Stands.{IsHeld, IsTakenBack}
 use Rattle.plain_machine.specs.Step.{no_flights}
 use Rattle.plain_machine.specs.UsableArea.{area_block}
 use Rattle.plain_machine.specs.declared.event.Loader.{Loader}
@@ -24,16 +22,16 @@ use Rattle.plain_machine.proofs.Restoring.{restored-saveable}
 use Rattle.plain_machine.proofs.SameMemory.{entry-same, of_slot_table}
 use Rattle.protocol_laws.proofs.Places.{usable_area, task_not_header}
 use Rattle.protocol_laws.proofs.Marking.{area_block-marked, area_block-unmarked}
-use Rattle.protocol_laws.specs.Resuming.{with_found, resumed_running}
+use Rattle.protocol_laws.specs.Resuming.{with_found, resumed_running, LoadFails, LoadStops, Resumes}
 use Rattle.protocol_laws.proofs.TakingBack.{held_later, fits_by_area}
 
 -- a resume that ends early: with a fault or a refusal behind its fourth step
-pub load_stops : (h : Hardware) (shown shown' : Shown) (c : disk.Content) (load : Load) (k : ℕ) → 4 ≤ k → Stands h shown c (loading load k) → shown'.activity ≡ rests → shown'.keeps_dump ≡ false → Stands h shown' c (off nothing None)
-load_stops h shown shown' c load k le stands activity kept = record { activity = activity; parts = (kept, (subst (IsHeld h c) (held_later load k le) stands.parts.0.0, stands.parts.0.1)) }
+pub load_stops : LoadStops
+load_stops h shown shown' c load k le stands activity kept = record { activity = activity; parts = record { memory = kept; held = subst (IsHeld h c) (held_later load k le) stands.parts.held; header = stands.parts.header } }
 
 -- before block(0) was read
-pub load_fails : (h : Hardware) (shown shown' : Shown) (c : disk.Content) (load : Load) (k : ℕ) → held_while_loading load k ≡ load.held → Stands h shown c (loading load k) → shown'.activity ≡ rests → shown'.keeps_dump ≡ false → Stands h shown' c (off load.held None)
-load_fails h shown shown' c load k held stands activity kept = record { activity = activity; parts = (kept, (subst (IsHeld h c) held stands.parts.0.0, stands.parts.0.1)) }
+pub load_fails : LoadFails
+load_fails h shown shown' c load k held stands activity kept = record { activity = activity; parts = record { memory = kept; held = subst (IsHeld h c) held stands.parts.held; header = stands.parts.header } }
 
 -- The restored memory has the slot table of the image's.
 
@@ -57,16 +55,15 @@ restored_slots h dump m loader i hw fits is s lt =
 
 -- The area is the one that the image was made in.
 
-pub same_area : (h : Hardware) (v w : disk.DiskImage) → Marked h v → (Marked h w → ⊥) → IsTakenBack h v w → area_block h w ≡ area_block h v
-same_area h v w marked unmarked taken = elim taken.header [
+pub area_taken_back : (h : Hardware) (v w : disk.DiskImage) → Marked h v → (Marked h w → ⊥) → IsTakenBack h v w → area_block h w ≡ area_block h v
+area_taken_back h v w marked unmarked taken = elim taken.header [
   | inl same ↦ absurd (unmarked (subst IsMarked (sym same) marked))
   | inr back ↦ area_block-unmarked h w unmarked ∙ back ∙ sym (area_block-marked h v marked)
 ]
 
-pub resumes : (h : Hardware) (shown shown' : Shown) (c : disk.Content) (blocks : ℕ) (load : Load) (i : Image) (k : ℕ) → IsHardware h → disk.IsContent blocks c → 4 ≤ k → Stands h shown c (loading (with_found load i) k) →
-    shown'.activity ≡ runs → ShowsRunning h shown' (resumed_running h load i) → NamesOnly h shown' [] → Stands h shown' c (on (resumed_running h load i))
+pub resumes : Resumes
 resumes h shown shown' c blocks load i k hw whole le stands activity shows names =
-    let found = stands.parts.1.own i refl in
+    let found = stands.parts.resume.own i refl in
     let v = found.0 in
     let holds = found.1 in
     let m = found.2.of_memory.0 in
@@ -74,30 +71,30 @@ resumes h shown shown' c blocks load i k hw whole le stands activity shows names
     let w = disk.as_it_reads c in
     let here = IsImage-as_it_reads blocks c whole in
     let taken = found.3 w here in
-    let unmarked = stands.parts.1.taken_back le w here in
-    let page = same_area h v w holds.marked unmarked taken in
+    let unmarked = stands.parts.resume.taken_back le w here in
+    let page = area_taken_back h v w holds.marked unmarked taken in
     let count : blocks_of w ≡ blocks_of v = ap (λ (n : ℕ). n / 8) taken.size in
     let fits_area = fits_by_area h m w v count page is.fits_area in
     let slots = restored_slots h load.dump m load.loader i hw is.fits is.image in
     let usable = usable_area h v is.fits_area.area in
     record {
       activity = activity;
-      parts = (
-        shows,
-        record {
-          held = subst (IsHeld h c) (held_later (with_found load i) k le) stands.parts.0.0;
+      parts = record {
+        memory = shows;
+        disk = record {
+          held = subst (IsHeld h c) (held_later (with_found load i) k le) stands.parts.held;
           task_slots = task_slots-same h None m (restored h load.dump load.loader i) no_flights i.slots slots is.task_slots;
           flights = no_flights-owned h (resumed_running h load i) (λ t. refl);
           slot_pages = λ s old e.
               let task = is.task_slots.tasks s old e in
               taken.others (block_of_slot h s) (usable.on_disk s task.0) (task_not_header h m s hw is.fits task.0 task.2) ∙ holds.slots s old e;
           names = names;
-          header = stands.parts.0.1;
+          header = stands.parts.header;
           area = has_area h c (resumed_running h load i) refl
               (record {
                 area = fits_area.area;
                 bad_slots = bad_set-same h m (restored h load.dump load.loader i) (area_kind (area_block h w)) slots ∙ fits_area.bad_slots;
               });
-        },
-      );
+        };
+      };
     }

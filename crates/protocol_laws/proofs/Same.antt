@@ -15,6 +15,10 @@ use Rattle.plain_machine.specs.UsableArea.{area_block, area_fault, bad_set_fault
 use Rattle.image_laws.specs.ImageBlocks.{Tries}
 use Rattle.image_laws.proofs.ImageBlocks.{failed}
 use Rattle.image_laws.proofs.Images.{earlier_image}
+use Rattle.protocol_laws.specs.Rows.{IsSameArea}
+
+pub same_area : (h : Hardware) (v : DiskImage) → IsSameArea h v v
+same_area h v = record { blocks = refl; header = record { front = refl; signature = refl } }
 
 -- the two are as many blocks, and their header is the same
 pub record SameHeader (h : Hardware) (v w : DiskImage) : Type 0 where

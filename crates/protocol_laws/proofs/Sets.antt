@@ -8,7 +8,7 @@ use Rattle.definitions.specs.NumberPages.{meta_of, marked_numbers}
 use Rattle.definitions.specs.Tables.{frame, entry_at, page_flags, is_saveable}
 use Rattle.definitions.specs.Zones.{numbers}
 use Rattle.definitions.proofs.ZoneNumbers.{range-bounds}
-use Rattle.plain_machine.specs.Machine.{Hardware, Memory, IsHardware, IsSameMemory, Fits, saveable, unused, unused_slots, frame_entry, raw_slot_entry, slot_entry, image_slot}
+use Rattle.plain_machine.specs.Machine.{Hardware, Memory, IsHardware, IsSameMemory, Fits, saveable, unused, frame_entry, raw_slot_entry, slot_entry, image_slot}
 use Rattle.plain_machine.specs.Image.{Image, info_of_image, n_of, d_of, numbers_of, with_data, without_data, has_data, stream_of, stream_pages}
 use Rattle.plain_machine.specs.Shows.{seen_frames}
 use Rattle.plain_machine.proofs.Fresh.{seen-plain}
@@ -19,7 +19,7 @@ use Rattle.image_laws.proofs.Decoding.{is_skipped}
 use Rattle.image_write.specs.Copies.{with_data as pairs_with_data, data_pages, has_data as pair_has_data}
 use Rattle.image_write.specs.Writing.{stream_of_sets, AreOfImage}
 use Rattle.protocol_laws.specs.Slots.{HasSets}
-use Rattle.protocol_laws.specs.Memory.{ShownLists, WritesStream}
+use Rattle.protocol_laws.specs.Memory.{ShownLists, WritesStream, ShownSlots}
 
 -- Lists of the frame table.
 
@@ -51,7 +51,7 @@ free_seen e ne = elim (cases_Bool (eqb e image_slot)) [
   | inr isn't ↦ ap (λ (x : ℕ). eqb x 0) (sym (cond-false (eqb e image_slot) 0 e isn't))
 ]
 
-pub shown_free_slots : (h : Hardware) (m frames : Memory) → IsHardware h → Fits h m → IsSameMemory h m (seen_frames h frames) → ((s : ℕ) → s < h.slots → raw_slot_entry h frames s ≢ image_slot) → free_slots h.slots h.slot_table frames ≡ unused_slots h m
+pub shown_free_slots : ShownSlots
 unfolding free_slots
 shown_free_slots h m frames hw fits same plain =
     let seen : seen_frames h frames ≡ frames = seen-plain h frames plain in

@@ -1,5 +1,5 @@
 -- The image that is taken when a hibernation begins, and what its copies leave.
-use Rattle.std.proofs.Common.{◌≡◌, ◌≢◌, ℕ, ◌+◌, ◌-◌, ◌<◌, ◌/◌, inl, inr, suc, Bool, true, false, cond, not, List, [], ◌∷◌, length, map, filter, Option, refl, sym, ap, ap₂, ◌∙◌, arith, subst, Contains}
+use Rattle.std.proofs.Common.{◌≡◌, ◌≢◌, ℕ, ◌+◌, ◌-◌, ◌<◌, ◌/◌, inl, inr, suc, Bool, true, false, cond, not, List, [], ◌∷◌, length, map, filter, refl, sym, ap, ap₂, ◌∙◌, arith, subst, Contains}
 use Rattle.std.proofs.lemmas.Bool.{false≢true}
 use Rattle.std.proofs.lemmas.List.{length-map}
 use Rattle.page_core.specs.declared.format.Format.{Format}
@@ -7,14 +7,11 @@ use Rattle.page_core.specs.declared.format.Format.TheVariants.{Plain, SkipZeros}
 use Rattle.definitions.specs.Tables.{frame, page_flags, is_saveable}
 use Rattle.definitions.proofs.ZoneLists.{Contains-from_free_frames, Contains-from_saveable_frames}
 use Rattle.plain_machine.specs.Machine.{Hardware, Memory, IsHardware, IsSameMemory, IsTableFrame, Fits, saveable, unused, frame_entry, raw_slot_entry}
-use Rattle.plain_machine.specs.Image.{SlotPages, is_zeros, n_of, d_of, has_data, without_data, image_of_memory}
-use Rattle.plain_machine.specs.Shows.{RunsAs, seen_frames}
-use Rattle.plain_machine.specs.State.{Running, Flight}
-use Rattle.plain_machine.specs.declared.held.Held.{Held}
-use Rattle.plain_machine.specs.declared.no_swap.NoSwap.{NoSwap}
+use Rattle.plain_machine.specs.Image.{is_zeros, n_of, d_of, has_data, without_data, image_of_memory}
+use Rattle.plain_machine.specs.Shows.{seen_frames}
 use Rattle.plain_machine.proofs.Fresh.{seen-plain}
 use Rattle.plain_machine.proofs.SameMemory.{filter_agree_within, entry-same, of_frame_table, of_slot_table, same_by, same_entry, same_used, table_frame_used}
-use Rattle.protocol_laws.specs.Snapshots.{NamesNone, zeros_of, IsTakenFrom}
+use Rattle.protocol_laws.specs.Snapshots.{NamesNone, zeros_of, RunsOverCopies, SlotsOverCopies, TakesImage}
 use Rattle.protocol_laws.proofs.Sets.{shown_saveable, shown_unused}
 
 -- Lists of pairs.
@@ -74,7 +71,7 @@ both_parts test (x ∷ xs) = part_one (test x) x (filter test xs) (filter (λ y.
 not_free : (entry : ℕ) → is_saveable (page_flags entry) ≡ true → entry ≢ 1
 not_free entry save e = false≢true (sym (ap (λ (n : ℕ). is_saveable (page_flags n)) e) ∙ save)
 
-pub takes_image : (h : Hardware) (m frames : Memory) (slots : SlotPages) (f : Format) → IsHardware h → Fits h m → IsSameMemory h m (seen_frames h frames) → NamesNone h frames → IsTakenFrom h frames (image_of_memory h m slots f)
+pub takes_image : TakesImage
 takes_image h m frames slots f hw fits same none =
     let i = image_of_memory h m slots f in
     let list : saveable h frames ≡ saveable h m = shown_saveable h m frames hw fits same in
@@ -120,7 +117,7 @@ table_kept h m n k p is others table = used_kept h m n k p is others (table_fram
 slots_kept : (h : Hardware) (m n k : Memory) (s : ℕ) → IsShown h m n → Others h n k → s < h.slots → raw_slot_entry h k s ≡ raw_slot_entry h n s
 slots_kept h m n k s is others lt = entry-same n k h.slot_table s (table_kept h m n k (h.slot_table + s / 1024) is others (inr (of_slot_table h s lt)))
 
-pub slots_over_copies : (h : Hardware) (m n k : Memory) → IsHardware h → Fits h m → IsSameMemory h m (seen_frames h n) → NamesNone h n → ((p : ℕ) → (Contains (unused h n) p → ⊥) → frame k p ≡ frame n p) → NamesNone h k
+pub slots_over_copies : SlotsOverCopies
 slots_over_copies h m n k hw fits same none others s lt e =
     none s lt (sym (slots_kept h m n k s (record { hardware = hw; fits = fits; same = same; names_none = none }) others lt) ∙ e)
 
@@ -134,8 +131,7 @@ same_over h m n k is others =
     (λ p in'. entry-same n k h.frame_table p (table_kept h m n k (h.frame_table + p / 1024) is others (inl (of_frame_table h p is.hardware in'))) ∙ same_entry h m n p is.hardware is.fits here in')
     (λ p in' used. used_kept h m n k p is others used ∙ same_used h m n p here in' used))
 
-pub runs_over_copies : (h : Hardware) (flag : Held) (why : Option NoSwap) (operations : ℕ → Option Flight) (m n : Memory) (a : Running) → IsHardware h → RunsAs h flag why operations m a → NamesNone h m →
-    ((p : ℕ) → (Contains (unused h m) p → ⊥) → frame n p ≡ frame m p) → RunsAs h flag why operations n a
+pub runs_over_copies : RunsOverCopies
 runs_over_copies h flag why operations m n a hw runs none others = record {
   held = runs.held;
   unusable = runs.unusable;

@@ -12,7 +12,7 @@ use Rattle.plain_machine.specs.Chain.{blocks_of}
 use Rattle.plain_machine.specs.Image.{SlotPages}
 use Rattle.plain_machine.specs.Loader.{has}
 use Rattle.plain_machine.specs.Machine.{Hardware, Memory, IsHardware, Fits, frame_entry, slot_entry, is_slot_of, block_of_slot}
-use Rattle.plain_machine.specs.Shows.{Shown}
+use Rattle.plain_machine.specs.Shows.{WorldView}
 use Rattle.plain_machine.specs.Stands.{StandsOn, IsTaskSlot, IsTarget, IsFlight, HasFlights, HaveSlotPages, IsHeld}
 use Rattle.plain_machine.specs.State.{on, Running, Flight, goes_out, comes_in}
 use Rattle.plain_machine.specs.Step.{Outcome, finished, with_frame, with_slot_entry, with_flight, with_slot}
@@ -98,7 +98,7 @@ pub record IsOutBlock (h : Hardware) (a : Running) (c : disk.Content) (s : ℕ) 
   pub within : 8 * block_of_slot h s + 8 ≤ length c
   pub apart : (q : ℕ) → q < h.slots → q ≢ s → block_of_slot h q ≢ block_of_slot h s
 
-pub out_block : (h : Hardware) (shown : Shown) (c : disk.Content) (a : Running) (t s p : ℕ) → IsHardware h → Fits h a.memory → StandsOn h shown c a → IsFlight h a t s p → IsOutBlock h a c s
+pub out_block : (h : Hardware) (shown : WorldView) (c : disk.Content) (a : Running) (t s p : ℕ) → IsHardware h → Fits h a.memory → StandsOn h shown c a → IsFlight h a t s p → IsOutBlock h a c s
 out_block h shown c a t s p hw fits on' is =
     let at = task_slot h a t s p is in
     let v = disk.as_it_reads c in
@@ -115,7 +115,7 @@ out_block h shown c a t s p hw fits on' is =
 pub tries_out : (h : Hardware) (c c' : disk.Content) (blocks s : ℕ) (page : List ℕ) (a : Running) → disk.IsContent blocks c → IsOutBlock h a c s → Tries (block_of_slot h s) page c c' → KeepsHeader h c c'
 tries_out h c c' blocks s page a whole is tries = by_other_write h blocks (block_of_slot h s) page c c' whole tries is.not_header
 
-pub out_written : (h : Hardware) (shown shown' : Shown) (c c' : disk.Content) (blocks : ℕ) (a : Running) (t s p : ℕ) → IsHardware h → disk.IsContent blocks c → Fits h a.memory → StandsOn h shown c a → a.flights t ≡ Some (goes_out s p) →
+pub out_written : (h : Hardware) (shown shown' : WorldView) (c c' : disk.Content) (blocks : ℕ) (a : Running) (t s p : ℕ) → IsHardware h → disk.IsContent blocks c → Fits h a.memory → StandsOn h shown c a → a.flights t ≡ Some (goes_out s p) →
     IsPage (frame a.memory p) → disk.Writes (block_of_slot h s) (frame a.memory p) c c' → NamesNoMore h shown.frames shown'.frames →
     StandsOn h shown' c' (record a { flights = with_flight a.flights t None; slots = with_slot a.slots s (Some (frame a.memory p)) })
 out_written h shown shown' c c' blocks a t s p hw content fits on' flight whole wrote fewer =
@@ -163,7 +163,7 @@ out_written h shown shown' c c' blocks a t s p hw content fits on' flight whole 
     }
 
 -- One that fails gives the slot back.
-pub out_fails : (h : Hardware) (shown shown' : Shown) (c c' : disk.Content) (blocks : ℕ) (a : Running) (t s p : ℕ) (page : List ℕ) → IsHardware h → disk.IsContent blocks c → Fits h a.memory → StandsOn h shown c a → a.flights t ≡ Some (goes_out s p) →
+pub out_fails : (h : Hardware) (shown shown' : WorldView) (c c' : disk.Content) (blocks : ℕ) (a : Running) (t s p : ℕ) (page : List ℕ) → IsHardware h → disk.IsContent blocks c → Fits h a.memory → StandsOn h shown c a → a.flights t ≡ Some (goes_out s p) →
     disk.FailsToWrite (block_of_slot h s) page c c' → NamesNoMore h shown.frames shown'.frames →
     StandsOn h shown' c' (record a { flights = with_flight a.flights t None; memory = with_slot_entry h a.memory s 0 })
 out_fails h shown shown' c c' blocks a t s p page hw content fits on' flight failed fewer =
@@ -200,7 +200,7 @@ out_fails h shown shown' c c' blocks a t s p page hw content fits on' flight fai
     }
 
 -- A page comes in, and its slot is free.
-pub in_read : (h : Hardware) (shown shown' : Shown) (c : disk.Content) (a : Running) (t s p : ℕ) (page : List ℕ) → IsHardware h → Fits h a.memory → StandsOn h shown c a → a.flights t ≡ Some (comes_in s p) → NamesNoMore h shown.frames shown'.frames →
+pub in_read : (h : Hardware) (shown shown' : WorldView) (c : disk.Content) (a : Running) (t s p : ℕ) (page : List ℕ) → IsHardware h → Fits h a.memory → StandsOn h shown c a → a.flights t ≡ Some (comes_in s p) → NamesNoMore h shown.frames shown'.frames →
     StandsOn h shown' c (record a { flights = with_flight a.flights t None; memory = with_frame (with_slot_entry h a.memory s 0) p page; slots = with_slot a.slots s None })
 in_read h shown shown' c a t s p page hw fits on' flight fewer =
     let is = on'.flights.ins t s p flight in
@@ -234,7 +234,7 @@ in_read h shown shown' c a t s p page hw fits on' flight fewer =
     }
 
 -- One that can't be read stays in its slot.
-pub in_fails : (h : Hardware) (shown shown' : Shown) (c : disk.Content) (a : Running) (t s p : ℕ) → StandsOn h shown c a → a.flights t ≡ Some (comes_in s p) → NamesNoMore h shown.frames shown'.frames →
+pub in_fails : (h : Hardware) (shown shown' : WorldView) (c : disk.Content) (a : Running) (t s p : ℕ) → StandsOn h shown c a → a.flights t ≡ Some (comes_in s p) → NamesNoMore h shown.frames shown'.frames →
     StandsOn h shown' c (record a { flights = with_flight a.flights t None })
 in_fails h shown shown' c a t s p on' flight fewer =
     let is = on'.flights.ins t s p flight in
@@ -257,7 +257,7 @@ in_fails h shown shown' c a t s p on' flight fewer =
     }
 
 -- The page that an in brings is the one that the task's slot has.
-pub in_page : (h : Hardware) (shown : Shown) (c : disk.Content) (a : Running) (t s p : ℕ) → Fits h a.memory → StandsOn h shown c a → a.flights t ≡ Some (comes_in s p) → IsSome (a.slots s)
+pub in_page : (h : Hardware) (shown : WorldView) (c : disk.Content) (a : Running) (t s p : ℕ) → Fits h a.memory → StandsOn h shown c a → a.flights t ≡ Some (comes_in s p) → IsSome (a.slots s)
 in_page h shown c a t s p fits on' flight =
     let is = on'.flights.ins t s p flight in
     on'.task_slots.paged is.usable s (task_slot h a t s p is)

@@ -21,7 +21,7 @@ use Rattle.plain_machine.specs.Fitting.{IsTask}
 use Rattle.plain_machine.specs.Loader.{has}
 use Rattle.plain_machine.specs.Machine.{Hardware, Memory, IsHardware, Fits, IsOfTable, IsTableFrame, is_valid, frame_entry, raw_slot_entry, slot_entry, image_slot, bad_slot, is_slot_entry, is_slot_of}
 use Rattle.plain_machine.specs.Refusals.{refused_if, refusal, task_refusal, op_refusal, not_owner, free_slots_of, owns_slot, closed, is_held}
-use Rattle.plain_machine.specs.Shows.{Shown}
+use Rattle.plain_machine.specs.Shows.{WorldView}
 use Rattle.plain_machine.specs.Stands.{StandsOn, IsTaskSlot, IsTarget, IsFlight, HasFlights, NamesHeld}
 use Rattle.plain_machine.specs.State.{State, off, on, booting, hibernating, undoing, settling, waking, loading, asleep, Running, Flight, goes_out, comes_in, Held, nothing, sure, maybe, own, other}
 use Rattle.plain_machine.specs.Step.{Step, Outcome, outcomes, refused_or, requested, task_step, finished, with_frame, with_frame_entry, with_slot_entry, with_flight, owned_by}
@@ -205,7 +205,7 @@ no_table h a t p fits task its = table_frame_not_owned h a.memory p t fits its.o
 abbrev pub NamesNoMore : Hardware → Memory → Memory → Type 0
 NamesNoMore h old new = (s : ℕ) → s < h.slots → raw_slot_entry h new s ≡ image_slot → raw_slot_entry h old s ≡ image_slot
 
-pub names_fewer : (h : Hardware) (s s' : Shown) (held : Held) → NamesNoMore h s.frames s'.frames → NamesHeld h s held → NamesHeld h s' held
+pub names_fewer : (h : Hardware) (s s' : WorldView) (held : Held) → NamesNoMore h s.frames s'.frames → NamesHeld h s held → NamesHeld h s' held
 names_fewer h s s' nothing fewer names = λ k lt e. names k lt (fewer k lt e)
 names_fewer h s s' (sure (own i)) fewer names = record { memory = names.memory; image = names.image; names = λ k lt e. names.names k lt (fewer k lt e) }
 names_fewer h s s' (sure other) fewer names = λ k lt e. names k lt (fewer k lt e)
@@ -249,7 +249,7 @@ seen_slot h a m s keeps lt = seen_by (raw_slot_entry h m s) (raw_slot_entry h a.
 pub task_slot_by : (h : Hardware) (m n : Memory) (s : ℕ) → slot_entry h n s ≡ slot_entry h m s → IsTaskSlot h m s → IsTaskSlot h n s
 task_slot_by h m n s same is = (is.0, subst (λ (k : ℕ). 1 ≤ k) (sym same) is.1, subst (λ (k : ℕ). k ≤ 64) (sym same) is.2)
 
-pub with_memory : (h : Hardware) (shown shown' : Shown) (c : disk.Content) (a : Running) (m : Memory) → StandsOn h shown c a → Keeps h a m → NamesNoMore h shown.frames shown'.frames → StandsOn h shown' c (record a { memory = m })
+pub with_memory : (h : Hardware) (shown shown' : WorldView) (c : disk.Content) (a : Running) (m : Memory) → StandsOn h shown c a → Keeps h a m → NamesNoMore h shown.frames shown'.frames → StandsOn h shown' c (record a { memory = m })
 with_memory h shown shown' c a m on' keeps fewer =
     let b : Running = record a { memory = m } in
     let flies : (u s p : ℕ) → Flies a u s p → IsFlight h b u s p =
@@ -404,7 +404,7 @@ reslots_page h m n s e p x hw apart lt is =
     }
 
 -- a running state as it is, of which a world shows no slot more as the image's
-still_on : (h : Hardware) (shown shown' : Shown) (c : disk.Content) (a : Running) → StandsOn h shown c a → NamesNoMore h shown.frames shown'.frames → StandsOn h shown' c a
+still_on : (h : Hardware) (shown shown' : WorldView) (c : disk.Content) (a : Running) → StandsOn h shown c a → NamesNoMore h shown.frames shown'.frames → StandsOn h shown' c a
 still_on h shown shown' c a on' fewer = record {
   held = on'.held;
   task_slots = on'.task_slots;
@@ -456,7 +456,7 @@ free_slot h a s e =
     let below = bounds.1 in
     record { usable = parts.0; within = omega arith; free = eqb-true (slot_entry h a.memory s) 0 found.1 }
 
-out_begins : (h : Hardware) (shown shown' : Shown) (c : disk.Content) (a : Running) (t s p : ℕ) → IsHardware h → Fits h a.memory → IsTask t → StandsOn h shown c a → a.flights t ≡ None → IsOwnFrame h a t p → a.held ≡ nothing → IsFreeSlot h a s → NamesNoMore h shown.frames shown'.frames →
+out_begins : (h : Hardware) (shown shown' : WorldView) (c : disk.Content) (a : Running) (t s p : ℕ) → IsHardware h → Fits h a.memory → IsTask t → StandsOn h shown c a → a.flights t ≡ None → IsOwnFrame h a t p → a.held ≡ nothing → IsFreeSlot h a s → NamesNoMore h shown.frames shown'.frames →
     StandsOn h shown' c (record a { memory = with_slot_entry h a.memory s t; flights = with_flight a.flights t (Some (goes_out s p)) })
 out_begins h shown shown' c a t s p hw fits task on' idle its unheld slot fewer =
     let m = a.memory in
@@ -531,7 +531,7 @@ owned_slot h a t s is =
       no_why None e = refl
       no_why (Some why) e = absurd (false≢true e)
 
-in_begins : (h : Hardware) (shown shown' : Shown) (c : disk.Content) (a : Running) (t s p : ℕ) → IsTask t → StandsOn h shown c a → a.flights t ≡ None → IsOwnFrame h a t p → a.unusable ≡ None → is_slot_of h a.memory t s ≡ true → NamesNoMore h shown.frames shown'.frames →
+in_begins : (h : Hardware) (shown shown' : WorldView) (c : disk.Content) (a : Running) (t s p : ℕ) → IsTask t → StandsOn h shown c a → a.flights t ≡ None → IsOwnFrame h a t p → a.unusable ≡ None → is_slot_of h a.memory t s ≡ true → NamesNoMore h shown.frames shown'.frames →
     StandsOn h shown' c (record a { flights = with_flight a.flights t (Some (comes_in s p)) })
 in_begins h shown shown' c a t s p task on' idle its usable slot fewer =
     let flights = with_flight a.flights t (Some (comes_in s p)) in
@@ -571,7 +571,7 @@ in_begins h shown shown' c a t s p task on' idle its usable slot fewer =
 
 -- A request that isn't refused.
 
-requested_on : (h : Hardware) (shown shown' : Shown) (c : disk.Content) (a b : Running) (t : ℕ) (o : TaskOp) (r : Reply) → IsHardware h → Fits h a.memory → IsTask t → StandsOn h shown c a → a.flights t ≡ None → op_refusal h a t o ≡ None → Contains (requested h a t o) (r, on b) → NamesNoMore h shown.frames shown'.frames → StandsOn h shown' c b
+requested_on : (h : Hardware) (shown shown' : WorldView) (c : disk.Content) (a b : Running) (t : ℕ) (o : TaskOp) (r : Reply) → IsHardware h → Fits h a.memory → IsTask t → StandsOn h shown c a → a.flights t ≡ None → op_refusal h a t o ≡ None → Contains (requested h a t o) (r, on b) → NamesNoMore h shown.frames shown'.frames → StandsOn h shown' c b
 requested_on h shown shown' c a b t (op.Claim p) r hw fits task on' idle none in' fewer =
     let parts = first_none (refused_if (not (is_valid h p)) reply.NoFrame) (refused_if (not (eqb (frame_entry h a.memory p) 1)) reply.NotFree) none in
     let valid = not_not (is_valid h p) (passed (not (is_valid h p)) reply.NoFrame parts.0) in
@@ -610,7 +610,7 @@ requested_on h shown shown' c a b t (op.TakeIn s p) r hw fits task on' idle none
     (in_begins h shown shown' c a t s p task on' idle its.0 slot.0 slot.1 fewer)
 
 -- A task's request leaves a running state, over the same disk.
-pub request_stands : (h : Hardware) (shown shown' : Shown) (c : disk.Content) (v : disk.DiskImage) (a b : Running) (t : ℕ) (o : TaskOp) (r : Reply) → IsHardware h → Fits h a.memory → IsTask t → StandsOn h shown c a → Step h v (on a) (event.Task t o) r (on b) → NamesNoMore h shown.frames shown'.frames → StandsOn h shown' c b
+pub request_stands : (h : Hardware) (shown shown' : WorldView) (c : disk.Content) (v : disk.DiskImage) (a b : Running) (t : ℕ) (o : TaskOp) (r : Reply) → IsHardware h → Fits h a.memory → IsTask t → StandsOn h shown c a → Step h v (on a) (event.Task t o) r (on b) → NamesNoMore h shown.frames shown'.frames → StandsOn h shown' c b
 request_stands h shown shown' c v a b t o r hw fits task on' step fewer =
     elim (request_cases h v a t o r (on b) step) [
       | inl e ↦ subst (StandsOn h shown' c) (same_on a b e) (still_on h shown shown' c a on' fewer)

@@ -1,5 +1,5 @@
 -- Slots that a hibernation takes for its image: what is seen of memory stays.
-use Rattle.std.proofs.Common.{◌≡◌, ◌≢◌, ℕ, ◌+◌, ◌/◌, ◌<◌, ◌≤◌, ◌⊎◌, inl, inr, List, [], ◌∷◌, Option, sym, ◌∙◌, subst, arith, Contains}
+use Rattle.std.proofs.Common.{◌≡◌, ℕ, ◌+◌, ◌/◌, ◌<◌, ◌≤◌, ◌⊎◌, inl, inr, List, [], ◌∷◌, sym, ◌∙◌, subst, arith, Contains}
 use Rattle.byteorder.specs.Endian.{little_bytes}
 use Rattle.std.proofs.lemmas.Bool.{cases_eq, cases_lt}
 use Rattle.definitions.specs.Bytes.{IsPage}
@@ -8,14 +8,12 @@ use Rattle.definitions.specs.Tables.{frame, HasTable, table_frame_count}
 use Rattle.definitions.proofs.Ascending.{Contains-nil, Contains-head, Contains-tail, Contains-cons_cases}
 use Rattle.definitions.proofs.FreeSlots.{Contains-image_slots, image_slot}
 use Rattle.definitions.proofs.TableEntries.{entry_at-with_entries_same, entry_at-with_entries_other, length-with_entries, IsPage-with_entries, HasTable-with_entries, frame-with_entries_other}
-use Rattle.plain_machine.specs.Machine.{Hardware, Memory, IsSameMemory, IsOfTable, raw_slot_entry, table_len, block_of_slot}
-use Rattle.plain_machine.specs.Shows.{RunsAs, seen_frames}
-use Rattle.plain_machine.specs.State.{Running, Flight}
-use Rattle.plain_machine.specs.declared.held.Held.{Held}
-use Rattle.plain_machine.specs.declared.no_swap.NoSwap.{NoSwap}
+use Rattle.plain_machine.specs.Machine.{Hardware, Memory, IsSameMemory, raw_slot_entry, table_len}
+use Rattle.plain_machine.specs.Shows.{seen_frames}
 use Rattle.plain_machine.proofs.Fresh.{seen-plain}
 use Rattle.protocol_laws.specs.Slots.{IsMemoryOf, AreFree, taken}
 use Rattle.protocol_laws.proofs.Chunks.{chunk, chunk-outside, chunk-within, chunk-zero, same_by_chunks}
+use Rattle.protocol_laws.specs.Memory.{FrameTaken, NamesTaken, NoneLeft, RunsGivenBack, RunsTaken, SeenTaken}
 
 has_table : (h : Hardware) (m : Memory) → IsMemoryOf h m → HasTable m h.slot_table h.slots
 has_table h m is = is.table
@@ -86,7 +84,7 @@ seen_outside : (h : Hardware) (m : Memory) (f : ℕ) → (f < h.slot_table) ⊎ 
 seen_outside h m f out = frame-with_entries_other m h.slot_table h.slots (image_slots h.slots h.slot_table m) 0 f (image_below h m) out
 
 -- What is seen of memory stays where free slots are taken.
-pub seen_taken : (h : Hardware) (m : Memory) (ss : List ℕ) → IsMemoryOf h m → AreFree h m ss → seen_frames h (taken h m ss) ≡ seen_frames h m
+pub seen_taken : SeenTaken
 seen_taken h m ss is free =
     let new = is_memory-taken h m ss is in
     same_by_chunks (seen_frames h (taken h m ss)) (seen_frames h m) h.slot_table h.slots
@@ -98,7 +96,7 @@ seen_taken h m ss is free =
 
 -- Given back, no slot is the image's, and what is seen is what there is.
 
-pub none_left : (h : Hardware) (m : Memory) (k : ℕ) → IsMemoryOf h m → k < h.slots → raw_slot_entry h (seen_frames h m) k ≢ 65536
+pub none_left : NoneLeft
 none_left h m k is lt e = elim (cases_eq (raw_slot_entry h m k) 65536) [
   | inl image ↦
       let zero_is : raw_slot_entry h (seen_frames h m) k ≡ 0 = entry_at-with_entries_same m h.slot_table h.slots (image_slots h.slots h.slot_table m) 0 k is.pages is.table (omega arith) (image_below h m) (Contains-image_slots h.slots h.slot_table m k lt image) in
@@ -119,7 +117,7 @@ seen_seen h m is = seen-plain h (seen_frames h m) (λ k lt e. none_left h m k is
 
 -- So a running state that the page frames show is still shown.
 
-pub runs_taken : (h : Hardware) (flag : Held) (why : Option NoSwap) (ops : ℕ → Option Flight) (m : Memory) (ss : List ℕ) (a : Running) → IsMemoryOf h m → AreFree h m ss → RunsAs h flag why ops m a → RunsAs h flag why ops (taken h m ss) a
+pub runs_taken : RunsTaken
 runs_taken h flag why ops m ss a is free runs = record {
   held = runs.held;
   unusable = runs.unusable;
@@ -128,7 +126,7 @@ runs_taken h flag why ops m ss a is free runs = record {
   fits = runs.fits;
 }
 
-pub runs_given_back : (h : Hardware) (flag : Held) (why : Option NoSwap) (ops : ℕ → Option Flight) (m : Memory) (a : Running) → IsMemoryOf h m → RunsAs h flag why ops m a → RunsAs h flag why ops (seen_frames h m) a
+pub runs_given_back : RunsGivenBack
 runs_given_back h flag why ops m a is runs = record {
   held = runs.held;
   unusable = runs.unusable;
@@ -138,16 +136,14 @@ runs_given_back h flag why ops m a is runs = record {
 }
 
 -- Names: a slot of the image is one of before, or one that was taken.
-pub names_taken : (h : Hardware) (m : Memory) (ss blocks : List ℕ) → IsMemoryOf h m → AreFree h m ss →
-    ((k : ℕ) → k < h.slots → raw_slot_entry h m k ≡ 65536 → Contains blocks (block_of_slot h k)) → ((k : ℕ) → Contains ss k → Contains blocks (block_of_slot h k)) →
-    (k : ℕ) → k < h.slots → raw_slot_entry h (taken h m ss) k ≡ 65536 → Contains blocks (block_of_slot h k)
+pub names_taken : NamesTaken
 names_taken h m ss blocks is free before new k lt e = elim (find_in ss k) [
   | inl in' ↦ new k in'
   | inr out ↦ before k lt (sym (other_entry h m ss k is free out) ∙ e)
 ]
 
 -- Page frames outside the slot table keep their pages.
-pub frame_taken : (h : Hardware) (m : Memory) (ss : List ℕ) (f : ℕ) → AreFree h m ss → (IsOfTable h.slot_table h.slots f → ⊥) → frame (taken h m ss) f ≡ frame m f
+pub frame_taken : FrameTaken
 frame_taken h m ss f free no_table =
     frame-with_entries_other m h.slot_table h.slots ss 65536 f (λ j j_in. (free j j_in).0)
     (elim (cases_lt f h.slot_table) [ inl lt ↦ inl lt | inr le ↦ elim (cases_lt f (h.slot_table + table_len h.slots)) [ inl lt ↦ absurd (no_table (record { from = le; below = lt })) | inr le' ↦ inr le' ] ])

@@ -1,14 +1,14 @@
 -- A resume's replies over any disk.
-use Rattle.std.proofs.Common.{◌≡◌, ◌<◌, ◌≤◌, ℕ, ◌+◌, inl, inr, zero, suc, ltb, false, get_or, Some, None, unwrap_or, slice_get, refl, sym, ap, ap₂, ◌∙◌, arith}
+use Rattle.std.proofs.Common.{◌≡◌, ◌<◌, ◌≤◌, ℕ, ◌+◌, inl, inr, zero, suc, ltb, false, get_or, Some, None, unwrap_or, refl, sym, ap, ap₂, ◌∙◌, arith}
 use Rattle.std.proofs.lemmas.Bool.{cases_lt, cond-true, cond-false, lt-ltb, ltb-true, cases_Bool}
 use Rattle.definitions.specs.Disk as disk
 use Rattle.plain_machine.specs.Machine.{Hardware, Memory}
-use Rattle.plain_machine.specs.Trace.{trace, info_in, place, place_count, header_cause, taken_back_cause, content_cause, next_cause, cause_at, causes, last_reply}
+use Rattle.plain_machine.specs.Trace.{info_in, place, place_count, taken_back_cause, content_cause, next_cause, cause_at, causes, last_reply}
 use Rattle.plain_machine.specs.declared.event.Loader.{Loader}
 use Rattle.plain_machine.specs.declared.event.IdentCheck.{IdentCheck}
 use Rattle.plain_machine.specs.declared.reply.Reply.TheVariants as reply
 use Rattle.plain_machine.proofs.Traces.{NoneBefore, causes_at, trace_more, trace_last}
-use Rattle.protocol_laws.specs.TraceAt.{reply_past, reply_at}
+use Rattle.protocol_laws.specs.TraceAt.{reply_past, reply_at, TracesAt}
 use Rattle.protocol_laws.proofs.Stopping.{stops_else, stops_content, stops_next, header_passed, stops_taken_back, none_stopped}
 
 not_lt : (m n : ℕ) → n ≤ m → ltb m n ≡ false
@@ -53,9 +53,7 @@ none_before h dump v loader check k within gone (suc (suc (suc (suc s)))) lt =
     (stops_else content (next_cause h v s) (stops_content h dump v loader check (place s)) (stops_next h v s))
     (gone (suc (suc (suc (suc s)))) lt)
 
-pub traces_at : (h : Hardware) (dump : Memory) (v : disk.DiskImage) (loader : Loader) (check : IdentCheck) (k : ℕ) → k < 4 + place_count (info_in h v).pages →
-    ((j : ℕ) → j < k → reply_at h dump v loader check j ≡ reply.Loading (j + 1)) →
-    slice_get (trace h dump v loader check) k ≡ Some (reply_at h dump v loader check k)
+pub traces_at : TracesAt
 traces_at h dump v loader check k within gone =
     let none = none_before h dump v loader check k within gone in
     elim (cases_lt k (3 + place_count (info_in h v).pages)) [

@@ -1,5 +1,5 @@
 -- The trace over a disk that holds an own image.
-use Rattle.std.proofs.Common.{◌≡◌, ◌≢◌, ℕ, ◌+◌, ◌-◌, ◌/◌, ◌%◌, ◌<◌, ◌≤◌, ◌⊎◌, inl, inr, zero, suc, Bool, true, false, cond, eqb, ltb, not, ◌&&◌, max, List, ◌∷◌, length, map, Option, Some, None, slice_get, unwrap_or, is_none, refl, sym, ap, ap₂, ◌∙◌, arith}
+use Rattle.std.proofs.Common.{◌≡◌, ◌≢◌, ℕ, ◌+◌, ◌-◌, ◌/◌, ◌%◌, ◌<◌, ◌≤◌, ◌⊎◌, inl, inr, zero, suc, Bool, true, false, cond, eqb, ltb, not, ◌&&◌, max, List, length, map, Option, Some, None, unwrap_or, is_none, refl, sym, ap, ap₂, ◌∙◌, arith}
 use Rattle.std.specs.List.{range_with_len}
 use Rattle.std.proofs.lemmas.Bool.{cases_eq, cases_lt, cases_Bool, eq-eqb, ne_eqb, cond-true, cond-false, leb-true, leb-false, lt-ltb, ltb-true, ltb-false}
 use Rattle.definitions.specs.Disk as disk
@@ -7,23 +7,21 @@ use Rattle.definitions.specs.NumberPages.{meta_of}
 use Rattle.definitions.specs.Zones.{top}
 use Rattle.definitions.specs.declared.info.Info.{Info}
 use Rattle.definitions.proofs.ZoneNumbers.{count_at_most, top_at_most}
-use Rattle.plain_machine.specs.Machine.{Hardware, Memory, IsHardware, tables_fault}
-use Rattle.plain_machine.specs.Chain.{Holds, or_else}
+use Rattle.plain_machine.specs.Machine.{Hardware, Memory, tables_fault}
+use Rattle.plain_machine.specs.Chain.{or_else}
 use Rattle.plain_machine.specs.Image.{Image, n_of, d_of, pages_of, maps_read, resume_steps}
 use Rattle.plain_machine.specs.Loader.{left_free, need, restored, restored_page}
-use Rattle.plain_machine.specs.Stands.{IsOwn}
 use Rattle.plain_machine.specs.State.{Load, loading}
 use Rattle.plain_machine.specs.Step.{Outcome, has_room, too_few, resumed}
-use Rattle.plain_machine.specs.Trace.{info_in, meta_in, d_in, image_in, map_at, page_at, place, place_count, place_cause, want_cause, room_cause, content_cause, tables_cause, restored_in, next_cause, cause_at, last_reply, trace}
+use Rattle.plain_machine.specs.Trace.{info_in, meta_in, d_in, image_in, map_at, page_at, place, place_count, place_cause, want_cause, room_cause, content_cause, tables_cause, restored_in, next_cause, cause_at, last_reply}
 use Rattle.plain_machine.specs.UsableArea.{dump_area_fault}
 use Rattle.plain_machine.specs.declared.no_swap.NoSwap.{NoSwap}
 use Rattle.plain_machine.specs.declared.event.Loader.{Loader}
 use Rattle.plain_machine.specs.declared.event.Loader.TheVariants.{Ranges, Table}
-use Rattle.plain_machine.specs.declared.event.IdentCheck.{IdentCheck}
 use Rattle.plain_machine.specs.declared.reply.Reply.{Reply}
 use Rattle.plain_machine.specs.declared.reply.Reply.TheVariants as reply
 use Rattle.image_laws.proofs.Decoding.{meta_is, decodes}
-use Rattle.protocol_laws.specs.OwnTrace.{own_reply, Comes}
+use Rattle.protocol_laws.specs.OwnTrace.{own_reply, Comes, TracesOwn}
 use Rattle.protocol_laws.specs.TraceAt.{reply_past, reply_at}
 use Rattle.protocol_laws.proofs.OwnCauses.{IsOwnDisk, info_is, some_saved, few_saved, both_none, own_sayable}
 use Rattle.protocol_laws.proofs.OwnChain.{no_header_cause, no_taken_back_cause, no_place_cause}
@@ -275,7 +273,7 @@ gone_on h v i load k (suc j) is lt comes j_lt =
           ∙ late_loading h load i (suc j) (λ e. omega arith)
     ])
 
-pub traces_own : (h : Hardware) (v : disk.DiskImage) (i : Image) (load : Load) (k : ℕ) → IsHardware h → Holds h v i → IsOwn h v i → 1 ≤ k → k < resume_steps i → Comes h load i k → slice_get (trace h load.dump v load.loader load.check) k ≡ Some (own_reply h load i k)
+pub traces_own : TracesOwn
 traces_own h v i load k hw holds own some lt comes =
     let is : IsOwnDisk h v i = record { hardware = hw; holds = holds; own = own; sayable = own_sayable h v i hw own } in
     let count = count_is h v i is in

@@ -1,6 +1,6 @@
 -- Blocks that a call of the disk leaves.
-use Rattle.std.proofs.Common.{◌≡◌, ◌≢◌, ◌<◌, ◌≤◌, inl, inr, ℕ, zero, suc, ◌+◌, ◌*◌, cond, eqb, ltb, List, [], ◌∷◌, length, Contains, slice_index_or, sym, ap, ◌∙◌, subst, arith}
-use Rattle.std.proofs.lemmas.Bool.{cases_lt, cases_eq, cond-true, cond-false, lt-ltb, le-ltb, eq-eqb, ne_eqb}
+use Rattle.std.proofs.Common.{◌≡◌, ◌≢◌, ◌<◌, ◌≤◌, inl, inr, ℕ, zero, suc, ◌+◌, ◌*◌, List, [], ◌∷◌, length, Contains, slice_index_or, Option, Some, None, refl, sym, ap, ◌∙◌, subst, arith}
+use Rattle.std.proofs.lemmas.Bool.{cases_lt}
 use Rattle.std.proofs.lemmas.List.{get_or-map, length-map}
 use Rattle.std.proofs.lemmas.List.Elements.{Contains-get_or}
 use Rattle.std.proofs.lemmas.List.FromFn.{length-map-range_with_len}
@@ -13,7 +13,9 @@ use Rattle.plain_machine.specs.Laid.{laid}
 use Rattle.image_write.proofs.Done.{write_at}
 use Rattle.plain_machine.specs.Stands.{laid_writes, laid_blocks}
 use Rattle.plain_machine.specs.State.{Running}
-use Rattle.protocol_laws.specs.Rows.{LeavesBlock, block_of_step}
+use Rattle.plain_machine.specs.Calls.{HibernationCall, writes_page, syncs_pages, reads_header, writes_mark, syncs_mark, hibernation_call}
+use Rattle.plain_machine.proofs.Calls.{IsAt, is_at, call_writes, call_marks}
+use Rattle.protocol_laws.specs.Rows.{LeavesBlock, block_of_call, block_of_step}
 use Rattle.protocol_laws.specs.Steps.{write_of_step}
 use Rattle.protocol_laws.proofs.Laid.{count_of, count_is}
 
@@ -78,20 +80,20 @@ laid_count h a i k lt =
 -- The block that a step of a hibernation writes.
 
 slot_at : (h : Hardware) (a : Running) (i : Image) (k : ℕ) → k + 4 < hibernate_steps i → block_of_step h a i k ≡ (write_of_step h a i k).0 ∷ []
-slot_at h a i k place =
-    cond-true (ltb (k + 4) (hibernate_steps i)) ((write_of_step h a i k).0 ∷ []) (cond (eqb (k + 2) (hibernate_steps i)) (block_of_slot h 0 ∷ []) []) (lt-ltb (k + 4) (hibernate_steps i) place)
+slot_at h a i k place = ap (block_of_call h a i k) (call_writes i k place)
 
-behind_slots : (h : Hardware) (a : Running) (i : Image) (k : ℕ) → hibernate_steps i ≤ k + 4 → block_of_step h a i k ≡ cond (eqb (k + 2) (hibernate_steps i)) (block_of_slot h 0 ∷ []) []
-behind_slots h a i k place =
-    cond-false (ltb (k + 4) (hibernate_steps i)) ((write_of_step h a i k).0 ∷ []) (cond (eqb (k + 2) (hibernate_steps i)) (block_of_slot h 0 ∷ []) []) (le-ltb (k + 4) (hibernate_steps i) place)
+pub mark_at : (h : Hardware) (a : Running) (i : Image) (k : ℕ) → k + 2 ≡ hibernate_steps i → block_of_step h a i k ≡ block_of_slot h 0 ∷ []
+mark_at h a i k place = ap (block_of_call h a i k) (call_marks i k place)
 
-mark_at : (h : Hardware) (a : Running) (i : Image) (k : ℕ) → k + 2 ≡ hibernate_steps i → block_of_step h a i k ≡ block_of_slot h 0 ∷ []
-mark_at h a i k place =
-    behind_slots h a i k (omega arith) ∙ cond-true (eqb (k + 2) (hibernate_steps i)) (block_of_slot h 0 ∷ []) [] (eq-eqb (k + 2) (hibernate_steps i) place)
-
-pub none_at : (h : Hardware) (a : Running) (i : Image) (k : ℕ) → hibernate_steps i ≤ k + 4 → k + 2 ≢ hibernate_steps i → block_of_step h a i k ≡ []
-none_at h a i k place ne =
-    behind_slots h a i k place ∙ cond-false (eqb (k + 2) (hibernate_steps i)) (block_of_slot h 0 ∷ []) [] (ne_eqb (k + 2) (hibernate_steps i) ne)
+pub none_past : (h : Hardware) (a : Running) (i : Image) (k : ℕ) → hibernate_steps i ≤ k + 1 → block_of_step h a i k ≡ []
+none_past h a i k past = by_call (hibernation_call i k) (is_at i k) where
+  by_call : (call : Option HibernationCall) → IsAt call k (hibernate_steps i) → block_of_call h a i k call ≡ []
+  by_call (Some writes_page) at = absurd (omega arith)
+  by_call (Some syncs_pages) at = refl
+  by_call (Some reads_header) at = refl
+  by_call (Some writes_mark) at = absurd (omega arith)
+  by_call (Some syncs_mark) at = refl
+  by_call None at = refl
 
 pub unwritten_slot : (h : Hardware) (a : Running) (i : Image) (k b : ℕ) (c c' : disk.Content) → k + 4 < hibernate_steps i → disk.SameOutside (write_of_step h a i k).0 c c' → (Contains (block_of_step h a i k) b → ⊥) → LeavesBlock b c c'
 unwritten_slot h a i k b c c' place same not =
@@ -109,12 +111,13 @@ only_in x b xs e in' = one_is x b (subst (λ (ys : List ℕ). Contains ys b) e i
 
 -- it is block(0), or one of the image's
 pub step_in_laid : (h : Hardware) (a : Running) (i : Image) (k b : ℕ) → Contains (block_of_step h a i k) b → Contains (block_of_slot h 0 ∷ laid_blocks h a i) b
-step_in_laid h a i k b in' = elim (cases_lt (k + 4) (hibernate_steps i)) [
-  | inl place ↦
-      subst (Contains (block_of_slot h 0 ∷ laid_blocks h a i)) (sym (only_in (write_of_step h a i k).0 b (block_of_step h a i k) (slot_at h a i k place) in'))
-      (later_in (block_of_slot h 0) (write_of_step h a i k).0 (laid_blocks h a i) (write_in_laid h a i k (laid_count h a i k place)))
-  | inr past ↦ elim (cases_eq (k + 2) (hibernate_steps i)) [
-    | inl place ↦ (0, omega arith, sym (only_in (block_of_slot h 0) b (block_of_step h a i k) (mark_at h a i k place) in'))
-    | inr ne ↦ absurd (Contains-nil b (subst (λ (ys : List ℕ). Contains ys b) (none_at h a i k past ne) in'))
-  ]
-]
+step_in_laid h a i k b = by_call (hibernation_call i k) (is_at i k) where
+  by_call : (call : Option HibernationCall) → IsAt call k (hibernate_steps i) → Contains (block_of_call h a i k call) b → Contains (block_of_slot h 0 ∷ laid_blocks h a i) b
+  by_call (Some writes_page) at in' =
+      subst (Contains (block_of_slot h 0 ∷ laid_blocks h a i)) (sym (only_in (write_of_step h a i k).0 b ((write_of_step h a i k).0 ∷ []) refl in'))
+      (later_in (block_of_slot h 0) (write_of_step h a i k).0 (laid_blocks h a i) (write_in_laid h a i k (laid_count h a i k at)))
+  by_call (Some syncs_pages) at in' = absurd (Contains-nil b in')
+  by_call (Some reads_header) at in' = absurd (Contains-nil b in')
+  by_call (Some writes_mark) at in' = (0, omega arith, sym (only_in (block_of_slot h 0) b (block_of_slot h 0 ∷ []) refl in'))
+  by_call (Some syncs_mark) at in' = absurd (Contains-nil b in')
+  by_call None at in' = absurd (Contains-nil b in')

@@ -1,9 +1,9 @@
 -- The steps that take a mark back before a machine that slept runs.
-use Rattle.std.proofs.Common.{ℕ, inl, inr, refl, ap, arith}
+use Rattle.std.proofs.Common.{ℕ, inl, inr, ap}
 use Rattle.definitions.specs.Disk as disk
 use Rattle.plain_machine.specs.Machine.{Hardware}
 use Rattle.plain_machine.specs.Image.{Image}
-use Rattle.plain_machine.specs.Shows.{Shown}
+use Rattle.plain_machine.specs.Shows.{WorldView}
 use Rattle.plain_machine.specs.Stands.{Stands, IsSaved}
 use Rattle.plain_machine.specs.State.{waking, Running, Held, perhaps}
 use Rattle.protocol_laws.specs.Settling.{IsOnDisk, unmarked_block}
@@ -14,23 +14,23 @@ use Rattle.protocol_laws.proofs.Unmarking.{IsUnmarking, reads_unmarked}
 pub wake_begins : WakeBegins
 wake_begins h shown shown' c i held a stands activity shows names = record {
   activity = activity;
-  parts = (waits_on h shown shown' c a held stands.parts.0 shows, names, stands.parts.2, (λ e. absurd (omega arith)), (λ e. absurd (omega arith)));
+  parts = record { behind = waits_on h shown shown' c a held stands.parts.behind shows; names = names; saved = stands.parts.saved; before = tt };
 }
 
 pub wake_reads : WakeReads
 wake_reads h shown shown' c i held a stands header activity shows names = record {
   activity = activity;
-  parts = (waits_on h shown shown' c a held stands.parts.0 shows, names, stands.parts.2, (λ e. header), (λ e. absurd (omega arith)));
+  parts = record { behind = waits_on h shown shown' c a held stands.parts.behind shows; names = names; saved = stands.parts.saved; before = header };
 }
 
 pub wake_read_fails : WakeReadFails
 wake_read_fails h shown shown' c i held a stands activity shows names = record {
   activity = activity;
-  parts = (waits_on h shown shown' c a held stands.parts.0 shows, names, stands.parts.2);
+  parts = record { behind = waits_on h shown shown' c a held stands.parts.behind shows; names = names; saved = stands.parts.saved };
 }
 
-unmarking_waked : (h : Hardware) (shown : Shown) (c : disk.Content) (blocks : ℕ) (i : Image) (held : Held) (a : Running) → IsOnDisk h blocks c → Stands h shown c (waking i held a 1) → IsUnmarking h (unmarked_block shown.header) c blocks
-unmarking_waked h shown c blocks i held a over stands = unmarking h shown c blocks a held over stands.parts.0 (stands.parts.3 refl)
+unmarking_waked : (h : Hardware) (shown : WorldView) (c : disk.Content) (blocks : ℕ) (i : Image) (held : Held) (a : Running) → IsOnDisk h blocks c → Stands h shown c (waking i held a 1) → IsUnmarking h (unmarked_block shown.header) c blocks
+unmarking_waked h shown c blocks i held a over stands = unmarking h shown c blocks a held over stands.parts.behind stands.parts.before
 
 pub wake_keeps_area : WakeKeepsArea
 wake_keeps_area h shown c c' blocks i held a over stands tries = area_tried h (unmarked_block shown.header) c c' blocks (unmarking_waked h shown c blocks i held a over stands) tries
@@ -41,13 +41,12 @@ wake_writes h shown shown' c c' blocks i held a over after stands writes activit
     let un = unmarking_waked h shown c blocks i held a over stands in
     record {
       activity = activity;
-      parts = (
-        waits_tried h shown shown' page c c' blocks a held over.hardware un after (inl writes) stands.parts.0 shows,
-        names,
-        stands.parts.2,
-        (λ e. absurd (omega arith)),
-        (λ e. reads_unmarked h page c c' blocks un after writes),
-      );
+      parts = record {
+        behind = waits_tried h shown shown' page c c' blocks a held over.hardware un after (inl writes) stands.parts.behind shows;
+        names = names;
+        saved = stands.parts.saved;
+        before = reads_unmarked h page c c' blocks un after writes;
+      };
     }
 
 -- the image is still that of the memory that is kept, where it is only perhaps there
@@ -62,21 +61,21 @@ wake_write_fails h shown shown' c c' blocks i held a over after stands fails act
     let un = unmarking_waked h shown c blocks i held a over stands in
     record {
       activity = activity;
-      parts = (
-        waits_tried h shown shown' (unmarked_block shown.header) c c' blocks a held over.hardware un after (inr fails) stands.parts.0 shows,
-        names_perhaps h shown' held names,
-        saved_perhaps h i held a stands.parts.2,
-      );
+      parts = record {
+        behind = waits_tried h shown shown' (unmarked_block shown.header) c c' blocks a held over.hardware un after (inr fails) stands.parts.behind shows;
+        names = names_perhaps h shown' held names;
+        saved = saved_perhaps h i held a stands.parts.saved;
+      };
     }
 
 pub wake_syncs : WakeSyncs
 wake_syncs h shown shown' c c' blocks i held a whole stands syncs activity shows names = record {
   activity = activity;
-  parts = (shows, runs_synced h shown shown' c c' blocks a (perhaps held) whole syncs (stands.parts.4 refl) stands.parts.0 names);
+  parts = record { memory = shows; disk = runs_synced h shown shown' c c' blocks a (perhaps held) whole syncs stands.parts.before stands.parts.behind names };
 }
 
 pub wake_sync_fails : WakeSyncFails
 wake_sync_fails h shown shown' c i held a stands activity shows names = record {
   activity = activity;
-  parts = (waits_on h shown shown' c a (perhaps held) stands.parts.0 shows, names_perhaps h shown' held names, saved_perhaps h i held a stands.parts.2);
+  parts = record { behind = waits_on h shown shown' c a (perhaps held) stands.parts.behind shows; names = names_perhaps h shown' held names; saved = saved_perhaps h i held a stands.parts.saved };
 }

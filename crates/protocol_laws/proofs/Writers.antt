@@ -1,5 +1,6 @@
 -- A writer at work for a hibernation.
 use Rattle.std.proofs.Common.{◌≡◌, ◌≢◌, ℕ, ◌+◌, ◌/◌, ◌%◌, ◌<◌, inl, inr, zero-add, Bool, true, false, cond, eqb, List, [], ◌∷◌, length, get_or, map, take, drop, refl, sym, ap, ap₂, ◌∙◌, subst, arith, Contains}
+use Rattle.swap_slots.specs.declared.table.SlotTable.{SlotTable}
 use Rattle.std.proofs.lemmas.Bool.{cases_eq, eqb-true, cond-true, cond-false}
 use Rattle.std.proofs.lemmas.List.{get_or-take, get_or-drop, get_or-map, get_or_default, length-take, length-drop, length-map}
 use Rattle.std.proofs.Math.Nat.{min-le_left, min-le_right}
@@ -9,22 +10,20 @@ use Rattle.definitions.specs.Tables.{frame}
 use Rattle.definitions.specs.declared.info.Info.{Info}
 use Rattle.definitions.proofs.Ascending.{Contains-nil, Contains-head, Contains-tail}
 use Rattle.definitions.proofs.FreeSlots.{free_slot}
-use Rattle.image_laws.specs.Decoding.{IsSayable}
-use Rattle.image_write.specs.Writing.{Writing, stream_of_sets, page_next, write_next, slots_of_write, taken_after}
+use Rattle.image_write.specs.Writing.{Writing, stream_of_sets, slots_of_write, taken_after}
 use Rattle.image_write.proofs.Done.{write_at, block_of_write}
 use Rattle.image_write.proofs.Places.{page_write, page_is_one}
-use Rattle.plain_machine.specs.Machine.{Hardware, Memory, IsHardware, IsOfTable, IsSameMemory, unused_slots, raw_slot_entry, block_of_slot}
+use Rattle.plain_machine.specs.Machine.{Hardware, Memory, IsOfTable, IsSameMemory, unused_slots, raw_slot_entry, block_of_slot}
 use Rattle.plain_machine.specs.Image.{Image, stream_of, pages_of, maps_of}
 use Rattle.plain_machine.specs.Laid.{laid, laid_block, laid_write, is_map_write, page_of_write, page_place, map_place}
-use Rattle.plain_machine.specs.Shows.{Shown, ShowsHeld, seen_frames}
-use Rattle.plain_machine.specs.Stands.{IsAccepted, laid_writes, laid_blocks}
+use Rattle.plain_machine.specs.Shows.{ShowsHeld, seen_frames}
+use Rattle.plain_machine.specs.Stands.{laid_writes, laid_blocks}
 use Rattle.plain_machine.specs.State.{Running}
 use Rattle.plain_machine.specs.declared.held.Held.{Held}
 use Rattle.plain_machine.proofs.LaidChain.{map_has_write}
 use Rattle.swap_slots.specs.Table.{free_in}
-use Rattle.protocol_laws.specs.Slots.{IsMemoryOf, AreFree, taken, HasSets}
-use Rattle.protocol_laws.specs.Steps.{write_of_step, ShowsCopies}
-use Rattle.protocol_laws.specs.Writers.{IsWriterOf, TakesSlots, slot_table_of}
+use Rattle.protocol_laws.specs.Slots.{AreFree, taken}
+use Rattle.protocol_laws.specs.Writers.{IsWriterOf, ShowsStill, WritesNext}
 use Rattle.protocol_laws.proofs.Laid.{count_of, length-stream_of, write_is}
 use Rattle.protocol_laws.proofs.Sets.{stream_is}
 use Rattle.protocol_laws.proofs.Taking.{runs_taken, names_taken, frame_taken}
@@ -39,8 +38,7 @@ unfinished h a i k frames w is =
     let more = is.writing.unfinished in
     omega arith
 
-pub writes_next : (h : Hardware) (a : Running) (i : Image) (k : ℕ) (frames : Memory) (w : Writing) (origs copies zeros : List ℕ) → IsWriterOf h a i k frames w → IsSayable i → HasSets i frames origs copies zeros →
-    write_next (unused_slots h a.memory) w (page_next (stream_of_sets w.info frames origs copies zeros) w) ≡ write_of_step h a i k
+pub writes_next : WritesNext
 writes_next h a i k frames w origs copies zeros is say sets =
     let free = unused_slots h a.memory in
     let stream : stream_of_sets w.info frames origs copies zeros ≡ stream_of i = ap (λ (info : Info). stream_of_sets info frames origs copies zeros) is.info ∙ stream_is i frames origs copies zeros say sets in
@@ -86,7 +84,8 @@ free_now h a i k frames w s is in' =
     let at = slot_place h a w k s in' in
     let within = at.within in
     let made : taken_after w.written ≡ taken_after k = ap taken_after is.made in
-    let left : free_in frames (slot_table_of h) ≡ drop (taken_after k) free = ap (free_in frames) (sym is.table) ∙ is.writing.slots.left ∙ ap (λ (n : ℕ). drop n free) made in
+    let table : SlotTable = record { first = h.slot_table; slots = h.slots } in
+    let left : free_in frames table ≡ drop (taken_after k) free = ap (free_in frames) (sym is.table) ∙ is.writing.slots.left ∙ ap (λ (n : ℕ). drop n free) made in
     let rest = length-drop (taken_after k) free in
     let there : Contains (drop (taken_after k) free) s = subst (Contains (drop (taken_after k) free)) (get_or-drop (taken_after k) free at.index 0 ∙ at.at) (Contains-get_or (drop (taken_after k) free) at.index 0 (omega arith)) in
     free_slot h.slots h.slot_table frames s (subst (λ (xs : List ℕ). Contains xs s) (sym left) there)
@@ -149,8 +148,7 @@ copies_still h frames ss [] free apart = refl
 copies_still h frames ss (c ∷ cs) free apart =
     ap₂ (λ (p : List ℕ) (ps : List (List ℕ)). p ∷ ps) (frame_taken h frames ss c free (apart c (Contains-head c cs))) (copies_still h frames ss cs free (λ p in'. apart p (Contains-tail c cs p in')))
 
-pub shows_still : (h : Hardware) (a : Running) (i : Image) (k : ℕ) (w : Writing) (old new : Shown) → IsHardware h → IsAccepted h a i → IsWriterOf h a i k old.frames w → IsMemoryOf h old.frames →
-    ((p : ℕ) → Contains old.copies p → IsOfTable h.slot_table h.slots p → ⊥) → TakesSlots h a w k old new → ShowsCopies h old a i → ShowsCopies h new a i
+pub shows_still : ShowsStill
 shows_still h a i k w old new hw accepted is memory apart takes shows =
     let ss = slots_of_write w.info (unused_slots h a.memory) k in
     let free : AreFree h old.frames ss = λ s in'. free_now h a i k old.frames w s is in' in

@@ -1,52 +1,54 @@
 -- The writes of a hibernation's pages and maps.
-use Rattle.std.proofs.Common.{◌≡◌, ◌≢◌, ap, ℕ, ◌+◌, ◌-◌, ◌*◌, ◌<◌, ◌≤◌, inl, inr, Bool, List, [], length, sym, ◌∙◌, subst, arith}
+use Rattle.std.proofs.Common.{ap, ℕ, ◌+◌, ◌*◌, ◌<◌, ◌≤◌, inl, inr, Bool, List, length, sym, ◌∙◌, subst, arith}
 use Rattle.definitions.specs.Disk as disk
 use Rattle.definitions.proofs.DiskLaws.{length-as_it_reads}
 use Rattle.plain_machine.specs.Machine.{Hardware, block_of_slot, unused_slots}
 use Rattle.plain_machine.specs.Chain.{blocks_of}
-use Rattle.plain_machine.specs.Image.{Image, stream_of, hibernate_steps}
-use Rattle.plain_machine.specs.Shows.{Shown, hibernates, runs, ShowsRunning}
-use Rattle.plain_machine.specs.Stands.{Stands, IsHeld, NamesOnly}
-use Rattle.plain_machine.specs.State.{on, hibernating, Running}
+use Rattle.plain_machine.specs.Image.{Image, stream_of}
+use Rattle.plain_machine.specs.Shows.{WorldView}
+use Rattle.plain_machine.specs.Stands.{Stands, IsHeld}
+use Rattle.plain_machine.specs.State.{hibernating, Running}
 use Rattle.image_laws.specs.ImageBlocks.{Tries}
 use Rattle.image_write.proofs.Done.{write_at, one_more_done}
 use Rattle.plain_machine.proofs.BadSlots.{fits_area}
-use Rattle.protocol_laws.specs.Steps.{write_of_step, IsOverDisk, ShowsCopies}
+use Rattle.protocol_laws.specs.Steps.{IsOverDisk}
 use Rattle.protocol_laws.proofs.Same.{KeepsHeader, header_kept, area_kept, nothing_kept, by_other_write, reads_kept}
 use Rattle.protocol_laws.proofs.Places.{usable_area, free_not_header, free_not_used}
 use Rattle.protocol_laws.proofs.Laid.{count_of, count_is, are_slots, pages_are, write_is, slot_of_write, done_of_take, take_of_done}
-use Rattle.protocol_laws.proofs.Back.{held_before, unheld, ReadsSlots, slots_read, goes_back}
+use Rattle.protocol_laws.proofs.Back.{held_before, unheld, early_call, ReadsSlots, slots_read, goes_back}
+use Rattle.plain_machine.proofs.Calls.{synced_at}
+use Rattle.protocol_laws.specs.Hibernating.{WriteFails, WritesElsewhere, WritesOn}
 
 -- what the write of step k + 1 is
 abbrev step_write : Hardware → Running → Image → ℕ → ℕ × List ℕ
 step_write h a i k = write_at h.extents (unused_slots h a.memory) (stream_of i) k
 
 -- the state before it
-pub record IsWriting (h : Hardware) (shown : Shown) (c : disk.Content) (blocks : ℕ) (suspends : Bool) (i : Image) (a : Running) (k : ℕ) : Type 0 where
+pub record IsWriting (h : Hardware) (shown : WorldView) (c : disk.Content) (blocks : ℕ) (suspends : Bool) (i : Image) (a : Running) (k : ℕ) : Type 0 where
   pub over : IsOverDisk h i blocks c
   pub stands : Stands h shown c (hibernating suspends i a k)
   pub more : k < count_of i
 
-tries_header : (h : Hardware) (shown : Shown) (c c' : disk.Content) (blocks : ℕ) (suspends : Bool) (i : Image) (a : Running) (k : ℕ) (page : List ℕ) → IsWriting h shown c blocks suspends i a k → Tries (step_write h a i k).0 page c c' → KeepsHeader h c c'
+tries_header : (h : Hardware) (shown : WorldView) (c c' : disk.Content) (blocks : ℕ) (suspends : Bool) (i : Image) (a : Running) (k : ℕ) (page : List ℕ) → IsWriting h shown c blocks suspends i a k → Tries (step_write h a i k).0 page c c' → KeepsHeader h c c'
 tries_header h shown c c' blocks suspends i a k page is tries =
-    let at = slot_of_write h a i k is.stands.parts.1 is.more in
-    let fits = is.stands.parts.0.shows.fits in
+    let at = slot_of_write h a i k is.stands.parts.accepted is.more in
+    let fits = is.stands.parts.behind.memory.fits in
     by_other_write h blocks (step_write h a i k).0 page c c' is.over.content tries
     (λ e. free_not_header h a.memory at.slot is.over.hardware fits at.free (e ∙ at.is))
 
-tries_slots : (h : Hardware) (shown : Shown) (c c' : disk.Content) (blocks : ℕ) (suspends : Bool) (i : Image) (a : Running) (k : ℕ) (page : List ℕ) → IsWriting h shown c blocks suspends i a k → Tries (step_write h a i k).0 page c c' → ReadsSlots h c c' a.slots
+tries_slots : (h : Hardware) (shown : WorldView) (c c' : disk.Content) (blocks : ℕ) (suspends : Bool) (i : Image) (a : Running) (k : ℕ) (page : List ℕ) → IsWriting h shown c blocks suspends i a k → Tries (step_write h a i k).0 page c c' → ReadsSlots h c c' a.slots
 tries_slots h shown c c' blocks suspends i a k page is tries s old e =
-    let at = slot_of_write h a i k is.stands.parts.1 is.more in
-    let task = is.stands.parts.0.task_slots.tasks s old e in
+    let at = slot_of_write h a i k is.stands.parts.accepted is.more in
+    let task = is.stands.parts.behind.task_slots.tasks s old e in
     reads_kept (step_write h a i k).0 (block_of_slot h s) page c c' tries
     (λ same. free_not_used h a.memory at.slot s is.over.hardware at.free task.0 task.1 (same ∙ at.is))
 
 -- the disk has the block
-has_block : (h : Hardware) (shown : Shown) (c : disk.Content) (blocks : ℕ) (suspends : Bool) (i : Image) (a : Running) (k : ℕ) → IsWriting h shown c blocks suspends i a k → 8 * (step_write h a i k).0 + 8 ≤ length c
+has_block : (h : Hardware) (shown : WorldView) (c : disk.Content) (blocks : ℕ) (suspends : Bool) (i : Image) (a : Running) (k : ℕ) → IsWriting h shown c blocks suspends i a k → 8 * (step_write h a i k).0 + 8 ≤ length c
 has_block h shown c blocks suspends i a k is =
     let v = disk.as_it_reads c in
-    let at = slot_of_write h a i k is.stands.parts.1 is.more in
-    let usable = usable_area h v (fits_area h c a is.stands.parts.0.area is.stands.parts.1.usable).area in
+    let at = slot_of_write h a i k is.stands.parts.accepted is.more in
+    let usable = usable_area h v (fits_area h c a is.stands.parts.behind.area is.stands.parts.accepted.usable).area in
     let below : block_of_slot h at.slot < blocks_of v = usable.on_disk at.slot at.free.within in
     let here = at.is in
     let size = is.over.content.size in
@@ -54,8 +56,7 @@ has_block h shown c blocks suspends i a k is =
     omega arith
 
 -- A write that is made is a step of the hibernation.
-pub writes_on : (h : Hardware) (shown shown' : Shown) (c c' : disk.Content) (blocks : ℕ) (suspends : Bool) (i : Image) (a : Running) (k : ℕ) → IsOverDisk h i blocks c → Stands h shown c (hibernating suspends i a k) → k + 4 < hibernate_steps i →
-    disk.Writes (write_of_step h a i k).0 (write_of_step h a i k).1 c c' → shown'.activity ≡ hibernates suspends (k + 1) → ShowsCopies h shown' a i → Stands h shown' c' (hibernating suspends i a (k + 1))
+pub writes_on : WritesOn
 writes_on h shown shown' c c' blocks suspends i a k over stands lt wrote activity shows =
     let steps = count_is i in
     let more : k < count_of i = omega arith in
@@ -63,42 +64,37 @@ writes_on h shown shown' c c' blocks suspends i a k over stands lt wrote activit
     let made : disk.Writes (step_write h a i k).0 (step_write h a i k).1 c c' = subst (λ (w : ℕ × List ℕ). disk.Writes w.0 w.1 c c') (write_is h a i k more) wrote in
     let keeps = tries_header h shown c c' blocks suspends i a k (step_write h a i k).1 is (inl made) in
     let reads = tries_slots h shown c c' blocks suspends i a k (step_write h a i k).1 is (inl made) in
-    let behind = stands.parts.0 in
-    let accepted = stands.parts.1 in
-    let written = stands.parts.3 in
-    let before : k < hibernate_steps i - 1 = omega arith in
-    let after : k + 1 < hibernate_steps i - 1 = omega arith in
+    let behind = stands.parts.behind in
+    let accepted = stands.parts.accepted in
+    let written = stands.parts.written in
     record {
       activity = activity;
-      parts = (
-        record {
-          held = subst (IsHeld h c') (sym (held_before suspends i a (k + 1) after)) (nothing_kept h c c' keeps (unheld h shown c suspends i a k before stands));
-          shows = shows.shows;
+      parts = record {
+        behind = record {
+          memory = shows.shows;
+          held = subst (IsHeld h c') (sym (held_before suspends i a (k + 1) (omega arith))) (nothing_kept h c c' keeps (unheld h shown c suspends i a k (omega arith) stands));
           task_slots = behind.task_slots;
           flights = behind.flights;
           slot_pages = slots_read h c c' a.slots reads behind.slot_pages;
           header = header_kept h c c' keeps behind.header;
           area = area_kept h c c' a keeps behind.area;
-        },
-        accepted,
-        shows.names,
-        record {
+        };
+        accepted = accepted;
+        names = shows.names;
+        written = record {
           laid = take_of_done h a i (disk.as_it_reads c') (k + 1) (omega arith)
               (one_more_done h.extents (unused_slots h a.memory) (stream_of i) k c c' (are_slots h a i over.hardware accepted) more
-              (pages_are h a i over.hardware behind.shows.fits accepted over.info) (has_block h shown c blocks suspends i a k is) made
+              (pages_are h a i over.hardware behind.memory.fits accepted over.info) (has_block h shown c blocks suspends i a k is) made
               (done_of_take h a i (disk.as_it_reads c) k (omega arith) written.laid));
           copies = shows.copies;
-          durable = λ le. absurd (omega arith);
-        },
-        (λ e. absurd (omega arith)),
-        (λ e. absurd (omega arith)),
-        (λ e. absurd (omega arith)),
-      );
+          durable = λ synced. absurd (let few = synced_at i (k + 1) synced in omega arith);
+        };
+        before = early_call h shown' c' i a (k + 1) (omega arith);
+      };
     }
 
 -- One that fails lets the machine run again.
-pub write_fails : (h : Hardware) (shown shown' : Shown) (c c' : disk.Content) (blocks : ℕ) (suspends : Bool) (i : Image) (a : Running) (k : ℕ) → IsOverDisk h i blocks c → Stands h shown c (hibernating suspends i a k) → k + 4 < hibernate_steps i →
-    disk.FailsToWrite (write_of_step h a i k).0 (write_of_step h a i k).1 c c' → shown'.activity ≡ runs → ShowsRunning h shown' a → NamesOnly h shown' [] → Stands h shown' c' (on a)
+pub write_fails : WriteFails
 write_fails h shown shown' c c' blocks suspends i a k over stands lt failed activity shows names =
     let steps = count_is i in
     let more : k < count_of i = omega arith in
@@ -108,9 +104,9 @@ write_fails h shown shown' c c' blocks suspends i a k over stands lt failed acti
     (tries_slots h shown c c' blocks suspends i a k (step_write h a i k).1 is (inr tried)) activity shows names
 
 -- It is of another block than the header's.
-pub elsewhere : (h : Hardware) (shown : Shown) (c : disk.Content) (blocks : ℕ) (suspends : Bool) (i : Image) (a : Running) (k : ℕ) → IsOverDisk h i blocks c → Stands h shown c (hibernating suspends i a k) → k + 4 < hibernate_steps i → (write_of_step h a i k).0 ≢ block_of_slot h 0
+pub elsewhere : WritesElsewhere
 elsewhere h shown c blocks suspends i a k over stands lt e =
     let steps = count_is i in
     let more : k < count_of i = omega arith in
-    let at = slot_of_write h a i k stands.parts.1 more in
-    free_not_header h a.memory at.slot over.hardware stands.parts.0.shows.fits at.free (sym e ∙ ap (λ (w : ℕ × List ℕ). w.0) (write_is h a i k more) ∙ at.is)
+    let at = slot_of_write h a i k stands.parts.accepted more in
+    free_not_header h a.memory at.slot over.hardware stands.parts.behind.memory.fits at.free (sym e ∙ ap (λ (w : ℕ × List ℕ). w.0) (write_is h a i k more) ∙ at.is)

@@ -1,12 +1,13 @@
 -- What an event makes of something that stands for a state of the plain machine over a disk: for each state that it stood for there is
 -- one that the plain machine goes on to.
-use Rattle.std.specs.Prelude.{◌≡◌, ◌⊎◌, ◌≤◌, ◌<◌, ◌+◌, ◌*◌, ◌==◌, ℕ, zero, Bool, false, List, [], ◌∷◌, length, All, flat_map, Contains, slice_index_or, Option, Some, None, ⊤, if◌then◌else◌, nat_lt}
+use Rattle.std.specs.Prelude.{◌≡◌, ◌⊎◌, ◌≤◌, ◌<◌, ◌+◌, ◌*◌, ◌==◌, ℕ, zero, Bool, true, false, List, [], ◌∷◌, length, All, flat_map, Contains, slice_index_or, Option, Some, None, ⊤, if◌then◌else◌}
 use Rattle.std.specs.List.{range_with_len}
 use Rattle.definitions.specs.Disk as disk
 use Rattle.definitions.specs.SwapHeader.{taken_back}
 use Rattle.plain_machine.specs.Machine.{Hardware, block_of_slot}
 use Rattle.plain_machine.specs.Chain.{Marked, header_of, blocks_of}
-use Rattle.plain_machine.specs.Image.{Image, hibernate_steps}
+use Rattle.plain_machine.specs.Image.{Image}
+use Rattle.plain_machine.specs.Calls.{HibernationCall, writes_page, writes_mark, hibernation_call, BackCall, takes_back, back_call, undo_call, LoadCall, of_mark, load_call}
 use Rattle.plain_machine.specs.Mark.{HasMark}
 use Rattle.plain_machine.specs.Stands.{EachImage, AgreeOnArea, Reads, laid_writes, first_map_block}
 use Rattle.plain_machine.specs.State.{State, off, on, booting, hibernating, undoing, settling, waking, loading, asleep, Running, Flight, goes_out, comes_in}
@@ -35,25 +36,35 @@ out_block h None = []
 out_block h (Some (goes_out s p)) = block_of_slot h s ∷ []
 out_block h (Some (comes_in s p)) = []
 
--- The block that step k of a hibernation writes, from 0: its pages and maps come first, a sync and a read behind them, then the mark,
--- which a last sync follows.
-abbrev pub block_of_step : Hardware → Running → Image → ℕ → List ℕ
-block_of_step h a i k =
-    if nat_lt (k + 4) (hibernate_steps i) then (write_of_step h a i k).0 ∷ []
-    else if k + 2 == hibernate_steps i then block_of_slot h 0 ∷ [] else []
+-- The block that a call of a hibernation writes, k steps before it: each page and map its own, and the mark block(0).
+abbrev pub block_of_call : Hardware → Running → Image → ℕ → Option HibernationCall → List ℕ
+block_of_call h a i k (Some writes_page) = (write_of_step h a i k).0 ∷ []
+block_of_call h a i k (Some writes_mark) = block_of_slot h 0 ∷ []
+block_of_call h a i k call = []
 
--- The blocks that may be written, by the state before an event: those of unfinished outs while the machine runs, that of the step in a
--- hibernation, block(0) alone where a mark is taken back: at the first step of an undo, the second of a settling or a waking, the third of
--- a resume.
+abbrev pub block_of_step : Hardware → Running → Image → ℕ → List ℕ
+block_of_step h a i k = block_of_call h a i k (hibernation_call i k)
+
+-- where a mark is taken back: block(0)
+abbrev pub block_taken_back : Hardware → Option BackCall → List ℕ
+block_taken_back h (Some takes_back) = block_of_slot h 0 ∷ []
+block_taken_back h call = []
+
+abbrev pub block_of_load : Hardware → LoadCall → List ℕ
+block_of_load h (of_mark call) = block_taken_back h (Some call)
+block_of_load h call = []
+
+-- The blocks that may be written, by the state before an event: those of unfinished outs while the machine runs, and else that of the
+-- call that comes next.
 abbrev pub blocks_written : Hardware → State → List ℕ
 blocks_written h (off held kept) = []
 blocks_written h (on a) = flat_map (λ t. out_block h (a.flights t)) (range_with_len 1 64)
 blocks_written h (booting from dump held k) = []
 blocks_written h (hibernating suspends i a k) = block_of_step h a i k
-blocks_written h (undoing i call a k) = if k == 0 then block_of_slot h 0 ∷ [] else []
-blocks_written h (settling a k) = if k == 1 then block_of_slot h 0 ∷ [] else []
-blocks_written h (waking i held a k) = if k == 1 then block_of_slot h 0 ∷ [] else []
-blocks_written h (loading load k) = if k == 2 then block_of_slot h 0 ∷ [] else []
+blocks_written h (undoing i call a k) = block_taken_back h (undo_call k)
+blocks_written h (settling a k) = block_taken_back h (back_call k)
+blocks_written h (waking i held a k) = block_taken_back h (back_call k)
+blocks_written h (loading load k) = block_of_load h (load_call k)
 blocks_written h (asleep i held a) = []
 
 -- whether the event is a step of task t
@@ -99,7 +110,7 @@ LeavesHeader h _ c c' = ⊤
 
 -- The reply is one that the plain machine may give, and what is there afterwards stands for the state that it goes on to. The
 -- area on the disk stays, no other block than those is written, and block(0) is left so.
-pub record Leads (h : Hardware) (new : StandsBy) (e : Event) (r : Reply) (c c' : disk.Content) (a b : State) : Type 0 where
+pub record StepsTo (h : Hardware) (new : StandsBy) (e : Event) (r : Reply) (c c' : disk.Content) (a b : State) : Type 0 where
   pub step : Step h (disk.as_it_reads c) a e r b
   pub stands : new c' b
   pub area : IsSameArea h (disk.as_it_reads c) (disk.as_it_reads c')
@@ -108,12 +119,17 @@ pub record Leads (h : Hardware) (new : StandsBy) (e : Event) (r : Reply) (c c' :
   pub header : LeavesHeader h a c c'
 
 -- the row of an event over these contents of the disk, for each state that was stood for
-abbrev pub IsRow : Hardware → StandsBy → StandsBy → Event → Reply → disk.Content → disk.Content → Type 0
-IsRow h old new e r c c' = (a : State) → old c a → (b : State) × Leads h new e r c c' a b
+abbrev pub Simulates : Hardware → StandsBy → StandsBy → Event → Reply → disk.Content → disk.Content → Type 0
+Simulates h old new e r c c' = (a : State) → old c a → (b : State) × StepsTo h new e r c c' a b
 
 -- the row over a disk that tells its content
-abbrev pub HasRow : Hardware → StandsBy → StandsBy → Event → Reply → Option disk.Content → Option disk.Content → Type 0
-HasRow h old new e r before now = (c : disk.Content) → before ≡ Some c → (c' : disk.Content) × (now ≡ Some c') × IsRow h old new e r c c'
+abbrev pub SimulatesWhereTold : Hardware → StandsBy → StandsBy → Event → Reply → Option disk.Content → Option disk.Content → Type 0
+SimulatesWhereTold h old new e r before now = (c : disk.Content) → before ≡ Some c → (c' : disk.Content) × (now ≡ Some c') × Simulates h old new e r c c'
+
+-- whether a reply says that there was nothing to do
+abbrev pub is_idle : Reply → Bool
+is_idle reply.Idle = true
+is_idle _ = false
 
 -- A reply that tells of a call of the disk that failed at this event. An undo's end tells of the one that the undo began with.
 abbrev pub IsNewFault : Reply → Type 0

@@ -7,7 +7,7 @@ use Rattle.definitions.specs.SwapHeader.{sig_of, image_signature, taken_back}
 use Rattle.image_laws.specs.ImageBlocks.{Tries}
 use Rattle.plain_machine.specs.Machine.{Hardware, IsHardware, block_of_slot}
 use Rattle.plain_machine.specs.Chain.{header_of}
-use Rattle.plain_machine.specs.Shows.{Shown, runs, settles, ShowsRunning}
+use Rattle.plain_machine.specs.Shows.{WorldView, runs, settles, ShowsRunning}
 use Rattle.plain_machine.specs.Stands.{Stands, NamesOnly, NamesHeld}
 use Rattle.plain_machine.specs.State.{on, settling, Running, nothing, perhaps}
 use Rattle.protocol_laws.specs.Rows.{IsSameArea}
@@ -26,45 +26,45 @@ pub record IsOnDisk (h : Hardware) (blocks : ℕ) (c : Content) : Type 0 where
 -- It begins,
 abbrev pub SettleBegins : Type 0
 SettleBegins =
-    (h : Hardware) (shown shown' : Shown) (c : Content) (a : Running) → Stands h shown c (on a) →
+    (h : Hardware) (shown shown' : WorldView) (c : Content) (a : Running) → Stands h shown c (on a) →
     shown'.activity ≡ settles 0 → ShowsRunning h shown' a → NamesHeld h shown' a.held → Stands h shown' c (settling a 0)
 
 -- and reads the header block, which is kept. Where that fails the machine runs as it ran.
 abbrev pub SettleReads : Type 0
 SettleReads =
-    (h : Hardware) (shown shown' : Shown) (c : Content) (a : Running) → Stands h shown c (settling a 0) →
+    (h : Hardware) (shown shown' : WorldView) (c : Content) (a : Running) → Stands h shown c (settling a 0) →
     shown'.header ≡ header_of h (as_it_reads c) → shown'.activity ≡ settles 1 → ShowsRunning h shown' a → NamesHeld h shown' a.held → Stands h shown' c (settling a 1)
 
 abbrev pub SettleReadFails : Type 0
 SettleReadFails =
-    (h : Hardware) (shown shown' : Shown) (c : Content) (a : Running) → Stands h shown c (settling a 0) →
+    (h : Hardware) (shown shown' : WorldView) (c : Content) (a : Running) → Stands h shown c (settling a 0) →
     shown'.activity ≡ runs → ShowsRunning h shown' a → NamesHeld h shown' a.held → Stands h shown' c (on a)
 
 -- The write: from then on the disk reads as unmarked, but a cut may still find the image. Where it fails the machine runs, and the
 -- image is there or not.
 abbrev pub SettleWrites : Type 0
 SettleWrites =
-    (h : Hardware) (shown shown' : Shown) (c c' : Content) (blocks : ℕ) (a : Running) → IsOnDisk h blocks c → IsContent blocks c' → Stands h shown c (settling a 1) →
+    (h : Hardware) (shown shown' : WorldView) (c c' : Content) (blocks : ℕ) (a : Running) → IsOnDisk h blocks c → IsContent blocks c' → Stands h shown c (settling a 1) →
     Writes (block_of_slot h 0) (unmarked_block shown.header) c c' → shown'.activity ≡ settles 2 → ShowsRunning h shown' a → NamesHeld h shown' a.held → Stands h shown' c' (settling a 2)
 
 abbrev pub SettleWriteFails : Type 0
 SettleWriteFails =
-    (h : Hardware) (shown shown' : Shown) (c c' : Content) (blocks : ℕ) (a : Running) → IsOnDisk h blocks c → IsContent blocks c' → Stands h shown c (settling a 1) →
+    (h : Hardware) (shown shown' : WorldView) (c c' : Content) (blocks : ℕ) (a : Running) → IsOnDisk h blocks c → IsContent blocks c' → Stands h shown c (settling a 1) →
     FailsToWrite (block_of_slot h 0) (unmarked_block shown.header) c c' → shown'.activity ≡ runs → ShowsRunning h shown' (with_held a (perhaps a.held)) → NamesHeld h shown' a.held → Stands h shown' c' (on (with_held a (perhaps a.held)))
 
 -- It leaves the area, failed or not.
 abbrev pub SettleKeepsArea : Type 0
 SettleKeepsArea =
-    (h : Hardware) (shown : Shown) (c c' : Content) (blocks : ℕ) (a : Running) → IsOnDisk h blocks c → Stands h shown c (settling a 1) →
+    (h : Hardware) (shown : WorldView) (c c' : Content) (blocks : ℕ) (a : Running) → IsOnDisk h blocks c → Stands h shown c (settling a 1) →
     Tries (block_of_slot h 0) (unmarked_block shown.header) c c' → IsSameArea h (as_it_reads c) (as_it_reads c')
 
 -- The sync: no image is there any more. Where it fails the image is there or not.
 abbrev pub SettleSyncs : Type 0
 SettleSyncs =
-    (h : Hardware) (shown shown' : Shown) (c c' : Content) (blocks : ℕ) (a : Running) → IsContent blocks c → Stands h shown c (settling a 2) → Syncs c c' →
+    (h : Hardware) (shown shown' : WorldView) (c c' : Content) (blocks : ℕ) (a : Running) → IsContent blocks c → Stands h shown c (settling a 2) → Syncs c c' →
     shown'.activity ≡ runs → ShowsRunning h shown' (with_held a nothing) → NamesOnly h shown' [] → Stands h shown' c' (on (with_held a nothing))
 
 abbrev pub SettleSyncFails : Type 0
 SettleSyncFails =
-    (h : Hardware) (shown shown' : Shown) (c : Content) (a : Running) → Stands h shown c (settling a 2) →
+    (h : Hardware) (shown shown' : WorldView) (c : Content) (a : Running) → Stands h shown c (settling a 2) →
     shown'.activity ≡ runs → ShowsRunning h shown' (with_held a (perhaps a.held)) → NamesHeld h shown' a.held → Stands h shown' c (on (with_held a (perhaps a.held)))

@@ -7,7 +7,7 @@ use Rattle.definitions.specs.Tables.{frame}
 use Rattle.plain_machine.specs.Machine.{Hardware, IsHardware}
 use Rattle.plain_machine.specs.Image.{Image, info_of_image}
 use Rattle.plain_machine.specs.Mark.{mark_flags}
-use Rattle.plain_machine.specs.Shows.{Shown, ShowsRunning}
+use Rattle.plain_machine.specs.Shows.{WorldView, ShowsRunning}
 use Rattle.plain_machine.specs.Stands.{NamesOnly, laid_writes, laid_blocks, first_map_block}
 use Rattle.plain_machine.specs.State.{Running}
 
@@ -27,7 +27,7 @@ pub record IsOverDisk (h : Hardware) (i : Image) (blocks : ℕ) (c : Content) : 
   pub few : blocks < 2 ^ 32
 
 -- A world behind whose hibernation this running state waits shows it, its copies, and no slot of another image.
-pub record ShowsCopies (h : Hardware) (shown : Shown) (a : Running) (i : Image) : Type 0 where
+pub record ShowsCopies (h : Hardware) (shown : WorldView) (a : Running) (i : Image) : Type 0 where
   pub shows : ShowsRunning h shown a
   pub names : NamesOnly h shown (laid_blocks h a i)
   pub copies : map (frame shown.frames) shown.copies ≡ map (λ saved. saved.1) i.frames

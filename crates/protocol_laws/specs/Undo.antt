@@ -6,7 +6,7 @@ use Rattle.definitions.specs.Disk.{Content, IsContent, Writes, FailsToWrite, Syn
 use Rattle.definitions.specs.SwapHeader.{taken_back}
 use Rattle.plain_machine.specs.Machine.{Hardware, block_of_slot}
 use Rattle.plain_machine.specs.Image.{Image}
-use Rattle.plain_machine.specs.Shows.{Shown, runs, undoes, ShowsRunning}
+use Rattle.plain_machine.specs.Shows.{WorldView, runs, undoes, ShowsRunning}
 use Rattle.plain_machine.specs.Stands.{Stands, NamesOnly, laid_blocks}
 use Rattle.plain_machine.specs.State.{on, undoing, Running, Held, nothing, maybe, own}
 use Rattle.plain_machine.specs.declared.reply.UndoCall.{UndoCall}
@@ -20,21 +20,21 @@ with_held a held = record a { held = held }
 -- the image is there or not; its slots stay its own.
 abbrev pub UndoWrites : Type 0
 UndoWrites =
-    (h : Hardware) (shown shown' : Shown) (c c' : Content) (blocks : ℕ) (i : Image) (call : UndoCall) (a : Running) → IsOverDisk h i blocks c → IsPage shown.header → IsContent blocks c' → Stands h shown c (undoing i call a 0) →
+    (h : Hardware) (shown shown' : WorldView) (c c' : Content) (blocks : ℕ) (i : Image) (call : UndoCall) (a : Running) → IsOverDisk h i blocks c → IsPage shown.header → IsContent blocks c' → Stands h shown c (undoing i call a 0) →
     Writes (block_of_slot h 0) (taken_back shown.header) c c' → shown'.activity ≡ undoes call 1 → ShowsRunning h shown' a → NamesOnly h shown' (laid_blocks h a i) → Stands h shown' c' (undoing i call a 1)
 
 abbrev pub UndoWriteFails : Type 0
 UndoWriteFails =
-    (h : Hardware) (shown shown' : Shown) (c c' : Content) (blocks : ℕ) (i : Image) (call : UndoCall) (a : Running) → IsOverDisk h i blocks c → IsPage shown.header → IsContent blocks c' → Stands h shown c (undoing i call a 0) →
+    (h : Hardware) (shown shown' : WorldView) (c c' : Content) (blocks : ℕ) (i : Image) (call : UndoCall) (a : Running) → IsOverDisk h i blocks c → IsPage shown.header → IsContent blocks c' → Stands h shown c (undoing i call a 0) →
     FailsToWrite (block_of_slot h 0) (taken_back shown.header) c c' → shown'.activity ≡ runs → ShowsRunning h shown' (with_held a (maybe (own i))) → NamesOnly h shown' (laid_blocks h a i) → Stands h shown' c' (on (with_held a (maybe (own i))))
 
 -- The sync: no image is there any more. Where it fails the image is there or not.
 abbrev pub UndoSyncs : Type 0
 UndoSyncs =
-    (h : Hardware) (shown shown' : Shown) (c c' : Content) (blocks : ℕ) (i : Image) (call : UndoCall) (a : Running) → IsOverDisk h i blocks c → Stands h shown c (undoing i call a 1) → Syncs c c' →
+    (h : Hardware) (shown shown' : WorldView) (c c' : Content) (blocks : ℕ) (i : Image) (call : UndoCall) (a : Running) → IsOverDisk h i blocks c → Stands h shown c (undoing i call a 1) → Syncs c c' →
     shown'.activity ≡ runs → ShowsRunning h shown' (with_held a nothing) → NamesOnly h shown' [] → Stands h shown' c' (on (with_held a nothing))
 
 abbrev pub UndoSyncFails : Type 0
 UndoSyncFails =
-    (h : Hardware) (shown shown' : Shown) (c : Content) (blocks : ℕ) (i : Image) (call : UndoCall) (a : Running) → IsOverDisk h i blocks c → Stands h shown c (undoing i call a 1) →
+    (h : Hardware) (shown shown' : WorldView) (c : Content) (blocks : ℕ) (i : Image) (call : UndoCall) (a : Running) → IsOverDisk h i blocks c → Stands h shown c (undoing i call a 1) →
     shown'.activity ≡ runs → ShowsRunning h shown' (with_held a (maybe (own i))) → NamesOnly h shown' (laid_blocks h a i) → Stands h shown' c (on (with_held a (maybe (own i))))

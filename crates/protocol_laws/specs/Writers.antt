@@ -1,25 +1,21 @@
 -- A writer at work for a hibernation: what it writes next is the next write of the hibernation, and what the world shows stays.
 use Rattle.std.specs.Prelude.{◌≡◌, ℕ, List, Contains}
 use Rattle.definitions.specs.Tables.{with_entries}
-use Rattle.swap_slots.specs.declared.table.SlotTable.{SlotTable}
 use Rattle.image_laws.specs.Decoding.{IsSayable}
 use Rattle.image_write.specs.Writing.{Writing, IsWriting, stream_of_sets, page_next, write_next, slots_of_write}
 use Rattle.plain_machine.specs.Machine.{Hardware, Memory, IsHardware, IsOfTable, unused_slots, image_slot}
 use Rattle.plain_machine.specs.Image.{Image, info_of_image}
-use Rattle.plain_machine.specs.Shows.{Shown}
+use Rattle.plain_machine.specs.Shows.{WorldView}
 use Rattle.plain_machine.specs.Stands.{IsAccepted}
 use Rattle.plain_machine.specs.State.{Running}
 use Rattle.protocol_laws.specs.Steps.{write_of_step, ShowsCopies}
 use Rattle.protocol_laws.specs.Slots.{IsMemoryOf, HasSets}
 
-abbrev pub slot_table_of : Hardware → SlotTable
-slot_table_of h = record { first = h.slot_table; slots = h.slots }
-
 -- The writer of the image of a hibernation that has made k writes.
 pub record IsWriterOf (h : Hardware) (a : Running) (i : Image) (k : ℕ) (frames : Memory) (w : Writing) : Type 0 where
   pub info : w.info ≡ info_of_image i
   pub extents : w.extents ≡ h.extents
-  pub table : w.table ≡ slot_table_of h
+  pub table : w.table ≡ record { first = h.slot_table; slots = h.slots }
   pub made : w.written ≡ k
   pub writing : IsWriting (unused_slots h a.memory) frames w
 
@@ -30,7 +26,7 @@ WritesNext =
     write_next (unused_slots h a.memory) w (page_next (stream_of_sets w.info frames origs copies zeros) w) ≡ write_of_step h a i k
 
 -- the world that shows this, with the slots of write k taken
-pub record TakesSlots (h : Hardware) (a : Running) (w : Writing) (k : ℕ) (old new : Shown) : Type 0 where
+pub record TakesSlots (h : Hardware) (a : Running) (w : Writing) (k : ℕ) (old new : WorldView) : Type 0 where
   pub held : new.held ≡ old.held
   pub unusable : new.unusable ≡ old.unusable
   pub flights : (t : ℕ) → new.flights t ≡ old.flights t
@@ -40,5 +36,5 @@ pub record TakesSlots (h : Hardware) (a : Running) (w : Writing) (k : ℕ) (old 
 -- it still shows the running state, its copies, and no slot of another image
 abbrev pub ShowsStill : Type 0
 ShowsStill =
-    (h : Hardware) (a : Running) (i : Image) (k : ℕ) (w : Writing) (old new : Shown) → IsHardware h → IsAccepted h a i → IsWriterOf h a i k old.frames w → IsMemoryOf h old.frames →
+    (h : Hardware) (a : Running) (i : Image) (k : ℕ) (w : Writing) (old new : WorldView) → IsHardware h → IsAccepted h a i → IsWriterOf h a i k old.frames w → IsMemoryOf h old.frames →
     ((p : ℕ) → Contains old.copies p → IsOfTable h.slot_table h.slots p → ⊥) → TakesSlots h a w k old new → ShowsCopies h old a i → ShowsCopies h new a i

@@ -1,11 +1,13 @@
 -- The data pages of a stream.
-use Rattle.std.proofs.Common.{◌≡◌, ap₂, ℕ, ◌+◌, ◌-◌, ◌*◌, ◌%◌, ◌<◌, ◌≤◌, zero, suc, Bool, true, false, cond, ltb, List, length, get_or, Option, Some, None, slice_get, refl, sym, ap, ◌∙◌, subst, inl, inr, arith}
+use Rattle.std.proofs.Common.{◌≡◌, ap₂, ℕ, ◌+◌, ◌-◌, ◌*◌, ◌%◌, ◌<◌, ◌≤◌, zero, suc, Bool, true, false, cond, ltb, List, [], ◌∷◌, length, map, filter, Contains, get_or, Option, Some, None, slice_get, refl, sym, ap, ◌∙◌, subst, inl, inr, arith}
 use Rattle.std.proofs.lemmas.Bool.{cases_eq, cases_lt, cond-true, lt-ltb, ltb-true}
 use Rattle.std.proofs.lemmas.Option.{same_Some, none-some, slice_get_within, slice_get-get_or}
+use Rattle.std.specs.List.{range_with_len}
 use Rattle.std.specs.List.Sorted.{IsStrictlyIncreasing}
+use Rattle.definitions.proofs.Ascending.{Contains-tail}
 use Rattle.definitions.specs.Disk as disk
 use Rattle.plain_machine.specs.Machine.{Hardware}
-use Rattle.plain_machine.specs.Trace.{Place, info_in, meta_in, stream_page, place_count, data_frames}
+use Rattle.plain_machine.specs.Trace.{Place, info_in, format_in, meta_in, number_in, number_word, is_marked_by, stream_page, place_count, data_frames}
 use Rattle.image_read.specs.Stream.{frames_in, marked_in, pages_read, numbers_read, frame_at, place_block, told}
 use Rattle.image_read.specs.Taking as taking
 use Rattle.image_read.proofs.Places.{at_map, at_page, read_at_map, read_at_page}
@@ -104,6 +106,19 @@ all_numbers h v k n some =
     let past = all.1 in
     let saved = saved_is h v k all.0 in
     omega arith
+
+-- a page frame without data is listed
+kept_of : (f : ℕ → ℕ) (test : ℕ → Bool) (js : List ℕ) (p : ℕ) → Contains (map f (filter test js)) p → Contains (map f js) p
+kept_of f test [] p = λ in'. in'
+kept_of f test (j ∷ js) p = by (test j) (kept_of f test js p) where
+  by : (b : Bool) → (Contains (map f (filter test js)) p → Contains (map f js) p) → Contains (map f (cond b (j ∷ filter test js) (filter test js))) p → Contains (f j ∷ map f js) p
+  by true rest (zero, lt, e) = (0, omega arith, e)
+  by true rest (suc k, lt, e) = Contains-tail (f j) (map f js) p (rest (k, omega arith, e))
+  by false rest in' = Contains-tail (f j) (map f js) p (rest in')
+
+pub marks_listed : (h : Hardware) (v : disk.DiskImage) (m p : ℕ) → Contains (marked_in h v m) p → Contains (frames_in h v m) p
+unfolding marked_in frames_in
+marks_listed h v m p in' = kept_of (number_in h v) (λ j. is_marked_by (format_in h v) (number_word h v j)) (range_with_len 0 m) p in'
 
 pub listed_sets : ListedSets
 listed_sets h v check r t n origs zeros reading listed =

@@ -1,5 +1,5 @@
 -- Whether the page frames that are free to the loader are enough.
-use Rattle.std.proofs.Common.{◌≡◌, ℕ, ltb, length, Some, None, refl, sym, ap, ◌∙◌, inl, inr}
+use Rattle.std.proofs.Common.{ltb, length, Some, None, refl, sym, ◌∙◌, inl, inr}
 use Rattle.std.proofs.lemmas.Bool.{cases_lt, cond-true, cond-false, lt-ltb, le-ltb}
 use Rattle.std.proofs.lemmas.Option.{none-some}
 use Rattle.definitions.specs.Disk as disk

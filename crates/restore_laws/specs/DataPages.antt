@@ -1,6 +1,6 @@
 -- The data pages of a stream, as a resume reads them one by one.
 use Rattle.std.specs.Prelude.{◌≡◌, ◌<◌, ◌≤◌, ℕ, ◌+◌, ◌-◌, List, length, map, take, Some, None, slice_get}
-use Rattle.std.specs.List.{range_with_len, zip}
+use Rattle.std.specs.List.{zip}
 use Rattle.std.specs.List.Sorted.{IsStrictlyIncreasing}
 use Rattle.definitions.specs.Disk as disk
 use Rattle.plain_machine.specs.Machine.{Hardware}

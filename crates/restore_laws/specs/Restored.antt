@@ -7,7 +7,7 @@ use Rattle.definitions.specs.Zones.{top}
 use Rattle.page_restore.specs.Waiting.{Awaiting, waiting_pages, restored_page}
 use Rattle.plain_machine.specs.Machine.{Hardware, Memory, Fits}
 use Rattle.plain_machine.specs.Loader.{left_free, loader_frame}
-use Rattle.plain_machine.specs.Shows.{Shown, RunsAs}
+use Rattle.plain_machine.specs.Shows.{WorldView, RunsAs}
 use Rattle.plain_machine.specs.Stands.{NamesOnly}
 use Rattle.plain_machine.specs.State.{Load, Flight}
 use Rattle.plain_machine.specs.Step.{no_slots}
@@ -44,4 +44,4 @@ RunsAsRestored =
     RunsAs h flag why operations frames (running_with h load v no_slots)
 
 abbrev pub NamesNone : Type 0
-NamesNone = (h : Hardware) (shown : Shown) → Fits h shown.frames → NamesOnly h shown []
+NamesNone = (h : Hardware) (shown : WorldView) → Fits h shown.frames → NamesOnly h shown []

@@ -10,7 +10,7 @@ use Rattle.page_restore.specs.Waiting.{waiting_pages}
 use Rattle.plain_machine.specs.Machine.{Hardware, Memory, Fits}
 use Rattle.plain_machine.specs.Loader.{left_free, loader_frame}
 use Rattle.plain_machine.specs.Refusals.{refusal, refused_if}
-use Rattle.plain_machine.specs.Shows.{Shown, ShowsKept}
+use Rattle.plain_machine.specs.Shows.{WorldView, ShowsKept}
 use Rattle.plain_machine.specs.State.{off, loading, Held, not_yet, Load as Resume}
 use Rattle.plain_machine.specs.Step.{Step, outcomes, accepted, refused_or}
 use Rattle.plain_machine.specs.declared.event.Event.TheVariants as event
@@ -31,24 +31,24 @@ use Rattle.resume_core.proofs.Finding.{activity_is}
 
 -- The loader's memory is what is kept, where the loader is a dump's.
 
-kept_is : (h : Hardware) (frames : Memory) (shown : Shown) (kept : Option Memory) → HasLoaderMemory loader.Table frames shown → ShowsKept h shown kept → kept ≡ Some frames
+kept_is : (h : Hardware) (frames : Memory) (shown : WorldView) (kept : Option Memory) → HasLoaderMemory loader.Table frames shown → ShowsKept h shown kept → kept ≡ Some frames
 kept_is h frames shown None has shows = absurd (true≢false (sym has.0 ∙ shows))
 kept_is h frames shown (Some m) has shows = ap Some (sym shows.1 ∙ has.1)
 
-goes : (h : Hardware) (held : Held) (kept : Option Memory) (frames : Memory) (shown : Shown) (l : Loader) (check : IdentCheck) → HasLoaderMemory l frames shown → ShowsKept h shown kept → refusal h (off held kept) (event.Resume l check) ≡ None
+goes : (h : Hardware) (held : Held) (kept : Option Memory) (frames : Memory) (shown : WorldView) (l : Loader) (check : IdentCheck) → HasLoaderMemory l frames shown → ShowsKept h shown kept → refusal h (off held kept) (event.Resume l check) ≡ None
 unfolding refusal
 goes h held kept frames shown (loader.Ranges ranges) check has shows = refl
 goes h held kept frames shown loader.Table check has shows = ap (λ (o : Option Memory). refused_if (true && is_none o) reply.NoDump) (kept_is h frames shown kept has shows)
 
-free_is : (h : Hardware) (kept : Option Memory) (frames : Memory) (shown : Shown) (l : Loader) → HasLoaderMemory l frames shown → ShowsKept h shown kept → left_free h (unwrap_or kept []) l ≡ left_free h frames l
+free_is : (h : Hardware) (kept : Option Memory) (frames : Memory) (shown : WorldView) (l : Loader) → HasLoaderMemory l frames shown → ShowsKept h shown kept → left_free h (unwrap_or kept []) l ≡ left_free h frames l
 free_is h kept frames shown (loader.Ranges ranges) has shows = refl
 free_is h kept frames shown loader.Table has shows = ap (λ (o : Option Memory). left_free h (unwrap_or o []) loader.Table) (kept_is h frames shown kept has shows)
 
-page_is : (h : Hardware) (kept : Option Memory) (frames : Memory) (shown : Shown) (l : Loader) (p : ℕ) → HasLoaderMemory l frames shown → ShowsKept h shown kept → loader_frame (unwrap_or kept []) l p ≡ loader_frame frames l p
+page_is : (h : Hardware) (kept : Option Memory) (frames : Memory) (shown : WorldView) (l : Loader) (p : ℕ) → HasLoaderMemory l frames shown → ShowsKept h shown kept → loader_frame (unwrap_or kept []) l p ≡ loader_frame frames l p
 page_is h kept frames shown (loader.Ranges ranges) p has shows = refl
 page_is h kept frames shown loader.Table p has shows = ap (λ (o : Option Memory). loader_frame (unwrap_or o []) loader.Table p) (kept_is h frames shown kept has shows)
 
-fits_is : (h : Hardware) (kept : Option Memory) (frames : Memory) (shown : Shown) (l : Loader) → HasLoaderMemory l frames shown → ShowsKept h shown kept → l ≡ loader.Table → Fits h (unwrap_or kept [])
+fits_is : (h : Hardware) (kept : Option Memory) (frames : Memory) (shown : WorldView) (l : Loader) → HasLoaderMemory l frames shown → ShowsKept h shown kept → l ≡ loader.Table → Fits h (unwrap_or kept [])
 fits_is h kept frames shown (loader.Ranges ranges) has shows table = absurd (ranges_differ table) where
   ranges_differ : loader.Ranges ranges ≡ loader.Table → ⊥
   ranges_differ e = cc
@@ -78,7 +78,7 @@ pub begun_row : (machine : Machine) (frames frames' : Memory) (load : Load) (x :
 begun_row machine frames frames' load x check is shown c held kept has stands =
     let h = machine.hw in
     let l = begun held kept x check in
-    let shows = stands.parts.0 in (
+    let shows = stands.parts.memory in (
       loading l 0,
       record {
         step = begin_step h (disk.as_it_reads c) held kept x check (goes h held kept frames shown x check has shows);

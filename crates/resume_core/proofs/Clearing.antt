@@ -1,6 +1,6 @@
 -- A set of page frames without those of a run.
-use Rattle.std.proofs.Common.{◌≡◌, ℕ, ◌+◌, ◌&&◌, ◌||◌, ◌<◌, ◌≤◌, ◌⊎◌, List, [], ◌∷◌, length, take, get_or, filter, not, cond, Bool, true, false, leb, ltb, max, Option, Some, None, refl, sym, ap, ap₂, ◌∙◌, subst, inl, inr, arith}
-use Rattle.std.proofs.lemmas.Bool.{cases_lt, cases_eq, le-leb, lt-leb, lt-ltb, le-ltb, not_from_false, false≢true, and_left, and_right, ltb-false, leb-false, and_cases, not-true}
+use Rattle.std.proofs.Common.{◌≡◌, ℕ, ◌+◌, ◌&&◌, ◌||◌, ◌<◌, ◌≤◌, ◌⊎◌, List, [], ◌∷◌, length, take, get_or, filter, not, cond, Bool, true, false, leb, ltb, max, Some, refl, sym, ap, ap₂, ◌∙◌, subst, inl, inr, arith}
+use Rattle.std.proofs.lemmas.Bool.{cases_lt, lt-leb, le-ltb, not_from_false, and_left, and_right, ltb-false, leb-false, and_cases, not-true}
 use Rattle.std.proofs.lemmas.List.Elements.{All-contains, Contains-get_or, filter_agree}
 use Rattle.std.proofs.lemmas.List.Folds.{list_any_more}
 use Rattle.std.proofs.lemmas.List.Kept.{IsStrictlyIncreasing-filter}
@@ -11,7 +11,7 @@ use Rattle.memory_bitmap.specs.FrameSet.{FrameSet, IsFrameSet}
 use Rattle.definitions.specs.FrameSets.{removed}
 use Rattle.definitions.proofs.Ascending.{same_members}
 use Rattle.definitions.proofs.FrameSets.{Contains-filter, Contains-from_filter, Contains-removed, Contains-from_removed, IsStrictlyIncreasing-removed}
-use Rattle.safe_pages.proofs.Walks.{is_first, all_below}
+use Rattle.safe_pages.proofs.Walks.{is_first}
 
 -- the numbers below `first`, and those from `end` on
 abbrev pub without_run : ℕ → ℕ → List ℕ → List ℕ

@@ -1,5 +1,5 @@
 -- The rows of the end: the pages are brought home, and the tables tested.
-use Rattle.std.proofs.Common.{◌≡◌, ℕ, ◌+◌, ◌-◌, true, false, List, length, replicate, All, Option, Some, None, Ok, refl, sym, ap, ap₂, ◌∙◌, subst, arith}
+use Rattle.std.proofs.Common.{◌≡◌, ℕ, ◌+◌, ◌-◌, true, false, List, length, replicate, All, Contains, Option, Some, None, Ok, refl, sym, ap, ap₂, ◌∙◌, subst, arith}
 use Rattle.std.proofs.lemmas.Option.{none-some}
 use Rattle.std.proofs.lemmas.List.FromFn.{length-map-range_with_len}
 use Rattle.definitions.specs.Bytes.{IsPage}
@@ -12,11 +12,12 @@ use Rattle.sig_header.specs.declared.area.Area.{Area}
 use Rattle.sig_header.specs.declared.area.AreaKind.{AreaKind}
 use Rattle.sig_header.specs.declared.area.AreaKind.TheVariants.{Swap}
 use Rattle.image_read.specs.Stream.{frames_in, pages_read}
-use Rattle.page_restore.specs.Waiting.{restored_page}
+use Rattle.page_restore.specs.Waiting.{restored_page, waiting_pages}
+use Rattle.page_restore.proofs.WithData.{restored_by_zeros}
 use Rattle.plain_machine.specs.Machine.{Hardware, Memory, IsHardware, tables_fault}
 use Rattle.plain_machine.specs.Chain.{header_of, blocks_of, Marked}
 use Rattle.plain_machine.specs.State.{off, on, loading, nothing, Load as Resume, Found, not_yet, found_own, found_other}
-use Rattle.plain_machine.specs.Trace.{info_in, place_count, number_in, header_cause, tables_cause, restored_in, last_reply, data_pages}
+use Rattle.plain_machine.specs.Trace.{info_in, place_count, number_in, header_cause, tables_cause, restored_in, last_reply, data_frames, data_page, data_pages}
 use Rattle.plain_machine.specs.UsableArea.{area_block, area_fault, fit_fault, kind_or_fit_fault, has_bad_slots_of}
 use Rattle.plain_machine.specs.declared.event.Loader.{Loader}
 use Rattle.plain_machine.specs.declared.event.Loader.TheVariants as loader
@@ -31,7 +32,7 @@ use Rattle.protocol_laws.proofs.Tracing.{restored_is}
 use Rattle.protocol_laws.proofs.Marking.{area_block-marked}
 use Rattle.restore_laws.specs.Restored.{AreAllRead}
 use Rattle.restore_laws.proofs.BroughtBack.{are_restored, names_none, runs_as_restored}
-use Rattle.restore_laws.proofs.DataPlaces.{all_read, listed_sets}
+use Rattle.restore_laws.proofs.DataPlaces.{all_read, listed_sets, marks_listed}
 use Rattle.restore_laws.proofs.LastTables.{last_resumed, last_refused, table_at_fault, tables_fit, area_misfits, area_fits, bad_set_differs, area_unusable}
 use Rattle.restore_laws.proofs.SoundTables.{sound_tables_fit}
 use Rattle.machine.specs.declared.flight.Flight.TheVariants.{Nothing}
@@ -40,6 +41,7 @@ use Rattle.machine.proofs.Readiness.{flights-none}
 use Rattle.resume_core.specs.Loading.{shown_by}
 use Rattle.resume_core.specs.Row.{HasRead, HavePlaces, EndsOn, swap_area, restored_found}
 use Rattle.resume_core.specs.declared.load.Load.{Load}
+use Rattle.resume_core.specs.declared.load.OpenChain.{OpenChain}
 use Rattle.resume_core.specs.declared.load.Stage.TheVariants as stage
 use Rattle.resume_core.proofs.Answering.{ends_reply}
 use Rattle.resume_core.proofs.Answering as ar
@@ -95,16 +97,16 @@ length_listed h v = length-map-range_with_len (number_in h v) 0 (info_in h v).im
 
 -- the pages are brought home
 pub record IsHome (machine : Machine) (frames frames' : Memory) (load : Load) : Type 0 where
-  pub restored : (p : ℕ) → frame frames' p ≡ restored_page frames load.waiting load.origs.members p
+  pub restored : load.waiting.loaded ≡ length load.waiting.originals → (p : ℕ) → frame frames' p ≡ restored_page frames load.waiting load.zeros.members p
   pub size : length frames' ≡ top machine.hw.zones
 
-all_are_read : (machine : Machine) (frames : Memory) (load : Load) (c : disk.Content) (l : Resume) (v : disk.DiskImage) (k : ℕ) → HasRead machine frames load c l v k → HavePlaces machine.hw v frames load.waiting (k - 4 + 1) → k - 4 + 1 ≡ place_count (info_in machine.hw v).pages →
+all_are_read : (machine : Machine) (frames : Memory) (load : Load) (chain : OpenChain) (c : disk.Content) (l : Resume) (v : disk.DiskImage) (k : ℕ) → HasRead machine frames load chain c l v k → HavePlaces machine.hw v frames load.waiting (k - 4 + 1) → k - 4 + 1 ≡ place_count (info_in machine.hw v).pages →
     AreAllRead machine.hw l.dump v l.loader load.waiting load.origs.members frames
-all_are_read machine frames load c l v k read places over =
+all_are_read machine frames load chain c l v k read places over =
     let h = machine.hw in
     let t = k - 4 + 1 in
-    let r = read.read.reader in
-    let reading = read.read.reading in
+    let r = chain.reader in
+    let reading = read.read in
     let listed = listed_sets h v load.check r t (info_in h v).image_pages load.origs.members load.zeros.members reading (reading.listed ∙ places.listed) in
     let all = all_read h v load.check r t load.origs.members load.zeros.members reading (ar.all_read h v (pages_read t) places.listed).0 over in
     record {
@@ -116,17 +118,29 @@ all_are_read machine frames load c l v k read places over =
       kept = read.kept;
     }
 
-home : (machine : Machine) (frames frames' : Memory) (load : Load) (c : disk.Content) (l : Resume) (v : disk.DiskImage) (k : ℕ) → IsHome machine frames frames' load → HasRead machine frames load c l v k → HavePlaces machine.hw v frames load.waiting (k - 4 + 1) → k - 4 + 1 ≡ place_count (info_in machine.hw v).pages →
+home : (machine : Machine) (frames frames' : Memory) (load : Load) (chain : OpenChain) (c : disk.Content) (l : Resume) (v : disk.DiskImage) (k : ℕ) → IsHome machine frames frames' load → HasRead machine frames load chain c l v k → HavePlaces machine.hw v frames load.waiting (k - 4 + 1) → k - 4 + 1 ≡ place_count (info_in machine.hw v).pages →
     frames' ≡ restored_in machine.hw l.dump v l.loader
-home machine frames frames' load c l v k is read places over =
-    are_restored machine.hw l.dump v l.loader load.waiting load.origs.members frames frames' (all_are_read machine frames load c l v k read places over) is.size (λ p lt. is.restored p)
+home machine frames frames' load chain c l v k is read places over =
+    let h = machine.hw in
+    let t = k - 4 + 1 in
+    let all = all_are_read machine frames load chain c l v k read places over in
+    let reading = read.read in
+    let listed = listed_sets h v load.check chain.reader t (info_in h v).image_pages load.origs.members load.zeros.members reading (reading.listed ∙ places.listed) in
+    let counted : load.waiting.loaded ≡ length load.waiting.originals =
+    places.loaded ∙ (all_read h v load.check chain.reader t load.origs.members load.zeros.members reading (ar.all_read h v (pages_read t) places.listed).0 over) ∙ sym (ap length places.originals) in
+    let size : length (waiting_pages frames load.waiting) ≡ length load.waiting.originals =
+    ap length all.pages ∙ length-map-range_with_len (data_page h v) 0 (length (data_frames h v)) ∙ sym (ap length places.originals) in
+    let marked : (p : ℕ) → Contains load.zeros.members p → Contains load.origs.members p = λ p in'.
+    subst (λ (ps : List ℕ). Contains ps p) (sym listed.frames) (marks_listed h v (info_in h v).image_pages p (subst (λ (ps : List ℕ). Contains ps p) listed.marks in')) in
+    are_restored h l.dump v l.loader load.waiting load.origs.members frames frames' all is.size
+    (λ p lt. is.restored counted p ∙ restored_by_zeros frames load.waiting load.origs.members load.zeros.members p size (places.originals ∙ sym listed.paged) (marked p))
 
 -- what the tables' test says, of each disk whose header it was
-abbrev pub IsFaulty : Machine → Memory → Load → ℕ → Type 0
-IsFaulty machine frames' load f = (v : disk.DiskImage) → load.header ≡ header_of machine.hw v → machine.blocks ≡ blocks_of v → Marked machine.hw v → tables_cause machine.hw v frames' ≡ Some (reply.BadTables f)
+abbrev pub IsFaulty : Machine → Memory → OpenChain → ℕ → Type 0
+IsFaulty machine frames' chain f = (v : disk.DiskImage) → chain.header ≡ header_of machine.hw v → machine.blocks ≡ blocks_of v → Marked machine.hw v → tables_cause machine.hw v frames' ≡ Some (reply.BadTables f)
 
-abbrev pub IsGood : Machine → Memory → Load → Type 0
-IsGood machine frames' load = (v : disk.DiskImage) → load.header ≡ header_of machine.hw v → machine.blocks ≡ blocks_of v → Marked machine.hw v → tables_cause machine.hw v frames' ≡ None
+abbrev pub IsGood : Machine → Memory → OpenChain → Type 0
+IsGood machine frames' chain = (v : disk.DiskImage) → chain.header ≡ header_of machine.hw v → machine.blocks ≡ blocks_of v → Marked machine.hw v → tables_cause machine.hw v frames' ≡ None
 
 -- of the image that was found, which the disk v has
 restored_is_by : (h : Hardware) (l : Resume) (v : disk.DiskImage) → IsHardware h → (f : Found) → IsFoundOn h v f → restored_in h l.dump v l.loader ≡ restored_found h l f
@@ -134,12 +148,12 @@ restored_is_by h l v hw not_yet is = absurd is
 restored_is_by h l v hw (found_own i) is = restored_is h v i l.dump l.loader (record { hardware = hw; holds = is.0; own = is.1; sayable = own_sayable h v i hw is.1 })
 restored_is_by h l v hw (found_other w) is = ap (λ (x : disk.DiskImage). restored_in h l.dump x l.loader) is
 
-pub bad_tables_row : (machine : Machine) (frames frames' : Memory) (load load' : Load) (ranges : Ranges) (f : ℕ) → load.loader ≡ loader.Ranges ranges → IsHome machine frames frames' load → IsFaulty machine frames' load f → load'.stage ≡ stage.Rest → EndsOn machine frames load machine frames' load' (reply.BadTables f)
-bad_tables_row machine frames frames' load load' ranges f by is faulty rest c l v k read places room over =
+pub bad_tables_row : (machine : Machine) (frames frames' : Memory) (load load' : Load) (chain : OpenChain) (ranges : Ranges) (f : ℕ) → load.loader ≡ loader.Ranges ranges → IsHome machine frames frames' load → IsFaulty machine frames' chain f → load'.stage ≡ stage.Rest → EndsOn machine frames load chain machine frames' load' (reply.BadTables f)
+bad_tables_row machine frames frames' load load' chain ranges f by is faulty rest c l v k read places room over =
     let h = machine.hw in
     let scripted : l.loader ≡ loader.Ranges ranges = sym read.loader.loader ∙ by in
-    let memory = home machine frames frames' load c l v k is read places over in
-    let cause = faulty v read.found.header (sym read.found.blocks) (was_marked h v read.found.uncaused) in
+    let memory = home machine frames frames' load chain c l v k is read places over in
+    let cause = faulty v read.found.is_header (sym read.found.blocks) (was_marked h v read.found.uncaused) in
     let at_last : last_reply h l.dump v l.loader ≡ reply.BadTables f = subst (λ (x : Loader). last_reply h l.dump v x ≡ reply.BadTables f) (sym scripted)
     (last_refused h l.dump v ranges (reply.BadTables f) (subst (λ (x : Loader). tables_cause h v (restored_in h l.dump v x) ≡ Some (reply.BadTables f)) scripted (subst (λ (m : Memory). tables_cause h v m ≡ Some (reply.BadTables f)) memory cause))) in (
       off nothing None,
@@ -157,15 +171,15 @@ no_fault h v m good = by (tables_fault h m) refl where
 abbrev pub running : Machine → Area → Machine
 running machine area = record machine { area = Ok area; held = No; flights = replicate 64 Nothing }
 
-pub resumed_row : (machine : Machine) (frames frames' : Memory) (load load' : Load) (ranges : Ranges) (area : Area) (n : ℕ) → load.loader ≡ loader.Ranges ranges → All IsPage frames' → IsHome machine frames frames' load → IsGood machine frames' load → area_kind (taken_back load.header) ≡ Swap area → n ≡ length load.origs.members → load'.stage ≡ stage.Runs →
-    EndsOn machine frames load (running machine area) frames' load' (reply.Resumed n)
-resumed_row machine frames frames' load load' ranges area n by pages is good kind count runs_now c l v k read places room over =
+pub resumed_row : (machine : Machine) (frames frames' : Memory) (load load' : Load) (chain : OpenChain) (ranges : Ranges) (area : Area) (n : ℕ) → load.loader ≡ loader.Ranges ranges → All IsPage frames' → IsHome machine frames frames' load → IsGood machine frames' chain → area_kind (taken_back chain.header) ≡ Swap area → n ≡ length load.origs.members → load'.stage ≡ stage.Runs →
+    EndsOn machine frames load chain (running machine area) frames' load' (reply.Resumed n)
+resumed_row machine frames frames' load load' chain ranges area n by pages is good kind count runs_now c l v k read places room over =
     let h = machine.hw in
     let scripted : l.loader ≡ loader.Ranges ranges = sym read.loader.loader ∙ by in
-    let memory = home machine frames frames' load c l v k is read places over in
-    let cause = good v read.found.header (sym read.found.blocks) (was_marked h v read.found.uncaused) in
+    let memory = home machine frames frames' load chain c l v k is read places over in
+    let cause = good v read.found.is_header (sym read.found.blocks) (was_marked h v read.found.uncaused) in
     let fits = sound_tables_fit h frames' read.reading.hardware pages is.size (no_fault h v frames' cause) in
-    let all = all_are_read machine frames load c l v k read places over in
+    let all = all_are_read machine frames load chain c l v k read places over in
     let saved : n ≡ (info_in h v).image_pages = count ∙ ap length all.listed ∙ length_listed h v in
     let at_last : last_reply h l.dump v l.loader ≡ reply.Resumed (info_in h v).image_pages = subst (λ (x : Loader). last_reply h l.dump v x ≡ reply.Resumed (info_in h v).image_pages) (sym scripted)
     (last_resumed h l.dump v ranges (subst (λ (x : Loader). tables_cause h v (restored_in h l.dump v x) ≡ None) scripted (subst (λ (m : Memory). tables_cause h v m ≡ None) memory cause))) in
@@ -179,13 +193,13 @@ resumed_row machine frames frames' load load' ranges area n by pages is good kin
     )
 
 -- after a dump's loader the machine is off
-pub resumed_off_row : (machine : Machine) (frames frames' : Memory) (load load' : Load) (n : ℕ) → load.loader ≡ loader.Table → IsHome machine frames frames' load → n ≡ length load.origs.members → load'.stage ≡ stage.Rest →
-    EndsOn machine frames load machine frames' load' (reply.Resumed n)
-resumed_off_row machine frames frames' load load' n by is count rest c l v k read places room over =
+pub resumed_off_row : (machine : Machine) (frames frames' : Memory) (load load' : Load) (chain : OpenChain) (n : ℕ) → load.loader ≡ loader.Table → IsHome machine frames frames' load → n ≡ length load.origs.members → load'.stage ≡ stage.Rest →
+    EndsOn machine frames load chain machine frames' load' (reply.Resumed n)
+resumed_off_row machine frames frames' load load' chain n by is count rest c l v k read places room over =
     let h = machine.hw in
     let kept : l.loader ≡ loader.Table = sym read.loader.loader ∙ by in
-    let memory = home machine frames frames' load c l v k is read places over in
-    let all = all_are_read machine frames load c l v k read places over in
+    let memory = home machine frames frames' load chain c l v k is read places over in
+    let all = all_are_read machine frames load chain c l v k read places over in
     let saved : n ≡ (info_in h v).image_pages = count ∙ ap length all.listed ∙ length_listed h v in
     let at_last : last_reply h l.dump v l.loader ≡ reply.Resumed (info_in h v).image_pages = subst (λ (x : Loader). last_reply h l.dump v x ≡ reply.Resumed (info_in h v).image_pages) (sym kept) refl in (
       off nothing None,

@@ -1,7 +1,6 @@
 -- What is known of a resume before a step, in the state that it stands for.
-use Rattle.std.proofs.Common.{◌≡◌, ◌<◌, ℕ, List, Contains, Option, Some, None, refl, sym, ap, ap₂, ◌∙◌, subst, arith}
+use Rattle.std.proofs.Common.{◌≡◌, ◌<◌, ℕ, List, Contains, Some, sym, ap, ap₂, ◌∙◌, subst, arith}
 use Rattle.std.proofs.lemmas.Option.{same_Some}
-use Rattle.std.specs.Option.{IfSome}
 use Rattle.definitions.proofs.DiskLaws.{length-as_it_reads}
 use Rattle.std.specs.List.{zip}
 use Rattle.definitions.specs.Disk as disk
@@ -23,49 +22,29 @@ use Rattle.protocol_laws.specs.Loads.{ShowsLoad}
 use Rattle.protocol_laws.specs.Rows as rows
 use Rattle.machine.specs.declared.machine.Machine.{Machine}
 use Rattle.resume_core.specs.Loading.{shown_by, activity_of}
-use Rattle.swap_slots.specs.Runs.{SlotRuns}
-use Rattle.resume_core.specs.Ready.{IsOverMachine}
-use Rattle.resume_core.specs.Row.{StandsFor, StandsAfter, HasEnded, HasLoader, IsOfState, IsRow, NoneWaits}
+use Rattle.resume_core.specs.Row.{StandsFor, StandsAfter, HasEnded, HasLoader, IsOfState, Simulates, NoneWaits}
 use Rattle.resume_core.specs.declared.load.Load.{Load}
 use Rattle.protocol_laws.proofs.LoadRows.{shows_none_read}
 use Rattle.resume_core.proofs.Cases.{at_load}
 
-pub whole_content : (blocks : ℕ) (told : Option disk.Content) (c : disk.Content) → told ≡ Some c → IfSome told (disk.IsContent blocks) → disk.IsContent blocks c
-whole_content blocks told c e h = subst (λ (o : Option disk.Content). IfSome o (disk.IsContent blocks)) e h
-
--- the content after a call of the disk, where it tells it
-pub changed : (R : disk.Content → disk.Content → Type 0) (before now : Option disk.Content) (c : disk.Content) → before ≡ Some c → disk.Changes R before now → (c' : disk.Content) × (now ≡ Some c') × R c c'
-changed R before now c e h = by_now now (subst (λ (o : Option disk.Content). disk.Changes R o now) e h) where
-  by_now : (o : Option disk.Content) → disk.Changes R (Some c) o → (c' : disk.Content) × (o ≡ Some c') × R c c'
-  by_now None r = absurd r
-  by_now (Some c') r = (c', refl, r)
-
--- the disk's content, which the machine knows the number of blocks of
-pub content_of : (count blocks : ℕ) (told : Option disk.Content) (c : disk.Content) → told ≡ Some c → count ≡ blocks → IfSome told (disk.IsContent count) → disk.IsContent blocks c
-content_of count blocks told c e same h = subst (λ (n : ℕ). disk.IsContent n c) same (whole_content count told c e h)
-
--- what a clause says of the content, where it is told
-pub told_of : (P : disk.Content → Type 0) (told : Option disk.Content) (c : disk.Content) → told ≡ Some c → IfSome told P → P c
-told_of P told c e h = subst (λ (o : Option disk.Content). IfSome o P) e h
-
 -- a row that leads to what is there in the end
 pub row_of : (machine : Machine) (frames : Memory) (load : Load) (machine' : Machine) (frames' : Memory) (load' end : Load) (r told : Reply) (c c' : disk.Content) → end ≡ load' → told ≡ r →
-    IsRow machine frames load machine' frames' load' (event.Step actor.Core) r c c' → IsRow machine frames load machine' frames' end (event.Step actor.Core) told c c'
+    Simulates machine frames load machine' frames' load' (event.Step actor.Core) r c c' → Simulates machine frames load machine' frames' end (event.Step actor.Core) told c c'
 row_of machine frames load machine' frames' load' end r told c c' same reply row =
-    subst (λ (x : Load). IsRow machine frames load machine' frames' x (event.Step actor.Core) told c c') (sym same) (subst (λ (q : Reply). IsRow machine frames load machine' frames' load' (event.Step actor.Core) q c c') (sym reply) row)
+    subst (λ (x : Load). Simulates machine frames load machine' frames' x (event.Step actor.Core) told c c') (sym same) (subst (λ (q : Reply). Simulates machine frames load machine' frames' load' (event.Step actor.Core) q c c') (sym reply) row)
 
 -- the rows of a resume
 pub row_at_load : (machine : Machine) (frames : Memory) (load : Load) (machine' : Machine) (frames' : Memory) (load' : Load) (e : Event) (r : Reply) (c c' : disk.Content) (k : ℕ) → activity_of load ≡ loads k →
-    ((l : Resume) → StandsFor machine frames load c (loading l k) → (b : State) × rows.Leads machine.hw (StandsAfter machine' frames' load' r (loading l k)) e r c c' (loading l k) b) →
-    IsRow machine frames load machine' frames' load' e r c c'
+    ((l : Resume) → StandsFor machine frames load c (loading l k) → (b : State) × rows.StepsTo machine.hw (StandsAfter machine' frames' load' r (loading l k)) e r c c' (loading l k) b) →
+    Simulates machine frames load machine' frames' load' e r c c'
 row_at_load machine frames load machine' frames' load' e r c c' k is goes s stands =
     let at = at_load s k (sym is ∙ stands.stands.activity) in
-    subst (λ (t : State). (b : State) × rows.Leads machine.hw (StandsAfter machine' frames' load' r t) e r c c' t b) (sym at.1)
+    subst (λ (t : State). (b : State) × rows.StepsTo machine.hw (StandsAfter machine' frames' load' r t) e r c c' t b) (sym at.1)
     (goes at.0 (subst (StandsFor machine frames load c) at.1 stands))
 
 -- a step that goes on to a state whose resume it is at
 pub leads : (machine : Machine) (frames : Memory) (load : Load) (r : Reply) (c c' : disk.Content) (a b : State) → HasEnded machine frames c' r a b → Goes machine.hw (shown_by machine frames load) r c c' a b → IsOfState machine frames load c' b →
-    rows.Leads machine.hw (StandsAfter machine frames load r a) (event.Step actor.Core) r c c' a b
+    rows.StepsTo machine.hw (StandsAfter machine frames load r a) (event.Step actor.Core) r c c' a b
 leads machine frames load r c c' a b ended goes is = record { step = goes.step; stands = record { stands = goes.stands; resume = is; ended = ended }; area = goes.area; unwritten = goes.unwritten; leaves = goes.leaves; header = goes.header }
 
 -- a resume that ends early leaves nothing to say of memory
@@ -85,7 +64,7 @@ abbrev pub asked_by : Resume → Asked
 asked_by l = (l.loader, l.check)
 
 pub load_told : (machine : Machine) (frames : Memory) (load : Load) (c : disk.Content) (l : Resume) (k : ℕ) → StandsFor machine frames load c (loading l k) → asked_of load ≡ asked_by l
-load_told machine frames load c l k s = same_Some (asked_of load) (asked_by l) s.stands.parts.1.shows.told
+load_told machine frames load c l k s = same_Some (asked_of load) (asked_by l) s.stands.parts.resume.shows.told
 
 pub told_by : (load : Load) (l : Resume) {h : Hardware} → HasLoader h load l → Some (asked_of load) ≡ Some (asked_by l)
 told_by load l has = ap₂ (λ (x : Loader) (y : IdentCheck). Some (x, y)) has.loader has.check
@@ -102,7 +81,7 @@ same_loader h load load' l free same check has = record { loader = same ∙ has.
 pub shows_none : (machine : Machine) (frames : Memory) (load load' : Load) (c : disk.Content) (l l' : Resume) (j k : ℕ) → StandsFor machine frames load c (loading l j) → l'.loader ≡ l.loader → l'.dump ≡ l.dump → activity_of load' ≡ loads k → asked_of load' ≡ asked_by l' → k < 7 → NoneWaits load' →
     ShowsLoad machine.hw (shown_by machine frames load') l' k
 shows_none machine frames load load' c l l' j k s loader dump activity told few none =
-    let kept = s.stands.parts.1.shows.kept in
+    let kept = s.stands.parts.resume.shows.kept in
     shows_none_read machine.hw (shown_by machine frames load') l' k (omega arith) activity (ap Some told)
     (λ p lt free. kept p lt (λ has. free (subst (λ d. Contains (left_free machine.hw d l'.loader) p) (sym dump) (subst (λ x. Contains (left_free machine.hw l.dump x) p) (sym loader) has)))
     ∙ ap (λ d. loader_frame d l.loader p) (sym dump) ∙ ap (λ x. loader_frame l'.dump x p) (sym loader))
@@ -110,15 +89,3 @@ shows_none machine frames load load' c l l' j k s loader dump activity told few 
 
 pub count_of : (blocks : ℕ) (c : disk.Content) → disk.IsContent blocks c → blocks_of (disk.as_it_reads c) ≡ blocks
 count_of blocks c whole = let size = length-as_it_reads c in let all = whole.size in omega arith
-
-pub over_still : (machine : Machine) (frames : Memory) (runs : SlotRuns) (load load' : Load) → load'.origs.zones ≡ load.origs.zones → load'.zeros.zones ≡ load.zeros.zones → load'.waiting.zones ≡ load.waiting.zones → IsOverMachine machine frames runs load → IsOverMachine machine frames runs load'
-over_still machine frames runs load load' origs zeros waiting over = record {
-  hardware = over.hardware;
-  few = over.few;
-  size = over.size;
-  table = over.table;
-  room = over.room;
-  origs = origs ∙ over.origs;
-  zeros = zeros ∙ over.zeros;
-  waiting = waiting ∙ over.waiting;
-}

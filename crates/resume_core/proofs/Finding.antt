@@ -22,7 +22,7 @@ use Rattle.protocol_laws.specs.LoadRows.{with_finding}
 use Rattle.machine.specs.declared.machine.Machine.{Machine}
 use Rattle.resume_core.specs.Header.{header_fault}
 use Rattle.resume_core.specs.Loading.{shown_by, activity_at, FindsMark}
-use Rattle.resume_core.specs.Row.{StandsFor, IsRow, KnowsAt, swap_area}
+use Rattle.resume_core.specs.Row.{StandsFor, Simulates, KnowsAt, swap_area}
 use Rattle.resume_core.specs.declared.load.Load.{Load}
 use Rattle.resume_core.specs.declared.load.Stage.{Stage}
 use Rattle.resume_core.specs.declared.load.Stage.TheVariants as stage
@@ -36,11 +36,11 @@ stopped load = record load { stage = stage.Rest }
 pub knows_at : (machine : Machine) (frames : Memory) (load : Load) (c : disk.Content) (l : Resume) (k : ℕ) (at : Stage) → load.stage ≡ at → StandsFor machine frames load c (loading l k) → KnowsAt at machine frames load c l k
 knows_at machine frames load c l k at is s = subst (λ (t : Stage). KnowsAt t machine frames load c l k) is s.resume.knows
 
-pub activity_is : (load : Load) (at : Stage) → load.stage ≡ at → activity_at load.stage load.made ≡ activity_at at load.made
-activity_is load at is = ap (λ (t : Stage). activity_at t load.made) is
+pub activity_is : (load : Load) (at : Stage) → load.stage ≡ at → activity_at load.stage ≡ activity_at at
+activity_is load at is = ap activity_at is
 
 pub synced_row : (machine : Machine) (frames : Memory) (load : Load) (c c' : disk.Content) → load.stage ≡ stage.Sync → disk.IsContent machine.blocks c → disk.Syncs c c' →
-    IsRow machine frames load machine frames (record load { stage = stage.Find }) (event.Step actor.Core) (reply.Loading 1) c c'
+    Simulates machine frames load machine frames (record load { stage = stage.Find }) (event.Step actor.Core) (reply.Loading 1) c c'
 synced_row machine frames load c c' at whole syncs =
     let new = record load { stage = stage.Find } in
     row_at_load machine frames load machine frames new (event.Step actor.Core) (reply.Loading 1) c c' 0 (activity_is load stage.Sync at)
@@ -54,7 +54,7 @@ synced_row machine frames load c c' at whole syncs =
     ))
 
 pub sync_failed_row : (machine : Machine) (frames : Memory) (load : Load) (c : disk.Content) → load.stage ≡ stage.Sync →
-    IsRow machine frames load machine frames (stopped load) (event.Step actor.Core) (reply.SyncFault Same) c c
+    Simulates machine frames load machine frames (stopped load) (event.Step actor.Core) (reply.SyncFault Same) c c
 sync_failed_row machine frames load c at =
     row_at_load machine frames load machine frames (stopped load) (event.Step actor.Core) (reply.SyncFault Same) c c 0 (activity_is load stage.Sync at)
     (λ l s. (
@@ -63,10 +63,10 @@ sync_failed_row machine frames load c at =
           (load_sync_fault_row machine.hw (shown_by machine frames load) (shown_by machine frames (stopped load)) c l s.stands (refl, refl)) tt,
     ))
 
-pub find_failed_row : (machine : Machine) (frames : Memory) (load : Load) (header : List ℕ) (c : disk.Content) → load.stage ≡ stage.Find →
-    IsRow machine frames load machine frames (stopped (record load { header = header })) (event.Step actor.Core) (reply.ReadFault Same) c c
-find_failed_row machine frames load header c at =
-    let new = stopped (record load { header = header }) in
+pub find_failed_row : (machine : Machine) (frames : Memory) (load : Load) (c : disk.Content) → load.stage ≡ stage.Find →
+    Simulates machine frames load machine frames (stopped load) (event.Step actor.Core) (reply.ReadFault Same) c c
+find_failed_row machine frames load c at =
+    let new = stopped load in
     row_at_load machine frames load machine frames new (event.Step actor.Core) (reply.ReadFault Same) c c 1 (activity_is load stage.Find at)
     (λ l s. (
       off l.held None,
@@ -75,10 +75,10 @@ find_failed_row machine frames load header c at =
     ))
 
 -- without a mark nothing is found
-pub none_row : (machine : Machine) (frames : Memory) (load : Load) (header : List ℕ) (c : disk.Content) → load.stage ≡ stage.Find → disk.IsContent machine.blocks c → header_cause machine.hw (disk.as_it_reads c) ≡ Some reply.NoImage →
-    IsRow machine frames load machine frames (stopped (record load { header = header })) (event.Step actor.Core) reply.NoImage c c
-none_row machine frames load header c at whole none =
-    let new = stopped (record load { header = header }) in
+pub none_row : (machine : Machine) (frames : Memory) (load : Load) (c : disk.Content) → load.stage ≡ stage.Find → disk.IsContent machine.blocks c → header_cause machine.hw (disk.as_it_reads c) ≡ Some reply.NoImage →
+    Simulates machine frames load machine frames (stopped load) (event.Step actor.Core) reply.NoImage c c
+none_row machine frames load c at whole none =
+    let new = stopped load in
     row_at_load machine frames load machine frames new (event.Step actor.Core) reply.NoImage c c 1 (activity_is load stage.Find at)
     (λ l s. (
       off nothing None,
@@ -86,10 +86,10 @@ none_row machine frames load header c at whole none =
           (find_none_row machine.hw (shown_by machine frames load) (shown_by machine frames new) c machine.blocks l whole s.stands none (refl, refl)) tt,
     ))
 
-compressed_row : (machine : Machine) (frames : Memory) (load : Load) (header : List ℕ) (c : disk.Content) (flags : ℕ) → load.stage ≡ stage.Find → disk.IsContent machine.blocks c → header_cause machine.hw (disk.as_it_reads c) ≡ Some (reply.Compressed flags) →
-    IsRow machine frames load machine frames (stopped (record load { header = header })) (event.Step actor.Core) (reply.Compressed flags) c c
-compressed_row machine frames load header c flags at whole cause =
-    let new = stopped (record load { header = header }) in
+compressed_row : (machine : Machine) (frames : Memory) (load : Load) (c : disk.Content) (flags : ℕ) → load.stage ≡ stage.Find → disk.IsContent machine.blocks c → header_cause machine.hw (disk.as_it_reads c) ≡ Some (reply.Compressed flags) →
+    Simulates machine frames load machine frames (stopped load) (event.Step actor.Core) (reply.Compressed flags) c c
+compressed_row machine frames load c flags at whole cause =
+    let new = stopped load in
     row_at_load machine frames load machine frames new (event.Step actor.Core) (reply.Compressed flags) c c 1 (activity_is load stage.Find at)
     (λ l s. (
       off (sure other) None,
@@ -99,9 +99,9 @@ compressed_row machine frames load header c flags at whole cause =
 
 pub found_row : (machine : Machine) (frames : Memory) (load : Load) (header : List ℕ) (mark : Mark) (c : disk.Content) → IsHardware machine.hw → load.stage ≡ stage.Find → disk.IsContent machine.blocks c →
     header ≡ header_of machine.hw (disk.as_it_reads c) → header_fault header ≡ None → mark ≡ mark_of header →
-    IsRow machine frames load machine frames (record load { header = header; mark = mark; stage = stage.TakeBack }) (event.Step actor.Core) (reply.Loading 2) c c
+    Simulates machine frames load machine frames (record load { stage = stage.TakeBack (record { header = header; mark = mark }) }) (event.Step actor.Core) (reply.Loading 2) c c
 found_row machine frames load header mark c hardware at whole read none marks =
-    let new = record load { header = header; mark = mark; stage = stage.TakeBack } in
+    let new = record load { stage = stage.TakeBack (record { header = header; mark = mark }) } in
     let v = disk.as_it_reads c in
     let uncaused : header_cause machine.hw v ≡ None = subst (λ (p : List ℕ). header_fault p ≡ None) read none in
     row_at_load machine frames load machine frames new (event.Step actor.Core) (reply.Loading 2) c c 1 (activity_is load stage.Find at)
@@ -116,29 +116,30 @@ found_row machine frames load header mark c hardware at whole read none marks =
             free = s.resume.free;
             knows = (
               v,
-              record { found = found.1; uncaused = uncaused; header = read; mark = marks ∙ ap mark_of read; reads = λ b lt ne. refl; blocks = count_of machine.blocks c whole; area = ap (λ (p : List ℕ). swap_area (area_kind p)) (area_block-marked machine.hw v (a_mark machine.hw v None uncaused (λ e. none-some reply.NoImage e)) ∙ ap taken_back (sym read)) },
+              record { found = found.1; uncaused = uncaused; is_header = read; reads = λ b lt ne. refl; blocks = count_of machine.blocks c whole; area = ap (λ (p : List ℕ). swap_area (area_kind p)) (area_block-marked machine.hw v (a_mark machine.hw v None uncaused (λ e. none-some reply.NoImage e)) ∙ ap taken_back (sym read)) },
               gone_early machine.hw l' v 2 (omega arith) uncaused,
               knows.0,
               knows.1,
               knows.2,
+              marks ∙ ap mark_of read,
             );
           }),
     ))
 
 -- why nothing is read, by the header
 pub fault_row : (machine : Machine) (frames : Memory) (load : Load) (header : List ℕ) (c : disk.Content) (why : Reply) → load.stage ≡ stage.Find → disk.IsContent machine.blocks c → header ≡ header_of machine.hw (disk.as_it_reads c) → header_fault header ≡ Some why →
-    IsRow machine frames load machine frames (stopped (record load { header = header })) (event.Step actor.Core) why c c
+    Simulates machine frames load machine frames (stopped load) (event.Step actor.Core) why c c
 fault_row machine frames load header c why at whole read some =
     let cause : header_cause machine.hw (disk.as_it_reads c) ≡ Some why = subst (λ (p : List ℕ). header_fault p ≡ Some why) read some in
     elim (header_faults header why some) [
       | inl none ↦ (
           let is : header_cause machine.hw (disk.as_it_reads c) ≡ Some reply.NoImage = cause ∙ ap (λ (r : Reply). Some r) none in
-          subst (λ (r : Reply). IsRow machine frames load machine frames (stopped (record load { header = header })) (event.Step actor.Core) r c c) (sym none)
-          (none_row machine frames load header c at whole is))
+          subst (λ (r : Reply). Simulates machine frames load machine frames (stopped load) (event.Step actor.Core) r c c) (sym none)
+          (none_row machine frames load c at whole is))
       | inr of ↦ (
           let is : header_cause machine.hw (disk.as_it_reads c) ≡ Some (reply.Compressed of.0) = cause ∙ ap (λ (r : Reply). Some r) of.1 in
-          subst (λ (r : Reply). IsRow machine frames load machine frames (stopped (record load { header = header })) (event.Step actor.Core) r c c) (sym of.1)
-          (compressed_row machine frames load header c of.0 at whole is))
+          subst (λ (r : Reply). Simulates machine frames load machine frames (stopped load) (event.Step actor.Core) r c c) (sym of.1)
+          (compressed_row machine frames load c of.0 at whole is))
     ]
 
 -- What the second step says of an image.

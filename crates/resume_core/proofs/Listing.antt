@@ -1,5 +1,5 @@
 -- The rows of the reads up to the last number page.
-use Rattle.std.proofs.Common.{◌≡◌, ◌<◌, ◌≤◌, ◌⊎◌, inl, inr, ℕ, ◌+◌, ◌-◌, ◌*◌, ◌^◌, List, [], take, Option, Some, None, IsSome, IsTrue, false, refl, sym, ap, ◌∙◌, subst, arith}
+use Rattle.std.proofs.Common.{◌≡◌, ◌<◌, ◌≤◌, ◌⊎◌, inl, inr, ℕ, ◌+◌, ◌-◌, ◌*◌, ◌^◌, List, [], take, Some, None, refl, sym, ap, ◌∙◌, subst, arith}
 use Rattle.std.specs.List.{zip}
 use Rattle.definitions.specs.Disk as disk
 use Rattle.image_read.specs.Answers.{Reads, Answers}
@@ -28,20 +28,18 @@ use Rattle.machine.specs.declared.machine.Machine.{Machine}
 use Rattle.swap_slots.specs.Runs.{SlotRuns}
 use Rattle.resume_core.specs.Loading.{shown_by, activity_of}
 use Rattle.resume_core.specs.Ready.{CanStep, CanMake, CanRead}
-use Rattle.resume_core.specs.Reader.{HasAnswered}
-use Rattle.resume_core.specs.Row.{StandsFor, StandsAfter, HasReader, IsRow, ListsOn, LeadsOn}
+use Rattle.resume_core.specs.Row.{StandsFor, StandsAfter, HasFound, HasReader, Simulates, ListsOn, LeadsOn}
 use Rattle.resume_core.specs.declared.load.Load.{Load}
+use Rattle.resume_core.specs.declared.load.OpenChain.{OpenChain}
 use Rattle.resume_core.specs.declared.load.Stage.{Stage}
 use Rattle.resume_core.specs.declared.load.Stage.TheVariants as stage
-use Rattle.std.proofs.lemmas.Bool.{cases_lt, false≢true}
-use Rattle.std.proofs.lemmas.Option.{same_Some}
+use Rattle.std.proofs.lemmas.Bool.{cases_lt}
 use Rattle.image_read.proofs.Places.{two_places, some_read, none_read}
 use Rattle.image_read.proofs.Read.{known, saved_is}
 use Rattle.image_read.specs.Reading.{HasReadAll}
 use Rattle.page_restore.specs.Waiting.{Awaiting}
 use Rattle.plain_machine.specs.Machine.{IsHardware}
 use Rattle.plain_machine.specs.declared.event.IdentCheck.{IdentCheck}
-use Rattle.resume_core.proofs.TakingBack.{found_still}
 use Rattle.resume_core.proofs.Facts.{row_at_load, leads, same_loader, loader_of, told_by}
 use Rattle.resume_core.proofs.Finding.{knows_at, activity_is}
 use Rattle.resume_core.proofs.Answering.{goes_reply, no_want_before, more_to_read}
@@ -53,28 +51,28 @@ use Rattle.restore_laws.proofs.DataPlaces.{none_before}
 use Rattle.resume_core.proofs.OwnImage.{none_read_yet, other_pages}
 
 -- a resume that reads blocks of the chain, by the state that it stands for
-abbrev pub IsAtRead : Machine → Memory → Load → disk.Content → Type 0
-IsAtRead machine frames load c = (l : Resume) → StandsFor machine frames load c (loading l load.made) → (v : disk.DiskImage) × IsBeforeRead machine.hw (shown_by machine frames load) c l v load.made
+abbrev pub IsAtRead : Machine → Memory → Load → OpenChain → disk.Content → Type 0
+IsAtRead machine frames load chain c = (l : Resume) → StandsFor machine frames load c (loading l chain.done) → (v : disk.DiskImage) × IsBeforeRead machine.hw (shown_by machine frames load) c l v chain.done
 
-pub at_list : (machine : Machine) (frames : Memory) (load : Load) (c : disk.Content) → IsHardware machine.hw → load.stage ≡ stage.List → 4 ≤ load.made → IsAtRead machine frames load c
-at_list machine frames load c hw at late l s =
-    let knows = knows_at machine frames load c l load.made stage.List at s in
+pub at_list : (machine : Machine) (frames : Memory) (load : Load) (chain : OpenChain) (c : disk.Content) → IsHardware machine.hw → load.stage ≡ stage.List chain → 4 ≤ chain.done → IsAtRead machine frames load chain c
+at_list machine frames load chain c hw at late l s =
+    let knows = knows_at machine frames load c l chain.done (stage.List chain) at s in
     (knows.0, record { hardware = hw; late = late; within = knows.3; stands = s.stands; found = knows.1.found; gone_on = knows.2 })
 
-pub at_read : (machine : Machine) (frames : Memory) (load : Load) (c : disk.Content) → IsHardware machine.hw → load.stage ≡ stage.Read → 4 ≤ load.made → IsAtRead machine frames load c
-at_read machine frames load c hw at late l s =
-    let knows = knows_at machine frames load c l load.made stage.Read at s in
+pub at_read : (machine : Machine) (frames : Memory) (load : Load) (chain : OpenChain) (c : disk.Content) → IsHardware machine.hw → load.stage ≡ stage.Read chain → 4 ≤ chain.done → IsAtRead machine frames load chain c
+at_read machine frames load chain c hw at late l s =
+    let knows = knows_at machine frames load c l chain.done (stage.Read chain) at s in
     (knows.0, record { hardware = hw; late = late; within = knows.3; stands = s.stands; found = knows.1.found; gone_on = knows.2 })
 
 -- the disk fails at a read
-pub read_failed_row : (machine : Machine) (frames : Memory) (load load' : Load) (c : disk.Content) → activity_of load ≡ loads load.made → IsAtRead machine frames load c → load'.stage ≡ stage.Rest →
-    IsRow machine frames load machine frames load' (event.Step actor.Core) (reply.ReadFault Gone) c c
-read_failed_row machine frames load load' c is reads rest =
-    row_at_load machine frames load machine frames load' (event.Step actor.Core) (reply.ReadFault Gone) c c load.made is
+pub read_failed_row : (machine : Machine) (frames : Memory) (load load' : Load) (chain : OpenChain) (c : disk.Content) → activity_of load ≡ loads chain.done → IsAtRead machine frames load chain c → load'.stage ≡ stage.Rest →
+    Simulates machine frames load machine frames load' (event.Step actor.Core) (reply.ReadFault Gone) c c
+read_failed_row machine frames load load' chain c is reads rest =
+    row_at_load machine frames load machine frames load' (event.Step actor.Core) (reply.ReadFault Gone) c c chain.done is
     (λ l s. (
       off nothing None,
-      leads machine frames load' (reply.ReadFault Gone) c c (loading l load.made) (off nothing None) tt
-          (let at = reads l s in read_fault_row machine.hw (shown_by machine frames load) (shown_by machine frames load') c l at.0 load.made at.1 (activity_is load' stage.Rest rest, refl)) tt,
+      leads machine frames load' (reply.ReadFault Gone) c c (loading l chain.done) (off nothing None) tt
+          (let at = reads l s in read_fault_row machine.hw (shown_by machine frames load) (shown_by machine frames load') c l at.0 chain.done at.1 (activity_is load' stage.Rest rest, refl)) tt,
     ))
 
 -- up to here few blocks are read
@@ -85,8 +83,8 @@ few_listed t n few more = elim (cases_lt t 2) [
 ]
 
 -- more blocks are wanted, as more numbers are
-more_listed : (h : Hardware) (v : disk.DiskImage) (load : Load) (t : ℕ) (read : HasReader h v load t) → told h v (pages_read t) ≡ None → t < place_count (info_in h v).pages
-more_listed h v load t read none =
+more_listed : (h : Hardware) (v : disk.DiskImage) (reader : Reading) (load : Load) (t : ℕ) (read : HasReader h v reader load t) → told h v (pages_read t) ≡ None → t < place_count (info_in h v).pages
+more_listed h v reader load t read none =
     let pages = (info_in h v).pages in
     let n = (info_in h v).image_pages in
     elim (cases_lt t 2) [
@@ -94,18 +92,13 @@ more_listed h v load t read none =
       | inr le ↦ (
           let some = some_read t le in
           let more = more_to_read h v (pages_read t) some none in
-          let least = (read.reading.counts some).least in
+          let least = (read.counts some).least in
           omega arith)
     ]
 
--- a reader that goes on saves few page frames
-abbrev pub SavesFew : Load → Type 0
-SavesFew load = (r : Reading) → load.reader ≡ Some r → r.saved ≤ 65536
-
-few_made : (h : Hardware) (v : disk.DiskImage) (load : Load) (t : ℕ) → HasReader h v load t → SavesFew load → told h v (pages_read t) ≡ None → t < 200
-few_made h v load t read few none =
-    let saved = few read.reader read.has in
-    let same = read.reading.saved in
+few_made : (h : Hardware) (v : disk.DiskImage) (reader : Reading) (load : Load) (t : ℕ) → HasReader h v reader load t → reader.saved ≤ 65536 → told h v (pages_read t) ≡ None → t < 200
+few_made h v reader load t read few none =
+    let same = read.saved in
     elim (cases_lt t 2) [
       | inl lt ↦ omega arith
       | inr le ↦ (
@@ -121,19 +114,19 @@ none_shown h v l i t k hw is found own none =
     sym (ap (λ (n : ℕ). take n (with_data i)) zero)
 
 -- numbers are still to come
-pub more_row : (machine : Machine) (frames : Memory) (load : Load) (m : ℕ) → SavesFew load → ((r : Reading) → load.reader ≡ Some r → r.listed ≡ None) → (load.made + 1 < 2 ^ 32 → m ≡ load.made + 1) →
-    ListsOn machine frames load machine frames (record load { stage = stage.List; made = m }) (reply.Loading m)
-more_row machine frames load m few unlisted counted c l v k read none waits =
+pub more_row : (machine : Machine) (frames : Memory) (load : Load) (chain : OpenChain) (m : ℕ) → chain.reader.saved ≤ 65536 → chain.reader.listed ≡ None → (chain.done + 1 < 2 ^ 32 → m ≡ chain.done + 1) →
+    ListsOn machine frames load chain machine frames (record load { stage = stage.List (record chain { done = m }) }) (reply.Loading m)
+more_row machine frames load chain m few unlisted counted c l v k read none waits =
     let h = machine.hw in
     let late = read.reading.late in
-    let reader = read.read.reader in
-    let none' : told h v (pages_read (k - 4 + 1)) ≡ None = sym read.read.reading.listed ∙ unlisted reader read.read.has in
-    let more = more_listed h v load (k - 4 + 1) read.read none' in
+    let reader = chain.reader in
+    let none' : told h v (pages_read (k - 4 + 1)) ≡ None = sym read.read.listed ∙ unlisted in
+    let more = more_listed h v reader load (k - 4 + 1) read.read none' in
     let goes = goes_reply h l.dump v l.loader l.check k late read.sound (no_want_before h l.dump v l.loader (k - 4) none') more in
-    let small = few_made h v load (k - 4 + 1) read.read few none' in
-    let made = read.made in
-    let m_is : m ≡ k + 1 = counted (omega arith) ∙ ap (λ (n : ℕ). n + 1) made in
-    let new = record load { stage = stage.List; made = k + 1 } in
+    let small = few_made h v reader load (k - 4 + 1) read.read few none' in
+    let done = read.done in
+    let m_is : m ≡ k + 1 = counted (omega arith) ∙ ap (λ (n : ℕ). n + 1) done in
+    let new = record load { stage = stage.List (record chain { done = k + 1 }) } in
     let at : k - 4 + 1 ≡ k + 1 - 4 = omega arith in
     let shows : ShowsLoad h (shown_by machine frames new) l (k + 1) = record {
       activity = refl;
@@ -147,7 +140,7 @@ more_row machine frames load m few unlisted counted c l v k read none waits =
             ∙ other_pages h v w l (k - 4 + 1) (k + 1) (omega arith) read.found.found other;
       };
     } in
-    subst (λ (n : ℕ). LeadsOn machine frames (record load { stage = stage.List; made = n }) (reply.Loading n) c l k) (sym m_is) (
+    subst (λ (n : ℕ). LeadsOn machine frames (record load { stage = stage.List (record chain { done = n }) }) (reply.Loading n) c l k) (sym m_is) (
       loading l (k + 1),
       leads machine frames new (reply.Loading (k + 1)) c c (loading l k) (loading l (k + 1)) tt
           (read_row h read.shown (shown_by machine frames new) c l v k read.reading goes shows)
@@ -155,10 +148,10 @@ more_row machine frames load m few unlisted counted c l v k read none waits =
             free = read.loader.free;
             knows = (
               v,
-              found_still machine load new c c l v refl refl read.found.reads refl read.found,
+              read.found,
               gone_next h l v k read.reading.gone_on goes,
               omega arith,
-              record { reader = reader; has = read.read.has; reading = subst (λ (t : ℕ). stream.HasReadPlaces h v load.check reader t load.origs.members load.zeros.members) at read.read.reading },
+              subst (λ (t : ℕ). HasReader h v reader load t) at read.read,
               subst (λ (t : ℕ). told h v (pages_read t) ≡ None) at none',
               waits,
             );
@@ -167,10 +160,10 @@ more_row machine frames load m few unlisted counted c l v k read none waits =
 
 -- A block that was read, as what follows takes it.
 
-pub not_over : (h : Hardware) (v : disk.DiskImage) (load : Load) (t : ℕ) → (read : HasReader h v load t) → t < place_count (info_in h v).pages → HasReadAll read.reader → ⊥
-not_over h v load t read within over =
-    let steps = read.reading.steps in
-    let pages = read.reading.pages in
+pub not_over : (h : Hardware) (v : disk.DiskImage) (reader : Reading) (load : Load) (t : ℕ) → HasReader h v reader load t → t < place_count (info_in h v).pages → HasReadAll reader → ⊥
+not_over h v reader load t read within over =
+    let steps = read.steps in
+    let pages = read.pages in
     elim (cases_lt t 2) [
       | inl lt ↦ (
           let zero = none_read t lt in
@@ -182,66 +175,78 @@ not_over h v load t read within over =
 abbrev pub HasNoCause : ReadStep → Type 0
 HasNoCause result = ((k : ℕ) × (result ≡ read_step.More k)) ⊎ (((pfn : ℕ) × (result ≡ read_step.Page pfn)) ⊎ (result ≡ read_step.Done))
 
+-- what the reader answered for place t of the disk v, from one reading to the other
+abbrev pub AnswersFor : Hardware → disk.DiskImage → ℕ → ReadStep → OpenChain → OpenChain → Load → Load → Type 0
+AnswersFor h v t result chain chain' load mid = Answers h v load.check t result chain.reader chain'.reader mid.origs.members mid.zeros.members mid.page
+
 -- what was read, and that nothing is wrong with it
-pub read_on : (h : Hardware) (v : disk.DiskImage) (t : ℕ) (result : ReadStep) (old new : Load) → new.check ≡ old.check → HasReader h v old t → t < place_count (info_in h v).pages → HasNoCause result → HasAnswered h v t result old new → (step_cause h v old.check t ≡ None) × HasReader h v new (t + 1)
-read_on h v t result old new check was within none answered = elim none [
-  | inl more ↦ (let a = subst (λ (s : ReadStep). Answers h v old.check t s answered.before answered.after new.origs.members new.zeros.members new.page) more.1 answered.answers in
-      (a.0, record { reader = answered.after; has = answered.has; reading = subst (λ (x : IdentCheck). stream.HasReadPlaces h v x answered.after (t + 1) new.origs.members new.zeros.members) (sym check) a.1 }))
+pub read_on : (h : Hardware) (v : disk.DiskImage) (t : ℕ) (result : ReadStep) (chain chain' : OpenChain) (old new : Load) → new.check ≡ old.check → HasReader h v chain.reader old t → t < place_count (info_in h v).pages → HasNoCause result → AnswersFor h v t result chain chain' old new →
+    (step_cause h v old.check t ≡ None) × HasReader h v chain'.reader new (t + 1)
+read_on h v t result chain chain' old new check was within none answers = elim none [
+  | inl more ↦ (let a = subst (λ (s : ReadStep). AnswersFor h v t s chain chain' old new) more.1 answers in
+      (a.0, subst (λ (x : IdentCheck). stream.HasReadPlaces h v x chain'.reader (t + 1) new.origs.members new.zeros.members) (sym check) a.1))
   | inr other ↦ elim other [
-    | inl page ↦ (let a = subst (λ (s : ReadStep). Answers h v old.check t s answered.before answered.after new.origs.members new.zeros.members new.page) page.1 answered.answers in
-        (a.0, record { reader = answered.after; has = answered.has; reading = subst (λ (x : IdentCheck). stream.HasReadPlaces h v x answered.after (t + 1) new.origs.members new.zeros.members) (sym check) a.1 }))
-    | inr done ↦ (let a = subst (λ (s : ReadStep). Answers h v old.check t s answered.before answered.after new.origs.members new.zeros.members new.page) done answered.answers in
-        let same : answered.before ≡ was.reader = same_Some answered.before was.reader (sym answered.was ∙ was.has) in
-        absurd (not_over h v old t was within (subst HasReadAll same a.0)))
+    | inl page ↦ (let a = subst (λ (s : ReadStep). AnswersFor h v t s chain chain' old new) page.1 answers in
+        (a.0, subst (λ (x : IdentCheck). stream.HasReadPlaces h v x chain'.reader (t + 1) new.origs.members new.zeros.members) (sym check) a.1))
+    | inr done ↦ (let a = subst (λ (s : ReadStep). AnswersFor h v t s chain chain' old new) done answers in
+        absurd (not_over h v chain.reader old t was within a.0))
   ]
 ]
 
+-- another reading of the same chain
+pub found_in : (machine : Machine) (chain chain' : OpenChain) (c : disk.Content) (l : Resume) (v : disk.DiskImage) → chain' ≡ record chain { reader = chain'.reader } → HasFound machine chain.header c l v → HasFound machine chain'.header c l v
+found_in machine chain chain' c l v is found = subst (λ (p : List ℕ). HasFound machine p c l v) (sym (ap (λ (x : OpenChain). x.header) is)) found
+
 -- the row of a read at which more is listed
-pub listed_on : (machine : Machine) (frames : Memory) (load mid : Load) (machine' : Machine) (frames' : Memory) (load' : Load) (result : ReadStep) (r : Reply) (c : disk.Content) → IsHardware machine.hw → load.stage ≡ stage.List → 4 ≤ load.made → machine'.hw ≡ machine.hw → disk.IsContent machine.blocks c →
-    mid ≡ record load { reader = mid.reader; origs = mid.origs; zeros = mid.zeros; page = mid.page } → HasNoCause result → ((v : disk.DiskImage) (t : ℕ) → HasReader machine.hw v load t → Reads machine.hw v (Some c) → HasAnswered machine.hw v t result load mid) →
-    ListsOn machine frames mid machine' frames' load' r → IsRow machine frames load machine' frames' load' (event.Step actor.Core) r c c
-listed_on machine frames load mid machine' frames' load' result r c hardware at late same whole is none answers goes =
-    row_at_load machine frames load machine' frames' load' (event.Step actor.Core) r c c load.made (activity_is load stage.List at)
+pub listed_on : (machine : Machine) (frames : Memory) (load mid : Load) (chain chain' : OpenChain) (machine' : Machine) (frames' : Memory) (load' : Load) (result : ReadStep) (r : Reply) (c : disk.Content) → IsHardware machine.hw → load.stage ≡ stage.List chain → 4 ≤ chain.done → machine'.hw ≡ machine.hw →
+    disk.IsContent machine.blocks c → mid ≡ record load { stage = mid.stage; origs = mid.origs; zeros = mid.zeros; page = mid.page } → chain' ≡ record chain { reader = chain'.reader } → HasNoCause result →
+    ((v : disk.DiskImage) (t : ℕ) → HasReader machine.hw v chain.reader load t → Reads machine.hw v (Some c) → AnswersFor machine.hw v t result chain chain' load mid) →
+    ListsOn machine frames mid chain' machine' frames' load' r → Simulates machine frames load machine' frames' load' (event.Step actor.Core) r c c
+listed_on machine frames load mid chain chain' machine' frames' load' result r c hardware at late same whole is is' none answers goes =
+    row_at_load machine frames load machine' frames' load' (event.Step actor.Core) r c c chain.done (activity_is load (stage.List chain) at)
     (λ l s.
     let h = machine.hw in
-    let knows = knows_at machine frames load c l load.made stage.List at s in
+    let knows = knows_at machine frames load c l chain.done (stage.List chain) at s in
     let v = knows.0 in
-    let t = load.made - 4 in
+    let t = chain.done - 4 in
     let was = knows.4 in
     let within : t < place_count (info_in h v).pages = (let lt = knows.3 in omega arith) in
     let check : mid.check ≡ load.check = ap (λ (x : Load). x.check) is in
     let waiting : mid.waiting ≡ load.waiting = ap (λ (x : Load). x.waiting) is in
-    let read = read_on h v t result load mid check was within none (answers v t was knows.1.reads) in
-    let led = goes c l v load.made
+    let read = read_on h v t result chain chain' load mid check was within none (answers v t was knows.1.reads) in
+    let led = goes c l v chain.done
     (record {
       shown = shown_by machine frames load;
       whole = whole;
       reading = record { hardware = hardware; late = late; within = knows.3; stands = s.stands; found = knows.1.found; gone_on = knows.2 };
-      loader = same_loader h load mid l (ap (λ (w : Awaiting). w.free) waiting) (ap (λ (x : Load). x.loader) is) check (loader_of machine frames load c l load.made s);
-      found = found_still machine load mid c c l v (ap (λ (x : Load). x.header) is) (ap (λ (x : Load). x.mark) is) knows.1.reads refl knows.1;
-      sound = subst (λ (x : IdentCheck). step_cause h v x t ≡ None) (loader_of machine frames load c l load.made s).check read.0;
+      loader = same_loader h load mid l (ap (λ (w : Awaiting). w.free) waiting) (ap (λ (x : Load). x.loader) is) check (loader_of machine frames load c l chain.done s);
+      found = found_in machine chain chain' c l v is' knows.1;
+      sound = subst (λ (x : IdentCheck). step_cause h v x t ≡ None) (loader_of machine frames load c l chain.done s).check read.0;
       read = read.1;
-      kept = s.stands.parts.1.shows.kept;
-      made = ap (λ (x : Load). x.made) is;
+      kept = s.stands.parts.resume.shows.kept;
+      done = ap (λ (x : OpenChain). x.done) is';
     })
     knows.5 (ap (λ (w : Awaiting). w.originals) waiting ∙ knows.6) in (
       led.0,
-      subst (λ (x : Hardware). rows.Leads x (StandsAfter machine' frames' load' r (loading l load.made)) (event.Step actor.Core) r c c (loading l load.made) led.0) same led.1,
+      subst (λ (x : Hardware). rows.StepsTo x (StandsAfter machine' frames' load' r (loading l chain.done)) (event.Step actor.Core) r c c (loading l chain.done) led.0) same led.1,
     ))
 
-pub list_can : (machine : Machine) (frames : Memory) (runs : SlotRuns) (load : Load) → load.stage ≡ stage.List → CanStep machine frames runs load → CanRead machine.blocks load × (4 ≤ load.made)
-list_can machine frames runs load at can = subst (λ (s : Stage). CanMake s machine frames runs load) at can.next
+pub list_can : (machine : Machine) (frames : Memory) (runs : SlotRuns) (load : Load) (chain : OpenChain) → load.stage ≡ stage.List chain → CanStep machine frames runs load → CanRead machine.blocks chain.reader load.origs.members load.zeros.members × (4 ≤ chain.done)
+list_can machine frames runs load chain at can = subst (λ (s : Stage). CanMake s machine frames runs load) at can.next
 
-pub saves_few : (blocks : ℕ) (load : Load) → CanRead blocks load → SavesFew load
-saves_few blocks load can r has =
-    let same : can.reader ≡ r = same_Some can.reader r (sym can.has ∙ has) in
-    subst (λ (x : Reading). x.saved ≤ 65536) same can.ready.saved
+-- a stage has one chain
+abbrev chain_of : OpenChain → Stage → OpenChain
+chain_of other (stage.List chain) = chain
+chain_of other (stage.Read chain) = chain
+chain_of other _ = other
 
-pub none_of_some : (o : Option ℕ) → (IsSome o → IsTrue false) → o ≡ None
-none_of_some None not = refl
-none_of_some (Some n) not = absurd (false≢true (not refl))
+pub same_listed : (chain chain' : OpenChain) → stage.List chain ≡ stage.List chain' → chain ≡ chain'
+same_listed chain chain' e = ap (chain_of chain) e
+
+pub same_read : (chain chain' : OpenChain) → stage.Read chain ≡ stage.Read chain' → chain ≡ chain'
+same_read chain chain' e = ap (chain_of chain) e
 
 -- a row that leads to what is there in the end
-pub lists_row_of : (machine : Machine) (frames : Memory) (load : Load) (machine' : Machine) (frames' : Memory) (load' end : Load) (r told : Reply) → end ≡ load' → told ≡ r → ListsOn machine frames load machine' frames' load' r → ListsOn machine frames load machine' frames' end told
-lists_row_of machine frames load machine' frames' load' end r told same reply row =
-    subst (λ (x : Load). ListsOn machine frames load machine' frames' x told) (sym same) (subst (λ (q : Reply). ListsOn machine frames load machine' frames' load' q) (sym reply) row)
+pub lists_row_of : (machine : Machine) (frames : Memory) (load : Load) (chain : OpenChain) (machine' : Machine) (frames' : Memory) (load' end : Load) (r told : Reply) → end ≡ load' → told ≡ r → ListsOn machine frames load chain machine' frames' load' r → ListsOn machine frames load chain machine' frames' end told
+lists_row_of machine frames load chain machine' frames' load' end r told same reply row =
+    subst (λ (x : Load). ListsOn machine frames load chain machine' frames' x told) (sym same) (subst (λ (q : Reply). ListsOn machine frames load chain machine' frames' load' q) (sym reply) row)

@@ -4,17 +4,16 @@ use Rattle.std.specs.List.{zip}
 use Rattle.std.proofs.lemmas.Bool.{cases_lt, cond-true, lt-ltb, eq-eqb, false≢true}
 use Rattle.std.proofs.lemmas.Bool.Decides.{eqb_tells}
 use Rattle.std.proofs.lemmas.List.FromFn.{map-range_with_len_more}
-use Rattle.std.proofs.lemmas.Option.{same_Some, none-some, slice_get-get_or}
+use Rattle.std.proofs.lemmas.Option.{none-some, slice_get-get_or}
 use Rattle.std.specs.List.Sorted.{IsStrictlyIncreasing}
 use Rattle.definitions.specs.Disk as disk
 use Rattle.definitions.specs.Tables.{frame}
 use Rattle.safe_pages.specs.Placed.{sources}
 use Rattle.image_read.specs.Causes.{reply_of}
-use Rattle.image_read.specs.Reading.{Reading, HasReadAll}
+use Rattle.image_read.specs.Reading.{Reading}
 use Rattle.image_read.specs.Taking as taking
-use Rattle.image_read.specs.Stream as stream
 use Rattle.image_read.specs.Stream.{pages_read, told, frames_in, marked_in, numbers_read, frame_at, place_block, step_cause}
-use Rattle.image_read.specs.Answers.{Reads, Answers, told_after}
+use Rattle.image_read.specs.Answers.{Reads, told_after}
 use Rattle.image_read.specs.declared.cause.Cause.{Cause}
 use Rattle.image_read.specs.declared.cause.Cause.TheVariants as cause
 use Rattle.image_read.specs.declared.reader.ReadStep.{ReadStep}
@@ -26,8 +25,7 @@ use Rattle.plain_machine.specs.declared.event.IdentCheck.{IdentCheck}
 use Rattle.protocol_laws.specs.Rows as rows
 use Rattle.swap_slots.specs.Runs.{SlotRuns}
 use Rattle.resume_core.specs.Ready.{CanStep, CanMake, CanRead}
-use Rattle.resume_core.specs.Reader.{HasAnswered}
-use Rattle.resume_core.specs.Row.{StandsAfter, IsRow}
+use Rattle.resume_core.specs.Row.{StandsAfter, Simulates}
 use Rattle.resume_core.specs.declared.load.Stage.{Stage}
 use Rattle.image_read.proofs.Places.{pages_left, at_map, at_page, read_at_map, read_at_page, two_places}
 use Rattle.image_read.proofs.Read.{told_all, saved_is}
@@ -48,15 +46,15 @@ use Rattle.protocol_laws.specs.TraceAt.{reply_past}
 use Rattle.protocol_laws.specs.Loads.{ShowsLoad}
 use Rattle.machine.specs.declared.machine.Machine.{Machine}
 use Rattle.resume_core.specs.Loading.{shown_by}
-use Rattle.resume_core.specs.Reader.{room_refusal, refusal_behind}
+use Rattle.resume_core.specs.Refusals.{room_refusal, refusal_behind}
 use Rattle.resume_core.specs.Row.{HasReader, HasRead, HavePlaces, ListsOn, ReadsOn, LeadsOn}
 use Rattle.resume_core.specs.declared.load.Load.{Load}
+use Rattle.resume_core.specs.declared.load.OpenChain.{OpenChain}
 use Rattle.resume_core.specs.declared.load.Stage.TheVariants as stage
 use Rattle.resume_core.proofs.Facts.{stopped_early, leads, same_loader, loader_of, told_by, row_at_load}
 use Rattle.resume_core.proofs.Finding.{activity_is, knows_at}
-use Rattle.resume_core.proofs.TakingBack.{found_still}
 use Rattle.resume_core.proofs.Answering.{late_reply, no_want_before, goes_reply, room_reply, stops_reply, no_want_after, no_read_cause, all_read, more_to_read}
-use Rattle.resume_core.proofs.Listing.{SavesFew, HasNoCause, read_on, not_over}
+use Rattle.resume_core.proofs.Listing.{AnswersFor, HasNoCause, read_on, not_over, found_in}
 use Rattle.resume_core.proofs.OwnImage.{pages_are, other_pages, count_is}
 use Rattle.protocol_laws.proofs.LoadRows.{read_row, read_stop_row, cause_ends}
 use Rattle.protocol_laws.proofs.LoadReplies.{gone_next}
@@ -72,10 +70,6 @@ pub refusal_cause : (o : Option ℕ) (have d : ℕ) (cause : Cause) → room_ref
 refusal_cause None have d cause e = refl
 refusal_cause (Some n) have d cause e = sym (ap (λ (x : Option Reply). unwrap_or x (reply_of cause)) e)
 
-pub refusal_unlisted : (o : Option ℕ) (have d : ℕ) (cause : Cause) → (IsSome o → IsTrue false) → reply_of cause ≡ refusal_behind o have d cause
-refusal_unlisted None have d cause none = refl
-refusal_unlisted (Some n) have d cause none = absurd (false≢true (none refl))
-
 -- Behind the last number page.
 
 some_all : (b : Bool) (n : ℕ) → IsSome (cond b (Some n) None) → cond b (Some n) None ≡ Some n
@@ -86,11 +80,8 @@ told_some : (h : Hardware) (v : disk.DiskImage) (j : ℕ) → IsSome (told h v j
 told_some h v zero e = absurd (false≢true e)
 told_some h v (suc j) e = some_all (eqb (numbers_read h v (suc j)) (info_in h v).image_pages) (info_in h v).image_pages e
 
-abbrev pub IsListed : Load → Type 0
-IsListed load = (r : Reading) → load.reader ≡ Some r → IsSome r.listed
-
-told_listed : (h : Hardware) (v : disk.DiskImage) (load : Load) (t : ℕ) → HasReader h v load t → IsListed load → told h v (pages_read t) ≡ Some (info_in h v).image_pages
-told_listed h v load t read listed = told_some h v (pages_read t) (subst IsSome read.reading.listed (listed read.reader read.has))
+told_listed : (h : Hardware) (v : disk.DiskImage) (reader : Reading) (load : Load) (t : ℕ) → HasReader h v reader load t → IsSome reader.listed → told h v (pages_read t) ≡ Some (info_in h v).image_pages
+told_listed h v reader load t read listed = told_some h v (pages_read t) (subst IsSome read.listed listed)
 
 -- the room is tested there
 want_listed : (h : Hardware) (dump : Memory) (v : disk.DiskImage) (loader : Loader) (t : ℕ) → told h v (pages_read t) ≡ None → told h v (pages_read (t + 1)) ≡ Some (info_in h v).image_pages → want_cause h dump v loader (place t) ≡ room_cause h dump v loader
@@ -126,30 +117,30 @@ data_of h v j origs zeros frames_are marks_are rising told_now =
     let marks : zeros ≡ marked_in h v n = marks_are ∙ ap (marked_in h v) count in
     listed_data h v origs zeros frames marks rising
 
-data_are : (h : Hardware) (v : disk.DiskImage) (load : Load) (t : ℕ) → HasReader h v load t → told h v (pages_read t) ≡ Some (info_in h v).image_pages → with_data load.origs.members load.zeros.members ≡ data_frames h v
-data_are h v load t read told_now = data_of h v (pages_read t) load.origs.members load.zeros.members read.reading.frames read.reading.marks read.reading.rising told_now
+data_are : (h : Hardware) (v : disk.DiskImage) (reader : Reading) (load : Load) (t : ℕ) → HasReader h v reader load t → told h v (pages_read t) ≡ Some (info_in h v).image_pages → with_data load.origs.members load.zeros.members ≡ data_frames h v
+data_are h v reader load t read told_now = data_of h v (pages_read t) load.origs.members load.zeros.members read.frames read.marks read.rising told_now
 
 room_is : (h : Hardware) (dump : Memory) (v : disk.DiskImage) (loader : Loader) (have d : ℕ) → have ≡ length (left_free h dump loader) → d ≡ d_in h v → room_cause h dump v loader ≡ room_refusal have d
 room_is h dump v loader have d same count = ap₂ room_refusal (sym same) (sym count)
 
 -- the room at the step that reads the last number page, as it was tested
-room_tested : (machine : Machine) (frames : Memory) (load : Load) (c : disk.Content) (l : Resume) (v : disk.DiskImage) (k : ℕ) → HasRead machine frames load c l v k → IsListed load → told machine.hw v (pages_read (k - 4)) ≡ None →
+room_tested : (machine : Machine) (frames : Memory) (load : Load) (chain : OpenChain) (c : disk.Content) (l : Resume) (v : disk.DiskImage) (k : ℕ) → HasRead machine frames load chain c l v k → IsSome chain.reader.listed → told machine.hw v (pages_read (k - 4)) ≡ None →
     want_cause machine.hw l.dump v l.loader (place (k - 4)) ≡ room_refusal (length load.waiting.free) (length (with_data load.origs.members load.zeros.members))
-room_tested machine frames load c l v k read listed before =
+room_tested machine frames load chain c l v k read listed before =
     let h = machine.hw in
-    let after = told_listed h v load (k - 4 + 1) read.read listed in
+    let after = told_listed h v chain.reader load (k - 4 + 1) read.read listed in
     want_listed h l.dump v l.loader (k - 4) before after
-    ∙ room_is h l.dump v l.loader (length load.waiting.free) (length (with_data load.origs.members load.zeros.members)) (ap length read.loader.free) (ap length (data_are h v load (k - 4 + 1) read.read after) ∙ sym (count_is h v))
+    ∙ room_is h l.dump v l.loader (length load.waiting.free) (length (with_data load.origs.members load.zeros.members)) (ap length read.loader.free) (ap length (data_are h v chain.reader load (k - 4 + 1) read.read after) ∙ sym (count_is h v))
 
 content_of_room : (a w n : Option Reply) (r : Reply) → a ≡ None → w ≡ Some r → or_else (or_else a w) n ≡ Some r
 content_of_room a w n r none some = ap (λ (x : Option Reply). or_else (or_else x w) n) none ∙ ap (λ (x : Option Reply). or_else x n) some
 
 -- too little room
-pub few_row : (machine : Machine) (frames : Memory) (load load' : Load) (why : Reply) → IsListed load → room_refusal (length load.waiting.free) (length (with_data load.origs.members load.zeros.members)) ≡ Some why → load'.stage ≡ stage.Rest →
-    ListsOn machine frames load machine frames load' why
-few_row machine frames load load' why listed refused rest c l v k read before waits =
+pub few_row : (machine : Machine) (frames : Memory) (load load' : Load) (chain : OpenChain) (why : Reply) → IsSome chain.reader.listed → room_refusal (length load.waiting.free) (length (with_data load.origs.members load.zeros.members)) ≡ Some why → load'.stage ≡ stage.Rest →
+    ListsOn machine frames load chain machine frames load' why
+few_row machine frames load load' chain why listed refused rest c l v k read before waits =
     let h = machine.hw in
-    let want = room_tested machine frames load c l v k read listed before ∙ refused in
+    let want = room_tested machine frames load chain c l v k read listed before ∙ refused in
     let none = no_read_cause h v l.check (k - 4) read.sound in
     let stop : IsStop why = cause_ends h l v (k - 4) why (content_of_room (read_cause h v l.check (place (k - 4))) (want_cause h l.dump v l.loader (place (k - 4))) (next_cause h v (k - 4)) why none want) in (
       off nothing None,
@@ -158,11 +149,12 @@ few_row machine frames load load' why listed refused rest c l v k read before wa
     )
 
 -- enough room: the places of the pages to come are planned
-pub planned_row : (machine : Machine) (frames : Memory) (load mid : Load) (machine' : Machine) (frames' : Memory) (load' : Load) (r : Reply) → IsListed load → mid ≡ record load { waiting = mid.waiting } → mid.waiting.originals ≡ with_data load.origs.members load.zeros.members → mid.waiting.free ≡ load.waiting.free → mid.waiting.loaded ≡ 0 →
-    room_refusal (length load.waiting.free) (length (with_data load.origs.members load.zeros.members)) ≡ None → ReadsOn machine frames mid machine' frames' load' r → ListsOn machine frames load machine' frames' load' r
-planned_row machine frames load mid machine' frames' load' r listed is originals free loaded room goes c l v k read before waits =
+pub planned_row : (machine : Machine) (frames : Memory) (load mid : Load) (chain : OpenChain) (machine' : Machine) (frames' : Memory) (load' : Load) (r : Reply) → IsSome chain.reader.listed → mid ≡ record load { stage = mid.stage; waiting = mid.waiting } →
+    mid.waiting.originals ≡ with_data load.origs.members load.zeros.members → mid.waiting.free ≡ load.waiting.free → mid.waiting.loaded ≡ 0 → room_refusal (length load.waiting.free) (length (with_data load.origs.members load.zeros.members)) ≡ None →
+    ReadsOn machine frames mid chain machine' frames' load' r → ListsOn machine frames load chain machine' frames' load' r
+planned_row machine frames load mid chain machine' frames' load' r listed is originals free loaded room goes c l v k read before waits =
     let h = machine.hw in
-    let told_now = told_listed h v load (k - 4 + 1) read.read listed in
+    let told_now = told_listed h v chain.reader load (k - 4 + 1) read.read listed in
     let n = (info_in h v).image_pages in
     let fewer : pages_read (k - 4 + 1) ≤ meta_in h v + 1 = elim (cases_lt 0 (pages_read (k - 4))) [
       | inl some ↦ (let more = more_to_read h v (pages_read (k - 4)) (omega arith) before in omega arith)
@@ -175,35 +167,35 @@ planned_row machine frames load mid machine' frames' load' r listed is originals
       whole = read.whole;
       reading = read.reading;
       loader = same_loader h load mid l free (ap (λ (x : Load). x.loader) is) check read.loader;
-      found = found_still machine load mid c c l v (ap (λ (x : Load). x.header) is) (ap (λ (x : Load). x.mark) is) read.found.reads refl read.found;
+      found = read.found;
       sound = read.sound;
-      read = subst (λ (x : Load). HasReader h v x (k - 4 + 1)) (sym is) (record { reader = read.read.reader; has = read.read.has; reading = read.read.reading });
+      read = subst (λ (x : Load). HasReader h v chain.reader x (k - 4 + 1)) (sym is) read.read;
       kept = read.kept;
-      made = ap (λ (x : Load). x.made) is ∙ read.made;
+      done = read.done;
     })
     (record {
       listed = told_now;
-      originals = originals ∙ data_are h v load (k - 4 + 1) read.read told_now;
+      originals = originals ∙ data_are h v chain.reader load (k - 4 + 1) read.read told_now;
       loaded = loaded ∙ (let fewer = fewer in omega arith);
       pages = ap (λ (n : ℕ). map (frame frames) (take n (sources mid.waiting.placement.moves))) loaded ∙ sym (ap (data_pages h v) loaded);
     })
-    (room_tested machine frames load c l v k read listed before ∙ room)
+    (room_tested machine frames load chain c l v k read listed before ∙ room)
 
 -- Pages are still to come.
 
-few_pages : (h : Hardware) (v : disk.DiskImage) (load : Load) (t : ℕ) → HasReader h v load t → SavesFew load → told h v (pages_read t) ≡ Some (info_in h v).image_pages → (info_in h v).pages < 70000
-few_pages h v load t read few told_now =
+few_pages : (h : Hardware) (v : disk.DiskImage) (reader : Reading) (load : Load) (t : ℕ) → HasReader h v reader load t → reader.saved ≤ 65536 → told h v (pages_read t) ≡ Some (info_in h v).image_pages → (info_in h v).pages < 70000
+few_pages h v reader load t read few told_now =
     let n = (info_in h v).image_pages in
-    let whole = read.reading.whole n (read.reading.listed ∙ told_now) in
+    let whole = read.whole n (read.listed ∙ told_now) in
     let count = data_length h v in
-    let saved = few read.reader read.has in
-    let same = read.reading.saved in
+    let same = read.saved in
     let is = saved_is h v (pages_read t) (all_read h v (pages_read t) told_now).0 in
     omega arith
 
-pub going_row : (machine : Machine) (frames : Memory) (load : Load) (m : ℕ) → SavesFew load → ((h : Hardware) (v : disk.DiskImage) (t : ℕ) → HasReader h v load t → (2 ≤ t) × (t ≡ place_count (info_in h v).pages) → IsTrue false) → (load.made + 1 < 2 ^ 32 → m ≡ load.made + 1) →
-    ReadsOn machine frames load machine frames (record load { stage = stage.Read; made = m }) (reply.Loading m)
-going_row machine frames load m few not_over counted c l v k read places room =
+pub going_row : (machine : Machine) (frames : Memory) (load : Load) (chain : OpenChain) (m : ℕ) → chain.reader.saved ≤ 65536 →
+    ((h : Hardware) (v : disk.DiskImage) (t : ℕ) → HasReader h v chain.reader load t → (2 ≤ t) × (t ≡ place_count (info_in h v).pages) → IsTrue false) → (chain.done + 1 < 2 ^ 32 → m ≡ chain.done + 1) →
+    ReadsOn machine frames load chain machine frames (record load { stage = stage.Read (record chain { done = m }) }) (reply.Loading m)
+going_row machine frames load chain m few not_over counted c l v k read places room =
     let h = machine.hw in
     let late = read.reading.late in
     let within = read.reading.within in
@@ -213,12 +205,12 @@ going_row machine frames load m few not_over counted c l v k read places room =
       | inr le ↦ absurd (false≢true (not_over h v (k - 4 + 1) read.read (omega arith, omega arith)))
     ] in
     let goes = goes_reply h l.dump v l.loader l.check k late read.sound room more in
-    let small = few_pages h v load (k - 4 + 1) read.read few places.listed in
-    let made = read.made in
-    let m_is : m ≡ k + 1 = counted (omega arith) ∙ ap (λ (n : ℕ). n + 1) made in
+    let small = few_pages h v chain.reader load (k - 4 + 1) read.read few places.listed in
+    let done = read.done in
+    let m_is : m ≡ k + 1 = counted (omega arith) ∙ ap (λ (n : ℕ). n + 1) done in
     let few_loaded : load.waiting.loaded ≤ length (data_frames h v) =
-    (let whole = read.read.reading.whole (info_in h v).image_pages (read.read.reading.listed ∙ places.listed) in let is = places.loaded in omega arith) in
-    let new = record load { stage = stage.Read; made = k + 1 } in
+    (let whole = read.read.whole (info_in h v).image_pages (read.read.listed ∙ places.listed) in let is = places.loaded in omega arith) in
+    let new = record load { stage = stage.Read (record chain { done = k + 1 }) } in
     let at : k - 4 + 1 ≡ k + 1 - 4 = omega arith in
     let shows : ShowsLoad h (shown_by machine frames new) l (k + 1) = record {
       activity = refl;
@@ -235,7 +227,7 @@ going_row machine frames load m few not_over counted c l v k read places room =
             ∙ other_pages h v w l (k - 4 + 1) (k + 1) (omega arith) read.found.found other;
       };
     } in
-    subst (λ (n : ℕ). LeadsOn machine frames (record load { stage = stage.Read; made = n }) (reply.Loading n) c l k) (sym m_is) (
+    subst (λ (n : ℕ). LeadsOn machine frames (record load { stage = stage.Read (record chain { done = n }) }) (reply.Loading n) c l k) (sym m_is) (
       loading l (k + 1),
       leads machine frames new (reply.Loading (k + 1)) c c (loading l k) (loading l (k + 1)) tt
           (read_row h read.shown (shown_by machine frames new) c l v k read.reading goes shows)
@@ -243,24 +235,25 @@ going_row machine frames load m few not_over counted c l v k read places room =
             free = read.loader.free;
             knows = (
               v,
-              found_still machine load new c c l v refl refl read.found.reads refl read.found,
+              read.found,
               gone_next h l v k read.reading.gone_on goes,
               omega arith,
-              record { reader = read.read.reader; has = read.read.has; reading = subst (λ (t : ℕ). stream.HasReadPlaces h v load.check read.read.reader t load.origs.members load.zeros.members) at read.read.reading },
+              subst (λ (t : ℕ). HasReader h v chain.reader load t) at read.read,
               subst (λ (t : ℕ). HavePlaces h v frames load.waiting t) at places,
             );
           }),
     )
 
 -- a row that leads to what is there in the end
-pub reads_row_of : (machine : Machine) (frames : Memory) (load : Load) (machine' : Machine) (frames' : Memory) (load' end : Load) (r told : Reply) → end ≡ load' → told ≡ r → ReadsOn machine frames load machine' frames' load' r → ReadsOn machine frames load machine' frames' end told
-reads_row_of machine frames load machine' frames' load' end r told same reply row =
-    subst (λ (x : Load). ReadsOn machine frames load machine' frames' x told) (sym same) (subst (λ (q : Reply). ReadsOn machine frames load machine' frames' load' q) (sym reply) row)
+pub reads_row_of : (machine : Machine) (frames : Memory) (load : Load) (chain : OpenChain) (machine' : Machine) (frames' : Memory) (load' end : Load) (r told : Reply) → end ≡ load' → told ≡ r → ReadsOn machine frames load chain machine' frames' load' r → ReadsOn machine frames load chain machine' frames' end told
+reads_row_of machine frames load chain machine' frames' load' end r told same reply row =
+    subst (λ (x : Load). ReadsOn machine frames load chain machine' frames' x told) (sym same) (subst (λ (q : Reply). ReadsOn machine frames load chain machine' frames' load' q) (sym reply) row)
 
 -- The reads of the pages.
 
-pub read_can : (machine : Machine) (frames : Memory) (runs : SlotRuns) (load : Load) → load.stage ≡ stage.Read → CanStep machine frames runs load → CanRead machine.blocks load × (4 ≤ load.made) × (load.waiting.placement.ready ≡ true)
-read_can machine frames runs load at can = subst (λ (s : Stage). CanMake s machine frames runs load) at can.next
+pub read_can : (machine : Machine) (frames : Memory) (runs : SlotRuns) (load : Load) (chain : OpenChain) → load.stage ≡ stage.Read chain → CanStep machine frames runs load →
+    CanRead machine.blocks chain.reader load.origs.members load.zeros.members × (4 ≤ chain.done) × (load.waiting.placement.ready ≡ true)
+read_can machine frames runs load chain at can = subst (λ (s : Stage). CanMake s machine frames runs load) at can.next
 
 cause_stop : (x : Cause) → IsStop (reply_of x)
 cause_stop cause.NoChain = tt
@@ -274,17 +267,16 @@ cause_stop (cause.PfnOrder a b) = tt
 cause_stop (cause.PfnEnd f) = tt
 
 -- the image can't be read further
-pub refused_row : (machine : Machine) (frames : Memory) (load mid load' : Load) (result : ReadStep) (why : Cause) (c : disk.Content) → IsHardware machine.hw → load.stage ≡ stage.Read → 4 ≤ load.made → result ≡ read_step.Refused why →
-    ((v : disk.DiskImage) (t : ℕ) → HasReader machine.hw v load t → Reads machine.hw v (Some c) → HasAnswered machine.hw v t result load mid) → load'.stage ≡ stage.Rest → IsRow machine frames load machine frames load' (event.Step actor.Core) (reply_of why) c c
-refused_row machine frames load mid load' result why c hardware at late is answers rest =
-    row_at_load machine frames load machine frames load' (event.Step actor.Core) (reply_of why) c c load.made (activity_is load stage.Read at)
+pub refused_row : (machine : Machine) (frames : Memory) (load mid load' : Load) (chain chain' : OpenChain) (result : ReadStep) (why : Cause) (c : disk.Content) → IsHardware machine.hw → load.stage ≡ stage.Read chain → 4 ≤ chain.done → result ≡ read_step.Refused why →
+    ((v : disk.DiskImage) (t : ℕ) → HasReader machine.hw v chain.reader load t → Reads machine.hw v (Some c) → AnswersFor machine.hw v t result chain chain' load mid) → load'.stage ≡ stage.Rest → Simulates machine frames load machine frames load' (event.Step actor.Core) (reply_of why) c c
+refused_row machine frames load mid load' chain chain' result why c hardware at late is answers rest =
+    row_at_load machine frames load machine frames load' (event.Step actor.Core) (reply_of why) c c chain.done (activity_is load (stage.Read chain) at)
     (λ l s.
     let h = machine.hw in
-    let k = load.made in
-    let knows = knows_at machine frames load c l k stage.Read at s in
+    let k = chain.done in
+    let knows = knows_at machine frames load c l k (stage.Read chain) at s in
     let v = knows.0 in
-    let answered = answers v (k - 4) knows.4 knows.1.reads in
-    let a = subst (λ (x : ReadStep). Answers h v load.check (k - 4) x answered.before answered.after mid.origs.members mid.zeros.members mid.page) is answered.answers in
+    let a = subst (λ (x : ReadStep). AnswersFor h v (k - 4) x chain chain' load mid) is (answers v (k - 4) knows.4 knows.1.reads) in
     let cause : step_cause h v l.check (k - 4) ≡ Some (reply_of why) = subst (λ (x : IdentCheck). step_cause h v x (k - 4) ≡ Some (reply_of why)) (loader_of machine frames load c l k s).check a.0 in
     let want = no_want_after h l.dump v l.loader (k - 4) knows.5.listed in (
       off nothing None,
@@ -295,23 +287,23 @@ refused_row machine frames load mid load' result why c hardware at late is answe
     ))
 
 -- what the step leaves of the places, for the places before
-abbrev pub KeepsPlaces : Hardware → Memory → Awaiting → Memory → Awaiting → Load → Load → ReadStep → Type 0
-KeepsPlaces h frames waiting frames' waiting' load mid result =
-    (v : disk.DiskImage) (t : ℕ) → HasReader h v load t → HasAnswered h v t result load mid → t < place_count (info_in h v).pages → HavePlaces h v frames waiting t → HavePlaces h v frames' waiting' (t + 1)
+abbrev pub KeepsPlaces : Hardware → Memory → Awaiting → Memory → Awaiting → OpenChain → OpenChain → Load → Load → ReadStep → Type 0
+KeepsPlaces h frames waiting frames' waiting' chain chain' load mid result =
+    (v : disk.DiskImage) (t : ℕ) → HasReader h v chain.reader load t → AnswersFor h v t result chain chain' load mid → t < place_count (info_in h v).pages → HavePlaces h v frames waiting t → HavePlaces h v frames' waiting' (t + 1)
 
 -- the row of a read, with the places as they are afterwards
-pub read_on_row : (machine : Machine) (frames frames' : Memory) (load mid after : Load) (machine' : Machine) (frames'' : Memory) (load' : Load) (result : ReadStep) (r : Reply) (c : disk.Content) → IsHardware machine.hw → load.stage ≡ stage.Read → 4 ≤ load.made → machine'.hw ≡ machine.hw → disk.IsContent machine.blocks c →
-    mid ≡ record load { reader = mid.reader; origs = mid.origs; zeros = mid.zeros; page = mid.page } → after ≡ record mid { waiting = after.waiting } → after.waiting.free ≡ mid.waiting.free → HasNoCause result →
+pub read_on_row : (machine : Machine) (frames frames' : Memory) (load mid after : Load) (chain chain' : OpenChain) (machine' : Machine) (frames'' : Memory) (load' : Load) (result : ReadStep) (r : Reply) (c : disk.Content) → IsHardware machine.hw → load.stage ≡ stage.Read chain → 4 ≤ chain.done → machine'.hw ≡ machine.hw →
+    disk.IsContent machine.blocks c → mid ≡ record load { stage = mid.stage; origs = mid.origs; zeros = mid.zeros; page = mid.page } → chain' ≡ record chain { reader = chain'.reader } → after ≡ record mid { waiting = after.waiting } → after.waiting.free ≡ mid.waiting.free → HasNoCause result →
     ((p : ℕ) → (Contains load.waiting.free p → ⊥) → frame frames' p ≡ frame frames p) →
-    ((v : disk.DiskImage) (t : ℕ) → HasReader machine.hw v load t → Reads machine.hw v (Some c) → HasAnswered machine.hw v t result load mid) → KeepsPlaces machine.hw frames load.waiting frames' after.waiting load mid result →
-    ReadsOn machine frames' after machine' frames'' load' r → IsRow machine frames load machine' frames'' load' (event.Step actor.Core) r c c
-read_on_row machine frames frames' load mid after machine' frames'' load' result r c hardware at late same whole is is' free none others answers keeps goes =
-    row_at_load machine frames load machine' frames'' load' (event.Step actor.Core) r c c load.made (activity_is load stage.Read at)
+    ((v : disk.DiskImage) (t : ℕ) → HasReader machine.hw v chain.reader load t → Reads machine.hw v (Some c) → AnswersFor machine.hw v t result chain chain' load mid) → KeepsPlaces machine.hw frames load.waiting frames' after.waiting chain chain' load mid result →
+    ReadsOn machine frames' after chain' machine' frames'' load' r → Simulates machine frames load machine' frames'' load' (event.Step actor.Core) r c c
+read_on_row machine frames frames' load mid after chain chain' machine' frames'' load' result r c hardware at late same whole is is_chain is' free none others answers keeps goes =
+    row_at_load machine frames load machine' frames'' load' (event.Step actor.Core) r c c chain.done (activity_is load (stage.Read chain) at)
     (λ l s.
     let h = machine.hw in
-    let knows = knows_at machine frames load c l load.made stage.Read at s in
+    let knows = knows_at machine frames load c l chain.done (stage.Read chain) at s in
     let v = knows.0 in
-    let t = load.made - 4 in
+    let t = chain.done - 4 in
     let was = knows.4 in
     let within : t < place_count (info_in h v).pages = (let lt = knows.3 in omega arith) in
     let check : mid.check ≡ load.check = ap (λ (x : Load). x.check) is in
@@ -319,23 +311,23 @@ read_on_row machine frames frames' load mid after machine' frames'' load' result
     let waiting : mid.waiting ≡ load.waiting = ap (λ (x : Load). x.waiting) is in
     let free' : after.waiting.free ≡ load.waiting.free = free ∙ ap (λ (w : Awaiting). w.free) waiting in
     let answered = answers v t was knows.1.reads in
-    let read = read_on h v t result load mid check was within none answered in
-    let led = goes c l v load.made
+    let read = read_on h v t result chain chain' load mid check was within none answered in
+    let led = goes c l v chain.done
     (record {
       shown = shown_by machine frames load;
       whole = whole;
       reading = record { hardware = hardware; late = late; within = knows.3; stands = s.stands; found = knows.1.found; gone_on = knows.2 };
-      loader = same_loader h load after l free' (ap (λ (x : Load). x.loader) is' ∙ ap (λ (x : Load). x.loader) is) check' (loader_of machine frames load c l load.made s);
-      found = found_still machine load after c c l v (ap (λ (x : Load). x.header) is' ∙ ap (λ (x : Load). x.header) is) (ap (λ (x : Load). x.mark) is' ∙ ap (λ (x : Load). x.mark) is) knows.1.reads refl knows.1;
-      sound = subst (λ (x : IdentCheck). step_cause h v x t ≡ None) (loader_of machine frames load c l load.made s).check read.0;
-      read = subst (λ (x : Load). HasReader h v x (t + 1)) (sym is') (record { reader = read.1.reader; has = read.1.has; reading = read.1.reading });
-      kept = λ p lt not. others p (λ has. not (subst (λ (ps : List ℕ). Contains ps p) s.resume.free has)) ∙ s.stands.parts.1.shows.kept p lt not;
-      made = ap (λ (x : Load). x.made) is' ∙ ap (λ (x : Load). x.made) is;
+      loader = same_loader h load after l free' (ap (λ (x : Load). x.loader) is' ∙ ap (λ (x : Load). x.loader) is) check' (loader_of machine frames load c l chain.done s);
+      found = found_in machine chain chain' c l v is_chain knows.1;
+      sound = subst (λ (x : IdentCheck). step_cause h v x t ≡ None) (loader_of machine frames load c l chain.done s).check read.0;
+      read = subst (λ (x : Load). HasReader h v chain'.reader x (t + 1)) (sym is') read.1;
+      kept = λ p lt not. others p (λ has. not (subst (λ (ps : List ℕ). Contains ps p) s.resume.free has)) ∙ s.stands.parts.resume.shows.kept p lt not;
+      done = ap (λ (x : OpenChain). x.done) is_chain;
     })
     (keeps v t was answered within knows.5)
     (no_want_after h l.dump v l.loader t knows.5.listed) in (
       led.0,
-      subst (λ (x : Hardware). rows.Leads x (StandsAfter machine' frames'' load' r (loading l load.made)) (event.Step actor.Core) r c c (loading l load.made) led.0) same led.1,
+      subst (λ (x : Hardware). rows.StepsTo x (StandsAfter machine' frames'' load' r (loading l chain.done)) (event.Step actor.Core) r c c (loading l chain.done) led.0) same led.1,
     ))
 
 -- the place of a page behind the last number page: it is one with data, of those that the numbers name
@@ -343,13 +335,13 @@ pub record IsDataPlace (h : Hardware) (v : disk.DiskImage) (t : ℕ) : Type 0 wh
   pub behind : meta_in h v < pages_read t
   pub within : pages_read t - 1 - meta_in h v < length (data_frames h v)
 
-data_place : (h : Hardware) (v : disk.DiskImage) (load : Load) (t : ℕ) → HasReader h v load t → told h v (pages_read t) ≡ Some (info_in h v).image_pages → t < place_count (info_in h v).pages → (t % 512 ≡ 0 → ⊥) → IsDataPlace h v t
-data_place h v load t read told_now within page =
+data_place : (h : Hardware) (v : disk.DiskImage) (reader : Reading) (load : Load) (t : ℕ) → HasReader h v reader load t → told h v (pages_read t) ≡ Some (info_in h v).image_pages → t < place_count (info_in h v).pages → (t % 512 ≡ 0 → ⊥) → IsDataPlace h v t
+data_place h v reader load t read told_now within page =
     let n = (info_in h v).image_pages in
     let all = all_read h v (pages_read t) told_now in
     let least = all.1 in
     let some = all.0 in
-    let whole = read.reading.whole n (read.reading.listed ∙ told_now) in
+    let whole = read.whole n (read.listed ∙ told_now) in
     let left = pages_left t (info_in h v).pages page within in
     record { behind = omega arith; within = omega arith }
 
@@ -372,23 +364,22 @@ some_frame h v t at page none =
     ∙ slice_get-get_or (data_frames h v) (pages_read t - 1 - meta_in h v) 0 at.within in
     none-some (get_or (data_frames h v) (pages_read t - 1 - meta_in h v) 0) (sym none ∙ is)
 
-pub map_keeps : (h : Hardware) (frames : Memory) (waiting : Awaiting) (load mid : Load) (result : ReadStep) → ((k : ℕ) × (result ≡ read_step.More k)) ⊎ (result ≡ read_step.Done) → KeepsPlaces h frames waiting frames waiting load mid result
-map_keeps h frames waiting load mid result is v t read answered within places = elim is [
+pub map_keeps : (h : Hardware) (frames : Memory) (waiting : Awaiting) (chain chain' : OpenChain) (load mid : Load) (result : ReadStep) → ((k : ℕ) × (result ≡ read_step.More k)) ⊎ (result ≡ read_step.Done) → KeepsPlaces h frames waiting frames waiting chain chain' load mid result
+map_keeps h frames waiting chain chain' load mid result is v t read answered within places = elim is [
   | inl more ↦ elim (eqb_tells (t % 512) 0) [
     | inl map ↦ map_leaves h v frames waiting t map.1 places
     | inr page ↦ (
-        let a = subst (λ (s : ReadStep). Answers h v load.check t s answered.before answered.after mid.origs.members mid.zeros.members mid.page) more.1 answered.answers in
-        absurd (some_frame h v t (data_place h v load t read places.listed within page.1) page.1 a.2))
+        let a = subst (λ (s : ReadStep). AnswersFor h v t s chain chain' load mid) more.1 answered in
+        absurd (some_frame h v t (data_place h v chain.reader load t read places.listed within page.1) page.1 a.2))
   ]
   | inr done ↦ (
-      let a = subst (λ (s : ReadStep). Answers h v load.check t s answered.before answered.after mid.origs.members mid.zeros.members mid.page) done answered.answers in
-      let same : answered.before ≡ read.reader = same_Some answered.before read.reader (sym answered.was ∙ read.has) in
-      absurd (not_over h v load t read within (subst HasReadAll same a.0)))
+      let a = subst (λ (s : ReadStep). AnswersFor h v t s chain chain' load mid) done answered in
+      absurd (not_over h v chain.reader load t read within a.0))
 ]
 
-page_placed : (h : Hardware) (v : disk.DiskImage) (frames frames' : Memory) (waiting waiting' : Awaiting) (load : Load) (t : ℕ) (page : List ℕ) → HasReader h v load t → HavePlaces h v frames waiting t → (t % 512 ≡ 0 → ⊥) → IsDataPlace h v t → page ≡ disk.block v (place_block h v (place t)) → waiting'.originals ≡ waiting.originals →
+page_placed : (h : Hardware) (v : disk.DiskImage) (frames frames' : Memory) (waiting waiting' : Awaiting) (t : ℕ) (page : List ℕ) → HavePlaces h v frames waiting t → (t % 512 ≡ 0 → ⊥) → IsDataPlace h v t → page ≡ disk.block v (place_block h v (place t)) → waiting'.originals ≡ waiting.originals →
     (waiting.loaded < length waiting.originals → waiting_pages frames' waiting' ≡ waiting_pages frames waiting ++ page ∷ []) → (waiting.loaded < length waiting.originals → waiting'.loaded ≡ waiting.loaded + 1) → HavePlaces h v frames' waiting' (t + 1)
-page_placed h v frames frames' waiting waiting' load t page read places here at is originals placed counted =
+page_placed h v frames frames' waiting waiting' t page places here at is originals placed counted =
     let j = pages_read t in
     let n = (info_in h v).image_pages in
     let next = read_at_page t here in
@@ -414,18 +405,14 @@ page_placed h v frames frames' waiting waiting' load t page read places here at 
           ∙ sym (ap (data_pages h v) loaded);
     }
 
-pub page_keeps : (h : Hardware) (frames frames' : Memory) (waiting waiting' : Awaiting) (load mid : Load) (result : ReadStep) (pfn : ℕ) → result ≡ read_step.Page pfn → waiting'.originals ≡ waiting.originals →
-    (waiting.loaded < length waiting.originals → waiting_pages frames' waiting' ≡ waiting_pages frames waiting ++ mid.page ∷ []) → (waiting.loaded < length waiting.originals → waiting'.loaded ≡ waiting.loaded + 1) → KeepsPlaces h frames waiting frames' waiting' load mid result
-page_keeps h frames frames' waiting waiting' load mid result pfn is originals placed counted v t read answered within places =
-    let a = subst (λ (s : ReadStep). Answers h v load.check t s answered.before answered.after mid.origs.members mid.zeros.members mid.page) is answered.answers in
+pub page_keeps : (h : Hardware) (frames frames' : Memory) (waiting waiting' : Awaiting) (chain chain' : OpenChain) (load mid : Load) (result : ReadStep) (pfn : ℕ) → result ≡ read_step.Page pfn → waiting'.originals ≡ waiting.originals →
+    (waiting.loaded < length waiting.originals → waiting_pages frames' waiting' ≡ waiting_pages frames waiting ++ mid.page ∷ []) → (waiting.loaded < length waiting.originals → waiting'.loaded ≡ waiting.loaded + 1) → KeepsPlaces h frames waiting frames' waiting' chain chain' load mid result
+page_keeps h frames frames' waiting waiting' chain chain' load mid result pfn is originals placed counted v t read answered within places =
+    let a = subst (λ (s : ReadStep). AnswersFor h v t s chain chain' load mid) is answered in
     elim (eqb_tells (t % 512) 0) [
       | inl map ↦ absurd (none-some pfn (ap (frame_at h v) (sym (at_map t map.1)) ∙ a.2))
-      | inr page ↦ page_placed h v frames frames' waiting waiting' load t mid.page read places page.1 (data_place h v load t read places.listed within page.1) a.3 originals placed counted
+      | inr page ↦ page_placed h v frames frames' waiting waiting' t mid.page places page.1 (data_place h v chain.reader load t read places.listed within page.1) a.3 originals placed counted
     ]
-
--- only what waits has changed
-pub waiting_only : (mid after : Load) (w : Awaiting) → after ≡ record mid { waiting = w } → after ≡ record mid { waiting = after.waiting }
-waiting_only mid after w is = is ∙ ap (λ (x : Awaiting). record mid { waiting = x }) (sym (ap (λ (x : Load). x.waiting) is))
 
 pub no_page : (result : ReadStep) → ((k : ℕ) × (result ≡ read_step.More k)) ⊎ (result ≡ read_step.Done) → HasNoCause result
 no_page result is = elim is [ inl more ↦ inl more | inr done ↦ inr (inr done) ]
@@ -472,25 +459,24 @@ refusal_is h dump v loader check t have d listed why some is before free count =
       first_cause (read_cause h v check (place t)) (want_cause h dump v loader (place t)) (next_cause h v t) x (reply_of why) e some
       ∙ ap (λ (o : Option ℕ). Some (refusal_behind o have d why)) (sym (is ∙ ap (λ (o : Option Reply). cond (is_none o) (told h v (pages_read (t + 1))) (told h v (pages_read t))) e ∙ before))
 
-pub refused_list_row : (machine : Machine) (frames : Memory) (load mid load' : Load) (result : ReadStep) (why : Cause) (r : Reply) (c : disk.Content) → IsHardware machine.hw → load.stage ≡ stage.List → 4 ≤ load.made →
-    mid ≡ record load { reader = mid.reader; origs = mid.origs; zeros = mid.zeros; page = mid.page } → result ≡ read_step.Refused why →
-    ((v : disk.DiskImage) (t : ℕ) → HasReader machine.hw v load t → Reads machine.hw v (Some c) → HasAnswered machine.hw v t result load mid) →
-    ((q : Reading) → mid.reader ≡ Some q → r ≡ refusal_behind q.listed (length mid.waiting.free) (length (with_data mid.origs.members mid.zeros.members)) why) → load'.stage ≡ stage.Rest → IsRow machine frames load machine frames load' (event.Step actor.Core) r c c
-refused_list_row machine frames load mid load' result why r c hardware at late is refused answers reply rest =
-    row_at_load machine frames load machine frames load' (event.Step actor.Core) r c c load.made (activity_is load stage.List at)
+pub refused_list_row : (machine : Machine) (frames : Memory) (load mid load' : Load) (chain chain' : OpenChain) (result : ReadStep) (why : Cause) (r : Reply) (c : disk.Content) → IsHardware machine.hw → load.stage ≡ stage.List chain → 4 ≤ chain.done →
+    mid ≡ record load { stage = mid.stage; origs = mid.origs; zeros = mid.zeros; page = mid.page } → result ≡ read_step.Refused why →
+    ((v : disk.DiskImage) (t : ℕ) → HasReader machine.hw v chain.reader load t → Reads machine.hw v (Some c) → AnswersFor machine.hw v t result chain chain' load mid) →
+    r ≡ refusal_behind chain'.reader.listed (length mid.waiting.free) (length (with_data mid.origs.members mid.zeros.members)) why → load'.stage ≡ stage.Rest → Simulates machine frames load machine frames load' (event.Step actor.Core) r c c
+refused_list_row machine frames load mid load' chain chain' result why r c hardware at late is refused answers reply rest =
+    row_at_load machine frames load machine frames load' (event.Step actor.Core) r c c chain.done (activity_is load (stage.List chain) at)
     (λ l s.
     let h = machine.hw in
-    let k = load.made in
-    let knows = knows_at machine frames load c l k stage.List at s in
+    let k = chain.done in
+    let knows = knows_at machine frames load c l k (stage.List chain) at s in
     let v = knows.0 in
-    let answered = answers v (k - 4) knows.4 knows.1.reads in
-    let a = subst (λ (x : ReadStep). Answers h v load.check (k - 4) x answered.before answered.after mid.origs.members mid.zeros.members mid.page) refused answered.answers in
+    let a = subst (λ (x : ReadStep). AnswersFor h v (k - 4) x chain chain' load mid) refused (answers v (k - 4) knows.4 knows.1.reads) in
     let checks = (loader_of machine frames load c l k s).check in
     let free : length mid.waiting.free ≡ length (left_free h l.dump l.loader) = ap (λ (x : Load). length x.waiting.free) is ∙ ap length s.resume.free in
     let causes : all_causes h l.dump v l.loader load.check (k - 4) ≡ Some r =
-    refusal_is h l.dump v l.loader load.check (k - 4) (length mid.waiting.free) (length (with_data mid.origs.members mid.zeros.members)) answered.after.listed why a.0 a.1 knows.5 free
+    refusal_is h l.dump v l.loader load.check (k - 4) (length mid.waiting.free) (length (with_data mid.origs.members mid.zeros.members)) chain'.reader.listed why a.0 a.1 knows.5 free
     (λ n listed. let sets = a.2 n listed in ap length (listed_data h v mid.origs.members mid.zeros.members sets.frames sets.marks sets.rising) ∙ sym (count_is h v))
-    ∙ ap (λ (x : Reply). Some x) (sym (reply answered.after answered.has)) in
+    ∙ ap (λ (x : Reply). Some x) (sym reply) in
     let cause : all_causes h l.dump v l.loader l.check (k - 4) ≡ Some r = subst (λ (x : IdentCheck). all_causes h l.dump v l.loader x (k - 4) ≡ Some r) checks causes in (
       off nothing None,
       leads machine frames load' r c c (loading l k) (off nothing None) (stopped_early machine frames c r (loading l k) (off nothing None) (cause_ends h l v (k - 4) r cause))

@@ -24,11 +24,12 @@ use Rattle.plain_machine.specs.declared.reply.Left.TheVariants.{Unsure}
 use Rattle.protocol_laws.proofs.Same.{reads_kept}
 use Rattle.image_read.proofs.Places.{two_places}
 use Rattle.machine.specs.declared.machine.Machine.{Machine}
-use Rattle.resume_core.specs.Loading.{shown_by}
-use Rattle.swap_slots.specs.Runs.{SlotRuns}
-use Rattle.resume_core.specs.Ready.{CanStep, CanMake, NoneListed}
+use Rattle.resume_core.specs.Loading.{shown_by, header_at}
+use Rattle.resume_core.specs.Ready.{syncs_back_at}
 use Rattle.resume_core.specs.declared.load.Stage.{Stage}
-use Rattle.resume_core.specs.Row.{IsRow, HasFound, swap_area}
+use Rattle.resume_core.specs.Row.{Simulates, HasFound, swap_area}
+use Rattle.sig_header.specs.declared.area.Mark.{Mark}
+use Rattle.resume_core.specs.declared.load.FoundHeader.{FoundHeader}
 use Rattle.resume_core.specs.declared.load.Load.{Load}
 use Rattle.resume_core.specs.declared.load.Stage.TheVariants as stage
 use Rattle.protocol_laws.proofs.LoadReplies.{cause_stops, stop_kind, gone_next}
@@ -37,9 +38,9 @@ use Rattle.resume_core.proofs.Facts.{stopped_early, row_at_load, leads, shows_no
 use Rattle.protocol_laws.proofs.LoadRows.{take_back_row, take_back_fault_row, back_sync_row, back_sync_stop_row, back_sync_fault_row}
 use Rattle.resume_core.proofs.Finding.{stopped, knows_at, activity_is}
 
--- the header of the disk v has the mark that was found, and v as many blocks as the machine knows of
-pub record HasFoundMark (machine : Machine) (load : Load) (v : disk.DiskImage) : Type 0 where
-  pub mark : load.mark ≡ mark_of (header_of machine.hw v)
+-- the header of the disk v has this mark, and v as many blocks as the machine knows of
+pub record HasFoundMark (machine : Machine) (of : Mark) (v : disk.DiskImage) : Type 0 where
+  pub mark : of ≡ mark_of (header_of machine.hw v)
   pub blocks : machine.blocks ≡ blocks_of v
 
 -- disks with the same area have one area, if any
@@ -47,16 +48,15 @@ pub same_swap_area : (h : Hardware) (v w : disk.DiskImage) → IsSameArea h v w 
 same_swap_area h v w same = same_of_kinds swap_area (area_block h w) (area_block h v) same.header (λ m n. refl)
 
 -- the image is found still, at another content
-pub found_still : (machine : Machine) (load load' : Load) (c c' : disk.Content) (l : Resume) (v : disk.DiskImage) → load'.header ≡ load.header → load'.mark ≡ load.mark → Reads machine.hw v (Some c') →
-    swap_area (area_kind (area_block machine.hw (disk.as_it_reads c'))) ≡ swap_area (area_kind (area_block machine.hw (disk.as_it_reads c))) → HasFound machine load c l v → HasFound machine load' c' l v
-found_still machine load load' c c' l v header mark reads area found = record {
+pub found_still : (machine : Machine) (header : List ℕ) (c c' : disk.Content) (l : Resume) (v : disk.DiskImage) → Reads machine.hw v (Some c') →
+    swap_area (area_kind (area_block machine.hw (disk.as_it_reads c'))) ≡ swap_area (area_kind (area_block machine.hw (disk.as_it_reads c))) → HasFound machine header c l v → HasFound machine header c' l v
+found_still machine header c c' l v reads area found = record {
   found = found.found;
   uncaused = found.uncaused;
-  header = header ∙ found.header;
-  mark = mark ∙ found.mark;
+  is_header = found.is_header;
   reads = reads;
   blocks = found.blocks;
-  area = area ∙ found.area ∙ ap (λ (p : List ℕ). swap_area (area_kind (taken_back p))) (sym header);
+  area = area ∙ found.area;
 }
 
 reads_after : (h : Hardware) (v : disk.DiskImage) (page : List ℕ) (c c' : disk.Content) → Reads h v (Some c) → Tries (block_of_slot h 0) page c c' → Reads h v (Some c')
@@ -67,14 +67,15 @@ reads_synced h v c c' reads syncs =
     let same : disk.as_it_reads c' ≡ disk.as_it_reads c = ap disk.as_it_reads syncs ∙ as_it_reads-settled (disk.as_it_reads c) in
     λ b lt apart. ap (λ (w : disk.DiskImage). disk.block w b) same ∙ reads b lt apart
 
-pub back_row : (machine : Machine) (frames : Memory) (load : Load) (c c' : disk.Content) → IsHardware machine.hw → load.stage ≡ stage.TakeBack → disk.IsContent machine.blocks c → disk.IsContent machine.blocks c' →
-    disk.Writes (block_of_slot machine.hw 0) (taken_back load.header) c c' → IsRow machine frames load machine frames (record load { stage = stage.SyncBack }) (event.Step actor.Core) (reply.Loading 3) c c'
-back_row machine frames load c c' hardware at whole whole' writes =
-    let new = record load { stage = stage.SyncBack } in
-    row_at_load machine frames load machine frames new (event.Step actor.Core) (reply.Loading 3) c c' 2 (activity_is load stage.TakeBack at)
+pub back_row : (machine : Machine) (frames : Memory) (load : Load) (found : FoundHeader) (c c' : disk.Content) → IsHardware machine.hw → load.stage ≡ stage.TakeBack found → disk.IsContent machine.blocks c → disk.IsContent machine.blocks c' →
+    disk.Writes (block_of_slot machine.hw 0) (taken_back found.header) c c' → Simulates machine frames load machine frames (record load { stage = stage.SyncBack found }) (event.Step actor.Core) (reply.Loading 3) c c'
+back_row machine frames load found c c' hardware at whole whole' writes =
+    let new = record load { stage = stage.SyncBack found } in
+    row_at_load machine frames load machine frames new (event.Step actor.Core) (reply.Loading 3) c c' 2 (activity_is load (stage.TakeBack found) at)
     (λ l s.
-    let knows = knows_at machine frames load c l 2 stage.TakeBack at s in
-    let goes = take_back_row machine.hw (shown_by machine frames load) (shown_by machine frames new) c c' machine.blocks l knows.0 hardware whole whole' s.stands knows.1.found knows.2 writes
+    let knows = knows_at machine frames load c l 2 (stage.TakeBack found) at s in
+    let shown_writes = subst (λ (p : List ℕ). disk.Writes (block_of_slot machine.hw 0) (taken_back p) c c') (sym (ap header_at at)) writes in
+    let goes = take_back_row machine.hw (shown_by machine frames load) (shown_by machine frames new) c c' machine.blocks l knows.0 hardware whole whole' s.stands knows.1.found knows.2 shown_writes
     (shows_none machine frames load new c l l 2 3 s refl refl refl (load_told machine frames load c l 2 s) (omega arith) knows.5) in (
       loading l 3,
       leads machine frames new (reply.Loading 3) c c' (loading l 2) (loading l 3) tt goes
@@ -82,41 +83,43 @@ back_row machine frames load c c' hardware at whole whole' writes =
             free = s.resume.free;
             knows = (
               knows.0,
-              found_still machine load new c c' l knows.0 refl refl (reads_after machine.hw knows.0 (taken_back load.header) c c' knows.1.reads (inl writes)) (same_swap_area machine.hw (disk.as_it_reads c) (disk.as_it_reads c') goes.area) knows.1,
+              found_still machine found.header c c' l knows.0 (reads_after machine.hw knows.0 (taken_back found.header) c c' knows.1.reads (inl writes)) (same_swap_area machine.hw (disk.as_it_reads c) (disk.as_it_reads c') goes.area) knows.1,
               gone_next machine.hw l knows.0 2 knows.2 refl,
               knows.3,
               knows.4,
               knows.5,
+              knows.6,
             );
           }),
     ))
 
-pub back_failed_row : (machine : Machine) (frames : Memory) (load : Load) (c c' : disk.Content) → IsHardware machine.hw → load.stage ≡ stage.TakeBack → disk.IsContent machine.blocks c → disk.IsContent machine.blocks c' →
-    disk.FailsToWrite (block_of_slot machine.hw 0) (taken_back load.header) c c' → IsRow machine frames load machine frames (stopped load) (event.Step actor.Core) (reply.WriteFault Unsure) c c'
-back_failed_row machine frames load c c' hardware at whole whole' tries =
-    row_at_load machine frames load machine frames (stopped load) (event.Step actor.Core) (reply.WriteFault Unsure) c c' 2 (activity_is load stage.TakeBack at)
+pub back_failed_row : (machine : Machine) (frames : Memory) (load : Load) (found : FoundHeader) (c c' : disk.Content) → IsHardware machine.hw → load.stage ≡ stage.TakeBack found → disk.IsContent machine.blocks c → disk.IsContent machine.blocks c' →
+    disk.FailsToWrite (block_of_slot machine.hw 0) (taken_back found.header) c c' → Simulates machine frames load machine frames (stopped load) (event.Step actor.Core) (reply.WriteFault Unsure) c c'
+back_failed_row machine frames load found c c' hardware at whole whole' tries =
+    row_at_load machine frames load machine frames (stopped load) (event.Step actor.Core) (reply.WriteFault Unsure) c c' 2 (activity_is load (stage.TakeBack found) at)
     (λ l s.
-    let knows = knows_at machine frames load c l 2 stage.TakeBack at s in (
+    let knows = knows_at machine frames load c l 2 (stage.TakeBack found) at s in
+    let shown_tries = subst (λ (p : List ℕ). disk.FailsToWrite (block_of_slot machine.hw 0) (taken_back p) c c') (sym (ap header_at at)) tries in (
       off (perhaps (held_while_loading l 2)) None,
       leads machine frames (stopped load) (reply.WriteFault Unsure) c c' (loading l 2) (off (perhaps (held_while_loading l 2)) None) tt
-          (take_back_fault_row machine.hw (shown_by machine frames load) (shown_by machine frames (stopped load)) c c' machine.blocks l knows.0 hardware whole whole' s.stands knows.1.found tries (refl, refl)) tt,
+          (take_back_fault_row machine.hw (shown_by machine frames load) (shown_by machine frames (stopped load)) c c' machine.blocks l knows.0 hardware whole whole' s.stands knows.1.found shown_tries (refl, refl)) tt,
     ))
 
 -- The sync.
 
-abbrev pub opened : Load → Reading → Load
-opened load r = record load { reader = Some r; made = 4; stage = stage.List }
+abbrev pub opened : Load → FoundHeader → Reading → Load
+opened load found r = record load { stage = stage.List (record { header = found.header; reader = r; done = 4 }) }
 
-pub opened_row : (machine : Machine) (frames : Memory) (load : Load) (r : Reading) (c c' : disk.Content) → IsHardware machine.hw → load.stage ≡ stage.SyncBack → disk.IsContent machine.blocks c → disk.Syncs c c' →
-    ((v : disk.DiskImage) → HasFoundMark machine load v → (taken_back_cause machine.hw v ≡ None) × ((check : IdentCheck) → stream.HasReadPlaces machine.hw v check r 0 [] [])) →
-    IsRow machine frames load machine frames (opened load r) (event.Step actor.Core) (reply.Loading 4) c c'
-opened_row machine frames load r c c' hardware at whole syncs opens =
-    let new = opened load r in
-    row_at_load machine frames load machine frames new (event.Step actor.Core) (reply.Loading 4) c c' 3 (activity_is load stage.SyncBack at)
+pub opened_row : (machine : Machine) (frames : Memory) (load : Load) (found : FoundHeader) (r : Reading) (c c' : disk.Content) → IsHardware machine.hw → load.stage ≡ stage.SyncBack found → disk.IsContent machine.blocks c → disk.Syncs c c' →
+    ((v : disk.DiskImage) → HasFoundMark machine found.mark v → (taken_back_cause machine.hw v ≡ None) × ((check : IdentCheck) → stream.HasReadPlaces machine.hw v check r 0 [] [])) →
+    Simulates machine frames load machine frames (opened load found r) (event.Step actor.Core) (reply.Loading 4) c c'
+opened_row machine frames load found r c c' hardware at whole syncs opens =
+    let new = opened load found r in
+    row_at_load machine frames load machine frames new (event.Step actor.Core) (reply.Loading 4) c c' 3 (activity_is load (stage.SyncBack found) at)
     (λ l s.
-    let knows = knows_at machine frames load c l 3 stage.SyncBack at s in
+    let knows = knows_at machine frames load c l 3 (stage.SyncBack found) at s in
     let v = knows.0 in
-    let opened_at = opens v (record { mark = knows.1.mark; blocks = sym knows.1.blocks }) in
+    let opened_at = opens v (record { mark = knows.6; blocks = sym knows.1.blocks }) in
     let goes = back_sync_row machine.hw (shown_by machine frames load) (shown_by machine frames new) c c' machine.blocks l v hardware whole s.stands knows.1.found knows.2 syncs opened_at.0
     (shows_none machine frames load new c l l 3 4 s refl refl refl (load_told machine frames load c l 3 s) (omega arith) knows.5) in (
       loading l 4,
@@ -125,42 +128,46 @@ opened_row machine frames load r c c' hardware at whole syncs opens =
             free = s.resume.free;
             knows = (
               v,
-              found_still machine load new c c' l v refl refl (reads_synced machine.hw v c c' knows.1.reads syncs) (same_swap_area machine.hw (disk.as_it_reads c) (disk.as_it_reads c') goes.area) knows.1,
+              found_still machine found.header c c' l v (reads_synced machine.hw v c c' knows.1.reads syncs) (same_swap_area machine.hw (disk.as_it_reads c) (disk.as_it_reads c') goes.area) knows.1,
               gone_next machine.hw l v 3 knows.2 (ap (λ (o : Option Reply). unwrap_or o (reply.Loading 4)) opened_at.0),
               (let two = two_places (info_in machine.hw v).pages in omega arith),
-              record {
-                reader = r;
-                has = refl;
-                reading = subst (λ (zs : List ℕ). stream.HasReadPlaces machine.hw v load.check r 0 load.origs.members zs) (sym knows.4) (subst (λ (os : List ℕ). stream.HasReadPlaces machine.hw v load.check r 0 os []) (sym knows.3) (opened_at.1 load.check));
-              },
+              subst (λ (zs : List ℕ). stream.HasReadPlaces machine.hw v load.check r 0 load.origs.members zs) (sym knows.4) (subst (λ (os : List ℕ). stream.HasReadPlaces machine.hw v load.check r 0 os []) (sym knows.3) (opened_at.1 load.check)),
               refl,
               knows.5,
             );
           }),
     ))
 
-pub back_stopped_row : (machine : Machine) (frames : Memory) (load : Load) (c c' : disk.Content) (why : Reply) → IsHardware machine.hw → load.stage ≡ stage.SyncBack → disk.IsContent machine.blocks c → disk.Syncs c c' →
-    ((v : disk.DiskImage) → HasFoundMark machine load v → taken_back_cause machine.hw v ≡ Some why) → IsRow machine frames load machine frames (stopped load) (event.Step actor.Core) why c c'
-back_stopped_row machine frames load c c' why hardware at whole syncs cause =
-    row_at_load machine frames load machine frames (stopped load) (event.Step actor.Core) why c c' 3 (activity_is load stage.SyncBack at)
+pub back_stopped_row : (machine : Machine) (frames : Memory) (load : Load) (found : FoundHeader) (c c' : disk.Content) (why : Reply) → IsHardware machine.hw → load.stage ≡ stage.SyncBack found → disk.IsContent machine.blocks c → disk.Syncs c c' →
+    ((v : disk.DiskImage) → HasFoundMark machine found.mark v → taken_back_cause machine.hw v ≡ Some why) → Simulates machine frames load machine frames (stopped load) (event.Step actor.Core) why c c'
+back_stopped_row machine frames load found c c' why hardware at whole syncs cause =
+    row_at_load machine frames load machine frames (stopped load) (event.Step actor.Core) why c c' 3 (activity_is load (stage.SyncBack found) at)
     (λ l s.
-    let knows = knows_at machine frames load c l 3 stage.SyncBack at s in
+    let knows = knows_at machine frames load c l 3 (stage.SyncBack found) at s in
     let v = knows.0 in
-    let is = cause v (record { mark = knows.1.mark; blocks = sym knows.1.blocks }) in
+    let is = cause v (record { mark = knows.6; blocks = sym knows.1.blocks }) in
     let early = stop_kind why (cause_stops (taken_back_cause machine.hw v) why (stops_taken_back machine.hw v) is) in (
       off nothing None,
       leads machine frames (stopped load) why c c' (loading l 3) (off nothing None) (stopped_early machine frames c' why (loading l 3) (off nothing None) early)
           (back_sync_stop_row machine.hw (shown_by machine frames load) (shown_by machine frames (stopped load)) c c' machine.blocks l v why hardware whole s.stands knows.1.found knows.2 syncs is (refl, refl)) tt,
     ))
 
-pub back_sync_failed_row : (machine : Machine) (frames : Memory) (load : Load) (c : disk.Content) → load.stage ≡ stage.SyncBack → IsRow machine frames load machine frames (stopped load) (event.Step actor.Core) (reply.SyncFault Unsure) c c
-back_sync_failed_row machine frames load c at =
-    row_at_load machine frames load machine frames (stopped load) (event.Step actor.Core) (reply.SyncFault Unsure) c c 3 (activity_is load stage.SyncBack at)
+pub back_sync_failed_row : (machine : Machine) (frames : Memory) (load : Load) (found : FoundHeader) (c : disk.Content) → load.stage ≡ stage.SyncBack found → Simulates machine frames load machine frames (stopped load) (event.Step actor.Core) (reply.SyncFault Unsure) c c
+back_sync_failed_row machine frames load found c at =
+    row_at_load machine frames load machine frames (stopped load) (event.Step actor.Core) (reply.SyncFault Unsure) c c 3 (activity_is load (stage.SyncBack found) at)
     (λ l s. (
       off (perhaps (held_while_loading l 2)) None,
       leads machine frames (stopped load) (reply.SyncFault Unsure) c c (loading l 3) (off (perhaps (held_while_loading l 2)) None) tt
           (back_sync_fault_row machine.hw (shown_by machine frames load) (shown_by machine frames (stopped load)) c l s.stands (refl, refl)) tt,
     ))
 
-pub empty_at : (machine : Machine) (frames : Memory) (runs : SlotRuns) (load : Load) → load.stage ≡ stage.SyncBack → CanStep machine frames runs load → NoneListed load
-empty_at machine frames runs load at can = subst (λ (s : Stage). CanMake s machine frames runs load) at can.next
+-- the header block whose write is synced next
+pub syncs_back_of : (s : Stage) → syncs_back_at s → (found : FoundHeader) × (s ≡ stage.SyncBack found)
+syncs_back_of (stage.SyncBack found) at = (found, refl)
+syncs_back_of stage.Rest at = absurd at
+syncs_back_of stage.Runs at = absurd at
+syncs_back_of stage.Sync at = absurd at
+syncs_back_of stage.Find at = absurd at
+syncs_back_of (stage.TakeBack found) at = absurd at
+syncs_back_of (stage.List chain) at = absurd at
+syncs_back_of (stage.Read chain) at = absurd at

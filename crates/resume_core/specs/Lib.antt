@@ -1,5 +1,5 @@
 pub mod Loading
 pub mod Ready
 pub mod Header
-pub mod Reader
+pub mod Refusals
 pub mod Row

@@ -1,10 +1,10 @@
 -- A resume, and what a machine shows while it is at it.
-use Rattle.std.specs.Prelude.{◌≡◌, ℕ, ⊤, Bool, true, false, List, [], Some}
+use Rattle.std.specs.Prelude.{◌≡◌, ℕ, ⊤, false, List, [], Some}
 use Rattle.std.specs.List.{zip}
 use Rattle.definitions.specs.Disk as disk
 use Rattle.plain_machine.specs.Machine.{Hardware, Memory}
 use Rattle.plain_machine.specs.Chain.{Marked}
-use Rattle.plain_machine.specs.Shows.{Shown, Activity, rests, runs, loads}
+use Rattle.plain_machine.specs.Shows.{WorldView, Activity, rests, runs, loads}
 use Rattle.plain_machine.specs.declared.event.Loader.{Loader}
 use Rattle.plain_machine.specs.declared.event.Loader.TheVariants as loader
 use Rattle.plain_machine.specs.declared.reply.Reply.{Reply}
@@ -17,19 +17,30 @@ use Rattle.resume_core.specs.declared.load.Load.{Load}
 use Rattle.resume_core.specs.declared.load.Stage.{Stage}
 use Rattle.resume_core.specs.declared.load.Stage.TheVariants as stage
 
--- what a machine is at, by the step that is next and, once blocks of the chain are read, how many are made
-abbrev pub activity_at : Stage → ℕ → Activity
-activity_at stage.Rest made = rests
-activity_at stage.Runs made = runs
-activity_at stage.Sync made = loads 0
-activity_at stage.Find made = loads 1
-activity_at stage.TakeBack made = loads 2
-activity_at stage.SyncBack made = loads 3
-activity_at stage.List made = loads made
-activity_at stage.Read made = loads made
+-- what a machine is at, by the step that is next
+abbrev pub activity_at : Stage → Activity
+activity_at stage.Rest = rests
+activity_at stage.Runs = runs
+activity_at stage.Sync = loads 0
+activity_at stage.Find = loads 1
+activity_at (stage.TakeBack found) = loads 2
+activity_at (stage.SyncBack found) = loads 3
+activity_at (stage.List chain) = loads chain.done
+activity_at (stage.Read chain) = loads chain.done
 
 abbrev pub activity_of : Load → Activity
-activity_of load = activity_at load.stage load.made
+activity_of load = activity_at load.stage
+
+-- the header block as it was found, once it was
+abbrev pub header_at : Stage → List ℕ
+header_at stage.Rest = []
+header_at stage.Runs = []
+header_at stage.Sync = []
+header_at stage.Find = []
+header_at (stage.TakeBack found) = found.header
+header_at (stage.SyncBack found) = found.header
+header_at (stage.List chain) = chain.header
+header_at (stage.Read chain) = chain.header
 
 -- what a machine is at once an image is resumed: after a dump's loader it is off
 abbrev pub activity_resumed : Loader → Activity
@@ -50,13 +61,8 @@ FindsMark h reply.NoImage v = Marked h v → ⊥
 FindsMark h (reply.ReadFault left) v = ⊤
 FindsMark h _ v = ⊥
 
--- whether a reply says that there was nothing to do
-abbrev pub is_idle : Reply → Bool
-is_idle reply.Idle = true
-is_idle _ = false
-
 -- what is shown: the header block that was found, the loader and the check, and the pages that wait, by page frame
-abbrev pub shown_by : Machine → Memory → Load → Shown
+abbrev pub shown_by : Machine → Memory → Load → WorldView
 shown_by machine frames load = record {
   activity = activity_of load;
   keeps_dump = false;
@@ -64,7 +70,7 @@ shown_by machine frames load = record {
   unusable = reason_of machine.area;
   flights = flights_in machine.flights;
   frames = frames;
-  header = load.header;
+  header = header_at load.stage;
   copies = [];
   resume = Some (load.loader, load.check);
   loaded = zip load.waiting.originals (waiting_pages frames load.waiting);

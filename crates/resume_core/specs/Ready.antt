@@ -1,5 +1,5 @@
 -- What a step of a resume needs of the machine, whatever its disk tells.
-use Rattle.std.specs.Prelude.{◌≡◌, ◌≤◌, ◌<◌, ◌^◌, ℕ, length, true, Some, None, IsOk, IfOk, ⊤, []}
+use Rattle.std.specs.Prelude.{◌≡◌, ◌≤◌, ◌<◌, ◌^◌, ℕ, length, true, None, IsOk, IfOk, ⊤, [], List}
 use Rattle.definitions.specs.Zones.{top}
 use Rattle.swap_slots.specs.Runs.{SlotRuns}
 use Rattle.swap_slots.specs.Table.{LiesIn, Matches}
@@ -7,9 +7,8 @@ use Rattle.plain_machine.specs.Machine.{Memory, IsHardware, block_of_slot}
 use Rattle.plain_machine.specs.UsableArea.{fit_fault}
 use Rattle.plain_machine.specs.declared.held.Held.TheVariants.{No}
 use Rattle.image_read.specs.Reading.{Reading, IsReady}
-use Rattle.protocol_laws.specs.Writers.{slot_table_of}
 use Rattle.machine.specs.Flights.{flights_in}
-use Rattle.machine.specs.Running.{AreReserved}
+use Rattle.machine.specs.Running.{AreReserved, slot_table_of}
 use Rattle.machine.specs.declared.machine.Machine.{Machine}
 use Rattle.resume_core.specs.declared.load.Load.{Load}
 use Rattle.resume_core.specs.declared.load.Stage.{Stage}
@@ -21,14 +20,32 @@ is_busy_at stage.Rest = ⊥
 is_busy_at stage.Runs = ⊥
 is_busy_at _ = ⊤
 
+-- the header block is written taken back next
+abbrev pub takes_back_at : Stage → Type 0
+takes_back_at (stage.TakeBack found) = ⊤
+takes_back_at _ = ⊥
+
+-- that is synced next
+abbrev pub syncs_back_at : Stage → Type 0
+syncs_back_at (stage.SyncBack found) = ⊤
+syncs_back_at _ = ⊥
+
+-- a map, the info page or a number page is read next
+abbrev pub lists_at : Stage → Type 0
+lists_at (stage.List chain) = ⊤
+lists_at _ = ⊥
+
+-- a map or a saved page is read next
+abbrev pub reads_at : Stage → Type 0
+reads_at (stage.Read chain) = ⊤
+reads_at _ = ⊥
+
 abbrev pub IsBusy : Load → Type 0
 IsBusy load = is_busy_at load.stage
 
 -- a reader that goes on, on a disk of so many blocks
-pub record CanRead (blocks : ℕ) (load : Load) : Type 0 where
-  pub reader : Reading
-  pub has : load.reader ≡ Some reader
-  pub ready : IsReady reader load.origs.members load.zeros.members
+pub record CanRead (blocks : ℕ) (reader : Reading) (origs zeros : List ℕ) : Type 0 where
+  pub ready : IsReady reader origs zeros
   pub within : reader.blocks ≤ blocks
 
 -- no page frame is listed yet
@@ -54,10 +71,11 @@ CanMake stage.Runs machine frames runs load = RunsOn machine frames runs
 CanMake stage.Rest machine frames runs load = ⊤
 CanMake stage.Sync machine frames runs load = NoneListed load
 CanMake stage.Find machine frames runs load = NoneListed load
-CanMake stage.TakeBack machine frames runs load = (block_of_slot machine.hw 0 < machine.blocks) × NoneListed load
-CanMake stage.SyncBack machine frames runs load = NoneListed load
-CanMake stage.List machine frames runs load = CanRead machine.blocks load × (4 ≤ load.made)
-CanMake stage.Read machine frames runs load = CanRead machine.blocks load × (4 ≤ load.made) × (load.waiting.placement.ready ≡ true)
+CanMake (stage.TakeBack found) machine frames runs load = (block_of_slot machine.hw 0 < machine.blocks) × NoneListed load
+CanMake (stage.SyncBack found) machine frames runs load = NoneListed load
+CanMake (stage.List chain) machine frames runs load = CanRead machine.blocks chain.reader load.origs.members load.zeros.members × (4 ≤ chain.done)
+CanMake (stage.Read chain) machine frames runs load =
+    CanRead machine.blocks chain.reader load.origs.members load.zeros.members × (4 ≤ chain.done) × (load.waiting.placement.ready ≡ true)
 
 -- A resume over this machine: memory has its page frames, the runs have room for its slots, and the sets are over its zones.
 pub record IsOverMachine (machine : Machine) (frames : Memory) (runs : SlotRuns) (load : Load) : Type 0 where

@@ -1,5 +1,5 @@
 -- The rows of the plain machine that a resume makes.
-use Rattle.std.specs.Prelude.{◌≡◌, ◌<◌, ℕ, ◌+◌, ◌-◌, [], Contains, Option, Some, None, true, Ok, ⊤}
+use Rattle.std.specs.Prelude.{◌≡◌, ◌<◌, ℕ, ◌+◌, ◌-◌, [], Contains, List, Option, Some, None, true, Ok, ⊤}
 use Rattle.definitions.specs.Disk as disk
 use Rattle.definitions.specs.Tables.{frame}
 use Rattle.definitions.specs.Zones.{top}
@@ -13,7 +13,7 @@ use Rattle.plain_machine.specs.Machine.{Hardware, Memory}
 use Rattle.plain_machine.specs.Chain.{header_of, blocks_of}
 use Rattle.plain_machine.specs.Loader.{left_free, loader_frame, restored}
 use Rattle.plain_machine.specs.UsableArea.{area_block}
-use Rattle.plain_machine.specs.Shows.{Shown}
+use Rattle.plain_machine.specs.Shows.{WorldView}
 use Rattle.plain_machine.specs.State.{State, off, on, booting, hibernating, undoing, settling, waking, loading, asleep, Held, Load as Resume, Found, not_yet, found_own, found_other}
 use Rattle.plain_machine.specs.Stands.{Stands}
 use Rattle.plain_machine.specs.Trace.{info_in, place_count, header_cause, want_cause, place, restored_in, data_frames, data_pages}
@@ -35,7 +35,9 @@ use Rattle.protocol_laws.specs.Rows as rows
 use Rattle.restore_laws.specs.DataPages.{data_before}
 use Rattle.machine.specs.declared.machine.Machine.{Machine}
 use Rattle.resume_core.specs.Loading.{shown_by}
+use Rattle.resume_core.specs.declared.load.FoundHeader.{FoundHeader}
 use Rattle.resume_core.specs.declared.load.Load.{Load}
+use Rattle.resume_core.specs.declared.load.OpenChain.{OpenChain}
 use Rattle.resume_core.specs.declared.load.Stage.{Stage}
 use Rattle.resume_core.specs.declared.load.Stage.TheVariants as stage
 
@@ -46,7 +48,7 @@ pub record HasLoader (h : Hardware) (load : Load) (l : Resume) : Type 0 where
   pub check : load.check ≡ l.check
 
 -- a dump's loader is the memory that is kept
-abbrev pub HasLoaderMemory : Loader → Memory → Shown → Type 0
+abbrev pub HasLoaderMemory : Loader → Memory → WorldView → Type 0
 HasLoaderMemory (loader.Ranges ranges) frames shown = ⊤
 HasLoaderMemory loader.Table frames shown = (shown.keeps_dump ≡ true) × (shown.frames ≡ frames)
 
@@ -59,20 +61,17 @@ swap_area (BadArea why) = None
 swap_area (Swap area) = Some area
 
 -- The image was found on the disk v, and the disk with this content reads like it but for block(0), which taken back says the same area.
-pub record HasFound (machine : Machine) (load : Load) (c : disk.Content) (l : Resume) (v : disk.DiskImage) : Type 0 where
+pub record HasFound (machine : Machine) (header : List ℕ) (c : disk.Content) (l : Resume) (v : disk.DiskImage) : Type 0 where
   pub found : IsFoundIn machine.hw l v
   pub uncaused : header_cause machine.hw v ≡ None
-  pub header : load.header ≡ header_of machine.hw v
-  pub mark : load.mark ≡ mark_of (header_of machine.hw v)
+  pub is_header : header ≡ header_of machine.hw v
   pub reads : Reads machine.hw v (Some c)
   pub blocks : blocks_of v ≡ machine.blocks
-  pub area : swap_area (area_kind (area_block machine.hw (disk.as_it_reads c))) ≡ swap_area (area_kind (taken_back load.header))
+  pub area : swap_area (area_kind (area_block machine.hw (disk.as_it_reads c))) ≡ swap_area (area_kind (taken_back header))
 
 -- The reader has read the first t places of the disk v.
-pub record HasReader (h : Hardware) (v : disk.DiskImage) (load : Load) (t : ℕ) : Type 0 where
-  pub reader : Reading
-  pub has : load.reader ≡ Some reader
-  pub reading : stream.HasReadPlaces h v load.check reader t load.origs.members load.zeros.members
+abbrev pub HasReader : Hardware → disk.DiskImage → Reading → Load → ℕ → Type 0
+HasReader h v reader load t = stream.HasReadPlaces h v load.check reader t load.origs.members load.zeros.members
 
 -- The pages with data among them wait for the page frames that they were saved for.
 pub record HavePlaces (h : Hardware) (v : disk.DiskImage) (frames : Memory) (waiting : Awaiting) (t : ℕ) : Type 0 where
@@ -85,18 +84,22 @@ pub record HavePlaces (h : Hardware) (v : disk.DiskImage) (frames : Memory) (wai
 abbrev pub NoneWaits : Load → Type 0
 NoneWaits load = load.waiting.originals ≡ []
 
+-- the image was found, and nothing of it is read
+abbrev pub KnowsHeader : Machine → Load → FoundHeader → disk.Content → Resume → ℕ → Type 0
+KnowsHeader machine load found c l k =
+    (v : disk.DiskImage) × HasFound machine found.header c l v × HaveGoneOn machine.hw l v k × (load.origs.members ≡ []) × (load.zeros.members ≡ []) × NoneWaits load
+    × (found.mark ≡ mark_of (header_of machine.hw v))
+
 -- what is known by the step that is next: what was found, and how far it is read
 abbrev pub KnowsAt : Stage → Machine → Memory → Load → disk.Content → Resume → ℕ → Type 0
-KnowsAt stage.TakeBack machine frames load c l k =
-    (v : disk.DiskImage) × HasFound machine load c l v × HaveGoneOn machine.hw l v k × (load.origs.members ≡ []) × (load.zeros.members ≡ []) × NoneWaits load
-KnowsAt stage.SyncBack machine frames load c l k =
-    (v : disk.DiskImage) × HasFound machine load c l v × HaveGoneOn machine.hw l v k × (load.origs.members ≡ []) × (load.zeros.members ≡ []) × NoneWaits load
-KnowsAt stage.List machine frames load c l k =
-    (v : disk.DiskImage) × HasFound machine load c l v × HaveGoneOn machine.hw l v k × (k < 4 + place_count (info_in machine.hw v).pages)
-    × HasReader machine.hw v load (k - 4) × (told machine.hw v (pages_read (k - 4)) ≡ None) × NoneWaits load
-KnowsAt stage.Read machine frames load c l k =
-    (v : disk.DiskImage) × HasFound machine load c l v × HaveGoneOn machine.hw l v k × (k < 4 + place_count (info_in machine.hw v).pages)
-    × HasReader machine.hw v load (k - 4) × HavePlaces machine.hw v frames load.waiting (k - 4)
+KnowsAt (stage.TakeBack found) machine frames load c l k = KnowsHeader machine load found c l k
+KnowsAt (stage.SyncBack found) machine frames load c l k = KnowsHeader machine load found c l k
+KnowsAt (stage.List chain) machine frames load c l k =
+    (v : disk.DiskImage) × HasFound machine chain.header c l v × HaveGoneOn machine.hw l v k × (k < 4 + place_count (info_in machine.hw v).pages)
+    × HasReader machine.hw v chain.reader load (k - 4) × (told machine.hw v (pages_read (k - 4)) ≡ None) × NoneWaits load
+KnowsAt (stage.Read chain) machine frames load c l k =
+    (v : disk.DiskImage) × HasFound machine chain.header c l v × HaveGoneOn machine.hw l v k × (k < 4 + place_count (info_in machine.hw v).pages)
+    × HasReader machine.hw v chain.reader load (k - 4) × HavePlaces machine.hw v frames load.waiting (k - 4)
 KnowsAt _ machine frames load c l k = (load.origs.members ≡ []) × (load.zeros.members ≡ []) × NoneWaits load
 
 -- The resume is the one that a state is at. (Loader and check are shown.)
@@ -160,35 +163,35 @@ pub record StandsAfter (machine : Machine) (frames : Memory) (load : Load) (r : 
 
 -- what the state goes on to
 abbrev pub GoesOn : Machine → Memory → Load → Event → Reply → disk.Content → disk.Content → State → State → Type 0
-GoesOn machine frames load e r c c' a b = rows.Leads machine.hw (StandsAfter machine frames load r a) e r c c' a b
+GoesOn machine frames load e r c c' a b = rows.StepsTo machine.hw (StandsAfter machine frames load r a) e r c c' a b
 
 -- the row of an event over these contents of the disk, and over a disk that tells its content
-abbrev pub IsRow : Machine → Memory → Load → Machine → Memory → Load → Event → Reply → disk.Content → disk.Content → Type 0
-IsRow machine frames load machine' frames' load' e r c c' =
-    (a : State) → StandsFor machine frames load c a → (b : State) × rows.Leads machine.hw (StandsAfter machine' frames' load' r a) e r c c' a b
+abbrev pub Simulates : Machine → Memory → Load → Machine → Memory → Load → Event → Reply → disk.Content → disk.Content → Type 0
+Simulates machine frames load machine' frames' load' e r c c' =
+    (a : State) → StandsFor machine frames load c a → (b : State) × rows.StepsTo machine.hw (StandsAfter machine' frames' load' r a) e r c c' a b
 
-abbrev pub HasRow : Machine → Memory → Load → Machine → Memory → Load → Event → Reply → Option disk.Content → Option disk.Content → Type 0
-HasRow machine frames load machine' frames' load' e r before now =
-    (c : disk.Content) → before ≡ Some c → (c' : disk.Content) × (now ≡ Some c') × IsRow machine frames load machine' frames' load' e r c c'
+abbrev pub SimulatesWhereTold : Machine → Memory → Load → Machine → Memory → Load → Event → Reply → Option disk.Content → Option disk.Content → Type 0
+SimulatesWhereTold machine frames load machine' frames' load' e r before now =
+    (c : disk.Content) → before ≡ Some c → (c' : disk.Content) × (now ≡ Some c') × Simulates machine frames load machine' frames' load' e r c c'
 
 -- the row of a begin, from each state of a machine that is off and has the loader's memory
 abbrev pub BeginsRow : Machine → Memory → Memory → Load → Loader → IdentCheck → Reply → Type 0
 BeginsRow machine frames frames' load' loader check r =
-    (shown : Shown) (c : disk.Content) (held : Held) (kept : Option Memory) → HasLoaderMemory loader frames shown → Stands machine.hw shown c (off held kept) →
+    (shown : WorldView) (c : disk.Content) (held : Held) (kept : Option Memory) → HasLoaderMemory loader frames shown → Stands machine.hw shown c (off held kept) →
     (b : State) × GoesOn machine frames' load' (event.Resume loader check) r c c (off held kept) b
 
 -- A block was read at the step behind k others, and neither it nor the block behind it is at fault. What the machine showed before
 -- stood for the state.
-pub record HasRead (machine : Machine) (frames : Memory) (load : Load) (c : disk.Content) (l : Resume) (v : disk.DiskImage) (k : ℕ) : Type 0 where
-  pub shown : Shown
+pub record HasRead (machine : Machine) (frames : Memory) (load : Load) (chain : OpenChain) (c : disk.Content) (l : Resume) (v : disk.DiskImage) (k : ℕ) : Type 0 where
+  pub shown : WorldView
   pub whole : disk.IsContent machine.blocks c
   pub reading : load_rows.IsBeforeRead machine.hw shown c l v k
   pub loader : HasLoader machine.hw load l
-  pub found : HasFound machine load c l v
+  pub found : HasFound machine chain.header c l v
   pub sound : step_cause machine.hw v l.check (k - 4) ≡ None
-  pub read : HasReader machine.hw v load (k - 4 + 1)
+  pub read : HasReader machine.hw v chain.reader load (k - 4 + 1)
   pub kept : (p : ℕ) → p < top machine.hw.zones → (Contains (left_free machine.hw l.dump l.loader) p → ⊥) → frame frames p ≡ loader_frame l.dump l.loader p
-  pub made : load.made ≡ k
+  pub done : chain.done ≡ k
 
 -- where the reply leads, from the state that is at that step
 abbrev pub LeadsOn : Machine → Memory → Load → Reply → disk.Content → Resume → ℕ → Type 0
@@ -196,19 +199,19 @@ LeadsOn machine' frames' load' r c l k =
     (b : State) × GoesOn machine' frames' load' (event.Step actor.Core) r c c (loading l k) b
 
 -- of the page frames that the image names, not all were listed before; the reader tells whether they are now
-abbrev pub ListsOn : Machine → Memory → Load → Machine → Memory → Load → Reply → Type 0
-ListsOn machine frames load machine' frames' load' r =
-    (c : disk.Content) (l : Resume) (v : disk.DiskImage) (k : ℕ) → HasRead machine frames load c l v k → told machine.hw v (pages_read (k - 4)) ≡ None → NoneWaits load →
+abbrev pub ListsOn : Machine → Memory → Load → OpenChain → Machine → Memory → Load → Reply → Type 0
+ListsOn machine frames load chain machine' frames' load' r =
+    (c : disk.Content) (l : Resume) (v : disk.DiskImage) (k : ℕ) → HasRead machine frames load chain c l v k → told machine.hw v (pages_read (k - 4)) ≡ None → NoneWaits load →
     LeadsOn machine' frames' load' r c l k
 
 -- all are listed, and the pages read wait; the machine may have had room to test at this step, which it did
-abbrev pub ReadsOn : Machine → Memory → Load → Machine → Memory → Load → Reply → Type 0
-ReadsOn machine frames load machine' frames' load' r =
-    (c : disk.Content) (l : Resume) (v : disk.DiskImage) (k : ℕ) → HasRead machine frames load c l v k → HavePlaces machine.hw v frames load.waiting (k - 4 + 1) →
+abbrev pub ReadsOn : Machine → Memory → Load → OpenChain → Machine → Memory → Load → Reply → Type 0
+ReadsOn machine frames load chain machine' frames' load' r =
+    (c : disk.Content) (l : Resume) (v : disk.DiskImage) (k : ℕ) → HasRead machine frames load chain c l v k → HavePlaces machine.hw v frames load.waiting (k - 4 + 1) →
     want_cause machine.hw l.dump v l.loader (place (k - 4)) ≡ None → LeadsOn machine' frames' load' r c l k
 
 -- at the last step
-abbrev pub EndsOn : Machine → Memory → Load → Machine → Memory → Load → Reply → Type 0
-EndsOn machine frames load machine' frames' load' r =
-    (c : disk.Content) (l : Resume) (v : disk.DiskImage) (k : ℕ) → HasRead machine frames load c l v k → HavePlaces machine.hw v frames load.waiting (k - 4 + 1) →
+abbrev pub EndsOn : Machine → Memory → Load → OpenChain → Machine → Memory → Load → Reply → Type 0
+EndsOn machine frames load chain machine' frames' load' r =
+    (c : disk.Content) (l : Resume) (v : disk.DiskImage) (k : ℕ) → HasRead machine frames load chain c l v k → HavePlaces machine.hw v frames load.waiting (k - 4 + 1) →
     want_cause machine.hw l.dump v l.loader (place (k - 4)) ≡ None → k - 4 + 1 ≡ place_count (info_in machine.hw v).pages → LeadsOn machine' frames' load' r c l k

@@ -5,12 +5,12 @@ ghost use Rattle.page_core.specs.declared.format.Format.TheVariants.{Plain, Skip
 ghost use Rattle.plain_machine.specs.Shows.{rests};
 ghost use Rattle.plain_machine.specs.declared.event.Loader.{Loader};
 ghost use Rattle.resume_core.specs.Header.{Opens, signature_fault};
-ghost use Rattle.resume_core.specs.Loading.{activity_told, is_idle};
-ghost use Rattle.protocol_laws.specs.Rows.{IsNewFault};
+ghost use Rattle.resume_core.specs.Loading.{activity_told};
+ghost use Rattle.protocol_laws.specs.Rows.{IsNewFault, is_idle};
 ghost use Rattle.sector_disk.specs.Called.{Called, AtMostOneCall};
 
 use crate::Load;
-use crate::load::Stage;
+use crate::load::{OpenChain, Stage};
 use frame_arena::Frames;
 use image_read::Reader;
 use machine::{Hardware, Machine};
@@ -18,6 +18,7 @@ use page_core::{Failed, Format};
 use plain_machine::{Left, Reply};
 use sector_disk::Disk;
 use sig_header::{Mark, take_back};
+use std::mem::replace;
 use swap_slots::FreeRuns;
 
 /// SF_HW_SIG (kernel/power/power.h).
@@ -30,10 +31,9 @@ const SKIPS_ZEROS: u32 = 256;
 impl Load {
     ghost use Rattle.plain_machine.specs.declared.event.Event.TheVariants as event;
     ghost use Rattle.plain_machine.specs.declared.event.Actor.TheVariants as actor;
-    ghost use Rattle.resume_core.specs.declared.load.Stage.TheVariants as stage;
-    ghost use Rattle.resume_core.specs.Loading.{activity_of, activity_told, is_idle};
-    ghost use Rattle.resume_core.specs.Ready.{CanStep};
-    ghost use Rattle.resume_core.specs.Row.{HasRow};
+    ghost use Rattle.resume_core.specs.Loading.{activity_of, activity_told};
+    ghost use Rattle.resume_core.specs.Ready.{CanStep, takes_back_at, syncs_back_at};
+    ghost use Rattle.resume_core.specs.Row.{SimulatesWhereTold};
 
     /// Writes the header block taken back.
     pub(crate) fn take_back<D: Disk>(
@@ -45,21 +45,26 @@ impl Load {
     ) -> Reply
         requires ready { CanStep machine.now frames.now runs.now self.old }
         requires blocks { D.block_count disk.old ≡ machine.now.blocks }
-        requires stage { self.old.stage ≡ stage.TakeBack }
-        ensures row { HasRow machine.now frames.now self.old machine.now frames.now self.new (event.Step actor.Core) result (D.content disk.old) (D.content disk.new) }
+        requires stage { takes_back_at self.old.stage }
+        ensures row { SimulatesWhereTold machine.now frames.now self.old machine.now frames.now self.new (event.Step actor.Core) result (D.content disk.old) (D.content disk.new) }
         ensures activity { activity_of self.new ≡ activity_told self.old.loader result }
         ensures loader { self.new.loader ≡ self.old.loader }
         ensures works { is_idle result ≡ false }
         ensures ready { CanStep machine.now frames.now runs.now self.new }
         ensures called { Called D.Disk AtMostOneCall (IsNewFault result) disk.old disk.new }
     {
-        let block = machine.hw.extents().block(0);
-        match disk.write(block as u32, &take_back(&self.header)) {
-            Ok(()) => {
-                self.stage = Stage::SyncBack;
-                Reply::Loading { k: 3 }
+        match replace(&mut self.stage, Stage::Rest) {
+            Stage::TakeBack(found) => {
+                let block = machine.hw.extents().block(0);
+                match disk.write(block as u32, &take_back(&found.header)) {
+                    Ok(()) => {
+                        self.stage = Stage::SyncBack(found);
+                        Reply::Loading { k: 3 }
+                    }
+                    Err(Failed) => self.stop(Reply::WriteFault { left: Left::Unsure }),
+                }
             }
-            Err(Failed) => self.stop(Reply::WriteFault { left: Left::Unsure }),
+            _ => unreachable!(),
         }
     }
 
@@ -73,8 +78,8 @@ impl Load {
     ) -> Reply
         requires ready { CanStep machine.now frames.now runs.now self.old }
         requires blocks { D.block_count disk.old ≡ machine.now.blocks }
-        requires stage { self.old.stage ≡ stage.SyncBack }
-        ensures row { HasRow machine.now frames.now self.old machine.now frames.now self.new (event.Step actor.Core) result (D.content disk.old) (D.content disk.new) }
+        requires stage { syncs_back_at self.old.stage }
+        ensures row { SimulatesWhereTold machine.now frames.now self.old machine.now frames.now self.new (event.Step actor.Core) result (D.content disk.old) (D.content disk.new) }
         ensures activity { activity_of self.new ≡ activity_told self.old.loader result }
         ensures loader { self.new.loader ≡ self.old.loader }
         ensures works { is_idle result ≡ false }
@@ -85,14 +90,19 @@ impl Load {
             Ok(()) => {}
             Err(Failed) => return self.stop(Reply::SyncFault { left: Left::Unsure }),
         }
-        match reader_of(&machine.hw, machine.blocks, &self.mark) {
-            Ok(reader) => {
-                self.reader = Some(reader);
-                self.made = 4;
-                self.stage = Stage::List;
-                Reply::Loading { k: 4 }
-            }
-            Err(why) => self.stop(why),
+        match replace(&mut self.stage, Stage::Rest) {
+            Stage::SyncBack(found) => match reader_of(&machine.hw, machine.blocks, &found.mark) {
+                Ok(reader) => {
+                    self.stage = Stage::List(OpenChain {
+                        header: found.header,
+                        reader,
+                        done: 4,
+                    });
+                    Reply::Loading { k: 4 }
+                }
+                Err(why) => self.stop(why),
+            },
+            _ => unreachable!(),
         }
     }
 }

@@ -52,7 +52,6 @@ impl Load {
         self.waiting.begin(&self.origs);
         self.origs.clear_all();
         self.zeros.clear_all();
-        self.reader = None;
         self.loader = loader;
         self.check = check;
         self.stage = Stage::Sync;

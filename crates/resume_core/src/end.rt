@@ -1,4 +1,4 @@
-ghost use Rattle.std.specs.Prelude.{◌≡◌, ◌≤◌, ◌<◌, ℕ, false, true, length, Some, None, IfOk, MatchResult};
+ghost use Rattle.std.specs.Prelude.{◌≡◌, false, length, Some, None, IfOk, MatchResult};
 ghost use Rattle.definitions.specs.Disk.{DiskImage};
 ghost use Rattle.definitions.specs.SwapHeader.{taken_back};
 ghost use Rattle.definitions.specs.Zones.{top};
@@ -8,9 +8,8 @@ ghost use Rattle.plain_machine.specs.Chain.{header_of, blocks_of, Marked};
 ghost use Rattle.plain_machine.specs.Trace.{tables_cause};
 ghost use Rattle.plain_machine.specs.UsableArea.{fit_fault};
 ghost use Rattle.plain_machine.specs.declared.reply.Reply.TheVariants as reply;
-ghost use Rattle.machine.specs.Running.{AreReserved};
-ghost use Rattle.protocol_laws.specs.Rows.{IsNewFault};
-ghost use Rattle.protocol_laws.specs.Writers.{slot_table_of};
+ghost use Rattle.machine.specs.Running.{AreReserved, slot_table_of};
+ghost use Rattle.protocol_laws.specs.Rows.{IsNewFault, is_idle};
 
 use crate::Load;
 use crate::load::Stage;
@@ -23,28 +22,23 @@ use swap_slots::{FreeRuns, SlotTable};
 
 // The end of a resume (swsusp_arch_resume; hibernation_restore, kernel/power/hibernate.c).
 impl Load {
-    ghost use Rattle.plain_machine.specs.declared.event.Event.TheVariants as event;
-    ghost use Rattle.plain_machine.specs.declared.event.Actor.TheVariants as actor;
-    ghost use Rattle.plain_machine.specs.declared.reply.Reply.TheVariants as reply;
     ghost use Rattle.resume_core.specs.declared.load.Stage.TheVariants as stage;
-    ghost use Rattle.resume_core.specs.Loading.{activity_of, activity_told, is_idle};
-    ghost use Rattle.resume_core.specs.Ready.{CanRead, CanStep, IsOverMachine, IsSameMachine};
-    ghost use Rattle.resume_core.specs.Row.{HasRow, HasReader, ListsOn, ReadsOn, EndsOn};
-    ghost use Rattle.resume_core.specs.Reader.{HasAnswered, StillReads, room_refusal, refusal_behind};
+    ghost use Rattle.resume_core.specs.Loading.{activity_of, activity_told};
+    ghost use Rattle.resume_core.specs.Ready.{CanStep, IsSameMachine, reads_at};
+    ghost use Rattle.resume_core.specs.declared.load.OpenChain.{OpenChain};
+    ghost use Rattle.resume_core.specs.Row.{EndsOn};
 
     /// Brings the pages home. After a scripted loader the machine runs, where the tables fit it and the area; after a dump's loader
-    /// it is off. Pages are never missing here, since the reader tests the stream's number of pages by the numbers that it names.
+    /// it is off. No page is missing here, since the reader has tested the stream's number of pages by the numbers that it names.
     pub(crate) fn end(
         &mut self,
         machine: &mut Machine,
         frames: &mut Frames,
         runs: &mut FreeRuns,
     ) -> Reply
-        requires over { IsOverMachine machine.old frames.old runs.old self.old }
-        requires reader { CanRead machine.old.blocks self.old }
-        requires made { 4 ≤ self.old.made }
-        requires planned { self.old.waiting.placement.ready ≡ true }
-        ensures row { EndsOn machine.old frames.old self.old machine.new frames.new self.new result }
+        requires ready { CanStep machine.old frames.old runs.old self.old }
+        requires stage { reads_at self.old.stage }
+        ensures row { (chain : OpenChain) → self.old.stage ≡ stage.Read chain → EndsOn machine.old frames.old self.old chain machine.new frames.new self.new result }
         ensures activity { activity_of self.new ≡ activity_told self.old.loader result }
         ensures loader { self.new.loader ≡ self.old.loader }
         ensures works { is_idle result ≡ false }
@@ -53,31 +47,27 @@ impl Load {
         ensures no_fault { IsNewFault result → ⊥ }
     {
         let saved = self.saved();
-        let missing = self.waiting.left();
-        if missing > 0 {
-            return self.stop(Reply::BadCounts {
-                image_pages: u64::from(saved),
-                pages: u64::from(missing),
-            });
-        }
-        self.waiting.finish(frames, &self.origs);
+        self.waiting.finish(frames, &self.zeros);
         // So each page frame has 4096 bytes.
         let _ = frames.len();
-        match self.loader {
-            Loader::Table => self.stop(Reply::Resumed { n: saved }),
-            Loader::Ranges(_) => {
-                match restored_area(&machine.hw, machine.blocks, frames, &self.header) {
-                    Ok(area) => {
-                        machine.area = Ok(area);
-                        machine.held = Held::No;
-                        machine.flights = [Flight::Nothing; 64];
-                        runs.rebuild(frames, &slot_table(&machine.hw));
-                        self.stage = Stage::Runs;
-                        Reply::Resumed { n: saved }
+        match &self.stage {
+            Stage::Read(chain) => match self.loader {
+                Loader::Table => self.stop(Reply::Resumed { n: saved }),
+                Loader::Ranges(_) => {
+                    match restored_area(&machine.hw, machine.blocks, frames, &chain.header) {
+                        Ok(area) => {
+                            machine.area = Ok(area);
+                            machine.held = Held::No;
+                            machine.flights = [Flight::Nothing; 64];
+                            runs.rebuild(frames, &slot_table(&machine.hw));
+                            self.stage = Stage::Runs;
+                            Reply::Resumed { n: saved }
+                        }
+                        Err(frame) => self.stop(Reply::BadTables { frame }),
                     }
-                    Err(frame) => self.stop(Reply::BadTables { frame }),
                 }
-            }
+            },
+            _ => unreachable!(),
         }
     }
 

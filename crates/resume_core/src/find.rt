@@ -3,13 +3,13 @@ ghost use Rattle.sig_header.specs.AreaKind.{area_kind, mark_of};
 ghost use Rattle.plain_machine.specs.Shows.{rests};
 ghost use Rattle.plain_machine.specs.declared.event.Loader.{Loader};
 ghost use Rattle.resume_core.specs.Header.{header_fault, mark_in};
-ghost use Rattle.resume_core.specs.Loading.{activity_told, is_idle};
+ghost use Rattle.resume_core.specs.Loading.{activity_told};
 ghost use Rattle.definitions.specs.Disk.{Content, as_it_reads};
-ghost use Rattle.protocol_laws.specs.Rows.{IsNewFault};
+ghost use Rattle.protocol_laws.specs.Rows.{IsNewFault, is_idle};
 ghost use Rattle.sector_disk.specs.Called.{Called, AtMostOneCall};
 
 use crate::Load;
-use crate::load::Stage;
+use crate::load::{FoundHeader, Stage};
 use frame_arena::Frames;
 use machine::Machine;
 use page_core::{Failed, Page};
@@ -26,9 +26,9 @@ impl Load {
     ghost use Rattle.plain_machine.specs.declared.event.Event.TheVariants as event;
     ghost use Rattle.plain_machine.specs.declared.event.Actor.TheVariants as actor;
     ghost use Rattle.resume_core.specs.declared.load.Stage.TheVariants as stage;
-    ghost use Rattle.resume_core.specs.Loading.{activity_of, activity_told, is_idle, FindsMark};
+    ghost use Rattle.resume_core.specs.Loading.{activity_of, activity_told, FindsMark};
     ghost use Rattle.resume_core.specs.Ready.{CanStep};
-    ghost use Rattle.resume_core.specs.Row.{HasRow};
+    ghost use Rattle.resume_core.specs.Row.{SimulatesWhereTold};
 
     /// Syncs: after it the disk has one content.
     pub(crate) fn sync_first<D: Disk>(
@@ -41,7 +41,7 @@ impl Load {
         requires ready { CanStep machine.now frames.now runs.now self.old }
         requires blocks { D.block_count disk.old ≡ machine.now.blocks }
         requires stage { self.old.stage ≡ stage.Sync }
-        ensures row { HasRow machine.now frames.now self.old machine.now frames.now self.new (event.Step actor.Core) result (D.content disk.old) (D.content disk.new) }
+        ensures row { SimulatesWhereTold machine.now frames.now self.old machine.now frames.now self.new (event.Step actor.Core) result (D.content disk.old) (D.content disk.new) }
         ensures activity { activity_of self.new ≡ activity_told self.old.loader result }
         ensures loader { self.new.loader ≡ self.old.loader }
         ensures works { is_idle result ≡ false }
@@ -70,7 +70,7 @@ impl Load {
         requires blocks { D.block_count disk.old ≡ machine.now.blocks }
         requires stage { self.old.stage ≡ stage.Find }
         ensures found { (c : Content) → D.content disk.old ≡ Some c → FindsMark machine.now.hw result (as_it_reads c) }
-        ensures row { HasRow machine.now frames.now self.old machine.now frames.now self.new (event.Step actor.Core) result (D.content disk.old) (D.content disk.new) }
+        ensures row { SimulatesWhereTold machine.now frames.now self.old machine.now frames.now self.new (event.Step actor.Core) result (D.content disk.old) (D.content disk.new) }
         ensures activity { activity_of self.new ≡ activity_told self.old.loader result }
         ensures loader { self.new.loader ≡ self.old.loader }
         ensures works { is_idle result ≡ false }
@@ -81,14 +81,14 @@ impl Load {
         if block >= u64::from(machine.blocks) {
             return self.stop(Reply::NoImage);
         }
-        match disk.read(block as u32, &mut self.header) {
+        let mut header = Page::zero();
+        match disk.read(block as u32, &mut header) {
             Ok(()) => {}
             Err(Failed) => return self.stop(Reply::ReadFault { left: Left::Same }),
         }
-        match found(&self.header) {
+        match found(&header) {
             Ok(mark) => {
-                self.mark = mark;
-                self.stage = Stage::TakeBack;
+                self.stage = Stage::TakeBack(FoundHeader { header, mark });
                 Reply::Loading { k: 2 }
             }
             Err(why) => self.stop(why),

@@ -1,6 +1,6 @@
 ghost use Rattle.std.specs.Prelude.{◌≡◌, ◌<◌, false, IfOk};
 ghost use Rattle.definitions.specs.Disk.{Content, as_it_reads};
-ghost use Rattle.protocol_laws.specs.Rows.{IsNewFault};
+ghost use Rattle.protocol_laws.specs.Rows.{IsNewFault, is_idle};
 ghost use Rattle.resume_core.specs.Loading.{IsIdle};
 ghost use Rattle.sector_disk.specs.Called.{Called, AtMostOneCall};
 
@@ -16,8 +16,25 @@ use sig_header::Mark;
 use std::alloc::Global;
 use swap_slots::FreeRuns;
 
-/// What is done next.
-#[derive(Clone, Copy, Debug, PartialEq, Eq)]
+/// The header block as it was found, and what its mark says.
+#[derive(Drop)]
+pub(crate) struct FoundHeader {
+    pub(crate) header: Page,
+    pub(crate) mark: Mark,
+}
+
+/// An image whose chain is read.
+#[derive(Drop)]
+pub(crate) struct OpenChain {
+    /// The header block as it was found.
+    pub(crate) header: Page,
+    pub(crate) reader: Reader,
+    /// How many steps of the resume are made.
+    pub(crate) done: u32,
+}
+
+/// What is done next, and what that reads.
+#[derive(Drop)]
 pub(crate) enum Stage {
     /// Nothing: the machine is off.
     Rest,
@@ -28,13 +45,13 @@ pub(crate) enum Stage {
     /// The header block is read.
     Find,
     /// It is written taken back.
-    TakeBack,
+    TakeBack(FoundHeader),
     /// That is synced.
-    SyncBack,
+    SyncBack(FoundHeader),
     /// A map, the info page or a number page is read.
-    List,
+    List(OpenChain),
     /// A map or a saved page is read.
-    Read,
+    Read(OpenChain),
 }
 
 /// A resume, or none. It takes all its memory when it is created.
@@ -44,15 +61,9 @@ pub struct Load {
     pub(crate) origs: Bitmap,
     pub(crate) zeros: Bitmap,
     pub(crate) waiting: Waiting,
-    pub(crate) reader: Option<Reader>,
-    /// The header block as it was found, and what its mark says.
-    pub(crate) header: Page,
-    pub(crate) mark: Mark,
-    /// The block that was read last.
+    /// The block of the chain that was read last.
     pub(crate) page: Page,
     pub(crate) stage: Stage,
-    /// Steps made, once blocks of the chain are read.
-    pub(crate) made: u32,
     pub(crate) loader: Loader,
     pub(crate) check: IdentCheck,
 }
@@ -61,9 +72,9 @@ impl Load {
     ghost use Rattle.plain_machine.specs.declared.event.Event.TheVariants as event;
     ghost use Rattle.plain_machine.specs.declared.event.Actor.TheVariants as actor;
     ghost use Rattle.resume_core.specs.declared.load.Stage.TheVariants as stage;
-    ghost use Rattle.resume_core.specs.Loading.{activity_of, activity_told, is_idle, FindsMark};
+    ghost use Rattle.resume_core.specs.Loading.{activity_of, activity_told, FindsMark};
     ghost use Rattle.resume_core.specs.Ready.{CanStep, IsBusy, IsSameMachine};
-    ghost use Rattle.resume_core.specs.Row.{HasRow};
+    ghost use Rattle.resume_core.specs.Row.{SimulatesWhereTold};
 
     /// No resume, with the memory for every one of this machine.
     pub fn create(alloc: Global, hw: &Hardware) -> Result<Load, NoMemory>
@@ -73,18 +84,8 @@ impl Load {
             origs: Bitmap::create(alloc, hw.zones())?,
             zeros: Bitmap::create(alloc, hw.zones())?,
             waiting: Waiting::create(alloc, hw.zones())?,
-            reader: None,
-            header: Page::zero(),
-            mark: Mark {
-                last: 0,
-                count: 0,
-                first: 0,
-                flags: 0,
-                hw_sig: 0,
-            },
             page: Page::zero(),
             stage: Stage::Rest,
-            made: 0,
             loader: Loader::Table,
             check: IdentCheck::Skip,
         })
@@ -109,7 +110,7 @@ impl Load {
         requires blocks { D.block_count disk.old ≡ machine.old.blocks }
         requires busy { IsBusy self.old }
         ensures found { self.old.stage ≡ stage.Find → (c : Content) → D.content disk.old ≡ Some c → FindsMark machine.old.hw result (as_it_reads c) }
-        ensures row { HasRow machine.old frames.old self.old machine.new frames.new self.new (event.Step actor.Core) result (D.content disk.old) (D.content disk.new) }
+        ensures row { SimulatesWhereTold machine.old frames.old self.old machine.new frames.new self.new (event.Step actor.Core) result (D.content disk.old) (D.content disk.new) }
         ensures activity { activity_of self.new ≡ activity_told self.old.loader result }
         ensures loader { self.new.loader ≡ self.old.loader }
         ensures works { is_idle result ≡ false }
@@ -117,13 +118,13 @@ impl Load {
         ensures machine { IsSameMachine machine.old machine.new }
         ensures called { Called D.Disk AtMostOneCall (IsNewFault result) disk.old disk.new }
     {
-        match self.stage {
+        match &self.stage {
             Stage::Sync => self.sync_first(machine, frames, runs, disk),
             Stage::Find => self.find(machine, frames, runs, disk),
-            Stage::TakeBack => self.take_back(machine, frames, runs, disk),
-            Stage::SyncBack => self.sync_back(machine, frames, runs, disk),
-            Stage::List => self.list_next(machine, frames, runs, disk),
-            Stage::Read => self.read_next(machine, frames, runs, disk),
+            Stage::TakeBack(_) => self.take_back(machine, frames, runs, disk),
+            Stage::SyncBack(_) => self.sync_back(machine, frames, runs, disk),
+            Stage::List(_) => self.list_next(machine, frames, runs, disk),
+            Stage::Read(_) => self.read_next(machine, frames, runs, disk),
             Stage::Rest | Stage::Runs => unreachable!(),
         }
     }

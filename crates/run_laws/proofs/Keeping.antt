@@ -1,14 +1,15 @@
 -- Where one image may be there, it is the one that comes back, until a hibernation is accepted.
-use Rattle.std.proofs.Common.{◌≡◌, ℕ, ◌+◌, ◌-◌, ◌||◌, ◌&&◌, ◌++◌, not, Bool, true, false, cond, eqb, ltb, List, [], ◌∷◌, Option, Some, None, ap}
+use Rattle.std.proofs.Common.{◌≡◌, ℕ, ◌+◌, ◌||◌, ◌&&◌, ◌++◌, not, Bool, true, false, cond, eqb, ltb, zero, suc, List, [], ◌∷◌, Option, Some, None, ap}
 use Rattle.std.specs.Prelude.{⊤}
 use Rattle.std.specs.List.{AllByRecursion}
 use Rattle.definitions.specs.Disk as disk
 use Rattle.definitions.specs.NumberPages.{meta_of}
 use Rattle.plain_machine.specs.Machine.{Hardware, Memory}
-use Rattle.plain_machine.specs.Image.{Image, SlotPages, n_of, d_of, hibernate_steps, resume_steps}
+use Rattle.plain_machine.specs.Image.{Image, SlotPages, n_of, d_of, resume_steps}
 use Rattle.plain_machine.specs.Loader.{restored}
-use Rattle.plain_machine.specs.State.{State, off, on, booting, hibernating, undoing, settling, waking, loading, asleep, Running, Held, nothing, sure, maybe, perhaps, own, other, Flight, goes_out, comes_in, Load, Found, not_yet, found_own, found_other, saved_found, held_in}
-use Rattle.plain_machine.specs.Step.{Outcome, only, done_or, if_running, woken, requested, task_step, booted, boot_outcomes, boot_step, core_step, hibernated, hibernate_step, undo_step, settle_step, wake_step, resumed, find_step, loaded_step, load_step, load_answers, has_place, load_fault, own_step, too_few, has_room, undone_fault}
+use Rattle.plain_machine.specs.State.{State, off, on, booting, hibernating, undoing, settling, waking, loading, asleep, Running, Held, nothing, sure, maybe, perhaps, own, other, Flight, goes_out, comes_in, Load, Found, not_yet, found_own, found_other, saved_found, held_in, held_back, held_hibernating, held_loading}
+use Rattle.plain_machine.specs.Calls.{HibernationCall, writes_page, syncs_pages, reads_header, writes_mark, syncs_mark, hibernation_call, BackCall, reads_mark, takes_back, syncs_back, back_call, LoadCall, syncs_first, of_mark, reads_image, load_call}
+use Rattle.plain_machine.specs.Step.{Outcome, only, if_running, woken, requested, task_step, booted, boot_outcomes, boot_step, core_step, hibernated, hibernation_outcomes, hibernate_step, undo_step, settle_step, wake_step, resumed, find_step, loaded_step, load_step, load_answers, has_place, load_fault, fault_of_load, own_step, too_few, has_room, undone_fault}
 use Rattle.plain_machine.specs.declared.event.BootFrom.{BootFrom}
 use Rattle.plain_machine.specs.declared.event.BootFrom.TheVariants.{Fresh, Kept}
 use Rattle.plain_machine.specs.declared.event.Loader.{Loader}
@@ -78,23 +79,36 @@ only_saved i not_yet held finds is = is
 only_saved i (found_own j) held finds is = finds
 only_saved i (found_other v) held finds is = absurd finds
 
-only_either : (i : Image) (b : Bool) (x y : Held) → IsOnly i x → IsOnly i y → IsOnly i (cond b x y)
-only_either i true x y p q = p
-only_either i false x y p q = q
+only_back : (i : Image) (held : Held) (call : Option BackCall) → IsOnly i held → IsOnly i (held_back held call)
+only_back i held (Some reads_mark) is = is
+only_back i held (Some takes_back) is = is
+only_back i held (Some syncs_back) is = only_perhaps i held is
+only_back i held None is = only_perhaps i held is
+
+only_hibernating : (i j : Image) (call : Option HibernationCall) → j ≡ i → IsOnly i (held_hibernating j call)
+only_hibernating i j (Some writes_page) same = tt
+only_hibernating i j (Some syncs_pages) same = tt
+only_hibernating i j (Some reads_header) same = tt
+only_hibernating i j (Some writes_mark) same = tt
+only_hibernating i j (Some syncs_mark) same = same
+only_hibernating i j None same = same
+
+only_loading : (i : Image) (load : Load) (call : LoadCall) → IsOnly i load.held → FindsOnly i load.found → IsOnly i (held_loading load call)
+only_loading i load syncs_first is finds = is
+only_loading i load (of_mark reads_mark) is finds = is
+only_loading i load (of_mark takes_back) is finds = only_saved i load.found load.held finds is
+only_loading i load (of_mark syncs_back) is finds = only_perhaps i (saved_found load.found load.held) (only_saved i load.found load.held finds is)
+only_loading i load reads_image is finds = tt
 
 pub only_held : (i : Image) (a : State) → HasOnly i a → IsOnly i (held_in a)
 only_held i (off held kept) is = is
 only_held i (on a) is = is
 only_held i (booting from dump held k) is = is
-only_held i (hibernating suspends j a k) is = only_either i (ltb k (hibernate_steps j - 1)) nothing (maybe (own j)) tt is.0
+only_held i (hibernating suspends j a k) is = only_hibernating i j (hibernation_call j k) is.0
 only_held i (undoing j call a k) is = is
-only_held i (settling a k) is = only_either i (ltb k 2) a.held (perhaps a.held) is (only_perhaps i a.held is)
-only_held i (waking j held a k) is = only_either i (ltb k 2) held (perhaps held) is (only_perhaps i held is)
-only_held i (loading load k) is =
-    let saved = saved_found load.found load.held in
-    let both = only_saved i load.found load.held is.1 is.0 in
-    only_either i (ltb k 2) load.held (cond (eqb k 2) saved (cond (eqb k 3) (perhaps saved) nothing)) is.0
-    (only_either i (eqb k 2) saved (cond (eqb k 3) (perhaps saved) nothing) both (only_either i (eqb k 3) (perhaps saved) nothing (only_perhaps i saved both) tt))
+only_held i (settling a k) is = only_back i a.held (back_call k) is
+only_held i (waking j held a k) is = only_back i held (back_call k) is
+only_held i (loading load k) is = only_loading i load (load_call k) is.0 is.1
 only_held i (asleep j held a) is = is
 
 pub if_running_keeps : (h : Hardware) (i : Image) (a : State) (f : Running → List Outcome) → HasOnly i a → ((r : Running) → IsOnly i r.held → AllKeep h i (f r)) → AllKeep h i (if_running a f)
@@ -146,81 +160,53 @@ boots_keep h v i from dump (maybe (own j)) is =
 boots_keep h v i from dump (maybe other) is = absurd is
 
 boot_step_keeps : (h : Hardware) (v : disk.DiskImage) (i : Image) (from : BootFrom) (dump : Memory) (held : Held) (k : ℕ) → IsOnly i held → AllKeep h i (boot_step h v from dump held k)
-boot_step_keeps h v i from dump held k is =
-    let booted_or = boot_outcomes h v from dump held ++ only (reply.ReadFault Same) (off held None) in
-    keep_either h i (eqb k 0) (done_or (reply.More 1 2) (booting from dump held 1) (reply.SyncFault Same) (off held None)) (cond (eqb k 1) booted_or [])
-    ((is, (λ e. absurd e)), ((is, (λ e. absurd e)), tt)) (keep_either h i (eqb k 1) booted_or [] (boots_keep h v i from dump held is) tt)
+boot_step_keeps h v i from dump held zero is = ((is, (λ e. absurd e)), ((is, (λ e. absurd e)), tt))
+boot_step_keeps h v i from dump held (suc zero) is = boots_keep h v i from dump held is
+boot_step_keeps h v i from dump held (suc (suc k)) is = tt
 
 hibernated_keeps : (h : Hardware) (i : Image) (suspends : Bool) (j : Image) (a : Running) → j ≡ i → Keeps h i (hibernated suspends j a)
 hibernated_keeps h i false j a same = (same, (λ e. absurd e))
 hibernated_keeps h i true j a same = (same, (λ e. absurd e))
 
+outcomes_keep : (h : Hardware) (i : Image) (suspends : Bool) (j : Image) (a : Running) (k : ℕ) (call : Option HibernationCall) → j ≡ i → IsOnly i a.held → AllKeep h i (hibernation_outcomes suspends j a k call)
+outcomes_keep h i suspends j a k None same is = tt
+outcomes_keep h i suspends j a k (Some writes_page) same is = (((same, is), (λ e. absurd e)), ((is, (λ e. absurd e)), tt))
+outcomes_keep h i suspends j a k (Some syncs_pages) same is = (((same, is), (λ e. absurd e)), ((is, (λ e. absurd e)), tt))
+outcomes_keep h i suspends j a k (Some reads_header) same is = (((same, is), (λ e. absurd e)), ((is, (λ e. absurd e)), tt))
+outcomes_keep h i suspends j a k (Some writes_mark) same is = (((same, is), (λ e. absurd e)), ((same, (λ e. absurd e)), tt))
+outcomes_keep h i suspends j a k (Some syncs_mark) same is = (hibernated_keeps h i suspends j a same, ((same, (λ e. absurd e)), tt))
+
 hibernate_step_keeps : (h : Hardware) (i : Image) (suspends : Bool) (j : Image) (a : Running) (k : ℕ) → j ≡ i → IsOnly i a.held → AllKeep h i (hibernate_step suspends j a k)
-hibernate_step_keeps h i suspends j a k same is =
-    let last = hibernate_steps j in
-    let next : Outcome = (reply.More (k + 1) last, hibernating suspends j a (k + 1)) in
-    let written = next ∷ (reply.WriteFault Same, on a) ∷ [] in
-    let synced = next ∷ (reply.SyncFault Same, on a) ∷ [] in
-    let read = next ∷ (reply.ReadFault Same, on a) ∷ [] in
-    let marked = next ∷ (reply.Undo undo.Write 0, undoing j undo.Write a 0) ∷ [] in
-    let ended = hibernated suspends j a ∷ (reply.Undo undo.Sync 0, undoing j undo.Sync a 0) ∷ [] in
-    let end = cond (eqb (k + 1) last) ended [] in
-    keep_either h i (ltb (k + 1) (last - 3)) written (cond (eqb (k + 1) (last - 3)) synced (cond (eqb (k + 1) (last - 2)) read (cond (eqb (k + 1) (last - 1)) marked end)))
-    (((same, is), (λ e. absurd e)), ((is, (λ e. absurd e)), tt))
-    (keep_either h i (eqb (k + 1) (last - 3)) synced (cond (eqb (k + 1) (last - 2)) read (cond (eqb (k + 1) (last - 1)) marked end)) (((same, is), (λ e. absurd e)), ((is, (λ e. absurd e)), tt))
-    (keep_either h i (eqb (k + 1) (last - 2)) read (cond (eqb (k + 1) (last - 1)) marked end) (((same, is), (λ e. absurd e)), ((is, (λ e. absurd e)), tt))
-    (keep_either h i (eqb (k + 1) (last - 1)) marked end (((same, is), (λ e. absurd e)), ((same, (λ e. absurd e)), tt))
-    (keep_either h i (eqb (k + 1) last) ended [] (hibernated_keeps h i suspends j a same, ((same, (λ e. absurd e)), tt)) tt))))
+hibernate_step_keeps h i suspends j a k same is = outcomes_keep h i suspends j a k (hibernation_call j k) same is
 
 undone_keeps : (h : Hardware) (i : Image) (call : UndoCall) (left : Left) (b : State) → HasOnly i b → Keeps h i (undone_fault call left, b)
 undone_keeps h i undo.Write left b is = (is, (λ e. absurd e))
 undone_keeps h i undo.Sync left b is = (is, (λ e. absurd e))
 
 undo_step_keeps : (h : Hardware) (i j : Image) (call : UndoCall) (a : Running) (k : ℕ) → j ≡ i → AllKeep h i (undo_step j call a k)
-undo_step_keeps h i j call a k same =
-    let uncertain = on (record a { held = maybe (own j) }) in
-    let gone = on (record a { held = nothing }) in
-    let failed : Outcome = (undone_fault call Unsure, uncertain) in
-    let ended = (undone_fault call Gone, gone) ∷ failed ∷ [] in
-    let fails = undone_keeps h i call Unsure uncertain same in
-    keep_either h i (eqb k 0) ((reply.Undo call 1, undoing j call a 1) ∷ failed ∷ []) (cond (eqb k 1) ended []) ((same, (λ e. absurd e)), (fails, tt))
-    (keep_either h i (eqb k 1) ended [] (undone_keeps h i call Gone gone tt, (fails, tt)) tt)
+undo_step_keeps h i j call a zero same = ((same, (λ e. absurd e)), (undone_keeps h i call Unsure (on (record a { held = maybe (own j) })) same, tt))
+undo_step_keeps h i j call a (suc zero) same =
+    (undone_keeps h i call Gone (on (record a { held = nothing })) tt, (undone_keeps h i call Unsure (on (record a { held = maybe (own j) })) same, tt))
+undo_step_keeps h i j call a (suc (suc k)) same = tt
 
 settle_step_keeps : (h : Hardware) (i : Image) (a : Running) (k : ℕ) → IsOnly i a.held → AllKeep h i (settle_step a k)
-settle_step_keeps h i a k is =
-    let uncertain = on (record a { held = perhaps a.held }) in
-    let unsure = only_perhaps i a.held is in
-    let read = done_or (reply.More 1 3) (settling a 1) (reply.ReadFault Same) (on a) in
-    let written = done_or (reply.More 2 3) (settling a 2) (reply.WriteFault Unsure) uncertain in
-    let synced = done_or reply.Settled (on (record a { held = nothing })) (reply.SyncFault Unsure) uncertain in
-    keep_either h i (eqb k 0) read (cond (eqb k 1) written (cond (eqb k 2) synced [])) ((is, (λ e. absurd e)), ((is, (λ e. absurd e)), tt))
-    (keep_either h i (eqb k 1) written (cond (eqb k 2) synced []) ((is, (λ e. absurd e)), ((unsure, (λ e. absurd e)), tt))
-    (keep_either h i (eqb k 2) synced [] ((tt, (λ e. absurd e)), ((unsure, (λ e. absurd e)), tt)) tt))
+settle_step_keeps h i a zero is = ((is, (λ e. absurd e)), ((is, (λ e. absurd e)), tt))
+settle_step_keeps h i a (suc zero) is = ((is, (λ e. absurd e)), ((only_perhaps i a.held is, (λ e. absurd e)), tt))
+settle_step_keeps h i a (suc (suc zero)) is = ((tt, (λ e. absurd e)), ((only_perhaps i a.held is, (λ e. absurd e)), tt))
+settle_step_keeps h i a (suc (suc (suc k))) is = tt
 
 wake_step_keeps : (h : Hardware) (i j : Image) (held : Held) (a : Running) (k : ℕ) → IsOnly i held → AllKeep h i (wake_step j held a k)
-wake_step_keeps h i j held a k is =
-    let uncertain = asleep j (perhaps held) a in
-    let unsure = only_perhaps i held is in
-    let read = done_or (reply.More 1 3) (waking j held a 1) (reply.ReadFault Same) (asleep j held a) in
-    let written = done_or (reply.More 2 3) (waking j held a 2) (reply.WriteFault Unsure) uncertain in
-    let synced = done_or reply.Woken (on (record a { held = nothing })) (reply.SyncFault Unsure) uncertain in
-    keep_either h i (eqb k 0) read (cond (eqb k 1) written (cond (eqb k 2) synced [])) ((is, (λ e. absurd e)), ((is, (λ e. absurd e)), tt))
-    (keep_either h i (eqb k 1) written (cond (eqb k 2) synced []) ((is, (λ e. absurd e)), ((unsure, (λ e. absurd e)), tt))
-    (keep_either h i (eqb k 2) synced [] ((tt, (λ e. absurd e)), ((unsure, (λ e. absurd e)), tt)) tt))
+wake_step_keeps h i j held a zero is = ((is, (λ e. absurd e)), ((is, (λ e. absurd e)), tt))
+wake_step_keeps h i j held a (suc zero) is = ((is, (λ e. absurd e)), ((only_perhaps i held is, (λ e. absurd e)), tt))
+wake_step_keeps h i j held a (suc (suc zero)) is = ((tt, (λ e. absurd e)), ((only_perhaps i held is, (λ e. absurd e)), tt))
+wake_step_keeps h i j held a (suc (suc (suc k))) is = tt
 
-load_fault_keeps : (h : Hardware) (i : Image) (load : Load) (k : ℕ) → IsOnly i load.held → FindsOnly i load.found → Keeps h i (load_fault load k)
-load_fault_keeps h i load k is finds =
-    let saved = saved_found load.found load.held in
-    let unsure = only_perhaps i saved (only_saved i load.found load.held finds is) in
-    let sync : Outcome = (reply.SyncFault Same, off load.held None) in
-    let read : Outcome = (reply.ReadFault Same, off load.held None) in
-    let write : Outcome = (reply.WriteFault Unsure, off (perhaps saved) None) in
-    let last_sync : Outcome = (reply.SyncFault Unsure, off (perhaps saved) None) in
-    let gone : Outcome = (reply.ReadFault Gone, off nothing None) in
-    keeps_either h i (eqb k 0) sync (cond (eqb k 1) read (cond (eqb k 2) write (cond (eqb k 3) last_sync gone))) (is, (λ e. absurd e))
-    (keeps_either h i (eqb k 1) read (cond (eqb k 2) write (cond (eqb k 3) last_sync gone)) (is, (λ e. absurd e))
-    (keeps_either h i (eqb k 2) write (cond (eqb k 3) last_sync gone) (unsure, (λ e. absurd e))
-    (keeps_either h i (eqb k 3) last_sync gone (unsure, (λ e. absurd e)) (tt, (λ e. absurd e)))))
+load_fault_keeps : (h : Hardware) (i : Image) (load : Load) (call : LoadCall) → IsOnly i load.held → FindsOnly i load.found → Keeps h i (fault_of_load load call)
+load_fault_keeps h i load syncs_first is finds = (is, (λ e. absurd e))
+load_fault_keeps h i load (of_mark reads_mark) is finds = (is, (λ e. absurd e))
+load_fault_keeps h i load (of_mark takes_back) is finds = (only_perhaps i (saved_found load.found load.held) (only_saved i load.found load.held finds is), (λ e. absurd e))
+load_fault_keeps h i load (of_mark syncs_back) is finds = (only_perhaps i (saved_found load.found load.held) (only_saved i load.found load.held finds is), (λ e. absurd e))
+load_fault_keeps h i load reads_image is finds = (tt, (λ e. absurd e))
 
 find_keeps : (h : Hardware) (v : disk.DiskImage) (i : Image) (load : Load) (held : Held) → IsOnly i held → IsOnly i load.held → AllKeep h i (find_step h v load held)
 find_keeps h v i load nothing is here = ((tt, (λ e. absurd e)), tt)
@@ -248,14 +234,17 @@ loaded_keeps h i load not_yet k same is finds = tt
 loaded_keeps h i load (found_own j) k same is finds = (own_step_keeps h i load j k same is finds, tt)
 loaded_keeps h i load (found_other v) k same is finds = absurd same
 
+load_answers_keep : (h : Hardware) (v : disk.DiskImage) (i : Image) (load : Load) (k : ℕ) → IsOnly i load.held → FindsOnly i load.found → AllKeep h i (load_answers h v load k)
+load_answers_keep h v i load zero is finds = (((is, finds), (λ e. absurd e)), tt)
+load_answers_keep h v i load (suc zero) is finds = find_keeps h v i load load.held is is
+load_answers_keep h v i load (suc (suc zero)) is finds = loaded_keeps h i load load.found 2 finds is finds
+load_answers_keep h v i load (suc (suc (suc zero))) is finds = loaded_keeps h i load load.found 3 finds is finds
+load_answers_keep h v i load (suc (suc (suc (suc k)))) is finds = loaded_keeps h i load load.found (suc (suc (suc (suc k)))) finds is finds
+
 load_step_keeps : (h : Hardware) (v : disk.DiskImage) (i : Image) (load : Load) (k : ℕ) → IsOnly i load.held → FindsOnly i load.found → AllKeep h i (load_step h v load k)
 load_step_keeps h v i load k is finds =
-    let first = only (reply.Loading 1) (loading load 1) in
-    keep_either h i (ltb k 4 || has_place h load load.found k) (load_fault load k ∷ load_answers h v load k) [] (
-      load_fault_keeps h i load k is finds,
-      keep_either h i (eqb k 0) first (cond (eqb k 1) (find_step h v load load.held) (loaded_step h load load.found k)) (((is, finds), (λ e. absurd e)), tt)
-          (keep_either h i (eqb k 1) (find_step h v load load.held) (loaded_step h load load.found k) (find_keeps h v i load load.held is is) (loaded_keeps h i load load.found k finds is finds)),
-    ) tt
+    keep_either h i (ltb k 4 || has_place h load load.found k) (load_fault load k ∷ load_answers h v load k) []
+    (load_fault_keeps h i load (load_call k) is finds, load_answers_keep h v i load k is finds) tt
 
 pub core_keeps : (h : Hardware) (v : disk.DiskImage) (i : Image) (a : State) → HasOnly i a → AllKeep h i (core_step h v a)
 core_keeps h v i (off held kept) is = tt

@@ -1,16 +1,17 @@
 -- A resume that ends leaves no image.
-use Rattle.std.proofs.Common.{ℕ, ◌+◌, ◌-◌, ◌||◌, ◌&&◌, ◌++◌, not, length, Bool, true, false, cond, eqb, ltb, List, [], ◌∷◌, Option, Some, None, refl, slice_get}
+use Rattle.std.proofs.Common.{ℕ, ◌+◌, ◌-◌, ◌||◌, ◌&&◌, ◌++◌, not, length, Bool, true, false, cond, eqb, ltb, zero, suc, List, [], ◌∷◌, Option, Some, None, refl, slice_get}
 use Rattle.std.specs.List.{AllByRecursion}
 use Rattle.std.proofs.lemmas.List.Elements.{All-from_recursion, All-contains}
 use Rattle.definitions.specs.Disk as disk
 use Rattle.definitions.specs.NumberPages.{meta_of}
 use Rattle.plain_machine.specs.Chain.{is_marked_disk}
 use Rattle.plain_machine.specs.Machine.{Hardware, Memory, saveable}
-use Rattle.plain_machine.specs.Image.{Image, SlotPages, n_of, d_of, hibernate_steps, resume_steps}
+use Rattle.plain_machine.specs.Image.{Image, SlotPages, n_of, d_of, resume_steps}
 use Rattle.plain_machine.specs.Loader.{restored}
 use Rattle.plain_machine.specs.Refusals.{refusal}
-use Rattle.plain_machine.specs.State.{State, off, on, booting, hibernating, undoing, settling, waking, loading, asleep, Running, Held, nothing, sure, maybe, perhaps, own, other, Flight, goes_out, comes_in, Load, Found, not_yet, found_own, found_other, saved_found}
-use Rattle.plain_machine.specs.Step.{Step, Outcome, only, done_or, outcomes, accepted, refused_or, if_running, woken, requested, task_step, begun, boot_outcomes, boot_step, core_step, hibernated, hibernate_step, undo_step, settle_step, wake_step, resumed, find_step, loaded_step, load_step, load_answers, has_place, load_fault, own_step, other_step, other_state, too_few, has_room, undone_fault, drop_memory, dropped_by}
+use Rattle.plain_machine.specs.State.{State, off, on, booting, hibernating, undoing, settling, waking, loading, asleep, Running, Held, nothing, sure, maybe, own, other, Flight, goes_out, comes_in, Load, Found, not_yet, found_own, found_other}
+use Rattle.plain_machine.specs.Calls.{HibernationCall, writes_page, syncs_pages, reads_header, writes_mark, syncs_mark, hibernation_call, reads_mark, takes_back, syncs_back, LoadCall, syncs_first, of_mark, reads_image, load_call}
+use Rattle.plain_machine.specs.Step.{Step, Outcome, only, outcomes, accepted, refused_or, if_running, woken, requested, task_step, begun, boot_outcomes, boot_step, core_step, hibernated, hibernation_outcomes, hibernate_step, undo_step, settle_step, wake_step, resumed, find_step, loaded_step, load_step, load_answers, has_place, load_fault, fault_of_load, own_step, other_step, other_state, too_few, has_room, undone_fault, drop_memory, dropped_by}
 use Rattle.plain_machine.specs.Trace.{trace, restored_in, slots_in}
 use Rattle.plain_machine.specs.declared.event.Actor.TheVariants as actor
 use Rattle.plain_machine.specs.declared.event.BootFrom.{BootFrom}
@@ -85,75 +86,53 @@ boots_spend h v from dump (sure x) = ((λ is. absurd is), ((λ is. absurd is), t
 boots_spend h v from dump (maybe x) = ((λ is. absurd is), ((λ is. absurd is), ((λ is. absurd is), tt)))
 
 boot_step_spends : (h : Hardware) (v : disk.DiskImage) (from : BootFrom) (dump : Memory) (held : Held) (k : ℕ) → AllSpend (boot_step h v from dump held k)
-boot_step_spends h v from dump held k =
-    let booted_or = boot_outcomes h v from dump held ++ only (reply.ReadFault Same) (off held None) in
-    spend_either (eqb k 0) (done_or (reply.More 1 2) (booting from dump held 1) (reply.SyncFault Same) (off held None)) (cond (eqb k 1) booted_or [])
-    ((λ is. absurd is), ((λ is. absurd is), tt)) (spend_either (eqb k 1) booted_or [] (boots_spend h v from dump held) tt)
+boot_step_spends h v from dump held zero = ((λ is. absurd is), ((λ is. absurd is), tt))
+boot_step_spends h v from dump held (suc zero) = boots_spend h v from dump held
+boot_step_spends h v from dump held (suc (suc k)) = tt
 
 hibernated_spends : (suspends : Bool) (i : Image) (a : Running) → Spends (hibernated suspends i a)
 hibernated_spends false i a = λ is. absurd is
 hibernated_spends true i a = λ is. absurd is
 
+outcomes_spend : (suspends : Bool) (i : Image) (a : Running) (k : ℕ) (call : Option HibernationCall) → AllSpend (hibernation_outcomes suspends i a k call)
+outcomes_spend suspends i a k None = tt
+outcomes_spend suspends i a k (Some writes_page) = ((λ is. absurd is), ((λ is. absurd is), tt))
+outcomes_spend suspends i a k (Some syncs_pages) = ((λ is. absurd is), ((λ is. absurd is), tt))
+outcomes_spend suspends i a k (Some reads_header) = ((λ is. absurd is), ((λ is. absurd is), tt))
+outcomes_spend suspends i a k (Some writes_mark) = ((λ is. absurd is), ((λ is. absurd is), tt))
+outcomes_spend suspends i a k (Some syncs_mark) = (hibernated_spends suspends i a, ((λ is. absurd is), tt))
+
 hibernate_step_spends : (suspends : Bool) (i : Image) (a : Running) (k : ℕ) → AllSpend (hibernate_step suspends i a k)
-hibernate_step_spends suspends i a k =
-    let last = hibernate_steps i in
-    let next : Outcome = (reply.More (k + 1) last, hibernating suspends i a (k + 1)) in
-    let written = next ∷ (reply.WriteFault Same, on a) ∷ [] in
-    let synced = next ∷ (reply.SyncFault Same, on a) ∷ [] in
-    let read = next ∷ (reply.ReadFault Same, on a) ∷ [] in
-    let marked = next ∷ (reply.Undo undo.Write 0, undoing i undo.Write a 0) ∷ [] in
-    let ended = hibernated suspends i a ∷ (reply.Undo undo.Sync 0, undoing i undo.Sync a 0) ∷ [] in
-    let end = cond (eqb (k + 1) last) ended [] in
-    spend_either (ltb (k + 1) (last - 3)) written (cond (eqb (k + 1) (last - 3)) synced (cond (eqb (k + 1) (last - 2)) read (cond (eqb (k + 1) (last - 1)) marked end))) ((λ is. absurd is), ((λ is. absurd is), tt))
-    (spend_either (eqb (k + 1) (last - 3)) synced (cond (eqb (k + 1) (last - 2)) read (cond (eqb (k + 1) (last - 1)) marked end)) ((λ is. absurd is), ((λ is. absurd is), tt))
-    (spend_either (eqb (k + 1) (last - 2)) read (cond (eqb (k + 1) (last - 1)) marked end) ((λ is. absurd is), ((λ is. absurd is), tt))
-    (spend_either (eqb (k + 1) (last - 1)) marked end ((λ is. absurd is), ((λ is. absurd is), tt))
-    (spend_either (eqb (k + 1) last) ended [] (hibernated_spends suspends i a, ((λ is. absurd is), tt)) tt))))
+hibernate_step_spends suspends i a k = outcomes_spend suspends i a k (hibernation_call i k)
 
 undone_spends : (call : UndoCall) (left : Left) (b : State) → Spends (undone_fault call left, b)
 undone_spends undo.Write left b = λ is. absurd is
 undone_spends undo.Sync left b = λ is. absurd is
 
 undo_step_spends : (i : Image) (call : UndoCall) (a : Running) (k : ℕ) → AllSpend (undo_step i call a k)
-undo_step_spends i call a k =
-    let uncertain = on (record a { held = maybe (own i) }) in
-    let gone = on (record a { held = nothing }) in
-    let failed : Outcome = (undone_fault call Unsure, uncertain) in
-    let ended = (undone_fault call Gone, gone) ∷ failed ∷ [] in
-    let fails = undone_spends call Unsure uncertain in
-    spend_either (eqb k 0) ((reply.Undo call 1, undoing i call a 1) ∷ failed ∷ []) (cond (eqb k 1) ended []) ((λ is. absurd is), (fails, tt))
-    (spend_either (eqb k 1) ended [] (undone_spends call Gone gone, (fails, tt)) tt)
+undo_step_spends i call a zero = ((λ is. absurd is), (undone_spends call Unsure (on (record a { held = maybe (own i) })), tt))
+undo_step_spends i call a (suc zero) =
+    (undone_spends call Gone (on (record a { held = nothing })), (undone_spends call Unsure (on (record a { held = maybe (own i) })), tt))
+undo_step_spends i call a (suc (suc k)) = tt
 
 settle_step_spends : (a : Running) (k : ℕ) → AllSpend (settle_step a k)
-settle_step_spends a k =
-    let uncertain = on (record a { held = perhaps a.held }) in
-    let read = done_or (reply.More 1 3) (settling a 1) (reply.ReadFault Same) (on a) in
-    let written = done_or (reply.More 2 3) (settling a 2) (reply.WriteFault Unsure) uncertain in
-    let synced = done_or reply.Settled (on (record a { held = nothing })) (reply.SyncFault Unsure) uncertain in
-    spend_either (eqb k 0) read (cond (eqb k 1) written (cond (eqb k 2) synced [])) ((λ is. absurd is), ((λ is. absurd is), tt))
-    (spend_either (eqb k 1) written (cond (eqb k 2) synced []) ((λ is. absurd is), ((λ is. absurd is), tt)) (spend_either (eqb k 2) synced [] ((λ is. absurd is), ((λ is. absurd is), tt)) tt))
+settle_step_spends a zero = ((λ is. absurd is), ((λ is. absurd is), tt))
+settle_step_spends a (suc zero) = ((λ is. absurd is), ((λ is. absurd is), tt))
+settle_step_spends a (suc (suc zero)) = ((λ is. absurd is), ((λ is. absurd is), tt))
+settle_step_spends a (suc (suc (suc k))) = tt
 
 wake_step_spends : (i : Image) (held : Held) (a : Running) (k : ℕ) → AllSpend (wake_step i held a k)
-wake_step_spends i held a k =
-    let uncertain = asleep i (perhaps held) a in
-    let read = done_or (reply.More 1 3) (waking i held a 1) (reply.ReadFault Same) (asleep i held a) in
-    let written = done_or (reply.More 2 3) (waking i held a 2) (reply.WriteFault Unsure) uncertain in
-    let synced = done_or reply.Woken (on (record a { held = nothing })) (reply.SyncFault Unsure) uncertain in
-    spend_either (eqb k 0) read (cond (eqb k 1) written (cond (eqb k 2) synced [])) ((λ is. absurd is), ((λ is. absurd is), tt))
-    (spend_either (eqb k 1) written (cond (eqb k 2) synced []) ((λ is. absurd is), ((λ is. absurd is), tt)) (spend_either (eqb k 2) synced [] ((λ is. absurd is), ((λ is. absurd is), tt)) tt))
+wake_step_spends i held a zero = ((λ is. absurd is), ((λ is. absurd is), tt))
+wake_step_spends i held a (suc zero) = ((λ is. absurd is), ((λ is. absurd is), tt))
+wake_step_spends i held a (suc (suc zero)) = ((λ is. absurd is), ((λ is. absurd is), tt))
+wake_step_spends i held a (suc (suc (suc k))) = tt
 
-load_fault_spends : (load : Load) (k : ℕ) → Spends (load_fault load k)
-load_fault_spends load k =
-    let saved = saved_found load.found load.held in
-    let sync : Outcome = (reply.SyncFault Same, off load.held None) in
-    let read : Outcome = (reply.ReadFault Same, off load.held None) in
-    let write : Outcome = (reply.WriteFault Unsure, off (perhaps saved) None) in
-    let last_sync : Outcome = (reply.SyncFault Unsure, off (perhaps saved) None) in
-    let gone : Outcome = (reply.ReadFault Gone, off nothing None) in
-    spends_either (eqb k 0) sync (cond (eqb k 1) read (cond (eqb k 2) write (cond (eqb k 3) last_sync gone))) (λ is. absurd is)
-    (spends_either (eqb k 1) read (cond (eqb k 2) write (cond (eqb k 3) last_sync gone)) (λ is. absurd is)
-    (spends_either (eqb k 2) write (cond (eqb k 3) last_sync gone) (λ is. absurd is)
-    (spends_either (eqb k 3) last_sync gone (λ is. absurd is) (λ is. absurd is))))
+load_fault_spends : (load : Load) (call : LoadCall) → Spends (fault_of_load load call)
+load_fault_spends load syncs_first = λ is. absurd is
+load_fault_spends load (of_mark reads_mark) = λ is. absurd is
+load_fault_spends load (of_mark takes_back) = λ is. absurd is
+load_fault_spends load (of_mark syncs_back) = λ is. absurd is
+load_fault_spends load reads_image = λ is. absurd is
 
 resumed_spent : (m : Memory) (slots : SlotPages) (from : Loader) → IsSpent (resumed m slots from)
 resumed_spent m slots (loader.Ranges ranges) = refl
@@ -195,14 +174,17 @@ loaded_spends h load not_yet k = tt
 loaded_spends h load (found_own i) k = (own_step_spends h load i k, tt)
 loaded_spends h load (found_other v) k = other_step_spends h load v k
 
+load_answers_spend : (h : Hardware) (v : disk.DiskImage) (load : Load) (k : ℕ) → AllSpend (load_answers h v load k)
+load_answers_spend h v load zero = ((λ is. absurd is), tt)
+load_answers_spend h v load (suc zero) = find_spends h v load load.held
+load_answers_spend h v load (suc (suc zero)) = loaded_spends h load load.found 2
+load_answers_spend h v load (suc (suc (suc zero))) = loaded_spends h load load.found 3
+load_answers_spend h v load (suc (suc (suc (suc k)))) = loaded_spends h load load.found (suc (suc (suc (suc k))))
+
 load_step_spends : (h : Hardware) (v : disk.DiskImage) (load : Load) (k : ℕ) → AllSpend (load_step h v load k)
 load_step_spends h v load k =
-    let first = only (reply.Loading 1) (loading load 1) in
-    spend_either (ltb k 4 || has_place h load load.found k) (load_fault load k ∷ load_answers h v load k) [] (
-      load_fault_spends load k,
-      spend_either (eqb k 0) first (cond (eqb k 1) (find_step h v load load.held) (loaded_step h load load.found k)) ((λ is. absurd is), tt)
-          (spend_either (eqb k 1) (find_step h v load load.held) (loaded_step h load load.found k) (find_spends h v load load.held) (loaded_spends h load load.found k)),
-    ) tt
+    spend_either (ltb k 4 || has_place h load load.found k) (load_fault load k ∷ load_answers h v load k) []
+    (load_fault_spends load (load_call k), load_answers_spend h v load k) tt
 
 core_spends : (h : Hardware) (v : disk.DiskImage) (a : State) → AllSpend (core_step h v a)
 core_spends h v (off held kept) = tt

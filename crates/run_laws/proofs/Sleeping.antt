@@ -1,5 +1,5 @@
 -- What each step makes of a machine that is sent to sleep.
-use Rattle.std.proofs.Common.{◌≡◌, ℕ, ◌+◌, ◌-◌, ◌||◌, ◌&&◌, ◌++◌, not, length, Bool, true, false, cond, eqb, ltb, List, [], ◌∷◌, Option, Some, None, refl, ◌⊎◌, inl, inr}
+use Rattle.std.proofs.Common.{◌≡◌, ℕ, ◌+◌, ◌-◌, ◌||◌, ◌&&◌, ◌++◌, not, length, Bool, true, false, cond, eqb, ltb, zero, suc, List, [], ◌∷◌, Option, Some, None, refl, ◌⊎◌, inl, inr}
 use Rattle.std.specs.Prelude.{⊤}
 use Rattle.std.specs.List.{AllByRecursion}
 use Rattle.std.proofs.lemmas.Bool.{false≢true}
@@ -11,8 +11,9 @@ use Rattle.plain_machine.specs.Machine.{Hardware, Memory, saveable}
 use Rattle.plain_machine.specs.Image.{Image, SlotPages, image_of_memory, n_of, d_of, hibernate_steps, resume_steps}
 use Rattle.plain_machine.specs.Loader.{restored}
 use Rattle.plain_machine.specs.Refusals.{refusal}
-use Rattle.plain_machine.specs.State.{State, off, on, booting, hibernating, undoing, settling, waking, loading, asleep, Running, Held, nothing, sure, maybe, perhaps, own, other, Flight, goes_out, comes_in, Load, Found, not_yet, found_own, found_other, saved_found, held_in, kept_in}
-use Rattle.plain_machine.specs.Step.{Step, Outcome, only, done_or, outcomes, accepted, refused_or, if_running, woken, requested, task_step, begun, boot_outcomes, boot_step, core_step, hibernated, hibernate_step, undo_step, settle_step, wake_step, resumed, find_step, loaded_step, load_step, load_answers, has_place, load_fault, own_step, too_few, has_room, undone_fault, drop_memory, dropped_by}
+use Rattle.plain_machine.specs.State.{State, off, on, booting, hibernating, undoing, settling, waking, loading, asleep, Running, Held, nothing, sure, maybe, perhaps, own, other, Flight, goes_out, comes_in, Load, Found, not_yet, found_own, found_other, held_in, kept_in, held_back}
+use Rattle.plain_machine.specs.Calls.{HibernationCall, writes_page, syncs_pages, reads_header, writes_mark, syncs_mark, hibernation_call, BackCall, reads_mark, takes_back, syncs_back, back_call, LoadCall, syncs_first, of_mark, reads_image, load_call}
+use Rattle.plain_machine.specs.Step.{Step, Outcome, only, outcomes, accepted, refused_or, if_running, woken, requested, task_step, begun, boot_outcomes, boot_step, core_step, hibernated, hibernation_outcomes, hibernate_step, undo_step, settle_step, wake_step, resumed, find_step, loaded_step, load_step, load_answers, has_place, load_fault, fault_of_load, own_step, too_few, has_room, undone_fault, drop_memory, dropped_by}
 use Rattle.plain_machine.specs.declared.event.Actor.TheVariants as actor
 use Rattle.plain_machine.specs.declared.event.BootFrom.{BootFrom}
 use Rattle.plain_machine.specs.declared.event.Event.{Event}
@@ -137,79 +138,55 @@ boots_move a e h v from dump (sure x) = (inl ((λ is. is), inl refl), (inl ((λ 
 boots_move a e h v from dump (maybe x) = (inl ((λ is. is), inl refl), (inl ((λ is. is), inl refl), (inl ((λ is. is), inl refl), tt)))
 
 boot_step_moves : (a : State) (e : Event) (h : Hardware) (v : disk.DiskImage) (from : BootFrom) (dump : Memory) (held : Held) (k : ℕ) → AllMove a e (boot_step h v from dump held k)
-boot_step_moves a e h v from dump held k =
-    let booted_or = boot_outcomes h v from dump held ++ only (reply.ReadFault Same) (off held None) in
-    move_either a e (eqb k 0) (done_or (reply.More 1 2) (booting from dump held 1) (reply.SyncFault Same) (off held None)) (cond (eqb k 1) booted_or [])
-    (inl ((λ is. is), inl refl), (inl ((λ is. is), inl refl), tt)) (move_either a e (eqb k 1) booted_or [] (boots_move a e h v from dump held) tt)
+boot_step_moves a e h v from dump held zero = (inl ((λ is. is), inl refl), (inl ((λ is. is), inl refl), tt))
+boot_step_moves a e h v from dump held (suc zero) = boots_move a e h v from dump held
+boot_step_moves a e h v from dump held (suc (suc k)) = tt
+
+-- the step goes on, or fails, or is the last
+outcomes_move : (here : State) (e : Event) (suspends : Bool) (i : Image) (a : Running) (k : ℕ) (call : Option HibernationCall) →
+    Moves here e (reply.More (k + 1) (hibernate_steps i), hibernating suspends i a (k + 1)) →
+    Moves here e (hibernated suspends i a) → AllMove here e (hibernation_outcomes suspends i a k call)
+outcomes_move here e suspends i a k None goes ends = tt
+outcomes_move here e suspends i a k (Some writes_page) goes ends = (goes, (inl ((λ is. is), inl refl), tt))
+outcomes_move here e suspends i a k (Some syncs_pages) goes ends = (goes, (inl ((λ is. is), inl refl), tt))
+outcomes_move here e suspends i a k (Some reads_header) goes ends = (goes, (inl ((λ is. is), inl refl), tt))
+outcomes_move here e suspends i a k (Some writes_mark) goes ends = (goes, (inl ((λ is. is), inl refl), tt))
+outcomes_move here e suspends i a k (Some syncs_mark) goes ends = (ends, (inl ((λ is. is), inl refl), tt))
 
 hibernate_step_moves : (e : Event) (suspends : Bool) (i : Image) (a : Running) (k : ℕ) → is_cut e ≡ false →
     sleeper (hibernating suspends i a (k + 1)) ≡ sleeper (hibernating suspends i a k) →
     Moves (hibernating suspends i a k) e (hibernated suspends i a) → AllMove (hibernating suspends i a k) e (hibernate_step suspends i a k)
 hibernate_step_moves e suspends i a k uncut same ends =
-    let last = hibernate_steps i in
-    let here = hibernating suspends i a k in
-    let next : Outcome = (reply.More (k + 1) last, hibernating suspends i a (k + 1)) in
-    let goes : Moves here e next = inl ((λ is. is), inr (same, uncut)) in
-    let written = next ∷ (reply.WriteFault Same, on a) ∷ [] in
-    let synced = next ∷ (reply.SyncFault Same, on a) ∷ [] in
-    let read = next ∷ (reply.ReadFault Same, on a) ∷ [] in
-    let marked = next ∷ (reply.Undo undo.Write 0, undoing i undo.Write a 0) ∷ [] in
-    let ended = hibernated suspends i a ∷ (reply.Undo undo.Sync 0, undoing i undo.Sync a 0) ∷ [] in
-    let end = cond (eqb (k + 1) last) ended [] in
-    move_either here e (ltb (k + 1) (last - 3)) written (cond (eqb (k + 1) (last - 3)) synced (cond (eqb (k + 1) (last - 2)) read (cond (eqb (k + 1) (last - 1)) marked end)))
-    (goes, (inl ((λ is. is), inl refl), tt))
-    (move_either here e (eqb (k + 1) (last - 3)) synced (cond (eqb (k + 1) (last - 2)) read (cond (eqb (k + 1) (last - 1)) marked end)) (goes, (inl ((λ is. is), inl refl), tt))
-    (move_either here e (eqb (k + 1) (last - 2)) read (cond (eqb (k + 1) (last - 1)) marked end) (goes, (inl ((λ is. is), inl refl), tt))
-    (move_either here e (eqb (k + 1) (last - 1)) marked end (goes, (inl ((λ is. is), inl refl), tt))
-    (move_either here e (eqb (k + 1) last) ended [] (ends, (inl ((λ is. is), inl refl), tt)) tt))))
+    outcomes_move (hibernating suspends i a k) e suspends i a k (hibernation_call i k) (inl ((λ is. is), inr (same, uncut))) ends
 
 undone_moves : (a : State) (e : Event) (call : UndoCall) (left : Left) (r : Running) → Moves a e (undone_fault call left, on r)
 undone_moves a e undo.Write left r = inl ((λ is. is), inl refl)
 undone_moves a e undo.Sync left r = inl ((λ is. is), inl refl)
 
 undo_step_moves : (a : State) (e : Event) (i : Image) (call : UndoCall) (r : Running) (k : ℕ) → AllMove a e (undo_step i call r k)
-undo_step_moves a e i call r k =
-    let uncertain = record r { held = maybe (own i) } in
-    let gone = record r { held = nothing } in
-    let failed : Outcome = (undone_fault call Unsure, on uncertain) in
-    let ended = (undone_fault call Gone, on gone) ∷ failed ∷ [] in
-    let fails = undone_moves a e call Unsure uncertain in
-    move_either a e (eqb k 0) ((reply.Undo call 1, undoing i call r 1) ∷ failed ∷ []) (cond (eqb k 1) ended []) (inl ((λ is. is), inl refl), (fails, tt))
-    (move_either a e (eqb k 1) ended [] (undone_moves a e call Gone gone, (fails, tt)) tt)
+undo_step_moves a e i call r zero = (inl ((λ is. is), inl refl), (undone_moves a e call Unsure (record r { held = maybe (own i) }), tt))
+undo_step_moves a e i call r (suc zero) =
+    (undone_moves a e call Gone (record r { held = nothing }), (undone_moves a e call Unsure (record r { held = maybe (own i) }), tt))
+undo_step_moves a e i call r (suc (suc k)) = tt
 
 settle_step_moves : (a : State) (e : Event) (r : Running) (k : ℕ) → AllMove a e (settle_step r k)
-settle_step_moves a e r k =
-    let uncertain = on (record r { held = perhaps r.held }) in
-    let read = done_or (reply.More 1 3) (settling r 1) (reply.ReadFault Same) (on r) in
-    let written = done_or (reply.More 2 3) (settling r 2) (reply.WriteFault Unsure) uncertain in
-    let synced = done_or reply.Settled (on (record r { held = nothing })) (reply.SyncFault Unsure) uncertain in
-    move_either a e (eqb k 0) read (cond (eqb k 1) written (cond (eqb k 2) synced [])) (inl ((λ is. is), inl refl), (inl ((λ is. is), inl refl), tt))
-    (move_either a e (eqb k 1) written (cond (eqb k 2) synced []) (inl ((λ is. is), inl refl), (inl ((λ is. is), inl refl), tt))
-    (move_either a e (eqb k 2) synced [] (inl ((λ is. is), inl refl), (inl ((λ is. is), inl refl), tt)) tt))
+settle_step_moves a e r zero = (inl ((λ is. is), inl refl), (inl ((λ is. is), inl refl), tt))
+settle_step_moves a e r (suc zero) = (inl ((λ is. is), inl refl), (inl ((λ is. is), inl refl), tt))
+settle_step_moves a e r (suc (suc zero)) = (inl ((λ is. is), inl refl), (inl ((λ is. is), inl refl), tt))
+settle_step_moves a e r (suc (suc (suc k))) = tt
 
 wake_step_moves : (e : Event) (i : Image) (held : Held) (a : Running) (k : ℕ) → is_cut e ≡ false → AllMove (waking i held a k) e (wake_step i held a k)
-wake_step_moves e i held a k uncut =
-    let here = waking i held a k in
-    let uncertain = asleep i (perhaps held) a in
-    let read = done_or (reply.More 1 3) (waking i held a 1) (reply.ReadFault Same) (asleep i held a) in
-    let written = done_or (reply.More 2 3) (waking i held a 2) (reply.WriteFault Unsure) uncertain in
-    let synced = done_or reply.Woken (on (record a { held = nothing })) (reply.SyncFault Unsure) uncertain in
-    move_either here e (eqb k 0) read (cond (eqb k 1) written (cond (eqb k 2) synced [])) (inl ((λ is. is), inr (refl, uncut)), (inl ((λ is. is), inr (refl, uncut)), tt))
-    (move_either here e (eqb k 1) written (cond (eqb k 2) synced []) (inl ((λ is. is), inr (refl, uncut)), (inl ((λ is. is), inr (refl, uncut)), tt))
-    (move_either here e (eqb k 2) synced [] (inr (inr (inr (a, refl, refl, refl))), (inl ((λ is. is), inr (refl, uncut)), tt)) tt))
+wake_step_moves e i held a zero uncut = (inl ((λ is. is), inr (refl, uncut)), (inl ((λ is. is), inr (refl, uncut)), tt))
+wake_step_moves e i held a (suc zero) uncut = (inl ((λ is. is), inr (refl, uncut)), (inl ((λ is. is), inr (refl, uncut)), tt))
+wake_step_moves e i held a (suc (suc zero)) uncut = (inr (inr (inr (a, refl, refl, refl))), (inl ((λ is. is), inr (refl, uncut)), tt))
+wake_step_moves e i held a (suc (suc (suc k))) uncut = tt
 
-load_fault_moves : (a : State) (e : Event) (load : Load) (k : ℕ) → Moves a e (load_fault load k)
-load_fault_moves a e load k =
-    let saved = saved_found load.found load.held in
-    let sync : Outcome = (reply.SyncFault Same, off load.held None) in
-    let read : Outcome = (reply.ReadFault Same, off load.held None) in
-    let write : Outcome = (reply.WriteFault Unsure, off (perhaps saved) None) in
-    let last_sync : Outcome = (reply.SyncFault Unsure, off (perhaps saved) None) in
-    let gone : Outcome = (reply.ReadFault Gone, off nothing None) in
-    moves_either a e (eqb k 0) sync (cond (eqb k 1) read (cond (eqb k 2) write (cond (eqb k 3) last_sync gone))) (inl ((λ is. is), inl refl))
-    (moves_either a e (eqb k 1) read (cond (eqb k 2) write (cond (eqb k 3) last_sync gone)) (inl ((λ is. is), inl refl))
-    (moves_either a e (eqb k 2) write (cond (eqb k 3) last_sync gone) (inl ((λ is. is), inl refl))
-    (moves_either a e (eqb k 3) last_sync gone (inl ((λ is. is), inl refl)) (inl ((λ is. is), inl refl)))))
+load_fault_moves : (a : State) (e : Event) (load : Load) (call : LoadCall) → Moves a e (fault_of_load load call)
+load_fault_moves a e load syncs_first = inl ((λ is. is), inl refl)
+load_fault_moves a e load (of_mark reads_mark) = inl ((λ is. is), inl refl)
+load_fault_moves a e load (of_mark takes_back) = inl ((λ is. is), inl refl)
+load_fault_moves a e load (of_mark syncs_back) = inl ((λ is. is), inl refl)
+load_fault_moves a e load reads_image = inl ((λ is. is), inl refl)
 
 find_moves : (a : State) (e : Event) (h : Hardware) (v : disk.DiskImage) (i : Image) (load : Load) (held : Held) → IsOnly i held → AllMove a e (find_step h v load held)
 find_moves a e h v i load nothing is = (inl ((λ is. is), inl refl), tt)
@@ -235,14 +212,17 @@ loaded_moves a e h i load not_yet k finds = tt
 loaded_moves a e h i load (found_own j) k finds = (own_step_moves a e h load j k, tt)
 loaded_moves a e h i load (found_other v) k finds = absurd finds
 
+load_answers_move : (a : State) (e : Event) (h : Hardware) (v : disk.DiskImage) (i : Image) (load : Load) (k : ℕ) → IsOnly i load.held → FindsOnly i load.found → AllMove a e (load_answers h v load k)
+load_answers_move a e h v i load zero is finds = (inl ((λ is. is), inl refl), tt)
+load_answers_move a e h v i load (suc zero) is finds = find_moves a e h v i load load.held is
+load_answers_move a e h v i load (suc (suc zero)) is finds = loaded_moves a e h i load load.found 2 finds
+load_answers_move a e h v i load (suc (suc (suc zero))) is finds = loaded_moves a e h i load load.found 3 finds
+load_answers_move a e h v i load (suc (suc (suc (suc k)))) is finds = loaded_moves a e h i load load.found (suc (suc (suc (suc k)))) finds
+
 load_step_moves : (a : State) (e : Event) (h : Hardware) (v : disk.DiskImage) (i : Image) (load : Load) (k : ℕ) → IsOnly i load.held → FindsOnly i load.found → AllMove a e (load_step h v load k)
 load_step_moves a e h v i load k is finds =
-    let first = only (reply.Loading 1) (loading load 1) in
-    move_either a e (ltb k 4 || has_place h load load.found k) (load_fault load k ∷ load_answers h v load k) [] (
-      load_fault_moves a e load k,
-      move_either a e (eqb k 0) first (cond (eqb k 1) (find_step h v load load.held) (loaded_step h load load.found k)) (inl ((λ is. is), inl refl), tt)
-          (move_either a e (eqb k 1) (find_step h v load load.held) (loaded_step h load load.found k) (find_moves a e h v i load load.held is) (loaded_moves a e h i load load.found k finds)),
-    ) tt
+    move_either a e (ltb k 4 || has_place h load load.found k) (load_fault load k ∷ load_answers h v load k) []
+    (load_fault_moves a e load (load_call k), load_answers_move a e h v i load k is finds) tt
 
 core_moves : (h : Hardware) (v : disk.DiskImage) (i : Image) (a : State) → HasOnly i a → AllMove a (event.Step actor.Core) (core_step h v a)
 core_moves h v i (off held kept) is = tt
@@ -308,10 +288,6 @@ Rests e o =
 abbrev AllRest : Event → List Outcome → Type 0
 AllRest e os = AllByRecursion (Rests e) os
 
-rest_either : (e : Event) (b : Bool) (xs ys : List Outcome) → AllRest e xs → AllRest e ys → AllRest e (cond b xs ys)
-rest_either e true xs ys p q = p
-rest_either e false xs ys p q = q
-
 holds_perhaps : (held : Held) → HoldsOwn held → HoldsOwn (perhaps held)
 holds_perhaps nothing has = absurd has
 holds_perhaps (sure (own i)) has = tt
@@ -320,16 +296,10 @@ holds_perhaps (maybe (own i)) has = tt
 holds_perhaps (maybe other) has = absurd has
 
 wake_step_rests : (i : Image) (held : Held) (a : Running) (k : ℕ) → HoldsOwn held → AllRest (event.Step actor.Core) (wake_step i held a k)
-wake_step_rests i held a k has =
-    let e = event.Step actor.Core in
-    let uncertain = asleep i (perhaps held) a in
-    let unsure = holds_perhaps held has in
-    let read = done_or (reply.More 1 3) (waking i held a 1) (reply.ReadFault Same) (asleep i held a) in
-    let written = done_or (reply.More 2 3) (waking i held a 2) (reply.WriteFault Unsure) uncertain in
-    let synced = done_or reply.Woken (on (record a { held = nothing })) (reply.SyncFault Unsure) uncertain in
-    rest_either e (eqb k 0) read (cond (eqb k 1) written (cond (eqb k 2) synced [])) (inr (inr (has, (λ is. absurd (false≢true is)))), (inr (inr (has, (λ is. absurd (false≢true is)))), tt))
-    (rest_either e (eqb k 1) written (cond (eqb k 2) synced []) (inr (inr (has, (λ is. absurd (false≢true is)))), (inr (inr (unsure, (λ is. absurd (false≢true is)))), tt))
-    (rest_either e (eqb k 2) synced [] (inr (inl (refl, refl)), (inr (inr (unsure, (λ is. absurd (false≢true is)))), tt)) tt))
+wake_step_rests i held a zero has = (inr (inr (has, (λ is. absurd (false≢true is)))), (inr (inr (has, (λ is. absurd (false≢true is)))), tt))
+wake_step_rests i held a (suc zero) has = (inr (inr (has, (λ is. absurd (false≢true is)))), (inr (inr (holds_perhaps held has, (λ is. absurd (false≢true is)))), tt))
+wake_step_rests i held a (suc (suc zero)) has = (inr (inl (refl, refl)), (inr (inr (holds_perhaps held has, (λ is. absurd (false≢true is)))), tt))
+wake_step_rests i held a (suc (suc (suc k))) has = tt
 
 asleep_rests : (h : Hardware) (v : disk.DiskImage) (i : Image) (held : Held) (a : Running) (e : Event) → HoldsOwn held → AllRest e (outcomes h v (asleep i held a) e)
 unfolding outcomes refusal
@@ -380,11 +350,13 @@ left_by_cut h v a pick r b step =
     All-contains (λ o. o.1 ≡ off (held_in a) (kept_in a)) (outcomes h v a (event.Cut pick)) (r, b)
     (All-from_recursion (λ o. o.1 ≡ off (held_in a) (kept_in a)) (outcomes h v a (event.Cut pick)) (cut_leaves h v a pick)) step
 
-own_either : (b : Bool) (x y : Held) → HoldsOwn x → HoldsOwn y → HoldsOwn (cond b x y)
-own_either true x y p q = p
-own_either false x y p q = q
+own_back : (held : Held) (call : Option BackCall) → HoldsOwn held → HoldsOwn (held_back held call)
+own_back held (Some reads_mark) has = has
+own_back held (Some takes_back) has = has
+own_back held (Some syncs_back) has = holds_perhaps held has
+own_back held None has = holds_perhaps held has
 
 pub sleeping_holds : (a : State) → IsSleeping a → HoldsOwn (held_in a)
-sleeping_holds (waking i held a k) is = own_either (ltb k 2) held (perhaps held) is (holds_perhaps held is)
+sleeping_holds (waking i held a k) is = own_back held (back_call k) is
 sleeping_holds (asleep i held a) is = is
 sleeping_holds _ is = absurd is

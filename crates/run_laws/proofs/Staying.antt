@@ -1,12 +1,13 @@
 -- Where no image is there no resume ends, and none comes but by a hibernation that is accepted.
-use Rattle.std.proofs.Common.{◌≡◌, ℕ, ◌-◌, ◌||◌, ◌++◌, length, Bool, true, false, cond, eqb, ltb, List, [], ◌∷◌, Option, Some, None, refl, ap, ◌⊎◌, inl, inr}
+use Rattle.std.proofs.Common.{◌≡◌, ℕ, ◌-◌, ◌||◌, ◌++◌, length, Bool, true, false, cond, ltb, zero, suc, List, [], ◌∷◌, Option, Some, None, refl, ap, ◌⊎◌, inl, inr}
 use Rattle.std.specs.List.{AllByRecursion}
 use Rattle.std.proofs.lemmas.List.Elements.{All-from_recursion, All-contains}
 use Rattle.definitions.specs.Disk as disk
 use Rattle.plain_machine.specs.Machine.{Hardware, Memory, saveable}
 use Rattle.plain_machine.specs.Refusals.{refusal}
-use Rattle.plain_machine.specs.State.{State, off, on, booting, hibernating, undoing, settling, waking, loading, asleep, Running, Held, nothing, sure, maybe, perhaps, Flight, goes_out, comes_in, Load, Found, not_yet, found_own, found_other, saved_found, held_in}
-use Rattle.plain_machine.specs.Step.{Step, Outcome, only, done_or, outcomes, accepted, refused_or, if_running, woken, requested, task_step, begun, booted, boot_outcomes, boot_step, core_step, settle_step, find_step, loaded_step, load_step, load_answers, has_place, load_fault, drop_memory, dropped_by}
+use Rattle.plain_machine.specs.State.{State, off, on, booting, hibernating, undoing, settling, waking, loading, asleep, Running, Held, nothing, sure, maybe, perhaps, Flight, goes_out, comes_in, Load, Found, not_yet, found_own, found_other, saved_found, held_in, held_back, held_loading}
+use Rattle.plain_machine.specs.Calls.{BackCall, reads_mark, takes_back, syncs_back, back_call, LoadCall, syncs_first, of_mark, reads_image, load_call}
+use Rattle.plain_machine.specs.Step.{Step, Outcome, only, outcomes, accepted, refused_or, if_running, woken, requested, task_step, begun, booted, boot_outcomes, boot_step, core_step, settle_step, find_step, loaded_step, load_step, load_answers, has_place, load_fault, fault_of_load, drop_memory, dropped_by}
 use Rattle.plain_machine.specs.declared.event.Actor.TheVariants as actor
 use Rattle.plain_machine.specs.declared.event.BootFrom.{BootFrom}
 use Rattle.plain_machine.specs.declared.event.BootFrom.TheVariants.{Fresh, Kept}
@@ -14,7 +15,7 @@ use Rattle.plain_machine.specs.declared.event.Event.{Event}
 use Rattle.plain_machine.specs.declared.event.Event.TheVariants as event
 use Rattle.plain_machine.specs.declared.event.TaskOp.{TaskOp}
 use Rattle.plain_machine.specs.declared.event.TaskOp.TheVariants as op
-use Rattle.plain_machine.specs.declared.reply.Left.TheVariants.{Same, Gone, Unsure}
+use Rattle.plain_machine.specs.declared.reply.Left.TheVariants.{Same}
 use Rattle.plain_machine.specs.declared.reply.Reply.{Reply}
 use Rattle.plain_machine.specs.declared.reply.Reply.TheVariants as reply
 use Rattle.run_laws.specs.Resumes.{is_hibernation}
@@ -30,10 +31,6 @@ AllStay e os = AllByRecursion (Stays e) os
 stay_either : (e : Event) (b : Bool) (xs ys : List Outcome) → AllStay e xs → AllStay e ys → AllStay e (cond b xs ys)
 stay_either e true xs ys p q = p
 stay_either e false xs ys p q = q
-
-stays_either : (e : Event) (b : Bool) (x y : Outcome) → Stays e x → Stays e y → Stays e (cond b x y)
-stays_either e true x y p q = p
-stays_either e false x y p q = q
 
 if_running_stays : (e : Event) (a : State) (f : Running → List Outcome) → IsSpent a → ((r : Running) → r.held ≡ nothing → AllStay e (f r)) → AllStay e (if_running a f)
 if_running_stays e (on a) f spent stays = stays a spent
@@ -81,40 +78,30 @@ boots_stay e h v from dump (sure x) none = absurd (cc)
 boots_stay e h v from dump (maybe x) none = absurd (cc)
 
 boot_step_stays : (e : Event) (h : Hardware) (v : disk.DiskImage) (from : BootFrom) (dump : Memory) (held : Held) (k : ℕ) → held ≡ nothing → AllStay e (boot_step h v from dump held k)
-boot_step_stays e h v from dump held k none =
-    let booted_or = boot_outcomes h v from dump held ++ only (reply.ReadFault Same) (off held None) in
-    stay_either e (eqb k 0) (done_or (reply.More 1 2) (booting from dump held 1) (reply.SyncFault Same) (off held None)) (cond (eqb k 1) booted_or [])
-    (inr (none, (λ is. is)), (inr (none, (λ is. is)), tt)) (stay_either e (eqb k 1) booted_or [] (boots_stay e h v from dump held none) tt)
+boot_step_stays e h v from dump held zero none = (inr (none, (λ is. is)), (inr (none, (λ is. is)), tt))
+boot_step_stays e h v from dump held (suc zero) none = boots_stay e h v from dump held none
+boot_step_stays e h v from dump held (suc (suc k)) none = tt
 
 settle_step_stays : (e : Event) (a : Running) (k : ℕ) → a.held ≡ nothing → AllStay e (settle_step a k)
-settle_step_stays e a k none =
-    let uncertain = on (record a { held = perhaps a.held }) in
-    let unsure : perhaps a.held ≡ nothing = ap perhaps none in
-    let read = done_or (reply.More 1 3) (settling a 1) (reply.ReadFault Same) (on a) in
-    let written = done_or (reply.More 2 3) (settling a 2) (reply.WriteFault Unsure) uncertain in
-    let synced = done_or reply.Settled (on (record a { held = nothing })) (reply.SyncFault Unsure) uncertain in
-    stay_either e (eqb k 0) read (cond (eqb k 1) written (cond (eqb k 2) synced [])) (inr (none, (λ is. is)), (inr (none, (λ is. is)), tt))
-    (stay_either e (eqb k 1) written (cond (eqb k 2) synced []) (inr (none, (λ is. is)), (inr (unsure, (λ is. is)), tt))
-    (stay_either e (eqb k 2) synced [] (inr (refl, (λ is. is)), (inr (unsure, (λ is. is)), tt)) tt))
+settle_step_stays e a zero none = (inr (none, (λ is. is)), (inr (none, (λ is. is)), tt))
+settle_step_stays e a (suc zero) none = (inr (none, (λ is. is)), (inr (ap perhaps none, (λ is. is)), tt))
+settle_step_stays e a (suc (suc zero)) none = (inr (refl, (λ is. is)), (inr (ap perhaps none, (λ is. is)), tt))
+settle_step_stays e a (suc (suc (suc k))) none = tt
 
 saved_nothing : (found : Found) (held : Held) → found ≡ not_yet → held ≡ nothing → saved_found found held ≡ nothing
 saved_nothing not_yet held is none = none
 saved_nothing (found_own i) held is none = absurd (cc)
 saved_nothing (found_other v) held is none = absurd (cc)
 
-load_fault_stays : (e : Event) (load : Load) (k : ℕ) → load.held ≡ nothing → load.found ≡ not_yet → Stays e (load_fault load k)
-load_fault_stays e load k none is =
-    let saved = saved_found load.found load.held in
-    let unsure : perhaps saved ≡ nothing = ap perhaps (saved_nothing load.found load.held is none) in
-    let sync : Outcome = (reply.SyncFault Same, off load.held None) in
-    let read : Outcome = (reply.ReadFault Same, off load.held None) in
-    let write : Outcome = (reply.WriteFault Unsure, off (perhaps saved) None) in
-    let last_sync : Outcome = (reply.SyncFault Unsure, off (perhaps saved) None) in
-    let gone : Outcome = (reply.ReadFault Gone, off nothing None) in
-    stays_either e (eqb k 0) sync (cond (eqb k 1) read (cond (eqb k 2) write (cond (eqb k 3) last_sync gone))) (inr (none, (λ is. is)))
-    (stays_either e (eqb k 1) read (cond (eqb k 2) write (cond (eqb k 3) last_sync gone)) (inr (none, (λ is. is)))
-    (stays_either e (eqb k 2) write (cond (eqb k 3) last_sync gone) (inr (unsure, (λ is. is)))
-    (stays_either e (eqb k 3) last_sync gone (inr (unsure, (λ is. is))) (inr (refl, (λ is. is))))))
+saved_is_nothing : (load : Load) → load.held ≡ nothing → load.found ≡ not_yet → perhaps (saved_found load.found load.held) ≡ nothing
+saved_is_nothing load none is = ap perhaps (saved_nothing load.found load.held is none)
+
+load_fault_stays : (e : Event) (load : Load) (call : LoadCall) → load.held ≡ nothing → load.found ≡ not_yet → Stays e (fault_of_load load call)
+load_fault_stays e load syncs_first none is = inr (none, (λ is. is))
+load_fault_stays e load (of_mark reads_mark) none is = inr (none, (λ is. is))
+load_fault_stays e load (of_mark takes_back) none is = inr (saved_is_nothing load none is, (λ is. is))
+load_fault_stays e load (of_mark syncs_back) none is = inr (saved_is_nothing load none is, (λ is. is))
+load_fault_stays e load reads_image none is = inr (refl, (λ is. is))
 
 find_stays : (e : Event) (h : Hardware) (v : disk.DiskImage) (load : Load) (held : Held) → held ≡ nothing → AllStay e (find_step h v load held)
 find_stays e h v load nothing none = (inr (refl, (λ is. is)), tt)
@@ -126,14 +113,17 @@ loaded_stays e h load not_yet k is = tt
 loaded_stays e h load (found_own i) k is = absurd (cc)
 loaded_stays e h load (found_other v) k is = absurd (cc)
 
+load_answers_stay : (e : Event) (h : Hardware) (v : disk.DiskImage) (load : Load) (k : ℕ) → load.held ≡ nothing → load.found ≡ not_yet → AllStay e (load_answers h v load k)
+load_answers_stay e h v load zero none is = (inr ((none, is), (λ no. no)), tt)
+load_answers_stay e h v load (suc zero) none is = find_stays e h v load load.held none
+load_answers_stay e h v load (suc (suc zero)) none is = loaded_stays e h load load.found 2 is
+load_answers_stay e h v load (suc (suc (suc zero))) none is = loaded_stays e h load load.found 3 is
+load_answers_stay e h v load (suc (suc (suc (suc k)))) none is = loaded_stays e h load load.found (suc (suc (suc (suc k)))) is
+
 load_step_stays : (e : Event) (h : Hardware) (v : disk.DiskImage) (load : Load) (k : ℕ) → load.held ≡ nothing → load.found ≡ not_yet → AllStay e (load_step h v load k)
 load_step_stays e h v load k none is =
-    let first = only (reply.Loading 1) (loading load 1) in
-    stay_either e (ltb k 4 || has_place h load load.found k) (load_fault load k ∷ load_answers h v load k) [] (
-      load_fault_stays e load k none is,
-      stay_either e (eqb k 0) first (cond (eqb k 1) (find_step h v load load.held) (loaded_step h load load.found k)) (inr ((none, is), (λ no. no)), tt)
-          (stay_either e (eqb k 1) (find_step h v load load.held) (loaded_step h load load.found k) (find_stays e h v load load.held none) (loaded_stays e h load load.found k is)),
-    ) tt
+    stay_either e (ltb k 4 || has_place h load load.found k) (load_fault load k ∷ load_answers h v load k) []
+    (load_fault_stays e load (load_call k) none is, load_answers_stay e h v load k none is) tt
 
 core_stays : (e : Event) (h : Hardware) (v : disk.DiskImage) (a : State) → IsSpent a → AllStay e (core_step h v a)
 core_stays e h v (off held kept) spent = tt
@@ -146,9 +136,18 @@ core_stays e h v (waking i held a k) spent = absurd spent
 core_stays e h v (loading load k) spent = load_step_stays e h v load k spent.0 spent.1
 core_stays e h v (asleep i held a) spent = tt
 
-either_nothing : (b : Bool) (x y : Held) → x ≡ nothing → y ≡ nothing → cond b x y ≡ nothing
-either_nothing true x y p q = p
-either_nothing false x y p q = q
+back_nothing : (held : Held) (call : Option BackCall) → held ≡ nothing → held_back held call ≡ nothing
+back_nothing held (Some reads_mark) none = none
+back_nothing held (Some takes_back) none = none
+back_nothing held (Some syncs_back) none = ap perhaps none
+back_nothing held None none = ap perhaps none
+
+loading_nothing : (load : Load) (call : LoadCall) → load.held ≡ nothing → load.found ≡ not_yet → held_loading load call ≡ nothing
+loading_nothing load syncs_first none is = none
+loading_nothing load (of_mark reads_mark) none is = none
+loading_nothing load (of_mark takes_back) none is = saved_nothing load.found load.held is none
+loading_nothing load (of_mark syncs_back) none is = saved_is_nothing load none is
+loading_nothing load reads_image none is = refl
 
 pub holds_nothing : (a : State) → IsSpent a → held_in a ≡ nothing
 holds_nothing (off held kept) spent = spent
@@ -156,13 +155,9 @@ holds_nothing (on a) spent = spent
 holds_nothing (booting from dump held k) spent = spent
 holds_nothing (hibernating suspends i a k) spent = absurd spent
 holds_nothing (undoing i call a k) spent = absurd spent
-holds_nothing (settling a k) spent = either_nothing (ltb k 2) a.held (perhaps a.held) spent (ap perhaps spent)
+holds_nothing (settling a k) spent = back_nothing a.held (back_call k) spent
 holds_nothing (waking i held a k) spent = absurd spent
-holds_nothing (loading load k) spent =
-    let saved = saved_found load.found load.held in
-    let none = saved_nothing load.found load.held spent.1 spent.0 in
-    either_nothing (ltb k 2) load.held (cond (eqb k 2) saved (cond (eqb k 3) (perhaps saved) nothing)) spent.0
-    (either_nothing (eqb k 2) saved (cond (eqb k 3) (perhaps saved) nothing) none (either_nothing (eqb k 3) (perhaps saved) nothing (ap perhaps none) refl))
+holds_nothing (loading load k) spent = loading_nothing load (load_call k) spent.0 spent.1
 holds_nothing (asleep i held a) spent = absurd spent
 
 accepted_stays : (h : Hardware) (v : disk.DiskImage) (a : State) (e : Event) → IsSpent a → AllStay e (accepted h v a e)

@@ -1,4 +1,3 @@
 mod Cases
 mod Plain
-mod Facts
 pub mod Rows

@@ -27,17 +27,18 @@ use Rattle.machine.specs.Flights.{flights_in}
 use Rattle.machine.specs.Running.{reason_of}
 use Rattle.machine.specs.declared.machine.Machine.{Machine}
 use Rattle.sleep_core.specs.Row.{StandsFor, Sleeps, Runs, IsBegun}
-use Rattle.sleep_core.specs.Waking.{steps_before, shown_by, asleep_by, running_by}
+use Rattle.sleep_core.specs.Waking.{steps_before, shown_by, asleep_by, running_by, header_at}
 use Rattle.sleep_core.specs.declared.waker.Stage.{Stage}
 use Rattle.sleep_core.specs.declared.waker.Stage.TheVariants as stage
 use Rattle.sleep_core.specs.declared.waker.Waker.{Waker}
 use Rattle.sleep_core.proofs.Cases.{at_waking, at_sleep}
-use Rattle.sleep_core.proofs.Facts.{same_area, names_same}
 use Rattle.sleep_core.proofs.Plain.{may_wake, may_read, read_may_fail, may_write, write_may_fail, may_end, end_may_fail}
+use Rattle.protocol_laws.proofs.Named.{names_same}
+use Rattle.protocol_laws.proofs.Same.{same_area}
 
 -- The row of a step, to what stands after it.
 abbrev pub IsStepRow : Machine → Memory → Waker → rows.StandsBy → Reply → disk.Content → disk.Content → Type 0
-IsStepRow machine frames waker new r c c' = rows.IsRow machine.hw (StandsFor machine frames waker) new (event.Step actor.Core) r c c'
+IsStepRow machine frames waker new r c c' = rows.Simulates machine.hw (StandsFor machine frames waker) new (event.Step actor.Core) r c c'
 
 -- it is that of the machine and the page frames that the caller leaves
 pub as_left : (machine : Machine) (frames : Memory) (waker : Waker) (new : Machine → Memory → rows.StandsBy) (last machine' : Machine) (left frames' : Memory) (r : Reply) (c c' : disk.Content) → machine' ≡ last → frames' ≡ left →
@@ -47,11 +48,11 @@ as_left machine frames waker new last machine' left frames' r c c' same kept row
     (subst (λ (m : Memory). IsStepRow machine frames waker (new last m) r c c') (sym kept) row)
 
 row_at : (machine : Machine) (frames : Memory) (waker : Waker) (new : rows.StandsBy) (r : Reply) (c c' : disk.Content) (now : Stage) → waker.stage ≡ now →
-    ((i : Image) (held : Held) (a : Running) → StandsFor machine frames waker c (waking i held a (steps_before now)) → (b : State) × rows.Leads machine.hw new (event.Step actor.Core) r c c' (waking i held a (steps_before now)) b) →
+    ((i : Image) (held : Held) (a : Running) → StandsFor machine frames waker c (waking i held a (steps_before now)) → (b : State) × rows.StepsTo machine.hw new (event.Step actor.Core) r c c' (waking i held a (steps_before now)) b) →
     IsStepRow machine frames waker new r c c'
 row_at machine frames waker new r c c' now at goes s stands =
     let it = at_waking s (steps_before now) (sym (ap (λ (t : Stage). wakes (steps_before t)) at) ∙ stands.activity) in
-    subst (λ (t : State). (b : State) × rows.Leads machine.hw new (event.Step actor.Core) r c c' t b) (sym it.3)
+    subst (λ (t : State). (b : State) × rows.StepsTo machine.hw new (event.Step actor.Core) r c c' t b) (sym it.3)
     (goes it.0 it.1 it.2 (subst (StandsFor machine frames waker c) it.3 stands))
 
 -- Wake.
@@ -66,7 +67,7 @@ begun_row waker at machine frames c s stands =
       record {
         step = subst (λ (t : State). Step machine.hw (disk.as_it_reads c) t event.Wake (reply.More 0 3) (waking i held a 0)) (sym it.3) (may_wake machine.hw (disk.as_it_reads c) i held a);
         stands = wake_begins machine.hw (asleep_by machine frames) (shown_by machine frames waker) c i held a here (ap (λ (t : Stage). wakes (steps_before t)) at)
-            here.parts.0.shows (names_same machine.hw (asleep_by machine frames) (shown_by machine frames waker) held refl here.parts.1);
+            here.parts.behind.memory (names_same machine.hw (asleep_by machine frames) (shown_by machine frames waker) held refl here.parts.names);
         area = same_area machine.hw (disk.as_it_reads c);
         unwritten = λ b not_in. block_same b _;
         leaves = tt;
@@ -76,16 +77,16 @@ begun_row waker at machine frames c s stands =
 
 -- The read.
 pub read_row : (machine : Machine) (frames : Memory) (waker : Waker) (header : List ℕ) (c : disk.Content) → waker.stage ≡ stage.Read → header ≡ header_of machine.hw (disk.as_it_reads c) →
-    IsStepRow machine frames waker (StandsFor machine frames (record waker { stage = stage.Write; header = header })) (reply.More 1 3) c c
+    IsStepRow machine frames waker (StandsFor machine frames (record waker { stage = stage.Write header })) (reply.More 1 3) c c
 read_row machine frames waker header c at read =
-    let new = record waker { stage = stage.Write; header = header } in
+    let new = record waker { stage = stage.Write header } in
     row_at machine frames waker (StandsFor machine frames new) (reply.More 1 3) c c stage.Read at
     (λ i held a stands. (
       waking i held a 1,
       record {
         step = may_read machine.hw (disk.as_it_reads c) i held a;
         stands = wake_reads machine.hw (shown_by machine frames waker) (shown_by machine frames new) c i held a stands read refl
-            stands.parts.0.shows (names_same machine.hw (shown_by machine frames waker) (shown_by machine frames new) held refl stands.parts.1);
+            stands.parts.behind.memory (names_same machine.hw (shown_by machine frames waker) (shown_by machine frames new) held refl stands.parts.names);
         area = same_area machine.hw (disk.as_it_reads c);
         unwritten = λ b not_in. block_same b _;
         leaves = tt;
@@ -101,7 +102,7 @@ read_failed_row machine frames waker c at =
       record {
         step = read_may_fail machine.hw (disk.as_it_reads c) i held a;
         stands = wake_read_fails machine.hw (shown_by machine frames waker) (asleep_by machine frames) c i held a stands refl
-            stands.parts.0.shows (names_same machine.hw (shown_by machine frames waker) (asleep_by machine frames) held refl stands.parts.1);
+            stands.parts.behind.memory (names_same machine.hw (shown_by machine frames waker) (asleep_by machine frames) held refl stands.parts.names);
         area = same_area machine.hw (disk.as_it_reads c);
         unwritten = λ b not_in. block_same b _;
         leaves = tt;
@@ -110,17 +111,18 @@ read_failed_row machine frames waker c at =
     ))
 
 -- The write.
-pub write_row : (machine : Machine) (frames : Memory) (waker : Waker) (c c' : disk.Content) → IsOnDisk machine.hw machine.blocks c → waker.stage ≡ stage.Write → disk.IsContent machine.blocks c' →
-    disk.Writes (block_of_slot machine.hw 0) (unmarked_block waker.header) c c' → IsStepRow machine frames waker (StandsFor machine frames (record waker { stage = stage.Sync; header = unmarked_block waker.header })) (reply.More 2 3) c c'
-write_row machine frames waker c c' over at whole writes =
-    let new = record waker { stage = stage.Sync; header = unmarked_block waker.header } in
-    row_at machine frames waker (StandsFor machine frames new) (reply.More 2 3) c c' stage.Write at
+pub write_row : (machine : Machine) (frames : Memory) (waker : Waker) (header : List ℕ) (c c' : disk.Content) → IsOnDisk machine.hw machine.blocks c → waker.stage ≡ stage.Write header → disk.IsContent machine.blocks c' →
+    disk.Writes (block_of_slot machine.hw 0) (unmarked_block header) c c' → IsStepRow machine frames waker (StandsFor machine frames (record waker { stage = stage.Sync })) (reply.More 2 3) c c'
+write_row machine frames waker header c c' over at whole wrote =
+    let new = record waker { stage = stage.Sync } in
+    let writes = subst (λ (p : List ℕ). disk.Writes (block_of_slot machine.hw 0) (unmarked_block p) c c') (sym (ap header_at at)) wrote in
+    row_at machine frames waker (StandsFor machine frames new) (reply.More 2 3) c c' (stage.Write header) at
     (λ i held a stands. (
       waking i held a 2,
       record {
         step = may_write machine.hw (disk.as_it_reads c) i held a;
         stands = wake_writes machine.hw (shown_by machine frames waker) (shown_by machine frames new) c c' machine.blocks i held a over whole stands writes refl
-            stands.parts.0.shows (names_same machine.hw (shown_by machine frames waker) (shown_by machine frames new) held refl stands.parts.1);
+            stands.parts.behind.memory (names_same machine.hw (shown_by machine frames waker) (shown_by machine frames new) held refl stands.parts.names);
         area = wake_keeps_area machine.hw (shown_by machine frames waker) c c' machine.blocks i held a over stands (inl writes);
         unwritten = λ b not_in. unwritten_header machine.hw [] b c c' writes.others not_in;
         leaves = tt;
@@ -128,16 +130,17 @@ write_row machine frames waker c c' over at whole writes =
       },
     ))
 
-pub write_failed_row : (machine : Machine) (frames : Memory) (waker : Waker) (c c' : disk.Content) → IsOnDisk machine.hw machine.blocks c → waker.stage ≡ stage.Write → disk.IsContent machine.blocks c' →
-    disk.FailsToWrite (block_of_slot machine.hw 0) (unmarked_block waker.header) c c' → IsStepRow machine frames waker (Sleeps machine frames) (reply.WriteFault Unsure) c c'
-write_failed_row machine frames waker c c' over at whole fails =
-    row_at machine frames waker (Sleeps machine frames) (reply.WriteFault Unsure) c c' stage.Write at
+pub write_failed_row : (machine : Machine) (frames : Memory) (waker : Waker) (header : List ℕ) (c c' : disk.Content) → IsOnDisk machine.hw machine.blocks c → waker.stage ≡ stage.Write header → disk.IsContent machine.blocks c' →
+    disk.FailsToWrite (block_of_slot machine.hw 0) (unmarked_block header) c c' → IsStepRow machine frames waker (Sleeps machine frames) (reply.WriteFault Unsure) c c'
+write_failed_row machine frames waker header c c' over at whole failed =
+    let fails = subst (λ (p : List ℕ). disk.FailsToWrite (block_of_slot machine.hw 0) (unmarked_block p) c c') (sym (ap header_at at)) failed in
+    row_at machine frames waker (Sleeps machine frames) (reply.WriteFault Unsure) c c' (stage.Write header) at
     (λ i held a stands. (
       asleep i (perhaps held) a,
       record {
         step = write_may_fail machine.hw (disk.as_it_reads c) i held a;
         stands = wake_write_fails machine.hw (shown_by machine frames waker) (asleep_by machine frames) c c' machine.blocks i held a over whole stands fails refl
-            stands.parts.0.shows (names_same machine.hw (shown_by machine frames waker) (asleep_by machine frames) held refl stands.parts.1);
+            stands.parts.behind.memory (names_same machine.hw (shown_by machine frames waker) (asleep_by machine frames) held refl stands.parts.names);
         area = wake_keeps_area machine.hw (shown_by machine frames waker) c c' machine.blocks i held a over stands (inr fails);
         unwritten = λ b not_in. unwritten_header machine.hw [] b c c' fails.others not_in;
         leaves = tt;
@@ -166,7 +169,7 @@ woken_row machine frames waker c c' memory at whole syncs =
       record {
         step = may_end machine.hw (disk.as_it_reads c) i held a;
         stands = wake_syncs machine.hw (shown_by machine frames waker) (running_by (woken machine) frames') c c' machine.blocks i held a whole stands syncs refl
-            (runs_woken machine frames a memory stands.parts.0.shows) names;
+            (runs_woken machine frames a memory stands.parts.behind.memory) names;
         area = kept_by_sync machine.hw c c' syncs;
         unwritten = λ b not_in. block_synced machine.blocks b c c' whole syncs;
         leaves = tt;
@@ -182,7 +185,7 @@ sync_failed_row machine frames waker c at =
       record {
         step = end_may_fail machine.hw (disk.as_it_reads c) i held a;
         stands = wake_sync_fails machine.hw (shown_by machine frames waker) (asleep_by machine frames) c i held a stands refl
-            stands.parts.0.shows (names_same machine.hw (shown_by machine frames waker) (asleep_by machine frames) held refl stands.parts.1);
+            stands.parts.behind.memory (names_same machine.hw (shown_by machine frames waker) (asleep_by machine frames) held refl stands.parts.names);
         area = same_area machine.hw (disk.as_it_reads c);
         unwritten = λ b not_in. block_same b _;
         leaves = tt;

@@ -39,12 +39,12 @@ IsLeft reply.Woken machine frames machine' frames' = (machine' ≡ record machin
 IsLeft _ machine frames machine' frames' = (machine' ≡ machine) × (frames' ≡ frames)
 
 -- the row of a step, over a disk that tells its content
-abbrev pub HasRow : Machine → Waker → Waker → Reply → Option disk.Content → Option disk.Content → Type 0
-HasRow machine waker waker' r before now =
+abbrev pub SimulatesWhereTold : Machine → Waker → Waker → Reply → Option disk.Content → Option disk.Content → Type 0
+SimulatesWhereTold machine waker waker' r before now =
     (frames : Memory) → IsMemoryOf machine.hw frames → (machine' : Machine) (frames' : Memory) → IsLeft r machine frames machine' frames' →
-    rows.HasRow machine.hw (StandsFor machine frames waker) (StandsAfter r machine' frames' waker') (event.Step actor.Core) r before now
+    rows.SimulatesWhereTold machine.hw (StandsFor machine frames waker) (StandsAfter r machine' frames' waker') (event.Step actor.Core) r before now
 
 -- the row of Wake, whose event calls no disk
 abbrev pub IsBegun : Waker → Type 0
 IsBegun waker =
-    (machine : Machine) (frames : Memory) (c : disk.Content) → rows.IsRow machine.hw (Sleeps machine frames) (StandsFor machine frames waker) event.Wake (reply.More 0 3) c c
+    (machine : Machine) (frames : Memory) (c : disk.Content) → rows.Simulates machine.hw (Sleeps machine frames) (StandsFor machine frames waker) event.Wake (reply.More 0 3) c c

@@ -1,7 +1,7 @@
 -- A waking, and what a machine shows while it is at it, while it sleeps, and when it runs.
 use Rattle.std.specs.Prelude.{◌≡◌, ◌⊎◌, ℕ, Bool, true, false, List, [], None}
 use Rattle.plain_machine.specs.Machine.{Memory}
-use Rattle.plain_machine.specs.Shows.{Shown, Activity, runs, sleeps, wakes}
+use Rattle.plain_machine.specs.Shows.{WorldView, Activity, runs, sleeps, wakes}
 use Rattle.plain_machine.specs.declared.reply.Left.TheVariants.{Same, Unsure}
 use Rattle.plain_machine.specs.declared.reply.Reply.{Reply}
 use Rattle.plain_machine.specs.declared.reply.Reply.TheVariants as reply
@@ -15,9 +15,14 @@ use Rattle.sleep_core.specs.declared.waker.Waker.{Waker}
 -- how many steps are made before each
 abbrev pub steps_before : Stage → ℕ
 steps_before stage.Read = 0
-steps_before stage.Write = 1
+steps_before (stage.Write header) = 1
 steps_before stage.Sync = 2
 steps_before stage.Over = 3
+
+-- the header block that is kept between two calls of the disk, where one is
+abbrev pub header_at : Stage → List ℕ
+header_at (stage.Write header) = header
+header_at _ = []
 
 abbrev pub activity_of : Waker → Activity
 activity_of waker = wakes (steps_before waker.stage)
@@ -25,7 +30,7 @@ activity_of waker = wakes (steps_before waker.stage)
 -- whether it has no step to make
 abbrev pub is_over_at : Stage → Bool
 is_over_at stage.Read = false
-is_over_at stage.Write = false
+is_over_at (stage.Write header) = false
 is_over_at stage.Sync = false
 is_over_at stage.Over = true
 
@@ -40,13 +45,13 @@ is_last _ = true
 -- what each step answers
 abbrev pub IsReplyAt : Stage → Reply → Type 0
 IsReplyAt stage.Read r = (r ≡ reply.More 1 3) ⊎ (r ≡ reply.ReadFault Same)
-IsReplyAt stage.Write r = (r ≡ reply.More 2 3) ⊎ (r ≡ reply.WriteFault Unsure)
+IsReplyAt (stage.Write header) r = (r ≡ reply.More 2 3) ⊎ (r ≡ reply.WriteFault Unsure)
 IsReplyAt stage.Sync r = (r ≡ reply.Woken) ⊎ (r ≡ reply.SyncFault Unsure)
 IsReplyAt stage.Over r = ⊥
 
 -- What is shown at something, with the block that is kept. A machine that sleeps or wakes shows what it held before the suspend, which is
 -- nothing: what is held now is the state's.
-abbrev pub shown_at : Machine → Memory → Activity → List ℕ → Shown
+abbrev pub shown_at : Machine → Memory → Activity → List ℕ → WorldView
 shown_at machine frames activity header = record {
   activity = activity;
   keeps_dump = false;
@@ -60,11 +65,11 @@ shown_at machine frames activity header = record {
   loaded = [];
 }
 
-abbrev pub shown_by : Machine → Memory → Waker → Shown
-shown_by machine frames waker = shown_at machine frames (activity_of waker) waker.header
+abbrev pub shown_by : Machine → Memory → Waker → WorldView
+shown_by machine frames waker = shown_at machine frames (activity_of waker) (header_at waker.stage)
 
-abbrev pub asleep_by : Machine → Memory → Shown
+abbrev pub asleep_by : Machine → Memory → WorldView
 asleep_by machine frames = shown_at machine frames sleeps []
 
-abbrev pub running_by : Machine → Memory → Shown
+abbrev pub running_by : Machine → Memory → WorldView
 running_by machine frames = shown_at machine frames runs []

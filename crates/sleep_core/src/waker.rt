@@ -1,11 +1,11 @@
-ghost use Rattle.std.specs.Prelude.{◌≡◌, false, ◌<◌, nat_eq};
+ghost use Rattle.std.specs.Prelude.{◌≡◌, false, ℕ, List, ◌<◌, nat_eq};
 ghost use Rattle.std.specs.Cmp.Lexicographic.{pointwise};
 ghost use Rattle.definitions.specs.SwapHeader.{sig_of, image_signature};
 ghost use Rattle.plain_machine.specs.Machine.{IsHardware, block_of_slot};
 ghost use Rattle.protocol_laws.specs.Rows.{IsNewFault};
 ghost use Rattle.protocol_laws.specs.Settling.{unmarked_block};
 ghost use Rattle.sleep_core.specs.Waking.{is_over, is_last, IsReplyAt};
-ghost use Rattle.sleep_core.specs.Row.{HasRow, IsBegun};
+ghost use Rattle.sleep_core.specs.Row.{SimulatesWhereTold, IsBegun};
 ghost use Rattle.sector_disk.specs.Called.{Called, OneCall};
 
 use machine::Machine;
@@ -17,13 +17,13 @@ use sig_header::{AreaKind, take_back};
 /// Steps of a waking: a read, a write and a sync.
 const STEPS: u32 = 3;
 
-/// What is done next.
-#[derive(Clone, Copy, Debug, PartialEq, Eq)]
+/// What is done next, with what it is done with.
+#[derive(Drop)]
 pub(crate) enum Stage {
     /// The header block is read.
     Read,
     /// It is written taken back.
-    Write,
+    Write(Page),
     /// That is synced.
     Sync,
     /// Nothing: the machine runs, or sleeps again.
@@ -34,8 +34,6 @@ pub(crate) enum Stage {
 #[derive(Drop)]
 pub struct Waker {
     pub(crate) stage: Stage,
-    /// The header block, from its read on; then taken back.
-    pub(crate) header: Page,
 }
 
 impl Waker {
@@ -46,10 +44,7 @@ impl Waker {
         ensures row { IsBegun result }
         ensures begun { is_over result ≡ false }
     {
-        Waker {
-            stage: Stage::Read,
-            header: Page::zero(),
-        }
+        Waker { stage: Stage::Read }
     }
 
     /// Makes the next step: one call of the disk. After `Woken` the machine holds nothing any more, and the image's slots are given
@@ -59,14 +54,14 @@ impl Waker {
         requires blocks { D.block_count disk.old ≡ machine.now.blocks }
         requires hardware { IsHardware machine.now.hw }
         requires header { block_of_slot machine.now.hw 0 < machine.now.blocks }
-        ensures row { HasRow machine.now self.old self.new result (D.content disk.old) (D.content disk.new) }
+        ensures row { SimulatesWhereTold machine.now self.old self.new result (D.content disk.old) (D.content disk.new) }
         ensures reply { IsReplyAt self.old.stage result }
         ensures finished { is_over self.new ≡ is_last result }
         ensures called { Called D.Disk OneCall (IsNewFault result) disk.old disk.new }
     {
         match self.stage {
             Stage::Read => self.read_header(machine, disk),
-            Stage::Write => self.write_back(machine, disk),
+            Stage::Write(_) => self.write_back(machine, disk),
             Stage::Sync => self.sync_back(machine, disk),
             Stage::Over => unreachable!(),
         }
@@ -74,10 +69,10 @@ impl Waker {
 
     /// Reads the header block. Where that fails the machine sleeps as before.
     fn read_header<D: Disk>(&mut self, machine: &Machine, disk: &mut D) -> Reply
-        requires stage { self.old.stage ≡ stage.Read }
+        requires at { self.old.stage ≡ stage.Read }
         requires blocks { D.block_count disk.old ≡ machine.now.blocks }
         requires header { block_of_slot machine.now.hw 0 < machine.now.blocks }
-        ensures row { HasRow machine.now self.old self.new result (D.content disk.old) (D.content disk.new) }
+        ensures row { SimulatesWhereTold machine.now self.old self.new result (D.content disk.old) (D.content disk.new) }
         ensures reply { IsReplyAt stage.Read result }
         ensures finished { is_over self.new ≡ is_last result }
         ensures called { Called D.Disk OneCall (IsNewFault result) disk.old disk.new }
@@ -85,9 +80,10 @@ impl Waker {
         // Only what is read is known to have the size of its type.
         let _blocks = machine.blocks;
         let block = machine.hw.extents().block(0);
-        match disk.read(block as u32, &mut self.header) {
+        let mut header = Page::zero();
+        match disk.read(block as u32, &mut header) {
             Ok(()) => {
-                self.stage = Stage::Write;
+                self.stage = Stage::Write(header);
                 Reply::More { k: 1, of: STEPS }
             }
             Err(Failed) => {
@@ -99,20 +95,23 @@ impl Waker {
 
     /// Writes it taken back where it is marked, and as it is where it isn't. Where that fails the image is perhaps there.
     fn write_back<D: Disk>(&mut self, machine: &Machine, disk: &mut D) -> Reply
-        requires stage { self.old.stage ≡ stage.Write }
+        requires at { (header : List ℕ) × (self.old.stage ≡ stage.Write header) }
         requires blocks { D.block_count disk.old ≡ machine.now.blocks }
         requires hardware { IsHardware machine.now.hw }
         requires header { block_of_slot machine.now.hw 0 < machine.now.blocks }
-        ensures row { HasRow machine.now self.old self.new result (D.content disk.old) (D.content disk.new) }
-        ensures reply { IsReplyAt stage.Write result }
+        ensures row { SimulatesWhereTold machine.now self.old self.new result (D.content disk.old) (D.content disk.new) }
+        ensures reply { IsReplyAt self.old.stage result }
         ensures finished { is_over self.new ≡ is_last result }
         ensures called { Called D.Disk OneCall (IsNewFault result) disk.old disk.new }
     {
         let _blocks = machine.blocks;
+        let Stage::Write(header) = &mut self.stage else {
+            unreachable!()
+        };
         let block = machine.hw.extents().block(0);
-        self.unmark();
-        let _ = self.header.as_bytes();
-        match disk.write(block as u32, &self.header) {
+        unmark(header);
+        let _ = header.as_bytes();
+        match disk.write(block as u32, header) {
             Ok(()) => {
                 self.stage = Stage::Sync;
                 Reply::More { k: 2, of: STEPS }
@@ -126,9 +125,9 @@ impl Waker {
 
     /// Syncs that: no image is there any more. Where it fails one is perhaps there.
     fn sync_back<D: Disk>(&mut self, machine: &Machine, disk: &mut D) -> Reply
-        requires stage { self.old.stage ≡ stage.Sync }
+        requires at { self.old.stage ≡ stage.Sync }
         requires blocks { D.block_count disk.old ≡ machine.now.blocks }
-        ensures row { HasRow machine.now self.old self.new result (D.content disk.old) (D.content disk.new) }
+        ensures row { SimulatesWhereTold machine.now self.old self.new result (D.content disk.old) (D.content disk.new) }
         ensures reply { IsReplyAt stage.Sync result }
         ensures finished { is_over self.new ≡ is_last result }
         ensures called { Called D.Disk OneCall (IsNewFault result) disk.old disk.new }
@@ -139,14 +138,14 @@ impl Waker {
             Err(Failed) => Reply::SyncFault { left: Left::Unsure },
         }
     }
+}
 
-    /// Takes the header block that is kept back, where it is marked.
-    fn unmark(&mut self)
-        ensures { self.new ≡ record self.old { header = unmarked_block self.old.header } }
-    {
-        if is_marked(&self.header) {
-            self.header = take_back(&self.header);
-        }
+/// Takes a header block back, where it is marked.
+fn unmark(header: &mut Page)
+    ensures { header.new ≡ unmarked_block header.old }
+{
+    if is_marked(header) {
+        *header = take_back(header);
     }
 }
 

@@ -10,10 +10,12 @@ use Rattle.definitions.proofs.ZoneNumbers.{range-bounds}
 use Rattle.plain_machine.specs.Machine.{Hardware, Memory, block_of_slot, unused_slots, slot_entry}
 use Rattle.plain_machine.specs.Image.{Image, stream_of, maps_of}
 use Rattle.plain_machine.specs.Laid.{laid, laid_block, laid_map, laid_write, is_map_write, map_place, page_place, page_of_write}
-use Rattle.plain_machine.specs.Shows.{Shown}
+use Rattle.plain_machine.specs.Shows.{WorldView}
 use Rattle.plain_machine.specs.Stands.{Stands, HasFlights, laid_blocks}
 use Rattle.plain_machine.specs.State.{State, Running, Flight, goes_out, comes_in, off, on, booting, hibernating, undoing, settling, waking, loading, asleep}
+use Rattle.plain_machine.specs.Calls.{back_call, undo_call, load_call}
 use Rattle.protocol_laws.proofs.Unwritten.{step_in_laid}
+use Rattle.protocol_laws.proofs.WrittenWhileHeld.{header_alone, header_of_load}
 use Rattle.protocol_laws.specs.Rows.{blocks_written, out_block}
 use Rattle.swsusp_cli.specs.Replay.{IsNoSlot}
 
@@ -60,14 +62,9 @@ laid_of_slot h a i b some in' =
     each_mapped (λ k. laid_write h.extents (unused_slots h a.memory) (length stream) (page k) k) (λ written. written.0) (IsOfSlot h)
     (range_with_len 0 (length stream + maps_of (length stream))) (λ k. write_of_slot h a.memory (length stream) (page k) k some) b in'
 
-header_of_slot : (h : Hardware) (b : ℕ) → 0 < h.slots → Contains (block_of_slot h 0 ∷ []) b → IsOfSlot h b
-header_of_slot h b some (zero, lt, e) = (0, some, e)
-header_of_slot h b some (suc k, lt, e) = absurd (omega arith)
-
 -- a step that takes a mark back writes block(0)
-taken_back_of_slot : (h : Hardware) (b : ℕ) → 0 < h.slots → (here : Bool) → Contains (cond here (block_of_slot h 0 ∷ []) []) b → IsOfSlot h b
-taken_back_of_slot h b some true in' = header_of_slot h b some in'
-taken_back_of_slot h b some false (k, lt, e) = absurd (omega arith)
+header_of_slot : (h : Hardware) (b : ℕ) → 0 < h.slots → b ≡ block_of_slot h 0 → IsOfSlot h b
+header_of_slot h b some is = (0, some, sym is)
 
 image_of_slot : (h : Hardware) (a : Running) (i : Image) (b : ℕ) → 0 < h.slots → Contains (block_of_slot h 0 ∷ laid_blocks h a i) b → IsOfSlot h b
 image_of_slot h a i b some (zero, lt, e) = (0, some, e)
@@ -93,17 +90,17 @@ outs_of_slots h a has (t ∷ ts) b in' =
       | inr there ↦ outs_of_slots h a has ts b there
     ]
 
-written_of_slot : (h : Hardware) (shown : Shown) (c : disk.Content) (a : State) (b : ℕ) → Stands h shown c a → 0 < h.slots → Contains (blocks_written h a) b → IsOfSlot h b
+written_of_slot : (h : Hardware) (shown : WorldView) (c : disk.Content) (a : State) (b : ℕ) → Stands h shown c a → 0 < h.slots → Contains (blocks_written h a) b → IsOfSlot h b
 written_of_slot h shown c (off held kept) b stands some (k, lt, e) = absurd (omega arith)
-written_of_slot h shown c (on a) b stands some in' = outs_of_slots h a stands.parts.1.flights (range_with_len 1 64) b in'
+written_of_slot h shown c (on a) b stands some in' = outs_of_slots h a stands.parts.disk.flights (range_with_len 1 64) b in'
 written_of_slot h shown c (booting from dump held n) b stands some (k, lt, e) = absurd (omega arith)
 written_of_slot h shown c (hibernating suspends i a k) b stands some in' = image_of_slot h a i b some (step_in_laid h a i k b in')
-written_of_slot h shown c (undoing i call a k) b stands some in' = taken_back_of_slot h b some (k == 0) in'
-written_of_slot h shown c (settling a k) b stands some in' = taken_back_of_slot h b some (k == 1) in'
-written_of_slot h shown c (waking i held a k) b stands some in' = taken_back_of_slot h b some (k == 1) in'
-written_of_slot h shown c (loading load k) b stands some in' = taken_back_of_slot h b some (k == 2) in'
+written_of_slot h shown c (undoing i call a k) b stands some in' = header_of_slot h b some (header_alone h b (undo_call k) in')
+written_of_slot h shown c (settling a k) b stands some in' = header_of_slot h b some (header_alone h b (back_call k) in')
+written_of_slot h shown c (waking i held a k) b stands some in' = header_of_slot h b some (header_alone h b (back_call k) in')
+written_of_slot h shown c (loading load k) b stands some in' = header_of_slot h b some (header_of_load h b (load_call k) in')
 written_of_slot h shown c (asleep i held a) b stands some (k, lt, e) = absurd (omega arith)
 
 -- a block on which no slot lies isn't written
-pub unwritten_here : (h : Hardware) (shown : Shown) (c : disk.Content) (a : State) (b : ℕ) → Stands h shown c a → 0 < h.slots → IsNoSlot h b → Contains (blocks_written h a) b → ⊥
+pub unwritten_here : (h : Hardware) (shown : WorldView) (c : disk.Content) (a : State) (b : ℕ) → Stands h shown c a → 0 < h.slots → IsNoSlot h b → Contains (blocks_written h a) b → ⊥
 unwritten_here h shown c a b stands some none in' = let is = written_of_slot h shown c a b stands some in' in none is.0 is.1 is.2

@@ -2,7 +2,7 @@
 use Rattle.std.proofs.Common.{zero, suc, ◌≢◌, inl, inr, ◌≤◌, ℕ, List, [], Option, Some, None, Result, Ok, Err, OnOk, OnErr, subst, arith, append-nil}
 use Rattle.definitions.specs.Streams.{Takes, TakesAll, TakesFront}
 use Rattle.dump_file.specs.Flushed.{IsFlushed}
-use Rattle.swsusp_cli.specs.Answer.{Told, memory_told}
+use Rattle.swsusp_cli.specs.Answer.{RunResult, memory_told}
 use Rattle.swsusp_cli.specs.Outcome.{IsReplayed, no_script, out_of_memory, unread, too_small, unformatted, played, cut_off, fault_told, small_told, unformatted_told}
 use Rattle.page_core.specs.declared.format.Format.{Format}
 use Rattle.plain_machine.specs.declared.event.IdentCheck.{IdentCheck}
@@ -57,7 +57,7 @@ fails_early text old new end = record {
 abbrev pub AreFlushed : SinkView → SinkView → Type 0
 AreFlushed out note = IsFlushed out.taken out.flushed × IsFlushed note.taken note.flushed
 
-pub told_flushed : (told : Told) (status : Status) (out out' note note' : SinkView) → IsTold told status out out' note note' → status ≢ Stream → AreFlushed out' note'
+pub told_flushed : (told : RunResult) (status : Status) (out out' note note' : SinkView) → IsTold told status out out' note note' → status ≢ Stream → AreFlushed out' note'
 told_flushed told status out out' note note' (inl whole) well = (whole.out_whole.flushed, whole.note_whole.flushed)
 told_flushed told status out out' note note' (inr short) well = absurd (well short.status_is)
 

@@ -39,13 +39,7 @@ use Rattle.command_core.proofs.Leaving.{leaves_then}
 use Rattle.swsusp_cli.proofs.Formatted.{CanFormat, formatted_unmarked, formats_leaves, formats_size}
 use Rattle.swsusp_cli.proofs.Prints.{printed_then, whole_still, fails_early}
 use Rattle.swsusp_cli.proofs.Turns.{counted_earlier, whole_of}
-
--- what a call makes of the content, where it is told
-changed : (R : disk.Content → disk.Content → Type 0) (before now : Option disk.Content) (c : disk.Content) → before ≡ Some c → disk.Changes R before now → (c' : disk.Content) × (now ≡ Some c') × R c c'
-changed R before now c e h = by_now now (subst (λ (o : Option disk.Content). disk.Changes R o now) e h) where
-  by_now : (o : Option disk.Content) → disk.Changes R (Some c) o → (c' : disk.Content) × (o ≡ Some c') × R c c'
-  by_now None r = absurd r
-  by_now (Some c') r = (c', refl, r)
+use Rattle.protocol_laws.proofs.Told.{changed}
 
 world_blocks : (w : World) (before after n m : ℕ) (c c' : disk.Content) → IsOff w ⊎ (after ≡ n) → length c ≡ 8 * before → length c' ≡ 8 * after →
     blocks_of (disk.as_it_reads c') ≡ blocks_of (disk.as_it_reads c) → IsOff w ⊎ (n ≡ before)

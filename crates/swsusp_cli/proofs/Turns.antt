@@ -19,7 +19,7 @@ use Rattle.plain_machine.specs.declared.reply.Reply.{Reply}
 use Rattle.protocol_laws.specs.Rows.{IsSameArea, IsNewFault, LeavesBlock, blocks_written}
 use Rattle.protocol_laws.proofs.WrittenWhileHeld.{at_written}
 use Rattle.protocol_laws.proofs.Unwritten.{block_same}
-use Rattle.world_core.specs.Row.{HasRow, IsStep, IsCalled, orders_after}
+use Rattle.world_core.specs.Row.{SimulatesWhereTold, IsStep, IsCalled, orders_after}
 use Rattle.world_core.specs.StandsFor.{hardware_of, shown}
 use Rattle.world_core.specs.World.{World}
 use Rattle.swsusp_cli.specs.Playing.{Played, HasPlayed}
@@ -28,6 +28,7 @@ use Rattle.swsusp_cli.specs.View.{DiskView}
 use Rattle.command_core.proofs.Leaving.{leaves_then}
 use Rattle.protocol_laws.proofs.ReplaySteps.{same_steps, stays_of_replay}
 use Rattle.swsusp_cli.proofs.Blocks.{unwritten_here}
+use Rattle.protocol_laws.proofs.Same.{same_area}
 
 -- a run and one step more
 pub run_more : (h : Hardware) (v : disk.DiskImage) (a : State) (es : List Event) (rs : List Reply) (b : State) (e : Event) (r : Reply) (b' : State) → Run h v a es rs b → Step h v b e r b' → Run h v a (es ++ e ∷ []) (rs ++ r ∷ []) b'
@@ -72,9 +73,6 @@ pub whole_of : (blocks : ℕ) (told : Option disk.Content) (c : disk.Content) �
 whole_of blocks told c e h = subst (λ (o : Option disk.Content). IfSome o (disk.IsContent blocks)) e h
 
 -- One area.
-
-same_area : (h : Hardware) (v : disk.DiskImage) → IsSameArea h v v
-same_area h v = record { blocks = refl; header = record { front = refl; signature = refl } }
 
 same_area_then : (h : Hardware) (u v w : disk.DiskImage) → IsSameArea h u v → IsSameArea h v w → IsSameArea h u w
 same_area_then h u v w first then = record {
@@ -161,7 +159,7 @@ played_none w x = record {
 
 -- The step over the disk as it reads now is one over the disk as it read at first.
 run_then : (old mid new : World) (es : List Event) (rs : List Reply) (e : Event) (r : Reply) (blocks : ℕ) (between now : Option disk.Content) (c : disk.Content) (a : State) →
-    IfSome between (disk.IsContent blocks) → ((c' : disk.Content) × (b : State) × Played old mid es between c c' a b rs) → HasRow e mid new r between now → hardware_of mid ≡ hardware_of old →
+    IfSome between (disk.IsContent blocks) → ((c' : disk.Content) × (b : State) × Played old mid es between c c' a b rs) → SimulatesWhereTold e mid new r between now → hardware_of mid ≡ hardware_of old →
     (c' : disk.Content) × (b : State) × Played old new (es ++ e ∷ []) now c c' a b (rs ++ r ∷ [])
 run_then old mid new es rs e r blocks between now c s whole so_far row hw =
     let h = hardware_of old in
@@ -191,7 +189,7 @@ run_then old mid new es rs e r blocks between now c s whole so_far row hw =
     )
 
 pub played_more : (old mid new : World) (es : List Event) (rs : List Reply) (e : Event) (r : Reply) (before between now : DiskView) →
-    IfSome between.content (disk.IsContent between.blocks) → HasPlayed old mid es rs before between → HasRow e mid new r between.content now.content → hardware_of mid ≡ hardware_of old →
+    IfSome between.content (disk.IsContent between.blocks) → HasPlayed old mid es rs before between → SimulatesWhereTold e mid new r between.content now.content → hardware_of mid ≡ hardware_of old →
     (IsNewFault r → disk.HasRisen between.faults now.faults) → between.faults ≤ now.faults → IsCalled e r between.calls now.calls → now.orders ≡ orders_after e between.orders →
     HasPlayed old new (es ++ e ∷ []) (rs ++ r ∷ []) before now
 played_more old mid new es rs e r before between now whole played row hw fault later called after = record {

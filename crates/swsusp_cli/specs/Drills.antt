@@ -4,7 +4,7 @@ use Rattle.definitions.specs.Disk as disk
 use Rattle.plain_machine.specs.declared.reply.Reply.{Reply}
 use Rattle.protocol_laws.specs.Rows.{IsNewFault}
 use Rattle.script.specs.Drill.{drill_events, drill_hardware, drill_script, summary, tally_of}
-use Rattle.swsusp_cli.specs.Answer.{Told}
+use Rattle.swsusp_cli.specs.Answer.{RunResult}
 use Rattle.swsusp_cli.specs.Formatting.{LieBelow}
 use Rattle.swsusp_cli.specs.Outcome.{IsOutOfMemory, IsTooSmall, IsUnformatted, Tells}
 use Rattle.swsusp_cli.specs.Replay.{AreReplies}
@@ -13,7 +13,7 @@ use Rattle.swsusp_cli.specs.declared.formatting.Unformatted.{Unformatted}
 use Rattle.swsusp_cli.specs.declared.status.Status.{Status}
 use Rattle.swsusp_cli.specs.declared.status.Status.TheVariants.{Done}
 
-abbrev pub summary_told : ℕ → List Reply → Told
+abbrev pub summary_told : ℕ → List Reply → RunResult
 summary_told number replies = record { status = Done; out = summary number (tally_of replies); note = [] }
 
 -- All events were played, and the line is that of a run of the plain machine, as in a replay. None of its replies tells of a call of the

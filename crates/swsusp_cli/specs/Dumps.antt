@@ -14,7 +14,7 @@ use Rattle.plain_machine.specs.declared.reply.Reply.{Reply}
 use Rattle.plain_machine.specs.declared.reply.Reply.TheVariants as reply
 use Rattle.command_core.specs.Hibernation.{HasHibernated, IsUnmarkedOrHolds, image_to_save, machine_to_save}
 use Rattle.command_core.specs.declared.ending.Ended.{Ended}
-use Rattle.swsusp_cli.specs.Answer.{Told, line}
+use Rattle.swsusp_cli.specs.Answer.{RunResult, line}
 use Rattle.swsusp_cli.specs.Outcome.{IsOutOfMemory, IsUnread, Tells}
 use Rattle.swsusp_cli.specs.View.{View}
 use Rattle.swsusp_cli.specs.declared.status.Status.{Status}
@@ -36,7 +36,7 @@ kind_text kind.Tables = codes "Tables frame "
 abbrev pub dump_note : DumpFault → List ℕ
 dump_note fault = line (codes "dump " ++ kind_text fault.kind ++ decimal fault.at)
 
-abbrev pub dump_told : DumpFault → Told
+abbrev pub dump_told : DumpFault → RunResult
 dump_told fault = record { status = Input; out = []; note = dump_note fault }
 
 -- that is told, and the disk isn't called
@@ -57,10 +57,10 @@ abbrev pub is_hibernated : Reply → Bool
 is_hibernated (reply.Hibernated n) = true
 is_hibernated _ = false
 
-abbrev pub stopped_told : Ended → Told
+abbrev pub stopped_told : Ended → RunResult
 stopped_told ended = record { status = if ended.failed then Device else Refused; out = []; note = line_of ended.reply }
 
-abbrev pub hibernation_told : Ended → Told
+abbrev pub hibernation_told : Ended → RunResult
 hibernation_told ended = if is_hibernated ended.reply then record { status = Done; out = line_of ended.reply; note = [] } else stopped_told ended
 
 -- The machine of the dump has hibernated, or has answered why it doesn't; cached page frames were dropped before where a size was asked

@@ -5,7 +5,7 @@ use Rattle.dump_file.specs.declared.dump.DumpFault.{DumpFault}
 use Rattle.plain_machine.specs.Machine.{Hardware, Memory}
 use Rattle.stream_out.specs.Bytes.{bytes_of, plain_image}
 use Rattle.stream_out.specs.TaskSlots.{HasNoTaskSlot, IsFirstTaskSlot}
-use Rattle.swsusp_cli.specs.Answer.{Told, line}
+use Rattle.swsusp_cli.specs.Answer.{RunResult, line}
 use Rattle.swsusp_cli.specs.Dumps.{IsDump, IsNoDump}
 use Rattle.swsusp_cli.specs.Outcome.{IsOutOfMemory, IsUnread, Tells}
 use Rattle.swsusp_cli.specs.View.{View}
@@ -13,11 +13,11 @@ use Rattle.swsusp_cli.specs.declared.status.Status.{Status}
 use Rattle.swsusp_cli.specs.declared.status.Status.TheVariants.{Done, Refused}
 
 -- the lowest slot that a task has
-abbrev pub slots_told : ℕ → Told
+abbrev pub slots_told : ℕ → RunResult
 slots_told slot = record { status = Refused; out = []; note = line (codes "slots in use " ++ decimal slot) }
 
 -- the bytes of the image of a memory, and nothing else
-abbrev pub stream_told : Hardware → Memory → Told
+abbrev pub stream_told : Hardware → Memory → RunResult
 stream_told h m = record { status = Done; out = bytes_of (plain_image h m); note = [] }
 
 -- a task has a slot in the dump, and the lowest one is told

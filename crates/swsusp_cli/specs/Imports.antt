@@ -26,7 +26,7 @@ use Rattle.stream_in.specs.Session.{HasTooFewFor}
 use Rattle.stream_in.specs.Written.{AreWritten, ReadAsMade, page_at}
 use Rattle.stream_in.specs.declared.stop.InStop.{InStop}
 use Rattle.stream_in.specs.declared.stop.InStop.TheVariants as stop
-use Rattle.swsusp_cli.specs.Answer.{Told, line, memory_told}
+use Rattle.swsusp_cli.specs.Answer.{RunResult, line, memory_told}
 use Rattle.swsusp_cli.specs.Feeding.{IsCalled}
 use Rattle.swsusp_cli.specs.Outcome.{Tells}
 use Rattle.swsusp_cli.specs.Replay.{unread_note}
@@ -50,14 +50,14 @@ kind_text fault.Short = codes "Short byte "
 abbrev pub stream_note : StreamFault → List ℕ
 stream_note fault = line (codes "stream " ++ kind_text fault.kind ++ decimal fault.at)
 
-abbrev pub stream_told : StreamFault → Told
+abbrev pub stream_told : StreamFault → RunResult
 stream_told fault = record { status = Input; out = []; note = stream_note fault }
 
-abbrev pub imported_told : ℕ → Told
+abbrev pub imported_told : ℕ → RunResult
 imported_told n = record { status = Done; out = line (codes "imported " ++ decimal n); note = [] }
 
 -- why an image doesn't come in: the reply that says so, or the stream's fault
-abbrev pub stop_told : InStop → Told
+abbrev pub stop_told : InStop → RunResult
 stop_told stop.NoMemory = memory_told
 stop_told (stop.NoSwap why) = record { status = Refused; out = []; note = line_of (reply.NoSwap why) }
 stop_told (stop.NoSlots free need) = record { status = Refused; out = []; note = line_of (reply.NoSlots free need) }

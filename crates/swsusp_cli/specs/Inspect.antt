@@ -10,7 +10,7 @@ use Rattle.plain_machine.specs.Texts.{no_swap_text}
 use Rattle.plain_machine.specs.declared.no_swap.NoSwap.{NoSwap}
 use Rattle.plain_machine.specs.declared.no_swap.NoSwap.TheVariants as no_swap
 use Rattle.swsusp_cli.specs.declared.status.Status.TheVariants.{Done, Refused}
-use Rattle.swsusp_cli.specs.Answer.{Told, line}
+use Rattle.swsusp_cli.specs.Answer.{RunResult, line}
 
 -- a block as the disk reads; one that isn't below the disk's blocks counts as zeros
 abbrev pub header_page : ℕ → ℕ → Content → List ℕ
@@ -28,11 +28,11 @@ image_text mark =
     area_text mark.last mark.count ++ codes " image " ++ decimal mark.first ++ codes " flags " ++ decimal mark.flags
     ++ codes " hw " ++ hw_text mark
 
-abbrev pub refused : NoSwap → Told
+abbrev pub refused : NoSwap → RunResult
 refused why = record { status = Refused; out = []; note = line (no_swap_text why) }
 
 -- an area without an image, or an image, is a line on out; anything else is refused
-abbrev pub inspected : AreaKind → Told
+abbrev pub inspected : AreaKind → RunResult
 inspected (Swap area) = record { status = Done; out = line (area_text area.last area.count ++ codes " image none"); note = [] }
 inspected (Image mark) = record { status = Done; out = line (image_text mark); note = [] }
 inspected Old = refused no_swap.Old

@@ -13,7 +13,7 @@ use Rattle.plain_machine.specs.declared.reply.Reply.{Reply}
 use Rattle.plain_machine.specs.declared.reply.Reply.TheVariants as reply
 use Rattle.command_core.specs.Resumption.{HasResumed}
 use Rattle.command_core.specs.declared.ending.Ended.{Ended}
-use Rattle.swsusp_cli.specs.Answer.{Told}
+use Rattle.swsusp_cli.specs.Answer.{RunResult}
 use Rattle.swsusp_cli.specs.Dumps.{IsDump, IsNoDump, stopped_told}
 use Rattle.swsusp_cli.specs.Outcome.{IsOutOfMemory, IsUnread, Tells}
 use Rattle.swsusp_cli.specs.View.{View}
@@ -25,11 +25,11 @@ is_resumed (reply.Resumed n) = true
 is_resumed _ = false
 
 -- the dump of a machine with this memory
-abbrev pub written_told : Hardware → Memory → Told
+abbrev pub written_told : Hardware → Memory → RunResult
 written_told h m = record { status = Done; out = dump_bytes h m; note = [] }
 
 -- after a resume that ended well out is the dump of the memory that it restored
-abbrev pub resume_told : Hardware → Memory → Ended → Told
+abbrev pub resume_told : Hardware → Memory → Ended → RunResult
 resume_told h m ended = if is_resumed ended.reply then written_told h m else stopped_told ended
 
 -- The image was resumed into the machine of the dump, which then has this memory, or it has answered why not.

@@ -4,7 +4,7 @@ use Rattle.definitions.specs.Disk as disk
 use Rattle.definitions.specs.Streams.{IsUsedUp}
 use Rattle.script.specs.Grammar.{ScriptValue, script_of}
 use Rattle.script.specs.declared.fault.ScriptFault.{ScriptFault}
-use Rattle.swsusp_cli.specs.Answer.{Told, memory_told}
+use Rattle.swsusp_cli.specs.Answer.{RunResult, memory_told}
 use Rattle.swsusp_cli.specs.Told.{IsTold, IsTried, IsPrinted, sink_note}
 use Rattle.swsusp_cli.specs.Formatting.{FailsToFormat, IsNeeded, LieBelow, calls_until}
 use Rattle.swsusp_cli.specs.Replay.{Prints, PrintsFront, small_note, fault_note, write_note, sync_note, unread_note}
@@ -15,21 +15,21 @@ use Rattle.swsusp_cli.specs.declared.status.Status.{Status}
 use Rattle.swsusp_cli.specs.declared.status.Status.TheVariants.{Done, Refused, Input, Stream, Device}
 
 -- Answers of a replay that doesn't play.
-abbrev pub small_told : ℕ → ℕ → Told
+abbrev pub small_told : ℕ → ℕ → RunResult
 small_told blocks need = record { status = Refused; out = []; note = small_note blocks need }
 
-abbrev pub fault_told : ScriptFault → Told
+abbrev pub fault_told : ScriptFault → RunResult
 fault_told fault = record { status = Input; out = []; note = fault_note fault }
 
 abbrev pub call_note : Unformatted → List ℕ
 call_note Write = write_note
 call_note Sync = sync_note
 
-abbrev pub unformatted_told : Unformatted → Told
+abbrev pub unformatted_told : Unformatted → RunResult
 unformatted_told call = record { status = Device; out = []; note = call_note call }
 
 -- this is told
-abbrev pub Tells : Told → Status → View → View → Type 0
+abbrev pub Tells : RunResult → Status → View → View → Type 0
 Tells told status x x' = IsTold told status x.out x'.out x.note x'.note
 
 -- what was left is this script, and is read to its end

@@ -2,23 +2,23 @@
 use Rattle.std.specs.Prelude.{◌≡◌, ◌⊎◌, ℕ, List, Option, Some, None, IfSome, ⊤, nat_lt, if◌then◌else◌}
 use Rattle.definitions.specs.Disk.{Content, HasRisen, raised}
 use Rattle.sig_header.specs.AreaKind.{area_kind}
-use Rattle.swsusp_cli.specs.Answer.{Told, memory_told, unparsed, unread}
+use Rattle.swsusp_cli.specs.Answer.{RunResult, memory_told, unparsed, unread}
 use Rattle.swsusp_cli.specs.Inspect.{header_page, inspected}
 use Rattle.swsusp_cli.specs.Words.{Asked, inspect, hibernate, resume, replay, drill, export, import}
 
 -- what is told where the words don't parse: that, or that memory was refused
-abbrev pub IsRefusal : Told → Type 0
+abbrev pub IsRefusal : RunResult → Type 0
 IsRefusal told = ((text : List ℕ) × (told ≡ unparsed text)) ⊎ (told ≡ memory_told)
 
 -- what is told of block N of a disk of so many blocks, or that it couldn't be read
-abbrev pub IsInspected : ℕ → ℕ → Option Content → ℕ → ℕ → Told → Type 0
+abbrev pub IsInspected : ℕ → ℕ → Option Content → ℕ → ℕ → RunResult → Type 0
 IsInspected offset blocks content before after told =
     ((page : List ℕ) × IfSome content (λ held. page ≡ header_page offset blocks held) × (told ≡ inspected (area_kind page)))
     ⊎ ((told ≡ unread) × HasRisen before after)
 
 -- What a run tells over a disk of so many blocks, which held this where it tells its content, and whose faults counted
 -- so many before the run and after it.
-abbrev pub IsAnswer : Option Asked → ℕ → Option Content → ℕ → ℕ → Told → Type 0
+abbrev pub IsAnswer : Option Asked → ℕ → Option Content → ℕ → ℕ → RunResult → Type 0
 IsAnswer None blocks content before after told = IsRefusal told
 IsAnswer (Some (inspect offset swap)) blocks content before after told = IsInspected offset blocks content before after told
 -- what these do is told by IsReplayed, IsDrilled, Hibernates, Resumes, Exports and Imports

@@ -5,7 +5,7 @@ use Rattle.plain_machine.specs.Machine.{IsHardware}
 use Rattle.script.specs.Grammar.{ScriptValue}
 use Rattle.world_core.specs.StandsFor.{IsNew}
 use Rattle.world_core.specs.World.{World}
-use Rattle.swsusp_cli.specs.Answer.{Told, memory_told}
+use Rattle.swsusp_cli.specs.Answer.{RunResult, memory_told}
 use Rattle.swsusp_cli.specs.Formatting.{Formats, FailsToFormat, IsNeeded, LieBelow, calls_until}
 use Rattle.swsusp_cli.specs.Outcome.{small_told, unformatted_told}
 use Rattle.swsusp_cli.specs.View.{DiskView}
@@ -44,7 +44,7 @@ IsNotSetUp script x x' (Small blocks need) = HasTooFew script x x' blocks need
 IsNotSetUp script x x' (NotFormatted call) = FailsToSetUp script x x' call
 
 -- what is told of it
-abbrev pub unready_told : Unready → Told
+abbrev pub unready_told : Unready → RunResult
 unready_told Memory = memory_told
 unready_told (Small blocks need) = small_told blocks need
 unready_told (NotFormatted call) = unformatted_told call

@@ -5,7 +5,7 @@ use Rattle.definitions.specs.Streams.{TakesAll, TakesFront}
 use Rattle.dump_file.specs.Flushed.{IsFlushed}
 use Rattle.swsusp_cli.specs.declared.status.Status.{Status}
 use Rattle.swsusp_cli.specs.declared.status.Status.TheVariants.{Stream}
-use Rattle.swsusp_cli.specs.Answer.{Told, line}
+use Rattle.swsusp_cli.specs.Answer.{RunResult, line}
 use Rattle.swsusp_cli.specs.View.{SinkView}
 
 -- a text is taken whole, and all that was taken is flushed
@@ -26,20 +26,20 @@ abbrev pub sink_note : List ℕ
 sink_note = line (codes "sink fault")
 
 -- both texts are printed
-pub record IsToldWhole (told : Told) (status : Status) (out out' note note' : SinkView) : Type 0 where
+pub record IsToldWhole (told : RunResult) (status : Status) (out out' note note' : SinkView) : Type 0 where
   pub status_is : status ≡ told.status
   pub out_whole : IsPrinted told.out out out'
   pub note_whole : IsPrinted told.note note note'
 
 -- out failed in its text, and that is noted; or note failed in its own
-abbrev pub AreFronts : Told → SinkView → SinkView → SinkView → SinkView → Type 0
+abbrev pub AreFronts : RunResult → SinkView → SinkView → SinkView → SinkView → Type 0
 AreFronts told out out' note note' =
     (FailsToPrint told.out out out' × IsTried sink_note note note') ⊎ (IsPrinted told.out out out' × FailsToPrint told.note note note')
 
 -- a sink failed
-pub record IsCutShort (told : Told) (status : Status) (out out' note note' : SinkView) : Type 0 where
+pub record IsCutShort (told : RunResult) (status : Status) (out out' note note' : SinkView) : Type 0 where
   pub status_is : status ≡ Stream
   pub fronts : AreFronts told out out' note note'
 
-abbrev pub IsTold : Told → Status → SinkView → SinkView → SinkView → SinkView → Type 0
+abbrev pub IsTold : RunResult → Status → SinkView → SinkView → SinkView → SinkView → Type 0
 IsTold told status out out' note note' = IsToldWhole told status out out' note note' ⊎ IsCutShort told status out out' note note'

@@ -5,7 +5,7 @@ ghost use Rattle.plain_machine.specs.Replies.{line_of};
 ghost use Rattle.stream_in.specs.Session.{IsFed};
 ghost use Rattle.stream_in.specs.Stops.{IsDiskStop};
 ghost use Rattle.stream_in.specs.Written.{AreOfMap};
-ghost use Rattle.swsusp_cli.specs.Answer.{Told};
+ghost use Rattle.swsusp_cli.specs.Answer.{RunResult};
 ghost use Rattle.swsusp_cli.specs.AnswerOf.{told_by};
 ghost use Rattle.swsusp_cli.specs.Feeding.{Feeds, IsOfDisk, IsOfSource};
 ghost use Rattle.swsusp_cli.specs.Imports.{Ends, Imports, imported_told, kind_text, stop_told, stream_told};

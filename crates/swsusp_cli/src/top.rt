@@ -1,7 +1,7 @@
 ghost use Rattle.std.specs.Prelude.{◌≡◌, ◌≢◌, None, Option, Some, ◌≤◌, ◌+◌, ◌⊎◌, ℕ, List, IsTrue, map, string_bytes};
 ghost use Rattle.definitions.specs.Disk.{HasRisen};
 ghost use Rattle.dump_file.specs.Flushed.{IsFlushed};
-ghost use Rattle.swsusp_cli.specs.Answer.{Told};
+ghost use Rattle.swsusp_cli.specs.Answer.{RunResult};
 ghost use Rattle.swsusp_cli.specs.Run.{IsAnswer, NoDump, NoImport, NoInput, NoMachine, calls_after};
 ghost use Rattle.swsusp_cli.specs.Told.{IsTold};
 ghost use Rattle.swsusp_cli.specs.Reading.{HandsOutAtMost};
@@ -39,7 +39,7 @@ pub fn run<I: Source, O: Sink, N: Sink, D: Disk>(
     note: &mut N,
     disk: &mut D,
 ) -> Status
-    ensures answered { NoMachine (command_of (map string_bytes words.now)) → (told : Told)
+    ensures answered { NoMachine (command_of (map string_bytes words.now)) → (told : RunResult)
         × IsAnswer (command_of (map string_bytes words.now)) (D.block_count disk.old) (D.content disk.old) (D.faults disk.old) (D.faults disk.new) told
         × IsTold told result
         (sink_view O.Sink out.old)

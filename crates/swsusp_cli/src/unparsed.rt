@@ -1,6 +1,6 @@
 ghost use Rattle.std.specs.Prelude.{◌≡◌, ◌≢◌, ◌⊎◌, IfOk, IsOk, codes, string_bytes};
 ghost use Rattle.definitions.specs.Disk.{HasRisen};
-ghost use Rattle.swsusp_cli.specs.Answer.{Told, line};
+ghost use Rattle.swsusp_cli.specs.Answer.{RunResult, line};
 ghost use Rattle.swsusp_cli.specs.Run.{IsRefusal};
 ghost use Rattle.swsusp_cli.specs.Told.{IsTold};
 ghost use Rattle.swsusp_cli.specs.View.{sink_view};
@@ -20,7 +20,7 @@ pub fn refuse<O: Sink, N: Sink>(
     out: &mut O,
     note: &mut N,
 ) -> Status
-    ensures told { (told : Told) × IsRefusal told × IsTold told result
+    ensures told { (told : RunResult) × IsRefusal told × IsTold told result
         (sink_view O.Sink out.old)
         (sink_view O.Sink out.new)
         (sink_view N.Sink note.old)

@@ -9,7 +9,7 @@ use Rattle.plain_machine.specs.Machine.{Hardware, Memory, Fits}
 use Rattle.plain_machine.specs.UsableArea.{area_block}
 use Rattle.plain_machine.specs.State.{off, booting, Held, nothing, sure, maybe, own, other}
 use Rattle.plain_machine.specs.Stands.{Stands, IsHeld, IsHeader, HasOneImage, AgreeOnArea, ShowsBoot}
-use Rattle.plain_machine.specs.Step.{fresh_frames}
+use Rattle.plain_machine.specs.FreshMemory.{fresh_frames}
 use Rattle.plain_machine.specs.Refusals.{refusal, refused_if, asks_dump_to_boot}
 use Rattle.plain_machine.specs.declared.event.BootFrom.{BootFrom}
 use Rattle.plain_machine.specs.declared.event.BootFrom.TheVariants.{Fresh, Kept}
@@ -21,9 +21,9 @@ use Rattle.plain_machine.specs.declared.reply.Reply.TheVariants as reply
 use Rattle.world_core.specs.declared.world.Core.TheVariants.{Off, BootBegun, BootSynced}
 use Rattle.world_core.specs.World.{World}
 use Rattle.world_core.specs.StandsFor.{StandsFor, IsOff, hardware_of, keeps_dump, shown}
-use Rattle.world_core.specs.Row.{IsRow}
+use Rattle.world_core.specs.Row.{Simulates}
 use Rattle.world_core.proofs.Cases.{activity_by}
-use Rattle.world_core.proofs.Rows.{same_area, accepted_step, refused_step, row_at_rest, row_at_boot}
+use Rattle.world_core.proofs.Rows.{area_of_same, accepted_step, refused_step, row_at_rest, row_at_boot}
 
 -- What a smaller choice of images keeps.
 
@@ -54,18 +54,18 @@ one_after_sync c c' syncs v w in_v in_w = IsImage-after_sync c c' v syncs in_v �
 -- what is kept, by what the world shows
 no_kept : (w : World) (c : disk.Content) (held : Held) (kept : Option Memory) → keeps_dump w.core ≡ false → StandsFor w c (off held kept) → kept ≡ None
 no_kept w c held None none stands = refl
-no_kept w c held (Some m) none stands = absurd (false≢true (sym none ∙ stands.stands.parts.0.0))
+no_kept w c held (Some m) none stands = absurd (false≢true (sym none ∙ stands.stands.parts.memory.0))
 
 pub kept_is : (w : World) (c : disk.Content) (held : Held) (kept : Option Memory) → keeps_dump w.core ≡ true → StandsFor w c (off held kept) → (kept ≡ Some w.frames) × Fits (hardware_of w) w.frames
-kept_is w c held None some stands = absurd (false≢true (sym stands.stands.parts.0 ∙ some))
-kept_is w c held (Some m) some stands = (ap Some (sym stands.stands.parts.0.1), subst (Fits (hardware_of w)) (sym stands.stands.parts.0.1) stands.stands.parts.0.2)
+kept_is w c held None some stands = absurd (false≢true (sym stands.stands.parts.memory ∙ some))
+kept_is w c held (Some m) some stands = (ap Some (sym stands.stands.parts.memory.1), subst (Fits (hardware_of w)) (sym stands.stands.parts.memory.1) stands.stands.parts.memory.2)
 
 -- An event that asks for a dump is refused where none is kept.
 
 refuses_none : (h : Hardware) (e : Event) (held : Held) (kept : Option Memory) → kept ≡ None → refusal h (off held None) e ≡ Some reply.NoDump → refusal h (off held kept) e ≡ Some reply.NoDump
 refuses_none h e held kept none refused = ap (λ (k : Option Memory). refusal h (off held k) e) none ∙ refused
 
-pub no_dump : (e : Event) (w : World) (c : disk.Content) → IsOff w → keeps_dump w.core ≡ false → ((held : Held) → refusal (hardware_of w) (off held None) e ≡ Some reply.NoDump) → IsRow e w w reply.NoDump c c
+pub no_dump : (e : Event) (w : World) (c : disk.Content) → IsOff w → keeps_dump w.core ≡ false → ((held : Held) → refusal (hardware_of w) (off held None) e ≡ Some reply.NoDump) → Simulates e w w reply.NoDump c c
 no_dump e w c core none refused =
     row_at_rest e w w reply.NoDump c c core
     (λ held kept stands.
@@ -74,7 +74,7 @@ no_dump e w c core none refused =
       record {
         step = refused_step (hardware_of w) (disk.as_it_reads c) (off held kept) e reply.NoDump why;
         stands = stands;
-        area = same_area (hardware_of w) (disk.as_it_reads c) (disk.as_it_reads c) refl;
+        area = area_of_same (hardware_of w) (disk.as_it_reads c) (disk.as_it_reads c) refl;
         unwritten = λ b not. block_same b _;
         leaves = leaves_refused (hardware_of w) e reply.NoDump (off held kept) c why;
         header = tt;
@@ -111,12 +111,12 @@ begun_stands : (old new : World) (c : disk.Content) (held : Held) (kept : Option
 begun_stands old new c held kept from begins stands =
     record {
       stands = subst (λ (h : Hardware). Stands h (shown new) c (booting from (unwrap_or kept []) held 0)) (sym begins.hardware)
-          (record { activity = activity_by new (BootBegun from) begins.core; parts = (shows_boot old new c held kept from begins stands, stands.stands.parts.1, λ e. let never : ⊥ = omega arith in absurd never) });
+          (record { activity = activity_by new (BootBegun from) begins.core; parts = record { memory = shows_boot old new c held kept from begins stands; held = stands.stands.parts.held; header = stands.stands.parts.header; before = tt } });
       image = tt;
       resume = tt;
     }
 
-pub boot_begins : (old new : World) (c : disk.Content) (from : BootFrom) → BeginsBoot from old new → IsRow (event.Boot from) old new (reply.More 0 2) c c
+pub boot_begins : (old new : World) (c : disk.Content) (from : BootFrom) → BeginsBoot from old new → Simulates (event.Boot from) old new (reply.More 0 2) c c
 boot_begins old new c from begins =
     row_at_rest (event.Boot from) old new (reply.More 0 2) c c begins.off
     (λ held kept stands. (
@@ -124,7 +124,7 @@ boot_begins old new c from begins =
       record {
         step = accepted_step (hardware_of old) (disk.as_it_reads c) (off held kept) (event.Boot from) (reply.More 0 2) (booting from (unwrap_or kept []) held 0) (accepts_boot old new c held kept from begins stands) (0, omega arith, refl);
         stands = begun_stands old new c held kept from begins stands;
-        area = same_area (hardware_of old) (disk.as_it_reads c) (disk.as_it_reads c) refl;
+        area = area_of_same (hardware_of old) (disk.as_it_reads c) (disk.as_it_reads c) refl;
         unwritten = λ b not. block_same b _;
         leaves = tt;
         header = tt;
@@ -148,17 +148,18 @@ synced_stands old new blocks c c' from dump held whole syncs core hw frames stan
       stands = subst (λ (h : Hardware). Stands h (shown new) c' (booting from dump held 1)) (sym hw)
           (record {
             activity = activity_by new (BootSynced from) core;
-            parts = (
-              shows_still (hardware_of old) old new from dump frames stands.stands.parts.0,
-              (held_by_images (hardware_of old) c c' held fewer stands.stands.parts.1.0, header_by_images (hardware_of old) c c' fewer (reads_after_sync c c' syncs) stands.stands.parts.1.1),
-              λ e. one_after_sync c c' syncs,
-            );
+            parts = record {
+              memory = shows_still (hardware_of old) old new from dump frames stands.stands.parts.memory;
+              held = held_by_images (hardware_of old) c c' held fewer stands.stands.parts.held;
+              header = header_by_images (hardware_of old) c c' fewer (reads_after_sync c c' syncs) stands.stands.parts.header;
+              before = one_after_sync c c' syncs;
+            };
           });
       image = tt;
       resume = tt;
     }
 
-pub boot_syncs : (old new : World) (blocks : ℕ) (c c' : disk.Content) (from : BootFrom) → disk.IsContent blocks c → disk.Syncs c c' → old.core ≡ BootBegun from → new.core ≡ BootSynced from → hardware_of new ≡ hardware_of old → new.frames ≡ old.frames → IsRow (event.Step actor.Core) old new (reply.More 1 2) c c'
+pub boot_syncs : (old new : World) (blocks : ℕ) (c c' : disk.Content) (from : BootFrom) → disk.IsContent blocks c → disk.Syncs c c' → old.core ≡ BootBegun from → new.core ≡ BootSynced from → hardware_of new ≡ hardware_of old → new.frames ≡ old.frames → Simulates (event.Step actor.Core) old new (reply.More 1 2) c c'
 boot_syncs old new blocks c c' from whole syncs core core' hw frames =
     row_at_boot (event.Step actor.Core) old new (reply.More 1 2) c c' from 0 (activity_by old (BootBegun from) core)
     (λ dump held stands. (
@@ -166,7 +167,7 @@ boot_syncs old new blocks c c' from whole syncs core core' hw frames =
       record {
         step = accepted_step (hardware_of old) (disk.as_it_reads c) (booting from dump held 0) (event.Step actor.Core) (reply.More 1 2) (booting from dump held 1) (accepts_step (hardware_of old) from dump held 0) (0, omega arith, refl);
         stands = synced_stands old new blocks c c' from dump held whole syncs core' hw frames stands;
-        area = same_area (hardware_of old) (disk.as_it_reads c) (disk.as_it_reads c') (reads_after_sync c c' syncs);
+        area = area_of_same (hardware_of old) (disk.as_it_reads c) (disk.as_it_reads c') (reads_after_sync c c' syncs);
         unwritten = λ b not. block_synced blocks b c c' whole syncs;
         leaves = tt;
         header = tt;
@@ -179,12 +180,12 @@ pub failed_stands : (old new : World) (c : disk.Content) (from : BootFrom) (dump
 failed_stands old new c from dump held k core hw stands =
     record {
       stands = subst (λ (h : Hardware). Stands h (shown new) c (off held None)) (sym hw)
-          (record { activity = activity_by new (Off false) core; parts = (ap keeps_dump core, stands.stands.parts.1) });
+          (record { activity = activity_by new (Off false) core; parts = record { memory = ap keeps_dump core; held = stands.stands.parts.held; header = stands.stands.parts.header } });
       image = tt;
       resume = tt;
     }
 
-pub boot_sync_fails : (old new : World) (c : disk.Content) (from : BootFrom) → old.core ≡ BootBegun from → new.core ≡ Off false → hardware_of new ≡ hardware_of old → IsRow (event.Step actor.Core) old new (reply.SyncFault Same) c c
+pub boot_sync_fails : (old new : World) (c : disk.Content) (from : BootFrom) → old.core ≡ BootBegun from → new.core ≡ Off false → hardware_of new ≡ hardware_of old → Simulates (event.Step actor.Core) old new (reply.SyncFault Same) c c
 boot_sync_fails old new c from core core' hw =
     row_at_boot (event.Step actor.Core) old new (reply.SyncFault Same) c c from 0 (activity_by old (BootBegun from) core)
     (λ dump held stands. (
@@ -192,7 +193,7 @@ boot_sync_fails old new c from core core' hw =
       record {
         step = accepted_step (hardware_of old) (disk.as_it_reads c) (booting from dump held 0) (event.Step actor.Core) (reply.SyncFault Same) (off held None) (accepts_step (hardware_of old) from dump held 0) (1, omega arith, refl);
         stands = failed_stands old new c from dump held 0 core' hw stands;
-        area = same_area (hardware_of old) (disk.as_it_reads c) (disk.as_it_reads c) refl;
+        area = area_of_same (hardware_of old) (disk.as_it_reads c) (disk.as_it_reads c) refl;
         unwritten = λ b not. block_same b _;
         leaves = tt;
         header = tt;

@@ -1,26 +1,23 @@
 -- The row of a shrinking: cached page frames that no table has become free, and all else stays.
-use Rattle.std.proofs.Common.{◌≡◌, ◌≢◌, ◌⊎◌, inl, inr, ◌<◌, ◌^◌, ℕ, ◌+◌, ◌-◌, ◌/◌, Bool, true, false, cond, not, eqb, ◌&&◌, ◌||◌, nat_le, nat_lt, List, [], ◌∷◌, filter, length, take, Contains, All, Option, Some, None, refl, sym, ap, ap₂, ◌∙◌, subst, arith}
-use Rattle.std.specs.List.{range_with_len}
-use Rattle.std.proofs.lemmas.Bool.{and_parts, both_ways, eqb-true, false≢true}
+use Rattle.std.proofs.Common.{◌≡◌, ◌≢◌, inl, inr, ◌<◌, ℕ, ◌-◌, Bool, true, false, not, eqb, ◌&&◌, ◌||◌, List, [], ◌∷◌, length, take, Contains, All, Some, None, refl, sym, ap, ap₂, ◌∙◌, subst, arith}
+use Rattle.std.proofs.lemmas.Bool.{and_parts, both_ways, false≢true}
 use Rattle.std.proofs.lemmas.Option.{none-some}
 use Rattle.definitions.specs.Bytes.{IsPage}
 use Rattle.definitions.specs.Disk as disk
 use Rattle.definitions.specs.Lists.{saveable_frames}
-use Rattle.definitions.specs.Tables.{HasTable, entry_at, page_flags, owner_of, is_saveable, with_entry, with_entries}
+use Rattle.definitions.specs.Tables.{HasTable, page_flags, owner_of, is_saveable, with_entry, with_entries}
 use Rattle.definitions.specs.Zones.{numbers, top}
 use Rattle.definitions.proofs.Ascending.{Contains-head, Contains-tail}
 use Rattle.definitions.proofs.FrameSets.{Contains-from_filter}
 use Rattle.definitions.proofs.TableEntries.{entry_at-with_entries_other, length-with_entries}
 use Rattle.definitions.proofs.ZoneNumbers.{below_top}
 use Rattle.plain_machine.specs.Fitting.{IsTask}
-use Rattle.plain_machine.specs.Machine.{Hardware, Memory, IsHardware, Fits, IsTableFrame, is_of_table, is_table_frame, frame_entry, raw_slot_entry, saveable, table_len}
-use Rattle.plain_machine.specs.Refusals.{busy, busy_reply, refusal, refusal_if_running}
-use Rattle.plain_machine.specs.Shows.{RunsAs, seen_frames}
-use Rattle.plain_machine.specs.Stands.{HasFlights, StandsOn}
-use Rattle.plain_machine.specs.State.{State, on, Running, Flight, goes_out, comes_in, nothing}
-use Rattle.plain_machine.specs.Step.{Step, droppable, drop_memory, dropped_by}
+use Rattle.plain_machine.specs.Machine.{Hardware, Memory, IsHardware, IsTableFrame, is_of_table, is_table_frame, frame_entry, raw_slot_entry, saveable, table_len}
+use Rattle.plain_machine.specs.Refusals.{busy, busy_reply, refusal}
+use Rattle.plain_machine.specs.Stands.{HasFlights}
+use Rattle.plain_machine.specs.State.{State, on, Running, goes_out, comes_in, nothing}
+use Rattle.plain_machine.specs.Step.{droppable, drop_memory, dropped_by}
 use Rattle.plain_machine.specs.declared.event.Event.TheVariants as event
-use Rattle.plain_machine.specs.declared.reply.Reply.{Reply}
 use Rattle.plain_machine.specs.declared.reply.Reply.TheVariants as reply
 use Rattle.plain_machine.proofs.Flights.{idle_tasks}
 use Rattle.plain_machine.proofs.Fresh.{table_frame-test}
@@ -42,9 +39,9 @@ use Rattle.world_core.specs.declared.world.Core.{Core}
 use Rattle.world_core.specs.declared.world.Core.TheVariants.{Running as Runs, Hibernating, Loading}
 use Rattle.world_core.specs.World.{World}
 use Rattle.world_core.specs.StandsFor.{StandsFor, hardware_of, shown}
-use Rattle.world_core.specs.Row.{IsRow}
+use Rattle.world_core.specs.Row.{Simulates}
 use Rattle.world_core.proofs.Cases.{activity_by, activity_for, at_run}
-use Rattle.world_core.proofs.Rows.{accepted_step, row_at_run, row_refused, same_area}
+use Rattle.world_core.proofs.Rows.{accepted_step, row_at_run, row_refused, area_of_same}
 use Rattle.world_core.proofs.TaskRows.{IsSameBut, on_parts, runs_on, shows_after}
 
 -- What is dropped, as the code says it and as the plain machine does.
@@ -145,12 +142,12 @@ not_refused w a want idle flights = not_busy w.machine a idle flights
 
 -- The rows.
 
-pub row_busy : (w : World) (want t : ℕ) (c : disk.Content) → w.core ≡ Runs → busy_of w.machine ≡ Some t → IsRow (event.Shrink want) w w (reply.Busy t) c c
+pub row_busy : (w : World) (want t : ℕ) (c : disk.Content) → w.core ≡ Runs → busy_of w.machine ≡ Some t → Simulates (event.Shrink want) w w (reply.Busy t) c c
 row_busy w want t c core flies =
     row_refused (event.Shrink want) w (reply.Busy t) c (λ a stands.
     let run = at_run a (sym (activity_by w Runs core) ∙ activity_for w c a stands) in
     subst (λ (x : State). refusal (hardware_of w) x (event.Shrink want) ≡ Some (reply.Busy t)) (sym run.1)
-    (refused_busy w run.0 want t flies (on_parts w c run.0 (subst (StandsFor w c) run.1 stands)).0.flights))
+    (refused_busy w run.0 want t flies (on_parts w c run.0 (subst (StandsFor w c) run.1 stands)).memory.flights))
 
 -- what a shrinking answers, and leaves of the page frames
 pub record Drops (h : Hardware) (want : ℕ) (frames : Memory) (dropped left : ℕ) (new : Memory) : Type 0 where
@@ -159,15 +156,15 @@ pub record Drops (h : Hardware) (want : ℕ) (frames : Memory) (dropped left : �
   pub rest : left ≡ length (saveable h frames) - length (dropped_by h frames want)
 
 pub row_shrunk : (old new : World) (want dropped left : ℕ) (c : disk.Content) → IsHardware (hardware_of old) → length old.frames ≡ top (hardware_of old).zones → old.core ≡ Runs → busy_of old.machine ≡ None → IsSameBut old new → new.machine.flights ≡ old.machine.flights →
-    Drops (hardware_of old) want old.frames dropped left new.frames → IsRow (event.Shrink want) old new (reply.Shrunk dropped left) c c
+    Drops (hardware_of old) want old.frames dropped left new.frames → Simulates (event.Shrink want) old new (reply.Shrunk dropped left) c c
 row_shrunk old new want dropped left c hw size core idle same flights drops =
     row_at_run (event.Shrink want) old new (reply.Shrunk dropped left) c c core
     (λ a stands.
     let h = hardware_of old in
     let parts = on_parts old c a stands in
-    let mirrors = mirrors_of h old.machine.held (reason_of old.machine.area) (flights_in old.machine.flights) old.frames a parts.0 size in
+    let mirrors = mirrors_of h old.machine.held (reason_of old.machine.area) (flights_in old.machine.flights) old.frames a parts.memory size in
     let m = a.memory in
-    let idle' = not_busy old.machine a idle parts.0.flights in
+    let idle' = not_busy old.machine a idle parts.memory.flights in
     let D = dropped_by h old.frames want in
     let D_is : dropped_by h m want ≡ D = dropped_shown h old.frames m want hw mirrors in
     let n_is : length (saveable h m) ≡ length (saveable h old.frames) = ap length (saveable_shown h old.frames m hw mirrors) in
@@ -181,18 +178,18 @@ row_shrunk old new want dropped left c hw size core idle same flights drops =
     (ap₂ (λ (n d : ℕ). n - d) n_is (ap length D_is) ∙ sym drops.rest) in (
       on b,
       record {
-        step = accepted_step h (disk.as_it_reads c) (on a) (event.Shrink want) (reply.Shrunk dropped left) (on b) (not_refused old a want idle parts.0.flights) (0, omega arith, answers);
+        step = accepted_step h (disk.as_it_reads c) (on a) (event.Shrink want) (reply.Shrunk dropped left) (on b) (not_refused old a want idle parts.memory.flights) (0, omega arith, answers);
         stands = runs_on h new c b same.core same.hw
             (shows_after old new b same (record {
-              held = parts.0.held;
-              unusable = parts.0.unusable;
-              flights = λ t. parts.0.flights t ∙ ap (λ (operations : List Operation). flights_in operations t) (sym flights);
+              held = parts.memory.held;
+              unusable = parts.memory.unusable;
+              flights = λ t. parts.memory.flights t ∙ ap (λ (operations : List Operation). flights_in operations t) (sym flights);
               same = now.same;
               fits = now.fits;
             }))
-            (with_memory h (shown old) (shown new) c a (drop_memory h m want) parts.1 (keeps_all h a want hw parts.1.flights idle')
+            (with_memory h (shown old) (shown new) c a (drop_memory h m want) parts.disk (keeps_all h a want hw parts.disk.flights idle')
             (λ s lt e. sym (ap (λ (frames : Memory). raw_slot_entry h frames s) drops.frames_are ∙ slots_stay h old.frames D s hw (λ p in'. is_dropped h old.frames want p in') lt) ∙ e));
-        area = same_area h (disk.as_it_reads c) (disk.as_it_reads c) refl;
+        area = area_of_same h (disk.as_it_reads c) (disk.as_it_reads c) refl;
         unwritten = λ k not. block_same k c;
         leaves = tt;
         header = tt;

@@ -14,14 +14,14 @@ use Rattle.world_core.specs.declared.world.Core.{Core}
 use Rattle.world_core.specs.declared.world.Core.TheVariants.{Off, Running, BootBegun, BootSynced, Hibernating, Asleep, Waking, Loading}
 use Rattle.world_core.specs.World.{World}
 use Rattle.world_core.specs.StandsFor.{StandsFor, activity_of, hardware_of, keeps_dump, shown}
-use Rattle.world_core.specs.Row.{IsRow}
+use Rattle.world_core.specs.Row.{Simulates}
 use Rattle.hib_core.specs.declared.hib.Hib.{Hib}
 use Rattle.resume_core.specs.declared.load.Load.{Load}
 use Rattle.sleep_core.specs.declared.waker.Waker.{Waker}
 use Rattle.std.proofs.lemmas.Bool.{false≢true}
 use Rattle.world_core.proofs.Cases.{activity_by, activity_for}
 use Rattle.protocol_laws.proofs.PowerCuts.{cuts_off, cut_keeps_area}
-use Rattle.world_core.proofs.Rows.{accepted_step, same_area}
+use Rattle.world_core.proofs.Rows.{accepted_step, area_of_same}
 
 abbrev is_rest : Activity → Bool
 is_rest rests = true
@@ -43,7 +43,7 @@ keeps_none w c a x is no_rest stands = keeps_off w.core w.hib w.load w.waker (ap
 
 -- memory that is kept stays, and what isn't kept isn't
 kept_still : (old new : World) (c : disk.Content) (a : State) → new.core ≡ Off (keeps_dump old.core) → new.frames ≡ old.frames → StandsFor old c a → ShowsKept (hardware_of old) (shown new) (kept_in a)
-kept_still old new c (off held kept) core frames stands = kept_off kept stands.stands.parts.0 where
+kept_still old new c (off held kept) core frames stands = kept_off kept stands.stands.parts.memory where
   kept_off : (k : Option Memory) → ShowsKept (hardware_of old) (shown old) k → ShowsKept (hardware_of old) (shown new) k
   kept_off None shows = ap keeps_dump core ∙ shows
   kept_off (Some m) shows = (ap keeps_dump core ∙ shows.0, frames ∙ shows.1, shows.2)
@@ -60,7 +60,7 @@ never_refused : (h : Hardware) (a : State) (pick : ℕ) → refusal h a (event.C
 unfolding refusal
 never_refused h a pick = refl
 
-pub row_of_cut : (old new : World) (pick blocks : ℕ) (c c' : disk.Content) → disk.IsContent blocks c → disk.Restarts c c' → new.core ≡ Off (keeps_dump old.core) → new.frames ≡ old.frames → hardware_of new ≡ hardware_of old → IsRow (event.Cut pick) old new reply.WasCut c c'
+pub row_of_cut : (old new : World) (pick blocks : ℕ) (c c' : disk.Content) → disk.IsContent blocks c → disk.Restarts c c' → new.core ≡ Off (keeps_dump old.core) → new.frames ≡ old.frames → hardware_of new ≡ hardware_of old → Simulates (event.Cut pick) old new reply.WasCut c c'
 row_of_cut old new pick blocks c c' whole restarts core frames hw = λ a stands.
     let h = hardware_of old in
     let kept : ShowsKept h (shown new) (kept_in a) = kept_still old new c a core frames stands in
@@ -86,13 +86,13 @@ arm_goes : (h : Hardware) (a : State) (first count pick : ℕ) → refusal h a (
 unfolding refusal
 arm_goes h a first count pick = refl
 
-pub row_of_arm : (w : World) (first count pick : ℕ) (c : disk.Content) → IsRow (event.Arm first count pick) w w reply.Done c c
+pub row_of_arm : (w : World) (first count pick : ℕ) (c : disk.Content) → Simulates (event.Arm first count pick) w w reply.Done c c
 row_of_arm w first count pick c = λ a stands. (
   a,
   record {
     step = accepted_step (hardware_of w) (disk.as_it_reads c) a (event.Arm first count pick) reply.Done a (arm_goes (hardware_of w) a first count pick) (0, omega arith, refl);
     stands = stands;
-    area = same_area (hardware_of w) (disk.as_it_reads c) (disk.as_it_reads c) refl;
+    area = area_of_same (hardware_of w) (disk.as_it_reads c) (disk.as_it_reads c) refl;
     unwritten = λ b not_in. block_same b _;
     leaves = tt;
     header = left_same (hardware_of w) a c;

@@ -21,8 +21,9 @@ use Rattle.plain_machine.specs.Image.{Image}
 use Rattle.plain_machine.proofs.BadSlots.{no_target, no_flights-owned, dump_area-of}
 use Rattle.protocol_laws.proofs.OtherResumed.{has_page, is_paged}
 use Rattle.restore_laws.proofs.BroughtBack.{no_image_slot}
-use Rattle.plain_machine.specs.Step.{fresh_frames, fresh_memory, fresh_slot, with_each_entry, booted, boot_outcomes, no_slots, no_flights}
-use Rattle.plain_machine.specs.Shows.{Shown, seen_frames, ShowsHeld, ShowsRunning}
+use Rattle.plain_machine.specs.Step.{fresh_slot, booted, boot_outcomes, no_slots, no_flights}
+use Rattle.plain_machine.specs.FreshMemory.{fresh_frames, fresh_memory, with_each_entry}
+use Rattle.plain_machine.specs.Shows.{WorldView, seen_frames, ShowsHeld, ShowsRunning}
 use Rattle.plain_machine.specs.declared.event.BootFrom.{BootFrom}
 use Rattle.plain_machine.specs.declared.event.BootFrom.TheVariants.{Fresh, Kept}
 use Rattle.plain_machine.specs.declared.event.Event.TheVariants as event
@@ -34,16 +35,16 @@ use Rattle.plain_machine.specs.declared.no_swap.NoSwap.TheVariants as no_swap
 use Rattle.plain_machine.specs.declared.reply.Left.TheVariants.{Same}
 use Rattle.plain_machine.specs.declared.reply.Reply.TheVariants as reply
 use Rattle.plain_machine.proofs.EachEntry.{each-same}
-use Rattle.plain_machine.proofs.Fresh.{slot_entry-fresh_memory, fits-fresh_memory, seen-plain}
+use Rattle.plain_machine.proofs.Fresh.{slots_filled, slot_entry-fresh_memory, fits-fresh_memory, seen-plain}
 use Rattle.plain_machine.proofs.SameMemory.{same_refl}
 use Rattle.machine.specs.FreshSlots.{slot_of_area}
 use Rattle.world_core.specs.declared.world.Core.TheVariants.{Off, Running as Runs, BootSynced, Loading}
 use Rattle.world_core.specs.World.{World}
 use Rattle.world_core.specs.StandsFor.{StandsFor, hardware_of, shown}
 use Rattle.world_core.specs.declared.world.Core.{Core}
-use Rattle.world_core.specs.Row.{IsRow, TellsMark}
+use Rattle.world_core.specs.Row.{Simulates, TellsMark}
 use Rattle.world_core.proofs.Cases.{activity_by}
-use Rattle.world_core.proofs.Rows.{same_area, accepted_step, row_at_boot}
+use Rattle.world_core.proofs.Rows.{area_of_same, accepted_step, row_at_boot}
 use Rattle.world_core.proofs.Booting.{accepts_step, failed_stands}
 use Rattle.world_core.proofs.Headers.{IsAreaOf, StartsOver, reason_read, slot_read}
 use Rattle.machine.specs.Flights.{flights_in}
@@ -120,12 +121,12 @@ pub record Ends (from : BootFrom) (old new : World) (v : disk.DiskImage) (image 
   pub marked : image ≡ true → Marked (hardware_of old) v
   pub unmarked : image ≡ false → Marked (hardware_of old) v → ⊥
 
-frames_fresh : (old new : World) (v : disk.DiskImage) (image : Bool) → Ends Fresh old new v image → old.frames ≡ fresh_frames (hardware_of old) → new.frames ≡ fresh_memory (hardware_of old) (fresh_slot (hardware_of old) v)
-unfolding fresh_memory
-frames_fresh old new v image ends fresh =
+frames_fresh : (old new : World) (v : disk.DiskImage) (image : Bool) → Ends Fresh old new v image → IsHardware (hardware_of old) → old.frames ≡ fresh_frames (hardware_of old) → new.frames ≡ fresh_memory (hardware_of old) (fresh_slot (hardware_of old) v)
+frames_fresh old new v image ends hw fresh =
     let h = hardware_of old in
     ends.frames ∙ ap (with_each_entry (slot_of_area new.machine.area) (range_with_len 0 h.slots) h.slot_table) fresh
     ∙ each-same (slot_of_area new.machine.area) (fresh_slot h v) (range_with_len 0 h.slots) h.slot_table (fresh_frames h) (λ s. slot_read h v new.machine.area s ends.area)
+    ∙ slots_filled h (fresh_slot h v) hw
 
 -- no slot of fresh memory is an image's
 fresh_value : (h : Hardware) (v : disk.DiskImage) (area : Result Area NoSwap) (s : ℕ) → IsAreaOf h v area → (fresh_slot h v s ≡ bad_slot) ⊎ (fresh_slot h v s ≡ 0)
@@ -148,7 +149,7 @@ shows_running : (old new : World) (v : disk.DiskImage) (image : Bool) (dump : Me
 shows_running old new v image dump now ends hw fresh flag =
     let h = hardware_of old in
     let m = fresh_memory h (fresh_slot h v) in
-    let seen : seen_frames h new.frames ≡ m = ap (seen_frames h) (frames_fresh old new v image ends fresh) ∙ seen-plain h m (λ s lt. fresh_plain h v new.machine.area s hw ends.area lt) in
+    let seen : seen_frames h new.frames ≡ m = ap (seen_frames h) (frames_fresh old new v image ends hw fresh) ∙ seen-plain h m (λ s lt. fresh_plain h v new.machine.area s hw ends.area lt) in
     record {
       held = flag;
       unusable = reason_read h v new.machine.area ends.area;
@@ -158,10 +159,10 @@ shows_running old new v image dump now ends hw fresh flag =
           (λ s. ap (is_slot_entry s) (sym (slot_read h v new.machine.area s ends.area)) ∙ slot_well new.machine.area s);
     }
 
-names_own : (h : Hardware) (s : Shown) (v : disk.DiskImage) (i : Image) → ((k : ℕ) → k < h.slots → raw_slot_entry h s.frames k ≡ image_slot → ⊥) → IsOwn h v i → NamesOwn h s i
+names_own : (h : Hardware) (s : WorldView) (v : disk.DiskImage) (i : Image) → ((k : ℕ) → k < h.slots → raw_slot_entry h s.frames k ≡ image_slot → ⊥) → IsOwn h v i → NamesOwn h s i
 names_own h s v i plain is = record { memory = is.of_memory.0; image = is.of_memory.1.image; names = λ k lt e. absurd (plain k lt e) }
 
-names_none : (h : Hardware) (s : Shown) (c : disk.Content) (held : Held) → disk.IsImage c (disk.as_it_reads c) → ((k : ℕ) → k < h.slots → raw_slot_entry h s.frames k ≡ image_slot → ⊥) → IsHeld h c held → NamesHeld h s held
+names_none : (h : Hardware) (s : WorldView) (c : disk.Content) (held : Held) → disk.IsImage c (disk.as_it_reads c) → ((k : ℕ) → k < h.slots → raw_slot_entry h s.frames k ≡ image_slot → ⊥) → IsHeld h c held → NamesHeld h s held
 names_none h s c nothing here plain is = λ k lt e. absurd (plain k lt e)
 names_none h s c (sure (own i)) here plain is = names_own h s (disk.as_it_reads c) i plain (is (disk.as_it_reads c) here).1
 names_none h s c (sure other) here plain is = λ k lt e. absurd (plain k lt e)
@@ -201,14 +202,14 @@ stands_on : (old new : World) (c : disk.Content) (image : Bool) (dump : Memory) 
 stands_on old new c image dump now here ends hw fresh flag held header =
     let h = hardware_of old in
     let v = disk.as_it_reads c in
-    let frames = frames_fresh old new v image ends fresh in
+    let frames = frames_fresh old new v image ends hw fresh in
     let stands : Stands (hardware_of new) (shown new) c (on (booted h v Fresh dump now)) =
     subst (λ (g : Hardware). Stands g (shown new) c (on (booted h v Fresh dump now))) (sym ends.hardware)
     (record {
       activity = activity_by new Runs ends.core;
-      parts = (
-        shows_running old new v image dump now ends hw fresh flag,
-        record {
+      parts = record {
+        memory = shows_running old new v image dump now ends hw fresh flag;
+        disk = record {
           held = held;
           task_slots = record {
             usable = λ s page e. absurd (none-some page e);
@@ -221,8 +222,8 @@ stands_on old new c image dump now here ends hw fresh flag held header =
           names = names_none h (shown new) c now here (λ s lt e. fresh_plain h v new.machine.area s hw ends.area lt (ap (λ (n : Memory). raw_slot_entry h n s) (sym frames) ∙ e)) held;
           header = header;
           area = dump_area-of h v (fresh_memory h (fresh_slot h v)) (bad_slots_are h v new.machine.area hw ends.area);
-        },
-      );
+        };
+      };
     }) in
     record { stands = stands; image = tt; resume = tt }
 
@@ -275,9 +276,9 @@ stands_kept old new c image dump now here ends is fits flag held header =
     subst (λ (g : Hardware). Stands g (shown new) c (on (booted h v Kept dump now))) (sym ends.hardware)
     (record {
       activity = activity_by new Runs ends.core;
-      parts = (
-        shows_kept old new v image dump now ends is fits flag,
-        record {
+      parts = record {
+        memory = shows_kept old new v image dump now ends is fits flag;
+        disk = record {
           held = held;
           task_slots = kept_slots h v dump (dump_area_fault h v dump);
           flights = no_flights-owned h (booted h v Kept dump now) (λ t. refl);
@@ -285,8 +286,8 @@ stands_kept old new c image dump now here ends is fits flag held header =
           names = names_none h (shown new) c now here (λ s lt e. no_image_slot h dump fits s lt (ap (λ (n : Memory). raw_slot_entry h n s) (sym frames) ∙ e)) held;
           header = header;
           area = refl;
-        },
-      );
+        };
+      };
     }) in
     record { stands = stands; image = tt; resume = tt }
 
@@ -299,14 +300,14 @@ pub record BootsAt (w : World) (c : disk.Content) (from : BootFrom) (dump : Memo
   pub one : HasOneImage c
 
 booting_parts : (w : World) (c : disk.Content) (from : BootFrom) (dump : Memory) (held : Held) → StandsFor w c (booting from dump held 1) → BootsAt w c from dump held
-booting_parts w c from dump held stands = record { shows = stands.stands.parts.0; held_is = stands.stands.parts.1.0; header = stands.stands.parts.1.1; one = stands.stands.parts.2 refl }
+booting_parts w c from dump held stands = record { shows = stands.stands.parts.memory; held_is = stands.stands.parts.held; header = stands.stands.parts.header; one = stands.stands.parts.before }
 
 stands_started : (old new : World) (c : disk.Content) (from : BootFrom) (image : Bool) (dump : Memory) (before now : Held) → disk.IsImage c (disk.as_it_reads c) → Ends from old new (disk.as_it_reads c) image → IsHardware (hardware_of old) → BootsAt old c from dump before →
     ShowsHeld new.machine.held now → IsHeld (hardware_of old) c now → StandsFor new c (on (booted (hardware_of old) (disk.as_it_reads c) from dump now))
 stands_started old new c Fresh image dump before now here ends hw at flag held = stands_on old new c image dump now here ends hw at.shows flag held at.header
 stands_started old new c Kept image dump before now here ends hw at flag held = stands_kept old new c image dump now here ends at.shows.0 at.shows.1 flag held at.header
 
-pub boot_ends : (old new : World) (blocks : ℕ) (c : disk.Content) (from : BootFrom) (image : Bool) → disk.IsContent blocks c → old.core ≡ BootSynced from → Ends from old new (disk.as_it_reads c) image → IsHardware (hardware_of old) → IsRow (event.Step actor.Core) old new (reply.Booted image) c c
+pub boot_ends : (old new : World) (blocks : ℕ) (c : disk.Content) (from : BootFrom) (image : Bool) → disk.IsContent blocks c → old.core ≡ BootSynced from → Ends from old new (disk.as_it_reads c) image → IsHardware (hardware_of old) → Simulates (event.Step actor.Core) old new (reply.Booted image) c c
 boot_ends old new blocks c from image whole core ends hw =
     row_at_boot (event.Step actor.Core) old new (reply.Booted image) c c from 1 (activity_by old (BootSynced from) core)
     (λ dump held stands.
@@ -319,7 +320,7 @@ boot_ends old new blocks c from image whole core ends hw =
       record {
         step = accepted_step h v (booting from dump held 1) (event.Step actor.Core) (reply.Booted image) (on (booted h v from dump settled.0)) (accepts_step h from dump held 1) settled.1;
         stands = stands_started old new c from image dump held settled.0 here ends hw at (subst (λ (f : HeldFlag). ShowsHeld f settled.0) (sym ends.held) settled.2) settled.3;
-        area = same_area (hardware_of old) (disk.as_it_reads c) (disk.as_it_reads c) refl;
+        area = area_of_same (hardware_of old) (disk.as_it_reads c) (disk.as_it_reads c) refl;
         unwritten = λ b not. block_same b _;
         leaves = tt;
         header = tt;
@@ -331,7 +332,7 @@ read_fault_in h v from dump nothing = (1, omega arith, refl)
 read_fault_in h v from dump (sure x) = (1, omega arith, refl)
 read_fault_in h v from dump (maybe x) = (2, omega arith, refl)
 
-pub boot_read_fails : (old new : World) (c : disk.Content) (from : BootFrom) → old.core ≡ BootSynced from → new.core ≡ Off false → hardware_of new ≡ hardware_of old → IsRow (event.Step actor.Core) old new (reply.ReadFault Same) c c
+pub boot_read_fails : (old new : World) (c : disk.Content) (from : BootFrom) → old.core ≡ BootSynced from → new.core ≡ Off false → hardware_of new ≡ hardware_of old → Simulates (event.Step actor.Core) old new (reply.ReadFault Same) c c
 boot_read_fails old new c from core core' hw =
     row_at_boot (event.Step actor.Core) old new (reply.ReadFault Same) c c from 1 (activity_by old (BootSynced from) core)
     (λ dump held stands. (
@@ -339,7 +340,7 @@ boot_read_fails old new c from core core' hw =
       record {
         step = accepted_step (hardware_of old) (disk.as_it_reads c) (booting from dump held 1) (event.Step actor.Core) (reply.ReadFault Same) (off held None) (accepts_step (hardware_of old) from dump held 1) (read_fault_in (hardware_of old) (disk.as_it_reads c) from dump held);
         stands = failed_stands old new c from dump held 1 core' hw stands;
-        area = same_area (hardware_of old) (disk.as_it_reads c) (disk.as_it_reads c) refl;
+        area = area_of_same (hardware_of old) (disk.as_it_reads c) (disk.as_it_reads c) refl;
         unwritten = λ b not. block_same b _;
         leaves = tt;
         header = tt;

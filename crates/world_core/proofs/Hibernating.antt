@@ -10,7 +10,7 @@ use Rattle.plain_machine.specs.declared.event.IdentCheck.{IdentCheck}
 use Rattle.plain_machine.specs.declared.event.Loader.{Loader}
 use Rattle.plain_machine.specs.Image.{Image}
 use Rattle.plain_machine.specs.Machine.{Hardware, Memory}
-use Rattle.plain_machine.specs.Shows.{Shown, Activity, rests, runs, hibernates, undoes, settles, sleeps, ShowsKept, loads}
+use Rattle.plain_machine.specs.Shows.{WorldView, Activity, rests, runs, hibernates, undoes, settles, sleeps, ShowsKept, loads}
 use Rattle.plain_machine.specs.State.{State, off, on, booting, hibernating, undoing, settling, waking, loading, asleep as sleeping, Running, Held}
 use Rattle.plain_machine.specs.Stands.{Stands}
 use Rattle.plain_machine.specs.UsableArea.{fit_fault, kind_or_fit_fault}
@@ -25,7 +25,6 @@ use Rattle.hib_core.specs.Hibernation as hibernation
 use Rattle.hib_core.specs.Hibernation.{Phase, under_way, runs_on, switched_off, asleep}
 use Rattle.hib_core.specs.Ready.{IsBusy, is_busy_at, IsSameMachine}
 use Rattle.hib_core.specs.Row as hib_row
-use Rattle.hib_core.specs.declared.hib.Ending.{Ending}
 use Rattle.hib_core.specs.declared.hib.Hib.{Hib}
 use Rattle.hib_core.specs.declared.hib.Job.{Job}
 use Rattle.hib_core.specs.declared.hib.Stage.{Stage}
@@ -37,9 +36,9 @@ use Rattle.world_core.specs.declared.world.Core.TheVariants.{Off, Running as Run
 use Rattle.world_core.specs.World.{World}
 use Rattle.world_core.specs.Kept.{IsDown}
 use Rattle.world_core.specs.StandsFor.{StandsFor, hardware_of, keeps_dump, shown, shown_at, core_at, core_in, core_told}
-use Rattle.world_core.specs.Row.{IsRow, HasRow, Restores}
+use Rattle.world_core.specs.Row.{Simulates, SimulatesWhereTold, Restores}
 use Rattle.world_core.proofs.Cases.{activity_by}
-use Rattle.world_core.proofs.TaskRows.{names_same}
+use Rattle.protocol_laws.proofs.Named.{names_by_entries}
 
 -- What a hibernation is at.
 
@@ -52,23 +51,23 @@ is_of_hibernation (settles k) = true
 is_of_hibernation sleeps = true
 is_of_hibernation _ = false
 
-of_hibernation : (last : Ending) (s : Stage) (made : ℕ) → is_of_hibernation (hibernation.activity_at last s made) ≡ true
-of_hibernation last stage.Idle made = refl
-of_hibernation last stage.Over made = refl
-of_hibernation last stage.Asleep made = refl
-of_hibernation last stage.Write made = refl
-of_hibernation last stage.Sync made = refl
-of_hibernation last stage.Read made = refl
-of_hibernation last stage.Mark made = refl
-of_hibernation last stage.End made = refl
-of_hibernation last (stage.TakeBack call) made = refl
-of_hibernation last (stage.EndUndo call) made = refl
-of_hibernation last stage.SettleRead made = refl
-of_hibernation last stage.SettleWrite made = refl
-of_hibernation last stage.SettleSync made = refl
+of_hibernation : (s : Stage) → is_of_hibernation (hibernation.activity_at s) ≡ true
+of_hibernation stage.Idle = refl
+of_hibernation stage.Over = refl
+of_hibernation stage.Asleep = refl
+of_hibernation (stage.Write saving writer) = refl
+of_hibernation (stage.Sync saving) = refl
+of_hibernation (stage.Read saving) = refl
+of_hibernation (stage.Mark saving header) = refl
+of_hibernation (stage.End saving header) = refl
+of_hibernation (stage.TakeBack call header) = refl
+of_hibernation (stage.EndUndo call) = refl
+of_hibernation stage.SettleRead = refl
+of_hibernation (stage.SettleWrite header) = refl
+of_hibernation stage.SettleSync = refl
 
 never_at : {A : Type 0} (hib : Hib) (x : Activity) → is_of_hibernation x ≡ false → hibernation.activity_of hib ≡ x → A
-never_at hib x not_of e = absurd (false≢true (sym not_of ∙ sym (ap is_of_hibernation e) ∙ of_hibernation hib.ending hib.stage hib.made))
+never_at hib x not_of e = absurd (false≢true (sym not_of ∙ sym (ap is_of_hibernation e) ∙ of_hibernation hib.stage))
 
 abbrev is_hibernating : Core → Bool
 is_hibernating Hibernating = true
@@ -78,15 +77,15 @@ busy_at : (s : Stage) → core_in (hibernation.phase_at s) ≡ Hibernating → i
 busy_at stage.Idle e = absurd (false≢true (ap is_hibernating e))
 busy_at stage.Over e = absurd (false≢true (ap is_hibernating e))
 busy_at stage.Asleep e = absurd (false≢true (ap is_hibernating e))
-busy_at stage.Write e = tt
-busy_at stage.Sync e = tt
-busy_at stage.Read e = tt
-busy_at stage.Mark e = tt
-busy_at stage.End e = tt
-busy_at (stage.TakeBack call) e = tt
+busy_at (stage.Write saving writer) e = tt
+busy_at (stage.Sync saving) e = tt
+busy_at (stage.Read saving) e = tt
+busy_at (stage.Mark saving header) e = tt
+busy_at (stage.End saving header) e = tt
+busy_at (stage.TakeBack call header) e = tt
 busy_at (stage.EndUndo call) e = tt
 busy_at stage.SettleRead e = tt
-busy_at stage.SettleWrite e = tt
+busy_at (stage.SettleWrite header) e = tt
 busy_at stage.SettleSync e = tt
 
 -- a world that hibernates or settles by a reply has a step to make
@@ -127,23 +126,23 @@ never_sleeps r core is (inl begun) down = absurd (subst IsDown (is ∙ ap core_i
 never_sleeps r core is (inr refused) down = absurd (subst IsDown (is ∙ ap core_in refused) down)
 
 -- what it is at is what its activity says
-core_of_stage : (last : Ending) (s : Stage) (made : ℕ) → core_at (hibernation.activity_at last s made) ≡ core_in (hibernation.phase_at s)
-core_of_stage last stage.Idle made = refl
-core_of_stage last stage.Over made = refl
-core_of_stage last stage.Asleep made = refl
-core_of_stage last stage.Write made = refl
-core_of_stage last stage.Sync made = refl
-core_of_stage last stage.Read made = refl
-core_of_stage last stage.Mark made = refl
-core_of_stage last stage.End made = refl
-core_of_stage last (stage.TakeBack call) made = refl
-core_of_stage last (stage.EndUndo call) made = refl
-core_of_stage last stage.SettleRead made = refl
-core_of_stage last stage.SettleWrite made = refl
-core_of_stage last stage.SettleSync made = refl
+core_of_stage : (s : Stage) → core_at (hibernation.activity_at s) ≡ core_in (hibernation.phase_at s)
+core_of_stage stage.Idle = refl
+core_of_stage stage.Over = refl
+core_of_stage stage.Asleep = refl
+core_of_stage (stage.Write saving writer) = refl
+core_of_stage (stage.Sync saving) = refl
+core_of_stage (stage.Read saving) = refl
+core_of_stage (stage.Mark saving header) = refl
+core_of_stage (stage.End saving header) = refl
+core_of_stage (stage.TakeBack call header) = refl
+core_of_stage (stage.EndUndo call) = refl
+core_of_stage stage.SettleRead = refl
+core_of_stage (stage.SettleWrite header) = refl
+core_of_stage stage.SettleSync = refl
 
 core_by_told : (hib : Hib) (r : Reply) (core : Core) → core ≡ core_told r → hibernation.phase_of hib ≡ hibernation.phase_told r → core ≡ core_at (hibernation.activity_of hib)
-core_by_told hib r core is told = is ∙ sym (ap core_in told) ∙ sym (core_of_stage hib.ending hib.stage hib.made)
+core_by_told hib r core is told = is ∙ sym (ap core_in told) ∙ sym (core_of_stage hib.stage)
 
 -- What is shown.
 
@@ -155,19 +154,19 @@ shown_hibernating w e = ap (λ (core : Core). shown_at core w.machine w.frames w
 
 hibernation_stands : (w : World) (c : disk.Content) (a : State) → w.core ≡ Hibernating → StandsFor w c a → hib_row.StandsFor w.machine w.frames w.hib c a
 hibernation_stands w c a core stands = record {
-  stands = subst (λ (s : Shown). Stands (hardware_of w) s c a) (shown_hibernating w core) stands.stands;
+  stands = subst (λ (s : WorldView). Stands (hardware_of w) s c a) (shown_hibernating w core) stands.stands;
   image = stands.image;
 }
 
 still_hibernating : (w : World) (c : disk.Content) (a : State) → w.core ≡ Hibernating → hib_row.StandsFor w.machine w.frames w.hib c a → resume_row.IsOfState w.machine w.frames w.load c a → StandsFor w c a
 still_hibernating w c a core stands resume = record {
-  stands = subst (λ (s : Shown). Stands (hardware_of w) s c a) (sym (shown_hibernating w core)) stands.stands;
+  stands = subst (λ (s : WorldView). Stands (hardware_of w) s c a) (sym (shown_hibernating w core)) stands.stands;
   image = stands.image;
   resume = resume;
 }
 
 -- what an operation shows of a world, but for the activity, is seen no more once the world is off or runs
-abbrev pub shown_in : World → Activity → List ℕ → List ℕ → Option (Loader × IdentCheck) → List (ℕ × List ℕ) → Shown
+abbrev pub shown_in : World → Activity → List ℕ → List ℕ → Option (Loader × IdentCheck) → List (ℕ × List ℕ) → WorldView
 shown_in w activity header copies resume loaded = record {
   activity = activity;
   keeps_dump = false;
@@ -187,29 +186,29 @@ kept_same w activity header copies resume loaded (Some m) core shows = absurd (f
 
 pub then_off : (w : World) (c : disk.Content) (activity : Activity) (header copies : List ℕ) (resume : Option (Loader × IdentCheck)) (loaded : List (ℕ × List ℕ)) (held : Held) (kept : Option Memory) → w.core ≡ Off false → Stands (hardware_of w) (shown_in w activity header copies resume loaded) c (off held kept) → StandsFor w c (off held kept)
 then_off w c activity header copies resume loaded held kept core stands = record {
-  stands = record { activity = activity_by w (Off false) core; parts = (kept_same w activity header copies resume loaded kept core stands.parts.0, stands.parts.1) };
+  stands = record { activity = activity_by w (Off false) core; parts = record { memory = kept_same w activity header copies resume loaded kept core stands.parts.memory; held = stands.parts.held; header = stands.parts.header } };
   image = tt;
   resume = tt;
 }
 
 pub then_running : (w : World) (c : disk.Content) (activity : Activity) (header copies : List ℕ) (resume : Option (Loader × IdentCheck)) (loaded : List (ℕ × List ℕ)) (a : Running) → w.core ≡ Runs → Stands (hardware_of w) (shown_in w activity header copies resume loaded) c (on a) → StandsFor w c (on a)
 then_running w c activity header copies resume loaded a core stands =
-    let before = stands.parts.1 in
+    let before = stands.parts.disk in
     record {
       stands = record {
         activity = activity_by w Runs core;
-        parts = (
-          stands.parts.0,
-          record {
+        parts = record {
+          memory = stands.parts.memory;
+          disk = record {
             held = before.held;
             task_slots = before.task_slots;
             flights = before.flights;
             slot_pages = before.slot_pages;
-            names = names_same (hardware_of w) (shown_in w activity header copies resume loaded) (shown w) a.held (λ k lt. refl) before.names;
+            names = names_by_entries (hardware_of w) (shown_in w activity header copies resume loaded) (shown w) a.held (λ k lt. refl) before.names;
             header = before.header;
             area = before.area;
-          },
-        );
+          };
+        };
       };
       image = tt;
       resume = tt;
@@ -217,23 +216,23 @@ then_running w c activity header copies resume loaded a core stands =
 
 pub then_asleep : (w : World) (c : disk.Content) (activity : Activity) (header copies : List ℕ) (resume : Option (Loader × IdentCheck)) (loaded : List (ℕ × List ℕ)) (i : Image) (held : Held) (a : Running) → w.core ≡ Asleep → Stands (hardware_of w) (shown_in w activity header copies resume loaded) c (sleeping i held a) → StandsFor w c (sleeping i held a)
 then_asleep w c activity header copies resume loaded i held a core stands =
-    let behind = stands.parts.0 in
+    let behind = stands.parts.behind in
     record {
       stands = record {
         activity = activity_by w Asleep core;
-        parts = (
-          record {
+        parts = record {
+          behind = record {
+            memory = behind.memory;
             held = behind.held;
-            shows = behind.shows;
             task_slots = behind.task_slots;
             flights = behind.flights;
             slot_pages = behind.slot_pages;
             header = behind.header;
             area = behind.area;
-          },
-          names_same (hardware_of w) (shown_in w activity header copies resume loaded) (shown w) held (λ k lt. refl) stands.parts.1,
-          stands.parts.2,
-        );
+          };
+          names = names_by_entries (hardware_of w) (shown_in w activity header copies resume loaded) (shown w) held (λ k lt. refl) stands.parts.names;
+          saved = stands.parts.saved;
+        };
       };
       image = tt;
       resume = tt;
@@ -241,22 +240,22 @@ then_asleep w c activity header copies resume loaded i held a core stands =
 
 -- the states of a hibernation are those of the world that is at what it is at
 world_stands : (w : World) (c : disk.Content) (b : State) → w.core ≡ core_at (hibernation.activity_of w.hib) → hib_row.StandsFor w.machine w.frames w.hib c b → StandsFor w c b
-world_stands w c (off held kept) core stands = then_off w c (hibernation.activity_of w.hib) w.hib.header w.hib.snapshot.copies None [] held kept (core ∙ ap core_at stands.stands.activity) stands.stands
-world_stands w c (on a) core stands = then_running w c (hibernation.activity_of w.hib) w.hib.header w.hib.snapshot.copies None [] a (core ∙ ap core_at stands.stands.activity) stands.stands
+world_stands w c (off held kept) core stands = then_off w c (hibernation.activity_of w.hib) (hibernation.header_at w.hib.stage) w.hib.snapshot.copies None [] held kept (core ∙ ap core_at stands.stands.activity) stands.stands
+world_stands w c (on a) core stands = then_running w c (hibernation.activity_of w.hib) (hibernation.header_at w.hib.stage) w.hib.snapshot.copies None [] a (core ∙ ap core_at stands.stands.activity) stands.stands
 world_stands w c (hibernating suspends i a k) core stands = still_hibernating w c (hibernating suspends i a k) (core ∙ ap core_at stands.stands.activity) stands tt
 world_stands w c (undoing i call a k) core stands = still_hibernating w c (undoing i call a k) (core ∙ ap core_at stands.stands.activity) stands tt
 world_stands w c (booting from dump held k) core stands = never_at w.hib _ refl stands.stands.activity
 world_stands w c (settling a k) core stands = still_hibernating w c (settling a k) (core ∙ ap core_at stands.stands.activity) stands tt
 world_stands w c (waking i held a k) core stands = never_at w.hib _ refl stands.stands.activity
 world_stands w c (loading load k) core stands = never_at w.hib _ refl stands.stands.activity
-world_stands w c (sleeping i held a) core stands = then_asleep w c (hibernation.activity_of w.hib) w.hib.header w.hib.snapshot.copies None [] i held a (core ∙ ap core_at stands.stands.activity) stands.stands
+world_stands w c (sleeping i held a) core stands = then_asleep w c (hibernation.activity_of w.hib) (hibernation.header_at w.hib.stage) w.hib.snapshot.copies None [] i held a (core ∙ ap core_at stands.stands.activity) stands.stands
 
 -- The rows.
 
 pub row_of_begin : (old new : World) (asked : Job) (r : Reply) (c : disk.Content) → old.core ≡ Runs → new.core ≡ core_told r → new.machine ≡ old.machine → hibernation.phase_of new.hib ≡ hibernation.phase_told r →
-    hib_row.IsBegun old.machine old.frames new.frames new.hib asked r c → IsRow (hib_row.event_of asked) old new r c c
+    hib_row.IsBegun old.machine old.frames new.frames new.hib asked r c → Simulates (hib_row.event_of asked) old new r c c
 row_of_begin old new asked r c core core' machine told row a stands =
-    let goes = row a (subst (λ (s : Shown). Stands (hardware_of old) s c a) (shown_running old core) stands.stands) in (
+    let goes = row a (subst (λ (s : WorldView). Stands (hardware_of old) s c a) (shown_running old core) stands.stands) in (
       goes.0,
       record {
         step = goes.1.step;
@@ -269,7 +268,7 @@ row_of_begin old new asked r c core core' machine told row a stands =
     )
 
 pub row_of_step : (old new : World) (r : Reply) (before now : Option disk.Content) → old.core ≡ Hibernating → new.core ≡ core_told r → hibernation.phase_of new.hib ≡ hibernation.phase_told r →
-    hib_row.HasRow old.machine old.frames old.hib new.machine new.frames new.hib (event.Step actor.Core) r before now → HasRow (event.Step actor.Core) old new r before now
+    hib_row.SimulatesWhereTold old.machine old.frames old.hib new.machine new.frames new.hib (event.Step actor.Core) r before now → SimulatesWhereTold (event.Step actor.Core) old new r before now
 row_of_step old new r before now core core' told row k is =
     let at = row k is in (
       at.0,

@@ -1,7 +1,6 @@
 pub mod Booting
 pub mod Cases
 pub mod Cutting
-pub mod Disks
 pub mod Ending
 pub mod Headers
 pub mod Hibernating

@@ -53,16 +53,14 @@ new_stands w h kept v held keeps is un =
     subst (λ (g : Hardware). Stands g (shown w) (disk.settled v) (off held kept)) (sym keeps.hardware)
     (record {
       activity = rests_by w keeps.is_off;
-      parts = (
-        shows_kept w h kept keeps.memory,
-        (
-          is,
-          record {
-            unmarked = λ u in' marked. un (subst (λ (x : disk.DiskImage). IsMarked (area_block h x)) (IsImage-settled v u in') marked);
-            one = λ u in'. agree (area_block h u) (area_block h (disk.as_it_reads (disk.settled v))) (ap (area_block h) (IsImage-settled v u in' ∙ sym (as_it_reads-settled v)));
-          },
-        ),
-      );
+      parts = record {
+        memory = shows_kept w h kept keeps.memory;
+        held = is;
+        header = record {
+          unmarked = λ u in' marked. un (subst (λ (x : disk.DiskImage). IsMarked (area_block h x)) (IsImage-settled v u in') marked);
+          one = λ u in'. agree (area_block h u) (area_block h (disk.as_it_reads (disk.settled v))) (ap (area_block h) (IsImage-settled v u in' ∙ sym (as_it_reads-settled v)));
+        };
+      };
     }) in
     record { stands = stands; image = tt; resume = tt } where
       agree : (a b : List ℕ) → a ≡ b → AgreeOnArea a b

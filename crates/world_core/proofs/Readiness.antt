@@ -11,7 +11,8 @@ use Rattle.sig_header.specs.declared.area.Area.{Area}
 use Rattle.swap_slots.specs.Runs.{SlotRuns}
 use Rattle.swap_slots.specs.Table.{Matches}
 use Rattle.plain_machine.specs.Machine.{Hardware, Memory, IsHardware, frame_entry}
-use Rattle.plain_machine.specs.Step.{fresh_frames, fresh_memory, fresh_entry, with_each_entry, with_slot_entry}
+use Rattle.plain_machine.specs.Step.{with_slot_entry}
+use Rattle.plain_machine.specs.FreshMemory.{fresh_frames, fresh_entry, with_each_entry}
 use Rattle.plain_machine.specs.UsableArea.{fit_fault}
 use Rattle.plain_machine.specs.declared.event.BootFrom.{BootFrom}
 use Rattle.plain_machine.specs.declared.event.BootFrom.TheVariants.{Fresh, Kept}
@@ -60,9 +61,8 @@ in_range : (slots s : ℕ) → Contains (range_with_len 0 slots) s → s < slots
 in_range slots s in' = let bounds = range-bounds 0 slots s in' in let below = bounds.1 in omega arith
 
 fresh_frame_entry : (h : Hardware) (p : ℕ) → IsHardware h → Contains (numbers h.zones) p → frame_entry h (fresh_frames h) p ≡ fresh_entry h p
-unfolding fresh_memory
-fresh_frame_entry h p hw in' =
-    sym (frame_entry-each h (λ s. 0) (range_with_len 0 h.slots) (fresh_frames h) p hw (in_range h.slots) in') ∙ frame_entry-fresh_memory h (λ s. 0) p hw in'
+unfolding fresh_frames
+fresh_frame_entry h p hw in' = frame_entry-fresh_memory h (λ s. 0) p hw in'
 
 pub reserved-fresh : (h : Hardware) → IsHardware h → AreReserved h (fresh_frames h)
 reserved-fresh h hw p of =
@@ -131,18 +131,18 @@ no_tables_in asleep has = absurd has
 pub no_tables_told : {A : Type 0} (r : Reply) (core : Core) → core ≡ core_told r → HasTables core → A
 no_tables_told r core is has = no_tables_in (hibernation.phase_told r) (subst HasTables is has)
 
-no_tables_at : {A : Type 0} (s : Stage) (made : ℕ) → HasTables (core_at (resumption.activity_at s made)) → A
-no_tables_at stage.Rest made has = absurd (false≢true has)
-no_tables_at stage.Runs made has = absurd has
-no_tables_at stage.Sync made has = absurd has
-no_tables_at stage.Find made has = absurd has
-no_tables_at stage.TakeBack made has = absurd has
-no_tables_at stage.SyncBack made has = absurd has
-no_tables_at stage.List made has = absurd has
-no_tables_at stage.Read made has = absurd has
+no_tables_at : {A : Type 0} (s : Stage) → HasTables (core_at (resumption.activity_at s)) → A
+no_tables_at stage.Rest has = absurd (false≢true has)
+no_tables_at stage.Runs has = absurd has
+no_tables_at stage.Sync has = absurd has
+no_tables_at stage.Find has = absurd has
+no_tables_at (stage.TakeBack found) has = absurd has
+no_tables_at (stage.SyncBack found) has = absurd has
+no_tables_at (stage.List chain) has = absurd has
+no_tables_at (stage.Read chain) has = absurd has
 
 pub no_tables_after : {A : Type 0} (load : Load) (r : Reply) (core : Core) → IsAfter load r core → HasTables core → A
-no_tables_after load r core after has = no_tables_at load.stage load.made (subst HasTables (core_now load r core after) has)
+no_tables_after load r core after has = no_tables_at load.stage (subst HasTables (core_now load r core after) has)
 
 -- A machine that runs after a resume can run.
 pub can_run-resumed : (machine : Machine) (frames : Memory) (runs : SlotRuns) (load : Load) → CanStep machine frames runs load → RunsOn machine frames runs → CanRun machine frames runs

@@ -5,7 +5,7 @@ use Rattle.std.proofs.lemmas.Bool.{false≢true}
 use Rattle.definitions.specs.Disk as disk
 use Rattle.sig_header.specs.declared.area.Area.{Area}
 use Rattle.plain_machine.specs.Machine.{Hardware, Memory}
-use Rattle.plain_machine.specs.Shows.{Shown, Activity, rests, runs, loads}
+use Rattle.plain_machine.specs.Shows.{WorldView, Activity, rests, runs, loads}
 use Rattle.plain_machine.specs.State.{State, off, on, booting, hibernating, undoing, settling, waking, loading, asleep, Held, Load as Resume}
 use Rattle.plain_machine.specs.Stands.{Stands}
 use Rattle.plain_machine.specs.Refusals.{refusal, asks_dump_to_load}
@@ -33,7 +33,7 @@ use Rattle.world_core.specs.declared.world.Core.TheVariants.{Off, Running as Run
 use Rattle.world_core.specs.World.{World}
 use Rattle.world_core.specs.Kept.{IsDown, IsUp}
 use Rattle.world_core.specs.StandsFor.{StandsFor, IsOff, hardware_of, keeps_dump, shown, shown_at, core_at, core_resumed}
-use Rattle.world_core.specs.Row.{IsRow, HasRow, Restores}
+use Rattle.world_core.specs.Row.{Simulates, SimulatesWhereTold, Restores}
 use Rattle.world_core.proofs.Hibernating.{shown_in, then_off, then_running}
 use Rattle.world_core.proofs.Rows.{row_at_rest}
 
@@ -45,18 +45,18 @@ is_of_resume runs = true
 is_of_resume (loads k) = true
 is_of_resume _ = false
 
-of_resume : (s : Stage) (made : ℕ) → is_of_resume (resumption.activity_at s made) ≡ true
-of_resume stage.Rest made = refl
-of_resume stage.Runs made = refl
-of_resume stage.Sync made = refl
-of_resume stage.Find made = refl
-of_resume stage.TakeBack made = refl
-of_resume stage.SyncBack made = refl
-of_resume stage.List made = refl
-of_resume stage.Read made = refl
+of_resume : (s : Stage) → is_of_resume (resumption.activity_at s) ≡ true
+of_resume stage.Rest = refl
+of_resume stage.Runs = refl
+of_resume stage.Sync = refl
+of_resume stage.Find = refl
+of_resume (stage.TakeBack found) = refl
+of_resume (stage.SyncBack found) = refl
+of_resume (stage.List chain) = refl
+of_resume (stage.Read chain) = refl
 
 never_at : {A : Type 0} (load : Load) (x : Activity) → is_of_resume x ≡ false → resumption.activity_of load ≡ x → A
-never_at load x not_of e = absurd (false≢true (sym not_of ∙ sym (ap is_of_resume e) ∙ of_resume load.stage load.made))
+never_at load x not_of e = absurd (false≢true (sym not_of ∙ sym (ap is_of_resume e) ∙ of_resume load.stage))
 
 abbrev is_loading : Core → Bool
 is_loading Loading = true
@@ -70,45 +70,45 @@ abbrev is_hibernating : Core → Bool
 is_hibernating Hibernating = true
 is_hibernating _ = false
 
-busy_at : (s : Stage) (made : ℕ) → core_at (resumption.activity_at s made) ≡ Loading → is_busy_at s
-busy_at stage.Rest made e = absurd (false≢true (ap is_loading e))
-busy_at stage.Runs made e = absurd (false≢true (ap is_loading e))
-busy_at stage.Sync made e = tt
-busy_at stage.Find made e = tt
-busy_at stage.TakeBack made e = tt
-busy_at stage.SyncBack made e = tt
-busy_at stage.List made e = tt
-busy_at stage.Read made e = tt
+busy_at : (s : Stage) → core_at (resumption.activity_at s) ≡ Loading → is_busy_at s
+busy_at stage.Rest e = absurd (false≢true (ap is_loading e))
+busy_at stage.Runs e = absurd (false≢true (ap is_loading e))
+busy_at stage.Sync e = tt
+busy_at stage.Find e = tt
+busy_at (stage.TakeBack found) e = tt
+busy_at (stage.SyncBack found) e = tt
+busy_at (stage.List chain) e = tt
+busy_at (stage.Read chain) e = tt
 
-pub runs_at : (s : Stage) (made : ℕ) → core_at (resumption.activity_at s made) ≡ Runs → s ≡ stage.Runs
-runs_at stage.Rest made e = absurd (false≢true (ap is_running e))
-runs_at stage.Runs made e = refl
-runs_at stage.Sync made e = absurd (false≢true (ap is_running e))
-runs_at stage.Find made e = absurd (false≢true (ap is_running e))
-runs_at stage.TakeBack made e = absurd (false≢true (ap is_running e))
-runs_at stage.SyncBack made e = absurd (false≢true (ap is_running e))
-runs_at stage.List made e = absurd (false≢true (ap is_running e))
-runs_at stage.Read made e = absurd (false≢true (ap is_running e))
+pub runs_at : (s : Stage) → core_at (resumption.activity_at s) ≡ Runs → s ≡ stage.Runs
+runs_at stage.Rest e = absurd (false≢true (ap is_running e))
+runs_at stage.Runs e = refl
+runs_at stage.Sync e = absurd (false≢true (ap is_running e))
+runs_at stage.Find e = absurd (false≢true (ap is_running e))
+runs_at (stage.TakeBack found) e = absurd (false≢true (ap is_running e))
+runs_at (stage.SyncBack found) e = absurd (false≢true (ap is_running e))
+runs_at (stage.List chain) e = absurd (false≢true (ap is_running e))
+runs_at (stage.Read chain) e = absurd (false≢true (ap is_running e))
 
-never_hibernates : (s : Stage) (made : ℕ) → core_at (resumption.activity_at s made) ≡ Hibernating → ⊥
-never_hibernates stage.Rest made e = false≢true (ap is_hibernating e)
-never_hibernates stage.Runs made e = false≢true (ap is_hibernating e)
-never_hibernates stage.Sync made e = false≢true (ap is_hibernating e)
-never_hibernates stage.Find made e = false≢true (ap is_hibernating e)
-never_hibernates stage.TakeBack made e = false≢true (ap is_hibernating e)
-never_hibernates stage.SyncBack made e = false≢true (ap is_hibernating e)
-never_hibernates stage.List made e = false≢true (ap is_hibernating e)
-never_hibernates stage.Read made e = false≢true (ap is_hibernating e)
+never_hibernates : (s : Stage) → core_at (resumption.activity_at s) ≡ Hibernating → ⊥
+never_hibernates stage.Rest e = false≢true (ap is_hibernating e)
+never_hibernates stage.Runs e = false≢true (ap is_hibernating e)
+never_hibernates stage.Sync e = false≢true (ap is_hibernating e)
+never_hibernates stage.Find e = false≢true (ap is_hibernating e)
+never_hibernates (stage.TakeBack found) e = false≢true (ap is_hibernating e)
+never_hibernates (stage.SyncBack found) e = false≢true (ap is_hibernating e)
+never_hibernates (stage.List chain) e = false≢true (ap is_hibernating e)
+never_hibernates (stage.Read chain) e = false≢true (ap is_hibernating e)
 
-never_sleeps : (s : Stage) (made : ℕ) → IsDown (core_at (resumption.activity_at s made)) → ⊥
-never_sleeps stage.Rest made down = down
-never_sleeps stage.Runs made down = down
-never_sleeps stage.Sync made down = down
-never_sleeps stage.Find made down = down
-never_sleeps stage.TakeBack made down = down
-never_sleeps stage.SyncBack made down = down
-never_sleeps stage.List made down = down
-never_sleeps stage.Read made down = down
+never_sleeps : (s : Stage) → IsDown (core_at (resumption.activity_at s)) → ⊥
+never_sleeps stage.Rest down = down
+never_sleeps stage.Runs down = down
+never_sleeps stage.Sync down = down
+never_sleeps stage.Find down = down
+never_sleeps (stage.TakeBack found) down = down
+never_sleeps (stage.SyncBack found) down = down
+never_sleeps (stage.List chain) down = down
+never_sleeps (stage.Read chain) down = down
 
 -- a world by what it has answered to a step of its resume
 pub record IsAfter (load : Load) (r : Reply) (core : Core) : Type 0 where
@@ -120,18 +120,18 @@ pub core_now : (load : Load) (r : Reply) (core : Core) → IsAfter load r core �
 core_now load r core is = is.core_is ∙ sym (ap core_at is.told)
 
 pub busy_after : (load : Load) (r : Reply) (core : Core) → IsAfter load r core → core ≡ Loading → IsBusy load
-busy_after load r core is e = busy_at load.stage load.made (sym (core_now load r core is) ∙ e)
+busy_after load r core is e = busy_at load.stage (sym (core_now load r core is) ∙ e)
 
 pub idle_after : {A : Type 0} (load : Load) (r : Reply) (core : Core) → IsAfter load r core → core ≡ Hibernating → A
-idle_after load r core is e = absurd (never_hibernates load.stage load.made (sym (core_now load r core is) ∙ e))
+idle_after load r core is e = absurd (never_hibernates load.stage (sym (core_now load r core is) ∙ e))
 
 pub awake_after : {A : Type 0} (load : Load) (r : Reply) (core : Core) → IsAfter load r core → IsDown core → A
-awake_after load r core is down = absurd (never_sleeps load.stage load.made (subst IsDown (core_now load r core is) down))
+awake_after load r core is down = absurd (never_sleeps load.stage (subst IsDown (core_now load r core is) down))
 
 -- what a machine has that runs after it
 pub runs_after : (machine : Machine) (frames : Memory) (runs_of : SlotRuns) (load : Load) (r : Reply) (core : Core) → IsAfter load r core → CanStep machine frames runs_of load → IsUp core → RunsOn machine frames runs_of
 runs_after machine frames runs_of load r (Off keeps) after can up = absurd up
-runs_after machine frames runs_of load r Runs after can up = subst (λ (s : Stage). CanMake s machine frames runs_of load) (runs_at load.stage load.made (sym (core_now load r Runs after))) can.next
+runs_after machine frames runs_of load r Runs after can up = subst (λ (s : Stage). CanMake s machine frames runs_of load) (runs_at load.stage (sym (core_now load r Runs after))) can.next
 runs_after machine frames runs_of load r (BootBegun from) after can up = absurd up
 runs_after machine frames runs_of load r (BootSynced from) after can up = absurd up
 runs_after machine frames runs_of load r Hibernating after can up = idle_after load r Hibernating after refl
@@ -146,10 +146,10 @@ reason_same (Ok area) = refl
 reason_same (Err why) = refl
 
 -- a resume as the world shows it
-abbrev shown_loading : World → Shown
-shown_loading w = shown_in w (resumption.activity_of w.load) w.load.header [] (Some (w.load.loader, w.load.check)) (zip w.load.waiting.originals (waiting_pages w.frames w.load.waiting))
+abbrev shown_loading : World → WorldView
+shown_loading w = shown_in w (resumption.activity_of w.load) (resumption.header_at w.load.stage) [] (Some (w.load.loader, w.load.check)) (zip w.load.waiting.originals (waiting_pages w.frames w.load.waiting))
 
-with_reason : World → Option NoSwap → Shown
+with_reason : World → Option NoSwap → WorldView
 with_reason w why = record (shown_loading w) { unusable = why }
 
 loading_is : (w : World) → resumption.shown_by w.machine w.frames w.load ≡ shown_loading w
@@ -161,16 +161,16 @@ shown_at_load w e = ap (λ (core : Core). shown_at core w.machine w.frames w.hib
 
 resume_stands : (w : World) (c : disk.Content) (a : State) → w.core ≡ Loading → StandsFor w c a → resume_row.StandsFor w.machine w.frames w.load c a
 resume_stands w c a core stands = record {
-  stands = subst (λ (s : Shown). Stands (hardware_of w) s c a) (shown_at_load w core ∙ sym (loading_is w)) stands.stands;
+  stands = subst (λ (s : WorldView). Stands (hardware_of w) s c a) (shown_at_load w core ∙ sym (loading_is w)) stands.stands;
   resume = stands.resume;
 }
 
 as_shown : (w : World) (c : disk.Content) (a : State) → resume_row.StandsFor w.machine w.frames w.load c a → Stands (hardware_of w) (shown_loading w) c a
-as_shown w c a stands = subst (λ (s : Shown). Stands (hardware_of w) s c a) (loading_is w) stands.stands
+as_shown w c a stands = subst (λ (s : WorldView). Stands (hardware_of w) s c a) (loading_is w) stands.stands
 
 still_loading : (w : World) (c : disk.Content) (load : Resume) (k : ℕ) → w.core ≡ Loading → resume_row.StandsFor w.machine w.frames w.load c (loading load k) → StandsFor w c (loading load k)
 still_loading w c load k core stands = record {
-  stands = subst (λ (s : Shown). Stands (hardware_of w) s c (loading load k)) (sym (shown_at_load w core)) (as_shown w c (loading load k) stands);
+  stands = subst (λ (s : WorldView). Stands (hardware_of w) s c (loading load k)) (sym (shown_at_load w core)) (as_shown w c (loading load k) stands);
   image = tt;
   resume = stands.resume;
 }
@@ -182,9 +182,9 @@ standing machine frames load r a c b after = record { stands = after.stands; res
 -- the states of a resume are those of the world that is at what it is at
 world_stands : (w : World) (c : disk.Content) (b : State) → w.core ≡ core_at (resumption.activity_of w.load) → resume_row.StandsFor w.machine w.frames w.load c b → StandsFor w c b
 world_stands w c (off held kept) core stands =
-    then_off w c (resumption.activity_of w.load) w.load.header [] (Some (w.load.loader, w.load.check)) (zip w.load.waiting.originals (waiting_pages w.frames w.load.waiting)) held kept (core ∙ ap core_at stands.stands.activity) (as_shown w c (off held kept) stands)
+    then_off w c (resumption.activity_of w.load) (resumption.header_at w.load.stage) [] (Some (w.load.loader, w.load.check)) (zip w.load.waiting.originals (waiting_pages w.frames w.load.waiting)) held kept (core ∙ ap core_at stands.stands.activity) (as_shown w c (off held kept) stands)
 world_stands w c (on a) core stands =
-    then_running w c (resumption.activity_of w.load) w.load.header [] (Some (w.load.loader, w.load.check)) (zip w.load.waiting.originals (waiting_pages w.frames w.load.waiting)) a (core ∙ ap core_at stands.stands.activity) (as_shown w c (on a) stands)
+    then_running w c (resumption.activity_of w.load) (resumption.header_at w.load.stage) [] (Some (w.load.loader, w.load.check)) (zip w.load.waiting.originals (waiting_pages w.frames w.load.waiting)) a (core ∙ ap core_at stands.stands.activity) (as_shown w c (on a) stands)
 world_stands w c (loading load k) core stands = still_loading w c load k (core ∙ ap core_at stands.stands.activity) stands
 world_stands w c (booting from dump held k) core stands = never_at w.load _ refl stands.stands.activity
 world_stands w c (hibernating suspends i a k) core stands = never_at w.load _ refl stands.stands.activity
@@ -206,18 +206,18 @@ loader_memory old frames (loaders.Ranges ranges) same dump = tt
 loader_memory old frames loaders.Table same dump = (dump refl, sym same)
 
 pub row_of_begin : (old new : World) (frames : Memory) (loader : Loader) (check : IdentCheck) (r : Reply) (c : disk.Content) → IsOff old → IsAfter new.load r new.core → hardware_of new ≡ hardware_of old → frames ≡ old.frames → (asks_dump_to_load loader ≡ true → keeps_dump old.core ≡ true) →
-    resume_row.BeginsRow new.machine frames new.frames new.load loader check r → IsRow (event.Resume loader check) old new r c c
+    resume_row.BeginsRow new.machine frames new.frames new.load loader check r → Simulates (event.Resume loader check) old new r c c
 row_of_begin old new frames loader check r c resting after hw same dump row =
     row_at_rest (event.Resume loader check) old new r c c resting
     (λ held kept stands.
     let led = row (shown old) c held kept (loader_memory old frames loader same dump) (subst (λ (h : Hardware). Stands h (shown old) c (off held kept)) (sym hw) stands.stands) in (
       led.0,
-      subst (λ (h : Hardware). rows.Leads h (StandsFor new) (event.Resume loader check) r c c (off held kept) led.0) hw
+      subst (λ (h : Hardware). rows.StepsTo h (StandsFor new) (event.Resume loader check) r c c (off held kept) led.0) hw
           (record { step = led.1.step; stands = world_stands new c led.0 (core_now new.load r new.core after) (standing new.machine new.frames new.load r (off held kept) c led.0 led.1.stands); area = led.1.area; unwritten = led.1.unwritten; leaves = led.1.leaves; header = led.1.header }),
     ))
 
 pub row_of_step : (old new : World) (r : Reply) (before now : Option disk.Content) → old.core ≡ Loading → IsAfter new.load r new.core →
-    resume_row.HasRow old.machine old.frames old.load new.machine new.frames new.load (event.Step actor.Core) r before now → HasRow (event.Step actor.Core) old new r before now
+    resume_row.SimulatesWhereTold old.machine old.frames old.load new.machine new.frames new.load (event.Step actor.Core) r before now → SimulatesWhereTold (event.Step actor.Core) old new r before now
 row_of_step old new r before now core after row k is =
     let at = row k is in (
       at.0,
@@ -231,7 +231,7 @@ row_of_step old new r before now core after row k is =
 
 -- the memory and the area that a resume leaves
 pub restores_at : (old new : World) (r : Reply) (before now : Option disk.Content) → old.core ≡ Loading →
-    resume_row.HasRow old.machine old.frames old.load new.machine new.frames new.load (event.Step actor.Core) r before now → Restores (event.Step actor.Core) old new r before now
+    resume_row.SimulatesWhereTold old.machine old.frames old.load new.machine new.frames new.load (event.Step actor.Core) r before now → Restores (event.Step actor.Core) old new r before now
 restores_at old new (reply.Resumed n) before now core row = λ c is load k stands.
     let at = row c is in
     let goes = at.2 (loading load k) (resume_stands old c (loading load k) core stands) in

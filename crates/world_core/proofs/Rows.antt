@@ -28,11 +28,9 @@ use Rattle.plain_machine.specs.declared.event.Actor.TheVariants as actor
 use Rattle.plain_machine.specs.declared.reply.Reply.{Reply}
 use Rattle.plain_machine.specs.declared.reply.Reply.TheVariants as reply
 use Rattle.protocol_laws.specs.Rows.{IsSameArea}
-use Rattle.page_core.specs.declared.format.Format.{Format}
 use Rattle.machine.specs.Flights.{flights_in}
 use Rattle.hib_core.specs.Hibernation.{activity_at}
 use Rattle.hib_core.specs.Ready.{IsBusy, is_busy_at}
-use Rattle.hib_core.specs.declared.hib.Ending.{Ending}
 use Rattle.hib_core.specs.declared.hib.Hib.{Hib}
 use Rattle.hib_core.specs.declared.hib.Stage.{Stage}
 use Rattle.hib_core.specs.declared.hib.Stage.TheVariants as stage
@@ -48,7 +46,7 @@ use Rattle.world_core.specs.declared.world.World.TheInside.{Inside}
 use Rattle.world_core.specs.World.{World}
 use Rattle.world_core.specs.Kept.{kept_world, IsKept, IsUp}
 use Rattle.world_core.specs.StandsFor.{StandsFor, IsBusyIn, IsOff, activity_of, is_off, hardware_of, shown}
-use Rattle.world_core.specs.Row.{GoesOn, IsRow}
+use Rattle.world_core.specs.Row.{GoesOn, Simulates}
 use Rattle.world_core.proofs.Cases.{activity_for, activity_by, rests_by, at_rest, at_run, at_boot, at_sleep}
 
 pub refused_step : (h : Hardware) (v : disk.DiskImage) (a : State) (e : Event) (r : Reply) → refusal h a e ≡ Some r → Step h v a e r a
@@ -60,12 +58,12 @@ unfolding outcomes
 accepted_step h v a e r b none in' = subst (λ (o : Option Reply). Contains (refused_or a o (accepted h v a e)) (r, b)) (sym none) in'
 
 -- a disk that reads the same has the same area
-pub same_area : (h : Hardware) (v w : disk.DiskImage) → w ≡ v → IsSameArea h v w
-same_area h v w e = subst (IsSameArea h v) (sym e) (record { blocks = refl; header = record { front = refl; signature = refl } })
+pub area_of_same : (h : Hardware) (v w : disk.DiskImage) → w ≡ v → IsSameArea h v w
+area_of_same h v w e = subst (IsSameArea h v) (sym e) (record { blocks = refl; header = record { front = refl; signature = refl } })
 
 -- a refused event leaves the world
-pub row_refused : (e : Event) (w : World) (r : Reply) (c : disk.Content) → ((a : State) → StandsFor w c a → refusal (hardware_of w) a e ≡ Some r) → IsRow e w w r c c
-row_refused e w r c why a stands = (a, record { step = refused_step (hardware_of w) (disk.as_it_reads c) a e r (why a stands); stands = stands; area = same_area (hardware_of w) (disk.as_it_reads c) (disk.as_it_reads c) refl; unwritten = λ b not. block_same b _; leaves = leaves_refused (hardware_of w) e r a c (why a stands); header = left_same (hardware_of w) a c })
+pub row_refused : (e : Event) (w : World) (r : Reply) (c : disk.Content) → ((a : State) → StandsFor w c a → refusal (hardware_of w) a e ≡ Some r) → Simulates e w w r c c
+row_refused e w r c why a stands = (a, record { step = refused_step (hardware_of w) (disk.as_it_reads c) a e r (why a stands); stands = stands; area = area_of_same (hardware_of w) (disk.as_it_reads c) (disk.as_it_reads c) refl; unwritten = λ b not. block_same b _; leaves = leaves_refused (hardware_of w) e r a c (why a stands); header = left_same (hardware_of w) a c })
 
 -- Refusals by what the world is at.
 
@@ -95,20 +93,20 @@ is_underway runs = false
 is_underway sleeps = false
 is_underway _ = true
 
-busy_underway : (last : Ending) (s : Stage) (made : ℕ) → is_busy_at s → is_underway (activity_at last s made) ≡ true
-busy_underway last stage.Idle made busy = absurd busy
-busy_underway last stage.Over made busy = absurd busy
-busy_underway last stage.Asleep made busy = absurd busy
-busy_underway last stage.Write made busy = refl
-busy_underway last stage.Sync made busy = refl
-busy_underway last stage.Read made busy = refl
-busy_underway last stage.Mark made busy = refl
-busy_underway last stage.End made busy = refl
-busy_underway last (stage.TakeBack call) made busy = refl
-busy_underway last (stage.EndUndo call) made busy = refl
-busy_underway last stage.SettleRead made busy = refl
-busy_underway last stage.SettleWrite made busy = refl
-busy_underway last stage.SettleSync made busy = refl
+busy_underway : (s : Stage) → is_busy_at s → is_underway (activity_at s) ≡ true
+busy_underway stage.Idle busy = absurd busy
+busy_underway stage.Over busy = absurd busy
+busy_underway stage.Asleep busy = absurd busy
+busy_underway (stage.Write saving writer) busy = refl
+busy_underway (stage.Sync saving) busy = refl
+busy_underway (stage.Read saving) busy = refl
+busy_underway (stage.Mark saving header) busy = refl
+busy_underway (stage.End saving header) busy = refl
+busy_underway (stage.TakeBack call header) busy = refl
+busy_underway (stage.EndUndo call) busy = refl
+busy_underway stage.SettleRead busy = refl
+busy_underway (stage.SettleWrite header) busy = refl
+busy_underway stage.SettleSync busy = refl
 
 abbrev is_rest : Activity → Bool
 is_rest rests = true
@@ -118,45 +116,45 @@ abbrev is_run : Activity → Bool
 is_run runs = true
 is_run _ = false
 
-load_underway : (s : LoadStage) (made : ℕ) → resume_ready.is_busy_at s → is_underway (resumption.activity_at s made) ≡ true
-load_underway load_stage.Rest made busy = absurd busy
-load_underway load_stage.Runs made busy = absurd busy
-load_underway load_stage.Sync made busy = refl
-load_underway load_stage.Find made busy = refl
-load_underway load_stage.TakeBack made busy = refl
-load_underway load_stage.SyncBack made busy = refl
-load_underway load_stage.List made busy = refl
-load_underway load_stage.Read made busy = refl
+load_underway : (s : LoadStage) → resume_ready.is_busy_at s → is_underway (resumption.activity_at s) ≡ true
+load_underway load_stage.Rest busy = absurd busy
+load_underway load_stage.Runs busy = absurd busy
+load_underway load_stage.Sync busy = refl
+load_underway load_stage.Find busy = refl
+load_underway (load_stage.TakeBack found) busy = refl
+load_underway (load_stage.SyncBack found) busy = refl
+load_underway (load_stage.List chain) busy = refl
+load_underway (load_stage.Read chain) busy = refl
 
-abbrev pub is_idle : Core → Bool
-is_idle (Off keeps) = true
-is_idle Runs = true
-is_idle (BootBegun from) = false
-is_idle (BootSynced from) = false
-is_idle Hibernating = false
-is_idle Asleep = true
-is_idle Waking = false
-is_idle Loading = false
+abbrev pub is_at_rest : Core → Bool
+is_at_rest (Off keeps) = true
+is_at_rest Runs = true
+is_at_rest (BootBegun from) = false
+is_at_rest (BootSynced from) = false
+is_at_rest Hibernating = false
+is_at_rest Asleep = true
+is_at_rest Waking = false
+is_at_rest Loading = false
 
-core_underway : (core : Core) (hib : Hib) (load : Load) (waker : Waker) → (core ≡ Hibernating → IsBusy hib) → (core ≡ Loading → resume_ready.IsBusy load) → is_idle core ≡ false → is_underway (activity_of core hib load waker) ≡ true
+core_underway : (core : Core) (hib : Hib) (load : Load) (waker : Waker) → (core ≡ Hibernating → IsBusy hib) → (core ≡ Loading → resume_ready.IsBusy load) → is_at_rest core ≡ false → is_underway (activity_of core hib load waker) ≡ true
 core_underway (Off keeps) hib load waker busy resumes no_idle = absurd (false≢true (sym no_idle))
 core_underway Runs hib load waker busy resumes no_idle = absurd (false≢true (sym no_idle))
 core_underway (BootBegun from) hib load waker busy resumes no_idle = refl
 core_underway (BootSynced from) hib load waker busy resumes no_idle = refl
-core_underway Hibernating hib load waker busy resumes no_idle = busy_underway hib.ending hib.stage hib.made (busy refl)
+core_underway Hibernating hib load waker busy resumes no_idle = busy_underway hib.stage (busy refl)
 core_underway Asleep hib load waker busy resumes no_idle = absurd (false≢true (sym no_idle))
 core_underway Waking hib load waker busy resumes no_idle = refl
-core_underway Loading hib load waker busy resumes no_idle = load_underway load.stage load.made (resumes refl)
+core_underway Loading hib load waker busy resumes no_idle = load_underway load.stage (resumes refl)
 
 core_off : (w : World) (core : Core) → IsBusyIn w → w.core ≡ core → activity_of core w.hib w.load w.waker ≡ rests → is_off core ≡ true
 core_off w (Off keeps) busy e rest = refl
 core_off w Runs busy e rest = absurd (false≢true (ap is_rest rest))
 core_off w (BootBegun from) busy e rest = absurd (false≢true (ap is_rest rest))
 core_off w (BootSynced from) busy e rest = absurd (false≢true (ap is_rest rest))
-core_off w Hibernating busy e rest = absurd (false≢true (sym (ap is_underway rest) ∙ busy_underway w.hib.ending w.hib.stage w.hib.made (busy.hibernates e)))
+core_off w Hibernating busy e rest = absurd (false≢true (sym (ap is_underway rest) ∙ busy_underway w.hib.stage (busy.hibernates e)))
 core_off w Asleep busy e rest = absurd (false≢true (ap is_rest rest))
 core_off w Waking busy e rest = absurd (false≢true (ap is_rest rest))
-core_off w Loading busy e rest = absurd (false≢true (sym (ap is_underway rest) ∙ load_underway w.load.stage w.load.made (busy.resumes e)))
+core_off w Loading busy e rest = absurd (false≢true (sym (ap is_underway rest) ∙ load_underway w.load.stage (busy.resumes e)))
 
 never_off : (w : World) (c : disk.Content) (a : State) → IsBusyIn w → (IsOff w → ⊥) → StandsFor w c a → (held : Held) (kept : Option Memory) → a ≡ off held kept → ⊥
 never_off w c a busy no_off stands held kept e = no_off (core_off w w.core busy refl (activity_for w c a stands ∙ ap activity_in e))
@@ -190,14 +188,14 @@ frozen_by (asleep i held r) test e = absurd (false≢true e)
 
 -- A world at something that goes on: it isn't off, doesn't run and doesn't sleep.
 abbrev pub IsTaken : Core → Type 0
-IsTaken core = is_idle core ≡ false
+IsTaken core = is_at_rest core ≡ false
 
 pub is_taken : (core : Core) → ((from : BootFrom) × (core ≡ BootBegun from)) ⊎ (((from : BootFrom) × (core ≡ BootSynced from)) ⊎ ((core ≡ Hibernating) ⊎ ((core ≡ Waking) ⊎ (core ≡ Loading)))) → IsTaken core
-is_taken core (inl e) = ap is_idle e.1
-is_taken core (inr (inl e)) = ap is_idle e.1
-is_taken core (inr (inr (inl e))) = ap is_idle e
-is_taken core (inr (inr (inr (inl e)))) = ap is_idle e
-is_taken core (inr (inr (inr (inr e)))) = ap is_idle e
+is_taken core (inl e) = ap is_at_rest e.1
+is_taken core (inr (inl e)) = ap is_at_rest e.1
+is_taken core (inr (inr (inl e))) = ap is_at_rest e
+is_taken core (inr (inr (inr (inl e)))) = ap is_at_rest e
+is_taken core (inr (inr (inr (inr e)))) = ap is_at_rest e
 
 underway : (w : World) (c : disk.Content) (a : State) → IsBusyIn w → IsTaken w.core → StandsFor w c a → is_underway (activity_in a) ≡ true
 underway w c a busy taken stands = sym (ap is_underway (activity_for w c a stands)) ∙ core_underway w.core w.hib w.load w.waker busy.hibernates busy.resumes taken
@@ -279,10 +277,10 @@ core_awake w (Off keeps) busy e awake = refl
 core_awake w Runs busy e awake = refl
 core_awake w (BootBegun from) busy e awake = refl
 core_awake w (BootSynced from) busy e awake = refl
-core_awake w Hibernating busy e awake = awake_if_underway (activity_of Hibernating w.hib w.load w.waker) (busy_underway w.hib.ending w.hib.stage w.hib.made (busy.hibernates e))
+core_awake w Hibernating busy e awake = awake_if_underway (activity_of Hibernating w.hib w.load w.waker) (busy_underway w.hib.stage (busy.hibernates e))
 core_awake w Asleep busy e awake = absurd (awake refl)
 core_awake w Waking busy e awake = refl
-core_awake w Loading busy e awake = awake_if_underway (activity_of Loading w.hib w.load w.waker) (load_underway w.load.stage w.load.made (busy.resumes e))
+core_awake w Loading busy e awake = awake_if_underway (activity_of Loading w.hib w.load w.waker) (load_underway w.load.stage (busy.resumes e))
 
 not_asleep_by : (h : Hardware) (a : State) → is_sleep (activity_in a) ≡ false → refusal h a event.Wake ≡ Some reply.NotAsleep
 unfolding refusal
@@ -330,17 +328,17 @@ is_up core e = subst IsUp (sym e) tt
 
 -- Rows from a state that is known by what the world is at.
 
-pub row_at_rest : (e : Event) (old new : World) (r : Reply) (c c' : disk.Content) → IsOff old → ((held : Held) (kept : Option Memory) → StandsFor old c (off held kept) → (b : State) × GoesOn e old new r c c' (off held kept) b) → IsRow e old new r c c'
+pub row_at_rest : (e : Event) (old new : World) (r : Reply) (c c' : disk.Content) → IsOff old → ((held : Held) (kept : Option Memory) → StandsFor old c (off held kept) → (b : State) × GoesOn e old new r c c' (off held kept) b) → Simulates e old new r c c'
 row_at_rest e old new r c c' core goes a stands =
     let rest = at_rest a (sym (rests_by old core) ∙ activity_for old c a stands) in
     subst (λ (s : State). (b : State) × GoesOn e old new r c c' s b) (sym rest.2) (goes rest.0 rest.1 (subst (StandsFor old c) rest.2 stands))
 
-pub row_at_run : (e : Event) (old new : World) (r : Reply) (c c' : disk.Content) → old.core ≡ Runs → ((a : Running) → StandsFor old c (on a) → (b : State) × GoesOn e old new r c c' (on a) b) → IsRow e old new r c c'
+pub row_at_run : (e : Event) (old new : World) (r : Reply) (c c' : disk.Content) → old.core ≡ Runs → ((a : Running) → StandsFor old c (on a) → (b : State) × GoesOn e old new r c c' (on a) b) → Simulates e old new r c c'
 row_at_run e old new r c c' core goes a stands =
     let run = at_run a (sym (activity_by old Runs core) ∙ activity_for old c a stands) in
     subst (λ (s : State). (b : State) × GoesOn e old new r c c' s b) (sym run.1) (goes run.0 (subst (StandsFor old c) run.1 stands))
 
-pub row_at_boot : (e : Event) (old new : World) (r : Reply) (c c' : disk.Content) (from : BootFrom) (k : ℕ) → activity_of old.core old.hib old.load old.waker ≡ boots from k → ((dump : Memory) (held : Held) → StandsFor old c (booting from dump held k) → (b : State) × GoesOn e old new r c c' (booting from dump held k) b) → IsRow e old new r c c'
+pub row_at_boot : (e : Event) (old new : World) (r : Reply) (c c' : disk.Content) (from : BootFrom) (k : ℕ) → activity_of old.core old.hib old.load old.waker ≡ boots from k → ((dump : Memory) (held : Held) → StandsFor old c (booting from dump held k) → (b : State) × GoesOn e old new r c c' (booting from dump held k) b) → Simulates e old new r c c'
 row_at_boot e old new r c c' from k core goes a stands =
     let boot = at_boot a from k (sym core ∙ activity_for old c a stands) in
     subst (λ (s : State). (b : State) × GoesOn e old new r c c' s b) (sym boot.2) (goes boot.0 boot.1 (subst (StandsFor old c) boot.2 stands))
@@ -364,10 +362,10 @@ core_runs w (Off keeps) busy e run = absurd (false≢true (ap is_run run))
 core_runs w Runs busy e run = refl
 core_runs w (BootBegun from) busy e run = absurd (false≢true (ap is_run run))
 core_runs w (BootSynced from) busy e run = absurd (false≢true (ap is_run run))
-core_runs w Hibernating busy e run = absurd (false≢true (sym (ap is_underway run) ∙ busy_underway w.hib.ending w.hib.stage w.hib.made (busy.hibernates e)))
+core_runs w Hibernating busy e run = absurd (false≢true (sym (ap is_underway run) ∙ busy_underway w.hib.stage (busy.hibernates e)))
 core_runs w Asleep busy e run = absurd (false≢true (ap is_run run))
 core_runs w Waking busy e run = absurd (false≢true (ap is_run run))
-core_runs w Loading busy e run = absurd (false≢true (sym (ap is_underway run) ∙ load_underway w.load.stage w.load.made (busy.resumes e)))
+core_runs w Loading busy e run = absurd (false≢true (sym (ap is_underway run) ∙ load_underway w.load.stage (busy.resumes e)))
 
 pub runs_nowhere : (w : World) → IsBusyIn w → w.core ≢ Runs → (c : disk.Content) (a : State) → StandsFor w c a → activity_in a ≢ runs
 runs_nowhere w busy no_run c a stands e = no_run (core_runs w w.core busy refl (activity_for w c a stands ∙ e))
@@ -380,7 +378,7 @@ idle_elsewhere w c a t busy no_run stands =
 -- nor where it has no operation
 shows_none : (w : World) (c : disk.Content) (a : State) (t : ℕ) → is_some (flights_in w.machine.flights t) ≡ false → StandsFor w c a → (r : Running) → a ≡ on r → r.flights t ≡ None
 shows_none w c a t none stands r e =
-    (subst (Stands (hardware_of w) (shown w) c) e stands.stands).parts.0.flights t ∙ none_flies (flights_in w.machine.flights t) none where
+    (subst (Stands (hardware_of w) (shown w) c) e stands.stands).parts.memory.flights t ∙ none_flies (flights_in w.machine.flights t) none where
       none_flies : (o : Option Flight) → is_some o ≡ false → o ≡ None
       none_flies None e = refl
       none_flies (Some f) e = absurd (false≢true (sym e))

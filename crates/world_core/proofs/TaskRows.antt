@@ -13,10 +13,10 @@ use Rattle.definitions.proofs.ZoneNumbers.{Contains-range, below_top}
 use Rattle.plain_machine.specs.Fitting.{IsTask}
 use Rattle.plain_machine.specs.Machine.{Hardware, Memory, IsHardware, Fits, raw_slot_entry, image_slot, block_of_slot}
 use Rattle.plain_machine.specs.declared.held.Held.{Held as HeldFlag}
-use Rattle.plain_machine.specs.State.{on, Running, Held, nothing, sure, maybe, own, other, Flight, goes_out, comes_in}
-use Rattle.plain_machine.specs.Stands.{Stands, NamesHeld, StandsOn, IsFlight}
+use Rattle.plain_machine.specs.State.{on, Running, nothing, Flight, goes_out, comes_in}
+use Rattle.plain_machine.specs.Stands.{Stands, NamesHeld, StandsOn, StandsRunning, IsFlight}
 use Rattle.plain_machine.specs.Step.{Step, finished}
-use Rattle.plain_machine.specs.Shows.{Shown, RunsAs, ShowsRunning, ShowsHeld}
+use Rattle.plain_machine.specs.Shows.{RunsAs, ShowsRunning, ShowsHeld}
 use Rattle.plain_machine.specs.declared.event.Actor.TheVariants as actor
 use Rattle.plain_machine.specs.declared.event.Event.TheVariants as event
 use Rattle.plain_machine.specs.declared.event.TaskOp.{TaskOp}
@@ -32,33 +32,25 @@ use Rattle.protocol_laws.proofs.Unwritten.{block_same, block_other}
 use Rattle.machine.specs.Flights.{flights_in}
 use Rattle.machine.specs.Landing.{Answers, CallsDisk, HasEnd}
 use Rattle.machine.specs.Running.{reason_of}
-use Rattle.machine.specs.TaskRow.{HasRow, NamesNone}
+use Rattle.machine.specs.TaskRow.{SimulatesRequest, NamesNone}
 use Rattle.machine.proofs.Rows.{Mirrors, mirrors_of, mirrors-frame, owned_is_own}
 use Rattle.hib_core.proofs.BeginRefusals.{unheld}
 use Rattle.world_core.specs.declared.world.Core.TheVariants.{Running as Runs}
 use Rattle.world_core.specs.World.{World}
 use Rattle.world_core.specs.StandsFor.{StandsFor, hardware_of, shown}
-use Rattle.world_core.specs.Row.{IsRow, HasRow as HasWorldRow}
+use Rattle.world_core.specs.Row.{Simulates, SimulatesWhereTold}
 use Rattle.world_core.proofs.Cases.{activity_by}
-use Rattle.world_core.proofs.Disks.{changed}
-use Rattle.world_core.proofs.Rows.{same_area, row_at_run}
-
--- page frames with the same slot entries name the same slots
-pub names_same : (h : Hardware) (s s' : Shown) (held : Held) → ((k : ℕ) → k < h.slots → raw_slot_entry h s'.frames k ≡ raw_slot_entry h s.frames k) → NamesHeld h s held → NamesHeld h s' held
-names_same h s s' nothing same names = λ k lt e. names k lt (sym (same k lt) ∙ e)
-names_same h s s' (sure (own i)) same names = record { memory = names.memory; image = names.image; names = λ k lt e. names.names k lt (sym (same k lt) ∙ e) }
-names_same h s s' (sure other) same names = λ k lt e. names k lt (sym (same k lt) ∙ e)
-names_same h s s' (maybe (own i)) same names = record { memory = names.memory; image = names.image; names = λ k lt e. names.names k lt (sym (same k lt) ∙ e) }
-names_same h s s' (maybe other) same names = λ k lt e. names k lt (sym (same k lt) ∙ e)
+use Rattle.protocol_laws.proofs.Told.{changed}
+use Rattle.world_core.proofs.Rows.{area_of_same, row_at_run}
 
 -- A world that runs.
 
-pub on_parts : (w : World) (c : disk.Content) (a : Running) → StandsFor w c (on a) → ShowsRunning (hardware_of w) (shown w) a × StandsOn (hardware_of w) (shown w) c a
+pub on_parts : (w : World) (c : disk.Content) (a : Running) → StandsFor w c (on a) → StandsRunning (hardware_of w) (shown w) c a
 on_parts w c a stands = stands.stands.parts
 
 pub runs_on : (h : Hardware) (w : World) (c : disk.Content) (b : Running) → w.core ≡ Runs → hardware_of w ≡ h → ShowsRunning h (shown w) b → StandsOn h (shown w) c b → StandsFor w c (on b)
 runs_on h w c b core hw runs on' = record {
-  stands = subst (λ (g : Hardware). Stands g (shown w) c (on b)) (sym hw) (record { activity = activity_by w Runs core; parts = (runs, on') });
+  stands = subst (λ (g : Hardware). Stands g (shown w) c (on b)) (sym hw) (record { activity = activity_by w Runs core; parts = record { memory = runs; disk = on' } });
   image = tt;
   resume = tt;
 }
@@ -67,8 +59,8 @@ runs_on h w c b core hw runs on' = record {
 names_none : (w : World) (c : disk.Content) (a : Running) → StandsFor w c (on a) → NamesNone w.machine w.frames
 names_none w c a stands unmarked s lt e =
     let parts = on_parts w c a stands in
-    let held : a.held ≡ nothing = unheld a.held (subst (λ (flag : HeldFlag). ShowsHeld flag a.held) unmarked parts.0.held) in
-    let names : NamesHeld (hardware_of w) (shown w) nothing = subst (NamesHeld (hardware_of w) (shown w)) held parts.1.names in
+    let held : a.held ≡ nothing = unheld a.held (subst (λ (flag : HeldFlag). ShowsHeld flag a.held) unmarked parts.memory.held) in
+    let names : NamesHeld (hardware_of w) (shown w) nothing = subst (NamesHeld (hardware_of w) (shown w)) held parts.disk.names in
     Contains-nil (block_of_slot (hardware_of w) s) (names s lt e)
 
 -- a step leaves the machine as it is, but for its operations
@@ -89,21 +81,21 @@ shows_after old new b same runs = record {
 
 -- A task's request.
 
-pub row_of_task : (old new : World) (c : disk.Content) (t : ℕ) (o : TaskOp) (r : Reply) → IsHardware (hardware_of old) → IsTask t → old.core ≡ Runs → IsSameBut old new → HasRow old.machine old.frames t o new.machine new.frames r → IsRow (event.Task t o) old new r c c
+pub row_of_task : (old new : World) (c : disk.Content) (t : ℕ) (o : TaskOp) (r : Reply) → IsHardware (hardware_of old) → IsTask t → old.core ≡ Runs → IsSameBut old new → SimulatesRequest old.machine old.frames t o new.machine new.frames r → Simulates (event.Task t o) old new r c c
 row_of_task old new c t o r hw task core same row =
     row_at_run (event.Task t o) old new r c c core
     (λ a stands.
     let h = hardware_of old in
     let parts = on_parts old c a stands in
-    let goes = row (names_none old c a stands) a parts.0 in
+    let goes = row (names_none old c a stands) a parts.memory in
     let b : Running = goes.0 in
     let steps = goes.1 in (
       on b,
       record {
         step = steps.step (disk.as_it_reads c);
         stands = runs_on h new c b same.core same.hw (shows_after old new b same steps.runs)
-            (request_stands h (shown old) (shown new) c (disk.as_it_reads c) a b t o r hw parts.0.fits task parts.1 (steps.step (disk.as_it_reads c)) steps.named);
-        area = same_area h (disk.as_it_reads c) (disk.as_it_reads c) refl;
+            (request_stands h (shown old) (shown new) c (disk.as_it_reads c) a b t o r hw parts.memory.fits task parts.disk (steps.step (disk.as_it_reads c)) steps.named);
+        area = area_of_same h (disk.as_it_reads c) (disk.as_it_reads c) refl;
         unwritten = λ k not. block_same k c;
         leaves = tt;
         header = tt;
@@ -143,8 +135,8 @@ frame_shown : (w : World) (c : disk.Content) (a : Running) (t s p : ℕ) → IsH
 frame_shown w c a t s p hw size stands is =
     let h = hardware_of w in
     let parts = on_parts w c a stands in
-    let mirrors : Mirrors h w.frames a.memory = mirrors_of h w.machine.held (reason_of w.machine.area) (flights_in w.machine.flights) w.frames a parts.0 size in
-    let its = owned_is_own h a.memory t p parts.0.fits is.owner is.task.some in
+    let mirrors : Mirrors h w.frames a.memory = mirrors_of h w.machine.held (reason_of w.machine.area) (flights_in w.machine.flights) w.frames a parts.memory size in
+    let its = owned_is_own h a.memory t p parts.memory.fits is.owner is.task.some in
     mirrors-frame h w.frames a.memory p hw mirrors (valid_in h p is.valid) its.0 its.1
 
 whole_page : (h : Hardware) (m : Memory) (p : ℕ) → IsHardware h → Fits h m → Contains (numbers h.zones) p → IsPage (frame m p)
@@ -175,8 +167,8 @@ ended : (old new : World) (t : ℕ) (r : Reply) (blocks : ℕ) (before now : Opt
 ended old new t r blocks before now f c a is flies told stands =
     let h = hardware_of old in
     let parts = on_parts old c a stands in
-    let flight : a.flights t ≡ Some f = parts.0.flights t ∙ flies in
-    let goes = is.row (names_none old c a stands) c told a parts.0 parts.1.flights parts.1.slot_pages (λ s p e. in_page h (shown old) c a t s p parts.0.fits parts.1 e) in
+    let flight : a.flights t ≡ Some f = parts.memory.flights t ∙ flies in
+    let goes = is.row (names_none old c a stands) c told a parts.memory parts.disk.flights parts.disk.slot_pages (λ s p e. in_page h (shown old) c a t s p parts.memory.fits parts.disk e) in
     record {
       flight = flight;
       next = goes.0;
@@ -187,24 +179,24 @@ ended old new t r blocks before now f c a is flies told stands =
     }
 
 written_row : (old new : World) (t s p : ℕ) (r : Reply) (blocks : ℕ) (before now : Option disk.Content) (c c' : disk.Content) → IsEnd old new t r blocks before now → flights_in old.machine.flights t ≡ Some (goes_out s p) → before ≡ Some c → r ≡ reply.Written s →
-    disk.Writes (block_of_slot (hardware_of old) s) (frame old.frames p) c c' → IsRow (event.Step (actor.Task t)) old new r c c'
+    disk.Writes (block_of_slot (hardware_of old) s) (frame old.frames p) c c' → Simulates (event.Step (actor.Task t)) old new r c c'
 written_row old new t s p r blocks before now c c' is flies told done writes =
     row_at_run (event.Step (actor.Task t)) old new r c c' is.core
     (λ a stands.
     let h = hardware_of old in
     let e = ended old new t r blocks before now (goes_out s p) c a is flies told stands in
     let parts = on_parts old c a stands in
-    let flight = parts.1.flights.outs t s p e.flight in
+    let flight = parts.disk.flights.outs t s p e.flight in
     let page = frame_shown old c a t s p is.hardware is.size stands flight in
     let wrote : disk.Writes (block_of_slot h s) (frame a.memory p) c c' = subst (λ (x : List ℕ). disk.Writes (block_of_slot h s) x c c') (sym page) writes in
-    let at = out_block h (shown old) c a t s p is.hardware parts.0.fits parts.1 flight in
+    let at = out_block h (shown old) c a t s p is.hardware parts.memory.fits parts.disk flight in
     let keeps = tries_out h c c' blocks s (frame a.memory p) a (is.whole c told) at (inl wrote) in (
       on e.next,
       record {
         step = e.step;
         stands = runs_on h new c' e.next is.same.core is.same.hw e.shows
             (subst (StandsOn h (shown new) c') (written_is h a e.next t s p r e.ended done)
-            (out_written h (shown old) (shown new) c c' blocks a t s p is.hardware (is.whole c told) parts.0.fits parts.1 e.flight (whole_page h a.memory p is.hardware parts.0.fits (valid_in h p flight.valid)) wrote e.named));
+            (out_written h (shown old) (shown new) c c' blocks a t s p is.hardware (is.whole c told) parts.memory.fits parts.disk e.flight (whole_page h a.memory p is.hardware parts.memory.fits (valid_in h p flight.valid)) wrote e.named));
         area = area_of_header h (disk.as_it_reads c) (disk.as_it_reads c') keeps.reads;
         unwritten = λ k not. block_other k (block_of_slot h s) c c' wrote.others (λ same. not (subst (λ (x : ℕ). Contains (blocks_at h (event.Step (actor.Task t)) (on a)) x) (sym same) (out_of_flight h a t s p is.task e.flight)));
         leaves = tt;
@@ -213,22 +205,22 @@ written_row old new t s p r blocks before now c c' is flies told done writes =
     ))
 
 write_failed_row : (old new : World) (t s p : ℕ) (r : Reply) (blocks : ℕ) (before now : Option disk.Content) (c c' : disk.Content) → IsEnd old new t r blocks before now → flights_in old.machine.flights t ≡ Some (goes_out s p) → before ≡ Some c → r ≡ reply.WriteFault Same →
-    disk.FailsToWrite (block_of_slot (hardware_of old) s) (frame old.frames p) c c' → IsRow (event.Step (actor.Task t)) old new r c c'
+    disk.FailsToWrite (block_of_slot (hardware_of old) s) (frame old.frames p) c c' → Simulates (event.Step (actor.Task t)) old new r c c'
 write_failed_row old new t s p r blocks before now c c' is flies told failed fails =
     row_at_run (event.Step (actor.Task t)) old new r c c' is.core
     (λ a stands.
     let h = hardware_of old in
     let e = ended old new t r blocks before now (goes_out s p) c a is flies told stands in
     let parts = on_parts old c a stands in
-    let flight = parts.1.flights.outs t s p e.flight in
-    let at = out_block h (shown old) c a t s p is.hardware parts.0.fits parts.1 flight in
+    let flight = parts.disk.flights.outs t s p e.flight in
+    let at = out_block h (shown old) c a t s p is.hardware parts.memory.fits parts.disk flight in
     let keeps = tries_out h c c' blocks s (frame old.frames p) a (is.whole c told) at (inr fails) in (
       on e.next,
       record {
         step = e.step;
         stands = runs_on h new c' e.next is.same.core is.same.hw e.shows
             (subst (StandsOn h (shown new) c') (write_failed_is h a e.next t s p r e.ended failed)
-            (out_fails h (shown old) (shown new) c c' blocks a t s p (frame old.frames p) is.hardware (is.whole c told) parts.0.fits parts.1 e.flight fails e.named));
+            (out_fails h (shown old) (shown new) c c' blocks a t s p (frame old.frames p) is.hardware (is.whole c told) parts.memory.fits parts.disk e.flight fails e.named));
         area = area_of_header h (disk.as_it_reads c) (disk.as_it_reads c') keeps.reads;
         unwritten = λ k not. block_other k (block_of_slot h s) c c' fails.others (λ same. not (subst (λ (x : ℕ). Contains (blocks_at h (event.Step (actor.Task t)) (on a)) x) (sym same) (out_of_flight h a t s p is.task e.flight)));
         leaves = tt;
@@ -236,7 +228,7 @@ write_failed_row old new t s p r blocks before now c c' is flies told failed fai
       },
     ))
 
-fetched_row : (old new : World) (t s p : ℕ) (r : Reply) (blocks : ℕ) (before now : Option disk.Content) (c : disk.Content) → IsEnd old new t r blocks before now → flights_in old.machine.flights t ≡ Some (comes_in s p) → before ≡ Some c → r ≡ reply.Fetched s → IsRow (event.Step (actor.Task t)) old new r c c
+fetched_row : (old new : World) (t s p : ℕ) (r : Reply) (blocks : ℕ) (before now : Option disk.Content) (c : disk.Content) → IsEnd old new t r blocks before now → flights_in old.machine.flights t ≡ Some (comes_in s p) → before ≡ Some c → r ≡ reply.Fetched s → Simulates (event.Step (actor.Task t)) old new r c c
 fetched_row old new t s p r blocks before now c is flies told done =
     row_at_run (event.Step (actor.Task t)) old new r c c is.core
     (λ a stands.
@@ -248,15 +240,15 @@ fetched_row old new t s p r blocks before now c is flies told done =
         step = e.step;
         stands = runs_on h new c e.next is.same.core is.same.hw e.shows
             (subst (StandsOn h (shown new) c) (fetched_is h a e.next t s p r e.ended done)
-            (in_read h (shown old) (shown new) c a t s p (unwrap_or (a.slots s) (frame a.memory p)) is.hardware parts.0.fits parts.1 e.flight e.named));
-        area = same_area h (disk.as_it_reads c) (disk.as_it_reads c) refl;
+            (in_read h (shown old) (shown new) c a t s p (unwrap_or (a.slots s) (frame a.memory p)) is.hardware parts.memory.fits parts.disk e.flight e.named));
+        area = area_of_same h (disk.as_it_reads c) (disk.as_it_reads c) refl;
         unwritten = λ k not. block_same k c;
         leaves = tt;
         header = tt;
       },
     ))
 
-read_failed_row : (old new : World) (t s p : ℕ) (r : Reply) (blocks : ℕ) (before now : Option disk.Content) (c : disk.Content) → IsEnd old new t r blocks before now → flights_in old.machine.flights t ≡ Some (comes_in s p) → before ≡ Some c → r ≡ reply.ReadFault Same → IsRow (event.Step (actor.Task t)) old new r c c
+read_failed_row : (old new : World) (t s p : ℕ) (r : Reply) (blocks : ℕ) (before now : Option disk.Content) (c : disk.Content) → IsEnd old new t r blocks before now → flights_in old.machine.flights t ≡ Some (comes_in s p) → before ≡ Some c → r ≡ reply.ReadFault Same → Simulates (event.Step (actor.Task t)) old new r c c
 read_failed_row old new t s p r blocks before now c is flies told failed =
     row_at_run (event.Step (actor.Task t)) old new r c c is.core
     (λ a stands.
@@ -267,8 +259,8 @@ read_failed_row old new t s p r blocks before now c is flies told failed =
       record {
         step = e.step;
         stands = runs_on h new c e.next is.same.core is.same.hw e.shows
-            (subst (StandsOn h (shown new) c) (read_failed_is h a e.next t s p r e.ended failed) (in_fails h (shown old) (shown new) c a t s p parts.1 e.flight e.named));
-        area = same_area h (disk.as_it_reads c) (disk.as_it_reads c) refl;
+            (subst (StandsOn h (shown new) c) (read_failed_is h a e.next t s p r e.ended failed) (in_fails h (shown old) (shown new) c a t s p parts.disk e.flight e.named));
+        area = area_of_same h (disk.as_it_reads c) (disk.as_it_reads c) refl;
         unwritten = λ k not. block_same k c;
         leaves = tt;
         header = tt;
@@ -277,7 +269,7 @@ read_failed_row old new t s p r blocks before now c is flies told failed =
 
 -- what the call makes and answers, by the operation
 end_by : (old new : World) (t : ℕ) (r : Reply) (blocks : ℕ) (before now : Option disk.Content) (f : Flight) → IsEnd old new t r blocks before now → flights_in old.machine.flights t ≡ Some f →
-    Answers (Some f) r → CallsDisk (hardware_of old) old.frames (Some f) r before now → HasWorldRow (event.Step (actor.Task t)) old new r before now
+    Answers (Some f) r → CallsDisk (hardware_of old) old.frames (Some f) r before now → SimulatesWhereTold (event.Step (actor.Task t)) old new r before now
 end_by old new t r blocks before now (goes_out s p) is flies (inl done) calls c told =
     let wrote = changed (disk.Writes (block_of_slot (hardware_of old) s) (frame old.frames p)) before now c told (calls.0 done) in
     (wrote.0, wrote.1, written_row old new t s p r blocks before now c wrote.0 is flies told done wrote.2)
@@ -287,7 +279,7 @@ end_by old new t r blocks before now (goes_out s p) is flies (inr failed) calls 
 end_by old new t r blocks before now (comes_in s p) is flies (inl done) calls c told = (c, calls ∙ told, fetched_row old new t s p r blocks before now c is flies told done)
 end_by old new t r blocks before now (comes_in s p) is flies (inr failed) calls c told = (c, calls ∙ told, read_failed_row old new t s p r blocks before now c is flies told failed)
 
-pub row_of_end : (old new : World) (t : ℕ) (r : Reply) (blocks : ℕ) (before now : Option disk.Content) (f : Flight) → IsEnd old new t r blocks before now → flights_in old.machine.flights t ≡ Some f → HasWorldRow (event.Step (actor.Task t)) old new r before now
+pub row_of_end : (old new : World) (t : ℕ) (r : Reply) (blocks : ℕ) (before now : Option disk.Content) (f : Flight) → IsEnd old new t r blocks before now → flights_in old.machine.flights t ≡ Some f → SimulatesWhereTold (event.Step (actor.Task t)) old new r before now
 row_of_end old new t r blocks before now f is flies =
     end_by old new t r blocks before now f is flies (subst (λ (o : Option Flight). Answers o r) flies is.answers)
     (subst (λ (o : Option Flight). CallsDisk (hardware_of old) old.frames o r before now) flies is.calls)

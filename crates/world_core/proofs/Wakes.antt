@@ -1,9 +1,9 @@
 -- What the rows of a waking say of the world that makes them.
-use Rattle.std.proofs.Common.{◌≡◌, ◌<◌, ℕ, Bool, true, false, List, [], Option, refl, sym, ap, ◌∙◌, subst}
+use Rattle.std.proofs.Common.{◌≡◌, ◌<◌, ℕ, Bool, true, false, Option, refl, sym, ap, ◌∙◌, subst}
 use Rattle.std.proofs.lemmas.Bool.{false≢true}
 use Rattle.definitions.specs.Disk as disk
 use Rattle.plain_machine.specs.Machine.{Hardware, Memory, IsHardware, block_of_slot, frame_entry}
-use Rattle.plain_machine.specs.Shows.{Shown, Activity, runs, sleeps, wakes, seen_frames, activity_in}
+use Rattle.plain_machine.specs.Shows.{WorldView, Activity, runs, sleeps, wakes, activity_in}
 use Rattle.plain_machine.specs.State.{State, off, on, booting, hibernating, undoing, settling, waking, loading, asleep}
 use Rattle.plain_machine.specs.Stands.{Stands}
 use Rattle.plain_machine.specs.declared.event.Event.TheVariants as event
@@ -11,23 +11,19 @@ use Rattle.plain_machine.specs.declared.held.Held.TheVariants.{No}
 use Rattle.plain_machine.specs.declared.event.Actor.TheVariants as actor
 use Rattle.plain_machine.specs.declared.reply.Reply.{Reply}
 use Rattle.plain_machine.specs.declared.reply.Reply.TheVariants as reply
-use Rattle.protocol_laws.specs.Rows as rows
 use Rattle.protocol_laws.specs.Slots.{IsMemoryOf}
 use Rattle.machine.specs.declared.machine.Machine.{Machine}
 use Rattle.hib_core.specs.Ready.{IsSameMachine}
 use Rattle.hib_core.proofs.Leaving.{SameEntries, entries_seen}
-use Rattle.hib_core.specs.Row as hib_row
-use Rattle.resume_core.specs.Row as resume_row
 use Rattle.sleep_core.specs.Row as sleep_row
 use Rattle.sleep_core.specs.Waking as waked
 use Rattle.sleep_core.specs.Waking.{is_last}
-use Rattle.sleep_core.specs.declared.waker.Waker.{Waker}
 use Rattle.world_core.specs.declared.world.Core.{Core}
 use Rattle.world_core.specs.declared.world.Core.TheVariants.{Running as Runs, Hibernating, Asleep, Waking, Loading}
 use Rattle.world_core.specs.World.{World}
 use Rattle.world_core.specs.Kept.{HasTables}
 use Rattle.world_core.specs.StandsFor.{StandsFor, hardware_of, shown, shown_at, core_woken}
-use Rattle.world_core.specs.Row.{IsRow, HasRow, Restores, WakesWith}
+use Rattle.world_core.specs.Row.{Simulates, SimulatesWhereTold, Restores, WakesWith}
 use Rattle.world_core.proofs.Cases.{activity_by}
 
 -- What a world is at after a step of its waking.
@@ -94,13 +90,13 @@ stands_by w c (loading load k) of stands = absurd (false≢true of)
 stands_by w c (asleep i held a) of stands = record { stands = stands; image = tt; resume = tt }
 
 waking_stands : (w : World) (c : disk.Content) (b : State) → w.core ≡ Waking → sleep_row.StandsFor w.machine w.frames w.waker c b → StandsFor w c b
-waking_stands w c b core stands = stands_by w c b (sym (ap is_of_waking stands.activity)) (subst (λ (s : Shown). Stands (hardware_of w) s c b) (sym (shown_waking w core)) stands)
+waking_stands w c b core stands = stands_by w c b (sym (ap is_of_waking stands.activity)) (subst (λ (s : WorldView). Stands (hardware_of w) s c b) (sym (shown_waking w core)) stands)
 
 asleep_stands : (w : World) (c : disk.Content) (b : State) → w.core ≡ Asleep → sleep_row.Sleeps w.machine w.frames c b → StandsFor w c b
-asleep_stands w c b core stands = stands_by w c b (sym (ap is_of_waking stands.activity)) (subst (λ (s : Shown). Stands (hardware_of w) s c b) (sym (shown_asleep w core)) stands)
+asleep_stands w c b core stands = stands_by w c b (sym (ap is_of_waking stands.activity)) (subst (λ (s : WorldView). Stands (hardware_of w) s c b) (sym (shown_asleep w core)) stands)
 
 running_stands : (w : World) (c : disk.Content) (b : State) → w.core ≡ Runs → sleep_row.Runs w.machine w.frames c b → StandsFor w c b
-running_stands w c b core stands = stands_by w c b (sym (ap is_of_waking stands.activity)) (subst (λ (s : Shown). Stands (hardware_of w) s c b) (sym (shown_running w core)) stands)
+running_stands w c b core stands = stands_by w c b (sym (ap is_of_waking stands.activity)) (subst (λ (s : WorldView). Stands (hardware_of w) s c b) (sym (shown_running w core)) stands)
 
 world_stands : (r : Reply) (w : World) (c : disk.Content) (b : State) → w.core ≡ core_woken r → sleep_row.StandsAfter r w.machine w.frames w.waker c b → StandsFor w c b
 world_stands (reply.More k of) w c b core stands = waking_stands w c b core stands
@@ -109,9 +105,9 @@ world_stands _ w c b core stands = asleep_stands w c b core stands
 
 -- The rows.
 
-pub row_of_wake : (old new : World) (c : disk.Content) → old.core ≡ Asleep → new.core ≡ Waking → new.machine ≡ old.machine → new.frames ≡ old.frames → sleep_row.IsBegun new.waker → IsRow event.Wake old new (reply.More 0 3) c c
+pub row_of_wake : (old new : World) (c : disk.Content) → old.core ≡ Asleep → new.core ≡ Waking → new.machine ≡ old.machine → new.frames ≡ old.frames → sleep_row.IsBegun new.waker → Simulates event.Wake old new (reply.More 0 3) c c
 row_of_wake old new c core core' machine frames row a stands =
-    let goes = row old.machine old.frames c a (subst (λ (s : Shown). Stands (hardware_of old) s c a) (shown_asleep old core) stands.stands) in (
+    let goes = row old.machine old.frames c a (subst (λ (s : WorldView). Stands (hardware_of old) s c a) (shown_asleep old core) stands.stands) in (
       goes.0,
       record {
         step = goes.1.step;
@@ -125,13 +121,13 @@ row_of_wake old new c core core' machine frames row a stands =
     )
 
 pub row_of_step : (old new : World) (r : Reply) (before now : Option disk.Content) → old.core ≡ Waking → new.core ≡ core_woken r → sleep_row.IsLeft r old.machine old.frames new.machine new.frames → IsMemoryOf (hardware_of old) old.frames →
-    sleep_row.HasRow old.machine old.waker new.waker r before now → HasRow (event.Step actor.Core) old new r before now
+    sleep_row.SimulatesWhereTold old.machine old.waker new.waker r before now → SimulatesWhereTold (event.Step actor.Core) old new r before now
 row_of_step old new r before now core core' left memory row k is =
     let at = row old.frames memory new.machine new.frames left k is in (
       at.0,
       at.1,
       λ a stands.
-          let goes = at.2 a (subst (λ (s : Shown). Stands (hardware_of old) s k a) (shown_waking old core) stands.stands) in (
+          let goes = at.2 a (subst (λ (s : WorldView). Stands (hardware_of old) s k a) (shown_waking old core) stands.stands) in (
             goes.0,
             record { step = goes.1.step; stands = world_stands r new at.0 goes.0 core' goes.1.stands; area = goes.1.area; unwritten = goes.1.unwritten; leaves = goes.1.leaves; header = goes.1.header },
           ),

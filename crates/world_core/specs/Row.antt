@@ -25,14 +25,14 @@ use Rattle.world_core.specs.StandsFor.{hardware_of, StandsFor, IsOff}
 
 -- what the state goes on to
 abbrev pub GoesOn : Event → World → World → Reply → disk.Content → disk.Content → State → State → Type 0
-GoesOn e old new r c c' a b = rows.Leads (hardware_of old) (StandsFor new) e r c c' a b
+GoesOn e old new r c c' a b = rows.StepsTo (hardware_of old) (StandsFor new) e r c c' a b
 
 -- the row of an event over these contents of the disk, and over a disk that tells its content
-abbrev pub IsRow : Event → World → World → Reply → disk.Content → disk.Content → Type 0
-IsRow e old new r c c' = rows.IsRow (hardware_of old) (StandsFor old) (StandsFor new) e r c c'
+abbrev pub Simulates : Event → World → World → Reply → disk.Content → disk.Content → Type 0
+Simulates e old new r c c' = rows.Simulates (hardware_of old) (StandsFor old) (StandsFor new) e r c c'
 
-abbrev pub HasRow : Event → World → World → Reply → Option disk.Content → Option disk.Content → Type 0
-HasRow e old new r before now = rows.HasRow (hardware_of old) (StandsFor old) (StandsFor new) e r before now
+abbrev pub SimulatesWhereTold : Event → World → World → Reply → Option disk.Content → Option disk.Content → Type 0
+SimulatesWhereTold e old new r before now = rows.SimulatesWhereTold (hardware_of old) (StandsFor old) (StandsFor new) e r before now
 
 abbrev pub IsStep : Event → Type 0
 IsStep (event.Step x) = ⊤

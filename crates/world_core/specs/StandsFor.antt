@@ -7,7 +7,7 @@ use Rattle.plain_machine.specs.Chain.{Marked}
 use Rattle.plain_machine.specs.Premises.{HasOriginal}
 use Rattle.plain_machine.specs.State.{State, off, nothing, sure, other}
 use Rattle.machine.specs.Flights.{flights_in}
-use Rattle.plain_machine.specs.Shows.{Shown, Activity, rests, runs, boots, hibernates, undoes, settles, wakes, sleeps, loads}
+use Rattle.plain_machine.specs.Shows.{WorldView, Activity, rests, runs, boots, hibernates, undoes, settles, wakes, sleeps, loads}
 use Rattle.plain_machine.specs.Stands.{Stands}
 use Rattle.plain_machine.specs.declared.event.IdentCheck.{IdentCheck}
 use Rattle.plain_machine.specs.declared.event.Loader.{Loader}
@@ -83,10 +83,10 @@ header_of (Off keeps) hib load waker = []
 header_of Running hib load waker = []
 header_of (BootBegun from) hib load waker = []
 header_of (BootSynced from) hib load waker = []
-header_of Hibernating hib load waker = hib.header
+header_of Hibernating hib load waker = hibernation.header_at hib.stage
 header_of Asleep hib load waker = []
-header_of Waking hib load waker = waker.header
-header_of Loading hib load waker = load.header
+header_of Waking hib load waker = waking.header_at waker.stage
+header_of Loading hib load waker = resumption.header_at load.stage
 
 abbrev pub copies_of : Core → Hib → List ℕ
 copies_of (Off keeps) hib = []
@@ -121,7 +121,7 @@ loaded_of Loading frames load = zip load.waiting.originals (waiting_pages frames
 
 -- What is shown between two calls of the disk: a hibernation keeps a block and has copies, a settling or a waking keeps one, a resume keeps one
 -- and has a loader, a check and loaded pages.
-abbrev pub shown_at : Core → Machine → Memory → Hib → Load → Waker → Shown
+abbrev pub shown_at : Core → Machine → Memory → Hib → Load → Waker → WorldView
 shown_at core machine frames hib load waker = record {
   activity = activity_of core hib load waker;
   keeps_dump = keeps_dump core;
@@ -135,7 +135,7 @@ shown_at core machine frames hib load waker = record {
   loaded = loaded_of core frames load;
 }
 
-abbrev pub shown : World → Shown
+abbrev pub shown : World → WorldView
 shown w = shown_at w.core w.machine w.frames w.hib w.load w.waker
 
 -- A world and its disk stand for a state. Where the world hibernates, its numbers and sets are those of the state's image; where it

@@ -7,7 +7,7 @@ use Rattle.definitions.specs.SwapHeader.{taken_back}
 use Rattle.sig_header.specs.AreaKind.{area_kind}
 use Rattle.sig_header.specs.declared.area.AreaKind.{AreaKind}
 use Rattle.sig_header.specs.declared.area.AreaKind.TheVariants.{Swap}
-use Rattle.plain_machine.specs.Step.{with_each_entry}
+use Rattle.plain_machine.specs.FreshMemory.{with_each_entry}
 use Rattle.plain_machine.specs.Machine.{Hardware, Memory}
 use Rattle.plain_machine.specs.UsableArea.{kind_or_fit_fault, bad_set_fault, first_fault}
 use Rattle.plain_machine.specs.declared.event.BootFrom.{BootFrom}

@@ -8,7 +8,7 @@ ghost use Rattle.sig_header.specs.AreaKind.{area_kind};
 ghost use Rattle.plain_machine.specs.Machine.{block_of_slot, IsHardware};
 ghost use Rattle.machine.specs.Running.{slot_table_of};
 ghost use Rattle.plain_machine.specs.Refusals.{asks_dump_to_boot};
-ghost use Rattle.plain_machine.specs.Step.{fresh_frames};
+ghost use Rattle.plain_machine.specs.FreshMemory.{fresh_frames};
 ghost use Rattle.plain_machine.specs.UsableArea.{fit_fault, has_bad_slots_of};
 ghost use Rattle.protocol_laws.specs.Headers.{is_image};
 ghost use Rattle.world_core.specs.Started.{header_at, fault_at_start, memory_at_start};
@@ -32,13 +32,13 @@ impl World {
     ghost use Rattle.world_core.specs.declared.world.Core.TheVariants as core;
     ghost use Rattle.world_core.specs.StandsFor.{hardware_of, blocks_of, keeps_dump, IsOff, IsBusyIn};
     ghost use Rattle.plain_machine.specs.declared.reply.Reply.TheVariants as reply;
-    ghost use Rattle.world_core.specs.Row.{HasRow, IsRow, IsCalled, IsRefused, ChangesNothing, Restores, TellsImage, blocks_after};
+    ghost use Rattle.world_core.specs.Row.{SimulatesWhereTold, Simulates, IsCalled, IsRefused, ChangesNothing, Restores, TellsImage, blocks_after};
     ghost use Rattle.protocol_laws.specs.Rows.{IsNewFault};
     ghost use Rattle.world_core.specs.Started.{IsStarted};
 
     /// Begins a boot, on a disk of so many blocks.
     pub(crate) fn boot(&mut self, blocks: u32, from: BootFrom) -> Reply
-        ensures row { (c : Content) → IsRow (event.Boot from) self.old self.new result c c }
+        ensures row { (c : Content) → Simulates (event.Boot from) self.old self.new result c c }
         ensures cause { IsNewFault result → ⊥ }
         ensures hardware { hardware_of self.new ≡ hardware_of self.old }
         ensures blocks { ((self.new.core ≡ self.old.core) × (blocks_of self.new ≡ blocks_of self.old)) ⊎ (blocks_of self.new ≡ blocks) }
@@ -65,7 +65,7 @@ impl World {
     fn begin_boot(&mut self, blocks: u32, from: BootFrom) -> Reply
         requires off { IsOff self.old }
         requires dump { asks_dump_to_boot from ≡ true → keeps_dump self.old.core ≡ true }
-        ensures row { (c : Content) → IsRow (event.Boot from) self.old self.new result c c }
+        ensures row { (c : Content) → Simulates (event.Boot from) self.old self.new result c c }
         ensures cause { IsNewFault result → ⊥ }
         ensures hardware { hardware_of self.new ≡ hardware_of self.old }
         ensures blocks { blocks_of self.new ≡ blocks }
@@ -83,7 +83,7 @@ impl World {
     /// The first step of a boot: after it the disk has one content.
     pub(crate) fn sync_for_boot<D: Disk>(&mut self, disk: &mut D, from: BootFrom) -> Reply
         requires begun { self.old.core ≡ core.BootBegun from }
-        ensures row { HasRow (event.Step actor.Core) self.old self.new result (D.content disk.old) (D.content disk.new) }
+        ensures row { SimulatesWhereTold (event.Step actor.Core) self.old self.new result (D.content disk.old) (D.content disk.new) }
         ensures restored { Restores (event.Step actor.Core) self.old self.new result (D.content disk.old) (D.content disk.new) }
         ensures image { TellsImage (event.Step actor.Core) self.old result (D.content disk.old) }
         ensures works { result ≢ reply.Idle }
@@ -107,7 +107,7 @@ impl World {
     pub(crate) fn finish_boot<D: Disk>(&mut self, disk: &mut D, from: BootFrom) -> Reply
         requires synced { self.old.core ≡ core.BootSynced from }
         requires blocks { D.block_count disk.old ≡ blocks_of self.old }
-        ensures row { HasRow (event.Step actor.Core) self.old self.new result (D.content disk.old) (D.content disk.new) }
+        ensures row { SimulatesWhereTold (event.Step actor.Core) self.old self.new result (D.content disk.old) (D.content disk.new) }
         ensures restored { Restores (event.Step actor.Core) self.old self.new result (D.content disk.old) (D.content disk.new) }
         ensures image { TellsImage (event.Step actor.Core) self.old result (D.content disk.old) }
         ensures works { result ≢ reply.Idle }

@@ -17,13 +17,13 @@ impl World {
     ghost use Rattle.hib_core.specs.Row.{event_of};
     ghost use Rattle.world_core.specs.declared.world.Core.TheVariants as core;
     ghost use Rattle.world_core.specs.StandsFor.{hardware_of, blocks_of, IsOff};
-    ghost use Rattle.world_core.specs.Row.{HasRow, IsRow, IsCalled, IsRefused, ChangesNothing, Restores, TellsImage, KeepsMemory};
+    ghost use Rattle.world_core.specs.Row.{SimulatesWhereTold, Simulates, IsCalled, IsRefused, ChangesNothing, Restores, TellsImage, KeepsMemory};
     ghost use Rattle.hib_core.specs.Leaving.{KeepsUsed};
     ghost use Rattle.plain_machine.specs.declared.reply.Reply.TheVariants as reply;
 
     /// Begins a hibernation or a settling, if the machine runs.
     pub(crate) fn begin(&mut self, job: Job) -> Reply
-        ensures row { (c : Content) → IsRow (event_of job) self.old self.new result c c }
+        ensures row { (c : Content) → Simulates (event_of job) self.old self.new result c c }
         ensures cause { IsNewFault result → ⊥ }
         ensures hardware { hardware_of self.new ≡ hardware_of self.old }
         ensures blocks { blocks_of self.new ≡ blocks_of self.old }
@@ -46,7 +46,7 @@ impl World {
     /// Begins it.
     fn begin_job(&mut self, job: Job) -> Reply
         requires running { self.old.core ≡ core.Running }
-        ensures row { (c : Content) → IsRow (event_of job) self.old self.new result c c }
+        ensures row { (c : Content) → Simulates (event_of job) self.old self.new result c c }
         ensures cause { IsNewFault result → ⊥ }
         ensures hardware { hardware_of self.new ≡ hardware_of self.old }
         ensures blocks { blocks_of self.new ≡ blocks_of self.old }
@@ -66,7 +66,7 @@ impl World {
     pub(crate) fn step_hibernation<D: Disk>(&mut self, disk: &mut D) -> Reply
         requires hibernates { self.old.core ≡ core.Hibernating }
         requires blocks { D.block_count disk.old ≡ blocks_of self.old }
-        ensures row { HasRow (event.Step actor.Core) self.old self.new result (D.content disk.old) (D.content disk.new) }
+        ensures row { SimulatesWhereTold (event.Step actor.Core) self.old self.new result (D.content disk.old) (D.content disk.new) }
         ensures restored { Restores (event.Step actor.Core) self.old self.new result (D.content disk.old) (D.content disk.new) }
         ensures image { TellsImage (event.Step actor.Core) self.old result (D.content disk.old) }
         ensures works { result ≢ reply.Idle }

@@ -17,11 +17,11 @@ impl World {
     ghost use Rattle.world_core.specs.declared.world.Core.TheVariants as core;
     ghost use Rattle.world_core.specs.StandsFor.{hardware_of, blocks_of, IsOff, keeps_dump};
     ghost use Rattle.plain_machine.specs.declared.reply.Reply.TheVariants as reply;
-    ghost use Rattle.world_core.specs.Row.{HasRow, IsRow, IsCalled, IsRefused, ChangesNothing, Restores, TellsImage, blocks_after};
+    ghost use Rattle.world_core.specs.Row.{SimulatesWhereTold, Simulates, IsCalled, IsRefused, ChangesNothing, Restores, TellsImage, blocks_after};
 
     /// Begins a resume, on a disk of so many blocks, if the machine is off. A dump's loader is the memory that is kept.
     pub(crate) fn resume(&mut self, blocks: u32, loader: Loader, check: IdentCheck) -> Reply
-        ensures row { (c : Content) → IsRow (event.Resume loader check) self.old self.new result c c }
+        ensures row { (c : Content) → Simulates (event.Resume loader check) self.old self.new result c c }
         ensures cause { IsNewFault result → ⊥ }
         ensures hardware { hardware_of self.new ≡ hardware_of self.old }
         ensures blocks { ((self.new.core ≡ self.old.core) × (blocks_of self.new ≡ blocks_of self.old)) ⊎ (blocks_of self.new ≡ blocks) }
@@ -41,7 +41,7 @@ impl World {
     fn begin_resume(&mut self, blocks: u32, loader: Loader, check: IdentCheck) -> Reply
         requires off { IsOff self.old }
         requires dump { asks_dump_to_load loader ≡ true → keeps_dump self.old.core ≡ true }
-        ensures row { (c : Content) → IsRow (event.Resume loader check) self.old self.new result c c }
+        ensures row { (c : Content) → Simulates (event.Resume loader check) self.old self.new result c c }
         ensures cause { IsNewFault result → ⊥ }
         ensures hardware { hardware_of self.new ≡ hardware_of self.old }
         ensures blocks { blocks_of self.new ≡ blocks }
@@ -59,7 +59,7 @@ impl World {
     pub(crate) fn step_resume<D: Disk>(&mut self, disk: &mut D) -> Reply
         requires resumes { self.old.core ≡ core.Loading }
         requires blocks { D.block_count disk.old ≡ blocks_of self.old }
-        ensures row { HasRow (event.Step actor.Core) self.old self.new result (D.content disk.old) (D.content disk.new) }
+        ensures row { SimulatesWhereTold (event.Step actor.Core) self.old self.new result (D.content disk.old) (D.content disk.new) }
         ensures restored { Restores (event.Step actor.Core) self.old self.new result (D.content disk.old) (D.content disk.new) }
         ensures image { TellsImage (event.Step actor.Core) self.old result (D.content disk.old) }
         ensures works { result ≢ reply.Idle }

@@ -22,11 +22,11 @@ impl World {
     ghost use Rattle.plain_machine.specs.declared.event.Event.TheVariants as event;
     ghost use Rattle.world_core.specs.declared.world.Core.TheVariants as core;
     ghost use Rattle.world_core.specs.StandsFor.{hardware_of, blocks_of};
-    ghost use Rattle.world_core.specs.Row.{IsRow, IsRefused, ChangesNothing, LeavesMemory};
+    ghost use Rattle.world_core.specs.Row.{Simulates, IsRefused, ChangesNothing, LeavesMemory};
 
     /// Drops cached page frames until so many saveable ones are left, if the machine runs.
     pub(crate) fn shrink(&mut self, want: u64) -> Reply
-        ensures row { (c : Content) → IsRow (event.Shrink want) self.old self.new result c c }
+        ensures row { (c : Content) → Simulates (event.Shrink want) self.old self.new result c c }
         ensures cause { IsNewFault result → ⊥ }
         ensures hardware { hardware_of self.new ≡ hardware_of self.old }
         ensures blocks { blocks_of self.new ≡ blocks_of self.old }
@@ -49,7 +49,7 @@ impl World {
     /// Drops them, if no task has an unfinished operation.
     fn drop_cached(&mut self, want: u64) -> Reply
         requires running { self.old.core ≡ core.Running }
-        ensures row { (c : Content) → IsRow (event.Shrink want) self.old self.new result c c }
+        ensures row { (c : Content) → Simulates (event.Shrink want) self.old self.new result c c }
         ensures cause { IsNewFault result → ⊥ }
         ensures hardware { hardware_of self.new ≡ hardware_of self.old }
         ensures blocks { blocks_of self.new ≡ blocks_of self.old }

@@ -17,13 +17,13 @@ impl World {
     ghost use Rattle.machine.specs.Flights.{flights_in};
     ghost use Rattle.world_core.specs.declared.world.Core.TheVariants as core;
     ghost use Rattle.world_core.specs.StandsFor.{hardware_of, blocks_of, IsOff, IsBusyIn};
-    ghost use Rattle.world_core.specs.Row.{HasRow, IsRow, IsCalled, IsRefused, ChangesNothing, StopsOff, Restores, TellsImage};
+    ghost use Rattle.world_core.specs.Row.{SimulatesWhereTold, Simulates, IsCalled, IsRefused, ChangesNothing, StopsOff, Restores, TellsImage};
 
     /// What a task asks for: it is refused where the machine doesn't run.
     pub(crate) fn task(&mut self, t: u32, op: TaskOp) -> Reply
         requires task { IsTask t }
         requires op { IsFittingOp op }
-        ensures row { (c : Content) → IsRow (event.Task t op) self.old self.new result c c }
+        ensures row { (c : Content) → Simulates (event.Task t op) self.old self.new result c c }
         ensures cause { IsNewFault result → ⊥ }
         ensures hardware { hardware_of self.new ≡ hardware_of self.old }
         ensures blocks { blocks_of self.new ≡ blocks_of self.old }
@@ -47,7 +47,7 @@ impl World {
         requires running { self.old.core ≡ core.Running }
         requires task { IsTask t }
         requires op { IsFittingOp op }
-        ensures row { (c : Content) → IsRow (event.Task t op) self.old self.new result c c }
+        ensures row { (c : Content) → Simulates (event.Task t op) self.old self.new result c c }
         ensures cause { IsNewFault result → ⊥ }
         ensures hardware { hardware_of self.new ≡ hardware_of self.old }
         ensures blocks { blocks_of self.new ≡ blocks_of self.old }
@@ -63,7 +63,7 @@ impl World {
     pub(crate) fn step_task<D: Disk>(&mut self, disk: &mut D, t: u32) -> Reply
         requires task { IsTask t }
         requires blocks { IsOff self.old ⊎ (D.block_count disk.old ≡ blocks_of self.old) }
-        ensures row { HasRow (event.Step (actor.Task t)) self.old self.new result (D.content disk.old) (D.content disk.new) }
+        ensures row { SimulatesWhereTold (event.Step (actor.Task t)) self.old self.new result (D.content disk.old) (D.content disk.new) }
         ensures restored { Restores (event.Step (actor.Task t)) self.old self.new result (D.content disk.old) (D.content disk.new) }
         ensures image { TellsImage (event.Step (actor.Task t)) self.old result (D.content disk.old) }
         ensures called { Called D.Disk (IsCalled (event.Step (actor.Task t)) result) (IsNewFault result) disk.old disk.new }
@@ -95,7 +95,7 @@ impl World {
         requires running { self.old.core ≡ core.Running }
         requires flies { IsSome (flights_in self.old.machine.flights t) }
         requires blocks { D.block_count disk.old ≡ blocks_of self.old }
-        ensures row { HasRow (event.Step (actor.Task t)) self.old self.new result (D.content disk.old) (D.content disk.new) }
+        ensures row { SimulatesWhereTold (event.Step (actor.Task t)) self.old self.new result (D.content disk.old) (D.content disk.new) }
         ensures called { Called D.Disk (IsCalled (event.Step (actor.Task t)) result) (IsNewFault result) disk.old disk.new }
         ensures hardware { hardware_of self.new ≡ hardware_of self.old }
         ensures blocks { blocks_of self.new ≡ blocks_of self.old }

@@ -24,11 +24,11 @@ impl World {
     ghost use Rattle.protocol_laws.specs.Rows.{IsNewFault};
     ghost use Rattle.world_core.specs.declared.world.Core.TheVariants as core;
     ghost use Rattle.world_core.specs.StandsFor.{hardware_of, blocks_of, IsOff};
-    ghost use Rattle.world_core.specs.Row.{HasRow, IsRow, IsCalled, IsRefused, ChangesNothing, Restores, TellsImage, WakesWith};
+    ghost use Rattle.world_core.specs.Row.{SimulatesWhereTold, Simulates, IsCalled, IsRefused, ChangesNothing, Restores, TellsImage, WakesWith};
 
     /// Begins to wake, if the machine is asleep.
     pub(crate) fn wake(&mut self) -> Reply
-        ensures row { (c : Content) → IsRow event.Wake self.old self.new result c c }
+        ensures row { (c : Content) → Simulates event.Wake self.old self.new result c c }
         ensures cause { IsNewFault result → ⊥ }
         ensures hardware { hardware_of self.new ≡ hardware_of self.old }
         ensures blocks { blocks_of self.new ≡ blocks_of self.old }
@@ -43,7 +43,7 @@ impl World {
 
     fn begin_wake(&mut self) -> Reply
         requires asleep { self.old.core ≡ core.Asleep }
-        ensures row { (c : Content) → IsRow event.Wake self.old self.new result c c }
+        ensures row { (c : Content) → Simulates event.Wake self.old self.new result c c }
         ensures reply { result ≡ reply.More 0 3 }
         ensures hardware { hardware_of self.new ≡ hardware_of self.old }
         ensures blocks { blocks_of self.new ≡ blocks_of self.old }
@@ -57,7 +57,7 @@ impl World {
     pub(crate) fn step_wake<D: Disk>(&mut self, disk: &mut D) -> Reply
         requires wakes { self.old.core ≡ core.Waking }
         requires blocks { D.block_count disk.old ≡ blocks_of self.old }
-        ensures row { HasRow (event.Step actor.Core) self.old self.new result (D.content disk.old) (D.content disk.new) }
+        ensures row { SimulatesWhereTold (event.Step actor.Core) self.old self.new result (D.content disk.old) (D.content disk.new) }
         ensures restored { Restores (event.Step actor.Core) self.old self.new result (D.content disk.old) (D.content disk.new) }
         ensures image { TellsImage (event.Step actor.Core) self.old result (D.content disk.old) }
         ensures works { result ≢ reply.Idle }

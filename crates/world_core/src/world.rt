@@ -69,7 +69,7 @@ impl World {
     ghost use Rattle.plain_machine.specs.Shows.{activity_in, runs, seen_frames};
     ghost use Rattle.world_core.specs.declared.world.Core.TheVariants as core;
     ghost use Rattle.world_core.specs.StandsFor.{StandsFor, hardware_of, blocks_of, IsOff, IsNew, KeepsMemory};
-    ghost use Rattle.world_core.specs.Row.{HasRow, IsCalled, IsNoCut, IsRefused, ChangesNothing, StopsOff, LeavesMemory, RestartsAt, orders_after, blocks_after, Restores, TellsImage};
+    ghost use Rattle.world_core.specs.Row.{SimulatesWhereTold, IsCalled, IsNoCut, IsRefused, ChangesNothing, StopsOff, LeavesMemory, RestartsAt, orders_after, blocks_after, Restores, TellsImage};
 
     /// A machine that is off, with page frames of zeros.
     pub fn create(alloc: Global, hw: Hardware) -> Result<World, NoMemory>
@@ -156,7 +156,7 @@ impl World {
     pub fn event<D: Disk>(&mut self, disk: &mut D, event: Event) -> Reply
         requires fits { IsFitting event }
         requires blocks { IsOff self.old ⊎ (D.block_count disk.old ≡ blocks_of self.old) }
-        ensures row { HasRow event self.old self.new result (D.content disk.old) (D.content disk.new) }
+        ensures row { SimulatesWhereTold event self.old self.new result (D.content disk.old) (D.content disk.new) }
         ensures restored { Restores event self.old self.new result (D.content disk.old) (D.content disk.new) }
         ensures image { TellsImage event self.old result (D.content disk.old) }
         ensures cause { IsNewFault result → HasRisen (D.faults disk.old) (D.faults disk.new) }
@@ -195,7 +195,7 @@ impl World {
     fn step_of<D: Disk>(&mut self, disk: &mut D, actor: Actor) -> Reply
         requires actor { IsFittingActor actor }
         requires blocks { IsOff self.old ⊎ (D.block_count disk.old ≡ blocks_of self.old) }
-        ensures row { HasRow (event.Step actor) self.old self.new result (D.content disk.old) (D.content disk.new) }
+        ensures row { SimulatesWhereTold (event.Step actor) self.old self.new result (D.content disk.old) (D.content disk.new) }
         ensures restored { Restores (event.Step actor) self.old self.new result (D.content disk.old) (D.content disk.new) }
         ensures image { TellsImage (event.Step actor) self.old result (D.content disk.old) }
         ensures called { Called D.Disk (IsCalled (event.Step actor) result) (IsNewFault result) disk.old disk.new }
@@ -214,7 +214,7 @@ impl World {
 
     fn step<D: Disk>(&mut self, disk: &mut D) -> Reply
         requires blocks { IsOff self.old ⊎ (D.block_count disk.old ≡ blocks_of self.old) }
-        ensures row { HasRow (event.Step actor.Core) self.old self.new result (D.content disk.old) (D.content disk.new) }
+        ensures row { SimulatesWhereTold (event.Step actor.Core) self.old self.new result (D.content disk.old) (D.content disk.new) }
         ensures restored { Restores (event.Step actor.Core) self.old self.new result (D.content disk.old) (D.content disk.new) }
         ensures image { TellsImage (event.Step actor.Core) self.old result (D.content disk.old) }
         ensures called { Called D.Disk (IsCalled (event.Step actor.Core) result) (IsNewFault result) disk.old disk.new }

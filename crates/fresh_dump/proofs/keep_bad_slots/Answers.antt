@@ -1,7 +1,7 @@
 use Rattle.std.proofs.Common.{◌≡◌, ℕ, List, length, sym, ap, ◌∙◌, arith}
 use Rattle.std.specs.List.{range_with_len}
 use Rattle.definitions.specs.Tables.{entry_at, with_entry}
-use Rattle.plain_machine.specs.Step.{with_each_entry}
+use Rattle.plain_machine.specs.FreshMemory.{with_each_entry}
 use Rattle.plain_machine.proofs.EachEntry.{each-none, each-range_more, length-each}
 use Rattle.machine.proofs.Rows.{slot_table_fits}
 use Rattle.fresh_dump.specs.KeptSlots.{kept_entry, kept_slot}

@@ -1,6 +1,6 @@
 use Rattle.std.proofs.Common.{ℕ, ◌<◌, List, sym, ap, ◌∙◌, subst}
 use Rattle.std.specs.List.{All, find}
-use Rattle.plain_machine.specs.Step.{region_flags}
+use Rattle.plain_machine.specs.FreshMemory.{region_flags}
 use Rattle.plain_machine.proofs.Fresh.{fresh_entry-table}
 use Rattle.machine.specs.HardFault.{is_in_region}
 use Rattle.machine.proofs.FreshEntries.{fresh_entry-region}

@@ -3,7 +3,7 @@ use Rattle.std.proofs.lemmas.Iterator.{YieldsList-from_slice}
 use Rattle.std.proofs.lemmas.Iterator.Search.{find_from_yields_List}
 use Rattle.std.specs.List.{find}
 use Rattle.std.specs.Option.{option_map}
-use Rattle.plain_machine.specs.Step.{region_flags}
+use Rattle.plain_machine.specs.FreshMemory.{region_flags}
 use Rattle.machine.specs.HardFault.{is_in_region}
 use Rattle.machine.proofs.fresh.region_flags.Goals as goal
 

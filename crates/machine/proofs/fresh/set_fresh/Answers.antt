@@ -6,7 +6,8 @@ use Rattle.definitions.specs.Zones.{numbers, top}
 use Rattle.definitions.proofs.ZoneNumbers.{numbers-take_more}
 use Rattle.definitions.proofs.ZoneWalk.{at_zone, past_zones}
 use Rattle.plain_machine.specs.Machine.{Hardware}
-use Rattle.plain_machine.specs.Step.{with_each_entry, fresh_entry, fresh_frames}
+use Rattle.plain_machine.specs.FreshMemory.{with_each_entry, fresh_entry}
+use Rattle.plain_machine.proofs.Fresh.{filled_frames-are_fresh}
 use Rattle.plain_machine.proofs.EachEntry.{each-none, each-append, length-each}
 use Rattle.machine.proofs.Rows.{frame_table_fits}
 use Rattle.machine.proofs.fresh.set_fresh.Goals as goal
@@ -70,12 +71,12 @@ loop-start-preserved c =
     }
 
 pub returns-clause-fresh : goal.returns-clause-fresh
-unfolding fresh_frames
 returns-clause-fresh c =
     let h = c.args.hw.now in
     let over : ◌≡◌ {A = Option (ℕ × ℕ)} None (slice_get h.zones c.loop-start.j) = subst (λ (zones : List (ℕ × ℕ)). ◌≡◌ {A = Option (ℕ × ℕ)} None (slice_get zones c.loop-start.j)) c.zones.ensures.zones c.in_default.ensures.zone in
     c.loop-start.invariant.frames
     ∙ ap (λ (zones : List (ℕ × ℕ)). with_each_entry (fresh_entry h) (numbers zones) h.frame_table (replicate (top h.zones) zero_page)) (take_all c.loop-start.j h.zones (past_zones h.zones c.loop-start.j over))
+    ∙ filled_frames-are_fresh h c.zones.ensures.hardware
 
 pub returns-clause-len : goal.returns-clause-len
 returns-clause-len c = ap length c.loop-start.invariant.frames ∙ len_so_far c.args.hw.now (numbers (take c.loop-start.j c.args.hw.now.zones)) ∙ sym c.requires

@@ -1,7 +1,7 @@
 use Rattle.std.proofs.Common.{◌≡◌, ◌-◌, ◌≤◌, length, take, replicate}
 use Rattle.definitions.specs.Bytes.{zero_page}
 use Rattle.definitions.specs.Zones.{numbers, top}
-use Rattle.plain_machine.specs.Step.{with_each_entry, fresh_entry}
+use Rattle.plain_machine.specs.FreshMemory.{with_each_entry, fresh_entry}
 use Rattle.machine.proofs.fresh.set_fresh.Given as goal
 
 abbrev pub invariant-loop-start : goal.invariant-loop-start

@@ -1,6 +1,6 @@
 use Rattle.std.proofs.Common.{◌≡◌}
 use Rattle.std.specs.List.{range_with_len}
-use Rattle.plain_machine.specs.Step.{with_each_entry}
+use Rattle.plain_machine.specs.FreshMemory.{with_each_entry}
 use Rattle.machine.specs.FreshSlots.{slot_of_area}
 use Rattle.machine.proofs.fresh.set_slots.Given as goal
 

@@ -5,7 +5,7 @@ use Rattle.plain_machine.specs.Shows.{seen_frames}
 use Rattle.plain_machine.specs.declared.event.Event.{Event}
 use Rattle.world_core.specs.StandsFor.{StandsFor}
 use Rattle.world_core.specs.World.{World}
-use Rattle.swsusp_cli.specs.Answer.{Told}
+use Rattle.swsusp_cli.specs.Answer.{RunResult}
 use Rattle.swsusp_cli.specs.AnswerOf.{told_by}
 use Rattle.swsusp_cli.specs.Loads.{written_told}
 use Rattle.swsusp_cli.specs.Outcome.{fault_told}
@@ -27,7 +27,7 @@ returns-in-Err-Script-clause-outcome g c =
     let answer : told_by c.no_script.result ≡ fault_told c.in-Err-Script.fault = rw c.in-Err-Script.field-0-is at c.no_script.ensures.told in
     no_script c.in-Err-Script.fault (record {
       says = ready;
-      told = subst (λ (t : Told). IsTold t tell.result out (record { taken = g.O.Sink.taken tell.new.out; flushed = g.O.Sink.flushed tell.new.out; faults = g.O.Sink.faults tell.new.out }) note (record { taken = g.N.Sink.taken tell.new.note; flushed = g.N.Sink.flushed tell.new.note; faults = g.N.Sink.faults tell.new.note })) answer tell.ensures.told;
+      told = subst (λ (t : RunResult). IsTold t tell.result out (record { taken = g.O.Sink.taken tell.new.out; flushed = g.O.Sink.flushed tell.new.out; faults = g.O.Sink.faults tell.new.out }) note (record { taken = g.N.Sink.taken tell.new.note; flushed = g.N.Sink.flushed tell.new.note; faults = g.N.Sink.faults tell.new.note })) answer tell.ensures.told;
       untouched = refl {a = before};
     })
 
@@ -37,7 +37,7 @@ returns-in-Err-clause-outcome g c =
     let out : SinkView = record { taken = g.O.Sink.taken c.args.out.now; flushed = g.O.Sink.flushed c.args.out.now; faults = g.O.Sink.faults c.args.out.now } in
     let note : SinkView = record { taken = g.N.Sink.taken c.args.note.now; flushed = g.N.Sink.flushed c.args.note.now; faults = g.N.Sink.faults c.args.note.now } in
     not_made _ _ tell.result c.in-Ok.script c.in-Err.why (record { says = c.in-Ok.ensures.ready.0; over = c.in-Ok.ensures.ready.1; few = c.in-Ok.ensures.few }) c.in-Err.ensures.outcome
-    (subst (λ (t : Told). IsTold t tell.result out (record { taken = g.O.Sink.taken tell.new.out; flushed = g.O.Sink.flushed tell.new.out; faults = g.O.Sink.faults tell.new.out }) note (record { taken = g.N.Sink.taken tell.new.note; flushed = g.N.Sink.flushed tell.new.note; faults = g.N.Sink.faults tell.new.note })) c.answer.ensures.told tell.ensures.told)
+    (subst (λ (t : RunResult). IsTold t tell.result out (record { taken = g.O.Sink.taken tell.new.out; flushed = g.O.Sink.flushed tell.new.out; faults = g.O.Sink.faults tell.new.out }) note (record { taken = g.N.Sink.taken tell.new.note; flushed = g.N.Sink.flushed tell.new.note; faults = g.N.Sink.faults tell.new.note })) c.answer.ensures.told tell.ensures.told)
 
 pub returns-in-Some-clause-outcome : goal.returns-in-Some-clause-outcome
 returns-in-Some-clause-outcome g c =
@@ -71,4 +71,4 @@ returns-clause-outcome g c =
     let played = has_played _ _ script c.in-Ok-set_up.world c.play_through.new.world rs between (record { says = c.in-Ok.ensures.ready.0; over = c.in-Ok.ensures.ready.1; few = c.in-Ok.ensures.few })
     (g.met.D.Disk.well_formed c.args.disk.now) (g.met.D.Disk.well_formed c.set_up.new.disk) (g.met.D.Disk.well_formed c.play_through.new.disk) c.in-Ok-set_up.ensures.outcome c.in-Ok.ensures.few_bad was c.play_through.ensures.hardware c.play_through.ensures.blocks in
     idle script (played RunsNot (λ content end stands. runs_not c.play_through.new.world content end (c.in-None.ensures.idle refl) stands))
-    (subst (λ (t : Told). IsTold t tell.result out (record { taken = g.O.Sink.taken tell.new.out; flushed = g.O.Sink.flushed tell.new.out; faults = g.O.Sink.faults tell.new.out }) note (record { taken = g.N.Sink.taken tell.new.note; flushed = g.N.Sink.flushed tell.new.note; faults = g.N.Sink.faults tell.new.note })) c.idle.ensures.told tell.ensures.told)
+    (subst (λ (t : RunResult). IsTold t tell.result out (record { taken = g.O.Sink.taken tell.new.out; flushed = g.O.Sink.flushed tell.new.out; faults = g.O.Sink.faults tell.new.out }) note (record { taken = g.N.Sink.taken tell.new.note; flushed = g.N.Sink.flushed tell.new.note; faults = g.N.Sink.faults tell.new.note })) c.idle.ensures.told tell.ensures.told)

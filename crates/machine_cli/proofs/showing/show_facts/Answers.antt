@@ -1,6 +1,6 @@
 use Rattle.std.proofs.Common.{◌≡◌, ◌∙◌, Err, refl, ap, subst}
 use Rattle.dump_file.specs.Dump.{DumpValue}
-use Rattle.swsusp_cli.specs.Answer.{Told}
+use Rattle.swsusp_cli.specs.Answer.{RunResult}
 use Rattle.swsusp_cli.specs.AnswerOf.{told_by}
 use Rattle.swsusp_cli.specs.Dumps.{dump_told}
 use Rattle.swsusp_cli.specs.Told.{IsTold}
@@ -16,7 +16,7 @@ returns-in-Err-Fault-clause-outcome g c disk =
     let answer : told_by c.no_dump.result ≡ dump_told c.in-Err-Fault.fault = c.no_dump.ensures.told in
     no_dump c.in-Err-Fault.fault (record {
       says = λ bytes left. c.read_dump.ensures.fault bytes c.in-Err-Fault.fault left (c.in-Err-Fault.is ∙ ap Err c.in-Err-Fault.field-0-is);
-      told = subst (λ (t : Told). IsTold t tell.result out (record { taken = g.O.Sink.taken tell.new.out; flushed = g.O.Sink.flushed tell.new.out; faults = g.O.Sink.faults tell.new.out }) note (record { taken = g.N.Sink.taken tell.new.note; flushed = g.N.Sink.flushed tell.new.note; faults = g.N.Sink.faults tell.new.note })) answer tell.ensures.told;
+      told = subst (λ (t : RunResult). IsTold t tell.result out (record { taken = g.O.Sink.taken tell.new.out; flushed = g.O.Sink.flushed tell.new.out; faults = g.O.Sink.faults tell.new.out }) note (record { taken = g.N.Sink.taken tell.new.note; flushed = g.N.Sink.flushed tell.new.note; faults = g.N.Sink.faults tell.new.note })) answer tell.ensures.told;
       untouched = refl {a = disk};
     })
 

@@ -6,18 +6,18 @@ use Rattle.page_restore.proofs.Keeping.{all_wait, placement_fits}
 use Rattle.page_restore.proofs.Waiting.finish.Goals as goal
 
 pub returns-clause-restored : goal.returns-clause-restored
-returns-clause-restored c = λ q.
+returns-clause-restored c = λ loaded q.
     let w = c.self.inside in
-    let origs = c.args.origs.now.members in
+    let set = c.args.cleared.now.members in
     let old = c.args.frames.now in
     let moved = c.move_pages.new.frames in
     let cleared = c.zero_apart.new.frames in
     let finished = c.zero_apart-2.new.frames in
-    let all = all_wait w c.args.self.now c.self.view_is c.self.invariant c.requires.ready c.requires.loaded in
-    let done : Finishes (kept_waiting w) origs old moved cleared finished = record {
+    let all = all_wait w c.args.self.now c.self.view_is c.self.invariant c.requires.ready loaded in
+    let done : Finishes (kept_waiting w) set old moved cleared finished = record {
       fits = placement_fits w c.args.self.now _ c.self.view_is c.self.invariant c.requires.frames;
       moves = c.move_pages.ensures.moves;
       first = record { zero = c.zero_apart.ensures.zero; stays = c.zero_apart.ensures.kept; others = c.zero_apart.ensures.others };
       second = record { zero = c.zero_apart-2.ensures.zero; stays = c.zero_apart-2.ensures.kept; others = c.zero_apart-2.ensures.others };
     } in
-    finishes (kept_waiting w) origs old moved cleared finished all done q ∙ ap (λ (t : Awaiting). restored_page old t origs q) c.self.view_is
+    finishes (kept_waiting w) set old moved cleared finished all done q ∙ ap (λ (t : Awaiting). restored_page old t set q) c.self.view_is

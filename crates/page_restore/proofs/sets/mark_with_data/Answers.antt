@@ -1,91 +1,92 @@
-use Rattle.std.proofs.Common.{◌≡◌, ℕ, List, ◌∙◌, ◌<◌, eqb, length, filter, not, get_or, refl, sym, ap, ap₂, subst, arith}
-use Rattle.std.proofs.lemmas.Bool.{false≢true, not_from_true, not_from_false}
-use Rattle.std.proofs.lemmas.List.{take_all}
+use Rattle.std.proofs.Common.{◌≡◌, ℕ, ◌+◌, List, ◌∙◌, ◌<◌, length, take, get_or, refl, sym, ap, ap₂, subst, arith}
+use Rattle.std.proofs.lemmas.Bool.{false≢true}
+use Rattle.std.proofs.lemmas.List.{take_all, get_or_default}
 use Rattle.std.proofs.lemmas.Option.{same_Some}
-use Rattle.std.specs.List.{Contains, list_any}
+use Rattle.std.specs.List.{Contains}
+use Rattle.std.specs.List.Sorted.{IsStrictlyIncreasing}
 use Rattle.definitions.specs.Zones.{numbers}
-use Rattle.definitions.specs.FrameSets.{inserted}
+use Rattle.definitions.specs.FrameSets.{removed}
+use Rattle.definitions.proofs.FrameSets.{removed_other}
 use Rattle.memory_bitmap.specs.FrameSet.{FrameSet}
 use Rattle.page_restore.specs.Waiting.{with_data}
-use Rattle.page_restore.proofs.Members.{member_passes, stranger_fails}
-use Rattle.page_restore.proofs.Walk.{next_is, next_cursor, small, walk_marks, walk_passes_by}
+use Rattle.page_restore.proofs.Walk.{start, next_is, next_cursor, small}
+use Rattle.page_restore.proofs.WithData.{Contains-from_with_data, IsStrictlyIncreasing-with_data, with_one_less, all_with_data}
 use Rattle.page_restore.proofs.sets.mark_with_data.Goals as goal
-use Rattle.page_restore.proofs.sets.mark_with_data.Goals.{then-not-has, else-not-has}
+use Rattle.page_restore.proofs.sets.mark_with_data.Goals.{then-has, else-has}
+
+pub loop-init : goal.loop-init
+loop-init c = record {
+  zones = ap (λ (set : FrameSet). set.zones) c.copy_from.ensures ∙ sym c.requires;
+  members = ap (λ (set : FrameSet). set.members) c.copy_from.ensures ∙ sym (all_with_data c.args.origs.now.members);
+  cursor = start c.args.zeros.now.members;
+}
 
 pub unwrap-p-requires : goal.unwrap-p-requires
 unwrap-p-requires c =
-    let origs = c.args.origs.now.members in
+    let zeros = c.args.zeros.now.members in
     let k = c.loop.counter in
     let lt = c.loop-test.true in
-    let within : k < length origs = omega (arith, c.len-end.ensures.len) in
-    let next = next_is origs c.loop.from k c.len-end.ensures.set.ascending c.loop.invariant.cursor within in
+    let within : k < length zeros = omega (arith, c.len-end.ensures.len) in
+    let next = next_is zeros c.loop.from k c.len-end.ensures.set.ascending c.loop.invariant.cursor within in
     rw (c.first_from.ensures, next) refl
 
-pub set-requires : goal.set-requires
-set-requires c =
-    let origs = c.args.origs.now.members in
-    let k = c.loop.counter in
-    let lt = c.loop-test.true in
-    let within : k < length origs = omega (arith, c.len-end.ensures.len) in
-    let next = next_is origs c.loop.from k c.len-end.ensures.set.ascending c.loop.invariant.cursor within in
-    let p : c.unwrap-p.result ≡ get_or origs k 0 = same_Some _ _ (sym c.unwrap-p.ensures ∙ c.first_from.ensures ∙ next) in
-    let valid : Contains (numbers c.args.origs.now.zones) (get_or origs k 0) = c.len-end.ensures.set.valid k 0 within in
-    let zones : c.args.origs.now.zones ≡ c.loop.set.zones = sym (c.loop.invariant.zones ∙ c.requires) in
-    subst (λ (zs : List (ℕ × ℕ)). Contains (numbers zs) c.unwrap-p.result) zones (subst (λ (q : ℕ). Contains (numbers c.args.origs.now.zones) q) (sym p) valid)
+pub clear-requires : goal.clear-requires
+clear-requires c =
+    let origs = c.args.origs.now in
+    let p = c.unwrap-p.result in
+    let member = subst (λ (members : List ℕ). Contains members p) c.loop.invariant.members (c.has.ensures.0 c.if-has.true) in
+    let (j, lt, is) = (Contains-from_with_data origs.members _ p member).0 in
+    let valid = subst (λ (q : ℕ). Contains (numbers origs.zones) q) (sym (get_or_default origs.members j p 0 lt) ∙ is) (c.len.ensures.set.valid j 0 lt) in
+    subst (λ (zones : List (ℕ × ℕ)). Contains (numbers zones) p) (sym (c.loop.invariant.zones ∙ c.requires)) valid
 
 pub overflow_add-from : goal.overflow_add-from
 overflow_add-from c =
-    let origs = c.args.origs.now.members in
+    let zeros = c.args.zeros.now.members in
     let k = c.loop.counter in
     let lt = c.loop-test.true in
-    let within : k < length origs = omega (arith, c.len-end.ensures.len) in
-    let next = next_is origs c.loop.from k c.len-end.ensures.set.ascending c.loop.invariant.cursor within in
-    let p : c.unwrap-p.result ≡ get_or origs k 0 = same_Some _ _ (sym c.unwrap-p.ensures ∙ c.first_from.ensures ∙ next) in
-    let low = small c.args.origs.now k c.len-end.ensures.set within in
+    let within : k < length zeros = omega (arith, c.len-end.ensures.len) in
+    let next = next_is zeros c.loop.from k c.len-end.ensures.set.ascending c.loop.invariant.cursor within in
+    let p : c.unwrap-p.result ≡ get_or zeros k 0 = same_Some _ _ (sym c.unwrap-p.ensures ∙ c.first_from.ensures ∙ next) in
+    let low = small c.args.zeros.now k c.len-end.ensures.set within in
     record { fits = omega arith }
 
 pub loop-preserved : goal.loop-preserved
 loop-preserved c =
     let origs = c.args.origs.now.members in
     let zeros = c.args.zeros.now.members in
-    let up = c.len-end.ensures.set.ascending in
     let k = c.loop.counter in
     let from = c.loop.from in
+    let up = c.len-end.ensures.set.ascending in
     let cursor = c.loop.invariant.cursor in
     let lt = c.loop-test.true in
-    let within : k < length origs = omega (arith, c.len-end.ensures.len) in
-    let next = next_is origs from k up cursor within in
-    let p : c.unwrap-p.result ≡ get_or origs k 0 = same_Some _ _ (sym c.unwrap-p.ensures ∙ c.first_from.ensures ∙ next) in
-    let test = λ (q : ℕ). not (list_any (λ r. eqb r q) zeros) in
-    elim c.if-not-has.branch [
-      | then-not-has w ↦
-          let set_is = w.set-is ∙ w.set.ensures in
-          let absent : Contains zeros c.unwrap-p.result → ⊥ = λ in'. false≢true (sym w.if-not-has.true ∙ c.has.ensures.1 in') in
-          let passes = ap test (sym p) ∙ not_from_false (list_any (λ r. eqb r c.unwrap-p.result) zeros) (stranger_fails zeros c.unwrap-p.result absent) in
+    let within : k < length zeros = omega (arith, c.len-end.ensures.len) in
+    let next = next_is zeros from k up cursor within in
+    let p : c.unwrap-p.result ≡ get_or zeros k 0 = same_Some _ _ (sym c.unwrap-p.ensures ∙ c.first_from.ensures ∙ next) in
+    let before = c.loop.set.members in
+    let less = sym (with_one_less origs zeros k c.len.ensures.set.ascending within) in
+    let rises = subst IsStrictlyIncreasing (sym c.loop.invariant.members) (IsStrictlyIncreasing-with_data origs (take k zeros) c.len.ensures.set.ascending) in
+    let taken : removed before c.unwrap-p.result ≡ with_data origs (take (k + 1) zeros) = ap₂ removed c.loop.invariant.members p ∙ less in
+    elim c.if-has.branch [
+      | then-has w ↦
+          let set_is = w.set-is ∙ w.clear.ensures in
           record {
             zones = ap (λ (set : FrameSet). set.zones) set_is ∙ c.loop.invariant.zones;
-            members =
-                ap (λ (set : FrameSet). set.members) set_is ∙ ap (inserted c.loop.set.members) p
-                ∙ walk_marks test origs c.loop.set.members from k cursor within c.loop.invariant.members passes;
-            cursor = rw p (next_cursor origs from k up cursor within);
+            members = ap (λ (set : FrameSet). set.members) set_is ∙ taken;
+            cursor = rw p (next_cursor zeros from k up cursor within);
           }
-      | else-not-has w ↦
-          let fails = ap test (sym p) ∙ not_from_true (list_any (λ r. eqb r c.unwrap-p.result) zeros) (member_passes zeros c.unwrap-p.result (c.has.ensures.0 w.if-not-has.false)) in
+      | else-has w ↦
           record {
             zones = ap (λ (set : FrameSet). set.zones) w.set-is ∙ c.loop.invariant.zones;
             members =
                 ap (λ (set : FrameSet). set.members) w.set-is
-                ∙ walk_passes_by test origs c.loop.set.members k within c.loop.invariant.members fails;
-            cursor = rw p (next_cursor origs from k up cursor within);
+                ∙ sym (removed_other before c.unwrap-p.result rises (λ in'. false≢true (sym w.if-has.false ∙ c.has.ensures.1 in'))) ∙ taken;
+            cursor = rw p (next_cursor zeros from k up cursor within);
           }
     ]
 
 pub returns : goal.returns
-unfolding with_data
 returns c =
-    let origs = c.args.origs.now.members in
     let ended = c.loop-test.false in
-    let all = take_all c.loop.counter origs (omega (arith, c.len-end.ensures.len)) in
-    let test = λ (q : ℕ). not (list_any (λ r. eqb r q) c.args.zeros.now.members) in
+    let all = take_all c.loop.counter c.args.zeros.now.members (omega (arith, c.len-end.ensures.len)) in
     let made = λ (zones : List (ℕ × ℕ)) (members : List ℕ). let set : FrameSet = record { zones = zones; members = members } in set in
-    ap₂ made c.loop.invariant.zones (c.loop.invariant.members ∙ ap (filter test) all)
+    ap₂ made c.loop.invariant.zones (c.loop.invariant.members ∙ ap (with_data c.args.origs.now.members) all)

@@ -1,11 +1,10 @@
-use Rattle.std.proofs.Common.{◌≡◌, ◌≤◌, ◌<◌, ◌+◌, ℕ, List, length, get_or, max, refl, sym, ap, ap₂, ◌∙◌, subst, arith}
-use Rattle.std.specs.List.{All, Contains}
-use Rattle.std.proofs.lemmas.List.{get_or_default}
+use Rattle.std.proofs.Common.{ℕ, List, refl, sym, ap, ◌∙◌, subst, arith}
+use Rattle.std.specs.List.{Contains}
 use Rattle.definitions.specs.Zones.{numbers}
 use Rattle.definitions.proofs.ZoneNumbers.{below_top, top_at_most}
-use Rattle.memory_bitmap.specs.FrameSet.{FrameSet, IsFrameSet}
+use Rattle.memory_bitmap.specs.FrameSet.{FrameSet}
 use Rattle.safe_pages.proofs.Walks.{is_first, all_below}
-use Rattle.resume_core.proofs.Clearing.{without_run, without_none, without_next, without_all, run_valid, run_ascending, set_is}
+use Rattle.resume_core.proofs.Clearing.{without_none, without_next, without_all, run_valid, run_ascending, set_is}
 use Rattle.resume_core.proofs.begin.clear_between.Goals as goal
 
 pub loop-p-init : goal.loop-p-init

@@ -1,4 +1,4 @@
-use Rattle.std.proofs.Common.{◌≡◌, ◌≤◌, ◌<◌, ◌+◌, ◌&&◌, ℕ, List, length, get_or, take, leb, filter, not, Bool, refl, sym, ap, ◌∙◌, arith}
+use Rattle.std.proofs.Common.{◌≡◌, ◌&&◌, ℕ, List, length, get_or, take, leb, filter, not, Bool, refl, ap, ◌∙◌, arith}
 use Rattle.std.proofs.lemmas.List.{take_all}
 use Rattle.memory_bitmap.specs.FrameSet.{FrameSet}
 use Rattle.resume_core.proofs.Clearing.{without_any, one_more, none_yet, set_left, set_is}

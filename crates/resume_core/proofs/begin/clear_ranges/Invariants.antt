@@ -1,4 +1,4 @@
-use Rattle.std.proofs.Common.{◌≡◌, ◌≤◌, ℕ, ◌&&◌, filter, not, take, leb}
+use Rattle.std.proofs.Common.{◌≡◌, ◌&&◌, filter, not, take, leb}
 use Rattle.std.specs.List.{list_any}
 use Rattle.memory_bitmap.specs.FrameSet.{IsFrameSet}
 use Rattle.resume_core.proofs.begin.clear_ranges.Given as goal

@@ -1,4 +1,4 @@
-use Rattle.std.proofs.Common.{◌≡◌, ◌+◌, ℕ, ◌&&◌, eqb, filter, leb, ltb, not, take}
+use Rattle.std.proofs.Common.{◌≡◌, ◌+◌, ◌&&◌, eqb, filter, leb, ltb, not, take}
 use Rattle.std.specs.List.{list_any}
 use Rattle.memory_bitmap.specs.FrameSet.{IsFrameSet}
 use Rattle.resume_core.proofs.begin.clear_regions.Given as goal

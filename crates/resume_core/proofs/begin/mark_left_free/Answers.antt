@@ -1,4 +1,4 @@
-use Rattle.std.proofs.Common.{◌≡◌, ◌&&◌, ℕ, Bool, List, filter, not, ap, ◌∙◌}
+use Rattle.std.proofs.Common.{◌&&◌, ℕ, Bool, List, filter, not, ap, ◌∙◌}
 use Rattle.definitions.specs.Zones.{numbers}
 use Rattle.memory_bitmap.specs.FrameSet.{FrameSet}
 use Rattle.plain_machine.specs.Loader.{is_in_ranges, is_in_regions}

@@ -1,6 +1,6 @@
 use Rattle.std.proofs.Common.{◌≡◌, inl, inr, List, refl, subst, take}
 use Rattle.plain_machine.specs.declared.event.Event.{Event}
-use Rattle.swsusp_cli.specs.Answer.{Told}
+use Rattle.swsusp_cli.specs.Answer.{RunResult}
 use Rattle.swsusp_cli.specs.AnswerOf.{told_by}
 use Rattle.swsusp_cli.specs.Outcome.{cut_off, fault_told, no_script}
 use Rattle.swsusp_cli.specs.Playing.{HasPlayed}
@@ -20,7 +20,7 @@ returns-in-Err-Script-clause-outcome g c =
     let answer : told_by c.no_script.result ≡ fault_told c.in-Err-Script.fault = rw c.in-Err-Script.field-0-is at c.no_script.ensures.told in
     no_script c.in-Err-Script.fault (record {
       says = ready;
-      told = subst (λ (t : Told). IsTold t tell.result out (record { taken = g.O.Sink.taken tell.new.out; flushed = g.O.Sink.flushed tell.new.out; faults = g.O.Sink.faults tell.new.out }) note (record { taken = g.N.Sink.taken tell.new.note; flushed = g.N.Sink.flushed tell.new.note; faults = g.N.Sink.faults tell.new.note })) answer tell.ensures.told;
+      told = subst (λ (t : RunResult). IsTold t tell.result out (record { taken = g.O.Sink.taken tell.new.out; flushed = g.O.Sink.flushed tell.new.out; faults = g.O.Sink.faults tell.new.out }) note (record { taken = g.N.Sink.taken tell.new.note; flushed = g.N.Sink.flushed tell.new.note; faults = g.N.Sink.faults tell.new.note })) answer tell.ensures.told;
       untouched = refl {a = before};
     })
 
@@ -30,7 +30,7 @@ returns-in-Err-clause-outcome g c =
     let out : SinkView = record { taken = g.O.Sink.taken c.args.out.now; flushed = g.O.Sink.flushed c.args.out.now; faults = g.O.Sink.faults c.args.out.now } in
     let note : SinkView = record { taken = g.N.Sink.taken c.args.note.now; flushed = g.N.Sink.flushed c.args.note.now; faults = g.N.Sink.faults c.args.note.now } in
     not_set_up _ _ tell.result c.in-Ok.script c.in-Err.why (record { says = c.in-Ok.ensures.ready.0; over = c.in-Ok.ensures.ready.1; few = c.in-Ok.ensures.few }) c.in-Err.ensures.outcome
-    (subst (λ (t : Told). IsTold t tell.result out (record { taken = g.O.Sink.taken tell.new.out; flushed = g.O.Sink.flushed tell.new.out; faults = g.O.Sink.faults tell.new.out }) note (record { taken = g.N.Sink.taken tell.new.note; flushed = g.N.Sink.flushed tell.new.note; faults = g.N.Sink.faults tell.new.note })) c.answer.ensures.told tell.ensures.told)
+    (subst (λ (t : RunResult). IsTold t tell.result out (record { taken = g.O.Sink.taken tell.new.out; flushed = g.O.Sink.flushed tell.new.out; faults = g.O.Sink.faults tell.new.out }) note (record { taken = g.N.Sink.taken tell.new.note; flushed = g.N.Sink.flushed tell.new.note; faults = g.N.Sink.faults tell.new.note })) c.answer.ensures.told tell.ensures.told)
 
 pub returns-in-Ok-play-clause-outcome : goal.returns-in-Ok-play-clause-outcome
 returns-in-Ok-play-clause-outcome g c =
@@ -47,7 +47,7 @@ returns-in-Ok-play-clause-outcome g c =
     let replies = replies_of script c.in-Ok-set_up.world c.play.new.world script.events rs before between now
     (g.met.D.Disk.well_formed c.args.disk.now) (g.met.D.Disk.well_formed c.set_up.new.disk) (g.met.D.Disk.well_formed c.play.new.disk) set c.in-Ok.ensures.few_bad was c.play.ensures.hardware c.play.ensures.blocks in
     played_whole _ _ tell.result script out rs (record { says = c.in-Ok.ensures.ready.0; over = c.in-Ok.ensures.ready.1; few = c.in-Ok.ensures.few }) set.roomy replies c.in-Ok-play.ensures.played.2
-    (subst (λ (t : Told). IsTold t tell.result out (record { taken = g.O.Sink.taken tell.new.out; flushed = g.O.Sink.flushed tell.new.out; faults = g.O.Sink.faults tell.new.out }) note (record { taken = g.N.Sink.taken tell.new.note; flushed = g.N.Sink.flushed tell.new.note; faults = g.N.Sink.faults tell.new.note })) c.done.ensures.told tell.ensures.told)
+    (subst (λ (t : RunResult). IsTold t tell.result out (record { taken = g.O.Sink.taken tell.new.out; flushed = g.O.Sink.flushed tell.new.out; faults = g.O.Sink.faults tell.new.out }) note (record { taken = g.N.Sink.taken tell.new.note; flushed = g.N.Sink.flushed tell.new.note; faults = g.N.Sink.faults tell.new.note })) c.done.ensures.told tell.ensures.told)
 
 pub returns-clause-outcome : goal.returns-clause-outcome
 returns-clause-outcome g c =

@@ -1,8 +1,6 @@
-use Rattle.std.proofs.Common.{◌≡◌, ap, sym, ◌∙◌, arith, List, ℕ, length, subst}
+use Rattle.std.proofs.Common.{ap, arith}
 use Rattle.definitions.specs.Zones.{top}
 use Rattle.machine.proofs.Rows.{frame_table_fits}
-use Rattle.plain_machine.specs.Step.{dropped_by}
-use Rattle.world_core.proofs.CacheDrops.{dropped_is}
 use Rattle.world_core.proofs.shrinking.drop_of.Goals as goal
 
 pub shrink-requires : goal.shrink-requires

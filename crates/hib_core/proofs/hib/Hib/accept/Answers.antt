@@ -19,7 +19,7 @@ use Rattle.snapshot.specs.Taken.{Taken, zero_frames}
 use Rattle.snapshot.specs.declared.Counts.{Counts}
 use Rattle.swap_slots.specs.Table.{LiesIn, free_in}
 use Rattle.swap_slots.specs.declared.table.SlotTable.{SlotTable}
-use Rattle.protocol_laws.specs.Writers.{slot_table_of}
+use Rattle.machine.specs.Running.{slot_table_of}
 use Rattle.machine.specs.declared.machine.Machine.{Machine}
 use Rattle.hib_core.specs.declared.hib.Hib.{Hib}
 use Rattle.hib_core.specs.Begin.{IsRefused, pages_of}

@@ -1,9 +1,10 @@
 use Rattle.hib_core.proofs.Leaving.{gives_back, gone_gives, unsure_stays, leaves_by}
 use Rattle.std.proofs.Common.{refl, ◌∙◌}
 use Rattle.definitions.specs.Disk as disk
-use Rattle.hib_core.proofs.Facts.{content_of, changed, row_at}
+use Rattle.hib_core.proofs.Facts.{row_at}
 use Rattle.hib_core.proofs.Undoing.{undone_row, end_failed_row}
 use Rattle.hib_core.proofs.hib.Hib.end_undo.Goals as goal
+use Rattle.protocol_laws.proofs.Told.{content_of, changed}
 
 pub returns-in-Ok-clause-row : goal.returns-in-Ok-clause-row
 returns-in-Ok-clause-row g c = λ k told.
@@ -13,7 +14,7 @@ returns-in-Ok-clause-row g c = λ k told.
       synced.1,
       row_at c.args.machine.now c.args.frames.now c.args.self.now _ _ c.give_up.new.frames _ c.give_up.new.self _ c.undone.result k synced.0 refl c.give_up.ensures.hib c.undone.ensures.reply
           (undone_row c.args.machine.now c.args.frames.now c.give_up.new.frames c.args.runs.now c.args.self.now k synced.0 c.args.call
-          c.requires.ready c.give_up.ensures.pages c.requires.stage whole synced.2 c.give_up.ensures.given),
+          c.requires.ready c.give_up.ensures.pages c.requires.at whole synced.2 c.give_up.ensures.given),
     )
 
 pub returns-in-Err-clause-row : goal.returns-in-Err-clause-row
@@ -22,7 +23,7 @@ returns-in-Err-clause-row g c = λ k told.
       k,
       c.in-Err.ensures.failed ∙ told,
       row_at c.args.machine.now c.args.frames.now c.args.self.now _ c.leave_unsure.new.machine c.args.frames.now _ c.leave_unsure.new.self _ c.leave_unsure.result k k c.leave_unsure.ensures.machine c.leave_unsure.ensures.hib c.leave_unsure.ensures.reply
-          (end_failed_row c.args.machine.now c.args.frames.now c.args.runs.now c.args.self.now k c.args.call c.requires.ready c.requires.stage whole),
+          (end_failed_row c.args.machine.now c.args.frames.now c.args.runs.now c.args.self.now k c.args.call c.requires.ready c.requires.at whole),
     )
 
 pub returns-in-Ok-clause-memory : goal.returns-in-Ok-clause-memory

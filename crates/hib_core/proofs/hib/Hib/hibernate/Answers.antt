@@ -10,25 +10,25 @@ use Rattle.hib_core.proofs.hib.Hib.hibernate.Goals as goal
 
 pub returns-in-Ok-clause-row : goal.returns-in-Ok-clause-row
 returns-in-Ok-clause-row c = λ k.
-    let is : IsBegin c.args.machine.now c.args.frames.now c.take.new.frames c.accept.new.self c.take.new.self c.in-Ok.counts = record {
+    let is : IsBegin c.args.machine.now c.args.frames.now c.take.new.frames c.accept.new.self c.take.new.self c.in-Ok.counts c.args.ending = record {
       hardware = c.zones-zones.ensures.hardware;
       size = c.requires.ready.run.size;
       counted = c.in-Ok.ensures.counted;
       taken = c.take.ensures.taken;
     } in
     subst (λ (r : Reply). IsBegun c.args.machine.now c.args.frames.now c.take.new.frames c.take.new.self (saving c.args.ending c.args.format) r k) (sym c.take.ensures.reply)
-    (begun_row c.args.machine.now c.args.frames.now c.take.new.frames c.accept.new.self c.take.new.self c.in-Ok.counts c.args.ending c.args.format k is (ap (λ (hib : Hib). hib.ending) c.accept.ensures.hib) c.in-Ok.ensures.format)
+    (begun_row c.args.machine.now c.args.frames.now c.take.new.frames c.accept.new.self c.take.new.self c.in-Ok.counts c.args.ending c.args.format k is c.in-Ok.ensures.format)
 
 pub returns-in-Ok-clause-ready : goal.returns-in-Ok-clause-ready
 returns-in-Ok-clause-ready c = λ busy.
-    let is : IsBegin c.args.machine.now c.args.frames.now c.take.new.frames c.accept.new.self c.take.new.self c.in-Ok.counts = record {
+    let is : IsBegin c.args.machine.now c.args.frames.now c.take.new.frames c.accept.new.self c.take.new.self c.in-Ok.counts c.args.ending = record {
       hardware = c.zones-zones.ensures.hardware;
       size = c.requires.ready.run.size;
       counted = c.in-Ok.ensures.counted;
       taken = c.take.ensures.taken;
     } in
     let few : c.args.machine.now.blocks < 2 ^ 32 = omega arith in
-    can_step c.args.machine.now c.args.frames.now c.take.new.frames c.take.new.runs c.accept.new.self c.take.new.self c.in-Ok.counts is c.requires.ready.run.usable few c.take.ensures.size c.take.ensures.matches
+    can_step c.args.machine.now c.args.frames.now c.take.new.frames c.take.new.runs c.accept.new.self c.take.new.self c.in-Ok.counts c.args.ending is c.requires.ready.run.usable few c.take.ensures.size c.take.ensures.matches
 
 pub returns-in-Err-clause-row : goal.returns-in-Err-clause-row
 returns-in-Err-clause-row c = λ k.
@@ -38,4 +38,4 @@ pub returns-in-Err-clause-ready : goal.returns-in-Err-clause-ready
 returns-in-Err-clause-ready c = λ busy. absurd (subst is_busy_at (ap (λ (hib : Hib). hib.stage) c.accept.ensures.hib) busy)
 
 pub returns-in-Ok-clause-memory : goal.returns-in-Ok-clause-memory
-returns-in-Ok-clause-memory c = inl (begins_image c.args.machine.now c.args.frames.now c.take.new.frames c.accept.new.self c.take.new.self c.in-Ok.counts c.take.ensures.taken)
+returns-in-Ok-clause-memory c = inl (begins_image c.args.machine.now c.args.frames.now c.take.new.frames c.accept.new.self c.take.new.self c.in-Ok.counts c.args.ending c.take.ensures.taken)

@@ -6,17 +6,19 @@ use Rattle.plain_machine.specs.UsableArea.{kind_fault}
 use Rattle.sig_header.specs.AreaKind.{area_kind}
 use Rattle.plain_machine.specs.declared.reply.Reply.TheVariants as reply
 use Rattle.plain_machine.specs.declared.reply.Left.TheVariants.{Same}
-use Rattle.hib_core.proofs.Facts.{content_of, row_of, header_read}
-use Rattle.hib_core.proofs.Syncing.{read_row, read_failed_row, not_swap_row}
+use Rattle.hib_core.specs.declared.hib.Saving.{Saving}
+use Rattle.hib_core.proofs.Facts.{row_of, after_step}
+use Rattle.hib_core.proofs.Syncing.{gone_on, read_row, read_failed_row, not_swap_row}
 use Rattle.hib_core.proofs.hib.Hib.read_header.Goals as goal
+use Rattle.protocol_laws.proofs.Told.{content_of, header_read}
 
 pub returns-in-Err-clause-row : goal.returns-in-Err-clause-row
 returns-in-Err-clause-row g c = λ k told. (
   k,
   c.read.ensures.content ∙ told,
   row_of c.args.machine.now c.args.frames.now c.args.self.now c.args.machine.now c.give_up.new.frames _ c.give_up.new.self (reply.ReadFault Same) (reply.ReadFault Same) k k c.give_up.ensures.hib refl
-      (read_failed_row c.args.machine.now c.args.frames.now c.give_up.new.frames c.args.runs.now c.args.self.now c.read.new.into k
-      c.requires.ready c.give_up.ensures.pages c.requires.stage c.give_up.ensures.given),
+      (read_failed_row c.args.machine.now c.args.frames.now c.give_up.new.frames c.args.runs.now c.args.self.now c.args.saving k
+      c.requires.ready c.give_up.ensures.pages c.requires.at c.give_up.ensures.given),
 )
 
 pub returns-in-None-clause-row : goal.returns-in-None-clause-row
@@ -27,8 +29,9 @@ returns-in-None-clause-row g c = λ k told.
     let read = header_read c.args.machine.now.hw c.block-block.result c.args.machine.now.blocks c.read.new.into k (g.D.Disk.content c.args.disk.now) whole block_is below told c.in-Ok.ensures.bytes in (
       k,
       c.read.ensures.content ∙ told,
-      row_of c.args.machine.now c.args.frames.now c.args.self.now c.args.machine.now c.args.frames.now _ c.go_on.new.self _ c.go_on.result k k c.go_on.ensures.hib c.go_on.ensures.reply
-          (read_row c.args.machine.now c.args.frames.now c.args.runs.now c.args.self.now c.read.new.into k c.requires.ready c.requires.stage whole read),
+      row_of c.args.machine.now c.args.frames.now c.args.self.now c.args.machine.now c.args.frames.now (gone_on c.args.self.now (stage.Mark (after_step c.args.saving) c.read.new.into)) _ _ c.more.result k k
+          (ap (λ (s : Saving). gone_on c.args.self.now (stage.Mark s c.read.new.into)) c.after_step-saving.ensures) (c.more.ensures ∙ ap (λ (s : Saving). reply.More s.done s.steps) c.after_step-saving.ensures)
+          (read_row c.args.machine.now c.args.frames.now c.args.runs.now c.args.self.now c.args.saving c.read.new.into k c.requires.ready c.requires.at whole read),
     )
 
 pub returns-in-Some-clause-row : goal.returns-in-Some-clause-row
@@ -39,16 +42,16 @@ returns-in-Some-clause-row g c = λ k told.
     let read = header_read c.args.machine.now.hw c.block-block.result c.args.machine.now.blocks c.read.new.into k (g.D.Disk.content c.args.disk.now) whole block_is below told c.in-Ok.ensures.bytes in (
       k,
       c.read.ensures.content ∙ told,
-      not_swap_row c.args.machine.now c.args.frames.now c.give_up-in-Some.new.frames c.args.runs.now c.args.self.now c.give_up-in-Some.new.self k c.in-Some.why c.requires.ready c.requires.stage whole
+      not_swap_row c.args.machine.now c.args.frames.now c.give_up-in-Some.new.frames c.args.runs.now c.args.self.now c.give_up-in-Some.new.self c.args.saving k c.in-Some.why c.requires.ready c.requires.at whole
           (ap (λ (page : List ℕ). kind_fault (area_kind page)) (sym read) ∙ sym c.not_swap.ensures ∙ c.in-Some.is),
     )
 
 pub returns-in-Err-clause-memory : goal.returns-in-Err-clause-memory
 returns-in-Err-clause-memory g c =
-    read_fails stage.Read c.args.self.now.stage c.args.machine.now.hw c.args.frames.now c.give_up.new.frames c.requires.stage (gives_back c.args.machine.now.hw c.args.frames.now c.give_up.new.frames c.give_up.ensures.given)
+    read_fails (stage.Read c.args.saving) c.args.self.now.stage c.args.machine.now.hw c.args.frames.now c.give_up.new.frames c.requires.at (gives_back c.args.machine.now.hw c.args.frames.now c.give_up.new.frames c.give_up.ensures.given)
 
 pub returns-in-None-clause-memory : goal.returns-in-None-clause-memory
-returns-in-None-clause-memory g c = leaves_by c.go_on.result _ c.args.self.now.stage c.args.machine.now.hw c.args.frames.now c.args.frames.now c.go_on.ensures.reply (takes_none c.args.machine.now.hw c.args.frames.now)
+returns-in-None-clause-memory g c = leaves_by c.more.result _ c.args.self.now.stage c.args.machine.now.hw c.args.frames.now c.args.frames.now c.more.ensures (takes_none c.args.machine.now.hw c.args.frames.now)
 
 pub returns-in-Some-clause-memory : goal.returns-in-Some-clause-memory
 returns-in-Some-clause-memory g c = gives_back c.args.machine.now.hw c.args.frames.now c.give_up-in-Some.new.frames c.give_up-in-Some.ensures.given

@@ -1,12 +1,13 @@
 use Rattle.std.proofs.Common.{refl}
 use Rattle.hib_core.proofs.Leaving.{leaves_by}
-use Rattle.std.proofs.Common.{◌∙◌}
+use Rattle.std.proofs.Common.{sym, ◌∙◌}
 use Rattle.definitions.specs.Disk as disk
 use Rattle.plain_machine.specs.declared.reply.Reply.TheVariants as reply
 use Rattle.plain_machine.specs.declared.reply.UndoCall.TheVariants as undo
-use Rattle.hib_core.proofs.Facts.{content_of, changed, row_of}
+use Rattle.hib_core.proofs.Facts.{row_of}
 use Rattle.hib_core.proofs.Marking.{ended_row, asleep_row, end_failed_row}
 use Rattle.hib_core.proofs.hib.Hib.sync_mark.Goals as goal
+use Rattle.protocol_laws.proofs.Told.{content_of, changed}
 
 pub returns-in-SwitchesOff-clause-row : goal.returns-in-SwitchesOff-clause-row
 returns-in-SwitchesOff-clause-row g c = λ k told.
@@ -14,7 +15,7 @@ returns-in-SwitchesOff-clause-row g c = λ k told.
     let synced = changed disk.Syncs (g.D.Disk.content c.args.disk.now) (g.D.Disk.content c.sync.new.self) k told c.in-Ok.ensures.synced in (
       synced.0,
       synced.1,
-      ended_row c.args.machine.now c.args.frames.now c.args.runs.now c.args.self.now k synced.0 c.requires.ready c.requires.stage c.in-SwitchesOff.is whole synced.2,
+      ended_row c.args.machine.now c.args.frames.now c.args.runs.now c.args.self.now c.in-End.saving c.in-End.header k synced.0 c.requires.ready (sym c.replace.ensures.value ∙ c.in-End.is) c.in-SwitchesOff.is whole synced.2,
     )
 
 pub returns-in-Sleeps-clause-row : goal.returns-in-Sleeps-clause-row
@@ -23,7 +24,7 @@ returns-in-Sleeps-clause-row g c = λ k told.
     let synced = changed disk.Syncs (g.D.Disk.content c.args.disk.now) (g.D.Disk.content c.sync.new.self) k told c.in-Ok.ensures.synced in (
       synced.0,
       synced.1,
-      asleep_row c.args.machine.now c.args.frames.now c.args.runs.now c.args.self.now k synced.0 c.requires.ready c.requires.stage c.in-Sleeps.is whole synced.2,
+      asleep_row c.args.machine.now c.args.frames.now c.args.runs.now c.args.self.now c.in-End.saving c.in-End.header k synced.0 c.requires.ready (sym c.replace.ensures.value ∙ c.in-End.is) c.in-Sleeps.is whole synced.2,
     )
 
 pub returns-in-Err-clause-row : goal.returns-in-Err-clause-row
@@ -31,7 +32,7 @@ returns-in-Err-clause-row g c = λ k told. (
   k,
   c.in-Err.ensures.failed ∙ told,
   row_of c.args.machine.now c.args.frames.now c.args.self.now c.args.machine.now c.args.frames.now _ c.begin_undo.new.self (reply.Undo undo.Sync 0) c.begin_undo.result k k c.begin_undo.ensures.hib c.begin_undo.ensures.reply
-      (end_failed_row c.args.machine.now c.args.frames.now c.args.runs.now c.args.self.now k c.requires.ready c.requires.stage),
+      (end_failed_row c.args.machine.now c.args.frames.now c.args.runs.now c.args.self.now c.in-End.saving c.in-End.header k c.requires.ready (sym c.replace.ensures.value ∙ c.in-End.is)),
 )
 
 pub returns-in-Err-clause-memory : goal.returns-in-Err-clause-memory

@@ -7,7 +7,7 @@ use Rattle.image_write.specs.Writing.{BlocksBelow, writes_of}
 use Rattle.snapshot.specs.Taken.{Taken}
 use Rattle.swap_slots.specs.Table.{LiesIn, Matches, free_in}
 use Rattle.swap_slots.specs.declared.table.SlotTable.{SlotTable}
-use Rattle.protocol_laws.specs.Writers.{slot_table_of}
+use Rattle.machine.specs.Running.{slot_table_of}
 use Rattle.hib_core.specs.Begin.{info_of}
 use Rattle.hib_core.proofs.BeginTables.{frame_table_lies, slot_table_lies, counted_few, free_slots_stay, room_for_image, still_matches, image_on_disk, below_more, copies_at}
 use Rattle.hib_core.proofs.hib.Hib.take.Goals as goal
@@ -21,8 +21,8 @@ copy-requires-clause-table c =
 pub info_of-info-requires-clause-saved : goal.info_of-info-requires-clause-saved
 info_of-info-requires-clause-saved c = (counted_few c.args.machine.now c.args.frames.now c.args.self.now c.args.counts c.zones-zones.ensures.hardware c.requires.counted).0
 
-pub steps_of-self-requires-clause-saved : goal.steps_of-self-requires-clause-saved
-steps_of-self-requires-clause-saved c = (counted_few c.args.machine.now c.args.frames.now c.args.self.now c.args.counts c.zones-zones.ensures.hardware c.requires.counted).0
+pub steps_of-requires-clause-saved : goal.steps_of-requires-clause-saved
+steps_of-requires-clause-saved c = (counted_few c.args.machine.now c.args.frames.now c.args.self.now c.args.counts c.zones-zones.ensures.hardware c.requires.counted).0
 
 pub begin-writer-requires-clause-table : goal.begin-writer-requires-clause-table
 begin-writer-requires-clause-table c =

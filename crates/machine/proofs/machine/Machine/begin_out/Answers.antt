@@ -11,7 +11,7 @@ use Rattle.plain_machine.specs.declared.event.TaskOp.TheVariants as op
 use Rattle.plain_machine.specs.declared.reply.Reply.TheVariants as reply
 use Rattle.machine.specs.Flights.{flights_in}
 use Rattle.machine.specs.Running.{CanRun}
-use Rattle.machine.specs.TaskRow.{HasRow}
+use Rattle.machine.specs.TaskRow.{SimulatesRequest}
 use Rattle.machine.specs.declared.flight.Flight.TheVariants.{Out}
 use Rattle.machine.specs.declared.machine.Machine.{Machine}
 use Rattle.machine.proofs.SlotWrites.{frame_entry-slot_set}
@@ -48,7 +48,7 @@ returns-in-Some-take_slot-clause-row c =
     let least : slice_get (free_slots h.slots h.slot_table frames) 0 ≡ Some s = sym (c.in-Some-take_slot.ensures.least ok) in
     let slot = first_free h frames s least in
     let new = c.set_flight.new.self in
-    subst (λ (n : Memory). HasRow machine frames t (op.Out p) new n (reply.Slot s)) (sym c.in-Some-take_slot.ensures.taken)
+    subst (λ (n : Memory). SimulatesRequest machine frames t (op.Out p) new n (reply.Slot s)) (sym c.in-Some-take_slot.ensures.taken)
     (out_begun machine new frames t p s hw (has_slots h frames hw c.not_own.ensures.pages c.requires.ready.size) c.requires.task c.requires.ready.size c.requires.idle (sym c.in_default.ensures.refusal)
     (is_no machine.held c.if-ne.ensures) ok least slot.0 slot.1
     (λ u. ap (λ (m : Machine). flights_in m.flights u) c.set_flight.ensures.set ∙ flights-set machine.flights t (Out s p) u c.requires.task c.set_flight.ensures.tasks))
@@ -74,6 +74,6 @@ returns-in-None-clause-row c =
     let h = machine.hw in
     let frames = c.args.frames.now in
     let hw = c.not_own.ensures.hardware in
-    subst (λ (n : Memory). HasRow machine frames c.args.t (op.Out c.args.p) machine n reply.NoSlot) (sym (c.in-None.ensures.none refl))
+    subst (λ (n : Memory). SimulatesRequest machine frames c.args.t (op.Out c.args.p) machine n reply.NoSlot) (sym (c.in-None.ensures.none refl))
     (out_no_slot machine frames c.args.t c.args.p hw (has_slots h frames hw c.not_own.ensures.pages c.requires.ready.size) c.requires.ready.size c.requires.idle (sym c.in_default.ensures.refusal)
     (is_no machine.held c.if-ne.ensures) (λ ok. sym (c.in-None.ensures.least ok)))

@@ -1,6 +1,6 @@
 use Rattle.std.proofs.Common.{sym, subst}
 use Rattle.plain_machine.specs.declared.event.TaskOp.{TaskOp}
-use Rattle.machine.specs.TaskRow.{HasFrameRow, HasRow}
+use Rattle.machine.specs.TaskRow.{HasFrameRow, SimulatesRequest}
 use Rattle.machine.specs.Flights.{flights_in}
 use Rattle.machine.proofs.Swaps.{row_of_frames, row_in_flight, not_in_flight}
 use Rattle.machine.proofs.Readiness.{can_run-changes}
@@ -8,11 +8,11 @@ use Rattle.machine.proofs.machine.Machine.task.Goals as goal
 
 pub returns-in-Out-clause-row : goal.returns-in-Out-clause-row
 returns-in-Out-clause-row c =
-    subst (λ (o : TaskOp). HasRow c.args.self.now c.args.frames.now c.args.t o c.begin_out.new.self c.begin_out.new.frames c.begin_out.result) (sym c.in-Out.is) c.begin_out.ensures.row
+    subst (λ (o : TaskOp). SimulatesRequest c.args.self.now c.args.frames.now c.args.t o c.begin_out.new.self c.begin_out.new.frames c.begin_out.result) (sym c.in-Out.is) c.begin_out.ensures.row
 
 pub returns-in-TakeIn-clause-row : goal.returns-in-TakeIn-clause-row
 returns-in-TakeIn-clause-row c =
-    subst (λ (o : TaskOp). HasRow c.args.self.now c.args.frames.now c.args.t o c.begin_in.new.self c.args.frames.now c.begin_in.result) (sym c.in-TakeIn.is) c.begin_in.ensures.row
+    subst (λ (o : TaskOp). SimulatesRequest c.args.self.now c.args.frames.now c.args.t o c.begin_in.new.self c.args.frames.now c.begin_in.result) (sym c.in-TakeIn.is) c.begin_in.ensures.row
 
 pub returns-then-is_in_flight-clause-row : goal.returns-then-is_in_flight-clause-row
 returns-then-is_in_flight-clause-row c = row_in_flight c.args.self.now c.args.frames.now c.args.t c.args.op (sym c.if-is_in_flight.ensures)

@@ -5,10 +5,11 @@ use Rattle.plain_machine.specs.Machine.{block_of_slot}
 use Rattle.plain_machine.specs.Chain.{header_of}
 use Rattle.plain_machine.specs.declared.reply.Reply.TheVariants as reply
 use Rattle.plain_machine.specs.declared.reply.Left.TheVariants.{Same}
-use Rattle.resume_core.proofs.Facts.{content_of, told_of, row_of, count_of}
+use Rattle.resume_core.proofs.Facts.{row_of, count_of}
 use Rattle.resume_core.proofs.Headers.{none_beyond, read_below}
 use Rattle.resume_core.proofs.Finding.{none_row, find_failed_row, found_row, fault_row, none_found, image_found, fault_found}
 use Rattle.resume_core.proofs.load.Load.find.Goals as goal
+use Rattle.protocol_laws.proofs.Told.{content_of, told_of}
 
 pub returns-then-block-from-clause-row : goal.returns-then-block-from-clause-row
 returns-then-block-from-clause-row g c = λ k told.
@@ -16,7 +17,7 @@ returns-then-block-from-clause-row g c = λ k told.
       k,
       told,
       row_of c.args.machine.now c.args.frames.now c.args.self.now c.args.machine.now c.args.frames.now _ c.stop.new.self reply.NoImage c.stop.result k k c.stop.ensures.load c.stop.ensures.reply
-          (none_row c.args.machine.now c.args.frames.now c.args.self.now c.args.self.now.header k c.requires.stage whole
+          (none_row c.args.machine.now c.args.frames.now c.args.self.now k c.requires.stage whole
           (none_beyond c.args.machine.now.hw (disk.as_it_reads k)
           (let count = count_of c.args.machine.now.blocks k whole in
           let at : c.block-block.result ≡ block_of_slot c.args.machine.now.hw 0 = c.block-block.ensures.block ∙ ap (λ (m : List (ℕ × ℕ × ℕ)). block_of m 0) c.extents.ensures.extents in
@@ -30,7 +31,7 @@ returns-in-Err-clause-row g c = λ k told. (
   k,
   c.read.ensures.content ∙ told,
   row_of c.args.machine.now c.args.frames.now c.args.self.now c.args.machine.now c.args.frames.now _ c.stop-in-Err.new.self (reply.ReadFault Same) c.stop-in-Err.result k k c.stop-in-Err.ensures.load c.stop-in-Err.ensures.reply
-      (find_failed_row c.args.machine.now c.args.frames.now c.args.self.now c.read.new.into k c.requires.stage),
+      (find_failed_row c.args.machine.now c.args.frames.now c.args.self.now k c.requires.stage),
 )
 
 pub returns-in-Ok-found-clause-row : goal.returns-in-Ok-found-clause-row

@@ -1,18 +1,18 @@
-use Rattle.std.proofs.Common.{ℕ, List, [], refl, sym, ◌∙◌, subst, arith}
+use Rattle.std.proofs.Common.{sym, ◌∙◌}
 use Rattle.definitions.specs.Disk as disk
-use Rattle.image_read.specs.Reading.{IsReady}
 use Rattle.plain_machine.specs.declared.reply.Reply.TheVariants as reply
 use Rattle.plain_machine.specs.declared.reply.Left.TheVariants.{Unsure}
-use Rattle.resume_core.proofs.Facts.{content_of, changed, row_of, over_still}
-use Rattle.resume_core.proofs.TakingBack.{back_sync_failed_row, opened_row, back_stopped_row, empty_at}
+use Rattle.resume_core.proofs.Facts.{row_of}
+use Rattle.resume_core.proofs.TakingBack.{back_sync_failed_row, opened_row, back_stopped_row, syncs_back_of}
 use Rattle.resume_core.proofs.load.Load.sync_back.Goals as goal
+use Rattle.protocol_laws.proofs.Told.{content_of, changed}
 
 pub returns-in-Err-clause-row : goal.returns-in-Err-clause-row
 returns-in-Err-clause-row g c = λ k told. (
   k,
   c.in-Err.ensures.failed ∙ told,
   row_of c.args.machine.now c.args.frames.now c.args.self.now c.args.machine.now c.args.frames.now _ c.stop.new.self (reply.SyncFault Unsure) c.stop.result k k c.stop.ensures.load c.stop.ensures.reply
-      (back_sync_failed_row c.args.machine.now c.args.frames.now c.args.self.now k c.requires.stage),
+      (let at = syncs_back_of c.args.self.now.stage c.requires.stage in back_sync_failed_row c.args.machine.now c.args.frames.now c.args.self.now at.0 k at.1),
 )
 
 pub returns-in-Ok-reader_of-clause-row : goal.returns-in-Ok-reader_of-clause-row
@@ -21,24 +21,9 @@ returns-in-Ok-reader_of-clause-row g c = λ k told.
     let synced = changed disk.Syncs (g.D.Disk.content c.args.disk.now) (g.D.Disk.content c.sync.new.self) k told c.in-Ok.ensures.synced in (
       synced.0,
       synced.1,
-      opened_row c.args.machine.now c.args.frames.now c.args.self.now c.in-Ok-reader_of.reader k synced.0 c.requires.ready.over.hardware c.requires.stage whole synced.2
+      opened_row c.args.machine.now c.args.frames.now c.args.self.now c.in-SyncBack.found c.in-Ok-reader_of.reader k synced.0 c.requires.ready.over.hardware (sym c.replace.ensures.value ∙ c.in-SyncBack.is) whole synced.2
           (λ v is. c.in-Ok-reader_of.ensures.opens v is.mark is.blocks),
     )
-
-pub returns-in-Ok-reader_of-clause-ready : goal.returns-in-Ok-reader_of-clause-ready
-returns-in-Ok-reader_of-clause-ready g c =
-    let empty = empty_at c.args.machine.now c.args.frames.now c.args.runs.now c.args.self.now c.requires.stage c.requires.ready in record {
-      over = over_still c.args.machine.now c.args.frames.now c.args.runs.now c.args.self.now _ refl refl refl c.requires.ready.over;
-      next = (
-        record {
-          reader = c.in-Ok-reader_of.reader;
-          has = refl;
-          ready = subst (λ (zs : List ℕ). IsReady c.in-Ok-reader_of.reader c.args.self.now.origs.members zs) (sym empty.1) (subst (λ (os : List ℕ). IsReady c.in-Ok-reader_of.reader os []) (sym empty.0) c.in-Ok-reader_of.ensures.ready);
-          within = (let same = c.in-Ok-reader_of.ensures.blocks in omega arith);
-        },
-        omega arith,
-      );
-    }
 
 pub returns-in-Err-reader_of-clause-row : goal.returns-in-Err-reader_of-clause-row
 returns-in-Err-reader_of-clause-row g c = λ k told.
@@ -47,6 +32,6 @@ returns-in-Err-reader_of-clause-row g c = λ k told.
       synced.0,
       synced.1,
       row_of c.args.machine.now c.args.frames.now c.args.self.now c.args.machine.now c.args.frames.now _ c.stop-in-Err-reader_of.new.self c.in-Err-reader_of.why c.stop-in-Err-reader_of.result k synced.0 c.stop-in-Err-reader_of.ensures.load c.stop-in-Err-reader_of.ensures.reply
-          (back_stopped_row c.args.machine.now c.args.frames.now c.args.self.now k synced.0 c.in-Err-reader_of.why c.requires.ready.over.hardware c.requires.stage whole synced.2
+          (back_stopped_row c.args.machine.now c.args.frames.now c.args.self.now c.in-SyncBack.found k synced.0 c.in-Err-reader_of.why c.requires.ready.over.hardware (sym c.replace.ensures.value ∙ c.in-SyncBack.is) whole synced.2
           (λ v is. c.in-Err-reader_of.ensures.opens v is.mark is.blocks)),
     )

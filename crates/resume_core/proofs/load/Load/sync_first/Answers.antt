@@ -2,9 +2,10 @@ use Rattle.std.proofs.Common.{◌∙◌}
 use Rattle.definitions.specs.Disk as disk
 use Rattle.plain_machine.specs.declared.reply.Reply.TheVariants as reply
 use Rattle.plain_machine.specs.declared.reply.Left.TheVariants.{Same}
-use Rattle.resume_core.proofs.Facts.{content_of, changed, row_of}
+use Rattle.resume_core.proofs.Facts.{row_of}
 use Rattle.resume_core.proofs.Finding.{synced_row, sync_failed_row}
 use Rattle.resume_core.proofs.load.Load.sync_first.Goals as goal
+use Rattle.protocol_laws.proofs.Told.{content_of, changed}
 
 pub returns-in-Ok-clause-row : goal.returns-in-Ok-clause-row
 returns-in-Ok-clause-row g c = λ k told.

@@ -1,12 +1,13 @@
-use Rattle.std.proofs.Common.{◌≡◌, ℕ, List, ap, ◌∙◌, subst}
+use Rattle.std.proofs.Common.{◌≡◌, ℕ, List, ap, sym, ◌∙◌, subst}
 use Rattle.definitions.specs.Disk as disk
 use Rattle.definitions.specs.Slots.{block_of}
 use Rattle.plain_machine.specs.Machine.{block_of_slot}
 use Rattle.plain_machine.specs.declared.reply.Reply.TheVariants as reply
 use Rattle.plain_machine.specs.declared.reply.Left.TheVariants.{Unsure}
-use Rattle.resume_core.proofs.Facts.{content_of, changed, row_of}
+use Rattle.resume_core.proofs.Facts.{row_of}
 use Rattle.resume_core.proofs.TakingBack.{back_row, back_failed_row}
 use Rattle.resume_core.proofs.load.Load.take_back.Goals as goal
+use Rattle.protocol_laws.proofs.Told.{content_of, changed}
 
 pub returns-in-Ok-clause-row : goal.returns-in-Ok-clause-row
 returns-in-Ok-clause-row g c = λ k told.
@@ -16,7 +17,7 @@ returns-in-Ok-clause-row g c = λ k told.
     let at : c.block-block.result ≡ block_of_slot c.args.machine.now.hw 0 = c.block-block.ensures.block ∙ ap (λ (m : List (ℕ × ℕ × ℕ)). block_of m 0) c.extents.ensures.extents in (
       wrote.0,
       wrote.1,
-      back_row c.args.machine.now c.args.frames.now c.args.self.now k wrote.0 c.requires.ready.over.hardware c.requires.stage whole whole'
+      back_row c.args.machine.now c.args.frames.now c.args.self.now c.in-TakeBack.found k wrote.0 c.requires.ready.over.hardware (sym c.replace.ensures.value ∙ c.in-TakeBack.is) whole whole'
           (subst (λ (p : List ℕ). disk.Writes (block_of_slot c.args.machine.now.hw 0) p k wrote.0) c.take_back.ensures (subst (λ (b : ℕ). disk.Writes b c.take_back.result k wrote.0) at wrote.2)),
     )
 
@@ -29,6 +30,6 @@ returns-in-Err-clause-row g c = λ k told.
       tried.0,
       tried.1,
       row_of c.args.machine.now c.args.frames.now c.args.self.now c.args.machine.now c.args.frames.now _ c.stop.new.self (reply.WriteFault Unsure) c.stop.result k tried.0 c.stop.ensures.load c.stop.ensures.reply
-          (back_failed_row c.args.machine.now c.args.frames.now c.args.self.now k tried.0 c.requires.ready.over.hardware c.requires.stage whole whole'
+          (back_failed_row c.args.machine.now c.args.frames.now c.args.self.now c.in-TakeBack.found k tried.0 c.requires.ready.over.hardware (sym c.replace.ensures.value ∙ c.in-TakeBack.is) whole whole'
           (subst (λ (p : List ℕ). disk.FailsToWrite (block_of_slot c.args.machine.now.hw 0) p k tried.0) c.take_back.ensures (subst (λ (b : ℕ). disk.FailsToWrite b c.take_back.result k tried.0) at tried.2))),
     )

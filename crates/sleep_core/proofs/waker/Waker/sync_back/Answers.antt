@@ -2,9 +2,9 @@ use Rattle.std.proofs.Common.{◌∙◌}
 use Rattle.definitions.specs.Disk as disk
 use Rattle.plain_machine.specs.Shows.{seen_frames}
 use Rattle.sleep_core.specs.Row.{Sleeps, Runs}
-use Rattle.sleep_core.proofs.Facts.{content_of, changed}
 use Rattle.sleep_core.proofs.Rows.{as_left, woken, woken_row, sync_failed_row}
 use Rattle.sleep_core.proofs.waker.Waker.sync_back.Goals as goal
+use Rattle.protocol_laws.proofs.Told.{content_of, changed}
 
 pub returns-in-Ok-clause-row : goal.returns-in-Ok-clause-row
 returns-in-Ok-clause-row g c = λ frames memory machine' frames' left k told.
@@ -14,12 +14,12 @@ returns-in-Ok-clause-row g c = λ frames memory machine' frames' left k told.
     let synced = changed disk.Syncs (g.D.Disk.content c.args.disk.now) (g.D.Disk.content c.sync.new.self) k told c.in-Ok.ensures.synced in (
       synced.0,
       synced.1,
-      as_left machine frames waker Runs (woken machine) machine' (seen_frames machine.hw frames) frames' _ k synced.0 left.0 left.1 (woken_row machine frames waker k synced.0 memory c.requires.stage whole synced.2),
+      as_left machine frames waker Runs (woken machine) machine' (seen_frames machine.hw frames) frames' _ k synced.0 left.0 left.1 (woken_row machine frames waker k synced.0 memory c.requires.at whole synced.2),
     )
 
 pub returns-in-Err-clause-row : goal.returns-in-Err-clause-row
 returns-in-Err-clause-row g c = λ frames memory machine' frames' left k told. (
   k,
   c.in-Err.ensures.failed ∙ told,
-  as_left c.args.machine.now frames c.args.self.now Sleeps c.args.machine.now machine' frames frames' _ k k left.0 left.1 (sync_failed_row c.args.machine.now frames c.args.self.now k c.requires.stage),
+  as_left c.args.machine.now frames c.args.self.now Sleeps c.args.machine.now machine' frames frames' _ k k left.0 left.1 (sync_failed_row c.args.machine.now frames c.args.self.now k c.requires.at),
 )

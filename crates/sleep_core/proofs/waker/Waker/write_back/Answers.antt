@@ -1,14 +1,12 @@
-use Rattle.std.proofs.Common.{◌≡◌, ℕ, List, ap, ◌∙◌, sym, subst}
+use Rattle.std.proofs.Common.{◌≡◌, ℕ, List, ap, ◌∙◌}
 use Rattle.definitions.specs.Disk as disk
 use Rattle.definitions.specs.Slots.{block_of}
-use Rattle.plain_machine.specs.declared.reply.Reply.TheVariants as reply
 use Rattle.protocol_laws.specs.Settling.{IsOnDisk, unmarked_block}
 use Rattle.sleep_core.specs.Row.{StandsFor, Sleeps}
 use Rattle.sleep_core.specs.declared.waker.Stage.TheVariants as stage
-use Rattle.sleep_core.specs.declared.waker.Waker.{Waker}
-use Rattle.sleep_core.proofs.Facts.{content_of, changed, write_at}
-use Rattle.sleep_core.proofs.Rows.{IsStepRow, as_left, write_row, write_failed_row}
+use Rattle.sleep_core.proofs.Rows.{as_left, write_row, write_failed_row}
 use Rattle.sleep_core.proofs.waker.Waker.write_back.Goals as goal
+use Rattle.protocol_laws.proofs.Told.{content_of, changed, write_at}
 
 pub returns-in-Ok-clause-row : goal.returns-in-Ok-clause-row
 returns-in-Ok-clause-row g c = λ frames memory machine' frames' left k told.
@@ -16,16 +14,15 @@ returns-in-Ok-clause-row g c = λ frames memory machine' frames' left k told.
     let waker = c.args.self.now in
     let whole = content_of (g.D.Disk.block_count c.args.disk.now) machine.blocks (g.D.Disk.content c.args.disk.now) k told c.requires.blocks (g.met.D.Disk.well_formed c.args.disk.now) in
     let block_is : c.block-block.result ≡ block_of machine.hw.extents 0 = c.block-block.ensures.block ∙ ap (λ (es : List (ℕ × ℕ × ℕ)). block_of es 0) c.extents.ensures.extents in
-    let page : c.unmark.new.self.header ≡ unmarked_block waker.header = ap (λ (x : Waker). x.header) c.unmark.ensures in
-    let after = changed (disk.Writes c.block-block.result c.unmark.new.self.header) (g.D.Disk.content c.args.disk.now) (g.D.Disk.content c.write.new.self) k told c.in-Ok.ensures.written in
-    let writes = write_at disk.Writes c.block-block.result (block_of machine.hw.extents 0) c.unmark.new.self.header (unmarked_block waker.header) k after.0 block_is page after.2 in
+    let page : c.unmark.new.header ≡ unmarked_block c.in-Write.header = c.unmark.ensures in
+    let after = changed (disk.Writes c.block-block.result c.unmark.new.header) (g.D.Disk.content c.args.disk.now) (g.D.Disk.content c.write.new.self) k told c.in-Ok.ensures.written in
+    let writes = write_at disk.Writes c.block-block.result (block_of machine.hw.extents 0) c.unmark.new.header (unmarked_block c.in-Write.header) k after.0 block_is page after.2 in
     let whole' = content_of (g.D.Disk.block_count c.write.new.self) machine.blocks (g.D.Disk.content c.write.new.self) after.0 after.1 (c.write.ensures.blocks ∙ c.requires.blocks) (g.met.D.Disk.well_formed c.write.new.self) in
     let over : IsOnDisk machine.hw machine.blocks k = record { hardware = c.requires.hardware; content = whole; header = c.requires.header } in (
       after.0,
       after.1,
-      as_left machine frames waker (λ m f. StandsFor m f (record c.unmark.new.self { stage = stage.Sync })) machine machine' frames frames' _ k after.0 left.0 left.1
-          (subst (λ (x : Waker). IsStepRow machine frames waker (StandsFor machine frames (record x { stage = stage.Sync })) (reply.More 2 3) k after.0) (sym c.unmark.ensures)
-          (write_row machine frames waker k after.0 over c.requires.stage whole' writes)),
+      as_left machine frames waker (λ m f. StandsFor m f (record waker { stage = stage.Sync })) machine machine' frames frames' _ k after.0 left.0 left.1
+          (write_row machine frames waker c.in-Write.header k after.0 over c.in-Write.is whole' writes),
     )
 
 pub returns-in-Err-clause-row : goal.returns-in-Err-clause-row
@@ -34,12 +31,12 @@ returns-in-Err-clause-row g c = λ frames memory machine' frames' left k told.
     let waker = c.args.self.now in
     let whole = content_of (g.D.Disk.block_count c.args.disk.now) machine.blocks (g.D.Disk.content c.args.disk.now) k told c.requires.blocks (g.met.D.Disk.well_formed c.args.disk.now) in
     let block_is : c.block-block.result ≡ block_of machine.hw.extents 0 = c.block-block.ensures.block ∙ ap (λ (es : List (ℕ × ℕ × ℕ)). block_of es 0) c.extents.ensures.extents in
-    let page : c.unmark.new.self.header ≡ unmarked_block waker.header = ap (λ (x : Waker). x.header) c.unmark.ensures in
-    let after = changed (disk.FailsToWrite c.block-block.result c.unmark.new.self.header) (g.D.Disk.content c.args.disk.now) (g.D.Disk.content c.write.new.self) k told c.in-Err.ensures.failed in
-    let fails = write_at disk.FailsToWrite c.block-block.result (block_of machine.hw.extents 0) c.unmark.new.self.header (unmarked_block waker.header) k after.0 block_is page after.2 in
+    let page : c.unmark.new.header ≡ unmarked_block c.in-Write.header = c.unmark.ensures in
+    let after = changed (disk.FailsToWrite c.block-block.result c.unmark.new.header) (g.D.Disk.content c.args.disk.now) (g.D.Disk.content c.write.new.self) k told c.in-Err.ensures.failed in
+    let fails = write_at disk.FailsToWrite c.block-block.result (block_of machine.hw.extents 0) c.unmark.new.header (unmarked_block c.in-Write.header) k after.0 block_is page after.2 in
     let whole' = content_of (g.D.Disk.block_count c.write.new.self) machine.blocks (g.D.Disk.content c.write.new.self) after.0 after.1 (c.write.ensures.blocks ∙ c.requires.blocks) (g.met.D.Disk.well_formed c.write.new.self) in
     let over : IsOnDisk machine.hw machine.blocks k = record { hardware = c.requires.hardware; content = whole; header = c.requires.header } in (
       after.0,
       after.1,
-      as_left machine frames waker Sleeps machine machine' frames frames' _ k after.0 left.0 left.1 (write_failed_row machine frames waker k after.0 over c.requires.stage whole' fails),
+      as_left machine frames waker Sleeps machine machine' frames frames' _ k after.0 left.0 left.1 (write_failed_row machine frames waker c.in-Write.header k after.0 over c.in-Write.is whole' fails),
     )

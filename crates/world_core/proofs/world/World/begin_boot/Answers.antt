@@ -4,7 +4,7 @@ use Rattle.plain_machine.specs.declared.reply.Reply.TheVariants as reply
 use Rattle.world_core.specs.declared.world.Core.TheVariants.{BootBegun}
 use Rattle.world_core.specs.World.{World}
 use Rattle.world_core.specs.Kept.{kept_world}
-use Rattle.world_core.specs.Row.{IsRow}
+use Rattle.world_core.specs.Row.{Simulates}
 use Rattle.world_core.specs.StandsFor.{is_off, keeps_dump}
 use Rattle.plain_machine.specs.Refusals.{asks_dump_to_boot}
 use Rattle.world_core.proofs.Booting.{boot_begins}
@@ -37,7 +37,7 @@ pub returns-clause-row : goal.returns-clause-row
 returns-clause-row c = λ k.
     let old = kept_world c.self.inside in
     let new = record old { machine = record c.self.inside.machine { blocks = c.args.blocks }; frames = c.set_memory.new.frames; core = BootBegun c.args.from } in
-    subst (λ (w : World). IsRow (event.Boot c.args.from) w new (reply.More 0 2) k k) c.self.view_is
+    subst (λ (w : World). Simulates (event.Boot c.args.from) w new (reply.More 0 2) k k) c.self.view_is
     (boot_begins old new k c.args.from
     (record {
       off = ap (λ (w : World). is_off w.core) c.self.view_is ∙ c.requires.off;

@@ -8,7 +8,7 @@ use Rattle.machine.specs.declared.machine.Machine.{Machine}
 use Rattle.plain_machine.specs.Machine.{block_of_slot}
 use Rattle.world_core.specs.World.{World}
 use Rattle.world_core.specs.Kept.{kept_world, IsUp}
-use Rattle.world_core.specs.Row.{IsRow}
+use Rattle.world_core.specs.Row.{Simulates}
 use Rattle.world_core.proofs.Hibernating.{row_of_begin, busy_told, never_loads, never_sleeps, never_wakes}
 use Rattle.world_core.proofs.Readiness.{can_run-same, entries_at_begin, no_tables_told}
 use Rattle.world_core.proofs.world.World.begin_job.Goals as goal
@@ -45,7 +45,7 @@ invariant_of-self c =
 pub returns-clause-row : goal.returns-clause-row
 returns-clause-row c = λ k.
     let new = kept_world (record { machine = c.begin-reply.new.machine; frames = c.begin-reply.new.frames; runs = c.begin-reply.new.runs; hib = c.begin-reply.new.self; load = c.self.inside.load; waker = c.self.inside.waker; core = c.core_after-self-inside.result }) in
-    subst (λ (old : World). IsRow (event_of c.args.job) old new c.begin-reply.result k k) c.self.view_is
+    subst (λ (old : World). Simulates (event_of c.args.job) old new c.begin-reply.result k k) c.self.view_is
     (row_of_begin (kept_world c.self.inside) new c.args.job c.begin-reply.result k (ap (λ (w : World). w.core) c.self.view_is ∙ c.requires.running) c.core_after-self-inside.ensures c.begin-reply.ensures.machine c.begin-reply.ensures.phase (c.begin-reply.ensures.row k))
 
 pub returns-clause-memory : goal.returns-clause-memory

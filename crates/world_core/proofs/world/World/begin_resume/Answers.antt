@@ -2,7 +2,7 @@ use Rattle.std.proofs.Common.{refl, sym, ap, ◌∙◌, subst}
 use Rattle.plain_machine.specs.declared.event.Event.TheVariants as event
 use Rattle.world_core.specs.World.{World}
 use Rattle.world_core.specs.Kept.{IsDown, kept_world}
-use Rattle.world_core.specs.Row.{IsRow}
+use Rattle.world_core.specs.Row.{Simulates}
 use Rattle.world_core.specs.StandsFor.{is_off, keeps_dump}
 use Rattle.machine.specs.declared.machine.Machine.{Machine}
 use Rattle.world_core.proofs.Readiness.{can_run-resumed, no_tables_after}
@@ -33,6 +33,6 @@ invariant_of-self c =
 pub returns-clause-row : goal.returns-clause-row
 returns-clause-row c = λ k.
     let new = kept_world (record { machine = record c.self.inside.machine { blocks = c.args.blocks }; frames = c.begin-reply.new.frames; runs = c.self.inside.runs; hib = c.self.inside.hib; load = c.begin-reply.new.self; waker = c.self.inside.waker; core = c.core_after-self-inside.result }) in
-    subst (λ (old : World). IsRow (event.Resume c.args.loader c.args.check) old new c.begin-reply.result k k) c.self.view_is
+    subst (λ (old : World). Simulates (event.Resume c.args.loader c.args.check) old new c.begin-reply.result k k) c.self.view_is
     (row_of_begin (kept_world c.self.inside) new c.self.inside.frames c.args.loader c.args.check c.begin-reply.result k (ap (λ (w : World). is_off w.core) c.self.view_is ∙ c.requires.off)
     (record { loader = c.args.loader; core_is = c.core_after-self-inside.ensures.is; told = c.begin-reply.ensures.activity }) refl refl (λ asks. ap (λ (w : World). keeps_dump w.core) c.self.view_is ∙ c.requires.dump asks) c.begin-reply.ensures.row)

@@ -3,7 +3,7 @@ use Rattle.plain_machine.specs.declared.event.Event.TheVariants as event
 use Rattle.plain_machine.specs.declared.reply.Reply.TheVariants as reply
 use Rattle.world_core.specs.declared.world.Core.TheVariants.{Waking}
 use Rattle.world_core.specs.Kept.{kept_world, IsDown, IsUp}
-use Rattle.world_core.specs.Row.{IsRow}
+use Rattle.world_core.specs.Row.{Simulates}
 use Rattle.world_core.specs.World.{World}
 use Rattle.world_core.proofs.Wakes.{row_of_wake, woken_loads_not, woken_not_busy}
 use Rattle.world_core.proofs.world.World.begin_wake.Goals as goal
@@ -32,5 +32,5 @@ pub returns-clause-row : goal.returns-clause-row
 returns-clause-row c = λ k.
     let old = kept_world c.self.inside in
     let new : World = record old { waker = c.begin-self-inside.result; core = Waking } in
-    subst (λ (w : World). IsRow event.Wake w new (reply.More 0 3) k k) c.self.view_is
+    subst (λ (w : World). Simulates event.Wake w new (reply.More 0 3) k k) c.self.view_is
     (row_of_wake old new k (ap (λ (w : World). w.core) c.self.view_is ∙ c.requires.asleep) refl refl refl c.begin-self-inside.ensures.row)

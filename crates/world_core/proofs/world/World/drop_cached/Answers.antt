@@ -5,7 +5,7 @@ use Rattle.plain_machine.specs.Machine.{Memory}
 use Rattle.machine.specs.Running.{CanRun}
 use Rattle.hib_core.specs.Begin.{busy_of}
 use Rattle.world_core.specs.Kept.{kept_world, IsUp}
-use Rattle.world_core.specs.Row.{IsRow}
+use Rattle.world_core.specs.Row.{Simulates}
 use Rattle.world_core.specs.World.{World}
 use Rattle.world_core.proofs.CacheDrops.{can_run_freed, row_busy, row_shrunk, runs_alone}
 use Rattle.world_core.proofs.world.World.drop_cached.Goals as goal
@@ -46,7 +46,7 @@ returns-clause-row c = λ k.
     let new : World = record old { frames = c.drop_of-dropped.new.frames } in
     let core = ap (λ (w : World). w.core) c.self.view_is ∙ c.requires.running in
     let drop = c.drop_of-dropped.ensures in
-    subst (λ (w : World). IsRow (event.Shrink c.args.want) w new (reply.Shrunk c.drop_of-dropped.result.0 c.drop_of-dropped.result.1) k k) c.self.view_is
+    subst (λ (w : World). Simulates (event.Shrink c.args.want) w new (reply.Shrunk c.drop_of-dropped.result.0 c.drop_of-dropped.result.1) k k) c.self.view_is
     (row_shrunk old new c.args.want c.drop_of-dropped.result.0 c.drop_of-dropped.result.1 k drop.hardware c.self.invariant.size core (sym c.busy.ensures ∙ c.in_default.is)
     (record { core = core; hw = refl; held = refl; area = refl }) refl (record { frames_are = drop.frames; dropped_are = drop.dropped; rest = drop.rest }))
 

@@ -1,44 +1,44 @@
 use Rattle.std.proofs.Common.{sym, subst}
 use Rattle.plain_machine.specs.declared.event.Event.{Event}
-use Rattle.world_core.specs.Row.{IsRow, HasRow, IsNoCut}
+use Rattle.world_core.specs.Row.{Simulates, SimulatesWhereTold, IsNoCut}
 use Rattle.sector_disk.proofs.Time.{still, unread, inside}
 use Rattle.world_core.proofs.world.World.event.Goals as goal
 
 pub returns-in-Boot-clause-row : goal.returns-in-Boot-clause-row
-returns-in-Boot-clause-row g c = λ k told. (k, told, subst (λ (e : Event). IsRow e c.args.self.now c.boot.new.self c.boot.result k k) (sym c.in-Boot.is) (c.boot.ensures.row k))
+returns-in-Boot-clause-row g c = λ k told. (k, told, subst (λ (e : Event). Simulates e c.args.self.now c.boot.new.self c.boot.result k k) (sym c.in-Boot.is) (c.boot.ensures.row k))
 
 pub returns-in-Task-clause-row : goal.returns-in-Task-clause-row
-returns-in-Task-clause-row g c = λ k told. (k, told, subst (λ (e : Event). IsRow e c.args.self.now c.task.new.self c.task.result k k) (sym c.in-Task.is) (c.task.ensures.row k))
+returns-in-Task-clause-row g c = λ k told. (k, told, subst (λ (e : Event). Simulates e c.args.self.now c.task.new.self c.task.result k k) (sym c.in-Task.is) (c.task.ensures.row k))
 
 pub returns-in-Step-clause-row : goal.returns-in-Step-clause-row
 returns-in-Step-clause-row g c =
-    subst (λ (e : Event). HasRow e c.args.self.now c.step_of.new.self c.step_of.result (g.D.Disk.content c.args.disk.now) (g.D.Disk.content c.step_of.new.disk)) (sym c.in-Step.is) c.step_of.ensures.row
+    subst (λ (e : Event). SimulatesWhereTold e c.args.self.now c.step_of.new.self c.step_of.result (g.D.Disk.content c.args.disk.now) (g.D.Disk.content c.step_of.new.disk)) (sym c.in-Step.is) c.step_of.ensures.row
 
 pub returns-in-Hibernate-clause-row : goal.returns-in-Hibernate-clause-row
-returns-in-Hibernate-clause-row g c = λ k told. (k, told, subst (λ (e : Event). IsRow e c.args.self.now c.begin.new.self c.begin.result k k) (sym c.in-Hibernate.is) (c.begin.ensures.row k))
+returns-in-Hibernate-clause-row g c = λ k told. (k, told, subst (λ (e : Event). Simulates e c.args.self.now c.begin.new.self c.begin.result k k) (sym c.in-Hibernate.is) (c.begin.ensures.row k))
 
 pub returns-in-Suspend-clause-row : goal.returns-in-Suspend-clause-row
-returns-in-Suspend-clause-row g c = λ k told. (k, told, subst (λ (e : Event). IsRow e c.args.self.now c.begin-in-Suspend.new.self c.begin-in-Suspend.result k k) (sym c.in-Suspend.is) (c.begin-in-Suspend.ensures.row k))
+returns-in-Suspend-clause-row g c = λ k told. (k, told, subst (λ (e : Event). Simulates e c.args.self.now c.begin-in-Suspend.new.self c.begin-in-Suspend.result k k) (sym c.in-Suspend.is) (c.begin-in-Suspend.ensures.row k))
 
 pub returns-in-Wake-clause-row : goal.returns-in-Wake-clause-row
-returns-in-Wake-clause-row g c = λ k told. (k, told, subst (λ (e : Event). IsRow e c.args.self.now c.wake.new.self c.wake.result k k) (sym c.in-Wake.is) (c.wake.ensures.row k))
+returns-in-Wake-clause-row g c = λ k told. (k, told, subst (λ (e : Event). Simulates e c.args.self.now c.wake.new.self c.wake.result k k) (sym c.in-Wake.is) (c.wake.ensures.row k))
 
 pub returns-in-Settle-clause-row : goal.returns-in-Settle-clause-row
-returns-in-Settle-clause-row g c = λ k told. (k, told, subst (λ (e : Event). IsRow e c.args.self.now c.begin-in-Settle.new.self c.begin-in-Settle.result k k) (sym c.in-Settle.is) (c.begin-in-Settle.ensures.row k))
+returns-in-Settle-clause-row g c = λ k told. (k, told, subst (λ (e : Event). Simulates e c.args.self.now c.begin-in-Settle.new.self c.begin-in-Settle.result k k) (sym c.in-Settle.is) (c.begin-in-Settle.ensures.row k))
 
 pub returns-in-Shrink-clause-row : goal.returns-in-Shrink-clause-row
-returns-in-Shrink-clause-row g c = λ k told. (k, told, subst (λ (e : Event). IsRow e c.args.self.now c.shrink.new.self c.shrink.result k k) (sym c.in-Shrink.is) (c.shrink.ensures.row k))
+returns-in-Shrink-clause-row g c = λ k told. (k, told, subst (λ (e : Event). Simulates e c.args.self.now c.shrink.new.self c.shrink.result k k) (sym c.in-Shrink.is) (c.shrink.ensures.row k))
 
 pub returns-in-Arm-clause-row : goal.returns-in-Arm-clause-row
 returns-in-Arm-clause-row g c =
-    subst (λ (e : Event). HasRow e c.args.self.now c.args.self.now c.arm.result (g.D.Disk.content c.args.disk.now) (g.D.Disk.content c.arm.new.disk)) (sym c.in-Arm.is) c.arm.ensures.row
+    subst (λ (e : Event). SimulatesWhereTold e c.args.self.now c.args.self.now c.arm.result (g.D.Disk.content c.args.disk.now) (g.D.Disk.content c.arm.new.disk)) (sym c.in-Arm.is) c.arm.ensures.row
 
 pub returns-in-Resume-clause-row : goal.returns-in-Resume-clause-row
-returns-in-Resume-clause-row g c = λ k told. (k, told, subst (λ (e : Event). IsRow e c.args.self.now c.resume.new.self c.resume.result k k) (sym c.in-Resume.is) (c.resume.ensures.row k))
+returns-in-Resume-clause-row g c = λ k told. (k, told, subst (λ (e : Event). Simulates e c.args.self.now c.resume.new.self c.resume.result k k) (sym c.in-Resume.is) (c.resume.ensures.row k))
 
 pub returns-in-Cut-clause-row : goal.returns-in-Cut-clause-row
 returns-in-Cut-clause-row g c =
-    subst (λ (e : Event). HasRow e c.args.self.now c.cut.new.self c.cut.result (g.D.Disk.content c.args.disk.now) (g.D.Disk.content c.cut.new.disk)) (sym c.in-Cut.is) c.cut.ensures.row
+    subst (λ (e : Event). SimulatesWhereTold e c.args.self.now c.cut.new.self c.cut.result (g.D.Disk.content c.args.disk.now) (g.D.Disk.content c.cut.new.disk)) (sym c.in-Cut.is) c.cut.ensures.row
 
 -- An event that calls no disk leaves what a crash might leave.
 

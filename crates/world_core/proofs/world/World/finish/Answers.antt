@@ -6,8 +6,8 @@ use Rattle.machine.specs.Flights.{flights_in}
 use Rattle.machine.specs.declared.machine.Machine.{Machine}
 use Rattle.world_core.specs.World.{World}
 use Rattle.world_core.specs.Kept.{kept_world}
-use Rattle.world_core.specs.Row.{HasRow}
-use Rattle.world_core.proofs.Disks.{whole_content}
+use Rattle.world_core.specs.Row.{SimulatesWhereTold}
+use Rattle.protocol_laws.proofs.Told.{whole_content}
 use Rattle.world_core.proofs.TaskRows.{row_of_end, some_flight}
 use Rattle.world_core.proofs.world.World.finish.Goals as goal
 
@@ -17,7 +17,7 @@ returns-clause-row g c =
     let new = record old { machine = c.finish.new.self; frames = c.finish.new.frames } in
     let core = ap (λ (w : World). w.core) c.self.view_is ∙ c.requires.running in
     let flies = some_flight (flights_in c.self.inside.machine.flights c.args.t) (subst (λ (w : World). IsSome (flights_in w.machine.flights c.args.t)) (sym c.self.view_is) c.requires.flies) in
-    subst (λ (w : World). HasRow (event.Step (actor.Task c.args.t)) w new c.finish.result (g.D.Disk.content c.args.disk.now) (g.D.Disk.content c.finish.new.disk)) c.self.view_is
+    subst (λ (w : World). SimulatesWhereTold (event.Step (actor.Task c.args.t)) w new c.finish.result (g.D.Disk.content c.args.disk.now) (g.D.Disk.content c.finish.new.disk)) c.self.view_is
     (row_of_end old new c.args.t c.finish.result (g.D.Disk.block_count c.args.disk.now) (g.D.Disk.content c.args.disk.now) (g.D.Disk.content c.finish.new.disk) flies.0
     (record {
       hardware = c.zones-zones.ensures.hardware;

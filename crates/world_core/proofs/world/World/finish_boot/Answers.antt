@@ -13,14 +13,14 @@ use Rattle.plain_machine.specs.declared.reply.Reply.TheVariants as reply
 use Rattle.world_core.specs.declared.world.Core.TheVariants.{Off}
 use Rattle.world_core.specs.World.{World}
 use Rattle.world_core.specs.Kept.{kept_world}
-use Rattle.world_core.specs.Row.{IsRow}
+use Rattle.world_core.specs.Row.{Simulates}
 use Rattle.plain_machine.specs.Chain.{header_of}
 use Rattle.world_core.specs.Started.{header_at}
 use Rattle.world_core.proofs.Headers.{header_read, blocks_told}
 use Rattle.world_core.proofs.New.{ends_of_started}
 use Rattle.definitions.specs.Disk as disk
 use Rattle.world_core.proofs.Ending.{boot_ends, boot_read_fails, tells_mark}
-use Rattle.world_core.proofs.Disks.{whole_content}
+use Rattle.protocol_laws.proofs.Told.{whole_content}
 use Rattle.world_core.proofs.world.World.finish_boot.Goals as goal
 
 -- a marked block isn't one of zeros
@@ -40,7 +40,7 @@ pub returns-in-Err-clause-row : goal.returns-in-Err-clause-row
 returns-in-Err-clause-row g c = λ k told.
     let old = kept_world c.self.inside in
     let core = ap (λ (w : World). w.core) c.self.view_is ∙ c.requires.synced in
-    (k, c.read_header.ensures.content ∙ told, subst (λ (w : World). IsRow (event.Step actor.Core) w (record old { core = Off false }) (reply.ReadFault Same) k k) c.self.view_is (boot_read_fails old (record old { core = Off false }) k c.args.from core refl refl))
+    (k, c.read_header.ensures.content ∙ told, subst (λ (w : World). Simulates (event.Step actor.Core) w (record old { core = Off false }) (reply.ReadFault Same) k k) c.self.view_is (boot_read_fails old (record old { core = Off false }) k c.args.from core refl refl))
 
 pub returns-in-Ok-clause-row : goal.returns-in-Ok-clause-row
 returns-in-Ok-clause-row g c = λ k told.

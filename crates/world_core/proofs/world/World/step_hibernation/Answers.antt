@@ -1,6 +1,6 @@
 use Rattle.std.proofs.Common.{inr, ap, sym, ◌∙◌, subst}
 use Rattle.std.proofs.lemmas.Bool.{false≢true}
-use Rattle.hib_core.specs.Hibernation.{is_idle}
+use Rattle.protocol_laws.specs.Rows.{is_idle}
 use Rattle.plain_machine.specs.declared.event.Event.TheVariants as event
 use Rattle.plain_machine.specs.declared.event.Actor.TheVariants as actor
 use Rattle.plain_machine.specs.Machine.{Hardware}
@@ -9,7 +9,7 @@ use Rattle.world_core.specs.Kept.{kept_world}
 use Rattle.protocol_laws.specs.Rows.{IsNewFault}
 use Rattle.sector_disk.specs.Called.{OneCall}
 use Rattle.sector_disk.proofs.Called.{called_as}
-use Rattle.world_core.specs.Row.{HasRow, IsCalled, Restores, KeepsMemory}
+use Rattle.world_core.specs.Row.{SimulatesWhereTold, IsCalled, Restores, KeepsMemory}
 use Rattle.hib_core.specs.Leaving.{change_of}
 use Rattle.hib_core.proofs.BeginTables.{slot_table_lies}
 use Rattle.hib_core.proofs.Keeping.{step_keeps, given_back, stayed}
@@ -45,7 +45,7 @@ invariant_of-self g c =
 pub returns-clause-row : goal.returns-clause-row
 returns-clause-row g c =
     let new = kept_world (record { machine = c.step-reply.new.machine; frames = c.step-reply.new.frames; runs = c.step-reply.new.runs; hib = c.step-reply.new.self; load = c.self.inside.load; waker = c.self.inside.waker; core = c.core_after-self-inside.result }) in
-    subst (λ (old : World). HasRow (event.Step actor.Core) old new c.step-reply.result (g.D.Disk.content c.args.disk.now) (g.D.Disk.content c.step-reply.new.disk)) c.self.view_is
+    subst (λ (old : World). SimulatesWhereTold (event.Step actor.Core) old new c.step-reply.result (g.D.Disk.content c.args.disk.now) (g.D.Disk.content c.step-reply.new.disk)) c.self.view_is
     (row_of_step (kept_world c.self.inside) new c.step-reply.result (g.D.Disk.content c.args.disk.now) (g.D.Disk.content c.step-reply.new.disk) (ap (λ (w : World). w.core) c.self.view_is ∙ c.requires.hibernates) c.core_after-self-inside.ensures c.step-reply.ensures.phase c.step-reply.ensures.row)
 
 pub returns-clause-restored : goal.returns-clause-restored

@@ -1,6 +1,6 @@
 use Rattle.std.proofs.Common.{inl, inr, ap, sym, ◌∙◌, subst, ⊎_elim}
 use Rattle.std.proofs.lemmas.Bool.{false≢true}
-use Rattle.resume_core.specs.Loading.{is_idle}
+use Rattle.protocol_laws.specs.Rows.{is_idle}
 use Rattle.plain_machine.specs.declared.event.Event.TheVariants as event
 use Rattle.plain_machine.specs.declared.event.Actor.TheVariants as actor
 use Rattle.plain_machine.specs.Machine.{Hardware}
@@ -11,7 +11,7 @@ use Rattle.world_core.specs.Kept.{IsDown, kept_world}
 use Rattle.protocol_laws.specs.Rows.{IsNewFault}
 use Rattle.sector_disk.specs.Called.{AtMostOneCall}
 use Rattle.sector_disk.proofs.Called.{called_as}
-use Rattle.world_core.specs.Row.{HasRow, IsCalled, Restores}
+use Rattle.world_core.specs.Row.{SimulatesWhereTold, IsCalled, Restores}
 use Rattle.world_core.proofs.Readiness.{can_run-resumed, no_tables_after}
 use Rattle.world_core.proofs.Resuming.{IsAfter, row_of_step, awake_after, busy_after, idle_after, runs_after, restores_at}
 use Rattle.world_core.proofs.world.World.step_resume.Goals as goal
@@ -39,7 +39,7 @@ invariant_of-self g c =
 pub returns-clause-row : goal.returns-clause-row
 returns-clause-row g c =
     let new = kept_world (record { machine = c.step-reply.new.machine; frames = c.step-reply.new.frames; runs = c.step-reply.new.runs; hib = c.self.inside.hib; load = c.step-reply.new.self; waker = c.self.inside.waker; core = c.core_after-self-inside.result }) in
-    subst (λ (old : World). HasRow (event.Step actor.Core) old new c.step-reply.result (g.D.Disk.content c.args.disk.now) (g.D.Disk.content c.step-reply.new.disk)) c.self.view_is
+    subst (λ (old : World). SimulatesWhereTold (event.Step actor.Core) old new c.step-reply.result (g.D.Disk.content c.args.disk.now) (g.D.Disk.content c.step-reply.new.disk)) c.self.view_is
     (row_of_step (kept_world c.self.inside) new c.step-reply.result (g.D.Disk.content c.args.disk.now) (g.D.Disk.content c.step-reply.new.disk) (ap (λ (w : World). w.core) c.self.view_is ∙ c.requires.resumes)
     (record { loader = c.self.inside.load.loader; core_is = c.core_after-self-inside.ensures.is ∙ ap (λ (l : Loader). core_resumed l c.step-reply.result) (c.loader.ensures ∙ c.step-reply.ensures.loader); told = c.step-reply.ensures.activity }) c.step-reply.ensures.row)
 

@@ -1,4 +1,4 @@
-use Rattle.std.proofs.Common.{inr, refl, sym, ap, ◌∙◌, subst}
+use Rattle.std.proofs.Common.{sym, ap, ◌∙◌, subst}
 use Rattle.plain_machine.specs.declared.event.Event.TheVariants as event
 use Rattle.plain_machine.specs.declared.event.Actor.TheVariants as actor
 use Rattle.definitions.specs.Zones.{top}
@@ -6,7 +6,7 @@ use Rattle.plain_machine.specs.Machine.{Hardware}
 use Rattle.hib_core.proofs.BeginTables.{slot_table_lies}
 use Rattle.protocol_laws.specs.Slots.{IsMemoryOf}
 use Rattle.world_core.specs.Kept.{kept_world, HasTables, IsDown, IsUp}
-use Rattle.world_core.specs.Row.{HasRow, Restores, WakesWith}
+use Rattle.world_core.specs.Row.{SimulatesWhereTold, Restores, WakesWith}
 use Rattle.world_core.specs.World.{World}
 use Rattle.world_core.proofs.Readiness.{can_run-same}
 use Rattle.world_core.proofs.Wakes.{in_place, left_entries, left_machine, restores_none, row_of_step, wakes_on, wakes_with, woken_loads_not, woken_no_tables, woken_not_busy}
@@ -53,7 +53,7 @@ returns-clause-row g c =
     let new = record old { machine = c.leave.new.machine; frames = c.leave.new.frames; waker = c.step-reply.new.self; core = c.core_after-self-inside.result } in
     let memory : IsMemoryOf c.self.inside.machine.hw c.self.inside.frames =
     record { pages = c.len.ensures.pages; table = slot_table_lies c.self.inside.machine.hw c.self.inside.frames c.zones-zones.ensures.hardware c.self.invariant.size } in
-    subst (λ (w : World). HasRow (event.Step actor.Core) w new c.step-reply.result (g.D.Disk.content c.args.disk.now) (g.D.Disk.content c.step-reply.new.disk)) c.self.view_is
+    subst (λ (w : World). SimulatesWhereTold (event.Step actor.Core) w new c.step-reply.result (g.D.Disk.content c.args.disk.now) (g.D.Disk.content c.step-reply.new.disk)) c.self.view_is
     (row_of_step old new c.step-reply.result (g.D.Disk.content c.args.disk.now) (g.D.Disk.content c.step-reply.new.disk) (ap (λ (w : World). w.core) c.self.view_is ∙ c.requires.wakes) c.core_after-self-inside.ensures c.leave.ensures.left memory c.step-reply.ensures.row)
 
 pub returns-clause-restored : goal.returns-clause-restored

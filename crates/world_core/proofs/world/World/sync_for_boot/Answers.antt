@@ -7,16 +7,16 @@ use Rattle.plain_machine.specs.declared.reply.Reply.TheVariants as reply
 use Rattle.world_core.specs.declared.world.Core.TheVariants.{Off, BootSynced}
 use Rattle.world_core.specs.World.{World}
 use Rattle.world_core.specs.Kept.{kept_world}
-use Rattle.world_core.specs.Row.{IsRow}
+use Rattle.world_core.specs.Row.{Simulates}
 use Rattle.world_core.proofs.Booting.{boot_syncs, boot_sync_fails}
-use Rattle.world_core.proofs.Disks.{whole_content, changed}
+use Rattle.protocol_laws.proofs.Told.{whole_content, changed}
 use Rattle.world_core.proofs.world.World.sync_for_boot.Goals as goal
 
 pub returns-in-Err-clause-row : goal.returns-in-Err-clause-row
 returns-in-Err-clause-row g c = λ k told.
     let old = kept_world c.self.inside in
     let core = ap (λ (w : World). w.core) c.self.view_is ∙ c.requires.begun in
-    (k, c.in-Err.ensures.failed ∙ told, subst (λ (w : World). IsRow (event.Step actor.Core) w (record old { core = Off false }) (reply.SyncFault Same) k k) c.self.view_is (boot_sync_fails old (record old { core = Off false }) k c.args.from core refl refl))
+    (k, c.in-Err.ensures.failed ∙ told, subst (λ (w : World). Simulates (event.Step actor.Core) w (record old { core = Off false }) (reply.SyncFault Same) k k) c.self.view_is (boot_sync_fails old (record old { core = Off false }) k c.args.from core refl refl))
 
 pub returns-in-Ok-clause-row : goal.returns-in-Ok-clause-row
 returns-in-Ok-clause-row g c = λ k told.
@@ -26,6 +26,6 @@ returns-in-Ok-clause-row g c = λ k told.
     let core = ap (λ (w : World). w.core) c.self.view_is ∙ c.requires.begun in (
       synced.0,
       synced.1,
-      subst (λ (w : World). IsRow (event.Step actor.Core) w (record old { core = BootSynced c.args.from }) (reply.More 1 2) k synced.0) c.self.view_is
+      subst (λ (w : World). Simulates (event.Step actor.Core) w (record old { core = BootSynced c.args.from }) (reply.More 1 2) k synced.0) c.self.view_is
           (boot_syncs old (record old { core = BootSynced c.args.from }) (g.D.Disk.block_count c.args.disk.now) k synced.0 c.args.from whole synced.2 core refl refl refl),
     )

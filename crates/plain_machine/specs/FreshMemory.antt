@@ -1,0 +1,48 @@
+-- [tables]: the memory of a machine that has just booted, page frame by page frame and entry by entry.
+-- In Linux the page allocator frees all memory at a boot but what is reserved: memblock_free_all, mm/memblock.c.
+use Rattle.std.specs.Prelude.{ℕ, ◌+◌, ◌*◌, ◌-◌, ◌&&◌, List, [], ◌∷◌, map, flat_map, Option, Some, None, if◌then◌else◌, nat_le, nat_lt}
+use Rattle.std.specs.List.{range_with_len, find}
+use Rattle.byteorder.specs.Endian.{little_bytes}
+use Rattle.definitions.specs.Bytes.{zero_page}
+use Rattle.definitions.specs.Tables.{with_entry}
+use Rattle.definitions.specs.Zones.{numbers, top}
+use Rattle.plain_machine.specs.Loader.{has}
+use Rattle.plain_machine.specs.Machine.{Hardware, Memory, is_of_table, is_table_frame}
+
+-- An entry of the frame table: of a table's page frame 0, of a region's its flags, and else free.
+abbrev pub region_flags : Option (ℕ × ℕ × ℕ) → ℕ
+region_flags None = 1
+region_flags (Some r) = r.2
+
+unfoldable pub fresh_entry : Hardware → ℕ → ℕ
+fresh_entry h p =
+    if is_table_frame h p then 0 else region_flags (find (λ r. nat_le r.0 p && nat_lt p (r.0 + r.1)) h.regions)
+
+-- Each table fills its page frames: past its last entry, and of a number that is no page frame's, there are zeros.
+abbrev pub frame_table_entry : Hardware → ℕ → ℕ
+frame_table_entry h p = if has (numbers h.zones) p then fresh_entry h p else 0
+
+abbrev pub slot_table_entry : Hardware → (ℕ → ℕ) → ℕ → ℕ
+slot_table_entry h slots s = if nat_lt s h.slots then slots s else 0
+
+-- page frame p of the table that begins at page frame `first`: 1024 of its entries, 4 bytes each
+unfoldable pub table_page : ℕ → (ℕ → ℕ) → ℕ → List ℕ
+table_page first entry p = flat_map (λ k. little_bytes 4 (entry (1024 * (p - first) + k))) (range_with_len 0 1024)
+
+unfoldable pub fresh_page : Hardware → (ℕ → ℕ) → ℕ → List ℕ
+fresh_page h slots p =
+    if is_of_table h.frame_table (top h.zones) p then table_page h.frame_table (frame_table_entry h) p
+    else (if is_of_table h.slot_table h.slots p then table_page h.slot_table (slot_table_entry h slots) p else zero_page)
+
+-- with these slots
+unfoldable pub fresh_memory : Hardware → (ℕ → ℕ) → Memory
+fresh_memory h slots = map (fresh_page h slots) (range_with_len 0 (top h.zones))
+
+-- before the area is read: all slots are free
+unfoldable pub fresh_frames : Hardware → Memory
+fresh_frames h = fresh_memory h (λ s. 0)
+
+-- What fills a table leaves: memory with the entry of each of these numbers set by a rule.
+unfoldable pub with_each_entry : (ℕ → ℕ) → List ℕ → ℕ → Memory → Memory
+with_each_entry entry [] table m = m
+with_each_entry entry (k ∷ ks) table m = with_each_entry entry ks table (with_entry m table k (entry k))
