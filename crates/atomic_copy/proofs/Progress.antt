@@ -1,64 +1,27 @@
 -- How far the copying has come.
-use Rattle.std.proofs.Common.{◌≡◌, ℕ, ◌+◌, ◌<◌, ◌≤◌, List, [], length, get_or, set, Some, refl, sym, ap, ◌∙◌, subst, inl, inr, arith}
+use Rattle.std.proofs.Common.{◌-◌, ◌∷◌, zero, suc, drop, ◌≡◌, ℕ, ◌<◌, ◌≤◌, List, [], length, get_or, refl, sym, ap, ◌∙◌, subst, inl, inr, arith, drop}
 use Rattle.std.proofs.lemmas.Bool.{cases_lt}
-use Rattle.std.proofs.lemmas.List.{length-set, get_or_default, get_or-set_same, get_or-set_other}
+use Rattle.std.proofs.lemmas.List.{length-drop, length-set, get_or-set_same, get_or-set_other}
 use Rattle.std.proofs.lemmas.List.Elements.{Contains-get_or}
 use Rattle.std.proofs.lemmas.List.Kept.{AllPairs-from_increasing}
 use Rattle.std.specs.List.{Contains}
 use Rattle.std.specs.List.Sorted.{IsStrictlyIncreasing}
 use Rattle.definitions.specs.Tables.{frame, with_frame}
-use Rattle.definitions.specs.Zones.{first_from}
-use Rattle.definitions.proofs.Ascending.{first_from-some}
-use Rattle.definitions.proofs.ZoneNumbers.{below_top, top_at_most}
-use Rattle.memory_bitmap.specs.FrameSet.{FrameSet, IsFrameSet}
 use Rattle.atomic_copy.specs.Copies.{AreCopied, AreDisjoint}
 
 rises : (xs : List ℕ) (i j : ℕ) → IsStrictlyIncreasing xs → i < j → j < length xs → get_or xs i 0 < get_or xs j 0
 rises xs i j up lt within = AllPairs-from_increasing xs up i j 0 lt within
 
--- the members before place k are below p, and the others aren't
-pub record IsCursor (xs : List ℕ) (p k : ℕ) : Type 0 where
-  pub below : (j : ℕ) → j < k → get_or xs j 0 < p
-  pub above : (j : ℕ) → k ≤ j → j < length xs → p ≤ get_or xs j 0
-
-pub start : (xs : List ℕ) → IsCursor xs 0 0
-start xs = record { below = λ j lt. absurd (omega arith); above = λ j le lt. omega arith }
-
--- the least member from p on is that at place k
-pub next_is : (xs : List ℕ) (p k : ℕ) → IsStrictlyIncreasing xs → IsCursor xs p k → k < length xs → first_from xs p ≡ Some (get_or xs k 0)
-next_is xs p k up cursor lt =
-    first_from-some xs p (get_or xs k 0) up (Contains-get_or xs k 0 lt) (cursor.above k (omega arith) lt)
-    (λ r (j, within, is) le.
-    let at : get_or xs j 0 ≡ r = sym (get_or_default xs j r 0 within) ∙ is in
-    elim (cases_lt j k) [
-      | inl below ↦ absurd (let low = cursor.below j below in omega arith)
-      | inr ge ↦ elim (cases_lt k j) [
-        | inl after ↦ let higher = rises xs k j up after within in omega arith
-        | inr here ↦ let same : k ≡ j = omega arith in let is_k = ap (λ i. get_or xs i 0) same in omega arith
-      ]
-    ])
-
-pub next_cursor : (xs : List ℕ) (p k : ℕ) → IsStrictlyIncreasing xs → IsCursor xs p k → k < length xs → IsCursor xs (get_or xs k 0 + 1) (k + 1)
-next_cursor xs p k up cursor lt = record {
-  below = λ j j_lt. elim (cases_lt j k) [
-    | inl before ↦ let up_to = rises xs j k up before lt in omega arith
-    | inr ge ↦ let same : j ≡ k = omega arith in let is = ap (λ i. get_or xs i 0) same in omega arith
-  ];
-  above = λ j le within. let after = rises xs k j up (omega arith) within in omega arith;
-}
-
 -- The first k originals are copied.
-pub record IsProgress (origs copies : List ℕ) (old now : List (List ℕ)) (from to k : ℕ) : Type 0 where
-  pub sources : IsCursor origs from k
-  pub targets : IsCursor copies to k
+pub record IsProgress (origs copies : List ℕ) (old now : List (List ℕ)) (k : ℕ) : Type 0 where
+  pub few : k ≤ length copies
   pub size : length now ≡ length old
   pub copied : (j : ℕ) → j < k → frame now (get_or copies j 0) ≡ frame old (get_or origs j 0)
   pub others : (p : ℕ) → ((j : ℕ) → j < k → get_or copies j 0 ≡ p → ⊥) → frame now p ≡ frame old p
 
-pub none_copied : (origs copies : List ℕ) (frames : List (List ℕ)) → IsProgress origs copies frames frames 0 0 0
+pub none_copied : (origs copies : List ℕ) (frames : List (List ℕ)) → IsProgress origs copies frames frames 0
 none_copied origs copies frames = record {
-  sources = start origs;
-  targets = start copies;
+  few = omega arith;
   size = refl;
   copied = λ j lt. absurd (omega arith);
   others = λ p _. refl;
@@ -73,8 +36,8 @@ pub record ArePaired (origs copies : List ℕ) (frames : List (List ℕ)) : Type
   pub within : (k : ℕ) → k < length copies → get_or copies k 0 < length frames
 
 -- one more is copied
-pub one_more_copied : (origs copies : List ℕ) (old now : List (List ℕ)) (from to k : ℕ) → ArePaired origs copies old → k < length origs → IsProgress origs copies old now from to k → IsProgress origs copies old (with_frame now (get_or copies k 0) (frame now (get_or origs k 0))) (get_or origs k 0 + 1) (get_or copies k 0 + 1) (k + 1)
-one_more_copied origs copies old now from to k h lt progress =
+pub one_more_copied : (origs copies : List ℕ) (old now : List (List ℕ)) (k : ℕ) → ArePaired origs copies old → k < length origs → IsProgress origs copies old now k → IsProgress origs copies old (with_frame now (get_or copies k 0) (frame now (get_or origs k 0))) (suc k)
+one_more_copied origs copies old now k h lt progress =
     let source = get_or origs k 0 in
     let target = get_or copies k 0 in
     let equal = h.equal in
@@ -86,8 +49,7 @@ one_more_copied origs copies old now from to k h lt progress =
     let here : frame (with_frame now target page) target ≡ page =
     get_or-set_same now target page [] (let within = h.within k in_copies in omega arith) in
     record {
-      sources = next_cursor origs from k h.origs_up progress.sources lt;
-      targets = next_cursor copies to k h.copies_up progress.targets in_copies;
+      few = in_copies;
       size = length-set now target page ∙ size;
       copied = λ j j_lt. elim (cases_lt j k) [
         | inl before ↦
@@ -104,17 +66,19 @@ one_more_copied origs copies old now from to k h lt progress =
     }
 
 -- all are copied
-pub all_copied : (origs copies : List ℕ) (old now : List (List ℕ)) (from to k : ℕ) → k ≡ length copies → IsProgress origs copies old now from to k → AreCopied origs copies old now
-all_copied origs copies old now from to k all progress = record {
+pub all_copied : (origs copies : List ℕ) (old now : List (List ℕ)) (k : ℕ) → k ≡ length copies → IsProgress origs copies old now k → AreCopied origs copies old now
+all_copied origs copies old now k all progress = record {
   size = progress.size;
   copied = λ j lt. progress.copied j (omega arith);
   others = λ p outside. progress.others p (λ j below e. outside (subst (λ (x : ℕ). Contains copies x) e (Contains-get_or copies j 0 (omega arith))));
 }
 
--- a member's number is below 65536
-pub small : (set : FrameSet) (k : ℕ) → IsFrameSet set → k < length set.members → get_or set.members k 0 < 65536
-small set k h lt =
-    let apart = h.zones.apart in
-    let below = below_top set.zones (get_or set.members k 0) apart (h.valid k 0 lt) in
-    let most = top_at_most set.zones h.zones in
-    omega arith
+pub next_left : (xs left left' : List ℕ) (k x : ℕ) → left ≡ drop k xs → left ≡ x ∷ left' → (k < length xs) × (get_or xs k 0 ≡ x) × (left' ≡ drop (suc k) xs)
+next_left [] left left' zero x a b = absurd (let e = ap length (sym a ∙ b) in omega arith)
+next_left [] left left' (suc k) x a b = absurd (let e = ap length (sym a ∙ b) in omega arith)
+next_left (y ∷ ys) left left' zero x a b = (omega arith, ap (λ (zs : List ℕ). get_or zs 0 0) (sym a ∙ b), ap (drop 1) (sym b ∙ a))
+next_left (y ∷ ys) left left' (suc k) x a b = let rest = next_left ys left left' k x a b in (let lt = rest.0 in omega arith, rest.1, rest.2)
+
+-- nothing is left behind the last
+pub at_end : (xs left : List ℕ) (k : ℕ) → left ≡ drop k xs → left ≡ [] → length xs ≤ k
+at_end xs left k a b = let none : length xs - k ≡ 0 = sym (length-drop k xs) ∙ ap length (sym a ∙ b) in omega arith

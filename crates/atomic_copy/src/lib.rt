@@ -16,15 +16,7 @@ pub fn copy_all(frames: &mut Frames, origs: &Bitmap, copies: &Bitmap)
     requires copies_within { All (λ p. p < length frames.old) copies.now.members }
     ensures { AreCopied origs.now.members copies.now.members frames.old frames.new }
 {
-    let count = origs.len();
-    let equal = copies.len() == count;
-    prove!(equal);
-    let (mut from, mut to) = (0, 0);
-    for _ in 0..count {
-        let original = origs.first_from(from).unwrap();
-        let copy = copies.first_from(to).unwrap();
+    for (original, copy) in origs.iter().zip(copies.iter()) {
         frames.copy(original, copy);
-        from = original + 1;
-        to = copy + 1;
     }
 }

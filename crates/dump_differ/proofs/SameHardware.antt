@@ -1,15 +1,10 @@
 -- What the tests of two machines' parts tell.
-use Rattle.std.proofs.Common.{◌≡◌, ℕ, ◌&&◌, Bool, true, false, not, List, take, Option, Some, None, is_some, IsTrue, refl, sym, ap, ap₂, ◌∙◌, ◌++◌, ◌∷◌, [], ◌+◌, eqb}
+use Rattle.std.proofs.Common.{◌≡◌, ℕ, ◌&&◌, Bool, true, false, not, List, refl, sym, ap, ◌∙◌, eqb}
 use Rattle.std.proofs.lemmas.Bool.{false≢true}
 use Rattle.std.proofs.lemmas.Bool.Decides.{Decides-eqb, Decides-and, Decides-like}
-use Rattle.std.proofs.lemmas.List.{take_all, take_more}
-use Rattle.std.proofs.lemmas.Option.{get_or_from_slice_get, none-some, slice_get_within}
 use Rattle.std.proofs.lemmas.Slice.Eq.{slice_eq-Decides}
 use Rattle.std.specs.Bool.{Decides}
 use Rattle.std.specs.Cmp.Lexicographic.{pointwise}
-use Rattle.std.specs.List.{slice_get}
-use Rattle.std.specs.Option.{option_eq}
-use Rattle.definitions.proofs.ZoneWalk.{IsAtZone, past_zones}
 use Rattle.definitions.specs.declared.info.Ident.{Ident}
 use Rattle.plain_machine.specs.Machine.{Hardware}
 
@@ -35,7 +30,7 @@ triple_decides (a, b, c) (d, e, f) =
     ((ap (λ (x : ℕ × ℕ × ℕ). x.0) s, ap (λ (x : ℕ × ℕ × ℕ). x.1) s), ap (λ (x : ℕ × ℕ × ℕ). x.2) s))
     (Decides-and (eqb a d && eqb b e) (eqb c f) (Decides-and (eqb a d) (eqb b e) (Decides-eqb a d) (Decides-eqb b e)) (Decides-eqb c f))
 
--- where a test tells that two lists of triples aren't the same
+-- where a test tells that two lists of these aren't the same
 
 not_decides : {P : Type 0} (t r : Bool) → Decides t P → r ≡ not t → (r ≡ false → P) × (r ≡ true → P → ⊥)
 not_decides true r d e = (λ _. d.0 refl, λ is _. false≢true (sym e ∙ is))
@@ -44,6 +39,10 @@ not_decides false r d e = (λ is. absurd (false≢true (sym is ∙ e)), λ _ p. 
 pub triples_told : (xs ys : List (ℕ × ℕ × ℕ)) (r : Bool) → r ≡ not (pointwise same_triple xs ys) → (r ≡ false → xs ≡ ys) × (r ≡ true → xs ≡ ys → ⊥)
 triples_told xs ys r e =
     not_decides (pointwise same_triple xs ys) r (slice_eq-Decides triple_decides xs ys (pointwise same_triple xs ys) refl) e
+
+pub pairs_told : (xs ys : List (ℕ × ℕ)) (r : Bool) → r ≡ not (pointwise same_pair xs ys) → (r ≡ false → xs ≡ ys) × (r ≡ true → xs ≡ ys → ⊥)
+pairs_told xs ys r e =
+    not_decides (pointwise same_pair xs ys) r (slice_eq-Decides pair_decides xs ys (pointwise same_pair xs ys) refl) e
 
 -- identities
 
@@ -68,25 +67,3 @@ hardware_same a b zones slots frame_table slot_table regions ident hw_sig extent
     ∙ ap (λ (x : Ident). record a { ident = x; hw_sig = b.hw_sig; extents = b.extents }) ident
     ∙ ap (λ (x : ℕ). record a { hw_sig = x; extents = b.extents }) hw_sig
     ∙ ap (λ (x : List (ℕ × ℕ × ℕ)). record a { extents = x }) extents
-
--- Zones, one after the other.
-
-told_same : (o : Option (ℕ × ℕ)) (zone : ℕ × ℕ) (r : Bool) → r ≡ not (option_eq same_pair o (Some zone)) → r ≡ false → o ≡ Some zone
-told_same None zone r e is = absurd (false≢true (sym is ∙ e))
-told_same (Some x) zone r e is = ap Some ((not_decides (same_pair x zone) r (pair_decides x zone) e).0 is)
-
-pub one_more_same : (first second : List (ℕ × ℕ)) (j : ℕ) (zone : ℕ × ℕ) (o : Option (ℕ × ℕ)) (r : Bool) → IsAtZone first j zone → o ≡ slice_get second j → r ≡ not (option_eq same_pair o (Some zone)) → r ≡ false → take j second ≡ take j first → take (j + 1) second ≡ take (j + 1) first
-one_more_same first second j zone o r at told e is same =
-    let here = sym told ∙ told_same o zone r e is in
-    let within = slice_get_within second j zone here in
-    take_more second j (0, 0) within
-    ∙ ap₂ (λ (xs : List (ℕ × ℕ)) (x : ℕ × ℕ). xs ++ x ∷ []) same (get_or_from_slice_get second j zone (0, 0) here ∙ sym at.zone_is)
-    ∙ sym (take_more first j (0, 0) at.within)
-
-pub ends_same : (first second : List (ℕ × ℕ)) (j : ℕ) (o : Option (ℕ × ℕ)) (r : Bool) → None ≡ slice_get first j → o ≡ slice_get second j → is_some o ≡ not r → take j second ≡ take j first → (IsTrue r → second ≡ first) × (second ≡ first → IsTrue r)
-ends_same first second j None true over told is same =
-    (λ _. sym (take_all j second (past_zones second j told)) ∙ same ∙ take_all j first (past_zones first j over), λ _. refl)
-ends_same first second j None false over told is same = absurd (false≢true is)
-ends_same first second j (Some x) true over told is same = absurd (false≢true (sym is))
-ends_same first second j (Some x) false over told is same =
-    (λ e. absurd (false≢true e), λ e. absurd (none-some x (over ∙ ap (λ (zs : List (ℕ × ℕ)). slice_get zs j) (sym e) ∙ sym told)))

@@ -1,35 +1,16 @@
--- Counts zone by zone, and what the crates below tell of page frames.
-use Rattle.std.proofs.Common.{◌≡◌, ℕ, ◌+◌, ◌≤◌, Bool, List, length, length-append, filter, take, Some, None, IsTrue, sym, ap, ap₂, ◌∙◌, subst, arith}
+-- What the crates below tell of page frames.
+use Rattle.std.proofs.Common.{◌≡◌, ℕ, Bool, List, length, IsTrue, sym, ap, ap₂, ◌∙◌, subst, arith}
 use Rattle.std.proofs.lemmas.Bool.Decides.{same_from_decides}
-use Rattle.std.specs.List.{Contains, range_with_len, slice_get}
+use Rattle.std.specs.List.{Contains}
 use Rattle.definitions.specs.Lists.{saveable_frames, free_frames}
 use Rattle.definitions.specs.Tables.{HasTable}
-use Rattle.definitions.specs.Zones.{numbers, top, AreZones}
+use Rattle.definitions.specs.Zones.{numbers, top}
 use Rattle.definitions.proofs.ZoneLists.{Contains-saveable_frames, Contains-from_saveable_frames}
-use Rattle.definitions.proofs.ZoneWalk.{IsAtZone, at_zone, filter_one_zone_more, filter_all_zones, few_picked}
 use Rattle.plain_machine.specs.Machine.{Hardware, Memory, IsHardware}
 use Rattle.machine.proofs.Rows.{frame_table_fits}
 use Rattle.saveable.specs.Tests.{saveable_by_entry}
 
--- The zones that a machine lends are its own.
-
-pub at_told : (zones told : List (ℕ × ℕ)) (j : ℕ) (zone : ℕ × ℕ) → told ≡ zones → AreZones told → Some zone ≡ slice_get told j → IsAtZone zones j zone
-at_told zones told j zone e h at = subst (λ (zs : List (ℕ × ℕ)). IsAtZone zs j zone) e (at_zone told j zone h at)
-
-pub all_told : (test : ℕ → Bool) (zones told : List (ℕ × ℕ)) (j : ℕ) → told ≡ zones → None ≡ slice_get told j → filter test (numbers (take j zones)) ≡ filter test (numbers zones)
-all_told test zones told j e at = filter_all_zones test zones j (at ∙ ap (λ (zs : List (ℕ × ℕ)). slice_get zs j) e)
-
--- so many of one zone more, and never too many
-pub count_more : (test : ℕ → Bool) (zones : List (ℕ × ℕ)) (j : ℕ) (zone : ℕ × ℕ) (total more : ℕ) → IsAtZone zones j zone → total ≡ length (filter test (numbers (take j zones))) → more ≡ length (filter test (range_with_len zone.0 zone.1)) → total + more ≡ length (filter test (numbers (take (j + 1) zones)))
-count_more test zones j zone total more at is more_is =
-    let parts = ap length (filter_one_zone_more test zones j zone at) in
-    let sum = length-append (filter test (numbers (take j zones))) (filter test (range_with_len zone.0 zone.1)) in
-    omega (arith, parts, sum, is, more_is)
-
-pub count_fits : (test : ℕ → Bool) (zones : List (ℕ × ℕ)) (j total : ℕ) → AreZones zones → total ≡ length (filter test (numbers (take j zones))) → total ≤ 65536
-count_fits test zones j total h is = omega (arith, few_picked test zones j h, is)
-
--- The frame table lies in memory.
+-- the frame table lies in memory
 pub table_told : (h : Hardware) (m : Memory) (told : List (ℕ × ℕ)) (table : ℕ) → IsHardware h → length m ≡ top h.zones → told ≡ h.zones → table ≡ h.frame_table → HasTable m table (top told)
 table_told h m told table hw size zones first =
     let fits = frame_table_fits h (top h.zones) hw (omega arith) in

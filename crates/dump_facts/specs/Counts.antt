@@ -1,11 +1,13 @@
 -- What is counted of a machine's memory.
-use Rattle.std.specs.Prelude.{ℕ, ◌==◌, ◌&&◌, Bool, not, List, filter, if◌then◌else◌}
+use Rattle.std.specs.Prelude.{ℕ, ◌==◌, ◌&&◌, Bool, not, List, filter}
 use Rattle.std.specs.List.{range_with_len}
 use Rattle.definitions.specs.Tables.{frame, owner_of}
 use Rattle.definitions.specs.Zones.{numbers}
 use Rattle.plain_machine.specs.Image.{is_zeros}
-use Rattle.plain_machine.specs.Machine.{Hardware, Memory, frame_entry, image_slot, slot_entry}
+use Rattle.plain_machine.specs.Machine.{Hardware, Memory, frame_entry, slot_entry}
 use Rattle.saveable.specs.Tests.{saveable_by_entry}
+use Rattle.swap_slots.specs.declared.entry.SlotEntry.{SlotEntry}
+use Rattle.swap_slots.specs.declared.entry.SlotEntry.TheVariants.{Free, Task, Image, Bad}
 use Rattle.dump_facts.specs.declared.counting.Kind.{Kind}
 use Rattle.dump_facts.specs.declared.counting.Kind.TheVariants.{Saveable, WithData, OwnedBy}
 
@@ -20,8 +22,11 @@ abbrev pub frames_of : Hardware → Memory → Kind → List ℕ
 frames_of h m kind = filter (is_of h m kind) (numbers h.zones)
 
 -- a slot's entry as it is seen: a slot of the image counts as free
-abbrev pub seen : ℕ → ℕ
-seen entry = if entry == image_slot then 0 else entry
+abbrev pub seen : SlotEntry → SlotEntry
+seen Free = Free
+seen (Task t) = Task t
+seen Image = Free
+seen Bad = Bad
 
 -- the slots with this entry
 abbrev pub slots_of : Hardware → Memory → ℕ → List ℕ

@@ -1,4 +1,4 @@
-ghost use Rattle.std.specs.Prelude.{◌≡◌, ℕ, ◌<◌, ◌≤◌, length, filter};
+ghost use Rattle.std.specs.Prelude.{◌≡◌, ℕ, ◌<◌, ◌≤◌, ◌↔◌, IsTrue, length, filter};
 ghost use Rattle.std.specs.List.{Contains, range_with_len};
 ghost use Rattle.definitions.specs.Zones.{numbers, top, IsZone, zone_end};
 ghost use Rattle.plain_machine.specs.Image.{is_zeros};
@@ -6,14 +6,15 @@ ghost use Rattle.definitions.specs.Tables.{frame};
 ghost use Rattle.definitions.specs.Bytes.{zero_page};
 ghost use Rattle.plain_machine.specs.Machine.{unused};
 ghost use Rattle.saveable.specs.Tests.{saveable_by_entry};
+ghost use Rattle.swap_slots.specs.Entries.{entry_of_word, word_of};
 ghost use Rattle.dump_facts.specs.Counts.{frames_of, is_of, seen, slots_of};
 
 use frame_arena::Frames;
-use machine::Dump;
+use machine::{Dump, slot_table};
 use page_core::Page;
 use page_states::entry;
 use saveable::{View, count_free, saveable};
-use swap_slots::SlotTable;
+use swap_slots::SlotEntry;
 
 /// The page frames that are counted together.
 #[derive(Clone, Copy, Debug, PartialEq, Eq)]
@@ -31,12 +32,9 @@ pub(crate) fn count_frames(dump: &Dump, kind: Kind) -> u32
     ensures count { result ≡ length (frames_of dump.now.hw dump.now.frames kind) }
     ensures few { result ≤ 65536 }
 {
-    let zones = dump.hw.zones();
     let mut total = 0;
-    let mut j = 0;
-    while let Some(zone) = zones.zone(j) {
+    for &zone in dump.hw.zones().as_slice() {
         total += count_in_zone(dump, kind, zone);
-        j += 1;
     }
     total
 }
@@ -107,30 +105,35 @@ pub(crate) fn count_free_frames(dump: &Dump) -> u32
     })
 }
 
-/// The slot table's entry of a slot of the image, which is seen as a free one.
-const IMAGE_SLOT: u32 = 65536;
-
 /// How many slots have this entry, as it is seen.
-pub(crate) fn count_slots(dump: &Dump, entry: u32) -> u32
-    requires { length dump.now.frames ≡ top dump.now.hw.zones }
-    ensures { result ≡ length (slots_of dump.now.hw dump.now.frames entry) }
+pub(crate) fn count_slots(dump: &Dump, entry: SlotEntry) -> u32
+    requires size { length dump.now.frames ≡ top dump.now.hw.zones }
+    requires entry { entry_of_word (word_of entry) ≡ entry }
+    ensures { result ≡ length (slots_of dump.now.hw dump.now.frames (word_of entry)) }
 {
-    let table = SlotTable {
-        first: dump.hw.slot_table(),
-        slots: dump.hw.slots(),
-    };
+    let table = slot_table(&dump.hw);
     let mut total = 0;
     for slot in 0..table.slots {
-        if seen(table.owner(&dump.frames, slot)) == entry {
+        if is_seen_as(table.entry(&dump.frames, slot), entry) {
             total += 1;
         }
     }
     total
 }
 
+/// Whether a slot with an entry counts among those with another.
+fn is_seen_as(entry: SlotEntry, other: SlotEntry) -> bool
+    ensures { IsTrue result ↔ (seen entry ≡ other) }
+{
+    seen(entry) == other
+}
+
 /// A slot's entry as it is seen.
-fn seen(entry: u32) -> u32
+fn seen(entry: SlotEntry) -> SlotEntry
     ensures { result ≡ seen entry }
 {
-    if entry == IMAGE_SLOT { 0 } else { entry }
+    match entry {
+        SlotEntry::Image => SlotEntry::Free,
+        other => other,
+    }
 }

@@ -27,10 +27,8 @@ fn add_zones(facts: &mut Facts, zones: &Zones)
     ensures added { facts.new ≡ facts.old ++ map zone_fact zones.now }
     ensures len { length facts.new ≤ length facts.old + 16 }
 {
-    let mut j = 0;
-    while let Some((start, count)) = zones.zone(j) {
+    for &(start, count) in zones.as_slice() {
         facts.add(Fact::Zone(start, count));
-        j += 1;
     }
 }
 

@@ -8,11 +8,7 @@ use crate::fact::Fact;
 use crate::facts::Facts;
 use machine::Dump;
 use page_core::Format;
-
-/// The slot table's entry of a free slot, and of a bad one.
-const FREE: u32 = 0;
-
-const BAD: u32 = 131072;
+use swap_slots::SlotEntry;
 
 /// A hibernation leaves so many page frames free beside its copies (PAGES_FOR_IO, and one more).
 const SPARE_FRAMES: u32 = 1025;
@@ -52,6 +48,7 @@ fn add_owned_frames(facts: &mut Facts, dump: &Dump)
 }
 
 /// Adds what a dump says of slots.
+#[tactic(auto, unfolding(swap_slots::specs::Entries::entry_of_word))]
 pub(crate) fn add_slots(facts: &mut Facts, dump: &Dump)
     requires size { length dump.now.frames ≡ top dump.now.hw.zones }
     requires room { length facts.old ≤ 222 }
@@ -59,8 +56,8 @@ pub(crate) fn add_slots(facts: &mut Facts, dump: &Dump)
     ensures len { length facts.new ≤ length facts.old + 66 }
 {
     facts.add_all(&[
-        Fact::FreeSlots(count_slots(dump, FREE)),
-        Fact::BadSlots(count_slots(dump, BAD)),
+        Fact::FreeSlots(count_slots(dump, SlotEntry::Free)),
+        Fact::BadSlots(count_slots(dump, SlotEntry::Bad)),
     ]);
     add_owned_slots(facts, dump);
 }
@@ -73,7 +70,7 @@ fn add_owned_slots(facts: &mut Facts, dump: &Dump)
     ensures len { length facts.new ≤ length facts.old + 64 }
 {
     for task in 1..65 {
-        let count = count_slots(dump, task);
+        let count = count_slots(dump, SlotEntry::Task(task));
         if count > 0 {
             facts.add(Fact::OwnedSlots(task, count));
         }

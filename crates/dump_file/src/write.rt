@@ -87,11 +87,7 @@ fn is_plain(hw: &Hardware) -> bool
 fn count_zones(zones: &Zones) -> u32
     ensures { result ≡ length zones.now }
 {
-    let mut count = 0;
-    while zones.zone(count).is_some() {
-        count += 1;
-    }
-    count
+    zones.as_slice().len() as u32
 }
 
 /// Adds the names of an identity.
@@ -125,11 +121,9 @@ fn put_zones(head: &mut Head, zones: &Zones)
     ensures bytes { head.new ≡ head.old ++ flat_map zone_bytes zones.now }
     ensures len { length head.new ≤ 552 }
 {
-    let mut j = 0;
-    while let Some((start, count)) = zones.zone(j) {
+    for &(start, count) in zones.as_slice() {
         head.put_number(start);
         head.put_number(count);
-        j += 1;
     }
 }
 
@@ -165,10 +159,8 @@ fn count_records(frames: &Frames, zones: &Zones) -> u32
     ensures { result ≡ length (nonzero frames.now (numbers zones.now)) }
 {
     let mut total = 0;
-    let mut j = 0;
-    while let Some((start, count)) = zones.zone(j) {
+    for &(start, count) in zones.as_slice() {
         total += count_records_of_zone(frames, start, count);
-        j += 1;
     }
     total
 }
@@ -198,10 +190,8 @@ fn put_records<K: Sink>(sink: &mut K, frames: &Frames, zones: &Zones) -> Result<
     ensures counted { K.faults sink.old ≤ K.faults sink.new }
     ensures cause { OnErr result (HasRisen (K.faults sink.old) (K.faults sink.new)) }
 {
-    let mut j = 0;
-    while let Some((start, count)) = zones.zone(j) {
+    for &(start, count) in zones.as_slice() {
         put_records_of_zone(sink, frames, start, count)?;
-        j += 1;
     }
     Ok(())
 }

@@ -2,7 +2,7 @@
 
 use crate::machines::tiny;
 use samples::{
-    EXAMPLE, Failing, HIBERNATE, NONE, RESUME, area, area_of, assert_no_image, assert_printed,
+    EXAMPLE, Failing, HIBERNATE, NONE, RESUME, area, assert_no_image, assert_printed,
     assert_refused, bytes_of, failing_input, hibernate, loader_with_nines, resume, run_over,
     run_with, saved,
 };
@@ -26,16 +26,6 @@ fn assert_no_dump(alloc: Global, input: &[u8], note: &str) -> Result<(), Fail> {
         assert_printed(&got, Status::Input, "", note)?;
     }
     Ok(())
-}
-
-#[test]
-fn a_tiny_machine(rt: HostRuntime) -> Result<(), Fail> {
-    let alloc = rt.alloc();
-    let dump = tiny(alloc)?;
-    assert_eq!(rt; dump.len(), 4536);
-    let mut disk = area_of(alloc, 1)?;
-    let got = run_over(alloc, &HIBERNATE, &dump, &mut disk)?;
-    assert_refused(&got, "no frames 0 need 1029\n")
 }
 
 // Without its record the dump's slot 0 isn't bad.

@@ -2,12 +2,12 @@
 #![tactic(auto)]
 
 #[cfg(test)]
-mod damaged_dumps;
-#[cfg(test)]
 mod dumps;
 #[cfg(test)]
 mod samples;
 #[cfg(test)]
 mod scripts;
+#[cfg(test)]
+mod short_dumps;
 #[cfg(test)]
 mod streams;

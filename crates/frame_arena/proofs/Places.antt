@@ -2,20 +2,22 @@
 --     value_out, value_in, tells      a value in its place, and its one machine value
 --     cut, glue                       a row of places is two rows
 --     items_out, items_in             the items of a block are taken out of its places, and put back
+--     item_out, item_in               one item is taken out of its place, and put back
 --     items_seen                      the same of items behind a `&`
 --     of_room, to_room, emptied       room for an array is a row of empty places, and items can be forgotten
 use mathlib.Core.Path.{◌≡◌, refl, sym, ap, ◌∙◌}
-use Prim.Native.Nat.{ℕ, zero, suc, ◌+◌, ◌*◌}
+use Prim.Native.Nat.{ℕ, zero, suc, ◌+◌, ◌*◌, ◌<◌, ◌≤◌}
 use native.Mathlib.Omega.{arith}
 use native.Mathlib.Nat.{zero-mul, suc-mul}
 use mathlib.Core.List.{List, [], ◌∷◌, ◌++◌, map}
-use lib.ListN.{length, replicate}
+use lib.ListN.{length, take, drop, set, get_or, replicate, take-append-drop, length-take}
+use lib.Seq.{drop-cons, set_split}
 use seplogic.Ra.Ura.{Ura}
 use base.Fraction.{full_share}
 use mir.Syntax.{Ty, ty_array}
 use mir.Val.{Val}
 use base.Logic.{ent, sep, emp, ex, guard, id⊢, mono_r}
-use base.Fml.{Fml, Lft, ftrue, fat, froom}
+use base.Fml.{Fml, Lft, ftrue, fsep, fat, froom}
 use types.Logic.{Logic, sem}
 use types.SemTy.{cells}
 use types.Kit.{Item, Goal, Seq, ‵, some, given, learn, ◌⊛◌, ◌$◌, ◌∵◌, !, qed, by, move, keep, drop as skip, use1, use2, pick, split, check, show, frame, fsplit, fjoin, rewrite, done}
@@ -71,6 +73,18 @@ pub pushed : {X : Type 0} (xs : List X) (x : X) (cs : List (Option X)) → map S
 pushed [] x cs = refl
 pushed (y ∷ ys) x cs = ap (λ (l : List _). Some y ∷ l) (pushed ys x cs)
 
+-- an item stands in its place
+pub placed : {X : Type 0} (xs : List X) (rest : List (Option X)) (i : ℕ) → i < length xs → (x : X) × ((get_or (map Some xs ++ rest) i None ≡ Some x) × (x ≡ get_or xs i x))
+placed [] rest i lt = absurd (omega arith)
+placed (x ∷ xs) rest zero lt = (x, (refl, refl))
+placed (x ∷ xs) rest (suc i) lt = placed xs rest i (omega arith)
+
+-- an item is written over
+pub replaced : {X : Type 0} (xs : List X) (rest : List (Option X)) (i : ℕ) (w : X) → i < length xs → set (map Some xs ++ rest) i (Some w) ≡ map Some (set xs i w) ++ rest
+replaced [] rest i w lt = absurd (omega arith)
+replaced (x ∷ xs) rest zero w lt = refl
+replaced (x ∷ xs) rest (suc i) w lt = ap (λ (l : List _). Some x ∷ l) (replaced xs rest i w (omega arith))
+
 module _ (E : El) {M : Type 1} {𝓤 : Ura M} (𝓛 : Logic 𝓤) (b : ℕ) where
   open 𝓛 use {H}
 
@@ -89,6 +103,25 @@ module _ (E : El) {M : Type 1} {𝓤 : Ura M} (𝓛 : Logic 𝓤) (b : ℕ) wher
   glue [] ys o at e = qed 𝓛 (‵ ftrue ∷ ‵ (Row at ys) ∷ []) ∵ skip ! $ rewrite ! 0 (λ (k : ℕ). ‵ (Row k ys)) {x = o} (omega (arith, zero-mul s)) refl $ done !
   glue (x ∷ xs) ys o at e = let more : at ≡ suc (length xs) * s + o = e in qed 𝓛 (‵ (Row o (x ∷ xs)) ∷ ‵ (Row at ys) ∷ []) ∵ fsplit ! $ move ! (1 ∷ 2 ∷ []) $
       use2 𝓛 (‵ (Row (o + s) (xs ++ ys))) (glue xs ys (o + s) at (omega (arith, suc-mul (length xs) s))) $ move ! (1 ∷ 0 ∷ []) $ fjoin ! $ done !
+
+  module _ (o : ℕ) (cs : List (Place E)) (i : ℕ) where
+    -- the places but for the i-th
+    abbrev pub Besides : Fml
+    Besides = fsep (Row o (take i cs)) (Row (i * s + o + s) (drop (suc i) cs))
+
+    before : i ≤ length cs → i * s + o ≡ length (take i cs) * s + o
+    before le = let long : i ≡ length (take i cs) = omega (arith, length-take i cs) in ap (λ k. k * s + o) long
+
+    pub item_out : i < length cs → ent 𝓤 (sem 𝓛 (Row o cs)) (sep 𝓤 (sem 𝓛 (place (R E) b (i * s + o) (get_or cs i None))) (sem 𝓛 Besides))
+    item_out lt = qed 𝓛 (‵ (Row o cs) ∷ []) ∵
+        rewrite ! 0 (λ (l : List (Place E)). ‵ (Row o l)) (sym (take-append-drop i cs) ∙ ap (λ l. take i cs ++ l) (drop-cons cs i None lt)) refl $
+        use1 𝓛 (‵ (Row o (take i cs)) ⊛ ‵ (Row (i * s + o) (get_or cs i None ∷ drop (suc i) cs))) (cut (take i cs) (get_or cs i None ∷ drop (suc i) cs) o (i * s + o) (before (omega arith))) $
+        split ! $ move ! (1 ∷ []) $ fsplit ! $ move ! (2 ∷ 1 ∷ []) $ fjoin ! $ move ! (1 ∷ []) $ done !
+
+    pub item_in : i < length cs → (c : Place E) → ent 𝓤 (sep 𝓤 (sem 𝓛 (place (R E) b (i * s + o) c)) (sem 𝓛 Besides)) (sem 𝓛 (Row o (set cs i c)))
+    item_in lt c = qed 𝓛 (‵ (place (R E) b (i * s + o) c) ∷ ‵ Besides ∷ []) ∵ move ! (1 ∷ []) $ fsplit ! $ move ! (2 ∷ 1 ∷ []) $ fjoin ! $ move ! (1 ∷ 0 ∷ []) $
+        use2 𝓛 (‵ (Row o (take i cs ++ c ∷ drop (suc i) cs))) (glue (take i cs) (c ∷ drop (suc i) cs) o (i * s + o) (before (omega arith))) $
+        rewrite ! 0 (λ (l : List (Place E)). ‵ (Row o l)) (sym (set_split cs i c lt)) refl $ done !
 
   pub to_cells : (xs : List (el_x E)) (o : ℕ) → ent 𝓤 (sem 𝓛 (Row o (map Some xs))) (sem 𝓛 (cells (mem (R E)) xs b o))
   to_cells [] o = id⊢ 𝓤 (emp 𝓤)

@@ -1,6 +1,6 @@
 //! One block of memory behind a raw pointer. It is taken from an allocator once, filled from its first place on, and
 //! given back once. Only the functions of this file follow the pointer.
-ghost use Rattle.std.specs.Prelude.{◌≡◌, ℕ, ◌+◌, ◌^◌, ◌<◌, List, [], ◌∷◌, ◌++◌, length, IfOk};
+ghost use Rattle.std.specs.Prelude.{◌≡◌, ℕ, ◌+◌, ◌^◌, ◌<◌, List, [], ◌∷◌, ◌++◌, length, slice_index_or, IfOk};
 ghost use Rattle.std.specs.Borrow.{sem};
 ghost use Rattle.std.specs.Vec.Ownership.{FitsInBlock};
 ghost use base.Fml.{ftrue};
@@ -75,7 +75,7 @@ impl<T, A: Allocator> Lease<T, A> {
 }
 
 impl<T> Block<T> {
-    ghost use Rattle.frame_arena.specs.BlockLends.{lends_items};
+    ghost use Rattle.frame_arena.specs.BlockLends.{lends_item, lends_items};
 
     /// Writes `item` into the first empty place.
     pub(crate) fn push(&mut self, item: T)
@@ -101,5 +101,14 @@ impl<T> Block<T> {
         ensures value { result.now ≡ self.old.items }
     {
         unsafe { slice::from_raw_parts_mut(self.first, self.len) }
+    }
+
+    /// The value at place `i`, to be written over.
+    pub(crate) fn item_mut(&mut self, i: usize) -> &mut T
+        requires { i < length self.old.items }
+        ensures* writes_back { sem 𝓛 (lends_item T.row self.entry i result) }
+        ensures value { result.now ≡ slice_index_or self.old.items i result.now }
+    {
+        unsafe { &mut *self.first.add(i) }
     }
 }

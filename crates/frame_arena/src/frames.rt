@@ -1,4 +1,5 @@
 ghost use Rattle.std.specs.Prelude.{◌≡◌, ℕ, ◌+◌, ◌*◌, ◌<◌, ◌≤◌, List, [], length, replicate, IfOk, All};
+ghost use Rattle.std.specs.Borrow.{sem};
 ghost use Rattle.definitions.specs.Bytes.{IsPage, word, with_word, number_at, with_number, zero_page, filled_page};
 ghost use Rattle.definitions.specs.Tables.{frame, with_frame, run_at, with_run};
 
@@ -17,15 +18,16 @@ pub struct Frames {
 }
 
 impl Model for Frames {
-    ghost use Rattle.std.specs.Prelude.{◌≡◌, List, ℕ, ◌<◌, ◌^◌, length, replicate, IsTrue, All};
-    ghost use Rattle.definitions.specs.Bytes.{IsPage, zero_page};
+    ghost use Rattle.std.specs.Prelude.{◌≡◌, List, ℕ, ◌<◌, ◌^◌, length, map, replicate, IsTrue};
+    ghost use Rattle.definitions.specs.Bytes.{zero_page};
     ghost use Rattle.frame_arena.specs.Leases.{IsFull, IsLeaseOf};
+    ghost use Rattle.frame_arena.specs.Whole.{whole};
 
     ghost Value = { List (List ℕ) };
 
-    ghost view = { λ f. f.pages.items };
+    ghost view = { λ f. map whole f.pages.items };
 
-    ghost invariant = { λ f. (length f.pages.items < 2 ^ 32) × All IsPage f.pages.items × IsFull f.pages × IsLeaseOf f.lease f.pages f.alloc
+    ghost invariant = { λ f. (length f.pages.items < 2 ^ 32) × IsFull f.pages × IsLeaseOf f.lease f.pages f.alloc
         × (IsTrue f.untouched → f.pages.items ≡ replicate (length f.pages.items) zero_page) };
 }
 
@@ -41,8 +43,10 @@ impl Drop for Frames {
     }
 }
 
-#[tactic(auto, using(crate::proofs::Whole::still_pages), unfolding(definitions::specs::Bytes::zero_page, definitions::specs::Bytes::with_bytes, definitions::specs::Bytes::number_at, definitions::specs::Bytes::with_number))]
+#[tactic(auto, using(crate::proofs::Whole::whole_of_page, crate::proofs::Whole::seen_pages, crate::proofs::Whole::seen_zeros), unfolding(definitions::specs::Bytes::zero_page, definitions::specs::Bytes::with_bytes, definitions::specs::Bytes::number_at, definitions::specs::Bytes::with_number))]
 impl Frames {
+    ghost use Rattle.frame_arena.specs.Lends.{LendsPage};
+
     /// `n` page frames of zeros.
     pub fn create(alloc: Global, n: u32) -> Result<Frames, NoMemory>
         ensures { IfOk result (λ frames. frames ≡ replicate n zero_page) }
@@ -75,7 +79,23 @@ impl Frames {
         ensures content { result.now ≡ frame self.now p }
         ensures page { IsPage result.now }
     {
-        &self.pages.items()[p as usize]
+        let page = &self.pages.items()[p as usize];
+        // So it is known to be whole.
+        let _ = page.as_bytes();
+        page
+    }
+
+    /// Page frame `p`, to be written over.
+    pub fn page_mut(&mut self, p: u32) -> &mut Page
+        requires { p < length self.old }
+        ensures* writes_back { sem 𝓛 (LendsPage self.entry p result) }
+        ensures value { result.now ≡ frame self.old p }
+    {
+        self.untouched = false;
+        let page = self.pages.item_mut(p as usize);
+        // So it is known to be whole.
+        let _ = page.as_bytes();
+        page
     }
 
     /// Copies a page into page frame `p`.
@@ -91,8 +111,7 @@ impl Frames {
         requires { p < length self.old }
         ensures { self.new ≡ with_frame self.old p bytes.now }
     {
-        self.untouched = false;
-        self.pages.items_mut()[p as usize] = Page::from_bytes(bytes);
+        *self.page_mut(p) = Page::from_bytes(bytes);
     }
 
     /// Copies page frame `from` into page frame `to`.
@@ -101,9 +120,8 @@ impl Frames {
         requires to_in_range { to < length self.old }
         ensures { self.new ≡ with_frame self.old to (frame self.old from) }
     {
-        self.untouched = false;
         let page = Page::from_bytes(self.page(from).as_bytes());
-        self.pages.items_mut()[to as usize] = page;
+        *self.page_mut(to) = page;
     }
 
     /// Copies the `n` page frames from `from` on into those from `to` on. The two runs may overlap.
@@ -115,12 +133,7 @@ impl Frames {
     {
         self.untouched = false;
         let pages = self.pages.items_mut();
-        let (from, to, n) = (from as usize, to as usize, n as usize);
-        if to < from {
-            copy_forward(pages, from, to, n);
-        } else {
-            copy_backward(pages, from, to, n);
-        }
+        copy_pages(pages, from as usize, to as usize, n as usize);
     }
 
     /// The 8-byte number at 8i of page frame `p`.
@@ -129,7 +142,7 @@ impl Frames {
         requires word_in_range { i < 512 }
         ensures { result ≡ word (frame self.now p) i }
     {
-        self.pages.items()[p as usize].word(i)
+        self.page(p).word(i)
     }
 
     /// Sets the 8-byte number at 8i of page frame `p`, and leaves the rest.
@@ -138,8 +151,7 @@ impl Frames {
         requires word_in_range { i < 512 }
         ensures { self.new ≡ with_frame self.old p (with_word (frame self.old p) i v) }
     {
-        self.untouched = false;
-        self.pages.items_mut()[p as usize].set_word(i, v);
+        self.page_mut(p).set_word(i, v);
     }
 
     /// The 4-byte number at offset k of page frame `p`.
@@ -148,7 +160,7 @@ impl Frames {
         requires number_in_range { k ≤ 4092 }
         ensures { result ≡ number_at 4 (frame self.now p) k }
     {
-        self.pages.items()[p as usize].u32_at(k)
+        self.page(p).u32_at(k)
     }
 
     /// Sets the 4-byte number at offset k of page frame `p`, and leaves the rest.
@@ -157,8 +169,7 @@ impl Frames {
         requires number_in_range { k ≤ 4092 }
         ensures { self.new ≡ with_frame self.old p (with_number 4 (frame self.old p) k v) }
     {
-        self.untouched = false;
-        self.pages.items_mut()[p as usize].put_u32(k, v);
+        self.page_mut(p).put_u32(k, v);
     }
 
     /// Sets each byte of page frame `p` to zero.
@@ -166,8 +177,7 @@ impl Frames {
         requires { p < length self.old }
         ensures { self.new ≡ with_frame self.old p zero_page }
     {
-        self.untouched = false;
-        self.pages.items_mut()[p as usize] = Page::zero();
+        *self.page_mut(p) = Page::zero();
     }
 
     /// Sets each byte of every page frame to zero. New page frames are zeros already.
@@ -186,8 +196,7 @@ impl Frames {
         requires { p < length self.old }
         ensures { self.new ≡ with_frame self.old p (filled_page byte) }
     {
-        self.untouched = false;
-        self.pages.items_mut()[p as usize] = Page::filled(byte);
+        *self.page_mut(p) = Page::filled(byte);
     }
 }
 
@@ -213,13 +222,24 @@ fn zero_pages(pages: &mut [Page])
     }
 }
 
-// From the first page of the run to its last, so that no source is written before it is read.
+// Copies the run from the end where no source is written before it is read.
+fn copy_pages(pages: &mut [Page], from: usize, to: usize, n: usize)
+    requires from_in_range { from + n ≤ length pages.old }
+    requires to_in_range { to + n ≤ length pages.old }
+    ensures { pages.new ≡ with_run pages.old to (run_at n pages.old from) }
+{
+    if to < from {
+        copy_forward(pages, from, to, n);
+    } else {
+        copy_backward(pages, from, to, n);
+    }
+}
+
+// From the first page of the run to its last.
 fn copy_forward(pages: &mut [Page], from: usize, to: usize, n: usize)
     requires from_in_range { from + n ≤ length pages.old }
     requires downwards { to < from }
-    requires pages { All IsPage pages.old }
-    ensures copied { pages.new ≡ with_run pages.old to (run_at n pages.old from) }
-    ensures pages { All IsPage pages.new }
+    ensures { pages.new ≡ with_run pages.old to (run_at n pages.old from) }
 {
     for i in 0..n {
         pages[to + i] = Page::from_bytes(pages[from + i].as_bytes());
@@ -230,9 +250,7 @@ fn copy_forward(pages: &mut [Page], from: usize, to: usize, n: usize)
 fn copy_backward(pages: &mut [Page], from: usize, to: usize, n: usize)
     requires to_in_range { to + n ≤ length pages.old }
     requires upwards { from ≤ to }
-    requires pages { All IsPage pages.old }
-    ensures copied { pages.new ≡ with_run pages.old to (run_at n pages.old from) }
-    ensures pages { All IsPage pages.new }
+    ensures { pages.new ≡ with_run pages.old to (run_at n pages.old from) }
 {
     for i in (0..n).rev() {
         pages[to + i] = Page::from_bytes(pages[from + i].as_bytes());

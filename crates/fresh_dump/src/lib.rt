@@ -1,27 +1,21 @@
 //! What a boot makes of a machine's memory, without a disk: a dump into which an image can be resumed.
 #![tactic(auto)]
 
-ghost use Rattle.std.specs.Prelude.{◌≡◌, ℕ, ◌+◌, ◌<◌, ◌/◌, length, IfOk, OnOk, OnErr};
+ghost use Rattle.std.specs.Prelude.{◌≡◌, ◌<◌, length, IfOk, OnOk, OnErr};
 ghost use Rattle.std.specs.List.{range_with_len};
-ghost use Rattle.definitions.specs.Tables.{with_entry};
+ghost use Rattle.definitions.specs.Tables.{entry_at};
 ghost use Rattle.definitions.specs.Zones.{top};
 ghost use Rattle.plain_machine.specs.Machine.{Fits, IsHardware};
 ghost use Rattle.plain_machine.specs.FreshMemory.{fresh_memory, with_each_entry};
+ghost use Rattle.swap_slots.specs.Entries.{word_of};
+ghost use Rattle.swap_slots.specs.Table.{LiesIn};
 ghost use Rattle.fresh_dump.specs.KeptSlots.{kept_entry, kept_slot};
 
 use frame_arena::Frames;
-use machine::{Dump, Hardware, set_fresh};
+use machine::{Dump, Hardware, set_fresh, slot_table};
 use page_core::NoMemory;
 use std::alloc::Global;
-use swap_slots::SlotTable;
-
-/// The slot table's entry of a free slot, and of a bad one.
-const FREE: u32 = 0;
-
-const BAD: u32 = 131072;
-
-/// How many entries of 4 bytes a page frame has.
-const ENTRIES: u32 = 1024;
+use swap_slots::{SlotEntry, SlotTable};
 
 /// Makes a dump's memory that of the same machine when it has just booted: no task has a page frame or a slot, and the bad slots
 /// are those that were bad. Where memory is refused nothing changes.
@@ -54,38 +48,24 @@ fn keep_bad_slots(frames: &mut Frames, hw: &Hardware, before: &Frames)
     requires size { length frames.old ≡ top hw.now.zones }
     ensures { frames.new ≡ with_each_entry (kept_slot hw.now before.now) (range_with_len 0 hw.now.slots) hw.now.slot_table frames.old }
 {
-    let table = SlotTable {
-        first: hw.slot_table(),
-        slots: hw.slots(),
-    };
+    let table = slot_table(hw);
     for slot in 0..table.slots {
-        let entry = kept_entry(slot, table.owner(before, slot));
-        set_entry(frames, table.first, slot, entry);
+        let entry = kept_entry(&table, before, slot);
+        table.set(frames, slot, entry);
     }
 }
 
-/// The entry in fresh memory of a slot that had this one.
-fn kept_entry(slot: u32, before: u32) -> u32
-    ensures { result ≡ kept_entry slot before }
+/// The entry of a slot in fresh memory.
+fn kept_entry(table: &SlotTable, before: &Frames, slot: u32) -> SlotEntry
+    requires slot { slot < table.now.slots }
+    requires table { LiesIn before.now table.now }
+    ensures { word_of result ≡ kept_entry slot (entry_at before.now table.now.first slot) }
 {
-    if slot == 0 || before == BAD {
-        BAD
-    } else {
-        FREE
+    if slot == 0 {
+        return SlotEntry::Bad;
     }
-}
-
-/// Sets a slot's entry in the slot table that begins at page frame `first`.
-#[tactic(auto, unfolding(definitions::specs::Tables::with_entry))]
-fn set_entry(frames: &mut Frames, first: u32, slot: u32, entry: u32)
-    requires { first + slot / 1024 < length frames.old }
-    ensures { frames.new ≡ with_entry frames.old first slot entry }
-{
-    // The page frames of the table are below this, so their numbers fit.
-    let _ = frames.len();
-    frames.put_u32(
-        first + slot / ENTRIES,
-        (4 * (slot % ENTRIES)) as usize,
-        entry,
-    );
+    match table.entry(before, slot) {
+        SlotEntry::Bad => SlotEntry::Bad,
+        _ => SlotEntry::Free,
+    }
 }

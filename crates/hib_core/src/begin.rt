@@ -13,17 +13,16 @@ ghost use Rattle.machine.specs.Running.{slot_table_of};
 ghost use Rattle.swap_slots.specs.Table.{LiesIn, Matches};
 
 use crate::hib::{Ending, Saving, Stage};
-use crate::write::slot_table;
 use crate::{Hib, Job};
 use frame_arena::Frames;
 use image_header::Info;
 use image_write::Writer;
-use machine::{Hardware, Machine};
+use machine::{Hardware, Machine, slot_table};
 use page_core::Format;
 use plain_machine::{Held, Reply};
 use saveable::View;
 use snapshot::Counts;
-use swap_slots::{FreeRuns, SlotTable};
+use swap_slots::FreeRuns;
 
 /// Free slots that are left behind an image and the block of its first map (PAGES_FOR_IO, kernel/power/power.h).
 const SLOTS_LEFT: u32 = 1026;

@@ -11,16 +11,10 @@ use machine::Machine;
 use page_core::{Failed, Page};
 use plain_machine::{Reply, UndoCall};
 use sector_disk::Disk;
-use sig_header::mark;
+use sig_header::{SF_NOCOMPRESS_MODE, SF_SKIPS_ZEROS, mark};
 use snapshot::Snapshot;
 use std::mem::replace;
 use swap_slots::FreeRuns;
-
-/// SF_NOCOMPRESS_MODE (kernel/power/power.h).
-const NOCOMPRESS_MODE: u32 = 2;
-
-/// The image has no data pages for its pages of zeros.
-const SKIPS_ZEROS: u32 = 256;
 
 // The mark (mark_swapfiles, kernel/power/swap.c).
 impl Hib {
@@ -120,7 +114,7 @@ fn flags(snapshot: &Snapshot) -> u32
     ensures { result ≡ mark_flags snapshot.now.format }
 {
     match snapshot.zeros() {
-        None => NOCOMPRESS_MODE,
-        Some(_) => NOCOMPRESS_MODE + SKIPS_ZEROS,
+        None => SF_NOCOMPRESS_MODE,
+        Some(_) => SF_NOCOMPRESS_MODE + SF_SKIPS_ZEROS,
     }
 }

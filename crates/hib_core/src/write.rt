@@ -16,13 +16,13 @@ use crate::Hib;
 use crate::hib::{Saving, Stage};
 use frame_arena::Frames;
 use image_write::{WriteStep, Writer};
-use machine::{Hardware, Machine};
+use machine::{Machine, slot_table};
 use page_core::{Failed, Page};
 use plain_machine::{Left, NoSwap, Reply};
 use sector_disk::Disk;
 use sig_header::AreaKind;
 use snapshot::Snapshot;
-use swap_slots::{FreeRuns, SlotTable};
+use swap_slots::FreeRuns;
 
 // The writes of pages and maps, and what follows them up to the mark (save_image and swap_writer_finish, kernel/power/swap.c).
 impl Hib {
@@ -193,16 +193,6 @@ fn write_step<D: Disk>(
     let _ = frames.len();
     let (origs, copies, zeros) = (snapshot.origs(), snapshot.copies(), snapshot.zeros());
     writer.step(frames, runs, disk, origs, copies, zeros)
-}
-
-/// The machine's slot table.
-pub(crate) fn slot_table(hw: &Hardware) -> SlotTable
-    ensures { result ≡ slot_table_of hw.now }
-{
-    SlotTable {
-        first: hw.slot_table(),
-        slots: hw.slots(),
-    }
 }
 
 /// Why a header block isn't that of a version 1 area, if it isn't.

@@ -18,6 +18,17 @@ const NAME_SIZE: usize = 65;
 
 const NAMES_SIZE: usize = 6 * NAME_SIZE;
 
+/// Where the fields behind the names lie, in bytes (`struct swsusp_info`, kernel/power/power.h, 64-bit).
+const VERSION_CODE: usize = 392;
+
+const NUM_PHYSPAGES: usize = 400;
+
+const IMAGE_PAGES: usize = 416;
+
+const PAGES: usize = 424;
+
+const SIZE: usize = 432;
+
 // The names' places in the info page.
 const SYSNAME: usize = 0;
 
@@ -58,11 +69,11 @@ pub fn encode(info: &Info) -> Page
     ensures again { info_of result ≡ info.now }
 {
     let mut page = page_of_names(&info.ident.names);
-    page.put_u32(392, info.ident.version_code);
-    page.set_word(50, info.physpages);
-    page.set_word(52, info.image_pages);
-    page.set_word(53, info.pages);
-    page.set_word(54, info.pages * 4096);
+    page.put_u32(VERSION_CODE, info.ident.version_code);
+    page.set_word(NUM_PHYSPAGES / 8, info.physpages);
+    page.set_word(IMAGE_PAGES / 8, info.image_pages);
+    page.set_word(PAGES / 8, info.pages);
+    page.set_word(SIZE / 8, info.pages * 4096);
     page
 }
 
@@ -73,12 +84,12 @@ pub fn decode(page: &Page) -> Info
 {
     Info {
         ident: Ident {
-            version_code: page.u32_at(392),
+            version_code: page.u32_at(VERSION_CODE),
             names: names(page),
         },
-        physpages: page.word(50),
-        image_pages: page.word(52),
-        pages: page.word(53),
+        physpages: page.word(NUM_PHYSPAGES / 8),
+        image_pages: page.word(IMAGE_PAGES / 8),
+        pages: page.word(PAGES / 8),
     }
 }
 

@@ -401,13 +401,10 @@ fn next_with_data(origs: &Bitmap, zeros: &Bitmap, from: u32) -> Option<u32>
     ensures frame { result ≡ first_from (with_data origs.now.members zeros.now.members) from }
     ensures few { IfSome result (λ p. p < 65536) }
 {
-    let _ = origs.len();
-    let mut from = from;
-    while let Some(p) = origs.first_from(from) {
+    for p in origs.iter_from(from) {
         if !zeros.has(p) {
             return Some(p);
         }
-        from = p + 1;
     }
     None
 }

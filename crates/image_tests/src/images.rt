@@ -14,7 +14,7 @@ use page_core::{Format, Page};
 use sector_disk::{Disk, MemDisk};
 use std::alloc::Global;
 use std::test::Fail;
-use swap_slots::{FileMap, FreeRuns, SlotTable};
+use swap_slots::{FileMap, FreeRuns, SlotEntry, SlotTable};
 use zones::Zones;
 
 /// How many page frames the test machine has. Originals have odd numbers.
@@ -33,13 +33,13 @@ pub(crate) const TABLE: SlotTable = SlotTable {
 pub(crate) const BLOCKS: u32 = 2700;
 
 /// Slots that are bad or a task's, so that those of an image don't lie in one run.
-pub(crate) const NOT_FREE: [(u32, u32); 6] = [
-    (0, 131072),
-    (3, 7),
-    (4, 7),
-    (511, 1),
-    (700, 64),
-    (1000, 131072),
+pub(crate) const NOT_FREE: [(u32, SlotEntry); 6] = [
+    (0, SlotEntry::Bad),
+    (3, SlotEntry::Task(7)),
+    (4, SlotEntry::Task(7)),
+    (511, SlotEntry::Task(1)),
+    (700, SlotEntry::Task(64)),
+    (1000, SlotEntry::Bad),
 ];
 
 /// The page frames of an image, their copies, and those of them that were all zero: every third one, from the first.
@@ -89,15 +89,15 @@ pub(crate) fn put_copies(frames: &mut Frames, count: u32)
 }
 
 /// Puts a slot table without an image into memory, where these slots are bad or a task's.
-pub(crate) fn put_table(frames: &mut Frames, taken: &[(u32, u32)])
+pub(crate) fn put_table(frames: &mut Frames, taken: &[(u32, SlotEntry)])
     requires { length frames.old ≡ 3200 }
     ensures { length frames.new ≡ 3200 }
 {
     frames.zero(TABLE.first);
     frames.zero(TABLE.first + 1);
     for (slot, entry) in taken {
-        if *slot < 1024 {
-            frames.put_u32(TABLE.first, 4 * *slot as usize, *entry);
+        if *slot < TABLE.slots {
+            TABLE.set(frames, *slot, *entry);
         }
     }
 }
@@ -183,7 +183,7 @@ pub(crate) fn written(
     map: &FileMap,
     sets: &Sets,
     format: Format,
-    taken: &[(u32, u32)],
+    taken: &[(u32, SlotEntry)],
 ) -> Result<Image, Fail>
     requires { sets.now.copies.zones ≡ zones.now }
 {

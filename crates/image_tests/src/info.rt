@@ -34,15 +34,11 @@ pub fn info_of(ident: &Ident, zones: &Zones, origs: &Bitmap, zeros: Option<&Bitm
 fn count_with_data(origs: &Bitmap, zeros: Option<&Bitmap>) -> u32
     ensures { result ≡ length (with_data origs.now.members (members_in (option_copied zeros.entry))) }
 {
-    // The members ascend, and each is below 65536.
-    let _ = origs.len();
-    let mut from = 0;
     let mut count = 0;
-    while let Some(p) = origs.first_from(from) {
+    for p in origs.iter() {
         if !is_in(zeros, p) {
             count += 1;
         }
-        from = p + 1;
     }
     count
 }

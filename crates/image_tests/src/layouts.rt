@@ -3,7 +3,7 @@ use frame_arena::Frames;
 use page_core::{Format, Page};
 use sector_disk::{Disk, MemDisk};
 use std::test::Fail;
-use swap_slots::FileMap;
+use swap_slots::{FileMap, SlotEntry};
 use zones::Zones;
 
 /// Gives each copy frame its own number.
@@ -53,7 +53,7 @@ fn lays_maps_and_pages(rt: HostRuntime) -> Result<(), Fail> {
             &map,
             &sets,
             Format::Plain,
-            &[(0, 131072)],
+            &[(0, SlotEntry::Bad)],
         )?;
         assert_eq!(rt; (image.first, image.writes), (1, writes), "at {count}");
         assert_eq!(rt; word(&mut disk, 1, 0), Some(2), "at {count}");

@@ -22,10 +22,7 @@ use page_core::{Failed, Page};
 use sector_disk::Disk;
 use std::marker::Model;
 use swap_map::{MapWriter, Pushed};
-use swap_slots::{FileMap, FreeRuns, SlotTable};
-
-/// The entry of a slot of the image.
-const IMAGE: u32 = 65536;
+use swap_slots::{FileMap, FreeRuns, SlotEntry, SlotTable};
 
 /// An image that is written to free slots (`struct swap_map_handle`, kernel/power/swap.c). The first map's slot is taken at the
 /// begin, and each page takes one. With a map's last entry the slot of the next map is taken, and the full map is written.
@@ -463,7 +460,7 @@ fn take_block(frames: &mut Frames, runs: &mut FreeRuns, table: &SlotTable, map: 
 {
     // Each page frame has 4096 bytes, so that an entry that is set leaves the others.
     let _ = frames.len();
-    let slot = table.take(frames, runs, IMAGE).unwrap();
+    let slot = table.take(frames, runs, SlotEntry::Image).unwrap();
     map.block(slot) as u32
 }
 

@@ -1,28 +1,26 @@
-ghost use Rattle.std.specs.Prelude.{◌≡◌, ◌==◌, ℕ, ◌+◌, ◌/◌, ◌<◌, ◌≤◌, List, length, take, All};
+ghost use Rattle.std.specs.Prelude.{◌≡◌, ◌==◌, ℕ, ◌+◌, ◌<◌, ◌≤◌, List, length, take, All};
 ghost use Rattle.std.specs.List.{range_with_len, list_any, find};
-ghost use Rattle.definitions.specs.Tables.{HasTable, with_entry};
+ghost use Rattle.definitions.specs.Tables.{HasTable};
 ghost use Rattle.definitions.specs.Zones.{top};
 ghost use Rattle.plain_machine.specs.Machine.{is_table_frame, is_of_table};
 ghost use Rattle.plain_machine.specs.FreshMemory.{fresh_frames, fresh_entry, region_flags, with_each_entry};
 ghost use Rattle.machine.specs.HardFault.{is_in_region};
+ghost use Rattle.swap_slots.specs.Entries.{word_of};
 ghost use Rattle.machine.specs.FreshSlots.{slot_of_area};
 
 use crate::Hardware;
+use crate::tables::slot_table;
 use bitflags::Flags;
 use frame_arena::Frames;
 use page_states::{PageFlags, set_entry};
 use plain_machine::NoSwap;
 use sig_header::Area;
+use swap_slots::SlotEntry;
 
 /// The flags of a free page frame, and of one that has none.
 const FREE: u16 = 1;
 
 const IN_USE: u16 = 0;
-
-/// The slot table's entry of a free slot, and of a bad one.
-const FREE_SLOT: u32 = 0;
-
-pub(crate) const BAD_SLOT: u32 = 131072;
 
 /// How many entries of 4 bytes a page frame has.
 pub(crate) const ENTRIES: u32 = 1024;
@@ -35,10 +33,8 @@ pub fn set_fresh(frames: &mut Frames, hw: &Hardware)
     ensures len { length frames.new ≡ length frames.old }
 {
     frames.zero_all();
-    let mut j = 0;
-    while let Some((start, count)) = hw.zones().zone(j) {
+    for &(start, count) in hw.zones().as_slice() {
         set_zone(frames, hw, start, count);
-        j += 1;
     }
 }
 
@@ -104,38 +100,19 @@ pub fn set_slots(frames: &mut Frames, hw: &Hardware, area: &Result<Area, NoSwap>
     ensures set { frames.new ≡ with_each_entry (slot_of_area area.now) (range_with_len 0 hw.now.slots) hw.now.slot_table frames.old }
     ensures len { length frames.new ≡ length frames.old }
 {
-    for slot in 0..hw.slots() {
-        set_slot(frames, hw.slot_table(), slot, entry_of(area, slot));
+    let table = slot_table(hw);
+    for slot in 0..table.slots {
+        table.set(frames, slot, fresh_slot(area, slot));
     }
 }
 
-#[tactic(auto, unfolding(definitions::specs::Tables::with_entry))]
-fn set_slot(frames: &mut Frames, table: u32, slot: u32, entry: u32)
-    requires { table + slot / 1024 < length frames.old }
-    ensures entry { frames.new ≡ with_entry frames.old table slot entry }
-    ensures len { length frames.new ≡ length frames.old }
-{
-    let p = table_frame(frames, table, slot);
-    frames.put_u32(p, (4 * (slot % ENTRIES)) as usize, entry);
-}
-
-/// The page frame of a slot's entry.
-pub(crate) fn table_frame(frames: &Frames, table: u32, slot: u32) -> u32
-    requires { table + slot / 1024 < length frames.now }
-    ensures { result ≡ table + slot / 1024 }
-{
-    let count = frames.len();
-    prove!(table < count && slot / ENTRIES < count - table);
-    table + slot / ENTRIES
-}
-
 /// The entry of a slot in a fresh slot table.
-fn entry_of(area: &Result<Area, NoSwap>, slot: u32) -> u32
-    ensures { result ≡ slot_of_area area.now slot }
+fn fresh_slot(area: &Result<Area, NoSwap>, slot: u32) -> SlotEntry
+    ensures { word_of result ≡ slot_of_area area.now slot }
 {
     match area {
-        Ok(area) if slot != 0 && !is_bad(area, slot) => FREE_SLOT,
-        _ => BAD_SLOT,
+        Ok(area) if slot != 0 && !is_bad(area, slot) => SlotEntry::Free,
+        _ => SlotEntry::Bad,
     }
 }
 

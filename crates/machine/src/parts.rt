@@ -134,10 +134,8 @@ fn has_run(zones: &Zones, run: (u32, u32)) -> bool
 {
     let (first, count) = run;
     let mut end = first;
-    let mut j = 0;
-    while let Some(zone) = zones.zone(j) {
+    for &zone in zones.as_slice() {
         end = reach(zone, end);
-        j += 1;
     }
     u64::from(first) + u64::from(count) <= u64::from(end)
 }

@@ -3,6 +3,7 @@ ghost use Rattle.definitions.specs.Bytes.{IsPage};
 ghost use Rattle.definitions.specs.Disk.{Writes, block};
 ghost use Rattle.definitions.specs.Tables.{frame, with_entry};
 ghost use Rattle.definitions.specs.Zones.{numbers, top};
+ghost use Rattle.swap_slots.specs.Entries.{word_of};
 ghost use Rattle.swap_slots.specs.Table.{LiesIn, Matches, free_in};
 ghost use Rattle.plain_machine.specs.Faults.{IsFault};
 ghost use Rattle.plain_machine.specs.Fitting.{IsTask};
@@ -14,13 +15,14 @@ ghost use Rattle.machine.specs.Landing.{EndsOut, EndsIn};
 ghost use Rattle.machine.specs.Running.{slot_table_of};
 ghost use Rattle.sector_disk.specs.Called.{Called, OneCall};
 
+use crate::tables::slot_table;
 use crate::tasks::not_own;
 use crate::{Flight, Hardware, Machine};
 use frame_arena::Frames;
 use page_core::{Failed, Page};
 use plain_machine::{Held, Left, Reply};
 use sector_disk::Disk;
-use swap_slots::{FreeRuns, SlotTable};
+use swap_slots::{FreeRuns, SlotEntry};
 
 // Tasks' page frames that go out to slots of the swap area, and come in from there (swap_writepage and swap_readpage, mm/page_io.c).
 impl Machine {
@@ -168,20 +170,21 @@ impl Machine {
         let _ = frames.len();
         let table = slot_table(&self.hw);
         match self.area {
-            Ok(_) => table.take(frames, runs, t),
+            Ok(_) => table.take(frames, runs, SlotEntry::Task(t)),
             Err(_) => None,
         }
     }
 
     /// Whether a slot is the task's. In an area that can't be used none is.
     fn owns_slot(&self, frames: &Frames, t: u32, slot: u32) -> bool
+        requires task { IsTask t }
         requires size { length frames.now ≡ top self.now.hw.zones }
         ensures test { result ≡ (is_ok self.now.area && nat_lt slot self.now.hw.slots && (raw_slot_entry self.now.hw frames.now slot == t)) }
         ensures hardware { IsHardware self.now.hw }
     {
         let table = slot_table(&self.hw);
         match self.area {
-            Ok(_) => slot < table.slots && table.owner(frames, slot) == t,
+            Ok(_) => slot < table.slots && is_tasks(table.entry(frames, slot), t),
             Err(_) => false,
         }
     }
@@ -281,13 +284,10 @@ fn end_in<D: Disk>(
     }
 }
 
-/// The machine's slot table.
-fn slot_table(hw: &Hardware) -> SlotTable
-    ensures table { result ≡ slot_table_of hw.now }
-    ensures hardware { IsHardware hw.now }
+/// Whether an entry says that a task has the slot.
+fn is_tasks(entry: SlotEntry, t: u32) -> bool
+    requires { IsTask t }
+    ensures { result ≡ (word_of entry == t) }
 {
-    SlotTable {
-        first: hw.slot_table(),
-        slots: hw.slots(),
-    }
+    entry == SlotEntry::Task(t)
 }

@@ -4,19 +4,33 @@ ghost use Rattle.definitions.specs.Tables.{entry_of, page_flags, owner_of, is_sa
 ghost use Rattle.definitions.specs.Zones.{numbers, top};
 ghost use Rattle.page_states.specs.Flags.{bits_of};
 ghost use Rattle.plain_machine.specs.Loader.{has};
-ghost use Rattle.plain_machine.specs.Machine.{Fits, IsTableFrame, bad_slot, frame_entry, frame_table_frames, is_slot_entry, is_table_at_fault, is_well_formed, raw_slot_entry, slot_table_frames, table_len, tables_fault};
+ghost use Rattle.plain_machine.specs.Machine.{Fits, IsHardware, IsTableFrame, bad_slot, frame_entry, frame_table_frames, is_slot_entry, is_table_at_fault, is_well_formed, raw_slot_entry, slot_table_frames, table_len, tables_fault};
 ghost use Rattle.plain_machine.specs.UsableArea.{bad_slots_of, has_bad_slots_of};
+ghost use Rattle.swap_slots.specs.Entries.{entry_of_word, word_of};
+ghost use Rattle.machine.specs.Running.{slot_table_of};
 
 use crate::Hardware;
-use crate::fresh::{BAD_SLOT, ENTRIES, is_bad, table_frame};
+use crate::fresh::{ENTRIES, is_bad};
 use crate::tasks::is_valid;
 use bitflags::Flags;
 use frame_arena::Frames;
 use page_states::{PageFlags, entry};
 use sig_header::Area;
+use swap_slots::{SlotEntry, SlotTable};
 
 /// Tasks are numbered from 1 up to this.
 const MOST_TASKS: u32 = 64;
+
+/// A machine's slot table.
+pub fn slot_table(hw: &Hardware) -> SlotTable
+    ensures table { result ≡ slot_table_of hw.now }
+    ensures hardware { IsHardware hw.now }
+{
+    SlotTable {
+        first: hw.slot_table(),
+        slots: hw.slots(),
+    }
+}
 
 /// Whether the tables in memory are well formed; else the first table frame at fault: it isn't saveable, has an owner, or an
 /// entry in it is one that no valid page frame, or no slot, may have.
@@ -156,7 +170,7 @@ fn slots_fit(frames: &Frames, hw: &Hardware, i: u32) -> bool
     ensures { IsTrue result ↔ ((s : ℕ) → s / 1024 ≡ i → s < hw.now.slots → is_slot_entry s (raw_slot_entry hw.now frames.now s) ≡ true) }
 {
     for slot in ENTRIES * i..hw.slots().min(ENTRIES * (i + 1)) {
-        if !is_slot_entry(slot, slot_entry(frames, hw, slot)) {
+        if !slot_fits(frames, hw, slot) {
             return false;
         }
     }
@@ -164,21 +178,27 @@ fn slots_fit(frames: &Frames, hw: &Hardware, i: u32) -> bool
 }
 
 /// The entry of a slot in the slot table.
-#[tactic(auto, unfolding(definitions::specs::Tables::entry_at))]
-fn slot_entry(frames: &Frames, hw: &Hardware, slot: u32) -> u32
+fn slot_entry(frames: &Frames, hw: &Hardware, slot: u32) -> SlotEntry
     requires size { length frames.now ≡ top hw.now.zones }
     requires within { slot < hw.now.slots }
-    ensures { result ≡ raw_slot_entry hw.now frames.now slot }
+    ensures entry { result ≡ entry_of_word (raw_slot_entry hw.now frames.now slot) }
+    ensures word { word_of result ≡ raw_slot_entry hw.now frames.now slot }
 {
-    let p = table_frame(frames, hw.slot_table(), slot);
-    frames.u32_at(p, (4 * (slot % ENTRIES)) as usize)
+    slot_table(hw).entry(frames, slot)
 }
 
-/// Whether a slot may have an entry: bad, or free or a task's. Slot 0, the header's, is bad.
-fn is_slot_entry(slot: u32, entry: u32) -> bool
-    ensures { result ≡ is_slot_entry slot entry }
+/// Whether a slot has an entry that it may have: bad, or free or a task's. Slot 0, the header's, is bad.
+fn slot_fits(frames: &Frames, hw: &Hardware, slot: u32) -> bool
+    requires size { length frames.now ≡ top hw.now.zones }
+    requires within { slot < hw.now.slots }
+    ensures { result ≡ is_slot_entry slot (raw_slot_entry hw.now frames.now slot) }
 {
-    entry == BAD_SLOT || slot != 0 && entry <= MOST_TASKS
+    match slot_entry(frames, hw, slot) {
+        SlotEntry::Bad => true,
+        SlotEntry::Free => slot != 0,
+        SlotEntry::Task(task) => slot != 0 && task <= MOST_TASKS,
+        SlotEntry::Image => false,
+    }
 }
 
 /// Whether just the area's bad slots, slot 0 among them, are bad in the slot table.
@@ -195,11 +215,20 @@ fn are_named(frames: &Frames, hw: &Hardware, area: &Area) -> bool
     ensures { IsTrue result ↔ ((s : ℕ) → s < hw.now.slots → raw_slot_entry hw.now frames.now s ≡ bad_slot → has (bad_slots_of area.now) s ≡ true) }
 {
     for slot in 0..hw.slots() {
-        if slot_entry(frames, hw, slot) == BAD_SLOT && !names(area, slot) {
+        if is_bad_slot(frames, hw, slot) && !names(area, slot) {
             return false;
         }
     }
     true
+}
+
+/// Whether a slot is bad in the slot table.
+fn is_bad_slot(frames: &Frames, hw: &Hardware, slot: u32) -> bool
+    requires size { length frames.now ≡ top hw.now.zones }
+    requires within { slot < hw.now.slots }
+    ensures { IsTrue result ↔ (raw_slot_entry hw.now frames.now slot ≡ bad_slot) }
+{
+    matches!(slot_entry(frames, hw, slot), SlotEntry::Bad)
 }
 
 /// Whether a slot is one of an area's bad slots.
@@ -228,5 +257,5 @@ fn is_bad_or_beyond(frames: &Frames, hw: &Hardware, slot: u32) -> bool
     requires { length frames.now ≡ top hw.now.zones }
     ensures { IsTrue result ↔ (slot < hw.now.slots → raw_slot_entry hw.now frames.now slot ≡ bad_slot) }
 {
-    slot >= hw.slots() || slot_entry(frames, hw, slot) == BAD_SLOT
+    slot >= hw.slots() || is_bad_slot(frames, hw, slot)
 }

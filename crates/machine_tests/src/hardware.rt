@@ -28,7 +28,7 @@ fn parts() -> Parts<'static> {
 #[test]
 fn parts_of_a_machine(rt: HostRuntime) -> Result<(), Fail> {
     let hw = Hardware::of(&parts()).ok().ok_or("refused")?;
-    assert_eq!(rt; hw.zones().zone(1), Some((200, 50)));
+    assert_eq!(rt; hw.zones().as_slice(), [(0, 100), (200, 50)].as_slice());
     assert_eq!(rt; hw.slots(), 2000);
     assert_eq!(rt; hw.frame_table(), 210);
     assert_eq!(rt; hw.slot_table(), 40);

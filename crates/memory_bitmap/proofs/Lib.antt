@@ -1,7 +1,10 @@
+pub mod Bounds
 pub mod Changes
 pub mod Empty
 pub mod Filled
 pub mod Keeping
+pub mod Left
 pub mod Members
 pub mod Search
 pub mod Words
+pub mod Yielded

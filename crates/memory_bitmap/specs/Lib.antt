@@ -1,3 +1,4 @@
 pub mod Bits
 pub mod FrameSet
 pub mod Kept
+pub mod Left

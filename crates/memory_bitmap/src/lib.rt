@@ -2,6 +2,7 @@
 #![tactic(auto)]
 
 mod block;
+mod iter;
 
 ghost use Rattle.std.specs.Prelude.{◌≡◌, ℕ, ◌+◌, ◌-◌, ◌*◌, ◌/◌, ◌<◌, ◌≤◌, ◌↔◌, ◌++◌, [], IsTrue, IfOk, OnOk, MatchOption, List, length, vec_len, slice_index, All};
 ghost use Rattle.std.specs.List.{Contains};
@@ -13,6 +14,7 @@ ghost use Rattle.memory_bitmap.specs.Bits.{IsPlace, AreFilled};
 use block::{
     WORDS, clear_bit, clear_blocks, empty_blocks, fill_first, first_bit, has_bit, set_bit,
 };
+pub use iter::Iter;
 use page_core::NoMemory;
 use std::alloc::Global;
 use std::marker::Model;
@@ -158,10 +160,8 @@ fn block_runs(alloc: Global, zones: &Zones) -> Result<Vec<(u32, u32)>, NoMemory>
     ensures { IfOk result (λ runs. (runs.items ≡ blocks zones.now) × AreZones zones.now) }
 {
     let mut runs = Vec::new(alloc);
-    let mut j = 0;
-    while let Some(zone) = zones.zone(j) {
+    for &zone in zones.as_slice() {
         add_blocks(&mut runs, zone)?;
-        j += 1;
     }
     Ok(runs)
 }

@@ -19,7 +19,7 @@ fn reads_the_numbers_of_an_image(rt: HostRuntime) -> Result<(), Fail> {
     let zones = Zones::of(&[(0, 4096)])?;
     let mut origs = Bitmap::create(rt.alloc(), &zones)?;
     let mut zeros = Bitmap::create(rt.alloc(), &zones)?;
-    assert_eq!(rt; zones.zone(0), Some((0, 4096)));
+    assert_eq!(rt; zones.as_slice(), [(0, 4096)].as_slice());
     let page = page_of(&[0, 1, 2, 3, 4, 5, 6, 10, u64::MAX]);
     let answer = Unpack::begin(8, Format::Plain).feed(&page, &zones, &mut origs, &mut zeros);
     let listed = (origs.len(), origs.first_from(7), zeros.len());

@@ -1,6 +1,6 @@
 use frame_arena::Frames;
 use std::test::Fail;
-use swap_slots::{FileMap, FreeRuns, SlotTable};
+use swap_slots::{FileMap, FreeRuns, SlotEntry, SlotTable};
 
 #[test]
 fn runs_of_slots(rt: HostRuntime) -> Result<(), Fail> {
@@ -9,16 +9,22 @@ fn runs_of_slots(rt: HostRuntime) -> Result<(), Fail> {
         slots: 3001,
     };
     let mut frames = Frames::create(rt.alloc(), 4)?;
-    frames.put_u32(1, 0, 131072);
-    frames.put_u32(1, 20, 131072);
+    table.set(&mut frames, 0, SlotEntry::Bad);
+    table.set(&mut frames, 5, SlotEntry::Bad);
     let mut runs = FreeRuns::create(rt.alloc(), 3001)?;
     runs.rebuild(&frames, &table);
     assert_eq!(rt;
         [runs.run(0), runs.run(1), runs.run(2)],
         [Some((1, 4)), Some((6, 2995)), None]
     );
-    assert_eq!(rt; table.take(&mut frames, &mut runs, 3), Some(1));
-    assert_eq!(rt; table.take(&mut frames, &mut runs, 65536), Some(2));
+    assert_eq!(rt;
+        table.take(&mut frames, &mut runs, SlotEntry::Task(3)),
+        Some(1)
+    );
+    assert_eq!(rt;
+        table.take(&mut frames, &mut runs, SlotEntry::Image),
+        Some(2)
+    );
     assert_eq!(rt;
         [runs.run(0), runs.run(1), runs.run(2)],
         [Some((3, 2)), Some((6, 2995)), None]
@@ -29,7 +35,8 @@ fn runs_of_slots(rt: HostRuntime) -> Result<(), Fail> {
         [runs.run(0), runs.run(1), runs.run(2)],
         [Some((1, 1)), Some((3, 2)), Some((6, 2995))]
     );
-    assert_eq!(rt; (free, table.owner(&frames, 2)), (2997, 65536));
+    assert_eq!(rt; (free, table.entry(&frames, 2)), (2997, SlotEntry::Image));
+    assert_eq!(rt; [frames.u32_at(1, 0), frames.u32_at(1, 8)], [131072, 65536]);
     table.give_image(&mut frames, &mut runs);
     assert_eq!(rt;
         [runs.run(0), runs.run(1), runs.run(2)],

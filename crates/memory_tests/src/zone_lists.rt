@@ -28,6 +28,6 @@ fn tells_the_valid_numbers(rt: HostRuntime) -> Result<(), Fail> {
         [zones.next(0), zones.next(15), zones.next(65536)],
         [Some(5), Some(65530), None]
     );
-    assert_eq!(rt; [zones.zone(1), zones.zone(2)], [Some((65530, 6)), None]);
+    assert_eq!(rt; zones.as_slice(), [(5, 10), (65530, 6)].as_slice());
     Ok(())
 }

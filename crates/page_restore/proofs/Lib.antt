@@ -4,5 +4,4 @@ mod Keeping
 mod Members
 mod Moving
 mod Placing
-pub mod Walk
 pub mod WithData

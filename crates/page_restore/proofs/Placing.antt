@@ -23,6 +23,9 @@ kept xs k frames page distinct lt =
     get_or-map (frame new) front j 0 d in_front ∙ get_or-set_other frames p (get_or front j 0) page [] other
     ∙ sym (get_or-map (frame frames) front j 0 d in_front))
 
+pub pages_before : (xs : List ℕ) (k p : ℕ) (frames : List (List ℕ)) (page : List ℕ) → IsDistinct nat_eq xs → k < length xs → p ≡ get_or xs k 0 → map (frame (with_frame frames p page)) (take k xs) ≡ map (frame frames) (take k xs)
+pages_before xs k p frames page distinct lt is = ap (λ (r : ℕ). map (frame (with_frame frames r page)) (take k xs)) is ∙ kept xs k frames page distinct lt
+
 pub one_more_waits : (xs : List ℕ) (k p : ℕ) (frames : List (List ℕ)) (page : List ℕ) → IsDistinct nat_eq xs → k < length xs → p ≡ get_or xs k 0 → p < length frames → map (frame (with_frame frames p page)) (take (k + 1) xs) ≡ map (frame frames) (take k xs) ++ page ∷ []
 one_more_waits xs k p frames page distinct lt is within =
     let q = get_or xs k 0 in

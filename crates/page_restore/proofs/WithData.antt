@@ -1,7 +1,6 @@
 -- The originals with data, as the numbers without data are taken out one by one.
-use Rattle.std.proofs.Common.{◌≡◌, ℕ, ◌+◌, ◌<◌, ◌||◌, cond, eqb, Bool, true, false, List, [], ◌∷◌, ◌++◌, length, take, get_or, Some, not, refl, sym, ap, ◌∙◌, subst, inl, inr, arith}
+use Rattle.std.proofs.Common.{◌≡◌, ℕ, ◌||◌, cond, eqb, Bool, true, false, List, [], ◌∷◌, ◌++◌, length, Some, not, refl, sym, ap, ◌∙◌, subst, inl, inr, arith}
 use Rattle.std.proofs.lemmas.Bool.{eq-eqb, false≢true, not_from_true, not_from_false}
-use Rattle.std.proofs.lemmas.List.{take_more}
 use Rattle.std.proofs.lemmas.List.Elements.{Contains-append_cases, Contains-append_left, Contains-append_right}
 use Rattle.std.proofs.lemmas.List.Kept.{IsStrictlyIncreasing-filter}
 use Rattle.std.specs.List.{Contains, list_any, zip}
@@ -31,34 +30,33 @@ pub IsStrictlyIncreasing-with_data : (origs zeros : List ℕ) → IsStrictlyIncr
 unfolding with_data
 IsStrictlyIncreasing-with_data origs zeros up = IsStrictlyIncreasing-filter (has_data zeros) origs up
 
--- so many of the numbers without data are taken out, and one more
-module _ (origs zeros : List ℕ) (k : ℕ) (up : IsStrictlyIncreasing origs) (lt : k < length zeros) where
-  abbrev pub z : ℕ
-  z = get_or zeros k 0
+-- some of the numbers without data are taken out, and one more
+module _ (origs taken : List ℕ) (z : ℕ) (up : IsStrictlyIncreasing origs) where
+  abbrev more : List ℕ
+  more = taken ++ z ∷ []
 
-  goes : (q : ℕ) → Contains (with_data origs (take (k + 1) zeros)) q → Contains (removed (with_data origs (take k zeros)) z) q
+  goes : (q : ℕ) → Contains (with_data origs more) q → Contains (removed (with_data origs taken) z) q
   goes q in' =
-      let is = Contains-from_with_data origs (take (k + 1) zeros) q in' in
-      let absent : Contains (take k zeros ++ z ∷ []) q → ⊥ = λ none. is.1 (subst (λ (zs : List ℕ). Contains zs q) (sym (take_more zeros k 0 lt)) none) in
-      Contains-removed (with_data origs (take k zeros)) z q
-      (Contains-with_data origs (take k zeros) q is.0 (λ none. absent (Contains-append_left (take k zeros) (z ∷ []) q none)))
-      (λ e. absent (Contains-append_right (take k zeros) (z ∷ []) q (subst (Contains (z ∷ [])) (sym e) (Contains-head z []))))
+      let is = Contains-from_with_data origs more q in' in
+      Contains-removed (with_data origs taken) z q
+      (Contains-with_data origs taken q is.0 (λ none. is.1 (Contains-append_left taken (z ∷ []) q none)))
+      (λ e. is.1 (Contains-append_right taken (z ∷ []) q (subst (Contains (z ∷ [])) (sym e) (Contains-head z []))))
 
-  comes : (q : ℕ) → Contains (removed (with_data origs (take k zeros)) z) q → Contains (with_data origs (take (k + 1) zeros)) q
+  comes : (q : ℕ) → Contains (removed (with_data origs taken) z) q → Contains (with_data origs more) q
   comes q in' =
-      let other = Contains-from_removed (with_data origs (take k zeros)) z q in' in
-      let is = Contains-from_with_data origs (take k zeros) q other.0 in
-      Contains-with_data origs (take (k + 1) zeros) q is.0 (λ none.
-      elim (Contains-append_cases (take k zeros) (z ∷ []) q (subst (λ (zs : List ℕ). Contains zs q) (take_more zeros k 0 lt) none)) [
+      let other = Contains-from_removed (with_data origs taken) z q in' in
+      let is = Contains-from_with_data origs taken q other.0 in
+      Contains-with_data origs more q is.0 (λ none.
+      elim (Contains-append_cases taken (z ∷ []) q none) [
         | inl before ↦ is.1 before
         | inr last ↦ elim (Contains-cons_cases z [] q last) [ inl e ↦ other.1 (sym e) | inr rest ↦ Contains-nil q rest ]
       ])
 
-  pub with_one_less : with_data origs (take (k + 1) zeros) ≡ removed (with_data origs (take k zeros)) z
+  pub with_one_less : with_data origs (taken ++ z ∷ []) ≡ removed (with_data origs taken) z
   with_one_less =
-      same_members (with_data origs (take (k + 1) zeros)) (removed (with_data origs (take k zeros)) z)
-      (IsStrictlyIncreasing-with_data origs (take (k + 1) zeros) up)
-      (IsStrictlyIncreasing-removed (with_data origs (take k zeros)) z (IsStrictlyIncreasing-with_data origs (take k zeros) up))
+      same_members (with_data origs more) (removed (with_data origs taken) z)
+      (IsStrictlyIncreasing-with_data origs more up)
+      (IsStrictlyIncreasing-removed (with_data origs taken) z (IsStrictlyIncreasing-with_data origs taken up))
       goes comes
 
 pub all_with_data : (origs : List ℕ) → with_data origs [] ≡ origs

@@ -1,9 +1,10 @@
 -- Pages of an image that wait until all of them go to their own page frames (prepare_image and get_buffer,
 -- kernel/power/snapshot.c).
-use Rattle.std.specs.Prelude.{ℕ, ◌==◌, ◌||◌, not, List, [], ◌∷◌, Option, Some, None, map, take, filter, if◌then◌else◌}
+use Rattle.std.specs.Prelude.{◌≡◌, ◌≤◌, ◌<◌, ◌+◌, ◌++◌, length, Contains, ℕ, ◌==◌, ◌||◌, not, List, [], ◌∷◌, Option, Some, None, map, take, filter, if◌then◌else◌}
 use Rattle.std.specs.List.{list_any, zip}
 use Rattle.definitions.specs.Bytes.{zero_page}
-use Rattle.definitions.specs.Tables.{frame}
+use Rattle.definitions.specs.Tables.{frame, with_frame}
+use Rattle.definitions.specs.Zones.{top}
 use Rattle.safe_pages.specs.Placed.{Placed, sources}
 
 -- The page frames that are free to the loader, the originals with data of the last plan, where their pages wait, and how
@@ -22,6 +23,13 @@ with_data origs zeros = filter (λ p. not (list_any (λ q. q == p) zeros)) origs
 -- the pages that wait, in the order of their originals
 abbrev pub waiting_pages : List (List ℕ) → Awaiting → List (List ℕ)
 waiting_pages frames w = map (frame frames) (take w.loaded (sources w.placement.moves))
+
+-- The next page waits in page frame p, one that is free to the loader. Whatever is written there, the pages that wait already stay.
+pub record WaitsNext (w : Awaiting) (p : ℕ) : Type 0 where
+  pub free : Contains w.free p
+  pub within : (frames : List (List ℕ)) → top w.zones ≤ length frames → p < length frames
+  pub before : (frames : List (List ℕ)) (page : List ℕ) → waiting_pages (with_frame frames p page) w ≡ waiting_pages frames w
+  pub after : (frames : List (List ℕ)) (page : List ℕ) → top w.zones ≤ length frames → waiting_pages (with_frame frames p page) (record w { loaded = w.loaded + 1 }) ≡ waiting_pages frames w ++ page ∷ []
 
 -- the page of the first pair whose number is p
 abbrev pub saved_page : List (ℕ × List ℕ) → ℕ → Option (List ℕ)

@@ -4,13 +4,13 @@
 
 mod sets;
 
-ghost use Rattle.std.specs.Prelude.{◌≡◌, ◌≢◌, ℕ, ◌+◌, ◌<◌, ◌≤◌, ◌↔◌, ◌++◌, ◌∷◌, [], true, false, Contains, IsErr, IfOk, IfErr, OnOk, OnErr, length};
+ghost use Rattle.std.specs.Prelude.{◌≡◌, ◌≢◌, ℕ, ◌+◌, ◌<◌, ◌≤◌, ◌↔◌, ◌++◌, ◌∷◌, [], true, false, Contains, IsErr, IsNone, IfOk, IfErr, IfSome, OnOk, OnErr, length};
 ghost use Rattle.definitions.specs.Moves.{assigned};
 ghost use Rattle.definitions.specs.Tables.{frame};
 ghost use Rattle.definitions.specs.Zones.{top};
 ghost use Rattle.safe_pages.specs.Placed.{targets, IsPlacement, TakesFrom};
 ghost use Rattle.safe_pages.specs.Plan.{need_for, planned};
-ghost use Rattle.page_restore.specs.Waiting.{with_data, waiting_pages, restored_page};
+ghost use Rattle.page_restore.specs.Waiting.{with_data, WaitsNext, restored_page};
 
 use frame_arena::Frames;
 use memory_bitmap::Bitmap;
@@ -115,21 +115,28 @@ impl Waiting {
         self.origs.len() - self.loaded
     }
 
-    /// Puts the page of the next original where it waits.
-    pub fn place(&mut self, frames: &mut Frames, page: &Page)
+    /// The page frame in which the page of the next original waits. None where all of them wait.
+    pub fn next(&self) -> Option<u32>
+        requires { self.now.placement.ready ≡ true }
+        ensures all_wait { IsNone result ↔ (self.now.loaded ≡ length self.now.originals) }
+        ensures waits { IfSome result (WaitsNext self.now) }
+    {
+        if self.loaded < self.origs.len() {
+            Some(self.placement.frame_for(self.loaded))
+        } else {
+            None
+        }
+    }
+
+    /// Counts the page of the next original, which waits in its page frame now.
+    pub fn placed(&mut self)
         requires ready { self.old.placement.ready ≡ true }
         requires left { self.old.loaded < length self.old.originals }
-        requires frames { top self.old.zones ≤ length frames.old }
-        ensures waits { waiting_pages frames.new self.new ≡ waiting_pages frames.old self.old ++ page.now ∷ [] }
-        ensures others { (p : ℕ) → (Contains self.old.free p → ⊥) → frame frames.new p ≡ frame frames.old p }
-        ensures size { length frames.new ≡ length frames.old }
-        ensures counted { self.new ≡ record self.old { loaded = self.old.loaded + 1 } }
+        ensures { self.new ≡ record self.old { loaded = self.old.loaded + 1 } }
     {
         // So one more can be counted.
         let left = self.loaded < self.origs.len();
         prove!(left);
-        let p = self.placement.frame_for(self.loaded);
-        frames.write(p, page);
         self.loaded += 1;
     }
 

@@ -15,13 +15,10 @@ pub(crate) fn mark_with_data(set: &mut Bitmap, origs: &Bitmap, zeros: &Bitmap)
     set.copy_from(origs);
     // So its members are valid.
     let _ = origs.len();
-    let mut from = 0;
-    for _ in 0..zeros.len() {
-        let p = zeros.first_from(from).unwrap();
+    for p in zeros.iter() {
         if set.has(p) {
             set.clear(p);
         }
-        from = p + 1;
     }
 }
 
@@ -33,12 +30,9 @@ pub(crate) fn zero_apart(frames: &mut Frames, set: &Bitmap, kept: &Bitmap)
     ensures others { (p : ℕ) → (Contains set.now.members p → ⊥) → frame frames.new p ≡ frame frames.old p }
     ensures size { length frames.new ≡ length frames.old }
 {
-    let mut from = 0;
-    for _ in 0..set.len() {
-        let p = set.first_from(from).unwrap();
+    for p in set.iter() {
         if !kept.has(p) {
             frames.zero(p);
         }
-        from = p + 1;
     }
 }

@@ -1,6 +1,6 @@
 -- Laws of the members of an ascending list below a number.
-use Rattle.std.proofs.Common.{◌≡◌, ℕ, ◌+◌, ◌<◌, ◌≤◌, zero, suc, List, [], ◌∷◌, ◌++◌, length, get_or, filter, ltb, Some, refl, sym, ap, ◌∙◌, subst, inl, inr, ⊎_elim, arith, length-append}
-use Rattle.std.proofs.lemmas.Bool.{cases_lt, cond-true, cond-false, lt-ltb, le-ltb, ltb-true}
+use Rattle.std.proofs.Common.{◌≡◌, ℕ, ◌+◌, ◌<◌, ◌≤◌, zero, suc, List, [], ◌∷◌, ◌++◌, length, get_or, filter, drop, leb, ltb, Some, refl, sym, ap, ◌∙◌, subst, inl, inr, ⊎_elim, arith, length-append}
+use Rattle.std.proofs.lemmas.Bool.{cases_lt, cond-true, cond-false, lt-leb, lt-ltb, le-ltb, ltb-true}
 use Rattle.std.proofs.lemmas.List.{get_or_default}
 use Rattle.std.proofs.lemmas.List.Elements.{Contains-get_or, Contains-append_left, Contains-append_right, Contains-append_cases}
 use Rattle.std.proofs.lemmas.List.Kept.{IsStrictlyIncreasing-filter, AllPairs-from_increasing}
@@ -11,6 +11,8 @@ use Rattle.definitions.proofs.Ascending.{Contains-head, Contains-tail, Contains-
 use Rattle.definitions.proofs.FrameSets.{Contains-filter, Contains-from_filter}
 use Rattle.definitions.proofs.ZoneNumbers.{below_top, top_at_most}
 use Rattle.memory_bitmap.specs.FrameSet.{FrameSet, IsFrameSet}
+use Rattle.memory_bitmap.specs.Left.{members_from}
+use Rattle.memory_bitmap.proofs.Left.{all_above}
 use Rattle.pfn_pack.specs.Places.{count_below}
 
 -- none, and all
@@ -34,6 +36,23 @@ unfolding count_below
 count_below-all [] p below = refl
 count_below-all (x ∷ xs) p below =
     count_below-cons x xs p (below x (Contains-head x xs)) ∙ ap suc (count_below-all xs p (λ q in'. below q (Contains-tail x xs q in')))
+
+-- the members from p on are those behind the ones below
+pub left_from : (xs : List ℕ) (p : ℕ) → IsStrictlyIncreasing xs → members_from p xs ≡ drop (count_below xs p) xs
+unfolding count_below
+left_from [] p up = refl
+left_from (x ∷ xs) p up = elim (cases_lt x p) [
+  | inl lt ↦
+      cond-false (leb p x) (x ∷ filter (leb p) xs) (filter (leb p) xs) (lt-leb p x lt)
+      ∙ left_from xs p (IsStrictlyIncreasing-tail x xs up)
+      ∙ ap (λ (n : ℕ). drop n (x ∷ xs)) (sym (count_below-cons x xs p lt))
+  | inr le ↦
+      let above : (q : ℕ) → Contains (x ∷ xs) q → p ≤ q = λ q in'. elim (Contains-cons_cases x xs q in') [
+        | inl is ↦ omega arith
+        | inr rest ↦ let lt = head_below x xs q up rest in omega arith
+      ] in
+      all_above p (x ∷ xs) above ∙ ap (λ (n : ℕ). drop n (x ∷ xs)) (sym (count_below-none (x ∷ xs) p above))
+]
 
 -- these are the members from p up to before r
 pub record AreBetween (xs : List ℕ) (p r : ℕ) (ys : List ℕ) : Type 0 where

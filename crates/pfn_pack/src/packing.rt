@@ -28,12 +28,11 @@ pub fn pack(origs: &Bitmap, zeros: Option<&Bitmap>, k: u32, page: &mut Page)
     let len = origs.len();
     let first = NUMBERS * k;
     let count = NUMBERS.min(len - first);
-    let mut from = behind(origs, first);
+    let mut members = origs.iter_from(behind(origs, first));
     *page = Page::zero();
     for i in 0..count {
-        let p = origs.first_from(from).unwrap();
+        let p = members.next().unwrap();
         page.set_word(i as usize, marked(p, zeros));
-        from = p + 1;
     }
     if count < NUMBERS {
         page.set_word(count as usize, END);
@@ -99,9 +98,10 @@ fn behind_more(set: &Bitmap, from: u32, more: u32) -> u32
     requires members { count_below set.now.members from + more ≤ length set.now.members }
     ensures { count_below set.now.members result ≡ count_below set.now.members from + more }
 {
+    let mut members = set.iter_from(from);
     let mut past = from;
     for _ in 0..more {
-        past = set.first_from(past).unwrap() + 1;
+        past = members.next().unwrap() + 1;
     }
     past
 }

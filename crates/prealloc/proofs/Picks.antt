@@ -1,14 +1,12 @@
 -- The first of what a test picks of the page frames from `start` on.
-use Rattle.std.proofs.Common.{◌≡◌, ℕ, ◌+◌, ◌-◌, ◌<◌, ◌≤◌, List, [], ◌∷◌, ◌++◌, filter, length, length-append, take, drop, zero, suc, subst, Bool, true, false, cond, eqb, ◌&&◌, inl, inr, sym, ap, ◌∙◌, ⊎_elim, append_assoc, arith}
+use Rattle.std.proofs.Common.{◌≡◌, ℕ, ◌+◌, ◌-◌, ◌<◌, ◌≤◌, List, [], ◌∷◌, ◌++◌, filter, length, length-append, take, drop, zero, suc, subst, Bool, true, eqb, ◌&&◌, inl, inr, sym, ap, ◌∙◌, arith}
 use Rattle.std.proofs.lemmas.Bool.{and_from, and_left, and_right, cases_eq, cases_lt, eq-eqb, ne_eqb}
 use Rattle.std.proofs.lemmas.List.{append-nil, take_all, take-append-drop, take-append-le}
 use Rattle.std.proofs.Math.Seq.{take-append-add}
-use Rattle.std.proofs.lemmas.List.Elements.{Contains-append_cases, Contains-append_left, filter-append}
+use Rattle.std.proofs.lemmas.List.Elements.{Contains-append_left, filter-append}
 use Rattle.std.specs.List.{Contains, range_with_len}
 use Rattle.definitions.specs.FrameSets.{inserted}
 use Rattle.definitions.specs.Tables.{page_flags, owner_of}
-use Rattle.definitions.proofs.FrameSets.{inserted_above, Contains-from_filter}
-use Rattle.definitions.proofs.ZoneNumbers.{range-bounds}
 use Rattle.definitions.proofs.Picks.{picks_one, inserted_picked}
 
 pub take-append : (n : ℕ) (xs ys : List ℕ) → take n (xs ++ ys) ≡ take n xs ++ take (n - length xs) ys

@@ -45,10 +45,8 @@ pub fn pick(view: &View, n: u32, set: &mut Bitmap)
 {
     set.clear_all();
     let mut left = n;
-    let mut j = 0;
-    while let Some(zone) = view.zones.zone(j) {
+    for &zone in view.zones.as_slice() {
         left = pick_in_zone(view, zone, left, set);
-        j += 1;
     }
 }
 

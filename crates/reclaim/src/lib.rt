@@ -47,10 +47,8 @@ pub fn shrink(
     let saved = count_saveable(frames, zones, table);
     let most = u64::from(saved).saturating_sub(want) as u32;
     let mut dropped = 0;
-    let mut j = 0;
-    while let Some(zone) = zones.zone(j) {
+    for &zone in zones.as_slice() {
         dropped += drop_in_zone(frames, table, keep, zone, most - dropped);
-        j += 1;
     }
     (dropped, saved - dropped)
 }
@@ -66,10 +64,8 @@ fn count_saveable(frames: &Frames, zones: &Zones, table: u32) -> u32
         table,
     };
     let mut count = 0;
-    let mut j = 0;
-    while let Some(zone) = zones.zone(j) {
+    for &zone in zones.as_slice() {
         count += saveable_in_zone(&view, zone);
-        j += 1;
     }
     count
 }

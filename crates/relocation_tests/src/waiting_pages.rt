@@ -40,10 +40,14 @@ fn place_numbered(waiting: &mut Waiting, frames: &mut Frames)
     ensures loaded { waiting.new ≡ record waiting.old { loaded = length waiting.old.originals } }
     ensures size { length frames.new ≡ length frames.old }
 {
-    let mut page = Page::zero();
     for k in 0..waiting.left() {
+        let Some(p) = waiting.next() else {
+            return;
+        };
+        let page = frames.page_mut(p);
+        *page = Page::zero();
         page.set_word(511, u64::from(k) + 1);
-        waiting.place(frames, &page);
+        waiting.placed();
     }
 }
 

@@ -11,7 +11,7 @@ use Rattle.memory_bitmap.specs.FrameSet.{FrameSet, IsFrameSet}
 use Rattle.definitions.specs.FrameSets.{removed}
 use Rattle.definitions.proofs.Ascending.{same_members}
 use Rattle.definitions.proofs.FrameSets.{Contains-filter, Contains-from_filter, Contains-removed, Contains-from_removed, IsStrictlyIncreasing-removed}
-use Rattle.safe_pages.proofs.Walks.{is_first}
+use Rattle.resume_core.proofs.First.{is_first}
 
 -- the numbers below `first`, and those from `end` on
 abbrev pub without_run : ℕ → ℕ → List ℕ → List ℕ

@@ -1,12 +1,14 @@
-pub mod Clearing
-pub mod Cases
-pub mod Facts
-pub mod Headers
-pub mod Finding
-pub mod TakingBack
-pub mod OwnImage
 pub mod Answering
-pub mod Listing
-pub mod Placing
 pub mod Beginning
+pub mod Cases
+pub mod Clearing
 pub mod Ending
+pub mod Facts
+pub mod Finding
+mod First
+pub mod Headers
+pub mod Listing
+pub mod OwnImage
+pub mod Placing
+mod Putting
+pub mod TakingBack

@@ -65,14 +65,14 @@ at_read machine frames load chain c hw at late l s =
     (knows.0, record { hardware = hw; late = late; within = knows.3; stands = s.stands; found = knows.1.found; gone_on = knows.2 })
 
 -- the disk fails at a read
-pub read_failed_row : (machine : Machine) (frames : Memory) (load load' : Load) (chain : OpenChain) (c : disk.Content) → activity_of load ≡ loads chain.done → IsAtRead machine frames load chain c → load'.stage ≡ stage.Rest →
-    Simulates machine frames load machine frames load' (event.Step actor.Core) (reply.ReadFault Gone) c c
-read_failed_row machine frames load load' chain c is reads rest =
-    row_at_load machine frames load machine frames load' (event.Step actor.Core) (reply.ReadFault Gone) c c chain.done is
+pub read_failed_row : (machine : Machine) (frames frames' : Memory) (load load' : Load) (chain : OpenChain) (c : disk.Content) → activity_of load ≡ loads chain.done → IsAtRead machine frames load chain c → load'.stage ≡ stage.Rest →
+    Simulates machine frames load machine frames' load' (event.Step actor.Core) (reply.ReadFault Gone) c c
+read_failed_row machine frames frames' load load' chain c is reads rest =
+    row_at_load machine frames load machine frames' load' (event.Step actor.Core) (reply.ReadFault Gone) c c chain.done is
     (λ l s. (
       off nothing None,
-      leads machine frames load' (reply.ReadFault Gone) c c (loading l chain.done) (off nothing None) tt
-          (let at = reads l s in read_fault_row machine.hw (shown_by machine frames load) (shown_by machine frames load') c l at.0 chain.done at.1 (activity_is load' stage.Rest rest, refl)) tt,
+      leads machine frames' load' (reply.ReadFault Gone) c c (loading l chain.done) (off nothing None) tt
+          (let at = reads l s in read_fault_row machine.hw (shown_by machine frames load) (shown_by machine frames' load') c l at.0 chain.done at.1 (activity_is load' stage.Rest rest, refl)) tt,
     ))
 
 -- up to here few blocks are read

@@ -267,10 +267,10 @@ cause_stop (cause.PfnOrder a b) = tt
 cause_stop (cause.PfnEnd f) = tt
 
 -- the image can't be read further
-pub refused_row : (machine : Machine) (frames : Memory) (load mid load' : Load) (chain chain' : OpenChain) (result : ReadStep) (why : Cause) (c : disk.Content) → IsHardware machine.hw → load.stage ≡ stage.Read chain → 4 ≤ chain.done → result ≡ read_step.Refused why →
-    ((v : disk.DiskImage) (t : ℕ) → HasReader machine.hw v chain.reader load t → Reads machine.hw v (Some c) → AnswersFor machine.hw v t result chain chain' load mid) → load'.stage ≡ stage.Rest → Simulates machine frames load machine frames load' (event.Step actor.Core) (reply_of why) c c
-refused_row machine frames load mid load' chain chain' result why c hardware at late is answers rest =
-    row_at_load machine frames load machine frames load' (event.Step actor.Core) (reply_of why) c c chain.done (activity_is load (stage.Read chain) at)
+pub refused_row : (machine : Machine) (frames frames' : Memory) (load mid load' : Load) (chain chain' : OpenChain) (result : ReadStep) (why : Cause) (c : disk.Content) → IsHardware machine.hw → load.stage ≡ stage.Read chain → 4 ≤ chain.done → result ≡ read_step.Refused why →
+    ((v : disk.DiskImage) (t : ℕ) → HasReader machine.hw v chain.reader load t → Reads machine.hw v (Some c) → AnswersFor machine.hw v t result chain chain' load mid) → load'.stage ≡ stage.Rest → Simulates machine frames load machine frames' load' (event.Step actor.Core) (reply_of why) c c
+refused_row machine frames frames' load mid load' chain chain' result why c hardware at late is answers rest =
+    row_at_load machine frames load machine frames' load' (event.Step actor.Core) (reply_of why) c c chain.done (activity_is load (stage.Read chain) at)
     (λ l s.
     let h = machine.hw in
     let k = chain.done in
@@ -280,8 +280,8 @@ refused_row machine frames load mid load' chain chain' result why c hardware at 
     let cause : step_cause h v l.check (k - 4) ≡ Some (reply_of why) = subst (λ (x : IdentCheck). step_cause h v x (k - 4) ≡ Some (reply_of why)) (loader_of machine frames load c l k s).check a.0 in
     let want = no_want_after h l.dump v l.loader (k - 4) knows.5.listed in (
       off nothing None,
-      leads machine frames load' (reply_of why) c c (loading l k) (off nothing None) (stopped_early machine frames c (reply_of why) (loading l k) (off nothing None) (cause_stop why))
-          (read_stop_row h (shown_by machine frames load) (shown_by machine frames load') c l v k (reply_of why)
+      leads machine frames' load' (reply_of why) c c (loading l k) (off nothing None) (stopped_early machine frames' c (reply_of why) (loading l k) (off nothing None) (cause_stop why))
+          (read_stop_row h (shown_by machine frames load) (shown_by machine frames' load') c l v k (reply_of why)
           (record { hardware = hardware; late = late; within = knows.3; stands = s.stands; found = knows.1.found; gone_on = knows.2 })
           (stops_reply h l.dump v l.loader l.check k (reply_of why) late cause want) (cause_stop why) (activity_is load' stage.Rest rest, refl)) tt,
     ))
@@ -293,7 +293,7 @@ KeepsPlaces h frames waiting frames' waiting' chain chain' load mid result =
 
 -- the row of a read, with the places as they are afterwards
 pub read_on_row : (machine : Machine) (frames frames' : Memory) (load mid after : Load) (chain chain' : OpenChain) (machine' : Machine) (frames'' : Memory) (load' : Load) (result : ReadStep) (r : Reply) (c : disk.Content) → IsHardware machine.hw → load.stage ≡ stage.Read chain → 4 ≤ chain.done → machine'.hw ≡ machine.hw →
-    disk.IsContent machine.blocks c → mid ≡ record load { stage = mid.stage; origs = mid.origs; zeros = mid.zeros; page = mid.page } → chain' ≡ record chain { reader = chain'.reader } → after ≡ record mid { waiting = after.waiting } → after.waiting.free ≡ mid.waiting.free → HasNoCause result →
+    disk.IsContent machine.blocks c → mid ≡ record load { stage = mid.stage; origs = mid.origs; zeros = mid.zeros; page = mid.page } → chain' ≡ record chain { reader = chain'.reader } → after ≡ record mid { waiting = after.waiting; page = after.page } → after.waiting.free ≡ mid.waiting.free → HasNoCause result →
     ((p : ℕ) → (Contains load.waiting.free p → ⊥) → frame frames' p ≡ frame frames p) →
     ((v : disk.DiskImage) (t : ℕ) → HasReader machine.hw v chain.reader load t → Reads machine.hw v (Some c) → AnswersFor machine.hw v t result chain chain' load mid) → KeepsPlaces machine.hw frames load.waiting frames' after.waiting chain chain' load mid result →
     ReadsOn machine frames' after chain' machine' frames'' load' r → Simulates machine frames load machine' frames'' load' (event.Step actor.Core) r c c
@@ -346,14 +346,14 @@ data_place h v reader load t read told_now within page =
     record { behind = omega arith; within = omega arith }
 
 -- a map leaves the places, and a page gets its own
-map_leaves : (h : Hardware) (v : disk.DiskImage) (frames : Memory) (waiting : Awaiting) (t : ℕ) → t % 512 ≡ 0 → HavePlaces h v frames waiting t → HavePlaces h v frames waiting (t + 1)
-map_leaves h v frames waiting t map places =
+map_leaves : (h : Hardware) (v : disk.DiskImage) (frames frames' : Memory) (waiting : Awaiting) (t : ℕ) → t % 512 ≡ 0 → waiting_pages frames' waiting ≡ waiting_pages frames waiting → HavePlaces h v frames waiting t → HavePlaces h v frames' waiting (t + 1)
+map_leaves h v frames frames' waiting t map stay places =
     let same = read_at_map t map in
     record {
       listed = ap (told h v) same ∙ places.listed;
       originals = places.originals;
       loaded = places.loaded ∙ ap (λ (j : ℕ). j - 1 - meta_in h v) (sym same);
-      pages = places.pages;
+      pages = stay ∙ places.pages;
     }
 
 some_frame : (h : Hardware) (v : disk.DiskImage) (t : ℕ) → IsDataPlace h v t → (t % 512 ≡ 0 → ⊥) → frame_at h v (place t) ≡ None → ⊥
@@ -364,10 +364,11 @@ some_frame h v t at page none =
     ∙ slice_get-get_or (data_frames h v) (pages_read t - 1 - meta_in h v) 0 at.within in
     none-some (get_or (data_frames h v) (pages_read t - 1 - meta_in h v) 0) (sym none ∙ is)
 
-pub map_keeps : (h : Hardware) (frames : Memory) (waiting : Awaiting) (chain chain' : OpenChain) (load mid : Load) (result : ReadStep) → ((k : ℕ) × (result ≡ read_step.More k)) ⊎ (result ≡ read_step.Done) → KeepsPlaces h frames waiting frames waiting chain chain' load mid result
-map_keeps h frames waiting chain chain' load mid result is v t read answered within places = elim is [
+pub map_keeps : (h : Hardware) (frames frames' : Memory) (waiting : Awaiting) (chain chain' : OpenChain) (load mid : Load) (result : ReadStep) → ((k : ℕ) × (result ≡ read_step.More k)) ⊎ (result ≡ read_step.Done) → waiting_pages frames' waiting ≡ waiting_pages frames waiting →
+    KeepsPlaces h frames waiting frames' waiting chain chain' load mid result
+map_keeps h frames frames' waiting chain chain' load mid result is stay v t read answered within places = elim is [
   | inl more ↦ elim (eqb_tells (t % 512) 0) [
-    | inl map ↦ map_leaves h v frames waiting t map.1 places
+    | inl map ↦ map_leaves h v frames frames' waiting t map.1 stay places
     | inr page ↦ (
         let a = subst (λ (s : ReadStep). AnswersFor h v t s chain chain' load mid) more.1 answered in
         absurd (some_frame h v t (data_place h v chain.reader load t read places.listed within page.1) page.1 a.2))

@@ -2,4 +2,5 @@ pub mod Loading
 pub mod Ready
 pub mod Header
 pub mod Refusals
+pub mod Placing
 pub mod Row

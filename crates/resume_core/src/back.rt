@@ -17,15 +17,9 @@ use machine::{Hardware, Machine};
 use page_core::{Failed, Format};
 use plain_machine::{Left, Reply};
 use sector_disk::Disk;
-use sig_header::{Mark, take_back};
+use sig_header::{Mark, SF_HW_SIG, SF_SKIPS_ZEROS, take_back};
 use std::mem::replace;
 use swap_slots::FreeRuns;
-
-/// SF_HW_SIG (kernel/power/power.h).
-const HW_SIG: u32 = 8;
-
-/// The image has no data pages for its pages of zeros (own).
-const SKIPS_ZEROS: u32 = 256;
 
 // The header block taken back, before anything else of the image is read (swsusp_check, kernel/power/swap.c).
 impl Load {
@@ -130,7 +124,7 @@ fn reader_of(hw: &Hardware, blocks: u32, mark: &Mark) -> Result<Reader, Reply>
 fn other_signature(hw: &Hardware, mark: &Mark) -> Option<Reply>
     ensures { result ≡ signature_fault hw.now mark.now }
 {
-    if mark.flags & HW_SIG == 0 {
+    if mark.flags & SF_HW_SIG == 0 {
         return None;
     }
     if mark.hw_sig == hw.hw_sig() {
@@ -145,7 +139,7 @@ fn other_signature(hw: &Hardware, mark: &Mark) -> Option<Reply>
 fn format_of(mark: &Mark) -> Format
     ensures { result ≡ (if is_set mark.now.flags 256 then SkipZeros else Plain) }
 {
-    if mark.flags & SKIPS_ZEROS == 0 {
+    if mark.flags & SF_SKIPS_ZEROS == 0 {
         Format::Plain
     } else {
         Format::SkipZeros

@@ -8,17 +8,17 @@ ghost use Rattle.plain_machine.specs.Chain.{header_of, blocks_of, Marked};
 ghost use Rattle.plain_machine.specs.Trace.{tables_cause};
 ghost use Rattle.plain_machine.specs.UsableArea.{fit_fault};
 ghost use Rattle.plain_machine.specs.declared.reply.Reply.TheVariants as reply;
-ghost use Rattle.machine.specs.Running.{AreReserved, slot_table_of};
+ghost use Rattle.machine.specs.Running.{AreReserved};
 ghost use Rattle.protocol_laws.specs.Rows.{IsNewFault, is_idle};
 
 use crate::Load;
 use crate::load::Stage;
 use frame_arena::Frames;
-use machine::{Flight, Hardware, Machine, has_bad_slots, tables_fit, usable};
+use machine::{Flight, Hardware, Machine, has_bad_slots, slot_table, tables_fit, usable};
 use page_core::Page;
 use plain_machine::{Held, Loader, Reply};
 use sig_header::{Area, AreaKind, take_back};
-use swap_slots::{FreeRuns, SlotTable};
+use swap_slots::FreeRuns;
 
 // The end of a resume (swsusp_arch_resume; hibernation_restore, kernel/power/hibernate.c).
 impl Load {
@@ -98,15 +98,5 @@ fn restored_area(hw: &Hardware, blocks: u32, frames: &Frames, header: &Page) -> 
             }
         }
         Err(_) => Err(hw.slot_table()),
-    }
-}
-
-/// The machine's slot table.
-fn slot_table(hw: &Hardware) -> SlotTable
-    ensures { result ≡ slot_table_of hw.now }
-{
-    SlotTable {
-        first: hw.slot_table(),
-        slots: hw.slots(),
     }
 }

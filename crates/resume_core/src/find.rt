@@ -15,11 +15,8 @@ use machine::Machine;
 use page_core::{Failed, Page};
 use plain_machine::{Left, Reply};
 use sector_disk::Disk;
-use sig_header::{AreaKind, Mark};
+use sig_header::{AreaKind, Mark, SF_NOCOMPRESS_MODE};
 use swap_slots::FreeRuns;
-
-/// SF_NOCOMPRESS_MODE (kernel/power/power.h).
-const NOCOMPRESS_MODE: u32 = 2;
 
 // The sync, and the read of the header block (swsusp_check, kernel/power/swap.c).
 impl Load {
@@ -115,7 +112,7 @@ fn found(header: &Page) -> Result<Mark, Reply>
 {
     match mark_in(header) {
         Some(mark) => {
-            if mark.flags & NOCOMPRESS_MODE == 0 {
+            if mark.flags & SF_NOCOMPRESS_MODE == 0 {
                 return Err(Reply::Compressed { flags: mark.flags });
             }
             Ok(mark)

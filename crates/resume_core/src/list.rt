@@ -1,4 +1,5 @@
 ghost use Rattle.std.specs.Prelude.{◌≡◌, ◌≤◌, ◌<◌, ◌+◌, ◌^◌, ℕ, false, true, length, Some, None, IsSome, IfErr, OnOk};
+ghost use Rattle.definitions.specs.Bytes.{IsPage};
 ghost use Rattle.definitions.specs.Disk.{DiskImage};
 ghost use Rattle.image_read.specs.Answers.{Reads, Answers, GoesOn};
 ghost use Rattle.image_read.specs.Stream.{HasReadPlaces};
@@ -187,6 +188,7 @@ impl OpenChain {
         requires blocks { D.block_count disk.old ≡ machine.now.blocks }
         ensures answers { (v : DiskImage) (t : ℕ) → HasReadPlaces machine.now.hw v check self.old.reader t origs.old.members zeros.old.members → Reads machine.now.hw v (D.content disk.old) →
             Answers machine.now.hw v check t result self.old.reader self.new.reader origs.new.members zeros.new.members page.new }
+        ensures page { IsPage page.new }
         ensures goes_on { GoesOn result self.new.reader origs.new.members zeros.new.members }
         ensures within { self.new.reader.blocks ≤ machine.now.blocks }
         ensures chain { self.new ≡ record self.old { reader = self.new.reader } }
@@ -199,8 +201,11 @@ impl OpenChain {
             IdentCheck::Compare => Some(machine.hw.ident()),
             IdentCheck::Skip => None,
         };
-        self.reader
-            .step(disk, machine.hw.zones(), ident, origs, zeros, page)
+        let zones = machine.hw.zones();
+        let step = self.reader.step(disk, zones, ident, origs, zeros, page);
+        // So it is known to be whole.
+        let _ = page.as_bytes();
+        step
     }
 
     /// A block was read, and another one is next.

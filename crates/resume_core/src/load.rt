@@ -61,7 +61,7 @@ pub struct Load {
     pub(crate) origs: Bitmap,
     pub(crate) zeros: Bitmap,
     pub(crate) waiting: Waiting,
-    /// The block of the chain that was read last.
+    /// The block of the chain that was read last, where it has no page frame to be read into.
     pub(crate) page: Page,
     pub(crate) stage: Stage,
     pub(crate) loader: Loader,

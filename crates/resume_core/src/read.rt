@@ -1,18 +1,21 @@
-ghost use Rattle.std.specs.Prelude.{◌≡◌, ◌≤◌, ◌<◌, ◌+◌, ◌++◌, ◌∷◌, ℕ, false, [], true, length, Contains};
-ghost use Rattle.definitions.specs.Tables.{frame};
+ghost use Rattle.std.specs.Prelude.{◌≡◌, ◌≤◌, ◌<◌, ◌+◌, ℕ, List, false, true, length};
+ghost use Rattle.definitions.specs.Disk.{DiskImage};
 ghost use Rattle.definitions.specs.Zones.{top};
-ghost use Rattle.page_restore.specs.Waiting.{waiting_pages};
+ghost use Rattle.image_read.specs.Answers.{Reads, Answers, GoesOn};
+ghost use Rattle.image_read.specs.Stream.{HasReadPlaces};
+ghost use Rattle.image_read.specs.declared.reader.ReadStep.TheVariants as read_step;
 ghost use Rattle.protocol_laws.specs.Rows.{IsNewFault, is_idle};
 ghost use Rattle.sector_disk.specs.Called.{Called, AtMostOneCall};
 
 use crate::Load;
-use crate::load::Stage;
+use crate::load::{OpenChain, Stage};
 use frame_arena::Frames;
 use image_read::ReadStep;
 use machine::Machine;
+use memory_bitmap::Bitmap;
 use page_core::Page;
 use page_restore::Waiting;
-use plain_machine::{Left, Reply};
+use plain_machine::{IdentCheck, Left, Reply};
 use sector_disk::Disk;
 use swap_slots::FreeRuns;
 
@@ -46,18 +49,20 @@ impl Load {
         ensures called { Called D.Disk AtMostOneCall (IsNewFault result) disk.old disk.new }
     {
         match &mut self.stage {
-            Stage::Read(chain) => match chain.read_block(
+            Stage::Read(chain) => match chain.read_in_place(
                 machine,
                 self.check,
                 disk,
                 &mut self.origs,
                 &mut self.zeros,
+                &self.waiting,
+                frames,
                 &mut self.page,
             ) {
                 ReadStep::Fault => self.stop(Reply::ReadFault { left: Left::Gone }),
                 ReadStep::Refused(cause) => self.stop(Reply::from(cause)),
                 ReadStep::Page { .. } => {
-                    place_page(&mut self.waiting, frames, &self.page);
+                    count_page(&mut self.waiting);
                     self.read_on(machine, frames, runs)
                 }
                 ReadStep::More { .. } | ReadStep::Done => self.read_on(machine, frames, runs),
@@ -96,17 +101,58 @@ impl Load {
     }
 }
 
-/// Puts the page that was read where it waits. There is a place for each page that the numbers name.
-fn place_page(waiting: &mut Waiting, frames: &mut Frames, page: &Page)
-    requires ready { waiting.old.placement.ready ≡ true }
-    requires frames { top waiting.old.zones ≤ length frames.old }
-    ensures placed { waiting.old.loaded < length waiting.old.originals → waiting_pages frames.new waiting.new ≡ waiting_pages frames.old waiting.old ++ page.now ∷ [] }
-    ensures counted { waiting.old.loaded < length waiting.old.originals → waiting.new.loaded ≡ waiting.old.loaded + 1 }
+impl OpenChain {
+    ghost use Rattle.resume_core.specs.Placing.{PutsPage};
+    ghost use Rattle.resume_core.specs.Ready.{CanRead};
+
+    /// Reads the chain's next block straight into the page frame where the next page waits, whatever comes: it is free to the loader.
+    /// Where all of them wait it is read into `spare`.
+    fn read_in_place<D: Disk>(
+        &mut self,
+        machine: &Machine,
+        check: IdentCheck,
+        disk: &mut D,
+        origs: &mut Bitmap,
+        zeros: &mut Bitmap,
+        waiting: &Waiting,
+        frames: &mut Frames,
+        spare: &mut Page,
+    ) -> ReadStep
+        requires reader { CanRead machine.now.blocks self.old.reader origs.old.members zeros.old.members }
+        requires origs { origs.old.zones ≡ machine.now.hw.zones }
+        requires zeros { zeros.old.zones ≡ machine.now.hw.zones }
+        requires blocks { D.block_count disk.old ≡ machine.now.blocks }
+        requires ready { waiting.now.placement.ready ≡ true }
+        requires frames { top waiting.now.zones ≤ length frames.old }
+        ensures read { (page : List ℕ) × PutsPage waiting.now frames.old frames.new page ×
+            ((v : DiskImage) (t : ℕ) → HasReadPlaces machine.now.hw v check self.old.reader t origs.old.members zeros.old.members → Reads machine.now.hw v (D.content disk.old) →
+            Answers machine.now.hw v check t result self.old.reader self.new.reader origs.new.members zeros.new.members page) }
+        ensures goes_on { GoesOn result self.new.reader origs.new.members zeros.new.members }
+        ensures within { self.new.reader.blocks ≤ machine.now.blocks }
+        ensures chain { self.new ≡ record self.old { reader = self.new.reader } }
+        ensures origs { origs.new.zones ≡ origs.old.zones }
+        ensures zeros { zeros.new.zones ≡ zeros.old.zones }
+        ensures size { length frames.new ≡ length frames.old }
+        ensures called { Called D.Disk AtMostOneCall (result ≡ read_step.Fault) disk.old disk.new }
+        ensures content { D.content disk.new ≡ D.content disk.old }
+    {
+        match waiting.next() {
+            Some(p) => {
+                let page = frames.page_mut(p);
+                self.read_block(machine, check, disk, origs, zeros, page)
+            }
+            None => self.read_block(machine, check, disk, origs, zeros, spare),
+        }
+    }
+}
+
+/// Counts the page that was read. There is a place for each page that the numbers name.
+fn count_page(waiting: &mut Waiting)
+    requires { waiting.old.placement.ready ≡ true }
+    ensures counted { waiting.old.loaded < length waiting.old.originals → waiting.new ≡ record waiting.old { loaded = waiting.old.loaded + 1 } }
     ensures waiting { waiting.new ≡ record waiting.old { loaded = waiting.new.loaded } }
-    ensures others { (p : ℕ) → (Contains waiting.old.free p → ⊥) → frame frames.new p ≡ frame frames.old p }
-    ensures size { length frames.new ≡ length frames.old }
 {
     if waiting.left() > 0 {
-        waiting.place(frames, page);
+        waiting.placed();
     }
 }

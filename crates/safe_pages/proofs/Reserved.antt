@@ -1,6 +1,6 @@
 -- Laws of sets of page frames without others, and of the free page frames that aren't reserved.
-use Rattle.std.proofs.Common.{◌≡◌, ℕ, ◌+◌, ◌<◌, ◌≤◌, List, [], ◌∷◌, ◌++◌, length, get_or, filter, take, refl, sym, ap, ap₂, ◌∙◌, inl, inr, arith, Bool, true, false, ltb, not, nat_eq, ◌||◌, Some, None}
-use Rattle.std.proofs.lemmas.Bool.{cases_Bool, lt-ltb, le-ltb, false≢true, eqb-true, or_left, or_right, or_from, not_from_true, not_from_false}
+use Rattle.std.proofs.Common.{◌≡◌, ℕ, ◌+◌, ◌<◌, ◌≤◌, List, [], ◌∷◌, ◌++◌, length, get_or, filter, take, refl, sym, ap, ap₂, ◌∙◌, inl, inr, arith, Bool, true, false, ltb, not, nat_eq, ◌||◌, slice_get, Some}
+use Rattle.std.proofs.lemmas.Bool.{cases_Bool, cond-true, cond-false, lt-ltb, le-ltb, false≢true, eqb-true, or_left, or_right, or_from, not_from_true, not_from_false}
 use Rattle.std.proofs.lemmas.Cmp.{nat_eq_equiv}
 use Rattle.std.proofs.lemmas.Map.Views.{Contains-from_any, list_any-from_Contains}
 use Rattle.std.proofs.lemmas.List.{length-take-le, take_more}
@@ -13,7 +13,9 @@ use Rattle.definitions.proofs.FrameSets.{Contains-filter, Contains-from_filter}
 use Rattle.memory_bitmap.specs.FrameSet.{FrameSet, IsFrameSet}
 use Rattle.safe_pages.specs.Plan.{without}
 use Rattle.safe_pages.specs.Walk.{unreserved}
-use Rattle.safe_pages.proofs.Walks.{first_passes, first_fails, none_passes, member_small}
+use Rattle.memory_bitmap.specs.Left.{members_from}
+use Rattle.memory_bitmap.proofs.Bounds.{member_below}
+use Rattle.memory_bitmap.proofs.Left.{first_passing}
 
 -- The test for a member.
 
@@ -29,43 +31,51 @@ stranger_fails xs p out = elim (cases_Bool (list_any (nat_eq p) xs)) [
   | inr is ↦ is
 ]
 
+-- The first of a list, where it passes a test, and where it doesn't.
+
+passes_first : (test : ℕ → Bool) (rest : List ℕ) (p : ℕ) → test p ≡ true → slice_get (filter test (p ∷ rest)) 0 ≡ Some p
+passes_first test rest p passes = ap (λ (ps : List ℕ). slice_get ps 0) (cond-true (test p) (p ∷ filter test rest) (filter test rest) passes)
+
+fails_first : (test : ℕ → Bool) (rest : List ℕ) (p : ℕ) → test p ≡ false → filter test (p ∷ rest) ≡ filter test rest
+fails_first test rest p fails = cond-false (test p) (p ∷ filter test rest) (filter test rest) fails
+
 -- The walk over those that are in no other set.
 
-pub first_without : (free origs : List ℕ) (from p : ℕ) → IsStrictlyIncreasing free → first_from free from ≡ Some p → (Contains origs p → ⊥) → first_from (without free origs) from ≡ Some p
+pub first_without : (free origs : List ℕ) (from : ℕ) → first_from (without free origs) from ≡ slice_get (without (members_from from free) origs) 0
 unfolding without
-first_without free origs from p up is out =
-    first_passes (λ q. not (list_any (nat_eq q) origs)) free from p up is (not_from_false (list_any (nat_eq p) origs) (stranger_fails origs p out))
+first_without free origs from = first_passing (λ q. not (list_any (nat_eq q) origs)) from free
 
-pub next_without : (free origs : List ℕ) (from p : ℕ) → IsStrictlyIncreasing free → first_from free from ≡ Some p → Contains origs p → first_from (without free origs) (p + 1) ≡ first_from (without free origs) from
+pub apart_first : (origs rest : List ℕ) (p : ℕ) → (Contains origs p → ⊥) → slice_get (without (p ∷ rest) origs) 0 ≡ Some p
 unfolding without
-next_without free origs from p up is in' =
-    first_fails (λ q. not (list_any (nat_eq q) origs)) free from p up is (not_from_true (list_any (nat_eq p) origs) (member_passes origs p in'))
+apart_first origs rest p out =
+    passes_first (λ q. not (list_any (nat_eq q) origs)) rest p (not_from_false (list_any (nat_eq p) origs) (stranger_fails origs p out))
 
-pub none_without : (free origs : List ℕ) (from : ℕ) → IsStrictlyIncreasing free → first_from free from ≡ None → first_from (without free origs) from ≡ None
+pub among_later : (origs rest : List ℕ) (p : ℕ) → Contains origs p → without (p ∷ rest) origs ≡ without rest origs
 unfolding without
-none_without free origs from up is = none_passes (λ q. not (list_any (nat_eq q) origs)) free from up is
+among_later origs rest p in' =
+    fails_first (λ q. not (list_any (nat_eq q) origs)) rest p (not_from_true (list_any (nat_eq p) origs) (member_passes origs p in'))
 
 -- The walk over those that aren't reserved.
 
-pub first_above : (origs free : List ℕ) (bounce from p : ℕ) → IsStrictlyIncreasing free → first_from free from ≡ Some p → bounce < p → first_from (unreserved origs free bounce) from ≡ Some p
+pub first_unreserved : (origs free : List ℕ) (bounce from : ℕ) → first_from (unreserved origs free bounce) from ≡ slice_get (unreserved origs (members_from from free) bounce) 0
 unfolding unreserved
-first_above origs free bounce from p up is above =
-    first_passes (λ q. ltb bounce q || list_any (nat_eq q) origs) free from p up is (or_left (ltb bounce p) (list_any (nat_eq p) origs) (lt-ltb bounce p above))
+first_unreserved origs free bounce from = first_passing (λ q. ltb bounce q || list_any (nat_eq q) origs) from free
 
-pub first_original : (origs free : List ℕ) (bounce from p : ℕ) → IsStrictlyIncreasing free → first_from free from ≡ Some p → Contains origs p → first_from (unreserved origs free bounce) from ≡ Some p
+pub above_first : (origs rest : List ℕ) (bounce p : ℕ) → bounce < p → slice_get (unreserved origs (p ∷ rest) bounce) 0 ≡ Some p
 unfolding unreserved
-first_original origs free bounce from p up is in' =
-    first_passes (λ q. ltb bounce q || list_any (nat_eq q) origs) free from p up is (or_right (ltb bounce p) (list_any (nat_eq p) origs) (member_passes origs p in'))
+above_first origs rest bounce p above =
+    passes_first (λ q. ltb bounce q || list_any (nat_eq q) origs) rest p (or_left (ltb bounce p) (list_any (nat_eq p) origs) (lt-ltb bounce p above))
 
-pub next_reserved : (origs free : List ℕ) (bounce from p : ℕ) → IsStrictlyIncreasing free → first_from free from ≡ Some p → p ≤ bounce → (Contains origs p → ⊥) → first_from (unreserved origs free bounce) (p + 1) ≡ first_from (unreserved origs free bounce) from
+pub original_first : (origs rest : List ℕ) (bounce p : ℕ) → Contains origs p → slice_get (unreserved origs (p ∷ rest) bounce) 0 ≡ Some p
 unfolding unreserved
-next_reserved origs free bounce from p up is le out =
-    first_fails (λ q. ltb bounce q || list_any (nat_eq q) origs) free from p up is
+original_first origs rest bounce p in' =
+    passes_first (λ q. ltb bounce q || list_any (nat_eq q) origs) rest p (or_right (ltb bounce p) (list_any (nat_eq p) origs) (member_passes origs p in'))
+
+pub reserved_later : (origs rest : List ℕ) (bounce p : ℕ) → p ≤ bounce → (Contains origs p → ⊥) → unreserved origs (p ∷ rest) bounce ≡ unreserved origs rest bounce
+unfolding unreserved
+reserved_later origs rest bounce p le out =
+    fails_first (λ q. ltb bounce q || list_any (nat_eq q) origs) rest p
     (or_from (ltb bounce p) (list_any (nat_eq p) origs) (le-ltb bounce p le) (stranger_fails origs p out))
-
-pub none_unreserved : (origs free : List ℕ) (bounce from : ℕ) → IsStrictlyIncreasing free → first_from free from ≡ None → first_from (unreserved origs free bounce) from ≡ None
-unfolding unreserved
-none_unreserved origs free bounce from up is = none_passes (λ q. ltb bounce q || list_any (nat_eq q) origs) free from up is
 
 -- Both ascend, and their numbers are below 65536.
 
@@ -91,14 +101,14 @@ Contains-without free origs p in' out =
 pub small_without : (free : FrameSet) (origs : List ℕ) (k : ℕ) → IsFrameSet free → k < length (without free.members origs) → get_or (without free.members origs) k 0 < 65536
 small_without free origs k h lt =
     let p = get_or (without free.members origs) k 0 in
-    member_small free p h (Contains-from_without free.members origs p (Contains-get_or (without free.members origs) k 0 lt)).0
+    member_below free p h (Contains-from_without free.members origs p (Contains-get_or (without free.members origs) k 0 lt)).0
 
 pub small_unreserved : (origs : List ℕ) (free : FrameSet) (bounce k : ℕ) → IsFrameSet free → k < length (unreserved origs free.members bounce) → get_or (unreserved origs free.members bounce) k 0 < 65536
 unfolding unreserved
 small_unreserved origs free bounce k h lt =
     let test : ℕ → Bool = λ p. ltb bounce p || list_any (nat_eq p) origs in
     let p = get_or (filter test free.members) k 0 in
-    member_small free p h (Contains-from_filter test free.members p (Contains-get_or (filter test free.members) k 0 lt)).0
+    member_below free p h (Contains-from_filter test free.members p (Contains-get_or (filter test free.members) k 0 lt)).0
 
 -- Pairs, one more.
 

@@ -44,13 +44,10 @@ pub(crate) fn pair(
 {
     moves.clear();
     let mut from = pass(origs, free, bounce, skip);
-    let mut to = 0;
-    for _ in 0..origs.len() {
+    for original in origs.iter() {
         let frame = next_unreserved(origs, free, bounce, from).unwrap();
-        let original = origs.first_from(to).unwrap();
         moves.push((frame, original)).unwrap();
         from = frame + 1;
-        to = original + 1;
     }
 }
 
@@ -69,32 +66,30 @@ fn pass(origs: &Bitmap, free: &Bitmap, bounce: u32, skip: u32) -> u32
 }
 
 /// The least free page frame from `from` on that is no original.
-fn next_apart(origs: &Bitmap, free: &Bitmap, mut from: u32) -> Option<u32>
+fn next_apart(origs: &Bitmap, free: &Bitmap, from: u32) -> Option<u32>
     requires { IsFrameSet free.now }
     ensures { result ≡ first_from (without free.now.members origs.now.members) from }
 {
-    while let Some(p) = free.first_from(from) {
+    for p in free.iter_from(from) {
         if !origs.has(p) {
             return Some(p);
         }
-        from = p + 1;
     }
     None
 }
 
 /// The least free page frame from `from` on that isn't reserved.
-fn next_unreserved(origs: &Bitmap, free: &Bitmap, bounce: u32, mut from: u32) -> Option<u32>
+fn next_unreserved(origs: &Bitmap, free: &Bitmap, bounce: u32, from: u32) -> Option<u32>
     requires { IsFrameSet free.now }
     ensures { result ≡ first_from (unreserved origs.now.members free.now.members bounce) from }
 {
-    while let Some(p) = free.first_from(from) {
+    for p in free.iter_from(from) {
         if p > bounce {
             return Some(p);
         }
         if origs.has(p) {
             return Some(p);
         }
-        from = p + 1;
     }
     None
 }

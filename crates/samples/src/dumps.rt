@@ -103,14 +103,14 @@ pub fn entries(first: u32, used: u32) -> Page {
 }
 
 /// The frame table's first page where page frame 10 is task 3's.
-pub fn used_entries(used: u32) -> Page {
+fn used_entries(used: u32) -> Page {
     let mut page = entries(0, used);
     page.put_u32(40, 196608);
     page
 }
 
 /// A page that begins with a number.
-pub fn beginning_with(number: u32) -> Page {
+fn beginning_with(number: u32) -> Page {
     let mut page = Page::zero();
     page.put_u32(0, number);
     page

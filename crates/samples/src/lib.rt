@@ -16,13 +16,13 @@ pub use disks::{
     write,
 };
 pub use dumps::{
-    EXAMPLE, OVER_FILE, SCRIPTED, Shape, beginning_with, dump, entries, loader, loader_with_nines,
-    restored, saved, saved_with_slots, slots, used_entries,
+    EXAMPLE, OVER_FILE, SCRIPTED, Shape, dump, entries, loader, loader_with_nines, restored, saved,
+    saved_with_slots, slots,
 };
 pub use played::{LARGE, SMALL, assert_replays, play_over, scripted};
 pub use printed::{Printed, assert_done, assert_printed, assert_refused, assert_written};
 pub use runs::{
     EXPORT, Failing, HIBERNATE, IMPORT, INSPECT, NONE, REPLAY, RESUME, RESUME_ANY, failing_input,
-    failing_note, failing_out, run_over, run_with, sink_of, source_of, words_of,
+    failing_note, failing_out, run_over, run_with, sink_of, words_of,
 };
 pub use streams::{STREAM_LENGTH, example_stream};

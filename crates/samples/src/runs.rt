@@ -62,7 +62,7 @@ pub fn words_of(alloc: Global, list: &[&str]) -> Result<Vec<String>, Fail> {
 }
 
 /// A source of these bytes, whose calls of these numbers fail.
-pub fn source_of(alloc: Global, bytes: &[u8], failing: &[u64]) -> Result<MemSource, Fail> {
+fn source_of(alloc: Global, bytes: &[u8], failing: &[u64]) -> Result<MemSource, Fail> {
     let failing = Vec::from_slice(alloc, failing)?;
     Ok(MemSource::new(bytes.to_vec(alloc)?, failing))
 }

@@ -39,10 +39,8 @@ pub fn mark_all(view: &View, set: &mut Bitmap) -> u32
     ensures count { result ≡ length (saveable_frames view.now.zones.now view.now.table view.now.frames.now) }
 {
     set.clear_all();
-    let mut j = 0;
-    while let Some(zone) = view.zones.zone(j) {
+    for &zone in view.zones.as_slice() {
         mark_zone(view, zone, set);
-        j += 1;
     }
     set.len()
 }
@@ -53,10 +51,8 @@ pub fn count_free(view: &View) -> u32
     ensures { result ≡ length (free_frames view.now.zones.now view.now.table view.now.frames.now) }
 {
     let mut count = 0;
-    let mut j = 0;
-    while let Some(zone) = view.zones.zone(j) {
+    for &zone in view.zones.as_slice() {
         count += free_in_zone(view, zone);
-        j += 1;
     }
     count
 }

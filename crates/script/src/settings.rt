@@ -5,11 +5,9 @@ ghost use Rattle.script.specs.Settings.{hardware_by, is_faulty, or_default, tabl
 use crate::grammar::Setting;
 use crate::ident::scripted_ident;
 use machine::{Hardware, Parts};
+use sig_header::MOST_BADPAGES;
 use std::alloc::{AllocError, Global};
 use std::marker::Model;
-
-/// How many bad slots the header block of an area can name (MAX_SWAP_BADPAGES).
-const MAX_BAD: usize = 630;
 
 /// The last page of a swap area where no line sets it.
 const DEFAULT_LAST: u32 = 3000;
@@ -92,7 +90,7 @@ impl Settings {
         ensures hardware { IfSome result (λ hardware. hardware ≡ hardware_by self.now) }
         ensures none { IsNone result ↔ (is_faulty self.now ≡ true) }
     {
-        if self.bad.len() > MAX_BAD {
+        if self.bad.len() > MOST_BADPAGES {
             return None;
         }
         if has_above(self.bad.as_slice(), self.last) {

@@ -4,6 +4,9 @@ ghost use Rattle.definitions.specs.Bytes.{IsPage, with_bytes};
 ghost use Rattle.definitions.specs.SwapHeader.{bad_pages_of, first_outside, area_page};
 ghost use Rattle.sig_header.specs.AreaKind.{area_of, mark_of, version_1_kind};
 
+use crate::layout::{
+    self, BADPAGES, FLAGS, HW_SIG, LAST_PAGE, MOST_BADPAGES, NR_BADPAGES, SIG, VERSION,
+};
 use crate::signatures::{AREA, IMAGE, OLD, signature, with_signature};
 use page_core::Page;
 
@@ -15,7 +18,7 @@ pub struct Area {
     /// How many bad pages the header names (`nr_badpages`).
     pub count: u32,
     /// The first `count` of them are the bad pages (`badpages`), the others 0.
-    pub bad: [u32; 630],
+    pub bad: [u32; MOST_BADPAGES],
 }
 
 /// A header block that carries the signature of an image (`struct swsusp_header`, kernel/power/swap.c).
@@ -89,11 +92,11 @@ fn mark_of(page: &Page) -> Mark
     ensures { result ≡ mark_of page.now }
 {
     Mark {
-        last: page.u32_at(1028),
-        count: page.u32_at(1032),
-        first: page.word(508),
-        flags: page.u32_at(4072),
-        hw_sig: page.u32_at(4056),
+        last: page.u32_at(LAST_PAGE),
+        count: page.u32_at(NR_BADPAGES),
+        first: page.word(layout::IMAGE / 8),
+        flags: page.u32_at(FLAGS),
+        hw_sig: page.u32_at(HW_SIG),
     }
 }
 
@@ -101,12 +104,12 @@ fn mark_of(page: &Page) -> Mark
 fn version_1(page: &Page) -> AreaKind
     ensures { result ≡ version_1_kind page.now }
 {
-    let version = page.u32_at(1024);
-    let last = page.u32_at(1028);
-    let count = page.u32_at(1032);
+    let version = page.u32_at(VERSION);
+    let last = page.u32_at(LAST_PAGE);
+    let count = page.u32_at(NR_BADPAGES);
     let why = if version != 1 {
         AreaFault::Version { version }
-    } else if count > 630 {
+    } else if count > MOST_BADPAGES as u32 {
         AreaFault::BadCount { count }
     } else if last == 0 {
         AreaFault::LastZero
@@ -121,13 +124,13 @@ fn version_1(page: &Page) -> AreaKind
 }
 
 /// The first `count` bad pages that the header names, and zeros.
-fn bad_pages(page: &Page, count: u32) -> [u32; 630]
+fn bad_pages(page: &Page, count: u32) -> [u32; MOST_BADPAGES]
     requires { count ≤ 630 }
     ensures { result ≡ bad_pages_of page.now count ++ replicate (630 - count) 0 }
 {
-    let mut bad = [0; 630];
+    let mut bad = [0; MOST_BADPAGES];
     for i in 0..count as usize {
-        bad[i] = page.u32_at(1536 + 4 * i);
+        bad[i] = page.u32_at(BADPAGES + 4 * i);
     }
     bad
 }
@@ -145,11 +148,11 @@ pub fn area_page(last: u32, bad: &[u32]) -> Page
     ensures { result ≡ area_page last bad.now }
 {
     let mut page = Page::zero();
-    page.put_u32(1024, 1);
-    page.put_u32(1028, last);
-    page.put_u32(1032, bad.len() as u32);
+    page.put_u32(VERSION, 1);
+    page.put_u32(LAST_PAGE, last);
+    page.put_u32(NR_BADPAGES, bad.len() as u32);
     put_bad_pages(&mut page, bad);
-    with_signature(&page, 4086, AREA)
+    with_signature(&page, SIG, AREA)
 }
 
 fn put_bad_pages(page: &mut Page, bad: &[u32])
@@ -158,6 +161,6 @@ fn put_bad_pages(page: &mut Page, bad: &[u32])
     ensures { page.new ≡ with_bytes page.old 1536 (flat_map (little_bytes 4) bad.now) }
 {
     for (i, slot) in bad.iter().enumerate() {
-        page.put_u32(1536 + 4 * i, *slot);
+        page.put_u32(BADPAGES + 4 * i, *slot);
     }
 }

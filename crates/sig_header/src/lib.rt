@@ -2,8 +2,10 @@
 #![tactic(auto)]
 
 mod area;
+mod layout;
 mod marking;
 mod signatures;
 
 pub use area::{Area, AreaFault, AreaKind, Mark, area_page};
+pub use layout::{MOST_BADPAGES, SF_HW_SIG, SF_NOCOMPRESS_MODE, SF_SKIPS_ZEROS};
 pub use marking::{mark, take_back};

@@ -2,11 +2,9 @@ ghost use Rattle.std.specs.Prelude.{◌≡◌};
 ghost use Rattle.definitions.specs.Bytes.{AgreeBut};
 ghost use Rattle.definitions.specs.SwapHeader.{marked, sig_of, taken_back};
 
-use crate::signatures::{IMAGE, original_signature, signature, with_signature};
+use crate::layout::{self, FLAGS, HW_SIG, ORIG_SIG, SF_HW_SIG, SIG};
+use crate::signatures::{self, original_signature, signature, with_signature};
 use page_core::Page;
-
-/// The header's `hw_sig` counts (kernel/power/power.h).
-const SF_HW_SIG: u32 = 8;
 
 /// The block with the mark of an image (`mark_swapfiles`, kernel/power/swap.c): the signature moves to `orig_sig` and the
 /// image's takes its place, `image` is the block of the first map, and where the machine has a hardware signature,
@@ -25,11 +23,15 @@ fn mark_over(page: &Page, original: [u8; 10], first: u64, flags: u32, hw: u32) -
     requires { original ≡ sig_of page.now }
     ensures { result ≡ marked page.now first flags hw }
 {
-    let mut marked = with_signature(&with_signature(page, 4076, original), 4086, IMAGE);
-    marked.set_word(508, first);
-    marked.put_u32(4072, if hw == 0 { flags } else { flags | SF_HW_SIG });
+    let mut marked = with_signature(
+        &with_signature(page, ORIG_SIG, original),
+        SIG,
+        signatures::IMAGE,
+    );
+    marked.set_word(layout::IMAGE / 8, first);
+    marked.put_u32(FLAGS, if hw == 0 { flags } else { flags | SF_HW_SIG });
     if hw != 0 {
-        marked.put_u32(4056, hw);
+        marked.put_u32(HW_SIG, hw);
     }
     marked
 }
@@ -39,5 +41,5 @@ fn mark_over(page: &Page, original: [u8; 10], first: u64, flags: u32, hw: u32) -
 pub fn take_back(page: &Page) -> Page
     ensures { result ≡ taken_back page.now }
 {
-    with_signature(page, 4086, original_signature(page))
+    with_signature(page, SIG, original_signature(page))
 }

@@ -2,6 +2,7 @@ ghost use Rattle.std.specs.Prelude.{◌≡◌, ◌≤◌};
 ghost use Rattle.definitions.specs.Bytes.{IsPage, with_bytes};
 ghost use Rattle.definitions.specs.SwapHeader.{sig_of, orig_sig_of};
 
+use crate::layout::{ORIG_SIG, SIG};
 use page_core::Page;
 
 /// The signature of an image: `S1SUSPEND` and a zero byte (HIBERNATE_SIG, kernel/power/swap.c).
@@ -18,7 +19,7 @@ pub(crate) fn signature(page: &Page) -> [u8; 10]
     ensures page { IsPage page.now }
 {
     let mut sig = [0; 10];
-    sig.copy_from_slice(&page.as_bytes()[4086..4096]);
+    sig.copy_from_slice(&page.as_bytes()[SIG..]);
     sig
 }
 
@@ -26,7 +27,7 @@ pub(crate) fn original_signature(page: &Page) -> [u8; 10]
     ensures { result ≡ orig_sig_of page.now }
 {
     let mut sig = [0; 10];
-    sig.copy_from_slice(&page.as_bytes()[4076..4086]);
+    sig.copy_from_slice(&page.as_bytes()[ORIG_SIG..SIG]);
     sig
 }
 

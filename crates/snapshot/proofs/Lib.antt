@@ -1,3 +1,2 @@
 mod Copying
 mod Few
-mod Walk

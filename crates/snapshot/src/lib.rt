@@ -159,13 +159,10 @@ fn mark_zeros(frames: &Frames, format: Format, origs: &Bitmap, zeros: &mut Bitma
         return;
     }
     let zero = Page::zero();
-    let mut from = 0;
-    for _ in 0..origs.len() {
-        let p = origs.first_from(from).unwrap();
+    for p in origs.iter() {
         if is_zero(frames, p, &zero) {
             zeros.set(p);
         }
-        from = p + 1;
     }
 }
 

@@ -15,10 +15,7 @@ use crate::area::version_1;
 use page_core::{Failed, Page};
 use plain_machine::Left;
 use sector_disk::Disk;
-use sig_header::{AreaKind, mark, take_back};
-
-/// SF_NOCOMPRESS_MODE (kernel/power/power.h).
-const NOCOMPRESS_MODE: u32 = 2;
+use sig_header::{AreaKind, SF_NOCOMPRESS_MODE, mark, take_back};
 
 /// The header block, which is zeros on a disk without blocks.
 pub(crate) fn read_header<D: Disk>(disk: &mut D) -> Result<Page, InStop>
@@ -63,7 +60,7 @@ pub(crate) fn mark_image<D: Disk>(disk: &mut D, first: u32) -> Result<(), InStop
         ElapsesOverMark first (D.moment disk.old) (D.moment disk.new) (D.left_since disk.old) (D.left_since disk.new) held) }
 {
     let header = header_to_mark(disk)?;
-    let marked = mark(&header, u64::from(first), NOCOMPRESS_MODE, 0);
+    let marked = mark(&header, u64::from(first), SF_NOCOMPRESS_MODE, 0);
     write_mark(disk, &marked)
 }
 

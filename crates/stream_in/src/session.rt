@@ -106,7 +106,7 @@ impl StreamIn {
     {
         let slots = area.last + 1;
         let table = SlotTable { first: 0, slots };
-        set_bad(&mut frames, area);
+        set_bad(&mut frames, &table, area);
         runs.rebuild(&frames, &table);
         StreamIn {
             frames,

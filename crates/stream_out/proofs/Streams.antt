@@ -158,18 +158,7 @@ stream_is h m =
     ap₂ (λ (info : Info) (numbers : List ℕ). stream_pages info numbers (map (λ (s : Saved). s.1) (with_data i))) info numbers
     ∙ ap (stream_pages (info_over h (length ps)) (marked_numbers ps [])) (pages_are (frame m) ps)
 
--- A set of page frames.
-
--- it has at most 65536 of them
-pub few : (set : FrameSet) → IsFrameSet set → length set.members ≤ 65536
-few set h =
-    let apart = h.zones.apart in
-    let most = top_at_most set.zones h.zones in
-    let up : 0 + length set.members ≤ 65536 = length-between set.members 0 65536 h.ascending
-    (λ p in'. let below = below_top set.zones p apart (All-contains (Contains (numbers set.zones)) set.members p h.valid in') in (omega arith, omega arith)) (omega arith) in
-    omega arith
-
--- and the memory has them
+-- the memory has the members of a set
 pub all_within : (set : FrameSet) (n : ℕ) → IsFrameSet set → n ≡ top set.zones → All (λ p. p < n) set.members
 all_within set n h size k d lt =
     let apart = h.zones.apart in

@@ -3,8 +3,8 @@ ghost use Rattle.definitions.specs.Zones.{top};
 ghost use Rattle.stream_out.specs.TaskSlots.{HasNoTaskSlot, IsFirstTaskSlot};
 
 use frame_arena::Frames;
-use machine::Hardware;
-use swap_slots::SlotTable;
+use machine::{Hardware, slot_table};
+use swap_slots::SlotEntry;
 
 /// Tasks are numbered from 1 up to this.
 const MOST_TASKS: u32 = 64;
@@ -22,12 +22,9 @@ pub fn first_task_slot(frames: &Frames, hw: &Hardware) -> Option<u32>
     ensures none { IsNone result ↔ HasNoTaskSlot hw.now frames.now }
     ensures first { IfSome result (IsFirstTaskSlot hw.now frames.now) }
 {
-    let table = SlotTable {
-        first: hw.slot_table(),
-        slots: hw.slots(),
-    };
+    let table = slot_table(hw);
     for slot in 0..table.slots {
-        if is_task(table.owner(frames, slot)) {
+        if is_task(table.entry(frames, slot)) {
             return Some(slot);
         }
     }
@@ -36,10 +33,11 @@ pub fn first_task_slot(frames: &Frames, hw: &Hardware) -> Option<u32>
 
 ghost use Rattle.std.specs.Prelude.{IsTrue};
 ghost use Rattle.stream_out.specs.TaskSlots.{IsTaskEntry};
+ghost use Rattle.swap_slots.specs.Entries.{word_of};
 
-/// Whether a slot's entry is a task's number.
-fn is_task(entry: u32) -> bool
-    ensures { IsTrue result ↔ IsTaskEntry entry }
+/// Whether a slot is a task's.
+fn is_task(entry: SlotEntry) -> bool
+    ensures { IsTrue result ↔ IsTaskEntry (word_of entry) }
 {
-    entry >= 1 && entry <= MOST_TASKS
+    matches!(entry, SlotEntry::Task(task) if task >= 1 && task <= MOST_TASKS)
 }

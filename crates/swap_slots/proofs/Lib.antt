@@ -1,4 +1,5 @@
 pub mod Changes
+pub mod Entries
 pub mod FirstRun
 pub mod FreeBits
 pub mod Keeping

@@ -1,4 +1,5 @@
 pub mod Bits
+pub mod Entries
 pub mod Extents
 pub mod Kept
 pub mod KeptMap

@@ -5,9 +5,8 @@ ghost use Rattle.definitions.specs.Tables.{HasTable};
 ghost use Rattle.definitions.specs.FrameSets.{inserted, removed};
 ghost use Rattle.swap_slots.specs.Runs.{SlotRuns, from_slot, IsFirstRun};
 
-use crate::SlotTable;
-use crate::table::FREE;
 use crate::words::{clear_bit, first_bit, has_bit, is_clear_word, set_bit};
+use crate::{SlotEntry, SlotTable};
 use frame_arena::Frames;
 use page_core::NoMemory;
 use std::alloc::Global;
@@ -58,7 +57,7 @@ impl FreeRuns {
     {
         self.clear();
         for slot in 0..table.slots {
-            if table.owner(frames, slot) == FREE {
+            if let SlotEntry::Free = table.entry(frames, slot) {
                 self.insert(slot);
             }
         }

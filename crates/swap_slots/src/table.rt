@@ -1,19 +1,13 @@
 ghost use Rattle.std.specs.Prelude.{◌≡◌, ℕ, ◌+◌, ◌*◌, ◌/◌, ◌%◌, ◌<◌, ◌≤◌, All, IfSome, IfNone, List, length, slice_get};
 ghost use Rattle.definitions.specs.Bytes.{IsPage};
 ghost use Rattle.definitions.specs.Tables.{entry_at, with_entry, with_entries};
+ghost use Rattle.swap_slots.specs.Entries.{word_of, entry_of_word};
 
-use crate::FreeRuns;
+use crate::{FreeRuns, SlotEntry};
 use frame_arena::Frames;
 
-/// The entry of a free slot.
-pub(crate) const FREE: u32 = 0;
-
-/// The entry of a slot of the image.
-const IMAGE: u32 = 65536;
-
-/// The table of the slots of a swap area, 4 bytes for each, in page frames.
-/// An entry is 0 where the slot is free, the number of the task that has it, 65536 where the image has it, and 131072 where
-/// it is bad.
+/// The table of the slots of a swap area in page frames: a word of 4 bytes for each slot's entry, which is 0 where the slot is free,
+/// the number of the task that has it, 65536 where the image has it, and 131072 where it is bad.
 #[derive(Clone, Copy, Debug, PartialEq, Eq)]
 pub struct SlotTable {
     /// The first page frame.
@@ -25,20 +19,20 @@ pub struct SlotTable {
 impl SlotTable {
     ghost use Rattle.swap_slots.specs.Table.{IsOwner, LiesIn, Matches, free_in, image_in};
 
-    /// Gives the least free slot to `owner`: a task, or 65536 for the image. `None` where no slot is free.
-    pub fn take(&self, frames: &mut Frames, runs: &mut FreeRuns, owner: u32) -> Option<u32>
-        requires owner { IsOwner owner }
+    /// Gives the least free slot to `owner`: a task, or the image. `None` where no slot is free.
+    pub fn take(&self, frames: &mut Frames, runs: &mut FreeRuns, owner: SlotEntry) -> Option<u32>
+        requires owner { IsOwner (word_of owner) }
         requires table { LiesIn frames.old self.now }
         requires matches { Matches frames.old self.now runs.old }
         ensures least { result ≡ slice_get (free_in frames.old self.now) 0 }
-        ensures taken { IfSome result (λ slot. frames.new ≡ with_entry frames.old self.now.first slot owner) }
+        ensures taken { IfSome result (λ slot. frames.new ≡ with_entry frames.old self.now.first slot (word_of owner)) }
         ensures none { IfNone result (frames.new ≡ frames.old) }
         ensures matches { Matches frames.new self.now runs.new }
         ensures len { length frames.new ≡ length frames.old }
         ensures room { runs.new.room ≡ runs.old.room }
     {
         let slot = runs.first()?;
-        self.set_entry(frames, slot, owner);
+        self.set(frames, slot, owner);
         runs.remove(slot);
         Some(slot)
     }
@@ -53,18 +47,31 @@ impl SlotTable {
         ensures len { length frames.new ≡ length frames.old }
         ensures room { runs.new.room ≡ runs.old.room }
     {
-        self.set_entry(frames, slot, FREE);
+        self.set(frames, slot, SlotEntry::Free);
         runs.insert(slot);
     }
 
     /// The entry of a slot.
-    pub fn owner(&self, frames: &Frames, slot: u32) -> u32
+    pub fn entry(&self, frames: &Frames, slot: u32) -> SlotEntry
         requires slot { slot < self.now.slots }
         requires table { LiesIn frames.now self.now }
-        ensures { result ≡ entry_at frames.now self.now.first slot }
+        ensures entry { result ≡ entry_of_word (entry_at frames.now self.now.first slot) }
+        ensures word { word_of result ≡ entry_at frames.now self.now.first slot }
     {
         let (p, at) = self.place(frames, slot);
-        frames.u32_at(p, at)
+        SlotEntry::of(frames.u32_at(p, at))
+    }
+
+    /// Sets the entry of a slot. The free runs are to be told of it, or rebuilt.
+    pub fn set(&self, frames: &mut Frames, slot: u32, entry: SlotEntry)
+        requires slot { slot < self.now.slots }
+        requires table { LiesIn frames.old self.now }
+        ensures entry { frames.new ≡ with_entry frames.old self.now.first slot (word_of entry) }
+        ensures len { length frames.new ≡ length frames.old }
+        ensures pages { All IsPage frames.old }
+    {
+        let (p, at) = self.place(frames, slot);
+        frames.put_u32(p, at, entry.word());
     }
 
     /// How many slots are free. A slot of the image isn't.
@@ -88,22 +95,10 @@ impl SlotTable {
         // Each page frame has 4096 bytes, so that an entry that is set leaves the others.
         let _ = frames.len();
         for slot in 0..self.slots {
-            if self.owner(frames, slot) == IMAGE {
+            if let SlotEntry::Image = self.entry(frames, slot) {
                 self.give(frames, runs, slot);
             }
         }
-    }
-
-    // Sets the entry of a slot.
-    fn set_entry(&self, frames: &mut Frames, slot: u32, entry: u32)
-        requires slot { slot < self.now.slots }
-        requires table { LiesIn frames.old self.now }
-        ensures entry { frames.new ≡ with_entry frames.old self.now.first slot entry }
-        ensures len { length frames.new ≡ length frames.old }
-        ensures pages { All IsPage frames.old }
-    {
-        let (p, at) = self.place(frames, slot);
-        frames.put_u32(p, at, entry);
     }
 
     // The page frame of a slot's entry, and the offset there.

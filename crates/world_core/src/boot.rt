@@ -5,8 +5,7 @@ ghost use Rattle.definitions.specs.Zones.{top};
 ghost use Rattle.sig_header.specs.declared.area.Area.{Area as AreaValue};
 ghost use Rattle.sig_header.specs.declared.area.AreaKind.TheVariants.{Swap};
 ghost use Rattle.sig_header.specs.AreaKind.{area_kind};
-ghost use Rattle.plain_machine.specs.Machine.{block_of_slot, IsHardware};
-ghost use Rattle.machine.specs.Running.{slot_table_of};
+ghost use Rattle.plain_machine.specs.Machine.{block_of_slot};
 ghost use Rattle.plain_machine.specs.Refusals.{asks_dump_to_boot};
 ghost use Rattle.plain_machine.specs.FreshMemory.{fresh_frames};
 ghost use Rattle.plain_machine.specs.UsableArea.{fit_fault, has_bad_slots_of};
@@ -17,12 +16,11 @@ ghost use Rattle.sector_disk.specs.Called.{Called};
 use crate::World;
 use crate::world::Core;
 use frame_arena::Frames;
-use machine::{Flight, Hardware, has_bad_slots, set_fresh, set_slots, usable};
+use machine::{Flight, Hardware, has_bad_slots, set_fresh, set_slots, slot_table, usable};
 use page_core::{Failed, Page};
 use plain_machine::{BootFrom, Held, Left, NoSwap, Reply};
 use sector_disk::Disk;
 use sig_header::{Area, AreaKind, take_back};
-use swap_slots::SlotTable;
 
 // Booting: fresh memory at once, then a sync, then a read of the header block (own; Linux has its memory from the firmware).
 impl World {
@@ -212,17 +210,6 @@ fn with_bad_slots(
         Ok(area)
     } else {
         Err(NoSwap::BadSet)
-    }
-}
-
-/// The machine's slot table.
-fn slot_table(hw: &Hardware) -> SlotTable
-    ensures table { result ≡ slot_table_of hw.now }
-    ensures hardware { IsHardware hw.now }
-{
-    SlotTable {
-        first: hw.slot_table(),
-        slots: hw.slots(),
     }
 }
 

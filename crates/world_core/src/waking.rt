@@ -8,11 +8,11 @@ ghost use Rattle.sector_disk.specs.Called.{Called};
 use crate::World;
 use crate::world::Core;
 use frame_arena::Frames;
-use machine::Machine;
+use machine::{Machine, slot_table};
 use plain_machine::{Held, Reply};
 use sector_disk::Disk;
 use sleep_core::Waker;
-use swap_slots::{FreeRuns, SlotTable};
+use swap_slots::FreeRuns;
 
 // Waking after a suspend to both: the mark of the image is taken back before the machine runs (swsusp_unmark, kernel/power/swap.c, after
 // the sleep in hibernate of kernel/power/hibernate.c).
@@ -87,11 +87,7 @@ fn leave(machine: &mut Machine, frames: &mut Frames, runs: &mut FreeRuns, reply:
 {
     if let Reply::Woken = reply {
         machine.held = Held::No;
-        let table = SlotTable {
-            first: machine.hw.slot_table(),
-            slots: machine.hw.slots(),
-        };
-        table.give_image(frames, runs);
+        slot_table(&machine.hw).give_image(frames, runs);
     }
 }
 

@@ -7,7 +7,7 @@ ghost use Rattle.sector_disk.specs.Called.{Called};
 
 use frame_arena::Frames;
 use hib_core::{Hib, Job};
-use machine::{Dump, Hardware, Machine};
+use machine::{Dump, Hardware, Machine, slot_table};
 use page_core::NoMemory;
 use plain_machine::{Actor, BootFrom, Event, Reply};
 use resume_core::Load;
@@ -15,7 +15,7 @@ use sector_disk::Disk;
 use sleep_core::Waker;
 use std::alloc::Global;
 use std::marker::Model;
-use swap_slots::{FreeRuns, SlotTable};
+use swap_slots::FreeRuns;
 
 /// A simulated machine: what it is at, its page frames, its hibernation, its waking and its resume. It takes all its memory when it is created.
 #[derive(Drop)]
@@ -134,11 +134,7 @@ impl World {
             return None;
         }
         let hw = self.machine.hw;
-        let table = SlotTable {
-            first: hw.slot_table(),
-            slots: hw.slots(),
-        };
-        table.give_image(&mut self.frames, &mut self.runs);
+        slot_table(&hw).give_image(&mut self.frames, &mut self.runs);
         Some(Dump {
             hw,
             frames: self.frames,

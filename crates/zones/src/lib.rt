@@ -3,7 +3,7 @@
 
 mod fault;
 
-ghost use Rattle.std.specs.Prelude.{◌≡◌, ℕ, ◌+◌, ◌-◌, ◌<◌, ◌≤◌, ◌↔◌, IsTrue, IsOk, IfOk, IfErr, List, length, slice_get};
+ghost use Rattle.std.specs.Prelude.{◌≡◌, ℕ, ◌+◌, ◌-◌, ◌<◌, ◌≤◌, ◌↔◌, IsTrue, IsOk, IfOk, IfErr, List, length};
 ghost use Rattle.std.specs.List.{Contains};
 ghost use Rattle.definitions.specs.Zones.{numbers, first_from, top, zone_end, IsZone, AreZones};
 ghost use Rattle.zones.specs.Faults.{HasFault};
@@ -113,12 +113,12 @@ impl Zones {
         None
     }
 
-    /// The pair of zone `j`, from 0: its first number and its count.
-    pub fn zone(&self, j: u32) -> Option<(u32, u32)>
-        ensures zone { result ≡ slice_get self.now j }
+    /// The pairs of the zones: the first number and the count of each.
+    pub fn as_slice(&self) -> &[(u32, u32)]
+        ensures pairs { result.now ≡ self.now }
         ensures zones { AreZones self.now }
     {
-        self.pairs[..self.len].get(j as usize).copied()
+        &self.pairs[..self.len]
     }
 }
 

@@ -1,5 +1,11 @@
+use Rattle.std.proofs.Common.{◌≡◌, length, drop}
+use Rattle.memory_bitmap.specs.Left.{left_in}
 use Rattle.atomic_copy.proofs.Progress.{IsProgress}
 use Rattle.atomic_copy.proofs.copy_all.Given as goal
 
-abbrev pub invariant-loop : goal.invariant-loop
-invariant-loop l = IsProgress l.origs.members l.copies.members l.initial.frames l.frames l.from l.to l.counter
+abbrev pub invariant-loop-original : goal.invariant-loop-original
+invariant-loop-original l = record {
+  sources : left_in l.original-iterator.a ≡ drop (length l.yielded) l.origs.members;
+  targets : left_in l.original-iterator.b ≡ drop (length l.yielded) l.copies.members;
+  progress : IsProgress l.origs.members l.copies.members l.initial.frames l.frames (length l.yielded);
+}

@@ -1,17 +1,13 @@
-use Rattle.std.proofs.Common.{◌≡◌, ℕ, ◌-◌, ◌≤◌, List, length, take, filter}
+use Rattle.std.proofs.Common.{◌≡◌, ℕ, ◌-◌, List, length, take, filter}
 use Rattle.definitions.specs.Zones.{numbers}
 use Rattle.saveable.specs.Tests.{free_by_entry}
 use Rattle.prealloc.proofs.pick.Given as goal
 
 abbrev pub invariant-loop-zone : goal.invariant-loop-zone
 invariant-loop-zone l =
-    let free : List ℕ = filter (free_by_entry l.view.table l.view.frames.now) (numbers (take l.j l.view.zones.now)) in
+    let free : List ℕ = filter (free_by_entry l.view.table l.view.frames.now) (numbers (take l.zone-index l.view.zones.now)) in
     record {
-      within : l.j ≤ length l.view.zones.now;
       zones : l.set.zones ≡ l.view.zones.now;
       members : l.set.members ≡ take l.n free;
       left : l.left ≡ l.n - length free;
     }
-
-abbrev pub decreases-loop-zone : goal.decreases-loop-zone
-decreases-loop-zone l = length l.view.zones.now - l.j

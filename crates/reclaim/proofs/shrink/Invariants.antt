@@ -1,4 +1,4 @@
-use Rattle.std.proofs.Common.{◌≡◌, ◌-◌, ◌≤◌, length, take, filter, All}
+use Rattle.std.proofs.Common.{◌≡◌, length, take, filter, All}
 use Rattle.definitions.specs.Bytes.{IsPage}
 use Rattle.definitions.specs.Tables.{with_entries}
 use Rattle.definitions.specs.Zones.{numbers}
@@ -7,12 +7,8 @@ use Rattle.reclaim.proofs.shrink.Given as goal
 
 abbrev pub invariant-loop-zone : goal.invariant-loop-zone
 invariant-loop-zone l = record {
-  within : l.j ≤ length l.zones;
   pages : All IsPage l.fn.frames;
-  frames : l.frames ≡ with_entries l.fn.frames l.table (take l.most (filter (may_drop l.keep l.table l.fn.frames) (numbers (take l.j l.zones)))) 1;
-  dropped : l.dropped ≡ length (take l.most (filter (may_drop l.keep l.table l.fn.frames) (numbers (take l.j l.zones))));
+  frames : l.frames ≡ with_entries l.fn.frames l.table (take l.most (filter (may_drop l.keep l.table l.fn.frames) (numbers (take l.zone-index l.zones)))) 1;
+  dropped : l.dropped ≡ length (take l.most (filter (may_drop l.keep l.table l.fn.frames) (numbers (take l.zone-index l.zones))));
   len : length l.frames ≡ length l.fn.frames;
 }
-
-abbrev pub decreases-loop-zone : goal.decreases-loop-zone
-decreases-loop-zone l = length l.zones - l.j

@@ -1,14 +1,10 @@
-use Rattle.std.proofs.Common.{◌≡◌, ◌-◌, ◌≤◌, length, take, filter}
+use Rattle.std.proofs.Common.{◌≡◌, take, filter}
 use Rattle.definitions.specs.Zones.{numbers}
 use Rattle.saveable.specs.Tests.{saveable_by_entry}
 use Rattle.saveable.proofs.mark_all.Given as goal
 
 abbrev pub invariant-loop-zone : goal.invariant-loop-zone
 invariant-loop-zone l = record {
-  within : l.j ≤ length l.view.zones.now;
   zones : l.set.zones ≡ l.view.zones.now;
-  members : l.set.members ≡ filter (saveable_by_entry l.view.table l.view.frames.now) (numbers (take l.j l.view.zones.now));
+  members : l.set.members ≡ filter (saveable_by_entry l.view.table l.view.frames.now) (numbers (take l.zone-index l.view.zones.now));
 }
-
-abbrev pub decreases-loop-zone : goal.decreases-loop-zone
-decreases-loop-zone l = length l.view.zones.now - l.j

@@ -1,10 +1,17 @@
 use Rattle.std.proofs.Common.{ℕ, length, ap, ◌∙◌, arith}
+use Rattle.swap_slots.proofs.Entries.{entry_of_word-task}
 use Rattle.dump_facts.specs.Counts.{slots_of}
 use Rattle.dump_facts.specs.declared.fact.Fact.{Fact}
 use Rattle.dump_facts.specs.declared.fact.Fact.TheVariants as fact
 use Rattle.dump_facts.proofs.Owners.{owned_some, owned_none, owned_all}
 use Rattle.dump_facts.proofs.memory.add_owned_slots.Goals as goal
 use Rattle.dump_facts.proofs.memory.add_owned_slots.Goals.{then-count-gt0, else-count-gt0}
+
+pub count_slots-count-requires-clause-entry : goal.count_slots-count-requires-clause-entry
+count_slots-count-requires-clause-entry c =
+    let some = c.loop-task.auto.task in
+    let few = c.loop-task-test.true in
+    entry_of_word-task c.loop-task.task (λ e. omega arith) (λ e. omega arith) (λ e. omega arith)
 
 pub loop-task-preserved : goal.loop-task-preserved
 loop-task-preserved c =

@@ -1,4 +1,4 @@
-use Rattle.std.proofs.Common.{◌≤◌, ◌-◌, length, take}
+use Rattle.std.proofs.Common.{◌≤◌, take}
 use Rattle.definitions.specs.Streams.{TakesAll}
 use Rattle.definitions.specs.Zones.{numbers}
 use Rattle.dump_file.specs.Written.{records_bytes}
@@ -6,10 +6,6 @@ use Rattle.dump_file.proofs.write.put_records.Given as goal
 
 abbrev pub invariant-loop-start : goal.invariant-loop-start
 invariant-loop-start g l = record {
-  within : l.j ≤ length l.zones;
-  so_far : TakesAll (records_bytes l.frames (numbers (take l.j l.zones))) (g.K.Sink.taken l.fn.sink) (g.K.Sink.taken l.sink);
+  so_far : TakesAll (records_bytes l.frames (numbers (take l.start-index l.zones))) (g.K.Sink.taken l.fn.sink) (g.K.Sink.taken l.sink);
   counted : g.K.Sink.faults l.fn.sink ≤ g.K.Sink.faults l.sink;
 }
-
-abbrev pub decreases-loop-start : goal.decreases-loop-start
-decreases-loop-start g l = length l.zones - l.j

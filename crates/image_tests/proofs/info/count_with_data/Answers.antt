@@ -1,45 +1,24 @@
-use Rattle.std.proofs.Common.{◌≡◌, ◌+◌, Bool, true, false, not, cond, option_copied, sym, ap, ◌∙◌, subst, rules, arith}
+use Rattle.std.proofs.Common.{option_copied, arith}
+use Rattle.memory_bitmap.specs.Left.{left_in}
+use Rattle.memory_bitmap.proofs.Bounds.{few_members}
+use Rattle.memory_bitmap.proofs.Yielded.{next_member, all_yielded}
 use Rattle.pfn_pack.specs.Places.{members_in}
-use Rattle.image_read.proofs.NextFrame.{small, first_is}
-use Rattle.image_tests.proofs.Counting.{AreCounted, has_page, none_counted, count_one, all_counted, few_counted}
+use Rattle.image_tests.proofs.Counting.{all_counted, few_counted}
 use Rattle.image_tests.proofs.info.count_with_data.Goals as goal
-use Rattle.image_tests.proofs.info.count_with_data.Goals.{then-not-is_in, else-not-is_in}
-
-pub loop-p-init : goal.loop-p-init
-loop-p-init c = none_counted c.args.origs.now.members (members_in (option_copied c.args.zeros))
 
 pub overflow_add-count : goal.overflow_add-count
 overflow_add-count c =
-    let few = few_counted c.args.origs.now.members (members_in (option_copied c.args.zeros)) c.loop-p.from c.in-Some.p c.loop-p.count c.len.ensures.set.ascending (sym c.in-Some.ensures) c.loop-p.invariant in
-    let len = c.len.ensures.len in
+    let origs = c.args.origs.now in
+    let set = c.iter-p-items.ensures.set in
+    let next =
+    next_member origs.members c.loop-p.yielded (left_in c.loop-p.p-iterator) (left_in c.next.new.self) c.in-Some.p set.ascending c.loop-p.invariant.left c.in-Some.ensures.steps in
+    let few = few_counted (members_in (option_copied c.args.zeros)) c.loop-p.yielded c.loop-p.count c.loop-p.invariant.counted in
+    let behind = next.few in
+    let most = few_members origs set in
     record { fits = omega arith }
 
-pub overflow_add-from : goal.overflow_add-from
-overflow_add-from c =
-    let low = small c.args.origs.now c.loop-p.from c.in-Some.p c.len.ensures.set (sym c.in-Some.ensures) in
-    search rules
-
-pub loop-p-smaller : goal.loop-p-smaller
-loop-p-smaller c =
-    let low = small c.args.origs.now c.loop-p.from c.in-Some.p c.len.ensures.set (sym c.in-Some.ensures) in
-    let at = first_is c.args.origs.now.members c.loop-p.from c.in-Some.p c.len.ensures.set.ascending (sym c.in-Some.ensures) in
-    let above = at.from in
-    omega arith
-
-pub loop-p-preserved : goal.loop-p-preserved
-loop-p-preserved c =
-    let origs = c.args.origs.now.members in
-    let zeros = members_in (option_copied c.args.zeros) in
-    let next = count_one origs zeros c.loop-p.from c.in-Some.p c.loop-p.count c.len.ensures.set.ascending (sym c.in-Some.ensures) c.loop-p.invariant in
-    elim c.if-not-is_in.branch [
-      | then-not-is_in w ↦
-          let passes : has_page zeros c.in-Some.p ≡ true = ap not (sym c.is_in.ensures ∙ w.if-not-is_in.true) in
-          subst (AreCounted origs zeros (c.in-Some.p + 1)) (ap (λ (b : Bool). c.loop-p.count + cond b 1 0) passes ∙ sym w.count-is) next
-      | else-not-is_in w ↦
-          let fails : has_page zeros c.in-Some.p ≡ false = ap not (sym c.is_in.ensures ∙ w.if-not-is_in.false) in
-          let same : c.loop-p.count + 0 ≡ c.loop-p.count = omega arith in
-          subst (AreCounted origs zeros (c.in-Some.p + 1)) (ap (λ (b : Bool). c.loop-p.count + cond b 1 0) fails ∙ same ∙ sym w.count-is) next
-    ]
-
 pub returns : goal.returns
-returns c = all_counted c.args.origs.now.members (members_in (option_copied c.args.zeros)) c.loop-p.from c.loop-p.count (sym c.in_default.ensures) c.loop-p.invariant
+returns c =
+    let origs = c.args.origs.now.members in
+    all_counted origs (members_in (option_copied c.args.zeros)) c.loop-p.yielded c.loop-p.count
+    (all_yielded origs c.loop-p.yielded (left_in c.loop-p.p-iterator) c.loop-p.invariant.left c.in-None.ensures.steps.0) c.loop-p.invariant.counted

@@ -1,7 +1,7 @@
-use Rattle.std.proofs.Common.{◌≡◌, ℕ, ◌+◌, ◌<◌, ◌≤◌, sym, subst, arith}
+use Rattle.std.proofs.Common.{◌≡◌, ℕ, ◌+◌, ◌<◌, ◌≤◌, length, sym, ap, subst, arith}
 use Rattle.std.proofs.lemmas.Bool.{leb-true, le-leb}
 use Rattle.definitions.specs.Zones.{zone_end}
-use Rattle.definitions.proofs.ZoneWalk.{at_zone, past_zones}
+use Rattle.definitions.proofs.ZoneWalk.{at_zone}
 use Rattle.machine.proofs.ZoneRuns.{reaches_more, reaches_all}
 use Rattle.machine.proofs.parts.has_run.Goals as goal
 
@@ -10,19 +10,20 @@ loop-zone-preserved c =
     let zones = c.args.zones.now in
     let end = c.loop-zone.end in
     let next = c.reach-end.result in
-    let at = at_zone zones c.loop-zone.j c.in-Some.zone c.zone.ensures.zones c.in-Some.ensures.zone in
+    let told = c.as_slice-zone-items in
+    let j = c.loop-zone.zone-index in
+    let at = at_zone zones told.result.now j told.ensures.pairs told.ensures.zones c.loop-zone-test.true in
     let Inside : ℕ × ℕ → Type 0 = λ z. z.0 ≤ end → end < zone_end z → next ≡ zone_end z in
     let Outside : ℕ × ℕ → Type 0 = λ z. (z.0 ≤ end → end < zone_end z → ⊥) → next ≡ end in
-    record {
-      within = let within = at.within in omega arith;
-      reaches = reaches_more zones c.args.run.0 end next c.loop-zone.j at.zones_are at.within c.loop-zone.invariant.reaches
-          (subst Inside (sym at.zone_is) c.reach-end.ensures.inside) (subst Outside (sym at.zone_is) c.reach-end.ensures.outside);
-    }
+    reaches_more zones c.args.run.0 end next j at.zones_are at.within c.loop-zone.invariant
+    (subst Inside (sym at.zone_is) c.reach-end.ensures.inside) (subst Outside (sym at.zone_is) c.reach-end.ensures.outside)
 
 pub returns : goal.returns
 returns c =
     let zones = c.args.zones.now in
-    let both = reaches_all zones c.args.run.0 c.args.run.1 c.loop-zone.end c.loop-zone.j (past_zones zones c.loop-zone.j c.in_default.ensures.zone) c.loop-zone.invariant.reaches in
+    let j = c.loop-zone.zone-index in
+    let over : length zones ≤ j = omega (arith, c.loop-zone-test.false, ap length c.as_slice-zone-items.ensures.pairs) in
+    let both = reaches_all zones c.args.run.0 c.args.run.1 c.loop-zone.end j over c.loop-zone.invariant in
     let first = c.from.ensures in
     let count = c.from-2.ensures in
     let end = c.from-3.ensures in (

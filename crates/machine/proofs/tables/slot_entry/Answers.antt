@@ -1,19 +1,13 @@
-use Rattle.std.proofs.Common.{arith}
+use Rattle.std.proofs.Common.{sym, subst, arith}
+use Rattle.definitions.specs.Tables.{HasTable}
+use Rattle.swap_slots.specs.declared.table.SlotTable.{SlotTable}
 use Rattle.machine.proofs.Rows.{slot_table_fits}
 use Rattle.machine.proofs.tables.slot_entry.Goals as goal
 
-pub table_frame-p-requires : goal.table_frame-p-requires
-table_frame-p-requires c =
+pub entry-requires-clause-table : goal.entry-requires-clause-table
+entry-requires-clause-table c =
+    let h = c.args.hw.now in
+    let fits = slot_table_fits h c.slot_table.ensures.hardware in
     let size = c.requires.size in
-    let below = c.requires.within in
-    let table = slot_table_fits c.args.hw.now c.slot_table.ensures.hardware in
-    let first = c.slot_table.ensures.frame in
-    omega arith
-
-pub u32_at-requires-clause-frame_in_range : goal.u32_at-requires-clause-frame_in_range
-u32_at-requires-clause-frame_in_range c =
-    let size = c.requires.size in
-    let below = c.requires.within in
-    let table = slot_table_fits c.args.hw.now c.slot_table.ensures.hardware in
-    let first = c.slot_table.ensures.frame in
-    omega arith
+    let table : HasTable c.args.frames.now h.slot_table h.slots = omega arith in
+    subst (λ (t : SlotTable). HasTable c.args.frames.now t.first t.slots) (sym c.slot_table.ensures.table) table

@@ -1,11 +1,11 @@
-use Rattle.std.proofs.Common.{◌≡◌, take}
+use Rattle.std.proofs.Common.{◌≡◌, ◌++◌}
+use Rattle.memory_bitmap.specs.Left.{left_in}
 use Rattle.page_restore.specs.Waiting.{with_data}
-use Rattle.page_restore.proofs.Walk.{IsCursor}
 use Rattle.page_restore.proofs.sets.mark_with_data.Given as goal
 
-abbrev pub invariant-loop : goal.invariant-loop
-invariant-loop l = record {
+abbrev pub invariant-loop-p : goal.invariant-loop-p
+invariant-loop-p l = record {
   zones : l.set.zones ≡ l.fn.set.zones;
-  members : l.set.members ≡ with_data l.origs.members (take l.counter l.zeros.members);
-  cursor : IsCursor l.zeros.members l.from l.counter;
+  members : l.set.members ≡ with_data l.origs.members l.yielded;
+  left : l.yielded ++ left_in l.p-iterator ≡ l.zeros.members;
 }

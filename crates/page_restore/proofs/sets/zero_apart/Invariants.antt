@@ -1,9 +1,10 @@
+use Rattle.std.proofs.Common.{◌≡◌, ◌++◌}
+use Rattle.memory_bitmap.specs.Left.{left_in}
 use Rattle.page_restore.proofs.Clearing.{IsCleared}
-use Rattle.page_restore.proofs.Walk.{IsCursor}
 use Rattle.page_restore.proofs.sets.zero_apart.Given as goal
 
-abbrev pub invariant-loop : goal.invariant-loop
-invariant-loop l = record {
-  cleared : IsCleared l.set.members l.kept.members l.from l.fn.frames l.frames;
-  cursor : IsCursor l.set.members l.from l.counter;
+abbrev pub invariant-loop-p : goal.invariant-loop-p
+invariant-loop-p l = record {
+  cleared : IsCleared l.set.members l.kept.members l.yielded l.fn.frames l.frames;
+  left : l.yielded ++ left_in l.p-iterator ≡ l.set.members;
 }

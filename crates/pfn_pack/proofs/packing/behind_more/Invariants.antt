@@ -1,6 +1,10 @@
-use Rattle.std.proofs.Common.{◌≡◌, ◌+◌}
+use Rattle.std.proofs.Common.{◌≡◌, ◌+◌, drop}
+use Rattle.memory_bitmap.specs.Left.{left_in}
 use Rattle.pfn_pack.specs.Places.{count_below}
 use Rattle.pfn_pack.proofs.packing.behind_more.Given as goal
 
 abbrev pub invariant-loop : goal.invariant-loop
-invariant-loop l = count_below l.set.members l.past ≡ count_below l.set.members l.from + l.counter
+invariant-loop l = record {
+  left : left_in l.members ≡ drop (count_below l.set.members l.from + l.counter) l.set.members;
+  past : count_below l.set.members l.past ≡ count_below l.set.members l.from + l.counter;
+}

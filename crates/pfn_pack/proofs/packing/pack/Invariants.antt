@@ -1,10 +1,12 @@
-use Rattle.std.proofs.Common.{◌≡◌, ◌+◌, take, option_copied}
+use Rattle.std.proofs.Common.{◌≡◌, ◌+◌, ◌*◌, drop, take, option_copied}
 use Rattle.definitions.specs.NumberPages.{page_of_words, marked_numbers}
-use Rattle.pfn_pack.specs.Places.{count_below, members_in}
+use Rattle.memory_bitmap.specs.Left.{left_in}
+use Rattle.pfn_pack.specs.Places.{members_in}
 use Rattle.pfn_pack.proofs.Filling.{words_of_page}
 use Rattle.pfn_pack.proofs.packing.pack.Given as goal
 
 abbrev pub invariant-loop-i : goal.invariant-loop-i
-invariant-loop-i l =
-    (count_below l.origs.members l.from ≡ l.first + l.i)
-    × (l.page ≡ page_of_words (take l.i (words_of_page (marked_numbers l.origs.members (members_in (option_copied l.zeros))) l.k)))
+invariant-loop-i l = record {
+  left : left_in l.members ≡ drop (512 * l.k + l.i) l.origs.members;
+  page : l.page ≡ page_of_words (take l.i (words_of_page (marked_numbers l.origs.members (members_in (option_copied l.zeros))) l.k));
+}

@@ -3,7 +3,7 @@ use Rattle.memory_bitmap.specs.FrameSet.{FrameSet, IsFrameSet}
 use Rattle.safe_pages.specs.Placed.{Placed}
 use Rattle.safe_pages.specs.Plan.{list_frames_for, planned}
 use Rattle.safe_pages.proofs.Planning.{Suffice, suffice, enough_apart, few_originals, is_plan, skipped}
-use Rattle.safe_pages.proofs.Walks.{few_members}
+use Rattle.memory_bitmap.proofs.Bounds.{few_members}
 use Rattle.safe_pages.proofs.Placement.plan.Goals as goal
 
 pub overflow_add-need : goal.overflow_add-need

@@ -1,40 +1,33 @@
-use Rattle.std.proofs.Common.{sym, ◌∙◌, arith}
+use Rattle.std.proofs.Common.{ℕ, List, slice_get, sym, ap, ◌∙◌}
 use Rattle.std.proofs.lemmas.Bool.{false≢true}
-use Rattle.safe_pages.proofs.Reserved.{first_without, next_without, none_without}
-use Rattle.safe_pages.proofs.Walks.{is_first, member_small}
+use Rattle.std.specs.List.{Contains}
+use Rattle.memory_bitmap.specs.Left.{left_in}
+use Rattle.safe_pages.specs.Plan.{without}
+use Rattle.safe_pages.proofs.Reserved.{first_without, apart_first, among_later}
 use Rattle.safe_pages.proofs.plan.next_apart.Goals as goal
+
+pub loop-p-init : goal.loop-p-init
+loop-p-init c =
+    let origs = c.args.origs.now.members in
+    let left = ap left_in c.into_iter-p-iterator.ensures.into_iter_gives ∙ c.iter_from-p-items.ensures.members in
+    ap (λ (ps : List ℕ). slice_get (without ps origs) 0) left ∙ sym (first_without c.args.free.now.members origs c.args.from)
 
 pub returns-then-not-has : goal.returns-then-not-has
 returns-then-not-has c =
-    let free = c.args.free.now.members in
     let origs = c.args.origs.now.members in
-    let is = sym c.first_from.ensures ∙ c.in-Some.is in
-    sym (sym c.loop-p.invariant ∙ first_without free origs c.loop-p.from c.in-Some.p c.requires.ascending is (λ in'. false≢true (sym c.if-not-has.true ∙ c.has.ensures.1 in')))
-
-pub overflow_add-from : goal.overflow_add-from
-overflow_add-from c =
-    let is = sym c.first_from.ensures ∙ c.in-Some.is in
-    let first = is_first c.args.free.now.members c.loop-p.from c.in-Some.p c.requires.ascending is in
-    let low = member_small c.args.free.now c.in-Some.p c.requires first.member in
-    record { fits = omega arith }
-
-pub loop-p-smaller : goal.loop-p-smaller
-loop-p-smaller c =
-    let is = sym c.first_from.ensures ∙ c.in-Some.is in
-    let first = is_first c.args.free.now.members c.loop-p.from c.in-Some.p c.requires.ascending is in
-    let low = member_small c.args.free.now c.in-Some.p c.requires first.member in
-    let up_to = first.above in
-    omega arith
+    let out : Contains origs c.in-Some.p → ⊥ = λ in'. false≢true (sym c.if-not-has.true ∙ c.has.ensures.1 in') in
+    sym (ap (λ (ps : List ℕ). slice_get (without ps origs) 0) c.in-Some.ensures.steps ∙ apart_first origs (left_in c.next.new.self) c.in-Some.p out)
+    ∙ c.loop-p.invariant
 
 pub loop-p-preserved : goal.loop-p-preserved
 loop-p-preserved c =
-    let free = c.args.free.now.members in
     let origs = c.args.origs.now.members in
-    let is = sym c.first_from.ensures ∙ c.in-Some.is in
-    next_without free origs c.loop-p.from c.in-Some.p c.requires.ascending is (c.has.ensures.0 c.if-not-has.false) ∙ c.loop-p.invariant
+    let later = among_later origs (left_in c.next.new.self) c.in-Some.p (c.has.ensures.0 c.if-not-has.false) in
+    sym (ap (λ (ps : List ℕ). slice_get (without ps origs) 0) c.in-Some.ensures.steps ∙ ap (λ (ps : List ℕ). slice_get ps 0) later)
+    ∙ c.loop-p.invariant
 
 pub returns : goal.returns
+unfolding without
 returns c =
-    let free = c.args.free.now.members in
     let origs = c.args.origs.now.members in
-    sym (sym c.loop-p.invariant ∙ none_without free origs c.loop-p.from c.requires.ascending (sym c.first_from.ensures ∙ c.in_default.is))
+    sym (ap (λ (ps : List ℕ). slice_get (without ps origs) 0) c.in-None.ensures.steps.0) ∙ c.loop-p.invariant

@@ -1,11 +1,8 @@
-use Rattle.std.proofs.Common.{◌≡◌, ◌-◌}
+use Rattle.std.proofs.Common.{◌≡◌, slice_get}
 use Rattle.definitions.specs.Zones.{first_from}
+use Rattle.memory_bitmap.specs.Left.{left_in}
 use Rattle.safe_pages.specs.Plan.{without}
 use Rattle.safe_pages.proofs.plan.next_apart.Given as goal
 
 abbrev pub invariant-loop-p : goal.invariant-loop-p
-invariant-loop-p l =
-    first_from (without l.free.members l.origs.members) l.from ≡ first_from (without l.free.members l.origs.members) l.fn.from
-
-abbrev pub decreases-loop-p : goal.decreases-loop-p
-decreases-loop-p l = 65536 - l.from
+invariant-loop-p l = slice_get (without (left_in l.p-iterator) l.origs.members) 0 ≡ first_from (without l.free.members l.origs.members) l.from

@@ -1,47 +1,41 @@
-use Rattle.std.proofs.Common.{sym, ◌∙◌, arith}
+use Rattle.std.proofs.Common.{ℕ, List, slice_get, sym, ap, ◌∙◌}
 use Rattle.std.proofs.lemmas.Bool.{false≢true}
-use Rattle.safe_pages.proofs.Reserved.{first_above, first_original, next_reserved, none_unreserved}
-use Rattle.safe_pages.proofs.Walks.{is_first, member_small}
+use Rattle.std.specs.List.{Contains}
+use Rattle.memory_bitmap.specs.Left.{left_in}
+use Rattle.safe_pages.specs.Walk.{unreserved}
+use Rattle.safe_pages.proofs.Reserved.{first_unreserved, above_first, original_first, reserved_later}
 use Rattle.safe_pages.proofs.plan.next_unreserved.Goals as goal
+
+pub loop-p-init : goal.loop-p-init
+loop-p-init c =
+    let origs = c.args.origs.now.members in
+    let left = ap left_in c.into_iter-p-iterator.ensures.into_iter_gives ∙ c.iter_from-p-items.ensures.members in
+    ap (λ (ps : List ℕ). slice_get (unreserved origs ps c.args.bounce) 0) left ∙ sym (first_unreserved origs c.args.free.now.members c.args.bounce c.args.from)
 
 pub returns-then-p-bounce : goal.returns-then-p-bounce
 returns-then-p-bounce c =
-    let free = c.args.free.now.members in
     let origs = c.args.origs.now.members in
-    let is = sym c.first_from.ensures ∙ c.in-Some.is in
-    sym (sym c.loop-p.invariant ∙ first_above origs free c.args.bounce c.loop-p.from c.in-Some.p c.requires.ascending is c.if-p-bounce.true)
+    sym (ap (λ (ps : List ℕ). slice_get (unreserved origs ps c.args.bounce) 0) c.in-Some.ensures.steps
+    ∙ above_first origs (left_in c.next.new.self) c.args.bounce c.in-Some.p c.if-p-bounce.true)
+    ∙ c.loop-p.invariant
 
 pub returns-then-has : goal.returns-then-has
 returns-then-has c =
-    let free = c.args.free.now.members in
     let origs = c.args.origs.now.members in
-    let is = sym c.first_from.ensures ∙ c.in-Some.is in
-    sym (sym c.loop-p.invariant ∙ first_original origs free c.args.bounce c.loop-p.from c.in-Some.p c.requires.ascending is (c.has.ensures.0 c.if-has.true))
-
-pub overflow_add-from : goal.overflow_add-from
-overflow_add-from c =
-    let is = sym c.first_from.ensures ∙ c.in-Some.is in
-    let first = is_first c.args.free.now.members c.loop-p.from c.in-Some.p c.requires.ascending is in
-    let low = member_small c.args.free.now c.in-Some.p c.requires first.member in
-    record { fits = omega arith }
-
-pub loop-p-smaller : goal.loop-p-smaller
-loop-p-smaller c =
-    let is = sym c.first_from.ensures ∙ c.in-Some.is in
-    let first = is_first c.args.free.now.members c.loop-p.from c.in-Some.p c.requires.ascending is in
-    let low = member_small c.args.free.now c.in-Some.p c.requires first.member in
-    let up_to = first.above in
-    omega arith
+    sym (ap (λ (ps : List ℕ). slice_get (unreserved origs ps c.args.bounce) 0) c.in-Some.ensures.steps
+    ∙ original_first origs (left_in c.next.new.self) c.args.bounce c.in-Some.p (c.has.ensures.0 c.if-has.true))
+    ∙ c.loop-p.invariant
 
 pub loop-p-preserved : goal.loop-p-preserved
 loop-p-preserved c =
-    let free = c.args.free.now.members in
     let origs = c.args.origs.now.members in
-    let is = sym c.first_from.ensures ∙ c.in-Some.is in
-    next_reserved origs free c.args.bounce c.loop-p.from c.in-Some.p c.requires.ascending is c.if-p-bounce.false (λ in'. false≢true (sym c.if-has.false ∙ c.has.ensures.1 in')) ∙ c.loop-p.invariant
+    let out : Contains origs c.in-Some.p → ⊥ = λ in'. false≢true (sym c.if-has.false ∙ c.has.ensures.1 in') in
+    let later = reserved_later origs (left_in c.next.new.self) c.args.bounce c.in-Some.p c.if-p-bounce.false out in
+    sym (ap (λ (ps : List ℕ). slice_get (unreserved origs ps c.args.bounce) 0) c.in-Some.ensures.steps ∙ ap (λ (ps : List ℕ). slice_get ps 0) later)
+    ∙ c.loop-p.invariant
 
 pub returns : goal.returns
+unfolding unreserved
 returns c =
-    let free = c.args.free.now.members in
     let origs = c.args.origs.now.members in
-    sym (sym c.loop-p.invariant ∙ none_unreserved origs free c.args.bounce c.loop-p.from c.requires.ascending (sym c.first_from.ensures ∙ c.in_default.is))
+    sym (ap (λ (ps : List ℕ). slice_get (unreserved origs ps c.args.bounce) 0) c.in-None.ensures.steps.0) ∙ c.loop-p.invariant

@@ -5,7 +5,7 @@ use Rattle.memory_bitmap.specs.FrameSet.{FrameSet}
 use Rattle.snapshot.specs.Taken.{Taken}
 use Rattle.snapshot.proofs.Copying.{saved_below}
 use Rattle.snapshot.proofs.Few.{few_zeros}
-use Rattle.snapshot.proofs.Walk.{few}
+use Rattle.memory_bitmap.proofs.Bounds.{few_members}
 use Rattle.snapshot.proofs.Snapshot.count.Goals as goal
 
 pub mark_zeros-requires-clause-within : goal.mark_zeros-requires-clause-within
@@ -21,7 +21,7 @@ mark_zeros-requires-clause-within c = λ k d lt.
 
 pub enough-requires : goal.enough-requires
 enough-requires c =
-    let most = few c.mark_all.new.set c.len-n.ensures.set in
+    let most = few_members c.mark_all.new.set c.len-n.ensures.set in
     let n = c.len-n.ensures.len in
     omega arith
 

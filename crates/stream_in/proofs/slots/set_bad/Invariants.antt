@@ -4,6 +4,6 @@ use Rattle.stream_in.proofs.slots.set_bad.Given as goal
 
 abbrev pub invariant-loop-slot : goal.invariant-loop-slot
 invariant-loop-slot l = record {
-  set : l.frames ≡ with_entries l.fn.frames 0 (0 ∷ take l.slot-index l.slot-items) 131072;
-  size : length l.frames ≡ 128;
+  set : l.frames ≡ with_entries l.fn.frames l.table.first (0 ∷ take l.slot-index l.slot-items) 131072;
+  size : length l.frames ≡ length l.fn.frames;
 }

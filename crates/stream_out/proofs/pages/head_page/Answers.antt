@@ -2,11 +2,12 @@ use Rattle.std.proofs.Common.{◌≡◌, ℕ, ◌-◌, ◌<◌, suc, [], length,
 use Rattle.definitions.specs.InfoPage.{info_page}
 use Rattle.definitions.specs.NumberPages.{meta_of}
 use Rattle.stream_out.specs.Pages.{stream_over, info_over}
-use Rattle.stream_out.proofs.Streams.{few, first_page, number_page_at}
+use Rattle.memory_bitmap.proofs.Bounds.{few_members}
+use Rattle.stream_out.proofs.Streams.{first_page, number_page_at}
 use Rattle.stream_out.proofs.pages.head_page.Goals as goal
 
 pub info-requires : goal.info-requires
-info-requires c = let most = few c.args.saveable.now c.len.ensures.set in let len = c.len.ensures.len in omega arith
+info-requires c = let most = few_members c.args.saveable.now c.len.ensures.set in let len = c.len.ensures.len in omega arith
 
 pub returns-then-k-eq0 : goal.returns-then-k-eq0
 returns-then-k-eq0 c saved =

@@ -1,11 +1,13 @@
-use Rattle.std.proofs.Common.{arith}
+use Rattle.std.proofs.Common.{sym, subst, arith}
+use Rattle.definitions.specs.Tables.{HasTable}
+use Rattle.swap_slots.specs.declared.table.SlotTable.{SlotTable}
 use Rattle.machine.proofs.Rows.{slot_table_fits}
 use Rattle.stream_out.proofs.slots.first_task_slot.Goals as goal
 
-pub owner-requires-clause-table : goal.owner-requires-clause-table
-owner-requires-clause-table c =
+pub entry-requires-clause-table : goal.entry-requires-clause-table
+entry-requires-clause-table c =
+    let h = c.args.hw.now in
+    let fits = slot_table_fits h c.slot_table-table.ensures.hardware in
     let size = c.requires in
-    let table = slot_table_fits c.args.hw.now c.slot_table.ensures.hardware in
-    let first = c.slot_table.ensures.frame in
-    let slots = c.slots.ensures in
-    omega arith
+    let table : HasTable c.args.frames.now h.slot_table h.slots = omega arith in
+    subst (λ (t : SlotTable). HasTable c.args.frames.now t.first t.slots) (sym c.slot_table-table.ensures.table) table

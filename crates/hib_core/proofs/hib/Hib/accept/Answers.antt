@@ -50,7 +50,7 @@ count-requires-clause-table c =
     (subst (λ (k : ℕ). HasTable c.args.frames.now k (top c.args.machine.now.hw.zones)) (sym c.frame_table-table.ensures.frame) lies)
 
 pub free_count-free-requires-clause-table : goal.free_count-free-requires-clause-table
-free_count-free-requires-clause-table c = subst (LiesIn c.args.frames.now) (sym c.slot_table-slots.ensures) (slot_table_lies c.args.machine.now.hw c.args.frames.now c.zones-zones.ensures.hardware c.requires.ready.run.size)
+free_count-free-requires-clause-table c = subst (LiesIn c.args.frames.now) (sym c.slot_table-slots.ensures.table) (slot_table_lies c.args.machine.now.hw c.args.frames.now c.zones-zones.ensures.hardware c.requires.ready.run.size)
 
 pub pages_of-requires-clause-saved : goal.pages_of-requires-clause-saved
 pages_of-requires-clause-saved c =
@@ -102,7 +102,7 @@ returns-then-free-need-clause-refused c =
     let usable : IsOk c.args.machine.now.area = subst (λ (r : Result Area NoSwap). IsOk r) (sym c.in_default-area.is) refl in
     let hib : Hib = record c.args.self.now { snapshot = c.count.new.self } in
     let is = room c.args.machine.now c.args.frames.now hib c.in-Ok.counts c.args.format c.args.self.now.snapshot.zones c.zones-zones.result.now c.frame_table-table.result c.zones-zones.ensures.zones c.frame_table-table.ensures.frame c.in-Ok.ensures.sets c.in-Ok.ensures.counts (c.in-Ok.ensures.enough.0 refl) in
-    let free : c.free_count-free.result ≡ length (free_in c.args.frames.now (slot_table_of c.args.machine.now.hw)) = c.free_count-free.ensures ∙ ap (λ (t : SlotTable). length (free_in c.args.frames.now t)) c.slot_table-slots.ensures in
+    let free : c.free_count-free.result ≡ length (free_in c.args.frames.now (slot_table_of c.args.machine.now.hw)) = c.free_count-free.ensures ∙ ap (λ (t : SlotTable). length (free_in c.args.frames.now t)) c.slot_table-slots.ensures.table in
     let lt : c.free_count-free.result < c.pages_of.result + 1026 = c.if-free-need.true in
     let few : length (free_in c.args.frames.now (slot_table_of c.args.machine.now.hw)) < pages_of c.in-Ok.counts + 1026 = subst (λ (n : ℕ). n < pages_of c.in-Ok.counts + 1026) free (subst (λ (n : ℕ). c.free_count-free.result < n + 1026) c.pages_of.ensures lt) in
     subst (λ (n : ℕ). IsRefused c.args.machine.now c.args.frames.now c.args.format (reply.NoSlots n (c.pages_of.result + 1026))) (sym free)
@@ -115,7 +115,7 @@ returns-clause-counted c =
     let usable : IsOk c.args.machine.now.area = subst (λ (r : Result Area NoSwap). IsOk r) (sym c.in_default-area.is) refl in
     let hib : Hib = record c.args.self.now { snapshot = c.count.new.self } in
     let is = room c.args.machine.now c.args.frames.now hib c.in-Ok.counts c.args.format c.args.self.now.snapshot.zones c.zones-zones.result.now c.frame_table-table.result c.zones-zones.ensures.zones c.frame_table-table.ensures.frame c.in-Ok.ensures.sets c.in-Ok.ensures.counts (c.in-Ok.ensures.enough.0 refl) in
-    let free : c.free_count-free.result ≡ length (free_in c.args.frames.now (slot_table_of c.args.machine.now.hw)) = c.free_count-free.ensures ∙ ap (λ (t : SlotTable). length (free_in c.args.frames.now t)) c.slot_table-slots.ensures in
+    let free : c.free_count-free.result ≡ length (free_in c.args.frames.now (slot_table_of c.args.machine.now.hw)) = c.free_count-free.ensures ∙ ap (λ (t : SlotTable). length (free_in c.args.frames.now t)) c.slot_table-slots.ensures.table in
     let le : c.pages_of.result + 1026 ≤ c.free_count-free.result = c.if-free-need.false in
     record {
       idle = sym c.busy.ensures ∙ c.in_default.is;

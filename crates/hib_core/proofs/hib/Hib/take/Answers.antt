@@ -26,13 +26,13 @@ steps_of-requires-clause-saved c = (counted_few c.args.machine.now c.args.frames
 
 pub begin-writer-requires-clause-table : goal.begin-writer-requires-clause-table
 begin-writer-requires-clause-table c =
-    subst (LiesIn c.copy.new.frames) (sym c.slot_table-slots.ensures) (slot_table_lies c.args.machine.now.hw c.copy.new.frames c.zones-zones.ensures.hardware (c.copy.ensures.size ∙ c.requires.ready.run.size))
+    subst (LiesIn c.copy.new.frames) (sym c.slot_table-slots.ensures.table) (slot_table_lies c.args.machine.now.hw c.copy.new.frames c.zones-zones.ensures.hardware (c.copy.ensures.size ∙ c.requires.ready.run.size))
 
 pub begin-writer-requires-clause-matches : goal.begin-writer-requires-clause-matches
 begin-writer-requires-clause-matches c =
     let snapshot = copies_at c.args.machine.now.hw c.args.frames.now c.zones-zones.result.now c.frame_table-table.result c.args.self.now.snapshot c.copy.new.self c.zones-zones.ensures.zones c.frame_table-table.ensures.frame c.copy.ensures.sets in
     let same = free_slots_stay c.args.machine.now c.args.frames.now c.copy.new.frames c.args.self.now c.args.counts _ _ c.requires.counted (ap (λ (s : Taken). s.copies) snapshot) c.copy.ensures.others in
-    subst (λ (t : SlotTable). Matches c.copy.new.frames t c.args.runs.now) (sym c.slot_table-slots.ensures) (still_matches c.args.machine.now.hw c.args.frames.now c.copy.new.frames c.args.runs.now same c.requires.ready.run.matches)
+    subst (λ (t : SlotTable). Matches c.copy.new.frames t c.args.runs.now) (sym c.slot_table-slots.ensures.table) (still_matches c.args.machine.now.hw c.args.frames.now c.copy.new.frames c.args.runs.now same c.requires.ready.run.matches)
 
 pub begin-writer-requires-clause-room : goal.begin-writer-requires-clause-room
 begin-writer-requires-clause-room c =
@@ -40,7 +40,7 @@ begin-writer-requires-clause-room c =
     let same = free_slots_stay c.args.machine.now c.args.frames.now c.copy.new.frames c.args.self.now c.args.counts _ _ c.requires.counted (ap (λ (s : Taken). s.copies) snapshot) c.copy.ensures.others in
     let room = room_for_image c.args.machine.now c.args.frames.now c.args.self.now c.args.counts c.zones-zones.ensures.hardware c.requires.counted in
     subst (λ (i : Info). writes_of i ≤ length (free_in c.copy.new.frames c.slot_table-slots.result)) (sym c.info_of-info.ensures)
-    (subst (λ (t : SlotTable). writes_of (info_of c.args.machine.now.hw c.args.counts) ≤ length (free_in c.copy.new.frames t)) (sym c.slot_table-slots.ensures)
+    (subst (λ (t : SlotTable). writes_of (info_of c.args.machine.now.hw c.args.counts) ≤ length (free_in c.copy.new.frames t)) (sym c.slot_table-slots.ensures.table)
     (subst (λ (xs : List ℕ). writes_of (info_of c.args.machine.now.hw c.args.counts) ≤ length xs) (sym same) room))
 
 pub begin-writer-requires-clause-blocks : goal.begin-writer-requires-clause-blocks
@@ -51,6 +51,6 @@ begin-writer-requires-clause-blocks c =
     let few : c.args.machine.now.blocks < 2 ^ 32 = omega arith in
     let below = below_more c.args.machine.now.hw.extents _ _ c.args.machine.now.blocks (2 ^ 32) few on_disk in
     subst (λ (i : Info). BlocksBelow c.extents-map.result.now (free_in c.copy.new.frames c.slot_table-slots.result) (writes_of i) (2 ^ 32)) (sym c.info_of-info.ensures)
-    (subst (λ (t : SlotTable). BlocksBelow c.extents-map.result.now (free_in c.copy.new.frames t) (writes_of (info_of c.args.machine.now.hw c.args.counts)) (2 ^ 32)) (sym c.slot_table-slots.ensures)
+    (subst (λ (t : SlotTable). BlocksBelow c.extents-map.result.now (free_in c.copy.new.frames t) (writes_of (info_of c.args.machine.now.hw c.args.counts)) (2 ^ 32)) (sym c.slot_table-slots.ensures.table)
     (subst (λ (xs : List ℕ). BlocksBelow c.extents-map.result.now xs (writes_of (info_of c.args.machine.now.hw c.args.counts)) (2 ^ 32)) (sym same)
     (subst (λ (es : List (ℕ × ℕ × ℕ)). BlocksBelow es (free_in c.args.frames.now (slot_table_of c.args.machine.now.hw)) (writes_of (info_of c.args.machine.now.hw c.args.counts)) (2 ^ 32)) (sym c.extents-map.ensures.extents) below)))

@@ -4,8 +4,8 @@ use Rattle.swap_slots.specs.declared.table.SlotTable.{SlotTable}
 use Rattle.machine.proofs.Rows.{slot_table_fits}
 use Rattle.machine.proofs.machine.Machine.owns_slot.Goals as goal
 
-pub owner-requires-clause-table : goal.owner-requires-clause-table
-owner-requires-clause-table c =
+pub entry-requires-clause-table : goal.entry-requires-clause-table
+entry-requires-clause-table c =
     let h = c.args.self.now.hw in
     let fits = slot_table_fits h c.slot_table-table.ensures.hardware in
     let size = c.requires.size in

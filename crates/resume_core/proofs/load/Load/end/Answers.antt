@@ -42,7 +42,7 @@ returns-in-Ok-clause-ready c =
     let room : h.slots ≤ c.rebuild.new.self.room = subst (λ (n : ℕ). h.slots ≤ n) (sym (ap (λ (x : SlotRuns). x.room) c.rebuild.ensures)) over.room in
     let matches : Matches c.finish.new.frames (slot_table_of h) c.rebuild.new.self = record {
       room = room;
-      runs = ap (λ (x : SlotRuns). x.runs) c.rebuild.ensures ∙ ap (λ (t : SlotTable). free_runs t.slots t.first c.finish.new.frames) c.slot_table.ensures;
+      runs = ap (λ (x : SlotRuns). x.runs) c.rebuild.ensures ∙ ap (λ (t : SlotTable). free_runs t.slots t.first c.finish.new.frames) c.slot_table.ensures.table;
     } in
     record {
       over = record {

@@ -22,7 +22,7 @@ returns-in-Fault-clause-row g c = λ k told. (
   k,
   c.read_block.ensures.content ∙ told,
   row_of c.args.machine.now c.args.frames.now c.args.self.now c.args.machine.now c.args.frames.now _ c.stop.new.self (reply.ReadFault Gone) c.stop.result k k c.stop.ensures.load c.stop.ensures.reply
-      (read_failed_row c.args.machine.now c.args.frames.now c.args.self.now _ c.in-List.chain k (activity_is c.args.self.now (stage.List c.in-List.chain) c.in-List.is)
+      (read_failed_row c.args.machine.now c.args.frames.now c.args.frames.now c.args.self.now _ c.in-List.chain k (activity_is c.args.self.now (stage.List c.in-List.chain) c.in-List.is)
       (at_list c.args.machine.now c.args.frames.now c.args.self.now c.in-List.chain k c.requires.ready.over.hardware c.in-List.is (list_can c.args.machine.now c.args.frames.now c.args.runs.now c.args.self.now c.in-List.chain c.in-List.is c.requires.ready).1) refl),
 )
 

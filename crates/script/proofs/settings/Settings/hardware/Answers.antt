@@ -4,8 +4,8 @@ use Rattle.script.specs.Settings.{SettingsValue, is_faulty}
 use Rattle.script.proofs.SettingsLaws.{above, extents_by, hardware_by-parts, is_faulty-many, is_faulty-above, no_hardware}
 use Rattle.script.proofs.settings.Settings.hardware.Goals as goal
 
-pub returns-then-len-gt-MAX_BAD-clause-none : goal.returns-then-len-gt-MAX_BAD-clause-none
-returns-then-len-gt-MAX_BAD-clause-none c =
+pub returns-then-len-gt-MOST_BADPAGES-clause-none : goal.returns-then-len-gt-MOST_BADPAGES-clause-none
+returns-then-len-gt-MOST_BADPAGES-clause-none c =
     let faulty : is_faulty c.args.self.now ≡ true = is_faulty-many c.args.self.now (omega (arith, ap (λ (s : SettingsValue). length s.bad) c.self.view_is)) in
     (λ e. faulty, λ e. refl)
 

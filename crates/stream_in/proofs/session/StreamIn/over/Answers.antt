@@ -1,10 +1,18 @@
 use Rattle.std.proofs.Common.{ℕ, ◌+◌, ◌≤◌, List, length, sym, ap, subst, refl, ◌∙◌, arith}
+use Rattle.std.proofs.lemmas.List.{length-replicate}
+use Rattle.definitions.specs.Bytes.{zero_page}
 use Rattle.definitions.specs.Lists.{free_slots}
 use Rattle.definitions.specs.Tables.{with_entries}
 use Rattle.image_write.specs.Writing.{BlocksBelow}
 use Rattle.plain_machine.specs.UsableArea.{bad_slots_of}
 use Rattle.stream_in.proofs.Opened.{IsTable, usable_slots, length-table, few_slots, slots_below, of_map}
 use Rattle.stream_in.proofs.session.StreamIn.over.Goals as goal
+
+pub set_bad-requires-clause-table : goal.set_bad-requires-clause-table
+set_bad-requires-clause-table c =
+    let size = ap length c.requires.frames in
+    let room = c.requires.room in
+    omega (arith, length-replicate 128 zero_page)
 
 pub rebuild-requires-clause-table : goal.rebuild-requires-clause-table
 rebuild-requires-clause-table c =

@@ -2,12 +2,13 @@ use Rattle.std.proofs.Common.{◌≤◌, ◌<◌, ℕ, ◌+◌, List, ◌++◌, 
 use Rattle.definitions.specs.NumberPages.{meta_of}
 use Rattle.definitions.specs.Zones.{top}
 use Rattle.stream_out.proofs.Kept.{over, pages, head_part, data_part, head_within, data_within, kept_in_head}
-use Rattle.stream_out.proofs.Streams.{few, all_within, part_fits, part_bytes, part_left}
+use Rattle.memory_bitmap.proofs.Bounds.{few_members}
+use Rattle.stream_out.proofs.Streams.{all_within, part_fits, part_bytes, part_left}
 use Rattle.stream_out.proofs.stream.StreamOut.next_of_page.Goals as goal
 
 pub overflow_add-heads : goal.overflow_add-heads
 overflow_add-heads c =
-    let most = few c.self.inside.saveable.now c.len-n.ensures.set in
+    let most = few_members c.self.inside.saveable.now c.len-n.ensures.set in
     let len = c.len-n.ensures.len in
     let heads = c.head_pages-heads.ensures in
     record { fits = omega arith }
@@ -116,7 +117,7 @@ returns-else-self-heads-2-clause-left c =
 
 pub hand_out_data-requires-clause-few : goal.hand_out_data-requires-clause-few
 hand_out_data-requires-clause-few c =
-    let most = few c.self.inside.saveable.now c.len-n.ensures.set in
+    let most = few_members c.self.inside.saveable.now c.len-n.ensures.set in
     let page = c.self.invariant.page in
     omega arith
 

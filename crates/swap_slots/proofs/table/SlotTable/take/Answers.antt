@@ -1,6 +1,7 @@
 use Rattle.std.proofs.Common.{◌∙◌, ap, arith}
 use Rattle.std.specs.List.{slice_get}
 use Rattle.definitions.proofs.FreeSlots.{IsSlot}
+use Rattle.swap_slots.specs.Entries.{word_of}
 use Rattle.swap_slots.proofs.Matching.{free_numbers, first_within, matches_taken}
 use Rattle.swap_slots.proofs.table.SlotTable.take.Goals as goal
 
@@ -9,8 +10,8 @@ returns-in_err-slot-clause-least c =
     c.from_residual.ensures ∙ c.in_err-slot.ensures
     ∙ ap (λ xs. slice_get xs 0) (free_numbers c.args.frames.now c.args.self.now c.args.runs.now c.requires.matches)
 
-pub set_entry-requires-clause-slot : goal.set_entry-requires-clause-slot
-set_entry-requires-clause-slot c =
+pub set-requires-clause-slot : goal.set-requires-clause-slot
+set-requires-clause-slot c =
     first_within c.args.frames.now c.args.self.now c.args.runs.now c.in_ok-slot.slot c.requires.matches c.in_ok-slot.ensures
 
 pub remove-requires : goal.remove-requires
@@ -26,9 +27,9 @@ pub returns-clause-matches : goal.returns-clause-matches
 returns-clause-matches c =
     let slot = c.in_ok-slot.slot in
     let at : IsSlot c.args.self.now.slots c.args.self.now.first c.args.frames.now slot = record {
-      pages = c.set_entry.ensures.pages;
+      pages = c.set.ensures.pages;
       has_table = c.requires.table;
       within = first_within c.args.frames.now c.args.self.now c.args.runs.now slot c.requires.matches c.in_ok-slot.ensures;
     } in
-    rw (c.set_entry.ensures.entry, c.remove.ensures)
-    (matches_taken c.args.frames.now c.args.self.now c.args.runs.now slot c.args.owner c.requires.matches at c.requires.owner)
+    rw (c.set.ensures.entry, c.remove.ensures)
+    (matches_taken c.args.frames.now c.args.self.now c.args.runs.now slot (word_of c.args.owner) c.requires.matches at c.requires.owner)

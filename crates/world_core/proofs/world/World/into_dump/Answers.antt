@@ -1,11 +1,9 @@
-use Rattle.std.proofs.Common.{arith}
-use Rattle.machine.proofs.Rows.{slot_table_fits}
+use Rattle.std.proofs.Common.{sym, subst}
+use Rattle.hib_core.proofs.BeginTables.{slot_table_lies}
+use Rattle.swap_slots.specs.Table.{LiesIn}
 use Rattle.world_core.proofs.world.World.into_dump.Goals as goal
 
 pub give_image-requires-clause-table : goal.give_image-requires-clause-table
 give_image-requires-clause-table c =
-    let fits = slot_table_fits c.self.inside.machine.hw c.slot_table.ensures.hardware in
-    let size = c.self.invariant.size in
-    let table = c.slot_table.ensures.frame in
-    let slots = c.slots.ensures in
-    omega arith
+    subst (LiesIn c.self.inside.frames) (sym c.slot_table.ensures.table)
+    (slot_table_lies c.self.inside.machine.hw c.self.inside.frames c.slot_table.ensures.hardware c.self.invariant.size)

@@ -1,0 +1,303 @@
+"""A machine hibernates from its memory dump onto a swap file, and is resumed into a loader's dump: whole cycles, images of a wanted size, what
+is refused of a whole dump, and images that are damaged or of another machine."""
+from harness import check, check_line, check_refused, check_same, run
+from inputs import BAD, EXAMPLE, OVER_FILE, PAGE, SCRIPTED, Machine, area, disk, header, page
+
+
+def hibernate(swap, dump=EXAMPLE.saved(), *options):
+    return run("swsusp", "hibernate", *options, swap.path, stdin=dump)
+
+
+def resume(swap, dump=EXAMPLE.loader_with_nines(), *options):
+    return run("swsusp", "resume", *options, swap.path, stdin=dump)
+
+
+def inspect(swap, *options):
+    return run("swsusp", "inspect", *options, swap.path)
+
+
+def check_restored(ran, machine=EXAMPLE):
+    """The output is the dump of the restored machine, byte for byte."""
+    check(ran, 0, machine.restored())
+
+
+def check_no_image(swap):
+    check_refused(resume(swap), "no image")
+
+
+# Whole cycles.
+
+
+def test_from_dump_to_dump():
+    with area() as swap:
+        check_line(hibernate(swap), "hibernated 5")
+        check_line(inspect(swap), "area last 1599 bad 0 image 1 flags 2 hw -")
+        ran = resume(swap)
+        check_restored(ran)
+        check_same("the dump's length", len(ran[1]), 20936)
+
+
+def test_an_image_is_resumed_once():
+    with area() as swap:
+        hibernate(swap)
+        resume(swap)
+        check_line(inspect(swap), "area last 1599 bad 0 image none")
+        before = swap.bytes()
+        check_no_image(swap)
+        check_same("the disk", swap.bytes(), before)
+
+
+def test_a_second_cycle():
+    """The area takes the next image, whatever is left of the last one."""
+    with area() as swap:
+        for _ in range(2):
+            check_line(hibernate(swap), "hibernated 5")
+            check_restored(resume(swap))
+
+
+def test_pages_of_zeros_are_left_out():
+    """Page frame 3 is all zero: the image has a page less, and the dump that comes of it is the same."""
+    with area() as swap:
+        check_line(hibernate(swap, EXAMPLE.saved(), "--skip-zeros"), "hibernated 5")
+        check_line(inspect(swap), "area last 1599 bad 0 image 1 flags 258 hw -")
+        check_restored(resume(swap))
+        check_no_image(swap)
+
+
+def test_over_a_swap_file():
+    """The header lies in block 50, the slots from block 100 on. The dump names the two extents, in 32 bytes more."""
+    with disk(1699, header(1599), 50) as swap:
+        check_line(hibernate(swap, OVER_FILE.saved()), "hibernated 5")
+        check_line(inspect(swap, "--offset", 50), "area last 1599 bad 0 image 100 flags 2 hw -")
+        dump = OVER_FILE.loader_with_nines()
+        ran = resume(swap, dump)
+        check_restored(ran, OVER_FILE)
+        check_same("the dump's length", len(ran[1]), 20968)
+        check_refused(resume(swap, dump), "no image")
+
+
+# Images of a wanted size: cached page frames are dropped before the machine hibernates.
+
+# The worked example's machine with ten page frames that are cached besides.
+CACHED = EXAMPLE.saved(cached=range(20, 30))
+
+
+def test_as_many_as_are_wanted():
+    """15 page frames are saveable: as many are saved as are wanted, but for those that aren't cached."""
+    for size, saved in [(2**64 - 1, 15), (15, 15), (14, 14), (7, 7), (5, 5), (0, 5)]:
+        with area() as swap:
+            check_line(hibernate(swap, CACHED, "--image-size", size), f"hibernated {saved}")
+
+
+def test_the_image_of_what_is_left():
+    """Where all of them are dropped, the disk is that of the machine that never had them, byte for byte."""
+    with area() as swap, area() as never:
+        hibernate(swap, CACHED, "--image-size", 0)
+        hibernate(never)
+        check_same("the disk", swap.bytes(), never.bytes())
+        check_restored(resume(swap))
+
+
+def test_the_first_are_dropped():
+    """The page frames from below are dropped first: of the last one the page is in the image, behind those that are no cache. The map lies in
+    block 1, the info page and the numbers in 2 and 3, then page frames 0, 1, 2, 10 and 29: 3 is all zero."""
+    with area() as swap:
+        check_line(hibernate(swap, CACHED, "--image-size", 6, "--skip-zeros"), "hibernated 6")
+        check_same("block 8", swap.block(8), page({0: 29}))
+
+
+# What is refused of a whole dump.
+
+
+def check_closed(swap, dump, note):
+    """A hibernation is refused with this note, and leaves each block."""
+    before = swap.bytes()
+    check_refused(hibernate(swap, dump), note)
+    check_same("the disk", swap.bytes(), before)
+
+
+def test_over_an_image():
+    """No image is written over another, which can be resumed afterwards."""
+    with area() as swap:
+        hibernate(swap)
+        check_closed(swap, EXAMPLE.saved(), "closed")
+        check_restored(resume(swap))
+
+
+def test_over_another_area():
+    for first, note in [
+        (bytes(PAGE), "no swap: signature 00000000000000000000"),
+        (header(1500), "no swap: misfit 1500 slots 1600"),
+        (header(1600), "no swap: short 1600 blocks 1600"),
+        (header(1599, [7]), "no swap: bad set"),
+    ]:
+        with disk(1600, first) as swap:
+            check_closed(swap, EXAMPLE.saved(), note)
+
+
+def test_bad_slots_that_differ():
+    """Slot 7 is bad in the dump: so it is to be in the area."""
+    dump = EXAMPLE.saved(slots=page({0: BAD, 28: BAD}))
+    for bad in [8, 9]:
+        with disk(1600, header(1599, [bad])) as swap:
+            check_closed(swap, dump, "no swap: bad set")
+    with disk(1600, header(1599, [7])) as swap:
+        check_line(hibernate(swap, dump), "hibernated 5")
+
+
+def test_too_few_slots():
+    """7 pages, and 1026 slots that are to stay free. Of 1033 slots the header's can't be used."""
+    with area(1032) as swap:
+        check_closed(swap, Machine(slots=1033).saved(), "no slots 1032 need 1033")
+
+
+def test_too_few_loader_frames():
+    """5 pages wait, with a page frame for their list and one for bouncing. The image is gone when that is found."""
+    with area() as swap:
+        hibernate(swap)
+        check_refused(resume(swap, EXAMPLE.loader_with_nines(2042)), "too few loader frames 6 need 7")
+        check_no_image(swap)
+        hibernate(swap)
+        check_restored(resume(swap, EXAMPLE.loader_with_nines(2041)))
+
+
+def test_compressed_images():
+    """Linux compresses images, unless it is told not to. Nothing is written."""
+    with area() as swap:
+        swap.change((0, 4064, 1), (0, 4072, 4))
+        swap.write(0, swap.block(0)[:4076] + b"SWAPSPACE2S1SUSPEND\0")
+        swap.change((1, 0, 2), (2, 400, 2048))
+        before = swap.bytes()
+        for _ in range(2):
+            check_refused(resume(swap), "compressed 4")
+            check_same("the disk", swap.bytes(), before)
+
+
+# A machine too small, and input that is no dump.
+
+TINY = Machine(frames=4, slots=2)
+
+
+def tiny_dump():
+    """Page frames 0 to 3, two slots, the tables in page frames 0 and 1, and one record."""
+    return TINY.dump({1: page({0: BAD})})
+
+
+def test_a_tiny_machine():
+    check_same("the dump's length", len(tiny_dump()), 4536)
+    with area(1) as swap:
+        check_refused(hibernate(swap, tiny_dump()), "no frames 0 need 1029")
+
+
+def test_what_is_no_dump():
+    """Without its record the tiny dump's slot 0 isn't bad."""
+    tiny = tiny_dump()
+    for dump, note in [
+        (b"", "dump Short byte 0"),
+        (tiny[:100], "dump Short byte 100"),
+        (tiny[:4535], "dump Short byte 4535"),
+        (tiny[:432] + bytes(4), "dump Tables frame 1"),
+        (EXAMPLE.saved() + b"\0", "dump Extra byte 16836"),
+    ]:
+        with area() as swap:
+            before = swap.bytes()
+            check_refused(hibernate(swap, dump), note, status=3)
+            check_refused(resume(swap, dump), note, status=3)
+            check_same("the disk", swap.bytes(), before)
+
+
+# Images that are damaged: a machine of scripts hibernates by its dump. The map is in block 1, the info page in block 2, the number page in
+# block 3, and page frames 0 to 6 and 10 are in blocks 4 to 11.
+
+
+def check_damaged(changes, note, again="no image"):
+    """The image, changed so, is refused with this note, and with this one at the second time."""
+    with area(3000) as swap:
+        check_line(hibernate(swap, SCRIPTED.saved()), "hibernated 8")
+        swap.change(*changes)
+        dump = SCRIPTED.loader(7)
+        check_refused(resume(swap, dump), note)
+        check_refused(resume(swap, dump), again)
+
+
+def test_damaged_headers_and_maps():
+    check_damaged([(0, 4064, 0)], "no chain")
+    check_damaged([(0, 4064, 3001)], "bad block 3001")
+    check_damaged([(0, 4072, 10), (0, 4056, 7)], "hardware 7 own 0")
+    check_damaged([(1, 0, 0)], "bad block 0")
+    check_damaged([(1, 72, 3001)], "bad block 3001")
+
+
+def test_damaged_info_pages():
+    """The first byte of the sysname is 0, and the others those of `Linux`."""
+    check_damaged([(2, 392, 393473)], "mismatch version code")
+    check_damaged([(2, 0, 0x756E6900)], "mismatch sysname")
+    check_damaged([(2, 400, 4095)], "memory size 4095 own 4096")
+    check_damaged([(2, 416, 9)], "bad counts 9 10")
+    check_damaged([(2, 416, 0), (2, 424, 1)], "bad counts 0 1")
+
+
+def test_damaged_numbers():
+    check_damaged([(3, 56, 4096)], "bad pfn 4096")
+    check_damaged([(3, 48, 5)], "pfn order 5 5")
+    check_damaged([(3, 0, 5), (3, 8, 5)], "pfn order 5 5")
+    check_damaged([(3, 64, 0), (3, 68, 0)], "pfn end 0")
+
+
+def test_a_chain_that_ends():
+    """An image of 597 page frames has two maps. The first one's link is 0."""
+    dump = SCRIPTED.dump(SCRIPTED.loader_pages(597))
+    with area(3000) as swap:
+        check_line(hibernate(swap, dump), "hibernated 597")
+        swap.change((1, 4088, 0), (1, 4092, 0))
+        check_refused(resume(swap, SCRIPTED.loader(7)), "chain ends 1")
+        check_refused(resume(swap, SCRIPTED.loader(7)), "no image")
+
+
+def test_without_the_flag_of_plain_pages():
+    """Of these alone the disk is as before, and the second resume says the same."""
+    check_damaged([(0, 4072, 0)], "compressed 0", "compressed 0")
+
+
+def test_a_damaged_slot_table():
+    """The restored slot table says that slot 0 is free. A script's resume tells it, but the command restores any memory."""
+    with area(3000) as swap:
+        hibernate(swap, SCRIPTED.saved())
+        swap.change((8, 0, 0))
+        status, _, note = resume(swap, SCRIPTED.loader(7))
+        check_same("status and note", (status, note), (0, ""))
+
+
+# Of another machine.
+
+
+def signed(hw_sig):
+    """The worked example's machine with a hardware signature."""
+    return Machine(hw_sig=hw_sig)
+
+
+def test_a_hardware_signature():
+    for machine in [signed(8), signed(7)]:
+        with area() as swap:
+            check_line(hibernate(swap, signed(7).saved()), "hibernated 5")
+            check_line(inspect(swap), "area last 1599 bad 0 image 1 flags 10 hw 7")
+            dump = machine.loader_with_nines()
+            if machine.hw_sig == 7:
+                check_restored(resume(swap, dump), machine)
+            else:
+                check_refused(resume(swap, dump), "hardware 7 own 8")
+                check_refused(resume(swap, dump), "no image")
+
+
+def test_an_image_of_another_kernel():
+    """All bytes of the names and of the version code, 0 to 395, are 255."""
+    dump = signed(7).loader_with_nines()
+    for options in [[], ["--any-kernel"]]:
+        with area() as swap:
+            hibernate(swap, signed(7).saved())
+            swap.change(*[(2, 4 * i, 2**32 - 1) for i in range(99)])
+            if options:
+                check_restored(resume(swap, dump, *options), signed(7))
+            else:
+                check_refused(resume(swap, dump), "mismatch version code")
+                check_refused(resume(swap, dump), "no image")

@@ -1,0 +1,44 @@
+#!/usr/bin/env python3
+"""run.py [NAME..]: runs the tests of this folder over the built programs, or those of the files with these names.
+
+The programs are those that `rt run` or `rt ci` leaves, crates/swsusp/out/swsusp and crates/swsusp_machine/out/swsusp_machine, or where
+the variables SWSUSP and SWSUSP_MACHINE say. A test is a function whose name begins with `test_`, in a file whose name ends with
+`_tests.py`. The status is 1 where one fails, and then it says which and why.
+"""
+import importlib
+import os
+import pathlib
+import sys
+
+import harness
+
+HERE = pathlib.Path(__file__).resolve().parent
+
+
+def tests_of(name):
+    module = importlib.import_module(name)
+    return [(f"{name}: {key}", call) for key, call in vars(module).items() if key.startswith("test_") and callable(call)]
+
+
+def fails(name, test):
+    try:
+        test()
+    except harness.Mismatch as why:
+        print(f"{name} FAILED: {why}")
+        return True
+    return False
+
+
+def main(*names):
+    for name in ["swsusp", "swsusp_machine"]:
+        built = HERE.parent / "crates" / name / "out" / name
+        harness.programs[name] = os.environ.get(name.upper(), built)
+    names = names or sorted(path.stem for path in HERE.glob("*_tests.py"))
+    tests = [test for name in names for test in tests_of(name)]
+    failed = sum(fails(name, test) for name, test in tests)
+    print(f"tests/: {len(tests) - failed} tests passed, {failed} failed")
+    return 1 if failed or not tests else 0
+
+
+if __name__ == "__main__":
+    sys.exit(main(*sys.argv[1:]))
