@@ -120,8 +120,9 @@ impl Frames {
         requires to_in_range { to < length self.old }
         ensures { self.new ≡ with_frame self.old to (frame self.old from) }
     {
+        self.untouched = false;
         let page = Page::from_bytes(self.page(from).as_bytes());
-        *self.page_mut(to) = page;
+        *self.pages.item_mut(to as usize) = page;
     }
 
     /// Copies the `n` page frames from `from` on into those from `to` on. The two runs may overlap.
