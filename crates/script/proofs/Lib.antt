@@ -7,4 +7,4 @@ pub mod Shapes
 mod DigitLaws
 mod TablesLaws
 mod TallyLaws
-mod WordsLaws
+mod LineLaws

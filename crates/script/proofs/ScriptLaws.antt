@@ -1,10 +1,9 @@
 -- Scripts that are read line by line.
 use Rattle.std.proofs.Common.{◌≡◌, ℕ, ◌+◌, ◌<◌, ◌≤◌, List, [], ◌∷◌, ◌++◌, length, take, get_or, Bool, true, false, cond, not, nat_lt, Result, Ok, Err, Option, Some, None, refl, sym, ap, ap₂, ◌∙◌, arith, add-zero, append-nil, nat_eq, suc, zero}
-use Rattle.std.specs.List.{filter_map, enumerate_from, cons_option, range_with_len, list_all}
+use Rattle.std.specs.List.{filter_map, cons_option, range_with_len, list_all}
 use Rattle.std.specs.Option.{option_map}
 use Rattle.std.proofs.lemmas.List.{take_more, reverse-append, get_or_default, take_all}
 use Rattle.std.proofs.lemmas.List.Elements.{filter_map-append}
-use Rattle.std.proofs.lemmas.List.FromFn.{length-enumerate_from, get_or-enumerate_from}
 use Rattle.std.proofs.lemmas.List.Concat.{flat_map-append}
 use Rattle.std.proofs.lemmas.Bool.Decides.{nat_tests}
 use Rattle.plain_machine.specs.declared.event.Event.{Event}
@@ -25,15 +24,15 @@ use Rattle.script.specs.Grammar.{ScriptValue, is_printable, row_of, by_rows, wor
 
 -- A line behind an event.
 
-late_rows : (s : Option (Row Setting)) (e : Option (Row (ℕ × Event))) (words : List (List ℕ)) (item : Item) → by_rows true s e words ≡ Ok item → by_rows false s e words ≡ Ok item
-late_rows (Some row) e words item is = absurd (cc)
-late_rows None (Some row) words item is = is
+late_rows : (e : Option (Row (ℕ × Event))) (s : Option (Row Setting)) (words : List (List ℕ)) (item : Item) → by_rows true e s words ≡ Ok item → by_rows false e s words ≡ Ok item
+late_rows (Some row) s words item is = is
+late_rows None (Some row) words item is = absurd (cc)
 late_rows None None words item is = is
 
 late_words : (words : List (List ℕ)) (item : Item) → item_of true words ≡ Ok item → item_of false words ≡ Ok item
 unfolding words_item
 late_words [] item e = e
-late_words (first ∷ words) item e = late_rows (row_of first setting_rows) (row_of first event_rows) words item e
+late_words (first ∷ words) item e = late_rows (row_of first event_rows) (row_of first setting_rows) words item e
 
 late_line : (b c : Bool) (words : List (List ℕ)) (item : Item) → cond b (Err kind.Byte) (cond c (Ok Nothing) (item_of true words)) ≡ Ok item → cond b (Err kind.Byte) (cond c (Ok Nothing) (item_of false words)) ≡ Ok item
 late_line true c words item e = e
@@ -46,18 +45,18 @@ unfolding line_item
 line_item-begun false line item e = e
 line_item-begun true line item e = late_line (not (list_all is_printable line)) (nat_eq (get_or line 0 0) 35) (words_of line) item e
 
-none_in_rows : (s : Option (Row Setting)) (e : Option (Row (ℕ × Event))) (words : List (List ℕ)) (item : Item) → by_rows true s e words ≡ Ok item → setting_of (Ok item) ≡ None
-none_in_rows (Some row) e words item is = absurd (cc)
-none_in_rows None (Some row) words item is = by (row.reads words) is where
+none_in_rows : (e : Option (Row (ℕ × Event))) (s : Option (Row Setting)) (words : List (List ℕ)) (item : Item) → by_rows true e s words ≡ Ok item → setting_of (Ok item) ≡ None
+none_in_rows (Some row) s words item is = by (row.reads words) is where
   by : (r : Result (ℕ × Event) FaultKind) → (r >>= λ e. Ok (Events e.0 e.1)) ≡ Ok item → setting_of (Ok item) ≡ None
   by (Ok y) e = ap setting_of (sym e)
   by (Err k) e = absurd (cc)
+none_in_rows None (Some row) words item is = absurd (cc)
 none_in_rows None None words item is = absurd (cc)
 
 none_in_words : (words : List (List ℕ)) (item : Item) → item_of true words ≡ Ok item → setting_of (Ok item) ≡ None
 unfolding words_item
 none_in_words [] item e = ap setting_of (sym e)
-none_in_words (first ∷ words) item e = none_in_rows (row_of first setting_rows) (row_of first event_rows) words item e
+none_in_words (first ∷ words) item e = none_in_rows (row_of first event_rows) (row_of first setting_rows) words item e
 
 none_in_line : (b c : Bool) (words : List (List ℕ)) (item : Item) → cond b (Err kind.Byte) (cond c (Ok Nothing) (item_of true words)) ≡ Ok item → setting_of (Ok item) ≡ None
 none_in_line true c words item e = absurd (cc)
@@ -144,14 +143,7 @@ unfolding value_of
 value_of-lines behind lines none =
     ap (λ x. first_of (x ++ end_fault behind (settings_in lines) (events_in lines)) (script_by (settings_in lines) (events_in lines))) (no_fault (fault_at lines) 0 (length lines) (λ j less. ap (fault_at lines) (omega arith) ∙ none j less))
 
--- the line of one turn, and its number
-pub line_at : (lines : List (List ℕ)) (k i : ℕ) (line : List ℕ) → k < length (enumerate_from 0 lines) → (i, line) ≡ get_or (enumerate_from 0 lines) k (i, line) → (k < length lines) × (i ≡ k) × (line ≡ get_or lines k line)
-line_at lines k i line h e =
-    let in_lines : k < length lines = omega (arith, length-enumerate_from 0 lines) in
-    let at = e ∙ get_or-enumerate_from 0 lines k (i, line) in_lines in
-    (in_lines, omega (arith, ap (λ p. p.0) at), ap (λ p. p.1) at)
-
--- its fault, by what kind_after says
+-- a line's fault, by what kind_after says
 pub fault_at-kind : (lines : List (List ℕ)) (k : ℕ) (line : List ℕ) (o : Option FaultKind) → k < length lines → line ≡ get_or lines k line → kind_after (settings_in (take k lines)) (events_in (take k lines)) line ≡ o → fault_at lines k ≡ option_map (λ kind. record { line = k + 1; kind = kind }) o
 unfolding fault_at
 fault_at-kind lines k line o h at e =
@@ -175,25 +167,24 @@ kind_at : (lines : List (List ℕ)) (k : ℕ) (line : List ℕ) (settings : Sett
 kind_at lines k line settings events so_set so_far = ap₂ (λ s e. kind_after s e line) (sym so_set) (sym so_far)
 
 -- a turn that stops, and one that doesn't
-pub value_of-stop : (behind : ℕ) (lines : List (List ℕ)) (k i : ℕ) (line : List ℕ) (settings : SettingsValue) (events : List Event) (s : LineStop) (fault : ScriptFault) → (k < length lines) × (i ≡ k) × (line ≡ get_or lines k line) → settings ≡ settings_in (take k lines) → events ≡ events_in (take k lines) → StopsBy (kind_after settings events line) s → stop_at s (i + 1) ≡ parse_stop.Fault fault → ((j : ℕ) → j < k → fault_at lines j ≡ None) → value_of behind lines ≡ Err fault
-value_of-stop behind lines k i line settings events s fault here so_set so_far by e none =
+pub value_of-stop : (behind : ℕ) (lines : List (List ℕ)) (k : ℕ) (line : List ℕ) (settings : SettingsValue) (events : List Event) (s : LineStop) (fault : ScriptFault) → (k < length lines) × (line ≡ get_or lines k line) → settings ≡ settings_in (take k lines) → events ≡ events_in (take k lines) → StopsBy (kind_after settings events line) s → stop_at s (k + 1) ≡ parse_stop.Fault fault → ((j : ℕ) → j < k → fault_at lines j ≡ None) → value_of behind lines ≡ Err fault
+value_of-stop behind lines k line settings events s fault here so_set so_far by e none =
     let o = kind_after settings events line in
-    let at = fault_at-kind lines k line o here.0 here.2 (kind_at lines k line settings events so_set so_far) in
-    let named = stop_at-fault s (i + 1) o fault by e in
-    let same : option_map (λ kind. record { line = k + 1; kind = kind }) o ≡ option_map (λ kind. record { line = i + 1; kind = kind }) o = ap (λ n. option_map (λ kind. record { line = n + 1; kind = kind }) o) (sym here.1) in
-    value_of-fault behind lines k fault here.0 none (at ∙ same ∙ named)
+    let at = fault_at-kind lines k line o here.0 here.1 (kind_at lines k line settings events so_set so_far) in
+    let named = stop_at-fault s (k + 1) o fault by e in
+    value_of-fault behind lines k fault here.0 none (at ∙ named)
 
-pub fault_at-none : (lines : List (List ℕ)) (k i : ℕ) (line : List ℕ) (settings : SettingsValue) (events : List Event) → (k < length lines) × (i ≡ k) × (line ≡ get_or lines k line) → settings ≡ settings_in (take k lines) → events ≡ events_in (take k lines) → kind_after settings events line ≡ None → fault_at lines k ≡ None
-fault_at-none lines k i line settings events here so_set so_far e =
-    fault_at-kind lines k line None here.0 here.2 (kind_at lines k line settings events so_set so_far ∙ e)
+pub fault_at-none : (lines : List (List ℕ)) (k : ℕ) (line : List ℕ) (settings : SettingsValue) (events : List Event) → (k < length lines) × (line ≡ get_or lines k line) → settings ≡ settings_in (take k lines) → events ≡ events_in (take k lines) → kind_after settings events line ≡ None → fault_at lines k ≡ None
+fault_at-none lines k line settings events here so_set so_far e =
+    fault_at-kind lines k line None here.0 here.1 (kind_at lines k line settings events so_set so_far ∙ e)
 
-pub settings_in-turn : (lines : List (List ℕ)) (k i : ℕ) (line : List ℕ) (settings : SettingsValue) → (k < length lines) × (i ≡ k) × (line ≡ get_or lines k line) → settings ≡ settings_in (take k lines) → settings_behind (line_item false line) settings ≡ settings_in (take (k + 1) lines)
-settings_in-turn lines k i line settings here so_set =
-    sym (settings_in-more lines k line here.0 ∙ ap (λ x. settings_behind (line_item false x) (settings_in (take k lines))) (sym here.2) ∙ ap (settings_behind (line_item false line)) (sym so_set))
+pub settings_in-turn : (lines : List (List ℕ)) (k : ℕ) (line : List ℕ) (settings : SettingsValue) → (k < length lines) × (line ≡ get_or lines k line) → settings ≡ settings_in (take k lines) → settings_behind (line_item false line) settings ≡ settings_in (take (k + 1) lines)
+settings_in-turn lines k line settings here so_set =
+    sym (settings_in-more lines k line here.0 ∙ ap (λ x. settings_behind (line_item false x) (settings_in (take k lines))) (sym here.1) ∙ ap (settings_behind (line_item false line)) (sym so_set))
 
-pub events_in-turn : (lines : List (List ℕ)) (k i : ℕ) (line : List ℕ) (events : List Event) → (k < length lines) × (i ≡ k) × (line ≡ get_or lines k line) → events ≡ events_in (take k lines) → events ++ events_of (line_item false line) ≡ events_in (take (k + 1) lines)
-events_in-turn lines k i line events here so_far =
-    sym (events_in-more lines k line here.0 ∙ ap (λ x. events_in (take k lines) ++ events_of (line_item false x)) (sym here.2) ∙ ap (λ x. x ++ events_of (line_item false line)) (sym so_far))
+pub events_in-turn : (lines : List (List ℕ)) (k : ℕ) (line : List ℕ) (events : List Event) → (k < length lines) × (line ≡ get_or lines k line) → events ≡ events_in (take k lines) → events ++ events_of (line_item false line) ≡ events_in (take (k + 1) lines)
+events_in-turn lines k line events here so_far =
+    sym (events_in-more lines k line here.0 ∙ ap (λ x. events_in (take k lines) ++ events_of (line_item false x)) (sym here.1) ∙ ap (λ x. x ++ events_of (line_item false line)) (sym so_far))
 
 -- what is read of all lines without fault, but for the end
 pub value_of-read : (behind : ℕ) (lines : List (List ℕ)) (settings : SettingsValue) (events : List Event) (k : ℕ) → length lines ≤ k → settings ≡ settings_in (take k lines) → events ≡ events_in (take k lines) → ((j : ℕ) → j < k → fault_at lines j ≡ None) → value_of behind lines ≡ first_of (end_fault behind settings events) (script_by settings events)

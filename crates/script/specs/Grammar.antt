@@ -20,6 +20,7 @@ use Rattle.script.specs.declared.grammar.LineStop.TheVariants as stop
 use Rattle.script.specs.Settings.{SettingsValue, hardware_by, is_faulty, with_setting, IsFittingSetting}
 use Rattle.script.specs.Shapes.{Row, setting_rows, event_rows, core_rows, machine_rows, outside_rows, task_rows, IsScripted}
 use Rattle.script.specs.Words.{◌>>=◌, words_of}
+use denote.Ref.{Bor}
 
 -- One line.
 
@@ -31,14 +32,18 @@ abbrev pub row_of : {A : Type 0} → List ℕ → List (Row A) → Option (Row A
 row_of first rows = find (λ row. bytes_eq row.first first) rows
 
 -- what the words behind the first say, by its row
-abbrev pub by_rows : Bool → Option (Row Setting) → Option (Row (ℕ × Event)) → List (List ℕ) → Result Item FaultKind
-by_rows begun (Some row) event words = if begun then Err kind.Late else (row.reads words >>= λ s. Ok (Sets s))
-by_rows begun None (Some row) words = row.reads words >>= λ e. Ok (Events e.0 e.1)
+abbrev pub by_rows : Bool → Option (Row (ℕ × Event)) → Option (Row Setting) → List (List ℕ) → Result Item FaultKind
+by_rows begun (Some row) setting words = row.reads words >>= λ e. Ok (Events e.0 e.1)
+by_rows begun None (Some row) words = if begun then Err kind.Late else (row.reads words >>= λ s. Ok (Sets s))
 by_rows begun None None words = Err kind.Word
 
 -- what the words of a line say, where begun tells that an event stands before it
 unfoldable pub words_item : Bool → List ℕ → List (List ℕ) → Result Item FaultKind
-words_item begun first words = by_rows begun (row_of first setting_rows) (row_of first event_rows) words
+words_item begun first words = by_rows begun (row_of first event_rows) (row_of first setting_rows) words
+
+-- that, where the first word is no event's
+unfoldable pub setting_item : Bool → List ℕ → List (List ℕ) → Result Item FaultKind
+setting_item begun first words = by_rows begun None (row_of first setting_rows) words
 
 -- what a line is, where its first word has a row
 abbrev pub if_found : {A : Type 0} → Option (Row A) → List (List ℕ) → Result (Option A) FaultKind
@@ -49,13 +54,9 @@ if_found (Some row) words = row.reads words >>= λ s. Ok (Some s)
 unfoldable pub setting_in : List ℕ → List (List ℕ) → Result (Option Setting) FaultKind
 setting_in first words = if_found (row_of first setting_rows) words
 
--- how many times which event a line is
-abbrev pub event_by : Option (Row (ℕ × Event)) → List (List ℕ) → Result (ℕ × Event) FaultKind
-event_by None words = Err kind.Word
-event_by (Some row) words = row.reads words
-
-unfoldable pub event_in : List ℕ → List (List ℕ) → Result (ℕ × Event) FaultKind
-event_in first words = event_by (row_of first event_rows) words
+-- how many times which event a line is, where its first word is an event's
+unfoldable pub event_in : List ℕ → List (List ℕ) → Result (Option (ℕ × Event)) FaultKind
+event_in first words = if_found (row_of first event_rows) words
 
 -- that, where it is an event of the whole machine, and where it is what a task asks for
 unfoldable pub core_event_in : List ℕ → List (List ℕ) → Result (Option (ℕ × Event)) FaultKind
@@ -68,8 +69,8 @@ machine_event_in first words = if_found (row_of first machine_rows) words
 unfoldable pub outside_event_in : List ℕ → List (List ℕ) → Result (Option (ℕ × Event)) FaultKind
 outside_event_in first words = if_found (row_of first outside_rows) words
 
-unfoldable pub task_event_in : List ℕ → List (List ℕ) → Result (ℕ × Event) FaultKind
-task_event_in first words = event_by (row_of first task_rows) words
+unfoldable pub task_event_in : List ℕ → List (List ℕ) → Result (Option (ℕ × Event)) FaultKind
+task_event_in first words = if_found (row_of first task_rows) words
 
 abbrev pub item_of : Bool → List (List ℕ) → Result Item FaultKind
 item_of begun [] = Ok Nothing
@@ -222,6 +223,14 @@ first_of (fault ∷ faults) value = Err fault
 -- the lines of a script end at LF. A last part without LF is one too; where it is empty it says nothing.
 abbrev pub lines_of : List ℕ → List (List ℕ)
 lines_of bytes = slice_split (λ b. b == 10) bytes
+
+abbrev pub first_line : List ℕ → List ℕ
+first_line text = slice_index_or (lines_of text) 0 []
+
+-- the lines of a text, where there is one
+abbrev pub lines_in : Option (Bor (List ℕ)) → List (List ℕ)
+lines_in None = []
+lines_in (Some text) = lines_of text.now
 
 -- how many lines there are: one for each LF, and a last one without LF that isn't empty
 unfoldable pub line_count : List ℕ → ℕ

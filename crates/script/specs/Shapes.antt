@@ -174,7 +174,7 @@ task_rows =
     ∷ []
 
 abbrev pub event_rows : List (Row (ℕ × Event))
-event_rows = core_rows ++ task_rows
+event_rows = task_rows ++ core_rows
 
 -- a scripted loader holds ranges of page frames: no line names a dump's
 abbrev pub IsScriptedLoader : Loader → Type 0

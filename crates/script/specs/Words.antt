@@ -1,5 +1,5 @@
 -- The words of a line of a script, and the numbers that they are.
-use Rattle.std.specs.Prelude.{ℕ, ◌^◌, ◌==◌, ◌≤◌, ◌&&◌, List, [], ◌∷◌, not, Option, Some, None, Result, Ok, Err, filter, map, length, nat_lt, if◌then◌else◌, ⊤}
+use Rattle.std.specs.Prelude.{ℕ, ◌^◌, ◌==◌, ◌≤◌, ◌&&◌, List, [], ◌∷◌, not, Bool, Option, Some, None, Result, Ok, Err, filter, map, length, nat_lt, if◌then◌else◌, ⊤}
 use Rattle.std.specs.List.{list_all, slice_split}
 use Rattle.std.specs.Char.{is_ascii_digit}
 use Rattle.std.specs.Str.Parse.{digits_value}
@@ -18,9 +18,13 @@ abbrev pub ◌>>=◌ : {A B : Type 0} → Result A FaultKind → (A → Result B
 abbrev pub texts : List (Bor (List ℕ)) → List (List ℕ)
 texts words = map (λ word. word.now) words
 
+-- two spaces have no word between them
+abbrev pub is_word : List ℕ → Bool
+is_word part = not (length part == 0)
+
 -- what stands between spaces
 abbrev pub words_of : List ℕ → List (List ℕ)
-words_of line = filter (λ word. not (length word == 0)) (slice_split (λ b. b == 32) line)
+words_of line = filter is_word (slice_split (λ b. b == 32) line)
 
 -- the number of at most 64 bits that decimal digits are; leading zeros are allowed
 unfoldable pub number_of : List ℕ → Option ℕ

@@ -1,15 +1,14 @@
-ghost use Rattle.std.specs.Prelude.{◌≡◌, ◌<◌, ◌≤◌, IfOk, IfSome, IsOk, ◌↔◌, false, IfErr};
+ghost use Rattle.std.specs.Prelude.{◌≡◌, ◌<◌, ◌≤◌, IfOk, IfSome, IsOk, ◌↔◌, true, false, take, IfErr};
 ghost use Rattle.std.specs.List.{list_all};
-ghost use Rattle.script.specs.Words.{texts};
-ghost use Rattle.script.specs.Grammar.{core_event_in, event_in, machine_event_in, outside_event_in, is_printable, line_item, setting_in, task_event_in, words_item, IsFittingItem};
+ghost use Rattle.script.specs.Words.{texts, words_of};
+ghost use Rattle.script.specs.Grammar.{core_event_in, event_in, machine_event_in, outside_event_in, is_printable, line_item, setting_in, setting_item, task_event_in, words_item, IsFittingItem};
 ghost use Rattle.script.specs.Settings.{IsFittingSetting};
 ghost use Rattle.script.specs.Shapes.{actor_in, format_in, region_row, second_word};
 ghost use Rattle.plain_machine.specs.Fitting.{IsFittingActor};
 
 use crate::fault::FaultKind;
 use crate::ranges::ranges;
-use crate::words::{Span, numbers, put_words};
-use arrayvec::ArrayVec;
+use crate::words::{Span, numbers};
 use page_core::Format;
 use plain_machine::{Actor, BootFrom, Event, IdentCheck, Loader, TaskOp};
 use std::alloc::AllocError;
@@ -134,30 +133,21 @@ impl From<FaultKind> for LineStop {
     }
 }
 
-/// What a line says, where `begun` tells that an event stands before it.
+/// What a line says by its first words, where `begun` tells that an event stands before it.
 #[tactic(auto, unfolding(crate::specs::Grammar::line_item))]
-pub fn item_of_line(line: &[u8], begun: bool) -> Result<Item, FaultKind>
+pub fn item_of_line(line: &[u8], words: &[&[u8]], begun: bool) -> Result<Item, FaultKind>
+    requires printable { list_all is_printable line.now ≡ true }
+    requires words { texts words.now ≡ take 10 (words_of line.now) }
     ensures says { result ≡ line_item begun line.now }
     ensures fits { IfOk result IsFittingItem }
 {
-    if !is_printable(line) {
-        return Err(FaultKind::Byte);
-    }
     if let [b'#', ..] = line {
         return Ok(Item::Nothing);
     }
-    let mut words = ArrayVec::new();
-    put_words(line, &mut words);
-    match words.as_slice() {
+    match words {
         [] => Ok(Item::Nothing),
         [first, rest @ ..] => item_of_words(first, rest, begun),
     }
-}
-
-fn is_printable(line: &[u8]) -> bool
-    ensures { result ≡ list_all is_printable line.now }
-{
-    line.iter().all(|b| (b' '..=b'~').contains(b))
 }
 
 /// That no event stands before a setting.
@@ -239,6 +229,17 @@ fn item_of_words(first: &[u8], rest: &[&[u8]], begun: bool) -> Result<Item, Faul
     ensures says { result ≡ words_item begun first.now (texts rest.now) }
     ensures fits { IfOk result IsFittingItem }
 {
+    match events_of(first, rest)? {
+        Some((count, event)) => Ok(Item::Events(count, event)),
+        None => item_of_setting(first, rest, begun),
+    }
+}
+
+/// What the words of a line say whose first is no event's.
+fn item_of_setting(first: &[u8], rest: &[&[u8]], begun: bool) -> Result<Item, FaultKind>
+    ensures says { result ≡ setting_item begun first.now (texts rest.now) }
+    ensures fits { IfOk result IsFittingItem }
+{
     match setting_of(first, rest) {
         Ok(Some(setting)) => {
             before_events(begun)?;
@@ -248,10 +249,7 @@ fn item_of_words(first: &[u8], rest: &[&[u8]], begun: bool) -> Result<Item, Faul
             before_events(begun)?;
             Err(kind)
         }
-        Ok(None) => {
-            let (count, event) = events_of(first, rest)?;
-            Ok(Item::Events(count, event))
-        }
+        Ok(None) => Err(FaultKind::Word),
     }
 }
 
@@ -291,14 +289,14 @@ fn setting_of(first: &[u8], rest: &[&[u8]]) -> Result<Option<Setting>, FaultKind
     }
 }
 
-/// How many times which event a line is.
-fn events_of(first: &[u8], rest: &[&[u8]]) -> Result<(u32, Event), FaultKind>
+/// How many times which event a line is, where its first word is an event's.
+fn events_of(first: &[u8], rest: &[&[u8]]) -> Result<Option<(u32, Event)>, FaultKind>
     ensures says { result ≡ event_in first.now (texts rest.now) }
-    ensures fits { IfOk result (λ events. IsFittingItem (Item.Events events.0 events.1)) }
+    ensures fits { IfOk result (λ events. IfSome events (λ e. IsFittingItem (Item.Events e.0 e.1))) }
 {
-    match core_events_of(first, rest)? {
-        Some(events) => Ok(events),
-        None => task_event_of(first, rest),
+    match task_event_of(first, rest)? {
+        Some(event) => Ok(Some(event)),
+        None => core_events_of(first, rest),
     }
 }
 
@@ -373,39 +371,39 @@ fn outside_events_of(first: &[u8], rest: &[&[u8]]) -> Result<Option<(u32, Event)
 
 /// What a task asks for, where that is the line.
 #[tactic(auto, unfolding(crate::specs::Grammar::task_event_in))]
-fn task_event_of(first: &[u8], rest: &[&[u8]]) -> Result<(u32, Event), FaultKind>
+fn task_event_of(first: &[u8], rest: &[&[u8]]) -> Result<Option<(u32, Event)>, FaultKind>
     ensures says { result ≡ task_event_in first.now (texts rest.now) }
-    ensures fits { IfOk result (λ events. IsFittingItem (Item.Events events.0 events.1)) }
+    ensures fits { IfOk result (λ events. IfSome events (λ e. IsFittingItem (Item.Events e.0 e.1))) }
 {
     match first {
         b"claim" => {
             let [t, p] = numbers(rest, [TASK, FRAME])?;
-            Ok(task(t, TaskOp::Claim(p as u32)))
+            Ok(Some(task(t, TaskOp::Claim(p as u32))))
         }
         b"release" => {
             let [t, p] = numbers(rest, [TASK, FRAME])?;
-            Ok(task(t, TaskOp::Release(p as u32)))
+            Ok(Some(task(t, TaskOp::Release(p as u32))))
         }
         b"store" => {
             let [t, p, k, v] = numbers(rest, [TASK, FRAME, WORD, VALUE])?;
-            Ok(task(t, TaskOp::Store(p as u32, k as u32, v)))
+            Ok(Some(task(t, TaskOp::Store(p as u32, k as u32, v))))
         }
         b"show" => {
             let [t, p, k] = numbers(rest, [TASK, FRAME, WORD])?;
-            Ok(task(t, TaskOp::Show(p as u32, k as u32)))
+            Ok(Some(task(t, TaskOp::Show(p as u32, k as u32))))
         }
         b"cache" => {
             let [t, p] = numbers(rest, [TASK, FRAME])?;
-            Ok(task(t, TaskOp::Cache(p as u32)))
+            Ok(Some(task(t, TaskOp::Cache(p as u32))))
         }
         b"out" => {
             let [t, p] = numbers(rest, [TASK, FRAME])?;
-            Ok(task(t, TaskOp::Out(p as u32)))
+            Ok(Some(task(t, TaskOp::Out(p as u32))))
         }
         b"in" => {
             let [t, slot, p] = numbers(rest, [TASK, TASK_SLOT, FRAME])?;
-            Ok(task(t, TaskOp::TakeIn(slot as u32, p as u32)))
+            Ok(Some(task(t, TaskOp::TakeIn(slot as u32, p as u32))))
         }
-        _ => Err(FaultKind::Word),
+        _ => Ok(None),
     }
 }

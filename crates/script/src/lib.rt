@@ -6,6 +6,7 @@ mod fault;
 mod grammar;
 mod ident;
 mod line;
+mod lines;
 mod ranges;
 mod reading;
 mod replies;

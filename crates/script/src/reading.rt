@@ -1,6 +1,6 @@
-ghost use Rattle.std.specs.Prelude.{◌≡◌, ◌+◌, ◌<◌, ◌≤◌, ◌∷◌, ◌++◌, All, IfOk, IfErr, IsNone, OnOk, length, true, false, Ok, Err, None, []};
+ghost use Rattle.std.specs.Prelude.{◌≡◌, ◌+◌, ◌<◌, ◌≤◌, ◌∷◌, ◌++◌, ℕ, All, IfOk, IfErr, IfSome, OnOk, length, drop, true, false, Ok, Err, Some, None, []};
 ghost use Rattle.plain_machine.specs.Fitting.{IsFitting};
-ghost use Rattle.script.specs.Grammar.{end_fault, events_of, kind_after, kind_by, line_count, line_item, script_by, script_of, setting_of, settings_behind, stop_at, IsFittingItem, StopsBy};
+ghost use Rattle.script.specs.Grammar.{end_fault, events_of, first_line, kind_after, kind_by, line_count, line_item, lines_in, lines_of, script_by, script_of, setting_of, settings_behind, stop_at, IsFittingItem, StopsBy};
 ghost use Rattle.script.specs.Reading.{IsOfLines, IsSettled};
 ghost use Rattle.script.specs.Settings.{hardware_by, is_faulty, IsLastPage};
 ghost use Rattle.script.specs.Shapes.{IsScripted};
@@ -8,7 +8,9 @@ ghost use Rattle.script.specs.declared.fault.ScriptFault.{ScriptFault};
 
 use crate::fault::{FaultKind, ParseStop, ScriptFault};
 use crate::grammar::{Item, LineStop, item_of_line};
+use crate::lines::first_line;
 use crate::settings::Settings;
+use arrayvec::ArrayVec;
 use machine::Hardware;
 use plain_machine::Event;
 use std::alloc::Global;
@@ -99,6 +101,19 @@ impl Reader {
         }
     }
 
+    /// Settles the hardware, where the settings describe a machine. It is large, and stands apart so that the first event alone pays for
+    /// its room.
+    #[inline(never)]
+    fn settle(&mut self) -> Result<(), FaultKind>
+        requires { IsOfLines self.old }
+        ensures settled { OnOk result (self.new ≡ record self.old { hardware = Some (hardware_by self.old.settings) }) }
+        ensures sound { OnOk result (is_faulty self.old.settings ≡ false) }
+        ensures fault { IfErr result (λ kind. (kind ≡ FaultKind.Hardware) × (is_faulty self.old.settings ≡ true)) }
+    {
+        self.hardware = Some(self.settings.hardware().ok_or(FaultKind::Hardware)?);
+        Ok(())
+    }
+
     /// Adds so many times an event. The first of all needs settings that describe a machine.
     fn add_events(&mut self, count: u32, event: Event) -> Result<(), LineStop>
         requires fits { IsFittingItem (Item.Events count event) }
@@ -114,8 +129,7 @@ impl Reader {
             return Err(LineStop::Fault(FaultKind::Events));
         }
         if self.hardware.is_none() {
-            let hardware = self.settings.hardware().ok_or(FaultKind::Hardware)?;
-            self.hardware = Some(hardware);
+            self.settle()?;
         }
         self.events.resize(self.events.len() + more, event)?;
         Ok(())
@@ -139,39 +153,38 @@ impl Reader {
         }
     }
 
-    /// Adds what one more line says.
-    fn read(&mut self, line: &[u8]) -> Result<(), LineStop>
+    /// Adds what the first line of a text says, and gives the text behind it, where there is one.
+    fn read<'a>(&mut self, text: &'a [u8]) -> Result<Option<&'a [u8]>, LineStop>
         requires { IsOfLines self.old }
-        ensures settings { OnOk result (self.new.settings ≡ settings_behind (line_item false line.now) self.old.settings) }
-        ensures events { OnOk result (self.new.events ≡ self.old.events ++ events_of (line_item false line.now)) }
+        ensures settings { OnOk result (self.new.settings ≡ settings_behind (line_item false (first_line text.now)) self.old.settings) }
+        ensures events { OnOk result (self.new.events ≡ self.old.events ++ events_of (line_item false (first_line text.now))) }
         ensures reading { OnOk result (IsOfLines self.new) }
-        ensures none { OnOk result (kind_after self.old.settings self.old.events line.now ≡ None) }
-        ensures fault { IfErr result (StopsBy (kind_after self.old.settings self.old.events line.now)) }
+        ensures none { OnOk result (kind_after self.old.settings self.old.events (first_line text.now) ≡ None) }
+        ensures behind { IfOk result (λ behind. lines_in behind ≡ drop 1 (lines_of text.now)) }
+        ensures fault { IfErr result (StopsBy (kind_after self.old.settings self.old.events (first_line text.now))) }
     {
-        let item = item_of_line(line, !self.events.is_empty())?;
-        self.add(item)
+        let mut words = ArrayVec::new();
+        let first = first_line(text, &mut words)?;
+        let item = item_of_line(first.line, words.as_slice(), !self.events.is_empty())?;
+        self.add(item)?;
+        Ok(first.behind)
     }
 
-    /// What the script is read as. `behind` is the number of the line behind its last.
-    fn finish(self, behind: u32) -> Result<Script, ScriptFault>
+    /// What the script is read as, where its settings describe a machine.
+    fn finish(self) -> Option<Script>
         requires { IsOfLines self }
-        ensures script { IfOk result (λ script. script ≡ script_by self.settings self.events) }
-        ensures none { IfOk result (λ script. end_fault behind self.settings self.events ≡ []) }
-        ensures sound { IfOk result (λ script. is_faulty self.settings ≡ false) }
-        ensures fault { IfErr result (λ fault. end_fault behind self.settings self.events ≡ fault ∷ []) }
+        ensures script { IfSome result (λ script. script ≡ script_by self.settings self.events) }
+        ensures no_fault { IfSome result (λ script. (line : ℕ) → end_fault line self.settings self.events ≡ []) }
+        ensures sound { IfSome result (λ script. is_faulty self.settings ≡ false) }
+        ensures fault { result ≡ None → (line : ℕ) → end_fault line self.settings self.events ≡ record { line = line; kind = FaultKind.Hardware } ∷ [] }
     {
         let Reader {
             settings,
             hardware,
             events,
         } = self;
-        let Some(hardware) = hardware.or_else(|| settings.hardware()) else {
-            return Err(ScriptFault {
-                line: behind,
-                kind: FaultKind::Hardware,
-            });
-        };
-        Ok(Script {
+        let hardware = hardware.or_else(|| settings.hardware())?;
+        Some(Script {
             hardware,
             last: settings.last(),
             bad: settings.into_bad(),
@@ -225,13 +238,17 @@ pub fn parse(alloc: Global, bytes: &[u8]) -> Result<Script, ParseStop>
         return Err(LineStop::Fault(FaultKind::TooLong).at(0));
     }
     let mut reader = Reader::new(alloc);
-    for (i, line) in bytes.split(|b| *b == b'\n').enumerate() {
-        if let Err(stop) = reader.read(line) {
-            return Err(stop.at(i as u32 + 1));
-        }
+    let mut left = Some(bytes);
+    let mut number = 0;
+    while let Some(text) = left {
+        number += 1;
+        left = match reader.read(text) {
+            Ok(behind) => behind,
+            Err(stop) => return Err(stop.at(number)),
+        };
     }
-    match reader.finish(line_count(bytes) + 1) {
-        Ok(script) => Ok(script),
-        Err(fault) => Err(ParseStop::Fault(fault)),
+    match reader.finish() {
+        Some(script) => Ok(script),
+        None => Err(LineStop::Fault(FaultKind::Hardware).at(line_count(bytes) + 1)),
     }
 }

@@ -1,29 +1,13 @@
-ghost use Rattle.std.specs.Prelude.{◌≡◌, [], IfOk, take};
-ghost use Rattle.script.specs.Words.{all_numbers, number_in, number_of, texts, words_of, AllWithin};
+ghost use Rattle.std.specs.Prelude.{◌≡◌, IfOk};
+ghost use Rattle.script.specs.Words.{all_numbers, number_in, number_of, texts, AllWithin};
 
 use crate::fault::FaultKind;
-use arrayvec::ArrayVec;
-
-/// One word more than a line may have.
-pub const MAX_WORDS: usize = 10;
 
 /// The numbers that may stand in a place, both ends included.
 #[derive(Clone, Copy)]
 pub struct Span {
     pub low: u64,
     pub high: u64,
-}
-
-/// Puts the first words of a line, which stand between spaces, into an empty list. A line that says something has fewer.
-pub fn put_words<'a>(line: &'a [u8], into: &mut ArrayVec<&'a [u8], MAX_WORDS>)
-    requires { into.old.items ≡ [] }
-    ensures { texts into.new.items ≡ take 10 (words_of line.now) }
-{
-    for word in line.split(|b| *b == b' ') {
-        if !word.is_empty() && !into.is_full() {
-            into.push(word);
-        }
-    }
 }
 
 /// The number of at most 64 bits that a word of decimal digits is. Leading zeros are allowed.
@@ -33,16 +17,13 @@ pub fn number_of(word: &[u8]) -> Option<u64>
     if word.is_empty() {
         return None;
     }
-    let mut number = 0;
+    let mut number: u64 = 0;
     for b in word {
         if !b.is_ascii_digit() {
             return None;
         }
         let digit = u64::from(*b - b'0');
-        if number > (u64::MAX - digit) / 10 {
-            return None;
-        }
-        number = 10 * number + digit;
+        number = number.checked_mul(10)?.checked_add(digit)?;
     }
     Some(number)
 }

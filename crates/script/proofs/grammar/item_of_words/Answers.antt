@@ -1,57 +1,16 @@
-use Rattle.std.proofs.Common.{◌≡◌, Bool, true, false, cond, Result, Ok, Err, refl, sym, ap, ◌∙◌}
-use Rattle.std.proofs.lemmas.Bool.{false≢true}
+use Rattle.std.proofs.Common.{Ok, sym, ap, ◌∙◌}
 use Rattle.std.proofs.lemmas.Result.{err_from_is_err_and}
-use Rattle.script.specs.declared.fault.FaultKind.{FaultKind}
-use Rattle.script.specs.declared.fault.FaultKind.TheVariants.{Late}
-use Rattle.script.specs.declared.grammar.Item.{Item}
-use Rattle.script.specs.declared.grammar.Item.TheVariants.{Events}
-use Rattle.script.specs.Words.{◌>>=◌, texts}
-use Rattle.script.proofs.Shapes.{words_item-setting, words_item-fault, words_item-event}
+use Rattle.script.specs.Words.{texts}
+use Rattle.script.proofs.Shapes.{words_item-event, words_item-fault, words_item-setting}
 use Rattle.script.proofs.grammar.item_of_words.Goals as goal
 
-late : (begun : Bool) (k : FaultKind) (r : Result Item FaultKind) → (begun ≡ false → false ≡ true) → k ≡ Late → ◌≡◌ {A = Result Item FaultKind} (Err k) (cond begun (Err Late) r)
-late true k r isn't is = ap (λ x. Err x) is
-late false k r isn't is = absurd (false≢true (isn't refl))
-
-early : (begun : Bool) (r : Result Item FaultKind) → begun ≡ false → r ≡ cond begun (Err Late) r
-early begun r e = sym (ap (λ b. cond b (Err Late) r) e)
-
-pub returns-in_err-before_events-in-Ok-Some-clause-says : goal.returns-in_err-before_events-in-Ok-Some-clause-says
-returns-in_err-before_events-in-Ok-Some-clause-says c =
+pub returns-in_err-count-clause-says : goal.returns-in_err-count-clause-says
+returns-in_err-count-clause-says c =
     let p = err_from_is_err_and c.from_residual.result c.from_residual.ensures.1 in
-    let says = rw c.in-Ok-Some.field-0-is at c.in-Ok-Some.ensures.says in
-    rw (p.1, p.2)
-    (late c.args.begun _ _ c.in_err-before_events-in-Ok-Some.ensures.ok.1 c.in_err-before_events-in-Ok-Some.ensures.late
-    ∙ sym (words_item-setting c.args.begun c.args.first.now (texts c.args.rest.now) c.in-Ok-Some.setting (sym says)))
+    rw (p.1, p.2) (sym (words_item-fault c.args.begun c.args.first.now (texts c.args.rest.now) _ (sym c.events_of.ensures.says ∙ c.in_err-count.was)))
 
-pub returns-in_err-count-in-Ok-None-clause-says : goal.returns-in_err-count-in-Ok-None-clause-says
-returns-in_err-count-in-Ok-None-clause-says c =
-    let p = err_from_is_err_and c.from_residual-in_err-count-in-Ok-None.result c.from_residual-in_err-count-in-Ok-None.ensures.1 in
-    let says = rw c.in-Ok-None.field-0-is at c.in-Ok-None.ensures.says in
-    let event = sym c.events_of.ensures.says ∙ c.in_err-count-in-Ok-None.was in
-    rw (p.1, p.2)
-    (sym (words_item-event c.args.begun c.args.first.now (texts c.args.rest.now) (sym says) ∙ ap (λ r. r >>= λ x. Ok (Events x.0 x.1)) event))
+pub returns-in-Some-clause-says : goal.returns-in-Some-clause-says
+returns-in-Some-clause-says c = sym (words_item-event c.args.begun c.args.first.now (texts c.args.rest.now) (c.in-Some.count, c.in-Some.event) (sym c.events_of.ensures.says ∙ c.in_ok-count.was ∙ ap (λ o. Ok o) c.in-Some.is))
 
-pub returns-in_err-before_events-in-Err-clause-says : goal.returns-in_err-before_events-in-Err-clause-says
-returns-in_err-before_events-in-Err-clause-says c =
-    let p = err_from_is_err_and c.from_residual-in_err-before_events-in-Err.result c.from_residual-in_err-before_events-in-Err.ensures.1 in
-    rw (p.1, p.2)
-    (late c.args.begun _ _ c.in_err-before_events-in-Err.ensures.ok.1 c.in_err-before_events-in-Err.ensures.late
-    ∙ sym (words_item-fault c.args.begun c.args.first.now (texts c.args.rest.now) c.in-Err.kind (sym c.in-Err.ensures.says)))
-
-pub returns-in_ok-before_events-in-Ok-Some-clause-says : goal.returns-in_ok-before_events-in-Ok-Some-clause-says
-returns-in_ok-before_events-in-Ok-Some-clause-says c =
-    let says = rw c.in-Ok-Some.field-0-is at c.in-Ok-Some.ensures.says in
-    early c.args.begun _ (c.in_ok-before_events-in-Ok-Some.ensures.ok.0 refl)
-    ∙ sym (words_item-setting c.args.begun c.args.first.now (texts c.args.rest.now) c.in-Ok-Some.setting (sym says))
-
-pub returns-in_ok-count-in-Ok-None-clause-says : goal.returns-in_ok-count-in-Ok-None-clause-says
-returns-in_ok-count-in-Ok-None-clause-says c =
-    let says = rw c.in-Ok-None.field-0-is at c.in-Ok-None.ensures.says in
-    let event = sym c.events_of.ensures.says ∙ c.in_ok-count-in-Ok-None.was in
-    sym (words_item-event c.args.begun c.args.first.now (texts c.args.rest.now) (sym says) ∙ ap (λ r. r >>= λ x. Ok (Events x.0 x.1)) event)
-
-pub returns-in_ok-before_events-in-Err-clause-says : goal.returns-in_ok-before_events-in-Err-clause-says
-returns-in_ok-before_events-in-Err-clause-says c =
-    early c.args.begun _ (c.in_ok-before_events-in-Err.ensures.ok.0 refl)
-    ∙ sym (words_item-fault c.args.begun c.args.first.now (texts c.args.rest.now) c.in-Err.kind (sym c.in-Err.ensures.says))
+pub returns-in-None-clause-says : goal.returns-in-None-clause-says
+returns-in-None-clause-says c = c.item_of_setting.ensures.says ∙ sym (words_item-setting c.args.begun c.args.first.now (texts c.args.rest.now) (sym c.events_of.ensures.says ∙ c.in_ok-count.was ∙ ap (λ o. Ok o) c.in-None.is))
