@@ -3,8 +3,8 @@
 # files, beside a copy of as many bytes that is synced (with python3), and the greatest memory of each, and so for an export and an
 # import of the image as a stream. Then counts the
 # instructions of the built program by valgrind's callgrind: of an empty script, of a line that claims a page frame, of
-# a line that shows a word, and of a hibernation and a resume of 1,500 page frames; and takes the time of a boot, a hibernation and a
-# resume of 15,000 page frames at a script's limits. The program is the first word, or
+# a line that shows a word, of that line's parse alone, and of a hibernation and a resume of 1,500 page frames; and takes the time of a
+# boot, a hibernation and a resume of 15,000 page frames at a script's limits. The program is the first word, or
 # crates/swsusp/out/swsusp, which `rt run` leaves. Without valgrind it says so and counts nothing.
 set -u
 top=$(cd "$(dirname "$0")/.." && pwd)
@@ -82,15 +82,20 @@ steps=1518
 { cat "$room/claims" && printf 'hibernate\nsteps core %d\nresume\nsteps core %d\n' $steps $steps; } >"$room/cycle"
 { printf 'boot\nsteps core 2\nclaim 1 16\n'; } >"$room/one"
 { cat "$room/one" && lines 10000 'show 1 16 3'; } >"$room/shows"
+# A script is parsed whole before it is played: one whose last line is none is only parsed.
+{ cat "$room/one" && echo none; } >"$room/one_parsed"
+{ cat "$room/shows" && echo none; } >"$room/shows_parsed"
 
 empty=$(count empty)
 claims=$(count claims)
 cycle=$(count cycle)
 one=$(count one)
 shows=$(count shows)
+one_parsed=$(count one_parsed)
+shows_parsed=$(count shows_parsed)
 echo "an empty script: $empty instructions"
 echo "a claim: $(((claims - one) / 1499))"
-echo "a show: $(((shows - one) / 10000))"
+echo "a show: $(((shows - one) / 10000)), of these its parse: $(((shows_parsed - one_parsed) / 10000))"
 echo "a hibernation and a resume of 1500 page frames: $((cycle - claims))"
 "$program" replay <"$room/cycle" | tail -n 1
 
