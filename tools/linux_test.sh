@@ -1,0 +1,326 @@
+#!/bin/sh
+# linux_test.sh [-d FOLDER] [-t SECONDS] [-p "PART.."] [SWSUSP [SWSUSP_MACHINE]]: tries the programs against real kernels, in the machines
+# that linux_lab.sh builds in FOLDER, and boots for at most SECONDS. The programs are those that `rt run` leaves, without the words.
+# Prints a line for each case, and how many passed; ends with status 1 where one differs. Skips, with status 0, without qemu.
+#
+# The parts: plain, used, bad, full, compressed, signature, x86, damage. Without -p all are tried. Expected answers come from what the
+# kernel logs and does, and from docs/FORMATS.md by linux_lab/image.py, which reads images by itself.
+set -u
+top=$(cd "$(dirname "$0")/.." && pwd)
+parts="plain used bad full compressed signature x86 damage"
+lab=${HOME:-/root}/.cache/dirukofe-linux-lab
+limit=180
+while getopts d:t:p: option; do
+    case $option in
+    d) lab=$OPTARG ;;
+    t) limit=$OPTARG ;;
+    p) parts=$OPTARG ;;
+    *) exit 2 ;;
+    esac
+done
+shift $((OPTIND - 1))
+swsusp=${1:-$top/crates/swsusp/out/swsusp}
+checker=${2:-$top/crates/swsusp_machine/out/swsusp_machine}
+imager=${3:-$top/crates/swsusp_image/out/swsusp_image}
+passed=0 failed=0
+
+skip() {
+    echo "skipped: $1"
+    exit 0
+}
+
+for tool in qemu-system-mips64el python3; do
+    command -v "$tool" >/dev/null || skip "no $tool"
+done
+for program in "$swsusp" "$checker"; do
+    if [ ! -x "$program" ]; then
+        echo "$program isn't built: rt run in its crate builds it"
+        exit 1
+    fi
+done
+room=$(mktemp -d)
+trap 'rm -rf "$room"' EXIT
+trap 'exit 1' INT TERM HUP
+
+same() {
+    if [ "$2" = "$3" ]; then
+        echo "as told: $1"
+        passed=$((passed + 1))
+    else
+        echo "differs: $1: wanted [$2], came [$3]"
+        failed=$((failed + 1))
+    fi
+}
+
+machine=mips
+
+lab() {
+    sh "$top/tools/linux_lab.sh" -m $machine -d "$lab" -t "$limit" "$@"
+}
+
+image() {
+    python3 "$top/tools/linux_lab/image.py" "$@"
+}
+
+# A copy that takes no room for blocks of zeros.
+copy() {
+    cp --sparse=always "$1" "$2"
+}
+
+# What the kernel logged: how many pages it copied.
+copied() {
+    sed -n 's/.*Need to copy \([0-9]*\) pages.*/\1/p' "$1.hibernate.log"
+}
+
+# Status, output and note of a program over a dump.
+told() {
+    dump=$1
+    shift
+    status=0
+    timeout 300 "$@" <"$dump" >"$room/out" 2>"$room/note" || status=$?
+    echo "$status|$(head -c 200 "$room/out" | tr -d '\0')|$(cat "$room/note")"
+}
+
+# The status of a resume, and its note, with the restored dump left in $room/restored.
+resumed() {
+    dump=$1
+    shift
+    status=0
+    timeout 300 "$swsusp" resume "$@" <"$dump" >"$room/restored" 2>"$room/note" || status=$?
+    echo "$status|$(cat "$room/note")"
+}
+
+# What the kernel makes of an image, with settings of init.c behind it: `resumes` where the saved program goes on, with its pages and the
+# word of this boot, `refuses` where the kernel goes on as it was booted; else its last line.
+kernel() {
+    if lab resume "$@" >"$1.out" 2>&1; then
+        echo resumes
+    elif grep -q '^lab: not resumed' "$1.resume.log"; then
+        echo refuses
+    else
+        tail -n 1 "$1.resume.log"
+    fi
+}
+
+# What the kernel makes of a copy of an image.
+kernel_of_copy() {
+    copy "$1" "$room/copy.img"
+    kernel "$room/copy.img"
+}
+
+# A real image of this name, with the settings of init.c that follow. The area is made first where there is none.
+hibernated() {
+    name=$1
+    shift
+    status=0
+    lab hibernate "$room/$name.img" "$@" >"$room/$name.out" 2>&1 || status=$?
+    same "$name: the kernel hibernates" 0 $status
+    [ $status = 0 ] || sed 's/^/  /' "$room/$name.out"
+    return $status
+}
+
+# The slots that the saved program let out, as image.py takes them.
+let_out() {
+    sed -n 's/^lab: slots [0-9]* [0-9]* \([0-9]*\) \([0-9]*\)$/\1 \2/p' "$1.hibernate.log" | while read -r first count; do
+        echo "$first-$((first + count - 1))"
+    done
+}
+
+# All that is told of a real image without compression: $1 is its name, $2 the last slot of its area, $3 its number of bad slots.
+round() {
+    real=$room/$1.img
+    pages=$(copied "$real")
+    image saved "$real" $(let_out "$real") >"$room/saved"
+    image loader "$real" >"$room/loader"
+    first=$(image facts "$real" | sed -n 's/^first //p')
+    same "$1: inspect" "0|area last $2 bad $3 image $first flags 2 hw -|" "$(told /dev/null "$swsusp" inspect "$real")"
+    sum=$(cksum <"$real")
+    same "$1: check calls it whole, with the pages of the kernel's log" "0|resumed $pages|" \
+        "$(told "$room/loader" "$checker" check "$real")"
+    same "$1: the area, after check" "$sum" "$(cksum <"$real")"
+    copy "$real" "$room/ours.img"
+    same "$1: swsusp resumes the kernel's image" "0|" "$(resumed "$room/loader" "$room/ours.img")"
+    same "$1: each page, byte for byte" "pages $pages wrong 0" "$(image compare "$real" "$room/restored")"
+    frames=$(sed -n 's/^lab: patterns \([0-9]*\) in memory.*/\1/p' "$real.hibernate.log")
+    same "$1: the patterns in their page frames" "patterns $frames of $frames" "$(image patterns "$real.hibernate.log" "$room/restored")"
+    same "$1: a second resume" "1|no image" "$(resumed "$room/loader" "$room/ours.img")"
+    same "$1: the kernel refuses the area afterwards" refuses "$(kernel_of_copy "$room/ours.img")"
+    # What swsusp writes of that machine's memory, the kernel resumes.
+    extra=$(image tables "$real")
+    copy "$room/ours.img" "$room/written.img"
+    same "$1: swsusp hibernates that machine" "0|hibernated $((pages + extra))|" \
+        "$(told "$room/saved" "$swsusp" hibernate "$room/written.img")"
+    same "$1: the kernel resumes what swsusp wrote" resumes "$(kernel "$room/written.img")"
+    same "$1: the kernel refuses it the second time" refuses "$(kernel "$room/written.img")"
+    copy "$room/ours.img" "$room/carried.img"
+    if [ "$(let_out "$real")" = "" ]; then
+        "$swsusp" export <"$room/saved" >"$room/stream"
+        same "$1: swsusp imports its stream" "0|imported $((pages + extra))|" "$(told "$room/stream" "$swsusp" import "$room/carried.img")"
+        same "$1: the kernel resumes what was carried" resumes "$(kernel "$room/carried.img")"
+    else
+        same "$1: a machine with slots in use isn't exported" "1||slots in use $(let_out "$real" | sed -n '1s/-.*//p')" \
+            "$(told "$room/saved" "$swsusp" export)"
+    fi
+    same "$1: the kernel resumes its own image" resumes "$(kernel_of_copy "$real")"
+}
+
+# A fresh area, and what no other part tells: the area is one to swap to once its image is given up.
+part_plain() {
+    hibernated plain lab.pages=100 || return
+    round plain 16383 0
+    if lab swap "$room/ours.img" >"$room/swap.out" 2>&1; then swaps=yes; else swaps=no; fi
+    same "plain: the kernel swaps to the area again" yes $swaps
+}
+
+part_used() {
+    hibernated used lab.pages=100 lab.used=640 || return
+    same "used: pages that were let out" "lab: patterns 100 in memory, 640 of 640 let out" \
+        "$(grep '^lab: patterns' "$room/used.img.hibernate.log")"
+    round used 16383 0
+}
+
+# Bad pages at the front, in a run, amid the pages, and at the end.
+part_bad() {
+    sh "$top/tools/make_area.sh" "$room/bad.img" 16383
+    image bad "$room/bad.img" 1 2 3 600 1500 1501 16383
+    hibernated bad lab.pages=100 || return
+    round bad 16383 7
+}
+
+# The least number of pages, from $2 on, whose image fills its last map or its last number page.
+filling() {
+    n=$2
+    case $1 in
+    map) while [ $(((n + 1 + (n + 511) / 512) % 511)) != 0 ]; do n=$((n + 1)); done ;;
+    numbers) while [ $((n % 512)) != 0 ]; do n=$((n + 1)); done ;;
+    esac
+    echo $n
+}
+
+# How many pages the kernel copies differs a little from boot to boot, so the number is approached by pages more of the saved program.
+part_full() {
+    for name in map numbers; do
+        real=$room/$name.img
+        fill=0 tries=0 wanted=0 pages=
+        while [ $tries -lt 8 ]; do
+            rm -f "$real"
+            lab hibernate "$real" lab.pages=100 lab.fill=$fill >"$room/$name.out" 2>&1 || break
+            pages=$(copied "$real")
+            [ $wanted != 0 ] || wanted=$(filling $name $((pages + 16)))
+            [ "$pages" != $wanted ] || break
+            fill=$((fill + wanted - pages)) tries=$((tries + 1))
+        done
+        if [ "$pages" = $wanted ]; then
+            chain=$(image facts "$real" | sed -n 's/^chain //p')
+            same "$name: an image of $wanted pages: its maps" $((chain / 511 + 1)) "$(image facts "$real" | sed -n 's/^maps //p')"
+            round $name 16383 0
+        else
+            echo "left out: an image that fills its $name (the kernel wouldn't copy just $wanted pages)"
+        fi
+    done
+}
+
+part_compressed() {
+    hibernated compressed lab.pages=100 hibernate= || return
+    real=$room/compressed.img
+    sum=$(cksum <"$real")
+    flags=$(image facts "$real" | sed -n 's/^flags //p')
+    image any_loader "$real" >"$room/loader"
+    same "compressed: swsusp refuses it by name" "1|compressed $flags" "$(resumed "$room/loader" "$real")"
+    same "compressed: check says so before" "1||compressed $flags" "$(told "$room/loader" "$checker" check "$real")"
+    same "compressed: the area, byte for byte" "$sum" "$(cksum <"$real")"
+    same "compressed: the kernel resumes it then" resumes "$(kernel_of_copy "$real")"
+}
+
+# A machine with a hardware signature, both ways.
+part_signature() {
+    hibernated signature lab.pages=100 lab.sig=4711 || return
+    real=$room/signature.img
+    pages=$(copied "$real")
+    first=$(image facts "$real" | sed -n 's/^first //p')
+    image saved "$real" >"$room/saved"
+    image loader "$real" 4711 >"$room/loader"
+    image loader "$real" 4712 >"$room/other"
+    same "signature: inspect" "0|area last 16383 bad 0 image $first flags 10 hw 4711|" "$(told /dev/null "$swsusp" inspect "$real")"
+    same "signature: check with the machine's" "0|resumed $pages|" "$(told "$room/loader" "$checker" check "$real")"
+    same "signature: check with another's" "1||hardware 4711 own 4712" "$(told "$room/other" "$checker" check "$real")"
+    copy "$real" "$room/ours.img"
+    same "signature: swsusp resumes it with the machine's" "0|" "$(resumed "$room/loader" "$room/ours.img")"
+    same "signature: each page, byte for byte" "pages $pages wrong 0" "$(image compare "$real" "$room/restored")"
+    same "signature: swsusp hibernates that machine" "0|hibernated $((pages + $(image tables "$real")))|" \
+        "$(told "$room/saved" "$swsusp" hibernate "$room/ours.img")"
+    copy "$room/ours.img" "$room/other.img"
+    same "signature: the kernel with the same resumes it" resumes "$(kernel "$room/ours.img" lab.sig=4711)"
+    same "signature: the kernel with another refuses it" refuses "$(kernel "$room/other.img" lab.sig=4712)"
+    same "signature: and the image is gone" "1|no image" "$(resumed "$room/loader" "$room/other.img")"
+}
+
+# An image with the header of an architecture.
+part_x86() {
+    if ! command -v qemu-system-x86_64 >/dev/null; then
+        echo "left out: x86-64 (no qemu-system-x86_64)"
+        return
+    fi
+    machine=x86-64
+    sh "$top/tools/make_area.sh" "$room/x86.img" 32000
+    if lab build >"$room/lab.out" 2>&1 && hibernated x86 lab.pages=100; then
+        real=$room/x86.img
+        pages=$(copied "$real")
+        image loader "$real" >"$room/loader"
+        image stranger "$real" >"$room/stranger"
+        copy "$real" "$room/ours.img"
+        same "x86: a loader with a generic header's names" "1|mismatch version code" "$(resumed "$room/stranger" "$room/ours.img")"
+        copy "$real" "$room/ours.img"
+        same "x86: with --any-kernel" "0|" "$(resumed "$room/stranger" --any-kernel "$room/ours.img")"
+        same "x86: each page, byte for byte" "pages $pages wrong 0" "$(image compare "$real" "$room/restored")"
+        same "x86: the patterns in their page frames" "patterns 100 of 100" "$(image patterns "$real.hibernate.log" "$room/restored")"
+        # A loader that carries the record of the architecture hands it on.
+        same "x86: check with the record" "0|resumed $pages|" "$(told "$room/loader" "$checker" check "$real")"
+        image saved "$real" >"$room/saved"
+        same "x86: swsusp hibernates that machine" "0|hibernated $((pages + $(image tables "$real")))|" \
+            "$(told "$room/saved" "$swsusp" hibernate "$room/ours.img")"
+        same "x86: Debian's kernel resumes what swsusp wrote" resumes "$(kernel "$room/ours.img")"
+        same "x86: Debian's kernel resumes its own image" resumes "$(kernel_of_copy "$real")"
+    else
+        sed 's/^/  /' "$room/lab.out"
+    fi
+    machine=mips
+}
+
+# Images that are damaged: what swsusp says of each, and what the kernel does with it. Those that the kernel refuses are tried in one boot.
+part_damage() {
+    [ -f "$room/plain.img" ] || hibernated plain lab.pages=100 || return
+    real=$room/plain.img
+    image loader "$real" >"$room/loader"
+    image cases "$real" >"$room/cases"
+    copy "$real" "$room/cases.img"
+    lab cases "$room/cases.img" "$room/cases" >"$room/cases.out" 2>&1
+    for name in $(image damage "$real"); do
+        copy "$real" "$room/damaged.img"
+        told=$(image damage "$room/damaged.img" "$name")
+        copy "$room/damaged.img" "$room/ours.img"
+        case $told in
+        *"|resumed "*) wanted="0|" ;;
+        *) wanted="1|${told#*|}" ;;
+        esac
+        same "damage $name: swsusp" "$wanted" "$(resumed "$room/loader" "$room/ours.img")"
+        case $told in
+        resumes*) came=$(kernel "$room/damaged.img") ;;
+        *) came=$(sed -n -e "s/^lab: refused, case $name\$/refuses/p" -e "s/^lab: overlooked, case $name\$/overlooks/p" "$room/cases.out") ;;
+        esac
+        same "damage $name: the kernel" "${told%%|*}" "$came"
+    done
+}
+
+lab build >"$room/lab.out" 2>&1 || {
+    sed 's/^/  /' "$room/lab.out"
+    exit 1
+}
+for part in $parts; do
+    part_"$part"
+done
+
+# swsusp_image is to check an image without a loader, show what it says, and make the dump of its machine: its cases join each round here.
+[ -x "$imager" ] || echo "left out: swsusp_image check, show and machine ($imager isn't built)"
+echo "linux_test.sh: $passed passed, $failed failed"
+[ $failed = 0 ]
