@@ -6,7 +6,8 @@ top=$(cd "$(dirname "$0")/.." && pwd)
 swsusp=${1:-$top/crates/swsusp/out/swsusp}
 machine=${2:-$top/crates/swsusp_machine/out/swsusp_machine}
 room=$(mktemp -d)
-trap 'rm -rf "$room"' EXIT
+trap 'trap "" PIPE HUP INT TERM; rm -rf "$room"' EXIT
+trap 'exit 1' PIPE HUP INT TERM
 mkdir "$room/bin"
 cp "$swsusp" "$room/bin/swsusp"
 cp "$machine" "$room/bin/swsusp_machine"

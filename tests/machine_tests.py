@@ -9,13 +9,6 @@ from inputs import EXAMPLE, Machine, area
 # The worked example's machine, by a script.
 SCRIPT = b"zone 0 2048\narea 1599\nboot\nsteps core 2\nclaim 3 10\nstore 3 10 0 77\n"
 
-USAGE = """usage: swsusp_machine make < SCRIPT > DUMP
-       swsusp_machine loader < DUMP > DUMP
-       swsusp_machine show < DUMP
-       swsusp_machine differ DUMP DUMP
-       swsusp_machine check SWAP < DUMP
-"""
-
 
 def machine(*words, stdin=b""):
     return run("swsusp_machine", *words, stdin=stdin)
@@ -90,8 +83,3 @@ def test_facts_that_are_shown():
     status, out, note = machine("show", stdin=EXAMPLE.saved())
     lines = out.decode().splitlines()
     check_same("what was shown", (status, note, lines[0], lines[-1]), (0, "", "slots 1600", "slots_needed_zeros 1032"))
-
-
-def test_words_of_no_command():
-    for words in [[], ["make", "a"], ["differ", "a"], ["differ", "-", "b"], ["check", ""], ["check", "--any-kernel", "s"], ["--help"]]:
-        check(machine(*words), 2, note=USAGE)

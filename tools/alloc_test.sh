@@ -17,7 +17,8 @@ if ! command -v cc >/dev/null; then
     exit 0
 fi
 room=$(mktemp -d)
-trap 'rm -rf "$room"' EXIT
+trap 'trap "" PIPE HUP INT TERM; rm -rf "$room"' EXIT
+trap 'exit 1' PIPE HUP INT TERM
 failed=0
 
 # Call REFUSED of malloc and realloc finds no memory. At the end the number of calls goes into the file GROWTHS.

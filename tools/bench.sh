@@ -14,7 +14,8 @@ if [ ! -x "$program" ]; then
     exit 1
 fi
 room=$(mktemp -d)
-trap 'rm -rf "$room"' EXIT
+trap 'trap "" PIPE HUP INT TERM; rm -rf "$room"' EXIT
+trap 'exit 1' PIPE HUP INT TERM
 
 # The seconds that a command takes from this input to this output, and the greatest memory that it has, in MiB.
 measure() {

@@ -1,20 +1,26 @@
 #!/bin/sh
 # Tries the disk in a file over block devices: a loop device that nobody uses is read and written; one that the kernel swaps to,
 # one whose file system is mounted, the disk of a mounted partition and one that the device mapper holds are refused for
-# writing, and opened for reading. Then `inspect` of the built program (crates/swsusp/out/swsusp, where there is one)
-# reads a device. Prints a line for each check, and ends with status 1 where one differs; skips, with status 0, without root or
+# writing, and opened for reading. Then the built program (the first word, or crates/swsusp/out/swsusp, where there is one)
+# reads a device, refuses a swap file that the kernel swaps to, and finds that what the kernel remembers of a device isn't what the
+# device has. Prints a line for each check, and ends with status 1 where one differs; skips, with status 0, without root or
 # loop devices.
 set -u
 top=$(cd "$(dirname "$0")/.." && pwd)
 room=$(mktemp -d)
-free= swap= mount= parted= held= mapped=swsusp_device_test_$$
+program=${1:-$top/crates/swsusp/out/swsusp}
+free= swap= mount= parted= held= file= mapped=swsusp_device_test_$$
 
 skip() {
     echo "skipped: $1"
     exit 0
 }
 
+# Takes back what was set up, the last thing first. A signal that comes meanwhile, as when nobody reads the output, doesn't end it.
 clean() {
+    trap '' PIPE HUP INT TERM
+    exec 8>&-
+    [ -z "$file" ] || swapoff "$file" 2>/dev/null
     [ -z "$swap" ] || swapoff "$swap" 2>/dev/null
     umount "$room/at" 2>/dev/null
     umount "$room/part" 2>/dev/null
@@ -31,11 +37,12 @@ loop() {
 }
 
 trap clean EXIT
+trap 'exit 1' PIPE HUP INT TERM
 [ "$(id -u)" = 0 ] || skip "not root"
 for tool in losetup mkswap swapon mkfs.ext4; do
     command -v "$tool" >/dev/null || skip "no $tool"
 done
-free=$(loop free 3001) || skip "no loop device"
+free=$(loop free 1600) || skip "no loop device"
 swap=$(loop swap 64) || skip "no second loop device"
 mount=$(loop mount 1024) || skip "no third loop device"
 
@@ -68,7 +75,7 @@ else
 fi
 
 status=0
-(cd "$top/crates/sector_disk" && rt try --test --data "devices=$room/devices") >"$room/log" 2>&1
+(cd "$top/crates/file_disk" && rt try --test --data "devices=$room/devices") >"$room/log" 2>&1
 if grep -q "devices_in_use_are_refused ... ok" "$room/log"; then
     sed 's/^/as told: /' "$room/devices"
 else
@@ -77,17 +84,78 @@ else
     status=1
 fi
 
-program=$top/crates/swsusp/out/swsusp
-if [ -x "$program" ]; then
-    mkswap "$free" >/dev/null
-    told=$("$program" inspect "$free" 2>&1)
-    if [ "$told" = "area last 3000 bad 0 image none" ]; then
-        echo "as told: inspect $free"
+if [ ! -x "$program" ]; then
+    echo "left out: the program over devices ($program isn't built)"
+    exit $status
+fi
+
+# What is tried, what it is to be, and what came.
+same() {
+    if [ "$2" = "$3" ]; then
+        echo "as told: $1"
     else
-        echo "differs: inspect $free prints $told"
+        echo "differs: $1: wanted [$2], came [$3]"
         status=1
     fi
+}
+
+# Status, output and note of a run.
+told() {
+    ended=0
+    timeout 300 "$program" "$@" >"$room/out" 2>"$room/note" || ended=$?
+    echo "$ended|$(tr -d '\0' <"$room/out" | head -c 80)|$(cat "$room/note")"
+}
+
+mkswap "$free" >/dev/null
+same "inspect $free" "0|area last 1599 bad 0 image none|" "$(told inspect "$free")"
+if ! command -v python3 >/dev/null; then
+    echo "left out: a swap file in use, and what the kernel remembers (no python3 that makes dumps)"
+    exit $status
+fi
+python3 "$top/tools/make_dump.py" saved >"$room/saved"
+python3 "$top/tools/make_dump.py" loader >"$room/loader"
+"$program" export <"$room/saved" >"$room/stream"
+
+# A swap file that the kernel swaps to.
+file=$room/at/swapfile
+if mountpoint -q "$room/at" && dd if=/dev/zero of="$file" bs=4096 count=64 2>/dev/null && chmod 600 "$file" &&
+    mkswap "$file" >/dev/null && swapon "$file" 2>/dev/null; then
+    before=$(head -c 4096 "$file" | cksum)
+    same "hibernate onto a swap file in use" "7||open fault" "$(told hibernate "$file" <"$room/saved")"
+    same "resume of a swap file in use" "7||open fault" "$(told resume "$file" <"$room/loader")"
+    same "import into a swap file in use" "7||open fault" "$(told import "$file" <"$room/stream")"
+    same "inspect of a swap file in use" "0|area last 63 bad 0 image none|" "$(told inspect "$file")"
+    ln "$file" "$room/at/name two" && ln -s "name two" "$room/at/link"
+    same "hibernate onto its second name" "7||open fault" "$(told hibernate "$room/at/name two" <"$room/saved")"
+    same "hibernate onto a link to it" "7||open fault" "$(told hibernate "$room/at/link" <"$room/saved")"
+    same "its header block" "$before" "$(head -c 4096 "$file" | cksum)"
+    swapoff "$file"
+    # A header of 64 slots isn't that of the dump's machine, but the file is free.
+    same "the file, when it isn't in use" "1||no swap: misfit 63 slots 1600" "$(told hibernate "$file" <"$room/saved")"
+    rm -f "$room/at/name two" "$room/at/link"
 else
-    echo "left out: inspect ($program isn't built)"
+    file=
+    echo "left out: a swap file that the kernel swaps to (swapon isn't allowed)"
+fi
+
+# The kernel keeps what it read of a device that somebody holds open. Where it keeps a header block without an image and the device has
+# one with an image, as after a sync of a resume that failed, a resume that finds no image brings that to the device.
+same "a hibernation onto the device" "0|hibernated 5|" "$(told hibernate "$free" <"$room/saved")"
+cp "$room/free" "$room/image"
+timeout 300 "$program" resume "$free" <"$room/loader" >"$room/out" 2>"$room/note" || status=1
+exec 8<"$free"
+dd if="$free" of="$room/block" bs=4096 count=1 2>/dev/null
+dd if="$room/image" of="$room/free" bs=4096 count=1 conv=notrunc 2>/dev/null
+mark() {
+    head -c 4096 "$1" | tail -c 10 | tr -d '\0'
+}
+if [ "$(mark "$free")/$(mark "$room/free")" = "SWAPSPACE2/S1SUSPEND" ]; then
+    same "a resume where the kernel remembers no image" "1||no image" "$(told resume "$free" <"$room/loader")"
+    same "what the device has then" "SWAPSPACE2" "$(mark "$room/free")"
+    exec 8<&-
+    same "and a resume of that" "1||no image" "$(told resume "$free" <"$room/loader")"
+else
+    exec 8<&-
+    echo "left out: what the kernel remembers (it reads the loop device's file anew)"
 fi
 exit $status

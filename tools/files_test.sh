@@ -9,7 +9,8 @@ if [ ! -x "$program" ]; then
     exit 1
 fi
 room=$(mktemp -d)
-trap 'rm -rf "$room"' EXIT
+trap 'trap "" PIPE HUP INT TERM; rm -rf "$room"' EXIT
+trap 'exit 1' PIPE HUP INT TERM
 failed=0
 
 # What is tried, and what came: status, output and note on one line.
@@ -100,6 +101,27 @@ status=0
 timeout 60 "$program" resume "$area" <"$room/loader" >/dev/full 2>"$room/note" || status=$?
 same "a full disk" "4|sink fault" "$status|$(cat "$room/note")"
 same "the image, after a full disk" "1|0|no image" "$(resumed "$area")"
+
+# A limit on the size of files, of 16 KiB here (32 times 512 bytes): a write past it fails as another one does where the caller ignores the
+# signal that it brings (SIGXFSZ), and else ends the program.
+limited() {
+    status=0
+    (
+        trap '' XFSZ
+        ulimit -f 32
+        exec timeout 60 "$program" "$@" >"$room/out" 2>"$room/note"
+    ) || status=$?
+    echo "$status|$(($(wc -c <"$room/out")))|$(cat "$room/note")"
+}
+sh "$top/tools/make_area.sh" "$room/limited.img" 1599
+before=$(head -c 4096 "$room/limited.img" | cksum)
+same "a hibernation past a limit" "5|0|write fault same" "$(limited hibernate "$room/limited.img" <"$room/saved")"
+same "an import past a limit" "5|0|write fault same" "$(limited import "$room/limited.img" <"$room/stream")"
+same "the header block, past a limit" "$before" "$(head -c 4096 "$room/limited.img" | cksum)"
+same "a hibernation, before a limit" "0|hibernated 5|" "$(told hibernate "$room/limited.img" <"$room/saved")"
+same "a resume whose output passes a limit" "4|16384|sink fault" "$(limited resume "$room/limited.img" <"$room/loader")"
+same "the image, after a limit" "1|0|no image" "$(resumed "$room/limited.img")"
+same "an export past a limit" "4|16384|sink fault" "$(limited export <"$room/saved")"
 
 # Standard streams that are closed.
 status=0

@@ -1,16 +1,21 @@
 #!/bin/sh
-# Starts the built program as a shell may start it: with a standard stream closed, over what is no swap area or no file, and
-# compares its notes, its output and its statuses. The program is the first word, or crates/swsusp/out/swsusp, which
-# `rt run` leaves. Prints a line for each check, and ends with status 1 where one differs.
+# Starts the built programs as a shell may start them: with standard streams closed, with a terminal as standard output, over what is no
+# swap area or no file, and compares their notes, their output, their statuses and the area's bytes. The programs are the words, or
+# crates/swsusp/out/swsusp and crates/swsusp_machine/out/swsusp_machine, which `rt run` leaves. Prints a line for each check, and ends with
+# status 1 where one differs. Without python3 no dumps are made, and what needs one is left out.
 set -u
 top=$(cd "$(dirname "$0")/.." && pwd)
 program=${1:-$top/crates/swsusp/out/swsusp}
-if [ ! -x "$program" ]; then
-    echo "$program isn't built: rt run in crates/swsusp builds it"
-    exit 1
-fi
+machine=${2:-$top/crates/swsusp_machine/out/swsusp_machine}
+for it in "$program" "$machine"; do
+    if [ ! -x "$it" ]; then
+        echo "$it isn't built: rt run in its crate builds it"
+        exit 1
+    fi
+done
 room=$(mktemp -d)
-trap 'rm -rf "$room"' EXIT
+trap 'trap "" PIPE HUP INT TERM; rm -rf "$room"' EXIT
+trap 'exit 1' PIPE HUP INT TERM
 failed=0
 
 # What is tried, and what came: status, output and note on one line.
@@ -26,7 +31,7 @@ same() {
 # Ends a command that hangs, and tells its status, output and note.
 told() {
     status=0
-    timeout 10 "$program" "$@" >"$room/out" 2>"$room/note" || status=$?
+    timeout 60 "$program" "$@" >"$room/out" 2>"$room/note" || status=$?
     echo "$status|$(cat "$room/out")|$(cat "$room/note")"
 }
 
@@ -89,4 +94,141 @@ same "a script, without standard output" "4|sink fault" "$status|$(cat "$room/no
 status=0
 echo "step core" | "$program" replay >"$room/out" 2>&- || status=$?
 same "a script, without standard error" "0|idle" "$status|$(cat "$room/out")"
+
+if ! command -v python3 >/dev/null; then
+    echo "left out: the other commands (no python3 that makes dumps)"
+    exit $failed
+fi
+
+# Every command with each set of standard streams closed, over an area of 1,599 slots or its image. What is opened then must not take the
+# place of a stream: nothing is printed into the area.
+sh "$top/tools/make_area.sh" "$room/empty" 1599
+python3 "$top/tools/make_dump.py" saved >"$room/saved"
+python3 "$top/tools/make_dump.py" loader >"$room/loader"
+cp "$room/empty" "$room/image"
+"$program" hibernate "$room/image" <"$room/saved" >"$room/out" || failed=1
+"$program" export <"$room/saved" >"$room/stream" || failed=1
+head -c 5000 "$room/stream" >"$room/cut"
+echo "step core" >"$room/script"
+printf 'boot\nsteps core 2\nclaim 3 10\n' >"$room/story"
+: >"$room/nothing"
+cp "$room/saved" "$room/dump"
+
+# Runs a command with the streams in $1 closed, over a fresh area: its status.
+closed() {
+    sets=$1
+    shift
+    cp "$room/$before" "$room/disk"
+    : >"$room/out"
+    : >"$room/note"
+    status=0
+    (
+        case $sets in *0*) exec <&- ;; *) exec <"$room/$input" ;; esac
+        case $sets in *1*) exec >&- ;; *) exec >"$room/out" ;; esac
+        case $sets in *2*) exec 2>&- ;; *) exec 2>"$room/note" ;; esac
+        exec timeout 300 "$@"
+    ) || status=$?
+}
+
+# One line for a set of closed streams. $1 is the command's name, $2 what it uses: i where it reads its input, o where it prints,
+# n where it notes something, and $3 its status with all streams open.
+each() {
+    name=$1 uses=$2 wanted=$3 before=$4 input=$5
+    shift 5
+    closed - "$@"
+    same "$name" "$wanted" "$status"
+    cp "$room/disk" "$room/after"
+    cp "$room/out" "$room/printed"
+    for sets in 0 1 2 01 02 12 012; do
+        closed "$sets" "$@"
+        # A stream that is used and closed fails, and the first one that is used says so.
+        expected=$wanted
+        case $uses,$sets in *i*,*0*) expected=4 ;; *o*,*1*) expected=4 ;; *n*,*2*) expected=4 ;; esac
+        if cmp -s "$room/disk" "$room/after"; then
+            left=after
+        elif cmp -s "$room/disk" "$room/$before"; then
+            left=before
+        else
+            left="bytes that are neither"
+        fi
+        # Only a run that fails may leave the area as it was, and one without its input must.
+        allowed=after
+        case $expected,$wanted in "$wanted,$expected") ;; *) allowed="after before" ;; esac
+        case $uses,$sets in *i*,*0*) allowed=before ;; esac
+        case " $allowed " in *" $left "*) fits="as it may be" ;; *) fits=$left ;; esac
+        cmp -s "$room/$before" "$room/after" && [ "$left" = after ] && fits="as it may be"
+        # What is open has nothing but what it has with all open, or a part of that, and a line of note.
+        case $sets in *1*) size=0 ;; *) size=$(($(wc -c <"$room/out"))) ;; esac
+        head -c "$size" "$room/printed" >"$room/front"
+        cmp -s "$room/front" "$room/out" || fits="$fits, and other output"
+        cmp -s "$room/saved" "$room/dump" || fits="$fits, and the dump is changed"
+        same "$name, without $sets" "$expected|as it may be" "$status|$fits"
+    done
+}
+
+each "inspect" o 0 empty nothing "$program" inspect "$room/disk"
+each "inspect of no area" n 1 saved nothing "$program" inspect "$room/disk"
+each "hibernate" io 0 empty saved "$program" hibernate "$room/disk"
+each "hibernate --skip-zeros" io 0 empty saved "$program" hibernate --skip-zeros "$room/disk"
+each "hibernate over an image" in 1 image saved "$program" hibernate "$room/disk"
+each "hibernate of no dump" in 3 empty stream "$program" hibernate "$room/disk"
+each "resume" io 0 image loader "$program" resume "$room/disk"
+each "resume of no image" in 1 empty loader "$program" resume "$room/disk"
+each "resume into no dump" in 3 image stream "$program" resume "$room/disk"
+each "import" io 0 empty stream "$program" import "$room/disk"
+each "import over an image" n 1 image stream "$program" import "$room/disk"
+each "import of a stream that is cut off" in 3 empty cut "$program" import "$room/disk"
+each "replay" io 0 empty script "$program" replay
+each "drill" o 0 empty nothing "$program" drill 1
+each "export" io 0 empty saved "$program" export
+each "make" io 0 empty story "$machine" make
+each "loader" io 0 empty saved "$machine" loader
+each "show" io 0 empty saved "$machine" show
+each "differ, the same" o 0 empty nothing "$machine" differ "$room/dump" "$room/dump"
+each "differ, no dump" n 3 empty nothing "$machine" differ "$room/dump" "$room/stream"
+each "check" io 0 image loader "$machine" check "$room/disk"
+each "check of no image" in 1 empty loader "$machine" check "$room/disk"
+
+# A dump or a stream isn't written to a terminal, and an image isn't given up for what would go there. The first word is a file for the
+# note, the second the input; then the program and its words. Prints what the terminal shows, and ends with the program's status.
+cat >"$room/terminal.py" <<'EOF'
+import os, subprocess, sys
+ours, theirs = os.openpty()
+with open(sys.argv[1], "wb") as note, open(sys.argv[2], "rb") as given:
+    run = subprocess.Popen(sys.argv[3:], stdin=given, stdout=theirs, stderr=note)
+os.close(theirs)
+while True:
+    try:
+        piece = os.read(ours, 65536)
+    except OSError:  # all have closed it
+        break
+    if not piece:
+        break
+    sys.stdout.buffer.write(piece)
+sys.exit(run.wait())
+EOF
+
+# Runs a command over the image with this input and a terminal as standard output: its status, its note, what the terminal shows, and
+# whether the image is as it was.
+shown() {
+    given=$room/$1
+    shift
+    cp "$room/image" "$room/disk"
+    status=0
+    timeout 300 python3 "$room/terminal.py" "$room/note" "$given" "$@" >"$room/out" || status=$?
+    kept=gone
+    cmp -s "$room/image" "$room/disk" && kept=kept
+    echo "$status|$(cat "$room/note")|$(tr -dc '\n -~' <"$room/out" | head -n 1 | head -c 60)|$kept"
+}
+
+same "inspect on a terminal" "0||area last 1599 bad 0 image 1 flags 2 hw -|kept" "$(shown nothing "$program" inspect "$room/disk")"
+same "resume on a terminal" "4|sink fault||kept" "$(shown loader "$program" resume "$room/disk")"
+same "resume --any-kernel on a terminal" "4|sink fault||kept" "$(shown loader "$program" resume --any-kernel "$room/disk")"
+# It says so before it opens the area, so whether there is one isn't seen.
+same "resume of no such file on a terminal" "4|sink fault||kept" "$(shown loader "$program" resume "$room/none")"
+same "export on a terminal" "4|sink fault||kept" "$(shown saved "$program" export)"
+same "make on a terminal" "4|sink fault||kept" "$(shown story "$machine" make)"
+same "loader on a terminal" "4|sink fault||kept" "$(shown saved "$machine" loader)"
+same "show on a terminal" "0||slots 1600|kept" "$(shown saved "$machine" show)"
+same "check on a terminal" "0||resumed 5|kept" "$(shown loader "$machine" check "$room/disk")"
 exit $failed

@@ -75,10 +75,10 @@ fn out_fails(rt: HostRuntime) -> Result<(), Fail> {
     Ok(())
 }
 
-/// A number of another range, or with a leading zero, is a number to clap.
+/// A number with a sign or a leading zero is one to clap.
 #[test]
 fn numbers_that_are_none(rt: HostRuntime) -> Result<(), Fail> {
-    for number in ["0", "2001", "010", "4294967295"] {
+    for number in ["010", "+10"] {
         let mut disk = MemDisk::create(rt.alloc(), 1)?;
         let got = run_over(rt.alloc(), &["swsusp", "drill", number], &[], &mut disk)?;
         assert_printed(&got, Status::Words, "", "words\n")?;

@@ -1,3 +1,5 @@
+use thiserror::Error;
+
 /// What an image is tied to: the kernel's version code and the names of `struct new_utsname` (include/uapi/linux/utsname.h),
 /// in the order of the info page: sysname, nodename, release, version, machine, domainname.
 #[derive(Clone, Copy, Debug, PartialEq, Eq)]
@@ -21,11 +23,16 @@ pub struct Info {
 }
 
 /// A field of the identity that an image and the machine are compared by.
-#[derive(Clone, Copy, Debug, PartialEq, Eq)]
+#[derive(Clone, Copy, Debug, PartialEq, Eq, Error)]
 pub enum Field {
+    #[error("version code")]
     VersionCode,
+    #[error("sysname")]
     Sysname,
+    #[error("release")]
     Release,
+    #[error("version")]
     Version,
+    #[error("machine")]
     Machine,
 }

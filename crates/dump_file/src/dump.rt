@@ -1,3 +1,5 @@
+use thiserror::Error;
+
 /// What is wrong with a dump.
 #[derive(Clone, Copy, Debug, PartialEq, Eq)]
 pub enum DumpKind {
@@ -20,16 +22,20 @@ pub enum DumpKind {
 }
 
 /// The first fault of a dump. `at` is a byte's place, or for `Tables` a page frame number.
-#[derive(Clone, Copy, Debug, PartialEq, Eq)]
+#[derive(Clone, Copy, Debug, PartialEq, Eq, Error)]
+#[error("dump {kind:?} at {at}")]
 pub struct DumpFault {
     pub kind: DumpKind,
     pub at: u64,
 }
 
 /// Why no dump was read.
-#[derive(Clone, Copy, Debug, PartialEq, Eq)]
+#[derive(Clone, Copy, Debug, PartialEq, Eq, Error)]
 pub enum DumpStop {
+    #[error("{0}")]
     Fault(DumpFault),
+    #[error("the source failed")]
     SourceFault,
+    #[error("no memory")]
     NoMemory,
 }

@@ -1,12 +1,12 @@
-ghost use Rattle.std.specs.Prelude.{◌≡◌, ◌≤◌, None, ℕ};
+ghost use Rattle.std.specs.Prelude.{◌≡◌, ◌≤◌, None, ℕ, IfOk, length};
 ghost use Rattle.definitions.specs.Disk.{HasRisen};
 
 use crate::sink::Sink;
 use crate::source::Source;
 use page_core::Failed;
-use std::io::{Read, Write};
+use std::io::{self, ErrorKind, Read, Write};
 
-/// A reader of the system, such as standard input. Of its bytes nothing is told.
+/// A reader of the system, such as standard input. Of its bytes nothing is told. A call that a signal interrupts is made again.
 #[derive(Drop)]
 pub struct StdSource<R: Read + Drop> {
     reader: R,
@@ -28,7 +28,7 @@ impl<R: Read + Drop> Source for StdSource<R> {
     ghost faults = { λ s. s.faults };
 
     fn read(&mut self, into: &mut [u8]) -> Result<usize, Failed> {
-        match self.reader.read(into) {
+        match read_again(&mut self.reader, into) {
             Ok(count) => Ok(count),
             Err(_) => {
                 self.faults = self.faults.saturating_add(1);
@@ -38,7 +38,8 @@ impl<R: Read + Drop> Source for StdSource<R> {
     }
 }
 
-/// A writer of the system, such as standard output. Of the bytes that it takes nothing is told.
+/// A writer of the system, such as standard output. Of the bytes that it takes nothing is told. A call that a signal interrupts
+/// is made again.
 #[derive(Drop)]
 pub struct StdSink<W: Write + Drop> {
     writer: W,
@@ -73,16 +74,53 @@ impl<W: Write + Drop> Sink for StdSink<W> {
 
     /// A write that takes nothing of a piece that isn't empty is a fault.
     fn write(&mut self, from: &[u8]) -> Result<usize, Failed> {
-        match self.writer.write(from) {
+        match write_again(&mut self.writer, from) {
             Ok(count) if count > 0 || from.is_empty() => Ok(count),
             _ => Err(self.fail()),
         }
     }
 
     fn flush(&mut self) -> Result<(), Failed> {
-        match self.writer.flush() {
+        match flush_again(&mut self.writer) {
             Ok(()) => Ok(()),
             Err(_) => Err(self.fail()),
         }
     }
+}
+
+/// Reads, and does so again where a signal interrupts it.
+fn read_again<R: Read>(reader: &mut R, into: &mut [u8]) -> io::Result<usize>
+    ensures { IfOk result (λ count. count ≤ length into.old) }
+{
+    for _ in 0..u64::MAX {
+        match reader.read(into) {
+            Err(error) if error.kind() == ErrorKind::Interrupted => {}
+            answer => return answer,
+        }
+    }
+    Err(ErrorKind::Interrupted.into())
+}
+
+/// Writes, and does so again where a signal interrupts it.
+fn write_again<W: Write>(writer: &mut W, from: &[u8]) -> io::Result<usize>
+    ensures { IfOk result (λ count. count ≤ length from.now) }
+{
+    for _ in 0..u64::MAX {
+        match writer.write(from) {
+            Err(error) if error.kind() == ErrorKind::Interrupted => {}
+            answer => return answer,
+        }
+    }
+    Err(ErrorKind::Interrupted.into())
+}
+
+/// Flushes, and does so again where a signal interrupts it.
+fn flush_again<W: Write>(writer: &mut W) -> io::Result<()> {
+    for _ in 0..u64::MAX {
+        match writer.flush() {
+            Err(error) if error.kind() == ErrorKind::Interrupted => {}
+            answer => return answer,
+        }
+    }
+    Err(ErrorKind::Interrupted.into())
 }

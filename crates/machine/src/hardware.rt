@@ -6,6 +6,7 @@ use crate::regions::Regions;
 use definitions::Ident;
 use std::marker::Model;
 use swap_slots::FileMap;
+use thiserror::Error;
 use zones::Zones;
 
 /// What a machine is made of, before it is known to fit together.
@@ -30,18 +31,23 @@ pub struct Parts<'a> {
 }
 
 /// Why parts are no hardware: the first of these that is at fault, in this order.
-#[derive(Clone, Copy, Debug, PartialEq, Eq)]
+#[derive(Clone, Copy, Debug, PartialEq, Eq, Error)]
 pub enum HardFault {
-    /// The zones are none, as `Zones::of` tells.
+    /// The pairs are no zones, as `Zones::of` says.
+    #[error("no zones")]
     Zones,
     /// The slots are fewer than 2 or more than 131,072.
+    #[error("fewer than 2 slots or more than 131072")]
     Slots,
     /// A page frame of a table isn't valid, or the tables share one.
+    #[error("a table lies outside the zones or on the other one")]
     Tables,
     /// There are more than 64 regions, one is empty, has odd flags or flags above 126, or has a page frame that isn't valid, is a
     /// table's or lies in another region.
+    #[error("the regions are at fault")]
     Regions,
-    /// The extents are none of so many slots, as `FileMap::of` tells.
+    /// The extents don't cover the slots, as `FileMap::of` says.
+    #[error("the extents don't cover the slots")]
     Extents,
 }
 

@@ -16,6 +16,7 @@ use swsusp_cli::{Answer, Status, machine_of, no_dump, no_memory, stopped, unread
 
 /// Reads a loader's dump to its end, and tells what a resume of the image on the disk into its machine would answer. The disk is only
 /// read.
+#[inline(never)]
 pub fn check<I: Source, O: Sink, N: Sink, D: Disk>(
     alloc: Global,
     input: &mut I,

@@ -11,6 +11,7 @@ use std::alloc::Global;
 use swsusp_cli::{Answer, Status, no_dump, no_memory, unread};
 
 /// Reads two dumps, one after the other, and tells where they differ first, or that an image would save the same of both machines.
+#[inline(never)]
 pub fn differ<I: Source, J: Source, O: Sink, N: Sink>(
     alloc: Global,
     first: &mut I,

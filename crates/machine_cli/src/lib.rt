@@ -6,11 +6,9 @@ mod differing;
 mod loading;
 mod making;
 mod showing;
-mod words;
 
 pub use checking::check;
 pub use differing::differ;
 pub use loading::loader;
 pub use making::make;
 pub use showing::show_facts;
-pub use words::Command;

@@ -11,6 +11,7 @@ use swsusp_cli::{Status, no_dump, no_memory, tell_dump, unread};
 
 /// Reads a dump to its end, and writes the dump of its machine when it has just booted: a loader, into which an image can be resumed. No
 /// disk is used.
+#[inline(never)]
 pub fn loader<I: Source, O: Sink, N: Sink>(
     alloc: Global,
     input: &mut I,

@@ -15,6 +15,7 @@ use swsusp_cli::{
 };
 
 /// Plays a script over a disk, and writes the memory of the machine that runs at its end as a dump. Where none runs, that is noted.
+#[inline(never)]
 pub fn make<I: Source, O: Sink, N: Sink, D: Disk>(
     alloc: Global,
     input: &mut I,

@@ -14,6 +14,7 @@ use std::alloc::Global;
 use swsusp_cli::{Status, no_dump, no_memory, print, unread};
 
 /// Reads a dump to its end, and prints its facts: hardware, and who has the page frames and the slots. No disk is used.
+#[inline(never)]
 pub fn show_facts<I: Source, O: Sink, N: Sink>(
     alloc: Global,
     input: &mut I,

@@ -12,12 +12,14 @@ ghost use Rattle.saveable.specs.Tests.{free_by_entry};
 use memory_bitmap::Bitmap;
 use page_states::{PageFlags, entry};
 use saveable::View;
+use thiserror::Error;
 
 /// Free page frames that are left for the writing of the image (PAGES_FOR_IO).
 const PAGES_FOR_IO: u32 = 1024;
 
 /// Too few page frames are free.
-#[derive(Clone, Copy, Debug, PartialEq, Eq)]
+#[derive(Clone, Copy, Debug, PartialEq, Eq, Error)]
+#[error("{free} page frames are free, {need} are needed")]
 pub struct Short {
     pub free: u32,
     pub need: u32,

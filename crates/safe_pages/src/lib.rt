@@ -13,13 +13,15 @@ use page_core::NoMemory;
 use plan::{pair, reserve};
 use std::alloc::Global;
 use std::marker::Model;
+use thiserror::Error;
 use zones::Zones;
 
 /// One list frame serves this many moves: it has 170 entries, and 85 moves make at most so many.
 const MOVES_A_LIST_FRAME: u32 = 85;
 
 /// Too few page frames are free to the loader.
-#[derive(Clone, Copy, Debug, PartialEq, Eq)]
+#[derive(Clone, Copy, Debug, PartialEq, Eq, Error)]
+#[error("{have} page frames are free to the loader, {need} are needed")]
 pub struct TooFew {
     pub have: u32,
     pub need: u32,

@@ -1,8 +1,11 @@
 ghost use Rattle.std.specs.Prelude.{◌≡◌};
 ghost use Rattle.script.specs.Kinds.{kind_name};
 
+use thiserror::Error;
+
 /// Where a script is at fault, and how.
-#[derive(Clone, Copy, Debug, PartialEq, Eq)]
+#[derive(Clone, Copy, Debug, PartialEq, Eq, Error)]
+#[error("script line {line} {kind:?}")]
 pub struct ScriptFault {
     /// The line's number, from 1 on. It is 0 for a script that is too long.
     pub line: u32,
@@ -33,9 +36,11 @@ pub enum FaultKind {
 }
 
 /// Why a script wasn't read.
-#[derive(Clone, Copy, Debug, PartialEq, Eq)]
+#[derive(Clone, Copy, Debug, PartialEq, Eq, Error)]
 pub enum ParseStop {
+    #[error("{0}")]
     Fault(ScriptFault),
+    #[error("no memory")]
     NoMemory,
 }
 

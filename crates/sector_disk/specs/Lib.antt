@@ -3,7 +3,6 @@ pub mod ContentLaws
 pub mod Calls
 pub mod Called
 pub mod MemDisk
-pub mod FileDisk
 pub mod Recorded
 pub mod RecordedLaws
 pub mod LogDisk

@@ -1,14 +1,8 @@
 ghost use Rattle.std.specs.Prelude.{◌≡◌, ◌<◌};
 
-use crate::{Disk, FileDisk, LogDisk, MemDisk};
+use crate::{Disk, LogDisk, MemDisk};
 use page_core::{Failed, Page};
-use std::fs;
-use std::fs::File;
 use std::test::Fail;
-
-const FOLDER: &str = "sector_disk_test";
-
-const PATH: &str = "sector_disk_test/disk";
 
 // The first bytes of the sectors of block 0, as the disk reads.
 fn first_bytes<D: Disk>(disk: &mut D) -> Result<[u8; 8], Failed>
@@ -122,32 +116,5 @@ fn a_call_without_room_leaves_every_sector(rt: HostRuntime) -> Result<(), Fail> 
     disk.sync()?;
     assert_eq!(rt; first_bytes(&mut disk)?, [9; 8]);
     assert!(rt; disk.is_full());
-    Ok(())
-}
-
-#[test]
-fn a_file_keeps_its_blocks(rt: HostRuntime) -> Result<(), Fail> {
-    let _ = fs::remove_dir_all(&rt, FOLDER);
-    fs::create_dir(&rt, FOLDER)?;
-    fs::File::create(&rt, PATH)?.set_len(3001 * 4096 + 5)?;
-
-    let mut disk = FileDisk::<File>::open(&rt, PATH)?;
-    assert_eq!(rt; disk.blocks(), 3001);
-    disk.write(0, &Page::from_bytes(&[7; 4096]))?;
-    disk.write(3000, &Page::from_bytes(&[9; 4096]))?;
-    disk.sync()?;
-    drop(disk);
-
-    let mut disk = FileDisk::<File>::open_read_only(&rt, PATH)?;
-    assert_eq!(rt; disk.blocks(), 3001);
-    assert_eq!(rt; first_bytes(&mut disk)?, [7; 8]);
-    let mut page = Page::zero();
-    disk.read(3000, &mut page)?;
-    assert_eq!(rt; *page.as_bytes(), [9; 4096]);
-    assert_eq!(rt; disk.write(0, &page), Err(Failed));
-    drop(disk);
-
-    assert!(rt; FileDisk::<File>::open(&rt, "sector_disk_test/none").is_err());
-    fs::remove_dir_all(&rt, FOLDER)?;
     Ok(())
 }

@@ -9,6 +9,7 @@ use crate::layout::{
 };
 use crate::signatures::{AREA, IMAGE, OLD, signature, with_signature};
 use page_core::Page;
+use thiserror::Error;
 
 /// A version 1 swap area, as its header block describes it (`union swap_header`, include/linux/swap.h).
 #[derive(Clone, Copy, Debug, PartialEq, Eq)]
@@ -38,15 +39,19 @@ pub struct Mark {
 }
 
 /// Why a block with the signature `SWAPSPACE2` is no area that can be used.
-#[derive(Clone, Copy, Debug, PartialEq, Eq)]
+#[derive(Clone, Copy, Debug, PartialEq, Eq, Error)]
 pub enum AreaFault {
     /// The version isn't 1.
+    #[error("version {version}")]
     Version { version: u32 },
     /// More than 630 bad pages.
+    #[error("{count} bad pages")]
     BadCount { count: u32 },
     /// There is no slot but the header's.
+    #[error("last page 0")]
     LastZero,
     /// The first bad page that is 0 or above the last slot.
+    #[error("bad page {slot} is no slot")]
     BadEntry { slot: u32 },
 }
 

@@ -1,31 +1,105 @@
-//! Standard streams that are closed keep their places (as coreutils and util-linux see to it, gnulib's stdopen).
+//! The standard streams: those that are closed keep their places (as coreutils and util-linux see to it, gnulib's stdopen), and
+//! standard output is synced where it is a file.
 #![tactic(auto)]
 
-use std::fs::{File, OpenOptions};
-use std::io;
+ghost use Rattle.std.specs.Prelude.{IfOk, IfSome};
+ghost use Rattle.std.specs.Fd.{file_raw_fd};
+ghost use Rattle.standard_streams.specs.Places.{IsInput, IsOutput, TakesPlaces};
+
+use std::fs::{self, File, Metadata, OpenOptions};
+use std::io::{self, ErrorKind};
 use std::os::fd::AsRawFd;
+use std::os::unix::fs::{FileTypeExt, MetadataExt};
 
 /// The file that stands for a standard stream that is closed.
 const NO_STREAM: &str = "/dev/null";
 
+/// Standard output and standard error, by their places among the program's descriptors (proc_pid_fd(5)).
+const OUTPUTS: [&str; 2] = ["/proc/self/fd/1", "/proc/self/fd/2"];
+
 /// The places of standard streams that were closed, taken as long as this is kept.
 #[derive(Drop)]
 pub struct Held {
-    _input: Option<File>,
-    _outputs: (File, File),
+    input: Option<File>,
+    first: Option<File>,
+    second: Option<File>,
 }
 
 /// Takes the places of standard streams that are closed, so that no file which is opened later becomes one. Standard input's is
 /// open for writing alone and those of the outputs for reading alone, so that they fail as closed ones do.
-pub fn hold(rt: &HostRuntime) -> io::Result<Held> {
-    let first = OpenOptions::new().write(true).open(rt, NO_STREAM)?;
-    let input = if first.as_raw_fd() == 0 {
-        Some(first)
+pub fn hold(rt: &HostRuntime) -> io::Result<Held>
+    ensures { IfOk result TakesPlaces }
+{
+    Ok(Held {
+        input: input_place(rt)?,
+        first: output_place(rt)?,
+        second: output_place(rt)?,
+    })
+}
+
+/// Takes the place of standard input, where it is free: a file that is opened takes the lowest place (open(2)).
+fn input_place(rt: &HostRuntime) -> io::Result<Option<File>>
+    ensures { IfOk result (λ place. IfSome place (λ file. IsInput (file_raw_fd file))) }
+{
+    let lowest = File::open(rt, NO_STREAM)?;
+    if lowest.as_raw_fd() != 0 {
+        return Ok(None);
+    }
+    drop(lowest);
+    let input = OpenOptions::new().write(true).open(rt, NO_STREAM)?;
+    Ok(if input.as_raw_fd() == 0 {
+        Some(input)
     } else {
         None
-    };
-    Ok(Held {
-        _input: input,
-        _outputs: (File::open(rt, NO_STREAM)?, File::open(rt, NO_STREAM)?),
     })
+}
+
+/// Takes the lowest place that is free, where it is that of an output.
+fn output_place(rt: &HostRuntime) -> io::Result<Option<File>>
+    ensures { IfOk result (λ place. IfSome place (λ file. IsOutput (file_raw_fd file))) }
+{
+    let lowest = File::open(rt, NO_STREAM)?;
+    Ok(match lowest.as_raw_fd() {
+        1 | 2 => Some(lowest),
+        _ => None,
+    })
+}
+
+/// Whether standard output or standard error is the file or the block device at a path, so that what is printed would reach it.
+pub fn is_output(rt: &HostRuntime, path: &str) -> bool {
+    match fs::metadata(rt, path) {
+        Ok(found) => OUTPUTS.iter().any(|output| match fs::metadata(rt, *output) {
+            Ok(open) => is_same(&open, &found),
+            Err(_) => false,
+        }),
+        Err(_) => false,
+    }
+}
+
+/// Whether two names are those of one file, or of one block device.
+fn is_same(first: &Metadata, second: &Metadata) -> bool {
+    let devices = first.file_type().is_block_device() && second.file_type().is_block_device();
+    (first.dev() == second.dev() && first.ino() == second.ino())
+        || (devices && first.rdev() == second.rdev())
+}
+
+/// Syncs standard output where it is a regular file, so that what was printed outlasts a power cut. Where the system shows no
+/// descriptors, or doesn't let the program open the file itself, nothing is synced.
+///
+/// The library syncs files that it opened, so the file is opened once more.
+pub fn sync_output(rt: &HostRuntime) -> io::Result<()> {
+    match fs::metadata(rt, OUTPUTS[0]) {
+        Ok(found) if found.is_file() => sync_file(rt, OUTPUTS[0]),
+        Ok(_) => Ok(()),
+        Err(error) if error.kind() == ErrorKind::NotFound => Ok(()),
+        Err(error) => Err(error),
+    }
+}
+
+fn sync_file(rt: &HostRuntime, path: &str) -> io::Result<()> {
+    match OpenOptions::new().write(true).open(rt, path) {
+        Ok(file) => file.sync_all(),
+        Err(error) if error.kind() == ErrorKind::PermissionDenied => Ok(()),
+        Err(error) => Err(error),
+    }
 }

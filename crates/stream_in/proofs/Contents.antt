@@ -1,5 +1,5 @@
 -- Calls of the disk in a row, by what they make of its content where it is told.
-use Rattle.std.proofs.Common.{◌≡◌, Option, Some, None, IfSome, Result, Ok, Err, OnOk, IfErr, sym, subst}
+use Rattle.std.proofs.Common.{◌≡◌, Option, Some, None, IfSome, Result, Ok, Err, OnOk, OnErr, IfErr, sym, subst}
 use Rattle.definitions.specs.Disk.{Content, Changes}
 
 pub changes_then : (R S T : Content → Content → Type 0) (a b c : Option Content) → ((x y z : Content) → R x y → S y z → T x z) → Changes R a b → Changes S b c → Changes T a c
@@ -53,6 +53,14 @@ on_ok (Err e) P Q step p = tt
 pub if_err : {A E : Type 0} (r : Result A E) (P Q : E → Type 0) → ((e : E) → P e → Q e) → IfErr r P → IfErr r Q
 if_err (Ok x) P Q step p = tt
 if_err (Err e) P Q step p = step e p
+
+pub on_err_any : {A E : Type 0} (r : Result A E) (P : Type 0) → P → OnErr r P
+on_err_any (Ok x) P p = tt
+on_err_any (Err e) P p = p
+
+pub on_any_err : {A E : Type 0} (r : Result A E) (P : Type 0) → P → IfErr r (λ (e : E). P)
+on_any_err (Ok x) P p = tt
+on_any_err (Err e) P p = p
 
 pub err_same : {A E : Type 0} (r : Result A E) (x y : E) → r ≡ Err x → r ≡ Err y → x ≡ y
 err_same r x y is is' = cc

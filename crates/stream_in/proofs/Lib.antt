@@ -7,6 +7,7 @@ pub mod Sessions
 pub mod Bounds
 pub mod Opened
 pub mod Outsides
+pub mod Rests
 pub mod Laying
 pub mod Pages
 pub mod Holding

@@ -191,3 +191,7 @@ outside_then extents free m n o p q r first second =
 
 pub outside_same : (x y : List (ℕ × ℕ × ℕ)) (free : List ℕ) (m n : ℕ) (p q : ℕ → DiskImage → Type 0) → y ≡ x → ElapsesOutside y free m n p q → ElapsesOutside x free m n p q
 outside_same x y free m n p q e h = subst (λ (z : List (ℕ × ℕ × ℕ)). ElapsesOutside z free m n p q) e h
+
+-- A call that leaves what a cut may leave is one that writes to no block of these slots.
+pub alike_outside : (extents : List (ℕ × ℕ × ℕ)) (free : List ℕ) (m n : ℕ) (p q : ℕ → DiskImage → Type 0) → ElapsesAlike m n p q → ElapsesOutside extents free m n p q
+alike_outside extents free m n p q alike = record { later = alike.later; keeps = alike.keeps; nothing_else = λ t v le left. (v, alike.nothing_else t v le left, agree_same extents free v) }

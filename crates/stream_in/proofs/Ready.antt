@@ -13,10 +13,11 @@ use Rattle.stream_in.specs.declared.session.StreamIn.{StreamIn}
 use Rattle.stream_in.specs.Area.{AreUsable, first_block, room_fault, open_fault}
 use Rattle.stream_in.specs.Holding.{first_blocks, IsReadyFor, StaysReady}
 use Rattle.stream_in.specs.Moments.{ElapsesOutside, AddsNoHeader}
-use Rattle.stream_in.specs.Outside.{IsBlockOf, KeepsOutside}
+use Rattle.stream_in.specs.Outside.{IsBlockOf, KeepsOutside, WritesAtRest}
 use Rattle.stream_in.specs.Session.{IsOpened, TakesInto}
 use Rattle.stream_in.specs.Written.{WritesOn}
 use Rattle.stream_in.proofs.Holding.{not_zero}
+use Rattle.stream_in.proofs.Rests.{ReadsKept, writes_kept}
 use Rattle.stream_in.proofs.Undoing.{first_block-some}
 
 -- the header block is none of the slots'
@@ -35,21 +36,21 @@ header_kept extents free x y apart keeps =
     block-same (as_it_reads y) (as_it_reads x) 0 (length-as_it_reads y ∙ keeps.size ∙ sym (length-as_it_reads x))
     (λ j few. live_at y (8 * 0 + j) ∙ ap (λ s. s.live) (keeps.others 0 j few apart) ∙ sym (live_at x (8 * 0 + j)))
 
-stays : (area : Area) (free bs more : List ℕ) (x y : Content) → AreUsable area free → KeepsOutside (first_blocks area) free x y → WritesOn (first_blocks area) free bs more x y → StaysReady area free bs more x y
-stays area free bs more x y usable keeps writes ready = record {
-  header = ap area_kind (header_kept (first_blocks area) free x y (header_apart area free usable) keeps) ∙ ready.header;
+stays : (area : Area) (free bs more : List ℕ) (x y : Content) → AreUsable area free → ReadsKept (first_blocks area) free x y → WritesOn (first_blocks area) free bs more x y → StaysReady area free bs more x y
+stays area free bs more x y usable kept writes ready = record {
+  header = ap area_kind (header_kept (first_blocks area) free kept.from y (header_apart area free usable) kept.keeps ∙ ap (λ v. block v 0) kept.reads) ∙ ready.header;
   written = writes ready.written;
 }
 
-pub told_ready : (area : Area) (free bs more : List ℕ) (extents : List (ℕ × ℕ × ℕ)) (a b : Option Content) → AreUsable area free → extents ≡ first_blocks area → Changes (KeepsOutside extents free) a b → Changes (WritesOn extents free bs more) a b → Changes (StaysReady area free bs more) a b
-told_ready area free bs more extents a b usable is keeps writes =
-    told area free bs more a b usable (subst (λ (e : List (ℕ × ℕ × ℕ)). Changes (KeepsOutside e free) a b) is keeps) (subst (λ (e : List (ℕ × ℕ × ℕ)). Changes (WritesOn e free bs more) a b) is writes)
+pub told_ready : (area : Area) (free bs more : List ℕ) (extents : List (ℕ × ℕ × ℕ)) (n m : ℕ) (a b : Option Content) → AreUsable area free → extents ≡ first_blocks area → Changes (WritesAtRest extents free n m) a b → Changes (WritesOn extents free bs more) a b → Changes (StaysReady area free bs more) a b
+told_ready area free bs more extents n m a b usable is keeps writes =
+    told area free bs more n m a b usable (subst (λ (e : List (ℕ × ℕ × ℕ)). Changes (WritesAtRest e free n m) a b) is keeps) (subst (λ (e : List (ℕ × ℕ × ℕ)). Changes (WritesOn e free bs more) a b) is writes)
   where
-    told : (area : Area) (free bs more : List ℕ) (a b : Option Content) → AreUsable area free → Changes (KeepsOutside (first_blocks area) free) a b → Changes (WritesOn (first_blocks area) free bs more) a b → Changes (StaysReady area free bs more) a b
-    told area free bs more None None usable keeps writes = tt
-    told area free bs more None (Some y) usable keeps writes = absurd keeps
-    told area free bs more (Some x) None usable keeps writes = absurd keeps
-    told area free bs more (Some x) (Some y) usable keeps writes = stays area free bs more x y usable keeps writes
+    told : (area : Area) (free bs more : List ℕ) (n m : ℕ) (a b : Option Content) → AreUsable area free → Changes (WritesAtRest (first_blocks area) free n m) a b → Changes (WritesOn (first_blocks area) free bs more) a b → Changes (StaysReady area free bs more) a b
+    told area free bs more n m None None usable keeps writes = tt
+    told area free bs more n m None (Some y) usable keeps writes = absurd keeps
+    told area free bs more n m (Some x) None usable keeps writes = absurd keeps
+    told area free bs more n m (Some x) (Some y) usable keeps writes = stays area free bs more x y usable (writes_kept (first_blocks area) free n m x y keeps) writes
 
 -- A cut in the midst of a feed.
 pub no_header : (area : Area) (free : List ℕ) (extents : List (ℕ × ℕ × ℕ)) (m n : ℕ) (past since : ℕ → DiskImage → Type 0) → AreUsable area free → extents ≡ first_blocks area → ElapsesOutside extents free m n past since → AddsNoHeader m past since

@@ -44,7 +44,7 @@ IsOfPage (NoSlots free need) = ⊤
 IsOfPage (Stream fault) = ⊥
 IsOfPage (ReadFault left) = ⊥
 IsOfPage (WriteFault left) = left ≡ Same
-IsOfPage (SyncFault left) = ⊥
+IsOfPage (SyncFault left) = left ≡ Same
 
 -- the stops of a feed
 abbrev pub IsOfFeed : InStop → Type 0
@@ -54,7 +54,7 @@ IsOfFeed (NoSlots free need) = ⊤
 IsOfFeed (Stream fault) = ⊤
 IsOfFeed (ReadFault left) = ⊥
 IsOfFeed (WriteFault left) = left ≡ Same
-IsOfFeed (SyncFault left) = ⊥
+IsOfFeed (SyncFault left) = left ≡ Same
 
 -- the stops of a finish
 abbrev pub IsOfFinish : InStop → Type 0

@@ -1,7 +1,8 @@
-ghost use Rattle.std.specs.Prelude.{◌≡◌, ◌⊎◌, ℕ, ◌+◌, ◌<◌, ◌≤◌, ◌^◌, List, Err, IfOk, IfErr, IsTrue, false, length};
+ghost use Rattle.std.specs.Prelude.{◌≡◌, ◌⊎◌, ℕ, ◌+◌, ◌<◌, ◌≤◌, ◌^◌, List, Err, IfOk, IfErr, OnOk, OnErr, IsTrue, false, length};
 ghost use Rattle.definitions.specs.Disk.{HasRisen, Changes};
-ghost use Rattle.stream_in.specs.Outside.{KeepsOutside};
-ghost use Rattle.stream_in.specs.Moments.{ElapsesOutside};
+ghost use Rattle.stream_in.specs.Outside.{FailsAtRest, IsAtRest, KeepsOutside, PutsAtRest};
+ghost use Rattle.stream_in.specs.Moments.{ElapsesAlike, ElapsesOutside};
+ghost use Rattle.plain_machine.specs.declared.reply.Left.TheVariants as left;
 ghost use Rattle.plain_machine.specs.Laid.{is_map_write, page_of_write};
 ghost use Rattle.swap_slots.specs.Table.{LiesIn, Matches};
 ghost use Rattle.image_write.specs.Answers.{Succeeds};
@@ -18,7 +19,7 @@ use crate::InStop;
 use frame_arena::Frames;
 use image_header::decode;
 use image_write::{WriteStep, Writer};
-use page_core::Page;
+use page_core::{Failed, Page};
 use plain_machine::Left;
 use sector_disk::Disk;
 use swap_slots::{FileMap, FreeRuns, SlotTable};
@@ -26,7 +27,8 @@ use swap_slots::{FileMap, FreeRuns, SlotTable};
 /// So many slots more than the image has pages must be free.
 const SPARE_SLOTS: u32 = 1026;
 
-/// Writes a page that is full, with the maps behind it. At the first one the writer begins.
+/// Writes a page that is full, and the maps that follow it. At the first one the writer begins, and the disk is synced before anything
+/// is written.
 pub(crate) fn put_full<D: Disk>(
     writer: Option<Writer>,
     frames: &mut Frames,
@@ -51,7 +53,9 @@ pub(crate) fn put_full<D: Disk>(
         → AreOfMap map.now free → page.now ≡ pages (pages_written writer)
         → IfOk result (λ next. Changes (MakesMore map.now free (pages_in page.now writer) pages (writes_made writer) next.written) (D.content disk.old) (D.content disk.new)) }
     ensures outside { (free : List ℕ) → CanPut free frames.old table.now map.now (D.block_count disk.old) page.now writer →
-        Changes (KeepsOutside map.now free) (D.content disk.old) (D.content disk.new) }
+        IfOk result (λ next. Changes (PutsAtRest map.now free writer) (D.content disk.old) (D.content disk.new)) }
+    ensures stopped { (free : List ℕ) → CanPut free frames.old table.now map.now (D.block_count disk.old) page.now writer →
+        IfErr result (λ why. Changes (FailsAtRest map.now free writer) (D.content disk.old) (D.content disk.new)) }
     ensures time { IsTrue (D.tells_moments disk.old) → (free : List ℕ) → CanPut free frames.old table.now map.now (D.block_count disk.old) page.now writer →
         ElapsesOutside map.now free (D.moment disk.old) (D.moment disk.new) (D.left_since disk.old) (D.left_since disk.new) }
 
@@ -66,11 +70,37 @@ pub(crate) fn put_full<D: Disk>(
     ensures runs { Matches frames.new table.now runs.new }
     ensures room { runs.new.room ≡ runs.old.room }
 {
+    let begins = writer.is_none();
     let mut writer = at_page(writer, frames, runs, table, map, page)?;
+    at_rest(disk, begins)?;
     match put_page(&mut writer, frames, runs, disk, page) {
         WriteStep::More { .. } => Ok(writer),
         WriteStep::Done => Ok(writer),
         WriteStep::Fault => Err(InStop::WriteFault(Left::Same)),
+    }
+}
+
+/// Syncs the disk before the first page is written, so that it has one image.
+fn at_rest<D: Disk>(disk: &mut D, begins: bool) -> Result<(), InStop>
+    ensures rested { OnOk result (Changes (IsAtRest begins) (D.content disk.old) (D.content disk.new)) }
+    ensures failed { IfErr result (λ why. why ≡ stop.SyncFault left.Same) }
+    ensures same { OnErr result (D.content disk.new ≡ D.content disk.old) }
+    ensures cause { OnErr result (HasRisen (D.faults disk.old) (D.faults disk.new)) }
+    ensures faults { D.faults disk.old ≤ D.faults disk.new }
+    ensures calls { D.calls disk.new ≤ D.calls disk.old + 1 }
+    ensures uncalled { begins ≡ false → disk.new ≡ disk.old }
+    ensures orders { D.orders disk.new ≡ D.orders disk.old }
+    ensures blocks { D.block_count disk.new ≡ D.block_count disk.old }
+    ensures telling { D.tells_moments disk.new ≡ D.tells_moments disk.old }
+    ensures time { IsTrue (D.tells_moments disk.old) →
+        ElapsesAlike (D.moment disk.old) (D.moment disk.new) (D.left_since disk.old) (D.left_since disk.new) }
+{
+    if !begins {
+        return Ok(());
+    }
+    match disk.sync() {
+        Ok(()) => Ok(()),
+        Err(Failed) => Err(InStop::SyncFault(Left::Same)),
     }
 }
 
@@ -166,6 +196,7 @@ fn put_page<D: Disk>(
     ensures cause { result ≡ WriteStep.Fault → HasRisen (D.faults disk.old) (D.faults disk.new) }
     ensures faults { D.faults disk.old ≤ D.faults disk.new }
     ensures calls { D.calls disk.new ≤ D.calls disk.old + 3 }
+    ensures first_call { writer.old.written ≡ 0 → 3 ≤ writer.old.info.pages → D.calls disk.new ≤ D.calls disk.old + 1 }
     ensures orders { D.orders disk.new ≡ D.orders disk.old }
     ensures blocks { D.block_count disk.new ≡ D.block_count disk.old }
     ensures telling { D.tells_moments disk.new ≡ D.tells_moments disk.old }

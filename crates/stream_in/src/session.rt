@@ -1,4 +1,4 @@
-ghost use Rattle.std.specs.Prelude.{◌≡◌, ◌↔◌, ◌≤◌, ◌<◌, ℕ, ◌+◌, ◌-◌, ◌*◌, ◌/◌, ◌%◌, ◌++◌, ◌∷◌, List, [], Option, Some, None, Err, IsSome, IsTrue, IfOk, IfErr, IfSome, OnOk, length, replicate};
+ghost use Rattle.std.specs.Prelude.{◌≡◌, ◌↔◌, ◌≤◌, ◌<◌, ℕ, ◌+◌, ◌-◌, ◌*◌, ◌/◌, ◌%◌, ◌++◌, ◌∷◌, List, [], Option, Some, None, Err, IsSome, IsTrue, IfOk, IfErr, IfSome, OnOk, OnErr, length, replicate};
 ghost use Rattle.definitions.specs.Disk.{HasRisen, Changes, as_it_reads, block};
 ghost use Rattle.sig_header.specs.AreaKind.{area_kind};
 ghost use Rattle.plain_machine.specs.UsableArea.{kind_fault};
@@ -8,7 +8,7 @@ ghost use Rattle.stream_in.specs.Area.{first_block, open_fault, HasBounds};
 ghost use Rattle.sig_header.specs.declared.area.Area.{Area as AreaValue};
 ghost use Rattle.sig_header.specs.declared.area.AreaKind.TheVariants as kind;
 ghost use Rattle.definitions.specs.Slots.{IsFileMap};
-ghost use Rattle.stream_in.specs.Outside.{KeepsOutside};
+ghost use Rattle.stream_in.specs.Outside.{StopsAtRest, WritesAtRest};
 ghost use Rattle.stream_in.specs.Moments.{AddsNoHeader, ElapsesAlike, ElapsesOutside, ElapsesOverMark, MarksWhole, LeavesWhole};
 ghost use Rattle.stream_in.specs.Written.{AreOfMap, WritesOn};
 ghost use Rattle.stream_in.specs.Marking.{Marks, LeavesAt};
@@ -148,7 +148,9 @@ impl StreamIn {
         ensures ready { (area : AreaValue) (free bs : List ℕ) → TakesInto area free bs self.old →
             OnOk result (Changes (StaysReady area free bs piece.now) (D.content disk.old) (D.content disk.new)) }
         ensures outside { (free bs : List ℕ) → IsFed free bs self.old →
-            Changes (KeepsOutside self.old.map free) (D.content disk.old) (D.content disk.new) }
+            OnOk result (Changes (WritesAtRest self.old.map free (length bs) (length (bs ++ piece.now))) (D.content disk.old) (D.content disk.new)) }
+        ensures stopped { (free bs : List ℕ) → IsFed free bs self.old →
+            OnErr result (Changes (StopsAtRest self.old.map free (length bs)) (D.content disk.old) (D.content disk.new)) }
         ensures time { IsTrue (D.tells_moments disk.old) → (free bs : List ℕ) → IsFed free bs self.old →
             ElapsesOutside self.old.map free (D.moment disk.old) (D.moment disk.new) (D.left_since disk.old) (D.left_since disk.new) }
         ensures header { IsTrue (D.tells_moments disk.old) → (area : AreaValue) (free bs : List ℕ) → TakesInto area free bs self.old →
@@ -200,7 +202,9 @@ impl StreamIn {
         ensures done { (free bs : List ℕ) → IsFed free bs self.old → AreOfMap self.old.map free →
             OnOk result (Changes (WritesOn self.old.map free bs part.now) (D.content disk.old) (D.content disk.new)) }
         ensures outside { (free bs : List ℕ) → IsFed free bs self.old →
-            Changes (KeepsOutside self.old.map free) (D.content disk.old) (D.content disk.new) }
+            OnOk result (Changes (WritesAtRest self.old.map free (length bs) (length (bs ++ part.now))) (D.content disk.old) (D.content disk.new)) }
+        ensures stopped { (free bs : List ℕ) → IsFed free bs self.old →
+            OnErr result (Changes (StopsAtRest self.old.map free (length bs)) (D.content disk.old) (D.content disk.new)) }
         ensures time { IsTrue (D.tells_moments disk.old) → (free bs : List ℕ) → IsFed free bs self.old →
             ElapsesOutside self.old.map free (D.moment disk.old) (D.moment disk.new) (D.left_since disk.old) (D.left_since disk.new) }
         ensures same { self.new.blocks ≡ self.old.blocks }

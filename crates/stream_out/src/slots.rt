@@ -5,12 +5,14 @@ ghost use Rattle.stream_out.specs.TaskSlots.{HasNoTaskSlot, IsFirstTaskSlot};
 use frame_arena::Frames;
 use machine::{Hardware, slot_table};
 use swap_slots::SlotEntry;
+use thiserror::Error;
 
 /// Tasks are numbered from 1 up to this.
 const MOST_TASKS: u32 = 64;
 
 /// A task has pages in swap slots, which a stream can't hold.
-#[derive(Clone, Copy, Debug, PartialEq, Eq)]
+#[derive(Clone, Copy, Debug, PartialEq, Eq, Error)]
+#[error("a task has slot {slot}")]
 pub struct SlotsInUse {
     /// The lowest such slot.
     pub slot: u32,

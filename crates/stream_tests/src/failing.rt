@@ -1,5 +1,5 @@
-//! Calls that fail. An import of 7 pages makes 13 of the disk: a read (1), the pages and the map (2 to 9), a sync (10), a read (11), the
-//! mark (12) and its sync (13); an undo writes (14) and syncs (15).
+//! Calls that fail. An import of 7 pages makes 14 of the disk: a read (1), a sync (2), the pages and the map (3 to 10), a sync (11), a
+//! read (12), the mark (13) and its sync (14); an undo writes (15) and syncs (16).
 
 use crate::runs::{assert_unmarked, import};
 use samples::{
@@ -30,7 +30,7 @@ fn before_the_mark(rt: HostRuntime) -> Result<(), Fail> {
     let alloc = rt.alloc();
     let table = [
         (1, "read fault same\n"),
-        (2, "write fault same\n"),
+        (2, "sync fault same\n"),
         (3, "write fault same\n"),
         (4, "write fault same\n"),
         (5, "write fault same\n"),
@@ -38,8 +38,9 @@ fn before_the_mark(rt: HostRuntime) -> Result<(), Fail> {
         (7, "write fault same\n"),
         (8, "write fault same\n"),
         (9, "write fault same\n"),
-        (10, "sync fault same\n"),
-        (11, "read fault same\n"),
+        (10, "write fault same\n"),
+        (11, "sync fault same\n"),
+        (12, "read fault same\n"),
     ];
     for (call, note) in table {
         let mut disk = stopped_import(alloc, (call, 1, u64::MAX), note)?;
@@ -56,9 +57,9 @@ fn before_the_mark(rt: HostRuntime) -> Result<(), Fail> {
 fn a_mark_that_is_taken_back(rt: HostRuntime) -> Result<(), Fail> {
     let alloc = rt.alloc();
     let table = [
-        ((12, 1, 0), "write fault gone\n"),
-        ((12, 1, u64::MAX), "write fault gone\n"),
-        ((13, 1, 0), "sync fault gone\n"),
+        ((13, 1, 0), "write fault gone\n"),
+        ((13, 1, u64::MAX), "write fault gone\n"),
+        ((14, 1, 0), "sync fault gone\n"),
     ];
     for (fault, note) in table {
         let mut disk = stopped_import(alloc, fault, note)?;
@@ -73,10 +74,10 @@ fn a_mark_that_is_taken_back(rt: HostRuntime) -> Result<(), Fail> {
 fn an_undo_that_fails(rt: HostRuntime) -> Result<(), Fail> {
     let alloc = rt.alloc();
     let table = [
-        ((12, 2, 0), "write fault unsure\n", false),
-        ((13, 2, 0), "sync fault unsure\n", true),
-        ((13, 2, u64::MAX), "sync fault unsure\n", false),
-        ((13, 3, 0), "sync fault unsure\n", true),
+        ((13, 2, 0), "write fault unsure\n", false),
+        ((14, 2, 0), "sync fault unsure\n", true),
+        ((14, 2, u64::MAX), "sync fault unsure\n", false),
+        ((14, 3, 0), "sync fault unsure\n", true),
     ];
     for (fault, note, image) in table {
         let mut disk = stopped_import(alloc, fault, note)?;

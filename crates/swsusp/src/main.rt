@@ -2,9 +2,11 @@
 #![tactic(auto)]
 
 use dump_file::{StdSink, StdSource};
+use file_disk::FileDisk;
 use page_core::NoMemory;
-use sector_disk::{Disk, FileDisk, MemDisk};
-use std::fs::File;
+use sector_disk::{Disk, MemDisk};
+use standard_streams::{hold, is_output, sync_output};
+use std::io::IsTerminal;
 use std::process::ExitCode;
 use std::{env, io};
 use swsusp_cli::{Choice, Status, print, run, swap_name};
@@ -23,46 +25,79 @@ fn main(rt: HostRuntime) -> ExitCode {
     };
     match swap_name(rt.alloc(), &words) {
         Err(NoMemory) => no_memory(&rt),
-        Ok(Choice::File(path)) => {
-            let Ok(_held) = standard_streams::hold(&rt) else {
-                return ended(&rt, b"open fault\n", NOT_OPENED);
-            };
-            match open(&rt, &words, path.as_str()) {
-                Err(_) => ended(&rt, b"open fault\n", NOT_OPENED),
-                Ok(mut disk) => run_over(&rt, &words, &mut disk),
-            }
-        }
-        Ok(Choice::Memory(blocks)) => match MemDisk::create(rt.alloc(), blocks) {
-            Err(NoMemory) => no_memory(&rt),
-            Ok(mut disk) => run_over(&rt, &words, &mut disk),
-        },
+        Ok(Choice::File(path)) => run_over_file(&rt, &words, path.as_str()),
+        Ok(Choice::Memory(blocks)) => run_over_memory(&rt, &words, blocks),
     }
 }
 
-/// Opens the swap file: for `inspect` for reading alone.
-fn open(rt: &HostRuntime, words: &[String], path: &str) -> io::Result<FileDisk<File>> {
+/// Runs over the swap file, which `inspect` opens for reading alone. A terminal as the output of `resume` is refused before the file is
+/// opened, since a resume gives the image up; so is a swap file that is an output itself.
+fn run_over_file(rt: &HostRuntime, words: &[String], path: &str) -> ExitCode {
+    let Ok(_held) = hold(rt) else {
+        return not_opened(rt);
+    };
+    if is_command(words, "resume") && rt.stdout().is_terminal() {
+        return sink_fault(rt);
+    }
+    if is_output(rt, path) {
+        return not_opened(rt);
+    }
+    let opened = if is_command(words, "inspect") {
+        FileDisk::open_read_only(rt, path)
+    } else {
+        FileDisk::open(rt, path)
+    };
+    match opened {
+        Err(_) => not_opened(rt),
+        Ok(mut disk) => run_over(rt, words, &mut disk),
+    }
+}
+
+/// Runs over a disk in memory. A terminal as the output of `export` is refused.
+fn run_over_memory(rt: &HostRuntime, words: &[String], blocks: u32) -> ExitCode {
+    if is_command(words, "export") && words.len() == 2 && rt.stdout().is_terminal() {
+        return sink_fault(rt);
+    }
+    match MemDisk::create(rt.alloc(), blocks) {
+        Err(NoMemory) => no_memory(rt),
+        Ok(mut disk) => run_over(rt, words, &mut disk),
+    }
+}
+
+fn is_command(words: &[String], name: &str) -> bool {
     match words {
-        [_, command, ..] if command.as_str() == "inspect" => FileDisk::open_read_only(rt, path),
-        _ => FileDisk::open(rt, path),
+        [_, command, ..] => command.as_str() == name,
+        _ => false,
     }
 }
 
-/// Runs over a disk, with the standard streams.
+/// Runs over a disk, with the standard streams. What was printed is synced before the run ends well: after a resume it is the only
+/// copy of a machine.
 fn run_over<D: Disk>(rt: &HostRuntime, words: &[String], disk: &mut D) -> ExitCode {
     let mut input = StdSource::new(rt.stdin());
     let mut out = StdSink::new(rt.stdout());
     let mut note = StdSink::new(rt.stderr());
     let status = run(rt.alloc(), words, &mut input, &mut out, &mut note, disk);
+    if status == Status::Done && sync_output(rt).is_err() {
+        return sink_fault(rt);
+    }
     ExitCode::from(status.code())
 }
 
-/// Ends before a run, with a note.
+/// Ends outside a run, with a note.
 fn ended(rt: &HostRuntime, text: &[u8], code: u8) -> ExitCode {
     let _ = print(&mut StdSink::new(rt.stderr()), text);
     ExitCode::from(code)
 }
 
-/// Ends before a run, where memory was refused.
 fn no_memory(rt: &HostRuntime) -> ExitCode {
     ended(rt, b"no memory\n", Status::Memory.code())
+}
+
+fn sink_fault(rt: &HostRuntime) -> ExitCode {
+    ended(rt, b"sink fault\n", Status::Stream.code())
+}
+
+fn not_opened(rt: &HostRuntime) -> ExitCode {
+    ended(rt, b"open fault\n", NOT_OPENED)
 }

@@ -11,7 +11,7 @@ use Rattle.swsusp_cli.specs.Outcome.{Tells, small_told, unformatted_told}
 use Rattle.swsusp_cli.specs.Replay.{AreCounted}
 use Rattle.swsusp_cli.specs.SettingUp.{IsNotSetUp, unready_told}
 use Rattle.swsusp_cli.specs.View.{View}
-use Rattle.swsusp_cli.specs.Words.{Asked, drill}
+use Rattle.swsusp_words.specs.Words.{Asked, drill}
 use Rattle.swsusp_cli.specs.declared.setting_up.Unready.{Unready}
 use Rattle.swsusp_cli.specs.declared.setting_up.Unready.TheVariants.{Memory, Small, Unformatted as NotFormatted}
 use Rattle.swsusp_cli.specs.declared.status.Status.{Status}

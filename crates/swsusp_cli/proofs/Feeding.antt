@@ -6,14 +6,14 @@ use Rattle.definitions.specs.Disk.{Content, Changes, HasRisen}
 use Rattle.definitions.specs.Streams.{HandsOut}
 use Rattle.stream_check.specs.Grammar.{first_fault}
 use Rattle.stream_check.proofs.Steps.{sound_from}
-use Rattle.stream_in.specs.Outside.{KeepsOutside}
+use Rattle.stream_in.specs.Outside.{StopsAtRest, WritesAtRest}
 use Rattle.stream_in.specs.Session.{HasTooFewFor}
 use Rattle.stream_in.specs.Stops.{IsOfFeed}
 use Rattle.stream_in.specs.Written.{WritesOn}
 use Rattle.stream_in.specs.declared.stop.InStop.{InStop}
 use Rattle.stream_in.specs.declared.stop.InStop.TheVariants as stop
 use Rattle.stream_check.specs.declared.fault.StreamFault.{StreamFault}
-use Rattle.stream_in.proofs.Outsides.{keeps_none, keeps_then}
+use Rattle.stream_in.proofs.Rests.{stops_then, unwritten, writes_then}
 use Rattle.swsusp_cli.specs.Feeding.{Holds, IsCalled, IsStopFor}
 use Rattle.swsusp_cli.specs.View.{DiskView}
 
@@ -46,9 +46,10 @@ same_left bs old mid new e h = subst (λ (o : Option (List ℕ)). HandsOut (leng
 -- What the disk holds of them.
 
 pub holds_none : (extents : List (ℕ × ℕ × ℕ)) (free : List ℕ) (x : Content) → Holds extents free [] x x
-holds_none extents free x = record { outside = keeps_none extents free x; written = λ late. absurd (omega arith) }
+holds_none extents free x = record { outside = unwritten extents free 0 0 x (λ le. absurd (omega arith)); written = λ late. absurd (omega arith) }
 
-pub holds_more : (extents extents' : List (ℕ × ℕ × ℕ)) (free bs part : List ℕ) (a b c : Option Content) → extents' ≡ extents → Changes (Holds extents free bs) a b → Changes (WritesOn extents' free bs part) b c → Changes (KeepsOutside extents' free) b c → Changes (Holds extents free (bs ++ part)) a c
+pub holds_more : (extents extents' : List (ℕ × ℕ × ℕ)) (free bs part : List ℕ) (a b c : Option Content) → extents' ≡ extents → Changes (Holds extents free bs) a b → Changes (WritesOn extents' free bs part) b c →
+    Changes (WritesAtRest extents' free (length bs) (length (bs ++ part))) b c → Changes (Holds extents free (bs ++ part)) a c
 holds_more extents extents' free bs part None None None e h i j = tt
 holds_more extents extents' free bs part None None (Some z) e h i j = absurd i
 holds_more extents extents' free bs part None (Some y) c e h i j = absurd h
@@ -56,19 +57,19 @@ holds_more extents extents' free bs part (Some x) None c e h i j = absurd h
 holds_more extents extents' free bs part (Some x) (Some y) None e h i j = absurd i
 holds_more extents extents' free bs part (Some x) (Some y) (Some z) e h i j =
     let w : WritesOn extents free bs part y z = subst (λ (m : List (ℕ × ℕ × ℕ)). WritesOn m free bs part y z) e i in
-    let k : KeepsOutside extents free y z = subst (λ (m : List (ℕ × ℕ × ℕ)). KeepsOutside m free y z) e j in
-    record { outside = keeps_then extents free x y z h.outside k; written = w h.written }
+    let k : WritesAtRest extents free (length bs) (length (bs ++ part)) y z = subst (λ (m : List (ℕ × ℕ × ℕ)). WritesAtRest m free (length bs) (length (bs ++ part)) y z) e j in
+    record { outside = writes_then extents free 0 (length bs) (length (bs ++ part)) x y z (omega arith) (omega (arith, length-append bs part)) h.outside k; written = w h.written }
 
--- or only of the other blocks
-pub keeps_more : (extents extents' : List (ℕ × ℕ × ℕ)) (free bs : List ℕ) (a b c : Option Content) → extents' ≡ extents → Changes (Holds extents free bs) a b → Changes (KeepsOutside extents' free) b c → Changes (KeepsOutside extents free) a c
+-- or it stops there
+pub keeps_more : (extents extents' : List (ℕ × ℕ × ℕ)) (free bs : List ℕ) (a b c : Option Content) → extents' ≡ extents → Changes (Holds extents free bs) a b → Changes (StopsAtRest extents' free (length bs)) b c → Changes (StopsAtRest extents free 0) a c
 keeps_more extents extents' free bs None None None e h j = tt
 keeps_more extents extents' free bs None None (Some z) e h j = absurd j
 keeps_more extents extents' free bs None (Some y) c e h j = absurd h
 keeps_more extents extents' free bs (Some x) None c e h j = absurd h
 keeps_more extents extents' free bs (Some x) (Some y) None e h j = absurd j
 keeps_more extents extents' free bs (Some x) (Some y) (Some z) e h j =
-    let k : KeepsOutside extents free y z = subst (λ (m : List (ℕ × ℕ × ℕ)). KeepsOutside m free y z) e j in
-    keeps_then extents free x y z h.outside k
+    let k : StopsAtRest extents free (length bs) y z = subst (λ (m : List (ℕ × ℕ × ℕ)). StopsAtRest m free (length bs) y z) e j in
+    stops_then extents free 0 (length bs) x y z (omega arith) h.outside k
 
 -- How often it was called.
 

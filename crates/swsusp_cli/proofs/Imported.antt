@@ -3,10 +3,10 @@ use Rattle.std.proofs.Common.{◌≡◌, ◌↔◌, ◌≤◌, ◌<◌, zero, su
 use Rattle.std.proofs.lemmas.Bool.{and_parts, leb-true, cond-true}
 use Rattle.std.proofs.lemmas.Bool.Decides.{eqb_tells}
 use Rattle.std.proofs.lemmas.List.Elements.{Contains-get_or}
-use Rattle.definitions.specs.Disk.{Sector, Content, Changes, HasRisen, as_it_reads, block, sector}
+use Rattle.definitions.specs.Disk.{Sector, Content, Changes, HasRisen, as_it_reads, block, sector, settled}
 use Rattle.definitions.specs.Streams.{IsUsedUp}
 use Rattle.definitions.specs.SwapHeader.{marked}
-use Rattle.definitions.proofs.DiskLaws.{block-same, length-as_it_reads}
+use Rattle.definitions.proofs.DiskLaws.{as_it_reads-settled, block-same, length-as_it_reads, length-settled}
 use Rattle.sig_header.specs.AreaKind.{area_kind}
 use Rattle.sig_header.specs.declared.area.Area.{Area}
 use Rattle.sig_header.specs.declared.area.AreaKind.TheVariants as kind
@@ -14,7 +14,6 @@ use Rattle.plain_machine.specs.Image.{maps_of}
 use Rattle.plain_machine.specs.Laid.{laid_block, laid_write, page_of_write}
 use Rattle.plain_machine.specs.UsableArea.{kind_fault}
 use Rattle.plain_machine.specs.declared.no_swap.NoSwap.{NoSwap}
-use Rattle.protocol_laws.specs.Rows.{LeavesBlock}
 use Rattle.image_write.specs.Writing.{Writing}
 use Rattle.image_write.proofs.Done.{place_of, place_below, block_of_write}
 use Rattle.swap_slots.specs.declared.table.SlotTable.{SlotTable}
@@ -24,7 +23,8 @@ use Rattle.stream_check.proofs.Steps.{sound_from}
 use Rattle.stream_in.specs.Area.{AreUsable, first_block, open_fault}
 use Rattle.stream_in.specs.Holding.{ComesIn}
 use Rattle.stream_in.specs.Marking.{Marks, LeavesAt}
-use Rattle.stream_in.specs.Outside.{IsBlockOf, KeepsOutside}
+use Rattle.stream_in.specs.Outside.{IsBlockOf, KeepsOutside, StopsAtRest}
+use Rattle.stream_in.proofs.Rests.{stops_still}
 use Rattle.stream_in.specs.Putting.{writes_after}
 use Rattle.stream_in.specs.Session.{IsOpened, IsOutput}
 use Rattle.stream_in.specs.Stops.{IsDiskStop, IsOfOpen, IsOfFinish, IfNoSwap}
@@ -35,7 +35,7 @@ use Rattle.stream_in.specs.declared.stop.InStop.TheVariants as stop
 use Rattle.stream_in.proofs.Contents.{changes_then, changes_as}
 use Rattle.stream_in.proofs.Undoing.{first_block-some}
 use Rattle.swsusp_cli.specs.Feeding.{Feeds, Holds, HasFed, HasStopped, IsCalled, IsStopFor}
-use Rattle.swsusp_cli.specs.Imports.{Ends, HasWritten, IsArea, AreRead, IsUnmarked, IsUsable, LeavesUnusable, MarksNot, OfSome, Stores, whole_map}
+use Rattle.swsusp_cli.specs.Imports.{Ends, HasWritten, IsArea, AreRead, IsUnmarked, IsUsable, KeepsUnusable, LeavesUnusable, MarksNot, OfSome, Stores, whole_map}
 use Rattle.swsusp_cli.specs.View.{DiskView}
 use Rattle.swsusp_cli.specs.declared.importing.ImportStop.{ImportStop}
 use Rattle.swsusp_cli.specs.declared.importing.ImportStop.TheVariants.{Source, Session}
@@ -51,32 +51,37 @@ block_usable area free b slots (place, lt, e) =
 header_unusable : (area : Area) → IsUsable area 0 → ⊥
 header_unusable area usable = usable.1 (0, omega arith, refl)
 
-same_sectors : (area : Area) (old new : Content) → ((b j : ℕ) → j < 8 → (IsUsable area b → ⊥) → sector new (8 * b + j) ≡ sector old (8 * b + j)) → LeavesBlock 0 old new
-same_sectors area old new others = record {
-  leaves = λ v s image lt from to.
-      let e : sector new s ≡ sector old s = subst (λ (k : ℕ). sector new k ≡ sector old k) (zero-add s) (others 0 s (omega arith) (header_unusable area)) in
-      let size : s < length new = omega (arith, image.size) in
-      subst (λ (x : Sector). Contains x.candidates (get_or v s [])) e (image.chosen s size);
-}
+keeps_unusable : (area : Area) (free : List ℕ) (old new : Content) → AreUsable area free → KeepsOutside (whole_map area) free old new → KeepsUnusable area old new
+keeps_unusable area free old new slots keeps = record { size = keeps.size; sectors = λ b j lt not. keeps.others b j lt (λ of. not (block_usable area free b slots of)) }
 
-leaves_unusable : (area : Area) (free : List ℕ) (old new : Content) → AreUsable area free → KeepsOutside (whole_map area) free old new → LeavesUnusable area old new
-leaves_unusable area free old new slots keeps =
-    let others : (b j : ℕ) → j < 8 → (IsUsable area b → ⊥) → sector new (8 * b + j) ≡ sector old (8 * b + j) =
-    λ b j lt not. keeps.others b j lt (λ of. not (block_usable area free b slots of)) in
-    record { size = keeps.size; header = same_sectors area old new others; others = others }
+leaves_unusable : (area : Area) (free : List ℕ) (old new : Content) → AreUsable area free → StopsAtRest (whole_map area) free 0 old new → LeavesUnusable area old new
+leaves_unusable area free old new slots (inl same) = inl same
+leaves_unusable area free old new slots (inr keeps) = inr (keeps_unusable area free (settled (as_it_reads old)) new slots (keeps.first (omega arith)))
 
 live_at : (c : Content) (s : ℕ) → get_or (as_it_reads c) s [] ≡ (sector c s).live
 live_at [] s = refl
 live_at (x ∷ c) zero = refl
 live_at (x ∷ c) (suc s) = live_at c s
 
+sectors_kept : (area : Area) (b : ℕ) (old new : Content) → KeepsUnusable area old new → (IsUsable area b → ⊥) → block (as_it_reads new) b ≡ block (as_it_reads old) b
+sectors_kept area b old new keeps not =
+    block-same (as_it_reads new) (as_it_reads old) b (length-as_it_reads new ∙ keeps.size ∙ sym (length-as_it_reads old))
+    (λ j lt. live_at new (8 * b + j) ∙ ap (λ (s : Sector). s.live) (keeps.sectors b j lt not) ∙ sym (live_at old (8 * b + j)))
+
 block_kept : (area : Area) (b : ℕ) (old new : Content) → LeavesUnusable area old new → (IsUsable area b → ⊥) → block (as_it_reads new) b ≡ block (as_it_reads old) b
-block_kept area b old new leaves not =
-    block-same (as_it_reads new) (as_it_reads old) b (length-as_it_reads new ∙ leaves.size ∙ sym (length-as_it_reads old))
-    (λ j lt. live_at new (8 * b + j) ∙ ap (λ (s : Sector). s.live) (leaves.others b j lt not) ∙ sym (live_at old (8 * b + j)))
+block_kept area b old new (inl same) not = ap (λ (c : Content). block (as_it_reads c) b) same
+block_kept area b old new (inr keeps) not = sectors_kept area b (settled (as_it_reads old)) new keeps not ∙ ap (λ v. block v b) (as_it_reads-settled (as_it_reads old))
+
+size_kept : (area : Area) (old new : Content) → LeavesUnusable area old new → length new ≡ length old
+size_kept area old new (inl same) = ap length same
+size_kept area old new (inr keeps) = keeps.size ∙ length-settled (as_it_reads old) ∙ length-as_it_reads old
+
+-- what the writes of these bytes leave
+holds_unusable : (area : Area) (free bs : List ℕ) (old new : Content) → AreUsable area free → Holds (whole_map area) free bs old new → LeavesUnusable area old new
+holds_unusable area free bs old new slots holds = leaves_unusable area free old new slots (stops_still (whole_map area) free 0 (length bs) old new holds.outside)
 
 pub has_written : (area : Area) (free bs : List ℕ) (old new : Content) → AreUsable area free → Holds (whole_map area) free bs old new → HasWritten area free bs old new
-has_written area free bs old new slots holds = record { leaves = leaves_unusable area free old new slots holds.outside; written = holds.written }
+has_written area free bs old new slots holds = record { leaves = holds_unusable area free bs old new slots holds; written = holds.written }
 
 -- A whole stream.
 
@@ -121,7 +126,7 @@ stores : (area : Area) (free bs : List ℕ) (blocks : ℕ) (x y z : Content) →
     Marks (laid_block (whole_map area) free 0) y z × ComesIn area free bs y z → Stores area free bs x z
 stores area free bs blocks x y z some slots whole room (holds, header) (marks, comes) =
     let pages = all_pages bs in
-    let leaves = leaves_unusable area free x y slots holds.outside in
+    let leaves = holds_unusable area free bs x y slots holds in
     let has = marks.marked in
     let few = whole.few in
     let size = whole.size in
@@ -129,7 +134,7 @@ stores area free bs blocks x y z some slots whole room (holds, header) (marks, c
     let all : writes_after pages (length bs / 4096) ≡ pages + maps_of pages =
     ap (writes_after pages) full ∙ cond-true (eqb pages pages) (pages + maps_of pages) (pages + pages / 511) (same_number pages) in
     record {
-      size = has.size ∙ leaves.size;
+      size = has.size ∙ size_kept area x y leaves;
       one_image = has.one_image;
       header = has.header ∙ ap (λ p. marked p (laid_block (whole_map area) free 0) 2 0) (block_kept area 0 x y leaves (header_unusable area));
       laid = λ j lt.
@@ -202,9 +207,9 @@ holds_of : (area : Area) (free bs : List ℕ) (s : StreamIn) (a b c : Option Con
 holds_of area free bs s a b c map_is same h =
     subst (λ (m : List (ℕ × ℕ × ℕ)). Changes (Holds m free bs) a c) map_is (subst (λ (o : Option Content). Changes (Holds s.map free bs) o c) same h)
 
-keeps_of : (area : Area) (free : List ℕ) (s : StreamIn) (a b c : Option Content) → s.map ≡ whole_map area → b ≡ a → Changes (KeepsOutside s.map free) b c → Changes (KeepsOutside (whole_map area) free) a c
+keeps_of : (area : Area) (free : List ℕ) (s : StreamIn) (a b c : Option Content) → s.map ≡ whole_map area → b ≡ a → Changes (StopsAtRest s.map free 0) b c → Changes (StopsAtRest (whole_map area) free 0) a c
 keeps_of area free s a b c map_is same h =
-    subst (λ (m : List (ℕ × ℕ × ℕ)). Changes (KeepsOutside m free) a c) map_is (subst (λ (o : Option Content). Changes (KeepsOutside s.map free) o c) same h)
+    subst (λ (m : List (ℕ × ℕ × ℕ)). Changes (StopsAtRest m free 0) a c) map_is (subst (λ (o : Option Content). Changes (StopsAtRest s.map free 0) o c) same h)
 
 -- the bytes that a session has taken
 fed_read : (free bs : List ℕ) (s s' : StreamIn) (left left' : Option (List ℕ)) (e f : DiskView) → HasFed free bs s s' left left' e f → AreRead bs left left'
@@ -233,7 +238,7 @@ ends_stopped area free bs why s left left' d e f opened stopped = by_why why sto
   bytes = record { handed = stopped.handed; few = stopped.few }
 
   content : Changes (LeavesUnusable area) d.content f.content
-  content = changes_as (KeepsOutside (whole_map area) free) (LeavesUnusable area) d.content f.content (λ x y. leaves_unusable area free x y opened.area_is.slots)
+  content = changes_as (StopsAtRest (whole_map area) free 0) (LeavesUnusable area) d.content f.content (λ x y. leaves_unusable area free x y opened.area_is.slots)
       (keeps_of area free s d.content e.content f.content opened.map_is opened.content stopped.content)
 
   called : IsCalled (1 + 3 * (length bs / 4096)) d f
@@ -247,7 +252,8 @@ ends_stopped area free bs why s left left' d e f opened stopped = by_why why sto
   by_why (stop.ReadFault what) is risen = absurd is
   by_why (stop.WriteFault what) is risen =
       inl (is, (area, free, bs, record { area_is = opened.area_is; bytes = bytes; content = content; called = called; risen = risen_from d.faults e.faults f.faults opened.called.faults (risen tt) }))
-  by_why (stop.SyncFault what) is risen = absurd is
+  by_why (stop.SyncFault what) is risen =
+      inl (is, (area, free, bs, record { area_is = opened.area_is; bytes = bytes; content = content; called = called; risen = risen_from d.faults e.faults f.faults opened.called.faults (risen tt) }))
 
 -- one of the two
 pub ends_unfed : (area : Area) (free : List ℕ) (stop : ImportStop) (s s' : StreamIn) (left left' : Option (List ℕ)) (d e f : DiskView) → HasOpened area free s d e → Feeds free s s' left left' e f (Err stop) → Ends left left' d f (Err stop)
@@ -313,7 +319,7 @@ untold : (area : Area) (free bs : List ℕ) (reason : NoSwap) (blocks : ℕ) (a 
 untold area free bs reason blocks None b some slots holds is fault = refl
 untold area free bs reason blocks (Some x) None some slots holds is fault = absurd holds
 untold area free bs reason blocks (Some x) (Some y) some slots holds is fault =
-    let leaves = leaves_unusable area free x y slots holds.outside in
+    let leaves = holds_unusable area free bs x y slots holds in
     let same : block (as_it_reads y) 0 ≡ first_block blocks (as_it_reads x) = block_kept area 0 x y leaves (header_unusable area) ∙ sym (first_block-some blocks (as_it_reads x) some) in
     let none : kind_fault (area_kind (block (as_it_reads y) 0)) ≡ None = ap (λ page. kind_fault (area_kind page)) same ∙ ap kind_fault is in
     cc
@@ -382,7 +388,7 @@ ends_unfinished area free bs s s' r why left left' d e f g opened fed over is of
   by_why (stop.NoSlots told need) is of no_swap leaves risen = absurd of
   by_why (stop.Stream fault) is of no_swap leaves risen =
       let same : g ≡ f = untouched fault is in
-      let content : Changes (LeavesUnusable area) d.content f.content = changes_as (Holds (whole_map area) free bs) (LeavesUnusable area) d.content f.content (λ x y h. leaves_unusable area free x y opened.area_is.slots h.outside) holds in (
+      let content : Changes (LeavesUnusable area) d.content f.content = changes_as (Holds (whole_map area) free bs) (LeavesUnusable area) d.content f.content (λ x y h. holds_unusable area free bs x y opened.area_is.slots h) holds in (
         area,
         free,
         bs,
@@ -396,4 +402,4 @@ ends_unfinished area free bs s s' r why left left' d e f g opened fed over is of
       )
   by_why (stop.ReadFault what) is of no_swap leaves risen = inr (unmarked (stop.ReadFault what) is (λ fault e. cc) leaves (risen tt))
   by_why (stop.WriteFault what) is of no_swap leaves risen = inr (unmarked (stop.WriteFault what) is (λ fault e. cc) leaves (risen tt))
-  by_why (stop.SyncFault what) is of no_swap leaves risen = unmarked (stop.SyncFault what) is (λ fault e. cc) leaves (risen tt)
+  by_why (stop.SyncFault what) is of no_swap leaves risen = inr (unmarked (stop.SyncFault what) is (λ fault e. cc) leaves (risen tt))

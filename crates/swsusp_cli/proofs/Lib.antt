@@ -1,5 +1,5 @@
+pub mod Answered
 pub mod Blocks
-pub mod CommandWords
 pub mod Feeding
 pub mod Formatted
 pub mod Imported

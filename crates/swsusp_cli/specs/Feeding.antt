@@ -5,7 +5,7 @@ use Rattle.definitions.specs.Streams.{HandsOut, IsUsedUp}
 use Rattle.plain_machine.specs.declared.reply.Left.TheVariants.{Same}
 use Rattle.stream_check.specs.Grammar.{first_fault}
 use Rattle.stream_check.specs.Taken.{most_bytes}
-use Rattle.stream_in.specs.Outside.{KeepsOutside}
+use Rattle.stream_in.specs.Outside.{StopsAtRest, WritesAtRest}
 use Rattle.stream_in.specs.Session.{IsFed, HasTooFewFor}
 use Rattle.stream_in.specs.Stops.{IsDiskStop}
 use Rattle.stream_in.specs.Written.{AreWritten}
@@ -23,9 +23,10 @@ pub record IsCalled (most : ℕ) (d d' : DiskView) : Type 0 where
   pub orders : d'.orders ≡ d.orders
   pub blocks : d'.blocks ≡ d.blocks
 
--- The disk reads as the whole pages of these bytes were written, and the blocks of no free slot are as before.
+-- The disk reads as the whole pages of these bytes were written, the first of them when it had one image, and the blocks of no free slot
+-- are as they were then.
 pub record Holds (extents : List (ℕ × ℕ × ℕ)) (free bs : List ℕ) (old new : Content) : Type 0 where
-  pub outside : KeepsOutside extents free old new
+  pub outside : WritesAtRest extents free 0 (length bs) old new
   pub written : AreWritten extents free bs (as_it_reads new)
 
 -- A session has taken just these bytes, which the source handed out.
@@ -45,14 +46,14 @@ IsStopFor free bs (stop.NoSlots told need) = HasTooFewFor free bs told need
 IsStopFor free bs (stop.Stream fault) = first_fault bs ≡ Some fault
 IsStopFor free bs (stop.ReadFault left) = ⊥
 IsStopFor free bs (stop.WriteFault left) = left ≡ Same
-IsStopFor free bs (stop.SyncFault left) = ⊥
+IsStopFor free bs (stop.SyncFault left) = left ≡ Same
 
 -- It has stopped with the last of these bytes.
 pub record HasStopped (free bs : List ℕ) (why : InStop) (s : StreamIn) (left left' : Option (List ℕ)) (d d' : DiskView) : Type 0 where
   pub why_is : IsStopFor free bs why
   pub handed : HandsOut (length bs) bs left left'
   pub few : length bs ≤ most_bytes + 1
-  pub content : Changes (KeepsOutside s.map free) d.content d'.content
+  pub content : Changes (StopsAtRest s.map free 0) d.content d'.content
   pub called : IsCalled (3 * (length bs / 4096)) d d'
   pub risen : IsDiskStop why → HasRisen d.faults d'.faults
 

@@ -13,7 +13,6 @@ use Rattle.plain_machine.specs.UsableArea.{bad_slots_of}
 use Rattle.plain_machine.specs.declared.no_swap.NoSwap.{NoSwap}
 use Rattle.plain_machine.specs.declared.reply.Left.TheVariants.{Same}
 use Rattle.plain_machine.specs.declared.reply.Reply.TheVariants as reply
-use Rattle.protocol_laws.specs.Rows.{LeavesBlock}
 use Rattle.stream_check.specs.Grammar.{image_pages, all_pages, first_fault, short_fault}
 use Rattle.stream_check.specs.Taken.{most_bytes}
 use Rattle.stream_check.specs.declared.fault.Kind.{Kind}
@@ -75,12 +74,16 @@ whole_map area = (0, area.last + 1, 0) ∷ []
 abbrev pub IsUsable : Area → ℕ → Type 0
 IsUsable area s = (s ≤ area.last) × (Contains (bad_slots_of area) s → ⊥)
 
--- Block 0 is as before in every image of the disk: each that a crash may leave has there what one of before has. So is each sector
--- of another block that no slot of the area lies on that it can give.
-pub record LeavesUnusable (area : Area) (old new : Content) : Type 0 where
+-- each sector of block 0, and of each other block that no slot of the area lies on that it can give, is as before, whatever a crash may
+-- leave of it
+pub record KeepsUnusable (area : Area) (old new : Content) : Type 0 where
   pub size : length new ≡ length old
-  pub header : LeavesBlock 0 old new
-  pub others : (b j : ℕ) → j < 8 → (IsUsable area b → ⊥) → sector new (8 * b + j) ≡ sector old (8 * b + j)
+  pub sectors : (b j : ℕ) → j < 8 → (IsUsable area b → ⊥) → sector new (8 * b + j) ≡ sector old (8 * b + j)
+
+-- The disk is as before. Or it had one image before the first block was written, the one that it read as, and each of those sectors is as it
+-- was then: so in every image block 0 is what was read of it.
+abbrev pub LeavesUnusable : Area → Content → Content → Type 0
+LeavesUnusable area old new = (new ≡ old) ⊎ KeepsUnusable area (settled (as_it_reads old)) new
 
 -- and the whole pages of these bytes, with the maps that they fill, read as they were written, to the lowest of the free slots
 pub record HasWritten (area : Area) (free bs : List ℕ) (old new : Content) : Type 0 where
@@ -187,7 +190,7 @@ pub record IsUnopened (left left' : Option (List ℕ)) (d d' : DiskView) : Type 
   pub called : IsCalled 1 d d'
   pub risen : HasRisen d.faults d'.faults
 
--- a page or a map couldn't be written
+-- the disk couldn't be synced before the first page, or a page or a map couldn't be written
 pub record IsUnwritten (area : Area) (free bs : List ℕ) (left left' : Option (List ℕ)) (d d' : DiskView) : Type 0 where
   pub area_is : IsArea d area free
   pub bytes : AreRead bs left left'
@@ -222,7 +225,9 @@ Ends left left' d d' (Err (Session (stop.ReadFault what))) =
 Ends left left' d d' (Err (Session (stop.WriteFault what))) =
     ((what ≡ Same) × OfSome (λ area free bs. IsUnwritten area free bs left left' d d'))
     ⊎ OfSome (λ area free bs. IsUnmarked (stop.WriteFault what) area free bs left left' d d')
-Ends left left' d d' (Err (Session (stop.SyncFault what))) = OfSome (λ area free bs. IsUnmarked (stop.SyncFault what) area free bs left left' d d')
+Ends left left' d d' (Err (Session (stop.SyncFault what))) =
+    ((what ≡ Same) × OfSome (λ area free bs. IsUnwritten area free bs left left' d d'))
+    ⊎ OfSome (λ area free bs. IsUnmarked (stop.SyncFault what) area free bs left left' d d')
 
 -- the source failed: that is noted, and out is as before
 pub record IsUnread (x x' : View) (status : Status) : Type 0 where

@@ -1,6 +1,5 @@
 pub mod Answer
 pub mod AnswerOf
-pub mod Asked
 pub mod Choice
 pub mod Drills
 pub mod Dumps
@@ -20,4 +19,3 @@ pub mod Run
 pub mod SettingUp
 pub mod Told
 pub mod View
-pub mod Words

@@ -4,11 +4,23 @@ use Rattle.definitions.specs.Disk.{Content, HasRisen, raised}
 use Rattle.sig_header.specs.AreaKind.{area_kind}
 use Rattle.swsusp_cli.specs.Answer.{RunResult, memory_told, unparsed, unread}
 use Rattle.swsusp_cli.specs.Inspect.{header_page, inspected}
-use Rattle.swsusp_cli.specs.Words.{Asked, inspect, hibernate, resume, replay, drill, export, import}
+use Rattle.swsusp_cli.specs.View.{DiskView}
+use Rattle.swsusp_words.specs.Words.{Asked, inspect, hibernate, resume, replay, drill, export, import}
 
--- what is told where the words don't parse: that, or that memory was refused
-abbrev pub IsRefusal : RunResult → Type 0
-IsRefusal told = ((text : List ℕ) × (told ≡ unparsed text)) ⊎ (told ≡ memory_told)
+-- how many reads, writes and syncs there were after one of a block, which isn't made where the disk has no such block
+abbrev pub calls_for : ℕ → ℕ → ℕ → ℕ
+calls_for offset blocks calls = if nat_lt offset blocks then raised calls else calls
+
+-- the words don't parse, and that is told; the disk isn't called
+pub record IsRefusal (d d' : DiskView) (told : RunResult) : Type 0 where
+  pub text : List ℕ
+  pub told_is : told ≡ unparsed text
+  pub calls : d'.calls ≡ d.calls
+
+-- memory was refused before the disk was called
+pub record HasNoMemory (d d' : DiskView) (told : RunResult) : Type 0 where
+  pub told_is : told ≡ memory_told
+  pub calls : d'.calls ≡ d.calls
 
 -- what is told of block N of a disk of so many blocks, or that it couldn't be read
 abbrev pub IsInspected : ℕ → ℕ → Option Content → ℕ → ℕ → RunResult → Type 0
@@ -16,18 +28,22 @@ IsInspected offset blocks content before after told =
     ((page : List ℕ) × IfSome content (λ held. page ≡ header_page offset blocks held) × (told ≡ inspected (area_kind page)))
     ⊎ ((told ≡ unread) × HasRisen before after)
 
--- What a run tells over a disk of so many blocks, which held this where it tells its content, and whose faults counted
--- so many before the run and after it.
-abbrev pub IsAnswer : Option Asked → ℕ → Option Content → ℕ → ℕ → RunResult → Type 0
-IsAnswer None blocks content before after told = IsRefusal told
-IsAnswer (Some (inspect offset swap)) blocks content before after told = IsInspected offset blocks content before after told
+-- block N is read, if the disk has it, and is told of
+pub record IsInspection (offset : ℕ) (d d' : DiskView) (told : RunResult) : Type 0 where
+  pub inspected : IsInspected offset d.blocks d.content d.faults d'.faults told
+  pub calls : d'.calls ≡ calls_for offset d.blocks d.calls
+
+-- What a run tells, by the disk before it and after it.
+abbrev pub IsAnswer : Option Asked → DiskView → DiskView → RunResult → Type 0
+IsAnswer None d d' told = IsRefusal d d' told ⊎ HasNoMemory d d' told
+IsAnswer (Some (inspect offset swap)) d d' told = IsInspection offset d d' told ⊎ HasNoMemory d d' told
 -- what these do is told by IsReplayed, IsDrilled, Hibernates, Resumes, Exports and Imports
-IsAnswer (Some replay) blocks content before after told = ⊥
-IsAnswer (Some (drill number)) blocks content before after told = ⊥
-IsAnswer (Some (hibernate format size swap)) blocks content before after told = ⊥
-IsAnswer (Some (resume check swap)) blocks content before after told = ⊥
-IsAnswer (Some export) blocks content before after told = ⊥
-IsAnswer (Some (import swap)) blocks content before after told = ⊥
+IsAnswer (Some replay) d d' told = ⊥
+IsAnswer (Some (drill number)) d d' told = ⊥
+IsAnswer (Some (hibernate format size swap)) d d' told = ⊥
+IsAnswer (Some (resume check swap)) d d' told = ⊥
+IsAnswer (Some export) d d' told = ⊥
+IsAnswer (Some (import swap)) d d' told = ⊥
 
 -- words after which no machine is made, and no stream is read or written
 abbrev pub NoMachine : Option Asked → Type 0
@@ -72,18 +88,3 @@ NoImport (Some replay) = ⊤
 NoImport (Some (drill number)) = ⊤
 NoImport (Some export) = ⊤
 NoImport (Some (import swap)) = ⊥
-
--- how many reads, writes and syncs there were after one of a block, which isn't made where the disk has no such block
-abbrev pub calls_for : ℕ → ℕ → ℕ → ℕ
-calls_for offset blocks calls = if nat_lt offset blocks then raised calls else calls
-
--- how many there were after the run
-abbrev pub calls_after : Option Asked → ℕ → ℕ → ℕ
-calls_after None blocks calls = calls
-calls_after (Some replay) blocks calls = calls
-calls_after (Some (drill number)) blocks calls = calls
-calls_after (Some export) blocks calls = calls
-calls_after (Some (import swap)) blocks calls = calls
-calls_after (Some (hibernate format size swap)) blocks calls = calls
-calls_after (Some (resume check swap)) blocks calls = calls
-calls_after (Some (inspect offset swap)) blocks calls = calls_for offset blocks calls

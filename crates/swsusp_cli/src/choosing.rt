@@ -1,9 +1,9 @@
 ghost use Rattle.std.specs.Prelude.{IfOk, map, string_bytes};
 ghost use Rattle.swsusp_cli.specs.Choice.{IsChoice, IsFile};
 
-use crate::words::Command;
 use page_core::NoMemory;
 use std::alloc::Global;
+use swsusp_words::{Command, Unparsed};
 
 /// Which disk a run works on.
 #[derive(Drop)]
@@ -21,13 +21,14 @@ const MEMORY_BLOCKS: u32 = 16384;
 pub fn swap_name(alloc: Global, words: &[String]) -> Result<Choice, NoMemory>
     ensures { IfOk result (IsChoice (map string_bytes words.now)) }
 {
-    match Command::parse(words) {
-        None | Some(Command::Export) => Ok(Choice::Memory(1)),
-        Some(Command::Replay | Command::Drill(_)) => Ok(Choice::Memory(MEMORY_BLOCKS)),
-        Some(Command::Inspect { swap, .. }) => file(alloc, swap),
-        Some(Command::Hibernate { swap, .. }) => file(alloc, swap),
-        Some(Command::Resume { swap, .. }) => file(alloc, swap),
-        Some(Command::Import { swap }) => file(alloc, swap),
+    match Command::parse(alloc, words) {
+        Err(Unparsed::NoMemory) => Err(NoMemory),
+        Err(Unparsed::Words(_)) | Ok(Command::Export) => Ok(Choice::Memory(1)),
+        Ok(Command::Replay | Command::Drill(_)) => Ok(Choice::Memory(MEMORY_BLOCKS)),
+        Ok(Command::Inspect { swap, .. }) => file(alloc, swap),
+        Ok(Command::Hibernate { swap, .. }) => file(alloc, swap),
+        Ok(Command::Resume { swap, .. }) => file(alloc, swap),
+        Ok(Command::Import { swap }) => file(alloc, swap),
     }
 }
 

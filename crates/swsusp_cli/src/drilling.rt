@@ -22,6 +22,7 @@ use std::alloc::Global;
 use world_core::World;
 
 /// Plays the run of drill `number`, and prints a line that sums its replies up.
+#[inline(never)]
 pub fn drill<O: Sink, N: Sink, D: Disk>(
     alloc: Global,
     number: u32,

@@ -20,6 +20,7 @@ use stream_out::{SlotsInUse, StreamOut};
 const PIECE: usize = 65536;
 
 /// Reads a dump to its end, and writes the image of its memory as a stream of bytes. No disk is used.
+#[inline(never)]
 pub fn export_dump<I: Source, O: Sink, N: Sink>(
     alloc: Global,
     input: &mut I,

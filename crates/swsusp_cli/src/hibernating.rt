@@ -19,6 +19,7 @@ use std::alloc::Global;
 
 /// Reads a dump to its end, and lets its machine hibernate; before, its cached page frames are dropped until so many saveable ones are left,
 /// where a size is asked for.
+#[inline(never)]
 pub fn hibernate_dump<I: Source, O: Sink, N: Sink, D: Disk>(
     alloc: Global,
     format: Format,

@@ -39,6 +39,7 @@ pub enum ImportStop {
 }
 
 /// Reads a stream, writes it into the area at the disk's first blocks as it comes, and marks it there as an image.
+#[inline(never)]
 pub fn import_stream<I: Source, O: Sink, N: Sink, D: Disk>(
     alloc: Global,
     input: &mut I,

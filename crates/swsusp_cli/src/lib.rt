@@ -1,4 +1,4 @@
-//! The command line of `swsusp`: what its words ask for, and the top call.
+//! The commands of `swsusp`, and the top call.
 #![tactic(auto)]
 
 mod answer;
@@ -17,8 +17,6 @@ mod resuming;
 mod setting_up;
 mod status;
 mod top;
-mod unparsed;
-mod words;
 
 pub use answer::{Answer, no_memory, print, tell};
 pub use choosing::{Choice, swap_name};
@@ -30,4 +28,3 @@ pub use resuming::tell_dump;
 pub use setting_up::{Unready, set_up};
 pub use status::Status;
 pub use top::run;
-pub use words::is_path;

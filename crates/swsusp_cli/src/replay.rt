@@ -32,6 +32,7 @@ pub enum Stop {
 }
 
 /// Reads a script, formats the area that it names at the block of its first slot, and plays its events.
+#[inline(never)]
 pub fn replay<I: Source, O: Sink, N: Sink, D: Disk>(
     alloc: Global,
     input: &mut I,

@@ -21,6 +21,7 @@ use sector_disk::Disk;
 use std::alloc::Global;
 
 /// Reads a loader's dump to its end, resumes the image on the disk into its machine, and writes the dump of what was restored.
+#[inline(never)]
 pub fn resume_dump<I: Source, O: Sink, N: Sink, D: Disk>(
     alloc: Global,
     check: IdentCheck,

@@ -43,6 +43,7 @@ impl Unready {
 }
 
 /// Makes the machine of a script, and formats its swap area at the block of its first slot.
+#[inline(never)]
 pub fn set_up<D: Disk>(alloc: Global, script: &Script, disk: &mut D) -> Result<World, Unready>
     requires few_bad { length script.now.bad ≤ 630 }
     ensures outcome { MatchResult result

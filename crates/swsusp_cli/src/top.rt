@@ -1,8 +1,8 @@
 ghost use Rattle.std.specs.Prelude.{◌≡◌, ◌≢◌, None, Option, Some, ◌≤◌, ◌+◌, ◌⊎◌, ℕ, List, IsTrue, map, string_bytes};
 ghost use Rattle.definitions.specs.Disk.{HasRisen};
 ghost use Rattle.dump_file.specs.Flushed.{IsFlushed};
-ghost use Rattle.swsusp_cli.specs.Answer.{RunResult};
-ghost use Rattle.swsusp_cli.specs.Run.{IsAnswer, NoDump, NoImport, NoInput, NoMachine, calls_after};
+ghost use Rattle.swsusp_cli.specs.Answer.{RunResult, memory_told, unparsed};
+ghost use Rattle.swsusp_cli.specs.Run.{IsAnswer, NoDump, NoImport, NoInput, NoMachine};
 ghost use Rattle.swsusp_cli.specs.Told.{IsTold};
 ghost use Rattle.swsusp_cli.specs.Reading.{HandsOutAtMost};
 ghost use Rattle.swsusp_cli.specs.Outcome.{IsReplayed};
@@ -13,9 +13,10 @@ ghost use Rattle.swsusp_cli.specs.Dumps.{Hibernates, SavesInside};
 ghost use Rattle.swsusp_cli.specs.Exports.{Exports};
 ghost use Rattle.swsusp_cli.specs.Imports.{Imports};
 ghost use Rattle.swsusp_cli.specs.Loads.{LoadsInside, Resumes};
-ghost use Rattle.swsusp_cli.specs.Words.{command_of, drill, export, hibernate, import, replay, resume};
-ghost use Rattle.swsusp_cli.specs.View.{sink_view, view};
+ghost use Rattle.swsusp_words.specs.Words.{command_of, drill, export, hibernate, import, replay, resume};
+ghost use Rattle.swsusp_cli.specs.View.{disk_view, sink_view, view};
 
+use crate::answer::{no_memory, tell};
 use crate::drilling::drill;
 use crate::exporting::export_dump;
 use crate::hibernating::hibernate_dump;
@@ -24,11 +25,10 @@ use crate::inspection::inspect;
 use crate::replay::replay;
 use crate::resuming::resume_dump;
 use crate::status::Status;
-use crate::unparsed::refuse;
-use crate::words::Command;
 use dump_file::{Sink, Source};
 use sector_disk::Disk;
 use std::alloc::Global;
+use swsusp_words::{Command, Unparsed};
 
 /// Runs the program over its words, of which the first is its name.
 pub fn run<I: Source, O: Sink, N: Sink, D: Disk>(
@@ -40,7 +40,7 @@ pub fn run<I: Source, O: Sink, N: Sink, D: Disk>(
     disk: &mut D,
 ) -> Status
     ensures answered { NoMachine (command_of (map string_bytes words.now)) → (told : RunResult)
-        × IsAnswer (command_of (map string_bytes words.now)) (D.block_count disk.old) (D.content disk.old) (D.faults disk.old) (D.faults disk.new) told
+        × IsAnswer (command_of (map string_bytes words.now)) (disk_view D.Disk disk.old) (disk_view D.Disk disk.new) told
         × IsTold told result
         (sink_view O.Sink out.old)
         (sink_view O.Sink out.new)
@@ -81,21 +81,48 @@ pub fn run<I: Source, O: Sink, N: Sink, D: Disk>(
     ensures read { NoDump (command_of (map string_bytes words.now)) → HandsOutAtMost 1048577 (I.remaining input.old) (I.remaining input.new) }
     ensures input { NoInput (command_of (map string_bytes words.now)) → I.remaining input.new ≡ I.remaining input.old }
     ensures content { NoMachine (command_of (map string_bytes words.now)) → D.content disk.new ≡ D.content disk.old }
-    ensures calls { NoMachine (command_of (map string_bytes words.now)) →
-        D.calls disk.new ≡ calls_after (command_of (map string_bytes words.now)) (D.block_count disk.old) (D.calls disk.old) }
     ensures few_calls { NoImport (command_of (map string_bytes words.now)) → D.calls disk.new ≤ D.calls disk.old + 100002 }
     ensures orders { NoMachine (command_of (map string_bytes words.now)) → D.orders disk.new ≡ D.orders disk.old }
 {
-    match Command::parse(words) {
-        None => refuse(alloc, words, out, note),
-        Some(Command::Inspect { offset, .. }) => inspect(disk, offset).tell(out, note),
-        Some(Command::Hibernate { format, size, .. }) => {
+    match Command::parse(alloc, words) {
+        Ok(Command::Inspect { offset, .. }) => inspect(disk, offset).tell(out, note),
+        Ok(Command::Hibernate { format, size, .. }) => {
             hibernate_dump(alloc, format, size, input, out, note, disk)
         }
-        Some(Command::Resume { check, .. }) => { resume_dump(alloc, check, input, out, note, disk) }
-        Some(Command::Replay) => replay(alloc, input, out, note, disk),
-        Some(Command::Drill(number)) => drill(alloc, number, out, note, disk),
-        Some(Command::Export) => export_dump(alloc, input, out, note),
-        Some(Command::Import { .. }) => import_stream(alloc, input, out, note, disk),
+        Ok(Command::Resume { check, .. }) => resume_dump(alloc, check, input, out, note, disk),
+        Ok(Command::Replay) => replay(alloc, input, out, note, disk),
+        Ok(Command::Drill(number)) => drill(alloc, number, out, note, disk),
+        Ok(Command::Export) => export_dump(alloc, input, out, note),
+        Ok(Command::Import { .. }) => import_stream(alloc, input, out, note, disk),
+        Err(Unparsed::Words(text)) => refuse(text.as_str(), out, note),
+        Err(Unparsed::NoMemory) => run_out_of_memory(out, note),
     }
+}
+
+/// Says that the words don't parse.
+fn refuse<O: Sink, N: Sink>(text: &str, out: &mut O, note: &mut N) -> Status
+    ensures told { IsTold (unparsed text.now) result
+        (sink_view O.Sink out.old)
+        (sink_view O.Sink out.new)
+        (sink_view N.Sink note.old)
+        (sink_view N.Sink note.new) }
+    ensures stream { result ≡ Status.Stream →
+        HasRisen (O.faults out.old) (O.faults out.new) ⊎ HasRisen (N.faults note.old) (N.faults note.new) }
+    ensures status { result ≢ Status.Stream → result ≡ Status.Words }
+{
+    tell(Status::Words, b"", text.as_bytes(), out, note)
+}
+
+/// Says that memory was refused.
+fn run_out_of_memory<O: Sink, N: Sink>(out: &mut O, note: &mut N) -> Status
+    ensures told { IsTold memory_told result
+        (sink_view O.Sink out.old)
+        (sink_view O.Sink out.new)
+        (sink_view N.Sink note.old)
+        (sink_view N.Sink note.new) }
+    ensures stream { result ≡ Status.Stream →
+        HasRisen (O.faults out.old) (O.faults out.new) ⊎ HasRisen (N.faults note.old) (N.faults note.new) }
+    ensures status { result ≢ Status.Stream → result ≡ Status.Memory }
+{
+    no_memory().tell(out, note)
 }

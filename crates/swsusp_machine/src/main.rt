@@ -2,13 +2,17 @@
 #![tactic(auto)]
 
 use dump_file::{StdSink, StdSource};
-use machine_cli::{Command, check, differ, loader, make, show_facts};
+use file_disk::{FileDisk, first_map_beyond};
+use machine_cli::{check, differ, loader, make, show_facts};
+use machine_words::{Command, Unparsed};
 use page_core::NoMemory;
-use sector_disk::{FileDisk, MemDisk};
+use sector_disk::MemDisk;
+use standard_streams::{hold, is_output, sync_output};
 use std::fs::File;
+use std::io::IsTerminal;
 use std::process::ExitCode;
 use std::{env, io};
-use swsusp_cli::{Status, print};
+use swsusp_cli::{Status, print, tell};
 
 /// The status of a file that can't be opened.
 const NOT_OPENED: u8 = 7;
@@ -16,29 +20,25 @@ const NOT_OPENED: u8 = 7;
 /// How many blocks the disk in memory has that a script is played over.
 const MEMORY_BLOCKS: u32 = 16384;
 
-const USAGE: &[u8] = b"usage: swsusp_machine make < SCRIPT > DUMP
-       swsusp_machine loader < DUMP > DUMP
-       swsusp_machine show < DUMP
-       swsusp_machine differ DUMP DUMP
-       swsusp_machine check SWAP < DUMP
-";
-
 fn main(rt: HostRuntime) -> ExitCode {
     let words = match env::args(&rt) {
         Ok(words) => words,
         Err(error) if error.kind() == io::ErrorKind::OutOfMemory => return no_memory(&rt),
-        Err(_) => return ended(&rt, USAGE, Status::Words.code()),
+        Err(_) => return ended(&rt, b"words\n", Status::Words.code()),
     };
     let Ok(words) = words.collect::<Vec<String>>(rt.alloc()) else {
         return no_memory(&rt);
     };
-    match Command::parse(&words) {
-        None => ended(&rt, USAGE, Status::Words.code()),
-        Some(Command::Make) => make_over_memory(&rt),
-        Some(Command::Loader) => make_loader(&rt),
-        Some(Command::Show) => show_dump(&rt),
-        Some(Command::Differ { first, second }) => differ_files(&rt, first, second),
-        Some(Command::Check { swap }) => check_file(&rt, swap),
+    match Command::parse(rt.alloc(), &words) {
+        Ok(Command::Make | Command::Loader) if rt.stdout().is_terminal() => sink_fault(&rt),
+        Ok(Command::Make) => make_over_memory(&rt),
+        Ok(Command::Loader) => make_loader(&rt),
+        Ok(Command::Show) => show_dump(&rt),
+        Ok(Command::Differ { first, second }) => differ_files(&rt, first, second),
+        Ok(Command::Check { swap }) => check_file(&rt, swap),
+        Err(Unparsed::Help(text)) => show_help(&rt, text.as_bytes()),
+        Err(Unparsed::Words(text)) => ended(&rt, text.as_bytes(), Status::Words.code()),
+        Err(Unparsed::NoMemory) => no_memory(&rt),
     }
 }
 
@@ -52,7 +52,7 @@ fn make_over_memory(rt: &HostRuntime) -> ExitCode {
     let mut out = StdSink::new(rt.stdout());
     let mut note = StdSink::new(rt.stderr());
     let status = make(rt.alloc(), &mut input, &mut out, &mut note, &mut disk);
-    ExitCode::from(status.code())
+    finished(rt, status)
 }
 
 /// Reads a dump from standard input, and writes its loader.
@@ -61,7 +61,7 @@ fn make_loader(rt: &HostRuntime) -> ExitCode {
     let mut out = StdSink::new(rt.stdout());
     let mut note = StdSink::new(rt.stderr());
     let status = loader(rt.alloc(), &mut input, &mut out, &mut note);
-    ExitCode::from(status.code())
+    finished(rt, status)
 }
 
 /// Reads a dump from standard input, and prints its facts.
@@ -70,12 +70,12 @@ fn show_dump(rt: &HostRuntime) -> ExitCode {
     let mut out = StdSink::new(rt.stdout());
     let mut note = StdSink::new(rt.stderr());
     let status = show_facts(rt.alloc(), &mut input, &mut out, &mut note);
-    ExitCode::from(status.code())
+    finished(rt, status)
 }
 
 /// Compares two dumps in files.
 fn differ_files(rt: &HostRuntime, first: &str, second: &str) -> ExitCode {
-    let Ok(_held) = standard_streams::hold(rt) else {
+    let Ok(_held) = hold(rt) else {
         return not_opened(rt);
     };
     let (Ok(first), Ok(second)) = (File::open(rt, first), File::open(rt, second)) else {
@@ -86,25 +86,54 @@ fn differ_files(rt: &HostRuntime, first: &str, second: &str) -> ExitCode {
     let mut out = StdSink::new(rt.stdout());
     let mut note = StdSink::new(rt.stderr());
     let status = differ(rt.alloc(), &mut first, &mut second, &mut out, &mut note);
-    ExitCode::from(status.code())
+    finished(rt, status)
 }
 
 /// Checks the image of a swap file, which is opened for reading alone.
 fn check_file(rt: &HostRuntime, swap: &str) -> ExitCode {
-    let Ok(_held) = standard_streams::hold(rt) else {
+    let Ok(_held) = hold(rt) else {
         return not_opened(rt);
     };
+    if is_output(rt, swap) {
+        return not_opened(rt);
+    }
     let Ok(mut disk) = FileDisk::open_read_only(rt, swap) else {
         return not_opened(rt);
     };
+    warn_of_file(rt, &mut disk);
     let mut input = StdSource::new(rt.stdin());
     let mut out = StdSink::new(rt.stdout());
     let mut note = StdSink::new(rt.stderr());
     let status = check(rt.alloc(), &mut input, &mut out, &mut note, &mut disk);
+    finished(rt, status)
+}
+
+/// Warns where a swap file seems to be given in place of the device that it lies in.
+fn warn_of_file(rt: &HostRuntime, disk: &mut FileDisk<File>) {
+    if let Some(first) = first_map_beyond(disk) {
+        let _ = eprintln!(rt;
+            "warning: the first map is block {first}, beyond the file: of a swap file in a file system give the device"
+        );
+    }
+}
+
+/// Prints the help that was asked for.
+fn show_help(rt: &HostRuntime, text: &[u8]) -> ExitCode {
+    let mut out = StdSink::new(rt.stdout());
+    let mut note = StdSink::new(rt.stderr());
+    let status = tell(Status::Done, text, b"", &mut out, &mut note);
+    finished(rt, status)
+}
+
+/// Ends with a command's status. What it printed is synced before it ends well.
+fn finished(rt: &HostRuntime, status: Status) -> ExitCode {
+    if status == Status::Done && sync_output(rt).is_err() {
+        return sink_fault(rt);
+    }
     ExitCode::from(status.code())
 }
 
-/// Ends before a command, with a note.
+/// Ends outside a command, with a note.
 fn ended(rt: &HostRuntime, text: &[u8], code: u8) -> ExitCode {
     let _ = print(&mut StdSink::new(rt.stderr()), text);
     ExitCode::from(code)
@@ -112,6 +141,10 @@ fn ended(rt: &HostRuntime, text: &[u8], code: u8) -> ExitCode {
 
 fn no_memory(rt: &HostRuntime) -> ExitCode {
     ended(rt, b"no memory\n", Status::Memory.code())
+}
+
+fn sink_fault(rt: &HostRuntime) -> ExitCode {
+    ended(rt, b"sink fault\n", Status::Stream.code())
 }
 
 fn not_opened(rt: &HostRuntime) -> ExitCode {

@@ -15,7 +15,7 @@ fn notes_that_fail(rt: HostRuntime) -> Result<(), Fail> {
         (&EXPORT, b"SWSUDMP3", "dump Magic byte 0\n"),
         (&IMPORT, b"", "stream Short byte 0\n"),
         (&REPLAY, b"jump", "script line 1 Word\n"),
-        (&["swsusp", "drill", "0"], b"", "words\n"),
+        (&["swsusp", "drill", "010"], b"", "words\n"),
         (&["swsusp", "inspect", "--", "s"], b"", "words\n"),
     ];
     for (words, input, whole) in table {

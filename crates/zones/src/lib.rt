@@ -3,7 +3,7 @@
 
 mod fault;
 
-ghost use Rattle.std.specs.Prelude.{◌≡◌, ℕ, ◌+◌, ◌-◌, ◌<◌, ◌≤◌, ◌↔◌, IsTrue, IsOk, IfOk, IfErr, List, length};
+ghost use Rattle.std.specs.Prelude.{◌≡◌, ℕ, ◌+◌, ◌-◌, ◌<◌, ◌≤◌, ◌↔◌, IsTrue, IsOk, IfOk, IfErr, List, length, slice_get};
 ghost use Rattle.std.specs.List.{Contains};
 ghost use Rattle.definitions.specs.Zones.{numbers, first_from, top, zone_end, IsZone, AreZones};
 ghost use Rattle.zones.specs.Faults.{HasFault};
@@ -111,6 +111,14 @@ impl Zones {
             }
         }
         None
+    }
+
+    /// The first number and the count of zone `j`, counted from 0. `None` where there are at most `j` zones.
+    pub fn zone(&self, j: u32) -> Option<(u32, u32)>
+        ensures zone { result ≡ slice_get self.now j }
+        ensures zones { AreZones self.now }
+    {
+        self.as_slice().get(j as usize).copied()
     }
 
     /// The pairs of the zones: the first number and the count of each.

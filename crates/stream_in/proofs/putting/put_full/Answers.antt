@@ -1,15 +1,20 @@
-use Rattle.std.proofs.Common.{◌≡◌, ℕ, List, refl, sym, subst, Err, ap, ◌∙◌}
+use Rattle.std.proofs.Common.{◌≡◌, ℕ, List, IsTrue, refl, sym, subst, Err, ap, ◌∙◌}
 use Rattle.std.proofs.lemmas.Result.{err_from_is_err_and}
 use Rattle.stream_in.specs.declared.stop.InStop.TheVariants as stop
-use Rattle.stream_in.proofs.Contents.{err_same, changes_none}
+use Rattle.image_write.specs.Writing.{Writing, BlocksBelow, writes_of}
+use Rattle.stream_in.proofs.Contents.{err_same, on_any_err}
 use Rattle.stream_in.proofs.AtPage.{has_put}
-use Rattle.stream_in.specs.Outside.{KeepsOutside}
-use Rattle.stream_in.proofs.Outsides.{keeps_none, told_same}
+use Rattle.stream_in.proofs.Outsides.{told_same}
+use Rattle.stream_in.proofs.Rests.{told_puts, told_fails, told_unwritten, told_made, few_calls, is_first}
 use Rattle.stream_in.specs.Putting.{pages_in, writes_made}
 use Rattle.stream_in.specs.Written.{AreOfMap}
 use Rattle.stream_in.proofs.Laying.{more_same}
-use Rattle.stream_in.proofs.Moments.{outside_none, outside_same}
+use Rattle.stream_in.proofs.Moments.{alike_outside, outside_none, outside_same, outside_then}
 use Rattle.stream_in.proofs.putting.put_full.Goals as goal
+
+-- the disk has as many blocks as before
+on_same_disk : (w : Writing) (free : List ℕ) (before now : ℕ) → now ≡ before → BlocksBelow w.extents free (writes_of w.info) before → BlocksBelow w.extents free (writes_of w.info) now
+on_same_disk w free before now same h = subst (BlocksBelow w.extents free (writes_of w.info)) (sym same) h
 
 pub returns-in_err-writer-clause-too_few : goal.returns-in_err-writer-clause-too_few
 returns-in_err-writer-clause-too_few g c = λ free can told need is.
@@ -21,7 +26,7 @@ pub put_page-requires-clause-writing : goal.put_page-requires-clause-writing
 put_page-requires-clause-writing g c =
     let free = c.requires.put.0 in
     let at = c.in_ok-writer.ensures.ready free (g.D.Disk.block_count c.args.disk.now) c.requires.put.1 in
-    (free, at.writing, at.on_disk)
+    (free, at.writing, on_same_disk c.in_ok-writer.writer free (g.D.Disk.block_count c.args.disk.now) (g.D.Disk.block_count c.at_rest.new.disk) c.at_rest.ensures.blocks at.on_disk)
 
 pub put_page-requires-clause-page : goal.put_page-requires-clause-page
 put_page-requires-clause-page g c =
@@ -52,64 +57,137 @@ returns-in-Done-clause-enough g c = λ free can.
 
 -- The other blocks.
 
-pub returns-in_err-writer-clause-outside : goal.returns-in_err-writer-clause-outside
-returns-in_err-writer-clause-outside g c = λ free can.
-    changes_none (KeepsOutside c.args.map.now free) (g.D.Disk.content c.args.disk.now) (g.D.Disk.content c.args.disk.now) (keeps_none c.args.map.now free) refl
+pub returns-in_err-writer-clause-stopped : goal.returns-in_err-writer-clause-stopped
+returns-in_err-writer-clause-stopped g c = λ free can.
+    on_any_err c.from_residual.result _ (told_unwritten c.args.map.now free c.args.writer (g.D.Disk.content c.args.disk.now) (g.D.Disk.content c.args.disk.now) refl)
+
+pub returns-in_err-at_rest-clause-stopped : goal.returns-in_err-at_rest-clause-stopped
+returns-in_err-at_rest-clause-stopped g c = λ free can.
+    on_any_err c.from_residual-in_err-at_rest.result _ (told_unwritten c.args.map.now free c.args.writer (g.D.Disk.content c.args.disk.now) (g.D.Disk.content c.at_rest.new.disk) c.in_err-at_rest.ensures.same)
 
 pub returns-in-More-clause-outside : goal.returns-in-More-clause-outside
 returns-in-More-clause-outside g c = λ free can.
     let at = c.in_ok-writer.ensures.ready free (g.D.Disk.block_count c.args.disk.now) can in
-    told_same c.args.map.now c.in_ok-writer.writer.extents free (g.D.Disk.content c.args.disk.now) (g.D.Disk.content c.put_page.new.disk) at.extents_are (c.put_page.ensures.outside free at.writing)
+    let a = g.D.Disk.content c.args.disk.now in
+    let b = g.D.Disk.content c.at_rest.new.disk in
+    let d = g.D.Disk.content c.put_page.new.disk in
+    told_puts c.args.map.now free c.args.writer c.is_none-begins.result a b d (is_first c.args.writer c.is_none-begins.result c.is_none-begins.ensures) c.in_ok-at_rest.ensures.rested
+    (told_same c.args.map.now c.in_ok-writer.writer.extents free b d at.extents_are (c.put_page.ensures.outside free at.writing))
 
 pub returns-in-Done-clause-outside : goal.returns-in-Done-clause-outside
 returns-in-Done-clause-outside g c = λ free can.
     let at = c.in_ok-writer.ensures.ready free (g.D.Disk.block_count c.args.disk.now) can in
-    told_same c.args.map.now c.in_ok-writer.writer.extents free (g.D.Disk.content c.args.disk.now) (g.D.Disk.content c.put_page.new.disk) at.extents_are (c.put_page.ensures.outside free at.writing)
+    let a = g.D.Disk.content c.args.disk.now in
+    let b = g.D.Disk.content c.at_rest.new.disk in
+    let d = g.D.Disk.content c.put_page.new.disk in
+    told_puts c.args.map.now free c.args.writer c.is_none-begins.result a b d (is_first c.args.writer c.is_none-begins.result c.is_none-begins.ensures) c.in_ok-at_rest.ensures.rested
+    (told_same c.args.map.now c.in_ok-writer.writer.extents free b d at.extents_are (c.put_page.ensures.outside free at.writing))
 
-pub returns-in-Fault-clause-outside : goal.returns-in-Fault-clause-outside
-returns-in-Fault-clause-outside g c = λ free can.
+pub returns-in-Fault-clause-stopped : goal.returns-in-Fault-clause-stopped
+returns-in-Fault-clause-stopped g c = λ free can.
     let at = c.in_ok-writer.ensures.ready free (g.D.Disk.block_count c.args.disk.now) can in
-    told_same c.args.map.now c.in_ok-writer.writer.extents free (g.D.Disk.content c.args.disk.now) (g.D.Disk.content c.put_page.new.disk) at.extents_are (c.put_page.ensures.outside free at.writing)
+    let a = g.D.Disk.content c.args.disk.now in
+    let b = g.D.Disk.content c.at_rest.new.disk in
+    let d = g.D.Disk.content c.put_page.new.disk in
+    told_fails c.args.map.now free c.args.writer a d (told_puts c.args.map.now free c.args.writer c.is_none-begins.result a b d (is_first c.args.writer c.is_none-begins.result c.is_none-begins.ensures) c.in_ok-at_rest.ensures.rested
+    (told_same c.args.map.now c.in_ok-writer.writer.extents free b d at.extents_are (c.put_page.ensures.outside free at.writing)))
+
+-- How often the disk is called.
+
+pub returns-in-More-clause-calls : goal.returns-in-More-clause-calls
+returns-in-More-clause-calls g c =
+    let free = c.requires.put.0 in
+    let blocks = g.D.Disk.block_count c.args.disk.now in
+    let at = c.in_ok-writer.ensures.ready free blocks c.requires.put.1 in
+    few_calls free c.args.frames.now c.args.table.now c.args.map.now blocks c.args.page.now c.args.writer c.in_ok-writer.writer c.is_none-begins.result (g.D.Disk.calls c.args.disk.now) (g.D.Disk.calls c.at_rest.new.disk) (g.D.Disk.calls c.put_page.new.disk)
+    c.requires.put.1 (is_first c.args.writer c.is_none-begins.result c.is_none-begins.ensures) at.pages at.made (λ e. ap g.D.Disk.calls (c.at_rest.ensures.uncalled e)) c.at_rest.ensures.calls c.put_page.ensures.calls c.put_page.ensures.first_call
+
+pub returns-in-Done-clause-calls : goal.returns-in-Done-clause-calls
+returns-in-Done-clause-calls g c =
+    let free = c.requires.put.0 in
+    let blocks = g.D.Disk.block_count c.args.disk.now in
+    let at = c.in_ok-writer.ensures.ready free blocks c.requires.put.1 in
+    few_calls free c.args.frames.now c.args.table.now c.args.map.now blocks c.args.page.now c.args.writer c.in_ok-writer.writer c.is_none-begins.result (g.D.Disk.calls c.args.disk.now) (g.D.Disk.calls c.at_rest.new.disk) (g.D.Disk.calls c.put_page.new.disk)
+    c.requires.put.1 (is_first c.args.writer c.is_none-begins.result c.is_none-begins.ensures) at.pages at.made (λ e. ap g.D.Disk.calls (c.at_rest.ensures.uncalled e)) c.at_rest.ensures.calls c.put_page.ensures.calls c.put_page.ensures.first_call
+
+pub returns-in-Fault-clause-calls : goal.returns-in-Fault-clause-calls
+returns-in-Fault-clause-calls g c =
+    let free = c.requires.put.0 in
+    let blocks = g.D.Disk.block_count c.args.disk.now in
+    let at = c.in_ok-writer.ensures.ready free blocks c.requires.put.1 in
+    few_calls free c.args.frames.now c.args.table.now c.args.map.now blocks c.args.page.now c.args.writer c.in_ok-writer.writer c.is_none-begins.result (g.D.Disk.calls c.args.disk.now) (g.D.Disk.calls c.at_rest.new.disk) (g.D.Disk.calls c.put_page.new.disk)
+    c.requires.put.1 (is_first c.args.writer c.is_none-begins.result c.is_none-begins.ensures) at.pages at.made (λ e. ap g.D.Disk.calls (c.at_rest.ensures.uncalled e)) c.at_rest.ensures.calls c.put_page.ensures.calls c.put_page.ensures.first_call
 
 -- What is on the disk.
 
 pub returns-in-More-clause-done : goal.returns-in-More-clause-done
 returns-in-More-clause-done g c = λ free pages can of is.
-    let at = c.in_ok-writer.ensures.ready free (g.D.Disk.block_count c.args.disk.now) can in
+    let before = g.D.Disk.block_count c.args.disk.now in
+    let at = c.in_ok-writer.ensures.ready free before can in
     let w = c.in_ok-writer.writer in
     let P : List (ℕ × ℕ × ℕ) → Type 0 = λ x. AreOfMap x free in
-    more_same c.args.map.now w.extents free (pages_in c.args.page.now c.args.writer) w.info.pages pages (writes_made c.args.writer) w.written c.put_page.new.writer.written c.put_page.new.writer.written
-    (g.D.Disk.content c.args.disk.now) (g.D.Disk.content c.put_page.new.disk) at.extents_are at.pages at.made refl
-    (c.in-More.ensures.done free pages at.writing (subst P (sym at.extents_are) of) at.on_disk (is ∙ ap pages (sym at.count)) tt)
+    let a = g.D.Disk.content c.args.disk.now in
+    let b = g.D.Disk.content c.at_rest.new.disk in
+    let d = g.D.Disk.content c.put_page.new.disk in
+    let on_disk = on_same_disk w free before (g.D.Disk.block_count c.at_rest.new.disk) c.at_rest.ensures.blocks at.on_disk in
+    told_made c.args.map.now free (pages_in c.args.page.now c.args.writer) pages (writes_made c.args.writer) c.put_page.new.writer.written c.is_none-begins.result a b d c.in_ok-at_rest.ensures.rested
+    (more_same c.args.map.now w.extents free (pages_in c.args.page.now c.args.writer) w.info.pages pages (writes_made c.args.writer) w.written c.put_page.new.writer.written c.put_page.new.writer.written
+    b d at.extents_are at.pages at.made refl
+    (c.in-More.ensures.done free pages at.writing (subst P (sym at.extents_are) of) on_disk (is ∙ ap pages (sym at.count)) tt))
 
 pub returns-in-Done-clause-done : goal.returns-in-Done-clause-done
 returns-in-Done-clause-done g c = λ free pages can of is.
-    let at = c.in_ok-writer.ensures.ready free (g.D.Disk.block_count c.args.disk.now) can in
+    let before = g.D.Disk.block_count c.args.disk.now in
+    let at = c.in_ok-writer.ensures.ready free before can in
     let w = c.in_ok-writer.writer in
     let P : List (ℕ × ℕ × ℕ) → Type 0 = λ x. AreOfMap x free in
-    more_same c.args.map.now w.extents free (pages_in c.args.page.now c.args.writer) w.info.pages pages (writes_made c.args.writer) w.written c.put_page.new.writer.written c.put_page.new.writer.written
-    (g.D.Disk.content c.args.disk.now) (g.D.Disk.content c.put_page.new.disk) at.extents_are at.pages at.made refl
-    (c.in-Done.ensures.done free pages at.writing (subst P (sym at.extents_are) of) at.on_disk (is ∙ ap pages (sym at.count)) tt)
+    let a = g.D.Disk.content c.args.disk.now in
+    let b = g.D.Disk.content c.at_rest.new.disk in
+    let d = g.D.Disk.content c.put_page.new.disk in
+    let on_disk = on_same_disk w free before (g.D.Disk.block_count c.at_rest.new.disk) c.at_rest.ensures.blocks at.on_disk in
+    told_made c.args.map.now free (pages_in c.args.page.now c.args.writer) pages (writes_made c.args.writer) c.put_page.new.writer.written c.is_none-begins.result a b d c.in_ok-at_rest.ensures.rested
+    (more_same c.args.map.now w.extents free (pages_in c.args.page.now c.args.writer) w.info.pages pages (writes_made c.args.writer) w.written c.put_page.new.writer.written c.put_page.new.writer.written
+    b d at.extents_are at.pages at.made refl
+    (c.in-Done.ensures.done free pages at.writing (subst P (sym at.extents_are) of) on_disk (is ∙ ap pages (sym at.count)) tt))
 
 -- Moments.
 
 pub returns-in_err-writer-clause-time : goal.returns-in_err-writer-clause-time
 returns-in_err-writer-clause-time g c = λ tells free can. outside_none c.args.map.now free (g.D.Disk.moment c.args.disk.now) (g.D.Disk.left_since c.args.disk.now)
 
+pub returns-in_err-at_rest-clause-time : goal.returns-in_err-at_rest-clause-time
+returns-in_err-at_rest-clause-time g c = λ tells free can.
+    alike_outside c.args.map.now free (g.D.Disk.moment c.args.disk.now) (g.D.Disk.moment c.at_rest.new.disk) (g.D.Disk.left_since c.args.disk.now) (g.D.Disk.left_since c.at_rest.new.disk) (c.at_rest.ensures.time tells)
+
 pub returns-in-More-clause-time : goal.returns-in-More-clause-time
 returns-in-More-clause-time g c = λ tells free can.
     let at = c.in_ok-writer.ensures.ready free (g.D.Disk.block_count c.args.disk.now) can in
-    outside_same c.args.map.now c.in_ok-writer.writer.extents free (g.D.Disk.moment c.args.disk.now) (g.D.Disk.moment c.put_page.new.disk) (g.D.Disk.left_since c.args.disk.now) (g.D.Disk.left_since c.put_page.new.disk)
-    at.extents_are (c.put_page.ensures.time tells free at.writing)
+    let d = c.args.disk.now in
+    let e = c.at_rest.new.disk in
+    let f = c.put_page.new.disk in
+    outside_then c.args.map.now free (g.D.Disk.moment d) (g.D.Disk.moment e) (g.D.Disk.moment f) (g.D.Disk.left_since d) (g.D.Disk.left_since e) (g.D.Disk.left_since f)
+    (alike_outside c.args.map.now free (g.D.Disk.moment d) (g.D.Disk.moment e) (g.D.Disk.left_since d) (g.D.Disk.left_since e) (c.at_rest.ensures.time tells))
+    (outside_same c.args.map.now c.in_ok-writer.writer.extents free (g.D.Disk.moment e) (g.D.Disk.moment f) (g.D.Disk.left_since e) (g.D.Disk.left_since f)
+    at.extents_are (c.put_page.ensures.time (subst IsTrue (sym c.at_rest.ensures.telling) tells) free at.writing))
 
 pub returns-in-Done-clause-time : goal.returns-in-Done-clause-time
 returns-in-Done-clause-time g c = λ tells free can.
     let at = c.in_ok-writer.ensures.ready free (g.D.Disk.block_count c.args.disk.now) can in
-    outside_same c.args.map.now c.in_ok-writer.writer.extents free (g.D.Disk.moment c.args.disk.now) (g.D.Disk.moment c.put_page.new.disk) (g.D.Disk.left_since c.args.disk.now) (g.D.Disk.left_since c.put_page.new.disk)
-    at.extents_are (c.put_page.ensures.time tells free at.writing)
+    let d = c.args.disk.now in
+    let e = c.at_rest.new.disk in
+    let f = c.put_page.new.disk in
+    outside_then c.args.map.now free (g.D.Disk.moment d) (g.D.Disk.moment e) (g.D.Disk.moment f) (g.D.Disk.left_since d) (g.D.Disk.left_since e) (g.D.Disk.left_since f)
+    (alike_outside c.args.map.now free (g.D.Disk.moment d) (g.D.Disk.moment e) (g.D.Disk.left_since d) (g.D.Disk.left_since e) (c.at_rest.ensures.time tells))
+    (outside_same c.args.map.now c.in_ok-writer.writer.extents free (g.D.Disk.moment e) (g.D.Disk.moment f) (g.D.Disk.left_since e) (g.D.Disk.left_since f)
+    at.extents_are (c.put_page.ensures.time (subst IsTrue (sym c.at_rest.ensures.telling) tells) free at.writing))
 
 pub returns-in-Fault-clause-time : goal.returns-in-Fault-clause-time
 returns-in-Fault-clause-time g c = λ tells free can.
     let at = c.in_ok-writer.ensures.ready free (g.D.Disk.block_count c.args.disk.now) can in
-    outside_same c.args.map.now c.in_ok-writer.writer.extents free (g.D.Disk.moment c.args.disk.now) (g.D.Disk.moment c.put_page.new.disk) (g.D.Disk.left_since c.args.disk.now) (g.D.Disk.left_since c.put_page.new.disk)
-    at.extents_are (c.put_page.ensures.time tells free at.writing)
+    let d = c.args.disk.now in
+    let e = c.at_rest.new.disk in
+    let f = c.put_page.new.disk in
+    outside_then c.args.map.now free (g.D.Disk.moment d) (g.D.Disk.moment e) (g.D.Disk.moment f) (g.D.Disk.left_since d) (g.D.Disk.left_since e) (g.D.Disk.left_since f)
+    (alike_outside c.args.map.now free (g.D.Disk.moment d) (g.D.Disk.moment e) (g.D.Disk.left_since d) (g.D.Disk.left_since e) (c.at_rest.ensures.time tells))
+    (outside_same c.args.map.now c.in_ok-writer.writer.extents free (g.D.Disk.moment e) (g.D.Disk.moment f) (g.D.Disk.left_since e) (g.D.Disk.left_since f)
+    at.extents_are (c.put_page.ensures.time (subst IsTrue (sym c.at_rest.ensures.telling) tells) free at.writing))

@@ -4,6 +4,8 @@ use Rattle.stream_in.proofs.Puts.{IsPut, put_one, put_two, put_three, followed, 
 use Rattle.stream_in.proofs.Laying.{put_done, more_then, more_same, behind_put}
 use Rattle.stream_in.proofs.Outsides.{put_keeps, told_then, told_same}
 use Rattle.stream_in.proofs.Moments.{outside_call, outside_then}
+use Rattle.stream_in.proofs.Rests.{first_alone}
+use Rattle.std.proofs.lemmas.Bool.{both_ways}
 use Rattle.stream_in.proofs.putting.put_page.Goals as goal
 
 pub returns-then-not-map_follows-clause-put : goal.returns-then-not-map_follows-clause-put
@@ -57,6 +59,14 @@ returns-clause-put g c = λ free h ok.
     record { answer = e3.answer; image = e3.image; made = e3.made; writing = e3.writing free two.writing } in
     put_three free c.args.frames.now c.put-step.new.frames c.put-step-2.new.frames c.put.new.frames c.args.writer.now c.put-step.new.self c.put-step-2.new.self c.put.new.self
     c.put-step.result c.put-step-2.result c.put.result h c.requires.page p1 map1 p2 map2 p3 ok
+
+-- How often the disk is called for the first page.
+
+pub returns-then-not-map_follows-2-clause-first_call : goal.returns-then-not-map_follows-2-clause-first_call
+returns-then-not-map_follows-2-clause-first_call g c = λ first some. absurd (both_ways (is_map_next c.put-step.result) (first_alone c.args.writer.now c.put-step.result first some c.put-step.ensures.answer) (sym c.map_follows.ensures ∙ c.if-not-map_follows.false))
+
+pub returns-clause-first_call : goal.returns-clause-first_call
+returns-clause-first_call g c = λ first some. absurd (both_ways (is_map_next c.put-step.result) (first_alone c.args.writer.now c.put-step.result first some c.put-step.ensures.answer) (sym c.map_follows.ensures ∙ c.if-not-map_follows.false))
 
 -- The other blocks.
 

@@ -41,7 +41,7 @@ pieces-preserved g c =
           record {
             fed = c.in-Ok-feed.ensures.taken free bs was.fed;
             handed = handed_more bs part read count (g.I.Source.remaining c.args.input.now) (g.I.Source.remaining c.pieces.input) (g.I.Source.remaining c.read_piece.new.input) refl was.handed c.in-Ok.ensures.bytes;
-            content = holds_more c.args.session.now.map c.pieces.session.map free bs part first mid last was.map was.content (c.in-Ok-feed.ensures.done free bs was.fed of_map) (c.feed.ensures.outside free bs was.fed);
+            content = holds_more c.args.session.now.map c.pieces.session.map free bs part first mid last was.map was.content (c.in-Ok-feed.ensures.done free bs was.fed of_map) (c.in-Ok-feed.ensures.outside free bs was.fed);
             called = called_more bs part d e f was.called (c.feed.ensures.calls free bs was.fed) c.feed.ensures.faults c.feed.ensures.orders c.feed.ensures.blocks;
             map = c.feed.ensures.map ∙ was.map;
             blocks = c.feed.ensures.same ∙ was.blocks;
@@ -73,7 +73,7 @@ returns-in-Err-feed-clause-feeds g c free begun of =
         why_is = stop_for free (bs ++ part) c.in-Err-feed.stop c.feed.result c.in-Err-feed.is (c.in-Err-feed.ensures.stops (going.0, bs, going.1)) (c.feed.ensures.stream free bs was.fed) (c.feed.ensures.too_few free bs was.fed);
         handed = handed_more bs part read count (g.I.Source.remaining c.args.input.now) (g.I.Source.remaining c.pieces.input) (g.I.Source.remaining c.read_piece.new.input) refl was.handed c.in-Ok.ensures.bytes;
         few = omega arith;
-        content = keeps_more c.args.session.now.map c.pieces.session.map free bs first mid last was.map was.content (c.feed.ensures.outside free bs was.fed);
+        content = keeps_more c.args.session.now.map c.pieces.session.map free bs first mid last was.map was.content (c.in-Err-feed.ensures.stopped free bs was.fed);
         called = called_more bs part d e f was.called (c.feed.ensures.calls free bs was.fed) c.feed.ensures.faults c.feed.ensures.orders c.feed.ensures.blocks;
         risen = λ fault. risen_from (g.D.Disk.faults c.args.disk.now) (g.D.Disk.faults c.pieces.disk) (g.D.Disk.faults c.feed.new.disk) so_far.faults (c.in-Err-feed.ensures.cause (going.0, bs, going.1) fault);
       },

@@ -1,4 +1,4 @@
-use Rattle.std.proofs.Common.{refl, rules, append-nil, ◌≡◌, ℕ, ◌+◌, ◌-◌, ◌*◌, ◌/◌, ◌%◌, ◌≤◌, List, ◌++◌, IsTrue, length, take, drop, Some, sym, ap, subst, ◌∙◌, arith, length-append, length-drop}
+use Rattle.std.proofs.Common.{refl, rules, append-nil, ◌≡◌, ℕ, ◌+◌, ◌-◌, ◌*◌, ◌/◌, ◌%◌, ◌≤◌, List, [], ◌++◌, IsTrue, length, take, drop, Some, sym, ap, subst, ◌∙◌, arith, length-append, length-drop}
 use Rattle.std.proofs.lemmas.List.{length-take-le, take_all}
 use Rattle.stream_check.specs.Grammar.{first_fault}
 use Rattle.stream_check.proofs.Steps.{first_fault-stays}
@@ -6,11 +6,10 @@ use Rattle.stream_in.specs.Session.{IsGoing, IsFed, HasTooFewFor}
 use Rattle.definitions.specs.Disk.{Changes, DiskImage}
 use Rattle.stream_in.specs.Written.{AreOfMap, WritesOn}
 use Rattle.stream_in.proofs.Pages.{on_none, on_then}
-use Rattle.stream_in.proofs.Outsides.{keeps_none, told_then, told_same}
-use Rattle.stream_in.specs.Outside.{KeepsOutside}
+use Rattle.stream_in.specs.Outside.{WritesAtRest}
+use Rattle.stream_in.proofs.Rests.{told_nothing, told_stops_then, told_writes_then}
 use Rattle.stream_in.specs.Moments.{ElapsesOutside}
 use Rattle.stream_in.proofs.Moments.{outside_none, outside_then, outside_same}
-use Rattle.stream_in.proofs.Contents.{changes_none}
 use Rattle.stream_in.proofs.Ready.{told_ready, no_header}
 use Rattle.stream_in.proofs.Sessions.{piece_part, piece_rest, length-part, too_few_more, pages_more}
 use Rattle.stream_in.proofs.session.StreamIn.feed.Goals as goal
@@ -50,9 +49,9 @@ loop-at-preserved g c =
           let of' = subst (λ (x : List (ℕ × ℕ × ℕ)). AreOfMap x free) (sym inv.map_same) of in
           on_then c.args.self.now.map c.loop-at.self.map free bs (take at piece) part (take end piece) (g.D.Disk.content c.args.disk.now) (g.D.Disk.content c.loop-at.disk) (g.D.Disk.content c.take.new.disk)
           inv.map_same (piece_part bs piece at end some within) (inv.done free bs f of) (c.in-Ok.ensures.done free (bs ++ take at piece) (inv.fed free bs f) of');
-      outside = λ free bs f. told_then c.args.self.now.map free (g.D.Disk.content c.args.disk.now) (g.D.Disk.content c.loop-at.disk) (g.D.Disk.content c.take.new.disk)
-          (inv.outside free bs f) (told_same c.args.self.now.map c.loop-at.self.map free (g.D.Disk.content c.loop-at.disk) (g.D.Disk.content c.take.new.disk) inv.map_same
-          (c.take.ensures.outside free (bs ++ take at piece) (inv.fed free bs f)));
+      outside = λ free bs f. told_writes_then c.args.self.now.map c.loop-at.self.map free (length bs) (length (bs ++ take at piece)) (length (bs ++ take at piece)) (length (bs ++ take end piece)) _ (g.D.Disk.content c.args.disk.now) (g.D.Disk.content c.loop-at.disk) (g.D.Disk.content c.take.new.disk)
+          inv.map_same refl (ap length (piece_part bs piece at end some within)) (omega (arith, length-append bs (take at piece))) (omega (arith, length-part bs piece at inv.within, length-part bs piece end within)) (inv.outside free bs f)
+          (c.in-Ok.ensures.outside free (bs ++ take at piece) (inv.fed free bs f));
       time = λ tells free bs f. time_more c.args.self.now.map c.loop-at.self.map free (g.D.Disk.moment c.args.disk.now) (g.D.Disk.moment c.loop-at.disk) (g.D.Disk.moment c.take.new.disk)
           (g.D.Disk.left_since c.args.disk.now) (g.D.Disk.left_since c.loop-at.disk) (g.D.Disk.left_since c.take.new.disk) inv.map_same (inv.time tells free bs f)
           (c.take.ensures.time (subst IsTrue (sym inv.telling) tells) free (bs ++ take at piece) (inv.fed free bs f));
@@ -116,12 +115,18 @@ returns-clause-calls g c = λ free bs fed.
 
 -- The other blocks.
 
-pub returns-in-Err-clause-outside : goal.returns-in-Err-clause-outside
-returns-in-Err-clause-outside g c = λ free bs fed.
+pub returns-in-Err-clause-stopped : goal.returns-in-Err-clause-stopped
+returns-in-Err-clause-stopped g c = λ free bs fed.
     let inv = c.loop-at.invariant in
-    told_then c.args.self.now.map free (g.D.Disk.content c.args.disk.now) (g.D.Disk.content c.loop-at.disk) (g.D.Disk.content c.take.new.disk)
-    (inv.outside free bs fed) (told_same c.args.self.now.map c.loop-at.self.map free (g.D.Disk.content c.loop-at.disk) (g.D.Disk.content c.take.new.disk) inv.map_same
-    (c.take.ensures.outside free (bs ++ take c.loop-at.at c.args.piece.now) (inv.fed free bs fed)))
+    let piece = c.args.piece.now in
+    let at = c.loop-at.at in
+    told_stops_then c.args.self.now.map c.loop-at.self.map free (length bs) (length (bs ++ take at piece)) (length (bs ++ take at piece)) (g.D.Disk.content c.args.disk.now) (g.D.Disk.content c.loop-at.disk) (g.D.Disk.content c.take.new.disk)
+    inv.map_same refl (omega (arith, length-append bs (take at piece))) (inv.outside free bs fed) (c.in-Err.ensures.stopped free (bs ++ take at piece) (inv.fed free bs fed))
+
+pub returns-clause-outside : goal.returns-clause-outside
+returns-clause-outside g c = λ free bs fed.
+    let all : take c.loop-at.at c.args.piece.now ≡ c.args.piece.now = take_all c.loop-at.at c.args.piece.now (omega arith) in
+    subst (λ (p : List ℕ). Changes (WritesAtRest c.args.self.now.map free (length bs) (length (bs ++ p))) (g.D.Disk.content c.args.disk.now) (g.D.Disk.content c.loop-at.disk)) all (c.loop-at.invariant.outside free bs fed)
 
 -- Moments.
 
@@ -169,7 +174,7 @@ returns-clause-ready g c = λ area free bs into.
     let a = g.D.Disk.content c.args.disk.now in
     let b = g.D.Disk.content c.loop-at.disk in
     let all : take c.loop-at.at c.args.piece.now ≡ c.args.piece.now = take_all c.loop-at.at c.args.piece.now (omega arith) in
-    told_ready area free bs c.args.piece.now s.map a b into.usable into.map_is (c.loop-at.invariant.outside free bs into.fed)
+    told_ready area free bs c.args.piece.now s.map (length bs) (length (bs ++ take c.loop-at.at c.args.piece.now)) a b into.usable into.map_is (c.loop-at.invariant.outside free bs into.fed)
     (subst (λ (p : List ℕ). Changes (WritesOn s.map free bs p) a b) all (c.loop-at.invariant.done free bs into.fed into.of_map))
 
 pub loop-at-init : goal.loop-at-init
@@ -182,7 +187,7 @@ loop-at-init g c =
       going = going;
       was_going = going;
       done = λ free bs f of. on_none s.map free bs (g.D.Disk.content c.args.disk.now);
-      outside = λ free bs f. changes_none (KeepsOutside s.map free) (g.D.Disk.content c.args.disk.now) (g.D.Disk.content c.args.disk.now) (keeps_none s.map free) refl;
+      outside = λ free bs f. told_nothing s.map free (length bs) (length (bs ++ [])) (g.D.Disk.content c.args.disk.now) (ap length (append-nil bs));
       time = λ tells free bs f. outside_none s.map free (g.D.Disk.moment c.args.disk.now) (g.D.Disk.left_since c.args.disk.now);
       map_same = refl;
       count = c.requires.blocks;

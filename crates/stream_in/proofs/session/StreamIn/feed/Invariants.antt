@@ -1,7 +1,7 @@
 use Rattle.std.proofs.Common.{◌≡◌, ℕ, ◌+◌, ◌-◌, ◌*◌, ◌/◌, ◌≤◌, List, ◌++◌, IsTrue, length, take}
 use Rattle.definitions.specs.Disk.{Changes}
 use Rattle.stream_in.specs.Written.{AreOfMap, WritesOn}
-use Rattle.stream_in.specs.Outside.{KeepsOutside}
+use Rattle.stream_in.specs.Outside.{WritesAtRest}
 use Rattle.stream_in.specs.Moments.{ElapsesOutside}
 use Rattle.stream_in.specs.Session.{IsFed, IsGoing}
 use Rattle.stream_in.proofs.session.StreamIn.feed.Given as goal
@@ -17,7 +17,7 @@ invariant-loop-at g l = record {
   was_going : IsGoing l.initial.self;
   count : g.D.Disk.block_count l.disk ≡ l.self.blocks;
   done : (free bs : List ℕ) → IsFed free bs l.initial.self → AreOfMap l.initial.self.map free → Changes (WritesOn l.initial.self.map free bs (take l.at l.piece)) (g.D.Disk.content l.initial.disk) (g.D.Disk.content l.disk);
-  outside : (free bs : List ℕ) → IsFed free bs l.initial.self → Changes (KeepsOutside l.initial.self.map free) (g.D.Disk.content l.initial.disk) (g.D.Disk.content l.disk);
+  outside : (free bs : List ℕ) → IsFed free bs l.initial.self → Changes (WritesAtRest l.initial.self.map free (length bs) (length (bs ++ take l.at l.piece))) (g.D.Disk.content l.initial.disk) (g.D.Disk.content l.disk);
   time : IsTrue (g.D.Disk.tells_moments l.initial.disk) → (free bs : List ℕ) → IsFed free bs l.initial.self → ElapsesOutside l.initial.self.map free (g.D.Disk.moment l.initial.disk) (g.D.Disk.moment l.disk) (g.D.Disk.left_since l.initial.disk) (g.D.Disk.left_since l.disk);
   map_same : l.self.map ≡ l.initial.self.map;
   same : l.self.blocks ≡ l.initial.self.blocks;

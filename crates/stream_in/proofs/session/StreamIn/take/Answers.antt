@@ -1,4 +1,4 @@
-use Rattle.std.proofs.Common.{◌≡◌, ◌<◌, ◌++◌, refl, ℕ, ◌+◌, ◌%◌, ◌≤◌, List, length, Option, Err, sym, ap, subst, ◌∙◌, arith, rules}
+use Rattle.std.proofs.Common.{◌≡◌, ◌<◌, ◌++◌, refl, ℕ, ◌+◌, ◌%◌, ◌≤◌, List, length, Option, Err, sym, ap, subst, ◌∙◌, arith, rules, length-append}
 use Rattle.std.proofs.lemmas.Result.{err_from_is_err_and}
 use Rattle.definitions.specs.Tables.{table_frame_count}
 use Rattle.image_write.specs.Writing.{Writing}
@@ -6,13 +6,13 @@ use Rattle.stream_in.specs.declared.stop.InStop.TheVariants as stop
 use Rattle.stream_in.specs.declared.session.StreamIn.{StreamIn}
 use Rattle.stream_in.specs.Putting.{CanPut, Suffice, HasPut, HasTooFew}
 use Rattle.stream_in.specs.Session.{IsFed}
-use Rattle.stream_in.proofs.Contents.{err_same, changes_none, changes_as}
+use Rattle.stream_in.proofs.Contents.{err_same, changes_none, changes_as, on_err_any}
 use Rattle.definitions.specs.Disk.{Changes, as_it_reads}
 use Rattle.stream_in.specs.Putting.{pages_in, pages_written, writes_made}
 use Rattle.stream_in.specs.Written.{MakesMore, WritesOn, page_at}
 use Rattle.stream_in.proofs.Pages.{written_part, next_page, page_count, written_full, goes_on}
-use Rattle.stream_in.specs.Outside.{KeepsOutside}
-use Rattle.stream_in.proofs.Outsides.{keeps_none}
+use Rattle.stream_in.specs.Outside.{FailsAtRest, PutsAtRest}
+use Rattle.stream_in.proofs.Rests.{told_full, told_no_stop, told_part, told_stop}
 use Rattle.stream_in.proofs.Moments.{outside_none}
 use Rattle.stream_in.proofs.Sessions.{IsFull, full_page, page_open, page_closed, output_open, can_put, has_output, too_few}
 use Rattle.stream_in.proofs.session.StreamIn.take.Goals as goal
@@ -117,16 +117,17 @@ returns-clause-taken g c = λ free bs fed.
 
 -- The other blocks.
 
-pub returns-in_err-take-clause-outside : goal.returns-in_err-take-clause-outside
-returns-in_err-take-clause-outside g c = λ free bs fed.
-    changes_none (KeepsOutside c.args.self.now.map free) (g.D.Disk.content c.args.disk.now) (g.D.Disk.content c.args.disk.now) (keeps_none c.args.self.now.map free) refl
+pub returns-in_err-take-clause-stopped : goal.returns-in_err-take-clause-stopped
+returns-in_err-take-clause-stopped g c = λ free bs fed. on_err_any c.from_residual.result _ (told_no_stop c.args.self.now.map free (length bs) (g.D.Disk.content c.args.disk.now))
 
 pub returns-then-end-lt-PAGE-clause-outside : goal.returns-then-end-lt-PAGE-clause-outside
 returns-then-end-lt-PAGE-clause-outside g c = λ free bs fed.
-    changes_none (KeepsOutside c.args.self.now.map free) (g.D.Disk.content c.args.disk.now) (g.D.Disk.content c.args.disk.now) (keeps_none c.args.self.now.map free) refl
+    let part = c.args.part.now in
+    let begun : c.args.begun ≡ length bs % 4096 = began c.args.self.now c.args.begun c.requires.session free bs fed in
+    told_part c.args.self.now.map free bs part (g.D.Disk.content c.args.disk.now) (omega arith)
 
-pub returns-in_err-writer-clause-outside : goal.returns-in_err-writer-clause-outside
-returns-in_err-writer-clause-outside g c = λ free bs fed.
+pub returns-in_err-writer-clause-stopped : goal.returns-in_err-writer-clause-stopped
+returns-in_err-writer-clause-stopped g c = λ free bs fed.
     let s = c.args.self.now in
     let size : length s.page ≡ 4096 = search rules in
     let begun : c.args.begun ≡ length bs % 4096 = began s c.args.begun c.requires.session free bs fed in
@@ -139,7 +140,10 @@ returns-in_err-writer-clause-outside g c = λ free bs fed.
     let Q : Option Writing → Type 0 = λ w. CanPut free s.frames s.table s.map s.blocks c.from_bytes-page.result w in
     let can = subst P same (subst Q (sym c.take-2.ensures.value)
     (can_put free bs c.args.part.now c.from_bytes-page.result s.frames s.table s.map s.blocks s.writer fed.few fed.count fed.on_disk full fed.output)) in
-    c.put_full.ensures.outside free can
+    let a = g.D.Disk.content c.args.disk.now in
+    let b = g.D.Disk.content c.put_full.new.disk in
+    let R : Option Writing → Type 0 = λ w. Changes (FailsAtRest s.map free w) a b in
+    on_err_any c.from_residual-in_err-writer.result _ (told_stop free bs s.frames s.table s.map s.writer a b fed.output (subst R c.take-2.ensures.value (c.in_err-writer.ensures.stopped free can)))
 
 pub returns-clause-outside : goal.returns-clause-outside
 returns-clause-outside g c = λ free bs fed.
@@ -155,7 +159,10 @@ returns-clause-outside g c = λ free bs fed.
     let Q : Option Writing → Type 0 = λ w. CanPut free s.frames s.table s.map s.blocks c.from_bytes-page.result w in
     let can = subst P same (subst Q (sym c.take-2.ensures.value)
     (can_put free bs c.args.part.now c.from_bytes-page.result s.frames s.table s.map s.blocks s.writer fed.few fed.count fed.on_disk full fed.output)) in
-    c.put_full.ensures.outside free can
+    let a = g.D.Disk.content c.args.disk.now in
+    let b = g.D.Disk.content c.put_full.new.disk in
+    let R : Option Writing → Type 0 = λ w. Changes (PutsAtRest s.map free w) a b in
+    told_full free bs c.args.part.now s.frames s.table s.map s.writer a b (omega (arith, length-append bs c.args.part.now)) fed.output (subst R c.take-2.ensures.value (c.in_ok-writer.ensures.outside free can))
 
 -- What is on the disk.
 

@@ -1,0 +1,12 @@
+-- An image whose maps don't lie on the disk that it is looked for on.
+use Rattle.std.specs.Prelude.{ℕ, nat_le, Option, Some, None, if◌then◌else◌}
+use Rattle.sig_header.specs.declared.area.AreaKind.{AreaKind}
+use Rattle.sig_header.specs.declared.area.AreaKind.TheVariants as kind
+
+-- the block of the first map (`image` of struct swsusp_header), where the disk has fewer blocks
+abbrev pub map_beyond : ℕ → AreaKind → Option ℕ
+map_beyond blocks (kind.Image mark) = if nat_le blocks mark.first then Some mark.first else None
+map_beyond blocks kind.Old = None
+map_beyond blocks (kind.Other sig) = None
+map_beyond blocks (kind.BadArea why) = None
+map_beyond blocks (kind.Swap area) = None

@@ -1,0 +1,261 @@
+//! Whether the kernel uses a file or a block device. The library can't open a device for its own alone, so the kernel is asked: /proc
+//! tells its mounts and swap areas, and /sys which device holds another (device mapper, RAID).
+use std::alloc::{AllocError, Allocator};
+use std::fs::{self, Metadata};
+use std::io::{self, ErrorKind};
+use std::os::unix::fs::{FileTypeExt, MetadataExt};
+use std::rt::Files;
+
+/// The number of a block device.
+#[derive(Clone, Copy, PartialEq, Eq, Debug)]
+pub(crate) struct Device {
+    pub major: u32,
+    pub minor: u32,
+}
+
+impl Device {
+    /// The device of an inode, in Linux' encoding of 64 bits (`new_encode_dev`, include/linux/kdev_t.h, and glibc's `makedev`).
+    pub(crate) fn of(number: u64) -> Device {
+        Device {
+            major: ((number >> 8) & 0xfff) as u32 | ((number >> 32) & 0xffff_f000) as u32,
+            minor: (number & 0xff) as u32 | ((number >> 12) & 0xffff_ff00) as u32,
+        }
+    }
+
+    /// Reads `MAJOR:MINOR`.
+    pub(crate) fn parse(text: &str) -> Option<Device> {
+        let (major, minor) = text.trim().split_once(':')?;
+        Some(Device {
+            major: major.parse().ok()?,
+            minor: minor.parse().ok()?,
+        })
+    }
+}
+
+/// What a line of /proc/self/mountinfo tells of the mounted device: the number of the file system, which for some kinds is
+/// none of a device, and the source, which for some kinds is no path.
+pub(crate) fn mounted(line: &str) -> Option<(Device, &str)> {
+    let (places, file_system) = line.split_once(" - ")?;
+    let number = Device::parse(places.split_ascii_whitespace().nth(2)?)?;
+    Some((number, file_system.split_ascii_whitespace().nth(1)?))
+}
+
+/// A swap area of the kernel's, by the path that a line of /proc/swaps has of it.
+#[derive(Clone, Copy, PartialEq, Eq, Debug)]
+pub(crate) enum SwapArea<'a> {
+    Device(&'a str),
+    File(&'a str),
+}
+
+/// The swap area of a line of /proc/swaps. Its first line is of none.
+pub(crate) fn swap_area(line: &str) -> Option<SwapArea<'_>> {
+    let mut words = line.split_ascii_whitespace();
+    let path = words.next()?;
+    match words.next()? {
+        "partition" => Some(SwapArea::Device(path)),
+        "file" => Some(SwapArea::File(path)),
+        _ => None,
+    }
+}
+
+/// A path that /proc prints. A space, a tab, a line feed and a backslash stand there as a backslash and three octal digits
+/// (`mangle_path`, fs/seq_file.c).
+pub(crate) fn unescaped<A: Allocator>(alloc: A, text: &str) -> Result<String<A>, AllocError> {
+    let mut path = String::new(alloc);
+    for (at, piece) in text.split('\\').enumerate() {
+        let (first, rest) = match octal_start(piece) {
+            Some(start) if at > 0 => start,
+            _ if at > 0 => ("\\", piece),
+            _ => ("", piece),
+        };
+        path.push_str(first)?;
+        path.push_str(rest)?;
+    }
+    Ok(path)
+}
+
+/// The byte that a piece's first three digits stand for, and what follows them.
+fn octal_start(piece: &str) -> Option<(&'static str, &str)> {
+    for (digits, byte) in [("040", " "), ("011", "\t"), ("012", "\n"), ("134", "\\")] {
+        if let Some(rest) = piece.strip_prefix(digits) {
+            return Some((byte, rest));
+        }
+    }
+    None
+}
+
+/// A device that is looked for, and the disk that it is or is a part of.
+#[derive(Clone, Copy)]
+struct Sought {
+    device: Device,
+    disk: Device,
+}
+
+impl Sought {
+    fn of<R: Files + Alloc>(rt: &R, device: Device) -> io::Result<Sought> {
+        Ok(Sought {
+            device,
+            disk: disk_of(rt, device)?,
+        })
+    }
+
+    /// Whether the device can't be had alone where this one is used: it is the same, its disk, or a partition of it.
+    fn meets<R: Files + Alloc>(&self, rt: &R, used: Device) -> io::Result<bool> {
+        if used == self.device || used == self.disk {
+            return Ok(true);
+        }
+        Ok(self.device == self.disk && disk_of(rt, used)? == self.disk)
+    }
+}
+
+/// The disk of a partition; another device is its own.
+fn disk_of<R: Files + Alloc>(rt: &R, device: Device) -> io::Result<Device> {
+    let Device { major, minor } = device;
+    let folder = format!(in rt.alloc(); "/sys/dev/block/{major}:{minor}")?;
+    let mark = format!(in rt.alloc(); "{folder}/partition")?;
+    if !fs::exists(rt, mark.as_str())? {
+        return Ok(device);
+    }
+    let parent = format!(in rt.alloc(); "{folder}/../dev")?;
+    let number = fs::read_to_string(rt, parent.as_str())?;
+    Device::parse(number.as_str()).ok_or(ErrorKind::InvalidData.into())
+}
+
+/// Whether a file system of the device, of its disk or of a partition of it is mounted.
+fn is_mounted<R: Files + Alloc>(rt: &R, sought: &Sought) -> io::Result<bool> {
+    let mounts = fs::read_to_string(rt, "/proc/self/mountinfo")?;
+    for line in mounts.lines() {
+        let Some((number, source)) = mounted(line) else {
+            return Err(ErrorKind::InvalidData.into());
+        };
+        if sought.meets(rt, number)? {
+            return Ok(true);
+        }
+        if let Some(device) = device_at(rt, source)?
+            && sought.meets(rt, device)?
+        {
+            return Ok(true);
+        }
+    }
+    Ok(false)
+}
+
+/// The block device at an absolute path that /proc prints, if there is one.
+fn device_at<R: Files + Alloc>(rt: &R, printed: &str) -> io::Result<Option<Device>> {
+    if !printed.starts_with('/') {
+        return Ok(None);
+    }
+    let path = unescaped(rt.alloc(), printed)?;
+    match fs::metadata(rt, path.as_str()) {
+        Ok(found) if found.file_type().is_block_device() => Ok(Some(Device::of(found.rdev()))),
+        Ok(_) => Ok(None),
+        Err(e) if e.kind() == ErrorKind::NotFound => Ok(None),
+        Err(e) => Err(e),
+    }
+}
+
+/// Whether the kernel swaps to the device, to its disk or to a partition of it. A swap area at a path where no device is
+/// found might be any.
+fn is_swapped_to<R: Files + Alloc>(rt: &R, sought: &Sought) -> io::Result<bool> {
+    let swaps = match fs::read_to_string(rt, "/proc/swaps") {
+        Err(e) if e.kind() == ErrorKind::NotFound => return Ok(false),
+        swaps => swaps?,
+    };
+    for line in swaps.lines() {
+        if let Some(SwapArea::Device(path)) = swap_area(line) {
+            let Some(device) = device_at(rt, path)? else {
+                return Ok(true);
+            };
+            if sought.meets(rt, device)? {
+                return Ok(true);
+            }
+        }
+    }
+    Ok(false)
+}
+
+/// Whether another device holds this one.
+fn is_held<R: Files + Alloc + Clone + Drop>(rt: &R, device: Device) -> io::Result<bool> {
+    let Device { major, minor } = device;
+    let folder = format!(in rt.alloc(); "/sys/dev/block/{major}:{minor}")?;
+    has_holder(rt, folder.as_str())
+}
+
+fn has_holder<R: Files + Alloc + Clone + Drop>(rt: &R, folder: &str) -> io::Result<bool> {
+    let holders = format!(in rt.alloc(); "{folder}/holders")?;
+    match fs::read_dir(rt, holders.as_str())?.next() {
+        None => Ok(false),
+        Some(holder) => {
+            holder?;
+            Ok(true)
+        }
+    }
+}
+
+/// Whether another device holds a partition of a disk.
+fn has_held_part<R: Files + Alloc + Clone + Drop>(rt: &R, disk: Device) -> io::Result<bool> {
+    let Device { major, minor } = disk;
+    let folder = format!(in rt.alloc(); "/sys/dev/block/{major}:{minor}")?;
+    for entry in fs::read_dir(rt, folder.as_str())? {
+        let entry = entry?;
+        let part = format!(in rt.alloc(); "{folder}/{}", entry.file_name())?;
+        let mark = format!(in rt.alloc(); "{part}/partition")?;
+        if exists_within(rt, mark.as_str())? && has_holder(rt, part.as_str())? {
+            return Ok(true);
+        }
+    }
+    Ok(false)
+}
+
+/// Whether there is a file within an entry of a folder. Within one that is no folder there is none.
+fn exists_within<R: Files>(rt: &R, path: &str) -> io::Result<bool> {
+    match fs::exists(rt, path) {
+        Err(e) if e.kind() == ErrorKind::NotADirectory => Ok(false),
+        found => found,
+    }
+}
+
+/// Whether the kernel uses the device: it has a file system of it mounted, swaps to it, or another device holds it. A disk is
+/// used where a partition of it is, and a partition where its disk is. Where the kernel doesn't tell, that is an error.
+fn is_used_device<R: Files + Alloc + Clone + Drop>(rt: &R, number: u64) -> io::Result<bool> {
+    let sought = Sought::of(rt, Device::of(number))?;
+    Ok(
+        is_mounted(rt, &sought)?
+            || is_swapped_to(rt, &sought)?
+            || is_held(rt, sought.device)?
+            || is_held(rt, sought.disk)?
+            || (sought.device == sought.disk && has_held_part(rt, sought.disk)?),
+    )
+}
+
+/// Whether the kernel swaps to a regular file, as far as it tells where its swap files are: one that it shows by no path that leads
+/// there, as that of another root, might be any.
+fn is_swap_file<R: Files + Alloc>(rt: &R, sought: &Metadata) -> io::Result<bool> {
+    let Ok(swaps) = fs::read_to_string(rt, "/proc/swaps") else {
+        return Ok(false);
+    };
+    for line in swaps.lines() {
+        if let Some(SwapArea::File(printed)) = swap_area(line) {
+            let path = unescaped(rt.alloc(), printed)?;
+            if let Ok(found) = fs::metadata(rt, path.as_str())
+                && found.dev() == sought.dev()
+                && found.ino() == sought.ino()
+            {
+                return Ok(true);
+            }
+        }
+    }
+    Ok(false)
+}
+
+/// Whether the kernel uses a block device or a regular file.
+pub(crate) fn is_in_use<R: Files + Alloc + Clone + Drop>(
+    rt: &R,
+    found: &Metadata,
+) -> io::Result<bool> {
+    if found.file_type().is_block_device() {
+        is_used_device(rt, found.rdev())
+    } else {
+        is_swap_file(rt, found)
+    }
+}

@@ -1,0 +1,416 @@
+ghost use Rattle.std.specs.Prelude.{◌≡◌, ◌<◌};
+
+use crate::FileDisk;
+use crate::file_disk::Access;
+use crate::in_use::{Device, SwapArea, mounted, swap_area, unescaped};
+use crate::lock::has_no_locks;
+use page_core::{Failed, Page};
+use sector_disk::Disk;
+use std::cell::Cell;
+use std::fs;
+use std::fs::{File, Metadata, OpenFile, OpenOptions};
+use std::io::{self, ErrorKind, Seek, SeekFrom};
+use std::os::fd::AsRawFd;
+use std::os::unix::fs::FileExt;
+use std::process::Abort;
+use std::rt::Files;
+use std::test::Fail;
+
+const FOLDER: &str = "file_disk_file_test";
+
+const DEVICES: &str = "devices";
+
+const KEEPING: &str = "file_disk_keep_test";
+
+const KEPT: &str = "file_disk_keep_test/disk";
+
+#[test]
+fn what_is_no_file_is_refused(rt: HostRuntime) -> Result<(), Fail> {
+    let _ = fs::remove_dir_all(&rt, FOLDER);
+    fs::create_dir(&rt, FOLDER)?;
+    for path in [FOLDER, "/dev/null", "file_disk_file_test/none", ""] {
+        assert!(rt; FileDisk::open_read_only(&rt, path).is_err(), "{path}");
+        assert!(rt; FileDisk::open(&rt, path).is_err(), "{path}");
+    }
+    fs::remove_dir_all(&rt, FOLDER)?;
+    Ok(())
+}
+
+#[test]
+fn a_file_shorter_than_a_block_has_none(rt: HostRuntime) -> Result<(), Fail> {
+    let folder = "file_disk_short_test";
+    let path = "file_disk_short_test/short";
+    let _ = fs::remove_dir_all(&rt, folder);
+    fs::create_dir(&rt, folder)?;
+    fs::File::create(&rt, path)?.set_len(4095)?;
+    assert_eq!(rt; FileDisk::open_read_only(&rt, path)?.blocks(), 0);
+    assert_eq!(rt; FileDisk::open(&rt, path)?.blocks(), 0);
+    fs::remove_dir_all(&rt, folder)?;
+    Ok(())
+}
+
+#[test]
+fn a_block_that_is_gone_is_a_fault(rt: HostRuntime) -> Result<(), Fail> {
+    let folder = "file_disk_gone_test";
+    let path = "file_disk_gone_test/gone";
+    let _ = fs::remove_dir_all(&rt, folder);
+    fs::create_dir(&rt, folder)?;
+    let file = File::create(&rt, path)?;
+    file.set_len(2 * 4096)?;
+    let mut disk = FileDisk::open_read_only(&rt, path)?;
+    assert_eq!(rt; disk.blocks(), 2);
+    file.set_len(4096)?;
+    let mut page = Page::zero();
+    disk.read(0, &mut page)?;
+    assert_eq!(rt; disk.read(1, &mut page), Err(Failed));
+    fs::remove_dir_all(&rt, folder)?;
+    Ok(())
+}
+
+// A file that counts what reaches it, and lets no sync through where `keeps` is false.
+#[derive(Drop)]
+struct Watched<'a> {
+    file: File,
+    writes: &'a Cell<u32>,
+    syncs: &'a Cell<u32>,
+    keeps: bool,
+}
+
+impl<'a> FileExt for Watched<'a> {
+    fn read_at(&self, buf: &mut [u8], offset: u64) -> io::Result<usize> {
+        self.file.read_at(buf, offset)
+    }
+
+    fn write_at(&self, buf: &[u8], offset: u64) -> io::Result<usize> {
+        self.writes.set(self.writes.get().saturating_add(1));
+        self.file.write_at(buf, offset)
+    }
+}
+
+impl<'a> Seek for Watched<'a> {
+    fn seek(&mut self, to: SeekFrom) -> io::Result<u64> {
+        self.file.seek(to)
+    }
+}
+
+impl<'a> AsRawFd for Watched<'a> {
+    fn as_raw_fd(&self) -> i32 {
+        self.file.as_raw_fd()
+    }
+}
+
+impl<'a> OpenFile for Watched<'a> {
+    fn metadata(&self) -> io::Result<Metadata> {
+        self.file.metadata()
+    }
+
+    fn set_len(&self, size: u64) -> io::Result<()> {
+        self.file.set_len(size)
+    }
+
+    fn sync_all(&self) -> io::Result<()> {
+        self.syncs.set(self.syncs.get().saturating_add(1));
+        if self.keeps {
+            self.file.sync_all()
+        } else {
+            Err(ErrorKind::Other.into())
+        }
+    }
+
+    fn sync_data(&self) -> io::Result<()> {
+        Err(ErrorKind::Other.into())
+    }
+}
+
+/// A block of zeros that ends with a signature, as a header block does (`magic` of union swap_header, include/linux/swap.h).
+fn signed(signature: &[u8; 10]) -> [u8; 4096] {
+    let mut block = [0; 4096];
+    block[4086..].copy_from_slice(signature);
+    block
+}
+
+/// What the first read and a second one of a file of two blocks answer, and how many writes and syncs reach the file.
+fn reads_of(
+    rt: &HostRuntime,
+    path: &str,
+    first: &[u8; 4096],
+    access: Access,
+    keeps: bool,
+) -> io::Result<(bool, bool, u32, u32)> {
+    let writes = Cell::new(0);
+    let syncs = Cell::new(0);
+    let file = OpenOptions::new()
+        .read(true)
+        .write(true)
+        .create(true)
+        .open(rt, path)?;
+    file.set_len(2 * 4096)?;
+    file.write_all_at(first, 0)?;
+    let watched = Watched {
+        file,
+        writes: &writes,
+        syncs: &syncs,
+        keeps,
+    };
+    let mut disk = FileDisk::over(watched, &fs::metadata(rt, path)?, access)?;
+    if disk.blocks() != 2 {
+        return Err(ErrorKind::InvalidData.into());
+    }
+    let mut page = Page::zero();
+    let once = disk.read(0, &mut page).is_ok();
+    let twice = disk.read(0, &mut page).is_ok();
+    Ok((once, twice, writes.get(), syncs.get()))
+}
+
+// Of a disk that may be written the header block that is read first is written back and synced, once it could be.
+#[test]
+fn a_header_that_is_read_is_brought_to_the_disk(rt: HostRuntime) -> Result<(), Fail> {
+    let folder = "file_disk_header_test";
+    let path = "file_disk_header_test/area";
+    let _ = fs::remove_dir_all(&rt, folder);
+    fs::create_dir(&rt, folder)?;
+    let area = signed(b"SWAPSPACE2");
+    let image = signed(b"S1SUSPEND\0");
+    let other = signed(b"SWAPSPACE3");
+    let both = Access::ReadAndWrite;
+    assert_eq!(rt; reads_of(&rt, path, &area, both, true)?, (true, true, 1, 1));
+    assert_eq!(rt;
+        reads_of(&rt, path, &image, both, true)?,
+        (true, true, 1, 1)
+    );
+    assert_eq!(rt;
+        reads_of(&rt, path, &other, both, true)?,
+        (true, true, 0, 0)
+    );
+    assert_eq!(rt;
+        reads_of(&rt, path, &area, both, false)?,
+        (false, false, 2, 2)
+    );
+    assert_eq!(rt;
+        reads_of(&rt, path, &area, Access::Read, true)?,
+        (true, true, 0, 0)
+    );
+    let mut block = [0; 4096];
+    File::open(&rt, path)?.read_exact_at(&mut block, 0)?;
+    assert_eq!(rt; block, area);
+    fs::remove_dir_all(&rt, folder)?;
+    Ok(())
+}
+
+#[test]
+fn a_sync_that_fails_is_a_fault(rt: HostRuntime) -> Result<(), Fail> {
+    let folder = "file_disk_sync_test";
+    let path = "file_disk_sync_test/unsynced";
+    let _ = fs::remove_dir_all(&rt, folder);
+    fs::create_dir(&rt, folder)?;
+    let writes = Cell::new(0);
+    let syncs = Cell::new(0);
+    let file = File::create(&rt, path)?;
+    file.set_len(4096)?;
+    let watched = Watched {
+        file,
+        writes: &writes,
+        syncs: &syncs,
+        keeps: false,
+    };
+    let mut disk = FileDisk::over(watched, &fs::metadata(&rt, path)?, Access::ReadAndWrite)?;
+    assert_eq!(rt; disk.blocks(), 1);
+    disk.write(0, &Page::from_bytes(&[7; 4096]))?;
+    assert_eq!(rt; disk.sync(), Err(Failed));
+    fs::remove_dir_all(&rt, folder)?;
+    Ok(())
+}
+
+// One that may write is alone; readers share.
+#[test]
+fn a_file_is_locked(rt: HostRuntime) -> Result<(), Fail> {
+    let folder = "file_disk_lock_test";
+    let path = "file_disk_lock_test/area";
+    let _ = fs::remove_dir_all(&rt, folder);
+    fs::create_dir(&rt, folder)?;
+    File::create(&rt, path)?.set_len(4096)?;
+    let writer = FileDisk::open(&rt, path)?;
+    assert!(rt; FileDisk::open(&rt, path).is_err());
+    assert!(rt; FileDisk::open_read_only(&rt, path).is_err());
+    drop(writer);
+    let reader = FileDisk::open_read_only(&rt, path)?;
+    assert!(rt; FileDisk::open_read_only(&rt, path).is_ok());
+    assert!(rt; FileDisk::open(&rt, path).is_err());
+    drop(reader);
+    assert!(rt; FileDisk::open(&rt, path).is_ok());
+    fs::remove_dir_all(&rt, folder)?;
+    Ok(())
+}
+
+// Errors of flock(2) by their numbers: no locks (ENOLCK), none in this system (ENOSYS, EOPNOTSUPP), a bad descriptor (EBADF).
+#[test]
+fn systems_without_locks(rt: HostRuntime) -> Result<(), Fail> {
+    let told = [37, 38, 95, 9].map(|number| has_no_locks(&io::Error::from_raw_os_error(number)));
+    assert_eq!(rt; told, [true, true, true, false]);
+    Ok(())
+}
+
+// The first bytes of the sectors of block 0, as the disk reads.
+fn first_bytes<D: Disk>(disk: &mut D) -> Result<[u8; 8], Failed>
+    requires { 0 < D.block_count disk.old }
+    ensures { D.block_count disk.new ≡ D.block_count disk.old }
+{
+    let mut page = Page::zero();
+    disk.read(0, &mut page)?;
+    let mut firsts = [0; 8];
+    for j in 0..8 {
+        firsts[j] = page.as_bytes()[512 * j];
+    }
+    Ok(firsts)
+}
+
+#[test]
+fn a_file_keeps_its_blocks(rt: HostRuntime) -> Result<(), Fail> {
+    let _ = fs::remove_dir_all(&rt, KEEPING);
+    fs::create_dir(&rt, KEEPING)?;
+    fs::File::create(&rt, KEPT)?.set_len(3001 * 4096 + 5)?;
+
+    let mut disk = FileDisk::open(&rt, KEPT)?;
+    assert_eq!(rt; disk.blocks(), 3001);
+    disk.write(0, &Page::from_bytes(&[7; 4096]))?;
+    disk.write(3000, &Page::from_bytes(&[9; 4096]))?;
+    disk.sync()?;
+    drop(disk);
+
+    let mut disk = FileDisk::open_read_only(&rt, KEPT)?;
+    assert_eq!(rt; disk.blocks(), 3001);
+    assert_eq!(rt; first_bytes(&mut disk)?, [7; 8]);
+    let mut page = Page::zero();
+    disk.read(3000, &mut page)?;
+    assert_eq!(rt; *page.as_bytes(), [9; 4096]);
+    assert_eq!(rt; disk.write(0, &page), Err(Failed));
+    drop(disk);
+
+    assert!(rt; FileDisk::open(&rt, "file_disk_keep_test/none").is_err());
+    fs::remove_dir_all(&rt, KEEPING)?;
+    Ok(())
+}
+
+// Numbers as `stat -c %r` shows them.
+#[test]
+fn numbers_of_devices(rt: HostRuntime) -> Result<(), Fail> {
+    for (number, major, minor) in [
+        (1792, 7, 0),
+        (2049, 8, 1),
+        (66305, 259, 1),
+        (1050668, 8, 300),
+        (17592186044416, 4096, 0),
+    ] {
+        assert_eq!(rt; Device::of(number), Device { major, minor });
+    }
+    assert_eq!(rt;
+        Device::parse("259:1\n"),
+        Some(Device {
+            major: 259,
+            minor: 1
+        })
+    );
+    for text in ["", "259", "259:", ":1", "259:1:2", "a:1"] {
+        assert_eq!(rt; Device::parse(text), None, "{text}");
+    }
+    Ok(())
+}
+
+// Lines as proc_pid_mountinfo(5) and proc_swaps(5) show them.
+#[test]
+fn lines_of_proc(rt: HostRuntime) -> Result<(), Fail> {
+    let root = "36 35 98:0 /mnt1 /mnt2 rw,noatime master:1 - ext3 /dev/root rw,errors=continue";
+    assert_eq!(rt;
+        mounted(root),
+        Some((
+            Device {
+                major: 98,
+                minor: 0
+            },
+            "/dev/root"
+        ))
+    );
+    let plain = "22 27 0:21 / /proc rw,relatime - proc proc rw";
+    assert_eq!(rt;
+        mounted(plain),
+        Some((
+            Device {
+                major: 0,
+                minor: 21
+            },
+            "proc"
+        ))
+    );
+    assert_eq!(rt; mounted("22 27 0:21 / /proc rw,relatime"), None);
+    assert_eq!(rt;
+        swap_area("Filename\t\t\t\tType\t\tSize\t\tUsed\t\tPriority"),
+        None
+    );
+    assert_eq!(rt;
+        swap_area("/dev/dm-0   partition\t67108860\t0\t-2"),
+        Some(SwapArea::Device("/dev/dm-0"))
+    );
+    assert_eq!(rt;
+        swap_area("/my\\040file   file\t67108860\t0\t-2"),
+        Some(SwapArea::File("/my\\040file"))
+    );
+    Ok(())
+}
+
+// A space, a tab, a line feed and a backslash as proc_pid_mountinfo(5) shows them.
+#[test]
+fn paths_of_proc(rt: HostRuntime) -> Result<(), Fail> {
+    let table = [
+        ("/plain", "/plain"),
+        ("/my\\040file", "/my file"),
+        ("\\011a\\012", "\ta\n"),
+        ("/a\\134040", "/a\\040"),
+        ("/a\\05\\", "/a\\05\\"),
+        ("", ""),
+    ];
+    for (printed, path) in table {
+        assert_eq!(rt; unescaped(rt.alloc(), printed)?.as_str(), path);
+    }
+    Ok(())
+}
+
+// The file `devices`, which tools/device_test.sh makes, names block devices: `used PATH`, or `free PATH`. Without it there is
+// nothing to open.
+#[test]
+fn devices_in_use_are_refused(rt: HostRuntime) -> Result<(), Fail> {
+    let Ok(devices) = fs::read_to_string(&rt, DEVICES) else {
+        return Ok(());
+    };
+    for line in devices.lines() {
+        let Some((state, path)) = line.split_once(' ') else {
+            continue;
+        };
+        assert!(rt; FileDisk::open_read_only(&rt, path)?.blocks() > 0, "{path}");
+        if state == "used" {
+            assert!(rt; FileDisk::open(&rt, path).is_err(), "{path}");
+        } else {
+            rewrites_its_end(&rt, path)?;
+        }
+    }
+    Ok(())
+}
+
+// Writes the last block of a device, and reads it back.
+fn rewrites_its_end<R: Files<File = File> + Alloc + Clone + Drop + Abort>(
+    rt: &R,
+    path: &str,
+) -> Result<(), Fail> {
+    let mut disk = FileDisk::open(rt, path)?;
+    let blocks = disk.blocks();
+    assert!(rt; blocks > 0, "{path}");
+    disk.write(blocks - 1, &Page::from_bytes(&[9; 4096]))?;
+    disk.sync()?;
+    drop(disk);
+    let mut disk = FileDisk::open_read_only(rt, path)?;
+    assert_eq!(rt; disk.blocks(), blocks);
+    let mut page = Page::zero();
+    disk.read(blocks - 1, &mut page)?;
+    assert_eq!(rt; *page.as_bytes(), [9; 4096]);
+    assert_eq!(rt; disk.write(blocks - 1, &page), Err(Failed));
+    Ok(())
+}

@@ -1,0 +1,79 @@
+-- Just the lists that spell a command ask for it.
+use Rattle.std.proofs.Common.{◌≡◌, ◌∙◌, ◌&&◌, ◌⊎◌, inl, inr, ℕ, Bool, true, false, refl, sym, ap, subst, Option, Some, List, [], ◌∷◌, codes, cond, nat_eq}
+use Rattle.std.specs.Cmp.Lexicographic.{pointwise}
+use Rattle.std.proofs.lemmas.Slice.Eq.{bytes_eq-Decides}
+use Rattle.clap.proofs.WalkLemmas.{both}
+use Rattle.swsusp_words.specs.Words.{is_path}
+use Rattle.swsusp_words.proofs.Numbers.{some_if}
+use Rattle.machine_words.specs.Spelled.{IsSpelled, IsValid, Spells}
+use Rattle.machine_words.specs.Words.{Asked, make, loader, show, differ, check, alone, check_of, command_by, command_of, differ_of}
+
+abbrev Words : Type 0
+Words = List (List ℕ)
+
+as_asked : (x asked : Asked) (words : Words) → x ≡ asked → Spells x words → Spells asked words
+as_asked x asked words e h = subst (λ (a : Asked). Spells a words) e h
+
+spells_alone : (x asked : Asked) (name : List ℕ) (words : Words) → alone x words ≡ Some asked → Spells x (name ∷ []) → Spells asked (name ∷ words)
+spells_alone x asked name [] e h = as_asked x asked _ (cc) h
+spells_alone x asked name (word ∷ words) e h = cc
+
+spells_differ : (words : Words) (asked : Asked) → differ_of words ≡ Some asked → Spells asked (codes "differ" ∷ words)
+spells_differ [] asked e = cc
+spells_differ (first ∷ []) asked e = cc
+spells_differ (first ∷ second ∷ []) asked e =
+    let p = some_if (is_path first && is_path second) (differ first second) asked e in
+    as_asked (differ first second) asked _ p.1 (both _ _ p.0, refl)
+spells_differ (first ∷ second ∷ more ∷ words) asked e = cc
+
+spells_check : (words : Words) (asked : Asked) → check_of words ≡ Some asked → Spells asked (codes "check" ∷ words)
+spells_check [] asked e = cc
+spells_check (swap ∷ []) asked e =
+    let p = some_if (is_path swap) (check swap) asked e in
+    as_asked (check swap) asked _ p.1 (p.0, refl)
+spells_check (swap ∷ more ∷ words) asked e = cc
+
+named : (command known : List ℕ) (words : Words) (asked : Asked) → pointwise nat_eq command known ≡ true → Spells asked (known ∷ words)
+    → Spells asked (command ∷ words)
+named command known words asked t h = subst (λ (c : List ℕ). Spells asked (c ∷ words)) (sym ((bytes_eq-Decides command known).0 t)) h
+
+-- each test of a chain: where it holds this is the answer, and else that
+either : (b : Bool) (x y : Option Asked) (asked : Asked) → cond b x y ≡ Some asked → ((b ≡ true) × (x ≡ Some asked)) ⊎ (y ≡ Some asked)
+either true x y asked e = inl (refl, e)
+either false x y asked e = inr e
+
+spells_command : (command : List ℕ) (words : Words) (asked : Asked) → command_by command words ≡ Some asked → Spells asked (command ∷ words)
+spells_command command words asked e =
+    elim (either (pointwise nat_eq command (codes "make")) (alone make words) _ asked e) [
+      | inl h ↦ named command _ words asked h.0 (spells_alone make asked (codes "make") words h.1 (tt, refl))
+      | inr e1 ↦ elim (either (pointwise nat_eq command (codes "loader")) (alone loader words) _ asked e1) [
+        | inl h ↦ named command _ words asked h.0 (spells_alone loader asked (codes "loader") words h.1 (tt, refl))
+        | inr e2 ↦ elim (either (pointwise nat_eq command (codes "show")) (alone show words) _ asked e2) [
+          | inl h ↦ named command _ words asked h.0 (spells_alone show asked (codes "show") words h.1 (tt, refl))
+          | inr e3 ↦ elim (either (pointwise nat_eq command (codes "differ")) (differ_of words) _ asked e3) [
+            | inl h ↦ named command _ words asked h.0 (spells_differ words asked h.1)
+            | inr e4 ↦ elim (either (pointwise nat_eq command (codes "check")) (check_of words) _ asked e4) [
+              | inl h ↦ named command _ words asked h.0 (spells_check words asked h.1)
+              | inr e5 ↦ cc
+            ]
+          ]
+        ]
+      ]
+    ]
+
+-- what asks for a command has the program's name, and spells it
+pub spells : (words : Words) (asked : Asked) → command_of words ≡ Some asked → (name : List ℕ) × (rest : Words) × (words ≡ name ∷ rest) × Spells asked rest
+spells [] asked e = cc
+spells (name ∷ []) asked e = cc
+spells (name ∷ command ∷ words) asked e = (name, command ∷ words, refl, spells_command command words asked e)
+
+of_same : (words known : Words) (asked : Asked) (name : List ℕ) → words ≡ known → command_of (name ∷ known) ≡ Some asked → command_of (name ∷ words) ≡ Some asked
+of_same words known asked name e h = ap (λ (w : Words). command_of (name ∷ w)) e ∙ h
+
+-- and what spells it asks for it
+pub asks : (name : List ℕ) (words : Words) (asked : Asked) → IsValid asked → IsSpelled asked words → command_of (name ∷ words) ≡ Some asked
+asks name words make valid spelled = of_same words _ _ name spelled refl
+asks name words loader valid spelled = of_same words _ _ name spelled refl
+asks name words show valid spelled = of_same words _ _ name spelled refl
+asks name words (differ first second) valid spelled = of_same words _ _ name spelled (rw (valid.0, valid.1) refl)
+asks name words (check swap) valid spelled = of_same words _ _ name spelled (rw valid refl)

@@ -1,0 +1,4 @@
+pub mod Forms
+pub mod Getters
+pub mod Parsing
+pub mod Taken

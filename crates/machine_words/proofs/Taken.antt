@@ -1,0 +1,68 @@
+-- Clap takes each list of words that asks for a command, and its matches ask for it.
+use Rattle.std.proofs.Common.{◌≡◌, true, refl, sym, subst, Some, List, [], ◌∷◌, codes}
+use Rattle.clap.specs.Words.{Text, subcommand_of, takes}
+use Rattle.clap.proofs.OnLiterals.{clap_on_literals}
+use Rattle.swsusp_words.proofs.Values.{IsValue, path_value}
+use Rattle.machine_words.specs.App.{machine_app}
+use Rattle.machine_words.specs.Matched.{asked_in}
+use Rattle.machine_words.specs.Spelled.{IsSpelled, IsValid}
+use Rattle.machine_words.specs.Words.{Asked, make, loader, show, differ, check, command_of}
+use Rattle.machine_words.proofs.Forms.{spells}
+
+-- clap takes the words, and its matches ask for this
+pub record Asks (words : List Text) (asked : Asked) : Type 0 where
+  pub taken : takes machine_app words ≡ true
+  pub matched : asked_in (subcommand_of machine_app words) ≡ Some asked
+
+module _ (name : Text) where
+  makes : Asks (name ∷ codes "make" ∷ []) make
+  unfolding clap_on_literals
+  makes = record { taken = refl; matched = refl }
+
+  loads : Asks (name ∷ codes "loader" ∷ []) loader
+  unfolding clap_on_literals
+  loads = record { taken = refl; matched = refl }
+
+  shows : Asks (name ∷ codes "show" ∷ []) show
+  unfolding clap_on_literals
+  shows = record { taken = refl; matched = refl }
+
+  module _ (first second : Text) (f : IsValue first) (s : IsValue second) where
+    taken_pair : takes machine_app (name ∷ codes "differ" ∷ first ∷ second ∷ []) ≡ true
+    unfolding clap_on_literals
+    taken_pair = simp (f.dash, f.dashes, s.dash, s.dashes)
+
+    matched_pair : asked_in (subcommand_of machine_app (name ∷ codes "differ" ∷ first ∷ second ∷ [])) ≡ Some (differ first second)
+    unfolding clap_on_literals
+    matched_pair = simp (f.dash, f.dashes, s.dash, s.dashes)
+
+    differs : Asks (name ∷ codes "differ" ∷ first ∷ second ∷ []) (differ first second)
+    differs = record { taken = taken_pair; matched = matched_pair }
+
+  module _ (swap : Text) (s : IsValue swap) where
+    taken_swap : takes machine_app (name ∷ codes "check" ∷ swap ∷ []) ≡ true
+    unfolding clap_on_literals
+    taken_swap = simp (s.dash, s.dashes)
+
+    matched_swap : asked_in (subcommand_of machine_app (name ∷ codes "check" ∷ swap ∷ [])) ≡ Some (check swap)
+    unfolding clap_on_literals
+    matched_swap = simp (s.dash, s.dashes)
+
+    checks : Asks (name ∷ codes "check" ∷ swap ∷ []) (check swap)
+    checks = record { taken = taken_swap; matched = matched_swap }
+
+of_same : (words known : List Text) (asked : Asked) (name : Text) → words ≡ known → Asks (name ∷ known) asked → Asks (name ∷ words) asked
+of_same words known asked name e h = subst (λ (w : List Text). Asks (name ∷ w) asked) (sym e) h
+
+taken : (name : Text) (words : List Text) (asked : Asked) → IsValid asked → IsSpelled asked words → Asks (name ∷ words) asked
+taken name words make valid spelled = of_same words _ _ name spelled (makes name)
+taken name words loader valid spelled = of_same words _ _ name spelled (loads name)
+taken name words show valid spelled = of_same words _ _ name spelled (shows name)
+taken name words (differ first second) valid spelled =
+    of_same words _ _ name spelled (differs name first second (path_value first valid.0) (path_value second valid.1))
+taken name words (check swap) valid spelled = of_same words _ _ name spelled (checks name swap (path_value swap valid))
+
+pub taken_as_asked : (words : List Text) (asked : Asked) → command_of words ≡ Some asked → Asks words asked
+taken_as_asked words asked e =
+    let p = spells words asked e in
+    subst (λ (w : List Text). Asks w asked) (sym p.2) (taken p.0 p.1 asked p.3.0 p.3.1)

@@ -1,0 +1,40 @@
+-- The program's commands as clap reads them.
+use Rattle.std.specs.Prelude.{true, codes}
+use Rattle.clap.specs.Words.{App, Rule, new_app, new_rule, with_rule, with_subcommand}
+use Rattle.clap.specs.Simple.{on_top}
+
+abbrev pub make_app : App
+make_app = new_app (codes "make")
+
+abbrev pub loader_app : App
+loader_app = new_app (codes "loader")
+
+abbrev pub show_app : App
+show_app = new_app (codes "show")
+
+-- DUMP, the first and the second
+abbrev pub first_rule : Rule
+first_rule = record (new_rule (codes "first")) { value_names = 1; required = true }
+
+abbrev pub second_rule : Rule
+second_rule = record (new_rule (codes "second")) { value_names = 1; required = true }
+
+abbrev pub differ_app : App
+differ_app = with_rule (with_rule (new_app (codes "differ")) first_rule) second_rule
+
+-- SWAP
+abbrev pub swap_rule : Rule
+swap_rule = record (new_rule (codes "swap")) { value_names = 1; required = true }
+
+abbrev pub check_app : App
+check_app = with_rule (new_app (codes "check")) swap_rule
+
+-- the program, which has a version and wants one of the commands
+abbrev pub program_app : App
+program_app = on_top (λ top. record top { has_version = true; subcommand_required = true }) (new_app (codes "swsusp_machine"))
+
+abbrev pub machine_app : App
+machine_app =
+    with_subcommand
+    (with_subcommand (with_subcommand (with_subcommand (with_subcommand program_app make_app.top) loader_app.top) show_app.top) differ_app.top)
+    check_app.top

@@ -1,0 +1,46 @@
+-- The command line of `swsusp_machine`: which lists of words are plain, and what they ask for.
+use Rattle.std.specs.Prelude.{ℕ, List, [], ◌∷◌, ◌&&◌, nat_eq, codes, Option, Some, None, if◌then◌else◌}
+use Rattle.std.specs.Cmp.Lexicographic.{pointwise}
+use Rattle.swsusp_words.specs.Words.{is_path}
+
+-- what a list of words asks for, with its values
+pub data Asked : Type 0 where
+  make : Asked
+  loader : Asked
+  show : Asked
+  differ : (first second : List ℕ) → Asked
+  check : (swap : List ℕ) → Asked
+
+-- this, where no word follows
+abbrev pub alone : Asked → List (List ℕ) → Option Asked
+alone asked [] = Some asked
+alone asked (word ∷ words) = None
+
+-- differ DUMP DUMP
+abbrev pub differ_of : List (List ℕ) → Option Asked
+differ_of [] = None
+differ_of (first ∷ []) = None
+differ_of (first ∷ second ∷ []) = if is_path first && is_path second then Some (differ first second) else None
+differ_of (first ∷ second ∷ more ∷ words) = None
+
+-- check SWAP
+abbrev pub check_of : List (List ℕ) → Option Asked
+check_of [] = None
+check_of (swap ∷ []) = if is_path swap then Some (check swap) else None
+check_of (swap ∷ more ∷ words) = None
+
+-- what a command asks for with its own words
+abbrev pub command_by : List ℕ → List (List ℕ) → Option Asked
+command_by command words =
+    if pointwise nat_eq command (codes "make") then alone make words
+    else if pointwise nat_eq command (codes "loader") then alone loader words
+    else if pointwise nat_eq command (codes "show") then alone show words
+    else if pointwise nat_eq command (codes "differ") then differ_of words
+    else if pointwise nat_eq command (codes "check") then check_of words
+    else None
+
+-- What a plain list of words asks for: the program's name, a command, and that command's own. No other list parses.
+abbrev pub command_of : List (List ℕ) → Option Asked
+command_of [] = None
+command_of (name ∷ []) = None
+command_of (name ∷ command ∷ words) = command_by command words

@@ -1,0 +1,49 @@
+use crate::command_line::command_line;
+use crate::spelled::plain;
+use crate::unparsed::{Unparsed, said};
+use std::alloc::Global;
+
+/// What the program is asked to do.
+#[derive(Clone, Copy, Debug, PartialEq, Eq)]
+pub enum Command<'a> {
+    /// Plays a script, and writes the memory of the machine that runs at its end as a dump.
+    Make,
+    /// Writes the dump of a machine when it has just booted.
+    Loader,
+    /// Prints what a dump says of its machine.
+    Show,
+    /// Tells where two dumps differ first.
+    Differ {
+        /// The paths of the dumps.
+        first: &'a str,
+        second: &'a str,
+    },
+    /// Tells what a resume of an image would answer.
+    Check {
+        /// The path of the swap file or block device.
+        swap: &'a str,
+    },
+}
+
+impl<'a> Command<'a> {
+    ghost use Rattle.std.specs.Prelude.{◌≡◌, IfErr, IfOk, Some, map, string_bytes};
+    ghost use Rattle.machine_words.specs.Asked.{asked_by};
+    ghost use Rattle.machine_words.specs.Refused.{IsRefusedBy, SaysWords};
+    ghost use Rattle.machine_words.specs.Words.{command_of};
+
+    /// The command of a plain list of words, of which the first is the program's name. No other list parses.
+    pub fn parse(alloc: Global, words: &'a [String]) -> Result<Command<'a>, Unparsed>
+        ensures asks { IfOk result (λ command. command_of (map string_bytes words.now) ≡ Some (asked_by command)) }
+        ensures refused { IfErr result (IsRefusedBy (map string_bytes words.now)) }
+        ensures words { IfErr result (SaysWords (map string_bytes words.now)) }
+    {
+        let matches = match command_line(alloc)?.try_get_matches_from(words) {
+            Ok(matches) => matches,
+            Err(error) => return Err(said(alloc, &error)),
+        };
+        match plain(&matches, words) {
+            Some(command) => Ok(command),
+            None => Err(Unparsed::Words(String::from_str(alloc, "words\n")?)),
+        }
+    }
+}

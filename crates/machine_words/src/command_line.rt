@@ -1,0 +1,104 @@
+ghost use Rattle.std.specs.Prelude.{IfOk};
+ghost use Rattle.clap.specs.Words.{new_app};
+ghost use Rattle.swsusp_words.specs.App.{IsApp};
+ghost use Rattle.machine_words.specs.App.{check_app, differ_app, loader_app, machine_app, make_app, show_app};
+
+use crate::details;
+use clap::{Arg, Command};
+use std::alloc::{AllocError, Global};
+
+/// The commands as clap knows them.
+pub(crate) fn command_line<'a>(alloc: Global) -> Result<Command<'a>, AllocError>
+    ensures { IfOk result (IsApp machine_app) }
+{
+    named(
+        alloc,
+        "swsusp_machine",
+        "Makes machines to try swsusp on, in memory dumps, and compares them",
+        details::PROGRAM,
+    )
+    .version("0.1")
+    .subcommand_required(true)
+    .subcommand(making(alloc))?
+    .subcommand(loading(alloc))?
+    .subcommand(showing(alloc))?
+    .subcommand(comparison(alloc)?)?
+    .subcommand(trial(alloc)?)
+}
+
+/// A command with its name, what it does, and the rest of its help.
+fn named<'a>(alloc: Global, name: &'a str, about: &'a str, details: &'a str) -> Command<'a>
+    ensures { IsApp (new_app name.entry.now) result }
+{
+    Command::new(alloc, name).about(about).after_help(details)
+}
+
+fn making<'a>(alloc: Global) -> Command<'a>
+    ensures { IsApp make_app result }
+{
+    named(
+        alloc,
+        "make",
+        "Plays a script, and writes the memory of the machine that runs at its end as a dump",
+        details::MAKE,
+    )
+}
+
+fn loading<'a>(alloc: Global) -> Command<'a>
+    ensures { IsApp loader_app result }
+{
+    named(
+        alloc,
+        "loader",
+        "Writes the dump of the same machine when it has just booted",
+        details::LOADER,
+    )
+}
+
+fn showing<'a>(alloc: Global) -> Command<'a>
+    ensures { IsApp show_app result }
+{
+    named(
+        alloc,
+        "show",
+        "Prints what a dump says of its machine, a fact a line",
+        details::SHOW,
+    )
+}
+
+fn comparison<'a>(alloc: Global) -> Result<Command<'a>, AllocError>
+    ensures { IfOk result (IsApp differ_app) }
+{
+    let first = Arg::new(alloc, "first")
+        .value_name("DUMP")
+        .required(true)
+        .help("A memory dump");
+    let second = Arg::new(alloc, "second")
+        .value_name("DUMP")
+        .required(true)
+        .help("Another one");
+    named(
+        alloc,
+        "differ",
+        "Tells where two dumps differ first",
+        details::DIFFER,
+    )
+    .arg(first)?
+    .arg(second)
+}
+
+fn trial<'a>(alloc: Global) -> Result<Command<'a>, AllocError>
+    ensures { IfOk result (IsApp check_app) }
+{
+    let swap = Arg::new(alloc, "swap")
+        .value_name("SWAP")
+        .required(true)
+        .help("A swap file or a block device, which is only read");
+    named(
+        alloc,
+        "check",
+        "Tells what a resume of an image would answer",
+        details::CHECK,
+    )
+    .arg(swap)
+}

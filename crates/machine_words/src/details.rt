@@ -1,0 +1,36 @@
+//! What help says of each command behind its options.
+
+pub(crate) const PROGRAM: &str =
+    "A machine has at most 65,536 page frames. A command's own help, as `swsusp_machine make --help`,
+says what it reads and writes.
+
+Example: swsusp_machine make < story.txt > saved.dump";
+
+pub(crate) const MAKE: &str =
+    "It reads the script from standard input, and writes the dump to standard output. Where no machine runs
+at the end it notes `no machine runs`, status 1.
+
+Example: swsusp_machine make < story.txt > saved.dump";
+
+pub(crate) const LOADER: &str =
+    "It reads a dump from standard input, and writes one to standard output: a loader, into which an image
+can be resumed.
+
+Example: swsusp_machine loader < saved.dump > loader.dump";
+
+pub(crate) const SHOW: &str =
+    "It reads the dump from standard input, and prints to standard output, as `frames_saveable 5`.
+
+Example: swsusp_machine show < saved.dump";
+
+pub(crate) const DIFFER: &str =
+    "It reads both files, and prints `same` where an image would save the same of both machines; else, with
+status 1, the first difference: `hardware`, `saveable P` or `page P`, where P is a page frame.
+
+Example: swsusp_machine differ saved.dump restored.dump";
+
+pub(crate) const CHECK: &str =
+    "It reads a loader's dump from standard input, and prints what `swsusp resume SWAP` would: `resumed N`,
+or the note and the status of why not.
+
+Example: swsusp_machine check area.img < loader.dump";

@@ -1,0 +1,36 @@
+ghost use Rattle.std.specs.Prelude.{◌≡◌};
+ghost use Rattle.clap.specs.Words.{found_of, rows_of, subcommand_rows_of};
+ghost use Rattle.machine_words.specs.Matched.{AnswersTo, asked_in, check_in, differ_in, matched_by};
+
+use crate::command::Command;
+use clap::ArgMatches;
+
+/// The command that matches ask for.
+pub(crate) fn matched<'a>(matches: &ArgMatches<'a>) -> Option<Command<'a>>
+    ensures { AnswersTo (asked_in (subcommand_rows_of matches.now)) result }
+{
+    let (name, values) = matches.subcommand()?;
+    match name {
+        "make" => Some(Command::Make),
+        "loader" => Some(Command::Loader),
+        "show" => Some(Command::Show),
+        "differ" => comparison(values),
+        "check" => trial(values),
+        _ => None,
+    }
+}
+
+fn comparison<'a>(values: &ArgMatches<'a>) -> Option<Command<'a>>
+    ensures { AnswersTo (differ_in (rows_of (found_of values.now))) result }
+{
+    let first = values.get_str("first")?;
+    let second = values.get_str("second")?;
+    Some(Command::Differ { first, second })
+}
+
+fn trial<'a>(values: &ArgMatches<'a>) -> Option<Command<'a>>
+    ensures { AnswersTo (check_in (rows_of (found_of values.now))) result }
+{
+    let swap = values.get_str("swap")?;
+    Some(Command::Check { swap })
+}

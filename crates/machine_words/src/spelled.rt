@@ -1,0 +1,49 @@
+ghost use Rattle.std.specs.Prelude.{◌≡◌, ◌↔◌, IfSome, IsSome, IsTrue, Some, map, string_bytes};
+ghost use Rattle.clap.specs.Words.{subcommand_rows_of};
+ghost use Rattle.machine_words.specs.Matched.{asked_in};
+ghost use Rattle.machine_words.specs.Asked.{asked_by};
+ghost use Rattle.machine_words.specs.Spelled.{Spells};
+ghost use Rattle.machine_words.specs.Words.{Asked, command_of};
+
+use crate::command::Command;
+use crate::matched::matched;
+use clap::ArgMatches;
+use swsusp_words::{equal, is_path};
+
+/// The command that matches of words ask for, if the words are its plain ones.
+pub(crate) fn plain<'a>(matches: &ArgMatches<'a>, words: &[String]) -> Option<Command<'a>>
+    ensures asks { IfSome result (λ command. command_of (map string_bytes words.now) ≡ Some (asked_by command)) }
+    ensures found { (asked : Asked) → asked_in (subcommand_rows_of matches.now) ≡ Some asked →
+        command_of (map string_bytes words.now) ≡ Some asked → IsSome result }
+{
+    let command = matched(matches)?;
+    if is_spelled(&command, words) {
+        Some(command)
+    } else {
+        None
+    }
+}
+
+/// Whether words, of which the first is the program's name, are the plain words of a command.
+fn is_spelled(command: &Command<'_>, words: &[String]) -> bool
+    ensures { IsTrue result ↔ (command_of (map string_bytes words.now) ≡ Some (asked_by command.now)) }
+{
+    match words {
+        [_, words @ ..] => spells(command, words),
+        [] => false,
+    }
+}
+
+fn spells(command: &Command<'_>, words: &[String]) -> bool
+    ensures { IsTrue result ↔ Spells (asked_by command.now) (map string_bytes words.now) }
+{
+    match *command {
+        Command::Make => equal(words, &["make"]),
+        Command::Loader => equal(words, &["loader"]),
+        Command::Show => equal(words, &["show"]),
+        Command::Differ { first, second } => {
+            is_path(first) && is_path(second) && equal(words, &["differ", first, second])
+        }
+        Command::Check { swap } => is_path(swap) && equal(words, &["check", swap]),
+    }
+}

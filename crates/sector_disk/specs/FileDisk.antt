@@ -1,9 +1,0 @@
--- What contracts say of a disk in a file, beside what it tells as a disk.
-use Rattle.std.specs.Prelude.{◌≡◌}
-use Rattle.sector_disk.specs.declared.file_disk.FileDisk.{FileDisk}
-
--- nothing is counted yet
-pub record IsNew {F : Type 0} (d : FileDisk F) : Type 0 where
-  pub calls : d.calls ≡ 0
-  pub faults : d.faults ≡ 0
-  pub orders : d.orders ≡ 0

@@ -1,0 +1,60 @@
+-- What a run tells that makes no machine, by what its words ask for.
+use Rattle.std.proofs.Common.{◌≡◌, inl, inr, ℕ, refl, sym, subst, Option, Some, None, List}
+use Rattle.swsusp_cli.specs.Answer.{RunResult, memory_told, unparsed}
+use Rattle.swsusp_cli.specs.Run.{IsAnswer, IsInspection, NoMachine}
+use Rattle.swsusp_cli.specs.Drills as drills
+use Rattle.swsusp_cli.specs.Drills.{IsDrilled}
+use Rattle.swsusp_cli.specs.Dumps as dumps
+use Rattle.swsusp_cli.specs.Dumps.{Hibernates}
+use Rattle.swsusp_cli.specs.Exports as exports
+use Rattle.swsusp_cli.specs.Exports.{Exports}
+use Rattle.swsusp_cli.specs.Imports as imports
+use Rattle.swsusp_cli.specs.Imports.{Imports}
+use Rattle.swsusp_cli.specs.Loads as loads
+use Rattle.swsusp_cli.specs.Loads.{Resumes}
+use Rattle.swsusp_cli.specs.Outcome as outcome
+use Rattle.swsusp_cli.specs.Outcome.{IsReplayed, Tells}
+use Rattle.swsusp_cli.specs.View.{DiskView, View}
+use Rattle.swsusp_cli.specs.declared.status.Status.{Status}
+use Rattle.page_core.specs.declared.format.Format.{Format}
+use Rattle.plain_machine.specs.declared.event.IdentCheck.{IdentCheck}
+use Rattle.stream_in.specs.declared.stop.InStop.TheVariants as stop
+use Rattle.swsusp_words.specs.Words.{Asked, inspect, hibernate, resume, replay, drill, export, import}
+
+pub refused_as : (asked : Option Asked) (d d' : DiskView) (text : List ℕ) → asked ≡ None → d'.calls ≡ d.calls → IsAnswer asked d d' (unparsed text)
+refused_as asked d d' text e calls =
+    subst (λ (o : Option Asked). IsAnswer o d d' (unparsed text)) (sym e) (inl (record { text = text; told_is = refl; calls = calls }))
+
+pub inspected_as : (asked : Option Asked) (offset : ℕ) (swap : List ℕ) (d d' : DiskView) (told : RunResult) → asked ≡ Some (inspect offset swap)
+    → IsInspection offset d d' told → IsAnswer asked d d' told
+inspected_as asked offset swap d d' told e h = subst (λ (o : Option Asked). IsAnswer o d d' told) (sym e) (inl h)
+
+pub memory_as : (asked : Option Asked) (d d' : DiskView) → NoMachine asked → d'.calls ≡ d.calls → IsAnswer asked d d' memory_told
+memory_as None d d' none calls = inr (record { told_is = refl; calls = calls })
+memory_as (Some (inspect offset swap)) d d' none calls = inr (record { told_is = refl; calls = calls })
+memory_as (Some replay) d d' none calls = none
+memory_as (Some (drill number)) d d' none calls = none
+memory_as (Some (hibernate format size swap)) d d' none calls = none
+memory_as (Some (resume check swap)) d d' none calls = none
+memory_as (Some export) d d' none calls = none
+memory_as (Some (import swap)) d d' none calls = none
+
+-- memory was refused before the disk was called, which each command may end with
+module _ (x x' : View) (status : Status) (told : Tells memory_told status x x') (untouched : x'.disk ≡ x.disk) where
+  pub memory_replays : IsReplayed x x' status
+  memory_replays = outcome.out_of_memory (record { told = told; untouched = untouched })
+
+  pub memory_drills : (number : ℕ) → IsDrilled number x x' status
+  memory_drills number = drills.out_of_memory (record { told = told; untouched = untouched })
+
+  pub memory_hibernates : (format : Format) (size : Option ℕ) → Hibernates format size x x' status
+  memory_hibernates format size = dumps.out_of_memory (record { told = told; untouched = untouched })
+
+  pub memory_resumes : (check : IdentCheck) → Resumes check x x' status
+  memory_resumes check = loads.out_of_memory (record { told = told; untouched = untouched })
+
+  pub memory_exports : Exports x x' status
+  memory_exports = exports.out_of_memory (record { told = told; untouched = untouched })
+
+  pub memory_imports : x'.left ≡ x.left → Imports x x' status
+  memory_imports left = imports.stopped stop.NoMemory (left, untouched) told

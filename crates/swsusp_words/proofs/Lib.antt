@@ -1,0 +1,12 @@
+pub mod Builders
+pub mod Forms
+pub mod Getters
+pub mod Hibernates
+pub mod Inspects
+pub mod Numbers
+pub mod Others
+pub mod Parsing
+pub mod Resumes
+pub mod Taken
+pub mod Values
+pub mod Walks

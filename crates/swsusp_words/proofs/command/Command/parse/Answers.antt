@@ -1,0 +1,25 @@
+use Rattle.std.proofs.Common.{◌∙◌, ap, map, string_bytes}
+use Rattle.clap.specs.Words.{App, is_simple, subcommand_of, takes}
+use Rattle.swsusp_words.specs.Matched.{asked_in}
+use Rattle.swsusp_words.proofs.Parsing.{numbered, said_refused, said_words, simple, unfound}
+use Rattle.swsusp_words.proofs.command.Command.parse.Goals as goal
+
+pub returns-in-Err-clause-refused : goal.returns-in-Err-clause-refused
+returns-in-Err-clause-refused c =
+    let words = map string_bytes c.args.words.now in
+    said_refused words c.said.result (λ t. c.said.ensures (c.in-Err.ensures.passes (ap (λ (a : App). takes a words) c.in_ok-command_line.ensures.0 ∙ t)))
+
+pub returns-in-Err-clause-words : goal.returns-in-Err-clause-words
+returns-in-Err-clause-words c =
+    let words = map string_bytes c.args.words.now in
+    said_words words c.said.result (λ t. c.said.ensures (c.in-Err.ensures.passes (ap (λ (a : App). takes a words) c.in_ok-command_line.ensures.0 ∙ t)))
+
+pub returns-in-Some-clause-number : goal.returns-in-Some-clause-number
+returns-in-Some-clause-number c = numbered (map string_bytes c.args.words.now) c.in-Some.command c.in-Some.ensures.asks
+
+pub returns-clause-refused : goal.returns-clause-refused
+returns-clause-refused c =
+    let words = map string_bytes c.args.words.now in
+    let app = c.in_ok-command_line.ensures.0 in
+    let rows = (c.in-Ok.ensures.matches (ap is_simple app ∙ simple)).1 ∙ ap (λ (a : App). subcommand_of a words) app in
+    unfound words (λ x matched e. let some = c.in-None.ensures.found x (ap asked_in rows ∙ matched) e in cc)

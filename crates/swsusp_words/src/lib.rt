@@ -1,0 +1,14 @@
+//! The command line of `swsusp`: what a list of words asks for, and what is said of one that asks for nothing.
+#![tactic(auto)]
+
+mod command;
+mod command_line;
+mod details;
+mod matched;
+mod spelled;
+mod unparsed;
+mod words;
+
+pub use command::Command;
+pub use unparsed::Unparsed;
+pub use words::{equal, is_path};

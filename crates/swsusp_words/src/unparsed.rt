@@ -1,0 +1,55 @@
+ghost use Rattle.std.specs.Prelude.{◌≡◌};
+ghost use Rattle.clap.specs.Values.{kind_of};
+ghost use Rattle.clap.specs.declared.error.kind.ErrorKind.TheVariants as kind;
+ghost use Rattle.swsusp_words.specs.declared.unparsed.Unparsed.TheVariants as unparsed;
+
+use clap::error::ErrorKind;
+use page_core::NoMemory;
+use std::alloc::{AllocError, Global};
+use thiserror::Error;
+
+/// Why a list of words is no command.
+#[derive(Debug, Drop, Error)]
+pub enum Unparsed {
+    /// The list isn't plain. The text says what is wrong with it, or what was asked for.
+    #[error("{0}")]
+    Words(String),
+    /// Memory was refused.
+    #[error("no memory")]
+    NoMemory,
+}
+
+impl From<NoMemory> for Unparsed {
+    ghost use Rattle.std.specs.Prelude.{◌≡◌};
+    ghost use Rattle.swsusp_words.specs.declared.unparsed.Unparsed.TheVariants as unparsed;
+
+    ghost from_gives = { λ _ why. why ≡ unparsed.NoMemory };
+
+    fn from(_: NoMemory) -> Unparsed {
+        Unparsed::NoMemory
+    }
+}
+
+impl From<AllocError> for Unparsed {
+    ghost use Rattle.std.specs.Prelude.{◌≡◌};
+    ghost use Rattle.swsusp_words.specs.declared.unparsed.Unparsed.TheVariants as unparsed;
+
+    ghost from_gives = { λ _ why. why ≡ unparsed.NoMemory };
+
+    fn from(_: AllocError) -> Unparsed {
+        Unparsed::NoMemory
+    }
+}
+
+/// What clap says of words.
+pub(crate) fn said(alloc: Global, error: &clap::Error) -> Unparsed
+    ensures { kind_of error.now ≡ kind.OutOfMemory → result ≡ unparsed.NoMemory }
+{
+    if error.kind() == ErrorKind::OutOfMemory {
+        return Unparsed::NoMemory;
+    }
+    match format!(in alloc; "{error}") {
+        Ok(text) => Unparsed::Words(text),
+        Err(_) => Unparsed::NoMemory,
+    }
+}

@@ -1,0 +1,138 @@
+"""Which words the programs take, and what they say of others."""
+from harness import Mismatch, check, run
+
+COMMANDS = ["inspect", "hibernate", "resume", "replay", "drill", "export", "import"]
+MACHINE_COMMANDS = ["make", "loader", "show", "differ", "check"]
+
+# clap takes these, and yet they aren't plain.
+NOT_PLAIN = [
+    ["inspect", ""],
+    ["inspect", "-"],
+    ["inspect", "--", "s"],
+    ["inspect", "s", "--"],
+    ["inspect", "--offset", "010", "s"],
+    ["inspect", "--offset", "00", "s"],
+    ["inspect", "--offset", "+1", "s"],
+    ["inspect", "--offset=1", "s"],
+    ["inspect", "s", "--offset", "1"],
+    ["inspect", "--offset", "1", "-"],
+    ["inspect", "--offset", "1", "--", "s"],
+    ["hibernate", ""],
+    ["hibernate", "-"],
+    ["hibernate", "--", "--skip-zeros"],
+    ["hibernate", "s", "--skip-zeros"],
+    ["hibernate", "--skip-zeros", "s", "--image-size", "1"],
+    ["hibernate", "--image-size", "010", "s"],
+    ["hibernate", "--image-size", "+1", "s"],
+    ["hibernate", "--image-size=1", "s"],
+    ["resume", ""],
+    ["resume", "--", "s"],
+    ["resume", "s", "--any-kernel"],
+    ["replay", "--"],
+    ["drill", "010"],
+    ["drill", "+10"],
+    ["drill", "--", "10"],
+    ["export", "--"],
+    ["import", ""],
+    ["import", "-"],
+    ["import", "--", "s"],
+]
+
+# And these it refuses.
+REFUSED = [
+    [],
+    ["inspect"],
+    ["inspect", "a", "b"],
+    ["inspect", "--offset", "s"],
+    ["inspect", "--offset", "x", "s"],
+    ["inspect", "--offset", "4294967296", "s"],
+    ["inspect", "--offset", "-1", "s"],
+    ["inspect", "--offset", "1", "--offset", "2", "s"],
+    ["inspect", "--skip-zeros", "s"],
+    ["hibernate"],
+    ["hibernate", "--any-kernel", "s"],
+    ["hibernate", "--skip-zeros"],
+    ["hibernate", "--skip-zeros", "--skip-zeros", "s"],
+    ["hibernate", "--skip-zeros=true", "s"],
+    ["hibernate", "--image-size", "s"],
+    ["hibernate", "--image-size", "x", "s"],
+    ["hibernate", "--image-size", "18446744073709551616", "s"],
+    ["resume", "--skip-zeros", "s"],
+    ["resume", "a", "b"],
+    ["replay", "s"],
+    ["drill"],
+    ["drill", "0"],
+    ["drill", "2001"],
+    ["drill", "x"],
+    ["export", "s"],
+    ["import"],
+    ["import", "a", "b"],
+    ["no-command", "s"],
+]
+
+
+def refused(*words):
+    """The note of a program that doesn't take the words."""
+    status, out, note = run(*words)
+    if (status, out) != (2, b"") or not note.endswith("\n"):
+        raise Mismatch(f"{words}: status {status}, {out!r} and {note!r}")
+    return note
+
+
+def has(text, *parts):
+    for part in parts:
+        if part not in text:
+            raise Mismatch(f"{part!r} isn't in {text!r}")
+
+
+def test_lists_that_are_not_plain():
+    for words in NOT_PLAIN:
+        check(run("swsusp", *words), 2, note="words\n")
+
+
+def test_lists_that_clap_refuses():
+    for words in REFUSED:
+        note = refused("swsusp", *words)
+        if note == "words\n":
+            raise Mismatch(f"{words}: {note!r}")
+
+
+def test_ranges_that_are_told():
+    has(refused("swsusp", "drill", "2001"), "2001 is not in 1..=2000")
+    has(refused("swsusp", "inspect", "--offset", "4294967296", "s"), "4294967296 is not in 0..=4294967295")
+
+
+def test_help():
+    """Help and the version of `swsusp` are notes."""
+    has(refused("swsusp", "--help"), *COMMANDS, "65,536", "131,072", "compressed")
+    has(refused("swsusp", "--version"), "swsusp 0.1")
+    for command in COMMANDS:
+        has(refused("swsusp", command, "--help"), f"Usage: swsusp {command}", "Limits:" if command != "inspect" else "reads", f"Example: swsusp {command}")
+        has(refused("swsusp", "help", command), f"Usage: swsusp {command}")
+    has(refused("swsusp", "inspect", "--help"), "--offset <N>", "[default: 0]", "<SWAP>")
+    has(refused("swsusp", "hibernate", "--help"), "--skip-zeros", "--image-size <N>", "<SWAP>")
+    has(refused("swsusp", "resume", "--help"), "--any-kernel", "<SWAP>")
+    has(refused("swsusp", "drill", "--help"), "1 to 2000")
+
+
+def test_help_for_machines():
+    """Help and the version of `swsusp_machine` are printed."""
+    for words in [["--help"], ["help"], ["-h"]]:
+        status, out, note = run("swsusp_machine", *words)
+        if (status, note) != (0, ""):
+            raise Mismatch(f"{words}: status {status} and {note!r}")
+        has(out.decode(), *MACHINE_COMMANDS)
+    check(run("swsusp_machine", "--version"), 0, b"swsusp_machine 0.1\n")
+    for command in MACHINE_COMMANDS:
+        status, out, note = run("swsusp_machine", command, "--help")
+        if (status, note) != (0, ""):
+            raise Mismatch(f"{command}: status {status} and {note!r}")
+        has(out.decode(), f"Usage: swsusp_machine {command}", f"Example: swsusp_machine {command}", "standard" if command != "differ" else "files")
+
+
+def test_words_of_no_machine_command():
+    for words in [[], ["make", "a"], ["differ", "a"], ["check", "--any-kernel", "s"], ["no-command"]]:
+        if refused("swsusp_machine", *words) == "words\n":
+            raise Mismatch(f"{words}")
+    for words in [["differ", "-", "b"], ["differ", "a", ""], ["differ", "--", "a", "b"], ["check", ""], ["check", "-"], ["make", "--"]]:
+        check(run("swsusp_machine", *words), 2, note="words\n")
