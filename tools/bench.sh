@@ -17,15 +17,27 @@ room=$(mktemp -d)
 trap 'trap "" PIPE HUP INT TERM; rm -rf "$room"' EXIT
 trap 'exit 1' PIPE HUP INT TERM
 
-# The seconds that a command takes from this input to this output, and the greatest memory that it has, in MiB.
+# The seconds that a command takes from this input to this output, and the greatest memory that it has, in MiB. The memory is looked at
+# while it runs: what the system counts of a child that has ended has its parent's from before the child's own program.
 measure() {
     python3 -c '
-import resource, subprocess, sys, time
+import re, subprocess, sys, time
+most = 0
 begin = time.monotonic()
 with open(sys.argv[1], "rb") as source, open(sys.argv[2], "wb") as target:
-    subprocess.run(sys.argv[3:], stdin=source, stdout=target, check=True)
+    child = subprocess.Popen(sys.argv[3:], stdin=source, stdout=target)
+    while child.poll() is None:
+        try:
+            with open(f"/proc/{child.pid}/status") as status:
+                found = re.search(r"VmHWM:\s+(\d+) kB", status.read())
+        except OSError:
+            found = None
+        most = max(most, int(found.group(1)) if found else 0)
+        time.sleep(0.002)
 seconds = time.monotonic() - begin
-print("%.2f %d" % (seconds, resource.getrusage(resource.RUSAGE_CHILDREN).ru_maxrss // 1024))
+if child.returncode != 0:
+    sys.exit(child.returncode)
+print("%.2f %d" % (seconds, -(-most // 1024)))
 ' "$@"
 }
 
