@@ -194,6 +194,10 @@ def test_a_loader_of_other_hardware():
         check_refused(check_image(file, loader_of(image)), f"memory size {image.physpages + 1} own {image.physpages}")
 
 
+# What `swsusp_machine check` warns of before it says what a resume would answer.
+BEYOND = "warning: the first map is block {}, beyond the file: of a swap file in a file system give the device"
+
+
 def test_damage_is_named():
     """Each damage of tools/linux_lab/image.py by the finding that its kind has."""
     for name in reader.damages():
@@ -204,6 +208,9 @@ def test_damage_is_named():
             try:
                 if answer.startswith("resumed "):
                     check_line(ran, answer)
+                elif name == "first_map_off_the_disk":
+                    first = answer.removeprefix("bad block ")
+                    check_refused(ran, f"{BEYOND.format(first)}\n{answer}")
                 else:
                     check_refused(ran, answer)
             except Mismatch as why:
