@@ -234,9 +234,9 @@ sleep 1
 same "the lock of a resume that waits for its output" "held held taken" "$(locked "$room/area") $(holds "$room/area")"
 cat "$room/fifo" >"$room/out" 9>&- &
 reader=$!
-exec 9>&-
 status=0
 wait "$run" || status=$?
+exec 9>&-
 wait "$reader"
 cmp -s "$room/restored" "$room/out" && whole=whole || whole=torn
 same "its end" "0 whole free free" "$status $whole $(locked "$room/area")"

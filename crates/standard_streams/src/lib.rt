@@ -65,15 +65,19 @@ fn output_place(rt: &HostRuntime) -> io::Result<Option<File>>
     })
 }
 
-/// Whether standard output or standard error is the file or the block device at a path, so that what is printed would reach it.
-pub fn is_output(rt: &HostRuntime, path: &str) -> bool {
-    match fs::metadata(rt, path) {
-        Ok(found) => OUTPUTS.iter().any(|output| match fs::metadata(rt, *output) {
-            Ok(open) => is_same(&open, &found),
-            Err(_) => false,
-        }),
-        Err(_) => false,
+/// Whether standard output or standard error is the file or the block device at a path, so that what is printed would reach it. Where
+/// the system shows no descriptors that isn't known, and the answer is no.
+pub fn is_output(rt: &HostRuntime, path: &str) -> io::Result<bool> {
+    let found = fs::metadata(rt, path)?;
+    for output in OUTPUTS {
+        match fs::metadata(rt, output) {
+            Ok(open) if is_same(&open, &found) => return Ok(true),
+            Ok(_) => {}
+            Err(error) if error.kind() == ErrorKind::NotFound => {}
+            Err(error) => return Err(error),
+        }
     }
+    Ok(false)
 }
 
 /// Whether two names are those of one file, or of one block device.

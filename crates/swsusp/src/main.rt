@@ -39,9 +39,9 @@ fn run_over_file(rt: &HostRuntime, words: &[String], path: &str) -> ExitCode {
     if is_command(words, "resume") && rt.stdout().is_terminal() {
         return sink_fault(rt);
     }
-    if is_output(rt, path) {
+    let Ok(false) = is_output(rt, path) else {
         return not_opened(rt);
-    }
+    };
     let opened = if is_command(words, "inspect") {
         FileDisk::open_read_only(rt, path)
     } else {

@@ -94,9 +94,9 @@ fn check_file(rt: &HostRuntime, swap: &str) -> ExitCode {
     let Ok(_held) = hold(rt) else {
         return not_opened(rt);
     };
-    if is_output(rt, swap) {
+    let Ok(false) = is_output(rt, swap) else {
         return not_opened(rt);
-    }
+    };
     let Ok(mut disk) = FileDisk::open_read_only(rt, swap) else {
         return not_opened(rt);
     };
