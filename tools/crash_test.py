@@ -342,7 +342,9 @@ def failed(bench, command, machine, loader, trace):
         if call.on == "input":
             return 4, "source fault"
         if call.on == "output":
-            return 4, "sink fault"
+            # Before the area is opened the output is looked at, since it may not be the area.
+            early = call.name in LOOKS and trace.own.index(call) < trace.own.index(trace.on_area[0])
+            return (7, "open fault") if early else (4, "sink fault")
         if call.on in ("path", None) or call.name in LOOKS or call.name == "flock" or "SEEK_END" in call.words:
             return 7, "open fault"
         if call in back:
