@@ -6,13 +6,13 @@ ghost use Rattle.swsusp_cli.specs.View.{view};
 
 use command_core::Ended;
 use dry_resume::would_resume;
-use dump_file::{DumpStop, Sink, Source, read_dump};
+use dump_file::{Sink, Source};
 use page_core::NoMemory;
 use plain_machine::{IdentCheck, Reply};
 use script::{Line, line_of};
 use sector_disk::Disk;
 use std::alloc::Global;
-use swsusp_cli::{Answer, Status, machine_of, no_dump, no_memory, stopped, unread};
+use swsusp_cli::{Answer, Status, machine_of_input, no_memory, stopped};
 
 /// Reads a loader's dump to its end, and tells what a resume of the image on the disk into its machine would answer. The disk is only
 /// read.
@@ -32,15 +32,9 @@ pub fn check<I: Source, O: Sink, N: Sink, D: Disk>(
     ensures device { result ≡ Status.Device → HasRisen (D.faults disk.old) (D.faults disk.new) }
     ensures words { result ≢ Status.Words }
 {
-    let dump = match read_dump(alloc, input) {
-        Ok(dump) => dump,
-        Err(DumpStop::SourceFault) => return unread(note),
-        Err(DumpStop::NoMemory) => return no_memory().tell(out, note),
-        Err(DumpStop::Fault(fault)) => return no_dump(fault).tell(out, note),
-    };
-    let mut world = match machine_of(alloc, dump) {
+    let mut world = match machine_of_input(alloc, input) {
         Ok(world) => world,
-        Err(NoMemory) => return no_memory().tell(out, note),
+        Err(stop) => return stop.tell(out, note),
     };
     match would_resume(&mut world, disk, IdentCheck::Compare) {
         Ok(ended) => foretold(&ended).tell(out, note),

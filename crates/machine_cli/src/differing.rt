@@ -5,10 +5,10 @@ ghost use Rattle.swsusp_cli.specs.AnswerOf.{told_by};
 ghost use Rattle.swsusp_cli.specs.View.{sink_view};
 
 use dump_differ::{Difference, first_difference};
-use dump_file::{DumpStop, Sink, Source, read_dump};
+use dump_file::{Sink, Source};
 use script::Line;
 use std::alloc::Global;
-use swsusp_cli::{Answer, Status, no_dump, no_memory, unread};
+use swsusp_cli::{Answer, Status, dump_of_input};
 
 /// Reads two dumps, one after the other, and tells where they differ first, or that an image would save the same of both machines.
 #[inline(never)]
@@ -30,17 +30,13 @@ pub fn differ<I: Source, J: Source, O: Sink, N: Sink>(
     ensures device { result ≢ Status.Device }
     ensures words { result ≢ Status.Words }
 {
-    let a = match read_dump(alloc, first) {
+    let a = match dump_of_input(alloc, first) {
         Ok(dump) => dump,
-        Err(DumpStop::SourceFault) => return unread(note),
-        Err(DumpStop::NoMemory) => return no_memory().tell(out, note),
-        Err(DumpStop::Fault(fault)) => return no_dump(fault).tell(out, note),
+        Err(stop) => return stop.tell(out, note),
     };
-    let b = match read_dump(alloc, second) {
+    let b = match dump_of_input(alloc, second) {
         Ok(dump) => dump,
-        Err(DumpStop::SourceFault) => return unread(note),
-        Err(DumpStop::NoMemory) => return no_memory().tell(out, note),
-        Err(DumpStop::Fault(fault)) => return no_dump(fault).tell(out, note),
+        Err(stop) => return stop.tell(out, note),
     };
     told_of(first_difference(&a, &b)).tell(out, note)
 }

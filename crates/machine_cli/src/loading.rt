@@ -3,11 +3,11 @@ ghost use Rattle.definitions.specs.Disk.{HasRisen};
 ghost use Rattle.machine_cli.specs.Freshened.{Freshens};
 ghost use Rattle.swsusp_cli.specs.View.{DiskView, sink_view};
 
-use dump_file::{DumpStop, Sink, Source, read_dump};
+use dump_file::{Sink, Source};
 use fresh_dump::make_fresh;
 use page_core::NoMemory;
 use std::alloc::Global;
-use swsusp_cli::{Status, no_dump, no_memory, tell_dump, unread};
+use swsusp_cli::{Status, dump_of_input, no_memory, tell_dump};
 
 /// Reads a dump to its end, and writes the dump of its machine when it has just booted: a loader, into which an image can be resumed. No
 /// disk is used.
@@ -34,11 +34,9 @@ pub fn loader<I: Source, O: Sink, N: Sink>(
     ensures device { result ≢ Status.Device }
     ensures words { result ≢ Status.Words }
 {
-    let mut dump = match read_dump(alloc, input) {
+    let mut dump = match dump_of_input(alloc, input) {
         Ok(dump) => dump,
-        Err(DumpStop::SourceFault) => return unread(note),
-        Err(DumpStop::NoMemory) => return no_memory().tell(out, note),
-        Err(DumpStop::Fault(fault)) => return no_dump(fault).tell(out, note),
+        Err(stop) => return stop.tell(out, note),
     };
     match make_fresh(alloc, &mut dump) {
         Ok(()) => tell_dump(&dump.hw, &dump.frames, out, note),

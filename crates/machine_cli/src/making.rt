@@ -6,13 +6,14 @@ ghost use Rattle.swsusp_cli.specs.Reading.{HandsOutAtMost};
 ghost use Rattle.swsusp_cli.specs.View.{view};
 
 use dump_file::{Sink, Source};
+use page_core::NoMemory;
 use script::Line;
 use sector_disk::Disk;
 use std::alloc::Global;
 use swsusp_cli::{
-    Answer, Status, Stop, no_memory, no_script, parse_input, play_through, set_up, tell_dump,
-    unread,
+    Answer, Status, no_memory, parse_input, play_through, set_up, tell_dump,
 };
+use world_core::World;
 
 /// Plays a script over a disk, and writes the memory of the machine that runs at its end as a dump. Where none runs, that is noted.
 #[inline(never)]
@@ -34,14 +35,16 @@ pub fn make<I: Source, O: Sink, N: Sink, D: Disk>(
 {
     let script = match parse_input(alloc, input) {
         Ok(script) => script,
-        Err(Stop::Source) => return unread(note),
-        Err(Stop::Memory) => return no_memory().tell(out, note),
-        Err(Stop::Script(fault)) => return no_script(fault).tell(out, note),
+        Err(stop) => return stop.tell(out, note),
     };
-    let mut world = match set_up(alloc, &script, disk) {
+    let mut world = match World::create(alloc, *script.hardware()) {
         Ok(world) => world,
-        Err(why) => return why.answer().tell(out, note),
+        Err(NoMemory) => return no_memory().tell(out, note),
     };
+    match set_up(&script, disk) {
+        Ok(()) => {}
+        Err(why) => return why.answer().tell(out, note),
+    }
     let _ = play_through(&mut world, disk, script.events());
     match world.into_dump() {
         Some(dump) => tell_dump(&dump.hw, &dump.frames, out, note),

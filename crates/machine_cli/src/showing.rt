@@ -6,12 +6,12 @@ ghost use Rattle.machine_facts.specs.Texts.{facts_text};
 ghost use Rattle.swsusp_cli.specs.Told.{FailsToPrint, IsPrinted, IsTold};
 ghost use Rattle.swsusp_cli.specs.View.{DiskView, sink_view};
 
-use dump_file::{DumpStop, Sink, Source, read_dump};
+use dump_file::{Sink, Source};
 use machine::Dump;
 use machine_facts::show;
 use page_core::Failed;
 use std::alloc::Global;
-use swsusp_cli::{Status, no_dump, no_memory, print, unread};
+use swsusp_cli::{Status, dump_of_input, print};
 
 /// Reads a dump to its end, and prints its facts: hardware, and who has the page frames and the slots. No disk is used.
 #[inline(never)]
@@ -37,11 +37,9 @@ pub fn show_facts<I: Source, O: Sink, N: Sink>(
     ensures device { result ≢ Status.Device }
     ensures words { result ≢ Status.Words }
 {
-    let dump = match read_dump(alloc, input) {
+    let dump = match dump_of_input(alloc, input) {
         Ok(dump) => dump,
-        Err(DumpStop::SourceFault) => return unread(note),
-        Err(DumpStop::NoMemory) => return no_memory().tell(out, note),
-        Err(DumpStop::Fault(fault)) => return no_dump(fault).tell(out, note),
+        Err(stop) => return stop.tell(out, note),
     };
     tell_facts(&dump, out, note)
 }

@@ -129,12 +129,31 @@ fn entries_of(alloc: Global, moves: &[(u32, u32)]) -> Result<Vec<(u32, u32, u32)
     Ok(entries)
 }
 
+// Three entries of one page each: three steps.
 #[test]
 fn two_page_frames_change_places(rt: HostRuntime) -> Result<(), Fail> {
-    let entries = entries_of(rt.alloc(), &[(20, 21), (21, 20)])?;
+    let zones = Zones::of(&[(0, 64)])?;
+    let mut frames = Frames::create(rt.alloc(), 64)?;
+    let mut work = Work::create(rt.alloc(), 64)?;
+    let moves = [(20, 21), (21, 20)];
+    let placement = place(rt.alloc(), &zones, &moves, 40, 41).ok_or("no placement")?;
+    assert!(rt; zones.top() == 64 && frames.len() == 64);
+    frames.fill(20, 1);
+    frames.fill(21, 2);
+    let entries = relocate::<Brand>(
+        rt.alloc(),
+        &placement,
+        &mut work,
+        &mut frames,
+        Blank::new(1),
+    )?;
     assert_eq!(rt;
         entries.as_slice(),
         [(20, 41, 1), (21, 20, 1), (41, 21, 1)].as_slice()
+    );
+    assert_eq!(rt;
+        [frames.word(20, 511), frames.word(21, 511)],
+        [0x0202_0202_0202_0202, 0x0101_0101_0101_0101]
     );
     Ok(())
 }
@@ -149,11 +168,20 @@ fn a_page_stays_where_it_is(rt: HostRuntime) -> Result<(), Fail> {
 // Up by two from the highest target on, and down by two from the lowest.
 #[test]
 fn page_frames_in_a_row(rt: HostRuntime) -> Result<(), Fail> {
-    let up = entries_of(
-        rt.alloc(),
-        &[(100, 102), (101, 103), (102, 104), (103, 105)],
-    )?;
-    assert_eq!(rt; up.as_slice(), [(100, 102, 4)].as_slice());
+    let moves = [
+        (100, 102),
+        (101, 103),
+        (102, 104),
+        (103, 105),
+        (104, 106),
+        (105, 107),
+        (106, 108),
+        (107, 109),
+        (108, 110),
+        (109, 111),
+    ];
+    let up = entries_of(rt.alloc(), &moves)?;
+    assert_eq!(rt; up.as_slice(), [(100, 102, 10)].as_slice());
     let down = entries_of(
         rt.alloc(),
         &[(102, 100), (103, 101), (104, 102), (105, 103)],
@@ -228,6 +256,34 @@ fn moves_a_planned_image(rt: HostRuntime) -> Result<(), Fail> {
     assert_eq!(rt;
         [frames.word(0, 511), frames.word(1499, 511)],
         [0x0101_0101_0101_0101, 0x0202_0202_0202_0202]
+    );
+    Ok(())
+}
+
+// Page frames 0 to 6 and 10 are saved, and the loader has all page frames free: the pages wait in the last eight.
+#[test]
+fn moves_a_small_image(rt: HostRuntime) -> Result<(), Fail> {
+    let zones = Zones::of(&[(0, 4096)])?;
+    let mut frames = Frames::create(rt.alloc(), 4096)?;
+    let mut work = Work::create(rt.alloc(), 4096)?;
+    let mut placement = Placement::create(rt.alloc(), &zones)?;
+    let mut origs = Bitmap::create(rt.alloc(), &zones)?;
+    let mut free = Bitmap::create(rt.alloc(), &zones)?;
+    add_range(&mut origs, &zones, 0, 7);
+    add_range(&mut origs, &zones, 10, 11);
+    add_range(&mut free, &zones, 0, 4096);
+    placement.plan(&origs, &free)?;
+    assert!(rt; zones.top() == 4096 && frames.len() == 4096);
+    let entries = relocate::<Brand>(
+        rt.alloc(),
+        &placement,
+        &mut work,
+        &mut frames,
+        Blank::new(1),
+    )?;
+    assert_eq!(rt;
+        entries.as_slice(),
+        [(4095, 10, 1), (4088, 0, 7)].as_slice()
     );
     Ok(())
 }

@@ -5,6 +5,7 @@ pub mod Keeping
 pub mod Once
 pub mod Refused
 pub mod Resuming
+pub mod Shrinking
 pub mod Sleeping
 pub mod Sleeps
 pub mod Spent

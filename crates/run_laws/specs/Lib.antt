@@ -1,3 +1,4 @@
 pub mod Copies
 pub mod Resumes
+pub mod Shrinks
 pub mod Sleeps

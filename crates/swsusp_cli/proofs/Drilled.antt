@@ -13,7 +13,7 @@ use Rattle.swsusp_cli.specs.SettingUp.{IsNotSetUp, unready_told}
 use Rattle.swsusp_cli.specs.View.{View}
 use Rattle.swsusp_words.specs.Words.{Asked, drill}
 use Rattle.swsusp_cli.specs.declared.setting_up.Unready.{Unready}
-use Rattle.swsusp_cli.specs.declared.setting_up.Unready.TheVariants.{Memory, Small, Unformatted as NotFormatted}
+use Rattle.swsusp_cli.specs.declared.setting_up.Unready.TheVariants.{Small, Unformatted as NotFormatted}
 use Rattle.swsusp_cli.specs.declared.status.Status.{Status}
 use Rattle.swsusp_cli.specs.declared.status.Status.TheVariants.{Stream}
 use Rattle.swsusp_cli.proofs.Prints.{AreFlushed, told_flushed}
@@ -21,7 +21,6 @@ use Rattle.swsusp_cli.proofs.Replays.{calls_untouched, not_formatted, small_disk
 use Rattle.swsusp_cli.proofs.Turns.{counted_later, risen_earlier}
 
 pub drill_not_set_up : (number : ℕ) (x x' : View) (status : Status) (why : Unready) → IsNotSetUp (drill_script number) x.disk x'.disk why → Tells (unready_told why) status x x' → IsDrilled number x x' status
-drill_not_set_up number x x' status Memory untouched told = out_of_memory (record { told = told; untouched = untouched })
 drill_not_set_up number x x' status (Small blocks need) few told = too_small (small_disk x x' status (drill_script number) blocks need few told)
 drill_not_set_up number x x' status (NotFormatted call) fails told = unformatted call (not_formatted x x' status (drill_script number) call fails told)
 

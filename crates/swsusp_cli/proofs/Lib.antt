@@ -7,6 +7,7 @@ pub mod Needed
 pub mod Prints
 pub mod Replays
 pub mod Scripts
+pub mod Inputs
 pub mod Streaming
 pub mod Turns
 pub mod Drilled

@@ -1,8 +1,9 @@
 -- From events played over a formatted disk to a run of the plain machine.
-use Rattle.std.proofs.Common.{◌≡◌, ◌⊎◌, inl, inr, ◌≤◌, ◌<◌, ℕ, ◌+◌, ◌*◌, List, length, take, Option, Some, None, refl, sym, ap, ◌∙◌, subst, arith}
+use Rattle.std.proofs.Common.{◌≡◌, ◌≢◌, ◌⊎◌, inl, inr, ◌≤◌, ◌<◌, ℕ, ◌+◌, ◌*◌, List, length, take, Option, Some, None, refl, sym, ap, ◌∙◌, subst, arith}
 use Rattle.std.proofs.Math.Nat.{min-le_left, min-le_right}
 use Rattle.std.proofs.lemmas.List.{length-take, take_all}
 use Rattle.std.proofs.lemmas.List.Sums.{count_by-le-length, length-filter}
+use Rattle.std.specs.Prelude.{⊤}
 use Rattle.std.specs.Option.{IfSome}
 use Rattle.definitions.specs.Disk as disk
 use Rattle.definitions.specs.Streams.{TakesAll}
@@ -24,14 +25,15 @@ use Rattle.swsusp_cli.specs.Answer.{done}
 use Rattle.swsusp_cli.specs.Outcome.{IsScript, IsReplayed, IsTooSmall, IsUnformatted, Tells, no_script, out_of_memory, unread, too_small, unformatted, played, cut_off, small_told, unformatted_told}
 use Rattle.swsusp_cli.specs.Playing.{HasPlayed}
 use Rattle.swsusp_cli.specs.Replay.{orders_by, IsRun, IsNoSlot, AreReplies, is_step, steps_of}
-use Rattle.swsusp_cli.specs.SettingUp.{FailsToSetUp, HasTooFew, IsNotSetUp, IsSetUp, unready_told}
+use Rattle.swsusp_cli.specs.SettingUp.{FailsToSetUp, HasTooFew, IsNotSetUp, IsSetUp, IsUnformatted as IsOfCall, unready_told}
 use Rattle.swsusp_cli.specs.Told.{AreFronts, IsTold, IsTried, sink_note}
 use Rattle.swsusp_cli.specs.View.{View, DiskView, SinkView}
 use Rattle.swsusp_cli.specs.declared.formatting.Unformatted.{Unformatted}
 use Rattle.swsusp_cli.specs.declared.formatting.Unformatted.TheVariants.{Write, Sync}
 use Rattle.swsusp_cli.specs.declared.setting_up.Unready.{Unready}
-use Rattle.swsusp_cli.specs.declared.setting_up.Unready.TheVariants.{Memory, Small, Unformatted as NotFormatted}
+use Rattle.swsusp_cli.specs.declared.setting_up.Unready.TheVariants.{Small, Unformatted as NotFormatted}
 use Rattle.swsusp_cli.specs.declared.status.Status.{Status}
+use Rattle.swsusp_cli.specs.declared.status.Status.TheVariants.{Stream, Device}
 use Rattle.run_laws.proofs.AtomicCopy.{all_restore}
 use Rattle.run_laws.proofs.Once.{resumed_once}
 use Rattle.run_laws.proofs.Sleeps.{never_both}
@@ -117,26 +119,41 @@ can_format : (script : ScriptValue) (blocks : ℕ) → IsHardware script.hardwar
 can_format script blocks hw roomy few = let some = hw.some_slots in record { some_slots = omega arith; header = roomy 0 (omega arith); few = few }
 
 pub replies_of : (script : ScriptValue) (old new : World) (events : List Event) (replies : List Reply) (before between now : DiskView) → IfSome before.content (disk.IsContent before.blocks) →
-    IfSome between.content (disk.IsContent between.blocks) → IfSome now.content (disk.IsContent now.blocks) → IsSetUp script before between old → length script.bad ≤ 630 → HasPlayed old new events replies between now →
+    IfSome between.content (disk.IsContent between.blocks) → IfSome now.content (disk.IsContent now.blocks) → IsSetUp script before between → IsNew script.hardware None old → length script.bad ≤ 630 → HasPlayed old new events replies between now →
     hardware_of new ≡ hardware_of old → IsOff new ⊎ (now.blocks ≡ boot_blocks new) → AreReplies before now script events replies
-replies_of script old new events replies before between now whole whole_between whole_now set few was_played hw booted = record {
+replies_of script old new events replies before between now whole whole_between whole_now set fresh few was_played hw booted = record {
   size = was_played.size;
   calls = calls_within before.calls between.calls now.calls (steps_of events) set.calls was_played.calls;
   orders = was_played.orders ∙ ap (orders_by events) set.orders;
   faults = counted_earlier replies before.faults between.faults now.faults set.faults was_played.faults;
-  run = λ c told. run_formatted script old new events replies before between now c told (whole_of before.blocks before.content c told whole) whole_between whole_now (can_format script before.blocks set.hardware set.roomy few) set.new set.formats was_played hw booted;
+  run = λ c told. run_formatted script old new events replies before between now c told (whole_of before.blocks before.content c told whole) whole_between whole_now (can_format script before.blocks set.hardware set.roomy few) fresh set.formats was_played hw booted;
 }
 
 -- the world that stands for the state where the run ends is the one that played
 pub world_at_end : (script : ScriptValue) (old new : World) (events : List Event) (replies : List Reply) (before between now : DiskView) (whole : IfSome before.content (disk.IsContent before.blocks)) (whole_between : IfSome between.content (disk.IsContent between.blocks))
-    (whole_now : IfSome now.content (disk.IsContent now.blocks)) (set : IsSetUp script before between old) (few : length script.bad ≤ 630) (was_played : HasPlayed old new events replies between now) (hw : hardware_of new ≡ hardware_of old) (booted : IsOff new ⊎ (now.blocks ≡ boot_blocks new))
-    (c : disk.Content) (told : before.content ≡ Some c) → ((replies_of script old new events replies before between now whole whole_between whole_now set few was_played hw booted).run c told).world ≡ new
+    (whole_now : IfSome now.content (disk.IsContent now.blocks)) (set : IsSetUp script before between) (fresh : IsNew script.hardware None old) (few : length script.bad ≤ 630) (was_played : HasPlayed old new events replies between now) (hw : hardware_of new ≡ hardware_of old) (booted : IsOff new ⊎ (now.blocks ≡ boot_blocks new))
+    (c : disk.Content) (told : before.content ≡ Some c) → ((replies_of script old new events replies before between now whole whole_between whole_now set fresh few was_played hw booted).run c told).world ≡ new
 unfolding replies_of run_formatted
-world_at_end script old new events replies before between now whole whole_between whole_now set few was_played hw booted c told = refl
+world_at_end script old new events replies before between now whole whole_between whole_now set fresh few was_played hw booted c told = refl
+
+-- a device fault is told where a call of the disk failed
+pub risen_of : (script : ScriptValue) (x x' : DiskView) (why : Unready) → IsNotSetUp script x x' why → IsOfCall why → disk.HasRisen x.faults x'.faults
+risen_of script x x' (Small blocks need) is of_call = absurd of_call
+risen_of script x x' (NotFormatted call) is of_call = is.risen
+
+abbrev of_stream : Status → Type 0
+of_stream Stream = ⊤
+of_stream _ = ⊥
+
+device≢stream : Device ≢ Stream
+device≢stream e = subst of_stream (sym e) tt
+
+-- a status that isn't of the streams is the answer's own
+pub told_status : (status told : Status) → (status ≢ Stream → status ≡ told) → status ≡ Device → told ≡ Device
+told_status status told same is = sym (same (λ stream. device≢stream (sym is ∙ stream))) ∙ is
 
 -- A script whose machine isn't set up, as it is told.
 pub not_set_up : (x x' : View) (status : Status) (script : ScriptValue) (why : Unready) → IsScript x x' script → IsNotSetUp script x.disk x'.disk why → Tells (unready_told why) status x x' → IsReplayed x x' status
-not_set_up x x' status script Memory is untouched told = out_of_memory (record { told = told; untouched = untouched })
 not_set_up x x' status script (Small blocks need) is few told = too_small script is (small_disk x x' status script blocks need few told)
 not_set_up x x' status script (NotFormatted call) is fails told = unformatted script call is (not_formatted x x' status script call fails told)
 

@@ -17,5 +17,6 @@ pub mod Reading
 pub mod Replay
 pub mod Run
 pub mod SettingUp
+pub mod Stops
 pub mod Told
 pub mod View

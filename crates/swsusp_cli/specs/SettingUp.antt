@@ -1,22 +1,19 @@
--- A script's machine, and the area that it begins with on the disk.
-use Rattle.std.specs.Prelude.{◌≡◌, ◌≤◌, ◌<◌, ℕ, None, ⊤}
+-- The area that a script's machine begins with on the disk.
+use Rattle.std.specs.Prelude.{◌≡◌, ◌≤◌, ◌<◌, ℕ, ⊤}
 use Rattle.definitions.specs.Disk as disk
 use Rattle.plain_machine.specs.Machine.{IsHardware}
 use Rattle.script.specs.Grammar.{ScriptValue}
-use Rattle.world_core.specs.StandsFor.{IsNew}
-use Rattle.world_core.specs.World.{World}
-use Rattle.swsusp_cli.specs.Answer.{RunResult, memory_told}
+use Rattle.swsusp_cli.specs.Answer.{RunResult}
 use Rattle.swsusp_cli.specs.Formatting.{Formats, FailsToFormat, IsNeeded, LieBelow, calls_until}
 use Rattle.swsusp_cli.specs.Outcome.{small_told, unformatted_told}
 use Rattle.swsusp_cli.specs.View.{DiskView}
 use Rattle.swsusp_cli.specs.declared.formatting.Unformatted.{Unformatted}
 use Rattle.swsusp_cli.specs.declared.setting_up.Unready.{Unready}
-use Rattle.swsusp_cli.specs.declared.setting_up.Unready.TheVariants.{Memory, Small, Unformatted as NotFormatted}
+use Rattle.swsusp_cli.specs.declared.setting_up.Unready.TheVariants.{Small, Unformatted as NotFormatted}
 
--- the machine is new, and its area formatted on a disk that has a block for each slot
-pub record IsSetUp (script : ScriptValue) (x x' : DiskView) (world : World) : Type 0 where
+-- the area is formatted on a disk that has a block for each slot
+pub record IsSetUp (script : ScriptValue) (x x' : DiskView) : Type 0 where
   pub hardware : IsHardware script.hardware
-  pub new : IsNew script.hardware None world
   pub roomy : LieBelow script.hardware x.blocks
   pub formats : disk.Changes (Formats script.hardware script.last script.bad) x.content x'.content
   pub faults : x.faults ≤ x'.faults
@@ -39,17 +36,14 @@ pub record FailsToSetUp (script : ScriptValue) (x x' : DiskView) (call : Unforma
   pub orders : x'.orders ≡ x.orders
 
 abbrev pub IsNotSetUp : ScriptValue → DiskView → DiskView → Unready → Type 0
-IsNotSetUp script x x' Memory = x' ≡ x
 IsNotSetUp script x x' (Small blocks need) = HasTooFew script x x' blocks need
 IsNotSetUp script x x' (NotFormatted call) = FailsToSetUp script x x' call
 
 -- what is told of it
 abbrev pub unready_told : Unready → RunResult
-unready_told Memory = memory_told
 unready_told (Small blocks need) = small_told blocks need
 unready_told (NotFormatted call) = unformatted_told call
 
 abbrev pub IsUnformatted : Unready → Type 0
-IsUnformatted Memory = ⊥
 IsUnformatted (Small blocks need) = ⊥
 IsUnformatted (NotFormatted call) = ⊤

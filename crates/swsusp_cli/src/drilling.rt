@@ -53,10 +53,14 @@ pub fn drill<O: Sink, N: Sink, D: Disk>(
         Ok(script) => script,
         Err(NoMemory) => return no_memory().tell(out, note),
     };
-    let mut world = match set_up(alloc, &script, disk) {
+    let mut world = match World::create(alloc, *script.hardware()) {
         Ok(world) => world,
-        Err(why) => return why.answer().tell(out, note),
+        Err(NoMemory) => return no_memory().tell(out, note),
     };
+    match set_up(&script, disk) {
+        Ok(()) => {}
+        Err(why) => return why.answer().tell(out, note),
+    }
     let tally = play_through(&mut world, disk, script.events());
     summed(number, &tally).tell(out, note)
 }

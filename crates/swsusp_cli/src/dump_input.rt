@@ -1,18 +1,49 @@
-ghost use Rattle.std.specs.Prelude.{◌≡◌, ◌≢◌, ◌++◌, ◌≤◌, length, true, Some, IfOk};
+ghost use Rattle.std.specs.Prelude.{◌≡◌, ◌≢◌, ◌++◌, ◌≤◌, ℕ, List, length, true, Some, Ok, Err, IsOk, IfOk, IfErr};
+ghost use Rattle.definitions.specs.Disk.{HasRisen};
+ghost use Rattle.definitions.specs.Streams.{IsUsedUp};
+ghost use Rattle.dump_file.specs.Dump.{dump_of};
 ghost use Rattle.plain_machine.specs.Machine.{Fits, IsHardware};
 ghost use Rattle.world_core.specs.StandsFor.{IsNew, hardware_of};
 ghost use Rattle.swsusp_cli.specs.AnswerOf.{told_by};
 ghost use Rattle.swsusp_cli.specs.Dumps.{dump_told, kind_text, stopped_told};
+ghost use Rattle.swsusp_cli.specs.Stops.{LacksDump};
 
 use crate::answer::Answer;
 use crate::status::Status;
+use crate::stop::Stop;
 use command_core::Ended;
-use dump_file::{DumpFault, DumpKind};
+use dump_file::{DumpFault, DumpKind, Source, read_dump};
 use machine::Dump;
 use page_core::NoMemory;
 use script::{Line, line_of};
 use std::alloc::Global;
 use world_core::World;
+
+/// Reads a dump to its end.
+pub fn dump_of_input<I: Source>(alloc: Global, input: &mut I) -> Result<Dump, Stop>
+    ensures dump { IfOk result (λ d. (bytes : List ℕ) → I.remaining input.old ≡ Some bytes → dump_of bytes ≡ Ok (record { hw = d.hw; memory = d.frames })) }
+    ensures end { IsOk result → IsUsedUp (I.remaining input.new) }
+    ensures fits { IfOk result (λ d. Fits d.hw d.frames) }
+    ensures lacks { IfErr result (LacksDump (I.remaining input.old)) }
+    ensures cause { result ≡ Err Stop.Source → HasRisen (I.faults input.old) (I.faults input.new) }
+    ensures counted { I.faults input.old ≤ I.faults input.new }
+{
+    Ok(read_dump(alloc, input)?)
+}
+
+/// Reads a dump to its end, and returns a new machine, which keeps the dump's memory.
+pub fn machine_of_input<I: Source>(alloc: Global, input: &mut I) -> Result<World, Stop>
+    ensures dump { IfOk result (λ w. (bytes : List ℕ) → I.remaining input.old ≡ Some bytes → dump_of bytes ≡ Ok (record { hw = hardware_of w; memory = w.frames })) }
+    ensures end { IsOk result → IsUsedUp (I.remaining input.new) }
+    ensures hardware { IfOk result (λ w. IsHardware (hardware_of w)) }
+    ensures new { IfOk result (λ w. IsNew (hardware_of w) (Some w.frames) w) }
+    ensures lacks { IfErr result (LacksDump (I.remaining input.old)) }
+    ensures cause { result ≡ Err Stop.Source → HasRisen (I.faults input.old) (I.faults input.new) }
+    ensures counted { I.faults input.old ≤ I.faults input.new }
+{
+    let dump = dump_of_input(alloc, input)?;
+    Ok(machine_of(alloc, dump)?)
+}
 
 /// A new machine, which keeps the memory of its dump.
 pub fn machine_of(alloc: Global, dump: Dump) -> Result<World, NoMemory>

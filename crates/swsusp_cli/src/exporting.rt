@@ -4,10 +4,9 @@ ghost use Rattle.swsusp_cli.specs.Exports.{Exports};
 ghost use Rattle.swsusp_cli.specs.View.{DiskView, sink_view};
 
 use crate::answer::{Answer, no_memory, print};
-use crate::dump_input::no_dump;
-use crate::replay::unread;
+use crate::dump_input::dump_of_input;
 use crate::status::Status;
-use dump_file::{DumpStop, Sink, Source, put_all, read_dump};
+use dump_file::{Sink, Source, put_all};
 use machine::Dump;
 use memory_bitmap::Bitmap;
 use page_core::{Failed, NoMemory};
@@ -43,11 +42,9 @@ pub fn export_dump<I: Source, O: Sink, N: Sink>(
     ensures device { result ≢ Status.Device }
     ensures words { result ≢ Status.Words }
 {
-    let dump = match read_dump(alloc, input) {
+    let dump = match dump_of_input(alloc, input) {
         Ok(dump) => dump,
-        Err(DumpStop::SourceFault) => return unread(note),
-        Err(DumpStop::NoMemory) => return no_memory().tell(out, note),
-        Err(DumpStop::Fault(fault)) => return no_dump(fault).tell(out, note),
+        Err(stop) => return stop.tell(out, note),
     };
     let saveable = match saveable_set(alloc, &dump) {
         Ok(saveable) => saveable,

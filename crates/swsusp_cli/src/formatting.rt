@@ -7,11 +7,14 @@ use machine::Hardware;
 use page_core::Failed;
 use sector_disk::Disk;
 use sig_header::area_page;
+use thiserror::Error;
 
 /// The call of the disk that failed while the area was formatted.
-#[derive(Clone, Copy, Debug, PartialEq, Eq)]
+#[derive(Clone, Copy, Debug, PartialEq, Eq, Error)]
 pub enum Unformatted {
+    #[error("the header block wasn't written")]
     Write,
+    #[error("the header block wasn't synced")]
     Sync,
 }
 

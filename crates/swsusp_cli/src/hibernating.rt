@@ -5,13 +5,12 @@ ghost use Rattle.swsusp_cli.specs.AnswerOf.{told_by};
 ghost use Rattle.swsusp_cli.specs.Dumps.{hibernation_told};
 ghost use Rattle.swsusp_cli.specs.View.{view};
 
-use crate::answer::{Answer, no_memory};
-use crate::dump_input::{machine_of, no_dump, stopped};
-use crate::replay::unread;
+use crate::answer::Answer;
+use crate::dump_input::{machine_of_input, stopped};
 use crate::status::Status;
 use command_core::{Ended, hibernate};
-use dump_file::{DumpStop, Sink, Source, read_dump};
-use page_core::{Format, NoMemory};
+use dump_file::{Sink, Source};
+use page_core::Format;
 use plain_machine::Reply;
 use script::{Line, line_of};
 use sector_disk::Disk;
@@ -39,15 +38,9 @@ pub fn hibernate_dump<I: Source, O: Sink, N: Sink, D: Disk>(
     ensures few_calls { D.calls disk.new ≤ D.calls disk.old + 100002 }
     ensures inside { IsTrue (D.tells_moments disk.old) → SavesInside format size (I.remaining input.old) (D.content disk.old) (D.left_since disk.new (D.moment disk.old)) }
 {
-    let dump = match read_dump(alloc, input) {
-        Ok(dump) => dump,
-        Err(DumpStop::SourceFault) => return unread(note),
-        Err(DumpStop::NoMemory) => return no_memory().tell(out, note),
-        Err(DumpStop::Fault(fault)) => return no_dump(fault).tell(out, note),
-    };
-    let mut world = match machine_of(alloc, dump) {
+    let mut world = match machine_of_input(alloc, input) {
         Ok(world) => world,
-        Err(NoMemory) => return no_memory().tell(out, note),
+        Err(stop) => return stop.tell(out, note),
     };
     let ended = hibernate(&mut world, disk, format, size);
     hibernation_answer(&ended).tell(out, note)

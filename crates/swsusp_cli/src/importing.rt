@@ -22,6 +22,7 @@ use sector_disk::Disk;
 use std::alloc::Global;
 use stream_check::{Kind, StreamFault};
 use stream_in::{InStop, StreamIn};
+use thiserror::Error;
 
 /// How many bytes of the stream are read at a time.
 const PIECE: usize = 65536;
@@ -30,12 +31,34 @@ const PIECE: usize = 65536;
 const MOST_BYTES: usize = 4096 * 65665;
 
 /// Why no image was imported.
-#[derive(Clone, Copy, Debug, PartialEq, Eq)]
+#[derive(Clone, Copy, Debug, PartialEq, Eq, Error)]
 pub enum ImportStop {
-    /// The input failed.
+    #[error("the source failed")]
     Source,
     /// The area, the stream or the disk is in the way.
+    #[error("{0}")]
     Session(InStop),
+}
+
+impl From<InStop> for ImportStop {
+    ghost use Rattle.swsusp_cli.specs.declared.importing.ImportStop.TheVariants as stop;
+
+    ghost from_gives = { λ why result. result ≡ stop.Session why };
+
+    fn from(why: InStop) -> ImportStop {
+        ImportStop::Session(why)
+    }
+}
+
+impl From<NoMemory> for ImportStop {
+    ghost use Rattle.stream_in.specs.declared.stop.InStop.TheVariants as in_stop;
+    ghost use Rattle.swsusp_cli.specs.declared.importing.ImportStop.TheVariants as stop;
+
+    ghost from_gives = { λ _ result. result ≡ stop.Session in_stop.NoMemory };
+
+    fn from(why: NoMemory) -> ImportStop {
+        ImportStop::Session(InStop::from(why))
+    }
 }
 
 /// Reads a stream, writes it into the area at the disk's first blocks as it comes, and marks it there as an image.
@@ -74,22 +97,10 @@ fn import_image<I: Source, D: Disk>(
     ensures device { IfErr result (λ stop. IsOfDisk stop → HasRisen (D.faults disk.old) (D.faults disk.new)) }
     ensures source { IfErr result (λ stop. IsOfSource stop → HasRisen (I.faults input.old) (I.faults input.new)) }
 {
-    let mut piece = match empty_piece(alloc) {
-        Ok(piece) => piece,
-        Err(NoMemory) => return Err(ImportStop::Session(InStop::NoMemory)),
-    };
-    let mut session = match StreamIn::open(alloc, disk) {
-        Ok(session) => session,
-        Err(stop) => return Err(ImportStop::Session(stop)),
-    };
-    match feed_input(&mut session, &mut piece, input, disk) {
-        Ok(()) => {}
-        Err(stop) => return Err(stop),
-    }
-    match session.finish(disk) {
-        Ok(n) => Ok(n),
-        Err(stop) => Err(ImportStop::Session(stop)),
-    }
+    let mut piece = empty_piece(alloc)?;
+    let mut session = StreamIn::open(alloc, disk)?;
+    feed_input(&mut session, &mut piece, input, disk)?;
+    Ok(session.finish(disk)?)
 }
 
 fn empty_piece(alloc: Global) -> Result<Vec<u8>, NoMemory>
@@ -127,10 +138,8 @@ fn feed_input<I: Source, D: Disk>(
         if count == 0 {
             return Ok(());
         }
-        match session.feed(disk, &piece[..count]) {
-            Ok(()) => taken += count,
-            Err(stop) => return Err(ImportStop::Session(stop)),
-        }
+        session.feed(disk, &piece[..count])?;
+        taken += count;
     }
 }
 

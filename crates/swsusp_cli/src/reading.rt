@@ -5,6 +5,7 @@ ghost use Rattle.swsusp_cli.specs.declared.reading.ReadStop.{ReadStop};
 
 use dump_file::Source;
 use std::alloc::Global;
+use thiserror::Error;
 
 /// How many bytes a script may have.
 const MAX_BYTES: usize = 1_048_576;
@@ -13,9 +14,11 @@ const MAX_BYTES: usize = 1_048_576;
 const PIECE: usize = 4096;
 
 /// Why input wasn't read to its end.
-#[derive(Clone, Copy, Debug, PartialEq, Eq)]
+#[derive(Clone, Copy, Debug, PartialEq, Eq, Error)]
 pub enum ReadStop {
+    #[error("the source failed")]
     Fault,
+    #[error("no memory")]
     NoMemory,
 }
 

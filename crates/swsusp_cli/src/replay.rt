@@ -14,22 +14,16 @@ ghost use Rattle.swsusp_cli.specs.View.{sink_view, view};
 
 use crate::answer::{Answer, no_memory, print};
 use crate::playing::play;
-use crate::reading::{ReadStop, read_script};
+use crate::reading::read_script;
 use crate::setting_up::set_up;
 use crate::status::Status;
+use crate::stop::Stop;
 use dump_file::{Sink, Source};
-use page_core::Failed;
-use script::{Line, ParseStop, Script, ScriptFault, parse};
+use page_core::{Failed, NoMemory};
+use script::{Line, Script, ScriptFault, parse};
 use sector_disk::Disk;
 use std::alloc::Global;
-
-/// Why there is no script to play.
-#[derive(Clone, Copy, Debug, PartialEq, Eq)]
-pub enum Stop {
-    Source,
-    Memory,
-    Script(ScriptFault),
-}
+use world_core::World;
 
 /// Reads a script, formats the area that it names at the block of its first slot, and plays its events.
 #[inline(never)]
@@ -51,14 +45,16 @@ pub fn replay<I: Source, O: Sink, N: Sink, D: Disk>(
 {
     let script = match parse_input(alloc, input) {
         Ok(script) => script,
-        Err(Stop::Source) => return unread(note),
-        Err(Stop::Memory) => return no_memory().tell(out, note),
-        Err(Stop::Script(fault)) => return no_script(fault).tell(out, note),
+        Err(stop) => return stop.tell(out, note),
     };
-    let mut world = match set_up(alloc, &script, disk) {
+    let mut world = match World::create(alloc, *script.hardware()) {
         Ok(world) => world,
-        Err(why) => return why.answer().tell(out, note),
+        Err(NoMemory) => return no_memory().tell(out, note),
     };
+    match set_up(&script, disk) {
+        Ok(()) => {}
+        Err(why) => return why.answer().tell(out, note),
+    }
     match play(&mut world, disk, out, script.events()) {
         Ok(()) => done().tell(out, note),
         Err(Failed) => cut_off(note),
@@ -75,16 +71,8 @@ pub fn parse_input<I: Source>(alloc: Global, input: &mut I) -> Result<Script, St
     ensures stream { result ≡ Err Stop.Source → HasRisen (I.faults input.old) (I.faults input.new) }
     ensures counted { I.faults input.old ≤ I.faults input.new }
 {
-    let bytes = match read_script(alloc, input) {
-        Ok(bytes) => bytes,
-        Err(ReadStop::Fault) => return Err(Stop::Source),
-        Err(ReadStop::NoMemory) => return Err(Stop::Memory),
-    };
-    match parse(alloc, bytes.as_slice()) {
-        Ok(script) => Ok(script),
-        Err(ParseStop::Fault(fault)) => Err(Stop::Script(fault)),
-        Err(ParseStop::NoMemory) => Err(Stop::Memory),
-    }
+    let bytes = read_script(alloc, input)?;
+    Ok(parse(alloc, bytes.as_slice())?)
 }
 
 /// The source failed: that is noted, once.

@@ -8,11 +8,10 @@ ghost use Rattle.swsusp_cli.specs.Told.{FailsToPrint, IsPrinted, IsTold};
 ghost use Rattle.swsusp_cli.specs.View.{sink_view, view};
 
 use crate::answer::{no_memory, print};
-use crate::dump_input::{machine_of, no_dump, stopped};
-use crate::replay::unread;
+use crate::dump_input::{dump_of_input, machine_of, stopped};
 use crate::status::Status;
 use command_core::{Ended, resume};
-use dump_file::{DumpStop, Sink, Source, read_dump, write_dump};
+use dump_file::{Sink, Source, write_dump};
 use frame_arena::Frames;
 use machine::Hardware;
 use page_core::{Failed, NoMemory};
@@ -40,11 +39,9 @@ pub fn resume_dump<I: Source, O: Sink, N: Sink, D: Disk>(
     ensures few_calls { D.calls disk.new ≤ D.calls disk.old + 100002 }
     ensures inside { IsTrue (D.tells_moments disk.old) → LoadsInside (I.remaining input.old) (D.content disk.old) (D.left_since disk.new (D.moment disk.old)) }
 {
-    let dump = match read_dump(alloc, input) {
+    let dump = match dump_of_input(alloc, input) {
         Ok(dump) => dump,
-        Err(DumpStop::SourceFault) => return unread(note),
-        Err(DumpStop::NoMemory) => return no_memory().tell(out, note),
-        Err(DumpStop::Fault(fault)) => return no_dump(fault).tell(out, note),
+        Err(stop) => return stop.tell(out, note),
     };
     let hw = dump.hw;
     let mut world = match machine_of(alloc, dump) {

@@ -4,22 +4,31 @@ ghost use Rattle.swsusp_cli.specs.Outcome.{small_told, unformatted_told};
 ghost use Rattle.swsusp_cli.specs.SettingUp.{IsNotSetUp, IsSetUp};
 ghost use Rattle.swsusp_cli.specs.View.{disk_view};
 
-use crate::answer::{Answer, no_memory};
+use crate::answer::Answer;
 use crate::formatting::{Unformatted, blocks_needed, format};
 use crate::status::Status;
-use page_core::NoMemory;
 use script::{Line, Script};
 use sector_disk::Disk;
-use std::alloc::Global;
-use world_core::World;
+use thiserror::Error;
 
-/// Why the events of a script aren't played.
-#[derive(Clone, Copy, Debug, PartialEq, Eq)]
+/// Why a disk has no area of a script's machine.
+#[derive(Clone, Copy, Debug, PartialEq, Eq, Error)]
 pub enum Unready {
-    Memory,
-    /// The disk has so many blocks, and needs so many.
-    Small(u32, u32),
+    /// The disk has `blocks` blocks, and the area needs `need`.
+    #[error("{blocks} blocks, of which {need} are needed")]
+    Small { blocks: u32, need: u32 },
+    #[error("{0}")]
     Unformatted(Unformatted),
+}
+
+impl From<Unformatted> for Unready {
+    ghost use Rattle.swsusp_cli.specs.declared.setting_up.Unready.TheVariants as unready;
+
+    ghost from_gives = { λ call result. result ≡ unready.Unformatted call };
+
+    fn from(call: Unformatted) -> Unready {
+        Unready::Unformatted(call)
+    }
 }
 
 impl Unready {
@@ -35,19 +44,17 @@ impl Unready {
         ensures device { result.status ≡ Status.Device → IsUnformatted self }
     {
         match self {
-            Unready::Memory => no_memory(),
-            Unready::Small(blocks, need) => too_small(blocks, need),
+            Unready::Small { blocks, need } => too_small(blocks, need),
             Unready::Unformatted(call) => unformatted(call),
         }
     }
 }
 
-/// Makes the machine of a script, and formats its swap area at the block of its first slot.
-#[inline(never)]
-pub fn set_up<D: Disk>(alloc: Global, script: &Script, disk: &mut D) -> Result<World, Unready>
+/// Formats the swap area of a script's machine, at the block of its first slot.
+pub fn set_up<D: Disk>(script: &Script, disk: &mut D) -> Result<(), Unready>
     requires few_bad { length script.now.bad ≤ 630 }
     ensures outcome { MatchResult result
-        (IsSetUp script.now
+        (λ _. IsSetUp script.now
         (disk_view D.Disk disk.old)
         (disk_view D.Disk disk.new))
         (IsNotSetUp script.now
@@ -55,19 +62,13 @@ pub fn set_up<D: Disk>(alloc: Global, script: &Script, disk: &mut D) -> Result<W
         (disk_view D.Disk disk.new)) }
 {
     let hw = script.hardware();
-    let world = match World::create(alloc, *hw) {
-        Ok(world) => world,
-        Err(NoMemory) => return Err(Unready::Memory),
-    };
     let blocks = disk.blocks();
     let need = blocks_needed(hw);
     if blocks < need {
-        return Err(Unready::Small(blocks, need));
+        return Err(Unready::Small { blocks, need });
     }
-    match format(disk, hw, script.last(), script.bad()) {
-        Ok(()) => Ok(world),
-        Err(call) => Err(Unready::Unformatted(call)),
-    }
+    format(disk, hw, script.last(), script.bad())?;
+    Ok(())
 }
 
 fn too_small(blocks: u32, need: u32) -> Answer

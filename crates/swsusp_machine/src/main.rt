@@ -65,6 +65,7 @@ fn make_loader(rt: &HostRuntime) -> ExitCode {
 }
 
 /// Reads a dump from standard input, and prints its facts.
+#[inline(never)]
 fn show_dump(rt: &HostRuntime) -> ExitCode {
     let mut input = StdSource::new(rt.stdin());
     let mut out = StdSink::new(rt.stdout());
@@ -74,6 +75,7 @@ fn show_dump(rt: &HostRuntime) -> ExitCode {
 }
 
 /// Compares two dumps in files.
+#[inline(never)]
 fn differ_files(rt: &HostRuntime, first: &str, second: &str) -> ExitCode {
     let Ok(_held) = hold(rt) else {
         return not_opened(rt);
@@ -90,6 +92,7 @@ fn differ_files(rt: &HostRuntime, first: &str, second: &str) -> ExitCode {
 }
 
 /// Checks the image of a swap file, which is opened for reading alone.
+#[inline(never)]
 fn check_file(rt: &HostRuntime, swap: &str) -> ExitCode {
     let Ok(_held) = hold(rt) else {
         return not_opened(rt);

@@ -1,28 +1,18 @@
-use Rattle.std.proofs.Common.{◌≡◌, ◌∙◌, Err, refl, ap, sym, subst}
+use Rattle.std.proofs.Common.{◌≡◌, refl, subst}
 use Rattle.dump_file.specs.Dump.{DumpValue}
 use Rattle.swsusp_cli.specs.Answer.{RunResult}
-use Rattle.swsusp_cli.specs.AnswerOf.{told_by}
-use Rattle.swsusp_cli.specs.Dumps.{dump_told}
 use Rattle.swsusp_cli.specs.Loads.{written_told}
 use Rattle.swsusp_cli.specs.Told.{IsTold}
 use Rattle.swsusp_cli.specs.View.{SinkView}
+use Rattle.swsusp_cli.proofs.Inputs.{without_dump}
 use Rattle.fresh_dump.specs.KeptSlots.{kept_slot}
 use Rattle.plain_machine.specs.Machine.{Hardware, Memory}
 use Rattle.plain_machine.specs.FreshMemory.{fresh_memory}
-use Rattle.machine_cli.specs.Freshened.{no_dump, out_of_memory, freshened}
+use Rattle.machine_cli.specs.Freshened.{no_dump, out_of_memory, unread, freshened}
 use Rattle.machine_cli.proofs.loading.loader.Goals as goal
 
-pub returns-in-Err-Fault-clause-outcome : goal.returns-in-Err-Fault-clause-outcome
-returns-in-Err-Fault-clause-outcome g c disk =
-    let tell = c.tell-in-Err-Fault in
-    let out : SinkView = record { taken = g.O.Sink.taken c.args.out.now; flushed = g.O.Sink.flushed c.args.out.now; faults = g.O.Sink.faults c.args.out.now } in
-    let note : SinkView = record { taken = g.N.Sink.taken c.args.note.now; flushed = g.N.Sink.flushed c.args.note.now; faults = g.N.Sink.faults c.args.note.now } in
-    let answer : told_by c.no_dump.result ≡ dump_told c.in-Err-Fault.fault = rw c.in-Err-Fault.field-0-is at c.no_dump.ensures.told in
-    no_dump c.in-Err-Fault.fault (record {
-      says = λ bytes left. c.read_dump.ensures.fault bytes c.in-Err-Fault.fault left (c.in-Err-Fault.is ∙ ap Err c.in-Err-Fault.field-0-is);
-      told = subst (λ (t : RunResult). IsTold t tell.result out (record { taken = g.O.Sink.taken tell.new.out; flushed = g.O.Sink.flushed tell.new.out; faults = g.O.Sink.faults tell.new.out }) note (record { taken = g.N.Sink.taken tell.new.note; flushed = g.N.Sink.flushed tell.new.note; faults = g.N.Sink.faults tell.new.note })) answer tell.ensures.told;
-      untouched = refl {a = disk};
-    })
+pub returns-in-Err-clause-outcome : goal.returns-in-Err-clause-outcome
+returns-in-Err-clause-outcome g c disk = without_dump _ _ _ c.tell.result c.in-Err.stop c.in-Err.ensures.lacks c.tell.ensures.told (refl {a = disk}) no_dump out_of_memory unread
 
 pub returns-in-Ok-make_fresh-clause-outcome : goal.returns-in-Ok-make_fresh-clause-outcome
 returns-in-Ok-make_fresh-clause-outcome g c disk =
@@ -36,7 +26,7 @@ returns-in-Ok-make_fresh-clause-outcome g c disk =
 
 pub returns-clause-outcome : goal.returns-clause-outcome
 returns-clause-outcome g c disk =
-    let tell = c.tell-in-Err in
+    let tell = c.tell-in-Err-make_fresh in
     let out : SinkView = record { taken = g.O.Sink.taken c.args.out.now; flushed = g.O.Sink.flushed c.args.out.now; faults = g.O.Sink.faults c.args.out.now } in
     let note : SinkView = record { taken = g.N.Sink.taken c.args.note.now; flushed = g.N.Sink.flushed c.args.note.now; faults = g.N.Sink.faults c.args.note.now } in
-    out_of_memory (record { told = subst (λ (t : RunResult). IsTold t tell.result out (record { taken = g.O.Sink.taken tell.new.out; flushed = g.O.Sink.flushed tell.new.out; faults = g.O.Sink.faults tell.new.out }) note (record { taken = g.N.Sink.taken tell.new.note; flushed = g.N.Sink.flushed tell.new.note; faults = g.N.Sink.faults tell.new.note })) c.no_memory-in-Err.ensures.told tell.ensures.told; untouched = refl {a = disk} })
+    out_of_memory (record { told = subst (λ (t : RunResult). IsTold t tell.result out (record { taken = g.O.Sink.taken tell.new.out; flushed = g.O.Sink.flushed tell.new.out; faults = g.O.Sink.faults tell.new.out }) note (record { taken = g.N.Sink.taken tell.new.note; flushed = g.N.Sink.flushed tell.new.note; faults = g.N.Sink.faults tell.new.note })) c.no_memory.ensures.told tell.ensures.told; untouched = refl {a = disk} })

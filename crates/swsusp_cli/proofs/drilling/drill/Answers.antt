@@ -1,5 +1,7 @@
 use Rattle.std.proofs.Common.{◌≡◌, ◌≤◌, List, [], None, length, refl, ◌∙◌, subst, ap}
+use Rattle.plain_machine.specs.Machine.{Hardware}
 use Rattle.plain_machine.specs.declared.event.Event.{Event}
+use Rattle.world_core.specs.StandsFor.{IsNew}
 use Rattle.script.specs.Drill.{drill_script, summary}
 use Rattle.script.specs.Grammar.{ScriptValue}
 use Rattle.script.specs.declared.tally.Tally.{Tally}
@@ -12,7 +14,7 @@ use Rattle.swsusp_cli.specs.Told.{IsTold}
 use Rattle.swsusp_cli.specs.View.{DiskView, SinkView}
 use Rattle.swsusp_cli.specs.declared.status.Status.TheVariants.{Done}
 use Rattle.swsusp_cli.proofs.Drilled.{drill_few_calls, drill_not_set_up, none_failed}
-use Rattle.swsusp_cli.proofs.Replays.{replies_of}
+use Rattle.swsusp_cli.proofs.Replays.{replies_of, risen_of, told_status}
 use Rattle.swsusp_cli.proofs.drilling.drill.Goals as goal
 
 pub returns-in-Err-set_up-clause-outcome : goal.returns-in-Err-set_up-clause-outcome
@@ -36,12 +38,13 @@ returns-clause-outcome g c = λ left.
     let before : DiskView = record { blocks = g.D.Disk.block_count c.args.disk.now; content = g.D.Disk.content c.args.disk.now; faults = g.D.Disk.faults c.args.disk.now; calls = g.D.Disk.calls c.args.disk.now; orders = g.D.Disk.orders c.args.disk.now } in
     let between : DiskView = record { blocks = g.D.Disk.block_count c.set_up.new.disk; content = g.D.Disk.content c.set_up.new.disk; faults = g.D.Disk.faults c.set_up.new.disk; calls = g.D.Disk.calls c.set_up.new.disk; orders = g.D.Disk.orders c.set_up.new.disk } in
     let now : DiskView = record { blocks = g.D.Disk.block_count c.play_through-tally.new.disk; content = g.D.Disk.content c.play_through-tally.new.disk; faults = g.D.Disk.faults c.play_through-tally.new.disk; calls = g.D.Disk.calls c.play_through-tally.new.disk; orders = g.D.Disk.orders c.play_through-tally.new.disk } in
-    let set = subst (λ (s : ScriptValue). IsSetUp s before between c.in-Ok-set_up.world) script_is c.in-Ok-set_up.ensures.outcome in
+    let set = subst (λ (s : ScriptValue). IsSetUp s before between) script_is c.in-Ok-set_up.ensures.outcome in
+    let new = subst (λ (s : ScriptValue). IsNew s.hardware None c.in-Ok-create.world) script_is (subst (λ (h : Hardware). IsNew h None c.in-Ok-create.world) c.hardware.ensures c.in-Ok-create.ensures) in
     let rs = c.play_through-tally.ensures.played.0 in
-    let was = subst (λ (events : List Event). HasPlayed c.in-Ok-set_up.world c.play_through-tally.new.world events rs between now) (c.events.ensures ∙ ap (λ (s : ScriptValue). s.events) script_is) c.play_through-tally.ensures.played.1 in
+    let was = subst (λ (events : List Event). HasPlayed c.in-Ok-create.world c.play_through-tally.new.world events rs between now) (c.events.ensures ∙ ap (λ (s : ScriptValue). s.events) script_is) c.play_through-tally.ensures.played.1 in
     let few = subst (λ (s : ScriptValue). length s.bad ≤ 630) script_is c.in-Ok.ensures.few_bad in
-    let replies = replies_of (drill_script number) c.in-Ok-set_up.world c.play_through-tally.new.world (drill_script number).events rs before between now
-    (g.met.D.Disk.well_formed c.args.disk.now) (g.met.D.Disk.well_formed c.set_up.new.disk) (g.met.D.Disk.well_formed c.play_through-tally.new.disk) set few was c.play_through-tally.ensures.hardware c.play_through-tally.ensures.blocks in
+    let replies = replies_of (drill_script number) c.in-Ok-create.world c.play_through-tally.new.world (drill_script number).events rs before between now
+    (g.met.D.Disk.well_formed c.args.disk.now) (g.met.D.Disk.well_formed c.set_up.new.disk) (g.met.D.Disk.well_formed c.play_through-tally.new.disk) set new few was c.play_through-tally.ensures.hardware c.play_through-tally.ensures.blocks in
     let answer : told_by c.summed.result ≡ summary_told number rs = c.summed.ensures.told ∙ ap (λ (t : Tally). record { status = Done; out = summary number t; note = [] }) c.play_through-tally.ensures.played.2 in
     summed (record {
       roomy = set.roomy;
@@ -62,6 +65,22 @@ returns-in-Err-clause-outcome g c = λ left.
       untouched = refl {a = before};
     })
 
+pub returns-in-Err-create-clause-outcome : goal.returns-in-Err-create-clause-outcome
+returns-in-Err-create-clause-outcome g c = λ left.
+    let tell = c.tell-in-Err-create in
+    let out : SinkView = record { taken = g.O.Sink.taken c.args.out.now; flushed = g.O.Sink.flushed c.args.out.now; faults = g.O.Sink.faults c.args.out.now } in
+    let note : SinkView = record { taken = g.N.Sink.taken c.args.note.now; flushed = g.N.Sink.flushed c.args.note.now; faults = g.N.Sink.faults c.args.note.now } in
+    let before : DiskView = record { blocks = g.D.Disk.block_count c.args.disk.now; content = g.D.Disk.content c.args.disk.now; faults = g.D.Disk.faults c.args.disk.now; calls = g.D.Disk.calls c.args.disk.now; orders = g.D.Disk.orders c.args.disk.now } in
+    out_of_memory (record {
+      told = subst (λ (t : RunResult). IsTold t tell.result out (record { taken = g.O.Sink.taken tell.new.out; flushed = g.O.Sink.flushed tell.new.out; faults = g.O.Sink.faults tell.new.out }) note (record { taken = g.N.Sink.taken tell.new.note; flushed = g.N.Sink.flushed tell.new.note; faults = g.N.Sink.faults tell.new.note })) c.no_memory-in-Err-create.ensures.told tell.ensures.told;
+      untouched = refl {a = before};
+    })
+
 pub returns-clause-few_calls : goal.returns-clause-few_calls
 returns-clause-few_calls g c =
     drill_few_calls c.args.number _ _ c.tell-2.result (subst (λ (s : ScriptValue). length s.events ≤ 100000) c.in-Ok.ensures.script c.in-Ok.ensures.few_events) (returns-clause-outcome g c None)
+
+pub returns-in-Err-set_up-clause-device : goal.returns-in-Err-set_up-clause-device
+returns-in-Err-set_up-clause-device g c = λ device.
+    risen_of c.in-Ok.script _ _ c.in-Err-set_up.why c.in-Err-set_up.ensures.outcome
+    (c.answer.ensures.device (told_status c.tell-in-Err-set_up.result c.answer.result.status c.tell-in-Err-set_up.ensures.status device))

@@ -1,9 +1,13 @@
-use Rattle.std.proofs.Common.{◌≡◌, ◌≤◌, ℕ, ◌+◌, List, ◌++◌, length, take, Option, refl, sym, ◌∙◌, subst, arith, length-append}
+use Rattle.std.proofs.Common.{◌≡◌, ◌≤◌, ℕ, ◌+◌, List, ◌++◌, length, take, Option, Result, Err, refl, sym, ap, ◌∙◌, subst, arith, length-append}
+use Rattle.std.proofs.lemmas.Result.{err_from_is_err_and}
 use Rattle.std.proofs.lemmas.List.{length-take-le}
-use Rattle.definitions.specs.Disk.{Content}
+use Rattle.std.specs.Prelude.{IfErr}
+use Rattle.definitions.specs.Disk.{Content, HasRisen}
 use Rattle.stream_in.specs.Session.{IsFed}
 use Rattle.stream_in.specs.Written.{AreOfMap}
+use Rattle.swsusp_cli.specs.Feeding.{Feeds, IsOfDisk}
 use Rattle.swsusp_cli.specs.View.{DiskView}
+use Rattle.swsusp_cli.specs.declared.importing.ImportStop.{ImportStop}
 use Rattle.swsusp_cli.proofs.Feeding.{bounded, handed_more, holds_more, keeps_more, called_more, stop_for, risen_from}
 use Rattle.swsusp_cli.proofs.importing.feed_input.Goals as goal
 
@@ -17,7 +21,7 @@ pieces-preserved g c =
     let size : length part ≡ count = length-take-le count read c.in-Ok.ensures.count in
     let joined : length (bs ++ part) ≡ length bs + length part = length-append bs part in
     let going = so_far.session in
-    let fed : IsFed going.0 (bs ++ part) c.feed.new.self = c.in-Ok-feed.ensures.taken going.0 bs going.1 in
+    let fed : IsFed going.0 (bs ++ part) c.feed.new.self = c.in_ok-feed.ensures.taken going.0 bs going.1 in
     let few : length (bs ++ part) ≤ 268963840 = bounded (bs ++ part) fed.taken.read.sound in
     let before : length bs ≡ c.pieces.taken = so_far.size in
     let first : Option Content = g.D.Disk.content c.args.disk.now in
@@ -39,17 +43,17 @@ pieces-preserved g c =
           let was = so_far.fed free begun of in
           let of_map = subst (λ (x : List (ℕ × ℕ × ℕ)). AreOfMap x free) (sym was.map) of in
           record {
-            fed = c.in-Ok-feed.ensures.taken free bs was.fed;
+            fed = c.in_ok-feed.ensures.taken free bs was.fed;
             handed = handed_more bs part read count (g.I.Source.remaining c.args.input.now) (g.I.Source.remaining c.pieces.input) (g.I.Source.remaining c.read_piece.new.input) refl was.handed c.in-Ok.ensures.bytes;
-            content = holds_more c.args.session.now.map c.pieces.session.map free bs part first mid last was.map was.content (c.in-Ok-feed.ensures.done free bs was.fed of_map) (c.in-Ok-feed.ensures.outside free bs was.fed);
+            content = holds_more c.args.session.now.map c.pieces.session.map free bs part first mid last was.map was.content (c.in_ok-feed.ensures.done free bs was.fed of_map) (c.in_ok-feed.ensures.outside free bs was.fed);
             called = called_more bs part d e f was.called (c.feed.ensures.calls free bs was.fed) c.feed.ensures.faults c.feed.ensures.orders c.feed.ensures.blocks;
             map = c.feed.ensures.map ∙ was.map;
             blocks = c.feed.ensures.same ∙ was.blocks;
           };
     }
 
-pub returns-in-Err-feed-clause-feeds : goal.returns-in-Err-feed-clause-feeds
-returns-in-Err-feed-clause-feeds g c free begun of =
+pub returns-in_err-feed-clause-feeds : goal.returns-in_err-feed-clause-feeds
+returns-in_err-feed-clause-feeds g c free begun of =
     let so_far = c.pieces.invariant in
     let read = c.read_piece.new.piece in
     let count = c.in-Ok.count in
@@ -67,20 +71,24 @@ returns-in-Err-feed-clause-feeds g c free begun of =
     let e : DiskView = record { blocks = g.D.Disk.block_count c.pieces.disk; content = mid; faults = g.D.Disk.faults c.pieces.disk; calls = g.D.Disk.calls c.pieces.disk; orders = g.D.Disk.orders c.pieces.disk } in
     let f : DiskView = record { blocks = g.D.Disk.block_count c.feed.new.disk; content = last; faults = g.D.Disk.faults c.feed.new.disk; calls = g.D.Disk.calls c.feed.new.disk; orders = g.D.Disk.orders c.feed.new.disk } in
     let was = so_far.fed free begun of in
-    let going = so_far.session in (
+    let going = so_far.session in
+    let p = err_from_is_err_and c.from_residual.result c.from_residual.ensures.1 in
+    subst (λ (r : Result (Unit {0}) ImportStop). Feeds free c.args.session.now c.feed.new.self (g.I.Source.remaining c.args.input.now) (g.I.Source.remaining c.read_piece.new.input) d f r) (sym (p.1 ∙ ap Err p.2)) (
       bs ++ part,
       record {
-        why_is = stop_for free (bs ++ part) c.in-Err-feed.stop c.feed.result c.in-Err-feed.is (c.in-Err-feed.ensures.stops (going.0, bs, going.1)) (c.feed.ensures.stream free bs was.fed) (c.feed.ensures.too_few free bs was.fed);
+        why_is = stop_for free (bs ++ part) c.in_err-feed.field-0.0 c.feed.result c.in_err-feed.was (c.in_err-feed.ensures.stops (going.0, bs, going.1)) (c.feed.ensures.stream free bs was.fed) (c.feed.ensures.too_few free bs was.fed);
         handed = handed_more bs part read count (g.I.Source.remaining c.args.input.now) (g.I.Source.remaining c.pieces.input) (g.I.Source.remaining c.read_piece.new.input) refl was.handed c.in-Ok.ensures.bytes;
         few = omega arith;
-        content = keeps_more c.args.session.now.map c.pieces.session.map free bs first mid last was.map was.content (c.in-Err-feed.ensures.stopped free bs was.fed);
+        content = keeps_more c.args.session.now.map c.pieces.session.map free bs first mid last was.map was.content (c.in_err-feed.ensures.stopped free bs was.fed);
         called = called_more bs part d e f was.called (c.feed.ensures.calls free bs was.fed) c.feed.ensures.faults c.feed.ensures.orders c.feed.ensures.blocks;
-        risen = λ fault. risen_from (g.D.Disk.faults c.args.disk.now) (g.D.Disk.faults c.pieces.disk) (g.D.Disk.faults c.feed.new.disk) so_far.faults (c.in-Err-feed.ensures.cause (going.0, bs, going.1) fault);
+        risen = λ fault. risen_from (g.D.Disk.faults c.args.disk.now) (g.D.Disk.faults c.pieces.disk) (g.D.Disk.faults c.feed.new.disk) so_far.faults (c.in_err-feed.ensures.cause (going.0, bs, going.1) fault);
       },
     )
 
-pub returns-in-Err-feed-clause-device : goal.returns-in-Err-feed-clause-device
-returns-in-Err-feed-clause-device g c fault =
+pub returns-in_err-feed-clause-device : goal.returns-in_err-feed-clause-device
+returns-in_err-feed-clause-device g c =
     let so_far = c.pieces.invariant in
     let going = so_far.session in
-    risen_from (g.D.Disk.faults c.args.disk.now) (g.D.Disk.faults c.pieces.disk) (g.D.Disk.faults c.feed.new.disk) so_far.faults (c.in-Err-feed.ensures.cause (going.0, so_far.bs, going.1) fault)
+    let p = err_from_is_err_and c.from_residual.result c.from_residual.ensures.1 in
+    subst (λ (r : Result (Unit {0}) ImportStop). IfErr r (λ stop. IsOfDisk stop → HasRisen (g.D.Disk.faults c.args.disk.now) (g.D.Disk.faults c.feed.new.disk))) (sym (p.1 ∙ ap Err p.2))
+    (λ fault. risen_from (g.D.Disk.faults c.args.disk.now) (g.D.Disk.faults c.pieces.disk) (g.D.Disk.faults c.feed.new.disk) so_far.faults (c.in_err-feed.ensures.cause (going.0, so_far.bs, going.1) fault))

@@ -1,52 +1,32 @@
-use Rattle.std.proofs.Common.{◌≡◌, ℕ, List, Err, sym, ◌∙◌, subst}
+use Rattle.std.proofs.Common.{◌≡◌, ℕ, List, Result, Err, sym, ap, ◌∙◌, subst}
+use Rattle.std.proofs.lemmas.Result.{err_from_is_err_and}
 use Rattle.stream_check.specs.declared.fault.StreamFault.{StreamFault}
 use Rattle.stream_in.specs.Session.{IsGoing, TakesInto}
 use Rattle.stream_in.specs.Written.{AreOfMap}
 use Rattle.stream_in.specs.declared.stop.InStop.TheVariants as stop
 use Rattle.swsusp_cli.specs.Feeding.{IsCalled}
+use Rattle.swsusp_cli.specs.Imports.{Ends}
+use Rattle.swsusp_cli.specs.declared.importing.ImportStop.{ImportStop}
 use Rattle.swsusp_cli.specs.View.{DiskView}
 use Rattle.swsusp_cli.proofs.Imported.{ends_imported, ends_unfed, ends_unfinished, has_opened}
 use Rattle.swsusp_cli.proofs.importing.import_image.Goals as goal
 
-pub returns-in-Err-feed_input-clause-ends : goal.returns-in-Err-feed_input-clause-ends
-returns-in-Err-feed_input-clause-ends g c =
+pub returns-in_err-feed_input-clause-ends : goal.returns-in_err-feed_input-clause-ends
+returns-in_err-feed_input-clause-ends g c =
     let left = g.I.Source.remaining c.args.input.now in
     let left' = g.I.Source.remaining c.feed_input.new.input in
     let d : DiskView = record { blocks = g.D.Disk.block_count c.args.disk.now; content = g.D.Disk.content c.args.disk.now; faults = g.D.Disk.faults c.args.disk.now; calls = g.D.Disk.calls c.args.disk.now; orders = g.D.Disk.orders c.args.disk.now } in
     let e : DiskView = record { blocks = g.D.Disk.block_count c.open.new.disk; content = g.D.Disk.content c.open.new.disk; faults = g.D.Disk.faults c.open.new.disk; calls = g.D.Disk.calls c.open.new.disk; orders = g.D.Disk.orders c.open.new.disk } in
     let f : DiskView = record { blocks = g.D.Disk.block_count c.feed_input.new.disk; content = g.D.Disk.content c.feed_input.new.disk; faults = g.D.Disk.faults c.feed_input.new.disk; calls = g.D.Disk.calls c.feed_input.new.disk; orders = g.D.Disk.orders c.feed_input.new.disk } in
-    let area = c.in-Ok-open.ensures.opened.0 in
-    let is = c.in-Ok-open.ensures.opened.1 in
-    let s = c.in-Ok-open.session in
+    let area = c.in_ok-session.ensures.opened.0 in
+    let is = c.in_ok-session.ensures.opened.1 in
+    let s = c.in_ok-session.session in
     let free = is.fed.0 in
     let called : IsCalled 1 d e = record { calls = c.open.ensures.calls; faults = c.open.ensures.faults; orders = c.open.ensures.orders; blocks = c.open.ensures.blocks } in
-    let opened = has_opened area s d e is c.in-Ok-open.ensures.opened.2 c.in-Ok-open.ensures.usable c.open.ensures.content called in
-    ends_unfed area free c.in-Err-feed_input.stop s c.feed_input.new.session left left' d e f opened (c.in-Err-feed_input.ensures.feeds free is.fed.3 is.fed.2)
-
-pub returns-in-Ok-finish-clause-ends : goal.returns-in-Ok-finish-clause-ends
-returns-in-Ok-finish-clause-ends g c =
-    let left = g.I.Source.remaining c.args.input.now in
-    let left' = g.I.Source.remaining c.feed_input.new.input in
-    let d : DiskView = record { blocks = g.D.Disk.block_count c.args.disk.now; content = g.D.Disk.content c.args.disk.now; faults = g.D.Disk.faults c.args.disk.now; calls = g.D.Disk.calls c.args.disk.now; orders = g.D.Disk.orders c.args.disk.now } in
-    let e : DiskView = record { blocks = g.D.Disk.block_count c.open.new.disk; content = g.D.Disk.content c.open.new.disk; faults = g.D.Disk.faults c.open.new.disk; calls = g.D.Disk.calls c.open.new.disk; orders = g.D.Disk.orders c.open.new.disk } in
-    let f : DiskView = record { blocks = g.D.Disk.block_count c.feed_input.new.disk; content = g.D.Disk.content c.feed_input.new.disk; faults = g.D.Disk.faults c.feed_input.new.disk; calls = g.D.Disk.calls c.feed_input.new.disk; orders = g.D.Disk.orders c.feed_input.new.disk } in
-    let area = c.in-Ok-open.ensures.opened.0 in
-    let is = c.in-Ok-open.ensures.opened.1 in
-    let s = c.in-Ok-open.session in
-    let free = is.fed.0 in
-    let called : IsCalled 1 d e = record { calls = c.open.ensures.calls; faults = c.open.ensures.faults; orders = c.open.ensures.orders; blocks = c.open.ensures.blocks } in
-    let opened = has_opened area s d e is c.in-Ok-open.ensures.opened.2 c.in-Ok-open.ensures.usable c.open.ensures.content called in
-    let g' : DiskView = record { blocks = g.D.Disk.block_count c.finish.new.disk; content = g.D.Disk.content c.finish.new.disk; faults = g.D.Disk.faults c.finish.new.disk; calls = g.D.Disk.calls c.finish.new.disk; orders = g.D.Disk.orders c.finish.new.disk } in
-    let fed = c.in-Ok-feed_input.ensures.feeds free is.fed.3 is.fed.2 in
-    let last : IsCalled 6 f g' = record { calls = c.finish.ensures.calls; faults = c.finish.ensures.faults; orders = c.finish.ensures.orders; blocks = c.finish.ensures.blocks } in
-    let takes : TakesInto area free fed.0 c.feed_input.new.session = record {
-      fed = fed.1.fed;
-      map_is = fed.1.map ∙ is.map_is;
-      of_map = subst (λ (m : List (ℕ × ℕ × ℕ)). AreOfMap m free) (sym fed.1.map) is.fed.2;
-      usable = is.fed.1;
-    } in
-    ends_imported area free fed.0 s c.feed_input.new.session c.finish.result c.in-Ok-finish.n left left' d e f g' opened fed.1 fed.2 c.in-Ok-finish.is (c.in-Ok-finish.ensures.saved free fed.0 fed.1.fed) (c.finish.ensures.short free fed.0 fed.1.fed)
-    (c.in-Ok-finish.ensures.marked free fed.0 fed.1.fed) (c.in-Ok-finish.ensures.holds area free fed.0 takes) last
+    let opened = has_opened area s d e is c.in_ok-session.ensures.opened.2 c.in_ok-session.ensures.usable c.open.ensures.content called in
+    let p = err_from_is_err_and c.from_residual-in_err-feed_input.result c.from_residual-in_err-feed_input.ensures.1 in
+    subst (λ (r : Result ℕ ImportStop). Ends left left' d f r) (sym (p.1 ∙ ap Err p.2))
+    (ends_unfed area free c.in_err-feed_input.field-0.0 s c.feed_input.new.session left left' d e f opened (c.in_err-feed_input.ensures.feeds free is.fed.3 is.fed.2))
 
 pub returns-clause-ends : goal.returns-clause-ends
 returns-clause-ends g c =
@@ -55,16 +35,43 @@ returns-clause-ends g c =
     let d : DiskView = record { blocks = g.D.Disk.block_count c.args.disk.now; content = g.D.Disk.content c.args.disk.now; faults = g.D.Disk.faults c.args.disk.now; calls = g.D.Disk.calls c.args.disk.now; orders = g.D.Disk.orders c.args.disk.now } in
     let e : DiskView = record { blocks = g.D.Disk.block_count c.open.new.disk; content = g.D.Disk.content c.open.new.disk; faults = g.D.Disk.faults c.open.new.disk; calls = g.D.Disk.calls c.open.new.disk; orders = g.D.Disk.orders c.open.new.disk } in
     let f : DiskView = record { blocks = g.D.Disk.block_count c.feed_input.new.disk; content = g.D.Disk.content c.feed_input.new.disk; faults = g.D.Disk.faults c.feed_input.new.disk; calls = g.D.Disk.calls c.feed_input.new.disk; orders = g.D.Disk.orders c.feed_input.new.disk } in
-    let area = c.in-Ok-open.ensures.opened.0 in
-    let is = c.in-Ok-open.ensures.opened.1 in
-    let s = c.in-Ok-open.session in
+    let area = c.in_ok-session.ensures.opened.0 in
+    let is = c.in_ok-session.ensures.opened.1 in
+    let s = c.in_ok-session.session in
     let free = is.fed.0 in
     let called : IsCalled 1 d e = record { calls = c.open.ensures.calls; faults = c.open.ensures.faults; orders = c.open.ensures.orders; blocks = c.open.ensures.blocks } in
-    let opened = has_opened area s d e is c.in-Ok-open.ensures.opened.2 c.in-Ok-open.ensures.usable c.open.ensures.content called in
+    let opened = has_opened area s d e is c.in_ok-session.ensures.opened.2 c.in_ok-session.ensures.usable c.open.ensures.content called in
     let g' : DiskView = record { blocks = g.D.Disk.block_count c.finish.new.disk; content = g.D.Disk.content c.finish.new.disk; faults = g.D.Disk.faults c.finish.new.disk; calls = g.D.Disk.calls c.finish.new.disk; orders = g.D.Disk.orders c.finish.new.disk } in
-    let fed = c.in-Ok-feed_input.ensures.feeds free is.fed.3 is.fed.2 in
+    let fed = c.in_ok-feed_input.ensures.feeds free is.fed.3 is.fed.2 in
+    let last : IsCalled 6 f g' = record { calls = c.finish.ensures.calls; faults = c.finish.ensures.faults; orders = c.finish.ensures.orders; blocks = c.finish.ensures.blocks } in
+    let takes : TakesInto area free fed.0 c.feed_input.new.session = record {
+      fed = fed.1.fed;
+      map_is = fed.1.map ∙ is.map_is;
+      of_map = subst (λ (m : List (ℕ × ℕ × ℕ)). AreOfMap m free) (sym fed.1.map) is.fed.2;
+      usable = is.fed.1;
+    } in
+    ends_imported area free fed.0 s c.feed_input.new.session c.finish.result c.in_ok-finish.field-0 left left' d e f g' opened fed.1 fed.2 c.in_ok-finish.was (c.in_ok-finish.ensures.saved free fed.0 fed.1.fed) (c.finish.ensures.short free fed.0 fed.1.fed)
+    (c.in_ok-finish.ensures.marked free fed.0 fed.1.fed) (c.in_ok-finish.ensures.holds area free fed.0 takes) last
+
+pub returns-in_err-finish-clause-ends : goal.returns-in_err-finish-clause-ends
+returns-in_err-finish-clause-ends g c =
+    let left = g.I.Source.remaining c.args.input.now in
+    let left' = g.I.Source.remaining c.feed_input.new.input in
+    let d : DiskView = record { blocks = g.D.Disk.block_count c.args.disk.now; content = g.D.Disk.content c.args.disk.now; faults = g.D.Disk.faults c.args.disk.now; calls = g.D.Disk.calls c.args.disk.now; orders = g.D.Disk.orders c.args.disk.now } in
+    let e : DiskView = record { blocks = g.D.Disk.block_count c.open.new.disk; content = g.D.Disk.content c.open.new.disk; faults = g.D.Disk.faults c.open.new.disk; calls = g.D.Disk.calls c.open.new.disk; orders = g.D.Disk.orders c.open.new.disk } in
+    let f : DiskView = record { blocks = g.D.Disk.block_count c.feed_input.new.disk; content = g.D.Disk.content c.feed_input.new.disk; faults = g.D.Disk.faults c.feed_input.new.disk; calls = g.D.Disk.calls c.feed_input.new.disk; orders = g.D.Disk.orders c.feed_input.new.disk } in
+    let area = c.in_ok-session.ensures.opened.0 in
+    let is = c.in_ok-session.ensures.opened.1 in
+    let s = c.in_ok-session.session in
+    let free = is.fed.0 in
+    let called : IsCalled 1 d e = record { calls = c.open.ensures.calls; faults = c.open.ensures.faults; orders = c.open.ensures.orders; blocks = c.open.ensures.blocks } in
+    let opened = has_opened area s d e is c.in_ok-session.ensures.opened.2 c.in_ok-session.ensures.usable c.open.ensures.content called in
+    let g' : DiskView = record { blocks = g.D.Disk.block_count c.finish.new.disk; content = g.D.Disk.content c.finish.new.disk; faults = g.D.Disk.faults c.finish.new.disk; calls = g.D.Disk.calls c.finish.new.disk; orders = g.D.Disk.orders c.finish.new.disk } in
+    let fed = c.in_ok-feed_input.ensures.feeds free is.fed.3 is.fed.2 in
     let last : IsCalled 6 f g' = record { calls = c.finish.ensures.calls; faults = c.finish.ensures.faults; orders = c.finish.ensures.orders; blocks = c.finish.ensures.blocks } in
     let going : IsGoing c.feed_input.new.session = (free, fed.0, fed.1.fed) in
     let untouched : (fault : StreamFault) → c.finish.result ≡ Err (stop.Stream fault) → g' ≡ f = λ fault is. let same = c.finish.ensures.untouched fault is in cc in
-    ends_unfinished area free fed.0 s c.feed_input.new.session c.finish.result c.in-Err-finish.stop left left' d e f g' opened fed.1 fed.2 c.in-Err-finish.is (c.in-Err-finish.ensures.stops going) (c.finish.ensures.short free fed.0 fed.1.fed)
-    (c.in-Err-finish.ensures.no_swap going) untouched (c.in-Err-finish.ensures.leaves going) last (c.in-Err-finish.ensures.cause going)
+    let p = err_from_is_err_and c.from_residual-in_err-finish.result c.from_residual-in_err-finish.ensures.1 in
+    subst (λ (r : Result ℕ ImportStop). Ends left left' d g' r) (sym (p.1 ∙ ap Err p.2))
+    (ends_unfinished area free fed.0 s c.feed_input.new.session c.finish.result c.in_err-finish.field-0.0 left left' d e f g' opened fed.1 fed.2 c.in_err-finish.was (c.in_err-finish.ensures.stops going) (c.finish.ensures.short free fed.0 fed.1.fed)
+    (c.in_err-finish.ensures.no_swap going) untouched (c.in_err-finish.ensures.leaves going) last (c.in_err-finish.ensures.cause going))

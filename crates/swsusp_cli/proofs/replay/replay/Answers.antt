@@ -1,35 +1,37 @@
-use Rattle.std.proofs.Common.{◌≡◌, inl, inr, List, refl, subst, take}
+use Rattle.std.proofs.Common.{◌≡◌, inl, inr, List, None, refl, subst, take}
+use Rattle.plain_machine.specs.Machine.{Hardware}
 use Rattle.plain_machine.specs.declared.event.Event.{Event}
+use Rattle.world_core.specs.StandsFor.{IsNew}
 use Rattle.swsusp_cli.specs.Answer.{RunResult}
-use Rattle.swsusp_cli.specs.AnswerOf.{told_by}
-use Rattle.swsusp_cli.specs.Outcome.{cut_off, fault_told, no_script}
+use Rattle.swsusp_cli.specs.Outcome.{cut_off, no_script, out_of_memory, unread}
 use Rattle.swsusp_cli.specs.Playing.{HasPlayed}
 use Rattle.swsusp_cli.specs.Told.{IsTold}
 use Rattle.swsusp_cli.specs.View.{DiskView, SinkView}
-use Rattle.swsusp_cli.proofs.Replays.{not_set_up, replies_of, played_whole}
+use Rattle.swsusp_cli.proofs.Replays.{not_set_up, replies_of, risen_of, played_whole, told_status}
+use Rattle.swsusp_cli.proofs.Inputs.{without_script}
 use Rattle.swsusp_cli.proofs.Turns.{risen_earlier}
 use Rattle.swsusp_cli.proofs.replay.replay.Goals as goal
 
-pub returns-in-Err-Script-clause-outcome : goal.returns-in-Err-Script-clause-outcome
-returns-in-Err-Script-clause-outcome g c =
-    let tell = c.tell-in-Err-Script in
+pub returns-in-Err-clause-outcome : goal.returns-in-Err-clause-outcome
+returns-in-Err-clause-outcome g c = without_script _ _ _ c.tell.result c.in-Err.stop c.in-Err.ensures.ready c.tell.ensures.told refl no_script out_of_memory unread
+
+pub returns-in-Err-create-clause-outcome : goal.returns-in-Err-create-clause-outcome
+returns-in-Err-create-clause-outcome g c =
+    let tell = c.tell-in-Err-create in
     let out : SinkView = record { taken = g.O.Sink.taken c.args.out.now; flushed = g.O.Sink.flushed c.args.out.now; faults = g.O.Sink.faults c.args.out.now } in
-    let before : DiskView = record { blocks = g.D.Disk.block_count c.args.disk.now; content = g.D.Disk.content c.args.disk.now; faults = g.D.Disk.faults c.args.disk.now; calls = g.D.Disk.calls c.args.disk.now; orders = g.D.Disk.orders c.args.disk.now } in
     let note : SinkView = record { taken = g.N.Sink.taken c.args.note.now; flushed = g.N.Sink.flushed c.args.note.now; faults = g.N.Sink.faults c.args.note.now } in
-    let ready = rw c.in-Err-Script.field-0-is at c.in-Err-Script.ensures.ready in
-    let answer : told_by c.no_script.result ≡ fault_told c.in-Err-Script.fault = rw c.in-Err-Script.field-0-is at c.no_script.ensures.told in
-    no_script c.in-Err-Script.fault (record {
-      says = ready;
-      told = subst (λ (t : RunResult). IsTold t tell.result out (record { taken = g.O.Sink.taken tell.new.out; flushed = g.O.Sink.flushed tell.new.out; faults = g.O.Sink.faults tell.new.out }) note (record { taken = g.N.Sink.taken tell.new.note; flushed = g.N.Sink.flushed tell.new.note; faults = g.N.Sink.faults tell.new.note })) answer tell.ensures.told;
+    let before : DiskView = record { blocks = g.D.Disk.block_count c.args.disk.now; content = g.D.Disk.content c.args.disk.now; faults = g.D.Disk.faults c.args.disk.now; calls = g.D.Disk.calls c.args.disk.now; orders = g.D.Disk.orders c.args.disk.now } in
+    out_of_memory (record {
+      told = subst (λ (t : RunResult). IsTold t tell.result out (record { taken = g.O.Sink.taken tell.new.out; flushed = g.O.Sink.flushed tell.new.out; faults = g.O.Sink.faults tell.new.out }) note (record { taken = g.N.Sink.taken tell.new.note; flushed = g.N.Sink.flushed tell.new.note; faults = g.N.Sink.faults tell.new.note })) c.no_memory.ensures.told tell.ensures.told;
       untouched = refl {a = before};
     })
 
-pub returns-in-Err-clause-outcome : goal.returns-in-Err-clause-outcome
-returns-in-Err-clause-outcome g c =
-    let tell = c.tell-in-Err in
+pub returns-in-Err-set_up-clause-outcome : goal.returns-in-Err-set_up-clause-outcome
+returns-in-Err-set_up-clause-outcome g c =
+    let tell = c.tell-in-Err-set_up in
     let out : SinkView = record { taken = g.O.Sink.taken c.args.out.now; flushed = g.O.Sink.flushed c.args.out.now; faults = g.O.Sink.faults c.args.out.now } in
     let note : SinkView = record { taken = g.N.Sink.taken c.args.note.now; flushed = g.N.Sink.flushed c.args.note.now; faults = g.N.Sink.faults c.args.note.now } in
-    not_set_up _ _ tell.result c.in-Ok.script c.in-Err.why (record { says = c.in-Ok.ensures.ready.0; over = c.in-Ok.ensures.ready.1; few = c.in-Ok.ensures.few }) c.in-Err.ensures.outcome
+    not_set_up _ _ tell.result c.in-Ok.script c.in-Err-set_up.why (record { says = c.in-Ok.ensures.ready.0; over = c.in-Ok.ensures.ready.1; few = c.in-Ok.ensures.few }) c.in-Err-set_up.ensures.outcome
     (subst (λ (t : RunResult). IsTold t tell.result out (record { taken = g.O.Sink.taken tell.new.out; flushed = g.O.Sink.flushed tell.new.out; faults = g.O.Sink.faults tell.new.out }) note (record { taken = g.N.Sink.taken tell.new.note; flushed = g.N.Sink.flushed tell.new.note; faults = g.N.Sink.faults tell.new.note })) c.answer.ensures.told tell.ensures.told)
 
 pub returns-in-Ok-play-clause-outcome : goal.returns-in-Ok-play-clause-outcome
@@ -39,13 +41,14 @@ returns-in-Ok-play-clause-outcome g c =
     let note : SinkView = record { taken = g.N.Sink.taken c.args.note.now; flushed = g.N.Sink.flushed c.args.note.now; faults = g.N.Sink.faults c.args.note.now } in
     let script = c.in-Ok.script in
     let set = c.in-Ok-set_up.ensures.outcome in
+    let new = subst (λ (h : Hardware). IsNew h None c.in-Ok-create.world) c.hardware.ensures c.in-Ok-create.ensures in
     let before : DiskView = record { blocks = g.D.Disk.block_count c.args.disk.now; content = g.D.Disk.content c.args.disk.now; faults = g.D.Disk.faults c.args.disk.now; calls = g.D.Disk.calls c.args.disk.now; orders = g.D.Disk.orders c.args.disk.now } in
     let between : DiskView = record { blocks = g.D.Disk.block_count c.set_up.new.disk; content = g.D.Disk.content c.set_up.new.disk; faults = g.D.Disk.faults c.set_up.new.disk; calls = g.D.Disk.calls c.set_up.new.disk; orders = g.D.Disk.orders c.set_up.new.disk } in
     let now : DiskView = record { blocks = g.D.Disk.block_count c.play.new.disk; content = g.D.Disk.content c.play.new.disk; faults = g.D.Disk.faults c.play.new.disk; calls = g.D.Disk.calls c.play.new.disk; orders = g.D.Disk.orders c.play.new.disk } in
     let rs = c.in-Ok-play.ensures.played.0 in
-    let was = subst (λ (events : List Event). HasPlayed c.in-Ok-set_up.world c.play.new.world events rs between now) c.events.ensures c.in-Ok-play.ensures.played.1 in
-    let replies = replies_of script c.in-Ok-set_up.world c.play.new.world script.events rs before between now
-    (g.met.D.Disk.well_formed c.args.disk.now) (g.met.D.Disk.well_formed c.set_up.new.disk) (g.met.D.Disk.well_formed c.play.new.disk) set c.in-Ok.ensures.few_bad was c.play.ensures.hardware c.play.ensures.blocks in
+    let was = subst (λ (events : List Event). HasPlayed c.in-Ok-create.world c.play.new.world events rs between now) c.events.ensures c.in-Ok-play.ensures.played.1 in
+    let replies = replies_of script c.in-Ok-create.world c.play.new.world script.events rs before between now
+    (g.met.D.Disk.well_formed c.args.disk.now) (g.met.D.Disk.well_formed c.set_up.new.disk) (g.met.D.Disk.well_formed c.play.new.disk) set new c.in-Ok.ensures.few_bad was c.play.ensures.hardware c.play.ensures.blocks in
     played_whole _ _ tell.result script out rs (record { says = c.in-Ok.ensures.ready.0; over = c.in-Ok.ensures.ready.1; few = c.in-Ok.ensures.few }) set.roomy replies c.in-Ok-play.ensures.played.2
     (subst (λ (t : RunResult). IsTold t tell.result out (record { taken = g.O.Sink.taken tell.new.out; flushed = g.O.Sink.flushed tell.new.out; faults = g.O.Sink.faults tell.new.out }) note (record { taken = g.N.Sink.taken tell.new.note; flushed = g.N.Sink.flushed tell.new.note; faults = g.N.Sink.faults tell.new.note })) c.done.ensures.told tell.ensures.told)
 
@@ -53,14 +56,15 @@ pub returns-clause-outcome : goal.returns-clause-outcome
 returns-clause-outcome g c =
     let script = c.in-Ok.script in
     let set = c.in-Ok-set_up.ensures.outcome in
+    let new = subst (λ (h : Hardware). IsNew h None c.in-Ok-create.world) c.hardware.ensures c.in-Ok-create.ensures in
     let before : DiskView = record { blocks = g.D.Disk.block_count c.args.disk.now; content = g.D.Disk.content c.args.disk.now; faults = g.D.Disk.faults c.args.disk.now; calls = g.D.Disk.calls c.args.disk.now; orders = g.D.Disk.orders c.args.disk.now } in
     let between : DiskView = record { blocks = g.D.Disk.block_count c.set_up.new.disk; content = g.D.Disk.content c.set_up.new.disk; faults = g.D.Disk.faults c.set_up.new.disk; calls = g.D.Disk.calls c.set_up.new.disk; orders = g.D.Disk.orders c.set_up.new.disk } in
     let now : DiskView = record { blocks = g.D.Disk.block_count c.play.new.disk; content = g.D.Disk.content c.play.new.disk; faults = g.D.Disk.faults c.play.new.disk; calls = g.D.Disk.calls c.play.new.disk; orders = g.D.Disk.orders c.play.new.disk } in
     let k = c.in-Err-play.ensures.played.0 in
     let rs = c.in-Err-play.ensures.played.1 in
-    let was = subst (λ (events : List Event). HasPlayed c.in-Ok-set_up.world c.play.new.world (take k events) rs between now) c.events.ensures c.in-Err-play.ensures.played.2 in
-    let replies = replies_of script c.in-Ok-set_up.world c.play.new.world (take k script.events) rs before between now
-    (g.met.D.Disk.well_formed c.args.disk.now) (g.met.D.Disk.well_formed c.set_up.new.disk) (g.met.D.Disk.well_formed c.play.new.disk) set c.in-Ok.ensures.few_bad was c.play.ensures.hardware c.play.ensures.blocks in
+    let was = subst (λ (events : List Event). HasPlayed c.in-Ok-create.world c.play.new.world (take k events) rs between now) c.events.ensures c.in-Err-play.ensures.played.2 in
+    let replies = replies_of script c.in-Ok-create.world c.play.new.world (take k script.events) rs before between now
+    (g.met.D.Disk.well_formed c.args.disk.now) (g.met.D.Disk.well_formed c.set_up.new.disk) (g.met.D.Disk.well_formed c.play.new.disk) set new c.in-Ok.ensures.few_bad was c.play.ensures.hardware c.play.ensures.blocks in
     cut_off script (record {
       script_is = record { says = c.in-Ok.ensures.ready.0; over = c.in-Ok.ensures.ready.1; few = c.in-Ok.ensures.few };
       roomy = set.roomy;
@@ -74,3 +78,8 @@ returns-in-Ok-play-clause-stream g c = λ stream. inr (elim (c.tell-in-Ok-play.e
 
 pub returns-clause-stream : goal.returns-clause-stream
 returns-clause-stream g c = λ stream. inr (inl c.in-Err-play.ensures.stream)
+
+pub returns-in-Err-set_up-clause-device : goal.returns-in-Err-set_up-clause-device
+returns-in-Err-set_up-clause-device g c = λ device.
+    risen_of c.in-Ok.script _ _ c.in-Err-set_up.why c.in-Err-set_up.ensures.outcome
+    (c.answer.ensures.device (told_status c.tell-in-Err-set_up.result c.answer.result.status c.tell-in-Err-set_up.ensures.status device))

@@ -1,35 +1,24 @@
-use Rattle.std.proofs.Common.{◌≡◌, Err, refl, sym, ap, ◌∙◌, subst, inr}
+use Rattle.std.proofs.Common.{◌≡◌, refl, sym, subst, inr}
 use Rattle.dump_file.specs.Dump.{DumpValue}
 use Rattle.swsusp_cli.specs.Answer.{RunResult}
-use Rattle.swsusp_cli.specs.AnswerOf.{told_by}
-use Rattle.swsusp_cli.specs.Dumps.{dump_told}
-use Rattle.swsusp_cli.specs.Loads.{no_dump, out_of_memory, answered}
+use Rattle.swsusp_cli.specs.Loads.{no_dump, out_of_memory, unread, answered}
 use Rattle.swsusp_cli.specs.Told.{IsTold}
 use Rattle.swsusp_cli.specs.View.{DiskView, SinkView}
 use Rattle.swsusp_cli.proofs.Dumped.{resumed_as, loads_as, loads_untouched}
+use Rattle.swsusp_cli.proofs.Inputs.{without_dump}
 use Rattle.swsusp_cli.proofs.resuming.resume_dump.Goals as goal
 
-pub returns-in-Err-Fault-clause-outcome : goal.returns-in-Err-Fault-clause-outcome
-returns-in-Err-Fault-clause-outcome g c =
-    let tell = c.tell-in-Err-Fault in
-    let out : SinkView = record { taken = g.O.Sink.taken c.args.out.now; flushed = g.O.Sink.flushed c.args.out.now; faults = g.O.Sink.faults c.args.out.now } in
-    let note : SinkView = record { taken = g.N.Sink.taken c.args.note.now; flushed = g.N.Sink.flushed c.args.note.now; faults = g.N.Sink.faults c.args.note.now } in
-    let before : DiskView = record { blocks = g.D.Disk.block_count c.args.disk.now; content = g.D.Disk.content c.args.disk.now; faults = g.D.Disk.faults c.args.disk.now; calls = g.D.Disk.calls c.args.disk.now; orders = g.D.Disk.orders c.args.disk.now } in
-    let answer : told_by c.no_dump.result ≡ dump_told c.in-Err-Fault.fault = rw c.in-Err-Fault.field-0-is at c.no_dump.ensures.told in
-    no_dump c.in-Err-Fault.fault (record {
-      says = λ bytes left. c.read_dump.ensures.fault bytes c.in-Err-Fault.fault left (c.in-Err-Fault.is ∙ ap Err c.in-Err-Fault.field-0-is);
-      told = subst (λ (t : RunResult). IsTold t tell.result out (record { taken = g.O.Sink.taken tell.new.out; flushed = g.O.Sink.flushed tell.new.out; faults = g.O.Sink.faults tell.new.out }) note (record { taken = g.N.Sink.taken tell.new.note; flushed = g.N.Sink.flushed tell.new.note; faults = g.N.Sink.faults tell.new.note })) answer tell.ensures.told;
-      untouched = refl {a = before};
-    })
-
 pub returns-in-Err-clause-outcome : goal.returns-in-Err-clause-outcome
-returns-in-Err-clause-outcome g c =
-    let tell = c.tell-in-Err in
+returns-in-Err-clause-outcome g c = without_dump _ _ _ c.tell.result c.in-Err.stop c.in-Err.ensures.lacks c.tell.ensures.told refl no_dump out_of_memory unread
+
+pub returns-in-Err-machine_of-clause-outcome : goal.returns-in-Err-machine_of-clause-outcome
+returns-in-Err-machine_of-clause-outcome g c =
+    let tell = c.tell-in-Err-machine_of in
     let out : SinkView = record { taken = g.O.Sink.taken c.args.out.now; flushed = g.O.Sink.flushed c.args.out.now; faults = g.O.Sink.faults c.args.out.now } in
     let note : SinkView = record { taken = g.N.Sink.taken c.args.note.now; flushed = g.N.Sink.flushed c.args.note.now; faults = g.N.Sink.faults c.args.note.now } in
     let before : DiskView = record { blocks = g.D.Disk.block_count c.args.disk.now; content = g.D.Disk.content c.args.disk.now; faults = g.D.Disk.faults c.args.disk.now; calls = g.D.Disk.calls c.args.disk.now; orders = g.D.Disk.orders c.args.disk.now } in
     out_of_memory (record {
-      told = subst (λ (t : RunResult). IsTold t tell.result out (record { taken = g.O.Sink.taken tell.new.out; flushed = g.O.Sink.flushed tell.new.out; faults = g.O.Sink.faults tell.new.out }) note (record { taken = g.N.Sink.taken tell.new.note; flushed = g.N.Sink.flushed tell.new.note; faults = g.N.Sink.faults tell.new.note })) c.no_memory-in-Err.ensures.told tell.ensures.told;
+      told = subst (λ (t : RunResult). IsTold t tell.result out (record { taken = g.O.Sink.taken tell.new.out; flushed = g.O.Sink.flushed tell.new.out; faults = g.O.Sink.faults tell.new.out }) note (record { taken = g.N.Sink.taken tell.new.note; flushed = g.N.Sink.flushed tell.new.note; faults = g.N.Sink.faults tell.new.note })) c.no_memory.ensures.told tell.ensures.told;
       untouched = refl {a = before};
     })
 
@@ -52,17 +41,11 @@ returns-clause-outcome g c =
 pub returns-clause-stream : goal.returns-clause-stream
 returns-clause-stream g c = λ is. inr (c.tell_end.ensures.stream is)
 
-pub returns-in-Err-SourceFault-clause-inside : goal.returns-in-Err-SourceFault-clause-inside
-returns-in-Err-SourceFault-clause-inside g c = λ tells. loads_untouched (g.I.Source.remaining c.args.input.now) (g.D.Disk.content c.args.disk.now) (g.D.Disk.left_since c.args.disk.now (g.D.Disk.moment c.args.disk.now)) (λ w left. g.met.D.Disk.only_now c.args.disk.now w tells left)
-
-pub returns-in-Err-NoMemory-clause-inside : goal.returns-in-Err-NoMemory-clause-inside
-returns-in-Err-NoMemory-clause-inside g c = λ tells. loads_untouched (g.I.Source.remaining c.args.input.now) (g.D.Disk.content c.args.disk.now) (g.D.Disk.left_since c.args.disk.now (g.D.Disk.moment c.args.disk.now)) (λ w left. g.met.D.Disk.only_now c.args.disk.now w tells left)
-
-pub returns-in-Err-Fault-clause-inside : goal.returns-in-Err-Fault-clause-inside
-returns-in-Err-Fault-clause-inside g c = λ tells. loads_untouched (g.I.Source.remaining c.args.input.now) (g.D.Disk.content c.args.disk.now) (g.D.Disk.left_since c.args.disk.now (g.D.Disk.moment c.args.disk.now)) (λ w left. g.met.D.Disk.only_now c.args.disk.now w tells left)
-
 pub returns-in-Err-clause-inside : goal.returns-in-Err-clause-inside
 returns-in-Err-clause-inside g c = λ tells. loads_untouched (g.I.Source.remaining c.args.input.now) (g.D.Disk.content c.args.disk.now) (g.D.Disk.left_since c.args.disk.now (g.D.Disk.moment c.args.disk.now)) (λ w left. g.met.D.Disk.only_now c.args.disk.now w tells left)
+
+pub returns-in-Err-machine_of-clause-inside : goal.returns-in-Err-machine_of-clause-inside
+returns-in-Err-machine_of-clause-inside g c = λ tells. loads_untouched (g.I.Source.remaining c.args.input.now) (g.D.Disk.content c.args.disk.now) (g.D.Disk.left_since c.args.disk.now (g.D.Disk.moment c.args.disk.now)) (λ w left. g.met.D.Disk.only_now c.args.disk.now w tells left)
 
 pub returns-clause-inside : goal.returns-clause-inside
 returns-clause-inside g c = λ tells.

@@ -1,9 +1,13 @@
-use Rattle.std.proofs.Common.{◌≡◌, ◌≤◌, ◌<◌, ℕ, List, None, refl, subst, arith}
+use Rattle.std.proofs.Common.{◌≡◌, ◌≤◌, ◌<◌, ℕ, List, Result, Err, refl, sym, ap, ◌∙◌, subst, arith}
+use Rattle.std.specs.Prelude.{MatchResult}
+use Rattle.std.proofs.lemmas.Result.{err_from_is_err_and}
 use Rattle.definitions.specs.Disk as disk
 use Rattle.plain_machine.specs.Machine.{Hardware, IsHardware, block_of_slot}
 use Rattle.script.specs.Grammar.{ScriptValue}
-use Rattle.world_core.specs.StandsFor.{IsNew}
 use Rattle.swsusp_cli.specs.Formatting.{Formats, FailsToFormat, IsNeeded, LieBelow}
+use Rattle.swsusp_cli.specs.SettingUp.{FailsToSetUp, IsNotSetUp, IsSetUp}
+use Rattle.swsusp_cli.specs.View.{DiskView}
+use Rattle.swsusp_cli.specs.declared.setting_up.Unready.{Unready}
 use Rattle.swsusp_cli.proofs.setting_up.set_up.Goals as goal
 
 -- what holds of the settings as they are lent holds of the script's
@@ -37,25 +41,28 @@ returns-then-blocks-need g c =
       };
     }
 
-pub returns-in-Err-format : goal.returns-in-Err-format
-returns-in-Err-format g c =
+pub returns-in_err-format : goal.returns-in_err-format
+returns-in_err-format g c =
+    let p = err_from_is_err_and c.from_residual.result c.from_residual.ensures.1 in
+    let call = c.in_err-format.field-0.0 in
     let script = c.args.script.now in
     let blocks_is = c.blocks-blocks.ensures in
     let above = c.if-blocks-need.false in
     let hw = c.hardware-hw.ensures in
     let needed = subst (λ (h : Hardware). IsNeeded h c.blocks_needed-need.result) hw c.blocks_needed-need.ensures.need in
-    record {
-      outcome = record {
+    let before : DiskView = record { blocks = g.D.Disk.block_count c.args.disk.now; content = g.D.Disk.content c.args.disk.now; faults = g.D.Disk.faults c.args.disk.now; calls = g.D.Disk.calls c.args.disk.now; orders = g.D.Disk.orders c.args.disk.now } in
+    let after : DiskView = record { blocks = g.D.Disk.block_count c.format.new.disk; content = g.D.Disk.content c.format.new.disk; faults = g.D.Disk.faults c.format.new.disk; calls = g.D.Disk.calls c.format.new.disk; orders = g.D.Disk.orders c.format.new.disk } in
+    let fails : FailsToSetUp script before after call = record {
         roomy = lie_below script.hardware c.blocks_needed-need.result (g.D.Disk.block_count c.args.disk.now) needed (omega arith);
-        risen = c.in-Err-format.ensures.cause refl;
-        calls = c.in-Err-format.ensures.calls;
-        content = formatted_by (λ h last bad. disk.Changes (FailsToFormat h last bad c.in-Err-format.call) (g.D.Disk.content c.args.disk.now) (g.D.Disk.content c.format.new.disk)) script hw c.last.ensures c.bad.ensures c.in-Err-format.ensures.content;
+        risen = c.in_err-format.ensures.cause refl;
+        calls = c.in_err-format.ensures.calls;
+        content = formatted_by (λ h last bad. disk.Changes (FailsToFormat h last bad call) (g.D.Disk.content c.args.disk.now) (g.D.Disk.content c.format.new.disk)) script hw c.last.ensures c.bad.ensures c.in_err-format.ensures.content;
         orders = c.format.ensures.orders;
-      };
-    }
+      } in
+    record { outcome = subst (λ (r : Result (Unit {0}) Unready). MatchResult r (λ done. IsSetUp script before after) (IsNotSetUp script before after)) (sym (p.1 ∙ ap Err p.2)) fails }
 
-pub returns-in-Ok-format : goal.returns-in-Ok-format
-returns-in-Ok-format g c =
+pub returns : goal.returns
+returns g c =
     let script = c.args.script.now in
     let blocks_is = c.blocks-blocks.ensures in
     let above = c.if-blocks-need.false in
@@ -64,11 +71,10 @@ returns-in-Ok-format g c =
     record {
       outcome = record {
         hardware = subst IsHardware hw c.blocks_needed-need.ensures.hardware;
-        new = subst (λ (h : Hardware). IsNew h None c.in-Ok.world) hw c.in-Ok.ensures;
         roomy = lie_below script.hardware c.blocks_needed-need.result (g.D.Disk.block_count c.args.disk.now) needed (omega arith);
-        formats = formatted_by (λ h last bad. disk.Changes (Formats h last bad) (g.D.Disk.content c.args.disk.now) (g.D.Disk.content c.format.new.disk)) script hw c.last.ensures c.bad.ensures c.in-Ok-format.ensures.content;
+        formats = formatted_by (λ h last bad. disk.Changes (Formats h last bad) (g.D.Disk.content c.args.disk.now) (g.D.Disk.content c.format.new.disk)) script hw c.last.ensures c.bad.ensures c.in_ok-format.ensures.content;
         faults = c.format.ensures.faults;
-        calls = c.in-Ok-format.ensures.calls;
+        calls = c.in_ok-format.ensures.calls;
         orders = c.format.ensures.orders;
       };
     }

@@ -1,0 +1,55 @@
+-- Why a command has no script or no dump to work on, and what is told of it.
+use Rattle.std.specs.Prelude.{◌≡◌, ℕ, List, Option, Some, Err, ⊤}
+use Rattle.dump_file.specs.Dump.{dump_of}
+use Rattle.dump_file.specs.declared.dump.DumpStop.{DumpStop}
+use Rattle.dump_file.specs.declared.dump.DumpStop.TheVariants as of_dump
+use Rattle.script.specs.Grammar.{script_of}
+use Rattle.script.specs.declared.fault.ParseStop.{ParseStop}
+use Rattle.script.specs.declared.fault.ParseStop.TheVariants as of_parse
+use Rattle.swsusp_cli.specs.Answer.{memory_told}
+use Rattle.swsusp_cli.specs.Dumps.{dump_told}
+use Rattle.swsusp_cli.specs.Outcome.{fault_told}
+use Rattle.swsusp_cli.specs.Replay.{unread_note}
+use Rattle.swsusp_cli.specs.Told.{IsTold, IsTried}
+use Rattle.swsusp_cli.specs.View.{SinkView}
+use Rattle.swsusp_cli.specs.declared.reading.ReadStop.{ReadStop}
+use Rattle.swsusp_cli.specs.declared.reading.ReadStop.TheVariants as of_read
+use Rattle.swsusp_cli.specs.declared.status.Status.{Status}
+use Rattle.swsusp_cli.specs.declared.status.Status.TheVariants.{Stream}
+use Rattle.swsusp_cli.specs.declared.stop.Stop.{Stop}
+use Rattle.swsusp_cli.specs.declared.stop.Stop.TheVariants.{Source, Memory, Script, Dump}
+
+-- what becomes of a call's own error
+abbrev pub read_stop : ReadStop → Stop
+read_stop of_read.Fault = Source
+read_stop of_read.NoMemory = Memory
+
+abbrev pub parse_stop : ParseStop → Stop
+parse_stop (of_parse.Fault fault) = Script fault
+parse_stop of_parse.NoMemory = Memory
+
+abbrev pub dump_stop : DumpStop → Stop
+dump_stop (of_dump.Fault fault) = Dump fault
+dump_stop of_dump.SourceFault = Source
+dump_stop of_dump.NoMemory = Memory
+
+-- what was left, where it is told, is no script: it has this first fault
+abbrev pub LacksScript : Option (List ℕ) → Stop → Type 0
+LacksScript left Source = ⊤
+LacksScript left Memory = ⊤
+LacksScript left (Script fault) = (bytes : List ℕ) → left ≡ Some bytes → script_of bytes ≡ Err fault
+LacksScript left (Dump fault) = ⊥
+
+-- what was left, where it is told, is no dump: it has this first fault
+abbrev pub LacksDump : Option (List ℕ) → Stop → Type 0
+LacksDump left Source = ⊤
+LacksDump left Memory = ⊤
+LacksDump left (Script fault) = ⊥
+LacksDump left (Dump fault) = (bytes : List ℕ) → left ≡ Some bytes → dump_of bytes ≡ Err fault
+
+-- of a source that failed a note is tried, once, and out isn't called; every other cause is told as an answer
+abbrev pub IsStopTold : Stop → Status → SinkView → SinkView → SinkView → SinkView → Type 0
+IsStopTold Source status out out' note note' = (status ≡ Stream) × (out' ≡ out) × IsTried unread_note note note'
+IsStopTold Memory status out out' note note' = IsTold memory_told status out out' note note'
+IsStopTold (Script fault) status out out' note note' = IsTold (fault_told fault) status out out' note note'
+IsStopTold (Dump fault) status out out' note note' = IsTold (dump_told fault) status out out' note note'
