@@ -1,0 +1,31 @@
+#!/bin/sh
+# quick_test.sh [NAME..]: runs the tests of tests/, the story and the scripts of examples/ over programs that are built without a proof.
+#
+# It is for somebody who has changed a line: minutes instead of a gate. The programs stop where an index, a sum or an access is wrong, and nothing else of
+# their contracts is looked at. A program is built anew where a source is newer. With names of files of tests/ only those are run. The programs
+# stay in out/unproved.
+set -u
+top=$(cd "$(dirname "$0")/.." && pwd)
+built=$top/out/unproved
+mkdir -p "$built"
+
+# Builds the program $1 where its sources have changed.
+build() {
+    if [ ! -x "$built/$1" ] || [ -n "$(find "$top/crates" -name '*.rt' -newer "$built/$1" | head -n 1)" ]; then
+        echo "quick_test.sh: building $1 without proving it" >&2
+        sh "$top/tools/unproved.sh" "$1" "$built/$1"
+    fi
+}
+
+build swsusp &
+first=$!
+build swsusp_machine
+second=$?
+wait "$first" && [ "$second" -eq 0 ] || { echo "quick_test.sh: a program isn't built" >&2; exit 1; }
+status=0
+SWSUSP=$built/swsusp SWSUSP_MACHINE=$built/swsusp_machine python3 "$top/tests/run.py" "$@" || status=1
+[ $# -eq 0 ] || exit "$status"
+python3 "$top/tools/check_examples.py" "$built/swsusp" || status=1
+sh "$top/examples/story.sh" "$built/swsusp" "$built/swsusp_machine" | diff "$top/examples/story.out" - || status=1
+[ "$status" -ne 0 ] || echo "quick_test.sh: all passed, nothing proved"
+exit "$status"
