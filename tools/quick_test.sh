@@ -1,9 +1,8 @@
 #!/bin/sh
 # quick_test.sh [NAME..]: runs the tests of tests/, the story and the scripts of examples/ over programs that are built without a proof.
 #
-# It is for somebody who has changed a line: minutes instead of a gate. The programs stop where an index, a sum or an access is wrong, and nothing else of
-# their contracts is looked at. A program is built anew where a source is newer. With names of files of tests/ only those are run. The programs
-# stay in out/unproved.
+# It is for somebody who has changed a line: two minutes on an idle machine in the place of a gate. Nothing of a contract is looked at. A program is
+# built anew where a source is newer, and stays in out/unproved. With names of files of tests/ only those are run.
 set -u
 top=$(cd "$(dirname "$0")/.." && pwd)
 built=$top/out/unproved
@@ -21,7 +20,10 @@ build swsusp &
 first=$!
 build swsusp_machine
 second=$?
-wait "$first" && [ "$second" -eq 0 ] || { echo "quick_test.sh: a program isn't built" >&2; exit 1; }
+if ! wait "$first" || [ "$second" -ne 0 ]; then
+    echo "quick_test.sh: a program isn't built" >&2
+    exit 1
+fi
 status=0
 SWSUSP=$built/swsusp SWSUSP_MACHINE=$built/swsusp_machine python3 "$top/tests/run.py" "$@" || status=1
 [ $# -eq 0 ] || exit "$status"
