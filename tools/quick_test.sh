@@ -1,7 +1,7 @@
 #!/bin/sh
 # quick_test.sh [NAME..]: runs the tests of tests/, the story and the scripts of examples/ over programs that are built without a proof.
 #
-# It is for somebody who has changed a line: two minutes on an idle machine in the place of a gate. Nothing of a contract is looked at. A program is
+# It is for somebody who has changed a line: minutes in the place of an hour. Nothing of a contract is looked at. A program is
 # built anew where a source is newer, and stays in out/unproved. With names of files of tests/ only those are run.
 set -u
 top=$(cd "$(dirname "$0")/.." && pwd)
