@@ -18,8 +18,8 @@ PAGE = TOP / "docs" / "EDITS.md"
 
 ITEM = re.compile(r"^\s*(?P<public>pub )?(?:pub\([a-z]+\) )?(?:const )?(?:unsafe )?(?P<kind>fn|const|static|struct|enum|trait) (?P<name>\w+)")
 OWNER = re.compile(r"^(?:pub )?(?:unsafe )?(?:impl\b|trait\b)(?P<head>.*)")
-CLAUSE = re.compile(r"^\s*(?:requires|ensures)\*?\s*(?P<name>\w*)\s*\{(?P<text>.*)\}\s*$")
-DEFINITION = re.compile(r"^(?:pub )?(?:private )?(?:abbrev |unfoldable |opaque |record |data |rec |mutual )*(?P<name>[^\s:(){}]+)\s*(?=[:({])")
+CLAUSE = re.compile(r"^\s*(?P<kind>requires|ensures)\*?\s*(?P<name>\w*)\s*\{")
+DEFINITION = re.compile(r"^(?:(?:abbrev|unfoldable|opaque|pub|record|data) )+(?P<name>[^\s:(){}]+)|^(?P<plain>\w+) : ")
 WORD = re.compile(r"[A-Za-z_]\w*")
 # A name or a file that more promises have tells nothing of one of them.
 MOST_ROWS = 8
@@ -34,7 +34,7 @@ class Item:
 
     def __init__(self, name, owner="", public=False, kind="fn", begin=0):
         self.name, self.owner, self.public, self.kind, self.begin = name, owner, public, kind, begin
-        self.clauses, self.words, self.calls, self.crate = [], set(), set(), None
+        self.clauses, self.words, self.calls, self.crate, self.trait = [], set(), set(), None, ""
 
     def title(self):
         return f"{self.owner}::{self.name}" if self.owner else self.name
@@ -47,27 +47,35 @@ def owner_of(head):
     return found[-1] if found else ""
 
 
+def trait_of(head):
+    """The trait that an `impl` block is of, where it is of one."""
+    found = re.match(r"(?:<.*?>)?\s*(\w+).* for ", head.split("{")[0])
+    return found[1] if found else ""
+
+
 def items_of_source(text):
     """The items of a .rt file, each with the clauses of its contract and the words of its body."""
-    items, owner = [], ""
-    for number, line in enumerate(text.splitlines(keepends=True)):
+    items, owner, trait, open_braces = [], "", "", 0
+    for number, line in enumerate(text.splitlines()):
         bare = line.split("//")[0]
         block = OWNER.match(bare)
         if block:
-            owner = owner_of(block["head"])
+            owner, trait = owner_of(block["head"]), trait_of(block["head"])
         elif bare.startswith("}"):
-            owner = ""
+            owner = trait = ""
         found = ITEM.match(bare)
         if found and not (found["kind"] == "const" and bare.startswith(" " * 8)):
-            inside = owner if bare.startswith(" ") else ""
-            items.append(Item(found["name"], inside, bool(found["public"]), found["kind"], number))
+            items.append(Item(found["name"], owner if bare.startswith(" ") else "", bool(found["public"]), found["kind"], number))
+            items[-1].trait = trait if bare.startswith(" ") else ""
         if not items:
             continue
         clause = CLAUSE.match(bare)
-        if clause:
-            if bare.lstrip().startswith("ensures"):
-                items[-1].clauses.append(clause["name"])
-            items[-1].words |= set(WORD.findall(clause["text"])) | {clause["name"]}
+        if clause and clause["kind"] == "ensures":
+            items[-1].clauses.append(clause["name"])
+        # A clause may go on over lines, up to its last brace.
+        if clause or open_braces:
+            items[-1].words |= set(WORD.findall(bare))
+            open_braces += bare.count("{") - bare.count("}")
         else:
             items[-1].calls |= set(WORD.findall(bare))
     return items
@@ -77,11 +85,10 @@ def items_of_spec(text):
     """The definitions of an .antt file."""
     items = []
     for number, line in enumerate(text.splitlines()):
-        if line and not line[0].isspace() and not line.startswith(("--", "import", "use ", "}", "mod ", "pub mod ", "ghost")):
-            found = DEFINITION.match(line)
-            if found and (not items or items[-1].name != found["name"]):
-                items.append(Item(found["name"], kind="definition", begin=number))
-        if items:
+        found = DEFINITION.match(line)
+        if found:
+            items.append(Item(found["name"] or found["plain"], kind="definition", begin=number))
+        if items and not line.startswith("--"):
             items[-1].words |= set(WORD.findall(line))
     return items
 
@@ -156,6 +163,8 @@ class Edit:
         found = self.crate.contracts_of(self.item)
         if found == [self.item]:
             return clauses_of(self.item)
+        if self.item.trait and not self.item.clauses:
+            return f"those of the trait `{self.item.trait}`"
         return "; ".join(f"of `{item.title()}`: {clauses_of(item)}" for item in found[:2]) or "of the types and functions that use it"
 
 
