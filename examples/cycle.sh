@@ -8,7 +8,7 @@ swsusp=${1:-$top/crates/swsusp/out/swsusp}
 if [ $# -eq 0 ] && [ ! -x "$swsusp" ]; then
     swsusp=$top/out/unproved/swsusp
     if [ ! -x "$swsusp" ] || [ -n "$(find "$top/crates" -name '*.rt' -newer "$swsusp" | head -n 1)" ]; then
-        echo "cycle.sh: building swsusp without proving it; that takes half a minute, on a busy machine some minutes" >&2
+        echo "cycle.sh: building swsusp without proving it; that takes about a minute, on a busy machine some minutes" >&2
         sh "$top/tools/unproved.sh" swsusp "$swsusp"
     fi
 fi
