@@ -8,22 +8,25 @@ top=$(cd "$(dirname "$0")/.." && pwd)
 built=$top/out/unproved
 mkdir -p "$built"
 
-# Builds the program $1 where its sources have changed.
+# Builds the program $1 in the place of this shell, where its sources have changed.
 build() {
     if [ ! -x "$built/$1" ] || [ -n "$(find "$top/crates" -name '*.rt' -newer "$built/$1" | head -n 1)" ]; then
         echo "quick_test.sh: building $1 without proving it" >&2
-        sh "$top/tools/unproved.sh" "$1" "$built/$1"
+        exec sh "$top/tools/unproved.sh" "$1" "$built/$1"
     fi
 }
 
-build swsusp &
+(build swsusp) &
 first=$!
-build swsusp_machine
-second=$?
+trap 'kill "$first" 2> /dev/null || :' EXIT
+trap 'exit 1' HUP INT TERM
+second=0
+(build swsusp_machine) || second=$?
 if ! wait "$first" || [ "$second" -ne 0 ]; then
     echo "quick_test.sh: a program isn't built" >&2
     exit 1
 fi
+trap - EXIT HUP INT TERM
 status=0
 SWSUSP=$built/swsusp SWSUSP_MACHINE=$built/swsusp_machine python3 "$top/tests/run.py" "$@" || status=1
 [ $# -eq 0 ] || exit "$status"
