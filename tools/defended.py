@@ -238,7 +238,7 @@ class Promise:
         if edit.file in self.files:
             return True
         if edit.item.kind == "definition":
-            return edit.item.name in self.names & definitions.keys()
+            return bool((edit.beside | {edit.item.name}) & self.names & definitions.keys())
         if edit.crate.name in self.crates and any(self.names & {item.name, item.title(), item.owner} for item in edit.crate.reached_from(edit.item)):
             return True
         return bool((edit.cited(definitions) | edit.beside) & self.names & definitions.keys())
@@ -280,7 +280,8 @@ def page(edits, definitions):
         text += [""] + [f"- {title}" for title in bare]
     alone = [edit for edit in edits if edit.path not in held]
     if alone:
-        text += ["", f"{len(alone)} edits defend what no row names: the contracts of `run` and `World::event`, contracts below the promises, and laws. They stand in", "the lists of their crates."]
+        text += ["", f"{len(alone)} edits defend what no row names: the contracts of `run` and `World::event`, contracts below the promises, and laws."]
+        text += ["They stand in the lists of their crates."]
     text += ["", "## The edits of each crate"]
     for crate in dict.fromkeys(edit.crate.name for edit in edits):
         own = [edit for edit in edits if edit.crate.name == crate]
