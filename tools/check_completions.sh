@@ -54,7 +54,7 @@ print ready
 END
 zsh_offers() {
     : > "$room/hits"
-    completions=$top/completions hits=$room/hits zsh -f -c '
+    completions=$top/completions hits=$room/hits timeout 60 zsh -f -c '
         zmodload zsh/zpty
         zpty shell zsh -f -i
         zpty -w shell "source $1"
