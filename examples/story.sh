@@ -1,10 +1,18 @@
 #!/bin/sh
 # A machine's story on real files: it is made, hibernates, is checked and resumed, and is compared with what it was. Each command is printed
-# and then what it prints. The words are the programs `swsusp` and `swsusp_machine`, or without them those that `rt run` or `rt ci` leaves.
+# and then what it prints. The words are the programs `swsusp` and `swsusp_machine`, or without them those that `rt run` or `rt ci` leaves, and where
+# this is installed those on the path.
 set -eu
 top=$(cd "$(dirname "$0")/.." && pwd)
+[ -d "$top/crates" ] || set -- "${1:-$(command -v swsusp)}" "${2:-$(command -v swsusp_machine)}"
 swsusp=${1:-$top/crates/swsusp/out/swsusp}
 machine=${2:-$top/crates/swsusp_machine/out/swsusp_machine}
+for program in "$swsusp" "$machine"; do
+    [ ! -x "$program" ] || continue
+    echo "story.sh: no program at ${program:-any place of the path}: 'make' proves and builds both," >&2
+    echo "and 'sh tools/quick_test.sh' builds them without a proof and tells this story with them" >&2
+    exit 1
+done
 room=$(mktemp -d)
 trap 'trap "" PIPE HUP INT TERM; rm -rf "$room"' EXIT
 trap 'exit 1' PIPE HUP INT TERM

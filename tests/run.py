@@ -33,6 +33,8 @@ def main(*names):
     for name in ["swsusp", "swsusp_machine"]:
         built = HERE.parent / "crates" / name / "out" / name
         harness.programs[name] = os.environ.get(name.upper(), built)
+        if not os.access(harness.programs[name], os.X_OK):
+            sys.exit(f"tests/: no program at {harness.programs[name]}: 'make' proves and builds it, 'sh tools/quick_test.sh' tests unproved ones")
     names = names or sorted(path.stem for path in HERE.glob("*_tests.py"))
     tests = [test for name in names for test in tests_of(name)]
     failed = sum(fails(name, test) for name, test in tests)

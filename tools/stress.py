@@ -2,7 +2,7 @@
 """stress.py SEED ROUNDS [PROGRAM [SECONDS]]: feeds the built program damaged disks, dumps, scripts and streams, so many rounds of them.
 
 Each round is made from SEED and its number alone, so that one can be had again: ROUNDS is how many, or FIRST-LAST. A run must end within
-SECONDS (10 without the word) with a status that README.md gives its command, print no line that isn't one of the formats, and leave what it has no leave to change: an
+SECONDS (10 without the word) with a status that docs/COMMANDS.md gives its command, print no line that isn't one of the formats, and leave what it has no leave to change: an
 import that is refused leaves the header block, a resume changes no other block, and what is refused before anything is written leaves
 every byte. PROGRAM is crates/swsusp/out/swsusp without the word, which `rt run` leaves. Each run that does otherwise is told, and the
 round's files stay; then the status is 1.

@@ -1,0 +1,67 @@
+# make            proves and builds the programs
+# make install    puts programs, manual pages, completions, examples and documents below DESTDIR and PREFIX
+# make uninstall  removes them
+# make check      tries the programs that are built, and checks the documents
+# make deb        makes a Debian package of the programs that are built, in out/deb
+VERSION := $(shell cat VERSION)
+PREFIX ?= /usr/local
+DESTDIR ?=
+BINDIR ?= $(PREFIX)/bin
+MANDIR ?= $(PREFIX)/share/man
+DOCDIR ?= $(PREFIX)/share/doc/dirukofe
+BASHDIR ?= $(PREFIX)/share/bash-completion/completions
+ZSHDIR ?= $(PREFIX)/share/zsh/site-functions
+FISHDIR ?= $(PREFIX)/share/fish/vendor_completions.d
+
+SWSUSP := crates/swsusp/out/swsusp
+MACHINE := crates/swsusp_machine/out/swsusp_machine
+PROGRAMS := $(SWSUSP) $(MACHINE)
+# What the scripts of examples/ call.
+TOOLS := tools/make_area.sh tools/make_dump.py tools/extents.py
+MISSING = $(filter-out $(wildcard $(PROGRAMS)),$(PROGRAMS))
+
+.PHONY: all install uninstall check deb built
+
+all:
+	cd crates/swsusp && rt run -- drill 10
+	cd crates/swsusp_machine && rt run -- --help
+
+built:
+	@test -z "$(MISSING)" || { echo "not built: $(MISSING); 'make' proves and builds them" >&2; exit 1; }
+
+install: built
+	install -d $(addprefix $(DESTDIR),$(BINDIR) $(MANDIR)/man5 $(MANDIR)/man7 $(MANDIR)/man8 $(DOCDIR)/docs $(DOCDIR)/examples $(DOCDIR)/tools)
+	install -d $(addprefix $(DESTDIR),$(BASHDIR) $(ZSHDIR) $(FISHDIR))
+	install -m 755 $(PROGRAMS) $(DESTDIR)$(BINDIR)
+	install -m 644 man/swsusp-script.5 $(DESTDIR)$(MANDIR)/man5
+	install -m 644 man/swsusp-replies.7 $(DESTDIR)$(MANDIR)/man7
+	install -m 644 man/swsusp.8 man/swsusp_machine.8 $(DESTDIR)$(MANDIR)/man8
+	install -m 644 completions/swsusp.bash $(DESTDIR)$(BASHDIR)/swsusp
+	install -m 644 completions/swsusp_machine.bash $(DESTDIR)$(BASHDIR)/swsusp_machine
+	install -m 644 completions/_swsusp completions/_swsusp_machine $(DESTDIR)$(ZSHDIR)
+	install -m 644 completions/swsusp.fish completions/swsusp_machine.fish $(DESTDIR)$(FISHDIR)
+	install -m 644 README.md CHANGELOG.md VERSION $(DESTDIR)$(DOCDIR)
+	install -m 644 $(wildcard docs/*) $(DESTDIR)$(DOCDIR)/docs
+	install -m 644 $(filter-out %.sh,$(wildcard examples/*)) $(DESTDIR)$(DOCDIR)/examples
+	install -m 755 $(filter %.sh,$(wildcard examples/*)) $(DESTDIR)$(DOCDIR)/examples
+	install -m 755 $(TOOLS) $(DESTDIR)$(DOCDIR)/tools
+
+uninstall:
+	rm -f $(addprefix $(DESTDIR)$(BINDIR)/,$(notdir $(PROGRAMS)))
+	rm -f $(DESTDIR)$(MANDIR)/man5/swsusp-script.5 $(DESTDIR)$(MANDIR)/man7/swsusp-replies.7
+	rm -f $(addprefix $(DESTDIR)$(MANDIR)/man8/,swsusp.8 swsusp_machine.8)
+	rm -f $(addprefix $(DESTDIR)$(BASHDIR)/,swsusp swsusp_machine) $(addprefix $(DESTDIR)$(ZSHDIR)/,_swsusp _swsusp_machine)
+	rm -f $(addprefix $(DESTDIR)$(FISHDIR)/,swsusp.fish swsusp_machine.fish)
+	rm -rf $(DESTDIR)$(DOCDIR)
+
+check: built
+	python3 tests/run.py
+	python3 tools/check_examples.py
+	sh examples/story.sh | diff examples/story.out -
+	python3 tools/check_promises.py
+	python3 tools/check_replies.py
+	python3 tools/defended.py --check
+	sh tools/check_completions.sh
+
+deb: built
+	sh packaging/make_deb.sh

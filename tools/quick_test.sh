@@ -1,0 +1,36 @@
+#!/bin/sh
+# quick_test.sh [NAME..]: runs the tests of tests/, the story and the scripts of examples/ over programs that are built without a proof.
+#
+# It is for somebody who has changed a line: minutes in the place of an hour. Nothing of a contract is looked at. A program is
+# built anew where a source is newer, and stays in out/unproved. With names of files of tests/ only those are run.
+set -u
+top=$(cd "$(dirname "$0")/.." && pwd)
+built=$top/out/unproved
+mkdir -p "$built"
+
+# Builds the program $1 in the place of this shell, where its sources have changed.
+build() {
+    if [ ! -x "$built/$1" ] || [ -n "$(find "$top/crates" -name '*.rt' -newer "$built/$1" | head -n 1)" ]; then
+        echo "quick_test.sh: building $1 without proving it" >&2
+        exec sh "$top/tools/unproved.sh" "$1" "$built/$1"
+    fi
+}
+
+(build swsusp) &
+first=$!
+trap 'kill "$first" 2> /dev/null || :' EXIT
+trap 'exit 1' HUP INT TERM
+second=0
+(build swsusp_machine) || second=$?
+if ! wait "$first" || [ "$second" -ne 0 ]; then
+    echo "quick_test.sh: a program isn't built" >&2
+    exit 1
+fi
+trap - EXIT HUP INT TERM
+status=0
+SWSUSP=$built/swsusp SWSUSP_MACHINE=$built/swsusp_machine python3 "$top/tests/run.py" "$@" || status=1
+[ $# -eq 0 ] || exit "$status"
+python3 "$top/tools/check_examples.py" "$built/swsusp" || status=1
+sh "$top/examples/story.sh" "$built/swsusp" "$built/swsusp_machine" | diff "$top/examples/story.out" - || status=1
+[ "$status" -ne 0 ] || echo "quick_test.sh: all passed, nothing proved"
+exit "$status"
