@@ -1,5 +1,9 @@
 """Which words the programs take, and what they say of others."""
+import pathlib
+
 from harness import Mismatch, check, run
+
+VERSION = (pathlib.Path(__file__).resolve().parent.parent / "VERSION").read_text().strip()
 
 COMMANDS = ["inspect", "hibernate", "resume", "replay", "drill", "export", "import"]
 MACHINE_COMMANDS = ["make", "loader", "show", "differ", "check"]
@@ -105,7 +109,7 @@ def test_ranges_that_are_told():
 def test_help():
     """Help and the version of `swsusp` are notes."""
     has(refused("swsusp", "--help"), *COMMANDS, "65,536", "131,072", "compressed")
-    has(refused("swsusp", "--version"), "swsusp 0.1")
+    has(refused("swsusp", "--version"), f"swsusp {VERSION}")
     for command in COMMANDS:
         has(refused("swsusp", command, "--help"), f"Usage: swsusp {command}", "Limits:" if command != "inspect" else "reads", f"Example: swsusp {command}")
         has(refused("swsusp", "help", command), f"Usage: swsusp {command}")
@@ -122,7 +126,7 @@ def test_help_for_machines():
         if (status, note) != (0, ""):
             raise Mismatch(f"{words}: status {status} and {note!r}")
         has(out.decode(), *MACHINE_COMMANDS)
-    check(run("swsusp_machine", "--version"), 0, b"swsusp_machine 0.1\n")
+    check(run("swsusp_machine", "--version"), 0, f"swsusp_machine {VERSION}\n".encode())
     for command in MACHINE_COMMANDS:
         status, out, note = run("swsusp_machine", command, "--help")
         if (status, note) != (0, ""):

@@ -17,7 +17,7 @@ pub(crate) fn command_line<'a>(alloc: Global) -> Result<Command<'a>, AllocError>
         "Makes machines to try swsusp on, in memory dumps, and compares them",
         details::PROGRAM,
     )
-    .version("0.1")
+    .version("0.2.0")
     .subcommand_required(true)
     .subcommand(making(alloc))?
     .subcommand(loading(alloc))?

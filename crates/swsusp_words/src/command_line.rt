@@ -16,7 +16,7 @@ pub(crate) fn command_line<'a>(alloc: Global) -> Result<Command<'a>, AllocError>
         "Writes, checks and resumes hibernation images in swap areas",
         details::PROGRAM,
     )
-    .version("0.1")
+    .version("0.2.0")
     .subcommand_required(true)
     .subcommand(inspection(alloc)?)?
     .subcommand(hibernation(alloc)?)?
