@@ -10,9 +10,7 @@ use page_core::NoMemory;
 use script::Line;
 use sector_disk::Disk;
 use std::alloc::Global;
-use swsusp_cli::{
-    Answer, Status, no_memory, parse_input, play_through, set_up, tell_dump,
-};
+use swsusp_cli::{Answer, Status, no_memory, parse_input, play_through, set_up, tell_dump};
 use world_core::World;
 
 /// Plays a script over a disk, and writes the memory of the machine that runs at its end as a dump. Where none runs, that is noted.

@@ -1,7 +1,6 @@
 use Rattle.std.proofs.Common.{◌≡◌, Ok, subst, sym}
 use Rattle.dump_file.specs.Dump.{dump_of}
 use Rattle.plain_machine.specs.Machine.{Hardware, Memory}
-use Rattle.world_core.specs.StandsFor.{hardware_of}
 use Rattle.swsusp_cli.proofs.dump_input.machine_of_input.Goals as goal
 
 pub returns-clause-dump : goal.returns-clause-dump

@@ -1,4 +1,4 @@
-use Rattle.std.proofs.Common.{◌≡◌, List, ℕ, [], refl, subst}
+use Rattle.std.proofs.Common.{List, ℕ, [], refl, subst}
 use Rattle.dump_file.specs.Dump.{DumpValue}
 use Rattle.swsusp_cli.specs.Answer.{RunResult}
 use Rattle.swsusp_cli.specs.Exports.{no_dump, out_of_memory, unread, in_use, exported}

@@ -1,4 +1,4 @@
-use Rattle.std.proofs.Common.{◌≡◌, refl, subst}
+use Rattle.std.proofs.Common.{refl, subst}
 use Rattle.dump_file.specs.Dump.{DumpValue}
 use Rattle.world_core.specs.StandsFor.{hardware_of}
 use Rattle.swsusp_cli.specs.Answer.{RunResult}

@@ -1,4 +1,4 @@
-use Rattle.std.proofs.Common.{inr, ◌<◌, ◌+◌, ◌++◌, ℕ, List, [], ◌∷◌, take, get_or, refl, sym, ◌∙◌, subst, arith}
+use Rattle.std.proofs.Common.{inr, ◌+◌, ◌++◌, ℕ, List, [], ◌∷◌, take, get_or, refl, sym, ◌∙◌, subst, arith}
 use Rattle.definitions.specs.Streams.{TakesAll}
 use Rattle.definitions.proofs.Pieces.{Takes-none}
 use Rattle.plain_machine.specs.Replies.{text_of, line_of}

@@ -1,4 +1,4 @@
-use Rattle.std.proofs.Common.{◌≡◌, refl, sym, subst, inr}
+use Rattle.std.proofs.Common.{refl, sym, subst, inr}
 use Rattle.dump_file.specs.Dump.{DumpValue}
 use Rattle.swsusp_cli.specs.Answer.{RunResult}
 use Rattle.swsusp_cli.specs.Loads.{no_dump, out_of_memory, unread, answered}

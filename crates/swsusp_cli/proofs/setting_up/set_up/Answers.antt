@@ -53,12 +53,12 @@ returns-in_err-format g c =
     let before : DiskView = record { blocks = g.D.Disk.block_count c.args.disk.now; content = g.D.Disk.content c.args.disk.now; faults = g.D.Disk.faults c.args.disk.now; calls = g.D.Disk.calls c.args.disk.now; orders = g.D.Disk.orders c.args.disk.now } in
     let after : DiskView = record { blocks = g.D.Disk.block_count c.format.new.disk; content = g.D.Disk.content c.format.new.disk; faults = g.D.Disk.faults c.format.new.disk; calls = g.D.Disk.calls c.format.new.disk; orders = g.D.Disk.orders c.format.new.disk } in
     let fails : FailsToSetUp script before after call = record {
-        roomy = lie_below script.hardware c.blocks_needed-need.result (g.D.Disk.block_count c.args.disk.now) needed (omega arith);
-        risen = c.in_err-format.ensures.cause refl;
-        calls = c.in_err-format.ensures.calls;
-        content = formatted_by (λ h last bad. disk.Changes (FailsToFormat h last bad call) (g.D.Disk.content c.args.disk.now) (g.D.Disk.content c.format.new.disk)) script hw c.last.ensures c.bad.ensures c.in_err-format.ensures.content;
-        orders = c.format.ensures.orders;
-      } in
+      roomy = lie_below script.hardware c.blocks_needed-need.result (g.D.Disk.block_count c.args.disk.now) needed (omega arith);
+      risen = c.in_err-format.ensures.cause refl;
+      calls = c.in_err-format.ensures.calls;
+      content = formatted_by (λ h last bad. disk.Changes (FailsToFormat h last bad call) (g.D.Disk.content c.args.disk.now) (g.D.Disk.content c.format.new.disk)) script hw c.last.ensures c.bad.ensures c.in_err-format.ensures.content;
+      orders = c.format.ensures.orders;
+    } in
     record { outcome = subst (λ (r : Result (Unit {0}) Unready). MatchResult r (λ done. IsSetUp script before after) (IsNotSetUp script before after)) (sym (p.1 ∙ ap Err p.2)) fails }
 
 pub returns : goal.returns
