@@ -72,6 +72,20 @@ fn a_match_of_three_bytes_from_afar(rt: HostRuntime) {
     assert_eq!(rt; &output[2128..], b"abcdabcdawxyzcda!".as_slice());
 }
 
+// 0 0 1 L L L L L with all bits D set: 16384 before the end, which no end marker is.
+#[test]
+fn a_match_at_the_distance_of_the_end_marker(rt: HostRuntime) -> Result<(), Fail> {
+    let alloc = rt.alloc();
+    let mut input = vec![in alloc; 0u8; 6]?;
+    input.as_mut_slice().copy_from_slice(b"\x15abcd\x20");
+    input.extend_from_slice(&[0; 64])?;
+    input.extend_from_slice(b"\x3c\x0c\0\x21\xfc\xff\x11\0\0")?;
+    let mut output = vec![in alloc; 0u8; 16420]?;
+    assert_eq!(rt; expand(input.as_slice(), output.as_mut_slice()), Ok(16420));
+    assert_eq!(rt; &output.as_slice()[16414..], b"cdabcd".as_slice());
+    Ok(())
+}
+
 // 0 0 0 1 H L L L: lengths of 5 in the bits and of 266 behind them, from 16,391 and 32,837 before the end.
 #[test]
 fn matches_from_far(rt: HostRuntime) -> Result<(), Fail> {

@@ -1,5 +1,5 @@
--- The remainder that the kernel's crc32_le keeps (crc32_le_generic at CRC_LE_BITS == 1, lib/crc32.c). A number's lowest bit is the
--- highest power of its polynomial.
+-- The remainder that the kernel's crc32_le keeps (crc32_le_generic at CRC_LE_BITS == 1, lib/crc32.c). A number's lowest
+-- bit is the highest power of its polynomial.
 use Rattle.std.specs.Prelude.{◌≡◌, ℕ, ◌/◌, ◌%◌, ◌==◌, List, ◌++◌, fold, bit_xor, if◌then◌else◌}
 use Rattle.std.specs.Fn.{iterate}
 
