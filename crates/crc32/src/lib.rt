@@ -1,5 +1,6 @@
 //! The checksum of the kernel's `crc32_le` (lib/crc32.c): the reflected polynomial 0xEDB88320, from a given start, with
-//! no inversion. The kernel takes the checksum of an image's data pages from 0 on (kernel/power/swap.c).
+//! no inversion. The kernel takes it of an image's pages before they are compressed, from 0 on (crc32_threadfn,
+//! kernel/power/swap.c).
 #![tactic(auto)]
 
 mod table;
