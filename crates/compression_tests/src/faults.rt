@@ -11,7 +11,7 @@ fn an_input_that_ends_early_is_too_short(rt: HostRuntime) {
     assert_fails(&rt, b"\0\0\0", Kind::InputTooShort, 0, b"");
 }
 
-// A match goes before its literals are tested, but nothing of the instruction is written.
+// Where the literals behind a match are missing, the match isn't written either.
 #[test]
 fn literals_behind_a_match_that_are_missing_keep_it_from_being_written(rt: HostRuntime) {
     assert_fails(&rt, b"\x14abc\x46\0x", Kind::InputTooShort, 4, b"abc");
