@@ -22,3 +22,14 @@ pub(crate) fn assert_fails(rt: &impl Abort, input: &[u8], kind: Kind, at: usize,
     assert_eq!(rt; &output[..wanted.len()], wanted);
     assert!(rt; output[wanted.len()..].iter().all(|byte| *byte == 0xaa));
 }
+
+/// Asserts that a stream expands to bytes of which those from `start` to `end`, the last, are all this one.
+pub(crate) fn assert_run(rt: &impl Abort, input: &[u8], start: usize, end: usize, byte: u8) {
+    let mut output = [0; 300];
+    let told = expand(input, &mut output);
+    assert_eq!(rt; told, Ok(end));
+    assert!(rt; start <= end);
+    assert!(rt; end <= 300);
+    assert!(rt; output[start..end].iter().all(|found| *found == byte));
+    assert!(rt; output[end..].iter().all(|found| *found == 0));
+}

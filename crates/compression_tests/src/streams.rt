@@ -1,4 +1,4 @@
-use crate::samples::assert_expands;
+use crate::samples::{assert_expands, assert_run};
 use lzo::expand;
 use std::test::Fail;
 
@@ -44,20 +44,13 @@ fn a_long_run_of_literals(rt: HostRuntime) {
     let mut input = [b'q'; 284];
     input[..3].copy_from_slice(b"\0\0\x05");
     input[281..].copy_from_slice(b"\x11\0\0");
-    let mut output = [0; 300];
-    assert_eq!(rt; expand(&input, &mut output), Ok(278));
-    assert!(rt; output[..278].iter().all(|byte| *byte == b'q'));
-    assert!(rt; output[278..].iter().all(|byte| *byte == 0));
+    assert_run(&rt, &input, 0, 278, b'q');
 }
 
 // 2 + 31 + 255 + 1 bytes from the last one.
 #[test]
 fn a_long_match_of_one_byte(rt: HostRuntime) {
-    let mut output = [0; 300];
-    let told = expand(b"\x15abcd\x20\0\x01\0\0\x11\0\0", &mut output);
-    assert_eq!(rt; told, Ok(293));
-    assert!(rt; output[3..293].iter().all(|byte| *byte == b'd'));
-    assert!(rt; output[293..].iter().all(|byte| *byte == 0));
+    assert_run(&rt, b"\x15abcd\x20\0\x01\0\0\x11\0\0", 3, 293, b'd');
 }
 
 // 0 0 0 0 D D S S behind four literals: three bytes from 2051 before the end, and one literal.
