@@ -12,7 +12,7 @@ use plain_machine::{IdentCheck, Reply};
 use script::{Line, line_of};
 use sector_disk::Disk;
 use std::alloc::Global;
-use swsusp_cli::{Answer, Status, machine_of_input, no_memory, stopped};
+use swsusp_cli::{Answer, Status, dump_of_input, machine_of, no_memory, stopped};
 
 /// Reads a loader's dump to its end, and tells what a resume of the image on the disk into its machine would answer. The disk is only
 /// read.
@@ -32,9 +32,13 @@ pub fn check<I: Source, O: Sink, N: Sink, D: Disk>(
     ensures device { result ≡ Status.Device → HasRisen (D.faults disk.old) (D.faults disk.new) }
     ensures words { result ≢ Status.Words }
 {
-    let mut world = match machine_of_input(alloc, input) {
-        Ok(world) => world,
+    let dump = match dump_of_input(alloc, input) {
+        Ok(dump) => dump,
         Err(stop) => return stop.tell(out, note),
+    };
+    let mut world = match machine_of(alloc, dump) {
+        Ok(world) => world,
+        Err(NoMemory) => return no_memory().tell(out, note),
     };
     match would_resume(&mut world, disk, IdentCheck::Compare) {
         Ok(ended) => foretold(&ended).tell(out, note),

@@ -31,20 +31,6 @@ pub fn dump_of_input<I: Source>(alloc: Global, input: &mut I) -> Result<Dump, St
     Ok(read_dump(alloc, input)?)
 }
 
-/// Reads a dump to its end, and returns a new machine, which keeps the dump's memory.
-pub fn machine_of_input<I: Source>(alloc: Global, input: &mut I) -> Result<World, Stop>
-    ensures dump { IfOk result (λ w. (bytes : List ℕ) → I.remaining input.old ≡ Some bytes → dump_of bytes ≡ Ok (record { hw = hardware_of w; memory = w.frames })) }
-    ensures end { IsOk result → IsUsedUp (I.remaining input.new) }
-    ensures hardware { IfOk result (λ w. IsHardware (hardware_of w)) }
-    ensures new { IfOk result (λ w. IsNew (hardware_of w) (Some w.frames) w) }
-    ensures lacks { IfErr result (LacksDump (I.remaining input.old)) }
-    ensures cause { result ≡ Err Stop.Source → HasRisen (I.faults input.old) (I.faults input.new) }
-    ensures counted { I.faults input.old ≤ I.faults input.new }
-{
-    let dump = dump_of_input(alloc, input)?;
-    Ok(machine_of(alloc, dump)?)
-}
-
 /// A new machine, which keeps the memory of its dump.
 pub fn machine_of(alloc: Global, dump: Dump) -> Result<World, NoMemory>
     requires { Fits dump.hw dump.frames }

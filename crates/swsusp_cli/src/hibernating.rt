@@ -5,12 +5,12 @@ ghost use Rattle.swsusp_cli.specs.AnswerOf.{told_by};
 ghost use Rattle.swsusp_cli.specs.Dumps.{hibernation_told};
 ghost use Rattle.swsusp_cli.specs.View.{view};
 
-use crate::answer::Answer;
-use crate::dump_input::{machine_of_input, stopped};
+use crate::answer::{Answer, no_memory};
+use crate::dump_input::{dump_of_input, machine_of, stopped};
 use crate::status::Status;
 use command_core::{Ended, hibernate};
 use dump_file::{Sink, Source};
-use page_core::Format;
+use page_core::{Format, NoMemory};
 use plain_machine::Reply;
 use script::{Line, line_of};
 use sector_disk::Disk;
@@ -38,9 +38,13 @@ pub fn hibernate_dump<I: Source, O: Sink, N: Sink, D: Disk>(
     ensures few_calls { D.calls disk.new ≤ D.calls disk.old + 100002 }
     ensures inside { IsTrue (D.tells_moments disk.old) → SavesInside format size (I.remaining input.old) (D.content disk.old) (D.left_since disk.new (D.moment disk.old)) }
 {
-    let mut world = match machine_of_input(alloc, input) {
-        Ok(world) => world,
+    let dump = match dump_of_input(alloc, input) {
+        Ok(dump) => dump,
         Err(stop) => return stop.tell(out, note),
+    };
+    let mut world = match machine_of(alloc, dump) {
+        Ok(world) => world,
+        Err(NoMemory) => return no_memory().tell(out, note),
     };
     let ended = hibernate(&mut world, disk, format, size);
     hibernation_answer(&ended).tell(out, note)

@@ -22,7 +22,7 @@ mod top;
 pub use answer::{Answer, no_memory, print, tell};
 pub use choosing::{Choice, swap_name};
 pub use drilling::play_through;
-pub use dump_input::{dump_of_input, machine_of_input, stopped};
+pub use dump_input::{dump_of_input, machine_of, stopped};
 pub use playing::play;
 pub use replay::parse_input;
 pub use resuming::tell_dump;

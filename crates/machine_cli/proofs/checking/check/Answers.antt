@@ -1,6 +1,5 @@
 use Rattle.std.proofs.Common.{◌≡◌, refl, subst}
 use Rattle.dump_file.specs.Dump.{DumpValue}
-use Rattle.world_core.specs.StandsFor.{hardware_of}
 use Rattle.swsusp_cli.specs.Answer.{RunResult}
 use Rattle.swsusp_cli.specs.Told.{IsTold}
 use Rattle.swsusp_cli.specs.View.{SinkView}
@@ -13,17 +12,27 @@ pub returns-in-Err-clause-outcome : goal.returns-in-Err-clause-outcome
 returns-in-Err-clause-outcome g c = without_dump _ _ _ c.tell.result c.in-Err.stop c.in-Err.ensures.lacks c.tell.ensures.told refl no_dump
     (λ short. out_of_memory (record { told = short.told; only_read = record { content = refl; orders = refl; calls = few_more _ } })) unread
 
+pub returns-in-Err-machine_of-clause-outcome : goal.returns-in-Err-machine_of-clause-outcome
+returns-in-Err-machine_of-clause-outcome g c =
+    let tell = c.tell-in-Err-machine_of in
+    let out : SinkView = record { taken = g.O.Sink.taken c.args.out.now; flushed = g.O.Sink.flushed c.args.out.now; faults = g.O.Sink.faults c.args.out.now } in
+    let note : SinkView = record { taken = g.N.Sink.taken c.args.note.now; flushed = g.N.Sink.flushed c.args.note.now; faults = g.N.Sink.faults c.args.note.now } in
+    out_of_memory (record {
+      told = subst (λ (t : RunResult). IsTold t tell.result out (record { taken = g.O.Sink.taken tell.new.out; flushed = g.O.Sink.flushed tell.new.out; faults = g.O.Sink.faults tell.new.out }) note (record { taken = g.N.Sink.taken tell.new.note; flushed = g.N.Sink.flushed tell.new.note; faults = g.N.Sink.faults tell.new.note })) c.no_memory.ensures.told tell.ensures.told;
+      only_read = record { content = refl; orders = refl; calls = few_more _ };
+    })
+
 pub returns-in-Ok-would_resume-clause-outcome : goal.returns-in-Ok-would_resume-clause-outcome
 returns-in-Ok-would_resume-clause-outcome g c =
     let tell = c.tell-in-Ok-would_resume in
     let out : SinkView = record { taken = g.O.Sink.taken c.args.out.now; flushed = g.O.Sink.flushed c.args.out.now; faults = g.O.Sink.faults c.args.out.now } in
     let note : SinkView = record { taken = g.N.Sink.taken c.args.note.now; flushed = g.N.Sink.flushed c.args.note.now; faults = g.N.Sink.faults c.args.note.now } in
-    let world = c.in-Ok.world in
-    let dump : DumpValue = record { hw = hardware_of world; memory = world.frames } in
+    let dump : DumpValue = record { hw = c.in-Ok.dump.hw; memory = c.in-Ok.dump.frames } in
+    let made = c.in-Ok-machine_of.ensures in
     foretold dump c.would_resume.new.world.frames c.in-Ok-would_resume.ended (record {
       dump_is = record { says = λ bytes left. c.in-Ok.ensures.dump bytes left; over = c.in-Ok.ensures.end refl };
       told = subst (λ (t : RunResult). IsTold t tell.result out (record { taken = g.O.Sink.taken tell.new.out; flushed = g.O.Sink.flushed tell.new.out; faults = g.O.Sink.faults tell.new.out }) note (record { taken = g.N.Sink.taken tell.new.note; flushed = g.N.Sink.flushed tell.new.note; faults = g.N.Sink.faults tell.new.note })) c.foretold.ensures.told tell.ensures.told;
-      foretells = λ content told original. foretold_by _ _ dump.hw dump.memory refl refl _ content c.would_resume.new.world.frames c.in-Ok-would_resume.ended original (c.in-Ok-would_resume.ensures.resumed content told);
+      foretells = λ content told original. foretold_by _ _ dump.hw dump.memory made.is made.frames _ content c.would_resume.new.world.frames c.in-Ok-would_resume.ended original (c.in-Ok-would_resume.ensures.resumed content told);
       only_read = record { content = c.would_resume.ensures.untouched; orders = c.would_resume.ensures.orders; calls = c.would_resume.ensures.calls };
     })
 
@@ -33,6 +42,6 @@ returns-clause-outcome g c =
     let out : SinkView = record { taken = g.O.Sink.taken c.args.out.now; flushed = g.O.Sink.flushed c.args.out.now; faults = g.O.Sink.faults c.args.out.now } in
     let note : SinkView = record { taken = g.N.Sink.taken c.args.note.now; flushed = g.N.Sink.flushed c.args.note.now; faults = g.N.Sink.faults c.args.note.now } in
     out_of_memory (record {
-      told = subst (λ (t : RunResult). IsTold t tell.result out (record { taken = g.O.Sink.taken tell.new.out; flushed = g.O.Sink.flushed tell.new.out; faults = g.O.Sink.faults tell.new.out }) note (record { taken = g.N.Sink.taken tell.new.note; flushed = g.N.Sink.flushed tell.new.note; faults = g.N.Sink.faults tell.new.note })) c.no_memory.ensures.told tell.ensures.told;
+      told = subst (λ (t : RunResult). IsTold t tell.result out (record { taken = g.O.Sink.taken tell.new.out; flushed = g.O.Sink.flushed tell.new.out; faults = g.O.Sink.faults tell.new.out }) note (record { taken = g.N.Sink.taken tell.new.note; flushed = g.N.Sink.flushed tell.new.note; faults = g.N.Sink.faults tell.new.note })) c.no_memory-in-Err-would_resume.ensures.told tell.ensures.told;
       only_read = record { content = c.would_resume.ensures.untouched; orders = c.would_resume.ensures.orders; calls = c.would_resume.ensures.calls };
     })

@@ -1,10 +1,9 @@
 use Rattle.std.proofs.Common.{refl, subst}
 use Rattle.dump_file.specs.Dump.{DumpValue}
-use Rattle.world_core.specs.StandsFor.{hardware_of}
 use Rattle.swsusp_cli.specs.Answer.{RunResult}
 use Rattle.swsusp_cli.specs.Dumps.{no_dump, out_of_memory, unread, answered}
 use Rattle.swsusp_cli.specs.Told.{IsTold}
-use Rattle.swsusp_cli.specs.View.{SinkView}
+use Rattle.swsusp_cli.specs.View.{DiskView, SinkView}
 use Rattle.swsusp_cli.proofs.Dumped.{hibernated_as, saves_as, saves_untouched}
 use Rattle.swsusp_cli.proofs.Inputs.{without_dump}
 use Rattle.swsusp_cli.proofs.hibernating.hibernate_dump.Goals as goal
@@ -12,18 +11,29 @@ use Rattle.swsusp_cli.proofs.hibernating.hibernate_dump.Goals as goal
 pub returns-in-Err-clause-outcome : goal.returns-in-Err-clause-outcome
 returns-in-Err-clause-outcome g c = without_dump _ _ _ c.tell.result c.in-Err.stop c.in-Err.ensures.lacks c.tell.ensures.told refl no_dump out_of_memory unread
 
+pub returns-in-Err-machine_of-clause-outcome : goal.returns-in-Err-machine_of-clause-outcome
+returns-in-Err-machine_of-clause-outcome g c =
+    let tell = c.tell-in-Err-machine_of in
+    let out : SinkView = record { taken = g.O.Sink.taken c.args.out.now; flushed = g.O.Sink.flushed c.args.out.now; faults = g.O.Sink.faults c.args.out.now } in
+    let note : SinkView = record { taken = g.N.Sink.taken c.args.note.now; flushed = g.N.Sink.flushed c.args.note.now; faults = g.N.Sink.faults c.args.note.now } in
+    let before : DiskView = record { blocks = g.D.Disk.block_count c.args.disk.now; content = g.D.Disk.content c.args.disk.now; faults = g.D.Disk.faults c.args.disk.now; calls = g.D.Disk.calls c.args.disk.now; orders = g.D.Disk.orders c.args.disk.now } in
+    out_of_memory (record {
+      told = subst (λ (t : RunResult). IsTold t tell.result out (record { taken = g.O.Sink.taken tell.new.out; flushed = g.O.Sink.flushed tell.new.out; faults = g.O.Sink.faults tell.new.out }) note (record { taken = g.N.Sink.taken tell.new.note; flushed = g.N.Sink.flushed tell.new.note; faults = g.N.Sink.faults tell.new.note })) c.no_memory.ensures.told tell.ensures.told;
+      untouched = refl {a = before};
+    })
+
 pub returns-clause-outcome : goal.returns-clause-outcome
 returns-clause-outcome g c =
     let tell = c.tell-2 in
     let out : SinkView = record { taken = g.O.Sink.taken c.args.out.now; flushed = g.O.Sink.flushed c.args.out.now; faults = g.O.Sink.faults c.args.out.now } in
     let note : SinkView = record { taken = g.N.Sink.taken c.args.note.now; flushed = g.N.Sink.flushed c.args.note.now; faults = g.N.Sink.faults c.args.note.now } in
-    let world = c.in-Ok.world in
-    let dump : DumpValue = record { hw = hardware_of world; memory = world.frames } in
+    let dump : DumpValue = record { hw = c.in-Ok.dump.hw; memory = c.in-Ok.dump.frames } in
+    let made = c.in-Ok-machine_of.ensures in
     let ended = c.hibernate-ended in
     answered dump ended.result (record {
       dump_is = record { says = λ bytes left. c.in-Ok.ensures.dump bytes left; over = c.in-Ok.ensures.end refl };
       told = subst (λ (t : RunResult). IsTold t tell.result out (record { taken = g.O.Sink.taken tell.new.out; flushed = g.O.Sink.flushed tell.new.out; faults = g.O.Sink.faults tell.new.out }) note (record { taken = g.N.Sink.taken tell.new.note; flushed = g.N.Sink.flushed tell.new.note; faults = g.N.Sink.faults tell.new.note })) c.hibernation_answer.ensures.told tell.ensures.told;
-      ends = λ v told original. hibernated_as _ dump.hw _ dump.memory c.args.format c.args.size v ended.result _ refl refl (ended.ensures.hibernated v told) original;
+      ends = λ v told original. hibernated_as _ dump.hw _ dump.memory c.args.format c.args.size v ended.result _ made.is made.frames (ended.ensures.hibernated v told) original;
       calls = ended.ensures.calls;
       orders = ended.ensures.orders;
     })
@@ -31,8 +41,11 @@ returns-clause-outcome g c =
 pub returns-in-Err-clause-inside : goal.returns-in-Err-clause-inside
 returns-in-Err-clause-inside g c = λ tells. saves_untouched c.args.format c.args.size (g.I.Source.remaining c.args.input.now) (g.D.Disk.content c.args.disk.now) (g.D.Disk.left_since c.args.disk.now (g.D.Disk.moment c.args.disk.now)) (λ w left. g.met.D.Disk.only_now c.args.disk.now w tells left)
 
+pub returns-in-Err-machine_of-clause-inside : goal.returns-in-Err-machine_of-clause-inside
+returns-in-Err-machine_of-clause-inside g c = λ tells. saves_untouched c.args.format c.args.size (g.I.Source.remaining c.args.input.now) (g.D.Disk.content c.args.disk.now) (g.D.Disk.left_since c.args.disk.now (g.D.Disk.moment c.args.disk.now)) (λ w left. g.met.D.Disk.only_now c.args.disk.now w tells left)
+
 pub returns-clause-inside : goal.returns-clause-inside
 returns-clause-inside g c = λ tells.
-    let world = c.in-Ok.world in
+    let made = c.in-Ok-machine_of.ensures in
     saves_as c.args.format c.args.size (g.I.Source.remaining c.args.input.now) (g.D.Disk.content c.args.disk.now) (g.D.Disk.left_since c.hibernate-ended.new.disk (g.D.Disk.moment c.args.disk.now))
-    (record { hw = hardware_of world; memory = world.frames }) _ _ (λ bytes left. c.in-Ok.ensures.dump bytes left) refl refl (λ v told never w left. c.hibernate-ended.ensures.inside tells v told never w left)
+    (record { hw = c.in-Ok.dump.hw; memory = c.in-Ok.dump.frames }) _ _ (λ bytes left. c.in-Ok.ensures.dump bytes left) made.is made.frames (λ v told never w left. c.hibernate-ended.ensures.inside tells v told never w left)
