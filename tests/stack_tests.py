@@ -1,0 +1,42 @@
+"""Each command runs within the stack that README's limits say."""
+import pathlib
+import resource
+import subprocess
+import tempfile
+
+from harness import Mismatch, programs
+from inputs import Machine, area
+
+KIB = 1024
+STACK = 256 * KIB
+SCRIPT = (pathlib.Path(__file__).resolve().parent.parent / "examples" / "machine.txt").read_bytes()
+
+
+def within(*words, stdin=b""):
+    """Runs a command with that much stack, which is to end by itself."""
+    limit = lambda: resource.setrlimit(resource.RLIMIT_STACK, (STACK, STACK))
+    words = [programs[words[0]], *map(str, words[1:])]
+    ran = subprocess.run(words, input=stdin, capture_output=True, preexec_fn=limit, timeout=120, check=False)
+    if ran.returncode != 0:
+        raise Mismatch(f"{words[1]} ended with {ran.returncode} and {ran.stderr.decode()!r}")
+    return ran.stdout
+
+
+def test_each_command_runs_in_256_kib():
+    machine = Machine()
+    saved, loader = machine.saved(), machine.loader(1000)
+    with area() as swap, tempfile.NamedTemporaryFile() as dump:
+        dump.write(saved)
+        dump.flush()
+        within("swsusp", "inspect", swap.path)
+        within("swsusp", "hibernate", swap.path, stdin=saved)
+        within("swsusp_machine", "check", swap.path, stdin=loader)
+        within("swsusp", "resume", swap.path, stdin=loader)
+        within("swsusp", "import", swap.path, stdin=within("swsusp", "export", stdin=saved))
+        within("swsusp_machine", "differ", dump.name, dump.name)
+    within("swsusp", "replay", stdin=SCRIPT)
+    within("swsusp", "drill", 10)
+    within("swsusp_machine", "loader", stdin=saved)
+    within("swsusp_machine", "show", stdin=saved)
+    within("swsusp_machine", "make", stdin=b"boot\nstep core\nstep core\n")
+    within("swsusp_machine", "--help")
