@@ -15,7 +15,8 @@ FISHDIR ?= $(PREFIX)/share/fish/vendor_completions.d
 
 SWSUSP := crates/swsusp/out/swsusp
 MACHINE := crates/swsusp_machine/out/swsusp_machine
-PROGRAMS := $(SWSUSP) $(MACHINE)
+IMAGE := crates/swsusp_image/out/swsusp_image
+PROGRAMS := $(SWSUSP) $(MACHINE) $(IMAGE)
 # What the scripts of examples/ call.
 TOOLS := tools/make_area.sh tools/make_dump.py tools/extents.py
 MISSING = $(filter-out $(wildcard $(PROGRAMS)),$(PROGRAMS))
@@ -25,6 +26,7 @@ MISSING = $(filter-out $(wildcard $(PROGRAMS)),$(PROGRAMS))
 all:
 	cd crates/swsusp && rt run -- drill 10
 	cd crates/swsusp_machine && rt run -- --help
+	cd crates/swsusp_image && rt run -- --help
 
 built:
 	@test -z "$(MISSING)" || { echo "not built: $(MISSING); 'make' proves and builds them" >&2; exit 1; }
@@ -35,11 +37,12 @@ install: built
 	install -m 755 $(PROGRAMS) $(DESTDIR)$(BINDIR)
 	install -m 644 man/swsusp-script.5 $(DESTDIR)$(MANDIR)/man5
 	install -m 644 man/swsusp-replies.7 $(DESTDIR)$(MANDIR)/man7
-	install -m 644 man/swsusp.8 man/swsusp_machine.8 $(DESTDIR)$(MANDIR)/man8
+	install -m 644 man/swsusp.8 man/swsusp_machine.8 man/swsusp_image.8 $(DESTDIR)$(MANDIR)/man8
 	install -m 644 completions/swsusp.bash $(DESTDIR)$(BASHDIR)/swsusp
 	install -m 644 completions/swsusp_machine.bash $(DESTDIR)$(BASHDIR)/swsusp_machine
-	install -m 644 completions/_swsusp completions/_swsusp_machine $(DESTDIR)$(ZSHDIR)
-	install -m 644 completions/swsusp.fish completions/swsusp_machine.fish $(DESTDIR)$(FISHDIR)
+	install -m 644 completions/swsusp_image.bash $(DESTDIR)$(BASHDIR)/swsusp_image
+	install -m 644 completions/_swsusp completions/_swsusp_machine completions/_swsusp_image $(DESTDIR)$(ZSHDIR)
+	install -m 644 completions/swsusp.fish completions/swsusp_machine.fish completions/swsusp_image.fish $(DESTDIR)$(FISHDIR)
 	install -m 644 README.md CHANGELOG.md VERSION $(DESTDIR)$(DOCDIR)
 	install -m 644 $(wildcard docs/*) $(DESTDIR)$(DOCDIR)/docs
 	install -m 644 $(filter-out %.sh,$(wildcard examples/*)) $(DESTDIR)$(DOCDIR)/examples
@@ -49,9 +52,9 @@ install: built
 uninstall:
 	rm -f $(addprefix $(DESTDIR)$(BINDIR)/,$(notdir $(PROGRAMS)))
 	rm -f $(DESTDIR)$(MANDIR)/man5/swsusp-script.5 $(DESTDIR)$(MANDIR)/man7/swsusp-replies.7
-	rm -f $(addprefix $(DESTDIR)$(MANDIR)/man8/,swsusp.8 swsusp_machine.8)
-	rm -f $(addprefix $(DESTDIR)$(BASHDIR)/,swsusp swsusp_machine) $(addprefix $(DESTDIR)$(ZSHDIR)/,_swsusp _swsusp_machine)
-	rm -f $(addprefix $(DESTDIR)$(FISHDIR)/,swsusp.fish swsusp_machine.fish)
+	rm -f $(addprefix $(DESTDIR)$(MANDIR)/man8/,swsusp.8 swsusp_machine.8 swsusp_image.8)
+	rm -f $(addprefix $(DESTDIR)$(BASHDIR)/,swsusp swsusp_machine swsusp_image) $(addprefix $(DESTDIR)$(ZSHDIR)/,_swsusp _swsusp_machine _swsusp_image)
+	rm -f $(addprefix $(DESTDIR)$(FISHDIR)/,swsusp.fish swsusp_machine.fish swsusp_image.fish)
 	rm -rf $(DESTDIR)$(DOCDIR)
 
 check: built

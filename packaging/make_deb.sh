@@ -11,7 +11,7 @@ rm -rf "$room"
 mkdir -p "$copy"
 (cd "$top" && git ls-files -z | grep -zv '^crates/' | tar -c --null -T - -f -) | tar -x -C "$copy" -f -
 cp -R "$top/packaging/debian" "$copy/debian"
-for program in swsusp swsusp_machine; do
+for program in swsusp swsusp_machine swsusp_image; do
     install -D -m 755 "$top/crates/$program/out/$program" "$copy/crates/$program/out/$program"
 done
 maintainer=$(sed -n 's/^Maintainer: //p' "$copy/debian/control")

@@ -1,8 +1,8 @@
 #!/usr/bin/env python3
 """run.py [NAME..]: runs the tests of this folder over the built programs, or those of the files with these names.
 
-The programs are those that `rt run` or `rt ci` leaves, crates/swsusp/out/swsusp and crates/swsusp_machine/out/swsusp_machine, or where
-the variables SWSUSP and SWSUSP_MACHINE say. A test is a function whose name begins with `test_`, in a file whose name ends with
+The programs are those that `rt run` or `rt ci` leaves, as crates/swsusp/out/swsusp, or where the variables SWSUSP, SWSUSP_MACHINE and
+SWSUSP_IMAGE say. A test is a function whose name begins with `test_`, in a file whose name ends with
 `_tests.py`. The status is 1 where one fails, and then it says which and why.
 """
 import importlib
@@ -30,7 +30,7 @@ def fails(name, test):
 
 
 def main(*names):
-    for name in ["swsusp", "swsusp_machine"]:
+    for name in ["swsusp", "swsusp_machine", "swsusp_image"]:
         built = HERE.parent / "crates" / name / "out" / name
         harness.programs[name] = os.environ.get(name.upper(), built)
         if not os.access(harness.programs[name], os.X_OK):

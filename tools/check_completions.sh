@@ -1,5 +1,5 @@
 #!/bin/sh
-# check_completions.sh [SWSUSP SWSUSP_MACHINE]: asks bash, zsh and fish to complete, and compares what they offer with the programs' `--help`.
+# check_completions.sh [SWSUSP SWSUSP_MACHINE SWSUSP_IMAGE]: asks bash, zsh and fish to complete, and compares what they offer with the programs' `--help`.
 #
 # The words are the programs; without them those that `rt run` or `rt ci` left. A shell that isn't there is named and left out. Each command, and
 # each option of each command, is to be offered, and no other command or option. The status is 1 where one is missing or too many.
@@ -9,7 +9,9 @@ room=$(mktemp -d)
 trap 'trap "" HUP INT TERM; rm -rf "$room"' EXIT
 trap 'exit 1' HUP INT TERM
 mkdir "$room/bin"
-cp "${1:-$top/crates/swsusp/out/swsusp}" "$room/bin/swsusp" && cp "${2:-$top/crates/swsusp_machine/out/swsusp_machine}" "$room/bin/swsusp_machine" || exit 1
+cp "${1:-$top/crates/swsusp/out/swsusp}" "$room/bin/swsusp" || exit 1
+cp "${2:-$top/crates/swsusp_machine/out/swsusp_machine}" "$room/bin/swsusp_machine" || exit 1
+cp "${3:-$top/crates/swsusp_image/out/swsusp_image}" "$room/bin/swsusp_image" || exit 1
 PATH=$room/bin:$PATH
 export PATH
 asked=0
@@ -77,7 +79,7 @@ compare() {
 
 for shell in bash zsh fish; do
     command -v "$shell" > /dev/null || { echo "no $shell here: left out"; continue; }
-    for program in swsusp swsusp_machine; do
+    for program in swsusp swsusp_machine swsusp_image; do
         compare "$shell" "$program " "$(commands_of "$program")" '^[a-z]+$'
         for command in $(commands_of "$program" | grep -v '^help$'); do
             compare "$shell" "$program $command --" "$(options_of "$program" "$command")" '^--[a-z-]+$'

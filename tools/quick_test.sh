@@ -18,17 +18,20 @@ build() {
 
 (build swsusp) &
 first=$!
-trap 'kill "$first" 2> /dev/null || :' EXIT
+(build swsusp_image) &
+second=$!
+trap 'kill "$first" "$second" 2> /dev/null || :' EXIT
 trap 'exit 1' HUP INT TERM
-second=0
-(build swsusp_machine) || second=$?
-if ! wait "$first" || [ "$second" -ne 0 ]; then
+status=0
+(build swsusp_machine) || status=1
+wait "$first" || status=1
+wait "$second" || status=1
+if [ "$status" -ne 0 ]; then
     echo "quick_test.sh: a program isn't built" >&2
     exit 1
 fi
 trap - EXIT HUP INT TERM
-status=0
-SWSUSP=$built/swsusp SWSUSP_MACHINE=$built/swsusp_machine python3 "$top/tests/run.py" "$@" || status=1
+SWSUSP=$built/swsusp SWSUSP_MACHINE=$built/swsusp_machine SWSUSP_IMAGE=$built/swsusp_image python3 "$top/tests/run.py" "$@" || status=1
 [ $# -eq 0 ] || exit "$status"
 python3 "$top/tools/check_examples.py" "$built/swsusp" || status=1
 sh "$top/examples/story.sh" "$built/swsusp" "$built/swsusp_machine" | diff "$top/examples/story.out" - || status=1

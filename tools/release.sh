@@ -38,7 +38,7 @@ refused=$(grep -c 'refused, as it must be' "$log") || :
 [ "$refused" -eq "$edits" ] || stop "the log has $refused edits refused, and the tree has $edits"
 grep 'refused, as it must be' "$log" | sort > "$room/$name/proof/edits-refused"
 
-for program in swsusp swsusp_machine; do
+for program in swsusp swsusp_machine swsusp_image; do
     built=crates/$program/out/$program
     [ -x "$built" ] || stop "no program at $built"
     readelf -p .comment "$built" | grep -q 'rattle logic=' || stop "$built names no logic in which it was proved"
@@ -49,7 +49,7 @@ cp -R docs man examples "$room/$name/"
 {
     echo "commit $(git rev-parse HEAD)"
     echo "toolchain $(rt version)"
-    for program in swsusp swsusp_machine; do
+    for program in swsusp swsusp_machine swsusp_image; do
         echo "$program$(readelf -p .comment "$room/$name/programs/$program" | sed -n 's/.*\(rattle logic=\)/ \1/p')"
     done
     echo "functions $(wc -l < "$room/$name/proof/functions"), edits $edits, crates $(wc -l < "$room/crates")"

@@ -1,11 +1,11 @@
 #!/bin/sh
-# unproved.sh swsusp|swsusp_machine FILE: builds the program without proving it, and leaves it as FILE.
+# unproved.sh swsusp|swsusp_machine|swsusp_image FILE: builds the program without proving it, and leaves it as FILE.
 #
 # rt offers no unproved program that can be kept: `rt try` builds one, with checks that make it too slow for tests/, runs it and takes it away. So this
 # links the module that `rt try` hands to its compiler to a place of its own while it is there, ends `rt try`, and compiles and links that
 # module by the tools of the toolchain, which lie beside the page that `rt doc` names.
 set -eu
-case ${1:-} in swsusp | swsusp_machine) ;; *) set -- ;; esac
+case ${1:-} in swsusp | swsusp_machine | swsusp_image) ;; *) set -- ;; esac
 if [ $# -ne 2 ]; then
     sed -n '2s/^# //p' "$0" >&2
     exit 2

@@ -1,11 +1,11 @@
 //! Drills: the summary of each worked example, and what is said where one isn't played. The sums of three, ten and two thousand words are
 //! worked out from the values 1000003 c + 7919 i, of which the first eight are shown again after one more was stored over them.
 
+use command_kit::Status;
 use samples::{assert_printed, failing_out, run_over, run_with};
 use sector_disk::{Disk, MemDisk};
 use std::alloc::Global;
 use std::test::Fail;
-use swsusp_cli::Status;
 
 /// Plays a drill over a fresh disk of 16,384 blocks, and compares its line.
 fn assert_line(alloc: Global, number: &str, line: &str) -> Result<(), Fail> {

@@ -1,5 +1,6 @@
 //! What `inspect` says of a header block.
 
+use command_kit::Status;
 use page_core::Page;
 use samples::{
     INSPECT, assert_printed, assert_refused, disk_with, failing_out, run_over, run_with,
@@ -7,7 +8,6 @@ use samples::{
 use sector_disk::{Disk, MemDisk};
 use sig_header::{area_page, mark};
 use std::test::Fail;
-use swsusp_cli::Status;
 
 fn with_signature(page: &Page, sig: [u8; 10]) -> Page {
     let mut bytes = *page.as_bytes();

@@ -1,12 +1,12 @@
 //! Damaged dumps and faulty scripts: the first fault is noted, and no call of the disk is made.
 
+use command_kit::Status;
 use samples::{
     EXAMPLE, EXPORT, HIBERNATE, OVER_FILE, REPLAY, RESUME, assert_printed, run_over, saved,
 };
 use sector_disk::{Disk, MemDisk};
 use std::alloc::Global;
 use std::test::Fail;
-use swsusp_cli::Status;
 
 /// A run over a disk whose every call fails, which would be told, ends with this note.
 fn assert_noted(alloc: Global, words: &[&str], input: &[u8], note: &str) -> Result<(), Fail> {

@@ -4,12 +4,12 @@
 use crate::disks::{front, lay};
 use crate::loaders::resumed;
 use crate::rows::{USED, assert_refuses, lines, played};
+use command_kit::Status;
 use samples::{
     Change, HIBERNATE, INSPECT, RESUME, RESUME_ANY, SCRIPTED, SMALL, assert_done, assert_printed,
     assert_refused, change, loader, run_over, scripted,
 };
 use std::test::Fail;
-use swsusp_cli::Status;
 
 /// S1SUSPEND and a zero byte from 4076 on, and the first two bytes of the mark behind them, which are the same.
 const MARKED: [Change; 3] = [

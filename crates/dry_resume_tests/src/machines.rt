@@ -4,7 +4,8 @@ ghost use Rattle.std.specs.Prelude.{Some, IfOk};
 ghost use Rattle.plain_machine.specs.Machine.{Fits, IsHardware};
 ghost use Rattle.world_core.specs.StandsFor.{IsNew, hardware_of};
 
-use dump_file::{MemSource, read_dump};
+use byte_streams::MemSource;
+use dump_file::read_dump;
 use machine::Dump;
 use page_core::NoMemory;
 use samples::SCRIPTED;

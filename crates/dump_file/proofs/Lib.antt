@@ -14,7 +14,6 @@ pub mod Places
 pub mod RecordFaults
 pub mod RoundTrip
 pub mod SixNames
-pub mod Taken
 pub mod WrittenFronts
 pub mod WrittenLayouts
 pub mod WrittenRecords

@@ -13,7 +13,7 @@ use Rattle.definitions.proofs.ZoneWalk.{IsAtZone}
 use Rattle.plain_machine.specs.Image.{is_zeros}
 use Rattle.plain_machine.specs.Machine.{Memory}
 use Rattle.dump_file.specs.Written.{nonzero, record_bytes, records_bytes}
-use Rattle.dump_file.proofs.Taken.{TakesAll-both, TakesFront-first, TakesFront-second}
+use Rattle.byte_streams.proofs.Taken.{TakesAll-both, TakesFront-first, TakesFront-second}
 
 pub range-append : (a m n : ℕ) → range_with_len a (m + n) ≡ range_with_len a m ++ range_with_len (a + m) n
 range-append a zero n = let same : 0 + n ≡ n = omega arith in let from : a ≡ a + 0 = omega arith in ap (range_with_len a) same ∙ ap (λ x. range_with_len x n) from

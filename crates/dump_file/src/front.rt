@@ -4,9 +4,8 @@ ghost use Rattle.definitions.specs.Streams.{HandsOut, IsUsedUp};
 ghost use Rattle.dump_file.specs.Fields.{is_second, number};
 ghost use Rattle.dump_file.specs.Reading.{head_len};
 
-use crate::fill::fill;
 use crate::head::MOST_BYTES;
-use crate::source::Source;
+use byte_streams::{Source, fill};
 use byteorder::{ByteOrder, LittleEndian};
 use page_core::Failed;
 

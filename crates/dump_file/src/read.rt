@@ -8,12 +8,12 @@ ghost use Rattle.dump_file.specs.Fields.{contents, hardware, first_record, recor
 ghost use Rattle.dump_file.specs.Reading.{IsHeader, IsReadTo};
 
 use crate::dump::{DumpFault, DumpKind, DumpStop};
-use crate::fill::{fault, fill};
+use crate::fill::fault;
 use crate::front::read_front;
 use crate::head::MOST_BYTES;
 use crate::header::{Header, header_of};
 use crate::records::{RECORD, read_records};
-use crate::source::Source;
+use byte_streams::{Source, fill};
 use frame_arena::Frames;
 use machine::{Dump, tables_fit};
 use std::alloc::Global;

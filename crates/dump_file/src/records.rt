@@ -11,7 +11,7 @@ ghost use Rattle.dump_file.specs.Reading.{IsReadTo};
 
 use crate::dump::{DumpFault, DumpKind, DumpStop};
 use crate::fill::{fault, read_number, take_exact};
-use crate::source::Source;
+use byte_streams::Source;
 use frame_arena::Frames;
 use zones::Zones;
 

@@ -11,8 +11,8 @@ ghost use Rattle.dump_file.specs.ReadBack.{ReadsBack};
 ghost use Rattle.dump_file.specs.Written.{dump_bytes, extent_bytes, front_bytes, head_bytes, is_plain, layout_bytes, map_bytes, nonzero, record_bytes, records_bytes, zone_bytes};
 
 use crate::head::Head;
-use crate::put::{put_all, put_number};
-use crate::sink::Sink;
+use crate::put::put_number;
+use byte_streams::{Sink, put_all};
 use frame_arena::Frames;
 use machine::Hardware;
 use page_core::{Failed, Page};

@@ -1,12 +1,12 @@
 //! Whole cycles over disks in memory: a machine hibernates from its dump, and is resumed into a loader's.
 
+use command_kit::Status;
 use samples::{
     EXAMPLE, INSPECT, area, assert_printed, assert_restored, assert_resumes, header, hibernate,
     resume, run_over,
 };
 use sector_disk::{Disk, LogDisk};
 use std::test::Fail;
-use swsusp_cli::Status;
 
 #[test]
 fn from_dump_to_dump(rt: HostRuntime) -> Result<(), Fail> {

@@ -2,11 +2,11 @@
 //! sync (11), a read (12), the mark (13) and its sync (14); an undo writes (15) and syncs (16). A resume makes 12: a sync (1), a read
 //! (2), the write of the mark taken back (3), its sync (4), then the image's blocks.
 
+use command_kit::Status;
 use samples::{area, assert_no_image, assert_printed, assert_resumes, hibernate, resume};
 use sector_disk::{Disk, MemDisk};
 use std::alloc::Global;
 use std::test::Fail;
-use swsusp_cli::Status;
 
 /// A call of the disk that fails: its number, how many fail from it on, and which sectors a write leaves all the same.
 type Fault = (u32, u32, u64);

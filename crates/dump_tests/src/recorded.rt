@@ -2,13 +2,13 @@
 //! them; the 12 that aren't reads are recorded: the boot's sync (1), a map and the pages (2 to 9), a sync (10), the mark (11) and its sync
 //! (12); an undo writes (13) and syncs (14). Of a resume a sync (1), the write of the mark taken back (2) and its sync (3) are recorded.
 
+use command_kit::Status;
 use samples::{
     assert_no_image, assert_printed, assert_resumes, header, hibernate, lay_block, resume,
 };
 use sector_disk::{Disk, LogDisk};
 use std::alloc::Global;
 use std::test::Fail;
-use swsusp_cli::Status;
 
 /// A cut that keeps the last bytes of every sector.
 const ALL: u64 = u64::MAX;

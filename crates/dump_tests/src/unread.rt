@@ -1,6 +1,7 @@
 //! Input that is no dump, and streams that fail.
 
 use crate::machines::tiny;
+use command_kit::Status;
 use samples::{
     EXAMPLE, Failing, HIBERNATE, NONE, RESUME, area, assert_no_image, assert_printed,
     assert_refused, bytes_of, failing_input, hibernate, loader_with_nines, resume, run_over,
@@ -9,7 +10,6 @@ use samples::{
 use sector_disk::{Disk, MemDisk};
 use std::alloc::Global;
 use std::test::Fail;
-use swsusp_cli::Status;
 
 /// A disk whose every call fails, so that a run which makes one tells of it.
 fn no_disk(alloc: Global) -> Result<MemDisk, Fail> {

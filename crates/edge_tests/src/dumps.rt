@@ -4,7 +4,8 @@ ghost use Rattle.std.specs.Prelude.{None};
 use crate::samples::{
     PLAIN, large, large_memory, machine, number, read, set_entry, tiny, with_number, written,
 };
-use dump_file::{DumpStop, MemSink, MemSource, Source, read_dump, write_dump};
+use byte_streams::{MemSink, MemSource, Source};
+use dump_file::{DumpStop, read_dump, write_dump};
 use frame_arena::Frames;
 use page_core::Failed;
 use std::alloc::Global;

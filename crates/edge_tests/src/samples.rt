@@ -1,8 +1,9 @@
 //! The dumps that the tests read and write.
 
+use byte_streams::{MemSink, MemSource};
 use byteorder::{ByteOrder, LittleEndian};
 use definitions::Ident;
-use dump_file::{DumpFault, DumpKind, DumpStop, MemSink, MemSource, read_dump, write_dump};
+use dump_file::{DumpFault, DumpKind, DumpStop, read_dump, write_dump};
 use frame_arena::Frames;
 use machine::{Dump, Hardware, Parts};
 use std::alloc::Global;

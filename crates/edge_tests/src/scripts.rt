@@ -1,9 +1,10 @@
+use byte_streams::Line;
 use definitions::Field;
 use page_core::Format;
 use plain_machine::{
     Actor, BootFrom, Event, IdentCheck, Left, Loader, NoSwap, Ranges, Reply, TaskOp, UndoCall,
 };
-use script::{Line, Script, line_of, parse};
+use script::{Script, line_of, parse};
 
 const NO_RANGE: Ranges = Ranges {
     count: 0,

@@ -1,4 +1,4 @@
-use dump_file::{MemSink, MemSource, Sink, Source, StdSink, StdSource};
+use byte_streams::{MemSink, MemSource, Sink, Source, StdSink, StdSource};
 use std::fs;
 use std::test::Fail;
 

@@ -3,8 +3,9 @@ ghost use Rattle.plain_machine.specs.Machine.{Fits};
 ghost use Rattle.sector_disk.specs.MemDisk.{block_count};
 ghost use Rattle.world_core.specs.StandsFor.{IsOff, blocks_of};
 
+use byte_streams::{MemSink, MemSource};
 use definitions::Ident;
-use dump_file::{MemSink, MemSource, read_dump, write_dump};
+use dump_file::{read_dump, write_dump};
 use frame_arena::Frames;
 use machine::{Dump, Hardware, Parts};
 use page_core::Format;

@@ -15,10 +15,10 @@ use Rattle.world_core.proofs.Cases.{activity_by, activity_for, at_run}
 use Rattle.world_core.proofs.TaskRows.{on_parts}
 use Rattle.swsusp_cli.specs.Outcome.{IsScript, Tells}
 use Rattle.swsusp_cli.specs.SettingUp.{IsNotSetUp, IsSetUp, unready_told}
-use Rattle.swsusp_cli.specs.View.{DiskView, View}
+use Rattle.command_kit.specs.View.{DiskView, View}
 use Rattle.swsusp_cli.specs.declared.setting_up.Unready.{Unready}
 use Rattle.swsusp_cli.specs.declared.setting_up.Unready.TheVariants.{Small, Unformatted as NotFormatted}
-use Rattle.swsusp_cli.specs.declared.status.Status.{Status}
+use Rattle.command_kit.specs.declared.status.Status.{Status}
 use Rattle.swsusp_cli.specs.Playing.{HasPlayed}
 use Rattle.swsusp_cli.proofs.Replays.{not_formatted, replies_of, small_disk, world_at_end}
 use Rattle.machine_cli.specs.Made.{HasPlayedTo, IsMade, RunsNot, RunsWith, too_small, unformatted}

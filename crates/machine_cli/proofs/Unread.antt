@@ -2,8 +2,8 @@
 use Rattle.std.proofs.Common.{ℕ, List, Option}
 use Rattle.dump_file.specs.Dump.{DumpValue}
 use Rattle.swsusp_cli.specs.Stops.{IsStopTold, LacksDump}
-use Rattle.swsusp_cli.specs.View.{SinkView}
-use Rattle.swsusp_cli.specs.declared.status.Status.{Status}
+use Rattle.command_kit.specs.View.{SinkView}
+use Rattle.command_kit.specs.declared.status.Status.{Status}
 use Rattle.swsusp_cli.specs.declared.stop.Stop.{Stop}
 use Rattle.swsusp_cli.specs.declared.stop.Stop.TheVariants.{Source, Memory, Script, Dump}
 use Rattle.machine_cli.specs.Compared.{Compares, IsOf, no_first, no_second, out_of_memory, unread}

@@ -10,13 +10,13 @@ use Rattle.plain_machine.specs.Machine.{Memory}
 use Rattle.plain_machine.specs.Premises.{HasOriginal}
 use Rattle.plain_machine.specs.Replies.{line_of}
 use Rattle.plain_machine.specs.declared.event.IdentCheck.TheVariants.{Compare}
-use Rattle.swsusp_cli.specs.Answer.{RunResult, memory_told}
+use Rattle.command_kit.specs.Answer.{RunResult, memory_told}
 use Rattle.swsusp_cli.specs.Dumps.{IsDump, IsNoDump, stopped_told}
 use Rattle.swsusp_cli.specs.Loads.{is_resumed}
 use Rattle.swsusp_cli.specs.Outcome.{IsOutOfMemory, IsUnread, Tells}
-use Rattle.swsusp_cli.specs.View.{DiskView, View}
-use Rattle.swsusp_cli.specs.declared.status.Status.{Status}
-use Rattle.swsusp_cli.specs.declared.status.Status.TheVariants.{Done}
+use Rattle.command_kit.specs.View.{DiskView, View}
+use Rattle.command_kit.specs.declared.status.Status.{Status}
+use Rattle.command_kit.specs.declared.status.Status.TheVariants.{Done}
 
 -- a resume that would end well is told on out, and why it wouldn't as a note
 abbrev pub foretold_told : Ended → RunResult

@@ -6,13 +6,13 @@ use Rattle.dump_differ.specs.declared.Difference.TheVariants.{Hardware, Saveable
 use Rattle.dump_file.specs.Dump.{DumpValue, dump_of}
 use Rattle.dump_file.specs.declared.dump.DumpFault.{DumpFault}
 use Rattle.machine.specs.declared.dump.Dump.{Dump}
-use Rattle.swsusp_cli.specs.Answer.{RunResult, line, memory_told}
+use Rattle.command_kit.specs.Answer.{RunResult, line, memory_told}
 use Rattle.swsusp_cli.specs.Dumps.{dump_told}
 use Rattle.swsusp_cli.specs.Replay.{unread_note}
-use Rattle.swsusp_cli.specs.Told.{IsTold, IsTried}
-use Rattle.swsusp_cli.specs.View.{SinkView}
-use Rattle.swsusp_cli.specs.declared.status.Status.{Status}
-use Rattle.swsusp_cli.specs.declared.status.Status.TheVariants.{Done, Refused, Stream}
+use Rattle.command_kit.specs.Told.{IsTold, IsTried}
+use Rattle.command_kit.specs.View.{SinkView}
+use Rattle.command_kit.specs.declared.status.Status.{Status}
+use Rattle.command_kit.specs.declared.status.Status.TheVariants.{Done, Refused, Stream}
 
 -- what is told: `same` with status 0, or with status 1 the first difference, a page frame with its number
 abbrev pub difference_told : Option Difference → RunResult

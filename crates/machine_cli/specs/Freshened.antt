@@ -7,8 +7,8 @@ use Rattle.plain_machine.specs.FreshMemory.{fresh_memory}
 use Rattle.swsusp_cli.specs.Dumps.{IsDump, IsNoDump}
 use Rattle.swsusp_cli.specs.Loads.{written_told}
 use Rattle.swsusp_cli.specs.Outcome.{IsOutOfMemory, IsUnread, Tells}
-use Rattle.swsusp_cli.specs.View.{View}
-use Rattle.swsusp_cli.specs.declared.status.Status.{Status}
+use Rattle.command_kit.specs.View.{View}
+use Rattle.command_kit.specs.declared.status.Status.{Status}
 
 -- One of these, by what the outside told before and after.
 pub data Freshens (x x' : View) (status : Status) : Type 0 where

@@ -6,15 +6,15 @@ use Rattle.plain_machine.specs.State.{State, Running, on}
 use Rattle.plain_machine.specs.declared.reply.Reply.{Reply}
 use Rattle.script.specs.Grammar.{ScriptValue}
 use Rattle.script.specs.declared.fault.ScriptFault.{ScriptFault}
-use Rattle.swsusp_cli.specs.Answer.{RunResult, line}
+use Rattle.command_kit.specs.Answer.{RunResult, line}
 use Rattle.swsusp_cli.specs.Formatting.{LieBelow}
 use Rattle.swsusp_cli.specs.Loads.{written_told}
 use Rattle.swsusp_cli.specs.Outcome.{IsNoScript, IsOutOfMemory, IsScript, IsTooSmall, IsUnformatted, IsUnread, Tells}
 use Rattle.swsusp_cli.specs.Replay.{AreReplies, IsRun}
-use Rattle.swsusp_cli.specs.View.{View}
+use Rattle.command_kit.specs.View.{View}
 use Rattle.swsusp_cli.specs.declared.formatting.Unformatted.{Unformatted}
-use Rattle.swsusp_cli.specs.declared.status.Status.{Status}
-use Rattle.swsusp_cli.specs.declared.status.Status.TheVariants.{Refused}
+use Rattle.command_kit.specs.declared.status.Status.{Status}
+use Rattle.command_kit.specs.declared.status.Status.TheVariants.{Refused}
 
 -- no machine runs
 abbrev pub idle_told : RunResult

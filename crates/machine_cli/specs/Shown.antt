@@ -4,12 +4,12 @@ use Rattle.dump_file.specs.Dump.{DumpValue}
 use Rattle.dump_file.specs.declared.dump.DumpFault.{DumpFault}
 use Rattle.machine_facts.specs.Texts.{facts_text}
 use Rattle.plain_machine.specs.Machine.{Hardware, Memory}
-use Rattle.swsusp_cli.specs.Answer.{RunResult}
+use Rattle.command_kit.specs.Answer.{RunResult}
 use Rattle.swsusp_cli.specs.Dumps.{IsDump, IsNoDump}
 use Rattle.swsusp_cli.specs.Outcome.{IsOutOfMemory, IsUnread, Tells}
-use Rattle.swsusp_cli.specs.View.{View}
-use Rattle.swsusp_cli.specs.declared.status.Status.{Status}
-use Rattle.swsusp_cli.specs.declared.status.Status.TheVariants.{Done}
+use Rattle.command_kit.specs.View.{View}
+use Rattle.command_kit.specs.declared.status.Status.{Status}
+use Rattle.command_kit.specs.declared.status.Status.TheVariants.{Done}
 
 abbrev pub facts_told : Hardware → Memory → RunResult
 facts_told h m = record { status = Done; out = facts_text h m; note = [] }

@@ -1,18 +1,19 @@
 ghost use Rattle.std.specs.Prelude.{◌≡◌, ◌≢◌, ◌⊎◌, ◌≤◌, ◌+◌, true};
 ghost use Rattle.definitions.specs.Disk.{HasRisen};
 ghost use Rattle.machine_cli.specs.Checked.{Checks, foretold_told};
-ghost use Rattle.swsusp_cli.specs.AnswerOf.{told_by};
-ghost use Rattle.swsusp_cli.specs.View.{view};
+ghost use Rattle.command_kit.specs.AnswerOf.{told_by};
+ghost use Rattle.command_kit.specs.View.{view};
 
+use byte_streams::{Line, Sink, Source};
 use command_core::Ended;
+use command_kit::{Answer, Status, no_memory};
 use dry_resume::would_resume;
-use dump_file::{Sink, Source};
 use page_core::NoMemory;
 use plain_machine::{IdentCheck, Reply};
-use script::{Line, line_of};
+use script::line_of;
 use sector_disk::Disk;
 use std::alloc::Global;
-use swsusp_cli::{Answer, Status, dump_of_input, machine_of, no_memory, stopped};
+use swsusp_cli::{dump_of_input, machine_of, stopped};
 
 /// Reads a loader's dump to its end, and tells what a resume of the image on the disk into its machine would answer. The disk is only
 /// read.

@@ -1,14 +1,14 @@
 ghost use Rattle.std.specs.Prelude.{◌≡◌, ◌≢◌, ◌⊎◌, ◌≤◌, ◌+◌, ◌++◌, ◌∷◌, [], decimal, length};
 ghost use Rattle.definitions.specs.Disk.{HasRisen};
 ghost use Rattle.machine_cli.specs.Compared.{Compares, difference_told};
-ghost use Rattle.swsusp_cli.specs.AnswerOf.{told_by};
-ghost use Rattle.swsusp_cli.specs.View.{sink_view};
+ghost use Rattle.command_kit.specs.AnswerOf.{told_by};
+ghost use Rattle.command_kit.specs.View.{sink_view};
 
+use byte_streams::{Line, Sink, Source};
+use command_kit::{Answer, Status};
 use dump_differ::{Difference, first_difference};
-use dump_file::{Sink, Source};
-use script::Line;
 use std::alloc::Global;
-use swsusp_cli::{Answer, Status, dump_of_input};
+use swsusp_cli::dump_of_input;
 
 /// Reads two dumps, one after the other, and tells where they differ first, or that an image would save the same of both machines.
 #[inline(never)]

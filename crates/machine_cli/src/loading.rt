@@ -1,13 +1,14 @@
 ghost use Rattle.std.specs.Prelude.{◌≡◌, ◌≢◌, ◌⊎◌};
 ghost use Rattle.definitions.specs.Disk.{HasRisen};
 ghost use Rattle.machine_cli.specs.Freshened.{Freshens};
-ghost use Rattle.swsusp_cli.specs.View.{DiskView, sink_view};
+ghost use Rattle.command_kit.specs.View.{DiskView, sink_view};
 
-use dump_file::{Sink, Source};
+use byte_streams::{Sink, Source};
+use command_kit::{Status, no_memory};
 use fresh_dump::make_fresh;
 use page_core::NoMemory;
 use std::alloc::Global;
-use swsusp_cli::{Status, dump_of_input, no_memory, tell_dump};
+use swsusp_cli::{dump_of_input, tell_dump};
 
 /// Reads a dump to its end, and writes the dump of its machine when it has just booted: a loader, into which an image can be resumed. No
 /// disk is used.

@@ -1,16 +1,16 @@
 ghost use Rattle.std.specs.Prelude.{◌≡◌, ◌≢◌, ◌⊎◌, ◌≤◌, ◌+◌};
 ghost use Rattle.definitions.specs.Disk.{HasRisen};
 ghost use Rattle.machine_cli.specs.Made.{IsMade, idle_told};
-ghost use Rattle.swsusp_cli.specs.AnswerOf.{told_by};
+ghost use Rattle.command_kit.specs.AnswerOf.{told_by};
 ghost use Rattle.swsusp_cli.specs.Reading.{HandsOutAtMost};
-ghost use Rattle.swsusp_cli.specs.View.{view};
+ghost use Rattle.command_kit.specs.View.{view};
 
-use dump_file::{Sink, Source};
+use byte_streams::{Line, Sink, Source};
+use command_kit::{Answer, Status, no_memory};
 use page_core::NoMemory;
-use script::Line;
 use sector_disk::Disk;
 use std::alloc::Global;
-use swsusp_cli::{Answer, Status, no_memory, parse_input, play_through, set_up, tell_dump};
+use swsusp_cli::{parse_input, play_through, set_up, tell_dump};
 use world_core::World;
 
 /// Plays a script over a disk, and writes the memory of the machine that runs at its end as a dump. Where none runs, that is noted.

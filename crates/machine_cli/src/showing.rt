@@ -3,15 +3,16 @@ ghost use Rattle.definitions.specs.Disk.{HasRisen};
 ghost use Rattle.definitions.specs.Zones.{top};
 ghost use Rattle.machine_cli.specs.Shown.{Shows, facts_told};
 ghost use Rattle.machine_facts.specs.Texts.{facts_text};
-ghost use Rattle.swsusp_cli.specs.Told.{FailsToPrint, IsPrinted, IsTold};
-ghost use Rattle.swsusp_cli.specs.View.{DiskView, sink_view};
+ghost use Rattle.command_kit.specs.Told.{FailsToPrint, IsPrinted, IsTold};
+ghost use Rattle.command_kit.specs.View.{DiskView, sink_view};
 
-use dump_file::{Sink, Source};
+use byte_streams::{Sink, Source};
+use command_kit::{Status, print};
 use machine::Dump;
 use machine_facts::show;
 use page_core::Failed;
 use std::alloc::Global;
-use swsusp_cli::{Status, dump_of_input, print};
+use swsusp_cli::dump_of_input;
 
 /// Reads a dump to its end, and prints its facts: hardware, and who has the page frames and the slots. No disk is used.
 #[inline(never)]

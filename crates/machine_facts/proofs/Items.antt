@@ -8,7 +8,7 @@ use Rattle.definitions.specs.Streams.{TakesAll, TakesFront}
 use Rattle.dump_file.proofs.Numbers.{flat_map-take_more}
 use Rattle.machine_facts.specs.Texts.{number_text}
 use Rattle.dump_facts.proofs.Joined.{three_parts}
-use Rattle.dump_file.proofs.Taken.{TakesAll-both, TakesFront-first, TakesFront-second}
+use Rattle.byte_streams.proofs.Taken.{TakesAll-both, TakesFront-first, TakesFront-second}
 
 -- one item more is taken
 pub all_of_more : {X : Type 0} (f : X → List ℕ) (xs : List X) (i : ℕ) (d : X) (old mid new : Option (List ℕ)) → i < length xs → TakesAll (flat_map f (take i xs)) old mid → TakesAll (f (get_or xs i d)) mid new → TakesAll (flat_map f (take (i + 1) xs)) old new

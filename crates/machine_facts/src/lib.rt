@@ -10,8 +10,8 @@ ghost use Rattle.definitions.specs.Streams.{TakesAll, TakesFront};
 ghost use Rattle.definitions.specs.Zones.{top};
 ghost use Rattle.machine_facts.specs.Texts.{facts_text};
 
+use byte_streams::Sink;
 use dump_facts::facts_of;
-use dump_file::Sink;
 use machine::Dump;
 use page_core::Failed;
 use printing::print;

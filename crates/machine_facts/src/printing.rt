@@ -5,8 +5,8 @@ ghost use Rattle.definitions.specs.Streams.{TakesAll, TakesFront};
 ghost use Rattle.machine_facts.specs.Texts.{line_text};
 
 use crate::text::line_of;
+use byte_streams::Sink;
 use dump_facts::Fact;
-use dump_file::Sink;
 use page_core::Failed;
 
 /// Writes the lines of facts.

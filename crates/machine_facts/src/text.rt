@@ -3,9 +3,9 @@ ghost use Rattle.std.specs.List.{list_all};
 ghost use Rattle.definitions.specs.InfoPage.{text_of_name};
 ghost use Rattle.machine_facts.specs.Texts.{fact_text, image_key, is_printable, line_text, name_key, name_text, needed_key, numbers_text};
 
+use byte_streams::Line;
 use dump_facts::{Fact, Name};
 use page_core::Format;
-use script::Line;
 
 /// The line of a fact.
 pub(crate) fn line_of(fact: &Fact) -> Line

@@ -1,10 +1,10 @@
 //! What a replay says when its disk is too small, or fails, or its output does.
 
 use crate::runs::replayed;
+use command_kit::Status;
 use samples::{REPLAY, assert_printed, assert_refused, failing_out, run_with};
 use sector_disk::{Disk, MemDisk};
 use std::test::Fail;
-use swsusp_cli::Status;
 
 const BOOTS: &str = "boot\nsteps core 2\n";
 

@@ -1,13 +1,13 @@
 //! The bytes of images that replays leave, and what `inspect` says of their areas.
 
 use crate::runs::{block_behind, replayed, run_behind};
+use command_kit::Status;
 use page_core::Page;
 use samples::{INSPECT, assert_printed, block, play_over, write};
 use sector_disk::MemDisk;
 use std::alloc::Global;
 use std::process::Abort;
 use std::test::Fail;
-use swsusp_cli::Status;
 
 /// A machine with 3001 slots has booted, and its task 3 has stored 77 in page frame 10.
 const B: &str = "area 3000\nboot\nsteps core 2\nclaim 3 10\nstore 3 10 0 77\n";

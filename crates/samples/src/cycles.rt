@@ -3,10 +3,10 @@
 use crate::dumps::{EXAMPLE, Shape, loader_with_nines, restored, saved};
 use crate::printed::{Printed, assert_refused, assert_written};
 use crate::runs::{HIBERNATE, RESUME, run_over};
+use command_kit::Status;
 use sector_disk::Disk;
 use std::alloc::Global;
 use std::test::Fail;
-use swsusp_cli::Status;
 
 /// Hibernates the machine of the worked example, which has no hardware signature, onto a disk of 1600 blocks.
 pub fn hibernate<D: Disk>(alloc: Global, disk: &mut D) -> Result<Printed, Fail> {

@@ -5,11 +5,12 @@ ghost use Rattle.world_core.specs.StandsFor.{IsOff};
 
 use crate::printed::{assert_done, assert_printed};
 use crate::runs::{REPLAY, run_over, sink_of};
+use command_kit::Status;
 use script::{Script, parse};
 use sector_disk::{Disk, MemDisk};
 use std::alloc::Global;
 use std::test::Fail;
-use swsusp_cli::{Status, play};
+use swsusp_cli::play;
 use world_core::World;
 
 /// A machine of 4096 page frames and 3001 slots hibernates: the map is in block 1, the info page in block 2, the number page in block 3,

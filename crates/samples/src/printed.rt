@@ -1,10 +1,10 @@
 //! What a run answered and printed, compared with what it is to be. A library may not end the process: where they differ the answer is a
 //! failure, which says what was there.
 
-use dump_file::MemSink;
+use byte_streams::MemSink;
+use command_kit::Status;
 use std::str;
 use std::test::Fail;
-use swsusp_cli::Status;
 
 /// What a run answered and printed.
 #[derive(Drop)]

@@ -1,7 +1,7 @@
 //! Runs of the program over disks, with an input and outputs in memory.
 
 use crate::printed::Printed;
-use dump_file::{MemSink, MemSource};
+use byte_streams::{MemSink, MemSource};
 use sector_disk::Disk;
 use std::alloc::Global;
 use std::test::Fail;

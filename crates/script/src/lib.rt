@@ -5,7 +5,6 @@ mod drill;
 mod fault;
 mod grammar;
 mod ident;
-mod line;
 mod lines;
 mod ranges;
 mod reading;
@@ -17,7 +16,6 @@ mod words;
 
 pub use drill::generate;
 pub use fault::{FaultKind, ParseStop, ScriptFault};
-pub use line::Line;
 pub use reading::{Script, parse};
 pub use replies::line_of;
 pub use tally::{Tally, put_summary};

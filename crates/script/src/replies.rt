@@ -1,8 +1,8 @@
 ghost use Rattle.std.specs.Prelude.{◌≡◌, ◌+◌, ◌≤◌, ◌++◌, length, codes, decimal};
 ghost use Rattle.plain_machine.specs.Replies.{call_text, field_text, left_text, line_of, one, reply_text, two, booted_text};
 
-use crate::line::Line;
 use crate::texts::put_no_swap;
+use byte_streams::Line;
 use definitions::Field;
 use plain_machine::{Left, Reply, UndoCall};
 

@@ -1,7 +1,7 @@
 ghost use Rattle.std.specs.Prelude.{◌≡◌, ◌+◌, ◌≤◌, ◌++◌, length, decimal};
 ghost use Rattle.script.specs.Drill.{is_hibernated, is_resumed, summary, word_in};
 
-use crate::line::Line;
+use byte_streams::Line;
 use plain_machine::Reply;
 
 /// What replies come to: how many there are, how many hibernations, resumes and words they tell of, and the words' sum modulo 2^64.

@@ -1,7 +1,7 @@
 ghost use Rattle.std.specs.Prelude.{◌≡◌, ◌+◌, ◌≤◌, ◌++◌, length, decimal};
 ghost use Rattle.plain_machine.specs.Texts.{no_swap_text};
 
-use crate::line::Line;
+use byte_streams::Line;
 use plain_machine::NoSwap;
 
 /// Adds why an area can't be used, as `no swap: old`.

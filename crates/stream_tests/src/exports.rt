@@ -1,5 +1,6 @@
 //! Runs of `export`. The disk is one whose every call fails, so that a run which makes one tells of it.
 
+use command_kit::Status;
 use samples::{
     EXAMPLE, EXPORT, Failing, NONE, Printed, STREAM_LENGTH, assert_printed, assert_refused,
     assert_written, example_stream, run_with, saved, saved_with_slots, slots, words_of,
@@ -7,7 +8,7 @@ use samples::{
 use sector_disk::{Disk, MemDisk};
 use std::alloc::Global;
 use std::test::Fail;
-use swsusp_cli::{Choice, Status, swap_name};
+use swsusp_cli::{Choice, swap_name};
 
 /// A run of these words over this dump, whose output may fail.
 fn run_on(alloc: Global, list: &[&str], dump: &[u8], failing: Failing) -> Result<Printed, Fail> {

@@ -2,6 +2,7 @@
 //! read (12), the mark (13) and its sync (14); an undo writes (15) and syncs (16).
 
 use crate::runs::{assert_unmarked, import};
+use command_kit::Status;
 use samples::{
     IMPORT, area, assert_no_image, assert_printed, assert_resumes, example_stream, failing_input,
     failing_out, run_with,
@@ -9,7 +10,6 @@ use samples::{
 use sector_disk::{Disk, MemDisk};
 use std::alloc::Global;
 use std::test::Fail;
-use swsusp_cli::Status;
 
 /// A call of the disk that fails: its number, how many fail from it on, and which sectors a write leaves all the same.
 type Fault = (u32, u32, u64);

@@ -1,7 +1,8 @@
 //! Imports that end well.
 
 use crate::runs::import;
-use dump_file::Source;
+use byte_streams::Source;
+use command_kit::Status;
 use page_core::Failed;
 use samples::{
     IMPORT, INSPECT, area, assert_no_image, assert_printed, assert_resumes, bytes_of,
@@ -9,7 +10,7 @@ use samples::{
 };
 use sector_disk::Disk;
 use std::test::Fail;
-use swsusp_cli::{Choice, Status, run, swap_name};
+use swsusp_cli::{Choice, run, swap_name};
 
 // The disk is that of a hibernation of the same machine, and what is resumed is the machine.
 #[test]

@@ -1,6 +1,7 @@
 //! Imports that are refused: the input is no stream, or the area can't take it.
 
 use crate::runs::{assert_unmarked, import};
+use command_kit::Status;
 use page_core::Page;
 use samples::{
     IMPORT, STREAM_LENGTH, area, assert_no_image, assert_printed, assert_refused, bytes_of,
@@ -10,7 +11,6 @@ use sector_disk::{Disk, MemDisk};
 use std::alloc::Global;
 use std::process::Abort;
 use std::test::Fail;
-use swsusp_cli::Status;
 
 /// An import of these bytes ends with this note, and the header block is as before, whatever a cut leaves.
 fn assert_no_stream(rt: &impl Abort, alloc: Global, bytes: &[u8], note: &str) -> Result<(), Fail> {

@@ -1,7 +1,8 @@
 //! `swsusp`: hibernation images in swap areas.
 #![tactic(auto)]
 
-use dump_file::{StdSink, StdSource};
+use byte_streams::{StdSink, StdSource};
+use command_kit::{Status, print};
 use file_disk::FileDisk;
 use page_core::NoMemory;
 use sector_disk::{Disk, MemDisk};
@@ -9,7 +10,7 @@ use standard_streams::{hold, is_output, sync_output};
 use std::io::IsTerminal;
 use std::process::ExitCode;
 use std::{env, io};
-use swsusp_cli::{Choice, Status, print, run, swap_name};
+use swsusp_cli::{Choice, run, swap_name};
 
 /// The status of a file that can't be opened, which no run answers.
 const NOT_OPENED: u8 = 7;

@@ -1,6 +1,6 @@
 -- What a run tells that makes no machine, by what its words ask for.
 use Rattle.std.proofs.Common.{◌≡◌, inl, inr, ℕ, refl, sym, subst, Option, Some, None, List}
-use Rattle.swsusp_cli.specs.Answer.{RunResult, memory_told, unparsed}
+use Rattle.command_kit.specs.Answer.{RunResult, memory_told, unparsed}
 use Rattle.swsusp_cli.specs.Run.{IsAnswer, IsInspection, NoMachine}
 use Rattle.swsusp_cli.specs.Drills as drills
 use Rattle.swsusp_cli.specs.Drills.{IsDrilled}
@@ -14,8 +14,8 @@ use Rattle.swsusp_cli.specs.Loads as loads
 use Rattle.swsusp_cli.specs.Loads.{Resumes}
 use Rattle.swsusp_cli.specs.Outcome as outcome
 use Rattle.swsusp_cli.specs.Outcome.{IsReplayed, Tells}
-use Rattle.swsusp_cli.specs.View.{DiskView, View}
-use Rattle.swsusp_cli.specs.declared.status.Status.{Status}
+use Rattle.command_kit.specs.View.{DiskView, View}
+use Rattle.command_kit.specs.declared.status.Status.{Status}
 use Rattle.page_core.specs.declared.format.Format.{Format}
 use Rattle.plain_machine.specs.declared.event.IdentCheck.{IdentCheck}
 use Rattle.stream_in.specs.declared.stop.InStop.TheVariants as stop

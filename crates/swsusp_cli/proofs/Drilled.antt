@@ -5,17 +5,17 @@ use Rattle.definitions.specs.Disk as disk
 use Rattle.plain_machine.specs.declared.reply.Reply.{Reply}
 use Rattle.protocol_laws.specs.Rows.{IsNewFault}
 use Rattle.script.specs.Drill.{drill_events, drill_script}
-use Rattle.swsusp_cli.specs.Answer.{memory_told}
+use Rattle.command_kit.specs.Answer.{memory_told}
 use Rattle.swsusp_cli.specs.Drills.{IsDrilled, out_of_memory, too_small, unformatted, summed, summary_told}
 use Rattle.swsusp_cli.specs.Outcome.{Tells, small_told, unformatted_told}
 use Rattle.swsusp_cli.specs.Replay.{AreCounted}
 use Rattle.swsusp_cli.specs.SettingUp.{IsNotSetUp, unready_told}
-use Rattle.swsusp_cli.specs.View.{View}
+use Rattle.command_kit.specs.View.{View}
 use Rattle.swsusp_words.specs.Words.{Asked, drill}
 use Rattle.swsusp_cli.specs.declared.setting_up.Unready.{Unready}
 use Rattle.swsusp_cli.specs.declared.setting_up.Unready.TheVariants.{Small, Unformatted as NotFormatted}
-use Rattle.swsusp_cli.specs.declared.status.Status.{Status}
-use Rattle.swsusp_cli.specs.declared.status.Status.TheVariants.{Stream}
+use Rattle.command_kit.specs.declared.status.Status.{Status}
+use Rattle.command_kit.specs.declared.status.Status.TheVariants.{Stream}
 use Rattle.swsusp_cli.proofs.Prints.{AreFlushed, told_flushed}
 use Rattle.swsusp_cli.proofs.Replays.{calls_untouched, not_formatted, small_disk, steps_few, until_few}
 use Rattle.swsusp_cli.proofs.Turns.{counted_later, risen_earlier}

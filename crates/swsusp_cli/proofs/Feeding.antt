@@ -15,7 +15,7 @@ use Rattle.stream_in.specs.declared.stop.InStop.TheVariants as stop
 use Rattle.stream_check.specs.declared.fault.StreamFault.{StreamFault}
 use Rattle.stream_in.proofs.Rests.{stops_then, unwritten, writes_then}
 use Rattle.swsusp_cli.specs.Feeding.{Holds, IsCalled, IsStopFor}
-use Rattle.swsusp_cli.specs.View.{DiskView}
+use Rattle.command_kit.specs.View.{DiskView}
 
 -- No stream without a fault is longer than the longest.
 

@@ -36,7 +36,7 @@ use Rattle.stream_in.proofs.Contents.{changes_then, changes_as}
 use Rattle.stream_in.proofs.Undoing.{first_block-some}
 use Rattle.swsusp_cli.specs.Feeding.{Feeds, Holds, HasFed, HasStopped, IsCalled, IsStopFor}
 use Rattle.swsusp_cli.specs.Imports.{Ends, HasWritten, IsArea, AreRead, IsUnmarked, IsUsable, KeepsUnusable, LeavesUnusable, MarksNot, OfSome, Stores, whole_map}
-use Rattle.swsusp_cli.specs.View.{DiskView}
+use Rattle.command_kit.specs.View.{DiskView}
 use Rattle.swsusp_cli.specs.declared.importing.ImportStop.{ImportStop}
 use Rattle.swsusp_cli.specs.declared.importing.ImportStop.TheVariants.{Source, Session}
 use Rattle.swsusp_cli.proofs.Feeding.{bounded, risen_from}

@@ -11,8 +11,8 @@ use Rattle.script.specs.declared.fault.ScriptFault.{ScriptFault}
 use Rattle.swsusp_cli.specs.Dumps.{IsNoDump}
 use Rattle.swsusp_cli.specs.Outcome.{IsNoScript, IsOutOfMemory, IsUnread}
 use Rattle.swsusp_cli.specs.Stops.{IsStopTold, LacksDump, LacksScript, dump_stop, parse_stop}
-use Rattle.swsusp_cli.specs.View.{View}
-use Rattle.swsusp_cli.specs.declared.status.Status.{Status}
+use Rattle.command_kit.specs.View.{View}
+use Rattle.command_kit.specs.declared.status.Status.{Status}
 use Rattle.swsusp_cli.specs.declared.stop.Stop.{Stop}
 use Rattle.swsusp_cli.specs.declared.stop.Stop.TheVariants.{Source, Memory, Script, Dump}
 

@@ -1,8 +1,8 @@
 -- Texts that are printed, and what is behind them.
 use Rattle.std.proofs.Common.{zero, suc, ◌≢◌, inl, inr, ◌≤◌, ℕ, List, [], Option, Some, None, Result, Ok, Err, OnOk, OnErr, subst, arith, append-nil}
 use Rattle.definitions.specs.Streams.{Takes, TakesAll, TakesFront}
-use Rattle.dump_file.specs.Flushed.{IsFlushed}
-use Rattle.swsusp_cli.specs.Answer.{RunResult, memory_told}
+use Rattle.byte_streams.specs.Flushed.{IsFlushed}
+use Rattle.command_kit.specs.Answer.{RunResult, memory_told}
 use Rattle.swsusp_cli.specs.Outcome.{IsReplayed, no_script, out_of_memory, unread, too_small, unformatted, played, cut_off, fault_told, small_told, unformatted_told}
 use Rattle.page_core.specs.declared.format.Format.{Format}
 use Rattle.plain_machine.specs.declared.event.IdentCheck.{IdentCheck}
@@ -14,10 +14,10 @@ use Rattle.swsusp_cli.specs.Imports as imports
 use Rattle.swsusp_cli.specs.Imports.{Imports, imported_told, stop_told}
 use Rattle.swsusp_cli.specs.Loads as loads
 use Rattle.swsusp_cli.specs.Loads.{Resumes, resume_told}
-use Rattle.swsusp_cli.specs.Told.{IsPrinted, FailsToPrint, IsTold, IsTried}
-use Rattle.swsusp_cli.specs.View.{SinkView, View}
-use Rattle.swsusp_cli.specs.declared.status.Status.{Status}
-use Rattle.swsusp_cli.specs.declared.status.Status.TheVariants.{Stream}
+use Rattle.command_kit.specs.Told.{IsPrinted, FailsToPrint, IsTold, IsTried}
+use Rattle.command_kit.specs.View.{SinkView, View}
+use Rattle.command_kit.specs.declared.status.Status.{Status}
+use Rattle.command_kit.specs.declared.status.Status.TheVariants.{Stream}
 use Rattle.swsusp_cli.proofs.Turns.{taken_more}
 
 pub tried : {A E : Type 0} (r : Result A E) (text : List ℕ) (old new : SinkView) → OnOk r (IsPrinted text old new) → OnErr r (FailsToPrint text old new) → IsTried text old new

@@ -21,19 +21,19 @@ use Rattle.world_core.specs.StandsFor.{StandsFor, IsNew, IsOff, hardware_of}
 use Rattle.world_core.specs.StandsFor.{blocks_of as boot_blocks}
 use Rattle.world_core.specs.World.{World}
 use Rattle.swsusp_cli.specs.Formatting.{Formats, LieBelow, calls_until}
-use Rattle.swsusp_cli.specs.Answer.{done}
+use Rattle.command_kit.specs.Answer.{done}
 use Rattle.swsusp_cli.specs.Outcome.{IsScript, IsReplayed, IsTooSmall, IsUnformatted, Tells, no_script, out_of_memory, unread, too_small, unformatted, played, cut_off, small_told, unformatted_told}
 use Rattle.swsusp_cli.specs.Playing.{HasPlayed}
 use Rattle.swsusp_cli.specs.Replay.{orders_by, IsRun, IsNoSlot, AreReplies, is_step, steps_of}
 use Rattle.swsusp_cli.specs.SettingUp.{FailsToSetUp, HasTooFew, IsNotSetUp, IsSetUp, IsUnformatted as IsOfCall, unready_told}
-use Rattle.swsusp_cli.specs.Told.{AreFronts, IsTold, IsTried, sink_note}
-use Rattle.swsusp_cli.specs.View.{View, DiskView, SinkView}
+use Rattle.command_kit.specs.Told.{AreFronts, IsTold, IsTried, sink_note}
+use Rattle.command_kit.specs.View.{View, DiskView, SinkView}
 use Rattle.swsusp_cli.specs.declared.formatting.Unformatted.{Unformatted}
 use Rattle.swsusp_cli.specs.declared.formatting.Unformatted.TheVariants.{Write, Sync}
 use Rattle.swsusp_cli.specs.declared.setting_up.Unready.{Unready}
 use Rattle.swsusp_cli.specs.declared.setting_up.Unready.TheVariants.{Small, Unformatted as NotFormatted}
-use Rattle.swsusp_cli.specs.declared.status.Status.{Status}
-use Rattle.swsusp_cli.specs.declared.status.Status.TheVariants.{Stream, Device}
+use Rattle.command_kit.specs.declared.status.Status.{Status}
+use Rattle.command_kit.specs.declared.status.Status.TheVariants.{Stream, Device}
 use Rattle.run_laws.proofs.AtomicCopy.{all_restore}
 use Rattle.run_laws.proofs.Once.{resumed_once}
 use Rattle.run_laws.proofs.Sleeps.{never_both}

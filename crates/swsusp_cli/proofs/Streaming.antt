@@ -3,7 +3,7 @@ use Rattle.std.proofs.Common.{◌≡◌, ◌≤◌, ◌<◌, ℕ, ◌+◌, List,
 use Rattle.std.proofs.lemmas.List.{drop-drop, length-drop, length-take-le, nil_from_length, take_all, take_at, take-append-drop}
 use Rattle.std.proofs.Math.Seq.{take-add}
 use Rattle.definitions.specs.Streams.{TakesAll, TakesFront}
-use Rattle.dump_file.proofs.Taken.{TakesAll-none, TakesAll-both, TakesFront-first, TakesFront-second}
+use Rattle.byte_streams.proofs.Taken.{TakesAll-none, TakesAll-both, TakesFront-first, TakesFront-second}
 
 -- What is left of a stream is what the sink hasn't taken.
 pub record IsWritten (stream left : List ℕ) (old now : Option (List ℕ)) : Type 0 where

@@ -24,7 +24,7 @@ use Rattle.world_core.specs.StandsFor.{hardware_of, shown}
 use Rattle.world_core.specs.World.{World}
 use Rattle.swsusp_cli.specs.Playing.{Played, HasPlayed}
 use Rattle.swsusp_cli.specs.Replay.{is_step, steps_of, is_order, raised_times, orders_by, AreCounted}
-use Rattle.swsusp_cli.specs.View.{DiskView}
+use Rattle.command_kit.specs.View.{DiskView}
 use Rattle.command_core.proofs.Leaving.{leaves_then}
 use Rattle.protocol_laws.proofs.ReplaySteps.{same_steps, stays_of_replay}
 use Rattle.swsusp_cli.proofs.Blocks.{unwritten_here}

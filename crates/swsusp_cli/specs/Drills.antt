@@ -4,14 +4,14 @@ use Rattle.definitions.specs.Disk as disk
 use Rattle.plain_machine.specs.declared.reply.Reply.{Reply}
 use Rattle.protocol_laws.specs.Rows.{IsNewFault}
 use Rattle.script.specs.Drill.{drill_events, drill_hardware, drill_script, summary, tally_of}
-use Rattle.swsusp_cli.specs.Answer.{RunResult}
+use Rattle.command_kit.specs.Answer.{RunResult}
 use Rattle.swsusp_cli.specs.Formatting.{LieBelow}
 use Rattle.swsusp_cli.specs.Outcome.{IsOutOfMemory, IsTooSmall, IsUnformatted, Tells}
 use Rattle.swsusp_cli.specs.Replay.{AreReplies}
-use Rattle.swsusp_cli.specs.View.{View}
+use Rattle.command_kit.specs.View.{View}
 use Rattle.swsusp_cli.specs.declared.formatting.Unformatted.{Unformatted}
-use Rattle.swsusp_cli.specs.declared.status.Status.{Status}
-use Rattle.swsusp_cli.specs.declared.status.Status.TheVariants.{Done}
+use Rattle.command_kit.specs.declared.status.Status.{Status}
+use Rattle.command_kit.specs.declared.status.Status.TheVariants.{Done}
 
 abbrev pub summary_told : ℕ → List Reply → RunResult
 summary_told number replies = record { status = Done; out = summary number (tally_of replies); note = [] }

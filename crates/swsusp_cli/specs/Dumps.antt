@@ -14,11 +14,11 @@ use Rattle.plain_machine.specs.declared.reply.Reply.{Reply}
 use Rattle.plain_machine.specs.declared.reply.Reply.TheVariants as reply
 use Rattle.command_core.specs.Hibernation.{HasHibernated, IsUnmarkedOrHolds, image_to_save, machine_to_save}
 use Rattle.command_core.specs.declared.ending.Ended.{Ended}
-use Rattle.swsusp_cli.specs.Answer.{RunResult, line}
+use Rattle.command_kit.specs.Answer.{RunResult, line}
 use Rattle.swsusp_cli.specs.Outcome.{IsOutOfMemory, IsUnread, Tells}
-use Rattle.swsusp_cli.specs.View.{View}
-use Rattle.swsusp_cli.specs.declared.status.Status.{Status}
-use Rattle.swsusp_cli.specs.declared.status.Status.TheVariants.{Done, Refused, Input, Device}
+use Rattle.command_kit.specs.View.{View}
+use Rattle.command_kit.specs.declared.status.Status.{Status}
+use Rattle.command_kit.specs.declared.status.Status.TheVariants.{Done, Refused, Input, Device}
 
 -- The input is no dump: its first fault, at a byte or, in the tables, at a page frame.
 

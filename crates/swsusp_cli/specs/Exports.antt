@@ -5,12 +5,12 @@ use Rattle.dump_file.specs.declared.dump.DumpFault.{DumpFault}
 use Rattle.plain_machine.specs.Machine.{Hardware, Memory}
 use Rattle.stream_out.specs.Bytes.{bytes_of, plain_image}
 use Rattle.stream_out.specs.TaskSlots.{HasNoTaskSlot, IsFirstTaskSlot}
-use Rattle.swsusp_cli.specs.Answer.{RunResult, line}
+use Rattle.command_kit.specs.Answer.{RunResult, line}
 use Rattle.swsusp_cli.specs.Dumps.{IsDump, IsNoDump}
 use Rattle.swsusp_cli.specs.Outcome.{IsOutOfMemory, IsUnread, Tells}
-use Rattle.swsusp_cli.specs.View.{View}
-use Rattle.swsusp_cli.specs.declared.status.Status.{Status}
-use Rattle.swsusp_cli.specs.declared.status.Status.TheVariants.{Done, Refused}
+use Rattle.command_kit.specs.View.{View}
+use Rattle.command_kit.specs.declared.status.Status.{Status}
+use Rattle.command_kit.specs.declared.status.Status.TheVariants.{Done, Refused}
 
 -- the lowest slot that a task has
 abbrev pub slots_told : ℕ → RunResult

@@ -25,16 +25,16 @@ use Rattle.stream_in.specs.Session.{HasTooFewFor}
 use Rattle.stream_in.specs.Written.{AreWritten, ReadAsMade, page_at}
 use Rattle.stream_in.specs.declared.stop.InStop.{InStop}
 use Rattle.stream_in.specs.declared.stop.InStop.TheVariants as stop
-use Rattle.swsusp_cli.specs.Answer.{RunResult, line, memory_told}
+use Rattle.command_kit.specs.Answer.{RunResult, line, memory_told}
 use Rattle.swsusp_cli.specs.Feeding.{IsCalled}
 use Rattle.swsusp_cli.specs.Outcome.{Tells}
 use Rattle.swsusp_cli.specs.Replay.{unread_note}
-use Rattle.swsusp_cli.specs.Told.{IsTried}
-use Rattle.swsusp_cli.specs.View.{DiskView, View}
+use Rattle.command_kit.specs.Told.{IsTried}
+use Rattle.command_kit.specs.View.{DiskView, View}
 use Rattle.swsusp_cli.specs.declared.importing.ImportStop.{ImportStop}
 use Rattle.swsusp_cli.specs.declared.importing.ImportStop.TheVariants.{Source, Session}
-use Rattle.swsusp_cli.specs.declared.status.Status.{Status}
-use Rattle.swsusp_cli.specs.declared.status.Status.TheVariants.{Done, Refused, Input, Stream, Device}
+use Rattle.command_kit.specs.declared.status.Status.{Status}
+use Rattle.command_kit.specs.declared.status.Status.TheVariants.{Done, Refused, Input, Stream, Device}
 
 -- What is told.
 

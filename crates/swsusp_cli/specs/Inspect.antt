@@ -9,8 +9,8 @@ use Rattle.plain_machine.specs.Area.{no_swap_at}
 use Rattle.plain_machine.specs.Texts.{no_swap_text}
 use Rattle.plain_machine.specs.declared.no_swap.NoSwap.{NoSwap}
 use Rattle.plain_machine.specs.declared.no_swap.NoSwap.TheVariants as no_swap
-use Rattle.swsusp_cli.specs.declared.status.Status.TheVariants.{Done, Refused}
-use Rattle.swsusp_cli.specs.Answer.{RunResult, line}
+use Rattle.command_kit.specs.declared.status.Status.TheVariants.{Done, Refused}
+use Rattle.command_kit.specs.Answer.{RunResult, line}
 
 -- a block as the disk reads; one that isn't below the disk's blocks counts as zeros
 abbrev pub header_page : ℕ → ℕ → Content → List ℕ

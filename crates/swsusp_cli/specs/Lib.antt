@@ -1,9 +1,6 @@
-pub mod Answer
-pub mod AnswerOf
 pub mod Choice
 pub mod Drills
 pub mod Dumps
-pub mod ExitStatus
 pub mod Exports
 pub mod Feeding
 pub mod Formatting
@@ -18,5 +15,3 @@ pub mod Replay
 pub mod Run
 pub mod SettingUp
 pub mod Stops
-pub mod Told
-pub mod View

@@ -4,15 +4,15 @@ use Rattle.definitions.specs.Disk as disk
 use Rattle.definitions.specs.Streams.{IsUsedUp}
 use Rattle.script.specs.Grammar.{ScriptValue, script_of}
 use Rattle.script.specs.declared.fault.ScriptFault.{ScriptFault}
-use Rattle.swsusp_cli.specs.Answer.{RunResult, memory_told}
-use Rattle.swsusp_cli.specs.Told.{IsTold, IsTried, IsPrinted, sink_note}
+use Rattle.command_kit.specs.Answer.{RunResult, memory_told}
+use Rattle.command_kit.specs.Told.{IsTold, IsTried, IsPrinted, sink_note}
 use Rattle.swsusp_cli.specs.Formatting.{FailsToFormat, IsNeeded, LieBelow, calls_until}
 use Rattle.swsusp_cli.specs.Replay.{Prints, PrintsFront, small_note, fault_note, write_note, sync_note, unread_note}
-use Rattle.swsusp_cli.specs.View.{View}
+use Rattle.command_kit.specs.View.{View}
 use Rattle.swsusp_cli.specs.declared.formatting.Unformatted.{Unformatted}
 use Rattle.swsusp_cli.specs.declared.formatting.Unformatted.TheVariants.{Write, Sync}
-use Rattle.swsusp_cli.specs.declared.status.Status.{Status}
-use Rattle.swsusp_cli.specs.declared.status.Status.TheVariants.{Done, Refused, Input, Stream, Device}
+use Rattle.command_kit.specs.declared.status.Status.{Status}
+use Rattle.command_kit.specs.declared.status.Status.TheVariants.{Done, Refused, Input, Stream, Device}
 
 -- Answers of a replay that doesn't play.
 abbrev pub small_told : ℕ → ℕ → RunResult

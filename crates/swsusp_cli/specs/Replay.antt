@@ -18,10 +18,10 @@ use Rattle.script.specs.Kinds.{kind_name}
 use Rattle.script.specs.declared.fault.ScriptFault.{ScriptFault}
 use Rattle.world_core.specs.StandsFor.{StandsFor, IsOff, blocks_of, hardware_of}
 use Rattle.world_core.specs.World.{World}
-use Rattle.swsusp_cli.specs.Answer.{line}
+use Rattle.command_kit.specs.Answer.{line}
 use Rattle.swsusp_cli.specs.Formatting.{Formats}
-use Rattle.swsusp_cli.specs.Told.{IsPrinted}
-use Rattle.swsusp_cli.specs.View.{View, DiskView}
+use Rattle.command_kit.specs.Told.{IsPrinted}
+use Rattle.command_kit.specs.View.{View, DiskView}
 
 -- how many events are steps, each of which may call the disk once
 abbrev pub is_step : Event → Bool

@@ -2,9 +2,9 @@
 use Rattle.std.specs.Prelude.{◌≡◌, ◌⊎◌, ℕ, List, Option, Some, None, IfSome, ⊤, nat_lt, if◌then◌else◌}
 use Rattle.definitions.specs.Disk.{Content, HasRisen, raised}
 use Rattle.sig_header.specs.AreaKind.{area_kind}
-use Rattle.swsusp_cli.specs.Answer.{RunResult, memory_told, unparsed, unread}
+use Rattle.command_kit.specs.Answer.{RunResult, memory_told, unparsed, unread}
 use Rattle.swsusp_cli.specs.Inspect.{header_page, inspected}
-use Rattle.swsusp_cli.specs.View.{DiskView}
+use Rattle.command_kit.specs.View.{DiskView}
 use Rattle.swsusp_words.specs.Words.{Asked, inspect, hibernate, resume, replay, drill, export, import}
 
 -- how many reads, writes and syncs there were after one of a block, which isn't made where the disk has no such block

@@ -6,16 +6,16 @@ use Rattle.dump_file.specs.declared.dump.DumpStop.TheVariants as of_dump
 use Rattle.script.specs.Grammar.{script_of}
 use Rattle.script.specs.declared.fault.ParseStop.{ParseStop}
 use Rattle.script.specs.declared.fault.ParseStop.TheVariants as of_parse
-use Rattle.swsusp_cli.specs.Answer.{memory_told}
+use Rattle.command_kit.specs.Answer.{memory_told}
 use Rattle.swsusp_cli.specs.Dumps.{dump_told}
 use Rattle.swsusp_cli.specs.Outcome.{fault_told}
 use Rattle.swsusp_cli.specs.Replay.{unread_note}
-use Rattle.swsusp_cli.specs.Told.{IsTold, IsTried}
-use Rattle.swsusp_cli.specs.View.{SinkView}
+use Rattle.command_kit.specs.Told.{IsTold, IsTried}
+use Rattle.command_kit.specs.View.{SinkView}
 use Rattle.swsusp_cli.specs.declared.reading.ReadStop.{ReadStop}
 use Rattle.swsusp_cli.specs.declared.reading.ReadStop.TheVariants as of_read
-use Rattle.swsusp_cli.specs.declared.status.Status.{Status}
-use Rattle.swsusp_cli.specs.declared.status.Status.TheVariants.{Stream}
+use Rattle.command_kit.specs.declared.status.Status.{Status}
+use Rattle.command_kit.specs.declared.status.Status.TheVariants.{Stream}
 use Rattle.swsusp_cli.specs.declared.stop.Stop.{Stop}
 use Rattle.swsusp_cli.specs.declared.stop.Stop.TheVariants.{Source, Memory, Script, Dump}
 

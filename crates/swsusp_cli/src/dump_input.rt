@@ -4,18 +4,18 @@ ghost use Rattle.definitions.specs.Streams.{IsUsedUp};
 ghost use Rattle.dump_file.specs.Dump.{dump_of};
 ghost use Rattle.plain_machine.specs.Machine.{Fits, IsHardware};
 ghost use Rattle.world_core.specs.StandsFor.{IsNew, hardware_of};
-ghost use Rattle.swsusp_cli.specs.AnswerOf.{told_by};
+ghost use Rattle.command_kit.specs.AnswerOf.{told_by};
 ghost use Rattle.swsusp_cli.specs.Dumps.{dump_told, kind_text, stopped_told};
 ghost use Rattle.swsusp_cli.specs.Stops.{LacksDump};
 
-use crate::answer::Answer;
-use crate::status::Status;
 use crate::stop::Stop;
+use byte_streams::{Line, Source};
 use command_core::Ended;
-use dump_file::{DumpFault, DumpKind, Source, read_dump};
+use command_kit::{Answer, Status};
+use dump_file::{DumpFault, DumpKind, read_dump};
 use machine::Dump;
 use page_core::NoMemory;
-use script::{Line, line_of};
+use script::line_of;
 use std::alloc::Global;
 use world_core::World;
 

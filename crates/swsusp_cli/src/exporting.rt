@@ -1,17 +1,15 @@
 ghost use Rattle.std.specs.Prelude.{◌≡◌, ◌≢◌, ◌⊎◌};
 ghost use Rattle.definitions.specs.Disk.{HasRisen};
 ghost use Rattle.swsusp_cli.specs.Exports.{Exports};
-ghost use Rattle.swsusp_cli.specs.View.{DiskView, sink_view};
+ghost use Rattle.command_kit.specs.View.{DiskView, sink_view};
 
-use crate::answer::{Answer, no_memory, print};
 use crate::dump_input::dump_of_input;
-use crate::status::Status;
-use dump_file::{Sink, Source, put_all};
+use byte_streams::{Line, Sink, Source, put_all};
+use command_kit::{Answer, Status, no_memory, print};
 use machine::Dump;
 use memory_bitmap::Bitmap;
 use page_core::{Failed, NoMemory};
 use saveable::{View, mark_all};
-use script::Line;
 use std::alloc::Global;
 use stream_out::{SlotsInUse, StreamOut};
 
@@ -89,7 +87,7 @@ fn empty_piece(alloc: Global) -> Result<Vec<u8>, NoMemory>
     }
 }
 
-ghost use Rattle.swsusp_cli.specs.AnswerOf.{told_by};
+ghost use Rattle.command_kit.specs.AnswerOf.{told_by};
 ghost use Rattle.swsusp_cli.specs.Exports.{slots_told};
 
 /// A task has a slot.
@@ -110,7 +108,7 @@ fn in_use(refusal: SlotsInUse) -> Answer
 
 ghost use Rattle.std.specs.Prelude.{◌≤◌, length, [], OnOk, OnErr};
 ghost use Rattle.definitions.specs.Streams.{TakesAll, TakesFront};
-ghost use Rattle.swsusp_cli.specs.Told.{FailsToPrint, IsPrinted, IsTold};
+ghost use Rattle.command_kit.specs.Told.{FailsToPrint, IsPrinted, IsTold};
 
 /// Tells a stream on out, and nothing on note.
 fn tell_stream<O: Sink, N: Sink>(

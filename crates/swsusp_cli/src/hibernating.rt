@@ -1,18 +1,17 @@
 ghost use Rattle.std.specs.Prelude.{◌≡◌, ◌≢◌, ◌⊎◌, ◌≤◌, ◌+◌, true, IsTrue};
 ghost use Rattle.definitions.specs.Disk.{HasRisen};
 ghost use Rattle.swsusp_cli.specs.Dumps.{Hibernates, SavesInside};
-ghost use Rattle.swsusp_cli.specs.AnswerOf.{told_by};
+ghost use Rattle.command_kit.specs.AnswerOf.{told_by};
 ghost use Rattle.swsusp_cli.specs.Dumps.{hibernation_told};
-ghost use Rattle.swsusp_cli.specs.View.{view};
+ghost use Rattle.command_kit.specs.View.{view};
 
-use crate::answer::{Answer, no_memory};
 use crate::dump_input::{dump_of_input, machine_of, stopped};
-use crate::status::Status;
+use byte_streams::{Line, Sink, Source};
 use command_core::{Ended, hibernate};
-use dump_file::{Sink, Source};
+use command_kit::{Answer, Status, no_memory};
 use page_core::{Format, NoMemory};
 use plain_machine::Reply;
-use script::{Line, line_of};
+use script::line_of;
 use sector_disk::Disk;
 use std::alloc::Global;
 

@@ -1,15 +1,15 @@
 ghost use Rattle.std.specs.Prelude.{◌≡◌, ◌≢◌, ◌+◌, ◌≤◌, ◌++◌, ◌⊎◌, [], ◌∷◌, length, codes, Some, min};
 ghost use Rattle.definitions.specs.Disk.{HasRisen};
-ghost use Rattle.swsusp_cli.specs.Answer.{unread};
-ghost use Rattle.swsusp_cli.specs.AnswerOf.{told_by};
+ghost use Rattle.command_kit.specs.Answer.{unread};
+ghost use Rattle.command_kit.specs.AnswerOf.{told_by};
 ghost use Rattle.swsusp_cli.specs.Inspect.{area_text, hw_text, image_text, inspected, refused};
 ghost use Rattle.swsusp_cli.specs.Run.{IsInspected, calls_for};
 
-use crate::answer::Answer;
-use crate::status::Status;
+use byte_streams::Line;
+use command_kit::{Answer, Status};
 use page_core::Page;
 use plain_machine::NoSwap;
-use script::{Line, put_no_swap};
+use script::put_no_swap;
 use sector_disk::Disk;
 use sig_header::{AreaKind, Mark};
 

@@ -1,7 +1,6 @@
 //! The commands of `swsusp`, and the top call.
 #![tactic(auto)]
 
-mod answer;
 mod choosing;
 mod drilling;
 mod dump_input;
@@ -15,11 +14,9 @@ mod reading;
 mod replay;
 mod resuming;
 mod setting_up;
-mod status;
 mod stop;
 mod top;
 
-pub use answer::{Answer, no_memory, print, tell};
 pub use choosing::{Choice, swap_name};
 pub use drilling::play_through;
 pub use dump_input::{dump_of_input, machine_of, stopped};
@@ -27,6 +24,5 @@ pub use playing::play;
 pub use replay::parse_input;
 pub use resuming::tell_dump;
 pub use setting_up::{Unready, set_up};
-pub use status::Status;
 pub use stop::Stop;
 pub use top::run;

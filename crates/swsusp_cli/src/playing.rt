@@ -7,12 +7,12 @@ ghost use Rattle.plain_machine.specs.declared.reply.Reply.{Reply};
 ghost use Rattle.world_core.specs.StandsFor.{IsOff, blocks_of, hardware_of};
 ghost use Rattle.swsusp_cli.specs.Playing.{HasPlayed};
 ghost use Rattle.swsusp_cli.specs.Replay.{TakesToLast};
-ghost use Rattle.swsusp_cli.specs.View.{disk_view};
+ghost use Rattle.command_kit.specs.View.{disk_view};
 
-use dump_file::{Sink, put_all};
+use byte_streams::{Line, Sink, put_all};
 use page_core::Failed;
 use plain_machine::{Event, Reply};
-use script::{Line, line_of};
+use script::line_of;
 use sector_disk::Disk;
 use world_core::World;
 

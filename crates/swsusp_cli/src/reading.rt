@@ -3,7 +3,7 @@ ghost use Rattle.definitions.specs.Disk.{HasRisen};
 ghost use Rattle.swsusp_cli.specs.Reading.{IsReadAs, HandsOutAtMost};
 ghost use Rattle.swsusp_cli.specs.declared.reading.ReadStop.{ReadStop};
 
-use dump_file::Source;
+use byte_streams::Source;
 use std::alloc::Global;
 use thiserror::Error;
 

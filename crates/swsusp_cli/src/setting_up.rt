@@ -1,13 +1,13 @@
 ghost use Rattle.std.specs.Prelude.{◌≡◌, ◌≤◌, MatchResult, length};
-ghost use Rattle.swsusp_cli.specs.AnswerOf.{told_by};
+ghost use Rattle.command_kit.specs.AnswerOf.{told_by};
 ghost use Rattle.swsusp_cli.specs.Outcome.{small_told, unformatted_told};
 ghost use Rattle.swsusp_cli.specs.SettingUp.{IsNotSetUp, IsSetUp};
-ghost use Rattle.swsusp_cli.specs.View.{disk_view};
+ghost use Rattle.command_kit.specs.View.{disk_view};
 
-use crate::answer::Answer;
 use crate::formatting::{Unformatted, blocks_needed, format};
-use crate::status::Status;
-use script::{Line, Script};
+use byte_streams::Line;
+use command_kit::{Answer, Status};
+use script::Script;
 use sector_disk::Disk;
 use thiserror::Error;
 
@@ -33,7 +33,7 @@ impl From<Unformatted> for Unready {
 
 impl Unready {
     ghost use Rattle.std.specs.Prelude.{◌≡◌, ◌≢◌};
-    ghost use Rattle.swsusp_cli.specs.AnswerOf.{told_by};
+    ghost use Rattle.command_kit.specs.AnswerOf.{told_by};
     ghost use Rattle.swsusp_cli.specs.SettingUp.{IsUnformatted, unready_told};
 
     /// What is told of it.

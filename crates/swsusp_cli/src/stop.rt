@@ -1,12 +1,12 @@
 ghost use Rattle.std.specs.Prelude.{◌≡◌};
 ghost use Rattle.swsusp_cli.specs.declared.stop.Stop.TheVariants as stop;
 
-use crate::answer::no_memory;
 use crate::dump_input::no_dump;
 use crate::reading::ReadStop;
 use crate::replay::{no_script, unread};
-use crate::status::Status;
-use dump_file::{DumpFault, DumpStop, Sink};
+use byte_streams::Sink;
+use command_kit::{Status, no_memory};
+use dump_file::{DumpFault, DumpStop};
 use page_core::NoMemory;
 use script::{ParseStop, ScriptFault};
 use thiserror::Error;
@@ -28,7 +28,7 @@ impl Stop {
     ghost use Rattle.std.specs.Prelude.{◌≡◌, ◌≢◌, ◌⊎◌};
     ghost use Rattle.definitions.specs.Disk.{HasRisen};
     ghost use Rattle.swsusp_cli.specs.Stops.{IsStopTold};
-    ghost use Rattle.swsusp_cli.specs.View.{sink_view};
+    ghost use Rattle.command_kit.specs.View.{sink_view};
 
     /// Prints why, and returns the status that the command ends with.
     pub fn tell<O: Sink, N: Sink>(self, out: &mut O, note: &mut N) -> Status

@@ -1,7 +1,8 @@
 //! `swsusp_machine`: machines to try `swsusp` on, in memory dumps.
 #![tactic(auto)]
 
-use dump_file::{StdSink, StdSource};
+use byte_streams::{StdSink, StdSource};
+use command_kit::{Status, print, tell};
 use file_disk::{FileDisk, first_map_beyond};
 use machine_cli::{check, differ, loader, make, show_facts};
 use machine_words::{Command, Unparsed};
@@ -12,7 +13,6 @@ use std::fs::File;
 use std::io::IsTerminal;
 use std::process::ExitCode;
 use std::{env, io};
-use swsusp_cli::{Status, print, tell};
 
 /// The status of a file that can't be opened.
 const NOT_OPENED: u8 = 7;

@@ -1,8 +1,8 @@
 //! What is shown of dumps, line by line. Each number is worked out by hand.
 
 use crate::samples::{hardware, parts, set_entry, used_dump};
+use byte_streams::MemSink;
 use definitions::Ident;
-use dump_file::MemSink;
 use frame_arena::Frames;
 use fresh_dump::make_fresh;
 use machine::{Dump, Parts};

@@ -1,6 +1,7 @@
 //! Inputs that fail, at each call in turn: nothing is printed, and the header block is as before.
 
 use crate::runs::{Command, SMALL, area, image, run_command, stream};
+use command_kit::Status;
 use samples::{
     EXPORT, Failing, HIBERNATE, IMPORT, INSPECT, NONE, REPLAY, RESUME, assert_printed, block,
     failing_input, lay_block, loader, saved,
@@ -9,7 +10,6 @@ use sector_disk::MemDisk;
 use std::alloc::Global;
 use std::process::Abort;
 use std::test::Fail;
-use swsusp_cli::Status;
 
 /// Call `call` of the input fails. The note of it is tried once: where its first call fails too, nothing is noted.
 fn assert_torn(

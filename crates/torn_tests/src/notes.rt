@@ -1,10 +1,10 @@
 //! Notes that fail, at the write and at the flush behind it: the status tells it, whatever was to be noted.
 
 use crate::runs::{Command, area, run_command};
+use command_kit::Status;
 use samples::{EXPORT, HIBERNATE, IMPORT, INSPECT, REPLAY, RESUME, assert_printed, failing_note};
 use sector_disk::MemDisk;
 use std::test::Fail;
-use swsusp_cli::Status;
 
 #[test]
 fn notes_that_fail(rt: HostRuntime) -> Result<(), Fail> {

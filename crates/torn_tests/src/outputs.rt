@@ -2,6 +2,7 @@
 //! the whole text.
 
 use crate::runs::{Command, SMALL, area, image, run_command, stream};
+use command_kit::Status;
 use samples::{
     EXPORT, Failing, HIBERNATE, IMPORT, INSPECT, NONE, Printed, REPLAY, RESUME, assert_printed,
     assert_written, block, failing_out, lay_block, loader, saved,
@@ -10,7 +11,6 @@ use sector_disk::MemDisk;
 use std::alloc::Global;
 use std::process::Abort;
 use std::test::Fail;
-use swsusp_cli::Status;
 
 /// A run over the disk as it was before, whose calls of these numbers fail.
 fn run_again(

@@ -4,7 +4,7 @@ use borrow.Rule.Slice.PartMut.{put_mid}
 use Rattle.definitions.proofs.PageBytes.{put_mid-with_bytes, length-with_bytes}
 use Rattle.dump_file.specs.Reading.{head_len}
 use Rattle.dump_file.proofs.Fronts.{grown}
-use Rattle.dump_file.proofs.Handed.{HandsOut-more, take-over_end}
+use Rattle.byte_streams.proofs.Handed.{HandsOut-more, take-over_end}
 use Rattle.dump_file.proofs.front.read_front.Goals as goal
 
 -- the front that has grown is no longer than it asks for

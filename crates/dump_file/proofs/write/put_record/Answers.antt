@@ -2,7 +2,7 @@ use Rattle.std.proofs.Common.{ℕ, List, ◌∙◌, subst}
 use Rattle.definitions.specs.Streams.{TakesFront}
 use Rattle.definitions.specs.Tables.{frame}
 use Rattle.dump_file.specs.Written.{number_bytes}
-use Rattle.dump_file.proofs.Taken.{TakesFront-second}
+use Rattle.byte_streams.proofs.Taken.{TakesFront-second}
 use Rattle.dump_file.proofs.write.put_record.Goals as goal
 
 pub returns-clause-front : goal.returns-clause-front

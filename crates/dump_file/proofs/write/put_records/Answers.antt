@@ -3,7 +3,7 @@ use Rattle.definitions.specs.Streams.{TakesAll}
 use Rattle.definitions.specs.Zones.{numbers, zone_at}
 use Rattle.definitions.proofs.ZoneWalk.{at_zone, all_zones}
 use Rattle.dump_file.specs.Written.{records_bytes}
-use Rattle.dump_file.proofs.Taken.{TakesFront-all}
+use Rattle.byte_streams.proofs.Taken.{TakesFront-all}
 use Rattle.dump_file.proofs.ZoneRecords.{all_of_zone_more, front_of_zones}
 use Rattle.dump_file.proofs.write.put_records.Goals as goal
 

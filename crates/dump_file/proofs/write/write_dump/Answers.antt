@@ -4,7 +4,7 @@ use Rattle.definitions.specs.Zones.{numbers}
 use Rattle.dump_file.specs.ReadBack.{ReadsBack}
 use Rattle.dump_file.specs.Written.{dump_bytes, head_bytes, records_bytes}
 use Rattle.dump_file.proofs.RoundTrip.{reads_back}
-use Rattle.dump_file.proofs.Taken.{on_ok, taken_is, TakesAll-both, TakesFront-second}
+use Rattle.byte_streams.proofs.Taken.{on_ok, taken_is, TakesAll-both, TakesFront-second}
 use Rattle.dump_file.proofs.write.write_dump.Goals as goal
 
 pub returns-clause-front : goal.returns-clause-front

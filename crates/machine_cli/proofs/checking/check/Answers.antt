@@ -1,8 +1,8 @@
 use Rattle.std.proofs.Common.{◌≡◌, refl, subst}
 use Rattle.dump_file.specs.Dump.{DumpValue}
-use Rattle.swsusp_cli.specs.Answer.{RunResult}
-use Rattle.swsusp_cli.specs.Told.{IsTold}
-use Rattle.swsusp_cli.specs.View.{SinkView}
+use Rattle.command_kit.specs.Answer.{RunResult}
+use Rattle.command_kit.specs.Told.{IsTold}
+use Rattle.command_kit.specs.View.{SinkView}
 use Rattle.swsusp_cli.proofs.Inputs.{without_dump}
 use Rattle.machine_cli.specs.Checked.{no_dump, out_of_memory, unread, foretold}
 use Rattle.machine_cli.proofs.Foretold.{few_more, foretold_by}

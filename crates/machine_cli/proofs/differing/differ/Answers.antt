@@ -1,8 +1,8 @@
 use Rattle.std.proofs.Common.{subst}
 use Rattle.dump_file.specs.Dump.{DumpValue}
-use Rattle.swsusp_cli.specs.Answer.{RunResult}
-use Rattle.swsusp_cli.specs.Told.{IsTold}
-use Rattle.swsusp_cli.specs.View.{SinkView}
+use Rattle.command_kit.specs.Answer.{RunResult}
+use Rattle.command_kit.specs.Told.{IsTold}
+use Rattle.command_kit.specs.View.{SinkView}
 use Rattle.machine_cli.specs.Compared.{compared}
 use Rattle.machine_cli.proofs.Unread.{lacks_first, lacks_second}
 use Rattle.machine_cli.proofs.differing.differ.Goals as goal

@@ -1,9 +1,9 @@
 use Rattle.std.proofs.Common.{◌≡◌, refl, subst}
 use Rattle.dump_file.specs.Dump.{DumpValue}
-use Rattle.swsusp_cli.specs.Answer.{RunResult}
+use Rattle.command_kit.specs.Answer.{RunResult}
 use Rattle.swsusp_cli.specs.Loads.{written_told}
-use Rattle.swsusp_cli.specs.Told.{IsTold}
-use Rattle.swsusp_cli.specs.View.{SinkView}
+use Rattle.command_kit.specs.Told.{IsTold}
+use Rattle.command_kit.specs.View.{SinkView}
 use Rattle.swsusp_cli.proofs.Inputs.{without_dump}
 use Rattle.fresh_dump.specs.KeptSlots.{kept_slot}
 use Rattle.plain_machine.specs.Machine.{Hardware, Memory}

@@ -5,11 +5,11 @@ use Rattle.plain_machine.specs.Shows.{seen_frames}
 use Rattle.plain_machine.specs.declared.event.Event.{Event}
 use Rattle.world_core.specs.StandsFor.{IsNew, StandsFor}
 use Rattle.world_core.specs.World.{World}
-use Rattle.swsusp_cli.specs.Answer.{RunResult}
+use Rattle.command_kit.specs.Answer.{RunResult}
 use Rattle.swsusp_cli.specs.Loads.{written_told}
 use Rattle.swsusp_cli.specs.Playing.{HasPlayed}
-use Rattle.swsusp_cli.specs.Told.{IsTold}
-use Rattle.swsusp_cli.specs.View.{DiskView, SinkView}
+use Rattle.command_kit.specs.Told.{IsTold}
+use Rattle.command_kit.specs.View.{DiskView, SinkView}
 use Rattle.swsusp_cli.proofs.Inputs.{without_script}
 use Rattle.swsusp_cli.proofs.Replays.{replies_of, risen_of, told_status, world_at_end}
 use Rattle.machine_cli.specs.Made.{RunsNot, RunsWith, idle, no_script, out_of_memory, unread, written}

@@ -5,14 +5,14 @@ use Rattle.world_core.specs.StandsFor.{IsNew}
 use Rattle.script.specs.Drill.{drill_script, summary}
 use Rattle.script.specs.Grammar.{ScriptValue}
 use Rattle.script.specs.declared.tally.Tally.{Tally}
-use Rattle.swsusp_cli.specs.Answer.{RunResult}
-use Rattle.swsusp_cli.specs.AnswerOf.{told_by}
+use Rattle.command_kit.specs.Answer.{RunResult}
+use Rattle.command_kit.specs.AnswerOf.{told_by}
 use Rattle.swsusp_cli.specs.Drills.{out_of_memory, summed, summary_told}
 use Rattle.swsusp_cli.specs.Playing.{HasPlayed}
 use Rattle.swsusp_cli.specs.SettingUp.{IsNotSetUp, IsSetUp}
-use Rattle.swsusp_cli.specs.Told.{IsTold}
-use Rattle.swsusp_cli.specs.View.{DiskView, SinkView}
-use Rattle.swsusp_cli.specs.declared.status.Status.TheVariants.{Done}
+use Rattle.command_kit.specs.Told.{IsTold}
+use Rattle.command_kit.specs.View.{DiskView, SinkView}
+use Rattle.command_kit.specs.declared.status.Status.TheVariants.{Done}
 use Rattle.swsusp_cli.proofs.Drilled.{drill_few_calls, drill_not_set_up, none_failed}
 use Rattle.swsusp_cli.proofs.Replays.{replies_of, risen_of, told_status}
 use Rattle.swsusp_cli.proofs.drilling.drill.Goals as goal

@@ -4,7 +4,7 @@ use Rattle.plain_machine.specs.declared.event.Event.{Event}
 use Rattle.plain_machine.specs.declared.event.Event.TheVariants as event
 use Rattle.plain_machine.specs.declared.event.BootFrom.TheVariants.{Fresh}
 use Rattle.swsusp_cli.specs.Playing.{HasPlayed}
-use Rattle.swsusp_cli.specs.View.{DiskView}
+use Rattle.command_kit.specs.View.{DiskView}
 use Rattle.swsusp_cli.proofs.Turns.{one_more, played_none, played_more}
 use Rattle.swsusp_cli.proofs.drilling.play_through.Goals as goal
 

@@ -3,7 +3,7 @@ use Rattle.plain_machine.specs.declared.reply.Reply.{Reply}
 use Rattle.script.specs.Drill.{tally_of}
 use Rattle.world_core.specs.StandsFor.{IsOff, blocks_of, hardware_of}
 use Rattle.swsusp_cli.specs.Playing.{HasPlayed}
-use Rattle.swsusp_cli.specs.View.{DiskView}
+use Rattle.command_kit.specs.View.{DiskView}
 use Rattle.swsusp_cli.proofs.drilling.play_through.Given as goal
 
 abbrev pub invariant-loop-event : goal.invariant-loop-event

@@ -1,10 +1,10 @@
 use Rattle.std.proofs.Common.{List, ℕ, [], refl, subst}
 use Rattle.dump_file.specs.Dump.{DumpValue}
-use Rattle.swsusp_cli.specs.Answer.{RunResult}
+use Rattle.command_kit.specs.Answer.{RunResult}
 use Rattle.swsusp_cli.specs.Exports.{no_dump, out_of_memory, unread, in_use, exported}
-use Rattle.swsusp_cli.specs.Told.{IsTold}
-use Rattle.swsusp_cli.specs.View.{SinkView}
-use Rattle.swsusp_cli.specs.declared.status.Status.TheVariants.{Done}
+use Rattle.command_kit.specs.Told.{IsTold}
+use Rattle.command_kit.specs.View.{SinkView}
+use Rattle.command_kit.specs.declared.status.Status.TheVariants.{Done}
 use Rattle.swsusp_cli.proofs.Inputs.{without_dump}
 use Rattle.swsusp_cli.proofs.exporting.export_dump.Goals as goal
 

@@ -1,5 +1,5 @@
 use Rattle.std.proofs.Common.{ℕ, List, arith, subst, sym}
-use Rattle.dump_file.proofs.Taken.{TakesFront-all}
+use Rattle.byte_streams.proofs.Taken.{TakesFront-all}
 use Rattle.swsusp_cli.proofs.Streaming.{IsWritten, part_written, part_front, none_left, all_written}
 use Rattle.swsusp_cli.proofs.exporting.put_stream.Goals as goal
 

@@ -1,9 +1,9 @@
 use Rattle.std.proofs.Common.{refl, subst}
 use Rattle.dump_file.specs.Dump.{DumpValue}
-use Rattle.swsusp_cli.specs.Answer.{RunResult}
+use Rattle.command_kit.specs.Answer.{RunResult}
 use Rattle.swsusp_cli.specs.Dumps.{no_dump, out_of_memory, unread, answered}
-use Rattle.swsusp_cli.specs.Told.{IsTold}
-use Rattle.swsusp_cli.specs.View.{DiskView, SinkView}
+use Rattle.command_kit.specs.Told.{IsTold}
+use Rattle.command_kit.specs.View.{DiskView, SinkView}
 use Rattle.swsusp_cli.proofs.Dumped.{hibernated_as, saves_as, saves_untouched}
 use Rattle.swsusp_cli.proofs.Inputs.{without_dump}
 use Rattle.swsusp_cli.proofs.hibernating.hibernate_dump.Goals as goal

@@ -6,7 +6,7 @@ use Rattle.definitions.specs.Disk.{Content, HasRisen}
 use Rattle.stream_in.specs.Session.{IsFed}
 use Rattle.stream_in.specs.Written.{AreOfMap}
 use Rattle.swsusp_cli.specs.Feeding.{Feeds, IsOfDisk}
-use Rattle.swsusp_cli.specs.View.{DiskView}
+use Rattle.command_kit.specs.View.{DiskView}
 use Rattle.swsusp_cli.specs.declared.importing.ImportStop.{ImportStop}
 use Rattle.swsusp_cli.proofs.Feeding.{bounded, handed_more, holds_more, keeps_more, called_more, stop_for, risen_from}
 use Rattle.swsusp_cli.proofs.importing.feed_input.Goals as goal

@@ -7,7 +7,7 @@ use Rattle.stream_in.specs.declared.stop.InStop.TheVariants as stop
 use Rattle.swsusp_cli.specs.Feeding.{IsCalled}
 use Rattle.swsusp_cli.specs.Imports.{Ends}
 use Rattle.swsusp_cli.specs.declared.importing.ImportStop.{ImportStop}
-use Rattle.swsusp_cli.specs.View.{DiskView}
+use Rattle.command_kit.specs.View.{DiskView}
 use Rattle.swsusp_cli.proofs.Imported.{ends_imported, ends_unfed, ends_unfinished, has_opened}
 use Rattle.swsusp_cli.proofs.importing.import_image.Goals as goal
 

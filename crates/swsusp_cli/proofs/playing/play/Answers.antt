@@ -6,7 +6,7 @@ use Rattle.plain_machine.specs.declared.event.Event.{Event}
 use Rattle.plain_machine.specs.declared.event.Event.TheVariants as event
 use Rattle.plain_machine.specs.declared.event.BootFrom.TheVariants.{Fresh}
 use Rattle.swsusp_cli.specs.Playing.{HasPlayed}
-use Rattle.swsusp_cli.specs.View.{DiskView}
+use Rattle.command_kit.specs.View.{DiskView}
 use Rattle.swsusp_cli.proofs.Turns.{one_more, played_none, played_more, taken_more, text_more}
 use Rattle.swsusp_cli.proofs.playing.play.Goals as goal
 

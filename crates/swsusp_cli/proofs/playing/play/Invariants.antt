@@ -4,7 +4,7 @@ use Rattle.plain_machine.specs.Replies.{text_of}
 use Rattle.plain_machine.specs.declared.reply.Reply.{Reply}
 use Rattle.world_core.specs.StandsFor.{IsOff, blocks_of, hardware_of}
 use Rattle.swsusp_cli.specs.Playing.{HasPlayed}
-use Rattle.swsusp_cli.specs.View.{DiskView}
+use Rattle.command_kit.specs.View.{DiskView}
 use Rattle.swsusp_cli.proofs.playing.play.Given as goal
 
 abbrev pub invariant-loop-event : goal.invariant-loop-event

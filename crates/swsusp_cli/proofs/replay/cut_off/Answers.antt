@@ -1,4 +1,4 @@
-use Rattle.swsusp_cli.specs.Told.{sink_note}
+use Rattle.command_kit.specs.Told.{sink_note}
 use Rattle.swsusp_cli.proofs.Prints.{tried}
 use Rattle.swsusp_cli.proofs.replay.cut_off.Goals as goal
 

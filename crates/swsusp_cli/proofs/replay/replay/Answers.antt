@@ -2,11 +2,11 @@ use Rattle.std.proofs.Common.{inl, inr, List, None, refl, subst, take}
 use Rattle.plain_machine.specs.Machine.{Hardware}
 use Rattle.plain_machine.specs.declared.event.Event.{Event}
 use Rattle.world_core.specs.StandsFor.{IsNew}
-use Rattle.swsusp_cli.specs.Answer.{RunResult}
+use Rattle.command_kit.specs.Answer.{RunResult}
 use Rattle.swsusp_cli.specs.Outcome.{cut_off, no_script, out_of_memory, unread}
 use Rattle.swsusp_cli.specs.Playing.{HasPlayed}
-use Rattle.swsusp_cli.specs.Told.{IsTold}
-use Rattle.swsusp_cli.specs.View.{DiskView, SinkView}
+use Rattle.command_kit.specs.Told.{IsTold}
+use Rattle.command_kit.specs.View.{DiskView, SinkView}
 use Rattle.swsusp_cli.proofs.Replays.{not_set_up, replies_of, risen_of, played_whole, told_status}
 use Rattle.swsusp_cli.proofs.Inputs.{without_script}
 use Rattle.swsusp_cli.proofs.Turns.{risen_earlier}

@@ -1,9 +1,9 @@
 use Rattle.std.proofs.Common.{refl, sym, subst, inr}
 use Rattle.dump_file.specs.Dump.{DumpValue}
-use Rattle.swsusp_cli.specs.Answer.{RunResult}
+use Rattle.command_kit.specs.Answer.{RunResult}
 use Rattle.swsusp_cli.specs.Loads.{no_dump, out_of_memory, unread, answered}
-use Rattle.swsusp_cli.specs.Told.{IsTold}
-use Rattle.swsusp_cli.specs.View.{DiskView, SinkView}
+use Rattle.command_kit.specs.Told.{IsTold}
+use Rattle.command_kit.specs.View.{DiskView, SinkView}
 use Rattle.swsusp_cli.proofs.Dumped.{resumed_as, loads_as, loads_untouched}
 use Rattle.swsusp_cli.proofs.Inputs.{without_dump}
 use Rattle.swsusp_cli.proofs.resuming.resume_dump.Goals as goal

@@ -6,7 +6,7 @@ use Rattle.plain_machine.specs.Machine.{Hardware, IsHardware, block_of_slot}
 use Rattle.script.specs.Grammar.{ScriptValue}
 use Rattle.swsusp_cli.specs.Formatting.{Formats, FailsToFormat, IsNeeded, LieBelow}
 use Rattle.swsusp_cli.specs.SettingUp.{FailsToSetUp, IsNotSetUp, IsSetUp}
-use Rattle.swsusp_cli.specs.View.{DiskView}
+use Rattle.command_kit.specs.View.{DiskView}
 use Rattle.swsusp_cli.specs.declared.setting_up.Unready.{Unready}
 use Rattle.swsusp_cli.proofs.setting_up.set_up.Goals as goal
 

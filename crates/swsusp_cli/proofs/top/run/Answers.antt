@@ -1,7 +1,7 @@
 use Rattle.swsusp_cli.proofs.Prints.{replay_flushed, hibernates_flushed, resumes_flushed, exports_flushed, imports_flushed}
-use Rattle.swsusp_cli.specs.Answer.{memory_told, unparsed}
-use Rattle.swsusp_cli.specs.AnswerOf.{told_by}
-use Rattle.swsusp_cli.specs.View.{DiskView, View, disk_view, view}
+use Rattle.command_kit.specs.Answer.{memory_told, unparsed}
+use Rattle.command_kit.specs.AnswerOf.{told_by}
+use Rattle.command_kit.specs.View.{DiskView, View, disk_view, view}
 use Rattle.swsusp_words.specs.Words.{command_of}
 use Rattle.swsusp_cli.proofs.Drilled.{drill_flushed, drilled_as}
 use Rattle.swsusp_cli.proofs.Replays.{few_calls}

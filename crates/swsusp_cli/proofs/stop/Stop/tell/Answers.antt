@@ -1,8 +1,8 @@
 use Rattle.std.proofs.Common.{subst, sym}
-use Rattle.swsusp_cli.specs.Answer.{RunResult}
+use Rattle.command_kit.specs.Answer.{RunResult}
 use Rattle.swsusp_cli.specs.Stops.{IsStopTold}
-use Rattle.swsusp_cli.specs.Told.{IsTold}
-use Rattle.swsusp_cli.specs.View.{SinkView}
+use Rattle.command_kit.specs.Told.{IsTold}
+use Rattle.command_kit.specs.View.{SinkView}
 use Rattle.swsusp_cli.specs.declared.stop.Stop.{Stop}
 use Rattle.swsusp_cli.proofs.stop.Stop.tell.Goals as goal
 

@@ -1,0 +1,6 @@
+-- An answer as it is told.
+use Rattle.command_kit.specs.Answer.{RunResult}
+use Rattle.command_kit.specs.declared.answer.Answer.{Answer}
+
+abbrev pub told_by : Answer → RunResult
+told_by answer = record { status = answer.status; out = answer.out; note = answer.note }

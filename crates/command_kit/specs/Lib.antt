@@ -1,0 +1,5 @@
+pub mod Answer
+pub mod AnswerOf
+pub mod ExitStatus
+pub mod Told
+pub mod View

@@ -1,0 +1,45 @@
+-- What the sinks take of it.
+use Rattle.std.specs.Prelude.{◌≡◌, ◌⊎◌, ℕ, List, codes}
+use Rattle.definitions.specs.Disk.{HasRisen}
+use Rattle.definitions.specs.Streams.{TakesAll, TakesFront}
+use Rattle.byte_streams.specs.Flushed.{IsFlushed}
+use Rattle.command_kit.specs.declared.status.Status.{Status}
+use Rattle.command_kit.specs.declared.status.Status.TheVariants.{Stream}
+use Rattle.command_kit.specs.Answer.{RunResult, line}
+use Rattle.command_kit.specs.View.{SinkView}
+
+-- a text is taken whole, and all that was taken is flushed
+pub record IsPrinted (text : List ℕ) (old new : SinkView) : Type 0 where
+  pub whole : TakesAll text old.taken new.taken
+  pub flushed : IsFlushed new.taken new.flushed
+
+-- a front of it is taken, and the sink has failed
+pub record FailsToPrint (text : List ℕ) (old new : SinkView) : Type 0 where
+  pub front : TakesFront text old.taken new.taken
+  pub risen : HasRisen old.faults new.faults
+
+abbrev pub IsTried : List ℕ → SinkView → SinkView → Type 0
+IsTried text old new = IsPrinted text old new ⊎ FailsToPrint text old new
+
+-- what is noted, once, where out failed
+abbrev pub sink_note : List ℕ
+sink_note = line (codes "sink fault")
+
+-- both texts are printed
+pub record IsToldWhole (told : RunResult) (status : Status) (out out' note note' : SinkView) : Type 0 where
+  pub status_is : status ≡ told.status
+  pub out_whole : IsPrinted told.out out out'
+  pub note_whole : IsPrinted told.note note note'
+
+-- out failed in its text, and that is noted; or note failed in its own
+abbrev pub AreFronts : RunResult → SinkView → SinkView → SinkView → SinkView → Type 0
+AreFronts told out out' note note' =
+    (FailsToPrint told.out out out' × IsTried sink_note note note') ⊎ (IsPrinted told.out out out' × FailsToPrint told.note note note')
+
+-- a sink failed
+pub record IsCutShort (told : RunResult) (status : Status) (out out' note note' : SinkView) : Type 0 where
+  pub status_is : status ≡ Stream
+  pub fronts : AreFronts told out out' note note'
+
+abbrev pub IsTold : RunResult → Status → SinkView → SinkView → SinkView → SinkView → Type 0
+IsTold told status out out' note note' = IsToldWhole told status out out' note note' ⊎ IsCutShort told status out out' note note'

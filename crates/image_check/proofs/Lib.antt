@@ -1,0 +1,4 @@
+pub mod Earlier
+pub mod EntryFindings
+pub mod SoFar
+pub mod Telling

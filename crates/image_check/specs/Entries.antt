@@ -1,0 +1,84 @@
+-- What is wrong with a name of a history, and with the page that it names.
+use Rattle.std.specs.Prelude.{ℕ, ◌+◌, ◌*◌, ◌-◌, ◌/◌, ◌==◌, ◌&&◌, Bool, List, [], ◌∷◌, nat_le, nat_lt, if◌then◌else◌, Option, Some, None, Result, Ok, Err}
+use Rattle.page_core.specs.declared.format.Format.{Format}
+use Rattle.definitions.specs.Bytes.{word}
+use Rattle.definitions.specs.NumberPages.{meta_of}
+use Rattle.image_walk.specs.Names.{Name, map_at, page_at, maps_in, newest_map, left_in}
+use Rattle.image_walk.specs.declared.visit.BlockFault.{BlockFault}
+use Rattle.image_check.specs.declared.finding.Counts.{Counts}
+use Rattle.image_check.specs.declared.finding.Finding.{Finding}
+use Rattle.image_check.specs.declared.finding.Finding.TheVariants as finding
+use Rattle.image_check.specs.declared.finding.Place.{Place}
+use Rattle.image_check.specs.Info.{counts_in, info_findings}
+use Rattle.image_check.specs.Numbers.{number_findings}
+
+-- which page of the image the next entry names: 0 is the info page
+abbrev pub position_of : List Name → ℕ
+position_of h = 511 * (maps_in h - 1) + (511 - left_in h)
+
+abbrev pub place_of : List Name → Place
+place_of h = record { map = maps_in h; at = newest_map h; entry = 511 - left_in h }
+
+abbrev pub counts_seen : Result (List ℕ) BlockFault → Option Counts
+counts_seen (Ok page) = Some (counts_in page)
+counts_seen (Err why) = None
+
+-- what the info page says, once it was read
+abbrev pub counts_of : List Name → Option Counts
+counts_of [] = None
+counts_of (map_at b answer ∷ h) = counts_of h
+counts_of (page_at b answer ∷ h) = if position_of h == 0 then counts_seen answer else counts_of h
+
+abbrev pub last_word : Result (List ℕ) BlockFault → Option ℕ
+last_word (Ok page) = Some (word page 511)
+last_word (Err why) = None
+
+-- the last word of the page before, where that is no info page
+abbrev pub previous_of : List Name → Option ℕ
+previous_of [] = None
+previous_of (map_at b answer ∷ h) = previous_of h
+previous_of (page_at b answer ∷ h) = if position_of h == 0 then None else last_word answer
+
+-- no page is wanted: the image has no more, or, where it isn't known how many it has, none is named
+abbrev pub is_unused : Option Counts → (position b : ℕ) → Bool
+is_unused None position b = nat_lt 0 position && (b == 0)
+is_unused (Some c) position b = nat_le c.pages position
+
+abbrev pub wanted_fault : {A : Type 0} → Place → Result A BlockFault → Option Finding
+wanted_fault place (Ok page) = None
+wanted_fault place (Err why) = Some (finding.Entry place why)
+
+-- what is wrong with the block that an entry names
+abbrev pub entry_fault : {A : Type 0} → Option Counts → ℕ → Place → ℕ → Result A BlockFault → Option Finding
+entry_fault counts position place b answer =
+    if is_unused counts position b then (if b == 0 then None else Some (finding.AfterPages place b)) else wanted_fault place answer
+
+-- what is wrong with a page of the image: after the info page come the number pages, and after these the saved pages
+abbrev pub listed_findings : Format → Option Counts → ℕ → Option ℕ → List ℕ → List Finding
+listed_findings format None position previous page = []
+listed_findings format (Some c) position previous page =
+    if nat_le position (meta_of c.image_pages) then number_findings format c.image_pages position previous page else []
+
+abbrev pub page_findings : Format → Option Counts → ℕ → Option ℕ → List ℕ → List Finding
+page_findings format counts position previous page =
+    if position == 0 then info_findings format page else listed_findings format counts position previous page
+
+abbrev pub read_findings : Format → Option Counts → (position b : ℕ) → Option ℕ → Result (List ℕ) BlockFault → List Finding
+read_findings format counts position b previous (Err why) = []
+read_findings format counts position b previous (Ok page) =
+    if is_unused counts position b then [] else page_findings format counts position previous page
+
+-- the chain has ended too early
+abbrev pub ends_fault : Option Counts → ℕ → Option Finding
+ends_fault None maps = None
+ends_fault (Some c) maps = if nat_lt (511 * maps) c.pages then Some (finding.Ends maps c.pages) else None
+
+-- A writer makes a map for each 511 pages, and one more (swap_write_page).
+abbrev pub after_fault : Option Counts → (map b : ℕ) → Option Finding
+after_fault None map b = None
+after_fault (Some c) map b = if nat_lt (c.pages / 511 + 1) map then Some (finding.AfterMaps map b) else None
+
+-- What is wrong with the block that is named as a map. No block is named after the last one.
+abbrev pub map_fault : {A : Type 0} → Option Counts → (map b : ℕ) → Result A BlockFault → Option Finding
+map_fault counts map b (Ok page) = after_fault counts map b
+map_fault counts map b (Err why) = if (b == 0) && nat_lt 1 map then ends_fault counts (map - 1) else Some (finding.Map map why)

@@ -1,0 +1,9 @@
+pub mod Checked
+pub mod Entries
+pub mod Header
+pub mod Image
+pub mod Info
+pub mod Knows
+pub mod Lines
+pub mod Numbers
+pub mod Told

@@ -1,0 +1,195 @@
+//! The blocks that maps and entries name, and the pages in them.
+ghost use Rattle.std.specs.Prelude.{◌≡◌, ◌<◌, ◌^◌, ◌==◌, ◌∷◌, List, Ok, Some, None, if◌then◌else◌};
+ghost use Rattle.image_walk.specs.Names.{Name, seen};
+ghost use Rattle.image_walk.specs.Walking.{IsPlaced, name_of};
+ghost use Rattle.image_check.specs.Entries.{after_fault, counts_seen, ends_fault, entry_fault, is_unused, last_word, listed_findings, map_fault, page_findings, read_findings};
+ghost use Rattle.image_check.specs.Image.{name_findings};
+ghost use Rattle.image_check.specs.Knows.{Knows};
+ghost use Rattle.image_check.specs.Told.{Tells};
+
+use crate::info::{check_info, counts_in};
+use crate::numbers::{NumberPage, check_numbers};
+use crate::progress::Progress;
+use crate::report::tell_any;
+use crate::{Counts, Finding, Place, Report};
+use image_walk::{BlockFault, Visit};
+use page_core::{Format, Page};
+
+/// How many entries a map page has (MAP_PAGE_ENTRIES).
+const ENTRIES: u64 = 511;
+
+/// Tells what is wrong with a name that follows those that led to `progress`, and with the page that was read.
+pub fn check_name<R: Report>(
+    report: &mut R,
+    format: Format,
+    progress: &mut Progress,
+    visit: &Visit,
+    page: &Page,
+)
+    ensures told { (h : List Name) → IsPlaced h visit.now → Knows progress.old h →
+        Tells (name_findings format h (name_of visit.now page.now)) (R.told report.old) (R.told report.new) }
+    ensures known { (h : List Name) → IsPlaced h visit.now → Knows progress.old h → Knows progress.new (name_of visit.now page.now ∷ h) }
+{
+    match *visit {
+        Visit::Map { map, block, answer } => tell_any(
+            report,
+            map_fault(progress.counts, map, block, answer),
+        ),
+        Visit::Entry {
+            map,
+            at,
+            entry,
+            block,
+            answer,
+        } => {
+            let position = ENTRIES * u64::from(map).saturating_sub(1) + u64::from(entry);
+            let place = Place { map, at, entry };
+            tell_any(
+                report,
+                entry_fault(progress.counts, position, place, block, answer),
+            );
+            if answer.is_ok() {
+                check_page(report, format, *progress, position, block, page);
+            }
+            *progress = after_entry(*progress, position, answer, page);
+        }
+    }
+}
+
+/// What is wrong with the block that is named as a map.
+fn map_fault(
+    counts: Option<Counts>,
+    map: u32,
+    block: u64,
+    answer: Result<(), BlockFault>,
+) -> Option<Finding>
+    ensures { result ≡ map_fault counts map block answer }
+{
+    match answer {
+        Ok(()) => after_fault(counts?, map, block),
+        Err(_) if block == 0 && map > 1 => ends_fault(counts?, map - 1),
+        Err(why) => Some(Finding::Map { map, why }),
+    }
+}
+
+fn after_fault(counts: Counts, map: u32, block: u64) -> Option<Finding>
+    ensures { result ≡ after_fault (Some counts) map block }
+{
+    if counts.pages / ENTRIES + 1 < u64::from(map) {
+        Some(Finding::AfterMaps { map, block })
+    } else {
+        None
+    }
+}
+
+fn ends_fault(counts: Counts, map: u32) -> Option<Finding>
+    ensures { result ≡ ends_fault (Some counts) map }
+{
+    if ENTRIES * u64::from(map) < counts.pages {
+        Some(Finding::Ends {
+            map,
+            pages: counts.pages,
+        })
+    } else {
+        None
+    }
+}
+
+/// What is wrong with the block that an entry names.
+fn entry_fault(
+    counts: Option<Counts>,
+    position: u64,
+    place: Place,
+    block: u64,
+    answer: Result<(), BlockFault>,
+) -> Option<Finding>
+    ensures { result ≡ entry_fault counts position place block answer }
+{
+    if !is_unused(counts, position, block) {
+        answer.err().map(|why| Finding::Entry { place, why })
+    } else if block == 0 {
+        None
+    } else {
+        Some(Finding::AfterPages { place, block })
+    }
+}
+
+/// Whether no page is wanted at a position.
+fn is_unused(counts: Option<Counts>, position: u64, block: u64) -> bool
+    ensures { result ≡ is_unused counts position block }
+{
+    match counts {
+        None => position > 0 && block == 0,
+        Some(counts) => counts.pages <= position,
+    }
+}
+
+/// Tells what is wrong with a page that was read.
+fn check_page<R: Report>(
+    report: &mut R,
+    format: Format,
+    progress: Progress,
+    position: u64,
+    block: u64,
+    page: &Page,
+)
+    requires { position < 2 ^ 42 }
+    ensures { Tells (read_findings format progress.counts position block progress.previous (Ok page.now)) (R.told report.old) (R.told report.new) }
+{
+    if is_unused(progress.counts, position, block) {
+        return;
+    }
+    if position == 0 {
+        return check_info(report, format, page);
+    }
+    if let Some(counts) = progress.counts {
+        check_listed(report, format, counts, position, progress.previous, page);
+    }
+}
+
+/// Tells what is wrong with a page after the info page.
+fn check_listed<R: Report>(
+    report: &mut R,
+    format: Format,
+    counts: Counts,
+    position: u64,
+    previous: Option<u64>,
+    page: &Page,
+)
+    requires { position < 2 ^ 42 }
+    ensures { Tells (listed_findings format (Some counts) position previous page.now) (R.told report.old) (R.told report.new) }
+{
+    if position <= counts.image_pages.div_ceil(512) {
+        let of = NumberPage {
+            format,
+            numbers: counts.image_pages,
+            page: position,
+        };
+        check_numbers(report, of, previous, page);
+    }
+}
+
+/// What is known after an entry.
+fn after_entry(
+    progress: Progress,
+    position: u64,
+    answer: Result<(), BlockFault>,
+    page: &Page,
+) -> Progress
+    ensures counts { result.counts ≡ (if position == 0 then counts_seen (seen answer page.now) else progress.counts) }
+    ensures previous { result.previous ≡ (if position == 0 then None else last_word (seen answer page.now)) }
+{
+    let read = answer.is_ok();
+    if position == 0 {
+        let counts = if read { Some(counts_in(page)) } else { None };
+        return Progress {
+            counts,
+            previous: None,
+        };
+    }
+    let previous = if read { Some(page.word(511)) } else { None };
+    Progress {
+        counts: progress.counts,
+        previous,
+    }
+}

@@ -1,0 +1,96 @@
+use image_walk::BlockFault;
+use sig_header::AreaFault;
+
+/// What an info page says of an image's size.
+#[derive(Clone, Copy, Debug, PartialEq, Eq)]
+pub struct Counts {
+    /// How many page frames were saved (`image_pages`).
+    pub image_pages: u64,
+    /// How many pages the image has, the info page and the number pages among them (`pages`).
+    pub pages: u64,
+}
+
+/// An entry of a map page. Maps count from 1, entries from 0.
+#[derive(Clone, Copy, Debug, PartialEq, Eq)]
+pub struct Place {
+    pub map: u32,
+    /// The block of the map.
+    pub at: u64,
+    pub entry: u32,
+}
+
+/// What is wrong with an image. Number pages count from 1, their words from 0.
+#[derive(Clone, Copy, Debug, PartialEq, Eq)]
+pub enum Finding {
+    /// The header block of the area can't be read.
+    HeaderUnread(u32),
+    /// `orig_sig` is no signature of a swap area.
+    OriginalSignature,
+    /// Taken back, the header would be that of an area at fault.
+    Area(AreaFault),
+    /// The area ends after the file.
+    LastPage {
+        last: u32,
+        blocks: u32,
+    },
+    /// SF_NOCOMPRESS_MODE isn't set.
+    Compressed(u32),
+    /// The block that the header or a link names as a map.
+    Map {
+        map: u32,
+        why: BlockFault,
+    },
+    /// The last map has no link, though entries are wanted.
+    Ends {
+        map: u32,
+        pages: u64,
+    },
+    /// A map after the last one that a writer makes.
+    AfterMaps {
+        map: u32,
+        block: u64,
+    },
+    /// The block that an entry names.
+    Entry {
+        place: Place,
+        why: BlockFault,
+    },
+    /// An entry after the last page isn't 0.
+    AfterPages {
+        place: Place,
+        block: u64,
+    },
+    /// A name of 65 bytes without a zero byte, from 0 to 5 in the order of `struct new_utsname`.
+    NoEnd(u32),
+    /// No version code and no version text, but not the magic number of an x86-64 header (`restore_data_record`) either.
+    Magic(u64),
+    /// No page frame was saved, or `pages` doesn't follow from `image_pages`.
+    Counts {
+        image_pages: u64,
+        pages: u64,
+    },
+    /// `size` isn't that of the pages.
+    Size {
+        size: u64,
+        pages: u64,
+    },
+    /// A page frame whose address would have more than 64 bits.
+    Number {
+        page: u64,
+        word: u32,
+        number: u64,
+    },
+    /// A number that isn't above the one before.
+    Order {
+        page: u64,
+        word: u32,
+        number: u64,
+        before: u64,
+    },
+    /// Another word than 2^64-1 after the last number.
+    End {
+        page: u64,
+        word: u32,
+        found: u64,
+    },
+}

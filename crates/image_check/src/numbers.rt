@@ -1,0 +1,119 @@
+//! The pages of page frame numbers.
+ghost use Rattle.std.specs.Prelude.{◌≡◌, ◌<◌, ◌^◌, ◌-◌};
+ghost use Rattle.definitions.specs.Bytes.{word};
+ghost use Rattle.image_check.specs.Numbers.{end_fault, frame_of, number_fault, number_findings, order_fault, word_before, word_fault};
+ghost use Rattle.image_check.specs.Told.{Tells};
+
+use crate::report::tell_any;
+use crate::{Finding, Report};
+use page_core::{Format, Page};
+
+/// How many words a page has.
+const WORDS: u32 = 512;
+
+/// What follows the last number (BM_END_OF_MAP).
+const END: u64 = u64::MAX;
+
+/// The bit of a page of zeros that has no data page (own).
+const ZERO_BIT: u64 = 1 << 63;
+
+/// The first number that is no page frame's: its address would have more than 64 bits.
+const NO_FRAME: u64 = 1 << 52;
+
+/// A number page of an image.
+#[derive(Clone, Copy)]
+pub(crate) struct NumberPage {
+    pub format: Format,
+    /// How many numbers the image has.
+    pub numbers: u64,
+    /// The number of the page. Number pages count from 1.
+    pub page: u64,
+}
+
+/// Tells what is wrong with the words of a number page, where `previous` is the last word of the one before.
+pub(crate) fn check_numbers<R: Report>(
+    report: &mut R,
+    of: NumberPage,
+    previous: Option<u64>,
+    bytes: &Page,
+)
+    requires { of.page < 2 ^ 42 }
+    ensures { Tells (number_findings of.format of.numbers of.page previous bytes.now) (R.told report.old) (R.told report.new) }
+{
+    for i in 0..WORDS {
+        tell_any(
+            report,
+            word_fault(
+                of,
+                i,
+                bytes.word(i as usize),
+                word_before(previous, bytes, i),
+            ),
+        );
+    }
+}
+
+/// The word before word i of a page.
+fn word_before(previous: Option<u64>, bytes: &Page, i: u32) -> Option<u64>
+    requires { i < 512 }
+    ensures { result ≡ word_before previous bytes.now i }
+{
+    if i == 0 {
+        previous
+    } else {
+        Some(bytes.word(i as usize - 1))
+    }
+}
+
+fn word_fault(of: NumberPage, i: u32, word: u64, before: Option<u64>) -> Option<Finding>
+    requires page { of.page < 2 ^ 42 }
+    requires word { i < 512 }
+    ensures { result ≡ word_fault of.format of.numbers of.page i word before }
+{
+    let index = 512 * of.page.saturating_sub(1) + u64::from(i);
+    if index < of.numbers {
+        number_fault(of, i, word, before)
+    } else if index == of.numbers && word != END {
+        Some(Finding::End {
+            page: of.page,
+            word: i,
+            found: word,
+        })
+    } else {
+        None
+    }
+}
+
+fn number_fault(of: NumberPage, i: u32, word: u64, before: Option<u64>) -> Option<Finding>
+    ensures { result ≡ number_fault of.format of.page i word before }
+{
+    let number = frame_of(of.format, word);
+    if number >= NO_FRAME {
+        return Some(Finding::Number {
+            page: of.page,
+            word: i,
+            number,
+        });
+    }
+    let before = frame_of(of.format, before?);
+    if number <= before {
+        Some(Finding::Order {
+            page: of.page,
+            word: i,
+            number,
+            before,
+        })
+    } else {
+        None
+    }
+}
+
+/// The page frame number of a word.
+fn frame_of(format: Format, word: u64) -> u64
+    ensures { result ≡ frame_of format word }
+{
+    match format {
+        Format::Plain => word,
+        Format::SkipZeros => word % ZERO_BIT,
+    }
+}

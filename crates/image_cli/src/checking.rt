@@ -1,0 +1,99 @@
+ghost use Rattle.std.specs.Prelude.{◌≡◌, ◌≢◌, ◌⊎◌, ◌≤◌, List, [], false, length, min};
+ghost use Rattle.definitions.specs.Disk.{HasRisen, last_count};
+ghost use Rattle.command_kit.specs.AnswerOf.{told_by};
+ghost use Rattle.command_kit.specs.Told.{IsTold, IsTried, sink_note};
+ghost use Rattle.command_kit.specs.View.{SinkView, sink_view};
+ghost use Rattle.image_check.specs.declared.finding.Finding.{Finding};
+ghost use Rattle.image_cli.specs.Checks.{Checks, findings_told, last_line, status_of};
+ghost use Rattle.image_cli.specs.Printed.{IsSoFar, printer_view};
+
+use byte_streams::{Line, Sink};
+use command_kit::{Answer, Status, no_memory, print, tell};
+use image_check::{Outcome, Printer};
+use page_core::NoMemory;
+use sector_disk::Disk;
+use std::alloc::Global;
+
+/// Prints what is wrong with the image of the area whose header lies in a block: a line for each finding, with its place, in the
+/// order in which the image is read, and then `whole`, or how many findings there are; `no image` where the header block, if the
+/// disk has it, carries no mark. The status is `Done` just where the image is whole. The disk is only read.
+pub fn check<D: Disk, O: Sink, N: Sink>(
+    alloc: Global,
+    disk: &mut D,
+    header: u32,
+    out: &mut Printer<O>,
+    note: &mut N,
+) -> Status
+    requires none { out.old.count ≡ 0 }
+    requires sound { out.old.failed ≡ false }
+    ensures outcome { Checks (D.content disk.old) (D.block_count disk.old) header (D.faults disk.old) (D.faults disk.new) result
+        (sink_view O.Sink out.old.sink)
+        (sink_view O.Sink out.new.sink)
+        (sink_view N.Sink note.old)
+        (sink_view N.Sink note.new) }
+    ensures stream { result ≡ Status.Stream →
+        HasRisen (O.faults out.old.sink) (O.faults out.new.sink) ⊎ HasRisen (N.faults note.old) (N.faults note.new) }
+    ensures device { result ≢ Status.Device }
+    ensures words { result ≢ Status.Words }
+    ensures content { D.content disk.new ≡ D.content disk.old }
+    ensures faults { D.faults disk.old ≤ D.faults disk.new }
+    ensures orders { D.orders disk.new ≡ D.orders disk.old }
+    ensures blocks { D.block_count disk.new ≡ D.block_count disk.old }
+{
+    match image_check::check(alloc, disk, header, out) {
+        Ok(Outcome::NoImage) => tell(Status::Refused, b"no image\n", b"", &mut out.sink, note),
+        Ok(Outcome::Checked) => sum_up(out, note),
+        Err(NoMemory) => no_memory().tell(&mut out.sink, note),
+    }
+}
+
+/// Ends a check whose findings were printed.
+fn sum_up<O: Sink, N: Sink>(out: &mut Printer<O>, note: &mut N) -> Status
+    ensures told { (found : List Finding) (start : SinkView) → IsSoFar found start (printer_view O.Sink out.old) →
+        IsTold (findings_told found) result start
+        (sink_view O.Sink out.new.sink)
+        (sink_view N.Sink note.old)
+        (sink_view N.Sink note.new) }
+    ensures stream { (found : List Finding) (start : SinkView) → IsSoFar found start (printer_view O.Sink out.old) →
+        result ≡ Status.Stream → HasRisen start.faults (O.faults out.new.sink) ⊎ HasRisen (N.faults note.old) (N.faults note.new) }
+    ensures device { result ≢ Status.Device }
+    ensures words { result ≢ Status.Words }
+{
+    if out.failed {
+        return cut_short(note);
+    }
+    summary(out.count).tell(&mut out.sink, note)
+}
+
+/// Notes that the output failed.
+fn cut_short<N: Sink>(note: &mut N) -> Status
+    ensures status { result ≡ Status.Stream }
+    ensures noted { IsTried sink_note (sink_view N.Sink note.old) (sink_view N.Sink note.new) }
+{
+    let _ = print(note, b"sink fault\n");
+    Status::Stream
+}
+
+/// The last line of a check, by how many findings there were.
+fn summary(count: u64) -> Answer
+    ensures told { (found : List Finding) → count ≡ min (length found) last_count →
+        told_by result ≡ record { status = status_of found; out = last_line found; note = [] } }
+    ensures stream { result.status ≢ Status.Stream }
+    ensures device { result.status ≢ Status.Device }
+    ensures words { result.status ≢ Status.Words }
+{
+    let mut out = Line::new();
+    let status = if count == 0 {
+        out.put(b"whole\n");
+        Status::Done
+    } else {
+        out.put_number(count);
+        out.put(b" findings\n");
+        Status::Refused
+    };
+    Answer {
+        status,
+        out,
+        note: Line::new(),
+    }
+}

@@ -1,0 +1,8 @@
+//! The commands of `swsusp_image`: what they print of the image of a swap area, and what they leave of it.
+#![tactic(auto)]
+
+mod checking;
+mod discarding;
+
+pub use checking::check;
+pub use discarding::discard;

@@ -1,0 +1,68 @@
+ghost use Rattle.std.specs.Prelude.{◌≡◌, ◌<◌, ◌≤◌, List, IfSome, IfOk, IfErr, Ok, Err};
+ghost use Rattle.definitions.specs.Disk.{HasRisen};
+ghost use Rattle.image_discard.specs.Discards.{Ends, Fails, LeavesNoImage};
+
+use crate::marks::is_marked;
+use page_core::Page;
+use sector_disk::Disk;
+use sig_header::take_back;
+use thiserror::Error;
+
+/// What became of an image.
+#[derive(Clone, Copy, Debug, PartialEq, Eq)]
+pub enum Discarded {
+    /// The mark is taken back, and synced.
+    Done,
+    /// There is no header block, or it has no mark. Nothing was written.
+    NoImage,
+    /// `orig_sig` is the signature of an image too, so that there is nothing to take the mark back to. Nothing was written.
+    NoOriginal,
+}
+
+/// A call of the disk that failed. Its text says what is left.
+#[derive(Clone, Copy, Debug, PartialEq, Eq, Error)]
+pub enum Fault {
+    /// Nothing was written.
+    #[error("read fault same")]
+    Read,
+    /// Each sector of the header block is as before or taken back.
+    #[error("write fault unsure")]
+    Write,
+    /// The mark is taken back, as the disk reads, but a power cut may leave it.
+    #[error("sync fault unsure")]
+    Sync,
+}
+
+/// Takes back the mark of the area whose header lies in a block, whatever kernel its image is of and however it is saved: `sig` gets
+/// `orig_sig`, and all other bytes of the disk stay (`swsusp_check`, kernel/power/swap.c).
+pub fn discard<D: Disk>(disk: &mut D, header: u32) -> Result<Discarded, Fault>
+    ensures ends { IfOk result (Ends header (D.block_count disk.old) (D.content disk.old) (D.content disk.new)) }
+    ensures unmarked { result ≡ Ok Discarded.Done → IfSome (D.content disk.new) (LeavesNoImage header) }
+    ensures fails { IfErr result (Fails header (D.content disk.old) (D.content disk.new)) }
+    ensures cause { IfErr result (λ fault. HasRisen (D.faults disk.old) (D.faults disk.new)) }
+    ensures faults { D.faults disk.old ≤ D.faults disk.new }
+    ensures orders { D.orders disk.new ≡ D.orders disk.old }
+    ensures blocks { D.block_count disk.new ≡ D.block_count disk.old }
+{
+    if header >= disk.blocks() {
+        return Ok(Discarded::NoImage);
+    }
+    let mut page = Page::zero();
+    if disk.read(header, &mut page).is_err() {
+        return Err(Fault::Read);
+    }
+    if !is_marked(&page) {
+        return Ok(Discarded::NoImage);
+    }
+    let back = take_back(&page);
+    if is_marked(&back) {
+        return Ok(Discarded::NoOriginal);
+    }
+    if disk.write(header, &back).is_err() {
+        return Err(Fault::Write);
+    }
+    match disk.sync() {
+        Ok(()) => Ok(Discarded::Done),
+        Err(_) => Err(Fault::Sync),
+    }
+}

@@ -1,0 +1,9 @@
+pub mod Blocks
+pub mod Counting
+pub mod Earlier
+pub mod Ending
+pub mod Findings
+pub mod Marks
+pub mod Onward
+pub mod Reading
+pub mod Stepping

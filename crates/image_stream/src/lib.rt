@@ -1,0 +1,8 @@
+//! What an image holds, as its chain names it: its stream of bytes, and single pages.
+#![tactic(auto)]
+
+mod finding;
+mod streaming;
+
+pub use finding::{Found, page_of};
+pub use streaming::{Stop, Streamed, stream};

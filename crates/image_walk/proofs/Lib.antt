@@ -1,0 +1,4 @@
+pub mod Bits
+pub mod FewMaps
+pub mod MapStep
+pub mod Reserve

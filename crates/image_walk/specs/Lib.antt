@@ -1,0 +1,4 @@
+pub mod BlockSets
+pub mod Names
+pub mod Taken
+pub mod Walking

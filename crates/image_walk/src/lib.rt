@@ -1,0 +1,12 @@
+//! The blocks that an image names, one after another: the maps of its chain and the pages of their entries, as a disk reads.
+#![tactic(auto)]
+
+mod block_set;
+mod limits;
+mod looking;
+mod visit;
+mod walker;
+
+pub use limits::Limits;
+pub use visit::{BlockFault, Visit};
+pub use walker::Walker;

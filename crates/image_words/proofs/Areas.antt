@@ -1,0 +1,119 @@
+-- A subcommand with an area takes the plain words of one, and its matches ask for it.
+use Rattle.std.proofs.Common.{◌≡◌, ◌∙◌, ◌&&◌, ℕ, Bool, true, false, pos, refl, ap, ap₂, Some, None, List, [], ◌∷◌, codes}
+use Rattle.std.specs.List.{list_all}
+use Rattle.clap.specs.Words.{Row, Rule, Shape, Text}
+use Rattle.clap.specs.Simple.{help_rule, new_shape}
+use Rattle.clap.specs.Takes.{default_passes, is_valid, level_passes, settle_passes, walk_passes}
+use Rattle.clap.specs.Walk.{Held, finished, nothing_held, rows_after, walk, walk_from}
+use Rattle.clap.proofs.OnLiterals.{clap_on_literals}
+use Rattle.clap.specs.declared.builder.action.ArgAction.TheVariants.{Set}
+use Rattle.clap.specs.declared.builder.value_parser.ValueParser.TheVariants as parser
+use Rattle.clap.specs.declared.builder.value_parser.Reading.{Reading}
+use Rattle.clap.specs.declared.builder.value_parser.Reading.TheVariants.{AsWritten, WithoutMinus}
+use Rattle.clap.specs.declared.parser.matches.ValueSource.TheVariants.{CommandLine}
+use Rattle.swsusp_words.specs.App.{offset_rule, swap_rule}
+use Rattle.swsusp_words.specs.Matched.{parsed}
+use Rattle.swsusp_words.proofs.Values.{IsNumber, IsValue}
+use Rattle.image_words.specs.App.{frame_rule}
+use Rattle.image_words.specs.Matched.{area_in, page_in}
+use Rattle.image_words.specs.Words.{page}
+
+-- the arguments as they are built
+abbrev built_offset : Rule
+built_offset = record offset_rule { action = Some Set; range = Some (record { start_inclusive = 1; end_inclusive = 1 }) }
+
+abbrev built_swap : Rule
+built_swap = record swap_rule {
+  action = Some Set;
+  range = Some (record { start_inclusive = 1; end_inclusive = 1 });
+  parser = Some parser.String;
+  index = Some 1;
+}
+
+abbrev built_frame : Rule
+built_frame = record frame_rule { action = Some Set; range = Some (record { start_inclusive = 1; end_inclusive = 1 }); index = Some 2 }
+
+abbrev built_help : Rule
+built_help = record help_rule { range = Some (record { start_inclusive = 0; end_inclusive = 0 }); parser = Some parser.String }
+
+abbrev pub area_rules : List Rule
+area_rules = built_offset ∷ built_swap ∷ built_help ∷ []
+
+abbrev pub page_rules : List Rule
+page_rules = built_offset ∷ built_swap ∷ built_frame ∷ built_help ∷ []
+
+-- a subcommand with these
+abbrev pub shape_of_rules : List Rule → Text → Shape
+shape_of_rules rules name = record (new_shape name) { rules = rules; disable_help_subcommand = true; is_built = true }
+
+-- a word of the command line as it is held
+abbrev row_of : Text → Text → Reading → Row
+row_of id word reading = record { id = id; values = word ∷ []; count = None; source = Some CommandLine; reading = reading }
+
+-- the offset and the path, with the frame's number to come
+abbrev held_with_frame : Text → Text → Text → Held
+held_with_frame number swap frame = record {
+  rows = row_of (codes "offset") number WithoutMinus ∷ row_of (codes "swap") swap AsWritten ∷ [];
+  pending = Some (codes "frame", frame ∷ []);
+  skip = 0;
+}
+
+-- what is asked after the walk
+abbrev end_passes : Shape → Held → Bool
+end_passes s end =
+    settle_passes s.rules s.args_override_self end && (list_all default_passes s.rules && is_valid s (finished s.rules end) false)
+
+zero_parsed : parsed 32 (codes "0") ≡ Some 0
+unfolding parsed
+zero_parsed = refl
+
+module _ (swap : Text) (s : IsValue swap) where
+  pub passes_area : (name : Text) → level_passes (shape_of_rules area_rules name) [] nothing_held (swap ∷ []) false ≡ true
+  unfolding clap_on_literals
+  passes_area name = simp (s.dash, s.dashes)
+
+  pub asks_area : area_in (rows_after area_rules [] (swap ∷ [])) ≡ Some (record { swap = swap; offset = 0 })
+  unfolding clap_on_literals
+  asks_area = simp (s.dash, s.dashes, zero_parsed)
+
+  module _ (number : Text) (n : ℕ) (d : IsNumber 32 (parser.Signed (pos 0) (pos 4294967295)) number n) where
+    pub passes_area_at : (name : Text) → level_passes (shape_of_rules area_rules name) [] nothing_held (codes "--offset" ∷ number ∷ swap ∷ []) false ≡ true
+    unfolding clap_on_literals
+    passes_area_at name = simp (s.dash, s.dashes, d.plain.dash, d.plain.dashes, d.fits)
+
+    pub asks_area_at : area_in (rows_after area_rules [] (codes "--offset" ∷ number ∷ swap ∷ [])) ≡ Some (record { swap = swap; offset = n })
+    unfolding clap_on_literals
+    asks_area_at = simp (s.dash, s.dashes, d.plain.dash, d.plain.dashes, d.reads)
+
+  module _ (frame : Text) (p : ℕ) (f : IsNumber 64 (parser.Unsigned 0 18446744073709551615) frame p) where
+    pub passes_page : (name : Text) → level_passes (shape_of_rules page_rules name) [] nothing_held (swap ∷ frame ∷ []) false ≡ true
+    unfolding clap_on_literals
+    passes_page name = simp (s.dash, s.dashes, f.plain.dash, f.plain.dashes, f.fits)
+
+    pub asks_page : page_in (rows_after page_rules [] (swap ∷ frame ∷ [])) ≡ Some (page (record { swap = swap; offset = 0 }) p)
+    unfolding clap_on_literals
+    asks_page = simp (s.dash, s.dashes, f.plain.dash, f.plain.dashes, f.reads, zero_parsed)
+
+    module _ (number : Text) (n : ℕ) (d : IsNumber 32 (parser.Signed (pos 0) (pos 4294967295)) number n) where
+      -- what is held after the words
+      held_page_at : (walk page_rules [] nothing_held (codes "--offset" ∷ number ∷ swap ∷ frame ∷ [])).held ≡ held_with_frame number swap frame
+      unfolding clap_on_literals
+      held_page_at = simp (s.dash, s.dashes, f.plain.dash, f.plain.dashes, d.plain.dash, d.plain.dashes)
+
+      walk_passes_page_at : (name : Text)
+          → walk_passes (shape_of_rules page_rules name) [] (walk_from nothing_held) (codes "--offset" ∷ number ∷ swap ∷ frame ∷ []) ≡ true
+      unfolding clap_on_literals
+      walk_passes_page_at name = simp (s.dash, s.dashes, f.plain.dash, f.plain.dashes, d.plain.dash, d.plain.dashes, d.fits)
+
+      end_passes_page_at : (name : Text) → end_passes (shape_of_rules page_rules name) (held_with_frame number swap frame) ≡ true
+      unfolding clap_on_literals
+      end_passes_page_at name = simp (f.fits)
+
+      pub passes_page_at : (name : Text)
+          → level_passes (shape_of_rules page_rules name) [] nothing_held (codes "--offset" ∷ number ∷ swap ∷ frame ∷ []) false ≡ true
+      passes_page_at name =
+          ap₂ (λ a b. a && b) (walk_passes_page_at name) (ap (end_passes (shape_of_rules page_rules name)) held_page_at ∙ end_passes_page_at name)
+
+      pub asks_page_at : page_in (rows_after page_rules [] (codes "--offset" ∷ number ∷ swap ∷ frame ∷ [])) ≡ Some (page (record { swap = swap; offset = n }) p)
+      unfolding clap_on_literals
+      asks_page_at = ap (λ h. page_in (finished page_rules h)) held_page_at ∙ simp (d.plain.dash, f.reads, d.reads)

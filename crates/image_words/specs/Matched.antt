@@ -1,0 +1,35 @@
+-- What a command's matches ask for.
+use Rattle.std.specs.Prelude.{◌≡◌, List, Option, Some, None, option_map, option_and_then, codes}
+use Rattle.std.specs.Prelude.{if◌then◌else◌}
+use Rattle.std.specs.Str.{bytes_eq}
+use Rattle.clap.specs.Words.{Row, Text}
+use Rattle.swsusp_words.specs.Matched.{number_at, swap_in}
+use Rattle.image_words.specs.Words.{Asked, SwapArea, check, stream, page, discard}
+
+abbrev pub area_in : List Row → Option SwapArea
+area_in rows =
+    option_and_then
+    (λ swap. option_map (λ offset. record { swap = swap; offset = offset }) (number_at 32 (codes "offset") rows))
+    (swap_in rows)
+
+abbrev pub page_in : List Row → Option Asked
+page_in rows =
+    option_and_then (λ area. option_map (λ frame. page area frame) (number_at 64 (codes "frame") rows)) (area_in rows)
+
+-- what the matches of the subcommand with this name ask for
+abbrev pub matched_by : Text → List Row → Option Asked
+matched_by name rows =
+    if bytes_eq name (codes "check") then option_map (λ area. check area) (area_in rows)
+    else if bytes_eq name (codes "stream") then option_map (λ area. stream area) (area_in rows)
+    else if bytes_eq name (codes "page") then page_in rows
+    else if bytes_eq name (codes "discard") then option_map (λ area. discard area) (area_in rows)
+    else None
+
+-- what the matches of the whole command line ask for
+abbrev pub asked_in : Option (Text × List Row) → Option Asked
+asked_in None = None
+asked_in (Some (name, rows)) = matched_by name rows
+
+-- the answer is what is asked for, where anything is
+abbrev pub Answers : {A B : Type 0} → (B → A) → Option A → Option B → Type 0
+Answers {A} asked_by asked answer = (x : A) → asked ≡ Some x → option_map asked_by answer ≡ Some x

@@ -1,0 +1,40 @@
+-- What an answer says that is no command.
+use Rattle.std.specs.Prelude.{◌≡◌, ◌≢◌, ◌⊎◌, List, ℕ, None, false, true, codes, string_bytes, ⊤}
+use Rattle.clap.specs.Faults.{fault_of}
+use Rattle.clap.specs.Kinds.{IsAmong}
+use Rattle.clap.specs.Words.{takes}
+use Rattle.clap.specs.declared.error.kind.ErrorKind.{ErrorKind}
+use Rattle.clap.specs.declared.error.kind.ErrorKind.TheVariants as kind
+use Rattle.image_words.specs.App.{image_app}
+use Rattle.image_words.specs.Help.{asks_help}
+use Rattle.image_words.specs.Words.{command_of}
+use Rattle.image_words.specs.declared.unparsed.Unparsed.{Unparsed}
+use Rattle.image_words.specs.declared.unparsed.Unparsed.TheVariants as unparsed
+
+-- a text is told of a list that isn't plain alone
+abbrev pub IsRefusedBy : List (List ℕ) → Unparsed → Type 0
+IsRefusedBy words (unparsed.Help text) = command_of words ≡ None
+IsRefusedBy words (unparsed.Words text) = command_of words ≡ None
+IsRefusedBy words unparsed.NoMemory = ⊤
+
+-- where clap takes such a list the text is the line `words`
+abbrev pub SaysWords : List (List ℕ) → Unparsed → Type 0
+SaysWords words (unparsed.Help text) = takes image_app words ≡ true → ⊥
+SaysWords words (unparsed.Words text) = takes image_app words ≡ true → string_bytes text ≡ codes "words\n"
+SaysWords words unparsed.NoMemory = ⊤
+
+-- a kind of clap's errors is told as help or the version, and another as what is wrong
+abbrev pub Tells : ErrorKind → Unparsed → Type 0
+Tells error (unparsed.Help text) = (error ≡ kind.DisplayHelp) ⊎ (error ≡ kind.DisplayVersion)
+Tells error (unparsed.Words text) = (error ≢ kind.DisplayHelp) × (error ≢ kind.DisplayVersion)
+Tells error unparsed.NoMemory = ⊤
+
+-- clap may answer the list by help or the version
+abbrev pub MayAskHelp : List (List ℕ) → Type 0
+MayAskHelp words = IsAmong kind.DisplayHelp (fault_of image_app words) ⊎ IsAmong kind.DisplayVersion (fault_of image_app words)
+
+-- a list that asks for help or the version gets it, and none that clap answers otherwise
+abbrev pub GivesHelp : List (List ℕ) → Unparsed → Type 0
+GivesHelp words (unparsed.Help text) = MayAskHelp words
+GivesHelp words (unparsed.Words text) = asks_help words ≡ false
+GivesHelp words unparsed.NoMemory = ⊤

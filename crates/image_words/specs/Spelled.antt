@@ -1,0 +1,31 @@
+-- Which words a command is spelled by.
+use Rattle.std.specs.Prelude.{◌≡◌, ◌<◌, ◌^◌, ◌⊎◌, ℕ, true, List, [], ◌∷◌, codes, decimal}
+use Rattle.swsusp_words.specs.Words.{is_path}
+use Rattle.image_words.specs.Words.{Asked, SwapArea, check, stream, page, discard}
+
+-- an area that words can name
+abbrev pub IsArea : SwapArea → Type 0
+IsArea area = (area.offset < 2 ^ 32) × (is_path area.swap ≡ true)
+
+-- the values that a command can have
+abbrev pub IsValid : Asked → Type 0
+IsValid (check area) = IsArea area
+IsValid (stream area) = IsArea area
+IsValid (page area frame) = IsArea area × (frame < 2 ^ 64)
+IsValid (discard area) = IsArea area
+
+-- the words are a command's name, perhaps the offset, which is else 0, the path, and the command's own
+abbrev pub IsSpelledOver : SwapArea → List ℕ → List (List ℕ) → List (List ℕ) → Type 0
+IsSpelledOver area name own words =
+    ((area.offset ≡ 0) × (words ≡ name ∷ area.swap ∷ own))
+    ⊎ (words ≡ name ∷ codes "--offset" ∷ decimal area.offset ∷ area.swap ∷ own)
+
+-- the words after the program's name are this command's
+abbrev pub IsSpelled : Asked → List (List ℕ) → Type 0
+IsSpelled (check area) words = IsSpelledOver area (codes "check") [] words
+IsSpelled (stream area) words = IsSpelledOver area (codes "stream") [] words
+IsSpelled (page area frame) words = IsSpelledOver area (codes "page") (decimal frame ∷ []) words
+IsSpelled (discard area) words = IsSpelledOver area (codes "discard") [] words
+
+abbrev pub Spells : Asked → List (List ℕ) → Type 0
+Spells asked words = IsValid asked × IsSpelled asked words

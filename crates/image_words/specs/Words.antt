@@ -1,0 +1,61 @@
+-- The command line of `swsusp_image`: which lists of words are plain, and what they ask for.
+use Rattle.std.specs.Prelude.{ℕ, ◌^◌, List, [], ◌∷◌, nat_eq, codes, if◌then◌else◌}
+use Rattle.std.specs.Prelude.{Option, Some, None, option_map, option_and_then}
+use Rattle.std.specs.Cmp.Lexicographic.{pointwise}
+use Rattle.swsusp_words.specs.Words.{is_path, plain_number}
+
+-- a swap area: the path of its file or block device, and the block of its header
+pub record SwapArea : Type 0 where
+  pub swap : List ℕ
+  pub offset : ℕ
+
+-- what a list of words asks for, with its values
+pub data Asked : Type 0 where
+  check : (area : SwapArea) → Asked
+  stream : (area : SwapArea) → Asked
+  page : (area : SwapArea) (frame : ℕ) → Asked
+  discard : (area : SwapArea) → Asked
+
+-- [--offset N], where N has 32 bits: the number, without the option 0, and the words after it
+abbrev pub offset_first : List (List ℕ) → Option (ℕ × List (List ℕ))
+offset_first [] = Some (0, [])
+offset_first (word ∷ []) = Some (0, word ∷ [])
+offset_first (word ∷ number ∷ words) =
+    if pointwise nat_eq word (codes "--offset")
+    then option_map (λ offset. (offset, words)) (plain_number (2 ^ 32) number)
+    else Some (0, word ∷ number ∷ words)
+
+-- SWAP, in an area with this offset, and what a command makes of the area and the words after it
+abbrev pub over_path : (SwapArea → List (List ℕ) → Option Asked) → ℕ → List (List ℕ) → Option Asked
+over_path ask offset [] = None
+over_path ask offset (swap ∷ words) = if is_path swap then ask (record { swap = swap; offset = offset }) words else None
+
+-- [--offset N] SWAP, and what a command makes of the area and the words after it
+abbrev pub over_area : (SwapArea → List (List ℕ) → Option Asked) → List (List ℕ) → Option Asked
+over_area ask words = option_and_then (λ rest. over_path ask rest.0 rest.1) (offset_first words)
+
+-- this, where no word follows
+abbrev pub alone : Asked → List (List ℕ) → Option Asked
+alone asked [] = Some asked
+alone asked (word ∷ words) = None
+
+-- P, a number of 64 bits
+abbrev pub page_of : SwapArea → List (List ℕ) → Option Asked
+page_of area [] = None
+page_of area (number ∷ []) = option_map (λ frame. page area frame) (plain_number (2 ^ 64) number)
+page_of area (number ∷ more ∷ words) = None
+
+-- what a command asks for with its own words
+abbrev pub command_by : List ℕ → List (List ℕ) → Option Asked
+command_by command words =
+    if pointwise nat_eq command (codes "check") then over_area (λ area. alone (check area)) words
+    else if pointwise nat_eq command (codes "stream") then over_area (λ area. alone (stream area)) words
+    else if pointwise nat_eq command (codes "page") then over_area page_of words
+    else if pointwise nat_eq command (codes "discard") then over_area (λ area. alone (discard area)) words
+    else None
+
+-- What a plain list of words asks for: the program's name, a command, and that command's own. No other list parses.
+abbrev pub command_of : List (List ℕ) → Option Asked
+command_of [] = None
+command_of (name ∷ []) = None
+command_of (name ∷ command ∷ words) = command_by command words

@@ -1,0 +1,56 @@
+use crate::command_line::command_line;
+use crate::spelled::plain;
+use crate::unparsed::{Unparsed, said};
+use std::alloc::Global;
+
+/// A swap area.
+#[derive(Clone, Copy, Debug, PartialEq, Eq)]
+pub struct Area<'a> {
+    /// The path of the swap file or block device.
+    pub swap: &'a str,
+    /// The block of the area's header.
+    pub offset: u32,
+}
+
+/// What the program is asked to do with the image of a swap area.
+#[derive(Clone, Copy, Debug, PartialEq, Eq)]
+pub enum Command<'a> {
+    /// Tells what is wrong with it.
+    Check(Area<'a>),
+    /// Writes it as a stream of bytes.
+    Stream(Area<'a>),
+    /// Writes the saved page of a page frame.
+    Page {
+        area: Area<'a>,
+        /// The number of the page frame.
+        frame: u64,
+    },
+    /// Takes its mark back.
+    Discard(Area<'a>),
+}
+
+impl<'a> Command<'a> {
+    ghost use Rattle.std.specs.Prelude.{◌≡◌, IfErr, IfOk, Some, map, string_bytes};
+    ghost use Rattle.image_words.specs.Asked.{asked_by};
+    ghost use Rattle.image_words.specs.Refused.{GivesHelp, IsRefusedBy, SaysWords};
+    ghost use Rattle.image_words.specs.Words.{command_of};
+
+    /// The command of a plain list of words, of which the first is the program's name. No other list parses, also where
+    /// clap takes it: clap's options may stand anywhere, and its numbers may have a sign and zeros before them. Such a
+    /// list gets the text `words`, one that asks for help or the version gets that, and any other what clap says of it.
+    pub fn parse(alloc: Global, words: &'a [String]) -> Result<Command<'a>, Unparsed>
+        ensures asks { IfOk result (λ command. command_of (map string_bytes words.now) ≡ Some (asked_by command)) }
+        ensures refused { IfErr result (IsRefusedBy (map string_bytes words.now)) }
+        ensures words { IfErr result (SaysWords (map string_bytes words.now)) }
+        ensures help { IfErr result (GivesHelp (map string_bytes words.now)) }
+    {
+        let matches = match command_line(alloc)?.try_get_matches_from(words) {
+            Ok(matches) => matches,
+            Err(error) => return Err(said(alloc, &error)),
+        };
+        match plain(&matches, words) {
+            Some(command) => Ok(command),
+            None => Err(Unparsed::Words(String::from_str(alloc, "words\n")?)),
+        }
+    }
+}

@@ -1,0 +1,87 @@
+ghost use Rattle.std.specs.Prelude.{IfOk};
+ghost use Rattle.clap.specs.Words.{new_app};
+ghost use Rattle.swsusp_words.specs.App.{IsApp};
+ghost use Rattle.image_words.specs.App.{area_app, image_app, page_app};
+
+use crate::details;
+use clap::{Arg, Command, value_parser};
+use std::alloc::{AllocError, Global};
+
+/// The commands as clap knows them.
+pub(crate) fn command_line<'a>(alloc: Global) -> Result<Command<'a>, AllocError>
+    ensures { IfOk result (IsApp image_app) }
+{
+    named(
+        alloc,
+        "swsusp_image",
+        "Looks into hibernation images in swap areas, moves them and gives them up",
+        details::PROGRAM,
+    )
+    .version("0.2.0")
+    .subcommand_required(true)
+    .subcommand(over_area(
+        alloc,
+        "check",
+        "Tells what is wrong with the image of a swap area",
+        details::CHECK,
+    )?)?
+    .subcommand(over_area(
+        alloc,
+        "stream",
+        "Writes the image of a swap area as a stream of bytes",
+        details::STREAM,
+    )?)?
+    .subcommand(page(alloc)?)?
+    .subcommand(over_area(
+        alloc,
+        "discard",
+        "Takes the mark of an image back",
+        details::DISCARD,
+    )?)
+}
+
+/// A command with its name, what it does, and the rest of its help.
+fn named<'a>(alloc: Global, name: &'a str, about: &'a str, details: &'a str) -> Command<'a>
+    ensures { IsApp (new_app name.entry.now) result }
+{
+    Command::new(alloc, name).about(about).after_help(details)
+}
+
+/// Such a command, with a swap area.
+fn over_area<'a>(
+    alloc: Global,
+    name: &'a str,
+    about: &'a str,
+    details: &'a str,
+) -> Result<Command<'a>, AllocError>
+    ensures { IfOk result (IsApp (area_app name.entry.now)) }
+{
+    let offset = Arg::new(alloc, "offset")
+        .long("offset")
+        .value_name("N")
+        .value_parser(value_parser!(u32))
+        .default_value("0")
+        .help("The block of the area's header");
+    let swap = Arg::new(alloc, "swap")
+        .value_name("SWAP")
+        .required(true)
+        .help("A swap file or a block device");
+    named(alloc, name, about, details).arg(offset)?.arg(swap)
+}
+
+fn page<'a>(alloc: Global) -> Result<Command<'a>, AllocError>
+    ensures { IfOk result (IsApp page_app) }
+{
+    let frame = Arg::new(alloc, "frame")
+        .value_name("P")
+        .required(true)
+        .value_parser(value_parser!(u64))
+        .help("The number of the page frame");
+    over_area(
+        alloc,
+        "page",
+        "Writes the saved page of a page frame",
+        details::PAGE,
+    )?
+    .arg(frame)
+}

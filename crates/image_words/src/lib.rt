@@ -1,0 +1,12 @@
+//! The command line of `swsusp_image`: what a list of words asks for, and what is said of one that asks for nothing.
+#![tactic(auto)]
+
+mod command;
+mod command_line;
+mod details;
+mod matched;
+mod spelled;
+mod unparsed;
+
+pub use command::{Area, Command};
+pub use unparsed::Unparsed;

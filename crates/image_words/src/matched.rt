@@ -1,0 +1,37 @@
+ghost use Rattle.std.specs.Prelude.{◌≡◌};
+ghost use Rattle.clap.specs.Words.{found_of, rows_of, subcommand_rows_of};
+ghost use Rattle.image_words.specs.Asked.{area_by, asked_by};
+ghost use Rattle.image_words.specs.Matched.{Answers, area_in, asked_in, matched_by, page_in};
+
+use crate::command::{Area, Command};
+use clap::ArgMatches;
+
+/// The command that matches ask for.
+pub(crate) fn matched<'a>(matches: &ArgMatches<'a>) -> Option<Command<'a>>
+    ensures { Answers asked_by (asked_in (subcommand_rows_of matches.now)) result }
+{
+    let (name, values) = matches.subcommand()?;
+    match name {
+        "check" => Some(Command::Check(area_of(values)?)),
+        "stream" => Some(Command::Stream(area_of(values)?)),
+        "page" => page(values),
+        "discard" => Some(Command::Discard(area_of(values)?)),
+        _ => None,
+    }
+}
+
+fn page<'a>(values: &ArgMatches<'a>) -> Option<Command<'a>>
+    ensures { Answers asked_by (page_in (rows_of (found_of values.now))) result }
+{
+    let area = area_of(values)?;
+    let frame = values.get_one::<u64>("frame")?;
+    Some(Command::Page { area, frame })
+}
+
+fn area_of<'a>(values: &ArgMatches<'a>) -> Option<Area<'a>>
+    ensures { Answers area_by (area_in (rows_of (found_of values.now))) result }
+{
+    let swap = values.get_str("swap")?;
+    let offset = values.get_one::<u32>("offset")?;
+    Some(Area { swap, offset })
+}

@@ -1,0 +1,78 @@
+ghost use Rattle.std.specs.Prelude.{◌≡◌, ◌↔◌, ◌++◌, IfSome, IsSome, IsTrue, Some, map, string_bytes};
+ghost use Rattle.clap.specs.Words.{subcommand_rows_of};
+ghost use Rattle.image_words.specs.Matched.{asked_in};
+ghost use Rattle.image_words.specs.Asked.{area_by, asked_by};
+ghost use Rattle.image_words.specs.Spelled.{IsArea, IsSpelledOver, Spells};
+ghost use Rattle.image_words.specs.Words.{Asked, command_of};
+
+use crate::command::{Area, Command};
+use crate::matched::matched;
+use clap::ArgMatches;
+use itoa::Buffer;
+use swsusp_words::{equal, is_path};
+
+/// The command that matches of words ask for, if the words are its plain ones.
+pub(crate) fn plain<'a>(matches: &ArgMatches<'a>, words: &[String]) -> Option<Command<'a>>
+    ensures asks { IfSome result (λ command. command_of (map string_bytes words.now) ≡ Some (asked_by command)) }
+    ensures found { (asked : Asked) → asked_in (subcommand_rows_of matches.now) ≡ Some asked →
+        command_of (map string_bytes words.now) ≡ Some asked → IsSome result }
+{
+    let command = matched(matches)?;
+    if is_spelled(&command, words) {
+        Some(command)
+    } else {
+        None
+    }
+}
+
+/// Whether words, of which the first is the program's name, are the plain words of a command.
+fn is_spelled(command: &Command<'_>, words: &[String]) -> bool
+    ensures { IsTrue result ↔ (command_of (map string_bytes words.now) ≡ Some (asked_by command.now)) }
+{
+    match words {
+        [_, words @ ..] => spells(command, words),
+        [] => false,
+    }
+}
+
+fn spells(command: &Command<'_>, words: &[String]) -> bool
+    ensures { IsTrue result ↔ Spells (asked_by command.now) (map string_bytes words.now) }
+{
+    match *command {
+        Command::Check(area) => spells_over(area, words, "check", &[]),
+        Command::Stream(area) => spells_over(area, words, "stream", &[]),
+        Command::Page { area, frame } => {
+            let mut buffer = Buffer::new();
+            spells_over(area, words, "page", &[buffer.format(frame)])
+        }
+        Command::Discard(area) => spells_over(area, words, "discard", &[]),
+    }
+}
+
+/// Whether words are a command's name, the plain words of an area, and these.
+fn spells_over(area: Area<'_>, words: &[String], name: &str, own: &[&str]) -> bool
+    ensures { IsTrue result ↔ IsArea (area_by area.entry) ×
+        IsSpelledOver (area_by area.entry) name.now (map (λ text. text.now) own.now) (map string_bytes words.now) }
+{
+    if !is_path(area.swap) {
+        return false;
+    }
+    if area.offset == 0 && are(words, &[name, area.swap], own) {
+        return true;
+    }
+    let mut buffer = Buffer::new();
+    let number = buffer.format(area.offset);
+    are(words, &[name, "--offset", number, area.swap], own)
+}
+
+/// Whether words are these texts, and then those.
+fn are(words: &[String], these: &[&str], those: &[&str]) -> bool
+    ensures { IsTrue result ↔ (map string_bytes words.now
+        ≡ map (λ text. text.now) these.now ++ map (λ text. text.now) those.now) }
+{
+    if words.len() < these.len() {
+        return false;
+    }
+    let (front, back) = words.split_at(these.len());
+    equal(front, these) && equal(back, those)
+}

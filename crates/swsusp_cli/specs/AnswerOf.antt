@@ -1,6 +1,0 @@
--- An answer as it is told.
-use Rattle.swsusp_cli.specs.Answer.{RunResult}
-use Rattle.swsusp_cli.specs.declared.answer.Answer.{Answer}
-
-abbrev pub told_by : Answer → RunResult
-told_by answer = record { status = answer.status; out = answer.out; note = answer.note }

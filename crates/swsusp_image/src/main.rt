@@ -1,0 +1,177 @@
+//! `swsusp_image`: looks into the hibernation image of a swap area, moves it and gives it up.
+#![tactic(auto)]
+
+use byte_streams::{Sink, StdSink};
+use command_kit::{Status, print, tell};
+use file_disk::FileDisk;
+use image_check::Printer;
+use image_cli::{check, discard};
+use image_stream::{Found, Stop, Streamed, page_of, stream};
+use image_words::{Area, Command, Unparsed};
+use page_core::{NoMemory, Page};
+use standard_streams::{Held, hold, is_output, sync_output};
+use std::env;
+use std::fs::File;
+use std::io::{self, IsTerminal};
+use std::process::ExitCode;
+
+/// The status of a file that can't be opened.
+const NOT_OPENED: u8 = 7;
+
+fn main(rt: HostRuntime) -> ExitCode {
+    let words = match env::args(&rt) {
+        Ok(words) => words,
+        Err(error) if error.kind() == io::ErrorKind::OutOfMemory => return no_memory(&rt),
+        Err(_) => return ended(&rt, b"words\n", Status::Words.code()),
+    };
+    let Ok(words) = words.collect::<Vec<String>>(rt.alloc()) else {
+        return no_memory(&rt);
+    };
+    match Command::parse(rt.alloc(), &words) {
+        Ok(Command::Stream(_) | Command::Page { .. }) if rt.stdout().is_terminal() => {
+            sink_fault(&rt)
+        }
+        Ok(Command::Check(area)) => check_image(&rt, area),
+        Ok(Command::Stream(area)) => stream_image(&rt, area),
+        Ok(Command::Page { area, frame }) => write_page(&rt, area, frame),
+        Ok(Command::Discard(area)) => discard_image(&rt, area),
+        Err(Unparsed::Help(text)) => show_help(&rt, text.as_bytes()),
+        Err(Unparsed::Words(text)) => ended(&rt, text.as_bytes(), Status::Words.code()),
+        Err(Unparsed::NoMemory) => no_memory(&rt),
+    }
+}
+
+/// Checks the image of an area.
+#[inline(never)]
+fn check_image(rt: &HostRuntime, area: Area<'_>) -> ExitCode {
+    let Ok((_held, mut disk)) = open_to_read(rt, area.swap) else {
+        return not_opened(rt);
+    };
+    let mut out = Printer::new(StdSink::new(rt.stdout()));
+    let mut note = StdSink::new(rt.stderr());
+    let status = check(rt.alloc(), &mut disk, area.offset, &mut out, &mut note);
+    finished(rt, status)
+}
+
+/// Writes the image of an area as a stream. What is wrong with it is noted.
+#[inline(never)]
+fn stream_image(rt: &HostRuntime, area: Area<'_>) -> ExitCode {
+    let Ok((_held, mut disk)) = open_to_read(rt, area.swap) else {
+        return not_opened(rt);
+    };
+    let mut out = StdSink::new(rt.stdout());
+    let mut note = Printer::new(StdSink::new(rt.stderr()));
+    match stream(rt.alloc(), &mut disk, area.offset, &mut out, &mut note) {
+        Ok(Streamed::Whole) => flushed(rt, &mut out),
+        Ok(Streamed::NoImage) => refused(rt, b"no image\n"),
+        Ok(Streamed::SkipsZeros) => refused(rt, b"pages of zeros aren't in the image\n"),
+        Ok(Streamed::Refused) => ExitCode::from(Status::Refused.code()),
+        Err(Stop::Sink) => sink_fault(rt),
+        Err(Stop::Memory) => no_memory(rt),
+    }
+}
+
+/// Writes the saved page of a page frame. What is wrong with the image up to there is noted.
+#[inline(never)]
+fn write_page(rt: &HostRuntime, area: Area<'_>, frame: u64) -> ExitCode {
+    let Ok((_held, mut disk)) = open_to_read(rt, area.swap) else {
+        return not_opened(rt);
+    };
+    let mut page = Page::zero();
+    let mut note = Printer::new(StdSink::new(rt.stderr()));
+    match page_of(
+        rt.alloc(),
+        &mut disk,
+        area.offset,
+        frame,
+        &mut page,
+        &mut note,
+    ) {
+        Ok(Found::Page) => {
+            let mut out = StdSink::new(rt.stdout());
+            let status = tell(Status::Done, page.as_bytes(), b"", &mut out, &mut note.sink);
+            finished(rt, status)
+        }
+        Ok(Found::NoPage) => {
+            let _ = eprintln!(rt; "no page {frame}");
+            ExitCode::from(Status::Refused.code())
+        }
+        Ok(Found::NoImage) => refused(rt, b"no image\n"),
+        Ok(Found::SkipsZeros) => refused(rt, b"pages of zeros aren't in the image\n"),
+        Ok(Found::Refused) => ExitCode::from(Status::Refused.code()),
+        Err(NoMemory) => no_memory(rt),
+    }
+}
+
+/// Takes back the mark of the image of an area.
+#[inline(never)]
+fn discard_image(rt: &HostRuntime, area: Area<'_>) -> ExitCode {
+    let Ok(_held) = hold(rt) else {
+        return not_opened(rt);
+    };
+    let Ok(false) = is_output(rt, area.swap) else {
+        return not_opened(rt);
+    };
+    let Ok(mut disk) = FileDisk::open(rt, area.swap) else {
+        return not_opened(rt);
+    };
+    let mut out = StdSink::new(rt.stdout());
+    let mut note = StdSink::new(rt.stderr());
+    let status = discard(&mut disk, area.offset, &mut out, &mut note);
+    finished(rt, status)
+}
+
+/// Opens a swap file for reading alone, once closed standard streams have their places.
+fn open_to_read(rt: &HostRuntime, swap: &str) -> io::Result<(Held, FileDisk<File>)> {
+    let held = hold(rt)?;
+    if is_output(rt, swap)? {
+        return Err(io::ErrorKind::InvalidInput.into());
+    }
+    Ok((held, FileDisk::open_read_only(rt, swap)?))
+}
+
+/// Prints the help that was asked for.
+fn show_help(rt: &HostRuntime, text: &[u8]) -> ExitCode {
+    let mut out = StdSink::new(rt.stdout());
+    let mut note = StdSink::new(rt.stderr());
+    let status = tell(Status::Done, text, b"", &mut out, &mut note);
+    finished(rt, status)
+}
+
+/// Ends well once all that was written is flushed.
+fn flushed<S: Sink>(rt: &HostRuntime, out: &mut S) -> ExitCode {
+    if out.flush().is_err() {
+        return sink_fault(rt);
+    }
+    finished(rt, Status::Done)
+}
+
+/// Ends with a command's status. What it printed is synced before it ends well.
+fn finished(rt: &HostRuntime, status: Status) -> ExitCode {
+    if status == Status::Done && sync_output(rt).is_err() {
+        return sink_fault(rt);
+    }
+    ExitCode::from(status.code())
+}
+
+/// Ends outside a command, with a note.
+fn ended(rt: &HostRuntime, text: &[u8], code: u8) -> ExitCode {
+    let _ = print(&mut StdSink::new(rt.stderr()), text);
+    ExitCode::from(code)
+}
+
+fn refused(rt: &HostRuntime, text: &[u8]) -> ExitCode {
+    ended(rt, text, Status::Refused.code())
+}
+
+fn no_memory(rt: &HostRuntime) -> ExitCode {
+    ended(rt, b"no memory\n", Status::Memory.code())
+}
+
+fn sink_fault(rt: &HostRuntime) -> ExitCode {
+    ended(rt, b"sink fault\n", Status::Stream.code())
+}
+
+fn not_opened(rt: &HostRuntime) -> ExitCode {
+    ended(rt, b"open fault\n", NOT_OPENED)
+}

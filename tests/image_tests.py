@@ -1,0 +1,451 @@
+"""What `swsusp_image` says of images that are written here by hand, from docs/FORMATS.md, and of damaged ones.
+
+The images come from `Built` below, and those of tests/linux from real kernels. No program of this repository writes one here.
+"""
+import itertools
+import pathlib
+import struct
+import subprocess
+import tempfile
+
+from harness import Mismatch, check, check_refused, check_same, programs, run
+from linux_tests import PLAIN, area
+from inputs import PAGE, Machine
+from inputs import area as fresh_area
+
+ENTRIES = 511
+END = 2**64 - 1
+NAMES = [b"Linux", b"(none)", b"6.1.0", b"#1", b"mips64", b"(none)"]
+
+
+def words(numbers):
+    return struct.pack(f"<{len(numbers)}Q", *numbers).ljust(PAGE, b"\0")
+
+
+class Built:
+    """An image of so many pages in an area, block by block: maps and pages from block 1 on, as Linux lays them on a fresh area."""
+
+    def __init__(self, saved, last=None, bad=(), first=1, header=0, flags=2):
+        numbers = [p + p // 1000 for p in range(saved)]
+        listed = [numbers[k : k + 512] for k in range(0, saved, 512)]
+        pages = [self.info(saved)]
+        pages += [words(page + [END] * (len(page) < 512)) for page in listed]
+        pages += [bytes([1 + p % 255]) * PAGE for p in numbers]
+        self.header = header
+        self.blocks = {}
+        self.maps = []
+        self.places = []
+        free = (b for b in range(first, 1 << 30) if b not in bad and b != header)
+        for at in range(0, len(pages) // ENTRIES + 1):
+            self.maps.append(next(free))
+            part = pages[at * ENTRIES : (at + 1) * ENTRIES]
+            for page in part:
+                self.places.append(next(free))
+                self.blocks[self.places[-1]] = page
+        for at, b in enumerate(self.maps):
+            named = self.places[at * ENTRIES : (at + 1) * ENTRIES]
+            link = self.maps[at + 1] if at + 1 < len(self.maps) else 0
+            self.blocks[b] = words(named + [0] * (ENTRIES - len(named)) + [link])
+        end = max([*self.maps, *self.places, header]) + 1
+        self.last = last or end
+        self.count = self.last + 1
+        self.blocks[header] = self.area(bad, first, flags)
+
+    @staticmethod
+    def info(saved):
+        pages = saved + (saved + 511) // 512 + 1
+        named = b"".join(name.ljust(65, b"\0") for name in NAMES).ljust(392, b"\0")
+        return (named + struct.pack("<IIQQQQQ", 393472, 0, 65536, 0, saved, pages, pages * PAGE)).ljust(PAGE, b"\0")
+
+    def area(self, bad, first, flags):
+        page = bytearray(PAGE)
+        page[1024:1036] = struct.pack("<III", 1, self.last, len(bad))
+        page[1536 : 1536 + 4 * len(bad)] = struct.pack(f"<{len(bad)}I", *bad)
+        page[4064:] = struct.pack("<QI", first, flags) + b"SWAPSPACE2" + b"S1SUSPEND\0"
+        return bytes(page)
+
+    def put(self, b, at, data):
+        """Bytes in a block."""
+        page = bytearray(self.blocks[b])
+        page[at : at + len(data)] = data
+        self.blocks[b] = bytes(page)
+
+    def put_word(self, b, k, number):
+        self.put(b, 8 * k, struct.pack("<Q", number))
+
+    def put_entry(self, map_, entry, number):
+        """An entry of a map, or, as entry 511, its link. Maps count from 1."""
+        self.put_word(self.maps[map_ - 1], entry, number)
+
+    def write(self, path):
+        with open(path, "wb") as made:
+            for b, page in self.blocks.items():
+                made.seek(b * PAGE)
+                made.write(page)
+            made.truncate(self.count * PAGE)
+
+
+def ran_over(built, command="check", *options):
+    """What a command says of an image, and whether it left the file as it was."""
+    with tempfile.TemporaryDirectory() as room:
+        path = pathlib.Path(room) / "area"
+        built.write(path)
+        before = path.read_bytes()
+        ran = run("swsusp_image", command, *options, path)
+        return ran, before, path.read_bytes()
+
+
+def check_findings(built, *lines, options=()):
+    """The check prints just these lines and their number, and writes nothing."""
+    ran, before, after = ran_over(built, "check", *options)
+    end = f"{len(lines)} findings" if lines else "whole"
+    check(ran, 1 if lines else 0, "".join(f"{line}\n" for line in [*lines, end]).encode())
+    check_same("the area after a check", after, before)
+
+
+def test_whole_images():
+    for saved in [1, 8, 511, 512, 513, 600, 1018]:
+        check_findings(Built(saved))
+
+
+def test_an_empty_last_map_is_right_and_not_needed():
+    # 507 + 1 + 1 pages fill no map; 509 + 1 + 1 fill one, and the writer makes another.
+    built = Built(509)
+    check_same("the maps", len(built.maps), 2)
+    check_findings(built)
+    built.put_entry(1, 511, 0)
+    check_findings(built)
+
+
+def test_bad_slots_and_another_first_map():
+    check_findings(Built(600, bad=(1, 2, 3, 100, 700), first=4, last=900))
+
+
+def test_a_file_with_the_header_at_an_offset():
+    check_findings(Built(20, header=77, first=3), options=("--offset", "77"))
+
+
+def test_no_image():
+    built = Built(8)
+    built.put(0, 4086, b"SWAPSPACE2")
+    ran, before, after = ran_over(built)
+    check(ran, 1, b"no image\n")
+    check_same("the area", after, before)
+    ran, _, _ = ran_over(Built(8), "check", "--offset", "5000")
+    check(ran, 1, b"no image\n")
+
+
+def damaged(saved=600, **settings):
+    return Built(saved, **settings)
+
+
+def test_damages_of_the_header():
+    built = damaged()
+    built.put(0, 4076, b"SWAPSPACE3")
+    check_findings(built, "header: the original signature is no swap area's")
+    built = damaged()
+    built.put(0, 4076, b"S1SUSPEND\0")
+    check_findings(built, "header: the original signature is no swap area's")
+    built = damaged()
+    built.put(0, 4076, b"SWAP-SPACE")
+    check_findings(built)
+    built = damaged()
+    built.put(0, 1024, struct.pack("<I", 3))
+    check_findings(built, "header: the area has version 3")
+    built = damaged()
+    built.put(0, 1032, struct.pack("<I", 631))
+    check_findings(built, "header: the area has 631 bad pages")
+    built = damaged()
+    built.put(0, 1028, struct.pack("<I", 700))
+    built.count = 700
+    check_findings(built, "header: last page 700, but the file has 700 blocks")
+    built = damaged()
+    built.put(0, 4072, struct.pack("<I", 5))
+    check_findings(built, "header: flags 5, a compressed image, which can't be read yet")
+
+
+def test_damages_of_the_chain():
+    built = damaged()
+    built.put(0, 4064, struct.pack("<Q", 0))
+    check_findings(built, "map 1: block 0")
+    built = damaged()
+    built.put(0, 4064, struct.pack("<Q", END))
+    check_findings(built, f"map 1: block {END} is beyond the file")
+    built = damaged()
+    built.put_entry(1, 511, 0)
+    check_findings(built, "map 1: no next map, though the image has 603 pages")
+    built = damaged()
+    built.put_entry(1, 511, built.maps[0])
+    check_findings(built, "map 2: block 1 is named already")
+    built = damaged()
+    built.put_entry(2, 511, built.maps[0])
+    check_findings(built, "map 3: block 1 is named already")
+    built = damaged()
+    built.put_entry(1, 511, built.places[3])
+    check_findings(built, "map 2: block 5 is named already")
+    built = damaged()
+    built.put_entry(1, 511, built.count)
+    check_findings(built, f"map 2: block {built.count} is beyond the file")
+    built = damaged()
+    built.put_entry(2, 511, built.count - 1)
+    built.blocks[built.count - 1] = bytes(PAGE)
+    check_findings(built, f"map 3 block {built.count - 1}: after the last map")
+    built = damaged(bad=(9,))
+    built.put_entry(1, 511, 9)
+    check_findings(built, "map 2: block 9 is a bad page")
+
+
+def test_damages_of_entries():
+    built = damaged()
+    built.put_entry(2, 17, 0)
+    check_findings(built, "map 2 block 513 entry 17: block 0")
+    built = damaged()
+    built.put_entry(2, 17, 2**64 - 1)
+    check_findings(built, f"map 2 block 513 entry 17: block {END} is beyond the file")
+    built = damaged()
+    built.put_entry(1, 510, built.places[509])
+    check_findings(built, f"map 1 block 1 entry 510: block {built.places[509]} is named already")
+    built = damaged()
+    built.put_entry(1, 510, built.maps[0])
+    check_findings(built, "map 1 block 1 entry 510: block 1 is named already")
+    built = damaged(bad=(800,), last=900)
+    built.put_entry(1, 400, 800)
+    check_findings(built, "map 1 block 1 entry 400: block 800 is a bad page")
+    built = damaged()
+    built.count += 3
+    built.put_entry(2, 0, built.last + 1)
+    check_findings(built, f"map 2 block 513 entry 0: block {built.last + 1} is beyond the last page")
+    built = damaged()
+    built.put_entry(2, 92, built.last)
+    check_findings(built, f"map 2 block 513 entry 92: block {built.last} after the last page")
+    built = damaged()
+    for entry in [17, 18, 90]:
+        built.put_entry(2, entry, 0)
+    check_findings(built, *(f"map 2 block 513 entry {entry}: block 0" for entry in [17, 18, 90]))
+    built = Built(8)
+    built.put_entry(1, 0, 0)
+    check_findings(built, "map 1 block 1 entry 0: block 0")
+
+
+def test_damages_of_the_info_page():
+    built = damaged()
+    built.put(built.places[0], 65, b"n" * 65)
+    check_findings(built, "info page name 1: no end")
+    built = damaged()
+    built.put(built.places[0], 0, b"n" * 390)
+    check_findings(built, *(f"info page name {j}: no end" for j in range(6)))
+    built = damaged()
+    built.put(built.places[0], 432, struct.pack("<Q", 603 * PAGE + 1))
+    check_findings(built, f"info page: size {603 * PAGE + 1}, but pages 603")
+    built = damaged()
+    built.put(built.places[0], 416, struct.pack("<Q", 599))
+    check_findings(built, "info page: image pages 599, but pages 603", "numbers page 2 word 87: 599 after the last number")
+    built = damaged()
+    built.put(built.places[0], 424, struct.pack("<QQ", 602, 602 * PAGE))
+    check_findings(built, "info page: image pages 600, but pages 602", f"map 2 block 513 entry 91: block {built.places[602]} after the last page")
+
+
+def test_headers_of_architectures():
+    built = damaged()
+    built.put(built.places[0], 0, bytes(396))
+    built.put(built.places[0], 24, struct.pack("<Q", 0x23456789ABCDEF02))
+    check_findings(built)
+    built.put(built.places[0], 24, struct.pack("<Q", 0x23456789ABCDEF01))
+    check_findings(built, "info page: the header of an architecture, but with magic 0x23456789abcdef01")
+    built.put(built.places[0], 0, b"#1 SMP Debian 6.1.192-3 (2026-11-01)".ljust(65, b"\0"))
+    check_findings(built)
+
+
+def test_damages_of_number_pages():
+    built = damaged()
+    built.put_word(built.places[2], 40, 552)
+    built.put_word(built.places[2], 41, 552)
+    check_findings(built, "numbers page 2 word 41: 552 after 552", )
+    built = damaged()
+    built.put_word(built.places[2], 0, 511)
+    check_findings(built, "numbers page 2 word 0: 511 after 511")
+    built = damaged()
+    built.put_word(built.places[1], 7, 2**52)
+    check_findings(built, f"numbers page 1 word 7: {2**52} is no page frame", f"numbers page 1 word 8: 8 after {2**52}")
+    built = damaged()
+    built.put_word(built.places[2], 88, 0)
+    check_findings(built, "numbers page 2 word 88: 0 after the last number")
+
+
+def test_an_image_without_pages_of_zeros():
+    built = Built(8, flags=258)
+    built.put_word(built.places[1], 3, 3 + 2**63)
+    built.put(built.places[0], 424, struct.pack("<QQ", 9, 9 * PAGE))
+    built.put_entry(1, 9, 0)
+    check_findings(built)
+    built = Built(8)
+    built.put_word(built.places[1], 3, 3 + 2**63)
+    check_findings(built, f"numbers page 1 word 3: {3 + 2**63} is no page frame", f"numbers page 1 word 4: 4 after {3 + 2**63}")
+
+
+def test_real_kernels():
+    for name in PLAIN:
+        with area(name) as (file, _):
+            check(run("swsusp_image", "check", file.path), 0, b"whole\n")
+    with area("compressed") as (file, image):
+        line = f"header: flags {image.flags}, a compressed image, which can't be read yet\n1 findings\n"
+        check(run("swsusp_image", "check", file.path), 1, line.encode())
+
+
+def streamed(built):
+    """The pages of an image in the order of its chain, one after another."""
+    return b"".join(built.blocks[b] for b in built.places)
+
+
+def test_stream_of_whole_images():
+    for saved in [1, 8, 509, 512, 513, 1018]:
+        built = Built(saved)
+        ran, before, after = ran_over(built, "stream")
+        check(ran, 0, streamed(built))
+        check_same("the area", after, before)
+    built = Built(20, header=77, first=3)
+    ran, _, _ = ran_over(built, "stream", "--offset", "77")
+    check(ran, 0, streamed(built))
+
+
+def test_stream_is_that_of_an_export_and_moves_an_image():
+    machine = Machine()
+    saved, loader = machine.saved(), machine.loader(1000)
+    _, exported, _ = run("swsusp", "export", stdin=saved)
+    with fresh_area() as one, fresh_area() as other:
+        run("swsusp", "hibernate", one.path, stdin=saved)
+        ran = run("swsusp_image", "stream", one.path)
+        check(ran, 0, exported)
+        check_same("the status of the import", run("swsusp", "import", other.path, stdin=ran[1])[0], 0)
+        check(run("swsusp_image", "check", other.path), 0, b"whole\n")
+        first = run("swsusp", "resume", one.path, stdin=loader)
+        check_same("what is restored", run("swsusp", "resume", other.path, stdin=loader), first)
+        check_refused(run("swsusp_image", "stream", one.path), "no image", 1)
+
+
+def test_stream_of_a_damaged_image_stops_before_the_damage():
+    built = Built(600)
+    built.put_entry(2, 17, 0)
+    ran, before, after = ran_over(built, "stream")
+    check_refused((ran[0], b"", ran[2]), f"map 2 block {built.maps[1]} entry 17: block 0", 1)
+    check_same("the stream", ran[1], streamed(built)[: (ENTRIES + 17) * PAGE])
+    check_same("the area", after, before)
+    ran, _, _ = ran_over(Built(8, flags=5), "stream")
+    check_refused(ran, "header: flags 5, a compressed image, which can't be read yet", 1)
+    ran, _, _ = ran_over(Built(8, flags=258), "stream")
+    check_refused(ran, "pages of zeros aren't in the image", 1)
+
+
+def paged(built, frame):
+    """What `page` answers for a page frame, and the area before and after."""
+    with tempfile.TemporaryDirectory() as room:
+        path = pathlib.Path(room) / "area"
+        built.write(path)
+        before = path.read_bytes()
+        ran = run("swsusp_image", "page", path, str(frame))
+        return ran, before, path.read_bytes()
+
+
+def test_pages_of_page_frames():
+    built = Built(1018)
+    for frame in [0, 1, 511, 512, 999, 1001, 1018]:
+        ran, before, after = paged(built, frame)
+        check(ran, 0, bytes([1 + frame % 255]) * PAGE)
+        check_same("the area", after, before)
+    for frame in [1000, 1019, 2**63, 2**64 - 1]:
+        ran, _, _ = paged(built, frame)
+        check_refused(ran, f"no page {frame}", 1)
+
+
+def test_page_is_read_although_damage_follows_it():
+    built = Built(600)
+    built.put_entry(2, 17, 0)
+    ran, _, _ = paged(built, 500)
+    check(ran, 0, bytes([1 + 500 % 255]) * PAGE)
+    ran, _, _ = paged(built, 599)
+    check_refused(ran, f"map 2 block {built.maps[1]} entry 17: block 0", 1)
+    built = Built(8)
+    built.put(0, 4086, b"SWAPSPACE2")
+    ran, _, _ = paged(built, 0)
+    check_refused(ran, "no image", 1)
+
+
+def check_discarded(built):
+    """The mark is taken back, and all other bytes stay."""
+    ran, before, after = ran_over(built, "discard")
+    check(ran, 0, b"discarded\n")
+    check_same("the area", after, before[:4086] + before[4076:4086] + before[4096:])
+
+
+def test_discard():
+    check_discarded(Built(8))
+    check_discarded(Built(8, flags=5))
+    built = Built(8)
+    built.put(0, 4076, b"SWAP-SPACE")
+    check_discarded(built)
+    built = Built(8, header=77, first=3)
+    ran, before, after = ran_over(built, "discard", "--offset", "77")
+    check(ran, 0, b"discarded\n")
+    at = 77 * PAGE
+    check_same("the area", after, before[: at + 4086] + before[at + 4076 : at + 4086] + before[at + 4096 :])
+
+
+def test_discard_without_a_mark_to_take_back():
+    built = Built(8)
+    built.put(0, 4076, b"S1SUSPEND\0")
+    ran, before, after = ran_over(built, "discard")
+    check(ran, 1, b"no original signature\n")
+    check_same("the area", after, before)
+    built.put(0, 4086, b"SWAPSPACE2")
+    ran, before, after = ran_over(built, "discard")
+    check(ran, 1, b"no image\n")
+    check_same("the area", after, before)
+    ran, _, _ = ran_over(built, "discard", "--offset", "4000000000")
+    check(ran, 1, b"no image\n")
+
+
+def test_discard_of_real_kernels_images():
+    for name in [*PLAIN, "compressed"]:
+        with area(name) as (file, _):
+            before = file.path.read_bytes()
+            check(run("swsusp_image", "discard", file.path), 0, b"discarded\n")
+            check_same(name, file.path.read_bytes(), before[:4086] + before[4076:4086] + before[4096:])
+            check(run("swsusp_image", "check", file.path), 1, b"no image\n")
+
+
+def test_words():
+    for words_ in [["check", "--offset", "01", "s"], ["check", "--offset", "+1", "s"], ["check", "s", "--offset", "1"], ["check", "-"], ["check", ""]]:
+        check_refused(run("swsusp_image", *words_), "words", 2)
+    for words_ in [["page", "s", "01"], ["page", "s", "+1"], ["stream", "s", "--offset", "1"]]:
+        check_refused(run("swsusp_image", *words_), "words", 2)
+    for words_ in [[], ["check"], ["page", "s"], ["page", "s", "18446744073709551616"], ["check", "a", "b"], ["repair", "s"], ["check", "--offset", "4294967296", "s"]]:
+        status, out, note = run("swsusp_image", *words_)
+        if status != 2 or out or not note:
+            raise Mismatch(f"{words_}: status {status}, {out!r} and {note!r}")
+    for words_ in [["--help"], ["check", "--help"], ["--version"]]:
+        status, out, note = run("swsusp_image", *words_)
+        if status != 0 or not out or note:
+            raise Mismatch(f"{words_}: status {status}, {out!r} and {note!r}")
+
+
+def test_files_that_arent_opened():
+    check_refused(run("swsusp_image", "check", "/nowhere"), "open fault", 7)
+    check_refused(run("swsusp_image", "check", "/"), "open fault", 7)
+
+
+def test_closed_streams_leave_the_area():
+    """With each set of closed standard streams nothing but a discard writes the area, and a stream that is used and closed fails."""
+    built = Built(8)
+    for command in ["check", "stream", "page", "discard"]:
+        for closed in itertools.product([False, True], repeat=3):
+            with tempfile.TemporaryDirectory() as room:
+                path = pathlib.Path(room) / "area"
+                built.write(path)
+                before = path.read_bytes()
+                closing = " ".join(text for text, is_closed in zip(["<&-", ">&-", "2>&-"], closed) if is_closed)
+                rest = "0" if command == "page" else ""
+                line = f'"$1" {command} "$2" {rest} {closing}'
+                ran = subprocess.run(["sh", "-c", line, "sh", programs["swsusp_image"], path], capture_output=True, timeout=60, check=False)
+                check_same(f"the status of {line}", ran.returncode, 4 if closed[1] else 0)
+                after = before[:4086] + before[4076:4086] + before[4096:] if command == "discard" else before
+                check_same(f"the area after {line}", path.read_bytes(), after)
