@@ -1,7 +1,8 @@
-ghost use Rattle.std.specs.Prelude.{◌≡◌, ◌≢◌, ◌⊎◌, ◌≤◌, IfSome, Result};
-ghost use Rattle.definitions.specs.Disk.{HasRisen};
+ghost use Rattle.std.specs.Prelude.{◌≡◌, ◌≢◌, ◌⊎◌, ◌≤◌, IfSome, IsTrue, Result};
+ghost use Rattle.definitions.specs.Disk.{DiskImage, HasRisen};
 ghost use Rattle.command_kit.specs.AnswerOf.{told_by};
 ghost use Rattle.command_kit.specs.View.{sink_view};
+ghost use Rattle.image_discard.specs.Crashes.{IsCrash};
 ghost use Rattle.image_discard.specs.Discards.{LeavesNoImage};
 ghost use Rattle.image_cli.specs.Discards.{Discards, discard_told};
 
@@ -23,6 +24,8 @@ pub fn discard<D: Disk, O: Sink, N: Sink>(
         (sink_view N.Sink note.old)
         (sink_view N.Sink note.new) }
     ensures unmarked { result ≡ Status.Done → IfSome (D.content disk.new) (LeavesNoImage header) }
+    ensures crash { IsTrue (D.tells_moments disk.old) → (v : DiskImage) → D.left_since disk.new (D.moment disk.old) v →
+        IfSome (D.content disk.old) (λ held. IsCrash header held v) }
     ensures stream { result ≡ Status.Stream →
         HasRisen (O.faults out.old) (O.faults out.new) ⊎ HasRisen (N.faults note.old) (N.faults note.new) }
     ensures device { result ≡ Status.Device → HasRisen (D.faults disk.old) (D.faults disk.new) }

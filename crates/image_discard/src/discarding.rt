@@ -1,5 +1,6 @@
-ghost use Rattle.std.specs.Prelude.{◌≡◌, ◌<◌, ◌≤◌, List, IfSome, IfOk, IfErr, Ok, Err};
-ghost use Rattle.definitions.specs.Disk.{HasRisen};
+ghost use Rattle.std.specs.Prelude.{◌≡◌, ◌<◌, ◌≤◌, List, IfSome, IfOk, IfErr, IsTrue, Ok, Err};
+ghost use Rattle.definitions.specs.Disk.{DiskImage, HasRisen};
+ghost use Rattle.image_discard.specs.Crashes.{IsCrash};
 ghost use Rattle.image_discard.specs.Discards.{Ends, Fails, LeavesNoImage};
 
 use crate::marks::is_marked;
@@ -39,6 +40,8 @@ pub fn discard<D: Disk>(disk: &mut D, header: u32) -> Result<Discarded, Fault>
     ensures ends { IfOk result (Ends header (D.block_count disk.old) (D.content disk.old) (D.content disk.new)) }
     ensures unmarked { result ≡ Ok Discarded.Done → IfSome (D.content disk.new) (LeavesNoImage header) }
     ensures fails { IfErr result (Fails header (D.content disk.old) (D.content disk.new)) }
+    ensures crash { IsTrue (D.tells_moments disk.old) → (v : DiskImage) → D.left_since disk.new (D.moment disk.old) v →
+        IfSome (D.content disk.old) (λ held. IsCrash header held v) }
     ensures cause { IfErr result (λ fault. HasRisen (D.faults disk.old) (D.faults disk.new)) }
     ensures faults { D.faults disk.old ≤ D.faults disk.new }
     ensures orders { D.orders disk.new ≡ D.orders disk.old }
