@@ -30,6 +30,7 @@ written_earlier content blocks header before then now old new le w = record {
   ended = ended_earlier content blocks header before then now w.pages le w.ended;
   whole = w.whole;
   taken = w.taken;
+  plain = w.plain;
 }
 
 pub streamed_earlier : (content : Option Content) (blocks header before then now : ℕ) (told end : Told) (old new : Option (List ℕ)) (s : Streamed) → before ≤ then → IsStreamed content blocks header then now told end old new s → IsStreamed content blocks header before now told end old new s

@@ -1,6 +1,7 @@
 -- Pages that are written one after another.
 use Rattle.std.proofs.Common.{◌≡◌, ℕ, ◌+◌, ◌≤◌, List, [], ◌∷◌, ◌++◌, Option, refl, arith, sym, ap, subst, ◌∙◌, append-nil, append_assoc, inl, inr}
 use Rattle.std.specs.List.{concat}
+use Rattle.page_core.specs.declared.format.Format.TheVariants.{Plain}
 use Rattle.definitions.specs.Disk.{Content}
 use Rattle.definitions.specs.Streams.{TakesAll, TakesFront}
 use Rattle.byte_streams.proofs.Taken.{TakesAll-none, TakesAll-both, TakesFront-second}
@@ -40,12 +41,13 @@ so_far_front content blocks header p q page old mid new s t taken = record {
   taken = subst (λ (x : List ℕ). TakesFront x old new) (concat_one s.given page) (TakesFront-second (concat s.given) page old mid new s.taken taken);
 }
 
-pub so_far_whole : (content : Option Content) (blocks header before then now : ℕ) (p : Pages) (old new : Option (List ℕ)) (s : SoFar content blocks header p old new) → before ≤ then → IsEnded content blocks header then now s.given → IsWholeStream content header s.given → IsWritten content blocks header before now old new
-so_far_whole content blocks header before then now p old new s le ended whole = record {
+pub so_far_whole : (content : Option Content) (blocks header before then now : ℕ) (p : Pages) (old new : Option (List ℕ)) (s : SoFar content blocks header p old new) → before ≤ then → IsEnded content blocks header then now s.given → IsWholeStream content header s.given → p.format ≡ Plain → IsWritten content blocks header before now old new
+so_far_whole content blocks header before then now p old new s le ended whole plain = record {
   pages = s.given;
   ended = ended_earlier content blocks header before then now s.given le ended;
   whole = whole;
   taken = s.taken;
+  plain = (s.stands.start, s.stands.begins, sym s.stands.format ∙ plain);
 }
 
 pub so_far_cut : (content : Option Content) (blocks header before then now : ℕ) (p : Pages) (told last : Told) (old new : Option (List ℕ)) (s : SoFar content blocks header p old new) → before ≤ then → IsRefused content blocks header then now told last s.given → IsCutShort content blocks header before now told last old new

@@ -1,6 +1,7 @@
 -- What is written of an image as a stream.
 use Rattle.std.specs.Prelude.{◌≡◌, ℕ, ◌⊎◌, List, Option}
 use Rattle.std.specs.List.{concat}
+use Rattle.page_core.specs.declared.format.Format.{Format}
 use Rattle.page_core.specs.declared.format.Format.TheVariants as format
 use Rattle.definitions.specs.Disk.{Content, HasRisen}
 use Rattle.definitions.specs.Streams.{TakesAll, TakesFront}
@@ -15,12 +16,21 @@ use Rattle.image_stream.specs.declared.streaming.Stop.TheVariants as stop
 use Rattle.image_stream.specs.declared.streaming.Streamed.{Streamed}
 use Rattle.image_stream.specs.declared.streaming.Streamed.TheVariants.{NoImage, Refused, SkipsZeros, Whole}
 
--- all pages of the stream are taken, and nothing is wrong with a whole reading of the image
+-- nothing is wrong with the header block, and by its flags the image saves pages of zeros so
+abbrev pub SavesThere : Format → Option Content → (blocks header : ℕ) → Type 0
+SavesThere format content blocks header = (start : Start) × IsStart content blocks header start × (start.format ≡ format)
+
+-- pages of zeros have no data page
+abbrev pub SkipsZerosThere : Option Content → (blocks header : ℕ) → Type 0
+SkipsZerosThere content blocks header = SavesThere format.SkipZeros content blocks header
+
+-- all pages of the stream of a plain image are taken, and nothing is wrong with a whole reading of it
 pub record IsWritten (content : Option Content) (blocks header before now : ℕ) (old new : Option (List ℕ)) : Type 0 where
   pub pages : List (List ℕ)
   pub ended : IsEnded content blocks header before now pages
   pub whole : IsWholeStream content header pages
   pub taken : TakesAll (concat pages) old new
+  pub plain : SavesThere format.Plain content blocks header
 
 -- the first pages of the stream are taken, up to the first name with findings, and just these are told
 pub record IsCutShort (content : Option Content) (blocks header before now : ℕ) (told then : Told) (old new : Option (List ℕ)) : Type 0 where
@@ -34,11 +44,6 @@ pub record IsFront (content : Option Content) (blocks header : ℕ) (old new : O
   pub pages : List (List ℕ)
   pub read : AreRead content blocks header pages
   pub taken : TakesFront (concat pages) old new
-
--- nothing is wrong with the header block, and by its flags pages of zeros have no data page
-abbrev pub SkipsZerosThere : Option Content → (blocks header : ℕ) → Type 0
-SkipsZerosThere content blocks header =
-    (start : Start) × IsStart content blocks header start × (start.format ≡ format.SkipZeros)
 
 abbrev pub IsStreamed : Option Content → (blocks header before now : ℕ) → (told then : Told) → (old new : Option (List ℕ)) → Streamed → Type 0
 IsStreamed content blocks header before now told then old new NoImage =

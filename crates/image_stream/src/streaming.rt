@@ -1,4 +1,5 @@
 ghost use Rattle.std.specs.Prelude.{◌≡◌, ◌≤◌, ℕ, [], OnErr, IfErr, IfOk};
+ghost use Rattle.page_core.specs.declared.format.Format.TheVariants.{Plain};
 ghost use Rattle.definitions.specs.Disk.{HasRisen};
 ghost use Rattle.image_pages.specs.Stands.{Stands};
 ghost use Rattle.image_stream.specs.Streamed.{IsFront, IsStopped, IsStreamed};
@@ -93,7 +94,8 @@ fn write_pages<D: Disk, S: Sink, R: Report>(
     out: &mut S,
     report: &mut R,
 ) -> Result<Streamed, Failed>
-    requires { (header : ℕ) × Stands (D.content disk.old) (D.block_count disk.old) header pages.old [] }
+    requires stands { (header : ℕ) × Stands (D.content disk.old) (D.block_count disk.old) header pages.old [] }
+    requires plain { pages.old.format ≡ Plain }
     ensures streamed { (header : ℕ) → Stands (D.content disk.old) (D.block_count disk.old) header pages.old [] →
         IfOk result (IsStreamed (D.content disk.old) (D.block_count disk.old) header
         (D.faults disk.old) (D.faults disk.new) (R.told report.old) (R.told report.new)

@@ -45,6 +45,7 @@ loop-out-preserved g c =
         ),
       );
       told = more.0 ∙ i.told;
+      plain = c.next.ensures.format ∙ i.plain;
       counted = omega (arith, i.counted, c.put_all.ensures.counted);
       content = c.next.ensures.content ∙ i.content;
       faults = omega (arith, i.faults, c.next.ensures.faults);
@@ -86,7 +87,7 @@ returns-in-End-clause-streamed g c = λ h start.
     let says = c.in-End.ensures.says h so_far.given so_far.stands in (
       subst (λ (x : Option Content). IsWritten x blocks h before now first last) i.content
           (subst (λ (n : ℕ). IsWritten (g.D.Disk.content c.loop-out.disk) n h before now first last) i.blocks
-          (so_far_whole (g.D.Disk.content c.loop-out.disk) (g.D.Disk.block_count c.loop-out.disk) h before then now c.loop-out.pages first last so_far i.faults says.1 says.2)),
+          (so_far_whole (g.D.Disk.content c.loop-out.disk) (g.D.Disk.block_count c.loop-out.disk) h before then now c.loop-out.pages first last so_far i.faults says.1 says.2 i.plain)),
       says.0 ∙ i.told,
     )
 
