@@ -9,7 +9,7 @@ import subprocess
 import tempfile
 
 from harness import Mismatch, check, check_refused, check_same, programs, run
-from linux_tests import PLAIN, area
+from linux_tests import PLAIN, area, logged
 from inputs import PAGE, Machine
 from inputs import area as fresh_area
 
@@ -292,6 +292,137 @@ def test_real_kernels():
         check(run("swsusp_image", "check", file.path), 1, line.encode())
 
 
+AREA = ["image yes", "area swap"]
+FRESH_UUID = "uuid 00000000-0000-0000-0000-000000000000"
+MARK = ["first_map 1", "flags 2", "flag nocompress", "hw_sig 0", "crc32 0"]
+GENERIC = [
+    "header generic",
+    "sysname Linux",
+    "nodename (none)",
+    "release 6.1.0",
+    "version #1",
+    "machine mips64",
+    "domainname (none)",
+    "version_code 393472",
+    "kernel 6.1.0",
+]
+
+
+def check_shown(built, *lines, options=(), status=0):
+    """`show` prints just these lines, and writes nothing."""
+    ran, before, after = ran_over(built, "show", *options)
+    check(ran, status, "".join(f"{line}\n" for line in lines).encode())
+    check_same("the area after a show", after, before)
+
+
+def test_show_of_an_image():
+    check_shown(
+        Built(8),
+        "blocks 13", *AREA, "last_page 12", "bad_pages 0", FRESH_UUID, *MARK, *GENERIC,
+        "memory_pages 65536", "image_pages 8", "stream_pages 10", "block_run 1 11", "maps 1", "frame_run 0 8",
+    )
+
+
+def test_show_of_two_maps_a_gap_and_a_bad_page():
+    # 1018 pages of the frames 0 to 999 and 1001 to 1018, 2 number pages and the info page: 511 in the first map, 510 in the second.
+    check_shown(
+        Built(1018, bad=(3,)),
+        "blocks 1026", *AREA, "last_page 1025", "bad_pages 1", "bad_page 3", FRESH_UUID, *MARK, *GENERIC,
+        "memory_pages 65536", "image_pages 1018", "stream_pages 1021",
+        "block_run 1 2", "block_run 4 1021", "maps 2", "frame_run 0 1000", "frame_run 1001 18",
+    )
+
+
+def test_show_of_an_area_in_a_device():
+    check_shown(
+        Built(8, header=77, first=3),
+        "blocks 79", *AREA, "last_page 78", "bad_pages 0", FRESH_UUID, "first_map 3", *MARK[1:], *GENERIC,
+        "memory_pages 65536", "image_pages 8", "stream_pages 10", "block_run 3 11", "maps 1", "frame_run 0 8",
+        options=("--offset", "77"),
+    )
+
+
+def test_show_of_a_label_and_a_uuid():
+    built = Built(8)
+    built.put(0, 1036, bytes.fromhex("0123456789abcdef0123456789abcdef") + b"swap of mine\0\0\0\0")
+    built.put(0, 4086, b"SWAPSPACE2")
+    check_shown(
+        built,
+        "blocks 13", "image no", "area swap", "last_page 12", "bad_pages 0",
+        "uuid 01234567-89ab-cdef-0123-456789abcdef", "label swap of mine",
+    )
+    built.put(0, 1052, b"\xe9".ljust(16, b"\0"))
+    ran, _, _ = ran_over(built, "show")
+    check_same("the last line", ran[1].splitlines()[-1], b"label_hex e9")
+
+
+def test_show_of_other_areas():
+    built = Built(8)
+    built.put(0, 4086, b"SWAP-SPACE")
+    check_shown(built, "blocks 13", "image no", "area old")
+    built.put(0, 4086, b"\x00LABEL\xff\x01\x02\x03")
+    check_shown(built, "blocks 13", "image no", "area other 004c4142454cff010203")
+    check_shown(Built(8), "blocks 13", "header missing", options=("--offset", "13"), status=1)
+    built = Built(8)
+    built.put(0, 1024, struct.pack("<I", 3))
+    ran, _, _ = ran_over(built, "show")
+    check_same("the area", ran[1].splitlines()[:3], [b"blocks 13", b"image yes", b"area bad version 3"])
+
+
+def test_show_of_headers_of_architectures():
+    counts = ["memory_pages 65536", "image_pages 8", "stream_pages 10", "block_run 1 11", "maps 1", "frame_run 0 8"]
+    area_lines = ["blocks 13", *AREA, "last_page 12", "bad_pages 0", FRESH_UUID, *MARK]
+    built = Built(8)
+    built.put(built.places[0], 0, bytes(396))
+    check_shown(built, *area_lines, "header unknown", *counts)
+    built.put(built.places[0], 0, struct.pack("<5Q", 0xFFFFFFFF81000000, 0x1000000, 0x2A0A000, 0x23456789ABCDEF02, 0xDEADBEEF))
+    record = [
+        "header x86-64",
+        "jump_address 0xffffffff81000000",
+        "jump_address_physical 0x0000000001000000",
+        "cr3 0x0000000002a0a000",
+        "memory_map_checksum 0x00000000deadbeef",
+    ]
+    check_shown(built, *area_lines, *record, *counts)
+    built.put(built.places[0], 0, b"#1 SMP Debian 6.1.192-3 (2026-11-01)".ljust(65, b"\0"))
+    check_shown(built, *area_lines, "header arm64", "kernel_version #1 SMP Debian 6.1.192-3 (2026-11-01)", *counts)
+
+
+def test_show_goes_as_far_as_the_bytes_allow():
+    built = Built(600)
+    built.put_entry(2, 17, 0)
+    ran, _, _ = ran_over(built, "show")
+    # The first map, its 511 pages, the second map and 17 of its pages.
+    check_same("the blocks", ran[1].splitlines()[-3:], [b"block_run 1 530", b"maps 2", b"frame_run 0 600"])
+    built = Built(8, flags=5)
+    check_shown(
+        built,
+        "blocks 13", *AREA, "last_page 12", "bad_pages 0", FRESH_UUID, "first_map 1",
+        "flags 5", "flag platform_mode", "flag crc32", "hw_sig 0", "crc32 0",
+    )
+
+
+def test_show_of_real_kernels_images():
+    """The kernel logs how many page frames it copied; all else is read by the laboratory's own reader."""
+    for name in [*PLAIN, "compressed"]:
+        with area(name) as (file, image):
+            status, out, note = run("swsusp_image", "show", file.path)
+            check_same(f"{name}: status and note", (status, note), (0, ""))
+            facts = [line.split(b" ", 1) for line in out.splitlines()]
+            values = {key.decode(): value.decode() for key, value in facts}
+            check_same(f"{name}: the mark", (values["first_map"], values["flags"]), (str(image.first), str(image.flags)))
+            if name == "compressed":
+                check_same(name, "image_pages" in values, False)
+                continue
+            check_same(f"{name}: pages", values["image_pages"], str(logged(name, r"Need to copy (\d+) pages")[0]))
+            check_same(f"{name}: memory", values["memory_pages"], str(image.physpages))
+            check_same(f"{name}: header", values["header"], "x86-64" if name == "x86_64" else "generic")
+            frames = [tuple(map(int, value.split())) for key, value in facts if key == b"frame_run"]
+            check_same(f"{name}: page frames", tuple(p for start, count in frames for p in range(start, start + count)), image.listed)
+            blocks = [tuple(map(int, value.split())) for key, value in facts if key == b"block_run"]
+            check_same(f"{name}: blocks", sorted(b for at, n in blocks for b in range(at, at + n)), sorted([*image.maps, *image.chain]))
+
+
 def streamed(built):
     """The pages of an image in the order of its chain, one after another."""
     return b"".join(built.blocks[b] for b in built.places)
@@ -413,11 +544,14 @@ def test_discard_of_real_kernels_images():
             check(run("swsusp_image", "check", file.path), 1, b"no image\n")
 
 
+NOT_PLAIN = "words: options go before SWAP, SWAP isn't empty nor begins with -, numbers have no sign or leading zero"
+
+
 def test_words():
     for words_ in [["check", "--offset", "01", "s"], ["check", "--offset", "+1", "s"], ["check", "s", "--offset", "1"], ["check", "-"], ["check", ""]]:
-        check_refused(run("swsusp_image", *words_), "words", 2)
+        check_refused(run("swsusp_image", *words_), NOT_PLAIN, 2)
     for words_ in [["page", "s", "01"], ["page", "s", "+1"], ["stream", "s", "--offset", "1"]]:
-        check_refused(run("swsusp_image", *words_), "words", 2)
+        check_refused(run("swsusp_image", *words_), NOT_PLAIN, 2)
     for words_ in [[], ["check"], ["page", "s"], ["page", "s", "18446744073709551616"], ["check", "a", "b"], ["repair", "s"], ["check", "--offset", "4294967296", "s"]]:
         status, out, note = run("swsusp_image", *words_)
         if status != 2 or out or not note:
@@ -429,14 +563,30 @@ def test_words():
 
 
 def test_files_that_arent_opened():
-    check_refused(run("swsusp_image", "check", "/nowhere"), "open fault", 7)
-    check_refused(run("swsusp_image", "check", "/"), "open fault", 7)
+    for command in ["check", "show", "stream", "discard"]:
+        for path in ["/nowhere", "/"]:
+            note = f"open fault: {path} isn't there, is no file or block device, is in use, or is an output"
+            check_refused(run("swsusp_image", command, path), note, 7)
+
+
+def test_quiet_changes_no_answer():
+    built = Built(8)
+    for command in ["check", "show", "stream", "page"]:
+        with tempfile.TemporaryDirectory() as room:
+            path = pathlib.Path(room) / "area"
+            built.write(path)
+            rest = ["0"] if command == "page" else []
+            check_same(command, run("swsusp_image", "--quiet", command, path, *rest), run("swsusp_image", command, path, *rest))
+    for words_ in [["--quiet"], ["check", "--quiet", "s"], ["--quiet", "--quiet", "check", "s"]]:
+        status, out, note = run("swsusp_image", *words_)
+        if status != 2 or out or not note:
+            raise Mismatch(f"{words_}: status {status}, {out!r} and {note!r}")
 
 
 def test_closed_streams_leave_the_area():
     """With each set of closed standard streams nothing but a discard writes the area, and a stream that is used and closed fails."""
     built = Built(8)
-    for command in ["check", "stream", "page", "discard"]:
+    for command in ["check", "show", "stream", "page", "discard"]:
         for closed in itertools.product([False, True], repeat=3):
             with tempfile.TemporaryDirectory() as room:
                 path = pathlib.Path(room) / "area"

@@ -32,6 +32,7 @@ def test_each_command_runs_in_256_kib():
         within("swsusp", "hibernate", swap.path, stdin=saved)
         within("swsusp_machine", "check", swap.path, stdin=loader)
         within("swsusp_image", "check", swap.path)
+        within("swsusp_image", "show", swap.path)
         within("swsusp_image", "stream", swap.path)
         within("swsusp_image", "page", swap.path, 0)
         within("swsusp", "resume", swap.path, stdin=loader)

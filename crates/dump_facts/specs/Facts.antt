@@ -12,8 +12,8 @@ use Rattle.dump_facts.specs.Counts.{frames_of, slots_of}
 use Rattle.dump_facts.specs.declared.counting.Kind.TheVariants.{OwnedBy}
 use Rattle.dump_facts.specs.declared.fact.Fact.{Fact}
 use Rattle.dump_facts.specs.declared.fact.Fact.TheVariants as fact
-use Rattle.dump_facts.specs.declared.fact.Name.{Name}
-use Rattle.dump_facts.specs.declared.fact.Name.TheVariants as name
+use Rattle.fact_lines.specs.declared.name.Name.{Name}
+use Rattle.fact_lines.specs.declared.name.Name.TheVariants as name
 
 abbrev pub zone_fact : ℕ × ℕ → Fact
 zone_fact zone = fact.Zone zone.0 zone.1

@@ -1,15 +1,5 @@
+use fact_lines::Name;
 use page_core::Format;
-
-/// The names of an identity, in the order of `struct new_utsname`.
-#[derive(Clone, Copy, Debug, PartialEq, Eq)]
-pub enum Name {
-    Sysname,
-    Nodename,
-    Release,
-    Version,
-    Machine,
-    Domainname,
-}
 
 /// What a line says of a machine and its memory.
 #[derive(Clone, Copy, Debug, PartialEq, Eq)]

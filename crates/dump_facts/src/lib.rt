@@ -12,7 +12,7 @@ ghost use Rattle.std.specs.Prelude.{◌≡◌, length};
 ghost use Rattle.definitions.specs.Zones.{top};
 ghost use Rattle.dump_facts.specs.Facts.{facts_of};
 
-pub use fact::{Fact, Name};
+pub use fact::Fact;
 pub use facts::Facts;
 use layout::{add_identity, add_layout};
 use machine::Dump;

@@ -88,7 +88,7 @@ fn any_block(blocks: u32, header: u32) -> Limits
 }
 
 /// Whether an image with these flags is compressed.
-pub(crate) fn is_compressed(flags: u32) -> bool
+pub fn is_compressed(flags: u32) -> bool
     ensures { result ≡ is_compressed flags }
 {
     flags / SF_NOCOMPRESS_MODE % 2 == 0

@@ -14,6 +14,6 @@ mod text;
 pub use checking::{Outcome, check, format_of, mark_in};
 pub use entries::check_name;
 pub use finding::{Counts, Finding, Place};
-pub use header::{check_header, limits_of};
+pub use header::{check_header, is_compressed, limits_of};
 pub use progress::Progress;
 pub use report::{Printer, Report};

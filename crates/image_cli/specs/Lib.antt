@@ -1,3 +1,4 @@
 pub mod Checks
 pub mod Discards
 pub mod Printed
+pub mod Shows

@@ -1,14 +1,15 @@
 ghost use Rattle.std.specs.Prelude.{◌≡◌, ◌≢◌, ◌⊎◌, ◌≤◌, List, [], false, length, min};
 ghost use Rattle.definitions.specs.Disk.{HasRisen, last_count};
 ghost use Rattle.command_kit.specs.AnswerOf.{told_by};
-ghost use Rattle.command_kit.specs.Told.{IsTold, IsTried, sink_note};
+ghost use Rattle.command_kit.specs.Told.{IsTold};
 ghost use Rattle.command_kit.specs.View.{SinkView, sink_view};
 ghost use Rattle.image_check.specs.declared.finding.Finding.{Finding};
 ghost use Rattle.image_cli.specs.Checks.{Checks, findings_told, last_line, status_of};
 ghost use Rattle.image_cli.specs.Printed.{IsSoFar, printer_view};
 
+use crate::showing::cut_short;
 use byte_streams::{Line, Sink};
-use command_kit::{Answer, Status, no_memory, print, tell};
+use command_kit::{Answer, Status, no_memory, tell};
 use image_check::{Outcome, Printer};
 use page_core::NoMemory;
 use sector_disk::Disk;
@@ -63,15 +64,6 @@ fn sum_up<O: Sink, N: Sink>(out: &mut Printer<O>, note: &mut N) -> Status
         return cut_short(note);
     }
     summary(out.count).tell(&mut out.sink, note)
-}
-
-/// Notes that the output failed.
-fn cut_short<N: Sink>(note: &mut N) -> Status
-    ensures status { result ≡ Status.Stream }
-    ensures noted { IsTried sink_note (sink_view N.Sink note.old) (sink_view N.Sink note.new) }
-{
-    let _ = print(note, b"sink fault\n");
-    Status::Stream
 }
 
 /// The last line of a check, by how many findings there were.

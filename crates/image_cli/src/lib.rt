@@ -3,6 +3,8 @@
 
 mod checking;
 mod discarding;
+mod showing;
 
 pub use checking::check;
 pub use discarding::discard;
+pub use showing::show;

@@ -5,7 +5,7 @@ use Rattle.std.proofs.lemmas.Slice.Eq.{bytes_eq-Decides}
 use Rattle.swsusp_words.specs.Words.{is_path, plain_number}
 use Rattle.swsusp_words.proofs.Numbers.{number_parts, plain_decimal, printed}
 use Rattle.image_words.specs.Spelled.{IsArea, IsSpelled, IsSpelledOver, IsValid, Spells}
-use Rattle.image_words.specs.Words.{Asked, SwapArea, check, stream, page, discard, alone, command_by, command_of, offset_first, over_area, over_path, page_of}
+use Rattle.image_words.specs.Words.{Asked, SwapArea, check, show, stream, page, discard, alone, command_by, command_of, offset_first, over_area, over_path, page_of}
 
 abbrev Words : Type 0
 Words = List (List ℕ)
@@ -124,13 +124,16 @@ spells_command : (command : List ℕ) (words : Words) (asked : Asked) → comman
 spells_command command words asked e =
     elim (either (pointwise nat_eq command (codes "check")) (over_area (λ area. alone (check area)) words) _ asked e) [
       | inl h ↦ named command _ words asked h.0 (spells_alone (λ area. check area) (codes "check") words asked (λ area w v s. (v, s)) h.1)
-      | inr e1 ↦ elim (either (pointwise nat_eq command (codes "stream")) (over_area (λ area. alone (stream area)) words) _ asked e1) [
-        | inl h ↦ named command _ words asked h.0 (spells_alone (λ area. stream area) (codes "stream") words asked (λ area w v s. (v, s)) h.1)
-        | inr e2 ↦ elim (either (pointwise nat_eq command (codes "page")) (over_area page_of words) _ asked e2) [
-          | inl h ↦ named command _ words asked h.0 (spells_page words asked h.1)
-          | inr e3 ↦ elim (either (pointwise nat_eq command (codes "discard")) (over_area (λ area. alone (discard area)) words) _ asked e3) [
-            | inl h ↦ named command _ words asked h.0 (spells_alone (λ area. discard area) (codes "discard") words asked (λ area w v s. (v, s)) h.1)
-            | inr e4 ↦ cc
+      | inr e1 ↦ elim (either (pointwise nat_eq command (codes "show")) (over_area (λ area. alone (show area)) words) _ asked e1) [
+        | inl h ↦ named command _ words asked h.0 (spells_alone (λ area. show area) (codes "show") words asked (λ area w v s. (v, s)) h.1)
+        | inr e2 ↦ elim (either (pointwise nat_eq command (codes "stream")) (over_area (λ area. alone (stream area)) words) _ asked e2) [
+          | inl h ↦ named command _ words asked h.0 (spells_alone (λ area. stream area) (codes "stream") words asked (λ area w v s. (v, s)) h.1)
+          | inr e3 ↦ elim (either (pointwise nat_eq command (codes "page")) (over_area page_of words) _ asked e3) [
+            | inl h ↦ named command _ words asked h.0 (spells_page words asked h.1)
+            | inr e4 ↦ elim (either (pointwise nat_eq command (codes "discard")) (over_area (λ area. alone (discard area)) words) _ asked e4) [
+              | inl h ↦ named command _ words asked h.0 (spells_alone (λ area. discard area) (codes "discard") words asked (λ area w v s. (v, s)) h.1)
+              | inr e5 ↦ cc
+            ]
           ]
         ]
       ]
@@ -173,6 +176,7 @@ asks_over ask program name area own words asked by_name is valid spelled = elim 
 
 pub asks : (program : List ℕ) (words : Words) (asked : Asked) → IsValid asked → IsSpelled asked words → command_of (program ∷ words) ≡ Some asked
 asks program words (check area) valid spelled = asks_over (λ a. alone (check a)) program (codes "check") area [] words _ (λ rest. refl) refl valid spelled
+asks program words (show area) valid spelled = asks_over (λ a. alone (show a)) program (codes "show") area [] words _ (λ rest. refl) refl valid spelled
 asks program words (stream area) valid spelled = asks_over (λ a. alone (stream a)) program (codes "stream") area [] words _ (λ rest. refl) refl valid spelled
 asks program words (page area frame) valid spelled =
     let plain = plain_decimal (2 ^ 64) frame (omega arith) valid.1 in

@@ -11,7 +11,7 @@ use Rattle.swsusp_words.proofs.Values.{IsNumber, path_value}
 use Rattle.image_words.specs.App.{image_app}
 use Rattle.image_words.specs.Matched.{area_in, asked_in, matched_by}
 use Rattle.image_words.specs.Spelled.{IsArea, IsSpelled, IsSpelledOver, IsValid}
-use Rattle.image_words.specs.Words.{Asked, SwapArea, check, stream, page, discard, command_of}
+use Rattle.image_words.specs.Words.{Asked, SwapArea, check, show, stream, page, discard, command_of}
 use Rattle.image_words.proofs.Areas.{area_rules, asks_area, asks_area_at, asks_page, asks_page_at, page_rules, passes_area, passes_area_at, passes_page, passes_page_at, shape_of_rules}
 use Rattle.image_words.proofs.Enters.{Meets, entered_built, takes_built}
 use Rattle.image_words.proofs.Forms.{spells}
@@ -28,6 +28,10 @@ Has name sub = Meets (built image_app) name sub
 has_check : Has (codes "check") (shape_of_rules area_rules (codes "check"))
 unfolding clap_on_literals
 has_check = record { stops = refl; turn = refl; ends = refl; found = refl }
+
+has_show : Has (codes "show") (shape_of_rules area_rules (codes "show"))
+unfolding clap_on_literals
+has_show = record { stops = refl; turn = refl; ends = refl; found = refl }
 
 has_stream : Has (codes "stream") (shape_of_rules area_rules (codes "stream"))
 unfolding clap_on_literals
@@ -105,6 +109,7 @@ taken_page program area frame words valid small spelled =
 
 taken : (program : Text) (words : List Text) (asked : Asked) → IsValid asked → IsSpelled asked words → Asks (program ∷ words) asked
 taken program words (check area) valid spelled = taken_over program (codes "check") (λ a. check a) area words has_check (λ rows. refl) valid spelled
+taken program words (show area) valid spelled = taken_over program (codes "show") (λ a. show a) area words has_show (λ rows. refl) valid spelled
 taken program words (stream area) valid spelled = taken_over program (codes "stream") (λ a. stream a) area words has_stream (λ rows. refl) valid spelled
 taken program words (page area frame) valid spelled = taken_page program area frame words valid.0 valid.1 spelled
 taken program words (discard area) valid spelled = taken_over program (codes "discard") (λ a. discard a) area words has_discard (λ rows. refl) valid spelled

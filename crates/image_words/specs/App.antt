@@ -29,6 +29,8 @@ abbrev pub image_app : App
 image_app =
     with_subcommand
     (with_subcommand
-    (with_subcommand (with_subcommand program_app (area_app (codes "check")).top) (area_app (codes "stream")).top)
+    (with_subcommand
+    (with_subcommand (with_subcommand program_app (area_app (codes "check")).top) (area_app (codes "show")).top)
+    (area_app (codes "stream")).top)
     page_app.top)
     (area_app (codes "discard")).top

@@ -4,7 +4,7 @@ use Rattle.std.specs.Prelude.{if◌then◌else◌}
 use Rattle.std.specs.Str.{bytes_eq}
 use Rattle.clap.specs.Words.{Row, Text}
 use Rattle.swsusp_words.specs.Matched.{number_at, swap_in}
-use Rattle.image_words.specs.Words.{Asked, SwapArea, check, stream, page, discard}
+use Rattle.image_words.specs.Words.{Asked, SwapArea, check, show, stream, page, discard}
 
 abbrev pub area_in : List Row → Option SwapArea
 area_in rows =
@@ -20,6 +20,7 @@ page_in rows =
 abbrev pub matched_by : Text → List Row → Option Asked
 matched_by name rows =
     if bytes_eq name (codes "check") then option_map (λ area. check area) (area_in rows)
+    else if bytes_eq name (codes "show") then option_map (λ area. show area) (area_in rows)
     else if bytes_eq name (codes "stream") then option_map (λ area. stream area) (area_in rows)
     else if bytes_eq name (codes "page") then page_in rows
     else if bytes_eq name (codes "discard") then option_map (λ area. discard area) (area_in rows)

@@ -1,7 +1,7 @@
 -- Which words a command is spelled by.
 use Rattle.std.specs.Prelude.{◌≡◌, ◌<◌, ◌^◌, ◌⊎◌, ℕ, true, List, [], ◌∷◌, codes, decimal}
 use Rattle.swsusp_words.specs.Words.{is_path}
-use Rattle.image_words.specs.Words.{Asked, SwapArea, check, stream, page, discard}
+use Rattle.image_words.specs.Words.{Asked, SwapArea, check, show, stream, page, discard}
 
 -- an area that words can name
 abbrev pub IsArea : SwapArea → Type 0
@@ -10,6 +10,7 @@ IsArea area = (area.offset < 2 ^ 32) × (is_path area.swap ≡ true)
 -- the values that a command can have
 abbrev pub IsValid : Asked → Type 0
 IsValid (check area) = IsArea area
+IsValid (show area) = IsArea area
 IsValid (stream area) = IsArea area
 IsValid (page area frame) = IsArea area × (frame < 2 ^ 64)
 IsValid (discard area) = IsArea area
@@ -23,6 +24,7 @@ IsSpelledOver area name own words =
 -- the words after the program's name are this command's
 abbrev pub IsSpelled : Asked → List (List ℕ) → Type 0
 IsSpelled (check area) words = IsSpelledOver area (codes "check") [] words
+IsSpelled (show area) words = IsSpelledOver area (codes "show") [] words
 IsSpelled (stream area) words = IsSpelledOver area (codes "stream") [] words
 IsSpelled (page area frame) words = IsSpelledOver area (codes "page") (decimal frame ∷ []) words
 IsSpelled (discard area) words = IsSpelledOver area (codes "discard") [] words

@@ -12,6 +12,7 @@ pub record SwapArea : Type 0 where
 -- what a list of words asks for, with its values
 pub data Asked : Type 0 where
   check : (area : SwapArea) → Asked
+  show : (area : SwapArea) → Asked
   stream : (area : SwapArea) → Asked
   page : (area : SwapArea) (frame : ℕ) → Asked
   discard : (area : SwapArea) → Asked
@@ -49,6 +50,7 @@ page_of area (number ∷ more ∷ words) = None
 abbrev pub command_by : List ℕ → List (List ℕ) → Option Asked
 command_by command words =
     if pointwise nat_eq command (codes "check") then over_area (λ area. alone (check area)) words
+    else if pointwise nat_eq command (codes "show") then over_area (λ area. alone (show area)) words
     else if pointwise nat_eq command (codes "stream") then over_area (λ area. alone (stream area)) words
     else if pointwise nat_eq command (codes "page") then over_area page_of words
     else if pointwise nat_eq command (codes "discard") then over_area (λ area. alone (discard area)) words

@@ -17,6 +17,8 @@ pub struct Area<'a> {
 pub enum Command<'a> {
     /// Tells what is wrong with it.
     Check(Area<'a>),
+    /// Prints what is written in the area.
+    Show(Area<'a>),
     /// Writes it as a stream of bytes.
     Stream(Area<'a>),
     /// Writes the saved page of a page frame.
@@ -37,7 +39,7 @@ impl<'a> Command<'a> {
 
     /// The command of a plain list of words, of which the first is the program's name. No other list parses, also where
     /// clap takes it: clap's options may stand anywhere, and its numbers may have a sign and zeros before them. Such a
-    /// list gets the text `words`, one that asks for help or the version gets that, and any other what clap says of it.
+    /// list gets a line that says so, one that asks for help or the version gets that, and any other what clap says of it.
     pub fn parse(alloc: Global, words: &'a [String]) -> Result<Command<'a>, Unparsed>
         ensures asks { IfOk result (λ command. command_of (map string_bytes words.now) ≡ Some (asked_by command)) }
         ensures refused { IfErr result (IsRefusedBy (map string_bytes words.now)) }
@@ -50,7 +52,10 @@ impl<'a> Command<'a> {
         };
         match plain(&matches, words) {
             Some(command) => Ok(command),
-            None => Err(Unparsed::Words(String::from_str(alloc, "words\n")?)),
+            None => Err(Unparsed::Words(String::from_str(
+                alloc,
+                "words: options go before SWAP, SWAP isn't empty nor begins with -, numbers have no sign or leading zero\n",
+            )?)),
         }
     }
 }

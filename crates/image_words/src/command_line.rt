@@ -27,6 +27,12 @@ pub(crate) fn command_line<'a>(alloc: Global) -> Result<Command<'a>, AllocError>
     )?)?
     .subcommand(over_area(
         alloc,
+        "show",
+        "Prints what is written in a swap area, a fact a line",
+        details::SHOW,
+    )?)?
+    .subcommand(over_area(
+        alloc,
         "stream",
         "Writes the image of a swap area as a stream of bytes",
         details::STREAM,

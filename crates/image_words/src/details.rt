@@ -1,7 +1,8 @@
 //! What help says of each command after its options.
 
 pub(crate) const PROGRAM: &str =
-    "A command's own help, as `swsusp_image check --help`, says what it reads and writes.
+    "A command's own help, as `swsusp_image check --help`, says what it reads and writes. With `--quiet` before the command
+nothing is said on a terminal of how far a long command is.
 
 Example: swsusp_image check /dev/sda2";
 
@@ -12,6 +13,12 @@ image it prints `no image`, with status 1. The header of a swap file that lies i
 the file begins; its image names blocks of the device.
 
 Example: swsusp_image check --offset 2048 /dev/sda2";
+
+pub(crate) const SHOW: &str =
+    "It only reads SWAP, and prints what the header block of the area says, whether it has an image, and what the
+image says of itself and of its machine, a fact a line: its name and its value.
+
+Example: swsusp_image show /dev/sda2";
 
 pub(crate) const STREAM: &str =
     "It only reads SWAP, and writes the image to standard output as `swsusp export` does. `swsusp import` reads such

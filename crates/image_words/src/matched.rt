@@ -13,6 +13,7 @@ pub(crate) fn matched<'a>(matches: &ArgMatches<'a>) -> Option<Command<'a>>
     let (name, values) = matches.subcommand()?;
     match name {
         "check" => Some(Command::Check(area_of(values)?)),
+        "show" => Some(Command::Show(area_of(values)?)),
         "stream" => Some(Command::Stream(area_of(values)?)),
         "page" => page(values),
         "discard" => Some(Command::Discard(area_of(values)?)),

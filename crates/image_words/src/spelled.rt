@@ -40,6 +40,7 @@ fn spells(command: &Command<'_>, words: &[String]) -> bool
 {
     match *command {
         Command::Check(area) => spells_over(area, words, "check", &[]),
+        Command::Show(area) => spells_over(area, words, "show", &[]),
         Command::Stream(area) => spells_over(area, words, "stream", &[]),
         Command::Page { area, frame } => {
             let mut buffer = Buffer::new();

@@ -1,43 +1,12 @@
--- The lines of the facts: a key, and behind a space each the numbers of its value, or its text.
-use Rattle.std.specs.Prelude.{ℕ, ◌&&◌, Bool, List, [], ◌∷◌, ◌++◌, codes, decimal, flat_map, nat_le, if◌then◌else◌}
-use Rattle.std.specs.List.{list_all}
+-- The lines of the facts of a machine.
+use Rattle.std.specs.Prelude.{ℕ, List, [], ◌∷◌, ◌++◌, codes, flat_map}
 use Rattle.page_core.specs.declared.format.Format.{Format}
 use Rattle.page_core.specs.declared.format.Format.TheVariants.{Plain, SkipZeros}
-use Rattle.definitions.specs.InfoPage.{text_of_name}
 use Rattle.plain_machine.specs.Machine.{Hardware, Memory}
-use Rattle.plain_machine.specs.Texts.{hex_text}
 use Rattle.dump_facts.specs.Facts.{facts_of}
 use Rattle.dump_facts.specs.declared.fact.Fact.{Fact}
 use Rattle.dump_facts.specs.declared.fact.Fact.TheVariants as fact
-use Rattle.dump_facts.specs.declared.fact.Name.{Name}
-use Rattle.dump_facts.specs.declared.fact.Name.TheVariants as name
-
--- a number behind a space, and a key with such numbers
-abbrev pub number_text : ℕ → List ℕ
-number_text n = codes " " ++ decimal n
-
-abbrev pub numbers_text : List ℕ → List ℕ → List ℕ
-numbers_text key numbers = key ++ flat_map number_text numbers
-
--- the names, in the order of struct new_utsname
-abbrev pub name_key : Name → List ℕ
-name_key name.Sysname = codes "sysname"
-name_key name.Nodename = codes "nodename"
-name_key name.Release = codes "release"
-name_key name.Version = codes "version"
-name_key name.Machine = codes "machine"
-name_key name.Domainname = codes "domainname"
-
--- whether a byte is a space or a visible character of ASCII
-abbrev pub is_printable : ℕ → Bool
-is_printable b = nat_le 32 b && nat_le b 126
-
--- A name up to its first zero byte: as it is where each byte is printable, else by two hexadecimal digits for each.
-abbrev pub value_text : List ℕ → List ℕ
-value_text text = if list_all is_printable text then codes " " ++ text else codes "_hex " ++ hex_text text
-
-abbrev pub name_text : Name → List ℕ → List ℕ
-name_text key bytes = name_key key ++ value_text (text_of_name bytes)
+use Rattle.fact_lines.specs.Texts.{name_text, numbers_text}
 
 abbrev pub image_key : Format → List ℕ
 image_key Plain = codes "image_plain"

@@ -5,10 +5,11 @@ use byte_streams::{Sink, StdSink};
 use command_kit::{Status, print, tell};
 use file_disk::FileDisk;
 use image_check::Printer;
-use image_cli::{check, discard};
+use image_cli::{check, discard, show};
 use image_stream::{Found, Stop, Streamed, page_of, stream};
 use image_words::{Area, Command, Unparsed};
 use page_core::{NoMemory, Page};
+use progress_disk::{Meter, ProgressDisk};
 use standard_streams::{Held, hold, is_output, sync_output};
 use std::env;
 use std::fs::File;
@@ -27,13 +28,15 @@ fn main(rt: HostRuntime) -> ExitCode {
     let Ok(words) = words.collect::<Vec<String>>(rt.alloc()) else {
         return no_memory(&rt);
     };
-    match Command::parse(rt.alloc(), &words) {
+    let (words, quiet) = after_quiet(&words);
+    match Command::parse(rt.alloc(), words) {
         Ok(Command::Stream(_) | Command::Page { .. }) if rt.stdout().is_terminal() => {
             sink_fault(&rt)
         }
-        Ok(Command::Check(area)) => check_image(&rt, area),
-        Ok(Command::Stream(area)) => stream_image(&rt, area),
-        Ok(Command::Page { area, frame }) => write_page(&rt, area, frame),
+        Ok(Command::Check(area)) => check_image(&rt, area, quiet),
+        Ok(Command::Show(area)) => show_image(&rt, area, quiet),
+        Ok(Command::Stream(area)) => stream_image(&rt, area, quiet),
+        Ok(Command::Page { area, frame }) => write_page(&rt, area, frame, quiet),
         Ok(Command::Discard(area)) => discard_image(&rt, area),
         Err(Unparsed::Help(text)) => show_help(&rt, text.as_bytes()),
         Err(Unparsed::Words(text)) => ended(&rt, text.as_bytes(), Status::Words.code()),
@@ -41,11 +44,19 @@ fn main(rt: HostRuntime) -> ExitCode {
     }
 }
 
+/// The words without a first `--quiet`, in whose place the name of the program then stands, and whether there was one.
+fn after_quiet(words: &[String]) -> (&[String], bool) {
+    match words.get(1) {
+        Some(word) if word.as_str() == "--quiet" => (&words[1..], true),
+        _ => (words, false),
+    }
+}
+
 /// Checks the image of an area.
 #[inline(never)]
-fn check_image(rt: &HostRuntime, area: Area<'_>) -> ExitCode {
-    let Ok((_held, mut disk)) = open_to_read(rt, area.swap) else {
-        return not_opened(rt);
+fn check_image(rt: &HostRuntime, area: Area<'_>, quiet: bool) -> ExitCode {
+    let Ok((_held, mut disk)) = open_to_read(rt, area.swap, quiet) else {
+        return not_opened(rt, area.swap);
     };
     let mut out = Printer::new(StdSink::new(rt.stdout()));
     let mut note = StdSink::new(rt.stderr());
@@ -53,11 +64,23 @@ fn check_image(rt: &HostRuntime, area: Area<'_>) -> ExitCode {
     finished(rt, status)
 }
 
+/// Prints what is written in an area.
+#[inline(never)]
+fn show_image(rt: &HostRuntime, area: Area<'_>, quiet: bool) -> ExitCode {
+    let Ok((_held, mut disk)) = open_to_read(rt, area.swap, quiet) else {
+        return not_opened(rt, area.swap);
+    };
+    let mut out = StdSink::new(rt.stdout());
+    let mut note = StdSink::new(rt.stderr());
+    let status = show(rt.alloc(), &mut disk, area.offset, &mut out, &mut note);
+    finished(rt, status)
+}
+
 /// Writes the image of an area as a stream. What is wrong with it is noted.
 #[inline(never)]
-fn stream_image(rt: &HostRuntime, area: Area<'_>) -> ExitCode {
-    let Ok((_held, mut disk)) = open_to_read(rt, area.swap) else {
-        return not_opened(rt);
+fn stream_image(rt: &HostRuntime, area: Area<'_>, quiet: bool) -> ExitCode {
+    let Ok((_held, mut disk)) = open_to_read(rt, area.swap, quiet) else {
+        return not_opened(rt, area.swap);
     };
     let mut out = StdSink::new(rt.stdout());
     let mut note = Printer::new(StdSink::new(rt.stderr()));
@@ -73,9 +96,9 @@ fn stream_image(rt: &HostRuntime, area: Area<'_>) -> ExitCode {
 
 /// Writes the saved page of a page frame. What is wrong with the image up to there is noted.
 #[inline(never)]
-fn write_page(rt: &HostRuntime, area: Area<'_>, frame: u64) -> ExitCode {
-    let Ok((_held, mut disk)) = open_to_read(rt, area.swap) else {
-        return not_opened(rt);
+fn write_page(rt: &HostRuntime, area: Area<'_>, frame: u64, quiet: bool) -> ExitCode {
+    let Ok((_held, mut disk)) = open_to_read(rt, area.swap, quiet) else {
+        return not_opened(rt, area.swap);
     };
     let mut page = Page::zero();
     let mut note = Printer::new(StdSink::new(rt.stderr()));
@@ -107,13 +130,13 @@ fn write_page(rt: &HostRuntime, area: Area<'_>, frame: u64) -> ExitCode {
 #[inline(never)]
 fn discard_image(rt: &HostRuntime, area: Area<'_>) -> ExitCode {
     let Ok(_held) = hold(rt) else {
-        return not_opened(rt);
+        return not_opened(rt, area.swap);
     };
     let Ok(false) = is_output(rt, area.swap) else {
-        return not_opened(rt);
+        return not_opened(rt, area.swap);
     };
     let Ok(mut disk) = FileDisk::open(rt, area.swap) else {
-        return not_opened(rt);
+        return not_opened(rt, area.swap);
     };
     let mut out = StdSink::new(rt.stdout());
     let mut note = StdSink::new(rt.stderr());
@@ -122,12 +145,18 @@ fn discard_image(rt: &HostRuntime, area: Area<'_>) -> ExitCode {
 }
 
 /// Opens a swap file for reading alone, once closed standard streams have their places.
-fn open_to_read(rt: &HostRuntime, swap: &str) -> io::Result<(Held, FileDisk<File>)> {
+fn open_to_read<'a>(
+    rt: &'a HostRuntime,
+    swap: &str,
+    quiet: bool,
+) -> io::Result<(Held, ProgressDisk<'a, FileDisk<File>>)> {
     let held = hold(rt)?;
     if is_output(rt, swap)? {
         return Err(io::ErrorKind::InvalidInput.into());
     }
-    Ok((held, FileDisk::open_read_only(rt, swap)?))
+    let disk = FileDisk::open_read_only(rt, swap)?;
+    let meter = Meter::new(rt, "swsusp_image", quiet);
+    Ok((held, ProgressDisk { disk, meter }))
 }
 
 /// Prints the help that was asked for.
@@ -172,6 +201,9 @@ fn sink_fault(rt: &HostRuntime) -> ExitCode {
     ended(rt, b"sink fault\n", Status::Stream.code())
 }
 
-fn not_opened(rt: &HostRuntime) -> ExitCode {
-    ended(rt, b"open fault\n", NOT_OPENED)
+fn not_opened(rt: &HostRuntime, path: &str) -> ExitCode {
+    let _ = eprintln!(rt;
+        "open fault: {path} isn't there, is no file or block device, is in use, or is an output"
+    );
+    ExitCode::from(NOT_OPENED)
 }

@@ -3,7 +3,7 @@ use Rattle.dump_facts.specs.Facts.{owned_frames}
 use Rattle.dump_facts.specs.declared.fact.Fact.{Fact}
 use Rattle.dump_facts.specs.declared.fact.Fact.TheVariants as fact
 use Rattle.dump_facts.proofs.Images.{saveable_are}
-use Rattle.dump_facts.proofs.Joined.{two_parts}
+use Rattle.fact_lines.proofs.Joined.{two_parts}
 use Rattle.dump_facts.proofs.memory.add_frames.Goals as goal
 
 pub returns-clause-added : goal.returns-clause-added

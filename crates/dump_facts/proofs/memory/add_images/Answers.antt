@@ -5,7 +5,7 @@ use Rattle.plain_machine.specs.Step.{no_slots}
 use Rattle.dump_facts.specs.Facts.{image_facts, images_facts}
 use Rattle.dump_facts.specs.declared.fact.Fact.{Fact}
 use Rattle.dump_facts.proofs.Images.{n_is, plain_d_is, zeros_d_is, image_facts_are}
-use Rattle.dump_facts.proofs.Joined.{two_parts}
+use Rattle.fact_lines.proofs.Joined.{two_parts}
 use Rattle.dump_facts.proofs.memory.add_images.Goals as goal
 
 pub returns : goal.returns

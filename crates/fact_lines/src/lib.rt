@@ -1,0 +1,8 @@
+//! The lines of facts: a key, and the numbers of its value or its text.
+#![tactic(auto)]
+
+mod name;
+mod values;
+
+pub use name::Name;
+pub use values::{is_printable, put_hex_word, put_name, put_numbers, put_text};

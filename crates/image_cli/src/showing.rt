@@ -1,0 +1,63 @@
+ghost use Rattle.std.specs.Prelude.{◌≡◌, ◌≢◌, ◌⊎◌, ◌≤◌};
+ghost use Rattle.definitions.specs.Disk.{HasRisen};
+ghost use Rattle.command_kit.specs.Told.{IsTried, sink_note};
+ghost use Rattle.command_kit.specs.View.{sink_view};
+ghost use Rattle.image_cli.specs.Shows.{PrintsFacts, status_shown};
+
+use byte_streams::Sink;
+use command_kit::{Status, no_memory, print, tell};
+use image_show::{Fault, Shown};
+use sector_disk::Disk;
+use std::alloc::Global;
+
+/// Prints what is written in the area whose header lies in a block, a fact a line. The status is `Done` where there is such a block and it
+/// was read, whatever it says. The disk is only read.
+pub fn show<D: Disk, O: Sink, N: Sink>(
+    alloc: Global,
+    disk: &mut D,
+    header: u32,
+    out: &mut O,
+    note: &mut N,
+) -> Status
+    ensures outcome { PrintsFacts (D.content disk.old) (D.block_count disk.old) header
+        (D.faults disk.old) (D.faults disk.new) result
+        (sink_view O.Sink out.old)
+        (sink_view O.Sink out.new)
+        (sink_view N.Sink note.old)
+        (sink_view N.Sink note.new) }
+    ensures stream { result ≡ Status.Stream →
+        HasRisen (O.faults out.old) (O.faults out.new) ⊎ HasRisen (N.faults note.old) (N.faults note.new) }
+    ensures device { result ≢ Status.Device }
+    ensures words { result ≢ Status.Words }
+    ensures content { D.content disk.new ≡ D.content disk.old }
+    ensures faults { D.faults disk.old ≤ D.faults disk.new }
+    ensures orders { D.orders disk.new ≡ D.orders disk.old }
+    ensures blocks { D.block_count disk.new ≡ D.block_count disk.old }
+{
+    match image_show::show(alloc, disk, header, out) {
+        Ok(shown) => tell(status_shown(shown), b"", b"", out, note),
+        Err(Fault::NoMemory) => no_memory().tell(out, note),
+        Err(Fault::Write) => cut_short(note),
+    }
+}
+
+fn status_shown(shown: Shown) -> Status
+    ensures status { result ≡ status_shown shown }
+    ensures stream { result ≢ Status.Stream }
+    ensures device { result ≢ Status.Device }
+    ensures words { result ≢ Status.Words }
+{
+    match shown {
+        Shown::Area => Status::Done,
+        Shown::NoHeader => Status::Refused,
+    }
+}
+
+/// Notes that the output failed.
+pub(crate) fn cut_short<N: Sink>(note: &mut N) -> Status
+    ensures status { result ≡ Status.Stream }
+    ensures noted { IsTried sink_note (sink_view N.Sink note.old) (sink_view N.Sink note.new) }
+{
+    let _ = print(note, b"sink fault\n");
+    Status::Stream
+}

@@ -1,0 +1,5 @@
+pub mod HeaderFacts
+pub mod InfoFacts
+pub mod Reads
+pub mod Runs
+pub mod Told

@@ -1,0 +1,57 @@
+ghost use Rattle.std.specs.Prelude.{◌≡◌, ◌+◌, ◌<◌, ◌≤◌, [], ◌∷◌, ◌++◌, length};
+
+use crate::fact::Fact;
+use arrayvec::ArrayVec;
+use std::marker::Model;
+
+/// At most so many facts: 630 bad pages, and 16 more of a header block.
+const MOST_FACTS: usize = 646;
+
+/// Some facts. A contract sees the list of them.
+#[derive(Drop)]
+pub struct Facts {
+    facts: ArrayVec<Fact, MOST_FACTS>,
+}
+
+impl Model for Facts {
+    ghost use Rattle.std.specs.Prelude.{List};
+    ghost use Rattle.image_facts.specs.declared.fact.Fact.{Fact as OneFact};
+
+    ghost Value = { List OneFact };
+
+    ghost view = { λ f. f.facts.items };
+}
+
+impl Facts {
+    pub(crate) fn new() -> Facts
+        ensures { result ≡ [] }
+    {
+        Facts {
+            facts: ArrayVec::new(),
+        }
+    }
+
+    pub fn as_slice(&self) -> &[Fact]
+        ensures { result.now ≡ self.now }
+    {
+        self.facts.as_slice()
+    }
+
+    /// Adds a fact.
+    pub(crate) fn add(&mut self, fact: Fact)
+        requires { length self.old < 646 }
+        ensures added { self.new ≡ self.old ++ fact ∷ [] }
+        ensures len { length self.new ≡ length self.old + 1 }
+    {
+        self.facts.push(fact);
+    }
+
+    /// Adds some facts.
+    pub(crate) fn add_all(&mut self, facts: &[Fact])
+        requires { length self.old + length facts.now ≤ 646 }
+        ensures added { self.new ≡ self.old ++ facts.now }
+        ensures len { length self.new ≡ length self.old + length facts.now }
+    {
+        self.facts.try_extend_from_slice(facts).unwrap();
+    }
+}

@@ -1,0 +1,5 @@
+pub mod BlockSteps
+pub mod Earlier
+pub mod FrameSteps
+pub mod ImageSteps
+pub mod Lines

@@ -1,0 +1,17 @@
+use Rattle.std.proofs.Common.{◌≡◌, ◌≤◌}
+use Rattle.image_walk.specs.Walking.{names_left}
+use Rattle.image_show.proofs.BlockSteps.{BlocksSoFar}
+use Rattle.image_show.proofs.blocks.print_blocks.Given as goal
+
+abbrev pub invariant-loop-part : goal.invariant-loop-part
+invariant-loop-part g l = record {
+  so_far : BlocksSoFar l.initial.reading.walker.limits l.initial.reading.walker.next (g.D.Disk.content l.initial.disk) (g.D.Disk.faults l.initial.disk) (g.D.Disk.faults l.disk) (g.S.Sink.taken l.initial.sink) (g.S.Sink.taken l.sink) l.reading l.runs.last l.maps;
+  blocks : g.D.Disk.block_count l.disk ≡ l.reading.walker.limits.blocks;
+  content : g.D.Disk.content l.disk ≡ g.D.Disk.content l.initial.disk;
+  orders : g.D.Disk.orders l.disk ≡ g.D.Disk.orders l.initial.disk;
+  same_blocks : g.D.Disk.block_count l.disk ≡ g.D.Disk.block_count l.initial.disk;
+  counted : g.S.Sink.faults l.initial.sink ≤ g.S.Sink.faults l.sink;
+}
+
+abbrev pub decreases-loop-part : goal.decreases-loop-part
+decreases-loop-part g l = names_left l.reading.walker

@@ -1,0 +1,104 @@
+use Rattle.std.proofs.Common.{◌≡◌, List, [], ◌++◌, Bool, true, false, Option, refl, sym, subst, append-nil}
+use Rattle.definitions.specs.Disk.{Content}
+use Rattle.definitions.specs.Streams.{TakesFront}
+use Rattle.image_walk.specs.declared.limits.Limits.{Limits}
+use Rattle.image_facts.specs.declared.fact.Fact.{Fact}
+use Rattle.image_show.specs.Shown.{ShowsFrames}
+use Rattle.image_show.specs.Texts.{text_of}
+use Rattle.image_show.proofs.ImageSteps.{blocks_later, frames_earlier, image_begun, image_none, image_of_both}
+use Rattle.image_show.proofs.Lines.{front_first, front_then, on_any_err, on_err_then, on_ok_then, whole_then}
+use Rattle.image_show.proofs.image.print_image.Goals as goal
+
+pub returns-in_err-print-clause-front : goal.returns-in_err-print-clause-front
+returns-in_err-print-clause-front g c =
+    on_any_err c.from_residual.result (
+      [],
+      (
+        image_none c.args.once.now.walker.limits c.args.once.now.walker.next (g.D.Disk.content c.args.disk.now) (g.D.Disk.faults c.args.disk.now) (g.D.Disk.faults c.args.disk.now) c.args.format,
+        front_first c.args.facts.now [] (g.S.Sink.taken c.args.sink.now) (g.S.Sink.taken c.print.new.sink) c.print.ensures.front,
+      ),
+    )
+
+pub returns-in_err-print_blocks-clause-front : goal.returns-in_err-print_blocks-clause-front
+returns-in_err-print_blocks-clause-front g c =
+    let old = g.S.Sink.taken c.args.sink.now in
+    let mid = g.S.Sink.taken c.print.new.sink in
+    let new = g.S.Sink.taken c.print_blocks.new.sink in
+    let l = c.args.once.now.walker.limits in
+    let first = c.args.once.now.walker.next in
+    let content = g.D.Disk.content c.args.disk.now in
+    let before = g.D.Disk.faults c.args.disk.now in
+    let now = g.D.Disk.faults c.print_blocks.new.disk in
+    let shown = c.in_err-print_blocks.ensures.front in
+    on_any_err c.from_residual-in_err-print_blocks.result (
+      shown.1.0 ++ [],
+      (
+        image_begun shown.0 l first content before now c.args.format shown.1.0 shown.1.1.0,
+        front_then c.args.facts.now (shown.1.0 ++ []) old mid new c.in_ok-print.ensures.whole
+            (subst (λ (fs : List Fact). TakesFront (text_of fs) mid new) (sym (append-nil shown.1.0)) shown.1.1.1),
+      ),
+    )
+
+pub returns-clause-shown : goal.returns-clause-shown
+returns-clause-shown g c =
+    let old = g.S.Sink.taken c.args.sink.now in
+    let mid = g.S.Sink.taken c.print.new.sink in
+    let then_taken = g.S.Sink.taken c.print_blocks.new.sink in
+    let new = g.S.Sink.taken c.print_frames.new.sink in
+    let l = c.args.once.now.walker.limits in
+    let first = c.args.once.now.walker.next in
+    let content = g.D.Disk.content c.args.disk.now in
+    let before = g.D.Disk.faults c.args.disk.now in
+    let then = g.D.Disk.faults c.print_blocks.new.disk in
+    let now = g.D.Disk.faults c.print_frames.new.disk in
+    let (blocks, (shows, takes)) = c.in_ok-print_blocks.ensures.whole in
+    on_ok_then c.print_frames.result
+    (λ frames.
+    let same_limits : ShowsFrames true l c.args.again.now.walker.next (g.D.Disk.content c.print_blocks.new.disk) then now c.args.format frames.0 =
+    subst (λ (x : Limits). ShowsFrames true x c.args.again.now.walker.next (g.D.Disk.content c.print_blocks.new.disk) then now c.args.format frames.0) c.requires.same frames.1.0 in
+    let same_first : ShowsFrames true l first (g.D.Disk.content c.print_blocks.new.disk) then now c.args.format frames.0 =
+    subst (λ n. ShowsFrames true l n (g.D.Disk.content c.print_blocks.new.disk) then now c.args.format frames.0) c.requires.same_first same_limits in
+    let same_content : ShowsFrames true l first content then now c.args.format frames.0 =
+    subst (λ (x : Option Content). ShowsFrames true l first x then now c.args.format frames.0) c.print_blocks.ensures.content same_first in (
+      blocks ++ frames.0,
+      (
+        image_of_both true true l first content before now c.args.format blocks frames.0 (λ e. refl)
+            (blocks_later true l first content before then now blocks c.print_blocks.ensures.faults c.print_frames.ensures.faults shows)
+            (frames_earlier true l first content before then now c.args.format frames.0 c.print_blocks.ensures.faults same_content),
+        whole_then c.args.facts.now (blocks ++ frames.0) old mid new c.in_ok-print.ensures.whole (whole_then blocks frames.0 mid then_taken new takes frames.1.1),
+      ),
+    ))
+    c.print_frames.ensures.whole
+
+pub returns-clause-front : goal.returns-clause-front
+returns-clause-front g c =
+    let old = g.S.Sink.taken c.args.sink.now in
+    let mid = g.S.Sink.taken c.print.new.sink in
+    let then_taken = g.S.Sink.taken c.print_blocks.new.sink in
+    let new = g.S.Sink.taken c.print_frames.new.sink in
+    let l = c.args.once.now.walker.limits in
+    let first = c.args.once.now.walker.next in
+    let content = g.D.Disk.content c.args.disk.now in
+    let before = g.D.Disk.faults c.args.disk.now in
+    let then = g.D.Disk.faults c.print_blocks.new.disk in
+    let now = g.D.Disk.faults c.print_frames.new.disk in
+    let (blocks, (shows, takes)) = c.in_ok-print_blocks.ensures.whole in
+    on_err_then c.print_frames.result
+    (λ frames.
+    let whole : Bool = frames.0 in
+    let says : List Fact = frames.1.0 in
+    let same_limits : ShowsFrames whole l c.args.again.now.walker.next (g.D.Disk.content c.print_blocks.new.disk) then now c.args.format says =
+    subst (λ (x : Limits). ShowsFrames whole x c.args.again.now.walker.next (g.D.Disk.content c.print_blocks.new.disk) then now c.args.format says) c.requires.same frames.1.1.0 in
+    let same_first : ShowsFrames whole l first (g.D.Disk.content c.print_blocks.new.disk) then now c.args.format says =
+    subst (λ n. ShowsFrames whole l n (g.D.Disk.content c.print_blocks.new.disk) then now c.args.format says) c.requires.same_first same_limits in
+    let same_content : ShowsFrames whole l first content then now c.args.format says =
+    subst (λ (x : Option Content). ShowsFrames whole l first x then now c.args.format says) c.print_blocks.ensures.content same_first in (
+      blocks ++ says,
+      (
+        image_of_both false whole l first content before now c.args.format blocks says (λ e. absurd (let f : false ≡ true = e in cc))
+            (blocks_later true l first content before then now blocks c.print_blocks.ensures.faults c.print_frames.ensures.faults shows)
+            (frames_earlier whole l first content before then now c.args.format says c.print_blocks.ensures.faults same_content),
+        front_then c.args.facts.now (blocks ++ says) old mid new c.in_ok-print.ensures.whole (front_then blocks says mid then_taken new takes frames.1.1.1),
+      ),
+    ))
+    c.print_frames.ensures.front

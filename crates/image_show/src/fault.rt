@@ -1,0 +1,12 @@
+use thiserror::Error;
+
+/// Why not all was shown.
+#[derive(Clone, Copy, Debug, PartialEq, Eq, Error)]
+pub enum Fault {
+    /// Memory was refused. Nothing was written.
+    #[error("no memory")]
+    NoMemory,
+    /// A write failed.
+    #[error("the output failed")]
+    Write,
+}

@@ -1,0 +1,159 @@
+//! The page frames of an image.
+ghost use Rattle.std.specs.Prelude.{◌≡◌, ◌+◌, ◌<◌, ◌≤◌, ◌^◌, ◌++◌, [], List, ℕ, Bool, true, Some, IfSome, IfNone, OnOk, OnErr, map, take};
+ghost use Rattle.definitions.specs.Disk.{HasRisen};
+ghost use Rattle.definitions.specs.Streams.{TakesAll, TakesFront};
+ghost use Rattle.image_walk.specs.Names.{Name};
+ghost use Rattle.image_check.specs.Numbers.{frame_of};
+ghost use Rattle.image_facts.specs.Reads.{Reads, ReadsOn};
+ghost use Rattle.image_facts.specs.Runs.{count_of, list_of};
+ghost use Rattle.image_facts.specs.Told.{frame_run, words_of, IsEnd};
+ghost use Rattle.image_facts.specs.declared.fact.Fact.{Fact as OneFact};
+ghost use Rattle.image_show.specs.Parts.{left_after, numbers_in_part, rest_of, RunsOn};
+ghost use Rattle.image_show.specs.Shown.{ShowsFrames};
+ghost use Rattle.image_show.specs.Texts.{text_of};
+
+use crate::printing::print_any;
+use byte_streams::Sink;
+use image_facts::{Fact, Part, Reading, Runs};
+use page_core::{Failed, Format, Page};
+use sector_disk::Disk;
+
+/// How many words a page has.
+const WORDS: u64 = 512;
+
+/// The word of an info page that tells how many page frames were saved (`image_pages`, `struct swsusp_info`, kernel/power/power.h).
+const IMAGE_PAGES_WORD: usize = 52;
+
+/// The bit of a page of zeros that has no data page (own).
+const ZERO_BIT: u64 = 1 << 63;
+
+/// Prints the runs of page frames as they end. It reads no more than the number pages.
+pub(crate) fn print_frames<D: Disk, S: Sink>(
+    sink: &mut S,
+    disk: &mut D,
+    reading: &mut Reading,
+    format: Format,
+) -> Result<(), Failed>
+    requires blocks { D.block_count disk.old ≡ reading.old.walker.limits.blocks }
+    requires start { Reads reading.old.walker.next reading.old [] }
+    ensures whole { OnOk result ((facts : List OneFact)
+        × (ShowsFrames true reading.old.walker.limits reading.old.walker.next
+        (D.content disk.old) (D.faults disk.old) (D.faults disk.new) format facts
+        × TakesAll (text_of facts) (S.taken sink.old) (S.taken sink.new))) }
+    ensures front { OnErr result ((whole : Bool) × ((facts : List OneFact)
+        × (ShowsFrames whole reading.old.walker.limits reading.old.walker.next
+        (D.content disk.old) (D.faults disk.old) (D.faults disk.new) format facts
+        × TakesFront (text_of facts) (S.taken sink.old) (S.taken sink.new)))) }
+    ensures counted { S.faults sink.old ≤ S.faults sink.new }
+    ensures cause { OnErr result (HasRisen (S.faults sink.old) (S.faults sink.new)) }
+    ensures content { D.content disk.new ≡ D.content disk.old }
+    ensures faults { D.faults disk.old ≤ D.faults disk.new }
+    ensures orders { D.orders disk.new ≡ D.orders disk.old }
+    ensures blocks { D.block_count disk.new ≡ D.block_count disk.old }
+{
+    let mut page = Page::zero();
+    let mut runs = Runs::new();
+    let mut left = None;
+    while let Some(part) = next_part(reading, disk, &mut page, left) {
+        let count = numbers_in_part(left, part);
+        left = left_after(left, part, &page);
+        print_numbers(sink, &mut runs, format, &page, count)?;
+    }
+    print_any(sink, frame_run(runs.last()))
+}
+
+/// Goes on to the next block, unless no number is left.
+fn next_part<D: Disk>(
+    reading: &mut Reading,
+    disk: &mut D,
+    page: &mut Page,
+    left: Option<u64>,
+) -> Option<Part>
+    requires { D.block_count disk.old ≡ reading.old.walker.limits.blocks }
+    ensures next { IfSome result (λ part. (first : ℕ) (h : List Name) → Reads first reading.old h →
+        ReadsOn first (D.content disk.old) (D.faults disk.old)
+        (D.faults disk.new) h reading.old reading.new part page.new) }
+    ensures end { IfNone result ((left ≡ Some 0 → ⊥) → (first : ℕ) (h : List Name) → Reads first reading.old h →
+        IsEnd reading.old.walker.limits first (D.content disk.old) (D.faults disk.old) (D.faults disk.new) h) }
+    ensures limits { reading.new.walker.limits ≡ reading.old.walker.limits }
+    ensures content { D.content disk.new ≡ D.content disk.old }
+    ensures faults { D.faults disk.old ≤ D.faults disk.new }
+    ensures orders { D.orders disk.new ≡ D.orders disk.old }
+    ensures blocks { D.block_count disk.new ≡ D.block_count disk.old }
+{
+    if let Some(0) = left {
+        return None;
+    }
+    reading.next(disk, page)
+}
+
+/// How many numbers a part has.
+fn numbers_in_part(left: Option<u64>, part: Part) -> u64
+    ensures count { result ≡ numbers_in_part left part }
+    ensures few { result ≤ 512 }
+    ensures enough { result ≤ rest_of left }
+{
+    match part {
+        Part::Map { .. } => 0,
+        Part::Info { .. } => 0,
+        Part::Page { .. } => left.unwrap_or(0).min(WORDS),
+    }
+}
+
+/// How many numbers are left after a part.
+fn left_after(left: Option<u64>, part: Part, page: &Page) -> Option<u64>
+    ensures left { result ≡ left_after left part page.now }
+    ensures fits { rest_of result < 2 ^ 64 }
+{
+    match part {
+        Part::Map { .. } => left,
+        Part::Info { .. } => Some(page.word(IMAGE_PAGES_WORD)),
+        Part::Page { .. } => Some(left.unwrap_or(0).saturating_sub(WORDS)),
+    }
+}
+
+/// Prints the runs that end before or among the first numbers of a page.
+fn print_numbers<S: Sink>(
+    sink: &mut S,
+    runs: &mut Runs,
+    format: Format,
+    page: &Page,
+    count: u64,
+) -> Result<(), Failed>
+    requires few { count ≤ 512 }
+    requires room { count_of runs.old.last + count < 2 ^ 64 }
+    ensures whole { OnOk result ((more : List (ℕ × ℕ))
+        × (RunsOn runs.old.last runs.new.last (map (frame_of format) (take count (words_of page.now))) more
+        × TakesAll (text_of (map frame_run more)) (S.taken sink.old) (S.taken sink.new))) }
+    ensures front { (n : ℕ) × ((n ≤ count) × ((more : List (ℕ × ℕ))
+        × (RunsOn runs.old.last runs.new.last (map (frame_of format) (take n (words_of page.now))) more
+        × TakesFront (text_of (map frame_run more)) (S.taken sink.old) (S.taken sink.new)))) }
+    ensures count { count_of runs.new.last ≤ count_of runs.old.last + count }
+    ensures counted { S.faults sink.old ≤ S.faults sink.new }
+    ensures cause { OnErr result (HasRisen (S.faults sink.old) (S.faults sink.new)) }
+{
+    for i in 0..count {
+        let ended = runs.add(frame_of(format, page.word(i as usize)));
+        print_any(sink, frame_run(ended))?;
+    }
+    Ok(())
+}
+
+/// The page frame number of a word.
+fn frame_of(format: Format, word: u64) -> u64
+    ensures { result ≡ frame_of format word }
+{
+    match format {
+        Format::Plain => word,
+        Format::SkipZeros => word % ZERO_BIT,
+    }
+}
+
+fn frame_run(run: Option<(u64, u64)>) -> Option<Fact>
+    ensures { list_of result ≡ map frame_run (list_of run) }
+{
+    match run {
+        Some((start, count)) => Some(Fact::FrameRun(start, count)),
+        None => None,
+    }
+}

@@ -1,0 +1,107 @@
+//! An image that isn't compressed.
+ghost use Rattle.std.specs.Prelude.{◌≡◌, ◌≤◌, ◌++◌, [], List, true, false, Err, OnOk, OnErr};
+ghost use Rattle.definitions.specs.Disk.{HasRisen};
+ghost use Rattle.definitions.specs.Streams.{TakesAll, TakesFront};
+ghost use Rattle.definitions.specs.SwapHeader.{taken_back};
+ghost use Rattle.sig_header.specs.AreaKind.{area_kind};
+ghost use Rattle.image_check.specs.Checked.{format_of};
+ghost use Rattle.image_check.specs.Header.{limits_of};
+ghost use Rattle.image_facts.specs.HeaderFacts.{header_facts};
+ghost use Rattle.image_facts.specs.Reads.{Reads};
+ghost use Rattle.image_facts.specs.declared.fact.Fact.{Fact as OneFact};
+ghost use Rattle.image_show.specs.Shown.{ShowsImage};
+ghost use Rattle.image_show.specs.Texts.{text_of};
+ghost use Rattle.image_show.specs.declared.fault.Fault.TheVariants.{NoMemory, Write};
+
+use crate::Fault;
+use crate::blocks::print_blocks;
+use crate::frames::print_frames;
+use crate::printing::print;
+use byte_streams::Sink;
+use image_check::{format_of, limits_of};
+use image_facts::{Fact, Reading, header_facts};
+use page_core::{Failed, Format, Page};
+use sector_disk::Disk;
+use sig_header::Mark;
+use std::alloc::Global;
+
+/// Prints what the header block says, and what the image of its mark is: whose it is, its blocks and its page frames.
+pub(crate) fn show_image<D: Disk, S: Sink>(
+    alloc: Global,
+    sink: &mut S,
+    disk: &mut D,
+    header: u32,
+    page: &Page,
+    mark: Mark,
+) -> Result<(), Fault>
+    ensures shown { OnOk result ((image : List OneFact)
+        × (ShowsImage true (limits_of (D.block_count disk.old) header (area_kind (taken_back page.now)))
+        mark.first (D.content disk.old) (D.faults disk.old) (D.faults disk.new) (format_of mark.flags) image
+        × TakesAll (text_of (header_facts (D.block_count disk.old) page.now
+        ++ image)) (S.taken sink.old) (S.taken sink.new))) }
+    ensures front { result ≡ Err Write → (image : List OneFact)
+        × (ShowsImage false (limits_of (D.block_count disk.old) header (area_kind (taken_back page.now)))
+        mark.first (D.content disk.old) (D.faults disk.old) (D.faults disk.new) (format_of mark.flags) image
+        × TakesFront (text_of (header_facts (D.block_count disk.old) page.now
+        ++ image)) (S.taken sink.old) (S.taken sink.new)) }
+    ensures cause { result ≡ Err Write → HasRisen (S.faults sink.old) (S.faults sink.new) }
+    ensures memory { result ≡ Err NoMemory → S.taken sink.new ≡ S.taken sink.old }
+    ensures counted { S.faults sink.old ≤ S.faults sink.new }
+    ensures content { D.content disk.new ≡ D.content disk.old }
+    ensures faults { D.faults disk.old ≤ D.faults disk.new }
+    ensures orders { D.orders disk.new ≡ D.orders disk.old }
+    ensures blocks { D.block_count disk.new ≡ D.block_count disk.old }
+{
+    let blocks = disk.blocks();
+    let limits = limits_of(blocks, header, page);
+    let Ok(mut once) = Reading::begin(alloc, &limits, mark.first) else {
+        return Err(Fault::NoMemory);
+    };
+    let Ok(mut again) = Reading::begin(alloc, &limits, mark.first) else {
+        return Err(Fault::NoMemory);
+    };
+    let facts = header_facts(blocks, page);
+    match print_image(
+        sink,
+        disk,
+        facts.as_slice(),
+        &mut once,
+        &mut again,
+        format_of(mark.flags),
+    ) {
+        Ok(()) => Ok(()),
+        Err(Failed) => Err(Fault::Write),
+    }
+}
+
+/// Prints some facts, and an image in two readings: of all its blocks, and of its number pages.
+fn print_image<D: Disk, S: Sink>(
+    sink: &mut S,
+    disk: &mut D,
+    facts: &[Fact],
+    once: &mut Reading,
+    again: &mut Reading,
+    format: Format,
+) -> Result<(), Failed>
+    requires blocks { D.block_count disk.old ≡ once.old.walker.limits.blocks }
+    requires same { again.old.walker.limits ≡ once.old.walker.limits }
+    requires same_first { again.old.walker.next ≡ once.old.walker.next }
+    requires start { Reads once.old.walker.next once.old [] }
+    requires start_again { Reads again.old.walker.next again.old [] }
+    ensures shown { OnOk result ((image : List OneFact) × (ShowsImage true once.old.walker.limits once.old.walker.next
+        (D.content disk.old) (D.faults disk.old) (D.faults disk.new) format image
+        × TakesAll (text_of (facts.now ++ image)) (S.taken sink.old) (S.taken sink.new))) }
+    ensures front { OnErr result ((image : List OneFact) × (ShowsImage false once.old.walker.limits once.old.walker.next
+        (D.content disk.old) (D.faults disk.old) (D.faults disk.new) format image
+        × TakesFront (text_of (facts.now ++ image)) (S.taken sink.old) (S.taken sink.new))) }
+    ensures cause { OnErr result (HasRisen (S.faults sink.old) (S.faults sink.new)) }
+    ensures counted { S.faults sink.old ≤ S.faults sink.new }
+    ensures content { D.content disk.new ≡ D.content disk.old }
+    ensures faults { D.faults disk.old ≤ D.faults disk.new }
+    ensures orders { D.orders disk.new ≡ D.orders disk.old }
+    ensures blocks { D.block_count disk.new ≡ D.block_count disk.old }
+{
+    print(sink, facts)?;
+    print_blocks(sink, disk, once)?;
+    print_frames(sink, disk, again, format)
+}

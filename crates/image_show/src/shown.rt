@@ -1,0 +1,8 @@
+/// What there was to show.
+#[derive(Clone, Copy, Debug, PartialEq, Eq)]
+pub enum Shown {
+    /// What is written in the header block, and what that leads to.
+    Area,
+    /// The file or the device has no such block, or it couldn't be read.
+    NoHeader,
+}

@@ -1,0 +1,8 @@
+//! A disk that tells somebody who waits how much of it was read and written.
+#![tactic(auto)]
+
+mod meter;
+mod progress_disk;
+
+pub use meter::Meter;
+pub use progress_disk::ProgressDisk;
