@@ -1,0 +1,133 @@
+-- What the lanes show, event by event.
+use Rattle.std.specs.Prelude.{ℕ, ◌+◌, ◌-◌, ◌==◌, List, [], ◌∷◌, Bool, true, false, nat_lt, if◌then◌else◌}
+use Rattle.plain_machine.specs.declared.event.Actor.TheVariants as actor
+use Rattle.plain_machine.specs.declared.event.Event.{Event}
+use Rattle.plain_machine.specs.declared.event.Event.TheVariants as event
+use Rattle.plain_machine.specs.declared.reply.Left.{Left}
+use Rattle.plain_machine.specs.declared.reply.Left.TheVariants.{Same, Gone, Unsure}
+use Rattle.plain_machine.specs.declared.reply.Reply.{Reply}
+use Rattle.run_picture.specs.Telling.{told_by}
+use Rattle.run_picture.specs.declared.lanes.Activity.{Activity}
+use Rattle.run_picture.specs.declared.lanes.Activity.TheVariants.{Nothing, Boots, Runs, Saves, Undoes, Undone, Settles, Wakes, Loads, Sleeps}
+use Rattle.run_picture.specs.declared.lanes.ImageShown.{ImageShown}
+use Rattle.run_picture.specs.declared.lanes.ImageShown.TheVariants.{NoImage, Image, Perhaps}
+use Rattle.run_picture.specs.declared.lanes.Lanes.{Lanes}
+use Rattle.run_picture.specs.declared.telling.Told.{Told}
+use Rattle.run_picture.specs.declared.telling.Told.TheVariants as told
+
+-- at first the machine is off, and no image is there
+abbrev pub first : Lanes
+first = record { column = 0; activity = Nothing; image = NoImage }
+
+abbrev pub is_core : Event → Bool
+is_core (event.Step actor.Core) = true
+is_core _ = false
+
+-- What the machine does behind an event: an operation begins where its first reply says so.
+abbrev pub begun : Activity → Activity → Told → Activity
+begun activity asked (told.More k n) = asked
+begun activity asked (told.Loading k) = asked
+begun activity asked _ = activity
+
+-- where an operation fails the machine does what it did before
+abbrev pub given_up : Activity → Activity
+given_up Nothing = Nothing
+given_up Boots = Nothing
+given_up Loads = Nothing
+given_up Wakes = Sleeps
+given_up Sleeps = Sleeps
+given_up _ = Runs
+
+abbrev pub stepped : Activity → Told → Activity
+stepped activity (told.More k n) = activity
+stepped activity (told.Loading k) = activity
+stepped activity told.Idle = activity
+stepped activity (told.Undo call k) = if k == 0 then Undoes else Undone
+stepped activity (told.Booted image) = Runs
+stepped activity told.Runs = Runs
+stepped activity told.Saved = Nothing
+stepped activity told.Slept = Sleeps
+stepped activity _ = given_up activity
+
+abbrev pub activity_after : Activity → Event → Told → Activity
+activity_after activity (event.Cut pick) t = Nothing
+activity_after activity (event.Step actor.Core) t = stepped activity t
+activity_after activity (event.Boot from) t = begun activity Boots t
+activity_after activity (event.Hibernate format) t = begun activity Saves t
+activity_after activity (event.Suspend format) t = begun activity Saves t
+activity_after activity event.Settle t = begun activity Settles t
+activity_after activity event.Wake t = begun activity Wakes t
+activity_after activity (event.Resume loader check) t = begun activity Loads t
+activity_after activity _ t = activity
+
+-- What is on the disk behind a step: what a failed call has left,
+abbrev pub left_by : ImageShown → Left → ImageShown
+left_by image Same = image
+left_by image Gone = NoImage
+left_by image Unsure = Perhaps
+
+-- what a header block is that is written and not synced, in front of an operation's last step,
+abbrev pub marked : Activity → ImageShown → ℕ → ImageShown
+marked Saves image steps = if steps == 1 then Perhaps else image
+marked Settles image steps = if steps == 1 then Perhaps else image
+marked Wakes image steps = if steps == 1 then Perhaps else image
+marked _ image steps = image
+
+-- what a resume finds, takes back, and has synced,
+abbrev pub loaded : ImageShown → ℕ → ImageShown
+loaded image k = if nat_lt k 2 then image else if k == 2 then Image else if k == 3 then Perhaps else NoImage
+
+-- and what is left of an image that a resume refuses.
+abbrev pub refused : Activity → ImageShown → ImageShown
+refused Loads image = NoImage
+refused _ image = image
+
+abbrev pub written : Activity → ImageShown → Told → ImageShown
+written activity image (told.Booted true) = Image
+written activity image (told.Booted false) = NoImage
+written activity image told.Saved = Image
+written activity image told.Slept = Image
+written activity image told.Compressed = Image
+written activity image told.Runs = NoImage
+written activity image told.NoImage = NoImage
+written activity image (told.Undo call k) = Perhaps
+written activity image (told.Fault call left) = left_by image left
+written activity image (told.More k n) = marked activity image (n - k)
+written activity image (told.Loading k) = loaded image k
+written activity image told.Other = refused activity image
+written activity image _ = image
+
+-- no other event writes an image: a cut leaves what was there, and what that is is told by the next boot or resume
+abbrev pub image_after : Activity → ImageShown → Event → Told → ImageShown
+image_after activity image e t = if is_core e then written activity image t else image
+
+abbrev pub after : Lanes → Event → Told → Lanes
+after lanes e t = record {
+  column = lanes.column + 1;
+  activity = activity_after lanes.activity e t;
+  image = image_after lanes.activity lanes.image e t;
+}
+
+-- Whether something else is done from this event on, so that it gets its name there.
+abbrev pub ends : Told → Bool
+ends (told.More k n) = false
+ends (told.Loading k) = false
+ends told.Idle = false
+ends (told.Undo call k) = k == 0
+ends _ = true
+
+abbrev pub is_accepted : Told → Bool
+is_accepted (told.More k n) = true
+is_accepted (told.Loading k) = true
+is_accepted _ = false
+
+abbrev pub begins : Event → Told → Bool
+begins (event.Step actor.Core) t = ends t
+begins (event.Step (actor.Task task)) t = false
+begins _ t = is_accepted t
+
+-- what the lanes show behind events with their replies
+abbrev pub lanes_behind : Lanes → List Event → List Reply → Lanes
+lanes_behind lanes [] replies = lanes
+lanes_behind lanes (e ∷ events) [] = lanes
+lanes_behind lanes (e ∷ events) (r ∷ replies) = lanes_behind (after lanes e (told_by r)) events replies
