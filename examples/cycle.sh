@@ -1,19 +1,34 @@
 #!/bin/sh
-# cycle.sh [SWSUSP]: saves a machine to a swap area and restores it, on real files, and sees that it is the same. The word is the program; without
-# it that which `rt run` or `rt ci` left, or else one that is built here without proving it, and where this is installed that on the path.
+# cycle.sh [SWSUSP SWSUSP_MACHINE]: saves a machine to a swap area and restores it, on real files, sees that it is the same, and draws a picture of
+# what happened. The words are the programs; without them those that `rt run` or `rt ci` left, or else ones that are built here without proving
+# them, and where this is installed those on the path.
 set -eu
 top=$(cd "$(dirname "$0")/.." && pwd)
-[ -d "$top/crates" ] || set -- "${1:-$(command -v swsusp)}"
-swsusp=${1:-$top/crates/swsusp/out/swsusp}
-if [ $# -eq 0 ] && [ ! -x "$swsusp" ]; then
-    swsusp=$top/out/unproved/swsusp
-    if [ ! -x "$swsusp" ] || [ -n "$(find "$top/crates" -name '*.rt' -newer "$swsusp" | head -n 1)" ]; then
-        echo "cycle.sh: building swsusp without proving it; that takes about a minute, on a busy machine some minutes" >&2
-        sh "$top/tools/unproved.sh" swsusp "$swsusp"
+picture=$top/out/cycle.svg
+[ -d "$top/crates" ] || { set -- "${1:-$(command -v swsusp)}" "${2:-$(command -v swsusp_machine)}"; picture=$PWD/cycle.svg; }
+
+# The place of the program $1, which is built where it isn't there or its sources are newer.
+place() {
+    at=$top/crates/$1/out/$1
+    if [ ! -x "$at" ]; then
+        at=$top/out/unproved/$1
+        if [ ! -x "$at" ] || [ -n "$(find "$top/crates" -name '*.rt' -newer "$at" | head -n 1)" ]; then
+            echo "cycle.sh: building $1 without proving it; that takes about a minute, on a busy machine some minutes" >&2
+            sh "$top/tools/unproved.sh" "$1" "$at"
+        fi
     fi
-fi
-[ -x "$swsusp" ] || { echo "cycle.sh: no program at ${swsusp:-any place of the path}" >&2; exit 1; }
+    echo "$at"
+}
+# Both are built at once.
+[ $# -ge 2 ] || place swsusp_machine > /dev/null &
+swsusp=${1:-$(place swsusp)}
+wait "$!"
+machine=${2:-$(place swsusp_machine)}
+for program in "$swsusp" "$machine"; do
+    [ -x "$program" ] || { echo "cycle.sh: no program at ${program:-any place of the path}" >&2; exit 1; }
+done
 swsusp=$(cd "$(dirname "$swsusp")" && pwd)/$(basename "$swsusp")
+machine=$(cd "$(dirname "$machine")" && pwd)/$(basename "$machine")
 room=$(mktemp -d)
 trap 'trap "" PIPE HUP INT TERM; rm -rf "$room"' EXIT
 trap 'exit 1' PIPE HUP INT TERM
@@ -42,3 +57,11 @@ if swsusp resume area.img < loader.dump 2>&1; then
     echo "cycle.sh: an image was resumed twice" >&2
     exit 1
 fi
+
+# The same machine once more, step by step, as a script: 12 steps save its 5 page frames, as many bring them back, and a second resume finds none.
+mkdir -p "$(dirname "$picture")"
+{
+    cat "$top/examples/story.txt"
+    printf '%s\n' hibernate 'steps core 12' resume 'steps core 12' 'show 3 10 0' 'cut 0' resume 'steps core 2'
+} | "$machine" draw > "$picture"
+echo "a picture of what happened, step by step: $picture"

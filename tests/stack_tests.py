@@ -43,6 +43,7 @@ def test_each_command_runs_in_256_kib():
     within("swsusp", "drill", 10)
     within("swsusp_machine", "loader", stdin=saved)
     within("swsusp_machine", "show", stdin=saved)
+    within("swsusp_machine", "draw", stdin=SCRIPT)
     within("swsusp_machine", "make", stdin=b"boot\nstep core\nstep core\n")
     within("swsusp_machine", "--help")
     within("swsusp_image", "--help")

@@ -182,6 +182,7 @@ each "replay" io 0 empty script "$program" replay
 each "drill" o 0 empty nothing "$program" drill 1
 each "export" io 0 empty saved "$program" export
 each "make" io 0 empty story "$machine" make
+each "draw" io 0 empty story "$machine" draw
 each "loader" io 0 empty saved "$machine" loader
 each "show" io 0 empty saved "$machine" show
 each "differ, the same" o 0 empty nothing "$machine" differ "$room/dump" "$room/dump"
@@ -228,6 +229,7 @@ same "resume --any-kernel on a terminal" "4|sink fault||kept" "$(shown loader "$
 same "resume of no such file on a terminal" "4|sink fault||kept" "$(shown loader "$program" resume "$room/none")"
 same "export on a terminal" "4|sink fault||kept" "$(shown saved "$program" export)"
 same "make on a terminal" "4|sink fault||kept" "$(shown story "$machine" make)"
+same "draw on a terminal" "4|sink fault||kept" "$(shown story "$machine" draw)"
 same "loader on a terminal" "4|sink fault||kept" "$(shown saved "$machine" loader)"
 same "show on a terminal" "0||slots 1600|kept" "$(shown saved "$machine" show)"
 same "check on a terminal" "0||resumed 5|kept" "$(shown loader "$machine" check "$room/disk")"

@@ -1,3 +1,4 @@
 pub mod Ending
 pub mod Foretold
+pub mod Pictures
 pub mod Unread

@@ -3,12 +3,14 @@
 
 mod checking;
 mod differing;
+mod drawing;
 mod loading;
 mod making;
 mod showing;
 
 pub use checking::check;
 pub use differing::differ;
+pub use drawing::draw;
 pub use loading::loader;
 pub use making::make;
 pub use showing::show_facts;

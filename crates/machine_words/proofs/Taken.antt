@@ -6,7 +6,7 @@ use Rattle.swsusp_words.proofs.Values.{IsValue, path_value}
 use Rattle.machine_words.specs.App.{machine_app}
 use Rattle.machine_words.specs.Matched.{asked_in}
 use Rattle.machine_words.specs.Spelled.{IsSpelled, IsValid}
-use Rattle.machine_words.specs.Words.{Asked, make, loader, show, differ, check, command_of}
+use Rattle.machine_words.specs.Words.{Asked, make, draw, loader, show, differ, check, command_of}
 use Rattle.machine_words.proofs.Forms.{spells}
 
 -- clap takes the words, and its matches ask for this
@@ -18,6 +18,10 @@ module _ (name : Text) where
   makes : Asks (name ∷ codes "make" ∷ []) make
   unfolding clap_on_literals
   makes = record { taken = refl; matched = refl }
+
+  draws : Asks (name ∷ codes "draw" ∷ []) draw
+  unfolding clap_on_literals
+  draws = record { taken = refl; matched = refl }
 
   loads : Asks (name ∷ codes "loader" ∷ []) loader
   unfolding clap_on_literals
@@ -56,6 +60,7 @@ of_same words known asked name e h = subst (λ (w : List Text). Asks (name ∷ w
 
 taken : (name : Text) (words : List Text) (asked : Asked) → IsValid asked → IsSpelled asked words → Asks (name ∷ words) asked
 taken name words make valid spelled = of_same words _ _ name spelled (makes name)
+taken name words draw valid spelled = of_same words _ _ name spelled (draws name)
 taken name words loader valid spelled = of_same words _ _ name spelled (loads name)
 taken name words show valid spelled = of_same words _ _ name spelled (shows name)
 taken name words (differ first second) valid spelled =

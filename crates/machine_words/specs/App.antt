@@ -6,6 +6,9 @@ use Rattle.clap.specs.Simple.{on_top}
 abbrev pub make_app : App
 make_app = new_app (codes "make")
 
+abbrev pub draw_app : App
+draw_app = new_app (codes "draw")
+
 abbrev pub loader_app : App
 loader_app = new_app (codes "loader")
 
@@ -36,5 +39,7 @@ program_app = on_top (λ top. record top { has_version = true; subcommand_requir
 abbrev pub machine_app : App
 machine_app =
     with_subcommand
-    (with_subcommand (with_subcommand (with_subcommand (with_subcommand program_app make_app.top) loader_app.top) show_app.top) differ_app.top)
+    (with_subcommand
+    (with_subcommand (with_subcommand (with_subcommand (with_subcommand program_app make_app.top) draw_app.top) loader_app.top) show_app.top)
+    differ_app.top)
     check_app.top

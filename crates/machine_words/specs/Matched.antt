@@ -4,7 +4,7 @@ use Rattle.std.specs.Str.{bytes_eq}
 use Rattle.clap.specs.Words.{Row, Text, first_of}
 use Rattle.machine_words.specs.Asked.{asked_by}
 use Rattle.machine_words.specs.declared.command.Command.{Command}
-use Rattle.machine_words.specs.Words.{Asked, make, loader, show, differ, check}
+use Rattle.machine_words.specs.Words.{Asked, make, draw, loader, show, differ, check}
 
 abbrev pub differ_in : List Row → Option Asked
 differ_in rows = option_and_then (λ first. option_map (λ second. differ first second) (first_of (codes "second") rows)) (first_of (codes "first") rows)
@@ -16,6 +16,7 @@ check_in rows = option_map (λ swap. check swap) (first_of (codes "swap") rows)
 abbrev pub matched_by : Text → List Row → Option Asked
 matched_by name rows =
     if bytes_eq name (codes "make") then Some make
+    else if bytes_eq name (codes "draw") then Some draw
     else if bytes_eq name (codes "loader") then Some loader
     else if bytes_eq name (codes "show") then Some show
     else if bytes_eq name (codes "differ") then differ_in rows

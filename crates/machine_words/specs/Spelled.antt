@@ -1,11 +1,12 @@
 -- Which words a command is spelled by.
 use Rattle.std.specs.Prelude.{◌≡◌, ℕ, true, List, [], ◌∷◌, codes, ⊤}
 use Rattle.swsusp_words.specs.Words.{is_path}
-use Rattle.machine_words.specs.Words.{Asked, make, loader, show, differ, check}
+use Rattle.machine_words.specs.Words.{Asked, make, draw, loader, show, differ, check}
 
 -- the values that a command can have
 abbrev pub IsValid : Asked → Type 0
 IsValid make = ⊤
+IsValid draw = ⊤
 IsValid loader = ⊤
 IsValid show = ⊤
 IsValid (differ first second) = (is_path first ≡ true) × (is_path second ≡ true)
@@ -14,6 +15,7 @@ IsValid (check swap) = is_path swap ≡ true
 -- the words after the program's name are this command's
 abbrev pub IsSpelled : Asked → List (List ℕ) → Type 0
 IsSpelled make words = words ≡ codes "make" ∷ []
+IsSpelled draw words = words ≡ codes "draw" ∷ []
 IsSpelled loader words = words ≡ codes "loader" ∷ []
 IsSpelled show words = words ≡ codes "show" ∷ []
 IsSpelled (differ first second) words = words ≡ codes "differ" ∷ first ∷ second ∷ []

@@ -6,6 +6,7 @@ use Rattle.swsusp_words.specs.Words.{is_path}
 -- what a list of words asks for, with its values
 pub data Asked : Type 0 where
   make : Asked
+  draw : Asked
   loader : Asked
   show : Asked
   differ : (first second : List ℕ) → Asked
@@ -33,6 +34,7 @@ check_of (swap ∷ more ∷ words) = None
 abbrev pub command_by : List ℕ → List (List ℕ) → Option Asked
 command_by command words =
     if pointwise nat_eq command (codes "make") then alone make words
+    else if pointwise nat_eq command (codes "draw") then alone draw words
     else if pointwise nat_eq command (codes "loader") then alone loader words
     else if pointwise nat_eq command (codes "show") then alone show words
     else if pointwise nat_eq command (codes "differ") then differ_of words

@@ -8,6 +8,8 @@ use std::alloc::Global;
 pub enum Command<'a> {
     /// Plays a script, and writes the memory of the machine that runs at its end as a dump.
     Make,
+    /// Plays a script, and writes a picture of what happens.
+    Draw,
     /// Writes the dump of a machine when it has just booted.
     Loader,
     /// Prints what a dump says of its machine.

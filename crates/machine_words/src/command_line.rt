@@ -1,7 +1,7 @@
 ghost use Rattle.std.specs.Prelude.{IfOk};
 ghost use Rattle.clap.specs.Words.{new_app};
 ghost use Rattle.swsusp_words.specs.App.{IsApp};
-ghost use Rattle.machine_words.specs.App.{check_app, differ_app, loader_app, machine_app, make_app, show_app};
+ghost use Rattle.machine_words.specs.App.{check_app, differ_app, draw_app, loader_app, machine_app, make_app, show_app};
 
 use crate::details;
 use clap::{Arg, Command};
@@ -20,6 +20,7 @@ pub(crate) fn command_line<'a>(alloc: Global) -> Result<Command<'a>, AllocError>
     .version("0.2.0")
     .subcommand_required(true)
     .subcommand(making(alloc))?
+    .subcommand(drawing(alloc))?
     .subcommand(loading(alloc))?
     .subcommand(showing(alloc))?
     .subcommand(comparison(alloc)?)?
@@ -41,6 +42,17 @@ fn making<'a>(alloc: Global) -> Command<'a>
         "make",
         "Plays a script, and writes the memory of the machine that runs at its end as a dump",
         details::MAKE,
+    )
+}
+
+fn drawing<'a>(alloc: Global) -> Command<'a>
+    ensures { IsApp draw_app result }
+{
+    named(
+        alloc,
+        "draw",
+        "Plays a script, and writes a picture of what happens, event by event",
+        details::DRAW,
     )
 }
 

@@ -12,6 +12,12 @@ at the end it notes `no machine runs`, status 1.
 
 Example: swsusp_machine make < story.txt > saved.dump";
 
+pub(crate) const DRAW: &str =
+    "It reads the script from standard input, and writes the picture, an SVG, to standard output. It shows
+what power, memory and disk do at each event: each page that is written, each sync, the mark, and a cut.
+
+Example: swsusp_machine draw < cut.txt > cut.svg";
+
 pub(crate) const LOADER: &str =
     "It reads a dump from standard input, and writes one to standard output: a loader, into which an image
 can be resumed.

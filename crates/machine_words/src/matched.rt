@@ -12,6 +12,7 @@ pub(crate) fn matched<'a>(matches: &ArgMatches<'a>) -> Option<Command<'a>>
     let (name, values) = matches.subcommand()?;
     match name {
         "make" => Some(Command::Make),
+        "draw" => Some(Command::Draw),
         "loader" => Some(Command::Loader),
         "show" => Some(Command::Show),
         "differ" => comparison(values),

@@ -39,6 +39,7 @@ fn spells(command: &Command<'_>, words: &[String]) -> bool
 {
     match *command {
         Command::Make => equal(words, &["make"]),
+        Command::Draw => equal(words, &["draw"]),
         Command::Loader => equal(words, &["loader"]),
         Command::Show => equal(words, &["show"]),
         Command::Differ { first, second } => {

@@ -26,7 +26,7 @@ boot_call (told.Fault failing.Sync left) = Fails Sync
 boot_call (told.Fault failing.Read left) = Fails Header
 boot_call _ = NoCall
 
--- A hibernation writes its pages and maps. The last four steps sync, read the header block, write the mark, and sync again.
+-- A hibernation writes its pages and maps. The last four steps sync, read the header block, write the mark, and sync.
 abbrev pub save_step : ℕ → Call
 save_step left = if left == 1 then Mark else if left == 2 then Header else if left == 3 then Sync else Write
 

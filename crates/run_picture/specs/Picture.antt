@@ -1,5 +1,5 @@
--- The picture of a run, as the text of an SVG: a head, a column for each event, and a foot. It is drawn from the events and their
--- replies alone.
+-- The picture of a run, as the text of an SVG: a head, a column for each event, and a foot. It is drawn from the events and
+-- their replies alone.
 use Rattle.std.specs.Prelude.{ℕ, Bool, ◌+◌, ◌*◌, List, [], ◌∷◌, ◌++◌, codes, decimal, length, nat_lt, if◌then◌else◌}
 use Rattle.plain_machine.specs.Replies.{line_of}
 use Rattle.plain_machine.specs.declared.event.Actor.TheVariants as actor
@@ -97,7 +97,8 @@ cut_text _ = []
 -- the words over the lanes, which steps of the core go without
 abbrev pub words_label : List ℕ → List ℕ
 words_label words =
-    use_text [] (codes "event") ++ codes "<text transform='translate(12 146)rotate(-90)'>" ++ escaped words ++ codes "</text>\n"
+    use_text [] (codes "event") ++ codes "<text transform='translate(12 146)rotate(-90)'>" ++ escaped words
+    ++ codes "</text>\n"
 
 abbrev pub above_of : Event → (words : List ℕ) → List ℕ
 above_of e words = if is_core e then [] else words_label words
@@ -112,7 +113,8 @@ reply_class _ = codes "reply"
 
 abbrev pub reply_label : (name line : List ℕ) → List ℕ
 reply_label name line =
-    codes "<text class='" ++ name ++ codes "' transform='translate(5 290)rotate(90)'>" ++ escaped line ++ codes "</text>\n"
+    codes "<text class='" ++ name ++ codes "' transform='translate(5 290)rotate(90)'>" ++ escaped line
+    ++ codes "</text>\n"
 
 abbrev pub below_of : Told → (line : List ℕ) → List ℕ
 below_of t line = reply_label (reply_class t) line
@@ -130,7 +132,8 @@ shown_text lanes e t = shown_by lanes.image (after lanes e t) (begins e t) (call
 
 unfoldable pub column_by : ℕ → Lanes → Event → Told → (words line : List ℕ) → List ℕ
 column_by place lanes e t words line =
-    open_text place ++ title_of words line ++ shown_text lanes e t ++ above_of e words ++ below_of t line ++ codes "</g>\n"
+    open_text place ++ title_of words line ++ shown_text lanes e t ++ above_of e words ++ below_of t line
+    ++ codes "</g>\n"
 
 abbrev pub column : Lanes → Event → Reply → List ℕ
 column lanes e r = column_by (72 + 16 * lanes.column) lanes e (told_by r) (event_words e) (line_of r)

@@ -49,21 +49,21 @@ pub(crate) const LANES: &[u8] = b"<style>
 pub(crate) const LEGEND: &[u8] = b"<path fill='#fff' d='M0 0h720v58h-720z'/>
 <text class='lane' x='6' y='15'>power</text>
 <use href='#power-on' x='72' y='-164'/><text x='92' y='15'>on</text>
-<use href='#power-asleep' x='118' y='-165'/><text x='138' y='15'>asleep</text>
-<use href='#power-off' x='184' y='-169'/><text x='204' y='15'>off</text>
-<use href='#cut' transform='translate(232 -22)scale(1 .15)'/><text x='252' y='15'>cut</text>
-<text class='lane' x='300' y='15'>memory</text>
-<use href='#memory-boots' transform='translate(354 -133)scale(1 .67)'/><text x='374' y='15'>boots</text>
-<use href='#memory-runs' transform='translate(414 -133)scale(1 .67)'/><text x='434' y='15'>runs</text>
-<use href='#memory-saves' transform='translate(468 -133)scale(1 .67)'/><text x='488' y='15'>is saved</text>
-<use href='#memory-loads' transform='translate(544 -133)scale(1 .67)'/><text x='564' y='15'>is loaded</text>
-<use href='#memory-sleeps' transform='translate(624 -133)scale(1 .67)'/><text x='644' y='15'>sleeps</text>
-<text class='lane' x='6' y='34'>disk</text>
-<use href='#disk-none' x='72' y='-250'/><text x='92' y='34'>no image</text>
-<use href='#disk-perhaps' transform='translate(156 -69)scale(1 .38)'/><text x='176' y='34'>perhaps an image</text>
-<use href='#disk-image' transform='translate(284 -69)scale(1 .38)'/><text x='304' y='34'>image</text>
-<use href='#memory-undoes' transform='translate(354 -114)scale(1 .67)'/><text x='374' y='34'>the mark is taken back, and the machine goes on</text>
-<text class='lane' x='6' y='53'>its calls</text>
+<use href='#power-asleep' x='120' y='-165'/><text x='140' y='15'>asleep</text>
+<use href='#power-off' x='188' y='-169'/><text x='208' y='15'>off</text>
+<use href='#cut' transform='translate(236 -17)scale(1 .12)'/><text x='256' y='15'>power cut</text>
+<text class='lane' x='330' y='15'>disk</text>
+<use href='#disk-none' x='364' y='-269'/><text x='384' y='15'>no image</text>
+<use href='#disk-perhaps' transform='translate(446 -83)scale(1 .36)'/><text x='466' y='15'>perhaps an image</text>
+<use href='#disk-image' transform='translate(576 -83)scale(1 .36)'/><text x='596' y='15'>image</text>
+<text class='lane' x='6' y='34'>memory</text>
+<use href='#memory-boots' transform='translate(72 -112)scale(1 .67)'/><text x='92' y='34'>boots</text>
+<use href='#memory-runs' transform='translate(134 -112)scale(1 .67)'/><text x='154' y='34'>runs</text>
+<use href='#memory-saves' transform='translate(190 -112)scale(1 .67)'/><text x='210' y='34'>is saved</text>
+<use href='#memory-loads' transform='translate(268 -112)scale(1 .67)'/><text x='288' y='34'>is loaded</text>
+<use href='#memory-undoes' transform='translate(350 -112)scale(1 .67)'/><text x='370' y='34'>a mark is taken back, and it runs on</text>
+<use href='#memory-sleeps' transform='translate(576 -118)scale(1 .67)'/><text x='596' y='34'>sleeps</text>
+<text class='lane' x='6' y='53'>disk calls</text>
 <use href='#write' x='72' y='-213'/><text x='92' y='53'>page written</text>
 <use href='#read' x='168' y='-213'/><text x='188' y='53'>page read</text>
 <use href='#header' x='250' y='-213'/><text x='270' y='53'>header read</text>

@@ -4,7 +4,7 @@
 use byte_streams::{StdSink, StdSource};
 use command_kit::{Status, print, tell};
 use file_disk::{FileDisk, first_map_beyond};
-use machine_cli::{check, differ, loader, make, show_facts};
+use machine_cli::{check, differ, draw, loader, make, show_facts};
 use machine_words::{Command, Unparsed};
 use page_core::NoMemory;
 use sector_disk::MemDisk;
@@ -30,8 +30,10 @@ fn main(rt: HostRuntime) -> ExitCode {
         return no_memory(&rt);
     };
     match Command::parse(rt.alloc(), &words) {
-        Ok(Command::Make | Command::Loader) if rt.stdout().is_terminal() => sink_fault(&rt),
+        Ok(Command::Make | Command::Draw | Command::Loader) if rt.stdout().is_terminal() =>
+            sink_fault(&rt),
         Ok(Command::Make) => make_over_memory(&rt),
+        Ok(Command::Draw) => draw_over_memory(&rt),
         Ok(Command::Loader) => make_loader(&rt),
         Ok(Command::Show) => show_dump(&rt),
         Ok(Command::Differ { first, second }) => differ_files(&rt, first, second),
@@ -52,6 +54,20 @@ fn make_over_memory(rt: &HostRuntime) -> ExitCode {
     let mut out = StdSink::new(rt.stdout());
     let mut note = StdSink::new(rt.stderr());
     let status = make(rt.alloc(), &mut input, &mut out, &mut note, &mut disk);
+    finished(rt, status)
+}
+
+/// Draws the run of a script over a disk in memory.
+#[inline(never)]
+fn draw_over_memory(rt: &HostRuntime) -> ExitCode {
+    let mut disk = match MemDisk::create(rt.alloc(), MEMORY_BLOCKS) {
+        Ok(disk) => disk,
+        Err(NoMemory) => return no_memory(rt),
+    };
+    let mut input = StdSource::new(rt.stdin());
+    let mut out = StdSink::new(rt.stdout());
+    let mut note = StdSink::new(rt.stderr());
+    let status = draw(rt.alloc(), &mut input, &mut out, &mut note, &mut disk);
     finished(rt, status)
 }
 

@@ -1,0 +1,60 @@
+-- From events whose columns were drawn to what is told of a picture.
+use Rattle.std.proofs.Common.{◌≡◌, ◌⊎◌, inl, inr, ◌≤◌, ℕ, List, length, take, sym, subst, arith}
+use Rattle.std.proofs.lemmas.List.{take_all}
+use Rattle.definitions.specs.Streams.{TakesAll, TakesFront}
+use Rattle.plain_machine.specs.declared.event.Event.{Event}
+use Rattle.plain_machine.specs.declared.reply.Reply.{Reply}
+use Rattle.byte_streams.proofs.Taken.{TakesFront-all}
+use Rattle.script.specs.Grammar.{ScriptValue}
+use Rattle.run_picture.specs.Picture.{picture, pictured}
+use Rattle.command_kit.specs.Answer.{done}
+use Rattle.command_kit.specs.Told.{AreFronts, IsTold, IsTried, sink_note}
+use Rattle.command_kit.specs.View.{SinkView, View}
+use Rattle.command_kit.specs.declared.status.Status.{Status}
+use Rattle.swsusp_cli.specs.Formatting.{LieBelow}
+use Rattle.swsusp_cli.specs.Outcome.{IsScript, Tells}
+use Rattle.swsusp_cli.specs.Replay.{AreReplies}
+use Rattle.swsusp_cli.specs.SettingUp.{IsNotSetUp, unready_told}
+use Rattle.swsusp_cli.specs.declared.setting_up.Unready.{Unready}
+use Rattle.swsusp_cli.specs.declared.setting_up.Unready.TheVariants.{Small, Unformatted as NotFormatted}
+use Rattle.swsusp_cli.proofs.Prints.{fails_early, printed_then, whole_still}
+use Rattle.swsusp_cli.proofs.Replays.{not_formatted, small_disk}
+use Rattle.machine_cli.specs.Drawn.{IsDrawn, cut_off, drawn, too_small, unformatted}
+
+-- A script whose machine isn't set up, as it is told.
+pub not_drawn : (x x' : View) (status : Status) (script : ScriptValue) (why : Unready) → IsScript x x' script → IsNotSetUp script x.disk x'.disk why → Tells (unready_told why) status x x' → IsDrawn x x' status
+not_drawn x x' status script (Small blocks need) is few told = too_small script is (small_disk x x' status script blocks need few told)
+not_drawn x x' status script (NotFormatted call) is fails told = unformatted script call is (not_formatted x x' status script call fails told)
+
+-- All events were played and the picture is whole, and the ends of the texts are printed, or a sink fails there.
+pub drawn_whole : (x x' : View) (status : Status) (script : ScriptValue) (mid : SinkView) (replies : List Reply) → IsScript x x' script → LieBelow script.hardware x.disk.blocks → AreReplies x.disk x'.disk script script.events replies →
+    TakesAll (picture script.events replies) x.out.taken mid.taken → IsTold done status mid x'.out x.note x'.note → IsDrawn x x' status
+drawn_whole x x' status script mid replies script_is roomy are taken (inl whole) = drawn script (record {
+  script_is = script_is;
+  roomy = roomy;
+  status_is = whole.status_is;
+  draws = (replies, are, printed_then (picture script.events replies) x.out mid x'.out taken whole.out_whole);
+  note = whole.note_whole;
+})
+drawn_whole x x' status script mid replies script_is roomy are taken (inr short) = by_sink short.fronts where
+  all : take (length script.events) script.events ≡ script.events
+  all = take_all (length script.events) script.events (omega arith)
+
+  ended : TakesAll (picture script.events replies) x.out.taken x'.out.taken → IsTried sink_note x.note x'.note → IsDrawn x x' status
+  ended whole note = cut_off script (record {
+    script_is = script_is;
+    roomy = roomy;
+    status_is = short.status_is;
+    draws = (
+      length script.events,
+      replies,
+      subst (λ (events : List Event). AreReplies x.disk x'.disk script events replies) (sym all) are,
+      subst (λ (events : List Event). TakesFront (pictured (length script.events) events replies) x.out.taken x'.out.taken) (sym all)
+          (TakesFront-all (picture script.events replies) x.out.taken x'.out.taken whole),
+    );
+    note = note;
+  })
+
+  by_sink : AreFronts done mid x'.out x.note x'.note → IsDrawn x x' status
+  by_sink (inl out) = ended (whole_still (picture script.events replies) x.out mid x'.out taken out.0) out.1
+  by_sink (inr note) = ended ((printed_then (picture script.events replies) x.out mid x'.out taken note.0).whole) (inr (fails_early sink_note x.note x'.note note.1))

@@ -1,0 +1,86 @@
+use Rattle.std.proofs.Common.{inl, inr, List, None, refl, subst, take}
+use Rattle.plain_machine.specs.Machine.{Hardware}
+use Rattle.plain_machine.specs.declared.event.Event.{Event}
+use Rattle.world_core.specs.StandsFor.{IsNew}
+use Rattle.command_kit.specs.Answer.{RunResult}
+use Rattle.machine_cli.specs.Drawn.{cut_off, no_script, out_of_memory, unread}
+use Rattle.swsusp_cli.specs.Playing.{HasPlayed}
+use Rattle.command_kit.specs.Told.{IsTold}
+use Rattle.command_kit.specs.View.{DiskView, SinkView}
+use Rattle.swsusp_cli.proofs.Replays.{replies_of, risen_of, told_status}
+use Rattle.machine_cli.proofs.Pictures.{drawn_whole, not_drawn}
+use Rattle.swsusp_cli.proofs.Inputs.{without_script}
+use Rattle.swsusp_cli.proofs.Turns.{risen_earlier}
+use Rattle.machine_cli.proofs.drawing.draw.Goals as goal
+
+pub returns-in-Err-clause-outcome : goal.returns-in-Err-clause-outcome
+returns-in-Err-clause-outcome g c = without_script _ _ _ c.tell.result c.in-Err.stop c.in-Err.ensures.ready c.tell.ensures.told refl no_script out_of_memory unread
+
+pub returns-in-Err-create-clause-outcome : goal.returns-in-Err-create-clause-outcome
+returns-in-Err-create-clause-outcome g c =
+    let tell = c.tell-in-Err-create in
+    let out : SinkView = record { taken = g.O.Sink.taken c.args.out.now; flushed = g.O.Sink.flushed c.args.out.now; faults = g.O.Sink.faults c.args.out.now } in
+    let note : SinkView = record { taken = g.N.Sink.taken c.args.note.now; flushed = g.N.Sink.flushed c.args.note.now; faults = g.N.Sink.faults c.args.note.now } in
+    let before : DiskView = record { blocks = g.D.Disk.block_count c.args.disk.now; content = g.D.Disk.content c.args.disk.now; faults = g.D.Disk.faults c.args.disk.now; calls = g.D.Disk.calls c.args.disk.now; orders = g.D.Disk.orders c.args.disk.now } in
+    out_of_memory (record {
+      told = subst (λ (t : RunResult). IsTold t tell.result out (record { taken = g.O.Sink.taken tell.new.out; flushed = g.O.Sink.flushed tell.new.out; faults = g.O.Sink.faults tell.new.out }) note (record { taken = g.N.Sink.taken tell.new.note; flushed = g.N.Sink.flushed tell.new.note; faults = g.N.Sink.faults tell.new.note })) c.no_memory.ensures.told tell.ensures.told;
+      untouched = refl {a = before};
+    })
+
+pub returns-in-Err-set_up-clause-outcome : goal.returns-in-Err-set_up-clause-outcome
+returns-in-Err-set_up-clause-outcome g c =
+    let tell = c.tell-in-Err-set_up in
+    let out : SinkView = record { taken = g.O.Sink.taken c.args.out.now; flushed = g.O.Sink.flushed c.args.out.now; faults = g.O.Sink.faults c.args.out.now } in
+    let note : SinkView = record { taken = g.N.Sink.taken c.args.note.now; flushed = g.N.Sink.flushed c.args.note.now; faults = g.N.Sink.faults c.args.note.now } in
+    not_drawn _ _ tell.result c.in-Ok.script c.in-Err-set_up.why (record { says = c.in-Ok.ensures.ready.0; over = c.in-Ok.ensures.ready.1; few = c.in-Ok.ensures.few }) c.in-Err-set_up.ensures.outcome
+    (subst (λ (t : RunResult). IsTold t tell.result out (record { taken = g.O.Sink.taken tell.new.out; flushed = g.O.Sink.flushed tell.new.out; faults = g.O.Sink.faults tell.new.out }) note (record { taken = g.N.Sink.taken tell.new.note; flushed = g.N.Sink.flushed tell.new.note; faults = g.N.Sink.faults tell.new.note })) c.answer.ensures.told tell.ensures.told)
+
+pub returns-in-Ok-draw_run-clause-outcome : goal.returns-in-Ok-draw_run-clause-outcome
+returns-in-Ok-draw_run-clause-outcome g c =
+    let tell = c.tell-in-Ok-draw_run in
+    let out : SinkView = record { taken = g.O.Sink.taken c.draw_run.new.out; flushed = g.O.Sink.flushed c.draw_run.new.out; faults = g.O.Sink.faults c.draw_run.new.out } in
+    let note : SinkView = record { taken = g.N.Sink.taken c.args.note.now; flushed = g.N.Sink.flushed c.args.note.now; faults = g.N.Sink.faults c.args.note.now } in
+    let script = c.in-Ok.script in
+    let set = c.in-Ok-set_up.ensures.outcome in
+    let new = subst (λ (h : Hardware). IsNew h None c.in-Ok-create.world) c.hardware.ensures c.in-Ok-create.ensures in
+    let before : DiskView = record { blocks = g.D.Disk.block_count c.args.disk.now; content = g.D.Disk.content c.args.disk.now; faults = g.D.Disk.faults c.args.disk.now; calls = g.D.Disk.calls c.args.disk.now; orders = g.D.Disk.orders c.args.disk.now } in
+    let between : DiskView = record { blocks = g.D.Disk.block_count c.set_up.new.disk; content = g.D.Disk.content c.set_up.new.disk; faults = g.D.Disk.faults c.set_up.new.disk; calls = g.D.Disk.calls c.set_up.new.disk; orders = g.D.Disk.orders c.set_up.new.disk } in
+    let now : DiskView = record { blocks = g.D.Disk.block_count c.draw_run.new.disk; content = g.D.Disk.content c.draw_run.new.disk; faults = g.D.Disk.faults c.draw_run.new.disk; calls = g.D.Disk.calls c.draw_run.new.disk; orders = g.D.Disk.orders c.draw_run.new.disk } in
+    let rs = c.in-Ok-draw_run.ensures.drawn.0 in
+    let was = subst (λ (events : List Event). HasPlayed c.in-Ok-create.world c.draw_run.new.world events rs between now) c.events.ensures c.in-Ok-draw_run.ensures.drawn.1 in
+    let replies = replies_of script c.in-Ok-create.world c.draw_run.new.world script.events rs before between now
+    (g.met.D.Disk.well_formed c.args.disk.now) (g.met.D.Disk.well_formed c.set_up.new.disk) (g.met.D.Disk.well_formed c.draw_run.new.disk) set new c.in-Ok.ensures.few_bad was c.draw_run.ensures.hardware c.draw_run.ensures.blocks in
+    drawn_whole _ _ tell.result script out rs (record { says = c.in-Ok.ensures.ready.0; over = c.in-Ok.ensures.ready.1; few = c.in-Ok.ensures.few }) set.roomy replies c.in-Ok-draw_run.ensures.drawn.2
+    tell.ensures.told
+
+pub returns-clause-outcome : goal.returns-clause-outcome
+returns-clause-outcome g c =
+    let script = c.in-Ok.script in
+    let set = c.in-Ok-set_up.ensures.outcome in
+    let new = subst (λ (h : Hardware). IsNew h None c.in-Ok-create.world) c.hardware.ensures c.in-Ok-create.ensures in
+    let before : DiskView = record { blocks = g.D.Disk.block_count c.args.disk.now; content = g.D.Disk.content c.args.disk.now; faults = g.D.Disk.faults c.args.disk.now; calls = g.D.Disk.calls c.args.disk.now; orders = g.D.Disk.orders c.args.disk.now } in
+    let between : DiskView = record { blocks = g.D.Disk.block_count c.set_up.new.disk; content = g.D.Disk.content c.set_up.new.disk; faults = g.D.Disk.faults c.set_up.new.disk; calls = g.D.Disk.calls c.set_up.new.disk; orders = g.D.Disk.orders c.set_up.new.disk } in
+    let now : DiskView = record { blocks = g.D.Disk.block_count c.draw_run.new.disk; content = g.D.Disk.content c.draw_run.new.disk; faults = g.D.Disk.faults c.draw_run.new.disk; calls = g.D.Disk.calls c.draw_run.new.disk; orders = g.D.Disk.orders c.draw_run.new.disk } in
+    let k = c.in-Err-draw_run.ensures.drawn.0 in
+    let rs = c.in-Err-draw_run.ensures.drawn.1 in
+    let was = subst (λ (events : List Event). HasPlayed c.in-Ok-create.world c.draw_run.new.world (take k events) rs between now) c.events.ensures c.in-Err-draw_run.ensures.drawn.2 in
+    let replies = replies_of script c.in-Ok-create.world c.draw_run.new.world (take k script.events) rs before between now
+    (g.met.D.Disk.well_formed c.args.disk.now) (g.met.D.Disk.well_formed c.set_up.new.disk) (g.met.D.Disk.well_formed c.draw_run.new.disk) set new c.in-Ok.ensures.few_bad was c.draw_run.ensures.hardware c.draw_run.ensures.blocks in
+    cut_off script (record {
+      script_is = record { says = c.in-Ok.ensures.ready.0; over = c.in-Ok.ensures.ready.1; few = c.in-Ok.ensures.few };
+      roomy = set.roomy;
+      status_is = c.cut_off.ensures.status;
+      draws = (k, rs, replies, c.in-Err-draw_run.ensures.drawn.3);
+      note = c.cut_off.ensures.note;
+    })
+
+pub returns-in-Ok-draw_run-clause-stream : goal.returns-in-Ok-draw_run-clause-stream
+returns-in-Ok-draw_run-clause-stream g c = λ stream. inr (elim (c.tell-in-Ok-draw_run.ensures.stream stream) [ inl out ↦ inl (risen_earlier _ _ _ c.draw_run.ensures.stream_faults out) | inr note ↦ inr note ])
+
+pub returns-clause-stream : goal.returns-clause-stream
+returns-clause-stream g c = λ stream. inr (inl c.in-Err-draw_run.ensures.stream)
+
+pub returns-in-Err-set_up-clause-device : goal.returns-in-Err-set_up-clause-device
+returns-in-Err-set_up-clause-device g c = λ device.
+    risen_of c.in-Ok.script _ _ c.in-Err-set_up.why c.in-Err-set_up.ensures.outcome
+    (c.answer.ensures.device (told_status c.tell-in-Err-set_up.result c.answer.result.status c.tell-in-Err-set_up.ensures.status device))

@@ -1,0 +1,53 @@
+-- How `draw` may end: a script is played as in a replay, and out takes the picture of what happened in place of the replies.
+use Rattle.std.specs.Prelude.{◌≡◌, ℕ, List, [], length, take}
+use Rattle.definitions.specs.Streams.{TakesFront}
+use Rattle.plain_machine.specs.declared.reply.Reply.{Reply}
+use Rattle.script.specs.Grammar.{ScriptValue}
+use Rattle.script.specs.declared.fault.ScriptFault.{ScriptFault}
+use Rattle.run_picture.specs.Picture.{picture, pictured}
+use Rattle.swsusp_cli.specs.Formatting.{LieBelow}
+use Rattle.swsusp_cli.specs.Outcome.{IsNoScript, IsOutOfMemory, IsScript, IsTooSmall, IsUnformatted, IsUnread}
+use Rattle.swsusp_cli.specs.Replay.{AreReplies}
+use Rattle.swsusp_cli.specs.declared.formatting.Unformatted.{Unformatted}
+use Rattle.command_kit.specs.Told.{IsPrinted, IsTried, sink_note}
+use Rattle.command_kit.specs.View.{View}
+use Rattle.command_kit.specs.declared.status.Status.{Status}
+use Rattle.command_kit.specs.declared.status.Status.TheVariants.{Done, Stream}
+
+-- Out took the picture of the replies to all events; it took a front of that of the replies to some first events.
+abbrev pub Draws : ScriptValue → View → View → Type 0
+Draws script x x' =
+    (replies : List Reply) × AreReplies x.disk x'.disk script script.events replies
+    × IsPrinted (picture script.events replies) x.out x'.out
+
+abbrev pub DrawsFront : ScriptValue → View → View → Type 0
+DrawsFront script x x' =
+    (k : ℕ) × (replies : List Reply) × AreReplies x.disk x'.disk script (take k script.events) replies
+    × TakesFront (pictured (length script.events) (take k script.events) replies) x.out.taken x'.out.taken
+
+-- all events were played: out took the picture of a run of the plain machine
+pub record IsWhole (x x' : View) (status : Status) (script : ScriptValue) : Type 0 where
+  pub script_is : IsScript x x' script
+  pub roomy : LieBelow script.hardware x.disk.blocks
+  pub status_is : status ≡ Done
+  pub draws : Draws script x x'
+  pub note : IsPrinted [] x.note x'.note
+
+-- a sink failed: out took a front of the picture of a run over first events, and the fault is noted
+pub record IsCutOff (x x' : View) (status : Status) (script : ScriptValue) : Type 0 where
+  pub script_is : IsScript x x' script
+  pub roomy : LieBelow script.hardware x.disk.blocks
+  pub status_is : status ≡ Stream
+  pub draws : DrawsFront script x x'
+  pub note : IsTried sink_note x.note x'.note
+
+-- One of these, by what the outside told before and after.
+pub data IsDrawn (x x' : View) (status : Status) : Type 0 where
+  no_script : (fault : ScriptFault) → IsNoScript x x' status fault → IsDrawn x x' status
+  out_of_memory : IsOutOfMemory x x' status → IsDrawn x x' status
+  unread : IsUnread x x' status → IsDrawn x x' status
+  too_small : (script : ScriptValue) → IsScript x x' script → IsTooSmall x x' status script → IsDrawn x x' status
+  unformatted : (script : ScriptValue) (call : Unformatted) → IsScript x x' script
+      → IsUnformatted x x' status script call → IsDrawn x x' status
+  drawn : (script : ScriptValue) → IsWhole x x' status script → IsDrawn x x' status
+  cut_off : (script : ScriptValue) → IsCutOff x x' status script → IsDrawn x x' status
