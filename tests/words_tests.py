@@ -1,7 +1,7 @@
 """Which words the programs take, and what they say of others."""
 import pathlib
 
-from harness import Mismatch, check, run
+from harness import Mismatch, check, check_same, run
 
 VERSION = (pathlib.Path(__file__).resolve().parent.parent / "VERSION").read_text().strip()
 
@@ -135,8 +135,28 @@ def test_help_for_machines():
 
 
 def test_words_of_no_machine_command():
-    for words in [[], ["make", "a"], ["differ", "a"], ["check", "--any-kernel", "s"], ["no-command"]]:
-        if refused("swsusp_machine", *words) == "words\n":
+    note = "words: a path isn't empty nor begins with -, and nothing stands between a command and its paths\n"
+    for words in [[], ["make", "a"], ["differ", "a"], ["check", "--any-kernel", "s"], ["no-command"], ["--quiet"], ["--quiet", "--quiet", "make"], ["make", "--quiet"]]:
+        if refused("swsusp_machine", *words) == note:
             raise Mismatch(f"{words}")
     for words in [["differ", "-", "b"], ["differ", "a", ""], ["differ", "--", "a", "b"], ["check", ""], ["check", "-"], ["make", "--"]]:
-        check(run("swsusp_machine", *words), 2, note="words\n")
+        check(run("swsusp_machine", *words), 2, note=note)
+        check(run("swsusp_machine", "--quiet", *words), 2, note=note)
+
+
+def test_words_that_all_programs_answer_alike():
+    """Help and the version in each form, `--` and unknown words. `swsusp` alone ends with status 2 after help, and notes it."""
+    for program in ["swsusp", "swsusp_machine", "swsusp_image"]:
+        asked = 2 if program == "swsusp" else 0
+        for words in [["-h"], ["--help"], ["help"], ["-V"], ["--version"]]:
+            status, out, note = run(program, *words)
+            check_same(f"{program} {words}", (status, bool(out), bool(note)), (asked, asked == 0, asked == 2))
+        check_same("help", run(program, "-h"), run(program, "help"))
+        check_same("the version", run(program, "-V"), run(program, "--version"))
+        for words, said in [
+            ([], "requires a subcommand"),
+            (["--"], "requires a subcommand"),
+            (["unknown"], "unrecognized subcommand 'unknown'"),
+            (["--unknown"], "unexpected argument '--unknown' found"),
+        ]:
+            has(refused(program, *words), said)

@@ -168,7 +168,7 @@ for at in "$room/area" $loop; do
     done
     refused -x "7||open fault" "$at" image nothing "$program" inspect
     refused -x "7||open fault" "$at" empty nothing "$program" inspect --offset 0
-    refused -x "7||open fault" "$at" image loader "$machine" check
+    refused -x "7||open fault: $at isn't there, can't be opened, is in use, or is an output" "$at" image loader "$machine" check
     refused -s "0|area last 1599 bad 0 image 1 flags 2 hw -|" "$at" image nothing "$program" inspect
     refused -s "0|resumed 304|" "$at" image loader "$machine" check
 done

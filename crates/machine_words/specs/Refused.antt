@@ -12,8 +12,12 @@ IsRefusedBy words (unparsed.Help text) = command_of words ≡ None
 IsRefusedBy words (unparsed.Words text) = command_of words ≡ None
 IsRefusedBy words unparsed.NoMemory = ⊤
 
--- where clap takes such a list the text is the line `words`
+-- the line that is told of a list that clap takes and that isn't plain
+abbrev pub not_plain : List ℕ
+not_plain =
+    codes "words: a path isn't empty nor begins with -, and nothing stands between a command and its paths\n"
+
 abbrev pub SaysWords : List (List ℕ) → Unparsed → Type 0
 SaysWords words (unparsed.Help text) = takes machine_app words ≡ true → ⊥
-SaysWords words (unparsed.Words text) = takes machine_app words ≡ true → string_bytes text ≡ codes "words\n"
+SaysWords words (unparsed.Words text) = takes machine_app words ≡ true → string_bytes text ≡ not_plain
 SaysWords words unparsed.NoMemory = ⊤

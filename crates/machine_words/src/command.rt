@@ -45,7 +45,10 @@ impl<'a> Command<'a> {
         };
         match plain(&matches, words) {
             Some(command) => Ok(command),
-            None => Err(Unparsed::Words(String::from_str(alloc, "words\n")?)),
+            None => Err(Unparsed::Words(String::from_str(
+                alloc,
+                "words: a path isn't empty nor begins with -, and nothing stands between a command and its paths\n",
+            )?)),
         }
     }
 }

@@ -1,8 +1,9 @@
-//! What help says of each command behind its options.
+//! What help says of each command after its options.
 
 pub(crate) const PROGRAM: &str =
     "A machine has at most 65,536 page frames. A command's own help, as `swsusp_machine make --help`,
-says what it reads and writes.
+says what it reads and writes. With `--quiet` before the command nothing is said on a terminal of how far
+a long command is.
 
 Example: swsusp_machine make < story.txt > saved.dump";
 

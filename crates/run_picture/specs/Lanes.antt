@@ -23,7 +23,7 @@ abbrev pub is_core : Event → Bool
 is_core (event.Step actor.Core) = true
 is_core _ = false
 
--- What the machine does behind an event: an operation begins where its first reply says so.
+-- What the machine does after an event: an operation begins where its first reply says so.
 abbrev pub begun : Activity → Activity → Told → Activity
 begun activity asked (told.More k n) = asked
 begun activity asked (told.Loading k) = asked
@@ -60,7 +60,7 @@ activity_after activity event.Wake t = begun activity Wakes t
 activity_after activity (event.Resume loader check) t = begun activity Loads t
 activity_after activity _ t = activity
 
--- What is on the disk behind a step: what a failed call has left,
+-- What is on the disk after a step: what a failed call has left,
 abbrev pub left_by : ImageShown → Left → ImageShown
 left_by image Same = image
 left_by image Gone = NoImage
@@ -126,8 +126,8 @@ begins (event.Step actor.Core) t = ends t
 begins (event.Step (actor.Task task)) t = false
 begins _ t = is_accepted t
 
--- what the lanes show behind events with their replies
-abbrev pub lanes_behind : Lanes → List Event → List Reply → Lanes
-lanes_behind lanes [] replies = lanes
-lanes_behind lanes (e ∷ events) [] = lanes
-lanes_behind lanes (e ∷ events) (r ∷ replies) = lanes_behind (after lanes e (told_by r)) events replies
+-- what the lanes show after events with their replies
+abbrev pub lanes_after : Lanes → List Event → List Reply → Lanes
+lanes_after lanes [] replies = lanes
+lanes_after lanes (e ∷ events) [] = lanes
+lanes_after lanes (e ∷ events) (r ∷ replies) = lanes_after (after lanes e (told_by r)) events replies

@@ -122,7 +122,7 @@ below_of t line = reply_label (reply_class t) line
 abbrev pub open_text : ℕ → List ℕ
 open_text place = named (codes "<g transform='translate(") place ++ codes ")'>\n"
 
--- What a column shows in the lanes: what is so behind the event, the names of what begins, the call, and a cut.
+-- What a column shows in the lanes: what is so after the event, the names of what begins, the call, and a cut.
 abbrev pub shown_by : ImageShown → Lanes → Bool → Drawn → Event → List ℕ
 shown_by old new begins call e =
     bands_text new ++ (begun_label begins new.activity ++ image_label old new.image) ++ call_text call ++ cut_text e

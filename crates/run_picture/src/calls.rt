@@ -88,7 +88,7 @@ fn save_call(told: Told) -> Drawn
     }
 }
 
-/// The call of a hibernation behind which so many steps are left.
+/// The call of a hibernation after which `left` steps are left.
 fn save_step(left: u32) -> Call
     ensures { result ≡ save_step left }
 {

@@ -56,7 +56,7 @@ impl Lanes {
         }
     }
 
-    /// What they show behind an event by what its reply says.
+    /// What they show after an event by what its reply says.
     pub(crate) fn after(&self, event: &Event, told: Told) -> Lanes
         requires { self.now.column < 2 ^ 31 }
         ensures { result ≡ after self.now event.now told }
@@ -92,7 +92,7 @@ pub(crate) fn is_core(event: &Event) -> bool
     matches!(event, Event::Step(Actor::Core))
 }
 
-/// What the machine does behind an event that asks for an operation.
+/// What the machine does after an event that asks for an operation.
 fn begun(activity: Activity, asked: Activity, told: Told) -> Activity
     ensures { result ≡ begun activity asked told }
 {
@@ -103,7 +103,7 @@ fn begun(activity: Activity, asked: Activity, told: Told) -> Activity
     }
 }
 
-/// What it does behind a step of an operation.
+/// What it does after a step of an operation.
 fn stepped(activity: Activity, told: Told) -> Activity
     ensures { result ≡ stepped activity told }
 {
@@ -126,7 +126,7 @@ fn stepped(activity: Activity, told: Told) -> Activity
     }
 }
 
-/// What it does behind an operation that has failed.
+/// What it does after an operation that has failed.
 fn given_up(activity: Activity) -> Activity
     ensures { result ≡ given_up activity }
 {
@@ -150,7 +150,7 @@ fn image_after(activity: Activity, image: ImageShown, event: &Event, told: Told)
     }
 }
 
-/// What is on the disk behind a step of the core.
+/// What is on the disk after a step of the core.
 fn written(activity: Activity, image: ImageShown, told: Told) -> ImageShown
     ensures { result ≡ written activity image told }
 {
@@ -204,7 +204,7 @@ fn unsynced(image: ImageShown, steps: u32) -> ImageShown
     }
 }
 
-/// What is on the disk behind k steps of a resume.
+/// What is on the disk after k steps of a resume.
 fn loaded(image: ImageShown, k: u32) -> ImageShown
     ensures { result ≡ loaded image k }
 {
@@ -219,7 +219,7 @@ fn loaded(image: ImageShown, k: u32) -> ImageShown
     }
 }
 
-/// What is on the disk behind a step that is refused.
+/// What is on the disk after a step that is refused.
 fn refused(activity: Activity, image: ImageShown) -> ImageShown
     ensures { result ≡ refused activity image }
 {

@@ -7,6 +7,7 @@ use file_disk::{FileDisk, first_map_beyond};
 use machine_cli::{check, differ, draw, loader, make, show_facts};
 use machine_words::{Command, Unparsed};
 use page_core::NoMemory;
+use progress_disk::{Meter, ProgressDisk};
 use sector_disk::MemDisk;
 use standard_streams::{hold, is_output, sync_output};
 use std::fs::File;
@@ -29,25 +30,40 @@ fn main(rt: HostRuntime) -> ExitCode {
     let Ok(words) = words.collect::<Vec<String>>(rt.alloc()) else {
         return no_memory(&rt);
     };
-    match Command::parse(rt.alloc(), &words) {
+    let (words, quiet) = after_quiet(&words);
+    match Command::parse(rt.alloc(), words) {
         Ok(Command::Make | Command::Draw | Command::Loader) if rt.stdout().is_terminal() =>
             sink_fault(&rt),
-        Ok(Command::Make) => make_over_memory(&rt),
-        Ok(Command::Draw) => draw_over_memory(&rt),
+        Ok(Command::Make) => make_over_memory(&rt, quiet),
+        Ok(Command::Draw) => draw_over_memory(&rt, quiet),
         Ok(Command::Loader) => make_loader(&rt),
         Ok(Command::Show) => show_dump(&rt),
         Ok(Command::Differ { first, second }) => differ_files(&rt, first, second),
-        Ok(Command::Check { swap }) => check_file(&rt, swap),
+        Ok(Command::Check { swap }) => check_file(&rt, swap, quiet),
         Err(Unparsed::Help(text)) => show_help(&rt, text.as_bytes()),
         Err(Unparsed::Words(text)) => ended(&rt, text.as_bytes(), Status::Words.code()),
         Err(Unparsed::NoMemory) => no_memory(&rt),
     }
 }
 
+/// The words without a first `--quiet`, in whose place the name of the program then stands, and whether there was one.
+fn after_quiet(words: &[String]) -> (&[String], bool) {
+    match words.get(1) {
+        Some(word) if word.as_str() == "--quiet" => (&words[1..], true),
+        _ => (words, false),
+    }
+}
+
+/// A disk of which is told how much was read and written, where that takes long.
+fn watched<D>(rt: &HostRuntime, disk: D, quiet: bool) -> ProgressDisk<'_, D> {
+    let meter = Meter::new(rt, "swsusp_machine", quiet);
+    ProgressDisk { disk, meter }
+}
+
 /// Plays a script over a disk in memory.
-fn make_over_memory(rt: &HostRuntime) -> ExitCode {
+fn make_over_memory(rt: &HostRuntime, quiet: bool) -> ExitCode {
     let mut disk = match MemDisk::create(rt.alloc(), MEMORY_BLOCKS) {
-        Ok(disk) => disk,
+        Ok(disk) => watched(rt, disk, quiet),
         Err(NoMemory) => return no_memory(rt),
     };
     let mut input = StdSource::new(rt.stdin());
@@ -59,9 +75,9 @@ fn make_over_memory(rt: &HostRuntime) -> ExitCode {
 
 /// Draws the run of a script over a disk in memory.
 #[inline(never)]
-fn draw_over_memory(rt: &HostRuntime) -> ExitCode {
+fn draw_over_memory(rt: &HostRuntime, quiet: bool) -> ExitCode {
     let mut disk = match MemDisk::create(rt.alloc(), MEMORY_BLOCKS) {
-        Ok(disk) => disk,
+        Ok(disk) => watched(rt, disk, quiet),
         Err(NoMemory) => return no_memory(rt),
     };
     let mut input = StdSource::new(rt.stdin());
@@ -94,13 +110,16 @@ fn show_dump(rt: &HostRuntime) -> ExitCode {
 #[inline(never)]
 fn differ_files(rt: &HostRuntime, first: &str, second: &str) -> ExitCode {
     let Ok(_held) = hold(rt) else {
-        return not_opened(rt);
+        return not_opened(rt, first);
     };
-    let (Ok(first), Ok(second)) = (File::open(rt, first), File::open(rt, second)) else {
-        return not_opened(rt);
+    let Ok(first_file) = File::open(rt, first) else {
+        return not_opened(rt, first);
     };
-    let mut first = StdSource::new(first);
-    let mut second = StdSource::new(second);
+    let Ok(second_file) = File::open(rt, second) else {
+        return not_opened(rt, second);
+    };
+    let mut first = StdSource::new(first_file);
+    let mut second = StdSource::new(second_file);
     let mut out = StdSink::new(rt.stdout());
     let mut note = StdSink::new(rt.stderr());
     let status = differ(rt.alloc(), &mut first, &mut second, &mut out, &mut note);
@@ -109,17 +128,18 @@ fn differ_files(rt: &HostRuntime, first: &str, second: &str) -> ExitCode {
 
 /// Checks the image of a swap file, which is opened for reading alone.
 #[inline(never)]
-fn check_file(rt: &HostRuntime, swap: &str) -> ExitCode {
+fn check_file(rt: &HostRuntime, swap: &str, quiet: bool) -> ExitCode {
     let Ok(_held) = hold(rt) else {
-        return not_opened(rt);
+        return not_opened(rt, swap);
     };
     let Ok(false) = is_output(rt, swap) else {
-        return not_opened(rt);
+        return not_opened(rt, swap);
     };
     let Ok(mut disk) = FileDisk::open_read_only(rt, swap) else {
-        return not_opened(rt);
+        return not_opened(rt, swap);
     };
     warn_of_file(rt, &mut disk);
+    let mut disk = watched(rt, disk, quiet);
     let mut input = StdSource::new(rt.stdin());
     let mut out = StdSink::new(rt.stdout());
     let mut note = StdSink::new(rt.stderr());
@@ -166,6 +186,9 @@ fn sink_fault(rt: &HostRuntime) -> ExitCode {
     ended(rt, b"sink fault\n", Status::Stream.code())
 }
 
-fn not_opened(rt: &HostRuntime) -> ExitCode {
-    ended(rt, b"open fault\n", NOT_OPENED)
+fn not_opened(rt: &HostRuntime, path: &str) -> ExitCode {
+    let _ = eprintln!(rt;
+        "open fault: {path} isn't there, can't be opened, is in use, or is an output"
+    );
+    ExitCode::from(NOT_OPENED)
 }

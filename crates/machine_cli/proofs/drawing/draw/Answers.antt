@@ -1,6 +1,8 @@
-use Rattle.std.proofs.Common.{inl, inr, List, None, refl, subst, take}
+use Rattle.std.proofs.Common.{inl, inr, List, None, length, refl, subst, take}
+use Rattle.definitions.specs.Streams.{TakesAll, TakesFront}
 use Rattle.plain_machine.specs.Machine.{Hardware}
 use Rattle.plain_machine.specs.declared.event.Event.{Event}
+use Rattle.run_picture.specs.Picture.{picture, pictured}
 use Rattle.world_core.specs.StandsFor.{IsNew}
 use Rattle.command_kit.specs.Answer.{RunResult}
 use Rattle.machine_cli.specs.Drawn.{cut_off, no_script, out_of_memory, unread}
@@ -50,7 +52,7 @@ returns-in-Ok-draw_run-clause-outcome g c =
     let was = subst (λ (events : List Event). HasPlayed c.in-Ok-create.world c.draw_run.new.world events rs between now) c.events.ensures c.in-Ok-draw_run.ensures.drawn.1 in
     let replies = replies_of script c.in-Ok-create.world c.draw_run.new.world script.events rs before between now
     (g.met.D.Disk.well_formed c.args.disk.now) (g.met.D.Disk.well_formed c.set_up.new.disk) (g.met.D.Disk.well_formed c.draw_run.new.disk) set new c.in-Ok.ensures.few_bad was c.draw_run.ensures.hardware c.draw_run.ensures.blocks in
-    drawn_whole _ _ tell.result script out rs (record { says = c.in-Ok.ensures.ready.0; over = c.in-Ok.ensures.ready.1; few = c.in-Ok.ensures.few }) set.roomy replies c.in-Ok-draw_run.ensures.drawn.2
+    drawn_whole _ _ tell.result script out rs (record { says = c.in-Ok.ensures.ready.0; over = c.in-Ok.ensures.ready.1; few = c.in-Ok.ensures.few }) set.roomy replies (subst (λ (events : List Event). TakesAll (picture events rs) (g.O.Sink.taken c.args.out.now) (g.O.Sink.taken c.draw_run.new.out)) c.events.ensures c.in-Ok-draw_run.ensures.drawn.2)
     tell.ensures.told
 
 pub returns-clause-outcome : goal.returns-clause-outcome
@@ -70,7 +72,7 @@ returns-clause-outcome g c =
       script_is = record { says = c.in-Ok.ensures.ready.0; over = c.in-Ok.ensures.ready.1; few = c.in-Ok.ensures.few };
       roomy = set.roomy;
       status_is = c.cut_off.ensures.status;
-      draws = (k, rs, replies, c.in-Err-draw_run.ensures.drawn.3);
+      draws = (k, rs, replies, subst (λ (events : List Event). TakesFront (pictured (length events) (take k events) rs) (g.O.Sink.taken c.args.out.now) (g.O.Sink.taken c.draw_run.new.out)) c.events.ensures c.in-Err-draw_run.ensures.drawn.3);
       note = c.cut_off.ensures.note;
     })
 

@@ -6,7 +6,7 @@ use Rattle.byte_streams.proofs.Taken.{TakesFront-second}
 use Rattle.plain_machine.specs.declared.event.Event.{Event}
 use Rattle.plain_machine.specs.declared.event.Event.TheVariants as event
 use Rattle.plain_machine.specs.declared.event.BootFrom.TheVariants.{Fresh}
-use Rattle.run_picture.specs.Lanes.{after, first, lanes_behind}
+use Rattle.run_picture.specs.Lanes.{after, first, lanes_after}
 use Rattle.run_picture.specs.Picture.{column, columns}
 use Rattle.run_picture.specs.Telling.{told_by}
 use Rattle.run_picture.specs.declared.lanes.Lanes.{Lanes}
@@ -51,7 +51,7 @@ loop-event-preserved g c =
     let played = subst (λ (xs : List Event). HasPlayed c.args.world.now c.event-reply.new.self xs (rs ++ r ∷ []) before now) (sym more)
     (played_more c.args.world.now c.loop-event.world c.event-reply.new.self es rs e r before between now
     (g.met.D.Disk.well_formed c.loop-event.disk) inv.played.1 row.row inv.hardware row.cause row.faults row.calls row.orders) in
-    let text : columns first (take (i + 1) events) (rs ++ r ∷ []) ≡ columns first es rs ++ column (lanes_behind first es rs) e r =
+    let text : columns first (take (i + 1) events) (rs ++ r ∷ []) ≡ columns first es rs ++ column (lanes_after first es rs) e r =
     ap (λ (xs : List Event). columns first xs (rs ++ r ∷ [])) more ∙ columns_more first es rs e r size in
     let one = subst (λ (l : Lanes). TakesAll (column l e r) mid_out new_out) inv.played.3 c.in-Ok.ensures.whole in
     record {
@@ -59,9 +59,9 @@ loop-event-preserved g c =
         rs ++ r ∷ [],
         played,
         subst (λ (t : List ℕ). TakesAll t old_out new_out) (sym text)
-            (taken_more (columns first es rs) (column (lanes_behind first es rs) e r) old_out mid_out new_out inv.played.2 one),
+            (taken_more (columns first es rs) (column (lanes_after first es rs) e r) old_out mid_out new_out inv.played.2 one),
         c.put_event.ensures.lanes ∙ ap (λ (l : Lanes). after l e (told_by r)) inv.played.3 ∙ sym (lanes_more first es rs e r size)
-            ∙ sym (ap (λ (xs : List Event). lanes_behind first xs (rs ++ r ∷ [])) more),
+            ∙ sym (ap (λ (xs : List Event). lanes_after first xs (rs ++ r ∷ [])) more),
       );
       column = ap (λ (l : Lanes). l.column) c.put_event.ensures.lanes ∙ ap (λ (n : ℕ). n + 1) inv.column;
       blocks = row.blocks;
@@ -89,14 +89,14 @@ returns-in-Err-clause-drawn g c =
     let played = subst (λ (xs : List Event). HasPlayed c.args.world.now c.event-reply.new.self xs (rs ++ r ∷ []) before now) (sym more)
     (played_more c.args.world.now c.loop-event.world c.event-reply.new.self es rs e r before between now
     (g.met.D.Disk.well_formed c.loop-event.disk) inv.played.1 row.row inv.hardware row.cause row.faults row.calls row.orders) in
-    let text : columns first (take (i + 1) events) (rs ++ r ∷ []) ≡ columns first es rs ++ column (lanes_behind first es rs) e r =
+    let text : columns first (take (i + 1) events) (rs ++ r ∷ []) ≡ columns first es rs ++ column (lanes_after first es rs) e r =
     ap (λ (xs : List Event). columns first xs (rs ++ r ∷ [])) more ∙ columns_more first es rs e r inv.played.1.size in
     let front = subst (λ (l : Lanes). TakesFront (column l e r) mid_out new_out) inv.played.3 c.put_event.ensures.front in (
       i + 1,
       rs ++ r ∷ [],
       played,
       subst (λ (t : List ℕ). TakesFront t old_out new_out) (sym text)
-          (TakesFront-second (columns first es rs) (column (lanes_behind first es rs) e r) old_out mid_out new_out inv.played.2 front),
+          (TakesFront-second (columns first es rs) (column (lanes_after first es rs) e r) old_out mid_out new_out inv.played.2 front),
     )
 
 pub returns-clause-drawn : goal.returns-clause-drawn

@@ -1,7 +1,7 @@
 use Rattle.std.proofs.Common.{◌≡◌, ◌⊎◌, ◌≤◌, List, take}
 use Rattle.definitions.specs.Streams.{TakesAll}
 use Rattle.plain_machine.specs.declared.reply.Reply.{Reply}
-use Rattle.run_picture.specs.Lanes.{first, lanes_behind}
+use Rattle.run_picture.specs.Lanes.{first, lanes_after}
 use Rattle.run_picture.specs.Picture.{columns}
 use Rattle.world_core.specs.StandsFor.{IsOff, blocks_of, hardware_of}
 use Rattle.swsusp_cli.specs.Playing.{HasPlayed}
@@ -15,7 +15,7 @@ invariant-loop-event g l =
     record {
       played : (replies : List Reply) × HasPlayed l.fn.world l.world (take l.event-index l.events) replies before now
           × TakesAll (columns first (take l.event-index l.events) replies) (g.O.Sink.taken l.fn.out) (g.O.Sink.taken l.out)
-          × (l.lanes ≡ lanes_behind first (take l.event-index l.events) replies);
+          × (l.lanes ≡ lanes_after first (take l.event-index l.events) replies);
       column : l.lanes.column ≡ l.event-index;
       blocks : IsOff l.world ⊎ (g.D.Disk.block_count l.disk ≡ blocks_of l.world);
       hardware : hardware_of l.world ≡ hardware_of l.fn.world;
