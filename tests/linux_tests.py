@@ -88,6 +88,11 @@ def resume(file, dump, *options):
     return ran_over(file, dump, "swsusp", "resume", *options)
 
 
+def looked(file, command, *more, offset=None):
+    """What a command of swsusp_image says of an area."""
+    return run("swsusp_image", command, *([] if offset is None else ["--offset", offset]), file.path, *more)
+
+
 def check_pages(ran, image):
     """A resume ended well, and its dump has each page of the image in its page frame."""
     check_same("a resume's status and note", (ran[0], ran[2]), (0, ""))
@@ -165,6 +170,137 @@ def test_streams_of_real_images():
             check_pages(resume(file, dump), image)
 
 
+def listing(frames):
+    """The pages of these page frame numbers, with the end value after the last one unless its page is full."""
+    words = frames + [reader.END] * (len(frames) % 512 > 0)
+    return struct.pack(f"<{len(words)}Q", *words).ljust(-(-len(words) // 512) * PAGE, b"\0")
+
+
+def test_machines_of_real_images():
+    """The machine that was saved is exported and hibernates, with the page frames of its tables beside those of the image."""
+    for name in PLAIN:
+        with area(name) as (file, image):
+            out = io.BytesIO()
+            hardware = reader.Hardware(image)
+            hardware.dump(out, image.listed, {p: made_up(p) for p in image.listed}, 0)
+            with tempfile.NamedTemporaryFile() as dump:
+                pathlib.Path(dump.name).write_bytes(out.getvalue())
+                found = reader.pages_of(dump.name)
+            frames = sorted([*image.listed, *hardware.tables])
+            pages = len(frames) + -(-len(frames) // 512) + 1
+            info = image.info[:400] + struct.pack("<5Q", image.physpages, 0, len(frames), pages, pages * PAGE)
+            stream = info.ljust(PAGE, b"\0") + listing(frames) + b"".join(found.get(p, bytes(PAGE)) for p in frames)
+            check(run("swsusp", "export", stdin=out.getvalue()), 0, stream)
+            file.write(0, image.header[:4086] + b"SWAPSPACE2")
+            check_line(ran_over(file, out.getvalue(), "swsusp", "hibernate"), f"hibernated {len(frames)}")
+            check(looked(file, "check"), 0, b"whole\n")
+            check(looked(file, "stream"), 0, stream)
+
+
+def test_pages_and_streams_of_real_images():
+    """swsusp_image gives each block that the kernel wrote, in the order of its maps, and writes nothing."""
+    for name in PLAIN:
+        with area(name) as (file, image):
+            before = file.bytes()
+            check(looked(file, "check"), 0, b"whole\n")
+            check(looked(file, "stream"), 0, b"".join(map(image.block, image.chain)))
+            for p in [image.listed[0], image.listed[511], image.listed[512], image.listed[-1]]:
+                check(looked(file, "page", p), 0, made_up(p))
+            absent = min({*range(image.listed[-1])} - {*image.listed})
+            check_refused(looked(file, "page", absent), f"no page {absent}")
+            check_same(f"{name}: the area", file.bytes(), before)
+
+
+def facts_of(image):
+    """What `show` says of an area and its mark, a list of values for each key, by the tables of docs/FORMATS.md."""
+    header = image.header
+    uuid = header[1036:1052].hex()
+    bad = reader.bad_pages(header)
+    facts = {
+        "blocks": [image.last + 1], "image": ["yes"], "area": ["swap"], "last_page": [image.last], "bad_pages": [len(bad)], "bad_page": bad,
+        "uuid": ["-".join([uuid[:8], uuid[8:12], uuid[12:16], uuid[16:20], uuid[20:]])], "first_map": [image.first],
+        "label": [header[1052:1068].rstrip(b"\0").decode()] if header[1052] else [],
+        "flags": [image.flags], "flag": ["nocompress" if image.plain else "crc32"], "hw_sig": [image.hw_sig],
+        "crc32": [reader.number(header, 4060, 4)],
+    }
+    return {key: list(map(str, values)) for key, values in facts.items() if values}
+
+
+def kernel_facts(name, image):
+    """What it says of the kernel that wrote the image."""
+    if name == "x86_64":
+        words = reader.numbers(image.info)
+        keys = ["jump_address", "jump_address_physical", "cr3", "memory_map_checksum"]
+        return {"header": ["x86-64"], **{key: [f"0x{words[at]:016x}"] for key, at in zip(keys, [0, 1, 2, 4])}}
+    release, version = re.search(r"^Linux version (\S+) .*?(#.*)$", log_of(name), re.MULTILINE).groups()
+    facts = {"header": "generic", "sysname": "Linux", "nodename": "(none)", "release": release, "version": version, "machine": "mips64",
+             "domainname": "(none)", "version_code": str(6 * 65536 + 256 + 192), "kernel": "6.1.192"}
+    return {key: [value] for key, value in facts.items()}
+
+
+def image_facts(name, image):
+    """What it says of the image, in the kernel's numbers and in the order of a resume's reads."""
+    copied, = logged(name, r"Need to copy (\d+) pages")
+    saving, = logged(name, r"Saving image data pages \((\d+) pages\)")
+    parts = [[b, *image.chain[k * 511 : (k + 1) * 511]] for k, b in enumerate(image.maps)]
+    return {
+        "memory_pages": [str(image.physpages)], "image_pages": [str(copied)], "stream_pages": [str(saving + 1)], "maps": [str(len(parts))],
+        "block_run": [f"{first} {count}" for first, count in reader.runs(sum(parts, []))],
+        "frame_run": [f"{first} {count}" for first, count in reader.runs(image.listed)],
+    }
+
+
+def test_what_show_prints():
+    for name in [*PLAIN, "compressed"]:
+        with area(name) as (file, image):
+            before = file.bytes()
+            status, out, note = looked(file, "show")
+            check_same(f"{name}: status and note {note}", (status, note), (0, ""))
+            found = {}
+            for line in out.decode().splitlines():
+                key, _, value = line.partition(" ")
+                found.setdefault(key, []).append(value)
+            wanted = facts_of(image)
+            if image.plain:
+                wanted |= {**kernel_facts(name, image), **image_facts(name, image)}
+            for key in {*wanted, *found}:
+                check_same(f"{name}: {key} {found.get(key)} for {wanted.get(key)}", found.get(key), wanted.get(key))
+            check_same(f"{name}: the area", file.bytes(), before)
+
+
+def test_real_images_are_given_up():
+    """The old signature stands in the header then, also of a compressed image, and no command finds an image any more."""
+    for name in [*PLAIN, "compressed"]:
+        with area(name) as (file, image):
+            before, dump = file.bytes(), loader_of(image)
+            check_line(looked(file, "discard"), "discarded")
+            check_same(f"{name}: the area", file.bytes(), before[:4086] + b"SWAPSPACE2" + before[PAGE:])
+            check(looked(file, "check"), 1, b"no image\n")
+            check_refused(resume(file, dump), "no image")
+            flags = f"area last {image.last} bad {reader.number(image.header, 1032, 4)} image none"
+            check_line(ran_over(file, b"", "swsusp", "inspect"), flags)
+
+
+def test_an_area_in_a_device():
+    """As a swap file it begins at another block than the first."""
+    for name in ["plain", "x86_64"]:
+        with area(name) as (file, image):
+            p, out = image.listed[600], io.BytesIO()
+            reader.moved(file.path, 100, out)
+            chain = b"".join(map(image.block, image.chain))
+            file.path.write_bytes(out.getvalue())
+            line = f"area last {image.last} bad 0 image {image.first + 100} flags {image.flags} hw -"
+            check_line(ran_over(file, b"", "swsusp", "inspect", "--offset", 100), line)
+            check(looked(file, "check"), 1, b"no image\n")
+            check(looked(file, "check", offset=100), 0, b"whole\n")
+            check(looked(file, "stream", offset=100), 0, chain)
+            check(looked(file, "page", p, offset=100), 0, made_up(p))
+            _, out, _ = looked(file, "show", offset=100)
+            check_same("the first map", f"\nfirst_map {image.first + 100}\n" in out.decode(), True)
+            check_line(looked(file, "discard", offset=100), "discarded")
+            check(looked(file, "check", offset=100), 1, b"no image\n")
+
+
 def test_an_architectures_header():
     """Its record stands in the place of the names."""
     with area("x86_64") as (file, image):
@@ -182,6 +318,10 @@ def test_a_compressed_image():
         before, dump = file.bytes(), loader_of(image)
         for ran in [resume(file, dump), resume(file, dump, "--any-kernel"), check_image(file, dump)]:
             check_refused(ran, f"compressed {image.flags}")
+        why = f"header: flags {image.flags}, a compressed image, which can't be read yet"
+        check(looked(file, "check"), 1, f"{why}\n1 findings\n".encode())
+        for ran in [looked(file, "stream"), looked(file, "page", 300)]:
+            check_refused(ran, why)
         check_same("the area", file.bytes(), before)
 
 
@@ -203,9 +343,10 @@ def test_damage_is_named():
     for name in reader.damages():
         with area("plain") as (file, image):
             dump = loader_of(image)
-            _, answer = getattr(reader.Damage(file.path), name)()
+            _, answer, found = getattr(reader.Damage(file.path), name)()
             ran = check_image(file, dump)
             try:
+                check(looked(file, "check"), 1 if found else 0, f"{reader.checked(found)}\n".encode())
                 if answer.startswith("resumed "):
                     check_line(ran, answer)
                 elif name == "first_map_off_the_disk":

@@ -1,10 +1,10 @@
 #!/bin/sh
-# linux_test.sh [-d FOLDER] [-t SECONDS] [-p "PART.."] [SWSUSP [SWSUSP_MACHINE]]: tries the programs against real kernels, in the machines
-# that linux_lab.sh builds in FOLDER, and boots for at most SECONDS. The programs are those that `rt run` leaves, without the words.
+# linux_test.sh [-d FOLDER] [-t SECONDS] [-p "PART.."] [SWSUSP [SWSUSP_MACHINE [SWSUSP_IMAGE]]]: tries the programs against real kernels, in
+# the machines that linux_lab.sh builds in FOLDER, and boots for at most SECONDS. The programs are those that `rt run` leaves, without the words.
 # Prints a line for each case, and how many passed; ends with status 1 where one differs. Skips, with status 0, without qemu.
 #
-# The parts: plain, used, bad, full, compressed, signature, x86, damage. Without -p all are tried. Expected answers come from what the
-# kernel logs and does, and from docs/FORMATS.md by linux_lab/image.py, which reads images by itself.
+# The parts: plain, used, bad, full, compressed, signature, x86, damage. Without -p all are tried. Expected answers come from what
+# the kernel logs and does, and from docs/FORMATS.md by linux_lab/image.py, which reads images by itself.
 set -u
 top=$(cd "$(dirname "$0")/.." && pwd)
 parts="plain used bad full compressed signature x86 damage"
@@ -32,7 +32,7 @@ skip() {
 for tool in qemu-system-mips64el python3; do
     command -v "$tool" >/dev/null || skip "no $tool"
 done
-for program in "$swsusp" "$checker"; do
+for program in "$swsusp" "$checker" "$imager"; do
     if [ ! -x "$program" ]; then
         echo "$program isn't built: rt run in its crate builds it"
         exit 1
@@ -67,9 +67,13 @@ copy() {
     cp --sparse=always "$1" "$2"
 }
 
-# What the kernel logged: how many pages it copied.
+# What the kernel logged: how many pages it copied, and a number from another line.
+logged() {
+    sed -n "s/.*$2.*/\\1/p" "$1.hibernate.log"
+}
+
 copied() {
-    sed -n 's/.*Need to copy \([0-9]*\) pages.*/\1/p' "$1.hibernate.log"
+    logged "$1" 'Need to copy \([0-9]*\) pages'
 }
 
 # Status, output and note of a program over a dump.
@@ -126,10 +130,63 @@ let_out() {
     done
 }
 
+# The lines of `swsusp_image show` with these keys, after its status: each as it stands, but of the runs the sum of their lengths.
+shown() {
+    status=0
+    timeout 300 "$imager" show "$1" >"$room/shown" 2>"$room/note" || status=$?
+    shift
+    echo "$status$(cat "$room/note")"
+    for key; do
+        case $key in
+        *_run) awk -v key="$key" '$1 == key { sum += $3 } END { print key, sum + 0 }' "$room/shown" ;;
+        *) sed -n "/^$key /p" "$room/shown" ;;
+        esac
+    done
+}
+
+# What the kernel's log says of an image without compression, as lines of `show`: $2 is the last slot of its area, $3 its number of bad slots,
+# $4 its flags. It logs the pages without the info page, and it writes a map after each 511 pages.
+as_logged() {
+    pages=$(($(logged "$1" 'Saving image data pages (\([0-9]*\) pages)') + 1))
+    size=$(logged "$1" 'Wrote \([0-9]*\) kbytes in')
+    memory=$(logged "$1" 'Memory: [0-9]*K\/\([0-9]*\)K available')
+    [ $((size / 4 + 1)) = $pages ] || echo "the log has $size kbytes of $pages pages"
+    printf '%s\n' 0 "image yes" "area swap" "last_page $2" "bad_pages $3" "flags $4" "memory_pages $((memory / 4))" \
+        "image_pages $(copied "$1")" "stream_pages $pages" "maps $((pages / 511 + 1))" "block_run $((pages + pages / 511 + 1))" \
+        "frame_run $(copied "$1")"
+}
+
+keys="image area last_page bad_pages flags memory_pages image_pages stream_pages maps block_run frame_run"
+
+# What a generic header says of the kernel, which its log begins with.
+named() {
+    printf '%s\n' 0 "header generic" "sysname Linux" "release $(logged "$1" 'Linux version \([^ ]*\) ')" \
+        "version $(logged "$1" 'Linux version [^#]*\(#.*\)')" "machine mips64" "kernel $(logged "$1" 'Linux version \([0-9.]*\)')"
+}
+
+# The page frame of the first page with a pattern.
+patterned() {
+    sed -n 's/^lab: frames 1 0 \([0-9]*\) [0-9]*$/\1/p' "$1.hibernate.log"
+}
+
+# What swsusp_image tells of a real image without compression, and its stream, in $room/streamed.
+looked_at() {
+    real=$room/$1.img
+    same "$1: swsusp_image check" "0|whole|" "$(told /dev/null "$imager" check "$real")"
+    same "$1: show, with the kernel's log" "$(as_logged "$real" "$2" "$3" "${4:-2}")" "$(shown "$real" $keys)"
+    image stream "$real" >"$room/wanted"
+    "$imager" stream "$real" >"$room/streamed"
+    same "$1: stream, each page" "$(cksum <"$room/wanted")" "$(cksum <"$room/streamed")"
+    image pattern 1 0 >"$room/wanted"
+    "$imager" page "$real" "$(patterned "$real")" >"$room/page"
+    same "$1: page, of a page frame with a pattern" "$(cksum <"$room/wanted")" "$(cksum <"$room/page")"
+}
+
 # All that is told of a real image without compression: $1 is its name, $2 the last slot of its area, $3 its number of bad slots.
 round() {
     real=$room/$1.img
     pages=$(copied "$real")
+    # shellcheck disable=SC2046
     image saved "$real" $(let_out "$real") >"$room/saved"
     image loader "$real" >"$room/loader"
     first=$(image facts "$real" | sed -n 's/^first //p')
@@ -137,7 +194,9 @@ round() {
     sum=$(cksum <"$real")
     same "$1: check calls it whole, with the pages of the kernel's log" "0|resumed $pages|" \
         "$(told "$room/loader" "$checker" check "$real")"
-    same "$1: the area, after check" "$sum" "$(cksum <"$real")"
+    looked_at "$1" "$2" "$3"
+    same "$1: show, of the kernel" "$(named "$real")" "$(shown "$real" header sysname release version machine kernel)"
+    same "$1: the area, after all of these" "$sum" "$(cksum <"$real")"
     copy "$real" "$room/ours.img"
     same "$1: swsusp resumes the kernel's image" "0|" "$(resumed "$room/loader" "$room/ours.img")"
     same "$1: each page, byte for byte" "pages $pages wrong 0" "$(image compare "$real" "$room/restored")"
@@ -157,6 +216,9 @@ round() {
         "$swsusp" export <"$room/saved" >"$room/stream"
         same "$1: swsusp imports its stream" "0|imported $((pages + extra))|" "$(told "$room/stream" "$swsusp" import "$room/carried.img")"
         same "$1: the kernel resumes what was carried" resumes "$(kernel "$room/carried.img")"
+        sh "$top/tools/make_area.sh" "$room/moved.img" "$2"
+        same "$1: swsusp imports what swsusp_image streams" "0|imported $pages|" "$(told "$room/streamed" "$swsusp" import "$room/moved.img")"
+        same "$1: the kernel resumes what was moved" resumes "$(kernel "$room/moved.img")"
     else
         same "$1: a machine with slots in use isn't exported" "1||slots in use $(let_out "$real" | sed -n '1s/-.*//p')" \
             "$(told "$room/saved" "$swsusp" export)"
@@ -164,12 +226,26 @@ round() {
     same "$1: the kernel resumes its own image" resumes "$(kernel_of_copy "$real")"
 }
 
+# Whether the kernel swaps to an area.
+swaps() {
+    if lab swap "$1" >"$room/swap.out" 2>&1; then echo yes; else echo no; fi
+}
+
 # A fresh area, and what no other part tells: the area is one to swap to once its image is given up.
 part_plain() {
     hibernated plain lab.pages=100 || return
     round plain 16383 0
-    if lab swap "$room/ours.img" >"$room/swap.out" 2>&1; then swaps=yes; else swaps=no; fi
-    same "plain: the kernel swaps to the area again" yes $swaps
+    same "plain: the kernel swaps to the area again" yes "$(swaps "$room/ours.img")"
+    copy "$real" "$room/given.img"
+    copy "$real" "$room/unmarked.img"
+    image damage "$room/unmarked.img" unmarked >/dev/null
+    same "plain: swsusp_image discards the image" "0|discarded|" "$(told /dev/null "$imager" discard "$room/given.img")"
+    same "plain: it took the mark back, and no more" "$(cksum <"$room/unmarked.img")" "$(cksum <"$room/given.img")"
+    same "plain: swsusp_image check then" "1|no image|" "$(told /dev/null "$imager" check "$room/given.img")"
+    same "plain: show then" "$(printf '%s\n' 0 "image no" "area swap" "last_page 16383")" \
+        "$(shown "$room/given.img" image area last_page image_pages)"
+    same "plain: the kernel refuses what was discarded" refuses "$(kernel "$room/given.img")"
+    same "plain: the kernel swaps to that area" yes "$(swaps "$room/given.img")"
 }
 
 part_used() {
@@ -185,6 +261,7 @@ part_bad() {
     image bad "$room/bad.img" 1 2 3 600 1500 1501 16383
     hibernated bad lab.pages=100 || return
     round bad 16383 7
+    same "bad: show, each bad page" "$(echo 0; printf 'bad_page %s\n' 1 2 3 600 1500 1501 16383)" "$(shown "$real" bad_page)"
 }
 
 # The least number of pages, from $2 on, whose image fills its last map or its last number page.
@@ -202,7 +279,7 @@ part_full() {
     for name in map numbers; do
         real=$room/$name.img
         fill=0 tries=0 wanted=0 pages=
-        while [ $tries -lt 8 ]; do
+        while [ $tries -lt 30 ]; do
             rm -f "$real"
             lab hibernate "$real" lab.pages=100 lab.fill=$fill >"$room/$name.out" 2>&1 || break
             pages=$(copied "$real")
@@ -228,6 +305,12 @@ part_compressed() {
     image any_loader "$real" >"$room/loader"
     same "compressed: swsusp refuses it by name" "1|compressed $flags" "$(resumed "$room/loader" "$real")"
     same "compressed: check says so before" "1||compressed $flags" "$(told "$room/loader" "$checker" check "$real")"
+    why="header: flags $flags, a compressed image, which can't be read yet"
+    same "compressed: swsusp_image check names it" "1|$why
+1 findings|" "$(told /dev/null "$imager" check "$real")"
+    same "compressed: stream and page name it" "1||$why 1||$why" \
+        "$(told /dev/null "$imager" stream "$real") $(told /dev/null "$imager" page "$real" 300)"
+    same "compressed: show" "$(printf '%s\n' 0 "image yes" "flags $flags" "flag crc32")" "$(shown "$real" image flags flag)"
     same "compressed: the area, byte for byte" "$sum" "$(cksum <"$real")"
     same "compressed: the kernel resumes it then" resumes "$(kernel_of_copy "$real")"
 }
@@ -242,6 +325,8 @@ part_signature() {
     image loader "$real" 4711 >"$room/loader"
     image loader "$real" 4712 >"$room/other"
     same "signature: inspect" "0|area last 16383 bad 0 image $first flags 10 hw 4711|" "$(told /dev/null "$swsusp" inspect "$real")"
+    looked_at signature 16383 0 10
+    same "signature: show, the signature" "$(printf '%s\n' 0 "flag nocompress" "flag hw_sig" "hw_sig 4711")" "$(shown "$real" flag hw_sig)"
     same "signature: check with the machine's" "0|resumed $pages|" "$(told "$room/loader" "$checker" check "$real")"
     same "signature: check with another's" "1||hardware 4711 own 4712" "$(told "$room/other" "$checker" check "$real")"
     copy "$real" "$room/ours.img"
@@ -268,17 +353,30 @@ part_x86() {
         pages=$(copied "$real")
         image loader "$real" >"$room/loader"
         image stranger "$real" >"$room/stranger"
+        sum=$(cksum <"$real")
+        looked_at x86 32000 0
+        same "x86: show, the header" "$(printf '%s\n' 0 "header x86-64")" "$(shown "$real" header release version_code)"
         copy "$real" "$room/ours.img"
         same "x86: a loader with a generic header's names" "1|mismatch version code" "$(resumed "$room/stranger" "$room/ours.img")"
         copy "$real" "$room/ours.img"
         same "x86: with --any-kernel" "0|" "$(resumed "$room/stranger" --any-kernel "$room/ours.img")"
         same "x86: each page, byte for byte" "pages $pages wrong 0" "$(image compare "$real" "$room/restored")"
         same "x86: the patterns in their page frames" "patterns 100 of 100" "$(image patterns "$real.hibernate.log" "$room/restored")"
+        same "x86: a second resume" "1|no image" "$(resumed "$room/loader" "$room/ours.img")"
+        same "x86: Debian's kernel refuses the area afterwards" refuses "$(kernel_of_copy "$room/ours.img")"
         # A loader that carries the record of the architecture hands it on.
         same "x86: check with the record" "0|resumed $pages|" "$(told "$room/loader" "$checker" check "$real")"
+        same "x86: the area, after check" "$sum" "$(cksum <"$real")"
+        sh "$top/tools/make_area.sh" "$room/moved.img" 32000
+        same "x86: swsusp imports what swsusp_image streams" "0|imported $pages|" "$(told "$room/streamed" "$swsusp" import "$room/moved.img")"
+        same "x86: Debian's kernel resumes what was moved" resumes "$(kernel "$room/moved.img")"
         image saved "$real" >"$room/saved"
-        same "x86: swsusp hibernates that machine" "0|hibernated $((pages + $(image tables "$real")))|" \
-            "$(told "$room/saved" "$swsusp" hibernate "$room/ours.img")"
+        all=$((pages + $(image tables "$real")))
+        copy "$room/ours.img" "$room/carried.img"
+        "$swsusp" export <"$room/saved" >"$room/stream"
+        same "x86: swsusp imports its stream" "0|imported $all|" "$(told "$room/stream" "$swsusp" import "$room/carried.img")"
+        same "x86: Debian's kernel resumes what was carried" resumes "$(kernel "$room/carried.img")"
+        same "x86: swsusp hibernates that machine" "0|hibernated $all|" "$(told "$room/saved" "$swsusp" hibernate "$room/ours.img")"
         same "x86: Debian's kernel resumes what swsusp wrote" resumes "$(kernel "$room/ours.img")"
         same "x86: Debian's kernel resumes its own image" resumes "$(kernel_of_copy "$real")"
     else
@@ -299,10 +397,13 @@ part_damage() {
         copy "$real" "$room/damaged.img"
         told=$(image damage "$room/damaged.img" "$name")
         copy "$room/damaged.img" "$room/ours.img"
+        found=${told##*|} told=${told%|*}
         case $told in
         *"|resumed "*) wanted="0|" ;;
         *) wanted="1|${told#*|}" ;;
         esac
+        if [ "$found" = whole ]; then status=0; else status=1; fi
+        same "damage $name: swsusp_image check" "$status|$(echo "$found" | tr ';' '\n')|" "$(told /dev/null "$imager" check "$room/ours.img")"
         same "damage $name: swsusp" "$wanted" "$(resumed "$room/loader" "$room/ours.img")"
         case $told in
         resumes*) came=$(kernel "$room/damaged.img") ;;
@@ -320,7 +421,5 @@ for part in $parts; do
     part_"$part"
 done
 
-# swsusp_image is to check an image without a loader, show what it says, and make the dump of its machine: its cases join each round here.
-[ -x "$imager" ] || echo "left out: swsusp_image check, show and machine ($imager isn't built)"
 echo "linux_test.sh: $passed passed, $failed failed"
 [ $failed = 0 ]

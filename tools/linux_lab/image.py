@@ -14,8 +14,11 @@
   image.py bad AREA SLOT..         names bad slots in an area without an image
   image.py compare AREA DUMP       tells whether the dump has each page of the image in its page frame; AREA's mark may be gone
   image.py patterns LOG DUMP       tells whether the dump has init.c's patterns in the page frames that its log names
-  image.py damage AREA [NAME]      damages the image, and prints what a kernel then does and what the program is to answer; without NAME
-                                   it prints the names, a line each
+  image.py stream AREA > STREAM    the pages that the maps name, in their order
+  image.py pattern SET K > PAGE    the page that init.c fills as page K of a set
+  image.py moved AREA N > DEVICE   a device that has the area from block N on, as a swap file: its image names blocks of the device
+  image.py damage AREA [NAME]      damages the image, and prints what a kernel then does, what `swsusp resume` is to answer, and what
+                                   `swsusp_image check` is to print, parted by bars; without NAME it prints the names, a line each
   image.py cases AREA > FILE       the damages that a kernel refuses, for a single boot (init.c)
   image.py pack AREA > FILE        what the kernel's own code wrote of the image, without the pages of the memory, packed by xz
 
@@ -239,7 +242,7 @@ def compare(path, dump):
     return 1 if wrong else 0
 
 
-def pattern(group, k):
+def page_of(group, k):
     """The page that init.c fills as page k of a group."""
     words, mask = [], 2**64 - 1
     for i in range(512):
@@ -256,9 +259,30 @@ def patterns(log, dump):
         if line.startswith("lab: frames "):
             group, first, place, count = map(int, line.split()[2:])
             of += count
-            right += sum(found.get(place + k) == pattern(group, first + k) for k in range(count))
+            right += sum(found.get(place + k) == page_of(group, first + k) for k in range(count))
     print(f"patterns {right} of {of}")
     return 0 if right == of and of else 1
+
+
+def pattern(group, k):
+    sys.stdout.buffer.write(page_of(int(group), int(k)))
+
+
+def stream(path):
+    image = Image(path)
+    for b in image.chain:
+        sys.stdout.buffer.write(image.block(b))
+
+
+def moved(path, by, out=sys.stdout.buffer):
+    """The header, each map and each page, as many blocks further on, and so are the blocks that they name. Before them lies the header of
+    another area without an image, by which an initramfs knows that the device has something on it."""
+    image, by = Image(path), int(by)
+    header = image.header[:4064] + struct.pack("<Q", image.first + by) + image.header[4072:]
+    maps = {b: struct.pack("<512Q", *(at and at + by for at in numbers(image.block(b)))) for b in image.maps}
+    out.write((image.header[:4086] + b"SWAPSPACE2").ljust(by * PAGE, b"\0"))
+    for b in range(image.last + 1):
+        out.write(header if b == 0 else maps.get(b) or image.block(b))
 
 
 def pack(path):
@@ -268,8 +292,9 @@ def pack(path):
 
 
 class Damage:
-    """Ways to damage an image, each over a file that is open. Each tells what a kernel then does, and what the program is to answer:
-    `resumed N` where it is to find the image whole. A kernel overlooks what has no mark, and gives up what it refuses."""
+    """Ways to damage an image, each over a file that is open. Each tells what a kernel then does; what `swsusp resume` is to answer, `resumed N`
+    where it is to find the image whole; and what `swsusp_image check` is to print, by the table of man/swsusp_image.8 (FINDINGS). A kernel
+    overlooks what has no mark, and gives up what it refuses. What is compared with a machine's hardware or kernel alone is whole to `check`."""
 
     def __init__(self, path):
         self.image = Image(path)
@@ -293,131 +318,151 @@ class Damage:
     def listed(self, k, value):
         self.number(self.lists[k // 512], k % 512 * 8, value)
 
+    def place(self, k):
+        """How `check` tells the place of entry k of the whole chain."""
+        at = k // 511
+        return f"map {at + 1} block {self.image.maps[at]} entry {k % 511}"
+
+    @staticmethod
+    def word(k):
+        """How it tells that of number k."""
+        return f"numbers page {k // 512 + 1} word {k % 512}"
+
     # The mark.
     def unmarked(self):
         self.put(0, 4086, b"SWAPSPACE2")
-        return "overlooks", "no image"
+        return "overlooks", "no image", ["no image"]
 
     def mark_misspelled(self):
         self.put(0, 4086, b"S1SUSPENT\0")
-        return "overlooks", "no image"
+        return "overlooks", "no image", ["no image"]
 
     def flags_of_a_compressed_image(self):
         self.number(0, 4072, 0, 4)
-        return "refuses", "compressed 0"
+        return "refuses", "compressed 0", ["header: flags 0, a compressed image, which can't be read yet"]
 
     def flags_unknown(self):
         self.number(0, 4072, self.image.flags | 0x40000000, 4)
-        return "resumes", self.whole
+        return "resumes", self.whole, []
 
     def flags_of_a_signature(self):
         self.number(0, 4056, 4711, 4)
         self.number(0, 4072, self.image.flags | SIGNED, 4)
-        return "refuses", "hardware 4711 own 0"
+        return "refuses", "hardware 4711 own 0", []
 
     def left_over_signature_and_checksum(self):
         self.number(0, 4056, 4711, 4)
         self.number(0, 4060, 4711, 4)
-        return "resumes", self.whole
+        return "resumes", self.whole, []
 
     def first_map_none(self):
         self.number(0, 4064, 0)
-        return "refuses", "no chain"
+        return "refuses", "no chain", ["map 1: block 0"]
 
     def first_map_off_the_disk(self):
         self.number(0, 4064, self.far)
-        return "refuses", f"bad block {self.far}"
+        return "refuses", f"bad block {self.far}", [f"map 1: block {self.far} is beyond the file"]
 
     # The maps.
     def link_off_the_disk(self):
         self.number(self.image.maps[0], 4088, self.far)
-        return "refuses", f"bad block {self.far}"
+        return "refuses", f"bad block {self.far}", [f"map 2: block {self.far} is beyond the file"]
 
     def link_cut(self):
         self.number(self.image.maps[0], 4088, 0)
-        return "refuses", "chain ends 1"
+        return "refuses", "chain ends 1", [f"map 1: no next map, though the image has {self.image.pages} pages"]
 
     def entry_cut(self):
         self.entry(100, 0)
-        return "refuses", "bad block 0"
+        return "refuses", "bad block 0", [f"{self.place(100)}: block 0"]
 
     def entry_off_the_disk(self):
         self.entry(100, self.far)
-        return "refuses", f"bad block {self.far}"
+        return "refuses", f"bad block {self.far}", [f"{self.place(100)}: block {self.far} is beyond the file"]
 
     # The info page.
     def version_code(self):
         self.number(self.infos, 392, number(self.image.info, 392, 4) + 1, 4)
-        return "refuses", "mismatch version code"
+        return "refuses", "mismatch version code", []
 
     def sysname(self):
         self.put(self.infos, 0, b"M")
-        return "refuses", "mismatch sysname"
+        return "refuses", "mismatch sysname", []
 
     def release(self):
         self.put(self.infos, 130, b"7")
-        return "refuses", "mismatch release"
+        return "refuses", "mismatch release", []
 
     def version(self):
         self.put(self.infos, 195, b"$")
-        return "refuses", "mismatch version"
+        return "refuses", "mismatch version", []
 
     def machine(self):
         self.put(self.infos, 260, b"x")
-        return "refuses", "mismatch machine"
+        return "refuses", "mismatch machine", []
 
     def names_that_are_not_compared(self):
         """Those of the node and of its domain."""
         self.put(self.infos, 65, b"x")
         self.put(self.infos, 325, b"x")
-        return "resumes", self.whole
+        return "resumes", self.whole, []
 
     def memory_size(self):
         own = self.image.physpages
         self.number(self.infos, 400, own - 1)
-        return "refuses", f"memory size {own - 1} own {own}"
+        return "refuses", f"memory size {own - 1} own {own}", []
 
     def fields_that_are_not_read(self):
-        """The number of processors, and the size in bytes."""
+        """The number of processors, and the size in bytes, which no writer leaves so."""
         self.number(self.infos, 408, 7, 4)
         self.number(self.infos, 432, 1)
-        return "resumes", self.whole
+        return "resumes", self.whole, [f"info page: size 1, but pages {self.image.pages}"]
 
     def counts(self):
-        """One page more than the page frames give."""
-        self.number(self.infos, 424, self.image.pages + 1)
-        return "refuses", f"bad counts {self.image.image_pages} {self.image.pages + 1}"
+        """One page more than the page frames give. The maps have no block for it."""
+        more = self.image.pages + 1
+        self.number(self.infos, 424, more)
+        told = [f"image pages {self.image.image_pages}, but pages {more}", f"size {self.image.pages * PAGE}, but pages {more}"]
+        found = [*(f"info page: {it}" for it in told), f"{self.place(self.image.pages)}: block 0"]
+        return "refuses", f"bad counts {self.image.image_pages} {more}", found
 
     # The numbers.
     def number_too_high(self):
         self.listed(700, 1 << 40)
-        return "refuses", f"bad pfn {1 << 40}"
+        return "refuses", f"bad pfn {1 << 40}", [f"{self.word(701)}: {self.image.listed[701]} after {1 << 40}"]
 
     def number_twice(self):
         twice = self.image.listed[699]
         self.listed(700, twice)
-        return "refuses", f"pfn order {twice} {twice}"
+        return "refuses", f"pfn order {twice} {twice}", [f"{self.word(700)}: {twice} after {twice}"]
 
     def numbers_out_of_order(self):
         """The kernel sets bits, and takes the pages in the order of the bits: the same image."""
         a, b = self.image.listed[700:702]
         self.listed(700, b)
         self.listed(701, a)
-        return "resumes", f"pfn order {b} {a}"
+        return "resumes", f"pfn order {b} {a}", [f"{self.word(701)}: {a} after {b}"]
 
     def end_too_early(self):
         self.listed(700, END)
-        return "refuses", f"bad pfn {END}"
+        found = [f"{self.word(700)}: {END} is no page frame", f"{self.word(701)}: {self.image.listed[701]} after {END}"]
+        return "refuses", f"bad pfn {END}", found
 
 
 def damages():
-    return [key for key in vars(Damage) if key not in ("put", "number", "entry", "listed") and not key.startswith("__")]
+    return [key for key in vars(Damage) if key not in ("put", "number", "entry", "listed", "place", "word") and not key.startswith("__")]
+
+
+def checked(found):
+    """What `swsusp_image check` prints of these findings: they, and how many they are."""
+    return "\n".join(found if found == ["no image"] else [*found, f"{len(found)} findings"] if found else ["whole"])
 
 
 def damage(path, *words):
-    """Does one, and prints both answers, parted by a bar; or prints the names."""
+    """Does one, and prints the answers, parted by bars; or prints the names."""
     if words:
-        print("|".join(getattr(Damage(path), words[0])()))
+        kernel, answer, found = getattr(Damage(path), words[0])()
+        print(kernel, answer, checked(found).replace("\n", ";"), sep="|")
     else:
         print("\n".join(damages()))
 
@@ -436,7 +481,7 @@ def cases(path):
                     file.seek(b * PAGE)
                     file.write(page)
             damaging = Damage(copy)
-            kernel, _ = getattr(damaging, key)()
+            kernel, *_ = getattr(damaging, key)()
             damaging.file.close()
             if kernel == "resumes":
                 continue
@@ -449,7 +494,7 @@ def cases(path):
     out.write(bytes(PAGE))
 
 
-CALLS = [facts, saved, loader, stranger, any_loader, tables, bad, compare, patterns, damage, cases, pack]
+CALLS = [facts, saved, loader, stranger, any_loader, tables, bad, compare, patterns, stream, pattern, moved, damage, cases, pack]
 COMMANDS = {call.__name__: call for call in CALLS}
 
 if __name__ == "__main__":
