@@ -1,5 +1,5 @@
 # make            proves and builds the programs
-# make install    puts programs, manual pages, completions, examples and documents below DESTDIR and PREFIX
+# make install    puts programs, manual pages, completions, examples, documents and the check before a resume below DESTDIR and PREFIX
 # make uninstall  removes them
 # make check      tries the programs that are built, and checks the documents
 # make deb        makes a Debian package of the programs that are built, in out/deb
@@ -12,6 +12,8 @@ DOCDIR ?= $(PREFIX)/share/doc/dirukofe
 BASHDIR ?= $(PREFIX)/share/bash-completion/completions
 ZSHDIR ?= $(PREFIX)/share/zsh/site-functions
 FISHDIR ?= $(PREFIX)/share/fish/vendor_completions.d
+INITRAMFSDIR ?= $(PREFIX)/share/initramfs-tools
+DRACUTDIR ?= $(PREFIX)/lib/dracut/modules.d
 
 SWSUSP := crates/swsusp/out/swsusp
 MACHINE := crates/swsusp_machine/out/swsusp_machine
@@ -21,7 +23,13 @@ PROGRAMS := $(SWSUSP) $(MACHINE) $(IMAGE)
 TOOLS := tools/make_area.sh tools/make_dump.py tools/extents.py
 MISSING = $(filter-out $(wildcard $(PROGRAMS)),$(PROGRAMS))
 
-.PHONY: all install uninstall check deb built
+# The check before a resume, for initramfs-tools and for dracut.
+HOOK := $(INITRAMFSDIR)/hooks/dirukofe
+PREMOUNT := $(INITRAMFSDIR)/scripts/local-premount/dirukofe
+CHECK := $(INITRAMFSDIR)/scripts/dirukofe_check
+MODULE := $(DRACUTDIR)/95dirukofe
+
+.PHONY: all install install-initramfs uninstall check deb built
 
 all:
 	cd crates/swsusp && rt run -- drill 10
@@ -31,7 +39,7 @@ all:
 built:
 	@test -z "$(MISSING)" || { echo "not built: $(MISSING); 'make' proves and builds them" >&2; exit 1; }
 
-install: built
+install: built install-initramfs
 	install -d $(addprefix $(DESTDIR),$(BINDIR) $(MANDIR)/man5 $(MANDIR)/man7 $(MANDIR)/man8 $(DOCDIR)/docs $(DOCDIR)/examples $(DOCDIR)/tools)
 	install -d $(addprefix $(DESTDIR),$(BASHDIR) $(ZSHDIR) $(FISHDIR))
 	install -m 755 $(PROGRAMS) $(DESTDIR)$(BINDIR)
@@ -49,13 +57,22 @@ install: built
 	install -m 755 $(filter %.sh,$(wildcard examples/*)) $(DESTDIR)$(DOCDIR)/examples
 	install -m 755 $(TOOLS) $(DESTDIR)$(DOCDIR)/tools
 
+install-initramfs:
+	install -D -m 755 packaging/initramfs/hook $(DESTDIR)$(HOOK)
+	install -D -m 755 packaging/initramfs/local-premount $(DESTDIR)$(PREMOUNT)
+	install -D -m 755 packaging/initramfs/check.sh $(DESTDIR)$(CHECK)
+	install -D -m 755 -t $(DESTDIR)$(MODULE) packaging/initramfs/check.sh packaging/initramfs/dracut/module-setup.sh \
+	    packaging/initramfs/dracut/check-resume.sh
+	install -m 644 packaging/initramfs/dracut/resume.conf $(DESTDIR)$(MODULE)
+
 uninstall:
 	rm -f $(addprefix $(DESTDIR)$(BINDIR)/,$(notdir $(PROGRAMS)))
 	rm -f $(DESTDIR)$(MANDIR)/man5/swsusp-script.5 $(DESTDIR)$(MANDIR)/man7/swsusp-replies.7
 	rm -f $(addprefix $(DESTDIR)$(MANDIR)/man8/,swsusp.8 swsusp_machine.8 swsusp_image.8)
 	rm -f $(addprefix $(DESTDIR)$(BASHDIR)/,swsusp swsusp_machine swsusp_image) $(addprefix $(DESTDIR)$(ZSHDIR)/,_swsusp _swsusp_machine _swsusp_image)
 	rm -f $(addprefix $(DESTDIR)$(FISHDIR)/,swsusp.fish swsusp_machine.fish swsusp_image.fish)
-	rm -rf $(DESTDIR)$(DOCDIR)
+	rm -f $(addprefix $(DESTDIR),$(HOOK) $(PREMOUNT) $(CHECK))
+	rm -rf $(DESTDIR)$(DOCDIR) $(DESTDIR)$(MODULE)
 
 check: built
 	python3 tests/run.py

@@ -1,5 +1,5 @@
 #!/bin/sh
-# linux_lab.sh [-m MACHINE] [-d FOLDER] [-t SECONDS] STEP ..: hibernates and resumes a real Linux 6.1 in qemu. The steps are:
+# linux_lab.sh [-m MACHINE] [-d FOLDER] [-t SECONDS] [-i INITRAMFS] STEP ..: hibernates and resumes a real Linux 6.1 in qemu. The steps are:
 #
 #   build                 makes the machine: a kernel, and an initramfs with the one program linux_lab/init.c
 #   hibernate IMAGE [W..] boots it with IMAGE as its disk, and lets it hibernate there. Where there is no such file, it is made a swap
@@ -10,6 +10,10 @@
 #   cases IMAGE CASES     boots it once and lets the kernel try to resume the image with each damage of the disk CASES, which
 #                         `linux_lab/image.py cases` makes, for the MIPS machine. Status 0 where none is resumed
 #   swap IMAGE            boots it and lets the kernel swap to IMAGE. Status 0 where it does
+#   debian PROGRAM        for x86-64: makes a Debian of its own by debootstrap, with the kernel's modules, what `make install-initramfs`
+#                         installs, and PROGRAM as its swsusp_image. In it mkinitramfs makes the initramfs `tools`, and dracut
+#                         `dracut`, and with systemd in it `systemd`; and both, without PROGRAM, `tools_bare` and `dracut_bare`. A boot takes one
+#                         of them with -i
 #   all                   build, and then a hibernation and its resume
 #
 # MACHINE is mips, the default, a 64-bit little-endian MIPS whose kernel is built from Debian's linux-source-6.1, or x86-64, whose kernel
@@ -21,11 +25,13 @@ here=$(cd "$(dirname "$0")" && pwd)
 machine=mips
 lab=${HOME:-/root}/.cache/dirukofe-linux-lab
 limit=180
-while getopts m:d:t: option; do
+initramfs=initramfs
+while getopts m:d:t:i: option; do
     case $option in
     m) machine=$OPTARG ;;
     d) lab=$OPTARG ;;
     t) limit=$OPTARG ;;
+    i) initramfs=$OPTARG ;;
     *) exit 2 ;;
     esac
 done
@@ -35,6 +41,10 @@ jobs=${JOBS:-$(nproc)}
 stop() {
     echo "linux_lab: $1" >&2
     exit 1
+}
+
+newer() {
+    [ "$(find "$1" -newer "$2")" ]
 }
 
 needs() {
@@ -62,7 +72,7 @@ built=$lab/$machine
 build_mips() {
     source=/usr/src/linux-source-6.1.tar.xz
     [ -f $source ] || stop "no $source: docs/LINUX.md names Debian's packages"
-    if [ -f "$built/kernel" ] && cmp -s "$here/linux_lab/mips.config" "$built/config" && [ "$built/kernel" -nt $source ]; then
+    if [ -f "$built/kernel" ] && cmp -s "$here/linux_lab/mips.config" "$built/config" && newer "$built/kernel" $source; then
         return
     fi
     rm -rf "$built/source" "$built/objects"
@@ -70,7 +80,7 @@ build_mips() {
     tar -x -f $source -C "$built/source" --strip-components=1
     set -- make -s -C "$built/source" O="$built/objects" ARCH=mips CROSS_COMPILE=mips64el-linux-gnuabi64-
     KCONFIG_ALLCONFIG="$here/linux_lab/mips.config" "$@" allnoconfig >"$built/build.log" 2>&1 || stop "$built/build.log says why"
-    for setting in $(grep = "$here/linux_lab/mips.config"); do
+    for setting in $(grep '=' "$here/linux_lab/mips.config"); do
         grep -q -x "$setting" "$built/objects/.config" || stop "the kernel has no $setting"
     done
     "$@" -j "$jobs" vmlinux >>"$built/build.log" 2>&1 || stop "$built/build.log says why"
@@ -106,14 +116,14 @@ build_x86_64() {
 
 build() {
     needs "$emulator" "$compiler" cpio gzip timeout
-    [ $machine != mips ] || needs make bc bison flex mips64el-linux-gnuabi64-nm
+    [ "$machine" != mips ] || needs make bc bison flex mips64el-linux-gnuabi64-nm
     mkdir -p "$built/root/proc" "$built/root/sys" "$built/root/dev"
     case $machine in
     mips) build_mips ;;
     x86-64) build_x86_64 ;;
     esac
     made=$built/initramfs
-    if [ ! -f "$made" ] || [ "$here/linux_lab/init.c" -nt "$made" ] || [ "$built/kernel" -nt "$made" ]; then
+    if [ ! -f "$made" ] || newer "$here/linux_lab/init.c" "$made" || newer "$built/kernel" "$made"; then
         "$compiler" -O2 -Wall -Wextra -Werror -static -o "$built/root/init" "$here/linux_lab/init.c"
         (cd "$built/root" && find . | LC_ALL=C sort | cpio -o -H newc --quiet) | gzip >"$made.new"
         mv "$made.new" "$made"
@@ -121,9 +131,61 @@ build() {
     echo "built $built"
 }
 
+# A Debian of its own, with what makes an initramfs, and the kernel's package.
+build_tree() {
+    tree=$built/debian
+    packages="initramfs-tools,busybox,dracut-core,systemd,systemd-sysv,dbus"
+    if [ "$(cat "$tree/packages" 2>/dev/null)" != "$packages" ]; then
+        rm -rf "$tree"
+        debootstrap --variant=minbase --include=$packages bookworm "$tree" >"$built/debian.log" 2>&1 || stop "$built/debian.log says why"
+        echo $packages >"$tree/packages"
+    fi
+    if [ "$(cat "$tree/kernel" 2>/dev/null)" != "$package" ]; then
+        rm -rf "$tree/lib/modules" "$tree/package"
+        mkdir "$tree/package"
+        (cd "$tree/package" && apt-get -q download "$package") >"$built/debian.log" 2>&1 || stop "$built/debian.log says why"
+        dpkg -x "$tree/package/"*.deb "$tree/package"
+        cp -R "$tree/package/lib/modules" "$tree/usr/lib"
+        cp "$tree/package/boot/"config-* "$tree/boot"
+        rm -rf "$tree/package"
+        echo "$package" >"$tree/kernel"
+    fi
+    # The drivers of this machine's disks, so that the initramfs is small.
+    echo MODULES=list >"$tree/etc/initramfs-tools/conf.d/lab"
+    printf '%s\n' virtio_pci virtio_blk >"$tree/etc/initramfs-tools/modules"
+}
+
+# An initramfs of this name, by a program of that Debian.
+make_initramfs() {
+    made=$built/$1
+    shift
+    chroot "$tree" "$@" /initramfs "$version" >>"$built/debian.log" 2>&1 || stop "$built/debian.log says why"
+    mv "$tree/initramfs" "$made"
+}
+
+debian() {
+    [ "$machine" = x86-64 ] || stop "debian is a step of -m x86-64"
+    needs debootstrap make chroot
+    [ -f "$built/kernel" ] || stop "nothing is built in $built: linux_lab.sh -m $machine build"
+    program=$1
+    package=$(cat "$built/config")
+    version=${package#linux-image-}
+    build_tree
+    set -- dracut --force --no-hostonly --drivers "virtio_pci virtio_blk" --add resume
+    make -s -C "$here/.." install-initramfs DESTDIR="$tree" PREFIX=/usr
+    rm -f "$tree/usr/bin/swsusp_image"
+    make_initramfs tools_bare mkinitramfs -o
+    make_initramfs dracut_bare "$@" --omit systemd
+    install -m 755 "$program" "$tree/usr/bin/swsusp_image"
+    make_initramfs tools mkinitramfs -o
+    make_initramfs dracut "$@" --omit systemd
+    make_initramfs systemd "$@"
+    echo "built $built/debian"
+}
+
 # Runs the machine until it switches itself off, or its time is up, and leaves in `ended` how it ended.
 run_machine() {
-    timeout -k 5 "$limit" "$emulator" -accel tcg "$@" -kernel "$built/kernel" -initrd "$built/initramfs" -append "$words" \
+    timeout -k 5 "$limit" "$emulator" -accel tcg "$@" -kernel "$built/kernel" -initrd "$built/$initramfs" -append "$words" \
         -drive "file=$image,format=raw,if=none,id=d0" -drive "file=$image.word,format=raw,if=none,id=d1" \
         $third -nic none -display none -monitor none -no-reboot -serial "file:$log" >"$image.qemu" 2>&1 &
     pid=$!
@@ -138,7 +200,7 @@ run_machine() {
 boot() {
     step=$1 image=$2 log=$2.$1.log
     shift 2
-    [ -f "$built/kernel" ] && [ -f "$built/initramfs" ] || stop "nothing is built in $built: linux_lab.sh -m $machine build"
+    [ -f "$built/kernel" ] && [ -f "$built/$initramfs" ] || stop "nothing is built in $built: linux_lab.sh -m $machine build"
     needs "$emulator" timeout
     handed=$(od -A n -t x8 -N 8 /dev/urandom | tr -d ' ')
     { printf %s "$handed" && head -c 65520 /dev/zero; } >"$image.word"
@@ -204,10 +266,10 @@ case ${1-} in
 build)
     build
     ;;
-hibernate | resume | cases | swap)
+hibernate | resume | cases | swap | debian)
     step=$1
     shift
-    [ $# -ge 1 ] || stop "$step wants an image"
+    [ $# -ge 1 ] || stop "$step wants a file"
     $step "$@"
     ;;
 all)
@@ -217,5 +279,5 @@ all)
     hibernate "$room/image" lab.pages=100 lab.used=64
     resume "$room/image"
     ;;
-*) stop "the steps are build, hibernate IMAGE, resume IMAGE, cases IMAGE CASES, swap IMAGE, all" ;;
+*) stop "the steps are build, hibernate IMAGE, resume IMAGE, cases IMAGE CASES, swap IMAGE, debian PROGRAM, all" ;;
 esac

@@ -3,11 +3,11 @@
 # the machines that linux_lab.sh builds in FOLDER, and boots for at most SECONDS. The programs are those that `rt run` leaves, without the words.
 # Prints a line for each case, and how many passed; ends with status 1 where one differs. Skips, with status 0, without qemu.
 #
-# The parts: plain, used, bad, full, compressed, signature, x86, damage. Without -p all are tried. Expected answers come from what
+# The parts: plain, used, bad, full, compressed, signature, x86, damage, initramfs. Without -p all are tried. Expected answers come from what
 # the kernel logs and does, and from docs/FORMATS.md by linux_lab/image.py, which reads images by itself.
 set -u
 top=$(cd "$(dirname "$0")/.." && pwd)
-parts="plain used bad full compressed signature x86 damage"
+parts="plain used bad full compressed signature x86 damage initramfs"
 lab=${HOME:-/root}/.cache/dirukofe-linux-lab
 limit=180
 while getopts d:t:p: option; do
@@ -411,6 +411,104 @@ part_damage() {
         esac
         same "damage $name: the kernel" "${told%%|*}" "$came"
     done
+}
+
+# A file of an initramfs that was made in the lab's own Debian.
+packed() {
+    gzip -d -c "$lab/x86-64/$1" | cpio -i --quiet --to-stdout "$2"
+}
+
+# What an initramfs has of this repository.
+listed() {
+    gzip -d -c "$lab/x86-64/$1" | cpio -t --quiet | grep -e dirukofe -e check-resume -e swsusp
+}
+
+# How a boot ends that takes one of those: `resumes`, `goes on` to a root that isn't there, or `stops`; after what the check said.
+booted() {
+    if lab -i "$1" resume "$2" resume=/dev/vda root=/dev/vdz rd.retry=5 rd.shell=0 rd.emergency=reboot ${3:-} >"$2.out" 2>&1; then
+        end=resumes
+    elif grep -q -e '^ALERT!  /dev/vdz does not exist' -e 'Warning: Could not boot' "$2.resume.log"; then
+        end="goes on"
+    else
+        end=stops
+    fi
+    sed -n 's/^.*\] dirukofe: //p' "$2.resume.log"
+    echo $end
+}
+
+# Debian's own initramfs, with the check of packaging/initramfs before the resume, made by mkinitramfs (`tools`) and by dracut, without
+# systemd in it (`dracut`) and with it (`systemd`).
+part_initramfs() {
+    if ! command -v qemu-system-x86_64 >/dev/null || ! command -v debootstrap >/dev/null; then
+        echo "left out: an initramfs that checks before the resume (no qemu-system-x86_64, or no debootstrap)"
+        return
+    fi
+    machine=x86-64
+    lab build >"$room/lab.out" 2>&1 && lab debian "$imager" >>"$room/lab.out" 2>&1 || {
+        sed 's/^/  /' "$room/lab.out"
+        same "initramfs: the lab's Debian is built" yes no
+        machine=mips
+        return
+    }
+    same "initramfs: mkinitramfs puts the check before the resume" "/scripts/local-premount/dirukofe
+/scripts/local-premount/resume" "$(packed tools scripts/local-premount/ORDER | sed -n 's/ "$@"$//p')"
+    same "initramfs: without swsusp_image mkinitramfs takes no check" "/scripts/local-premount/resume" \
+        "$(packed tools_bare scripts/local-premount/ORDER | sed -n 's/ "$@"$//p'; listed tools_bare)"
+    same "initramfs: without swsusp_image dracut takes no check" "" "$(listed dracut_bare)"
+    same "initramfs: dracut puts the check before the resume" "usr/lib/dracut/hooks/initqueue/finished/00-check-resume.sh
+usr/lib/dracut/hooks/pre-mount/05-check-resume.sh" "$(gzip -d -c "$lab/x86-64/dracut" | cpio -t --quiet | grep check-resume.sh | grep hooks | sort)"
+    real=$room/x86.img
+    [ -f "$real" ] || sh "$top/tools/make_area.sh" "$real" 32000
+    if [ -f "$real.hibernate.log" ] || hibernated x86 lab.pages=100; then
+        copy "$real" "$room/damaged.img"
+        image damage "$room/damaged.img" link_cut >/dev/null
+        copy "$real" "$room/none.img"
+        image damage "$room/none.img" unmarked >/dev/null
+        found="map 1: no next map, though the image has $(($(logged "$real" 'Saving image data pages (\([0-9]*\) pages)') + 1)) pages"
+        sum=$(cksum <"$room/damaged.img")
+        for maker in tools dracut systemd; do
+            checked_boots $maker
+        done
+        other_boots
+    fi
+    machine=mips
+}
+
+# With each maker: a whole image, none, and a damaged one with both settings.
+checked_boots() {
+    copy "$real" "$room/copy.img"
+    same "initramfs by $1: a whole image" "/dev/vda: the image is whole
+resumes" "$(booted "$1" "$room/copy.img" dirukofe.check=stop)"
+    copy "$room/none.img" "$room/copy.img"
+    same "initramfs by $1: no image, and nothing is said" "goes on" "$(booted "$1" "$room/copy.img" dirukofe.check=stop)"
+    copy "$room/damaged.img" "$room/copy.img"
+    same "initramfs by $1: a damaged image" "/dev/vda: $found
+/dev/vda: the image is damaged
+goes on" "$(booted "$1" "$room/copy.img")"
+    same "initramfs by $1: the kernel was asked for it, and gave it up" "marked no" "$(image facts "$room/copy.img" | grep marked)"
+    copy "$room/damaged.img" "$room/copy.img"
+    same "initramfs by $1: a damaged image, with the setting stop" "/dev/vda: $found
+/dev/vda: the image is damaged
+stops" "$(booted "$1" "$room/copy.img" dirukofe.check=stop)"
+    same "initramfs by $1: the area then" "$sum" "$(cksum <"$room/copy.img")"
+}
+
+# An area that lies in a device as a swap file, an image that is compressed, and the check switched off.
+other_boots() {
+    image moved "$real" 100 >"$room/copy.img"
+    same "initramfs: a whole image at an offset" "/dev/vda, offset 100: the image is whole
+resumes" "$(booted tools "$room/copy.img" resume_offset=100)"
+    image moved "$room/damaged.img" 100 >"$room/copy.img"
+    same "initramfs: a damaged image at an offset" "/dev/vda, offset 100: $found
+/dev/vda, offset 100: the image is damaged
+stops" "$(booted tools "$room/copy.img" "resume_offset=100 dirukofe.check=stop")"
+    copy "$real" "$room/copy.img"
+    same "initramfs: with the setting off" resumes "$(booted tools "$room/copy.img" dirukofe.check=off)"
+    sh "$top/tools/make_area.sh" "$room/packed.img" 32000
+    hibernated packed lab.pages=100 hibernate= || return
+    flags=$(image facts "$room/packed.img" | sed -n 's/^flags //p')
+    same "initramfs: a compressed image" "/dev/vda: not checked: flags $flags, a compressed image, which can't be read yet
+resumes" "$(booted tools "$room/packed.img" dirukofe.check=stop)"
 }
 
 lab build >"$room/lab.out" 2>&1 || {
