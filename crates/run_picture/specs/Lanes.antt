@@ -62,44 +62,44 @@ activity_after activity _ t = activity
 
 -- What is on the disk after a step: what a failed call has left,
 abbrev pub left_by : ImageShown → Left → ImageShown
-left_by image Same = image
-left_by image Gone = NoImage
-left_by image Unsure = Perhaps
+left_by held Same = held
+left_by held Gone = NoImage
+left_by held Unsure = Perhaps
 
 -- what a header block is that is written and not synced, in front of an operation's last step,
 abbrev pub marked : Activity → ImageShown → ℕ → ImageShown
-marked Saves image steps = if steps == 1 then Perhaps else image
-marked Settles image steps = if steps == 1 then Perhaps else image
-marked Wakes image steps = if steps == 1 then Perhaps else image
-marked _ image steps = image
+marked Saves held steps = if steps == 1 then Perhaps else held
+marked Settles held steps = if steps == 1 then Perhaps else held
+marked Wakes held steps = if steps == 1 then Perhaps else held
+marked _ held steps = held
 
 -- what a resume finds, takes back, and has synced,
 abbrev pub loaded : ImageShown → ℕ → ImageShown
-loaded image k = if nat_lt k 2 then image else if k == 2 then Image else if k == 3 then Perhaps else NoImage
+loaded held k = if nat_lt k 2 then held else if k == 2 then Image else if k == 3 then Perhaps else NoImage
 
 -- and what is left of an image that a resume refuses.
 abbrev pub refused : Activity → ImageShown → ImageShown
-refused Loads image = NoImage
-refused _ image = image
+refused Loads held = NoImage
+refused _ held = held
 
 abbrev pub written : Activity → ImageShown → Told → ImageShown
-written activity image (told.Booted true) = Image
-written activity image (told.Booted false) = NoImage
-written activity image told.Saved = Image
-written activity image told.Slept = Image
-written activity image told.Compressed = Image
-written activity image told.Runs = NoImage
-written activity image told.NoImage = NoImage
-written activity image (told.Undo call k) = Perhaps
-written activity image (told.Fault call left) = left_by image left
-written activity image (told.More k n) = marked activity image (n - k)
-written activity image (told.Loading k) = loaded image k
-written activity image told.Other = refused activity image
-written activity image _ = image
+written activity held (told.Booted true) = Image
+written activity held (told.Booted false) = NoImage
+written activity held told.Saved = Image
+written activity held told.Slept = Image
+written activity held told.Compressed = Image
+written activity held told.Runs = NoImage
+written activity held told.NoImage = NoImage
+written activity held (told.Undo call k) = Perhaps
+written activity held (told.Fault call left) = left_by held left
+written activity held (told.More k n) = marked activity held (n - k)
+written activity held (told.Loading k) = loaded held k
+written activity held told.Other = refused activity held
+written activity held _ = held
 
 -- no other event writes an image: a cut leaves what was there, and what that is is told by the next boot or resume
 abbrev pub image_after : Activity → ImageShown → Event → Told → ImageShown
-image_after activity image e t = if is_core e then written activity image t else image
+image_after activity held e t = if is_core e then written activity held t else held
 
 abbrev pub after : Lanes → Event → Told → Lanes
 after lanes e t = record {

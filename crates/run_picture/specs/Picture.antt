@@ -70,8 +70,8 @@ abbrev pub image_label : ImageShown → ImageShown → List ℕ
 image_label Image Image = []
 image_label NoImage Image = label_text (codes "242") (codes "image")
 image_label Perhaps Image = label_text (codes "242") (codes "image")
-image_label image NoImage = []
-image_label image Perhaps = []
+image_label held NoImage = []
+image_label held Perhaps = []
 
 abbrev pub begun_label : Bool → Activity → List ℕ
 begun_label begins activity = if begins then activity_label activity else []
