@@ -13,9 +13,13 @@ check_resume() (
     offset=$(getarg resume_offset=)
     sh /lib/dracut/dirukofe-check.sh "$device" "${offset:-0}" && exit 0
     why="dirukofe: the image on $device is damaged, and dirukofe.check=stop is set. After an exit the kernel gets it all the same."
-    # Without a shell (rd.shell=0) the machine is halted. Where there is no program for that, the kernel switches it off.
-    (emergency_shell -n dirukofe "$why") && exit 0
-    echo o > /proc/sysrq-trigger
+    # Who leaves the shell goes on. Where there is none (rd.shell=0), or an end behind it (rd.emergency=), the machine ends, and nothing goes on
+    # meanwhile: where there is no program that ends it, the kernel switches it off.
+    if getargbool 1 rd.shell && [ -z "$(getarg rd.emergency)" ]; then
+        emergency_shell -n dirukofe "$why"
+        exit 0
+    fi
+    (emergency_shell -n dirukofe "$why") || echo o > /proc/sysrq-trigger
     while :; do sleep 60; done
 )
 
