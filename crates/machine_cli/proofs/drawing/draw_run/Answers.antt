@@ -16,7 +16,7 @@ returns-in-Err-clause-drawn g c =
     let old = g.O.Sink.taken c.args.out.now in
     let new = g.O.Sink.taken c.put_head.new.out in
     let none = columns first (take 0 c.args.events.now) [] in
-    let front = subst (λ (k : ℕ). TakesFront (head k) old new) c.len.ensures c.put_head.ensures.front in (
+    let front = c.put_head.ensures.front in (
       0,
       [],
       played_none c.args.world.now (record { blocks = g.D.Disk.block_count c.args.disk.now; content = g.D.Disk.content c.args.disk.now; faults = g.D.Disk.faults c.args.disk.now; calls = g.D.Disk.calls c.args.disk.now; orders = g.D.Disk.orders c.args.disk.now }),
@@ -32,7 +32,7 @@ returns-in-Err-draw_events-clause-drawn g c =
     let k = c.in-Err-draw_events.ensures.drawn.0 in
     let rs = c.in-Err-draw_events.ensures.drawn.1 in
     let some = columns first (take k c.args.events.now) rs in
-    let whole = subst (λ (k : ℕ). TakesAll (head k) old mid) c.len.ensures c.in-Ok.ensures.whole in (
+    let whole = c.in-Ok.ensures.whole in (
       k,
       rs,
       c.in-Err-draw_events.ensures.drawn.2,
@@ -48,14 +48,14 @@ returns-in-Ok-put_foot-clause-drawn g c =
     let new = g.O.Sink.taken c.put_foot.new.out in
     let rs = c.in-Ok-draw_events.ensures.drawn.0 in
     let all = columns first c.args.events.now rs in
-    let whole = subst (λ (k : ℕ). TakesAll (head k) old mid) c.len.ensures c.in-Ok.ensures.whole in (
+    let whole = c.in-Ok.ensures.whole in (
       rs,
       c.in-Ok-draw_events.ensures.drawn.1,
       TakesAll-both (head n ++ all) foot old then new (TakesAll-both (head n) all old mid then whole c.in-Ok-draw_events.ensures.drawn.2) c.in-Ok-put_foot.ensures.whole,
     )
 
-pub returns-clause-drawn : goal.returns-clause-drawn
-returns-clause-drawn g c =
+pub returns-in-Err-put_foot-clause-drawn : goal.returns-in-Err-put_foot-clause-drawn
+returns-in-Err-put_foot-clause-drawn g c =
     let events = c.args.events.now in
     let n = length events in
     let old = g.O.Sink.taken c.args.out.now in
@@ -65,7 +65,7 @@ returns-clause-drawn g c =
     let before : DiskView = record { blocks = g.D.Disk.block_count c.args.disk.now; content = g.D.Disk.content c.args.disk.now; faults = g.D.Disk.faults c.args.disk.now; calls = g.D.Disk.calls c.args.disk.now; orders = g.D.Disk.orders c.args.disk.now } in
     let now : DiskView = record { blocks = g.D.Disk.block_count c.draw_events.new.disk; content = g.D.Disk.content c.draw_events.new.disk; faults = g.D.Disk.faults c.draw_events.new.disk; calls = g.D.Disk.calls c.draw_events.new.disk; orders = g.D.Disk.orders c.draw_events.new.disk } in
     let rs = c.in-Ok-draw_events.ensures.drawn.0 in
-    let whole = subst (λ (k : ℕ). TakesAll (head k) old mid) c.len.ensures c.in-Ok.ensures.whole in
+    let whole = c.in-Ok.ensures.whole in
     let drawn = TakesAll-both (head n) (columns first events rs) old mid then whole c.in-Ok-draw_events.ensures.drawn.2 in
     let all : take n events ≡ events = take_all n events (omega arith) in (
       n,
@@ -78,6 +78,6 @@ returns-clause-drawn g c =
 pub returns-in-Err-draw_events-clause-stream : goal.returns-in-Err-draw_events-clause-stream
 returns-in-Err-draw_events-clause-stream g c = risen_earlier _ _ _ c.put_head.ensures.counted c.in-Err-draw_events.ensures.stream
 
-pub returns-clause-stream : goal.returns-clause-stream
-returns-clause-stream g c =
+pub returns-in-Err-put_foot-clause-stream : goal.returns-in-Err-put_foot-clause-stream
+returns-in-Err-put_foot-clause-stream g c =
     risen_earlier _ _ _ (let a = c.put_head.ensures.counted in let b = c.draw_events.ensures.stream_faults in omega arith) c.in-Err-put_foot.ensures.cause
