@@ -1,5 +1,6 @@
 #!/bin/sh
-# quick_test.sh [NAME..]: runs the tests of tests/, the story and the scripts of examples/ over programs that are built without a proof.
+# quick_test.sh [NAME..]: runs the tests of tests/, but for those of the stack, the story and the scripts of examples/ over programs that are built
+# without a proof.
 #
 # It is for somebody who has changed a line: minutes in the place of an hour. Nothing of a contract is looked at. A program is
 # built anew where a source is newer, and stays in out/unproved. With names of files of tests/ only those are run.
@@ -31,7 +32,10 @@ if [ "$status" -ne 0 ]; then
     exit 1
 fi
 trap - EXIT HUP INT TERM
-SWSUSP=$built/swsusp SWSUSP_MACHINE=$built/swsusp_machine SWSUSP_IMAGE=$built/swsusp_image python3 "$top/tests/run.py" "$@" || status=1
+# How much stack a command takes is told of the proved build: this one is compiled otherwise.
+all=$(cd "$top/tests" && find . -name '*_tests.py' ! -name stack_tests.py | sed 's!^\./!!; s!\.py$!!' | sort)
+# shellcheck disable=SC2086
+SWSUSP=$built/swsusp SWSUSP_MACHINE=$built/swsusp_machine SWSUSP_IMAGE=$built/swsusp_image python3 "$top/tests/run.py" ${*:-$all} || status=1
 [ $# -eq 0 ] || exit "$status"
 python3 "$top/tools/check_examples.py" "$built/swsusp" || status=1
 sh "$top/examples/story.sh" "$built/swsusp" "$built/swsusp_machine" | diff "$top/examples/story.out" - || status=1
