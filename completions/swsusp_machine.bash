@@ -8,6 +8,7 @@ _swsusp_machine() {
     fi
     case $command:$word in
         help:*) mapfile -t COMPREPLY < <(compgen -W 'make draw loader show differ check' -- "$word") ;;
+        check:-*) mapfile -t COMPREPLY < <(compgen -W '--any-kernel --help' -- "$word") ;;
         *:-*) mapfile -t COMPREPLY < <(compgen -W '--help' -- "$word") ;;
         differ:* | check:*)
             compopt -o filenames 2> /dev/null

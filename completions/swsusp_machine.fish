@@ -10,5 +10,6 @@ complete -c swsusp_machine -n __fish_use_subcommand -a check -d 'Tells what a re
 complete -c swsusp_machine -n __fish_use_subcommand -a help -d 'Prints help'
 complete -c swsusp_machine -s h -l help -d 'Print help'
 complete -c swsusp_machine -n __fish_use_subcommand -s V -l version -d 'Print version'
+complete -c swsusp_machine -n '__fish_seen_subcommand_from check' -l any-kernel -d 'Take an image of another kernel too'
 complete -c swsusp_machine -n '__fish_seen_subcommand_from differ check' -F
 complete -c swsusp_machine -n '__fish_seen_subcommand_from help' -a "$commands[1..6]"

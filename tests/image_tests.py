@@ -125,6 +125,84 @@ def test_a_file_with_the_header_at_an_offset():
     check_findings(Built(20, header=77, first=3), options=("--offset", "77"))
 
 
+def compared(first, second, *options):
+    """What `differ` says of two images, neither of which it changes."""
+    with tempfile.TemporaryDirectory() as room:
+        paths = [pathlib.Path(room) / name for name in ["first", "second"]]
+        for path, built in zip(paths, [first, second]):
+            built.write(path)
+        before = [path.read_bytes() for path in paths]
+        ran = run("swsusp_image", "differ", *options, *paths)
+        check_same("the areas", [path.read_bytes() for path in paths], before)
+        return ran
+
+
+def changed(change, saved=600):
+    """An image with a change."""
+    built = Built(saved)
+    change(built)
+    return built
+
+
+def test_images_that_are_the_same():
+    """Which blocks an image lies in, and what belongs to the area, isn't compared."""
+    check(compared(Built(600), Built(600)), 0, b"same\n")
+    check(compared(Built(600), Built(600, bad=(1, 2, 3, 700), first=4, last=1500)), 0, b"same\n")
+    check(compared(Built(20, header=77, first=3), Built(20, header=77, first=9), "--offset", "77"), 0, b"same\n")
+    unsigned = changed(lambda built: built.put(0, 4056, struct.pack("<I", 7)))
+    check(compared(Built(600), unsigned), 0, b"same\n")
+
+
+# What is changed of the second image of 600 page frames, and the lines that tell it. Block 1 is its first map, block 2 its info page, 3 and 4
+# have the numbers 0 to 511 and 512 to 599, block 5 + P has page frame P's page up to 507, and from 508 on, after the second map, block 6 + P.
+DIFFERENCES = [
+    (lambda built: built.put(0, 4072, struct.pack("<I", 3)), ["header flags 2 3"]),
+    (lambda built: (built.put(0, 4072, struct.pack("<I", 10)), built.put(0, 4056, struct.pack("<I", 7))), ["header flags 2 10", "header hardware signature 0 7"]),
+    (lambda built: built.put(2, 392, struct.pack("<I", 393473)), ["identity version code"]),
+    (lambda built: built.put(2, 0, b"linux"), ["identity sysname"]),
+    (lambda built: built.put(2, 65, b"(some)"), ["identity nodename"]),
+    (lambda built: built.put(2, 130 + 5, b".1"), ["identity release"]),
+    (lambda built: built.put(2, 195 + 64 - 1, b"x"), ["identity version"]),
+    (lambda built: built.put(2, 260, b"mipsel"), ["identity machine"]),
+    (lambda built: built.put(2, 325, b"home"), ["identity domainname"]),
+    (lambda built: built.put(2, 400, struct.pack("<Q", 2**40)), ["memory size 65536 1099511627776"]),
+    (lambda built: built.put(5, 0, b"\0"), ["page 0"]),
+    (lambda built: (built.put(6 + 599, 4095, b"\0"), built.put(5 + 300, 2000, b"\0")), ["page 300", "page 599"]),
+    (lambda built: built.put_word(4, 87, 700), ["frame 599 first alone", "frame 700 second alone"]),
+    (lambda built: built.put_word(4, 87, 2**52 - 1), ["frame 599 first alone", f"frame {2**52 - 1} second alone"]),
+    (lambda built: (built.put(2, 130 + 5, b".1"), built.put(5, 0, b"\0"), built.put_word(4, 87, 700)), ["identity release", "page 0", "frame 599 first alone", "frame 700 second alone"]),
+]
+
+
+def test_images_that_differ():
+    for change, lines in DIFFERENCES:
+        text = "".join(f"{line}\n" for line in lines).encode()
+        check(compared(Built(600), changed(change)), 1, text)
+        check(compared(Built(600), changed(change), "--first"), 1, f"{lines[0]}\n".encode())
+        check(compared(changed(change), changed(change)), 0, b"same\n")
+    check(compared(Built(511), Built(513)), 1, b"frame 511 second alone\nframe 512 second alone\n")
+    check(compared(Built(513), Built(511)), 1, b"frame 511 first alone\nframe 512 first alone\n")
+    check(compared(Built(513), Built(511), "--first"), 1, b"frame 511 first alone\n")
+    check(compared(Built(20), Built(20), "--first"), 0, b"same\n")
+    for options in [["--first", "--offset", "77"], ["--offset", "77", "--first"]]:
+        check(compared(Built(20, header=77, first=3), Built(19, header=77, first=3), *options), 1, b"frame 19 first alone\n")
+
+
+def test_images_that_cant_be_compared():
+    none = changed(lambda built: built.put(0, 4086, b"SWAPSPACE2"))
+    for name, images in [("first", (none, Built(600))), ("second", (Built(600), none))]:
+        check(compared(*images), 1, note=f"{name}: no image\n")
+    skips = Built(600, flags=258)
+    for name, images in [("first", (skips, Built(600))), ("second", (Built(600), skips))]:
+        check(compared(*images), 1, note=f"{name}: pages of zeros aren't in the image\n")
+    # The entry of page frame 300, and page frame 0 changed in the other.
+    torn = changed(lambda built: built.put_entry(1, 303, 0))
+    other = changed(lambda built: built.put(5, 0, b"\0"))
+    found = "map 1 block 1 entry 303: block 0\n"
+    for name, images in [("first", (torn, other)), ("second", (other, torn))]:
+        check(compared(*images), 1, b"page 0\n", f"{found}{name}: the image has findings\n")
+
+
 def test_no_image():
     built = Built(8)
     built.put(0, 4086, b"SWAPSPACE2")
@@ -449,6 +527,7 @@ def test_stream_is_that_of_an_export_and_moves_an_image():
         check(ran, 0, exported)
         check_same("the status of the import", run("swsusp", "import", other.path, stdin=ran[1])[0], 0)
         check(run("swsusp_image", "check", other.path), 0, b"whole\n")
+        check(run("swsusp_image", "differ", one.path, other.path), 0, b"same\n")
         first = run("swsusp", "resume", one.path, stdin=loader)
         check_same("what is restored", run("swsusp", "resume", other.path, stdin=loader), first)
         check_refused(run("swsusp_image", "stream", one.path), "no image", 1)
@@ -550,9 +629,9 @@ NOT_PLAIN = "words: options go before SWAP, SWAP isn't empty nor begins with -, 
 def test_words():
     for words_ in [["check", "--offset", "01", "s"], ["check", "--offset", "+1", "s"], ["check", "s", "--offset", "1"], ["check", "-"], ["check", ""]]:
         check_refused(run("swsusp_image", *words_), NOT_PLAIN, 2)
-    for words_ in [["page", "s", "01"], ["page", "s", "+1"], ["stream", "s", "--offset", "1"]]:
+    for words_ in [["page", "s", "01"], ["page", "s", "+1"], ["stream", "s", "--offset", "1"], ["differ", "a", "--first", "b"], ["differ", "a", "b", "--first"], ["differ", "a", "-"], ["differ", "a", ""], ["differ", "", "b"], ["differ", "--offset", "+1", "a", "b"]]:
         check_refused(run("swsusp_image", *words_), NOT_PLAIN, 2)
-    for words_ in [[], ["check"], ["page", "s"], ["page", "s", "18446744073709551616"], ["check", "a", "b"], ["repair", "s"], ["check", "--offset", "4294967296", "s"]]:
+    for words_ in [[], ["check"], ["page", "s"], ["differ", "s"], ["differ", "a", "b", "c"], ["differ", "--first", "--first", "a", "b"], ["page", "s", "18446744073709551616"], ["check", "a", "b"], ["repair", "s"], ["check", "--offset", "4294967296", "s"]]:
         status, out, note = run("swsusp_image", *words_)
         if status != 2 or out or not note:
             raise Mismatch(f"{words_}: status {status}, {out!r} and {note!r}")
@@ -567,15 +646,19 @@ def test_files_that_arent_opened():
         for path in ["/nowhere", "/"]:
             note = f"open fault: {path} isn't there, is no file or block device, is in use, or is an output"
             check_refused(run("swsusp_image", command, path), note, 7)
+            if command == "check":
+                with tempfile.NamedTemporaryFile() as other:
+                    check_refused(run("swsusp_image", "differ", path, other.name), note, 7)
+                    check_refused(run("swsusp_image", "differ", other.name, path), note, 7)
 
 
 def test_quiet_changes_no_answer():
     built = Built(8)
-    for command in ["check", "show", "stream", "page"]:
+    for command in ["check", "show", "stream", "page", "differ"]:
         with tempfile.TemporaryDirectory() as room:
             path = pathlib.Path(room) / "area"
             built.write(path)
-            rest = ["0"] if command == "page" else []
+            rest = {"page": ["0"], "differ": [path]}.get(command, [])
             check_same(command, run("swsusp_image", "--quiet", command, path, *rest), run("swsusp_image", command, path, *rest))
     for words_ in [["--quiet"], ["check", "--quiet", "s"], ["--quiet", "--quiet", "check", "s"]]:
         status, out, note = run("swsusp_image", *words_)
@@ -586,14 +669,14 @@ def test_quiet_changes_no_answer():
 def test_closed_streams_leave_the_area():
     """With each set of closed standard streams nothing but a discard writes the area, and a stream that is used and closed fails."""
     built = Built(8)
-    for command in ["check", "show", "stream", "page", "discard"]:
+    for command in ["check", "show", "stream", "page", "differ", "discard"]:
         for closed in itertools.product([False, True], repeat=3):
             with tempfile.TemporaryDirectory() as room:
                 path = pathlib.Path(room) / "area"
                 built.write(path)
                 before = path.read_bytes()
                 closing = " ".join(text for text, is_closed in zip(["<&-", ">&-", "2>&-"], closed) if is_closed)
-                rest = "0" if command == "page" else ""
+                rest = {"page": "0", "differ": '"$2"'}.get(command, "")
                 line = f'"$1" {command} "$2" {rest} {closing}'
                 ran = subprocess.run(["sh", "-c", line, "sh", programs["swsusp_image"], path], capture_output=True, timeout=60, check=False)
                 check_same(f"the status of {line}", ran.returncode, 4 if closed[1] else 0)

@@ -71,6 +71,19 @@ def test_images_that_are_checked():
         check_no_image(swap)
 
 
+def test_another_kernels_image_that_is_checked():
+    """All bytes of the names and of the version code are 255."""
+    with area() as swap:
+        hibernate(swap)
+        swap.change(*[(2, 4 * i, 2**32 - 1) for i in range(99)])
+        before = swap.bytes()
+        dump = EXAMPLE.loader_with_nines()
+        check_refused(check_image(swap, dump), "mismatch version code")
+        check_line(machine("check", "--any-kernel", swap.path, stdin=dump), "resumed 5")
+        check_same("the disk", swap.bytes(), before)
+        check_restored(resume(swap, dump, "--any-kernel"))
+
+
 def test_damage_that_is_foretold():
     """A resume gives the image up before it says so."""
     with area() as swap:

@@ -9,8 +9,10 @@ from inputs import Machine, area
 
 KIB = 1024
 STACK = 256 * KIB
-# `show` keeps lists of facts in its frames, each with room for 630 bad pages.
-SHOW_STACK = 512 * KIB
+# These keep lists of facts in their frames, each with room for 630 bad pages.
+SHOW_STACK = 320 * KIB
+CORE_STACK = 640 * KIB
+DIFFER_STACK = 1024 * KIB
 SCRIPT = (pathlib.Path(__file__).resolve().parent.parent / "examples" / "machine.txt").read_bytes()
 
 
@@ -33,10 +35,14 @@ def test_each_command_runs_in_its_stack():
         within("swsusp", "inspect", swap.path)
         within("swsusp", "hibernate", swap.path, stdin=saved)
         within("swsusp_machine", "check", swap.path, stdin=loader)
+        within("swsusp_machine", "check", "--any-kernel", swap.path, stdin=loader)
         within("swsusp_image", "check", swap.path)
         within("swsusp_image", "show", swap.path, stack=SHOW_STACK)
         within("swsusp_image", "stream", swap.path)
         within("swsusp_image", "page", swap.path, 0)
+        within("swsusp_image", "loader", swap.path)
+        within("swsusp_image", "core", swap.path, stack=CORE_STACK)
+        within("swsusp_image", "differ", swap.path, swap.path, stack=DIFFER_STACK)
         within("swsusp", "resume", swap.path, stdin=loader)
         within("swsusp", "import", swap.path, stdin=within("swsusp", "export", stdin=saved))
         within("swsusp_image", "discard", swap.path)

@@ -135,11 +135,11 @@ def test_help_for_machines():
 
 
 def test_words_of_no_machine_command():
-    note = "words: a path isn't empty nor begins with -, and nothing stands between a command and its paths\n"
-    for words in [[], ["make", "a"], ["differ", "a"], ["check", "--any-kernel", "s"], ["no-command"], ["--quiet"], ["--quiet", "--quiet", "make"], ["make", "--quiet"]]:
+    note = "words: a path isn't empty nor begins with -, and nothing but --any-kernel stands between a command and its paths\n"
+    for words in [[], ["make", "a"], ["differ", "a"], ["check", "--any-kernel"], ["check", "--any-kernel", "--any-kernel", "s"], ["no-command"], ["--quiet"], ["--quiet", "--quiet", "make"], ["make", "--quiet"]]:
         if refused("swsusp_machine", *words) == note:
             raise Mismatch(f"{words}")
-    for words in [["differ", "-", "b"], ["differ", "a", ""], ["differ", "--", "a", "b"], ["check", ""], ["check", "-"], ["make", "--"]]:
+    for words in [["differ", "-", "b"], ["differ", "a", ""], ["differ", "--", "a", "b"], ["check", ""], ["check", "-"], ["check", "--any-kernel", "-"], ["check", "s", "--any-kernel"], ["make", "--"]]:
         check(run("swsusp_machine", *words), 2, note=note)
         check(run("swsusp_machine", "--quiet", *words), 2, note=note)
 

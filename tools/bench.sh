@@ -1,18 +1,21 @@
 #!/bin/sh
 # Takes the time of a hibernation and of a resume of 32,000 page frames, on a machine with 65,536 of them and 131,072 slots, over
 # files, beside a copy of as many bytes that is synced (with python3), and the greatest memory of each, and so for an export and an
-# import of the image as a stream. Then counts the
+# import of the image as a stream; and of `swsusp_image check` and `stream` beside a reading and a copy of the saved dump. Then counts the
 # instructions of the built program by valgrind's callgrind: of an empty script, of a line that claims a page frame, of
 # a line that shows a word, of that line's parse alone, and of a hibernation and a resume of 1,500 page frames; and takes the time of a
-# boot, a hibernation and a resume of 15,000 page frames at a script's limits. The program is the first word, or
-# crates/swsusp/out/swsusp, which `rt run` leaves. Without valgrind it says so and counts nothing.
+# boot, a hibernation and a resume of 15,000 page frames at a script's limits. The programs are the first and the second word, or
+# crates/swsusp/out/swsusp and crates/swsusp_image/out/swsusp_image, which `rt run` leaves. Without valgrind it says so and counts nothing.
 set -u
 top=$(cd "$(dirname "$0")/.." && pwd)
 program=${1:-$top/crates/swsusp/out/swsusp}
-if [ ! -x "$program" ]; then
-    echo "$program isn't built: rt run in crates/swsusp builds it"
-    exit 1
-fi
+image=${2:-$top/crates/swsusp_image/out/swsusp_image}
+for built in "$program" "$image"; do
+    if [ ! -x "$built" ]; then
+        echo "$built isn't built: rt run in its folder below crates/ builds it"
+        exit 1
+    fi
+done
 room=$(mktemp -d)
 trap 'trap "" PIPE HUP INT TERM; rm -rf "$room"' EXIT
 trap 'exit 1' PIPE HUP INT TERM
@@ -57,6 +60,12 @@ sync
 copy=$(measure /dev/null "$room/line" sh -c "cp '$room/saved' '$room/copy' && sync '$room/copy'")
 own=$(measure "$room/saved" "$room/line" "$program" hibernate "$room/area")
 beside "$(cat "$room/line")" "$own" "$copy"
+copy=$(measure /dev/null /dev/null cat "$room/saved")
+own=$(measure /dev/null "$room/line" "$image" check "$room/area")
+beside "checked, $(cat "$room/line")" "$own" "$copy"
+copy=$(measure /dev/null "$room/copy" cat "$room/saved")
+own=$(measure /dev/null "$room/stream" "$image" stream "$room/area")
+beside "streamed, $(($(wc -c <"$room/stream"))) bytes" "$own" "$copy"
 own=$(measure "$room/loader" "$room/restored" "$program" resume "$room/area")
 sync
 copy=$(measure /dev/null "$room/line" sh -c "cp '$room/restored' '$room/copy' && sync '$room/copy'")

@@ -1,1 +1,3 @@
+pub mod Noting
 pub mod Summing
+pub mod Telling

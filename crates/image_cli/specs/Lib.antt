@@ -1,4 +1,9 @@
 pub mod Checks
+pub mod Differing
+pub mod Differs
 pub mod Discards
+pub mod Notes
+pub mod Pages
 pub mod Printed
 pub mod Shows
+pub mod Streams

@@ -2,9 +2,13 @@
 #![tactic(auto)]
 
 mod checking;
+mod differing;
 mod discarding;
 mod showing;
+mod streaming;
 
 pub use checking::check;
+pub use differing::{Wanted, differ};
 pub use discarding::discard;
 pub use showing::show;
+pub use streaming::{page, stream};

@@ -144,6 +144,19 @@ impl Pages {
         page_seen(&visit)
     }
 
+    /// The same pages once more: what comes next of each is read by itself.
+    pub fn fork(&self) -> Result<Pages, NoMemory>
+        ensures stands { IfOk result (λ p. (content : Option Content) (blocks header : ℕ) (given : List (List ℕ)) →
+            Stands content blocks header self.now given → Stands content blocks header p given) }
+        ensures format { IfOk result (λ p. p.format ≡ self.now.format) }
+    {
+        Ok(Pages {
+            walker: self.walker.fork()?,
+            format: self.format,
+            progress: self.progress,
+        })
+    }
+
     /// How the image saves pages of zeros.
     pub fn format(&self) -> Format
         ensures { result ≡ self.now.format }

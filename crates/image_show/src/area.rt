@@ -11,11 +11,11 @@ ghost use Rattle.image_show.specs.declared.fault.Fault.TheVariants.{NoMemory, Wr
 
 use crate::Fault;
 use crate::image::show_image;
-use crate::printing::print_only;
+use crate::printing::{print_header_only, print_only};
 use crate::shown::Shown;
 use byte_streams::Sink;
 use image_check::{is_compressed, mark_in};
-use image_facts::{Fact, header_facts};
+use image_facts::Fact;
 use page_core::Page;
 use sector_disk::Disk;
 use sig_header::{AreaKind, Mark};
@@ -89,7 +89,7 @@ fn show_header<D: Disk, S: Sink>(
 {
     match readable_mark(AreaKind::read(page)) {
         Some(mark) => show_image(alloc, sink, disk, header, page, mark),
-        None => print_only(sink, header_facts(disk.blocks(), page).as_slice()),
+        None => print_header_only(sink, disk.blocks(), page),
     }
 }
 

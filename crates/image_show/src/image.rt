@@ -16,10 +16,10 @@ ghost use Rattle.image_show.specs.declared.fault.Fault.TheVariants.{NoMemory, Wr
 use crate::Fault;
 use crate::blocks::print_blocks;
 use crate::frames::print_frames;
-use crate::printing::print;
+use crate::printing::print_header;
 use byte_streams::Sink;
 use image_check::{format_of, limits_of};
-use image_facts::{Fact, Reading, header_facts};
+use image_facts::Reading;
 use page_core::{Failed, Format, Page};
 use sector_disk::Disk;
 use sig_header::Mark;
@@ -60,11 +60,10 @@ pub(crate) fn show_image<D: Disk, S: Sink>(
     let Ok(mut again) = Reading::begin(alloc, &limits, mark.first) else {
         return Err(Fault::NoMemory);
     };
-    let facts = header_facts(blocks, page);
     match print_image(
         sink,
         disk,
-        facts.as_slice(),
+        page,
         &mut once,
         &mut again,
         format_of(mark.flags),
@@ -74,11 +73,11 @@ pub(crate) fn show_image<D: Disk, S: Sink>(
     }
 }
 
-/// Prints some facts, and an image in two readings: of all its blocks, and of its number pages.
+/// Prints the facts of the header block, and the image in two readings: of all its blocks, and of its number pages.
 fn print_image<D: Disk, S: Sink>(
     sink: &mut S,
     disk: &mut D,
-    facts: &[Fact],
+    page: &Page,
     once: &mut Reading,
     again: &mut Reading,
     format: Format,
@@ -90,10 +89,10 @@ fn print_image<D: Disk, S: Sink>(
     requires start_again { Reads again.old.walker.next again.old [] }
     ensures shown { OnOk result ((image : List OneFact) × (ShowsImage true once.old.walker.limits once.old.walker.next
         (D.content disk.old) (D.faults disk.old) (D.faults disk.new) format image
-        × TakesAll (text_of (facts.now ++ image)) (S.taken sink.old) (S.taken sink.new))) }
+        × TakesAll (text_of (header_facts (D.block_count disk.old) page.now ++ image)) (S.taken sink.old) (S.taken sink.new))) }
     ensures front { OnErr result ((image : List OneFact) × (ShowsImage false once.old.walker.limits once.old.walker.next
         (D.content disk.old) (D.faults disk.old) (D.faults disk.new) format image
-        × TakesFront (text_of (facts.now ++ image)) (S.taken sink.old) (S.taken sink.new))) }
+        × TakesFront (text_of (header_facts (D.block_count disk.old) page.now ++ image)) (S.taken sink.old) (S.taken sink.new))) }
     ensures cause { OnErr result (HasRisen (S.faults sink.old) (S.faults sink.new)) }
     ensures counted { S.faults sink.old ≤ S.faults sink.new }
     ensures content { D.content disk.new ≡ D.content disk.old }
@@ -101,7 +100,7 @@ fn print_image<D: Disk, S: Sink>(
     ensures orders { D.orders disk.new ≡ D.orders disk.old }
     ensures blocks { D.block_count disk.new ≡ D.block_count disk.old }
 {
-    print(sink, facts)?;
+    print_header(sink, disk.blocks(), page)?;
     print_blocks(sink, disk, once)?;
     print_frames(sink, disk, again, format)
 }

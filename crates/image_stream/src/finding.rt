@@ -137,7 +137,7 @@ fn find_number<D: Disk, R: Report>(
 }
 
 /// Reads so many pages, and answers whether they were all read.
-fn read_ahead<D: Disk, R: Report>(
+pub fn read_ahead<D: Disk, R: Report>(
     pages: &mut Pages,
     disk: &mut D,
     report: &mut R,
@@ -166,7 +166,7 @@ fn read_ahead<D: Disk, R: Report>(
 }
 
 /// Reads a page that the image has, and answers whether it was read.
-fn read_page<D: Disk, R: Report>(
+pub fn read_page<D: Disk, R: Report>(
     pages: &mut Pages,
     disk: &mut D,
     report: &mut R,

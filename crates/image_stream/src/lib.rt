@@ -4,5 +4,5 @@
 mod finding;
 mod streaming;
 
-pub use finding::{Found, page_of};
+pub use finding::{Found, page_of, read_ahead, read_page};
 pub use streaming::{Stop, Streamed, stream};

@@ -20,6 +20,14 @@ impl BlockSet {
         Ok(BlockSet { words })
     }
 
+    /// The same set once more.
+    pub fn copy(&self) -> Result<BlockSet, NoMemory>
+        ensures { IfOk result (λ set. set.words.items ≡ self.now.words.items) }
+    {
+        let words = self.words.clone().map_err(|_| NoMemory)?;
+        Ok(BlockSet { words })
+    }
+
     /// Adds a block, and answers whether it was there before.
     pub fn insert(&mut self, block: u32) -> bool
         requires { block < 64 * length self.old.words.items }

@@ -49,6 +49,23 @@ impl Walker {
         })
     }
 
+    /// A second walker at the same place, which goes on by itself.
+    pub fn fork(&self) -> Result<Walker, NoMemory>
+        ensures limits { IfOk result (λ w. w.limits ≡ self.now.limits) }
+        ensures place { IfOk result (λ w. (first : ℕ) (h : List Name) → Follows first self.now h → Follows first w h) }
+    {
+        Ok(Walker {
+            limits: self.limits,
+            named: self.named.copy()?,
+            maps: self.maps,
+            at: self.at,
+            map: Page::from_bytes(self.map.as_bytes()),
+            left: self.left,
+            next: self.next,
+            over: self.over,
+        })
+    }
+
     /// Goes on to the next block that is named, and reads it into `page`. The chain ends behind a map that isn't read.
     pub fn step<D: Disk>(&mut self, disk: &mut D, page: &mut Page) -> Option<Visit>
         requires { D.block_count disk.old ≡ self.old.limits.blocks }

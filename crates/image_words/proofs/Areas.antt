@@ -14,9 +14,9 @@ use Rattle.clap.specs.declared.parser.matches.ValueSource.TheVariants.{CommandLi
 use Rattle.swsusp_words.specs.App.{offset_rule, swap_rule}
 use Rattle.swsusp_words.specs.Matched.{parsed}
 use Rattle.swsusp_words.proofs.Values.{IsNumber, IsValue}
-use Rattle.image_words.specs.App.{frame_rule}
-use Rattle.image_words.specs.Matched.{area_in, page_in}
-use Rattle.image_words.specs.Words.{page}
+use Rattle.image_words.specs.App.{first_rule, frame_rule, other_rule}
+use Rattle.image_words.specs.Matched.{area_in, differ_in, page_in}
+use Rattle.image_words.specs.Words.{page, differ}
 
 -- the arguments as they are built
 abbrev built_offset : Rule
@@ -39,6 +39,25 @@ built_help = record help_rule { range = Some (record { start_inclusive = 0; end_
 abbrev pub area_rules : List Rule
 area_rules = built_offset ∷ built_swap ∷ built_help ∷ []
 
+abbrev built_first : Rule
+built_first = record first_rule {
+  range = Some (record { start_inclusive = 0; end_inclusive = 0 });
+  defaults = codes "false" ∷ [];
+  missing = codes "true" ∷ [];
+  parser = Some parser.Bool;
+}
+
+abbrev built_other : Rule
+built_other = record other_rule {
+  action = Some Set;
+  range = Some (record { start_inclusive = 1; end_inclusive = 1 });
+  parser = Some parser.String;
+  index = Some 2;
+}
+
+abbrev pub differ_rules : List Rule
+differ_rules = built_offset ∷ built_swap ∷ built_first ∷ built_other ∷ built_help ∷ []
+
 abbrev pub page_rules : List Rule
 page_rules = built_offset ∷ built_swap ∷ built_frame ∷ built_help ∷ []
 
@@ -57,6 +76,13 @@ held_with_frame number swap frame = record {
   pending = Some (codes "frame", frame ∷ []);
   skip = 0;
 }
+
+-- --first, and what is held with the other path to come
+abbrev first_row : Row
+first_row = row_of (codes "first") (codes "true") AsWritten
+
+abbrev held_with_other : List Row → Text → Held
+held_with_other rows other = record { rows = rows; pending = Some (codes "other", other ∷ []); skip = 0 }
 
 -- what is asked after the walk
 abbrev end_passes : Shape → Held → Bool
@@ -117,3 +143,100 @@ module _ (swap : Text) (s : IsValue swap) where
       pub asks_page_at : page_in (rows_after page_rules [] (codes "--offset" ∷ number ∷ swap ∷ frame ∷ [])) ≡ Some (page (record { swap = swap; offset = n }) p)
       unfolding clap_on_literals
       asks_page_at = ap (λ h. page_in (finished page_rules h)) held_page_at ∙ simp (d.plain.dash, f.reads, d.reads)
+
+  module _ (other : Text) (o : IsValue other) where
+    held_differ_plain : (walk differ_rules [] nothing_held (swap ∷ other ∷ [])).held ≡ held_with_other (row_of (codes "swap") swap AsWritten ∷ []) other
+    unfolding clap_on_literals
+    held_differ_plain = simp (s.dash, s.dashes, o.dash, o.dashes)
+
+    walk_passes_differ_plain : (name : Text) → walk_passes (shape_of_rules differ_rules name) [] (walk_from nothing_held) (swap ∷ other ∷ []) ≡ true
+    unfolding clap_on_literals
+    walk_passes_differ_plain name = simp (s.dash, s.dashes, o.dash, o.dashes)
+
+    end_passes_differ_plain : (name : Text) → end_passes (shape_of_rules differ_rules name) (held_with_other (row_of (codes "swap") swap AsWritten ∷ []) other) ≡ true
+    unfolding clap_on_literals
+    end_passes_differ_plain name = refl
+
+    pub passes_differ_plain : (name : Text) → level_passes (shape_of_rules differ_rules name) [] nothing_held (swap ∷ other ∷ []) false ≡ true
+    passes_differ_plain name = ap₂ (λ a b. a && b) (walk_passes_differ_plain name) (ap (end_passes (shape_of_rules differ_rules name)) held_differ_plain ∙ end_passes_differ_plain name)
+
+    pub asks_differ_plain : differ_in (rows_after differ_rules [] (swap ∷ other ∷ [])) ≡ Some (differ false (record { swap = swap; offset = 0 }) other)
+    unfolding clap_on_literals
+    asks_differ_plain = ap (λ h. differ_in (finished differ_rules h)) held_differ_plain ∙ simp (zero_parsed)
+
+    held_differ_first : (walk differ_rules [] nothing_held (codes "--first" ∷ swap ∷ other ∷ [])).held ≡ held_with_other (first_row ∷ row_of (codes "swap") swap AsWritten ∷ []) other
+    unfolding clap_on_literals
+    held_differ_first = simp (s.dash, s.dashes, o.dash, o.dashes)
+
+    walk_passes_differ_first : (name : Text) → walk_passes (shape_of_rules differ_rules name) [] (walk_from nothing_held) (codes "--first" ∷ swap ∷ other ∷ []) ≡ true
+    unfolding clap_on_literals
+    walk_passes_differ_first name = simp (s.dash, s.dashes, o.dash, o.dashes)
+
+    end_passes_differ_first : (name : Text) → end_passes (shape_of_rules differ_rules name) (held_with_other (first_row ∷ row_of (codes "swap") swap AsWritten ∷ []) other) ≡ true
+    unfolding clap_on_literals
+    end_passes_differ_first name = refl
+
+    pub passes_differ_first : (name : Text) → level_passes (shape_of_rules differ_rules name) [] nothing_held (codes "--first" ∷ swap ∷ other ∷ []) false ≡ true
+    passes_differ_first name = ap₂ (λ a b. a && b) (walk_passes_differ_first name) (ap (end_passes (shape_of_rules differ_rules name)) held_differ_first ∙ end_passes_differ_first name)
+
+    pub asks_differ_first : differ_in (rows_after differ_rules [] (codes "--first" ∷ swap ∷ other ∷ [])) ≡ Some (differ true (record { swap = swap; offset = 0 }) other)
+    unfolding clap_on_literals
+    asks_differ_first = ap (λ h. differ_in (finished differ_rules h)) held_differ_first ∙ simp (zero_parsed)
+
+    module _ (number : Text) (n : ℕ) (d : IsNumber 32 (parser.Signed (pos 0) (pos 4294967295)) number n) where
+      held_differ_at : (walk differ_rules [] nothing_held (codes "--offset" ∷ number ∷ swap ∷ other ∷ [])).held ≡ held_with_other (row_of (codes "offset") number WithoutMinus ∷ row_of (codes "swap") swap AsWritten ∷ []) other
+      unfolding clap_on_literals
+      held_differ_at = simp (s.dash, s.dashes, o.dash, o.dashes, d.plain.dash, d.plain.dashes)
+
+      walk_passes_differ_at : (name : Text) → walk_passes (shape_of_rules differ_rules name) [] (walk_from nothing_held) (codes "--offset" ∷ number ∷ swap ∷ other ∷ []) ≡ true
+      unfolding clap_on_literals
+      walk_passes_differ_at name = simp (s.dash, s.dashes, o.dash, o.dashes, d.plain.dash, d.plain.dashes, d.fits)
+
+      end_passes_differ_at : (name : Text) → end_passes (shape_of_rules differ_rules name) (held_with_other (row_of (codes "offset") number WithoutMinus ∷ row_of (codes "swap") swap AsWritten ∷ []) other) ≡ true
+      unfolding clap_on_literals
+      end_passes_differ_at name = refl
+
+      pub passes_differ_at : (name : Text) → level_passes (shape_of_rules differ_rules name) [] nothing_held (codes "--offset" ∷ number ∷ swap ∷ other ∷ []) false ≡ true
+      passes_differ_at name = ap₂ (λ a b. a && b) (walk_passes_differ_at name) (ap (end_passes (shape_of_rules differ_rules name)) held_differ_at ∙ end_passes_differ_at name)
+
+      pub asks_differ_at : differ_in (rows_after differ_rules [] (codes "--offset" ∷ number ∷ swap ∷ other ∷ [])) ≡ Some (differ false (record { swap = swap; offset = n }) other)
+      unfolding clap_on_literals
+      asks_differ_at = ap (λ h. differ_in (finished differ_rules h)) held_differ_at ∙ simp (d.plain.dash, d.reads)
+
+      held_differ_first_at : (walk differ_rules [] nothing_held (codes "--first" ∷ codes "--offset" ∷ number ∷ swap ∷ other ∷ [])).held ≡ held_with_other (first_row ∷ row_of (codes "offset") number WithoutMinus ∷ row_of (codes "swap") swap AsWritten ∷ []) other
+      unfolding clap_on_literals
+      held_differ_first_at = simp (s.dash, s.dashes, o.dash, o.dashes, d.plain.dash, d.plain.dashes)
+
+      walk_passes_differ_first_at : (name : Text) → walk_passes (shape_of_rules differ_rules name) [] (walk_from nothing_held) (codes "--first" ∷ codes "--offset" ∷ number ∷ swap ∷ other ∷ []) ≡ true
+      unfolding clap_on_literals
+      walk_passes_differ_first_at name = simp (s.dash, s.dashes, o.dash, o.dashes, d.plain.dash, d.plain.dashes, d.fits)
+
+      end_passes_differ_first_at : (name : Text) → end_passes (shape_of_rules differ_rules name) (held_with_other (first_row ∷ row_of (codes "offset") number WithoutMinus ∷ row_of (codes "swap") swap AsWritten ∷ []) other) ≡ true
+      unfolding clap_on_literals
+      end_passes_differ_first_at name = refl
+
+      pub passes_differ_first_at : (name : Text) → level_passes (shape_of_rules differ_rules name) [] nothing_held (codes "--first" ∷ codes "--offset" ∷ number ∷ swap ∷ other ∷ []) false ≡ true
+      passes_differ_first_at name = ap₂ (λ a b. a && b) (walk_passes_differ_first_at name) (ap (end_passes (shape_of_rules differ_rules name)) held_differ_first_at ∙ end_passes_differ_first_at name)
+
+      pub asks_differ_first_at : differ_in (rows_after differ_rules [] (codes "--first" ∷ codes "--offset" ∷ number ∷ swap ∷ other ∷ [])) ≡ Some (differ true (record { swap = swap; offset = n }) other)
+      unfolding clap_on_literals
+      asks_differ_first_at = ap (λ h. differ_in (finished differ_rules h)) held_differ_first_at ∙ simp (d.plain.dash, d.reads)
+
+      held_differ_at_first : (walk differ_rules [] nothing_held (codes "--offset" ∷ number ∷ codes "--first" ∷ swap ∷ other ∷ [])).held ≡ held_with_other (row_of (codes "offset") number WithoutMinus ∷ first_row ∷ row_of (codes "swap") swap AsWritten ∷ []) other
+      unfolding clap_on_literals
+      held_differ_at_first = simp (s.dash, s.dashes, o.dash, o.dashes, d.plain.dash, d.plain.dashes)
+
+      walk_passes_differ_at_first : (name : Text) → walk_passes (shape_of_rules differ_rules name) [] (walk_from nothing_held) (codes "--offset" ∷ number ∷ codes "--first" ∷ swap ∷ other ∷ []) ≡ true
+      unfolding clap_on_literals
+      walk_passes_differ_at_first name = simp (s.dash, s.dashes, o.dash, o.dashes, d.plain.dash, d.plain.dashes, d.fits)
+
+      end_passes_differ_at_first : (name : Text) → end_passes (shape_of_rules differ_rules name) (held_with_other (row_of (codes "offset") number WithoutMinus ∷ first_row ∷ row_of (codes "swap") swap AsWritten ∷ []) other) ≡ true
+      unfolding clap_on_literals
+      end_passes_differ_at_first name = refl
+
+      pub passes_differ_at_first : (name : Text) → level_passes (shape_of_rules differ_rules name) [] nothing_held (codes "--offset" ∷ number ∷ codes "--first" ∷ swap ∷ other ∷ []) false ≡ true
+      passes_differ_at_first name = ap₂ (λ a b. a && b) (walk_passes_differ_at_first name) (ap (end_passes (shape_of_rules differ_rules name)) held_differ_at_first ∙ end_passes_differ_at_first name)
+
+      pub asks_differ_at_first : differ_in (rows_after differ_rules [] (codes "--offset" ∷ number ∷ codes "--first" ∷ swap ∷ other ∷ [])) ≡ Some (differ true (record { swap = swap; offset = n }) other)
+      unfolding clap_on_literals
+      asks_differ_at_first = ap (λ h. differ_in (finished differ_rules h)) held_differ_at_first ∙ simp (d.plain.dash, d.reads)

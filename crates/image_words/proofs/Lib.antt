@@ -4,5 +4,6 @@ pub mod Forms
 pub mod Getters
 pub mod Parsing
 pub mod Parts
+pub mod Ranges
 pub mod Shown
 pub mod Taken

@@ -1,18 +1,19 @@
 -- Clap takes each list of words that asks for a command, and its matches ask for it.
-use Rattle.std.proofs.Common.{◌≡◌, ◌∙◌, ◌<◌, ◌^◌, ◌&&◌, inl, inr, ℕ, true, false, pos, refl, sym, ap, ap₂, subst, arith, Some, List, [], ◌∷◌, codes, decimal, option_map}
+use Rattle.std.proofs.Common.{Bool, ◌≡◌, ◌∙◌, ◌<◌, ◌^◌, ◌&&◌, inl, inr, ℕ, true, false, pos, refl, sym, ap, ap₂, subst, arith, Some, List, [], ◌∷◌, codes, decimal, option_map}
 use Rattle.clap.specs.Words.{Row, Shape, Text, is_simple, subcommand_of, takes}
 use Rattle.clap.specs.Simple.{built}
 use Rattle.clap.specs.Takes.{level_passes}
 use Rattle.clap.specs.Walk.{nothing_held, rows_after}
 use Rattle.clap.proofs.OnLiterals.{clap_on_literals}
 use Rattle.clap.specs.declared.builder.value_parser.ValueParser.TheVariants as parser
+use Rattle.swsusp_words.specs.Words.{is_path}
 use Rattle.swsusp_words.proofs.Numbers.{as_signed, as_unsigned, plain_decimal}
 use Rattle.swsusp_words.proofs.Values.{IsNumber, path_value}
 use Rattle.image_words.specs.App.{image_app}
-use Rattle.image_words.specs.Matched.{area_in, asked_in, matched_by}
-use Rattle.image_words.specs.Spelled.{IsArea, IsSpelled, IsSpelledOver, IsValid}
-use Rattle.image_words.specs.Words.{Asked, SwapArea, check, show, stream, page, discard, command_of}
-use Rattle.image_words.proofs.Areas.{area_rules, asks_area, asks_area_at, asks_page, asks_page_at, page_rules, passes_area, passes_area_at, passes_page, passes_page_at, shape_of_rules}
+use Rattle.image_words.specs.Matched.{area_in, asked_in, differ_in, matched_by}
+use Rattle.image_words.specs.Spelled.{IsArea, IsSpelled, IsSpelledOver, IsValid, IsSpelledWith}
+use Rattle.image_words.specs.Words.{Asked, SwapArea, check, show, stream, page, core, differ, discard, command_of}
+use Rattle.image_words.proofs.Areas.{area_rules, asks_area, asks_area_at, asks_page, asks_page_at, page_rules, passes_area, passes_area_at, passes_page, passes_page_at, shape_of_rules, differ_rules, asks_differ_plain, asks_differ_first, asks_differ_at, asks_differ_first_at, asks_differ_at_first, passes_differ_plain, passes_differ_first, passes_differ_at, passes_differ_first_at, passes_differ_at_first}
 use Rattle.image_words.proofs.Enters.{Meets, entered_built, takes_built}
 use Rattle.image_words.proofs.Forms.{spells}
 
@@ -40,6 +41,14 @@ has_stream = record { stops = refl; turn = refl; ends = refl; found = refl }
 has_page : Has (codes "page") (shape_of_rules page_rules (codes "page"))
 unfolding clap_on_literals
 has_page = record { stops = refl; turn = refl; ends = refl; found = refl }
+
+has_core : Has (codes "core") (shape_of_rules area_rules (codes "core"))
+unfolding clap_on_literals
+has_core = record { stops = refl; turn = refl; ends = refl; found = refl }
+
+has_differ : Has (codes "differ") (shape_of_rules differ_rules (codes "differ"))
+unfolding clap_on_literals
+has_differ = record { stops = refl; turn = refl; ends = refl; found = refl }
 
 has_discard : Has (codes "discard") (shape_of_rules area_rules (codes "discard"))
 unfolding clap_on_literals
@@ -107,11 +116,45 @@ taken_page program area frame words valid small spelled =
           (asks_page_at area.swap path (decimal frame) frame number (decimal area.offset) area.offset offset))
     ]
 
+-- two areas
+module _ (program : Text) (area : SwapArea) (other : Text) (words : List Text) (valid : IsArea area) (path : is_path other ≡ true) where
+  compared : (first_only : Bool) (area : SwapArea) (own : List Text) → level_passes (shape_of_rules differ_rules (codes "differ")) [] nothing_held own false ≡ true
+      → differ_in (rows_after differ_rules [] own) ≡ Some (differ first_only area other) → Asks (program ∷ codes "differ" ∷ own) (differ first_only area other)
+  compared first_only area own passes is = by_name program (codes "differ") (shape_of_rules differ_rules (codes "differ")) own (differ first_only area other) has_differ passes is
+
+  taken_differ : (first_only : Bool) → IsSpelledWith first_only area (codes "differ") (codes "--first") (other ∷ []) words → Asks (program ∷ words) (differ first_only area other)
+  taken_differ false spelled =
+      let s = path_value area.swap valid.1 in
+      let o = path_value other path in
+      let offset = offset_value area.offset valid.0 in
+      elim spelled [
+        | inl h ↦ of_same words _ _ program h.1 (of_zero (program ∷ codes "differ" ∷ area.swap ∷ other ∷ []) (λ a. differ false a other) area h.0
+            (compared false (area_at area.swap 0) (area.swap ∷ other ∷ []) (passes_differ_plain area.swap s other o (codes "differ")) (asks_differ_plain area.swap s other o)))
+        | inr h ↦ of_same words _ _ program h (compared false area (codes "--offset" ∷ decimal area.offset ∷ area.swap ∷ other ∷ [])
+            (passes_differ_at area.swap s other o (decimal area.offset) area.offset offset (codes "differ")) (asks_differ_at area.swap s other o (decimal area.offset) area.offset offset))
+      ]
+  taken_differ true spelled =
+      let s = path_value area.swap valid.1 in
+      let o = path_value other path in
+      let offset = offset_value area.offset valid.0 in
+      elim spelled [
+        | inl h ↦ of_same words _ _ program h.1 (of_zero (program ∷ codes "differ" ∷ codes "--first" ∷ area.swap ∷ other ∷ []) (λ a. differ true a other) area h.0
+            (compared true (area_at area.swap 0) (codes "--first" ∷ area.swap ∷ other ∷ []) (passes_differ_first area.swap s other o (codes "differ")) (asks_differ_first area.swap s other o)))
+        | inr more ↦ elim more [
+          | inl h ↦ of_same words _ _ program h (compared true area (codes "--first" ∷ codes "--offset" ∷ decimal area.offset ∷ area.swap ∷ other ∷ [])
+              (passes_differ_first_at area.swap s other o (decimal area.offset) area.offset offset (codes "differ")) (asks_differ_first_at area.swap s other o (decimal area.offset) area.offset offset))
+          | inr h ↦ of_same words _ _ program h (compared true area (codes "--offset" ∷ decimal area.offset ∷ codes "--first" ∷ area.swap ∷ other ∷ [])
+              (passes_differ_at_first area.swap s other o (decimal area.offset) area.offset offset (codes "differ")) (asks_differ_at_first area.swap s other o (decimal area.offset) area.offset offset))
+        ]
+      ]
+
 taken : (program : Text) (words : List Text) (asked : Asked) → IsValid asked → IsSpelled asked words → Asks (program ∷ words) asked
 taken program words (check area) valid spelled = taken_over program (codes "check") (λ a. check a) area words has_check (λ rows. refl) valid spelled
 taken program words (show area) valid spelled = taken_over program (codes "show") (λ a. show a) area words has_show (λ rows. refl) valid spelled
 taken program words (stream area) valid spelled = taken_over program (codes "stream") (λ a. stream a) area words has_stream (λ rows. refl) valid spelled
 taken program words (page area frame) valid spelled = taken_page program area frame words valid.0 valid.1 spelled
+taken program words (core area) valid spelled = taken_over program (codes "core") (λ a. core a) area words has_core (λ rows. refl) valid spelled
+taken program words (differ first_only area other) valid spelled = taken_differ program area other words valid.0 valid.1 first_only spelled
 taken program words (discard area) valid spelled = taken_over program (codes "discard") (λ a. discard a) area words has_discard (λ rows. refl) valid spelled
 
 pub taken_as_asked : (words : List Text) (asked : Asked) → command_of words ≡ Some asked → Asks words asked

@@ -1,7 +1,8 @@
 -- The program's commands as clap reads them.
-use Rattle.std.specs.Prelude.{ℕ, List, Some, true, codes}
+use Rattle.std.specs.Prelude.{ℕ, List, Some, true, codes, pos}
 use Rattle.clap.specs.Words.{App, Rule, new_app, new_rule, with_rule, with_subcommand}
 use Rattle.clap.specs.Simple.{on_top}
+use Rattle.clap.specs.declared.builder.action.ArgAction.TheVariants.{Append, SetTrue}
 use Rattle.clap.specs.declared.builder.value_parser.ValueParser.TheVariants as parser
 use Rattle.swsusp_words.specs.App.{offset_rule, swap_rule}
 
@@ -20,6 +21,39 @@ frame_rule = record (new_rule (codes "frame")) {
 abbrev pub page_app : App
 page_app = with_rule (area_app (codes "page")) frame_rule
 
+-- [--first]
+abbrev pub first_rule : Rule
+first_rule = record (new_rule (codes "first")) { long = Some (codes "first"); action = Some SetTrue }
+
+-- SWAP, the second
+abbrev pub other_rule : Rule
+other_rule = record (new_rule (codes "other")) { value_names = 1; required = true }
+
+abbrev pub differ_app : App
+differ_app = with_rule (with_rule (area_app (codes "differ")) first_rule) other_rule
+
+-- --zone START COUNT and --extent START LENGTH BLOCK, which may be repeated
+abbrev pub zone_rule : Rule
+zone_rule = record (new_rule (codes "zone")) {
+  long = Some (codes "zone");
+  action = Some Append;
+  range = Some (record { start_inclusive = 2; end_inclusive = 2 });
+  value_names = 2;
+  parser = Some (parser.Signed (pos 0) (pos 4294967295));
+}
+
+abbrev pub extent_rule : Rule
+extent_rule = record (new_rule (codes "extent")) {
+  long = Some (codes "extent");
+  action = Some Append;
+  range = Some (record { start_inclusive = 3; end_inclusive = 3 });
+  value_names = 3;
+  parser = Some (parser.Signed (pos 0) (pos 4294967295));
+}
+
+abbrev pub loader_app : App
+loader_app = with_rule (with_rule (area_app (codes "loader")) zone_rule) extent_rule
+
 -- the program, which has a version and wants one of the commands
 abbrev pub program_app : App
 program_app =
@@ -30,7 +64,13 @@ image_app =
     with_subcommand
     (with_subcommand
     (with_subcommand
+    (with_subcommand
+    (with_subcommand
+    (with_subcommand
     (with_subcommand (with_subcommand program_app (area_app (codes "check")).top) (area_app (codes "show")).top)
     (area_app (codes "stream")).top)
     page_app.top)
-    (area_app (codes "discard")).top
+    (area_app (codes "core")).top)
+    differ_app.top)
+    (area_app (codes "discard")).top)
+    loader_app.top

@@ -8,7 +8,9 @@ abbrev pub is_among : List (List ℕ) → List ℕ → Bool
 is_among texts word = list_any (pointwise nat_eq word) texts
 
 abbrev pub commands : List (List ℕ)
-commands = codes "check" ∷ codes "show" ∷ codes "stream" ∷ codes "page" ∷ codes "discard" ∷ []
+commands =
+    codes "check" ∷ codes "show" ∷ codes "stream" ∷ codes "page" ∷ codes "core" ∷ codes "differ" ∷ codes "discard"
+    ∷ codes "loader" ∷ []
 
 abbrev pub help_flags : List (List ℕ)
 help_flags = codes "--help" ∷ codes "-h" ∷ []

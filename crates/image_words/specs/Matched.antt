@@ -2,9 +2,9 @@
 use Rattle.std.specs.Prelude.{◌≡◌, List, Option, Some, None, option_map, option_and_then, codes}
 use Rattle.std.specs.Prelude.{if◌then◌else◌}
 use Rattle.std.specs.Str.{bytes_eq}
-use Rattle.clap.specs.Words.{Row, Text}
-use Rattle.swsusp_words.specs.Matched.{number_at, swap_in}
-use Rattle.image_words.specs.Words.{Asked, SwapArea, check, show, stream, page, discard}
+use Rattle.clap.specs.Words.{Row, Text, first_of}
+use Rattle.swsusp_words.specs.Matched.{flag_at, number_at, swap_in}
+use Rattle.image_words.specs.Words.{Asked, SwapArea, check, show, stream, page, core, differ, discard}
 
 abbrev pub area_in : List Row → Option SwapArea
 area_in rows =
@@ -16,6 +16,11 @@ abbrev pub page_in : List Row → Option Asked
 page_in rows =
     option_and_then (λ area. option_map (λ frame. page area frame) (number_at 64 (codes "frame") rows)) (area_in rows)
 
+abbrev pub differ_in : List Row → Option Asked
+differ_in rows =
+    option_and_then (λ area. option_and_then (λ other. option_map (λ first_only. differ first_only area other)
+    (flag_at (codes "first") rows)) (first_of (codes "other") rows)) (area_in rows)
+
 -- what the matches of the subcommand with this name ask for
 abbrev pub matched_by : Text → List Row → Option Asked
 matched_by name rows =
@@ -23,6 +28,8 @@ matched_by name rows =
     else if bytes_eq name (codes "show") then option_map (λ area. show area) (area_in rows)
     else if bytes_eq name (codes "stream") then option_map (λ area. stream area) (area_in rows)
     else if bytes_eq name (codes "page") then page_in rows
+    else if bytes_eq name (codes "core") then option_map (λ area. core area) (area_in rows)
+    else if bytes_eq name (codes "differ") then differ_in rows
     else if bytes_eq name (codes "discard") then option_map (λ area. discard area) (area_in rows)
     else None
 

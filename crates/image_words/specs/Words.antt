@@ -1,5 +1,5 @@
 -- The command line of `swsusp_image`: which lists of words are plain, and what they ask for.
-use Rattle.std.specs.Prelude.{ℕ, ◌^◌, List, [], ◌∷◌, nat_eq, codes, if◌then◌else◌}
+use Rattle.std.specs.Prelude.{ℕ, ◌^◌, Bool, true, false, List, [], ◌∷◌, nat_eq, codes, if◌then◌else◌}
 use Rattle.std.specs.Prelude.{Option, Some, None, option_map, option_and_then}
 use Rattle.std.specs.Cmp.Lexicographic.{pointwise}
 use Rattle.swsusp_words.specs.Words.{is_path, plain_number}
@@ -15,6 +15,8 @@ pub data Asked : Type 0 where
   show : (area : SwapArea) → Asked
   stream : (area : SwapArea) → Asked
   page : (area : SwapArea) (frame : ℕ) → Asked
+  core : (area : SwapArea) → Asked
+  differ : (first_only : Bool) (area : SwapArea) (other : List ℕ) → Asked
   discard : (area : SwapArea) → Asked
 
 -- [--offset N], where N has 32 bits: the number, without the option 0, and the words after it
@@ -40,6 +42,29 @@ abbrev pub alone : Asked → List (List ℕ) → Option Asked
 alone asked [] = Some asked
 alone asked (word ∷ words) = None
 
+-- a flag, which may stand at the begin, and the words after it
+abbrev pub flag_first : List ℕ → List (List ℕ) → Bool × List (List ℕ)
+flag_first flag [] = (false, [])
+flag_first flag (word ∷ words) = if pointwise nat_eq word flag then (true, words) else (false, word ∷ words)
+
+-- [--offset N] and then [FLAG] SWAP, and what a command makes of the flag, the area and the words after it
+abbrev pub after_offset : List ℕ → (Bool → SwapArea → List (List ℕ) → Option Asked) → List (List ℕ) → Option Asked
+after_offset flag ask words =
+    option_and_then
+    (λ rest. over_path (ask (flag_first flag rest.1).0) rest.0 (flag_first flag rest.1).1) (offset_first words)
+
+-- [FLAG] and [--offset N] in either order, and then SWAP
+abbrev pub over_flagged : List ℕ → (Bool → SwapArea → List (List ℕ) → Option Asked) → List (List ℕ) → Option Asked
+over_flagged flag ask [] = None
+over_flagged flag ask (word ∷ words) =
+    if pointwise nat_eq word flag then over_area (ask true) words else after_offset flag ask (word ∷ words)
+
+-- the path of another area, whose header is in the block of the same number
+abbrev pub differ_of : Bool → SwapArea → List (List ℕ) → Option Asked
+differ_of first_only area [] = None
+differ_of first_only area (other ∷ []) = if is_path other then Some (differ first_only area other) else None
+differ_of first_only area (other ∷ more ∷ words) = None
+
 -- P, a number of 64 bits
 abbrev pub page_of : SwapArea → List (List ℕ) → Option Asked
 page_of area [] = None
@@ -53,6 +78,8 @@ command_by command words =
     else if pointwise nat_eq command (codes "show") then over_area (λ area. alone (show area)) words
     else if pointwise nat_eq command (codes "stream") then over_area (λ area. alone (stream area)) words
     else if pointwise nat_eq command (codes "page") then over_area page_of words
+    else if pointwise nat_eq command (codes "core") then over_area (λ area. alone (core area)) words
+    else if pointwise nat_eq command (codes "differ") then over_flagged (codes "--first") differ_of words
     else if pointwise nat_eq command (codes "discard") then over_area (λ area. alone (discard area)) words
     else None
 

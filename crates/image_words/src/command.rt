@@ -27,6 +27,16 @@ pub enum Command<'a> {
         /// The number of the page frame.
         frame: u64,
     },
+    /// Writes it as a core file of its machine's memory.
+    Core(Area<'a>),
+    /// Tells where it differs from that of another area.
+    Differ {
+        area: Area<'a>,
+        /// The path of the other area, whose header is in the block of the same number.
+        other: &'a str,
+        /// Whether the first difference alone is told.
+        first_only: bool,
+    },
     /// Takes its mark back.
     Discard(Area<'a>),
 }

@@ -1,10 +1,10 @@
 ghost use Rattle.std.specs.Prelude.{IfOk};
 ghost use Rattle.clap.specs.Words.{new_app};
 ghost use Rattle.swsusp_words.specs.App.{IsApp};
-ghost use Rattle.image_words.specs.App.{area_app, image_app, page_app};
+ghost use Rattle.image_words.specs.App.{area_app, differ_app, image_app, loader_app, page_app};
 
 use crate::details;
-use clap::{Arg, Command, value_parser};
+use clap::{Arg, ArgAction, Command, value_parser};
 use std::alloc::{AllocError, Global};
 
 /// The commands as clap knows them.
@@ -40,10 +40,18 @@ pub(crate) fn command_line<'a>(alloc: Global) -> Result<Command<'a>, AllocError>
     .subcommand(page(alloc)?)?
     .subcommand(over_area(
         alloc,
+        "core",
+        "Writes the image of a swap area as an ELF core file of its machine's memory",
+        details::CORE,
+    )?)?
+    .subcommand(comparison(alloc)?)?
+    .subcommand(over_area(
+        alloc,
         "discard",
         "Takes the mark of an image back",
         details::DISCARD,
-    )?)
+    )?)?
+    .subcommand(loader(alloc)?)
 }
 
 /// A command with its name, what it does, and the rest of its help.
@@ -90,4 +98,53 @@ fn page<'a>(alloc: Global) -> Result<Command<'a>, AllocError>
         details::PAGE,
     )?
     .arg(frame)
+}
+
+fn comparison<'a>(alloc: Global) -> Result<Command<'a>, AllocError>
+    ensures { IfOk result (IsApp differ_app) }
+{
+    let first = Arg::new(alloc, "first")
+        .long("first")
+        .action(ArgAction::SetTrue)
+        .help("Tell the first difference alone");
+    let other = Arg::new(alloc, "other")
+        .value_name("SWAP")
+        .required(true)
+        .help("Another swap file or block device");
+    over_area(
+        alloc,
+        "differ",
+        "Tells where two images differ",
+        details::DIFFER,
+    )?
+    .arg(first)?
+    .arg(other)
+}
+
+/// A loader's options may be repeated.
+fn loader<'a>(alloc: Global) -> Result<Command<'a>, AllocError>
+    ensures { IfOk result (IsApp loader_app) }
+{
+    let zone = Arg::new(alloc, "zone")
+        .long("zone")
+        .action(ArgAction::Append)
+        .num_args(2)
+        .value_names(&["START", "COUNT"])
+        .value_parser(value_parser!(u32))
+        .help("A zone of page frames, one of up to 16");
+    let extent = Arg::new(alloc, "extent")
+        .long("extent")
+        .action(ArgAction::Append)
+        .num_args(3)
+        .value_names(&["START", "LENGTH", "BLOCK"])
+        .value_parser(value_parser!(u32))
+        .help("An extent of the area, one of up to 64");
+    over_area(
+        alloc,
+        "loader",
+        "Makes the dump of a loader for the image of a swap area",
+        details::LOADER,
+    )?
+    .arg(zone)?
+    .arg(extent)
 }

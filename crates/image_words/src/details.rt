@@ -32,8 +32,32 @@ has none of P the status is 1.
 
 Example: swsusp_image page /dev/sda2 256 > page.bin";
 
+pub(crate) const CORE: &str =
+    "It only reads SWAP, and writes an ELF64 core file of the saved page frames to standard output: a PT_LOAD segment for
+each run of them, at its physical address, and a note that tells whose image it is. `readelf -lW` lists the segments,
+and gdb reads memory by it. Where SWAP has no image it writes nothing, and the status is 1.
+
+Example: swsusp_image core /dev/sda2 > memory.core";
+
+pub(crate) const DIFFER: &str =
+    "It only reads both areas, whose headers are in the block of the same number, and prints `same`, or with status 1
+a line for each difference: `header flags 2 10`, `identity release`, `memory size 4096 8192`, `frame 7 first alone`
+for a page frame that only the first image saves, `page 7` for one whose page is another. UUID, label and the
+blocks that an image lies in belong to the area and aren't compared.
+
+Example: swsusp_image differ before.img after.img";
+
 pub(crate) const DISCARD: &str =
     "It writes the signature from before the image back into the header block, whatever kernel the image is of, and
 prints `discarded`. The image can't be resumed then. Where SWAP has no image it prints `no image`, with status 1.
 
 Example: swsusp_image discard /dev/sda2";
+
+pub(crate) const LOADER: &str =
+    "It only reads SWAP, and writes the dump of a machine into which `swsusp resume` can resume the image: one that has just
+booted, with the identity that the image has. Without --zone it has the page frames from 0 on, as many as the image's
+machine; `--zone START COUNT` stands once for each zone. Without --extent the slots of the area lie on the blocks from 0 on;
+`--extent START LENGTH BLOCK` stands once for each extent. A machine has at most 65536 page frames and 131072 slots: where
+there is none for the image, the note says why, and the status is 1.
+
+Example: swsusp_image loader --zone 1 158 --zone 256 32510 /dev/sda2 > loader.dump";

@@ -1,7 +1,7 @@
 ghost use Rattle.std.specs.Prelude.{◌≡◌};
 ghost use Rattle.clap.specs.Words.{found_of, rows_of, subcommand_rows_of};
 ghost use Rattle.image_words.specs.Asked.{area_by, asked_by};
-ghost use Rattle.image_words.specs.Matched.{Answers, area_in, asked_in, matched_by, page_in};
+ghost use Rattle.image_words.specs.Matched.{Answers, area_in, asked_in, differ_in, matched_by, page_in};
 
 use crate::command::{Area, Command};
 use clap::ArgMatches;
@@ -16,6 +16,8 @@ pub(crate) fn matched<'a>(matches: &ArgMatches<'a>) -> Option<Command<'a>>
         "show" => Some(Command::Show(area_of(values)?)),
         "stream" => Some(Command::Stream(area_of(values)?)),
         "page" => page(values),
+        "core" => Some(Command::Core(area_of(values)?)),
+        "differ" => comparison(values),
         "discard" => Some(Command::Discard(area_of(values)?)),
         _ => None,
     }
@@ -27,6 +29,19 @@ fn page<'a>(values: &ArgMatches<'a>) -> Option<Command<'a>>
     let area = area_of(values)?;
     let frame = values.get_one::<u64>("frame")?;
     Some(Command::Page { area, frame })
+}
+
+fn comparison<'a>(values: &ArgMatches<'a>) -> Option<Command<'a>>
+    ensures { Answers asked_by (differ_in (rows_of (found_of values.now))) result }
+{
+    let area = area_of(values)?;
+    let other = values.get_str("other")?;
+    let first_only = values.get_flag("first");
+    Some(Command::Differ {
+        area,
+        other,
+        first_only,
+    })
 }
 
 fn area_of<'a>(values: &ArgMatches<'a>) -> Option<Area<'a>>

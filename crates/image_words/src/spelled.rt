@@ -2,8 +2,8 @@ ghost use Rattle.std.specs.Prelude.{◌≡◌, ◌↔◌, ◌++◌, IfSome, IsSo
 ghost use Rattle.clap.specs.Words.{subcommand_rows_of};
 ghost use Rattle.image_words.specs.Matched.{asked_in};
 ghost use Rattle.image_words.specs.Asked.{area_by, asked_by};
-ghost use Rattle.image_words.specs.Spelled.{IsArea, IsSpelledOver, Spells};
-ghost use Rattle.image_words.specs.Words.{Asked, command_of};
+ghost use Rattle.image_words.specs.Spelled.{IsArea, IsSpelledFlagged, IsSpelledOver, Spells};
+ghost use Rattle.image_words.specs.Words.{Asked, command_of, differ};
 
 use crate::command::{Area, Command};
 use crate::matched::matched;
@@ -46,8 +46,54 @@ fn spells(command: &Command<'_>, words: &[String]) -> bool
             let mut buffer = Buffer::new();
             spells_over(area, words, "page", &[buffer.format(frame)])
         }
+        Command::Core(area) => spells_over(area, words, "core", &[]),
+        Command::Differ {
+            area,
+            other,
+            first_only,
+        } => spells_differ(first_only, area, words, other),
         Command::Discard(area) => spells_over(area, words, "discard", &[]),
     }
+}
+
+/// Whether words are `differ`, the plain words of an area, perhaps `--first` among its options, and a path.
+fn spells_differ(first_only: bool, area: Area<'_>, words: &[String], other: &str) -> bool
+    ensures { IsTrue result ↔ Spells (differ first_only (area_by area.entry) other.now) (map string_bytes words.now) }
+{
+    if !is_path(other) {
+        return false;
+    }
+    if first_only {
+        spells_flagged(area, words, "differ", "--first", &[other])
+    } else {
+        spells_over(area, words, "differ", &[other])
+    }
+}
+
+/// Whether words are a command's name, the plain words of an area, a flag among its options, and these.
+fn spells_flagged<'a>(
+    area: Area<'a>,
+    words: &[String],
+    name: &'a str,
+    flag: &'a str,
+    own: &[&'a str],
+) -> bool
+    ensures { IsTrue result ↔ IsArea (area_by area.entry) ×
+        IsSpelledFlagged (area_by area.entry) name.now flag.now (map (λ text. text.now) own.now)
+        (map string_bytes words.now) }
+{
+    if !is_path(area.swap) {
+        return false;
+    }
+    if area.offset == 0 && are(words, &[name, flag, area.swap], own) {
+        return true;
+    }
+    let mut buffer = Buffer::new();
+    let number = buffer.format(area.offset);
+    if are(words, &[name, flag, "--offset", number, area.swap], own) {
+        return true;
+    }
+    are(words, &[name, "--offset", number, flag, area.swap], own)
 }
 
 /// Whether words are a command's name, the plain words of an area, and these.

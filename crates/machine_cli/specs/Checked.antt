@@ -9,7 +9,7 @@ use Rattle.plain_machine.specs.Chain.{Marked}
 use Rattle.plain_machine.specs.Machine.{Memory}
 use Rattle.plain_machine.specs.Premises.{HasOriginal}
 use Rattle.plain_machine.specs.Replies.{line_of}
-use Rattle.plain_machine.specs.declared.event.IdentCheck.TheVariants.{Compare}
+use Rattle.plain_machine.specs.declared.event.IdentCheck.{IdentCheck}
 use Rattle.command_kit.specs.Answer.{RunResult, memory_told}
 use Rattle.swsusp_cli.specs.Dumps.{IsDump, IsNoDump, stopped_told}
 use Rattle.swsusp_cli.specs.Loads.{is_resumed}
@@ -29,11 +29,13 @@ pub record IsOnlyRead (x x' : DiskView) : Type 0 where
   pub calls : x'.calls ≤ x.calls + 66000
 
 -- What is told is the last reply of a resume's trace over the disk as it reads, unless a call of the disk has failed.
-pub record IsForetold (x x' : View) (status : Status) (dump : DumpValue) (memory : Memory) (ended : Ended) : Type 0 where
+pub record IsForetold (check : IdentCheck) (x x' : View) (status : Status) (dump : DumpValue) (memory : Memory)
+    (ended : Ended) : Type 0 where
   pub dump_is : IsDump x x' dump
   pub told : Tells (foretold_told ended) status x x'
-  pub foretells : (c : disk.Content) → x.disk.content ≡ Some c → (Marked dump.hw (disk.as_it_reads c) → HasOriginal dump.hw (disk.as_it_reads c)) →
-      Foretells dump.hw dump.memory Compare (disk.as_it_reads c) memory ended
+  pub foretells : (c : disk.Content) → x.disk.content ≡ Some c →
+      (Marked dump.hw (disk.as_it_reads c) → HasOriginal dump.hw (disk.as_it_reads c)) →
+      Foretells dump.hw dump.memory check (disk.as_it_reads c) memory ended
   pub only_read : IsOnlyRead x.disk x'.disk
 
 -- memory was refused, before the disk was read or for a page that the resume would write
@@ -42,8 +44,9 @@ pub record IsShort (x x' : View) (status : Status) : Type 0 where
   pub only_read : IsOnlyRead x.disk x'.disk
 
 -- One of these, by what the outside told before and after.
-pub data Checks (x x' : View) (status : Status) : Type 0 where
-  no_dump : (fault : DumpFault) → IsNoDump x x' status fault → Checks x x' status
-  out_of_memory : IsShort x x' status → Checks x x' status
-  unread : IsUnread x x' status → Checks x x' status
-  foretold : (dump : DumpValue) (memory : Memory) (ended : Ended) → IsForetold x x' status dump memory ended → Checks x x' status
+pub data Checks (check : IdentCheck) (x x' : View) (status : Status) : Type 0 where
+  no_dump : (fault : DumpFault) → IsNoDump x x' status fault → Checks check x x' status
+  out_of_memory : IsShort x x' status → Checks check x x' status
+  unread : IsUnread x x' status → Checks check x x' status
+  foretold : (dump : DumpValue) (memory : Memory) (ended : Ended) → IsForetold check x x' status dump memory ended →
+      Checks check x x' status

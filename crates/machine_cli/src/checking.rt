@@ -15,8 +15,8 @@ use sector_disk::Disk;
 use std::alloc::Global;
 use swsusp_cli::{dump_of_input, machine_of, stopped};
 
-/// Reads a loader's dump to its end, and tells what a resume of the image on the disk into its machine would answer. The disk is only
-/// read.
+/// Reads a loader's dump to its end, and tells what a resume of the image on the disk into its machine would answer,
+/// with that test of whose image it is. The disk is only read.
 #[inline(never)]
 pub fn check<I: Source, O: Sink, N: Sink, D: Disk>(
     alloc: Global,
@@ -24,8 +24,9 @@ pub fn check<I: Source, O: Sink, N: Sink, D: Disk>(
     out: &mut O,
     note: &mut N,
     disk: &mut D,
+    ident_check: IdentCheck,
 ) -> Status
-    ensures outcome { Checks
+    ensures outcome { Checks ident_check
         (view I.Source O.Sink N.Sink D.Disk input.old out.old note.old disk.old)
         (view I.Source O.Sink N.Sink D.Disk input.new out.new note.new disk.new) result }
     ensures stream { result ≡ Status.Stream → HasRisen (I.faults input.old) (I.faults input.new)
@@ -41,7 +42,7 @@ pub fn check<I: Source, O: Sink, N: Sink, D: Disk>(
         Ok(world) => world,
         Err(NoMemory) => return no_memory().tell(out, note),
     };
-    match would_resume(&mut world, disk, IdentCheck::Compare) {
+    match would_resume(&mut world, disk, ident_check) {
         Ok(ended) => foretold(&ended).tell(out, note),
         Err(NoMemory) => no_memory().tell(out, note),
     }

@@ -3,6 +3,7 @@ use Rattle.std.proofs.Common.{◌≡◌, ◌∙◌, ◌&&◌, ◌⊎◌, inl, in
 use Rattle.std.specs.Cmp.Lexicographic.{pointwise}
 use Rattle.std.proofs.lemmas.Slice.Eq.{bytes_eq-Decides}
 use Rattle.clap.proofs.WalkLemmas.{both}
+use Rattle.plain_machine.specs.declared.event.IdentCheck.TheVariants.{Compare, Skip}
 use Rattle.swsusp_words.specs.Words.{is_path}
 use Rattle.swsusp_words.proofs.Numbers.{some_if}
 use Rattle.machine_words.specs.Spelled.{IsSpelled, IsValid, Spells}
@@ -29,9 +30,14 @@ spells_differ (first ∷ second ∷ more ∷ words) asked e = cc
 spells_check : (words : Words) (asked : Asked) → check_of words ≡ Some asked → Spells asked (codes "check" ∷ words)
 spells_check [] asked e = cc
 spells_check (swap ∷ []) asked e =
-    let p = some_if (is_path swap) (check swap) asked e in
-    as_asked (check swap) asked _ p.1 (p.0, refl)
-spells_check (swap ∷ more ∷ words) asked e = cc
+    let p = some_if (is_path swap) (check Compare swap) asked e in
+    as_asked (check Compare swap) asked _ p.1 (p.0, refl)
+spells_check (option ∷ swap ∷ []) asked e =
+    let p = some_if (pointwise nat_eq option (codes "--any-kernel") && is_path swap) (check Skip swap) asked e in
+    let tests = both (pointwise nat_eq option (codes "--any-kernel")) (is_path swap) p.0 in
+    let is : option ≡ codes "--any-kernel" = (bytes_eq-Decides option (codes "--any-kernel")).0 tests.0 in
+    as_asked (check Skip swap) asked _ p.1 (tests.1, ap (λ (a : List ℕ). codes "check" ∷ a ∷ swap ∷ []) is)
+spells_check (option ∷ swap ∷ more ∷ words) asked e = cc
 
 named : (command known : List ℕ) (words : Words) (asked : Asked) → pointwise nat_eq command known ≡ true → Spells asked (known ∷ words)
     → Spells asked (command ∷ words)
@@ -80,4 +86,5 @@ asks name words draw valid spelled = of_same words _ _ name spelled refl
 asks name words loader valid spelled = of_same words _ _ name spelled refl
 asks name words show valid spelled = of_same words _ _ name spelled refl
 asks name words (differ first second) valid spelled = of_same words _ _ name spelled (rw (valid.0, valid.1) refl)
-asks name words (check swap) valid spelled = of_same words _ _ name spelled (rw valid refl)
+asks name words (check Compare swap) valid spelled = of_same words _ _ name spelled (rw valid refl)
+asks name words (check Skip swap) valid spelled = of_same words _ _ name spelled (rw valid refl)

@@ -1,6 +1,7 @@
 -- What the getters of clap's matches give, by the rows of the matches.
-use Rattle.std.proofs.Common.{◌≡◌, ◌∙◌, refl, sym, Some, None, List, codes}
+use Rattle.std.proofs.Common.{◌≡◌, ◌∙◌, Bool, refl, sym, ap, Option, Some, None, List, codes}
 use Rattle.clap.specs.Words.{Row, Text, first_of}
+use Rattle.swsusp_words.specs.Matched.{check_by, flag_at}
 use Rattle.machine_words.specs.Matched.{check_in, differ_in}
 use Rattle.machine_words.specs.Words.{Asked, differ, check}
 
@@ -18,5 +19,12 @@ module _ (rows : List Row) (x : Asked) where
   pub no_swap : first_of (codes "swap") rows ≡ None → check_in rows ≡ Some x → ⊥
   no_swap none e = let nothing : check_in rows ≡ None = rw none refl in cc
 
-  pub checked : (swap : Text) → first_of (codes "swap") rows ≡ Some swap → check_in rows ≡ Some x → Some (check swap) ≡ Some x
-  checked swap is e = let made : check_in rows ≡ Some (check swap) = rw is refl in sym made ∙ e
+  pub checked : (swap : Text) (any : Bool) → first_of (codes "swap") rows ≡ Some swap → ((flag : Bool) → flag_at (codes "any-kernel") rows ≡ Some flag → any ≡ flag)
+      → check_in rows ≡ Some x → Some (check (check_by any) swap) ≡ Some x
+  checked swap any is told e = go (flag_at (codes "any-kernel") rows) refl
+    where
+      go : (o : Option Bool) → flag_at (codes "any-kernel") rows ≡ o → Some (check (check_by any) swap) ≡ Some x
+      go None off = let none : check_in rows ≡ None = rw (is, off) refl in cc
+      go (Some flag) at =
+          let made : check_in rows ≡ Some (check (check_by flag) swap) = rw (is, at) refl in
+          ap (λ (b : Bool). Some (check (check_by b) swap)) (told flag at) ∙ (sym made ∙ e)

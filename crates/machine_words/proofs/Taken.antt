@@ -2,6 +2,7 @@
 use Rattle.std.proofs.Common.{◌≡◌, true, refl, sym, subst, Some, List, [], ◌∷◌, codes}
 use Rattle.clap.specs.Words.{Text, subcommand_of, takes}
 use Rattle.clap.proofs.OnLiterals.{clap_on_literals}
+use Rattle.plain_machine.specs.declared.event.IdentCheck.TheVariants.{Compare, Skip}
 use Rattle.swsusp_words.proofs.Values.{IsValue, path_value}
 use Rattle.machine_words.specs.App.{machine_app}
 use Rattle.machine_words.specs.Matched.{asked_in}
@@ -48,12 +49,23 @@ module _ (name : Text) where
     unfolding clap_on_literals
     taken_swap = simp (s.dash, s.dashes)
 
-    matched_swap : asked_in (subcommand_of machine_app (name ∷ codes "check" ∷ swap ∷ [])) ≡ Some (check swap)
+    matched_swap : asked_in (subcommand_of machine_app (name ∷ codes "check" ∷ swap ∷ [])) ≡ Some (check Compare swap)
     unfolding clap_on_literals
     matched_swap = simp (s.dash, s.dashes)
 
-    checks : Asks (name ∷ codes "check" ∷ swap ∷ []) (check swap)
+    checks : Asks (name ∷ codes "check" ∷ swap ∷ []) (check Compare swap)
     checks = record { taken = taken_swap; matched = matched_swap }
+
+    taken_any : takes machine_app (name ∷ codes "check" ∷ codes "--any-kernel" ∷ swap ∷ []) ≡ true
+    unfolding clap_on_literals
+    taken_any = simp (s.dash, s.dashes)
+
+    matched_any : asked_in (subcommand_of machine_app (name ∷ codes "check" ∷ codes "--any-kernel" ∷ swap ∷ [])) ≡ Some (check Skip swap)
+    unfolding clap_on_literals
+    matched_any = simp (s.dash, s.dashes)
+
+    checks_any : Asks (name ∷ codes "check" ∷ codes "--any-kernel" ∷ swap ∷ []) (check Skip swap)
+    checks_any = record { taken = taken_any; matched = matched_any }
 
 of_same : (words known : List Text) (asked : Asked) (name : Text) → words ≡ known → Asks (name ∷ known) asked → Asks (name ∷ words) asked
 of_same words known asked name e h = subst (λ (w : List Text). Asks (name ∷ w) asked) (sym e) h
@@ -65,7 +77,8 @@ taken name words loader valid spelled = of_same words _ _ name spelled (loads na
 taken name words show valid spelled = of_same words _ _ name spelled (shows name)
 taken name words (differ first second) valid spelled =
     of_same words _ _ name spelled (differs name first second (path_value first valid.0) (path_value second valid.1))
-taken name words (check swap) valid spelled = of_same words _ _ name spelled (checks name swap (path_value swap valid))
+taken name words (check Compare swap) valid spelled = of_same words _ _ name spelled (checks name swap (path_value swap valid))
+taken name words (check Skip swap) valid spelled = of_same words _ _ name spelled (checks_any name swap (path_value swap valid))
 
 pub taken_as_asked : (words : List Text) (asked : Asked) → command_of words ≡ Some asked → Asks words asked
 taken_as_asked words asked e =

@@ -2,6 +2,7 @@
 use Rattle.std.specs.Prelude.{true, codes}
 use Rattle.clap.specs.Words.{App, Rule, new_app, new_rule, with_rule, with_subcommand}
 use Rattle.clap.specs.Simple.{on_top}
+use Rattle.swsusp_words.specs.App.{any_kernel_rule}
 
 abbrev pub make_app : App
 make_app = new_app (codes "make")
@@ -30,7 +31,7 @@ abbrev pub swap_rule : Rule
 swap_rule = record (new_rule (codes "swap")) { value_names = 1; required = true }
 
 abbrev pub check_app : App
-check_app = with_rule (new_app (codes "check")) swap_rule
+check_app = with_rule (with_rule (new_app (codes "check")) any_kernel_rule) swap_rule
 
 -- the program, which has a version and wants one of the commands
 abbrev pub program_app : App

@@ -9,4 +9,4 @@ asked_by Draw = draw
 asked_by Loader = loader
 asked_by Show = show
 asked_by (Differ first second) = differ first.now second.now
-asked_by (Check swap) = check swap.now
+asked_by (Check ident swap) = check ident swap.now

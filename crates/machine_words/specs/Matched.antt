@@ -2,6 +2,7 @@
 use Rattle.std.specs.Prelude.{◌≡◌, List, Option, Some, None, option_map, option_and_then, codes, if◌then◌else◌}
 use Rattle.std.specs.Str.{bytes_eq}
 use Rattle.clap.specs.Words.{Row, Text, first_of}
+use Rattle.swsusp_words.specs.Matched.{check_by, flag_at}
 use Rattle.machine_words.specs.Asked.{asked_by}
 use Rattle.machine_words.specs.declared.command.Command.{Command}
 use Rattle.machine_words.specs.Words.{Asked, make, draw, loader, show, differ, check}
@@ -10,7 +11,9 @@ abbrev pub differ_in : List Row → Option Asked
 differ_in rows = option_and_then (λ first. option_map (λ second. differ first second) (first_of (codes "second") rows)) (first_of (codes "first") rows)
 
 abbrev pub check_in : List Row → Option Asked
-check_in rows = option_map (λ swap. check swap) (first_of (codes "swap") rows)
+check_in rows =
+    option_and_then (λ swap. option_map (λ any. check (check_by any) swap) (flag_at (codes "any-kernel") rows))
+    (first_of (codes "swap") rows)
 
 -- what the matches of the subcommand with this name ask for
 abbrev pub matched_by : Text → List Row → Option Asked

@@ -1,5 +1,6 @@
 -- Which words a command is spelled by.
 use Rattle.std.specs.Prelude.{◌≡◌, ℕ, true, List, [], ◌∷◌, codes, ⊤}
+use Rattle.plain_machine.specs.declared.event.IdentCheck.TheVariants.{Compare, Skip}
 use Rattle.swsusp_words.specs.Words.{is_path}
 use Rattle.machine_words.specs.Words.{Asked, make, draw, loader, show, differ, check}
 
@@ -10,7 +11,7 @@ IsValid draw = ⊤
 IsValid loader = ⊤
 IsValid show = ⊤
 IsValid (differ first second) = (is_path first ≡ true) × (is_path second ≡ true)
-IsValid (check swap) = is_path swap ≡ true
+IsValid (check ident swap) = is_path swap ≡ true
 
 -- the words after the program's name are this command's
 abbrev pub IsSpelled : Asked → List (List ℕ) → Type 0
@@ -19,7 +20,8 @@ IsSpelled draw words = words ≡ codes "draw" ∷ []
 IsSpelled loader words = words ≡ codes "loader" ∷ []
 IsSpelled show words = words ≡ codes "show" ∷ []
 IsSpelled (differ first second) words = words ≡ codes "differ" ∷ first ∷ second ∷ []
-IsSpelled (check swap) words = words ≡ codes "check" ∷ swap ∷ []
+IsSpelled (check Compare swap) words = words ≡ codes "check" ∷ swap ∷ []
+IsSpelled (check Skip swap) words = words ≡ codes "check" ∷ codes "--any-kernel" ∷ swap ∷ []
 
 abbrev pub Spells : Asked → List (List ℕ) → Type 0
 Spells asked words = IsValid asked × IsSpelled asked words

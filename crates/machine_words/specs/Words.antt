@@ -1,6 +1,8 @@
 -- The command line of `swsusp_machine`: which lists of words are plain, and what they ask for.
 use Rattle.std.specs.Prelude.{ℕ, List, [], ◌∷◌, ◌&&◌, nat_eq, codes, Option, Some, None, if◌then◌else◌}
 use Rattle.std.specs.Cmp.Lexicographic.{pointwise}
+use Rattle.plain_machine.specs.declared.event.IdentCheck.{IdentCheck}
+use Rattle.plain_machine.specs.declared.event.IdentCheck.TheVariants.{Compare, Skip}
 use Rattle.swsusp_words.specs.Words.{is_path}
 
 -- what a list of words asks for, with its values
@@ -10,7 +12,7 @@ pub data Asked : Type 0 where
   loader : Asked
   show : Asked
   differ : (first second : List ℕ) → Asked
-  check : (swap : List ℕ) → Asked
+  check : (ident : IdentCheck) (swap : List ℕ) → Asked
 
 -- this, where no word follows
 abbrev pub alone : Asked → List (List ℕ) → Option Asked
@@ -24,11 +26,13 @@ differ_of (first ∷ []) = None
 differ_of (first ∷ second ∷ []) = if is_path first && is_path second then Some (differ first second) else None
 differ_of (first ∷ second ∷ more ∷ words) = None
 
--- check SWAP
+-- check [--any-kernel] SWAP
 abbrev pub check_of : List (List ℕ) → Option Asked
 check_of [] = None
-check_of (swap ∷ []) = if is_path swap then Some (check swap) else None
-check_of (swap ∷ more ∷ words) = None
+check_of (swap ∷ []) = if is_path swap then Some (check Compare swap) else None
+check_of (option ∷ swap ∷ []) =
+    if pointwise nat_eq option (codes "--any-kernel") && is_path swap then Some (check Skip swap) else None
+check_of (option ∷ swap ∷ more ∷ words) = None
 
 -- what a command asks for with its own words
 abbrev pub command_by : List ℕ → List (List ℕ) → Option Asked

@@ -1,6 +1,7 @@
 use crate::command_line::command_line;
 use crate::spelled::plain;
 use crate::unparsed::{Unparsed, said};
+use plain_machine::IdentCheck;
 use std::alloc::Global;
 
 /// What the program is asked to do.
@@ -22,6 +23,8 @@ pub enum Command<'a> {
     },
     /// Tells what a resume of an image would answer.
     Check {
+        /// Whether the image must be this kernel's.
+        check: IdentCheck,
         /// The path of the swap file or block device.
         swap: &'a str,
     },
@@ -47,7 +50,7 @@ impl<'a> Command<'a> {
             Some(command) => Ok(command),
             None => Err(Unparsed::Words(String::from_str(
                 alloc,
-                "words: a path isn't empty nor begins with -, and nothing stands between a command and its paths\n",
+                "words: a path isn't empty nor begins with -, and nothing but --any-kernel stands between a command and its paths\n",
             )?)),
         }
     }

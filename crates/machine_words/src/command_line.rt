@@ -4,7 +4,7 @@ ghost use Rattle.swsusp_words.specs.App.{IsApp};
 ghost use Rattle.machine_words.specs.App.{check_app, differ_app, draw_app, loader_app, machine_app, make_app, show_app};
 
 use crate::details;
-use clap::{Arg, Command};
+use clap::{Arg, ArgAction, Command};
 use std::alloc::{AllocError, Global};
 
 /// The commands as clap knows them.
@@ -102,6 +102,10 @@ fn comparison<'a>(alloc: Global) -> Result<Command<'a>, AllocError>
 fn trial<'a>(alloc: Global) -> Result<Command<'a>, AllocError>
     ensures { IfOk result (IsApp check_app) }
 {
+    let any_kernel = Arg::new(alloc, "any-kernel")
+        .long("any-kernel")
+        .action(ArgAction::SetTrue)
+        .help("Take an image of another kernel too");
     let swap = Arg::new(alloc, "swap")
         .value_name("SWAP")
         .required(true)
@@ -112,5 +116,6 @@ fn trial<'a>(alloc: Global) -> Result<Command<'a>, AllocError>
         "Tells what a resume of an image would answer",
         details::CHECK,
     )
+    .arg(any_kernel)?
     .arg(swap)
 }

@@ -39,5 +39,6 @@ Example: swsusp_machine differ saved.dump restored.dump";
 pub(crate) const CHECK: &str =
     "It reads a loader's dump from standard input, and prints what `swsusp resume SWAP` would: `resumed N`,
 or the note and the status of why not.
+With `--any-kernel` it says what `swsusp resume --any-kernel SWAP` would print.
 
 Example: swsusp_machine check area.img < loader.dump";

@@ -1,9 +1,11 @@
 ghost use Rattle.std.specs.Prelude.{◌≡◌};
 ghost use Rattle.clap.specs.Words.{found_of, rows_of, subcommand_rows_of};
 ghost use Rattle.machine_words.specs.Matched.{AnswersTo, asked_in, check_in, differ_in, matched_by};
+ghost use Rattle.swsusp_words.specs.Matched.{check_by};
 
 use crate::command::Command;
 use clap::ArgMatches;
+use plain_machine::IdentCheck;
 
 /// The command that matches ask for.
 pub(crate) fn matched<'a>(matches: &ArgMatches<'a>) -> Option<Command<'a>>
@@ -33,5 +35,16 @@ fn trial<'a>(values: &ArgMatches<'a>) -> Option<Command<'a>>
     ensures { AnswersTo (check_in (rows_of (found_of values.now))) result }
 {
     let swap = values.get_str("swap")?;
-    Some(Command::Check { swap })
+    let check = check_of(values.get_flag("any-kernel"));
+    Some(Command::Check { check, swap })
+}
+
+fn check_of(any_kernel: bool) -> IdentCheck
+    ensures { result ≡ check_by any_kernel }
+{
+    if any_kernel {
+        IdentCheck::Skip
+    } else {
+        IdentCheck::Compare
+    }
 }

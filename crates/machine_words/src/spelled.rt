@@ -3,11 +3,12 @@ ghost use Rattle.clap.specs.Words.{subcommand_rows_of};
 ghost use Rattle.machine_words.specs.Matched.{asked_in};
 ghost use Rattle.machine_words.specs.Asked.{asked_by};
 ghost use Rattle.machine_words.specs.Spelled.{Spells};
-ghost use Rattle.machine_words.specs.Words.{Asked, command_of};
+ghost use Rattle.machine_words.specs.Words.{Asked, check, command_of};
 
 use crate::command::Command;
 use crate::matched::matched;
 use clap::ArgMatches;
+use plain_machine::IdentCheck;
 use swsusp_words::{equal, is_path};
 
 /// The command that matches of words ask for, if the words are its plain ones.
@@ -45,6 +46,18 @@ fn spells(command: &Command<'_>, words: &[String]) -> bool
         Command::Differ { first, second } => {
             is_path(first) && is_path(second) && equal(words, &["differ", first, second])
         }
-        Command::Check { swap } => is_path(swap) && equal(words, &["check", swap]),
+        Command::Check { check, swap } => is_check(check, swap, words),
+    }
+}
+
+fn is_check(ident: IdentCheck, swap: &str, words: &[String]) -> bool
+    ensures { IsTrue result ↔ Spells (check ident swap.now) (map string_bytes words.now) }
+{
+    if !is_path(swap) {
+        return false;
+    }
+    match ident {
+        IdentCheck::Compare => equal(words, &["check", swap]),
+        IdentCheck::Skip => equal(words, &["check", "--any-kernel", swap]),
     }
 }

@@ -1,14 +1,17 @@
 //! `swsusp_image`: looks into the hibernation image of a swap area, moves it and gives it up.
 #![tactic(auto)]
 
-use byte_streams::{Sink, StdSink};
+use byte_streams::StdSink;
 use command_kit::{Status, print, tell};
 use file_disk::FileDisk;
 use image_check::Printer;
-use image_cli::{check, discard, show};
-use image_stream::{Found, Stop, Streamed, page_of, stream};
+use image_cli::{Wanted, check, differ, discard, page, show, stream};
+use image_core::{Stop, write_core};
+use image_differ::Side;
+use image_machine::Layout;
+use image_machine_cli::loader;
 use image_words::{Area, Command, Unparsed};
-use page_core::{NoMemory, Page};
+use loader_words::Asked;
 use progress_disk::{Meter, ProgressDisk};
 use standard_streams::{Held, hold, is_output, sync_output};
 use std::env;
@@ -29,14 +32,28 @@ fn main(rt: HostRuntime) -> ExitCode {
         return no_memory(&rt);
     };
     let (words, quiet) = after_quiet(&words);
-    match Command::parse(rt.alloc(), words) {
-        Ok(Command::Stream(_) | Command::Page { .. }) if rt.stdout().is_terminal() => {
+    if let Some(asked) = loader_words::parse(words) {
+        return if rt.stdout().is_terminal() {
             sink_fault(&rt)
-        }
+        } else {
+            make_loader(&rt, &asked, quiet)
+        };
+    }
+    match Command::parse(rt.alloc(), words) {
+        Ok(Command::Stream(_) | Command::Page { .. } | Command::Core(_))
+            if rt.stdout().is_terminal() => { sink_fault(&rt) }
         Ok(Command::Check(area)) => check_image(&rt, area, quiet),
         Ok(Command::Show(area)) => show_image(&rt, area, quiet),
         Ok(Command::Stream(area)) => stream_image(&rt, area, quiet),
         Ok(Command::Page { area, frame }) => write_page(&rt, area, frame, quiet),
+        Ok(Command::Core(area)) => core_image(&rt, area, quiet),
+        Ok(
+            Command::Differ {
+                area,
+                other,
+                first_only,
+            },
+        ) => compare_images(&rt, area, other, first_only, quiet),
         Ok(Command::Discard(area)) => discard_image(&rt, area),
         Err(Unparsed::Help(text)) => show_help(&rt, text.as_bytes()),
         Err(Unparsed::Words(text)) => ended(&rt, text.as_bytes(), Status::Words.code()),
@@ -84,14 +101,8 @@ fn stream_image(rt: &HostRuntime, area: Area<'_>, quiet: bool) -> ExitCode {
     };
     let mut out = StdSink::new(rt.stdout());
     let mut note = Printer::new(StdSink::new(rt.stderr()));
-    match stream(rt.alloc(), &mut disk, area.offset, &mut out, &mut note) {
-        Ok(Streamed::Whole) => flushed(rt, &mut out),
-        Ok(Streamed::NoImage) => refused(rt, b"no image\n"),
-        Ok(Streamed::SkipsZeros) => refused(rt, b"pages of zeros aren't in the image\n"),
-        Ok(Streamed::Refused) => ExitCode::from(Status::Refused.code()),
-        Err(Stop::Sink) => sink_fault(rt),
-        Err(Stop::Memory) => no_memory(rt),
-    }
+    let status = stream(rt.alloc(), &mut disk, area.offset, &mut out, &mut note);
+    finished(rt, status)
 }
 
 /// Writes the saved page of a page frame. What is wrong with the image up to there is noted.
@@ -100,30 +111,103 @@ fn write_page(rt: &HostRuntime, area: Area<'_>, frame: u64, quiet: bool) -> Exit
     let Ok((_held, mut disk)) = open_to_read(rt, area.swap, quiet) else {
         return not_opened(rt, area.swap);
     };
-    let mut page = Page::zero();
+    let mut out = StdSink::new(rt.stdout());
     let mut note = Printer::new(StdSink::new(rt.stderr()));
-    match page_of(
+    let status = page(
         rt.alloc(),
         &mut disk,
         area.offset,
         frame,
-        &mut page,
+        &mut out,
+        &mut note,
+    );
+    finished(rt, status)
+}
+
+/// Compares the images of two areas. What is wrong with one of them is noted.
+#[inline(never)]
+fn compare_images(
+    rt: &HostRuntime,
+    area: Area<'_>,
+    other: &str,
+    first_only: bool,
+    quiet: bool,
+) -> ExitCode {
+    let Ok((_held, disk)) = open_to_read(rt, area.swap, quiet) else {
+        return not_opened(rt, area.swap);
+    };
+    // How far the comparison is shows by the first area alone.
+    let Ok((_held, other_disk)) = open_to_read(rt, other, true) else {
+        return not_opened(rt, other);
+    };
+    let mut first = Side {
+        disk,
+        report: Printer::new(StdSink::new(rt.stderr())),
+    };
+    let mut second = Side {
+        disk: other_disk,
+        report: Printer::new(StdSink::new(rt.stderr())),
+    };
+    let wanted = Wanted {
+        header: area.offset,
+        first_only,
+    };
+    let mut out = StdSink::new(rt.stdout());
+    let mut note = StdSink::new(rt.stderr());
+    let status = differ(
+        rt.alloc(),
+        &mut first,
+        &mut second,
+        wanted,
+        &mut out,
+        &mut note,
+    );
+    finished(rt, status)
+}
+
+/// Writes the dump of a loader for the image of an area. Why there is none is noted.
+#[inline(never)]
+fn make_loader(rt: &HostRuntime, asked: &Asked<'_>, quiet: bool) -> ExitCode {
+    let Ok((_held, mut disk)) = open_to_read(rt, asked.swap, quiet) else {
+        return not_opened(rt, asked.swap);
+    };
+    let layout = Layout {
+        zones: asked.zones.as_slice(),
+        extents: asked.extents.as_slice(),
+        offset: asked.offset,
+    };
+    let mut out = StdSink::new(rt.stdout());
+    let mut note = Printer::new(StdSink::new(rt.stderr()));
+    let status = loader(rt.alloc(), &mut disk, &layout, &mut out, &mut note);
+    finished(rt, status)
+}
+
+/// Writes the image of an area as a core file. What is wrong with it is noted.
+#[inline(never)]
+fn core_image(rt: &HostRuntime, area: Area<'_>, quiet: bool) -> ExitCode {
+    let Ok((_held, mut disk)) = open_to_read(rt, area.swap, quiet) else {
+        return not_opened(rt, area.swap);
+    };
+    let mut out = StdSink::new(rt.stdout());
+    let mut note = Printer::new(StdSink::new(rt.stderr()));
+    let (status, text): (Status, &[u8]) = match write_core(
+        rt.alloc(),
+        &mut disk,
+        area.offset,
+        &mut out,
         &mut note,
     ) {
-        Ok(Found::Page) => {
-            let mut out = StdSink::new(rt.stdout());
-            let status = tell(Status::Done, page.as_bytes(), b"", &mut out, &mut note.sink);
-            finished(rt, status)
-        }
-        Ok(Found::NoPage) => {
-            let _ = eprintln!(rt; "no page {frame}");
-            ExitCode::from(Status::Refused.code())
-        }
-        Ok(Found::NoImage) => refused(rt, b"no image\n"),
-        Ok(Found::SkipsZeros) => refused(rt, b"pages of zeros aren't in the image\n"),
-        Ok(Found::Refused) => ExitCode::from(Status::Refused.code()),
-        Err(NoMemory) => no_memory(rt),
-    }
+        Ok(()) => (Status::Done, b""),
+        Err(Stop::NoImage) => (Status::Refused, b"no image\n"),
+        Err(Stop::SkipsZeros) => (Status::Refused, b"pages of zeros aren't in the image\n"),
+        Err(Stop::TooMany) => (Status::Refused, b"too many page frames\n"),
+        Err(Stop::Changed) => (Status::Refused, b"the image changed\n"),
+        Err(Stop::Refused) => (Status::Refused, b""),
+        Err(Stop::Sink) => return sink_fault(rt),
+        Err(Stop::Memory) => return no_memory(rt),
+    };
+    let status = tell(status, b"", text, &mut out, &mut note.sink);
+    finished(rt, status)
 }
 
 /// Takes back the mark of the image of an area.
@@ -167,14 +251,6 @@ fn show_help(rt: &HostRuntime, text: &[u8]) -> ExitCode {
     finished(rt, status)
 }
 
-/// Ends well once all that was written is flushed.
-fn flushed<S: Sink>(rt: &HostRuntime, out: &mut S) -> ExitCode {
-    if out.flush().is_err() {
-        return sink_fault(rt);
-    }
-    finished(rt, Status::Done)
-}
-
 /// Ends with a command's status. What it printed is synced before it ends well.
 fn finished(rt: &HostRuntime, status: Status) -> ExitCode {
     if status == Status::Done && sync_output(rt).is_err() {
@@ -187,10 +263,6 @@ fn finished(rt: &HostRuntime, status: Status) -> ExitCode {
 fn ended(rt: &HostRuntime, text: &[u8], code: u8) -> ExitCode {
     let _ = print(&mut StdSink::new(rt.stderr()), text);
     ExitCode::from(code)
-}
-
-fn refused(rt: &HostRuntime, text: &[u8]) -> ExitCode {
-    ended(rt, text, Status::Refused.code())
 }
 
 fn no_memory(rt: &HostRuntime) -> ExitCode {

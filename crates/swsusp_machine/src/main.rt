@@ -7,6 +7,7 @@ use file_disk::{FileDisk, first_map_beyond};
 use machine_cli::{check, differ, draw, loader, make, show_facts};
 use machine_words::{Command, Unparsed};
 use page_core::NoMemory;
+use plain_machine::IdentCheck;
 use progress_disk::{Meter, ProgressDisk};
 use sector_disk::MemDisk;
 use standard_streams::{hold, is_output, sync_output};
@@ -39,7 +40,7 @@ fn main(rt: HostRuntime) -> ExitCode {
         Ok(Command::Loader) => make_loader(&rt),
         Ok(Command::Show) => show_dump(&rt),
         Ok(Command::Differ { first, second }) => differ_files(&rt, first, second),
-        Ok(Command::Check { swap }) => check_file(&rt, swap, quiet),
+        Ok(Command::Check { check, swap }) => check_file(&rt, swap, check, quiet),
         Err(Unparsed::Help(text)) => show_help(&rt, text.as_bytes()),
         Err(Unparsed::Words(text)) => ended(&rt, text.as_bytes(), Status::Words.code()),
         Err(Unparsed::NoMemory) => no_memory(&rt),
@@ -128,7 +129,7 @@ fn differ_files(rt: &HostRuntime, first: &str, second: &str) -> ExitCode {
 
 /// Checks the image of a swap file, which is opened for reading alone.
 #[inline(never)]
-fn check_file(rt: &HostRuntime, swap: &str, quiet: bool) -> ExitCode {
+fn check_file(rt: &HostRuntime, swap: &str, ident_check: IdentCheck, quiet: bool) -> ExitCode {
     let Ok(_held) = hold(rt) else {
         return not_opened(rt, swap);
     };
@@ -143,7 +144,14 @@ fn check_file(rt: &HostRuntime, swap: &str, quiet: bool) -> ExitCode {
     let mut input = StdSource::new(rt.stdin());
     let mut out = StdSink::new(rt.stdout());
     let mut note = StdSink::new(rt.stderr());
-    let status = check(rt.alloc(), &mut input, &mut out, &mut note, &mut disk);
+    let status = check(
+        rt.alloc(),
+        &mut input,
+        &mut out,
+        &mut note,
+        &mut disk,
+        ident_check,
+    );
     finished(rt, status)
 }
 

@@ -68,9 +68,9 @@ returns-in-None-clause-shown g c = λ read.
     let marked : readable_mark (mark_in (area_kind page)) ≡ None =
     ap (λ (k : AreaKind). readable_mark (mark_in k)) (sym c.read.ensures) ∙ sym c.readable_mark.ensures ∙ c.in-None.is in
     let nothing : List Fact = [] in
-    let says : c.as_slice.result.now ≡ header_facts blocks page ++ nothing =
-    c.as_slice.ensures ∙ c.header_facts.ensures ∙ ap (λ n. header_facts n page) c.blocks-in-None.ensures ∙ sym (append-nil (header_facts blocks page)) in
-    on_ok_then c.print_only.result
+    let says : header_facts c.blocks-in-None.result page ≡ header_facts blocks page ++ nothing =
+    ap (λ n. header_facts n page) c.blocks-in-None.ensures ∙ sym (append-nil (header_facts blocks page)) in
+    on_ok_then c.print_header_only.result
     (λ takes. (
       header_facts blocks page ++ nothing,
       (
@@ -81,10 +81,10 @@ returns-in-None-clause-shown g c = λ read.
           shows_image = subst (λ (m : Option Mark). ShowsMark true content blocks c.args.header before before page nothing m) (sym marked) refl;
           says = refl;
         },
-        subst (λ (fs : List Fact). TakesAll (text_of fs) (g.S.Sink.taken c.args.sink.now) (g.S.Sink.taken c.print_only.new.sink)) says takes,
+        subst (λ (fs : List Fact). TakesAll (text_of fs) (g.S.Sink.taken c.args.sink.now) (g.S.Sink.taken c.print_header_only.new.sink)) says takes,
       ),
     ))
-    c.print_only.ensures.whole
+    c.print_header_only.ensures.whole
 
 pub returns-in-None-clause-front : goal.returns-in-None-clause-front
 returns-in-None-clause-front g c = λ read e.
@@ -95,8 +95,8 @@ returns-in-None-clause-front g c = λ read e.
     let marked : readable_mark (mark_in (area_kind page)) ≡ None =
     ap (λ (k : AreaKind). readable_mark (mark_in k)) (sym c.read.ensures) ∙ sym c.readable_mark.ensures ∙ c.in-None.is in
     let nothing : List Fact = [] in
-    let says : c.as_slice.result.now ≡ header_facts blocks page ++ nothing =
-    c.as_slice.ensures ∙ c.header_facts.ensures ∙ ap (λ n. header_facts n page) c.blocks-in-None.ensures ∙ sym (append-nil (header_facts blocks page)) in (
+    let says : header_facts c.blocks-in-None.result page ≡ header_facts blocks page ++ nothing =
+    ap (λ n. header_facts n page) c.blocks-in-None.ensures ∙ sym (append-nil (header_facts blocks page)) in (
       header_facts blocks page ++ nothing,
       (
         record {
@@ -106,6 +106,6 @@ returns-in-None-clause-front g c = λ read e.
           shows_image = subst (λ (m : Option Mark). ShowsMark false content blocks c.args.header before before page nothing m) (sym marked) refl;
           says = refl;
         },
-        subst (λ (fs : List Fact). TakesFront (text_of fs) (g.S.Sink.taken c.args.sink.now) (g.S.Sink.taken c.print_only.new.sink)) says c.print_only.ensures.front,
+        subst (λ (fs : List Fact). TakesFront (text_of fs) (g.S.Sink.taken c.args.sink.now) (g.S.Sink.taken c.print_header_only.new.sink)) says c.print_header_only.ensures.front,
       ),
     )

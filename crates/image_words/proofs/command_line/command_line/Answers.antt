@@ -3,7 +3,7 @@ use Rattle.std.proofs.lemmas.Result.{IfOk-weaker}
 use Rattle.clap.specs.Words.{App, new_app, with_subcommand}
 use Rattle.clap.specs.Simple.{on_top}
 use Rattle.swsusp_words.proofs.Builders.{subcommand_added, subcommand_wanted, version_set}
-use Rattle.image_words.specs.App.{area_app, page_app, program_app}
+use Rattle.image_words.specs.App.{area_app, differ_app, loader_app, page_app, program_app}
 use Rattle.image_words.proofs.command_line.command_line.Goals as goal
 
 abbrev one : App
@@ -18,6 +18,15 @@ three = with_subcommand two (area_app (codes "stream")).top
 abbrev four : App
 four = with_subcommand three page_app.top
 
+abbrev five : App
+five = with_subcommand four (area_app (codes "core")).top
+
+abbrev six : App
+six = with_subcommand five differ_app.top
+
+abbrev seven : App
+seven = with_subcommand six (area_app (codes "discard")).top
+
 pub returns : goal.returns
 returns c =
     let versioned = version_set c.named.result c.version.result (new_app (codes "swsusp_image")) _ c.named.ensures c.version.ensures in
@@ -26,4 +35,7 @@ returns c =
     let b = subcommand_added c.in_ok-subcommand.field-0 c.in_ok-over_area-2.field-0 c.in_ok-subcommand-2.field-0 one (area_app (codes "show")) a c.in_ok-over_area-2.ensures c.in_ok-subcommand-2.ensures in
     let d = subcommand_added c.in_ok-subcommand-2.field-0 c.in_ok-over_area-3.field-0 c.in_ok-subcommand-3.field-0 two (area_app (codes "stream")) b c.in_ok-over_area-3.ensures c.in_ok-subcommand-3.ensures in
     let e = subcommand_added c.in_ok-subcommand-3.field-0 c.in_ok-page.field-0 c.in_ok-subcommand-4.field-0 three page_app d c.in_ok-page.ensures c.in_ok-subcommand-4.ensures in
-    IfOk-weaker c.subcommand-5.result _ _ (λ r h. subcommand_added c.in_ok-subcommand-4.field-0 c.in_ok-over_area-4.field-0 r four (area_app (codes "discard")) e c.in_ok-over_area-4.ensures h) c.subcommand-5.ensures
+    let f = subcommand_added c.in_ok-subcommand-4.field-0 c.in_ok-over_area-4.field-0 c.in_ok-subcommand-5.field-0 four (area_app (codes "core")) e c.in_ok-over_area-4.ensures c.in_ok-subcommand-5.ensures in
+    let h = subcommand_added c.in_ok-subcommand-5.field-0 c.in_ok-comparison.field-0 c.in_ok-subcommand-6.field-0 five differ_app f c.in_ok-comparison.ensures c.in_ok-subcommand-6.ensures in
+    let i = subcommand_added c.in_ok-subcommand-6.field-0 c.in_ok-over_area-5.field-0 c.in_ok-subcommand-7.field-0 six (area_app (codes "discard")) h c.in_ok-over_area-5.ensures c.in_ok-subcommand-7.ensures in
+    IfOk-weaker c.subcommand-8.result _ _ (λ r k. subcommand_added c.in_ok-subcommand-7.field-0 c.in_ok-loader.field-0 r seven loader_app i c.in_ok-loader.ensures k) c.subcommand-8.ensures

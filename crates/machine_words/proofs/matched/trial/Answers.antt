@@ -1,6 +1,7 @@
 use Rattle.std.proofs.Common.{◌≡◌, ◌∙◌, rules, sym, Some, None, codes}
 use Rattle.clap.specs.Words.{first_of, first_value, found_of, rows_of}
 use Rattle.clap.proofs.WalkLemmas.{first_value-rows}
+use Rattle.swsusp_words.proofs.Getters.{flag_read}
 use Rattle.machine_words.proofs.Getters.{checked, no_swap}
 use Rattle.machine_words.proofs.matched.trial.Goals as goal
 
@@ -14,4 +15,5 @@ pub returns : goal.returns
 returns c = λ x e.
     let swap : first_of (codes "swap") (rows_of (found_of c.args.values.now)) ≡ Some c.in_ok-swap.swap.now =
     sym (first_value-rows (found_of c.args.values.now) (codes "swap")) ∙ (let told : first_value (found_of c.args.values.now) (codes "swap") ≡ Some c.in_ok-swap.swap.now = search rules in told) in
-    checked (rows_of (found_of c.args.values.now)) x c.in_ok-swap.swap.now swap e
+    let any = flag_read (found_of c.args.values.now) (codes "any-kernel") c.get_flag.result c.get_flag.ensures.none c.get_flag.ensures.value c.get_flag.ensures.other in
+    rw c.check_of-check.ensures (checked (rows_of (found_of c.args.values.now)) x c.in_ok-swap.swap.now c.get_flag.result swap any e)

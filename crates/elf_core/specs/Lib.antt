@@ -1,0 +1,3 @@
+pub mod Elf
+pub mod Machines
+pub mod Numbers

@@ -1,0 +1,50 @@
+ghost use Rattle.std.specs.Prelude.{◌≡◌, ◌+◌, ◌<◌, ◌^◌, length};
+ghost use Rattle.elf_core.specs.Elf.{note_bytes, section_bytes};
+
+use crate::headers::is_many;
+use crate::pieces::Piece;
+
+/// How many bytes the note's name has, with its end. It is filled to a multiple of 4.
+const NAME_SIZE: u32 = 9;
+
+/// How many bytes tell an identity.
+const IDENTITY_SIZE: u32 = 396;
+
+/// The note, which tells an identity.
+#[tactic(auto, unfolding(crate::specs::Elf::note_bytes))]
+pub fn note(identity: &[u8]) -> Piece
+    requires { length identity.now ≡ 396 }
+    ensures { result ≡ note_bytes identity.now }
+{
+    let mut piece = Piece::new();
+    piece.put_word(NAME_SIZE);
+    piece.put_word(IDENTITY_SIZE);
+    piece.put_word(1);
+    piece.put(b"DIRUKOFE");
+    piece.put(&[0; 4]);
+    piece.put(identity);
+    piece
+}
+
+/// The section header, which has the number of program headers where the file header can't hold it.
+#[tactic(auto, unfolding(crate::specs::Elf::section_bytes))]
+pub fn section(runs: u32) -> Piece
+    requires { runs + 1 < 2 ^ 32 }
+    ensures { result ≡ section_bytes runs }
+{
+    let mut piece = Piece::new();
+    if is_many(runs) {
+        piece.put(&[0; 4]);
+        piece.put_word(0);
+        piece.put_word(0);
+        piece.put_xword(0);
+        piece.put_xword(0);
+        piece.put_xword(0);
+        piece.put_xword(0);
+        piece.put_word(0);
+        piece.put_word(runs + 1);
+        piece.put_xword(0);
+        piece.put_xword(0);
+    }
+    piece
+}

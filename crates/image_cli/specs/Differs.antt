@@ -1,0 +1,94 @@
+-- What `differ` prints.
+use Rattle.std.specs.Prelude.{◌≡◌, ◌≢◌, ◌⊎◌, ℕ, ◌==◌, Bool, true, false, List, [], ◌++◌, length, codes, if◌then◌else◌}
+use Rattle.command_kit.specs.Answer.{RunResult, line, memory_told}
+use Rattle.command_kit.specs.Told.{FailsToPrint, IsTold, IsTried, sink_note}
+use Rattle.command_kit.specs.View.{SinkView}
+use Rattle.command_kit.specs.declared.status.Status.{Status}
+use Rattle.command_kit.specs.declared.status.Status.TheVariants.{Done, Refused, Stream}
+use Rattle.image_differ.specs.Compares.{AreCompared, AreUntold, HasCompared, IsWrong, Opens}
+use Rattle.image_differ.specs.Lines.{lines_of}
+use Rattle.image_differ.specs.Sides.{SideView}
+use Rattle.image_differ.specs.declared.comparison.Comparison.{Comparison}
+use Rattle.image_differ.specs.declared.comparison.Opened.{Opened}
+use Rattle.image_differ.specs.declared.comparison.Opened.TheVariants as opened
+use Rattle.image_differ.specs.declared.difference.Difference.{Difference}
+use Rattle.image_differ.specs.declared.side.Which.{Which}
+use Rattle.image_differ.specs.declared.side.Which.TheVariants.{First, Second}
+use Rattle.image_cli.specs.declared.differing.Ended.{Ended}
+use Rattle.image_cli.specs.declared.differing.Ended.TheVariants as ended
+
+-- why one of the images isn't compared
+abbrev pub which_text : Which → List ℕ
+which_text First = codes "first: "
+which_text Second = codes "second: "
+
+abbrev pub refused_note : Which → List ℕ → List ℕ
+refused_note which why = which_text which ++ line why
+
+abbrev pub has_findings : List ℕ
+has_findings = codes "the image has findings"
+
+abbrev pub note_of : Opened → List ℕ
+note_of (opened.NoImage which) = refused_note which (codes "no image")
+note_of (opened.Refused which) = refused_note which has_findings
+note_of (opened.SkipsZeros which) = refused_note which (codes "pages of zeros aren't in the image")
+note_of (opened.Open c) = []
+
+abbrev pub unopened_told : Opened → RunResult
+unopened_told o = record { status = Refused; out = []; note = note_of o }
+
+-- a line for each difference, and what ends them
+abbrev pub ended_told : List Difference → Ended → RunResult
+ended_told ds ended.Same = record { status = Done; out = lines_of ds ++ line (codes "same"); note = [] }
+ended_told ds ended.Different = record { status = Refused; out = lines_of ds; note = [] }
+ended_told ds (ended.Refused which) =
+    record { status = Refused; out = lines_of ds; note = refused_note which has_findings }
+
+-- a whole comparison, by how many differences there are
+abbrev pub end_of : ℕ → Ended
+end_of count = if count == 0 then ended.Same else ended.Different
+
+-- these are the first differences of the two images
+abbrev pub AreFirst : (a b : SideView) → ℕ → List Difference → Type 0
+AreFirst a b header ds = (c : Comparison) × HasCompared a b header c ds
+
+-- all are told, or, where that is asked for, the first alone
+abbrev pub AreDifferent : Bool → (a a' b b' : SideView) → ℕ → List Difference → Type 0
+AreDifferent first_only a a' b b' header ds =
+    ((first_only ≡ false) × (ds ≢ []) × AreCompared a a' b b' header ds)
+    ⊎ ((first_only ≡ true) × (length ds ≡ 1) × AreFirst a b header ds)
+
+-- how the comparison ended after these differences
+abbrev pub EndsAfter : Bool → (a a' b b' : SideView) → ℕ → List Difference → Ended → Type 0
+EndsAfter first_only a a' b b' header ds ended.Same =
+    AreUntold a a' b b' × (ds ≡ []) × AreCompared a a' b b' header ds
+EndsAfter first_only a a' b b' header ds ended.Different =
+    AreUntold a a' b b' × AreDifferent first_only a a' b b' header ds
+EndsAfter first_only a a' b b' header ds (ended.Refused First) =
+    (b'.told ≡ b.told) × AreFirst a b header ds × IsWrong header a a'
+EndsAfter first_only a a' b b' header ds (ended.Refused Second) =
+    (a'.told ≡ a.told) × AreFirst a b header ds × IsWrong header b b'
+
+-- the output failed within these lines, and that is noted
+pub record IsCutShort (ds : List Difference) (status : Status) (out out' note note' : SinkView) : Type 0 where
+  pub status_is : status ≡ Stream
+  pub front : FailsToPrint (lines_of ds) out out'
+  pub noted : IsTried sink_note note note'
+
+-- just the differences of two images that are open are told, or the output failed on the way
+abbrev pub Compares : Bool → (a a' b b' : SideView) → ℕ → Status → (out out' note note' : SinkView) → Type 0
+Compares first_only a a' b b' header status out out' note note' =
+    ((ds : List Difference) × ((end : Ended) × (EndsAfter first_only a a' b b' header ds end
+    × IsTold (ended_told ds end) status out out' note note')))
+    ⊎ ((ds : List Difference) × (AreFirst a b header ds × AreUntold a a' b b'
+    × IsCutShort ds status out out' note note'))
+
+abbrev pub IsUnopened : (a a' b b' : SideView) → ℕ → Opened → Type 0
+IsUnopened a a' b b' header o = Opens a a' b b' header o × ((c : Comparison) → o ≡ opened.Open c → ⊥)
+
+-- so, or why the images aren't compared is told, or that memory was refused
+abbrev pub Differs : Bool → (a a' b b' : SideView) → ℕ → Status → (out out' note note' : SinkView) → Type 0
+Differs first_only a a' b b' header status out out' note note' =
+    (AreUntold a a' b b' × IsTold memory_told status out out' note note')
+    ⊎ ((o : Opened) × (IsUnopened a a' b b' header o × IsTold (unopened_told o) status out out' note note'))
+    ⊎ Compares first_only a a' b b' header status out out' note note'

@@ -1,0 +1,202 @@
+ghost use Rattle.std.specs.Prelude.{◌≡◌, ◌≢◌, ◌⊎◌, ◌≤◌, ℕ, IfOk, OnErr, [], length};
+ghost use Rattle.definitions.specs.Disk.{HasRisen};
+ghost use Rattle.command_kit.specs.View.{sink_view};
+ghost use Rattle.image_differ.specs.Compares.{HasCompared};
+ghost use Rattle.image_differ.specs.Sides.{OnlyReads, side_view};
+ghost use Rattle.image_cli.specs.Differing.{FailsWithin, Finishes};
+ghost use Rattle.image_cli.specs.Differs.{Compares, Differs, end_of, has_findings, note_of, refused_note, which_text};
+
+use crate::showing::cut_short;
+use byte_streams::{Line, Sink, put_all};
+use command_kit::{Status, no_memory, tell};
+use image_check::Report;
+use image_differ::{Comparison, Next, Opened, Side, Which, line_of};
+use page_core::{Failed, NoMemory};
+use sector_disk::Disk;
+use std::alloc::Global;
+
+/// Which differences of two images are asked for.
+#[derive(Clone, Copy, Debug, PartialEq, Eq)]
+pub struct Wanted {
+    /// The block of the header in both areas.
+    pub header: u32,
+    /// Whether the first difference alone is wanted.
+    pub first_only: bool,
+}
+
+/// How a comparison ended.
+#[derive(Clone, Copy, Debug, PartialEq, Eq)]
+enum Ended {
+    Same,
+    Different,
+    /// What is wrong with one of the images was told.
+    Refused(Which),
+}
+
+/// Prints where the images of two areas differ, a line for each difference: in their marks, in what their info pages
+/// say, and in their saved page frames, in ascending order; or `same`. The status is `Done` just where they are the
+/// same. What is wrong with an image ends the comparison, and is noted. Both disks are only read.
+pub fn differ<D: Disk, E: Disk, R: Report, Q: Report, O: Sink, N: Sink>(
+    alloc: Global,
+    first: &mut Side<D, R>,
+    second: &mut Side<E, Q>,
+    wanted: Wanted,
+    out: &mut O,
+    note: &mut N,
+) -> Status
+    ensures outcome { Differs wanted.first_only
+        (side_view D.Disk R.Report first.old) (side_view D.Disk R.Report first.new)
+        (side_view E.Disk Q.Report second.old) (side_view E.Disk Q.Report second.new) wanted.header result
+        (sink_view O.Sink out.old)
+        (sink_view O.Sink out.new)
+        (sink_view N.Sink note.old)
+        (sink_view N.Sink note.new) }
+    ensures stream { result ≡ Status.Stream →
+        HasRisen (O.faults out.old) (O.faults out.new) ⊎ HasRisen (N.faults note.old) (N.faults note.new) }
+    ensures device { result ≢ Status.Device }
+    ensures words { result ≢ Status.Words }
+    ensures first { OnlyReads (side_view D.Disk R.Report first.old) (side_view D.Disk R.Report first.new) }
+    ensures second { OnlyReads (side_view E.Disk Q.Report second.old) (side_view E.Disk Q.Report second.new) }
+{
+    match Comparison::open(alloc, first, second, wanted.header) {
+        Ok(Opened::Open(mut comparison)) => compare(
+            &mut comparison,
+            first,
+            second,
+            wanted.first_only,
+            out,
+            note,
+        ),
+        Ok(opened) => tell(Status::Refused, b"", note_of(&opened).as_bytes(), out, note),
+        Err(NoMemory) => no_memory().tell(out, note),
+    }
+}
+
+/// Prints the differences of two images that are open, and what ends them.
+fn compare<D: Disk, E: Disk, R: Report, Q: Report, O: Sink, N: Sink>(
+    comparison: &mut Comparison,
+    first: &mut Side<D, R>,
+    second: &mut Side<E, Q>,
+    first_only: bool,
+    out: &mut O,
+    note: &mut N,
+) -> Status
+    requires { (header : ℕ) × HasCompared (side_view D.Disk R.Report first.old) (side_view E.Disk Q.Report second.old)
+        header comparison.old [] }
+    ensures outcome { (header : ℕ) →
+        HasCompared (side_view D.Disk R.Report first.old) (side_view E.Disk Q.Report second.old)
+        header comparison.old [] →
+        Compares first_only
+        (side_view D.Disk R.Report first.old) (side_view D.Disk R.Report first.new)
+        (side_view E.Disk Q.Report second.old) (side_view E.Disk Q.Report second.new) header result
+        (sink_view O.Sink out.old)
+        (sink_view O.Sink out.new)
+        (sink_view N.Sink note.old)
+        (sink_view N.Sink note.new) }
+    ensures stream { result ≡ Status.Stream →
+        HasRisen (O.faults out.old) (O.faults out.new) ⊎ HasRisen (N.faults note.old) (N.faults note.new) }
+    ensures device { result ≢ Status.Device }
+    ensures words { result ≢ Status.Words }
+    ensures first { OnlyReads (side_view D.Disk R.Report first.old) (side_view D.Disk R.Report first.new) }
+    ensures second { OnlyReads (side_view E.Disk Q.Report second.old) (side_view E.Disk Q.Report second.new) }
+{
+    match tell_differences(comparison, first, second, first_only, out) {
+        Ok(Ended::Same) => tell(Status::Done, b"same\n", b"", out, note),
+        Ok(Ended::Different) => tell(Status::Refused, b"", b"", out, note),
+        Ok(Ended::Refused(which)) => {
+            let noted = refused_note(which, b"the image has findings");
+            tell(Status::Refused, b"", noted.as_bytes(), out, note)
+        }
+        Err(Failed) => cut_short(note),
+    }
+}
+
+/// Prints the differences as they are found.
+fn tell_differences<D: Disk, E: Disk, R: Report, Q: Report, O: Sink>(
+    comparison: &mut Comparison,
+    first: &mut Side<D, R>,
+    second: &mut Side<E, Q>,
+    first_only: bool,
+    out: &mut O,
+) -> Result<Ended, Failed>
+    requires { (header : ℕ) × HasCompared (side_view D.Disk R.Report first.old) (side_view E.Disk Q.Report second.old)
+        header comparison.old [] }
+    ensures ends { (header : ℕ) →
+        HasCompared (side_view D.Disk R.Report first.old) (side_view E.Disk Q.Report second.old)
+        header comparison.old [] →
+        IfOk result (Finishes first_only
+        (side_view D.Disk R.Report first.old) (side_view D.Disk R.Report first.new)
+        (side_view E.Disk Q.Report second.old) (side_view E.Disk Q.Report second.new) header
+        (O.taken out.old) (O.taken out.new)) }
+    ensures fails { (header : ℕ) →
+        HasCompared (side_view D.Disk R.Report first.old) (side_view E.Disk Q.Report second.old)
+        header comparison.old [] →
+        OnErr result (FailsWithin
+        (side_view D.Disk R.Report first.old) (side_view D.Disk R.Report first.new)
+        (side_view E.Disk Q.Report second.old) (side_view E.Disk Q.Report second.new) header
+        (O.taken out.old) (O.taken out.new)) }
+    ensures cause { OnErr result (HasRisen (O.faults out.old) (O.faults out.new)) }
+    ensures counted { O.faults out.old ≤ O.faults out.new }
+    ensures first { OnlyReads (side_view D.Disk R.Report first.old) (side_view D.Disk R.Report first.new) }
+    ensures second { OnlyReads (side_view E.Disk Q.Report second.old) (side_view E.Disk Q.Report second.new) }
+{
+    let mut count: u64 = 0;
+    loop {
+        match comparison.next(first, second) {
+            Next::Difference(difference) => {
+                put_all(out, line_of(&difference).as_bytes())?;
+                if first_only {
+                    return Ok(Ended::Different);
+                }
+                count += 1;
+            }
+            Next::End => return Ok(end_of(count)),
+            Next::Refused(which) => return Ok(Ended::Refused(which)),
+        }
+    }
+}
+
+/// How a whole comparison ended, by how many differences there are.
+fn end_of(count: u64) -> Ended
+    ensures { result ≡ end_of count }
+{
+    if count == 0 {
+        Ended::Same
+    } else {
+        Ended::Different
+    }
+}
+
+/// Why two images aren't compared. Nothing is noted of images that are.
+fn note_of(opened: &Opened) -> Line
+    ensures { result ≡ note_of opened.now }
+{
+    match opened {
+        Opened::NoImage(which) => refused_note(*which, b"no image"),
+        Opened::Refused(which) => refused_note(*which, b"the image has findings"),
+        Opened::SkipsZeros(which) => refused_note(*which, b"pages of zeros aren't in the image"),
+        Opened::Open(_) => Line::new(),
+    }
+}
+
+/// The line that says which image is refused, and why.
+fn refused_note(which: Which, why: &[u8]) -> Line
+    requires { length why.now ≤ 40 }
+    ensures { result ≡ refused_note which why.now }
+{
+    let mut line = Line::new();
+    line.put(which_text(which));
+    line.put(why);
+    line.put(b"\n");
+    line
+}
+
+fn which_text(which: Which) -> &'static [u8]
+    ensures text { result.now ≡ which_text which }
+    ensures short { length result.now ≤ 8 }
+{
+    match which {
+        Which::First => b"first: ",
+        Which::Second => b"second: ",
+    }
+}

@@ -1,0 +1,157 @@
+ghost use Rattle.std.specs.Prelude.{◌≡◌, ◌≢◌, ◌⊎◌, ◌≤◌, ◌++◌, codes, decimal, length};
+ghost use Rattle.definitions.specs.Disk.{HasRisen};
+ghost use Rattle.command_kit.specs.Answer.{line};
+ghost use Rattle.command_kit.specs.AnswerOf.{told_by};
+ghost use Rattle.command_kit.specs.Told.{IsTold};
+ghost use Rattle.command_kit.specs.View.{sink_view};
+ghost use Rattle.image_cli.specs.Pages.{WritesPage, found_told};
+ghost use Rattle.image_cli.specs.Printed.{printer_view};
+ghost use Rattle.image_cli.specs.Streams.{Streams, refused_told, streamed_told};
+
+use crate::showing::cut_short;
+use byte_streams::{Line, Sink};
+use command_kit::{Answer, Status, no_memory, tell};
+use image_check::Printer;
+use image_stream::{Found, Stop, Streamed, page_of};
+use page_core::{NoMemory, Page};
+use sector_disk::Disk;
+use std::alloc::Global;
+
+/// Writes the image of the area whose header lies in a block as a stream, as `swsusp export` does. What is wrong with it
+/// is noted, and ends the stream. The disk is only read.
+pub fn stream<D: Disk, O: Sink, N: Sink>(
+    alloc: Global,
+    disk: &mut D,
+    header: u32,
+    out: &mut O,
+    note: &mut Printer<N>,
+) -> Status
+    ensures outcome { Streams (D.content disk.old) (D.block_count disk.old) header (D.faults disk.old) (D.faults disk.new)
+        (printer_view N.Sink note.old) result
+        (sink_view O.Sink out.old)
+        (sink_view O.Sink out.new)
+        (sink_view N.Sink note.old.sink)
+        (sink_view N.Sink note.new.sink) }
+    ensures stream { result ≡ Status.Stream →
+        HasRisen (O.faults out.old) (O.faults out.new) ⊎ HasRisen (N.faults note.old.sink) (N.faults note.new.sink) }
+    ensures device { result ≢ Status.Device }
+    ensures words { result ≢ Status.Words }
+    ensures content { D.content disk.new ≡ D.content disk.old }
+    ensures faults { D.faults disk.old ≤ D.faults disk.new }
+    ensures orders { D.orders disk.new ≡ D.orders disk.old }
+    ensures blocks { D.block_count disk.new ≡ D.block_count disk.old }
+{
+    match image_stream::stream(alloc, disk, header, out, note) {
+        Ok(streamed) => streamed_told(streamed).tell(out, &mut note.sink),
+        Err(Stop::Sink) => cut_short(&mut note.sink),
+        Err(Stop::Memory) => no_memory().tell(out, &mut note.sink),
+    }
+}
+
+/// Writes the saved page of a page frame in the image of the area whose header lies in a block. What is wrong with the
+/// image up to there is noted. The disk is only read.
+pub fn page<D: Disk, O: Sink, N: Sink>(
+    alloc: Global,
+    disk: &mut D,
+    header: u32,
+    frame: u64,
+    out: &mut O,
+    note: &mut Printer<N>,
+) -> Status
+    ensures outcome { WritesPage (D.content disk.old) (D.block_count disk.old) header
+        (D.faults disk.old) (D.faults disk.new) (printer_view N.Sink note.old) frame result
+        (sink_view O.Sink out.old)
+        (sink_view O.Sink out.new)
+        (sink_view N.Sink note.new.sink) }
+    ensures stream { result ≡ Status.Stream →
+        HasRisen (O.faults out.old) (O.faults out.new) ⊎ HasRisen (N.faults note.old.sink) (N.faults note.new.sink) }
+    ensures device { result ≢ Status.Device }
+    ensures words { result ≢ Status.Words }
+    ensures content { D.content disk.new ≡ D.content disk.old }
+    ensures faults { D.faults disk.old ≤ D.faults disk.new }
+    ensures orders { D.orders disk.new ≡ D.orders disk.old }
+    ensures blocks { D.block_count disk.new ≡ D.block_count disk.old }
+{
+    let mut page = Page::zero();
+    match page_of(alloc, disk, header, frame, &mut page, note) {
+        Ok(found) => tell_found(found, frame, &page, out, &mut note.sink),
+        Err(NoMemory) => no_memory().tell(out, &mut note.sink),
+    }
+}
+
+/// What is told at the end of a stream.
+fn streamed_told(streamed: Streamed) -> Answer
+    ensures told { told_by result ≡ streamed_told streamed }
+    ensures stream { result.status ≢ Status.Stream }
+    ensures device { result.status ≢ Status.Device }
+    ensures words { result.status ≢ Status.Words }
+{
+    match streamed {
+        Streamed::Whole => Answer {
+            status: Status::Done,
+            out: Line::new(),
+            note: Line::new(),
+        },
+        Streamed::NoImage => refused(b"no image\n"),
+        Streamed::SkipsZeros => refused(b"pages of zeros aren't in the image\n"),
+        Streamed::Refused => refused(b""),
+    }
+}
+
+/// A refusal with this note.
+fn refused(text: &[u8]) -> Answer
+    requires { length text.now ≤ 40 }
+    ensures told { told_by result ≡ refused_told text.now }
+    ensures status { result.status ≡ Status.Refused }
+{
+    let mut note = Line::new();
+    note.put(text);
+    Answer {
+        status: Status::Refused,
+        out: Line::new(),
+        note,
+    }
+}
+
+/// Prints the page of a page frame, or why there is none.
+fn tell_found<O: Sink, N: Sink>(
+    found: Found,
+    frame: u64,
+    page: &Page,
+    out: &mut O,
+    note: &mut N,
+) -> Status
+    ensures told { IsTold (found_told frame page.now found) result
+        (sink_view O.Sink out.old)
+        (sink_view O.Sink out.new)
+        (sink_view N.Sink note.old)
+        (sink_view N.Sink note.new) }
+    ensures stream { result ≡ Status.Stream →
+        HasRisen (O.faults out.old) (O.faults out.new) ⊎ HasRisen (N.faults note.old) (N.faults note.new) }
+    ensures device { result ≢ Status.Device }
+    ensures words { result ≢ Status.Words }
+{
+    match found {
+        Found::Page => tell(Status::Done, page.as_bytes(), b"", out, note),
+        Found::NoPage => refused_frame(frame).tell(out, note),
+        Found::NoImage => refused(b"no image\n").tell(out, note),
+        Found::SkipsZeros => refused(b"pages of zeros aren't in the image\n").tell(out, note),
+        Found::Refused => refused(b"").tell(out, note),
+    }
+}
+
+/// No page of this page frame was saved.
+fn refused_frame(frame: u64) -> Answer
+    ensures told { told_by result ≡ refused_told (line (codes "no page " ++ decimal frame)) }
+    ensures status { result.status ≡ Status.Refused }
+{
+    let mut note = Line::new();
+    note.put(b"no page ");
+    note.put_number(frame);
+    note.put(b"\n");
+    Answer {
+        status: Status::Refused,
+        out: Line::new(),
+        note,
+    }
+}

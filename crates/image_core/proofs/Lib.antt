@@ -1,0 +1,9 @@
+pub mod Composing
+pub mod Numbering
+pub mod Outcomes
+pub mod Paging
+pub mod Pieces
+pub mod RunCounts
+pub mod RunLaws
+pub mod Since
+pub mod Tallied

@@ -1,0 +1,67 @@
+ghost use Rattle.std.specs.Prelude.{◌≡◌, length};
+ghost use Rattle.definitions.specs.InfoPage.{text_of_name};
+ghost use Rattle.image_check.specs.Info.{is_version_text};
+ghost use Rattle.image_core.specs.Identity.{arch_machine, machine_of};
+
+use elf_core::machine_of_name;
+use fact_lines::is_printable;
+use page_core::Page;
+
+/// Where the version code and the name of the machine lie (`struct swsusp_info`, kernel/power/power.h).
+const VERSION_CODE: usize = 392;
+
+const MACHINE: usize = 260;
+
+const NAME_SIZE: usize = 65;
+
+/// RESTORE_MAGIC (arch/x86/power/hibernate.c), and its word.
+const MAGIC: u64 = 0x2345_6789_abcd_ef02;
+
+const MAGIC_WORD: usize = 3;
+
+/// EM_X86_64, EM_AARCH64 and EM_NONE (elf.h).
+const X86_64: u16 = 62;
+
+const AARCH64: u16 = 183;
+
+const NONE: u16 = 0;
+
+/// The number of the machine that an info page is of: by the name of the machine, or by the header of its architecture.
+#[tactic(auto, unfolding(crate::specs::Identity::machine_of))]
+pub(crate) fn machine_of(info: &Page) -> u16
+    ensures { result ≡ machine_of info.now }
+{
+    if info.u32_at(VERSION_CODE) == 0 {
+        arch_machine(info)
+    } else {
+        let name = &info.as_bytes()[MACHINE..MACHINE + NAME_SIZE];
+        machine_of_name(&name[..text_len(name)])
+    }
+}
+
+fn arch_machine(info: &Page) -> u16
+    ensures { result ≡ arch_machine info.now }
+{
+    if info.word(MAGIC_WORD) == MAGIC {
+        X86_64
+    } else if is_version_text(&info.as_bytes()[..NAME_SIZE]) {
+        AARCH64
+    } else {
+        NONE
+    }
+}
+
+/// Whether these are a text with an end.
+fn is_version_text(name: &[u8]) -> bool
+    ensures { result ≡ is_version_text (text_of_name name.now) }
+{
+    let len = text_len(name);
+    0 < len && len < NAME_SIZE && is_printable(&name[..len])
+}
+
+/// How many bytes a name has before its first zero byte.
+fn text_len(name: &[u8]) -> usize
+    ensures { result ≡ length (text_of_name name.now) }
+{
+    name.iter().take_while(|b| **b != 0).count()
+}

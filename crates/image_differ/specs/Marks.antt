@@ -1,0 +1,31 @@
+-- What an image says beside its page frames, by its header block and its info page.
+use Rattle.std.specs.Prelude.{◌≡◌, ℕ, List, Some, Ok}
+use Rattle.definitions.specs.InfoPage.{info_of}
+use Rattle.sig_header.specs.AreaKind.{area_kind}
+use Rattle.sig_header.specs.declared.area.Mark.{Mark}
+use Rattle.image_walk.specs.Names.{IsReadFrom}
+use Rattle.image_check.specs.Checked.{mark_in}
+use Rattle.image_pages.specs.Opens.{IsBadHeader, IsNoImage}
+use Rattle.image_differ.specs.Sides.{SideView}
+use Rattle.image_differ.specs.declared.begun.Marked.{Marked}
+use Rattle.image_differ.specs.declared.begun.Marked.TheVariants as marked
+use Rattle.image_differ.specs.declared.heading.Heading.{Heading}
+
+-- the header block has this mark
+pub record IsMarkedBy (v : SideView) (header : ℕ) (mark : Mark) : Type 0 where
+  pub page : List ℕ
+  pub read : IsReadFrom v.content header (Ok page)
+  pub marked : mark_in (area_kind page) ≡ Some mark
+
+abbrev pub Marks : ℕ → (old new : SideView) → Marked → Type 0
+Marks header old new marked.NoImage = IsNoImage old.content old.blocks header old.told new.told
+Marks header old new marked.Refused = IsBadHeader old.content old.blocks header old.faults new.faults old.told new.told
+Marks header old new (marked.Mark mark) = (new.told ≡ old.told) × IsMarkedBy old header mark
+
+-- the heading is that of the mark and of this info page
+pub record IsHeading (v : SideView) (header : ℕ) (page : List ℕ) (h : Heading) : Type 0 where
+  pub mark : Mark
+  pub marked : IsMarkedBy v header mark
+  pub flags : h.flags ≡ mark.flags
+  pub hw_sig : h.hw_sig ≡ mark.hw_sig
+  pub info : h.info ≡ info_of page

@@ -1,0 +1,95 @@
+ghost use Rattle.std.specs.Prelude.{◌≡◌, ℕ, [], IfOk, OnErr};
+ghost use Rattle.image_frames.specs.Given.{HasGiven};
+ghost use Rattle.image_differ.specs.Compares.{Begins};
+ghost use Rattle.image_differ.specs.Marks.{IsMarkedBy, Marks};
+ghost use Rattle.image_differ.specs.Sides.{OnlyReads, SideView, side_view};
+
+use crate::reading::{Place, Reading};
+use crate::{Heading, Side};
+use image_check::{Finding, Report, mark_in};
+use image_frames::{Frames, Opened};
+use page_core::{NoMemory, Page};
+use sector_disk::Disk;
+use sig_header::{AreaKind, Mark};
+use std::alloc::Global;
+
+/// What there is of one of two images.
+#[derive(Drop)]
+pub(crate) enum Begun {
+    NoImage,
+    /// What is wrong was told.
+    Refused,
+    SkipsZeros,
+    Open(Heading, Reading),
+}
+
+/// What a header block says of an image.
+#[derive(Clone, Copy)]
+pub(crate) enum Marked {
+    NoImage,
+    /// The header block couldn't be read, which was told.
+    Refused,
+    Mark(Mark),
+}
+
+/// Opens one of two images.
+pub(crate) fn begin<D: Disk, R: Report>(
+    alloc: Global,
+    side: &mut Side<D, R>,
+    header: u32,
+) -> Result<Begun, NoMemory>
+    ensures begins { IfOk result (Begins header
+        (side_view D.Disk R.Report side.old) (side_view D.Disk R.Report side.new)) }
+    ensures untold { OnErr result (R.told side.new.report ≡ R.told side.old.report) }
+    ensures kept { OnlyReads (side_view D.Disk R.Report side.old) (side_view D.Disk R.Report side.new) }
+{
+    let mark = match mark_of(side, header) {
+        Marked::NoImage => return Ok(Begun::NoImage),
+        Marked::Refused => return Ok(Begun::Refused),
+        Marked::Mark(mark) => mark,
+    };
+    match Frames::open(alloc, &mut side.disk, header, &mut side.report)? {
+        Opened::NoImage => Ok(Begun::NoImage),
+        Opened::Refused => Ok(Begun::Refused),
+        Opened::SkipsZeros => Ok(Begun::SkipsZeros),
+        Opened::Open(frames) => Ok(opened(mark, frames)),
+    }
+}
+
+/// An image of which no page frame was read.
+fn opened(mark: Mark, frames: Frames) -> Begun
+    ensures { (old new : SideView) (header : ℕ) → new.told ≡ old.told → IsMarkedBy old header mark →
+        HasGiven old.content old.blocks header frames [] → Begins header old new result }
+{
+    let heading = Heading {
+        flags: mark.flags,
+        hw_sig: mark.hw_sig,
+        info: frames.info(),
+    };
+    let reading = Reading {
+        frames,
+        place: Place::Unread,
+        page: Page::zero(),
+    };
+    Begun::Open(heading, reading)
+}
+
+/// The mark in the header block.
+fn mark_of<D: Disk, R: Report>(side: &mut Side<D, R>, header: u32) -> Marked
+    ensures marks { Marks header
+        (side_view D.Disk R.Report side.old) (side_view D.Disk R.Report side.new) result }
+    ensures kept { OnlyReads (side_view D.Disk R.Report side.old) (side_view D.Disk R.Report side.new) }
+{
+    if header >= side.disk.blocks() {
+        return Marked::NoImage;
+    }
+    let mut page = Page::zero();
+    if side.disk.read(header, &mut page).is_err() {
+        side.report.tell(Finding::HeaderUnread(header));
+        return Marked::Refused;
+    }
+    match mark_in(AreaKind::read(&page)) {
+        Some(mark) => Marked::Mark(mark),
+        None => Marked::NoImage,
+    }
+}

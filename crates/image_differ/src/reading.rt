@@ -1,0 +1,98 @@
+ghost use Rattle.std.specs.Prelude.{◌≡◌, nat_eq};
+ghost use Rattle.std.specs.Cmp.Lexicographic.{pointwise};
+ghost use Rattle.image_differ.specs.Readings.{turn_of};
+
+use crate::Side;
+use image_check::Report;
+use image_frames::{Frames, Next};
+use page_core::Page;
+use sector_disk::Disk;
+
+/// Where a reading of an image has come to.
+#[derive(Clone, Copy)]
+pub(crate) enum Place {
+    /// The page frame that was read last is compared.
+    Unread,
+    /// The page frame of this number is next to be compared.
+    At(u64),
+    /// All are compared.
+    Ended,
+}
+
+/// The page frames of an image, which are compared one after another.
+#[derive(Drop)]
+pub(crate) struct Reading {
+    pub frames: Frames,
+    pub place: Place,
+    pub page: Page,
+}
+
+impl Reading {
+    ghost use Rattle.std.specs.Prelude.{ℕ, List};
+    ghost use Rattle.image_frames.specs.SavedFrames.{SavedFrame};
+    ghost use Rattle.image_differ.specs.Readings.{IsReading, Readies};
+    ghost use Rattle.image_differ.specs.Sides.{OnlyReads, side_view};
+
+    /// Goes on to the next page frame that isn't compared, and answers whether nothing was wrong.
+    pub fn ready<D: Disk, R: Report>(&mut self, side: &mut Side<D, R>) -> bool
+        requires { (header : ℕ) × ((given : List SavedFrame) × ((bound : ℕ) ×
+            IsReading (side_view D.Disk R.Report side.old) header self.old given bound)) }
+        ensures readies { (header : ℕ) (given : List SavedFrame) (bound : ℕ) →
+            IsReading (side_view D.Disk R.Report side.old) header self.old given bound →
+            Readies header (side_view D.Disk R.Report side.old) (side_view D.Disk R.Report side.new)
+            given bound self.old self.new result }
+        ensures kept { OnlyReads (side_view D.Disk R.Report side.old) (side_view D.Disk R.Report side.new) }
+    {
+        let Place::Unread = self.place else {
+            return true;
+        };
+        match self
+            .frames
+            .next(&mut side.disk, &mut side.report, &mut self.page)
+        {
+            Next::Frame(number) => self.place = Place::At(number),
+            Next::End => self.place = Place::Ended,
+            Next::Refused => return false,
+        }
+        true
+    }
+}
+
+/// Whether two pages hold the same bytes.
+pub(crate) fn is_same_page(first: &Page, second: &Page) -> bool
+    ensures { result ≡ pointwise nat_eq first.now second.now }
+{
+    first.as_bytes() == second.as_bytes()
+}
+
+/// Which page frame is compared next, the lower one of two.
+#[derive(Clone, Copy)]
+pub(crate) enum Turn {
+    First(u64),
+    Second(u64),
+    Both(u64),
+    /// None is left in either.
+    End,
+}
+
+/// Whose turn it is.
+pub(crate) fn turn_of(first: Place, second: Place) -> Turn
+    ensures { result ≡ turn_of first second }
+{
+    let Place::At(p) = first else {
+        return match second {
+            Place::At(q) => Turn::Second(q),
+            Place::Ended | Place::Unread => Turn::End,
+        };
+    };
+    let Place::At(q) = second else {
+        return Turn::First(p);
+    };
+    if p < q {
+        Turn::First(p)
+    } else if q < p {
+        Turn::Second(q)
+    } else {
+        Turn::Both(p)
+    }
+}

@@ -1,0 +1,9 @@
+-- What holds over a disk that reads as before.
+use Rattle.std.proofs.Common.{◌≡◌, ℕ, List, Option, subst}
+use Rattle.definitions.specs.Disk.{Content}
+use Rattle.image_frames.specs.Numbered.{HasNumbered}
+use Rattle.image_frames.specs.declared.numbers.Numbers.{Numbers}
+
+pub numbered_since : (c d : Option Content) (m n header : ℕ) (q : Numbers) (given : List ℕ) → c ≡ d → m ≡ n → HasNumbered c m header q given → HasNumbered d n header q given
+numbered_since c d m n header q given e f h =
+    subst (λ (x : Option Content). HasNumbered x n header q given) e (subst (λ (k : ℕ). HasNumbered c k header q given) f h)

@@ -1,0 +1,4 @@
+pub mod Adds
+pub mod Begins
+pub mod Headings
+pub mod Makes

@@ -1,0 +1,133 @@
+ghost use Rattle.std.specs.Prelude.{◌≡◌, ◌≤◌, ℕ, List, [], IfOk, OnErr, None, Some};
+ghost use Rattle.definitions.specs.Disk.{Content};
+ghost use Rattle.definitions.specs.SwapHeader.{taken_back};
+ghost use Rattle.image_frames.specs.Numbered.{HasNumbered};
+ghost use Rattle.image_check.specs.Told.{Told};
+ghost use Rattle.image_dump.specs.Begins.{Begins, Marks};
+ghost use Rattle.image_dump.specs.Headings.{IsMarkedBlock, area_in, signature_of};
+ghost use Rattle.sig_header.specs.AreaKind.{area_kind};
+ghost use Rattle.std.specs.Prelude.{Option};
+
+use image_check::{Finding, Report, mark_in};
+use image_frames::{Numbers, OpenedNumbers};
+use image_machine::Heading;
+use page_core::{NoMemory, Page};
+use sector_disk::Disk;
+use sig_header::{Area, AreaKind, Mark, SF_HW_SIG, take_back};
+use std::alloc::Global;
+
+/// What there is of an image.
+#[derive(Drop)]
+pub(crate) enum Begun {
+    NoImage,
+    /// What is wrong was told.
+    Refused,
+    SkipsZeros,
+    /// Without the mark the header block isn't that of a version 1 area.
+    NoArea,
+    Open(Heading, Numbers),
+}
+
+/// What a header block says of an image.
+#[derive(Drop)]
+pub(crate) enum Marked {
+    NoImage,
+    /// The header block couldn't be read, which was told.
+    Refused,
+    Block(Page, Mark),
+}
+
+/// Opens the image of the area whose header lies in a block.
+#[inline(never)]
+pub(crate) fn begin<D: Disk, R: Report>(
+    alloc: Global,
+    disk: &mut D,
+    header: u32,
+    report: &mut R,
+) -> Result<Begun, NoMemory>
+    ensures begins { IfOk result (Begins (D.content disk.old) (D.block_count disk.old) header
+        (D.faults disk.old) (D.faults disk.new) (R.told report.old) (R.told report.new)) }
+    ensures untold { OnErr result (R.told report.new ≡ R.told report.old) }
+    ensures content { D.content disk.new ≡ D.content disk.old }
+    ensures faults { D.faults disk.old ≤ D.faults disk.new }
+    ensures orders { D.orders disk.new ≡ D.orders disk.old }
+    ensures blocks { D.block_count disk.new ≡ D.block_count disk.old }
+{
+    let (block, mark) = match marked_block(disk, header, report) {
+        Marked::NoImage => return Ok(Begun::NoImage),
+        Marked::Refused => return Ok(Begun::Refused),
+        Marked::Block(block, mark) => (block, mark),
+    };
+    match Numbers::open(alloc, disk, header, report)? {
+        OpenedNumbers::NoImage => Ok(Begun::NoImage),
+        OpenedNumbers::Refused => Ok(Begun::Refused),
+        OpenedNumbers::SkipsZeros => Ok(Begun::SkipsZeros),
+        OpenedNumbers::Open(numbers) => Ok(opened(&block, &mark, numbers)),
+    }
+}
+
+/// An image of which no number was read, by its header block.
+#[inline(never)]
+fn opened(block: &Page, mark: &Mark, numbers: Numbers) -> Begun
+    ensures { (content : Option Content) (blocks header before now : ℕ) (told then : Told) → then ≡ told →
+        IsMarkedBlock content header block.now mark.now → HasNumbered content blocks header numbers [] →
+        Begins content blocks header before now told then result }
+{
+    let info = numbers.info();
+    match area_in(AreaKind::read(&take_back(block))) {
+        Some(area) => Begun::Open(
+            Heading {
+                ident: info.ident,
+                physpages: info.physpages,
+                area,
+                hw_sig: signature_of(mark),
+            },
+            numbers,
+        ),
+        None => Begun::NoArea,
+    }
+}
+
+/// The version 1 area that a header block describes.
+fn area_in(kind: AreaKind) -> Option<Area>
+    ensures { result ≡ area_in kind }
+{
+    match kind {
+        AreaKind::Swap(area) => Some(area),
+        _ => None,
+    }
+}
+
+/// The hardware signature of a mark, which counts where its flag is set.
+fn signature_of(mark: &Mark) -> u32
+    ensures { result ≡ signature_of mark.now }
+{
+    if mark.flags / SF_HW_SIG % 2 == 0 {
+        0
+    } else {
+        mark.hw_sig
+    }
+}
+
+/// The header block, if it has the mark of an image.
+fn marked_block<D: Disk, R: Report>(disk: &mut D, header: u32, report: &mut R) -> Marked
+    ensures marks { Marks (D.content disk.old) (D.block_count disk.old) header
+        (D.faults disk.old) (D.faults disk.new) (R.told report.old) (R.told report.new) result }
+    ensures content { D.content disk.new ≡ D.content disk.old }
+    ensures faults { D.faults disk.old ≤ D.faults disk.new }
+    ensures orders { D.orders disk.new ≡ D.orders disk.old }
+    ensures blocks { D.block_count disk.new ≡ D.block_count disk.old }
+{
+    if header >= disk.blocks() {
+        return Marked::NoImage;
+    }
+    let mut block = Page::zero();
+    if disk.read(header, &mut block).is_err() {
+        report.tell(Finding::HeaderUnread(header));
+        return Marked::Refused;
+    }
+    match mark_in(AreaKind::read(&block)) {
+        Some(mark) => Marked::Block(block, mark),
+        None => Marked::NoImage,
+    }
+}

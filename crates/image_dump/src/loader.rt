@@ -1,0 +1,95 @@
+ghost use Rattle.std.specs.Prelude.{◌≡◌, ◌≤◌, ℕ, [], IfOk, OnErr};
+ghost use Rattle.definitions.specs.Disk.{Content};
+ghost use Rattle.image_frames.specs.Numbered.{HasNumbered};
+ghost use Rattle.image_machine.specs.Plans.{IsPlan};
+ghost use Rattle.image_dump.specs.Headings.{IsHeadingOf};
+ghost use Rattle.image_dump.specs.Makes.{Makes};
+
+use crate::adding::{Added, add_all};
+use crate::begun::{Begun, begin};
+use image_check::Report;
+use image_frames::Numbers;
+use image_machine::{Layout, Limit, Plan, Stop};
+use machine::Dump;
+use page_core::NoMemory;
+use sector_disk::Disk;
+use std::alloc::Global;
+
+/// What was made of an image.
+#[derive(Drop)]
+pub enum Made {
+    /// The header block, if the disk has it, isn't marked.
+    NoImage,
+    /// The findings of the header block, or of the first block that is named and has some, were told.
+    Refused,
+    /// Pages of zeros have no data page.
+    SkipsZeros,
+    /// Without the mark the header block isn't that of a version 1 area.
+    NoArea,
+    /// There is no such machine.
+    Limit(Limit),
+    Dump(Dump),
+}
+
+/// Makes the dump of a loader into which the image of an area can be resumed: a machine that has just booted, of which no page
+/// frame that the image saves is a table's. Of the image its header block, its info page and its number pages are read.
+pub fn loader_of<D: Disk, R: Report>(
+    alloc: Global,
+    disk: &mut D,
+    layout: &Layout<'_>,
+    report: &mut R,
+) -> Result<Made, NoMemory>
+    ensures made { IfOk result (Makes (D.content disk.old) (D.block_count disk.old)
+        (D.faults disk.old) (D.faults disk.new) (R.told report.old) (R.told report.new) layout.now) }
+    ensures untold { OnErr result (R.told report.new ≡ R.told report.old) }
+    ensures content { D.content disk.new ≡ D.content disk.old }
+    ensures faults { D.faults disk.old ≤ D.faults disk.new }
+    ensures orders { D.orders disk.new ≡ D.orders disk.old }
+    ensures blocks { D.block_count disk.new ≡ D.block_count disk.old }
+{
+    let (heading, numbers) = match begin(alloc, disk, layout.offset, report)? {
+        Begun::NoImage => return Ok(Made::NoImage),
+        Begun::Refused => return Ok(Made::Refused),
+        Begun::SkipsZeros => return Ok(Made::SkipsZeros),
+        Begun::NoArea => return Ok(Made::NoArea),
+        Begun::Open(heading, numbers) => (heading, numbers),
+    };
+    match Plan::of(alloc, &heading, *layout) {
+        Ok(plan) => follow(alloc, plan, numbers, disk, report),
+        Err(Stop::Limit(limit)) => Ok(Made::Limit(limit)),
+        Err(Stop::Memory) => Err(NoMemory),
+    }
+}
+
+/// Makes the loader of an image whose numbers weren't read yet.
+#[inline(never)]
+fn follow<D: Disk, R: Report>(
+    alloc: Global,
+    mut plan: Plan<'_>,
+    mut numbers: Numbers,
+    disk: &mut D,
+    report: &mut R,
+) -> Result<Made, NoMemory>
+    requires plan { IsPlan plan }
+    requires none { plan.saved.members ≡ [] }
+    requires numbered { HasNumbered (D.content disk.old) (D.block_count disk.old) plan.layout.offset numbers [] }
+    requires heading { IsHeadingOf (D.content disk.old) plan.layout.offset plan.heading }
+    ensures made { IfOk result (Makes (D.content disk.old) (D.block_count disk.old)
+        (D.faults disk.old) (D.faults disk.new) (R.told report.old) (R.told report.new) plan.entry.layout) }
+    ensures untold { OnErr result (R.told report.new ≡ R.told report.old) }
+    ensures content { D.content disk.new ≡ D.content disk.old }
+    ensures faults { D.faults disk.old ≤ D.faults disk.new }
+    ensures orders { D.orders disk.new ≡ D.orders disk.old }
+    ensures blocks { D.block_count disk.new ≡ D.block_count disk.old }
+{
+    match add_all(&mut plan, &mut numbers, disk, report) {
+        Added::All => {}
+        Added::Refused => return Ok(Made::Refused),
+        Added::Limit(limit) => return Ok(Made::Limit(limit)),
+    }
+    match plan.loader(alloc) {
+        Ok(dump) => Ok(Made::Dump(dump)),
+        Err(Stop::Limit(limit)) => Ok(Made::Limit(limit)),
+        Err(Stop::Memory) => Err(NoMemory),
+    }
+}

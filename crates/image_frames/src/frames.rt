@@ -1,0 +1,145 @@
+ghost use Rattle.std.specs.Prelude.{◌≡◌, ◌≤◌, ℕ, List, ◌∷◌};
+ghost use Rattle.image_frames.specs.Turns.{Ends, IsFull};
+
+use crate::numbers::{NUMBERS, NextNumber, Numbers, OpenedNumbers};
+use image_check::Report;
+use image_header::Info;
+use image_pages::{self, Pages};
+use image_stream::{read_ahead, read_page};
+use page_core::{NoMemory, Page};
+use sector_disk::Disk;
+use std::alloc::Global;
+
+/// The saved page frames of an image in the plain format, in ascending order, up to the first block that is named and
+/// has findings. The numbers and the pages of an image lie far from one another, so the image is read at two places. It
+/// takes memory of two bits for each block of the disk.
+#[derive(Drop)]
+pub struct Frames {
+    numbers: Numbers,
+    /// After the data page given last.
+    pages: Pages,
+}
+
+/// What there was to open.
+#[derive(Drop)]
+pub enum Opened {
+    /// The header block, if the disk has it, isn't marked.
+    NoImage,
+    /// The findings of the header block, of the info page or of the first number page that has some were told.
+    Refused,
+    /// Pages of zeros have no data page.
+    SkipsZeros,
+    Open(Frames),
+}
+
+/// What comes next.
+#[derive(Clone, Copy, Debug, PartialEq, Eq)]
+pub enum Next {
+    /// The page frame of this number was saved.
+    Frame(u64),
+    /// All were given, and the image has no finding.
+    End,
+    /// The findings of the first block that is named and has some were told.
+    Refused,
+}
+
+impl Frames {
+    ghost use Rattle.std.specs.Prelude.{◌≡◌, ◌≤◌, ℕ, List, Option, IfOk, OnErr};
+    ghost use Rattle.definitions.specs.Disk.{Content};
+    ghost use Rattle.definitions.specs.InfoPage.{info_of};
+    ghost use Rattle.image_pages.specs.Chain.{IsChainPage};
+    ghost use Rattle.image_frames.specs.Given.{HasGiven};
+    ghost use Rattle.image_frames.specs.Opens.{Opens};
+    ghost use Rattle.image_frames.specs.SavedFrames.{SavedFrame};
+    ghost use Rattle.image_frames.specs.Says.{Says};
+
+    /// Opens the image of the area whose header lies in a block, and reads it up to its last number page.
+    pub fn open<D: Disk, R: Report>(
+        alloc: Global,
+        disk: &mut D,
+        header: u32,
+        report: &mut R,
+    ) -> Result<Opened, NoMemory>
+        ensures opened { IfOk result (Opens (D.content disk.old) (D.block_count disk.old) header
+            (D.faults disk.old) (D.faults disk.new) (R.told report.old) (R.told report.new)) }
+        ensures untold { OnErr result (R.told report.new ≡ R.told report.old) }
+        ensures content { D.content disk.new ≡ D.content disk.old }
+        ensures faults { D.faults disk.old ≤ D.faults disk.new }
+        ensures orders { D.orders disk.new ≡ D.orders disk.old }
+        ensures blocks { D.block_count disk.new ≡ D.block_count disk.old }
+    {
+        let numbers = match Numbers::open(alloc, disk, header, report)? {
+            OpenedNumbers::NoImage => return Ok(Opened::NoImage),
+            OpenedNumbers::Refused => return Ok(Opened::Refused),
+            OpenedNumbers::SkipsZeros => return Ok(Opened::SkipsZeros),
+            OpenedNumbers::Open(numbers) => numbers,
+        };
+        let mut pages = numbers.pages_ahead()?;
+        let number_pages = numbers.count().div_ceil(NUMBERS);
+        let mut passed = Page::zero();
+        if !read_ahead(&mut pages, disk, report, number_pages, &mut passed) {
+            return Ok(Opened::Refused);
+        }
+        Ok(Opened::Open(Frames { numbers, pages }))
+    }
+
+    /// Reads the next saved page frame. It isn't called again after an end or a refusal. The page frames that were
+    /// given are the first ones that the chain of the disk names; an end says that they are all.
+    pub fn next<D: Disk, R: Report>(
+        &mut self,
+        disk: &mut D,
+        report: &mut R,
+        page: &mut Page,
+    ) -> Next
+        requires { (header : ℕ) × ((given : List SavedFrame) ×
+            HasGiven (D.content disk.old) (D.block_count disk.old) header self.old given) }
+        ensures says { (header : ℕ) (given : List SavedFrame) →
+            HasGiven (D.content disk.old) (D.block_count disk.old) header self.old given →
+            Says (D.content disk.old) (D.block_count disk.old) header (D.faults disk.old) (D.faults disk.new)
+            (R.told report.old) (R.told report.new) given self.new page.new result }
+        ensures info { self.new.numbers.info ≡ self.old.numbers.info }
+        ensures content { D.content disk.new ≡ D.content disk.old }
+        ensures faults { D.faults disk.old ≤ D.faults disk.new }
+        ensures orders { D.orders disk.new ≡ D.orders disk.old }
+        ensures blocks { D.block_count disk.new ≡ D.block_count disk.old }
+    {
+        let number = match self.numbers.next(disk, report) {
+            NextNumber::Frame(number) => number,
+            NextNumber::End => return end(&mut self.pages, disk, report, page),
+            NextNumber::Refused => return Next::Refused,
+        };
+        if !read_page(&mut self.pages, disk, report, page) {
+            return Next::Refused;
+        }
+        Next::Frame(number)
+    }
+
+    /// What the info page says: whose image it is, and how many page frames were saved.
+    pub fn info(&self) -> Info
+        ensures said { result ≡ info_of self.now.numbers.info }
+        ensures chain { (content : Option Content) (blocks header : ℕ) (given : List SavedFrame) →
+            HasGiven content blocks header self.now given → IsChainPage content header 0 self.now.numbers.info }
+    {
+        self.numbers.info()
+    }
+}
+
+/// Reads the image to its end, of which all pages were read.
+fn end<D: Disk, R: Report>(pages: &mut Pages, disk: &mut D, report: &mut R, page: &mut Page) -> Next
+    requires { (header : ℕ) × ((info : List ℕ) × ((rest : List (List ℕ)) ×
+        IsFull (D.content disk.old) (D.block_count disk.old) header pages.old info rest)) }
+    ensures ends { (header : ℕ) (info : List ℕ) (rest : List (List ℕ)) →
+        IsFull (D.content disk.old) (D.block_count disk.old) header pages.old info rest →
+        Ends (D.content disk.old) (D.block_count disk.old) header (D.faults disk.old) (D.faults disk.new)
+        (R.told report.old) (R.told report.new) (info ∷ rest) result }
+    ensures content { D.content disk.new ≡ D.content disk.old }
+    ensures faults { D.faults disk.old ≤ D.faults disk.new }
+    ensures orders { D.orders disk.new ≡ D.orders disk.old }
+    ensures blocks { D.block_count disk.new ≡ D.block_count disk.old }
+{
+    match pages.next(disk, report, page) {
+        image_pages::Next::End => Next::End,
+        image_pages::Next::Refused => Next::Refused,
+        image_pages::Next::Page => unreachable!(),
+    }
+}

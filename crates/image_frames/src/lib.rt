@@ -1,0 +1,8 @@
+//! The saved page frames of an image in the plain format, one after another: their numbers, and their pages too.
+#![tactic(auto)]
+
+mod frames;
+mod numbers;
+
+pub use frames::{Frames, Next, Opened};
+pub use numbers::{NextNumber, Numbers, OpenedNumbers};

@@ -1,0 +1,197 @@
+ghost use Rattle.std.specs.Prelude.{◌≡◌, ◌≤◌, ℕ, List, []};
+ghost use Rattle.page_core.specs.declared.format.Format.TheVariants.{Plain};
+ghost use Rattle.image_pages.specs.Stands.{Stands};
+ghost use Rattle.image_frames.specs.Opens.{OpensNumbers};
+ghost use Rattle.image_frames.specs.Turns.{IsAtNumber, Turns};
+
+use image_check::Report;
+use image_header::{Info, decode};
+use image_pages::{Opened, Pages};
+use image_stream::read_page;
+use page_core::{Format, NoMemory, Page};
+use sector_disk::Disk;
+use std::alloc::Global;
+
+/// How many numbers a page of page frame numbers has.
+pub(crate) const NUMBERS: u64 = 512;
+
+/// The numbers of the saved page frames of an image in the plain format, in ascending order. Only its number pages are
+/// read, up to the first block that is named and has findings. It takes memory of a bit for each block of the disk.
+#[derive(Drop)]
+pub struct Numbers {
+    info: Page,
+    /// How many page frames were saved.
+    count: u64,
+    given: u64,
+    /// After the number page that holds the number given last.
+    pages: Pages,
+    /// That number page.
+    listed: Page,
+}
+
+/// What there was to open.
+#[derive(Drop)]
+pub enum OpenedNumbers {
+    /// The header block, if the disk has it, isn't marked.
+    NoImage,
+    /// The findings of the header block or of the info page were told.
+    Refused,
+    /// Pages of zeros have no data page.
+    SkipsZeros,
+    Open(Numbers),
+}
+
+/// What comes next.
+#[derive(Clone, Copy, Debug, PartialEq, Eq)]
+pub enum NextNumber {
+    /// The page frame of this number was saved.
+    Frame(u64),
+    /// All were given.
+    End,
+    /// The findings of the first block that is named and has some were told.
+    Refused,
+}
+
+impl Numbers {
+    ghost use Rattle.std.specs.Prelude.{◌≡◌, ◌≤◌, ℕ, List, Option, IfOk, OnErr};
+    ghost use Rattle.definitions.specs.Disk.{Content};
+    ghost use Rattle.definitions.specs.InfoPage.{info_of};
+    ghost use Rattle.image_check.specs.Info.{counts_in};
+    ghost use Rattle.image_pages.specs.Chain.{IsChainPage};
+    ghost use Rattle.image_pages.specs.Stands.{Stands};
+    ghost use Rattle.image_frames.specs.Numbered.{HasNumbered};
+    ghost use Rattle.image_frames.specs.Opens.{OpensNumbers};
+    ghost use Rattle.image_frames.specs.SaysNumber.{SaysNumber};
+
+    /// Opens the image of the area whose header lies in a block, and reads its info page.
+    pub fn open<D: Disk, R: Report>(
+        alloc: Global,
+        disk: &mut D,
+        header: u32,
+        report: &mut R,
+    ) -> Result<OpenedNumbers, NoMemory>
+        ensures opened { IfOk result (OpensNumbers (D.content disk.old) (D.block_count disk.old) header
+            (D.faults disk.old) (D.faults disk.new) (R.told report.old) (R.told report.new)) }
+        ensures untold { OnErr result (R.told report.new ≡ R.told report.old) }
+        ensures content { D.content disk.new ≡ D.content disk.old }
+        ensures faults { D.faults disk.old ≤ D.faults disk.new }
+        ensures orders { D.orders disk.new ≡ D.orders disk.old }
+        ensures blocks { D.block_count disk.new ≡ D.block_count disk.old }
+    {
+        let pages = match Pages::open(alloc, disk, header, report)? {
+            Opened::NoImage => return Ok(OpenedNumbers::NoImage),
+            Opened::Refused => return Ok(OpenedNumbers::Refused),
+            Opened::Open(pages) => pages,
+        };
+        match pages.format() {
+            Format::Plain => Ok(begin(pages, disk, report)),
+            Format::SkipZeros => Ok(OpenedNumbers::SkipsZeros),
+        }
+    }
+
+    /// Reads the next number. It isn't called again after an end or a refusal. The numbers that were given are those
+    /// of the first page frames that the chain of the disk names; an end says that they are all.
+    pub fn next<D: Disk, R: Report>(&mut self, disk: &mut D, report: &mut R) -> NextNumber
+        requires { (header : ℕ) × ((given : List ℕ) ×
+            HasNumbered (D.content disk.old) (D.block_count disk.old) header self.old given) }
+        ensures says { (header : ℕ) (given : List ℕ) →
+            HasNumbered (D.content disk.old) (D.block_count disk.old) header self.old given →
+            SaysNumber (D.content disk.old) (D.block_count disk.old) header (D.faults disk.old) (D.faults disk.new)
+            (R.told report.old) (R.told report.new) given self.new result }
+        ensures info { self.new.info ≡ self.old.info }
+        ensures content { D.content disk.new ≡ D.content disk.old }
+        ensures faults { D.faults disk.old ≤ D.faults disk.new }
+        ensures orders { D.orders disk.new ≡ D.orders disk.old }
+        ensures blocks { D.block_count disk.new ≡ D.block_count disk.old }
+    {
+        if self.given == self.count {
+            return NextNumber::End;
+        }
+        if !turn(&mut self.pages, disk, report, self.given, &mut self.listed) {
+            return NextNumber::Refused;
+        }
+        let number = self.listed.word((self.given % NUMBERS) as usize);
+        self.given += 1;
+        NextNumber::Frame(number)
+    }
+
+    /// What the info page says: whose image it is, and how many page frames were saved.
+    pub fn info(&self) -> Info
+        ensures said { result ≡ info_of self.now.info }
+        ensures chain { (content : Option Content) (blocks header : ℕ) (given : List ℕ) →
+            HasNumbered content blocks header self.now given → IsChainPage content header 0 self.now.info }
+    {
+        decode(&self.info)
+    }
+
+    /// How many page frames were saved, by the info page.
+    pub fn count(&self) -> u64
+        ensures count { (content : Option Content) (blocks header : ℕ) (given : List ℕ) →
+            HasNumbered content blocks header self.now given → result ≡ (counts_in self.now.info).image_pages }
+    {
+        self.count
+    }
+
+    /// The pages of the image after the last number page that was read, to be read by themselves.
+    pub(crate) fn pages_ahead(&self) -> Result<Pages, NoMemory>
+        ensures stands { IfOk result (λ p. (content : Option Content) (blocks header : ℕ) (given : List (List ℕ)) →
+            Stands content blocks header self.now.pages given → Stands content blocks header p given) }
+    {
+        self.pages.fork()
+    }
+}
+
+/// Begins with a plain image of which nothing was read.
+fn begin<D: Disk, R: Report>(mut pages: Pages, disk: &mut D, report: &mut R) -> OpenedNumbers
+    requires stands { (header : ℕ) × Stands (D.content disk.old) (D.block_count disk.old) header pages [] }
+    requires plain { pages.format ≡ Plain }
+    ensures opened { (header : ℕ) → Stands (D.content disk.old) (D.block_count disk.old) header pages [] →
+        OpensNumbers (D.content disk.old) (D.block_count disk.old) header
+        (D.faults disk.old) (D.faults disk.new) (R.told report.old) (R.told report.new) result }
+    ensures content { D.content disk.new ≡ D.content disk.old }
+    ensures faults { D.faults disk.old ≤ D.faults disk.new }
+    ensures orders { D.orders disk.new ≡ D.orders disk.old }
+    ensures blocks { D.block_count disk.new ≡ D.block_count disk.old }
+{
+    let mut info = Page::zero();
+    if !read_page(&mut pages, disk, report, &mut info) {
+        return OpenedNumbers::Refused;
+    }
+    let Some(counts) = pages.counts() else {
+        unreachable!()
+    };
+    OpenedNumbers::Open(Numbers {
+        info,
+        count: counts.image_pages,
+        given: 0,
+        pages,
+        listed: Page::zero(),
+    })
+}
+
+/// Reads on to the number page of the next number, where that is another than the last one's, and answers whether it
+/// was read.
+fn turn<D: Disk, R: Report>(
+    numbers: &mut Pages,
+    disk: &mut D,
+    report: &mut R,
+    given: u64,
+    listed: &mut Page,
+) -> bool
+    requires { (header : ℕ) × ((info : List ℕ) × ((pages : List (List ℕ)) ×
+        IsAtNumber (D.content disk.old) (D.block_count disk.old) header numbers.old info pages given listed.old)) }
+    ensures turns { (header : ℕ) (info : List ℕ) (pages : List (List ℕ)) →
+        IsAtNumber (D.content disk.old) (D.block_count disk.old) header numbers.old info pages given listed.old →
+        Turns (D.content disk.old) (D.block_count disk.old) header (D.faults disk.old) (D.faults disk.new)
+        (R.told report.old) (R.told report.new) info pages given numbers.new listed.new result }
+    ensures format { numbers.new.format ≡ numbers.old.format }
+    ensures content { D.content disk.new ≡ D.content disk.old }
+    ensures faults { D.faults disk.old ≤ D.faults disk.new }
+    ensures orders { D.orders disk.new ≡ D.orders disk.old }
+    ensures blocks { D.block_count disk.new ≡ D.block_count disk.old }
+{
+    if given % NUMBERS > 0 {
+        return true;
+    }
+    read_page(numbers, disk, report, listed)
+}

@@ -1,0 +1,49 @@
+ghost use Rattle.std.specs.Prelude.{◌≡◌, ◌+◌, ◌*◌, ◌<◌, ◌≤◌, ◌↔◌, not, ◌&&◌, IsTrue};
+ghost use Rattle.std.specs.List.{find, range_with_len};
+ghost use Rattle.definitions.specs.Zones.{numbers, top};
+ghost use Rattle.plain_machine.specs.Machine.{table_len};
+ghost use Rattle.image_machine.specs.Rows.{is_clear, is_unsaved, lie_apart, lowest_row};
+
+use memory_bitmap::Bitmap;
+use zones::Zones;
+
+/// How many entries of 4 bytes a page frame has.
+const ENTRIES: u32 = 1024;
+
+/// How many page frames a table with so many entries takes.
+pub(crate) fn table_len(entries: u32) -> u32
+    ensures { result ≡ table_len entries }
+{
+    entries.div_ceil(ENTRIES)
+}
+
+/// The first page frame of the lowest row of so many valid page frames of which none was saved and none lies in another row.
+pub(crate) fn lowest_row(zones: &Zones, saved: &Bitmap, len: u32, other: (u32, u32)) -> Option<u32>
+    requires len { len ≤ 128 }
+    ensures { result ≡ lowest_row zones.now saved.now.members len other }
+{
+    (0..zones.top()).find(|&first| lie_apart((first, len), other)
+        && is_clear(zones, saved, first, len))
+}
+
+/// Whether each page frame of a row is valid and wasn't saved.
+fn is_clear(zones: &Zones, saved: &Bitmap, first: u32, len: u32) -> bool
+    requires { first + len ≤ 131072 }
+    ensures { result ≡ is_clear zones.now saved.now.members len first }
+{
+    (first..first + len).all(|p| is_unsaved(zones, saved, p))
+}
+
+fn is_unsaved(zones: &Zones, saved: &Bitmap, p: u32) -> bool
+    ensures { result ≡ is_unsaved zones.now saved.now.members p }
+{
+    zones.valid(p) && !saved.has(p)
+}
+
+/// Whether of two rows, each the first page frame and how many they are, one lies below the other.
+fn lie_apart(a: (u32, u32), b: (u32, u32)) -> bool
+    ensures { result ≡ lie_apart a b }
+{
+    let end = |row: (u32, u32)| u64::from(row.0) + u64::from(row.1);
+    end(a) <= u64::from(b.0) || end(b) <= u64::from(a.0)
+}

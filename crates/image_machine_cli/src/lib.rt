@@ -1,0 +1,7 @@
+//! The commands of `swsusp_image` that make dumps of an image's machine.
+#![tactic(auto)]
+
+mod limits;
+mod loading;
+
+pub use loading::loader;
