@@ -1,17 +1,22 @@
 #!/bin/sh
-# Refuses each growth of memory in turn, one a run, in each command of the built program: the status is 6, the note `no memory`, nothing
-# is printed, and every byte of the disk is as before. Behind the last growth the command does what it does with ample memory, and so it
-# does without the room that is asked for beforehand for its list of words, before the command begins. The program
-# is the first word, or crates/swsusp/out/swsusp, which `rt run` leaves. It is run with a library that is loaded before it, made
-# here by cc (over glibc), whose malloc and realloc fail at the call that is asked for (`rt try --fail-alloc N` does so too, but builds the program
-# anew for each N). Prints a line for each command, and ends with status 1 where one differs; skips, with status 0, without cc.
+# Refuses each growth of memory in turn, one a run, in each command of the three built programs: the status is 6, the note `no memory`,
+# nothing is printed, and every byte of the disk is as before. After the last growth the command does what it does with ample memory,
+# and so it does without the room that is asked for beforehand for its list of words, before the command begins. The programs
+# are the three words, or those in crates/*/out, which `rt run` and `rt ci` leave. They are run with a library that is loaded
+# before them, made here by cc (over glibc), whose malloc and realloc fail at the call that is asked for (`rt try --fail-alloc N`
+# does so too, but builds the program anew for each N). Prints a line for each command, and ends with status 1 where one differs;
+# skips, with status 0, without cc.
 set -u
 top=$(cd "$(dirname "$0")/.." && pwd)
-program=${1:-$top/crates/swsusp/out/swsusp}
-if [ ! -x "$program" ]; then
-    echo "$program isn't built: rt run in crates/swsusp builds it"
-    exit 1
-fi
+swsusp=${1:-$top/crates/swsusp/out/swsusp}
+image=${2:-$top/crates/swsusp_image/out/swsusp_image}
+machine=${3:-$top/crates/swsusp_machine/out/swsusp_machine}
+for program in "$swsusp" "$image" "$machine"; do
+    if [ ! -x "$program" ]; then
+        echo "$program isn't built: make builds it"
+        exit 1
+    fi
+done
 if ! command -v cc >/dev/null; then
     echo "skipped: no cc"
     exit 0
@@ -68,7 +73,7 @@ told() {
     echo "$status|$(head -c 200 "$room/note")|$(($(wc -c <"$room/out")))|$disk"
 }
 
-# Refuses each growth of a command over this disk and input: the name, the disk, the input and the words.
+# Refuses each growth of a command of $program over this disk and input: the name, the disk, the input and the words.
 each() {
     name=$1
     cp "$2" "$room/before"
@@ -93,9 +98,9 @@ each() {
         fi
         call=$((call + 1))
     done
-    behind=$(told "$call" "$@")
-    if [ "$behind" != "$ample" ]; then
-        echo "differs: $name, behind its $growths growths: wanted [$ample], came [$behind]"
+    after=$(told "$call" "$@")
+    if [ "$after" != "$ample" ]; then
+        echo "differs: $name, after its $growths growths: wanted [$ample], came [$after]"
         wrong=1
     fi
     if [ "$growths" -lt 2 ]; then
@@ -110,10 +115,11 @@ sh "$top/tools/make_area.sh" "$room/area" 1599
 python3 "$top/tools/make_dump.py" saved >"$room/saved"
 python3 "$top/tools/make_dump.py" loader >"$room/loader"
 cp "$room/area" "$room/image"
-"$program" hibernate "$room/image" <"$room/saved" >"$room/line" || exit 1
-"$program" export <"$room/saved" >"$room/stream" || exit 1
+"$swsusp" hibernate "$room/image" <"$room/saved" >"$room/line" || exit 1
+"$swsusp" export <"$room/saved" >"$room/stream" || exit 1
 : >"$room/nothing"
 
+program=$swsusp
 each inspect "$room/area" "$room/nothing" inspect "$room/disk"
 each hibernate "$room/area" "$room/saved" hibernate "$room/disk"
 each "hibernate --skip-zeros" "$room/area" "$room/saved" hibernate --skip-zeros "$room/disk"
@@ -128,4 +134,22 @@ each drill "$room/area" "$room/nothing" drill 10
 # The text that tells what is wrong with words leaves out what there is no memory for.
 each "words that aren't plain" "$room/area" "$room/nothing" inspect -- "$room/disk"
 each "words that don't parse" "$room/area" "$room/nothing" hibernate --fast "$room/disk"
+
+program=$image
+each "show" "$room/image" "$room/nothing" show "$room/disk"
+each "check" "$room/image" "$room/nothing" check "$room/disk"
+each "stream" "$room/image" "$room/nothing" stream "$room/disk"
+each "page" "$room/image" "$room/nothing" page "$room/disk" 0
+each "core" "$room/image" "$room/nothing" core "$room/disk"
+each "differ" "$room/image" "$room/nothing" differ "$room/disk" "$room/image"
+each "loader" "$room/image" "$room/nothing" loader "$room/disk"
+each "discard" "$room/image" "$room/nothing" discard "$room/disk"
+
+program=$machine
+each "show a dump" "$room/area" "$room/saved" show
+each "loader of a dump" "$room/area" "$room/saved" loader
+each "differ of dumps" "$room/area" "$room/nothing" differ "$room/saved" "$room/loader"
+each "check with a dump" "$room/image" "$room/loader" check "$room/disk"
+each "make" "$room/area" "$top/examples/tasks.txt" make
+each "draw" "$room/area" "$top/examples/tasks.txt" draw
 exit $failed

@@ -1,15 +1,16 @@
 #!/bin/sh
 # Starts the built programs as a shell may start them: with standard streams closed, with a terminal as standard output, over what is no
 # swap area or no file, and compares their notes, their output, their statuses and the area's bytes. The programs are the words, or
-# crates/swsusp/out/swsusp and crates/swsusp_machine/out/swsusp_machine, which `rt run` leaves. Prints a line for each check, and ends with
-# status 1 where one differs. Without python3 no dumps are made, and what needs one is left out.
+# those in crates/*/out, which `rt run` and `rt ci` leave. Prints a line for each check, and ends with status 1 where one
+# differs. Without python3 no dumps are made, and what needs one is left out.
 set -u
 top=$(cd "$(dirname "$0")/.." && pwd)
 program=${1:-$top/crates/swsusp/out/swsusp}
 machine=${2:-$top/crates/swsusp_machine/out/swsusp_machine}
-for it in "$program" "$machine"; do
+images=${3:-$top/crates/swsusp_image/out/swsusp_image}
+for it in "$program" "$machine" "$images"; do
     if [ ! -x "$it" ]; then
-        echo "$it isn't built: rt run in its crate builds it"
+        echo "$it isn't built: make builds it"
         exit 1
     fi
 done
@@ -189,6 +190,24 @@ each "differ, the same" o 0 empty nothing "$machine" differ "$room/dump" "$room/
 each "differ, no dump" n 3 empty nothing "$machine" differ "$room/dump" "$room/stream"
 each "check" io 0 image loader "$machine" check "$room/disk"
 each "check of no image" in 1 empty loader "$machine" check "$room/disk"
+cp "$room/image" "$room/other"
+printf X | dd of="$room/other" bs=1 seek=20500 conv=notrunc 2>"$room/note"
+each "show of an area" o 0 image nothing "$images" show "$room/disk"
+each "check of an area" o 0 image nothing "$images" check "$room/disk"
+each "check of an area without an image" o 1 empty nothing "$images" check "$room/disk"
+each "stream" o 0 image nothing "$images" stream "$room/disk"
+each "stream of no image" n 1 empty nothing "$images" stream "$room/disk"
+each "page" o 0 image nothing "$images" page "$room/disk" 0
+each "page that isn't saved" n 1 image nothing "$images" page "$room/disk" 65535
+each "core" o 0 image nothing "$images" core "$room/disk"
+each "core of no image" n 1 empty nothing "$images" core "$room/disk"
+each "differ, the same image" o 0 image nothing "$images" differ "$room/disk" "$room/image"
+each "differ, another image" o 1 image nothing "$images" differ "$room/disk" "$room/other"
+each "differ, no image" n 1 empty nothing "$images" differ "$room/disk" "$room/image"
+each "loader of an image" o 0 image nothing "$images" loader "$room/disk"
+each "loader of no image" n 1 empty nothing "$images" loader "$room/disk"
+each "discard" o 0 image nothing "$images" discard "$room/disk"
+each "discard of no image" o 1 empty nothing "$images" discard "$room/disk"
 
 # A dump or a stream isn't written to a terminal, and an image isn't given up for what would go there. The first word is a file for the
 # note, the second the input; then the program and its words. Prints what the terminal shows, and ends with the program's status.
@@ -233,4 +252,9 @@ same "draw on a terminal" "4|sink fault||kept" "$(shown story "$machine" draw)"
 same "loader on a terminal" "4|sink fault||kept" "$(shown saved "$machine" loader)"
 same "show on a terminal" "0||slots 1600|kept" "$(shown saved "$machine" show)"
 same "check on a terminal" "0||resumed 5|kept" "$(shown loader "$machine" check "$room/disk")"
+same "stream on a terminal" "4|sink fault||kept" "$(shown nothing "$images" stream "$room/disk")"
+same "page on a terminal" "4|sink fault||kept" "$(shown nothing "$images" page "$room/disk" 0)"
+same "core on a terminal" "4|sink fault||kept" "$(shown nothing "$images" core "$room/disk")"
+same "loader of an image on a terminal" "4|sink fault||kept" "$(shown nothing "$images" loader "$room/disk")"
+same "differ of images on a terminal" "0||same|kept" "$(shown nothing "$images" differ "$room/disk" "$room/image")"
 exit $failed

@@ -1,7 +1,9 @@
--- The pieces of a core file of a machine's memory, in the ELF format for 64-bit little-endian machines (System V gABI, "Object Files"; elf.h).
--- They lie one after another: the file header, a program header for the note, a program header for each run of page frames in ascending
--- order, the note, a section header where the program headers are too many for the file header, zeros up to a whole page, the pages.
-use Rattle.std.specs.Prelude.{ℕ, ◌+◌, ◌-◌, ◌*◌, ◌/◌, Bool, nat_le, List, [], ◌∷◌, ◌++◌, length, replicate, codes, if◌then◌else◌}
+-- The pieces of a core file of a machine's memory, in the ELF format for 64-bit little-endian machines (System V
+-- gABI, "Object Files"; elf.h). They lie one after another: the file header, a program header for the note, a program
+-- header for each run of page frames in ascending order, the note, a section header where the program headers are too
+-- many for the file header, zeros up to a whole page, the pages.
+use Rattle.std.specs.Prelude.{ℕ, ◌+◌, ◌-◌, ◌*◌, ◌/◌, Bool, nat_le, List, [], ◌∷◌, ◌++◌, length, replicate, codes}
+use Rattle.std.specs.Prelude.{if◌then◌else◌}
 use Rattle.std.specs.List.{concat}
 use Rattle.definitions.specs.Slots.{runs_of}
 use Rattle.elf_core.specs.Numbers.{half, word, xword}
@@ -48,16 +50,16 @@ padding runs = page_offset runs - head_size runs
 abbrev pub ident : List ℕ
 ident = 127 ∷ 69 ∷ 76 ∷ 70 ∷ 2 ∷ 1 ∷ 1 ∷ 0 ∷ 0 ∷ 0 ∷ 0 ∷ 0 ∷ 0 ∷ 0 ∷ 0 ∷ 0 ∷ []
 
--- Elf64_Ehdr: e_ident, e_type (ET_CORE), e_machine, e_version, e_entry, e_phoff, e_shoff, e_flags, e_ehsize, e_phentsize, e_phnum,
--- e_shentsize, e_shnum, e_shstrndx
+-- Elf64_Ehdr: e_ident, e_type (ET_CORE), e_machine, e_version, e_entry, e_phoff, e_shoff, e_flags, e_ehsize,
+-- e_phentsize, e_phnum, e_shentsize, e_shnum, e_shstrndx
 unfoldable pub file_header_bytes : (machine runs : ℕ) → List ℕ
 file_header_bytes machine runs =
     ident ++ half 4 ++ half machine ++ word 1 ++ xword 0 ++ xword 64 ++ xword (section_offset runs) ++ word 0
     ++ half 64 ++ half 56 ++ half (program_header_half runs)
     ++ half 64 ++ half (section_count runs) ++ half 0
 
--- Elf64_Phdr of a run: p_type (PT_LOAD), p_flags (PF_R, PF_W, PF_X), p_offset, p_vaddr and p_paddr (the physical address of the run's
--- first page frame), p_filesz and p_memsz, p_align
+-- Elf64_Phdr of a run: p_type (PT_LOAD), p_flags (PF_R, PF_W, PF_X), p_offset, p_vaddr and p_paddr (the physical
+-- address of the run's first page frame), p_filesz and p_memsz, p_align
 unfoldable pub load_bytes : (offset first count : ℕ) → List ℕ
 load_bytes offset first count =
     word 1 ++ word 7 ++ xword offset ++ xword (4096 * first) ++ xword (4096 * first)
@@ -78,8 +80,9 @@ unfoldable pub note_bytes : List ℕ → List ℕ
 note_bytes identity =
     word 9 ++ word 396 ++ word 1 ++ codes "DIRUKOFE" ++ replicate 4 0 ++ identity
 
--- The section header that holds the number of program headers (Elf64_Shdr: sh_name, sh_type (SHT_NULL), sh_flags, sh_addr, sh_offset,
--- sh_size, sh_link, sh_info, sh_addralign, sh_entsize), after zeros up to a multiple of 8; none where they are few.
+-- The section header that holds the number of program headers (Elf64_Shdr: sh_name, sh_type (SHT_NULL), sh_flags,
+-- sh_addr, sh_offset, sh_size, sh_link, sh_info, sh_addralign, sh_entsize), after zeros up to a multiple of 8; none
+-- where they are few.
 unfoldable pub section_bytes : ℕ → List ℕ
 section_bytes runs =
     if is_many runs then replicate 4 0 ++ word 0 ++ word 0 ++ xword 0 ++ xword 0 ++ xword 0 ++ xword 0
@@ -95,8 +98,11 @@ back_bytes identity runs = note_bytes identity ++ section_bytes runs ++ replicat
 -- all that lies before the pages
 abbrev pub head_bytes : ℕ → List ℕ → List (ℕ × ℕ) → List ℕ
 head_bytes machine identity runs =
-    front_bytes machine (length runs) ++ loads_bytes (page_offset (length runs)) runs ++ back_bytes identity (length runs)
+    front_bytes machine (length runs)
+    ++ loads_bytes (page_offset (length runs)) runs
+    ++ back_bytes identity (length runs)
 
--- The whole file of a machine, whose identity is told in 396 bytes: of ascending numbers of page frames and the page of each.
+-- The whole file of a machine, whose identity is told in 396 bytes: of ascending numbers of page frames and the page
+-- of each.
 abbrev pub core_bytes : ℕ → List ℕ → List ℕ → List (List ℕ) → List ℕ
 core_bytes machine identity numbers pages = head_bytes machine identity (runs_of numbers) ++ concat pages

@@ -1,5 +1,7 @@
 ghost use Rattle.std.specs.Prelude.{◌≡◌, ◌<◌, ◌≤◌, ◌^◌};
-ghost use Rattle.elf_core.specs.Elf.{file_header_bytes, head_size, is_many, load_bytes, note_header_bytes, note_offset, padding, page_offset, program_header_half, section_count, section_offset, section_size};
+ghost use Rattle.elf_core.specs.Elf.{file_header_bytes, head_size, is_many, load_bytes, note_header_bytes};
+ghost use Rattle.elf_core.specs.Elf.{note_offset, padding, page_offset, program_header_half, section_count};
+ghost use Rattle.elf_core.specs.Elf.{section_offset, section_size};
 
 use crate::pieces::Piece;
 

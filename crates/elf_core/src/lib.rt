@@ -1,5 +1,5 @@
-//! The pieces of a core file of a machine's memory, in the ELF format for 64-bit little-endian machines (System V gABI, "Object
-//! Files"; the names of structures and constants are those of elf.h).
+//! The pieces of a core file of a machine's memory, in the ELF format for 64-bit little-endian machines (System V
+//! gABI, "Object Files"; the names of structures and constants are those of elf.h).
 #![tactic(auto)]
 
 mod headers;

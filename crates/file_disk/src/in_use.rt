@@ -154,12 +154,20 @@ fn device_at<R: Files + Alloc>(rt: &R, printed: &str) -> io::Result<Option<Devic
     }
 }
 
+/// What /proc/swaps prints. Without it, as without /proc or in a kernel that can't swap, there is no swap area that is known of.
+fn printed_swaps<R: Files + Alloc>(rt: &R) -> io::Result<Option<String<R::A>>> {
+    match fs::read_to_string(rt, "/proc/swaps") {
+        Ok(swaps) => Ok(Some(swaps)),
+        Err(e) if e.kind() == ErrorKind::NotFound => Ok(None),
+        Err(e) => Err(e),
+    }
+}
+
 /// Whether the kernel swaps to the device, to its disk or to a partition of it. A swap area at a path where no device is
 /// found might be any.
 fn is_swapped_to<R: Files + Alloc>(rt: &R, sought: &Sought) -> io::Result<bool> {
-    let swaps = match fs::read_to_string(rt, "/proc/swaps") {
-        Err(e) if e.kind() == ErrorKind::NotFound => return Ok(false),
-        swaps => swaps?,
+    let Some(swaps) = printed_swaps(rt)? else {
+        return Ok(false);
     };
     for line in swaps.lines() {
         if let Some(SwapArea::Device(path)) = swap_area(line) {
@@ -228,20 +236,21 @@ fn is_used_device<R: Files + Alloc + Clone + Drop>(rt: &R, number: u64) -> io::R
     )
 }
 
-/// Whether the kernel swaps to a regular file, as far as it tells where its swap files are: one that it shows by no path that leads
-/// there, as that of another root, might be any.
+/// Whether the kernel swaps to a regular file, as far as it tells where its swap files are: one that it shows by no path that
+/// leads there, as that of another root, might be any. Where /proc/swaps is there and can't be read, that is an error.
 fn is_swap_file<R: Files + Alloc>(rt: &R, sought: &Metadata) -> io::Result<bool> {
-    let Ok(swaps) = fs::read_to_string(rt, "/proc/swaps") else {
+    let Some(swaps) = printed_swaps(rt)? else {
         return Ok(false);
     };
     for line in swaps.lines() {
         if let Some(SwapArea::File(printed)) = swap_area(line) {
             let path = unescaped(rt.alloc(), printed)?;
-            if let Ok(found) = fs::metadata(rt, path.as_str())
-                && found.dev() == sought.dev()
-                && found.ino() == sought.ino()
-            {
-                return Ok(true);
+            match fs::metadata(rt, path.as_str()) {
+                Ok(found) if found.dev() == sought.dev() && found.ino() == sought.ino() => {
+                    return Ok(true);
+                }
+                Err(e) if e.kind() == ErrorKind::OutOfMemory => return Err(e),
+                _ => {}
             }
         }
     }

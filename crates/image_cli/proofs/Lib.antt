@@ -1,3 +1,4 @@
 pub mod Noting
+pub mod Stopping
 pub mod Summing
 pub mod Telling

@@ -9,7 +9,7 @@ use Rattle.image_stream.specs.declared.finding.Found.TheVariants as found
 use Rattle.image_stream.specs.declared.streaming.Streamed.{Streamed}
 use Rattle.image_stream.specs.declared.streaming.Streamed.TheVariants as streamed
 
-same_faults : (told then : Told) → then ≡ told → told.faults ≤ then.faults
+pub same_faults : (told then : Told) → then ≡ told → told.faults ≤ then.faults
 same_faults told then e = omega (arith, ap (λ (t : Told). t.faults) e)
 
 -- the faults of the notes don't fall

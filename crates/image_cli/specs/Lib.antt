@@ -1,4 +1,5 @@
 pub mod Checks
+pub mod Cores
 pub mod Differing
 pub mod Differs
 pub mod Discards

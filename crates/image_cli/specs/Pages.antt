@@ -22,7 +22,8 @@ found_told frame page found.NoPage = refused_told (line (codes "no page " ++ dec
 found_told frame page found.Page = record { status = Done; out = page; note = [] }
 
 -- what was found of the page frame is told, or that memory was refused
-pub data WritesPage (content : Option Content) (blocks header before now : ℕ) (told : Told) (frame : ℕ) (status : Status)
+pub data WritesPage (content : Option Content) (blocks header before now : ℕ) (told : Told) (frame : ℕ)
+    (status : Status)
     (out out' note' : SinkView) : Type 0 where
   ended : (what : Found) (page : List ℕ) (then : Told) (noted : SinkView) →
       Finds content blocks header before now told then frame page what → IsNoted then noted →

@@ -15,9 +15,10 @@ use page_core::NoMemory;
 use sector_disk::Disk;
 use std::alloc::Global;
 
-/// Prints what is wrong with the image of the area whose header lies in a block: a line for each finding, with its place, in the
-/// order in which the image is read, and then `whole`, or how many findings there are; `no image` where the header block, if the
-/// disk has it, carries no mark. The status is `Done` just where the image is whole. The disk is only read.
+/// Prints what is wrong with the image of the area whose header lies in a block: a line for each finding, with its
+/// place, in the order in which the image is read, and then `whole`, or how many findings there are; `no image` where
+/// the header block, if the disk has it, carries no mark. The status is `Done` just where the image is whole. The
+/// disk is only read.
 pub fn check<D: Disk, O: Sink, N: Sink>(
     alloc: Global,
     disk: &mut D,

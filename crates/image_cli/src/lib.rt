@@ -2,12 +2,14 @@
 #![tactic(auto)]
 
 mod checking;
+mod coring;
 mod differing;
 mod discarding;
 mod showing;
 mod streaming;
 
 pub use checking::check;
+pub use coring::core;
 pub use differing::{Wanted, differ};
 pub use discarding::discard;
 pub use showing::show;

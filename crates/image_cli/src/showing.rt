@@ -10,8 +10,8 @@ use image_show::{Fault, Shown};
 use sector_disk::Disk;
 use std::alloc::Global;
 
-/// Prints what is written in the area whose header lies in a block, a fact a line. The status is `Done` where there is such a block and it
-/// was read, whatever it says. The disk is only read.
+/// Prints what is written in the area whose header lies in a block, a fact a line. The status is `Done` where there
+/// is such a block and it was read, whatever it says. The disk is only read.
 pub fn show<D: Disk, O: Sink, N: Sink>(
     alloc: Global,
     disk: &mut D,

@@ -17,8 +17,8 @@ use page_core::{NoMemory, Page};
 use sector_disk::Disk;
 use std::alloc::Global;
 
-/// Writes the image of the area whose header lies in a block as a stream, as `swsusp export` does. What is wrong with it
-/// is noted, and ends the stream. The disk is only read.
+/// Writes the image of the area whose header lies in a block as a stream, as `swsusp export` does. What is wrong with
+/// it is noted, and ends the stream. The disk is only read.
 pub fn stream<D: Disk, O: Sink, N: Sink>(
     alloc: Global,
     disk: &mut D,
@@ -26,8 +26,8 @@ pub fn stream<D: Disk, O: Sink, N: Sink>(
     out: &mut O,
     note: &mut Printer<N>,
 ) -> Status
-    ensures outcome { Streams (D.content disk.old) (D.block_count disk.old) header (D.faults disk.old) (D.faults disk.new)
-        (printer_view N.Sink note.old) result
+    ensures outcome { Streams (D.content disk.old) (D.block_count disk.old) header
+        (D.faults disk.old) (D.faults disk.new) (printer_view N.Sink note.old) result
         (sink_view O.Sink out.old)
         (sink_view O.Sink out.new)
         (sink_view N.Sink note.old.sink)

@@ -15,7 +15,8 @@ use Rattle.image_frames.specs.SavedNumbers.{AreAllNumbers}
 use Rattle.elf_core.specs.Elf.{core_bytes}
 use Rattle.image_core.specs.Identity.{identity_of, machine_of}
 use Rattle.image_core.specs.declared.stop.Stop.{Stop}
-use Rattle.image_core.specs.declared.stop.Stop.TheVariants.{NoImage, Refused, SkipsZeros, TooMany, Changed, Sink, Memory}
+use Rattle.image_core.specs.declared.stop.Stop.TheVariants.{NoImage, Refused, SkipsZeros, TooMany, Changed, Sink}
+use Rattle.image_core.specs.declared.stop.Stop.TheVariants.{Memory}
 
 abbrev pub numbers_in : List SavedFrame → List ℕ
 numbers_in frames = map (λ (f : SavedFrame). f.number) frames
@@ -31,10 +32,11 @@ core_of_frames info frames = core_bytes (machine_of info) (identity_of info) (nu
 abbrev pub core_of : (ℕ → List ℕ) → List ℕ
 core_of at = core_of_frames (at 0) (saved_frames at)
 
--- The core file was written of what was read: of the info page, of the numbers, and of the page frames that were read at last,
--- up to their end. Nothing is wrong with a whole reading of the image. Where the disk tells what it holds, that is the core file
--- of the image that the chain names.
-pub record IsWritten (content : Option Content) (blocks header before now : ℕ) (old new : Option (List ℕ)) : Type 0 where
+-- The core file was written of what was read: of the info page, of the numbers, and of the page frames that were read
+-- at last, up to their end. Nothing is wrong with a whole reading of the image. Where the disk tells what it holds,
+-- that is the core file of the image that the chain names.
+pub record IsWritten (content : Option Content) (blocks header before now : ℕ)
+    (old new : Option (List ℕ)) : Type 0 where
   pub info : List ℕ
   pub numbers : List ℕ
   pub frames : List SavedFrame
@@ -58,9 +60,10 @@ abbrev pub HasTooMany : Option Content → ℕ → Type 0
 HasTooMany content header =
     (info : List ℕ) × IsChainPage content header 0 info × (4294967295 ≤ count_in (λ k. info))
 
--- Why it ended, where the sink had so many faults before and has so many now. An image is another one when it is read again only on
--- a disk that doesn't tell what it holds.
-abbrev pub IsStopped : Option Content → (blocks header before now : ℕ) → (told then : Told) → (first last : ℕ) → Stop → Type 0
+-- Why it ended, where the sink had so many faults before and has so many now. An image is another one when it is read
+-- again only on a disk that doesn't tell what it holds.
+abbrev pub IsStopped : Option Content → (blocks header before now : ℕ) → (told then : Told) → (first last : ℕ) →
+    Stop → Type 0
 IsStopped content blocks header before now told then first last NoImage = IsNoImage content blocks header told then
 IsStopped content blocks header before now told then first last Refused =
     IsBad content blocks header before now told then

@@ -28,8 +28,10 @@ pub record HasLoads (content : Option Content) (header : ℕ) (tally : Tally) (o
   pub size : length numbers ≡ tally.frames
   pub all : AreAllNumbers content header numbers
 
--- the pages of all page frames are taken, as many as were counted, and nothing is wrong with a whole reading of the image
-pub record HasPages (content : Option Content) (blocks header before now : ℕ) (tally : Tally) (old new : Option (List ℕ)) : Type 0 where
+-- the pages of all page frames are taken, as many as were counted, and nothing is wrong with a whole reading of the
+-- image
+pub record HasPages (content : Option Content) (blocks header before now : ℕ) (tally : Tally)
+    (old new : Option (List ℕ)) : Type 0 where
   pub frames : List SavedFrame
   pub taken : TakesAll (concat (pages_of frames)) old new
   pub size : length frames ≡ tally.frames

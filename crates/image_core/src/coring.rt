@@ -23,9 +23,9 @@ struct Ready {
     frames: Frames,
 }
 
-/// Writes the core file of the image of the area whose header lies in a block, up to the first block that is named and has
-/// findings. The image is read four times: its info page, its numbers for how many runs they have and for the program
-/// headers, and then all of it for the pages. Nothing is flushed.
+/// Writes the core file of the image of the area whose header lies in a block, up to the first block that is named
+/// and has findings. The image is read four times: its info page, its numbers for how many runs they have and for the
+/// program headers, and then all of it for the pages. Nothing is flushed.
 pub fn write_core<D: Disk, S: Sink, R: Report>(
     alloc: Global,
     disk: &mut D,

@@ -25,7 +25,8 @@ const IDENTITY: usize = 396;
 
 /// Writes what lies before the program headers of the runs.
 pub(crate) fn put_front<S: Sink>(info: &Page, runs: u32, out: &mut S) -> Result<(), Failed>
-    ensures whole { OnOk result (TakesAll (front_bytes (machine_of info.now) runs) (S.taken out.old) (S.taken out.new)) }
+    ensures whole { OnOk result
+        (TakesAll (front_bytes (machine_of info.now) runs) (S.taken out.old) (S.taken out.new)) }
     ensures front { TakesFront (front_bytes (machine_of info.now) runs) (S.taken out.old) (S.taken out.new) }
     ensures counted { S.faults out.old ≤ S.faults out.new }
     ensures cause { OnErr result (HasRisen (S.faults out.old) (S.faults out.new)) }
@@ -37,7 +38,8 @@ pub(crate) fn put_front<S: Sink>(info: &Page, runs: u32, out: &mut S) -> Result<
 /// Writes what lies between the program headers and the pages.
 pub(crate) fn put_back<S: Sink>(info: &Page, runs: u32, out: &mut S) -> Result<(), Failed>
     requires { runs + 1 < 2 ^ 32 }
-    ensures whole { OnOk result (TakesAll (back_bytes (identity_of info.now) runs) (S.taken out.old) (S.taken out.new)) }
+    ensures whole { OnOk result
+        (TakesAll (back_bytes (identity_of info.now) runs) (S.taken out.old) (S.taken out.new)) }
     ensures front { TakesFront (back_bytes (identity_of info.now) runs) (S.taken out.old) (S.taken out.new) }
     ensures counted { S.faults out.old ≤ S.faults out.new }
     ensures cause { OnErr result (HasRisen (S.faults out.old) (S.faults out.new)) }

@@ -30,8 +30,8 @@ pub(crate) fn write_pages<D: Disk, S: Sink, R: Report>(
     ensures written { (header : ℕ) →
         HasGiven (D.content disk.old) (D.block_count disk.old) header frames.old [] →
         HasTallied (D.content disk.old) header tally →
-        OnOk result (HasPages (D.content disk.old) (D.block_count disk.old) header (D.faults disk.old) (D.faults disk.new)
-        tally (S.taken out.old) (S.taken out.new)) }
+        OnOk result (HasPages (D.content disk.old) (D.block_count disk.old) header
+        (D.faults disk.old) (D.faults disk.new) tally (S.taken out.old) (S.taken out.new)) }
     ensures told { OnOk result (R.told report.new ≡ R.told report.old) }
     ensures front { (header : ℕ) →
         HasGiven (D.content disk.old) (D.block_count disk.old) header frames.old [] →

@@ -1,7 +1,8 @@
 -- In what two images differ beside their page frames: in their marks and in what their info pages say. What belongs
 -- to the area and not to the image isn't compared: the UUID, the label, the last page, the bad pages, and which blocks
 -- the image lies in.
-use Rattle.std.specs.Prelude.{ℕ, ◌-◌, ◌/◌, ◌%◌, ◌==◌, ◌&&◌, nat_eq, List, [], ◌∷◌, flat_map, slice_index_or, if◌then◌else◌, Option, Some, None}
+use Rattle.std.specs.Prelude.{ℕ, ◌-◌, ◌/◌, ◌%◌, ◌==◌, ◌&&◌, nat_eq, List, [], ◌∷◌, flat_map, slice_index_or}
+use Rattle.std.specs.Prelude.{if◌then◌else◌, Option, Some, None}
 use Rattle.std.specs.List.{range_with_len}
 use Rattle.std.specs.Cmp.Lexicographic.{pointwise}
 use Rattle.definitions.specs.declared.info.Ident.{Ident}

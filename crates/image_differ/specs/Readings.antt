@@ -1,5 +1,6 @@
 -- A reading of an image, page frame by page frame, and whose turn it is.
-use Rattle.std.specs.Prelude.{◌≡◌, ℕ, ◌+◌, ◌-◌, ◌<◌, ◌≤◌, nat_lt, Bool, true, false, All, List, [], ◌∷◌, ◌++◌, if◌then◌else◌}
+use Rattle.std.specs.Prelude.{◌≡◌, ℕ, ◌+◌, ◌-◌, ◌<◌, ◌≤◌, nat_lt, Bool, true, false, All, List, [], ◌∷◌, ◌++◌}
+use Rattle.std.specs.Prelude.{if◌then◌else◌}
 use Rattle.image_frames.specs.Given.{HasGiven, frame_of}
 use Rattle.image_frames.specs.SavedFrames.{SavedFrame}
 use Rattle.image_frames.specs.Says.{AreAllGiven}

@@ -1,5 +1,7 @@
 ghost use Rattle.std.specs.Prelude.{◌≡◌, ◌<◌};
-ghost use Rattle.image_differ.specs.Headings.{flags_difference, heading_difference, memory_difference, name_difference, part_of_name, signature_difference, version_code_difference};
+ghost use Rattle.image_differ.specs.Headings.{flags_difference, heading_difference, memory_difference};
+ghost use Rattle.image_differ.specs.Headings.{name_difference, part_of_name, signature_difference};
+ghost use Rattle.image_differ.specs.Headings.{version_code_difference};
 
 use crate::{Difference, Part};
 use image_header::{Ident, Info};

@@ -7,6 +7,7 @@ use file_disk::FileDisk;
 use page_core::NoMemory;
 use sector_disk::{Disk, MemDisk};
 use standard_streams::{hold, is_output, sync_output};
+use std::fs::File;
 use std::io::IsTerminal;
 use std::process::ExitCode;
 use std::{env, io};
@@ -31,29 +32,33 @@ fn main(rt: HostRuntime) -> ExitCode {
     }
 }
 
-/// Runs over the swap file, which `inspect` opens for reading alone. A terminal as the output of `resume` is refused before the file is
-/// opened, since a resume gives the image up; so is a swap file that is an output itself.
+/// Runs over the swap file. A terminal as the output of `resume` is refused before the file is opened, since a resume gives
+/// the image up.
 fn run_over_file(rt: &HostRuntime, words: &[String], path: &str) -> ExitCode {
-    let Ok(_held) = hold(rt) else {
-        return not_opened(rt);
+    let _held = match hold(rt) {
+        Ok(held) => held,
+        Err(error) => return not_opened(rt, &error),
     };
     if is_command(words, "resume") && rt.stdout().is_terminal() {
         return sink_fault(rt);
     }
-    let Ok(false) = is_output(rt, path) else {
-        return not_opened(rt);
-    };
-    let opened = if is_command(words, "inspect") {
-        FileDisk::open_read_only(rt, path)
-    } else {
-        FileDisk::open(rt, path)
-    };
-    match opened {
-        Err(_) => not_opened(rt),
+    match open_swap(rt, words, path) {
         Ok(mut disk) => run_over(rt, words, &mut disk),
+        Err(error) => not_opened(rt, &error),
     }
 }
 
+/// Opens the swap file, for `inspect` for reading alone. One that is an output itself is refused.
+fn open_swap(rt: &HostRuntime, words: &[String], path: &str) -> io::Result<FileDisk<File>> {
+    if is_output(rt, path)? {
+        return Err(io::ErrorKind::InvalidInput.into());
+    }
+    if is_command(words, "inspect") {
+        FileDisk::open_read_only(rt, path)
+    } else {
+        FileDisk::open(rt, path)
+    }
+}
 /// Runs over a disk in memory. A terminal as the output of `export` is refused.
 fn run_over_memory(rt: &HostRuntime, words: &[String], blocks: u32) -> ExitCode {
     if is_command(words, "export") && words.len() == 2 && rt.stdout().is_terminal() {
@@ -99,6 +104,9 @@ fn sink_fault(rt: &HostRuntime) -> ExitCode {
     ended(rt, b"sink fault\n", Status::Stream.code())
 }
 
-fn not_opened(rt: &HostRuntime) -> ExitCode {
+fn not_opened(rt: &HostRuntime, error: &io::Error) -> ExitCode {
+    if error.kind() == io::ErrorKind::OutOfMemory {
+        return no_memory(rt);
+    }
     ended(rt, b"open fault\n", NOT_OPENED)
 }

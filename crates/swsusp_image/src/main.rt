@@ -5,8 +5,7 @@ use byte_streams::StdSink;
 use command_kit::{Status, print, tell};
 use file_disk::FileDisk;
 use image_check::Printer;
-use image_cli::{Wanted, check, differ, discard, page, show, stream};
-use image_core::{Stop, write_core};
+use image_cli::{Wanted, check, core, differ, discard, page, show, stream};
 use image_differ::Side;
 use image_machine::Layout;
 use image_machine_cli::loader;
@@ -72,8 +71,9 @@ fn after_quiet(words: &[String]) -> (&[String], bool) {
 /// Checks the image of an area.
 #[inline(never)]
 fn check_image(rt: &HostRuntime, area: Area<'_>, quiet: bool) -> ExitCode {
-    let Ok((_held, mut disk)) = open_to_read(rt, area.swap, quiet) else {
-        return not_opened(rt, area.swap);
+    let (_held, mut disk) = match open_to_read(rt, area.swap, quiet) {
+        Ok(opened) => opened,
+        Err(error) => return not_opened(rt, area.swap, &error),
     };
     let mut out = Printer::new(StdSink::new(rt.stdout()));
     let mut note = StdSink::new(rt.stderr());
@@ -84,8 +84,9 @@ fn check_image(rt: &HostRuntime, area: Area<'_>, quiet: bool) -> ExitCode {
 /// Prints what is written in an area.
 #[inline(never)]
 fn show_image(rt: &HostRuntime, area: Area<'_>, quiet: bool) -> ExitCode {
-    let Ok((_held, mut disk)) = open_to_read(rt, area.swap, quiet) else {
-        return not_opened(rt, area.swap);
+    let (_held, mut disk) = match open_to_read(rt, area.swap, quiet) {
+        Ok(opened) => opened,
+        Err(error) => return not_opened(rt, area.swap, &error),
     };
     let mut out = StdSink::new(rt.stdout());
     let mut note = StdSink::new(rt.stderr());
@@ -96,8 +97,9 @@ fn show_image(rt: &HostRuntime, area: Area<'_>, quiet: bool) -> ExitCode {
 /// Writes the image of an area as a stream. What is wrong with it is noted.
 #[inline(never)]
 fn stream_image(rt: &HostRuntime, area: Area<'_>, quiet: bool) -> ExitCode {
-    let Ok((_held, mut disk)) = open_to_read(rt, area.swap, quiet) else {
-        return not_opened(rt, area.swap);
+    let (_held, mut disk) = match open_to_read(rt, area.swap, quiet) {
+        Ok(opened) => opened,
+        Err(error) => return not_opened(rt, area.swap, &error),
     };
     let mut out = StdSink::new(rt.stdout());
     let mut note = Printer::new(StdSink::new(rt.stderr()));
@@ -108,8 +110,9 @@ fn stream_image(rt: &HostRuntime, area: Area<'_>, quiet: bool) -> ExitCode {
 /// Writes the saved page of a page frame. What is wrong with the image up to there is noted.
 #[inline(never)]
 fn write_page(rt: &HostRuntime, area: Area<'_>, frame: u64, quiet: bool) -> ExitCode {
-    let Ok((_held, mut disk)) = open_to_read(rt, area.swap, quiet) else {
-        return not_opened(rt, area.swap);
+    let (_held, mut disk) = match open_to_read(rt, area.swap, quiet) {
+        Ok(opened) => opened,
+        Err(error) => return not_opened(rt, area.swap, &error),
     };
     let mut out = StdSink::new(rt.stdout());
     let mut note = Printer::new(StdSink::new(rt.stderr()));
@@ -133,12 +136,14 @@ fn compare_images(
     first_only: bool,
     quiet: bool,
 ) -> ExitCode {
-    let Ok((_held, disk)) = open_to_read(rt, area.swap, quiet) else {
-        return not_opened(rt, area.swap);
+    let (_held, disk) = match open_to_read(rt, area.swap, quiet) {
+        Ok(opened) => opened,
+        Err(error) => return not_opened(rt, area.swap, &error),
     };
     // How far the comparison is shows by the first area alone.
-    let Ok((_held, other_disk)) = open_to_read(rt, other, true) else {
-        return not_opened(rt, other);
+    let (_held, other_disk) = match open_to_read(rt, other, true) {
+        Ok(opened) => opened,
+        Err(error) => return not_opened(rt, other, &error),
     };
     let mut first = Side {
         disk,
@@ -168,8 +173,9 @@ fn compare_images(
 /// Writes the dump of a loader for the image of an area. Why there is none is noted.
 #[inline(never)]
 fn make_loader(rt: &HostRuntime, asked: &Asked<'_>, quiet: bool) -> ExitCode {
-    let Ok((_held, mut disk)) = open_to_read(rt, asked.swap, quiet) else {
-        return not_opened(rt, asked.swap);
+    let (_held, mut disk) = match open_to_read(rt, asked.swap, quiet) {
+        Ok(opened) => opened,
+        Err(error) => return not_opened(rt, asked.swap, &error),
     };
     let layout = Layout {
         zones: asked.zones.as_slice(),
@@ -185,42 +191,22 @@ fn make_loader(rt: &HostRuntime, asked: &Asked<'_>, quiet: bool) -> ExitCode {
 /// Writes the image of an area as a core file. What is wrong with it is noted.
 #[inline(never)]
 fn core_image(rt: &HostRuntime, area: Area<'_>, quiet: bool) -> ExitCode {
-    let Ok((_held, mut disk)) = open_to_read(rt, area.swap, quiet) else {
-        return not_opened(rt, area.swap);
+    let (_held, mut disk) = match open_to_read(rt, area.swap, quiet) {
+        Ok(opened) => opened,
+        Err(error) => return not_opened(rt, area.swap, &error),
     };
     let mut out = StdSink::new(rt.stdout());
     let mut note = Printer::new(StdSink::new(rt.stderr()));
-    let (status, text): (Status, &[u8]) = match write_core(
-        rt.alloc(),
-        &mut disk,
-        area.offset,
-        &mut out,
-        &mut note,
-    ) {
-        Ok(()) => (Status::Done, b""),
-        Err(Stop::NoImage) => (Status::Refused, b"no image\n"),
-        Err(Stop::SkipsZeros) => (Status::Refused, b"pages of zeros aren't in the image\n"),
-        Err(Stop::TooMany) => (Status::Refused, b"too many page frames\n"),
-        Err(Stop::Changed) => (Status::Refused, b"the image changed\n"),
-        Err(Stop::Refused) => (Status::Refused, b""),
-        Err(Stop::Sink) => return sink_fault(rt),
-        Err(Stop::Memory) => return no_memory(rt),
-    };
-    let status = tell(status, b"", text, &mut out, &mut note.sink);
+    let status = core(rt.alloc(), &mut disk, area.offset, &mut out, &mut note);
     finished(rt, status)
 }
 
 /// Takes back the mark of the image of an area.
 #[inline(never)]
 fn discard_image(rt: &HostRuntime, area: Area<'_>) -> ExitCode {
-    let Ok(_held) = hold(rt) else {
-        return not_opened(rt, area.swap);
-    };
-    let Ok(false) = is_output(rt, area.swap) else {
-        return not_opened(rt, area.swap);
-    };
-    let Ok(mut disk) = FileDisk::open(rt, area.swap) else {
-        return not_opened(rt, area.swap);
+    let (_held, mut disk) = match open_to_write(rt, area.swap) {
+        Ok(opened) => opened,
+        Err(error) => return not_opened(rt, area.swap, &error),
     };
     let mut out = StdSink::new(rt.stdout());
     let mut note = StdSink::new(rt.stderr());
@@ -241,6 +227,15 @@ fn open_to_read<'a>(
     let disk = FileDisk::open_read_only(rt, swap)?;
     let meter = Meter::new(rt, "swsusp_image", quiet);
     Ok((held, ProgressDisk { disk, meter }))
+}
+
+/// Opens a swap file, once closed standard streams have their places.
+fn open_to_write(rt: &HostRuntime, swap: &str) -> io::Result<(Held, FileDisk<File>)> {
+    let held = hold(rt)?;
+    if is_output(rt, swap)? {
+        return Err(io::ErrorKind::InvalidInput.into());
+    }
+    Ok((held, FileDisk::open(rt, swap)?))
 }
 
 /// Prints the help that was asked for.
@@ -273,7 +268,10 @@ fn sink_fault(rt: &HostRuntime) -> ExitCode {
     ended(rt, b"sink fault\n", Status::Stream.code())
 }
 
-fn not_opened(rt: &HostRuntime, path: &str) -> ExitCode {
+fn not_opened(rt: &HostRuntime, path: &str, error: &io::Error) -> ExitCode {
+    if error.kind() == io::ErrorKind::OutOfMemory {
+        return no_memory(rt);
+    }
     let _ = eprintln!(rt;
         "open fault: {path} isn't there, is no file or block device, is in use, or is an output"
     );

@@ -10,7 +10,7 @@ use page_core::NoMemory;
 use plain_machine::IdentCheck;
 use progress_disk::{Meter, ProgressDisk};
 use sector_disk::MemDisk;
-use standard_streams::{hold, is_output, sync_output};
+use standard_streams::{Held, hold, is_output, sync_output};
 use std::fs::File;
 use std::io::IsTerminal;
 use std::process::ExitCode;
@@ -110,14 +110,17 @@ fn show_dump(rt: &HostRuntime) -> ExitCode {
 /// Compares two dumps in files.
 #[inline(never)]
 fn differ_files(rt: &HostRuntime, first: &str, second: &str) -> ExitCode {
-    let Ok(_held) = hold(rt) else {
-        return not_opened(rt, first);
+    let _held = match hold(rt) {
+        Ok(held) => held,
+        Err(error) => return not_opened(rt, first, &error),
     };
-    let Ok(first_file) = File::open(rt, first) else {
-        return not_opened(rt, first);
+    let first_file = match File::open(rt, first) {
+        Ok(file) => file,
+        Err(error) => return not_opened(rt, first, &error),
     };
-    let Ok(second_file) = File::open(rt, second) else {
-        return not_opened(rt, second);
+    let second_file = match File::open(rt, second) {
+        Ok(file) => file,
+        Err(error) => return not_opened(rt, second, &error),
     };
     let mut first = StdSource::new(first_file);
     let mut second = StdSource::new(second_file);
@@ -130,14 +133,9 @@ fn differ_files(rt: &HostRuntime, first: &str, second: &str) -> ExitCode {
 /// Checks the image of a swap file, which is opened for reading alone.
 #[inline(never)]
 fn check_file(rt: &HostRuntime, swap: &str, ident_check: IdentCheck, quiet: bool) -> ExitCode {
-    let Ok(_held) = hold(rt) else {
-        return not_opened(rt, swap);
-    };
-    let Ok(false) = is_output(rt, swap) else {
-        return not_opened(rt, swap);
-    };
-    let Ok(mut disk) = FileDisk::open_read_only(rt, swap) else {
-        return not_opened(rt, swap);
+    let (_held, mut disk) = match open_to_read(rt, swap) {
+        Ok(opened) => opened,
+        Err(error) => return not_opened(rt, swap, &error),
     };
     warn_of_file(rt, &mut disk);
     let mut disk = watched(rt, disk, quiet);
@@ -153,6 +151,15 @@ fn check_file(rt: &HostRuntime, swap: &str, ident_check: IdentCheck, quiet: bool
         ident_check,
     );
     finished(rt, status)
+}
+
+/// Opens a swap file for reading alone, once closed standard streams have their places.
+fn open_to_read(rt: &HostRuntime, swap: &str) -> io::Result<(Held, FileDisk<File>)> {
+    let held = hold(rt)?;
+    if is_output(rt, swap)? {
+        return Err(io::ErrorKind::InvalidInput.into());
+    }
+    Ok((held, FileDisk::open_read_only(rt, swap)?))
 }
 
 /// Warns where a swap file seems to be given in place of the device that it lies in.
@@ -194,7 +201,10 @@ fn sink_fault(rt: &HostRuntime) -> ExitCode {
     ended(rt, b"sink fault\n", Status::Stream.code())
 }
 
-fn not_opened(rt: &HostRuntime, path: &str) -> ExitCode {
+fn not_opened(rt: &HostRuntime, path: &str, error: &io::Error) -> ExitCode {
+    if error.kind() == io::ErrorKind::OutOfMemory {
+        return no_memory(rt);
+    }
     let _ = eprintln!(rt;
         "open fault: {path} isn't there, can't be opened, is in use, or is an output"
     );

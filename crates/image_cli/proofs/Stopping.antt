@@ -1,0 +1,31 @@
+-- Why a core file isn't whole.
+use Rattle.std.proofs.Common.{◌≡◌, ℕ, ◌≤◌, Option, ap, subst, inl, inr, arith}
+use Rattle.definitions.specs.Disk.{Content, HasRisen}
+use Rattle.command_kit.specs.View.{SinkView}
+use Rattle.command_kit.specs.declared.status.Status.{Status}
+use Rattle.image_check.specs.Told.{Told}
+use Rattle.image_core.specs.Cores.{IsStopped}
+use Rattle.image_core.specs.declared.stop.Stop.{Stop}
+use Rattle.image_core.specs.declared.stop.Stop.TheVariants.{NoImage, Refused, SkipsZeros, TooMany, Changed, Sink, Memory}
+use Rattle.image_cli.specs.Cores.{TellsStop}
+use Rattle.image_cli.proofs.Noting.{same_faults}
+
+-- the faults of the notes don't fall
+pub stop_counted : (content : Option Content) (blocks header before now : ℕ) (told then : Told) (first last : ℕ) (why : Stop) → IsStopped content blocks header before now told then first last why → told.faults ≤ then.faults
+stop_counted content blocks header before now told then first last NoImage none = same_faults told then none.0
+stop_counted content blocks header before now told then first last Refused (inl (inl (tells, risen))) = tells.faults
+stop_counted content blocks header before now told then first last Refused (inl (inr (page, (mark, (read, marked, some, tells))))) = tells.faults
+stop_counted content blocks header before now told then first last Refused (inr (pages, refused)) = refused.told.faults
+stop_counted content blocks header before now told then first last SkipsZeros (skips, untold) = same_faults told then untold
+stop_counted content blocks header before now told then first last TooMany (has, untold) = same_faults told then untold
+stop_counted content blocks header before now told then first last Changed (none, untold) = same_faults told then untold
+stop_counted content blocks header before now told then first last Sink (risen, untold) = same_faults told then untold
+stop_counted content blocks header before now told then first last Memory untold = same_faults told then untold
+
+-- where the output failed its count of faults has risen
+pub risen_at_sink : (content : Option Content) (blocks header before now : ℕ) (told then : Told) (first last : ℕ) (why : Stop) → why ≡ Sink → IsStopped content blocks header before now told then first last why → HasRisen first last
+risen_at_sink content blocks header before now told then first last why e stopped = (subst (IsStopped content blocks header before now told then first last) e stopped).0
+
+-- and telling so leaves it
+pub sink_kept : (why : Stop) (status : Status) (out out' note note' : SinkView) → why ≡ Sink → TellsStop why status out out' note note' → out'.faults ≡ out.faults
+sink_kept why status out out' note note' e tells = ap (λ (view : SinkView). view.faults) (subst (λ w. TellsStop w status out out' note note') e tells).out_is

@@ -1,0 +1,50 @@
+-- What `core` writes and notes.
+use Rattle.std.specs.Prelude.{◌≡◌, ℕ, ◌≤◌, List, [], Option, codes}
+use Rattle.definitions.specs.Disk.{Content}
+use Rattle.command_kit.specs.Answer.{RunResult, line, memory_told}
+use Rattle.command_kit.specs.Told.{IsTold, IsTried, sink_note}
+use Rattle.command_kit.specs.View.{SinkView}
+use Rattle.command_kit.specs.declared.status.Status.{Status}
+use Rattle.command_kit.specs.declared.status.Status.TheVariants.{Done, Stream}
+use Rattle.image_check.specs.Told.{Told}
+use Rattle.image_core.specs.Cores.{IsFront, IsStopped, IsUnwritten, IsWritten}
+use Rattle.image_core.specs.declared.stop.Stop.{Stop}
+use Rattle.image_core.specs.declared.stop.Stop.TheVariants.{NoImage, Refused, SkipsZeros, TooMany, Changed, Sink}
+use Rattle.image_core.specs.declared.stop.Stop.TheVariants.{Memory}
+use Rattle.image_cli.specs.Notes.{IsNoted}
+use Rattle.image_cli.specs.Streams.{refused_told}
+
+-- a core file that is whole needs no word more
+abbrev pub whole_told : RunResult
+whole_told = record { status = Done; out = []; note = [] }
+
+-- the output failed: that is noted, and it takes nothing more
+pub record NotesFailure (status : Status) (out out' note note' : SinkView) : Type 0 where
+  pub status_is : status ≡ Stream
+  pub out_is : out' ≡ out
+  pub noted : IsTried sink_note note note'
+
+-- how it is told that the core file isn't written, or not whole, and why; findings were told before
+abbrev pub TellsStop : Stop → Status → (out out' note note' : SinkView) → Type 0
+TellsStop NoImage = IsTold (refused_told (line (codes "no image")))
+TellsStop Refused = IsTold (refused_told [])
+TellsStop SkipsZeros = IsTold (refused_told (line (codes "pages of zeros aren't in the image")))
+TellsStop TooMany = IsTold (refused_told (line (codes "too many page frames")))
+TellsStop Changed = IsTold (refused_told (line (codes "the image changed")))
+TellsStop Sink = NotesFailure
+TellsStop Memory = IsTold memory_told
+
+-- The core file of the image was written whole, and nothing is noted; or nothing or a front of it was, and that is told
+-- with its cause.
+pub data WritesCore (content : Option Content) (blocks header before now : ℕ) (told : Told) (status : Status)
+    (out out' note' : SinkView) : Type 0 where
+  whole : (written noted : SinkView) →
+      IsWritten content blocks header before now out.taken written.taken →
+      out.faults ≤ written.faults → IsNoted told noted →
+      IsTold whole_told status written out' noted note' →
+      WritesCore content blocks header before now told status out out' note'
+  stopped : (why : Stop) (then : Told) (written noted : SinkView) →
+      IsStopped content blocks header before now told then out.faults written.faults why →
+      IsFront content header out.taken written.taken → IsUnwritten out.taken written.taken why →
+      out.faults ≤ written.faults → IsNoted then noted → TellsStop why status written out' noted note' →
+      WritesCore content blocks header before now told status out out' note'

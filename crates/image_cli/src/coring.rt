@@ -1,0 +1,72 @@
+ghost use Rattle.std.specs.Prelude.{◌≡◌, ◌≢◌, ◌⊎◌, ◌≤◌};
+ghost use Rattle.definitions.specs.Disk.{HasRisen};
+ghost use Rattle.command_kit.specs.View.{sink_view};
+ghost use Rattle.image_cli.specs.Cores.{TellsStop, WritesCore};
+ghost use Rattle.image_cli.specs.Printed.{printer_view};
+ghost use Rattle.image_core.specs.declared.stop.Stop.TheVariants as stop;
+
+use crate::showing::cut_short;
+use byte_streams::Sink;
+use command_kit::{Status, no_memory, tell};
+use image_check::Printer;
+use image_core::{Stop, write_core};
+use sector_disk::Disk;
+use std::alloc::Global;
+
+/// Writes the saved page frames of the image of the area whose header lies in a block as a core file. What is wrong
+/// with the image is noted, and ends the file. The disk is only read.
+pub fn core<D: Disk, O: Sink, N: Sink>(
+    alloc: Global,
+    disk: &mut D,
+    header: u32,
+    out: &mut O,
+    note: &mut Printer<N>,
+) -> Status
+    ensures outcome { WritesCore (D.content disk.old) (D.block_count disk.old) header
+        (D.faults disk.old) (D.faults disk.new) (printer_view N.Sink note.old) result
+        (sink_view O.Sink out.old)
+        (sink_view O.Sink out.new)
+        (sink_view N.Sink note.new.sink) }
+    ensures stream { result ≡ Status.Stream →
+        HasRisen (O.faults out.old) (O.faults out.new) ⊎ HasRisen (N.faults note.old.sink) (N.faults note.new.sink) }
+    ensures device { result ≢ Status.Device }
+    ensures words { result ≢ Status.Words }
+    ensures content { D.content disk.new ≡ D.content disk.old }
+    ensures faults { D.faults disk.old ≤ D.faults disk.new }
+    ensures orders { D.orders disk.new ≡ D.orders disk.old }
+    ensures blocks { D.block_count disk.new ≡ D.block_count disk.old }
+{
+    match write_core(alloc, disk, header, out, note) {
+        Ok(()) => tell(Status::Done, b"", b"", out, &mut note.sink),
+        Err(why) => tell_stop(why, out, &mut note.sink),
+    }
+}
+
+/// Tells why the core file isn't whole.
+fn tell_stop<O: Sink, N: Sink>(why: Stop, out: &mut O, note: &mut N) -> Status
+    ensures told { TellsStop why result
+        (sink_view O.Sink out.old)
+        (sink_view O.Sink out.new)
+        (sink_view N.Sink note.old)
+        (sink_view N.Sink note.new) }
+    ensures stream { result ≡ Status.Stream → (why ≡ stop.Sink)
+        ⊎ (HasRisen (O.faults out.old) (O.faults out.new) ⊎ HasRisen (N.faults note.old) (N.faults note.new)) }
+    ensures device { result ≢ Status.Device }
+    ensures words { result ≢ Status.Words }
+{
+    match why {
+        Stop::NoImage => tell(Status::Refused, b"", b"no image\n", out, note),
+        Stop::Refused => tell(Status::Refused, b"", b"", out, note),
+        Stop::SkipsZeros => tell(
+            Status::Refused,
+            b"",
+            b"pages of zeros aren't in the image\n",
+            out,
+            note,
+        ),
+        Stop::TooMany => tell(Status::Refused, b"", b"too many page frames\n", out, note),
+        Stop::Changed => tell(Status::Refused, b"", b"the image changed\n", out, note),
+        Stop::Sink => cut_short(note),
+        Stop::Memory => no_memory().tell(out, note),
+    }
+}
