@@ -9,6 +9,7 @@ _swsusp_image() {
     [ "$before" = --offset ] && return
     case $command:$word in
         help:*) mapfile -t COMPREPLY < <(compgen -W 'check show stream page core differ discard loader' -- "$word") ;;
+        check:-* | show:-*) mapfile -t COMPREPLY < <(compgen -W '--json --offset --help' -- "$word") ;;
         differ:-*) mapfile -t COMPREPLY < <(compgen -W '--first --offset --help' -- "$word") ;;
         loader:-*) mapfile -t COMPREPLY < <(compgen -W '--offset --zone --extent --help' -- "$word") ;;
         *:-*) mapfile -t COMPREPLY < <(compgen -W '--offset --help' -- "$word") ;;

@@ -14,6 +14,7 @@ complete -c swsusp_image -s h -l help -d 'Print help'
 complete -c swsusp_image -n __fish_use_subcommand -s V -l version -d 'Print version'
 complete -c swsusp_image -n '__fish_seen_subcommand_from check show stream page core differ discard loader' -F
 complete -c swsusp_image -n '__fish_seen_subcommand_from check show stream page core differ discard loader' -l offset -x -d 'The block of the header'
+complete -c swsusp_image -n '__fish_seen_subcommand_from check show' -l json -d 'Print one JSON object'
 complete -c swsusp_image -n '__fish_seen_subcommand_from differ' -l first -d 'Tell the first difference alone'
 complete -c swsusp_image -n '__fish_seen_subcommand_from help' -a "$commands[1..8]"
 complete -c swsusp_image -n '__fish_seen_subcommand_from loader' -l zone -x -d 'A zone of page frames'

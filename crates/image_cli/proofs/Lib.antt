@@ -1,4 +1,5 @@
 pub mod Noting
+pub mod Shown
 pub mod Stopping
 pub mod Summing
 pub mod Telling

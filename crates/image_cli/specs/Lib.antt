@@ -3,6 +3,7 @@ pub mod Cores
 pub mod Differing
 pub mod Differs
 pub mod Discards
+pub mod Json
 pub mod Notes
 pub mod Pages
 pub mod Printed

@@ -5,6 +5,7 @@ ghost use Rattle.command_kit.specs.Told.{IsTold};
 ghost use Rattle.command_kit.specs.View.{SinkView, sink_view};
 ghost use Rattle.image_check.specs.declared.finding.Finding.{Finding};
 ghost use Rattle.image_cli.specs.Checks.{Checks, findings_told, last_line, status_of};
+ghost use Rattle.image_cli.specs.Json.{PrintsCheck, status_whole};
 ghost use Rattle.image_cli.specs.Printed.{IsSoFar, printer_view};
 
 use crate::showing::cut_short;
@@ -47,6 +48,48 @@ pub fn check<D: Disk, O: Sink, N: Sink>(
         Ok(Outcome::Checked) => sum_up(out, note),
         Err(NoMemory) => no_memory().tell(&mut out.sink, note),
     }
+}
+
+/// Prints the same as one JSON object, in a line: the findings, whether there is an image, and whether it is whole. The status is as
+/// that of `check`. The disk is only read.
+pub fn check_json<D: Disk, O: Sink, N: Sink>(
+    alloc: Global,
+    disk: &mut D,
+    header: u32,
+    out: &mut O,
+    note: &mut N,
+) -> Status
+    ensures outcome { PrintsCheck (D.content disk.old) (D.block_count disk.old) header
+        (D.faults disk.old) (D.faults disk.new) result
+        (sink_view O.Sink out.old)
+        (sink_view O.Sink out.new)
+        (sink_view N.Sink note.old)
+        (sink_view N.Sink note.new) }
+    ensures stream { result ≡ Status.Stream →
+        HasRisen (O.faults out.old) (O.faults out.new) ⊎ HasRisen (N.faults note.old) (N.faults note.new) }
+    ensures device { result ≢ Status.Device }
+    ensures words { result ≢ Status.Words }
+    ensures content { D.content disk.new ≡ D.content disk.old }
+    ensures faults { D.faults disk.old ≤ D.faults disk.new }
+    ensures orders { D.orders disk.new ≡ D.orders disk.old }
+    ensures blocks { D.block_count disk.new ≡ D.block_count disk.old }
+{
+    match image_json::check(alloc, disk, header) {
+        Ok(checked) => {
+            let status = status_whole(checked.whole);
+            tell(status, checked.line.as_bytes(), b"", out, note)
+        }
+        Err(NoMemory) => no_memory().tell(out, note),
+    }
+}
+
+fn status_whole(whole: bool) -> Status
+    ensures status { result ≡ status_whole whole }
+    ensures stream { result ≢ Status.Stream }
+    ensures device { result ≢ Status.Device }
+    ensures words { result ≢ Status.Words }
+{
+    if whole { Status::Done } else { Status::Refused }
 }
 
 /// Ends a check whose findings were printed.

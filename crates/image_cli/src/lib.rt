@@ -8,9 +8,9 @@ mod discarding;
 mod showing;
 mod streaming;
 
-pub use checking::check;
+pub use checking::{check, check_json};
 pub use coring::core;
 pub use differing::{Wanted, differ};
 pub use discarding::discard;
-pub use showing::show;
+pub use showing::{show, show_json};
 pub use streaming::{page, stream};

@@ -2,11 +2,13 @@ ghost use Rattle.std.specs.Prelude.{◌≡◌, ◌≢◌, ◌⊎◌, ◌≤◌};
 ghost use Rattle.definitions.specs.Disk.{HasRisen};
 ghost use Rattle.command_kit.specs.Told.{IsTried, sink_note};
 ghost use Rattle.command_kit.specs.View.{sink_view};
+ghost use Rattle.image_cli.specs.Json.{PrintsObject};
 ghost use Rattle.image_cli.specs.Shows.{PrintsFacts, status_shown};
 
 use byte_streams::Sink;
 use command_kit::{Status, no_memory, print, tell};
 use image_show::{Fault, Shown};
+use page_core::NoMemory;
 use sector_disk::Disk;
 use std::alloc::Global;
 
@@ -38,6 +40,35 @@ pub fn show<D: Disk, O: Sink, N: Sink>(
         Ok(shown) => tell(status_shown(shown), b"", b"", out, note),
         Err(Fault::NoMemory) => no_memory().tell(out, note),
         Err(Fault::Write) => cut_short(note),
+    }
+}
+
+/// Prints those facts as the members of one JSON object, in a line. The status is as that of `show`. The disk is only read.
+pub fn show_json<D: Disk, O: Sink, N: Sink>(
+    alloc: Global,
+    disk: &mut D,
+    header: u32,
+    out: &mut O,
+    note: &mut N,
+) -> Status
+    ensures outcome { PrintsObject (D.content disk.old) (D.block_count disk.old) header
+        (D.faults disk.old) (D.faults disk.new) result
+        (sink_view O.Sink out.old)
+        (sink_view O.Sink out.new)
+        (sink_view N.Sink note.old)
+        (sink_view N.Sink note.new) }
+    ensures stream { result ≡ Status.Stream →
+        HasRisen (O.faults out.old) (O.faults out.new) ⊎ HasRisen (N.faults note.old) (N.faults note.new) }
+    ensures device { result ≢ Status.Device }
+    ensures words { result ≢ Status.Words }
+    ensures content { D.content disk.new ≡ D.content disk.old }
+    ensures faults { D.faults disk.old ≤ D.faults disk.new }
+    ensures orders { D.orders disk.new ≡ D.orders disk.old }
+    ensures blocks { D.block_count disk.new ≡ D.block_count disk.old }
+{
+    match image_json::show(alloc, disk, header) {
+        Ok((shown, line)) => tell(status_shown(shown), line.as_bytes(), b"", out, note),
+        Err(NoMemory) => no_memory().tell(out, note),
     }
 }
 

@@ -1,19 +1,17 @@
 -- A loop that has come to the end of a history, and has printed the runs of its blocks that have ended.
-use Rattle.std.proofs.Common.{◌≡◌, ℕ, ◌+◌, ◌-◌, ◌<◌, ◌≤◌, List, [], ◌∷◌, ◌++◌, length, map, take, Bool, true, false, cond, leb, Option, Some, None, Ok, Err, refl, sym, ap, ◌∙◌, subst, inl, inr, arith, append-nil, append_assoc, length-append}
+use Rattle.std.proofs.Common.{◌≡◌, ℕ, ◌+◌, ◌-◌, ◌<◌, ◌≤◌, List, [], ◌∷◌, ◌++◌, length, map, Bool, true, false, cond, leb, Option, Some, None, Ok, Err, refl, sym, ap, ◌∙◌, subst, inl, inr, arith, append-nil, append_assoc, length-append}
 use Rattle.std.proofs.lemmas.Bool.{cases_lt, le-leb}
 use Rattle.std.proofs.lemmas.List.{map-append, nil_from_length, take_at}
-use Rattle.definitions.specs.Disk.{Content, HasRisen}
+use Rattle.definitions.specs.Disk.{Content}
 use Rattle.definitions.specs.Slots.{runs_of}
-use Rattle.definitions.specs.Streams.{TakesAll, TakesFront}
-use Rattle.byte_streams.proofs.Taken.{TakesAll-none}
-use Rattle.image_walk.specs.Names.{Name, map_at, page_at, block_of, fault_of, left_in, maps_in, AreReadFrom, IsAnswer, IsReading}
-use Rattle.image_walk.specs.Walking.{Follows, IsSeen}
+use Rattle.image_walk.specs.Names.{Name, map_at, page_at, block_of, fault_of, maps_in, AreReadFrom, IsAnswer, IsReading}
+use Rattle.image_walk.specs.Walking.{IsSeen}
 use Rattle.image_walk.specs.declared.limits.Limits.{Limits}
 use Rattle.image_walk.specs.declared.visit.BlockFault.{BlockFault}
 use Rattle.image_walk.specs.declared.visit.BlockFault.TheVariants as fault
 use Rattle.image_facts.specs.Reads.{block_of_part, name_of_part, IsPart, Reads, ReadsOn}
 use Rattle.image_facts.specs.Runs.{end_of, list_of, IsUpTo}
-use Rattle.image_facts.specs.Told.{blocks_in, block_run, facts_of_first, pages_in, AreTold, IsEnd, IsFront}
+use Rattle.image_facts.specs.Told.{blocks_in, block_run, facts_of_first, pages_in, AreTold, IsEnd}
 use Rattle.image_facts.specs.declared.fact.Fact.{Fact}
 use Rattle.image_facts.specs.declared.fact.Fact.TheVariants as fact
 use Rattle.image_facts.specs.declared.part.Part.{Part}
@@ -21,8 +19,8 @@ use Rattle.image_facts.specs.declared.part.Part.TheVariants as part
 use Rattle.image_facts.specs.declared.reading.Reading.{Reading}
 use Rattle.image_show.specs.Parts.{maps_after, part_facts}
 use Rattle.image_show.specs.Shown.{but_last, block_facts, ShowsBlocks}
-use Rattle.image_show.specs.Texts.{text_of}
-use Rattle.image_show.proofs.Lines.{front_then, whole_then}
+use Rattle.image_show.specs.Forms.{Puts, PutsFront, Style, Written}
+use Rattle.image_show.proofs.Putting.{front_then, puts_none, whole_then}
 
 false_true : false ≡ true → ⊥
 false_true e = cc
@@ -135,7 +133,7 @@ counted_more h (part.Map m b) page maps place e = place
 counted_more h (part.Info b) page maps place e = e
 counted_more h (part.Page b) page maps place e = e
 
-pub record BlocksSoFar (l : Limits) (first : ℕ) (content : Option Content) (before now : ℕ) (old new : Option (List ℕ)) (r : Reading) (last : Option (ℕ × ℕ)) (maps : ℕ) : Type 0 where
+pub record BlocksSoFar (style : Style) (l : Limits) (first : ℕ) (content : Option Content) (before now : ℕ) (old new : Written) (r : Reading) (last : Option (ℕ × ℕ)) (maps : ℕ) : Type 0 where
   pub names : List Name
   pub limits : r.walker.limits ≡ l
   pub few : l.blocks < 4294967296
@@ -146,15 +144,15 @@ pub record BlocksSoFar (l : Limits) (first : ℕ) (content : Option Content) (be
   pub runs : IsUpTo (blocks_in names) last ended
   pub room : end_of last ≤ 4294967296
   pub counted : maps ≡ maps_in names
-  pub taken : TakesAll (text_of (facts_of_first (pages_in names) ++ map block_run ended)) old new
+  pub taken : Puts style (facts_of_first (pages_in names) ++ map block_run ended) old new
 
 none_last : (last : Option (ℕ × ℕ)) → IsUpTo [] last [] → last ≡ None
 unfolding runs_of
 none_last None u = refl
 none_last (Some run) u = absurd (let size : 0 ≡ 1 = ap length u.runs in omega (arith, size))
 
-pub blocks_start : (first : ℕ) (content : Option Content) (before : ℕ) (old : Option (List ℕ)) (r : Reading) (last : Option (ℕ × ℕ)) → r.walker.limits.blocks < 4294967296 → Reads first r [] → IsUpTo [] last [] → BlocksSoFar r.walker.limits first content before before old old r last 0
-blocks_start first content before old r last few reads runs = record {
+pub blocks_start : (style : Style) (first : ℕ) (content : Option Content) (before : ℕ) (old : Written) (r : Reading) (last : Option (ℕ × ℕ)) → r.walker.limits.blocks < 4294967296 → Reads first r [] → IsUpTo [] last [] → BlocksSoFar style r.walker.limits first content before before old old r last 0
+blocks_start style first content before old r last few reads runs = record {
   names = [];
   limits = refl;
   few = few;
@@ -165,24 +163,24 @@ blocks_start first content before old r last few reads runs = record {
   runs = runs;
   room = let e : end_of last ≡ 0 = ap end_of (none_last last runs) in omega (arith, e);
   counted = refl;
-  taken = TakesAll-none old;
+  taken = puts_none style old;
 }
 
 abbrev pub Adds : Option (ℕ × ℕ) → ℕ → Option (ℕ × ℕ) → Option (ℕ × ℕ) → Type 0
 Adds old n new e = (numbers : List ℕ) (ended : List (ℕ × ℕ)) → IsUpTo numbers old ended → IsUpTo (numbers ++ n ∷ []) new (ended ++ list_of e)
 
-module _ (l : Limits) (first : ℕ) (content : Option Content) (before then now : ℕ) (old mid new : Option (List ℕ)) (r s : Reading) (last next e : Option (ℕ × ℕ)) (maps : ℕ) (p : Part) (page : List ℕ) where
-  upto : (b : BlocksSoFar l first content before then old mid r last maps) → Adds last (block_of_part p) next e → IsUpTo (blocks_in (name_of_part p page ∷ b.names)) next (b.ended ++ list_of e)
+module _ (style : Style) (l : Limits) (first : ℕ) (content : Option Content) (before then now : ℕ) (old mid new : Written) (r s : Reading) (last next e : Option (ℕ × ℕ)) (maps : ℕ) (p : Part) (page : List ℕ) where
+  upto : (b : BlocksSoFar style l first content before then old mid r last maps) → Adds last (block_of_part p) next e → IsUpTo (blocks_in (name_of_part p page ∷ b.names)) next (b.ended ++ list_of e)
   upto b adds =
       subst (λ n. IsUpTo (blocks_in b.names ++ n ∷ []) next (b.ended ++ list_of e)) (sym (same_block p page)) (adds (blocks_in b.names) b.ended b.runs)
 
-  text : (b : BlocksSoFar l first content before then old mid r last maps) → ReadsOn first content then now b.names r s p page
+  text : (b : BlocksSoFar style l first content before then old mid r last maps) → ReadsOn first content then now b.names r s p page
       → facts_of_first (pages_in (name_of_part p page ∷ b.names)) ++ map block_run (b.ended ++ list_of e) ≡ (facts_of_first (pages_in b.names) ++ map block_run b.ended) ++ part_facts p page e
   text b on = part_more b.names p page b.ended e on.place
       (λ none. none_ended b.names last b.ended (few_names r.walker.limits first b.names b.reads.follows.reading b.reads.told none) b.runs)
 
-  pub blocks_more : (b : BlocksSoFar l first content before then old mid r last maps) → then ≤ now → s.walker.limits ≡ r.walker.limits → ReadsOn first content then now b.names r s p page → Adds last (block_of_part p) next e → end_of next ≡ block_of_part p + 1
-      → TakesAll (text_of (part_facts p page e)) mid new → BlocksSoFar l first content before now old new s next (maps_after maps p)
+  pub blocks_more : (b : BlocksSoFar style l first content before then old mid r last maps) → then ≤ now → s.walker.limits ≡ r.walker.limits → ReadsOn first content then now b.names r s p page → Adds last (block_of_part p) next e → end_of next ≡ block_of_part p + 1
+      → Puts style (part_facts p page e) mid new → BlocksSoFar style l first content before now old new s next (maps_after maps p)
   blocks_more b le limits on adds end takes = record {
     names = name_of_part p page ∷ b.names;
     limits = limits ∙ b.limits;
@@ -197,13 +195,13 @@ module _ (l : Limits) (first : ℕ) (content : Option Content) (before then now 
         let same : r.walker.limits.blocks ≡ l.blocks = ap (λ (x : Limits). x.blocks) b.limits in
         omega (arith, lt, same, b.few, end);
     counted = counted_more b.names p page maps on.place b.counted;
-    taken = subst (λ (fs : List Fact). TakesAll (text_of fs) old new) (sym (text b on))
-        (whole_then (facts_of_first (pages_in b.names) ++ map block_run b.ended) (part_facts p page e) old mid new b.taken takes);
+    taken = subst (λ (fs : List Fact). Puts style fs old new) (sym (text b on))
+        (whole_then style (facts_of_first (pages_in b.names) ++ map block_run b.ended) (part_facts p page e) old mid new b.taken takes);
   }
 
   -- a write has failed
-  pub blocks_cut : (b : BlocksSoFar l first content before then old mid r last maps) → s.walker.limits ≡ r.walker.limits → ReadsOn first content then now b.names r s p page → Adds last (block_of_part p) next e
-      → TakesFront (text_of (part_facts p page e)) mid new → (facts : List Fact) × (ShowsBlocks false l first content before now facts × TakesFront (text_of facts) old new)
+  pub blocks_cut : (b : BlocksSoFar style l first content before then old mid r last maps) → s.walker.limits ≡ r.walker.limits → ReadsOn first content then now b.names r s p page → Adds last (block_of_part p) next e
+      → PutsFront style (part_facts p page e) mid new → (facts : List Fact) × (ShowsBlocks false l first content before now facts × PutsFront style facts old new)
   blocks_cut b limits on adds takes =
       let names : List Name = name_of_part p page ∷ b.names in
       let all : facts_of_first (pages_in names) ++ map block_run (b.ended ++ list_of e) ≡ block_facts false names =
@@ -220,13 +218,13 @@ module _ (l : Limits) (first : ℕ) (content : Option Content) (before then now 
             end = λ f. absurd (false_true f);
             says = refl;
           },
-          subst (λ (fs : List Fact). TakesFront (text_of fs) old new) (sym (text b on) ∙ all)
-              (front_then (facts_of_first (pages_in b.names) ++ map block_run b.ended) (part_facts p page e) old mid new b.taken takes),
+          subst (λ (fs : List Fact). PutsFront style fs old new) (sym (text b on) ∙ all)
+              (front_then style (facts_of_first (pages_in b.names) ++ map block_run b.ended) (part_facts p page e) old mid new b.taken takes),
         ),
       )
 
-module _ (l : Limits) (first : ℕ) (content : Option Content) (before then now : ℕ) (old mid : Option (List ℕ)) (r : Reading) (last : Option (ℕ × ℕ)) (maps : ℕ) where
-  shows_all : (b : BlocksSoFar l first content before then old mid r last maps) → IsEnd r.walker.limits first content then now b.names → ShowsBlocks true l first content before now (block_facts true b.names)
+module _ (style : Style) (l : Limits) (first : ℕ) (content : Option Content) (before then now : ℕ) (old mid : Written) (r : Reading) (last : Option (ℕ × ℕ)) (maps : ℕ) where
+  shows_all : (b : BlocksSoFar style l first content before then old mid r last maps) → IsEnd r.walker.limits first content then now b.names → ShowsBlocks true l first content before now (block_facts true b.names)
   shows_all b end = record {
     names = b.names;
     front = record {
@@ -238,7 +236,7 @@ module _ (l : Limits) (first : ℕ) (content : Option Content) (before then now 
     says = refl;
   }
 
-  text_at_end : (b : BlocksSoFar l first content before then old mid r last maps)
+  text_at_end : (b : BlocksSoFar style l first content before then old mid r last maps)
       → (facts_of_first (pages_in b.names) ++ map block_run b.ended) ++ (map block_run (list_of last) ++ fact.Maps maps ∷ []) ≡ block_facts true b.names
   text_at_end b =
       let first_facts : List Fact = facts_of_first (pages_in b.names) in
@@ -249,27 +247,27 @@ module _ (l : Limits) (first : ℕ) (content : Option Content) (before then now 
       ∙ ap (λ n. map block_run (runs_of (blocks_in b.names)) ++ fact.Maps n ∷ []) b.counted
       )
 
-  pub blocks_whole : (new : Option (List ℕ)) (b : BlocksSoFar l first content before then old mid r last maps) → IsEnd r.walker.limits first content then now b.names → TakesAll (text_of (map block_run (list_of last) ++ fact.Maps maps ∷ [])) mid new
-      → (facts : List Fact) × (ShowsBlocks true l first content before now facts × TakesAll (text_of facts) old new)
+  pub blocks_whole : (new : Written) (b : BlocksSoFar style l first content before then old mid r last maps) → IsEnd r.walker.limits first content then now b.names → Puts style (map block_run (list_of last) ++ fact.Maps maps ∷ []) mid new
+      → (facts : List Fact) × (ShowsBlocks true l first content before now facts × Puts style facts old new)
   blocks_whole new b end takes = (
     block_facts true b.names,
     (
       shows_all b end,
-      subst (λ (fs : List Fact). TakesAll (text_of fs) old new) (text_at_end b)
-          (whole_then (facts_of_first (pages_in b.names) ++ map block_run b.ended) (map block_run (list_of last) ++ fact.Maps maps ∷ []) old mid new b.taken takes),
+      subst (λ (fs : List Fact). Puts style fs old new) (text_at_end b)
+          (whole_then style (facts_of_first (pages_in b.names) ++ map block_run b.ended) (map block_run (list_of last) ++ fact.Maps maps ∷ []) old mid new b.taken takes),
     ),
   )
 
-  pub blocks_end_cut : (new : Option (List ℕ)) (b : BlocksSoFar l first content before then old mid r last maps) → IsEnd r.walker.limits first content then now b.names → TakesFront (text_of (map block_run (list_of last) ++ fact.Maps maps ∷ [])) mid new
-      → (whole : Bool) × ((facts : List Fact) × (ShowsBlocks whole l first content before now facts × TakesFront (text_of facts) old new))
+  pub blocks_end_cut : (new : Written) (b : BlocksSoFar style l first content before then old mid r last maps) → IsEnd r.walker.limits first content then now b.names → PutsFront style (map block_run (list_of last) ++ fact.Maps maps ∷ []) mid new
+      → (whole : Bool) × ((facts : List Fact) × (ShowsBlocks whole l first content before now facts × PutsFront style facts old new))
   blocks_end_cut new b end takes = (
     true,
     (
       block_facts true b.names,
       (
         shows_all b end,
-        subst (λ (fs : List Fact). TakesFront (text_of fs) old new) (text_at_end b)
-            (front_then (facts_of_first (pages_in b.names) ++ map block_run b.ended) (map block_run (list_of last) ++ fact.Maps maps ∷ []) old mid new b.taken takes),
+        subst (λ (fs : List Fact). PutsFront style fs old new) (text_at_end b)
+            (front_then style (facts_of_first (pages_in b.names) ++ map block_run b.ended) (map block_run (list_of last) ++ fact.Maps maps ∷ []) old mid new b.taken takes),
       ),
     ),
   )

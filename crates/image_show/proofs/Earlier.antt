@@ -1,5 +1,5 @@
 -- What is shown after earlier calls of the disk.
-use Rattle.std.proofs.Common.{◌≡◌, ℕ, ◌≤◌, List, Bool, Option, Some, None}
+use Rattle.std.proofs.Common.{ℕ, ◌≤◌, List, Bool, Option, Some, None}
 use Rattle.page_core.specs.declared.format.Format.{Format}
 use Rattle.definitions.specs.Disk.{Content}
 use Rattle.definitions.specs.SwapHeader.{taken_back}
@@ -9,7 +9,7 @@ use Rattle.image_walk.specs.declared.limits.Limits.{Limits}
 use Rattle.image_check.specs.Checked.{format_of, mark_in}
 use Rattle.image_check.specs.Header.{limits_of}
 use Rattle.image_facts.specs.declared.fact.Fact.{Fact}
-use Rattle.image_show.specs.Shown.{readable_mark, ShowsBlocks, ShowsHeader, ShowsImage, ShowsMark}
+use Rattle.image_show.specs.Shown.{readable_mark, ShowsHeader, ShowsImage, ShowsMark}
 use Rattle.image_show.proofs.BlockSteps.{end_earlier}
 use Rattle.image_show.proofs.ImageSteps.{frames_earlier}
 

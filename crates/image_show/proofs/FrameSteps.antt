@@ -2,44 +2,42 @@
 use Rattle.std.proofs.Common.{◌≡◌, ℕ, ◌+◌, ◌-◌, ◌*◌, ◌<◌, ◌≤◌, ◌⊎◌, List, [], ◌∷◌, ◌++◌, length, map, take, get_or, min, zero, suc, Bool, true, false, Option, Some, None, refl, sym, ap, ◌∙◌, subst, inl, inr, arith, append-nil, append_assoc, length-append}
 use Rattle.std.proofs.lemmas.Bool.{cases_eq}
 use Rattle.std.proofs.lemmas.Grind.{flat_map-append}
-use Rattle.std.proofs.lemmas.List.{map-append, take-map, take-take, take_min, take_all, length-take-le, length-map}
+use Rattle.std.proofs.lemmas.List.{map-append, take-map, take-take, take_min, take_all, length-take-le}
 use Rattle.std.proofs.lemmas.List.FromFn.{get_or-map-range_with_len, length-map-range_with_len}
 use Rattle.std.specs.List.{flat_map}
 use Rattle.definitions.specs.Bytes.{number_at, word}
 use Rattle.definitions.specs.Disk.{Content}
 use Rattle.definitions.specs.Slots.{runs_of}
-use Rattle.definitions.specs.Streams.{TakesAll, TakesFront}
 use Rattle.fact_lines.proofs.Joined.{map-take_more}
-use Rattle.byte_streams.proofs.Taken.{TakesAll-none, TakesFront-all}
 use Rattle.page_core.specs.declared.format.Format.{Format}
-use Rattle.image_walk.specs.Names.{Name, map_at, page_at, AreReadFrom, IsReading}
+use Rattle.image_walk.specs.Names.{Name, AreReadFrom, IsReading}
 use Rattle.image_walk.specs.declared.limits.Limits.{Limits}
 use Rattle.image_check.specs.Numbers.{frame_of}
 use Rattle.image_facts.specs.Reads.{name_of_part, IsPart, Reads, ReadsOn}
 use Rattle.image_facts.specs.Runs.{count_of, list_of, IsUpTo}
-use Rattle.image_facts.specs.Told.{frame_run, frames_in, numbers_in, pages_in, words_of, HasNumbers, IsEnd, IsFront}
+use Rattle.image_facts.specs.Told.{frame_run, frames_in, numbers_in, pages_in, words_of, HasNumbers, IsEnd}
 use Rattle.image_facts.specs.declared.fact.Fact.{Fact}
 use Rattle.image_facts.specs.declared.part.Part.{Part}
 use Rattle.image_facts.specs.declared.part.Part.TheVariants as part
 use Rattle.image_facts.specs.declared.reading.Reading.{Reading}
 use Rattle.image_show.specs.Parts.{left_after, numbers_in_part, rest_of, RunsOn}
 use Rattle.image_show.specs.Shown.{but_last, frame_facts, ShowsFrames}
-use Rattle.image_show.specs.Texts.{text_of}
+use Rattle.image_show.specs.Forms.{Puts, PutsFront, Style, Written}
 use Rattle.image_show.proofs.BlockSteps.{all_but_last, end_earlier, Adds}
-use Rattle.image_show.proofs.Lines.{front_then, whole_then}
+use Rattle.image_show.proofs.Putting.{front_then, puts_none, whole_then}
 
 -- The numbers of a page, one after another.
 
-pub record NumbersSoFar (old last : Option (ℕ × ℕ)) (numbers : List ℕ) (before now : Option (List ℕ)) : Type 0 where
+pub record NumbersSoFar (style : Style) (old last : Option (ℕ × ℕ)) (numbers : List ℕ) (before now : Written) : Type 0 where
   pub more : List (ℕ × ℕ)
   pub runs : RunsOn old last numbers more
-  pub taken : TakesAll (text_of (map frame_run more)) before now
+  pub taken : Puts style (map frame_run more) before now
 
-pub numbers_start : (last : Option (ℕ × ℕ)) (now : Option (List ℕ)) → NumbersSoFar last last [] now now
-numbers_start last now = record {
+pub numbers_start : (style : Style) (last : Option (ℕ × ℕ)) (now : Written) → NumbersSoFar style last last [] now now
+numbers_start style last now = record {
   more = [];
   runs = λ numbers ended u. subst (λ (ns : List ℕ). IsUpTo ns last (ended ++ [])) (sym (append-nil numbers)) (subst (λ (rs : List (ℕ × ℕ)). IsUpTo numbers last rs) (sym (append-nil ended)) u);
-  taken = TakesAll-none now;
+  taken = puts_none style now;
 }
 
 adds_more : (old mid new e : Option (ℕ × ℕ)) (ns : List ℕ) (n : ℕ) (more : List (ℕ × ℕ)) → RunsOn old mid ns more → Adds mid n new e → RunsOn old new (ns ++ n ∷ []) (more ++ list_of e)
@@ -50,20 +48,20 @@ adds_more old mid new e ns n more on adds = λ numbers ended u.
 runs_text : (more : List (ℕ × ℕ)) (e : Option (ℕ × ℕ)) → map frame_run more ++ map frame_run (list_of e) ≡ map frame_run (more ++ list_of e)
 runs_text more e = sym (map-append frame_run more (list_of e))
 
-pub numbers_more : (old mid new e : Option (ℕ × ℕ)) (ns : List ℕ) (n : ℕ) (before then now : Option (List ℕ)) → NumbersSoFar old mid ns before then → Adds mid n new e → TakesAll (text_of (map frame_run (list_of e))) then now → NumbersSoFar old new (ns ++ n ∷ []) before now
-numbers_more old mid new e ns n before then now s adds takes = record {
+pub numbers_more : (style : Style) (old mid new e : Option (ℕ × ℕ)) (ns : List ℕ) (n : ℕ) (before then now : Written) → NumbersSoFar style old mid ns before then → Adds mid n new e → Puts style (map frame_run (list_of e)) then now → NumbersSoFar style old new (ns ++ n ∷ []) before now
+numbers_more style old mid new e ns n before then now s adds takes = record {
   more = s.more ++ list_of e;
   runs = adds_more old mid new e ns n s.more s.runs adds;
-  taken = subst (λ (fs : List Fact). TakesAll (text_of fs) before now) (runs_text s.more e) (whole_then (map frame_run s.more) (map frame_run (list_of e)) before then now s.taken takes);
+  taken = subst (λ (fs : List Fact). Puts style fs before now) (runs_text s.more e) (whole_then style (map frame_run s.more) (map frame_run (list_of e)) before then now s.taken takes);
 }
 
-pub numbers_cut : (old mid new e : Option (ℕ × ℕ)) (ns : List ℕ) (n : ℕ) (before then now : Option (List ℕ)) → NumbersSoFar old mid ns before then → Adds mid n new e → TakesFront (text_of (map frame_run (list_of e))) then now
-    → (more : List (ℕ × ℕ)) × (RunsOn old new (ns ++ n ∷ []) more × TakesFront (text_of (map frame_run more)) before now)
-numbers_cut old mid new e ns n before then now s adds takes = (
+pub numbers_cut : (style : Style) (old mid new e : Option (ℕ × ℕ)) (ns : List ℕ) (n : ℕ) (before then now : Written) → NumbersSoFar style old mid ns before then → Adds mid n new e → PutsFront style (map frame_run (list_of e)) then now
+    → (more : List (ℕ × ℕ)) × (RunsOn old new (ns ++ n ∷ []) more × PutsFront style (map frame_run more) before now)
+numbers_cut style old mid new e ns n before then now s adds takes = (
   s.more ++ list_of e,
   (
     adds_more old mid new e ns n s.more s.runs adds,
-    subst (λ (fs : List Fact). TakesFront (text_of fs) before now) (runs_text s.more e) (front_then (map frame_run s.more) (map frame_run (list_of e)) before then now s.taken takes),
+    subst (λ (fs : List Fact). PutsFront style fs before now) (runs_text s.more e) (front_then style (map frame_run s.more) (map frame_run (list_of e)) before then now s.taken takes),
   ),
 )
 
@@ -167,7 +165,7 @@ all_numbers (info ∷ rest) e =
       some_same : {x y : ℕ} → Some x ≡ Some y → x ≡ y
       some_same f = cc
 
-pub record FramesSoFar (l : Limits) (first : ℕ) (content : Option Content) (before now : ℕ) (format : Format) (old new : Option (List ℕ)) (r : Reading) (last : Option (ℕ × ℕ)) (left : Option ℕ) : Type 0 where
+pub record FramesSoFar (style : Style) (l : Limits) (first : ℕ) (content : Option Content) (before now : ℕ) (format : Format) (old new : Written) (r : Reading) (last : Option (ℕ × ℕ)) (left : Option ℕ) : Type 0 where
   pub names : List Name
   pub limits : r.walker.limits ≡ l
   pub rises : before ≤ now
@@ -178,11 +176,11 @@ pub record FramesSoFar (l : Limits) (first : ℕ) (content : Option Content) (be
   pub is_left : left ≡ numbers_left (pages_in names)
   pub room : count_of last + rest_of left < 18446744073709551616
   pub none : left ≡ None → count_of last ≡ 0
-  pub taken : TakesAll (text_of (map frame_run ended)) old new
+  pub taken : Puts style (map frame_run ended) old new
 
-pub frames_start : (first : ℕ) (content : Option Content) (before : ℕ) (format : Format) (old : Option (List ℕ)) (r : Reading) (last : Option (ℕ × ℕ)) → Reads first r [] → IsUpTo [] last [] → count_of last ≡ 0 → FramesSoFar r.walker.limits first content before before format old old r last None
+pub frames_start : (style : Style) (first : ℕ) (content : Option Content) (before : ℕ) (format : Format) (old : Written) (r : Reading) (last : Option (ℕ × ℕ)) → Reads first r [] → IsUpTo [] last [] → count_of last ≡ 0 → FramesSoFar style r.walker.limits first content before before format old old r last None
 unfolding numbers_in
-frames_start first content before format old r last reads runs zero_of = record {
+frames_start style first content before format old r last reads runs zero_of = record {
   names = [];
   limits = refl;
   rises = omega arith;
@@ -193,7 +191,7 @@ frames_start first content before format old r last reads runs zero_of = record 
   is_left = refl;
   room = omega (arith, zero_of);
   none = λ e. zero_of;
-  taken = TakesAll-none old;
+  taken = puts_none style old;
 }
 
 room_more : (old left : Option ℕ) (p : Part) (page : List ℕ) (count new n : ℕ) (h : List Name) → IsPart h p → old ≡ numbers_left (pages_in h) → (old ≡ None → count ≡ 0) → left ≡ left_after old p page → rest_of left < 18446744073709551616 → count + rest_of old < 18446744073709551616 → n ≡ numbers_in_part old p → n ≤ rest_of old → n ≤ 512 → new ≤ count + n → new + rest_of left < 18446744073709551616
@@ -216,11 +214,11 @@ none_more old left (part.Map m b) page count new n none e c le is =
 none_more old left (part.Info b) page count new n none e c le is = absurd (let f : Some (number_at 8 page 416) ≡ None = sym e ∙ is in cc)
 none_more old left (part.Page b) page count new n none e c le is = absurd (let f : Some (rest_of old - 512) ≡ None = sym e ∙ is in cc)
 
-module _ (l : Limits) (first : ℕ) (content : Option Content) (before then now : ℕ) (format : Format) (old mid new : Option (List ℕ)) (r s : Reading) (last next : Option (ℕ × ℕ)) (left : Option ℕ) (p : Part) (page : List ℕ) where
-  pub frames_step : (b : FramesSoFar l first content before then format old mid r last left) (left' : Option ℕ) (n : ℕ) → then ≤ now → s.walker.limits ≡ r.walker.limits → ReadsOn first content then now b.names r s p page
+module _ (style : Style) (l : Limits) (first : ℕ) (content : Option Content) (before then now : ℕ) (format : Format) (old mid new : Written) (r s : Reading) (last next : Option (ℕ × ℕ)) (left : Option ℕ) (p : Part) (page : List ℕ) where
+  pub frames_step : (b : FramesSoFar style l first content before then format old mid r last left) (left' : Option ℕ) (n : ℕ) → then ≤ now → s.walker.limits ≡ r.walker.limits → ReadsOn first content then now b.names r s p page
       → n ≡ numbers_in_part left p → n ≤ rest_of left → n ≤ 512 → left' ≡ left_after left p page → rest_of left' < 18446744073709551616 → count_of next ≤ count_of last + n
-      → (more : List (ℕ × ℕ)) × (RunsOn last next (map (frame_of format) (take n (words_of page))) more × TakesAll (text_of (map frame_run more)) mid new)
-      → FramesSoFar l first content before now format old new s next left'
+      → (more : List (ℕ × ℕ)) × (RunsOn last next (map (frame_of format) (take n (words_of page))) more × Puts style (map frame_run more) mid new)
+      → FramesSoFar style l first content before now format old new s next left'
   frames_step b left' n le limits on c enough few e fits count (more, (runs, takes)) = record {
     names = name_of_part p page ∷ b.names;
     limits = limits ∙ b.limits;
@@ -235,14 +233,14 @@ module _ (l : Limits) (first : ℕ) (content : Option Content) (before then now 
     is_left = e ∙ left_more b.names p page left on.place b.is_left;
     room = room_more left left' p page (count_of last) (count_of next) n b.names on.place b.is_left b.none e fits b.room c enough few count;
     none = none_more left left' p page (count_of last) (count_of next) n b.none e c count;
-    taken = subst (λ (fs : List Fact). TakesAll (text_of fs) old new) (sym (map-append frame_run b.ended more))
-        (whole_then (map frame_run b.ended) (map frame_run more) old mid new b.taken takes);
+    taken = subst (λ (fs : List Fact). Puts style fs old new) (sym (map-append frame_run b.ended more))
+        (whole_then style (map frame_run b.ended) (map frame_run more) old mid new b.taken takes);
   }
 
   -- a write has failed among the numbers of a page
-  pub frames_cut : (b : FramesSoFar l first content before then format old mid r last left) (n : ℕ) → s.walker.limits ≡ r.walker.limits → ReadsOn first content then now b.names r s p page → n ≡ numbers_in_part left p
-      → (m : ℕ) × ((m ≤ n) × ((more : List (ℕ × ℕ)) × (RunsOn last next (map (frame_of format) (take m (words_of page))) more × TakesFront (text_of (map frame_run more)) mid new)))
-      → (facts : List Fact) × (ShowsFrames false l first content before now format facts × TakesFront (text_of facts) old new)
+  pub frames_cut : (b : FramesSoFar style l first content before then format old mid r last left) (n : ℕ) → s.walker.limits ≡ r.walker.limits → ReadsOn first content then now b.names r s p page → n ≡ numbers_in_part left p
+      → (m : ℕ) × ((m ≤ n) × ((more : List (ℕ × ℕ)) × (RunsOn last next (map (frame_of format) (take m (words_of page))) more × PutsFront style (map frame_run more) mid new)))
+      → (facts : List Fact) × (ShowsFrames false l first content before now format facts × PutsFront style facts old new)
   frames_cut b n limits on c (m, (le, (more, (runs, takes)))) =
       let names : List Name = name_of_part p page ∷ b.names in
       let so_far : List ℕ = frames_in format b.names in
@@ -272,17 +270,17 @@ module _ (l : Limits) (first : ℕ) (content : Option Content) (before then now 
             count = length so_far + m;
             says = refl;
           },
-          subst (λ (fs : List Fact). TakesFront (text_of fs) old new) (sym (map-append frame_run b.ended more) ∙ sym ended)
-              (front_then (map frame_run b.ended) (map frame_run more) old mid new b.taken takes),
+          subst (λ (fs : List Fact). PutsFront style fs old new) (sym (map-append frame_run b.ended more) ∙ sym ended)
+              (front_then style (map frame_run b.ended) (map frame_run more) old mid new b.taken takes),
         ),
       )
 
-module _ (l : Limits) (first : ℕ) (content : Option Content) (before then now : ℕ) (format : Format) (old mid : Option (List ℕ)) (r : Reading) (last : Option (ℕ × ℕ)) (left : Option ℕ) where
+module _ (style : Style) (l : Limits) (first : ℕ) (content : Option Content) (before then now : ℕ) (format : Format) (old mid : Written) (r : Reading) (last : Option (ℕ × ℕ)) (left : Option ℕ) where
   is_zero : (o : Option ℕ) → (o ≡ Some 0) ⊎ (o ≡ Some 0 → ⊥)
   is_zero None = inr (λ e. cc)
   is_zero (Some n) = elim (cases_eq n 0) [ inl e ↦ inl (ap Some e) | inr ne ↦ inr (λ e. ne (let f : Some n ≡ Some 0 = e in cc)) ]
 
-  shows_all : (b : FramesSoFar l first content before then format old mid r last left) → ((left ≡ Some 0 → ⊥) → IsEnd r.walker.limits first content then now b.names) → ShowsFrames true l first content before now format (frame_facts true 0 (frames_in format b.names))
+  shows_all : (b : FramesSoFar style l first content before then format old mid r last left) → ((left ≡ Some 0 → ⊥) → IsEnd r.walker.limits first content then now b.names) → ShowsFrames true l first content before now format (frame_facts true 0 (frames_in format b.names))
   shows_all b end = record {
     names = b.names;
     front = record {
@@ -298,28 +296,28 @@ module _ (l : Limits) (first : ℕ) (content : Option Content) (before then now 
     says = refl;
   }
 
-  text_at_end : (b : FramesSoFar l first content before then format old mid r last left) → map frame_run b.ended ++ map frame_run (list_of last) ≡ frame_facts true 0 (frames_in format b.names)
+  text_at_end : (b : FramesSoFar style l first content before then format old mid r last left) → map frame_run b.ended ++ map frame_run (list_of last) ≡ frame_facts true 0 (frames_in format b.names)
   text_at_end b = sym (map-append frame_run b.ended (list_of last)) ∙ ap (map frame_run) (sym b.runs.runs)
 
-  pub frames_whole : (new : Option (List ℕ)) (b : FramesSoFar l first content before then format old mid r last left) → ((left ≡ Some 0 → ⊥) → IsEnd r.walker.limits first content then now b.names) → TakesAll (text_of (map frame_run (list_of last))) mid new
-      → (facts : List Fact) × (ShowsFrames true l first content before now format facts × TakesAll (text_of facts) old new)
+  pub frames_whole : (new : Written) (b : FramesSoFar style l first content before then format old mid r last left) → ((left ≡ Some 0 → ⊥) → IsEnd r.walker.limits first content then now b.names) → Puts style (map frame_run (list_of last)) mid new
+      → (facts : List Fact) × (ShowsFrames true l first content before now format facts × Puts style facts old new)
   frames_whole new b end takes = (
     frame_facts true 0 (frames_in format b.names),
     (
       shows_all b end,
-      subst (λ (fs : List Fact). TakesAll (text_of fs) old new) (text_at_end b) (whole_then (map frame_run b.ended) (map frame_run (list_of last)) old mid new b.taken takes),
+      subst (λ (fs : List Fact). Puts style fs old new) (text_at_end b) (whole_then style (map frame_run b.ended) (map frame_run (list_of last)) old mid new b.taken takes),
     ),
   )
 
-  pub frames_end_cut : (new : Option (List ℕ)) (b : FramesSoFar l first content before then format old mid r last left) → ((left ≡ Some 0 → ⊥) → IsEnd r.walker.limits first content then now b.names) → TakesFront (text_of (map frame_run (list_of last))) mid new
-      → (whole : Bool) × ((facts : List Fact) × (ShowsFrames whole l first content before now format facts × TakesFront (text_of facts) old new))
+  pub frames_end_cut : (new : Written) (b : FramesSoFar style l first content before then format old mid r last left) → ((left ≡ Some 0 → ⊥) → IsEnd r.walker.limits first content then now b.names) → PutsFront style (map frame_run (list_of last)) mid new
+      → (whole : Bool) × ((facts : List Fact) × (ShowsFrames whole l first content before now format facts × PutsFront style facts old new))
   frames_end_cut new b end takes = (
     true,
     (
       frame_facts true 0 (frames_in format b.names),
       (
         shows_all b end,
-        subst (λ (fs : List Fact). TakesFront (text_of fs) old new) (text_at_end b) (front_then (map frame_run b.ended) (map frame_run (list_of last)) old mid new b.taken takes),
+        subst (λ (fs : List Fact). PutsFront style fs old new) (text_at_end b) (front_then style (map frame_run b.ended) (map frame_run (list_of last)) old mid new b.taken takes),
       ),
     ),
   )

@@ -2,4 +2,4 @@ pub mod BlockSteps
 pub mod Earlier
 pub mod FrameSteps
 pub mod ImageSteps
-pub mod Lines
+pub mod Putting

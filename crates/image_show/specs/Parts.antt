@@ -1,9 +1,9 @@
 -- What a part of an image adds to what is shown.
-use Rattle.std.specs.Prelude.{◌≡◌, ℕ, ◌-◌, ◌*◌, List, [], ◌∷◌, ◌++◌, length, map, min, Option, Some, None}
+use Rattle.std.specs.Prelude.{ℕ, ◌-◌, List, [], ◌++◌, map, min, Option, Some, None}
 use Rattle.definitions.specs.Bytes.{number_at}
 use Rattle.image_facts.specs.InfoFacts.{info_facts}
 use Rattle.image_facts.specs.Runs.{list_of, IsUpTo}
-use Rattle.image_facts.specs.Told.{block_run, frame_run}
+use Rattle.image_facts.specs.Told.{block_run}
 use Rattle.image_facts.specs.declared.fact.Fact.{Fact}
 use Rattle.image_facts.specs.declared.part.Part.{Part}
 use Rattle.image_facts.specs.declared.part.Part.TheVariants as part

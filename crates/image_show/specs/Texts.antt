@@ -1,5 +1,5 @@
 -- The lines of the facts: a key, and its value's numbers or text.
-use Rattle.std.specs.Prelude.{ℕ, Bool, true, false, List, [], ◌∷◌, ◌++◌, codes, decimal, flat_map}
+use Rattle.std.specs.Prelude.{ℕ, Bool, true, false, List, [], ◌∷◌, ◌++◌, None, codes, decimal, flat_map}
 use Rattle.definitions.specs.Bytes.{bytes_at}
 use Rattle.definitions.specs.InfoPage.{text_of_name}
 use Rattle.fact_lines.specs.Texts.{name_text, numbers_text, value_text, word_text}
@@ -11,6 +11,7 @@ use Rattle.image_facts.specs.declared.fact.Flag.{Flag}
 use Rattle.image_facts.specs.declared.fact.Flag.TheVariants as flag
 use Rattle.image_facts.specs.declared.fact.Header.{Header}
 use Rattle.image_facts.specs.declared.fact.Header.TheVariants.{Generic, X86, Arm64, Unknown}
+use Rattle.image_show.specs.Forms.{Style}
 
 abbrev pub image_text : Bool → List ℕ
 image_text true = codes "image yes"
@@ -82,3 +83,7 @@ line_text f = fact_text f ++ codes "\n"
 -- these facts, a line each
 abbrev pub text_of : List Fact → List ℕ
 text_of facts = flat_map line_text facts
+
+-- the form of such lines: what was printed before makes no difference
+abbrev pub lines : Style
+lines = record { piece = λ last f. line_text f; kept = λ last f. None }

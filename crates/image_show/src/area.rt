@@ -1,19 +1,16 @@
 //! All that an area and its image say.
 ghost use Rattle.std.specs.Prelude.{◌≡◌, ◌≤◌, List, true, false, Ok, Err, IfOk, OnOk};
-ghost use Rattle.definitions.specs.Disk.{HasRisen};
-ghost use Rattle.definitions.specs.Streams.{TakesAll, TakesFront};
 ghost use Rattle.image_walk.specs.Names.{IsReadFrom};
 ghost use Rattle.image_check.specs.Checked.{mark_in};
 ghost use Rattle.image_facts.specs.declared.fact.Fact.{Fact as OneFact};
+ghost use Rattle.image_show.specs.Forms.{HasFailed, Puts, PutsFront};
 ghost use Rattle.image_show.specs.Shown.{readable_mark, Shows, ShowsFront, ShowsHeader};
-ghost use Rattle.image_show.specs.Texts.{text_of};
 ghost use Rattle.image_show.specs.declared.fault.Fault.TheVariants.{NoMemory, Write};
 
-use crate::Fault;
 use crate::image::show_image;
 use crate::printing::{print_header_only, print_only};
 use crate::shown::Shown;
-use byte_streams::Sink;
+use crate::{Fault, Form};
 use image_check::{is_compressed, mark_in};
 use image_facts::Fact;
 use page_core::Page;
@@ -25,25 +22,25 @@ use std::alloc::Global;
 /// that says and names. It reads as far as the bytes allow: a block that can't be one of the image, or can't be read, ends what is told.
 /// The image is read twice, the second time to its last number page. Nothing is flushed. It takes memory of two bits for each block of
 /// the disk.
-pub fn show<D: Disk, S: Sink>(
+pub fn show<D: Disk, F: Form>(
     alloc: Global,
     disk: &mut D,
     header: u32,
-    sink: &mut S,
+    form: &mut F,
 ) -> Result<Shown, Fault>
     ensures shown { IfOk result (λ shown. (facts : List OneFact)
         × (Shows (D.content disk.old) (D.block_count disk.old) header
         (D.faults disk.old) (D.faults disk.new) facts shown
-        × TakesAll (text_of facts) (S.taken sink.old) (S.taken sink.new))) }
+        × Puts F.style facts (F.written form.old) (F.written form.new))) }
     // Where a write failed a front of such a text was taken.
     ensures front { result ≡ Err Write → (facts : List OneFact)
         × (ShowsFront (D.content disk.old) (D.block_count disk.old) header
         (D.faults disk.old) (D.faults disk.new) facts
-        × TakesFront (text_of facts) (S.taken sink.old) (S.taken sink.new)) }
-    ensures cause { result ≡ Err Write → HasRisen (S.faults sink.old) (S.faults sink.new) }
+        × PutsFront F.style facts (F.written form.old) (F.written form.new)) }
+    ensures cause { result ≡ Err Write → HasFailed (F.faults form.old) (F.faults form.new) (F.refused form.new) }
     // Memory is refused before anything is written.
-    ensures memory { result ≡ Err NoMemory → S.taken sink.new ≡ S.taken sink.old }
-    ensures counted { S.faults sink.old ≤ S.faults sink.new }
+    ensures memory { result ≡ Err NoMemory → F.written form.new ≡ F.written form.old }
+    ensures counted { F.faults form.old ≤ F.faults form.new }
     ensures content { D.content disk.new ≡ D.content disk.old }
     ensures faults { D.faults disk.old ≤ D.faults disk.new }
     ensures orders { D.orders disk.new ≡ D.orders disk.old }
@@ -51,22 +48,22 @@ pub fn show<D: Disk, S: Sink>(
 {
     let blocks = disk.blocks();
     if header >= blocks {
-        print_only(sink, &[Fact::Blocks(blocks), Fact::HeaderMissing])?;
+        print_only(form, &[Fact::Blocks(blocks), Fact::HeaderMissing])?;
         return Ok(Shown::NoHeader);
     }
     let mut page = Page::zero();
     if disk.read(header, &mut page).is_err() {
-        print_only(sink, &[Fact::Blocks(blocks), Fact::HeaderUnread])?;
+        print_only(form, &[Fact::Blocks(blocks), Fact::HeaderUnread])?;
         return Ok(Shown::NoHeader);
     }
-    show_header(alloc, sink, disk, header, &page)?;
+    show_header(alloc, form, disk, header, &page)?;
     Ok(Shown::Area)
 }
 
 /// Prints what a header block says, and its image where that isn't compressed.
-fn show_header<D: Disk, S: Sink>(
+fn show_header<D: Disk, F: Form>(
     alloc: Global,
-    sink: &mut S,
+    form: &mut F,
     disk: &mut D,
     header: u32,
     page: &Page,
@@ -74,22 +71,22 @@ fn show_header<D: Disk, S: Sink>(
     ensures shown { IsReadFrom (D.content disk.old) header (Ok page.now) → OnOk result ((facts : List OneFact)
         × (ShowsHeader true
         (D.content disk.old) (D.block_count disk.old) header (D.faults disk.old) (D.faults disk.new) facts
-        × TakesAll (text_of facts) (S.taken sink.old) (S.taken sink.new))) }
+        × Puts F.style facts (F.written form.old) (F.written form.new))) }
     ensures front { IsReadFrom (D.content disk.old) header (Ok page.now) → result ≡ Err Write →
         (facts : List OneFact) × (ShowsHeader false
         (D.content disk.old) (D.block_count disk.old) header (D.faults disk.old) (D.faults disk.new) facts
-        × TakesFront (text_of facts) (S.taken sink.old) (S.taken sink.new)) }
-    ensures cause { result ≡ Err Write → HasRisen (S.faults sink.old) (S.faults sink.new) }
-    ensures memory { result ≡ Err NoMemory → S.taken sink.new ≡ S.taken sink.old }
-    ensures counted { S.faults sink.old ≤ S.faults sink.new }
+        × PutsFront F.style facts (F.written form.old) (F.written form.new)) }
+    ensures cause { result ≡ Err Write → HasFailed (F.faults form.old) (F.faults form.new) (F.refused form.new) }
+    ensures memory { result ≡ Err NoMemory → F.written form.new ≡ F.written form.old }
+    ensures counted { F.faults form.old ≤ F.faults form.new }
     ensures content { D.content disk.new ≡ D.content disk.old }
     ensures faults { D.faults disk.old ≤ D.faults disk.new }
     ensures orders { D.orders disk.new ≡ D.orders disk.old }
     ensures blocks { D.block_count disk.new ≡ D.block_count disk.old }
 {
     match readable_mark(AreaKind::read(page)) {
-        Some(mark) => show_image(alloc, sink, disk, header, page, mark),
-        None => print_header_only(sink, disk.blocks(), page),
+        Some(mark) => show_image(alloc, form, disk, header, page, mark),
+        None => print_header_only(form, disk.blocks(), page),
     }
 }
 

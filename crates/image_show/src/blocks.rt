@@ -1,25 +1,23 @@
 //! The info page and the blocks of an image.
 ghost use Rattle.std.specs.Prelude.{◌≡◌, ◌≤◌, ◌++◌, ◌∷◌, [], List, Bool, true, OnOk, OnErr, map};
-ghost use Rattle.definitions.specs.Disk.{HasRisen};
-ghost use Rattle.definitions.specs.Streams.{TakesAll, TakesFront};
 ghost use Rattle.image_facts.specs.Reads.{Reads};
 ghost use Rattle.image_facts.specs.Runs.{list_of};
 ghost use Rattle.image_facts.specs.Told.{block_run};
 ghost use Rattle.image_facts.specs.declared.fact.Fact.{Fact as OneFact};
 ghost use Rattle.image_facts.specs.declared.fact.Fact.TheVariants.{Maps};
+ghost use Rattle.image_show.specs.Forms.{HasFailed, Puts, PutsFront};
 ghost use Rattle.image_show.specs.Parts.{facts_of_info, maps_after, part_facts};
 ghost use Rattle.image_show.specs.Shown.{ShowsBlocks};
-ghost use Rattle.image_show.specs.Texts.{text_of};
 
+use crate::Form;
 use crate::printing::{print, print_any};
-use byte_streams::Sink;
 use image_facts::{Fact, Part, Reading, Runs, info_facts};
 use page_core::{Failed, Page};
 use sector_disk::Disk;
 
 /// Prints what the info page says, the runs of blocks as they end, and how many maps there are.
-pub(crate) fn print_blocks<D: Disk, S: Sink>(
-    sink: &mut S,
+pub(crate) fn print_blocks<D: Disk, F: Form>(
+    form: &mut F,
     disk: &mut D,
     reading: &mut Reading,
 ) -> Result<(), Failed>
@@ -28,13 +26,13 @@ pub(crate) fn print_blocks<D: Disk, S: Sink>(
     ensures whole { OnOk result ((facts : List OneFact)
         × (ShowsBlocks true reading.old.walker.limits reading.old.walker.next
         (D.content disk.old) (D.faults disk.old) (D.faults disk.new) facts
-        × TakesAll (text_of facts) (S.taken sink.old) (S.taken sink.new))) }
+        × Puts F.style facts (F.written form.old) (F.written form.new))) }
     ensures front { OnErr result ((whole : Bool) × ((facts : List OneFact)
         × (ShowsBlocks whole reading.old.walker.limits reading.old.walker.next
         (D.content disk.old) (D.faults disk.old) (D.faults disk.new) facts
-        × TakesFront (text_of facts) (S.taken sink.old) (S.taken sink.new)))) }
-    ensures counted { S.faults sink.old ≤ S.faults sink.new }
-    ensures cause { OnErr result (HasRisen (S.faults sink.old) (S.faults sink.new)) }
+        × PutsFront F.style facts (F.written form.old) (F.written form.new)))) }
+    ensures counted { F.faults form.old ≤ F.faults form.new }
+    ensures cause { OnErr result (HasFailed (F.faults form.old) (F.faults form.new) (F.refused form.new)) }
     ensures content { D.content disk.new ≡ D.content disk.old }
     ensures faults { D.faults disk.old ≤ D.faults disk.new }
     ensures orders { D.orders disk.new ≡ D.orders disk.old }
@@ -48,9 +46,9 @@ pub(crate) fn print_blocks<D: Disk, S: Sink>(
     while let Some(part) = reading.next(disk, &mut page) {
         let ended = runs.add(part.block());
         maps = maps_after(maps, part);
-        print_part(sink, part, &page, ended)?;
+        print_part(form, part, &page, ended)?;
     }
-    print_end(sink, runs.last(), maps)
+    print_end(form, runs.last(), maps)
 }
 
 /// How many maps there are with a part.
@@ -65,49 +63,49 @@ fn maps_after(maps: u64, part: Part) -> u64
 }
 
 /// Prints what a part says, and the run that has ended before it.
-fn print_part<S: Sink>(
-    sink: &mut S,
+fn print_part<F: Form>(
+    form: &mut F,
     part: Part,
     page: &Page,
     ended: Option<(u64, u64)>,
 ) -> Result<(), Failed>
-    ensures whole { OnOk result (TakesAll (text_of (part_facts part page.now ended)) (S.taken sink.old)
-        (S.taken sink.new)) }
-    ensures front { TakesFront (text_of (part_facts part page.now ended)) (S.taken sink.old) (S.taken sink.new) }
-    ensures counted { S.faults sink.old ≤ S.faults sink.new }
-    ensures cause { OnErr result (HasRisen (S.faults sink.old) (S.faults sink.new)) }
+    ensures whole { OnOk result (Puts F.style (part_facts part page.now ended) (F.written form.old)
+        (F.written form.new)) }
+    ensures front { PutsFront F.style (part_facts part page.now ended) (F.written form.old) (F.written form.new) }
+    ensures counted { F.faults form.old ≤ F.faults form.new }
+    ensures cause { OnErr result (HasFailed (F.faults form.old) (F.faults form.new) (F.refused form.new)) }
 {
-    print_info(sink, part, page)?;
-    print_any(sink, block_run(ended))
+    print_info(form, part, page)?;
+    print_any(form, block_run(ended))
 }
 
 /// Prints what an info page says.
 #[inline(never)]
-fn print_info<S: Sink>(sink: &mut S, part: Part, page: &Page) -> Result<(), Failed>
-    ensures whole { OnOk result (TakesAll (text_of (facts_of_info part page.now)) (S.taken sink.old)
-        (S.taken sink.new)) }
-    ensures front { TakesFront (text_of (facts_of_info part page.now)) (S.taken sink.old) (S.taken sink.new) }
-    ensures counted { S.faults sink.old ≤ S.faults sink.new }
-    ensures cause { OnErr result (HasRisen (S.faults sink.old) (S.faults sink.new)) }
+fn print_info<F: Form>(form: &mut F, part: Part, page: &Page) -> Result<(), Failed>
+    ensures whole { OnOk result (Puts F.style (facts_of_info part page.now) (F.written form.old)
+        (F.written form.new)) }
+    ensures front { PutsFront F.style (facts_of_info part page.now) (F.written form.old) (F.written form.new) }
+    ensures counted { F.faults form.old ≤ F.faults form.new }
+    ensures cause { OnErr result (HasFailed (F.faults form.old) (F.faults form.new) (F.refused form.new)) }
 {
     match part {
-        Part::Info { .. } => print(sink, info_facts(page).as_slice()),
-        Part::Map { .. } => print(sink, &[]),
-        Part::Page { .. } => print(sink, &[]),
+        Part::Info { .. } => print(form, info_facts(page).as_slice()),
+        Part::Map { .. } => print(form, &[]),
+        Part::Page { .. } => print(form, &[]),
     }
 }
 
 /// Prints the last run, and how many maps there are.
-fn print_end<S: Sink>(sink: &mut S, last: Option<(u64, u64)>, maps: u64) -> Result<(), Failed>
-    ensures whole { OnOk result (TakesAll (text_of (map block_run (list_of last) ++ Maps maps
-        ∷ [])) (S.taken sink.old) (S.taken sink.new)) }
-    ensures front { TakesFront (text_of (map block_run (list_of last) ++ Maps maps
-        ∷ [])) (S.taken sink.old) (S.taken sink.new) }
-    ensures counted { S.faults sink.old ≤ S.faults sink.new }
-    ensures cause { OnErr result (HasRisen (S.faults sink.old) (S.faults sink.new)) }
+fn print_end<F: Form>(form: &mut F, last: Option<(u64, u64)>, maps: u64) -> Result<(), Failed>
+    ensures whole { OnOk result (Puts F.style (map block_run (list_of last) ++ Maps maps
+        ∷ []) (F.written form.old) (F.written form.new)) }
+    ensures front { PutsFront F.style (map block_run (list_of last) ++ Maps maps
+        ∷ []) (F.written form.old) (F.written form.new) }
+    ensures counted { F.faults form.old ≤ F.faults form.new }
+    ensures cause { OnErr result (HasFailed (F.faults form.old) (F.faults form.new) (F.refused form.new)) }
 {
-    print_any(sink, block_run(last))?;
-    print(sink, &[Fact::Maps(maps)])
+    print_any(form, block_run(last))?;
+    print(form, &[Fact::Maps(maps)])
 }
 
 fn block_run(run: Option<(u64, u64)>) -> Option<Fact>

@@ -6,7 +6,7 @@ pub enum Fault {
     /// Memory was refused. Nothing was written.
     #[error("no memory")]
     NoMemory,
-    /// A write failed.
+    /// The output failed, or was refused memory.
     #[error("the output failed")]
     Write,
 }

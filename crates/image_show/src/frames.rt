@@ -1,19 +1,17 @@
 //! The page frames of an image.
 ghost use Rattle.std.specs.Prelude.{◌≡◌, ◌+◌, ◌<◌, ◌≤◌, ◌^◌, ◌++◌, [], List, ℕ, Bool, true, Some, IfSome, IfNone, OnOk, OnErr, map, take};
-ghost use Rattle.definitions.specs.Disk.{HasRisen};
-ghost use Rattle.definitions.specs.Streams.{TakesAll, TakesFront};
 ghost use Rattle.image_walk.specs.Names.{Name};
 ghost use Rattle.image_check.specs.Numbers.{frame_of};
 ghost use Rattle.image_facts.specs.Reads.{Reads, ReadsOn};
 ghost use Rattle.image_facts.specs.Runs.{count_of, list_of};
 ghost use Rattle.image_facts.specs.Told.{frame_run, words_of, IsEnd};
 ghost use Rattle.image_facts.specs.declared.fact.Fact.{Fact as OneFact};
+ghost use Rattle.image_show.specs.Forms.{HasFailed, Puts, PutsFront};
 ghost use Rattle.image_show.specs.Parts.{left_after, numbers_in_part, rest_of, RunsOn};
 ghost use Rattle.image_show.specs.Shown.{ShowsFrames};
-ghost use Rattle.image_show.specs.Texts.{text_of};
 
+use crate::Form;
 use crate::printing::print_any;
-use byte_streams::Sink;
 use image_facts::{Fact, Part, Reading, Runs};
 use page_core::{Failed, Format, Page};
 use sector_disk::Disk;
@@ -28,8 +26,8 @@ const IMAGE_PAGES_WORD: usize = 52;
 const ZERO_BIT: u64 = 1 << 63;
 
 /// Prints the runs of page frames as they end. It reads no more than the number pages.
-pub(crate) fn print_frames<D: Disk, S: Sink>(
-    sink: &mut S,
+pub(crate) fn print_frames<D: Disk, F: Form>(
+    form: &mut F,
     disk: &mut D,
     reading: &mut Reading,
     format: Format,
@@ -39,13 +37,13 @@ pub(crate) fn print_frames<D: Disk, S: Sink>(
     ensures whole { OnOk result ((facts : List OneFact)
         × (ShowsFrames true reading.old.walker.limits reading.old.walker.next
         (D.content disk.old) (D.faults disk.old) (D.faults disk.new) format facts
-        × TakesAll (text_of facts) (S.taken sink.old) (S.taken sink.new))) }
+        × Puts F.style facts (F.written form.old) (F.written form.new))) }
     ensures front { OnErr result ((whole : Bool) × ((facts : List OneFact)
         × (ShowsFrames whole reading.old.walker.limits reading.old.walker.next
         (D.content disk.old) (D.faults disk.old) (D.faults disk.new) format facts
-        × TakesFront (text_of facts) (S.taken sink.old) (S.taken sink.new)))) }
-    ensures counted { S.faults sink.old ≤ S.faults sink.new }
-    ensures cause { OnErr result (HasRisen (S.faults sink.old) (S.faults sink.new)) }
+        × PutsFront F.style facts (F.written form.old) (F.written form.new)))) }
+    ensures counted { F.faults form.old ≤ F.faults form.new }
+    ensures cause { OnErr result (HasFailed (F.faults form.old) (F.faults form.new) (F.refused form.new)) }
     ensures content { D.content disk.new ≡ D.content disk.old }
     ensures faults { D.faults disk.old ≤ D.faults disk.new }
     ensures orders { D.orders disk.new ≡ D.orders disk.old }
@@ -57,9 +55,9 @@ pub(crate) fn print_frames<D: Disk, S: Sink>(
     while let Some(part) = next_part(reading, disk, &mut page, left) {
         let count = numbers_in_part(left, part);
         left = left_after(left, part, &page);
-        print_numbers(sink, &mut runs, format, &page, count)?;
+        print_numbers(form, &mut runs, format, &page, count)?;
     }
-    print_any(sink, frame_run(runs.last()))
+    print_any(form, frame_run(runs.last()))
 }
 
 /// Goes on to the next block, unless no number is left.
@@ -113,8 +111,8 @@ fn left_after(left: Option<u64>, part: Part, page: &Page) -> Option<u64>
 }
 
 /// Prints the runs that end before or among the first numbers of a page.
-fn print_numbers<S: Sink>(
-    sink: &mut S,
+fn print_numbers<F: Form>(
+    form: &mut F,
     runs: &mut Runs,
     format: Format,
     page: &Page,
@@ -124,17 +122,17 @@ fn print_numbers<S: Sink>(
     requires room { count_of runs.old.last + count < 2 ^ 64 }
     ensures whole { OnOk result ((more : List (ℕ × ℕ))
         × (RunsOn runs.old.last runs.new.last (map (frame_of format) (take count (words_of page.now))) more
-        × TakesAll (text_of (map frame_run more)) (S.taken sink.old) (S.taken sink.new))) }
+        × Puts F.style (map frame_run more) (F.written form.old) (F.written form.new))) }
     ensures front { (n : ℕ) × ((n ≤ count) × ((more : List (ℕ × ℕ))
         × (RunsOn runs.old.last runs.new.last (map (frame_of format) (take n (words_of page.now))) more
-        × TakesFront (text_of (map frame_run more)) (S.taken sink.old) (S.taken sink.new)))) }
+        × PutsFront F.style (map frame_run more) (F.written form.old) (F.written form.new)))) }
     ensures count { count_of runs.new.last ≤ count_of runs.old.last + count }
-    ensures counted { S.faults sink.old ≤ S.faults sink.new }
-    ensures cause { OnErr result (HasRisen (S.faults sink.old) (S.faults sink.new)) }
+    ensures counted { F.faults form.old ≤ F.faults form.new }
+    ensures cause { OnErr result (HasFailed (F.faults form.old) (F.faults form.new) (F.refused form.new)) }
 {
     for i in 0..count {
         let ended = runs.add(frame_of(format, page.word(i as usize)));
-        print_any(sink, frame_run(ended))?;
+        print_any(form, frame_run(ended))?;
     }
     Ok(())
 }

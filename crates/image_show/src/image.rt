@@ -1,7 +1,5 @@
 //! An image that isn't compressed.
 ghost use Rattle.std.specs.Prelude.{◌≡◌, ◌≤◌, ◌++◌, [], List, true, false, Err, OnOk, OnErr};
-ghost use Rattle.definitions.specs.Disk.{HasRisen};
-ghost use Rattle.definitions.specs.Streams.{TakesAll, TakesFront};
 ghost use Rattle.definitions.specs.SwapHeader.{taken_back};
 ghost use Rattle.sig_header.specs.AreaKind.{area_kind};
 ghost use Rattle.image_check.specs.Checked.{format_of};
@@ -9,15 +7,14 @@ ghost use Rattle.image_check.specs.Header.{limits_of};
 ghost use Rattle.image_facts.specs.HeaderFacts.{header_facts};
 ghost use Rattle.image_facts.specs.Reads.{Reads};
 ghost use Rattle.image_facts.specs.declared.fact.Fact.{Fact as OneFact};
+ghost use Rattle.image_show.specs.Forms.{HasFailed, Puts, PutsFront};
 ghost use Rattle.image_show.specs.Shown.{ShowsImage};
-ghost use Rattle.image_show.specs.Texts.{text_of};
 ghost use Rattle.image_show.specs.declared.fault.Fault.TheVariants.{NoMemory, Write};
 
-use crate::Fault;
 use crate::blocks::print_blocks;
 use crate::frames::print_frames;
 use crate::printing::print_header;
-use byte_streams::Sink;
+use crate::{Fault, Form};
 use image_check::{format_of, limits_of};
 use image_facts::Reading;
 use page_core::{Failed, Format, Page};
@@ -26,9 +23,9 @@ use sig_header::Mark;
 use std::alloc::Global;
 
 /// Prints what the header block says, and what the image of its mark is: whose it is, its blocks and its page frames.
-pub(crate) fn show_image<D: Disk, S: Sink>(
+pub(crate) fn show_image<D: Disk, F: Form>(
     alloc: Global,
-    sink: &mut S,
+    form: &mut F,
     disk: &mut D,
     header: u32,
     page: &Page,
@@ -37,16 +34,16 @@ pub(crate) fn show_image<D: Disk, S: Sink>(
     ensures shown { OnOk result ((image : List OneFact)
         × (ShowsImage true (limits_of (D.block_count disk.old) header (area_kind (taken_back page.now)))
         mark.first (D.content disk.old) (D.faults disk.old) (D.faults disk.new) (format_of mark.flags) image
-        × TakesAll (text_of (header_facts (D.block_count disk.old) page.now
-        ++ image)) (S.taken sink.old) (S.taken sink.new))) }
+        × Puts F.style (header_facts (D.block_count disk.old) page.now
+        ++ image) (F.written form.old) (F.written form.new))) }
     ensures front { result ≡ Err Write → (image : List OneFact)
         × (ShowsImage false (limits_of (D.block_count disk.old) header (area_kind (taken_back page.now)))
         mark.first (D.content disk.old) (D.faults disk.old) (D.faults disk.new) (format_of mark.flags) image
-        × TakesFront (text_of (header_facts (D.block_count disk.old) page.now
-        ++ image)) (S.taken sink.old) (S.taken sink.new)) }
-    ensures cause { result ≡ Err Write → HasRisen (S.faults sink.old) (S.faults sink.new) }
-    ensures memory { result ≡ Err NoMemory → S.taken sink.new ≡ S.taken sink.old }
-    ensures counted { S.faults sink.old ≤ S.faults sink.new }
+        × PutsFront F.style (header_facts (D.block_count disk.old) page.now
+        ++ image) (F.written form.old) (F.written form.new)) }
+    ensures cause { result ≡ Err Write → HasFailed (F.faults form.old) (F.faults form.new) (F.refused form.new) }
+    ensures memory { result ≡ Err NoMemory → F.written form.new ≡ F.written form.old }
+    ensures counted { F.faults form.old ≤ F.faults form.new }
     ensures content { D.content disk.new ≡ D.content disk.old }
     ensures faults { D.faults disk.old ≤ D.faults disk.new }
     ensures orders { D.orders disk.new ≡ D.orders disk.old }
@@ -61,7 +58,7 @@ pub(crate) fn show_image<D: Disk, S: Sink>(
         return Err(Fault::NoMemory);
     };
     match print_image(
-        sink,
+        form,
         disk,
         page,
         &mut once,
@@ -74,8 +71,8 @@ pub(crate) fn show_image<D: Disk, S: Sink>(
 }
 
 /// Prints the facts of the header block, and the image in two readings: of all its blocks, and of its number pages.
-fn print_image<D: Disk, S: Sink>(
-    sink: &mut S,
+fn print_image<D: Disk, F: Form>(
+    form: &mut F,
     disk: &mut D,
     page: &Page,
     once: &mut Reading,
@@ -89,18 +86,18 @@ fn print_image<D: Disk, S: Sink>(
     requires start_again { Reads again.old.walker.next again.old [] }
     ensures shown { OnOk result ((image : List OneFact) × (ShowsImage true once.old.walker.limits once.old.walker.next
         (D.content disk.old) (D.faults disk.old) (D.faults disk.new) format image
-        × TakesAll (text_of (header_facts (D.block_count disk.old) page.now ++ image)) (S.taken sink.old) (S.taken sink.new))) }
+        × Puts F.style (header_facts (D.block_count disk.old) page.now ++ image) (F.written form.old) (F.written form.new))) }
     ensures front { OnErr result ((image : List OneFact) × (ShowsImage false once.old.walker.limits once.old.walker.next
         (D.content disk.old) (D.faults disk.old) (D.faults disk.new) format image
-        × TakesFront (text_of (header_facts (D.block_count disk.old) page.now ++ image)) (S.taken sink.old) (S.taken sink.new))) }
-    ensures cause { OnErr result (HasRisen (S.faults sink.old) (S.faults sink.new)) }
-    ensures counted { S.faults sink.old ≤ S.faults sink.new }
+        × PutsFront F.style (header_facts (D.block_count disk.old) page.now ++ image) (F.written form.old) (F.written form.new))) }
+    ensures cause { OnErr result (HasFailed (F.faults form.old) (F.faults form.new) (F.refused form.new)) }
+    ensures counted { F.faults form.old ≤ F.faults form.new }
     ensures content { D.content disk.new ≡ D.content disk.old }
     ensures faults { D.faults disk.old ≤ D.faults disk.new }
     ensures orders { D.orders disk.new ≡ D.orders disk.old }
     ensures blocks { D.block_count disk.new ≡ D.block_count disk.old }
 {
-    print_header(sink, disk.blocks(), page)?;
-    print_blocks(sink, disk, once)?;
-    print_frames(sink, disk, again, format)
+    print_header(form, disk.blocks(), page)?;
+    print_blocks(form, disk, once)?;
+    print_frames(form, disk, again, format)
 }

@@ -1,16 +1,20 @@
-//! What is written in a swap area, printed one fact a line: its header block and, where it has an image, whose that is, and which blocks
-//! and page frames it takes.
+//! What is written in a swap area, told a fact after another, in lines or in another form: its header block and, where it has an image,
+//! whose that is, and which blocks and page frames it takes.
 #![tactic(auto)]
 
 mod area;
 mod blocks;
 mod fault;
+mod form;
 mod frames;
 mod image;
+mod lines;
 mod printing;
 mod shown;
 mod text;
 
 pub use area::show;
 pub use fault::Fault;
+pub use form::Form;
 pub use shown::Shown;
+pub use text::text_of;

@@ -10,12 +10,21 @@ use fact_lines::{put_hex_word, put_name, put_numbers, put_text};
 use image_facts::{Fact, Flag, Header};
 use sig_header::AreaFault;
 
+/// The text of a fact: its key, and after a space its value.
+pub fn text_of(fact: &Fact) -> Line
+    ensures text { result ≡ fact_text fact.now }
+    ensures len { length result ≤ 160 }
+{
+    let mut line = Line::new();
+    put_fact(&mut line, fact);
+    line
+}
+
 /// The line of a fact.
 pub(crate) fn line_of(fact: &Fact) -> Line
     ensures { result ≡ line_text fact.now }
 {
-    let mut line = Line::new();
-    put_fact(&mut line, fact);
+    let mut line = text_of(fact);
     line.put(b"\n");
     line
 }

@@ -14,8 +14,8 @@ use Rattle.clap.specs.declared.parser.matches.ValueSource.TheVariants.{CommandLi
 use Rattle.swsusp_words.specs.App.{offset_rule, swap_rule}
 use Rattle.swsusp_words.specs.Matched.{parsed}
 use Rattle.swsusp_words.proofs.Values.{IsNumber, IsValue}
-use Rattle.image_words.specs.App.{first_rule, frame_rule, other_rule}
-use Rattle.image_words.specs.Matched.{area_in, differ_in, page_in}
+use Rattle.image_words.specs.App.{first_rule, frame_rule, json_rule, other_rule}
+use Rattle.image_words.specs.Matched.{area_in, differ_in, formed_in, page_in}
 use Rattle.image_words.specs.Words.{page, differ}
 
 -- the arguments as they are built
@@ -33,11 +33,22 @@ built_swap = record swap_rule {
 abbrev built_frame : Rule
 built_frame = record frame_rule { action = Some Set; range = Some (record { start_inclusive = 1; end_inclusive = 1 }); index = Some 2 }
 
+abbrev built_json : Rule
+built_json = record json_rule {
+  range = Some (record { start_inclusive = 0; end_inclusive = 0 });
+  defaults = codes "false" ∷ [];
+  missing = codes "true" ∷ [];
+  parser = Some parser.Bool;
+}
+
 abbrev built_help : Rule
 built_help = record help_rule { range = Some (record { start_inclusive = 0; end_inclusive = 0 }); parser = Some parser.String }
 
 abbrev pub area_rules : List Rule
 area_rules = built_offset ∷ built_swap ∷ built_help ∷ []
+
+abbrev pub formed_rules : List Rule
+formed_rules = built_offset ∷ built_swap ∷ built_json ∷ built_help ∷ []
 
 abbrev built_first : Rule
 built_first = record first_rule {
@@ -77,6 +88,13 @@ held_with_frame number swap frame = record {
   skip = 0;
 }
 
+-- --json, and what is held with the path to come
+abbrev json_row : Row
+json_row = row_of (codes "json") (codes "true") AsWritten
+
+abbrev held_with_swap : List Row → Text → Held
+held_with_swap rows swap = record { rows = rows; pending = Some (codes "swap", swap ∷ []); skip = 0 }
+
 -- --first, and what is held with the other path to come
 abbrev first_row : Row
 first_row = row_of (codes "first") (codes "true") AsWritten
@@ -110,6 +128,73 @@ module _ (swap : Text) (s : IsValue swap) where
     pub asks_area_at : area_in (rows_after area_rules [] (codes "--offset" ∷ number ∷ swap ∷ [])) ≡ Some (record { swap = swap; offset = n })
     unfolding clap_on_literals
     asks_area_at = simp (s.dash, s.dashes, d.plain.dash, d.plain.dashes, d.reads)
+
+    pub passes_lines_at : (name : Text) → level_passes (shape_of_rules formed_rules name) [] nothing_held (codes "--offset" ∷ number ∷ swap ∷ []) false ≡ true
+    unfolding clap_on_literals
+    passes_lines_at name = simp (s.dash, s.dashes, d.plain.dash, d.plain.dashes, d.fits)
+
+    pub asks_lines_at : formed_in (rows_after formed_rules [] (codes "--offset" ∷ number ∷ swap ∷ [])) ≡ Some (false, record { swap = swap; offset = n })
+    unfolding clap_on_literals
+    asks_lines_at = simp (s.dash, s.dashes, d.plain.dash, d.plain.dashes, d.reads)
+
+    -- what is held after --json and the offset, in either order
+    held_json_before : (walk formed_rules [] nothing_held (codes "--json" ∷ codes "--offset" ∷ number ∷ swap ∷ [])).held
+        ≡ held_with_swap (json_row ∷ row_of (codes "offset") number WithoutMinus ∷ []) swap
+    unfolding clap_on_literals
+    held_json_before = simp (s.dash, s.dashes, d.plain.dash, d.plain.dashes)
+
+    walk_passes_json_before : (name : Text) → walk_passes (shape_of_rules formed_rules name) [] (walk_from nothing_held) (codes "--json" ∷ codes "--offset" ∷ number ∷ swap ∷ []) ≡ true
+    unfolding clap_on_literals
+    walk_passes_json_before name = simp (s.dash, s.dashes, d.plain.dash, d.plain.dashes, d.fits)
+
+    end_passes_json_before : (name : Text) → end_passes (shape_of_rules formed_rules name) (held_with_swap (json_row ∷ row_of (codes "offset") number WithoutMinus ∷ []) swap) ≡ true
+    unfolding clap_on_literals
+    end_passes_json_before name = refl
+
+    pub passes_json_before : (name : Text) → level_passes (shape_of_rules formed_rules name) [] nothing_held (codes "--json" ∷ codes "--offset" ∷ number ∷ swap ∷ []) false ≡ true
+    passes_json_before name =
+        ap₂ (λ a b. a && b) (walk_passes_json_before name) (ap (end_passes (shape_of_rules formed_rules name)) held_json_before ∙ end_passes_json_before name)
+
+    pub asks_json_before : formed_in (rows_after formed_rules [] (codes "--json" ∷ codes "--offset" ∷ number ∷ swap ∷ [])) ≡ Some (true, record { swap = swap; offset = n })
+    unfolding clap_on_literals
+    asks_json_before = ap (λ h. formed_in (finished formed_rules h)) held_json_before ∙ simp (d.plain.dash, d.reads)
+
+    held_json_after : (walk formed_rules [] nothing_held (codes "--offset" ∷ number ∷ codes "--json" ∷ swap ∷ [])).held
+        ≡ held_with_swap (row_of (codes "offset") number WithoutMinus ∷ json_row ∷ []) swap
+    unfolding clap_on_literals
+    held_json_after = simp (s.dash, s.dashes, d.plain.dash, d.plain.dashes)
+
+    walk_passes_json_after : (name : Text) → walk_passes (shape_of_rules formed_rules name) [] (walk_from nothing_held) (codes "--offset" ∷ number ∷ codes "--json" ∷ swap ∷ []) ≡ true
+    unfolding clap_on_literals
+    walk_passes_json_after name = simp (s.dash, s.dashes, d.plain.dash, d.plain.dashes, d.fits)
+
+    end_passes_json_after : (name : Text) → end_passes (shape_of_rules formed_rules name) (held_with_swap (row_of (codes "offset") number WithoutMinus ∷ json_row ∷ []) swap) ≡ true
+    unfolding clap_on_literals
+    end_passes_json_after name = refl
+
+    pub passes_json_after : (name : Text) → level_passes (shape_of_rules formed_rules name) [] nothing_held (codes "--offset" ∷ number ∷ codes "--json" ∷ swap ∷ []) false ≡ true
+    passes_json_after name =
+        ap₂ (λ a b. a && b) (walk_passes_json_after name) (ap (end_passes (shape_of_rules formed_rules name)) held_json_after ∙ end_passes_json_after name)
+
+    pub asks_json_after : formed_in (rows_after formed_rules [] (codes "--offset" ∷ number ∷ codes "--json" ∷ swap ∷ [])) ≡ Some (true, record { swap = swap; offset = n })
+    unfolding clap_on_literals
+    asks_json_after = ap (λ h. formed_in (finished formed_rules h)) held_json_after ∙ simp (d.plain.dash, d.reads)
+
+  pub passes_lines : (name : Text) → level_passes (shape_of_rules formed_rules name) [] nothing_held (swap ∷ []) false ≡ true
+  unfolding clap_on_literals
+  passes_lines name = simp (s.dash, s.dashes)
+
+  pub asks_lines : formed_in (rows_after formed_rules [] (swap ∷ [])) ≡ Some (false, record { swap = swap; offset = 0 })
+  unfolding clap_on_literals
+  asks_lines = simp (s.dash, s.dashes, zero_parsed)
+
+  pub passes_json : (name : Text) → level_passes (shape_of_rules formed_rules name) [] nothing_held (codes "--json" ∷ swap ∷ []) false ≡ true
+  unfolding clap_on_literals
+  passes_json name = simp (s.dash, s.dashes)
+
+  pub asks_json : formed_in (rows_after formed_rules [] (codes "--json" ∷ swap ∷ [])) ≡ Some (true, record { swap = swap; offset = 0 })
+  unfolding clap_on_literals
+  asks_json = simp (s.dash, s.dashes, zero_parsed)
 
   module _ (frame : Text) (p : ℕ) (f : IsNumber 64 (parser.Unsigned 0 18446744073709551615) frame p) where
     pub passes_page : (name : Text) → level_passes (shape_of_rules page_rules name) [] nothing_held (swap ∷ frame ∷ []) false ≡ true

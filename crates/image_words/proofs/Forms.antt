@@ -175,6 +175,19 @@ module _ (flag : List ℕ) (ask : Bool → SwapArea → Words → Option Asked) 
       go true t h = flag_before word words (same word flag t) h
       go false t h = offset_before word words t h
 
+-- a command that prints in one of two forms
+spells_formed : (of : Bool → SwapArea → Asked) (name : List ℕ) (words : Words) (asked : Asked)
+    → ((json : Bool) (area : SwapArea) (w : Words) → IsArea area → IsSpelledWith json area name (codes "--json") [] w → Spells (of json area) w)
+    → over_flagged (codes "--json") (λ json area. alone (of json area)) words ≡ Some asked → Spells asked (name ∷ words)
+spells_formed of name words asked spelling e =
+    let p = flagged (codes "--json") (λ json area. alone (of json area)) name asked words e in
+    go p.given p.area p.own p.valid p.spelled p.asks
+  where
+    go : (given : Bool) (area : SwapArea) (own : Words) → IsArea area → IsSpelledWith given area name (codes "--json") own (name ∷ words)
+        → alone (of given area) own ≡ Some asked → Spells asked (name ∷ words)
+    go given area [] valid spelled h = as_asked (of given area) asked _ (cc) (spelling given area _ valid spelled)
+    go given area (word ∷ own) valid spelled h = cc
+
 spells_differ : (words : Words) (asked : Asked) → over_flagged (codes "--first") differ_of words ≡ Some asked → Spells asked (codes "differ" ∷ words)
 spells_differ words asked e =
     let p = flagged (codes "--first") differ_of (codes "differ") asked words e in
@@ -214,10 +227,10 @@ either false x y asked e = inr e
 
 spells_command : (command : List ℕ) (words : Words) (asked : Asked) → command_by command words ≡ Some asked → Spells asked (command ∷ words)
 spells_command command words asked e =
-    elim (either (pointwise nat_eq command (codes "check")) (over_area (λ area. alone (check area)) words) _ asked e) [
-      | inl h ↦ named command _ words asked h.0 (spells_alone (λ area. check area) (codes "check") words asked (λ area w v s. (v, s)) h.1)
-      | inr e1 ↦ elim (either (pointwise nat_eq command (codes "show")) (over_area (λ area. alone (show area)) words) _ asked e1) [
-        | inl h ↦ named command _ words asked h.0 (spells_alone (λ area. show area) (codes "show") words asked (λ area w v s. (v, s)) h.1)
+    elim (either (pointwise nat_eq command (codes "check")) (over_flagged (codes "--json") (λ json area. alone (check json area)) words) _ asked e) [
+      | inl h ↦ named command _ words asked h.0 (spells_formed (λ json area. check json area) (codes "check") words asked (λ json area w v s. (v, s)) h.1)
+      | inr e1 ↦ elim (either (pointwise nat_eq command (codes "show")) (over_flagged (codes "--json") (λ json area. alone (show json area)) words) _ asked e1) [
+        | inl h ↦ named command _ words asked h.0 (spells_formed (λ json area. show json area) (codes "show") words asked (λ json area w v s. (v, s)) h.1)
         | inr e2 ↦ elim (either (pointwise nat_eq command (codes "stream")) (over_area (λ area. alone (stream area)) words) _ asked e2) [
           | inl h ↦ named command _ words asked h.0 (spells_alone (λ area. stream area) (codes "stream") words asked (λ area w v s. (v, s)) h.1)
           | inr e3 ↦ elim (either (pointwise nat_eq command (codes "page")) (over_area page_of words) _ asked e3) [
@@ -321,8 +334,10 @@ module _ (flag : List ℕ) (ask : Bool → SwapArea → Words → Option Asked) 
         ]
 
 pub asks : (program : List ℕ) (words : Words) (asked : Asked) → IsValid asked → IsSpelled asked words → command_of (program ∷ words) ≡ Some asked
-asks program words (check area) valid spelled = asks_over (λ a. alone (check a)) program (codes "check") area [] words _ (λ rest. refl) refl valid spelled
-asks program words (show area) valid spelled = asks_over (λ a. alone (show a)) program (codes "show") area [] words _ (λ rest. refl) refl valid spelled
+asks program words (check json area) valid spelled =
+    asks_with (codes "-json") (λ j a. alone (check j a)) area [] valid refl json program (codes "check") words _ refl (λ rest. refl) refl spelled
+asks program words (show json area) valid spelled =
+    asks_with (codes "-json") (λ j a. alone (show j a)) area [] valid refl json program (codes "show") words _ refl (λ rest. refl) refl spelled
 asks program words (stream area) valid spelled = asks_over (λ a. alone (stream a)) program (codes "stream") area [] words _ (λ rest. refl) refl valid spelled
 asks program words (page area frame) valid spelled =
     let plain = plain_decimal (2 ^ 64) frame (omega arith) valid.1 in

@@ -2,7 +2,7 @@
 use Rattle.std.proofs.Common.{◌≡◌, ◌∙◌, ℕ, Bool, refl, sym, ap, Option, Some, None, List, codes}
 use Rattle.clap.specs.Words.{Row, Text, first_of}
 use Rattle.swsusp_words.specs.Matched.{flag_at, number_at, swap_in}
-use Rattle.image_words.specs.Matched.{area_in, differ_in, page_in}
+use Rattle.image_words.specs.Matched.{area_in, differ_in, formed_in, page_in}
 use Rattle.image_words.specs.Words.{Asked, SwapArea, page, differ}
 
 module _ (rows : List Row) where
@@ -73,3 +73,28 @@ module _ (rows : List Row) where
       go known is same (Some flag) on =
           let made : differ_in rows ≡ Some (differ flag known other) = rw (is, at, on) refl in
           ap (λ (b : Bool). Some (differ b area other)) (flagged flag on) ∙ (ap (λ (a : SwapArea). Some (differ flag a other)) same ∙ (sym made ∙ e))
+
+  -- and so is that of a command in one of two forms
+  area_of_formed : (x : Bool × SwapArea) (answer : Option SwapArea) → ((area : SwapArea) → area_in rows ≡ Some area → answer ≡ Some area) → formed_in rows ≡ Some x
+      → (area : SwapArea) × (area_in rows ≡ Some area) × (answer ≡ Some area)
+  area_of_formed x answer told e = go (area_in rows) refl
+    where
+      go : (o : Option SwapArea) → area_in rows ≡ o → (area : SwapArea) × (area_in rows ≡ Some area) × (answer ≡ Some area)
+      go None is = let no : formed_in rows ≡ None = rw is refl in cc
+      go (Some area) is = (area, is, told area is)
+
+  pub no_formed : (x : Bool × SwapArea) → ((area : SwapArea) → area_in rows ≡ Some area → None ≡ Some area) → formed_in rows ≡ Some x → ⊥
+  no_formed x told e = let p = area_of_formed x None told e in let no : None ≡ Some p.0 = p.2 in cc
+
+  pub has_formed : (x : Bool × SwapArea) (area : SwapArea) (json : Bool) → ((known : SwapArea) → area_in rows ≡ Some known → Some area ≡ Some known)
+      → ((flag : Bool) → flag_at (codes "json") rows ≡ Some flag → json ≡ flag) → formed_in rows ≡ Some x → Some (json, area) ≡ Some x
+  has_formed x area json told flagged e =
+      let p = area_of_formed x (Some area) told e in
+      let same : area ≡ p.0 = cc in
+      go p.0 p.1 same (flag_at (codes "json") rows) refl
+    where
+      go : (known : SwapArea) → area_in rows ≡ Some known → area ≡ known → (o : Option Bool) → flag_at (codes "json") rows ≡ o → Some (json, area) ≡ Some x
+      go known is same None off = let none : formed_in rows ≡ None = rw (is, off) refl in cc
+      go known is same (Some flag) at =
+          let made : formed_in rows ≡ Some (flag, known) = rw (is, at) refl in
+          ap (λ (b : Bool). Some (b, area)) (flagged flag at) ∙ (ap (λ (a : SwapArea). Some (flag, a)) same ∙ (sym made ∙ e))

@@ -10,10 +10,10 @@ use Rattle.swsusp_words.specs.Words.{is_path}
 use Rattle.swsusp_words.proofs.Numbers.{as_signed, as_unsigned, plain_decimal}
 use Rattle.swsusp_words.proofs.Values.{IsNumber, path_value}
 use Rattle.image_words.specs.App.{image_app}
-use Rattle.image_words.specs.Matched.{area_in, asked_in, differ_in, matched_by}
+use Rattle.image_words.specs.Matched.{area_in, asked_in, differ_in, formed_in, matched_by}
 use Rattle.image_words.specs.Spelled.{IsArea, IsSpelled, IsSpelledOver, IsValid, IsSpelledWith}
 use Rattle.image_words.specs.Words.{Asked, SwapArea, check, show, stream, page, core, differ, discard, command_of}
-use Rattle.image_words.proofs.Areas.{area_rules, asks_area, asks_area_at, asks_page, asks_page_at, page_rules, passes_area, passes_area_at, passes_page, passes_page_at, shape_of_rules, differ_rules, asks_differ_plain, asks_differ_first, asks_differ_at, asks_differ_first_at, asks_differ_at_first, passes_differ_plain, passes_differ_first, passes_differ_at, passes_differ_first_at, passes_differ_at_first}
+use Rattle.image_words.proofs.Areas.{area_rules, asks_area, asks_area_at, asks_page, asks_page_at, page_rules, passes_area, passes_area_at, passes_page, passes_page_at, shape_of_rules, differ_rules, asks_differ_plain, asks_differ_first, asks_differ_at, asks_differ_first_at, asks_differ_at_first, asks_json, asks_json_after, asks_json_before, asks_lines, asks_lines_at, formed_rules, passes_json, passes_json_after, passes_json_before, passes_lines, passes_lines_at, passes_differ_plain, passes_differ_first, passes_differ_at, passes_differ_first_at, passes_differ_at_first}
 use Rattle.image_words.proofs.Enters.{Meets, entered_built, takes_built}
 use Rattle.image_words.proofs.Forms.{spells}
 
@@ -26,11 +26,11 @@ pub record Asks (words : List Text) (asked : Asked) : Type 0 where
 abbrev Has : Text → Shape → Type 0
 Has name sub = Meets (built image_app) name sub
 
-has_check : Has (codes "check") (shape_of_rules area_rules (codes "check"))
+has_check : Has (codes "check") (shape_of_rules formed_rules (codes "check"))
 unfolding clap_on_literals
 has_check = record { stops = refl; turn = refl; ends = refl; found = refl }
 
-has_show : Has (codes "show") (shape_of_rules area_rules (codes "show"))
+has_show : Has (codes "show") (shape_of_rules formed_rules (codes "show"))
 unfolding clap_on_literals
 has_show = record { stops = refl; turn = refl; ends = refl; found = refl }
 
@@ -98,6 +98,40 @@ taken_over program name of area words has reads valid spelled =
           (reads (rows_after area_rules [] (codes "--offset" ∷ decimal area.offset ∷ area.swap ∷ [])) ∙ ap (option_map of) (asks_area_at area.swap path (decimal area.offset) area.offset offset)))
     ]
 
+-- a command that prints in one of two forms
+module _ (program name : Text) (of : Bool × SwapArea → Asked) (area : SwapArea) (words : List Text) (has : Has name (shape_of_rules formed_rules name))
+    (reads : (rows : List Row) → matched_by name rows ≡ option_map of (formed_in rows)) (valid : IsArea area) where
+  abbrev shape : Shape
+  shape = shape_of_rules formed_rules name
+
+  known : (own : List Text) (formed : Bool × SwapArea) → level_passes shape [] nothing_held own false ≡ true
+      → formed_in (rows_after formed_rules [] own) ≡ Some formed → Asks (program ∷ name ∷ own) (of formed)
+  known own formed passes is = by_name program name shape own (of formed) has passes (reads (rows_after formed_rules [] own) ∙ ap (option_map of) is)
+
+  taken_in : (json : Bool) → IsSpelledWith json area name (codes "--json") [] words → Asks (program ∷ words) (of (json, area))
+  taken_in false spelled =
+      let path = path_value area.swap valid.1 in
+      let offset = offset_value area.offset valid.0 in
+      elim spelled [
+        | inl h ↦ of_same words _ _ program h.1 (of_zero (program ∷ name ∷ area.swap ∷ []) (λ a. of (false, a)) area h.0
+            (known (area.swap ∷ []) (false, area_at area.swap 0) (passes_lines area.swap path name) (asks_lines area.swap path)))
+        | inr h ↦ of_same words _ _ program h (known (codes "--offset" ∷ decimal area.offset ∷ area.swap ∷ []) (false, area)
+            (passes_lines_at area.swap path (decimal area.offset) area.offset offset name) (asks_lines_at area.swap path (decimal area.offset) area.offset offset))
+      ]
+  taken_in true spelled =
+      let path = path_value area.swap valid.1 in
+      let offset = offset_value area.offset valid.0 in
+      elim spelled [
+        | inl h ↦ of_same words _ _ program h.1 (of_zero (program ∷ name ∷ codes "--json" ∷ area.swap ∷ []) (λ a. of (true, a)) area h.0
+            (known (codes "--json" ∷ area.swap ∷ []) (true, area_at area.swap 0) (passes_json area.swap path name) (asks_json area.swap path)))
+        | inr more ↦ elim more [
+          | inl h ↦ of_same words _ _ program h (known (codes "--json" ∷ codes "--offset" ∷ decimal area.offset ∷ area.swap ∷ []) (true, area)
+              (passes_json_before area.swap path (decimal area.offset) area.offset offset name) (asks_json_before area.swap path (decimal area.offset) area.offset offset))
+          | inr h ↦ of_same words _ _ program h (known (codes "--offset" ∷ decimal area.offset ∷ codes "--json" ∷ area.swap ∷ []) (true, area)
+              (passes_json_after area.swap path (decimal area.offset) area.offset offset name) (asks_json_after area.swap path (decimal area.offset) area.offset offset))
+        ]
+      ]
+
 taken_page : (program : Text) (area : SwapArea) (frame : ℕ) (words : List Text) → IsArea area → frame < 2 ^ 64
     → IsSpelledOver area (codes "page") (decimal frame ∷ []) words → Asks (program ∷ words) (page area frame)
 taken_page program area frame words valid small spelled =
@@ -149,8 +183,8 @@ module _ (program : Text) (area : SwapArea) (other : Text) (words : List Text) (
       ]
 
 taken : (program : Text) (words : List Text) (asked : Asked) → IsValid asked → IsSpelled asked words → Asks (program ∷ words) asked
-taken program words (check area) valid spelled = taken_over program (codes "check") (λ a. check a) area words has_check (λ rows. refl) valid spelled
-taken program words (show area) valid spelled = taken_over program (codes "show") (λ a. show a) area words has_show (λ rows. refl) valid spelled
+taken program words (check json area) valid spelled = taken_in program (codes "check") (λ p. check p.0 p.1) area words has_check (λ rows. refl) valid json spelled
+taken program words (show json area) valid spelled = taken_in program (codes "show") (λ p. show p.0 p.1) area words has_show (λ rows. refl) valid json spelled
 taken program words (stream area) valid spelled = taken_over program (codes "stream") (λ a. stream a) area words has_stream (λ rows. refl) valid spelled
 taken program words (page area frame) valid spelled = taken_page program area frame words valid.0 valid.1 spelled
 taken program words (core area) valid spelled = taken_over program (codes "core") (λ a. core a) area words has_core (λ rows. refl) valid spelled

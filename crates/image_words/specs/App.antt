@@ -10,6 +10,14 @@ use Rattle.swsusp_words.specs.App.{offset_rule, swap_rule}
 abbrev pub area_app : List ℕ → App
 area_app name = with_rule (with_rule (new_app name) offset_rule) swap_rule
 
+-- [--json]
+abbrev pub json_rule : Rule
+json_rule = record (new_rule (codes "json")) { long = Some (codes "json"); action = Some SetTrue }
+
+-- a command with an area, and a form
+abbrev pub formed_app : List ℕ → App
+formed_app name = with_rule (area_app name) json_rule
+
 -- P
 abbrev pub frame_rule : Rule
 frame_rule = record (new_rule (codes "frame")) {
@@ -67,7 +75,7 @@ image_app =
     (with_subcommand
     (with_subcommand
     (with_subcommand
-    (with_subcommand (with_subcommand program_app (area_app (codes "check")).top) (area_app (codes "show")).top)
+    (with_subcommand (with_subcommand program_app (formed_app (codes "check")).top) (formed_app (codes "show")).top)
     (area_app (codes "stream")).top)
     page_app.top)
     (area_app (codes "core")).top)

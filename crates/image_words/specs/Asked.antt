@@ -1,15 +1,26 @@
 -- A command as it is asked for.
+use Rattle.std.specs.Prelude.{Bool, true, false}
 use Rattle.image_words.specs.Words.{Asked, SwapArea, check, show, stream, page, core, differ, discard}
 use Rattle.image_words.specs.declared.command.Area.{Area}
 use Rattle.image_words.specs.declared.command.Command.{Command}
+use Rattle.image_words.specs.declared.command.Form.{Form}
+use Rattle.image_words.specs.declared.command.Form.TheVariants.{Lines, Json}
 use Rattle.image_words.specs.declared.command.Command.TheVariants.{Check, Show, Stream, Page, Core, Differ, Discard}
 
 abbrev pub area_by : Area → SwapArea
 area_by area = record { swap = area.swap.now; offset = area.offset }
 
+abbrev pub is_json : Form → Bool
+is_json Lines = false
+is_json Json = true
+
+-- with the form in which something of it is printed
+abbrev pub formed_by : Area × Form → Bool × SwapArea
+formed_by formed = (is_json formed.1, area_by formed.0)
+
 abbrev pub asked_by : Command → Asked
-asked_by (Check area) = check (area_by area)
-asked_by (Show area) = show (area_by area)
+asked_by (Check area form) = check (is_json form) (area_by area)
+asked_by (Show area form) = show (is_json form) (area_by area)
 asked_by (Stream area) = stream (area_by area)
 asked_by (Page area frame) = page (area_by area) frame
 asked_by (Core area) = core (area_by area)

@@ -1,5 +1,5 @@
 -- What a command's matches ask for.
-use Rattle.std.specs.Prelude.{◌≡◌, List, Option, Some, None, option_map, option_and_then, codes}
+use Rattle.std.specs.Prelude.{◌≡◌, Bool, List, Option, Some, None, option_map, option_and_then, codes}
 use Rattle.std.specs.Prelude.{if◌then◌else◌}
 use Rattle.std.specs.Str.{bytes_eq}
 use Rattle.clap.specs.Words.{Row, Text, first_of}
@@ -11,6 +11,11 @@ area_in rows =
     option_and_then
     (λ swap. option_map (λ offset. record { swap = swap; offset = offset }) (number_at 32 (codes "offset") rows))
     (swap_in rows)
+
+-- with whether --json stands there
+abbrev pub formed_in : List Row → Option (Bool × SwapArea)
+formed_in rows =
+    option_and_then (λ area. option_map (λ json. (json, area)) (flag_at (codes "json") rows)) (area_in rows)
 
 abbrev pub page_in : List Row → Option Asked
 page_in rows =
@@ -24,8 +29,8 @@ differ_in rows =
 -- what the matches of the subcommand with this name ask for
 abbrev pub matched_by : Text → List Row → Option Asked
 matched_by name rows =
-    if bytes_eq name (codes "check") then option_map (λ area. check area) (area_in rows)
-    else if bytes_eq name (codes "show") then option_map (λ area. show area) (area_in rows)
+    if bytes_eq name (codes "check") then option_map (λ formed. check formed.0 formed.1) (formed_in rows)
+    else if bytes_eq name (codes "show") then option_map (λ formed. show formed.0 formed.1) (formed_in rows)
     else if bytes_eq name (codes "stream") then option_map (λ area. stream area) (area_in rows)
     else if bytes_eq name (codes "page") then page_in rows
     else if bytes_eq name (codes "core") then option_map (λ area. core area) (area_in rows)

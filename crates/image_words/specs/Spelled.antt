@@ -9,8 +9,8 @@ IsArea area = (area.offset < 2 ^ 32) × (is_path area.swap ≡ true)
 
 -- the values that a command can have
 abbrev pub IsValid : Asked → Type 0
-IsValid (check area) = IsArea area
-IsValid (show area) = IsArea area
+IsValid (check json area) = IsArea area
+IsValid (show json area) = IsArea area
 IsValid (stream area) = IsArea area
 IsValid (page area frame) = IsArea area × (frame < 2 ^ 64)
 IsValid (core area) = IsArea area
@@ -37,8 +37,8 @@ IsSpelledWith true area name flag own words = IsSpelledFlagged area name flag ow
 
 -- the words after the program's name are this command's
 abbrev pub IsSpelled : Asked → List (List ℕ) → Type 0
-IsSpelled (check area) words = IsSpelledOver area (codes "check") [] words
-IsSpelled (show area) words = IsSpelledOver area (codes "show") [] words
+IsSpelled (check json area) words = IsSpelledWith json area (codes "check") (codes "--json") [] words
+IsSpelled (show json area) words = IsSpelledWith json area (codes "show") (codes "--json") [] words
 IsSpelled (stream area) words = IsSpelledOver area (codes "stream") [] words
 IsSpelled (page area frame) words = IsSpelledOver area (codes "page") (decimal frame ∷ []) words
 IsSpelled (core area) words = IsSpelledOver area (codes "core") [] words

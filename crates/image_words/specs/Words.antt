@@ -11,8 +11,8 @@ pub record SwapArea : Type 0 where
 
 -- what a list of words asks for, with its values
 pub data Asked : Type 0 where
-  check : (area : SwapArea) → Asked
-  show : (area : SwapArea) → Asked
+  check : (json : Bool) (area : SwapArea) → Asked
+  show : (json : Bool) (area : SwapArea) → Asked
   stream : (area : SwapArea) → Asked
   page : (area : SwapArea) (frame : ℕ) → Asked
   core : (area : SwapArea) → Asked
@@ -74,8 +74,10 @@ page_of area (number ∷ more ∷ words) = None
 -- what a command asks for with its own words
 abbrev pub command_by : List ℕ → List (List ℕ) → Option Asked
 command_by command words =
-    if pointwise nat_eq command (codes "check") then over_area (λ area. alone (check area)) words
-    else if pointwise nat_eq command (codes "show") then over_area (λ area. alone (show area)) words
+    if pointwise nat_eq command (codes "check")
+    then over_flagged (codes "--json") (λ json area. alone (check json area)) words
+    else if pointwise nat_eq command (codes "show")
+    then over_flagged (codes "--json") (λ json area. alone (show json area)) words
     else if pointwise nat_eq command (codes "stream") then over_area (λ area. alone (stream area)) words
     else if pointwise nat_eq command (codes "page") then over_area page_of words
     else if pointwise nat_eq command (codes "core") then over_area (λ area. alone (core area)) words

@@ -12,13 +12,28 @@ pub struct Area<'a> {
     pub offset: u32,
 }
 
+/// In which form something is printed.
+#[derive(Clone, Copy, Debug, PartialEq, Eq)]
+pub enum Form {
+    /// In lines.
+    Lines,
+    /// As one JSON object.
+    Json,
+}
+
 /// What the program is asked to do with the image of a swap area.
 #[derive(Clone, Copy, Debug, PartialEq, Eq)]
 pub enum Command<'a> {
     /// Tells what is wrong with it.
-    Check(Area<'a>),
+    Check {
+        area: Area<'a>,
+        form: Form,
+    },
     /// Prints what is written in the area.
-    Show(Area<'a>),
+    Show {
+        area: Area<'a>,
+        form: Form,
+    },
     /// Writes it as a stream of bytes.
     Stream(Area<'a>),
     /// Writes the saved page of a page frame.

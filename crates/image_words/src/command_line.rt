@@ -1,7 +1,7 @@
 ghost use Rattle.std.specs.Prelude.{IfOk};
 ghost use Rattle.clap.specs.Words.{new_app};
 ghost use Rattle.swsusp_words.specs.App.{IsApp};
-ghost use Rattle.image_words.specs.App.{area_app, differ_app, image_app, loader_app, page_app};
+ghost use Rattle.image_words.specs.App.{area_app, differ_app, formed_app, image_app, loader_app, page_app};
 
 use crate::details;
 use clap::{Arg, ArgAction, Command, value_parser};
@@ -19,13 +19,13 @@ pub(crate) fn command_line<'a>(alloc: Global) -> Result<Command<'a>, AllocError>
     )
     .version("0.2.0")
     .subcommand_required(true)
-    .subcommand(over_area(
+    .subcommand(in_form(
         alloc,
         "check",
         "Tells what is wrong with the image of a swap area",
         details::CHECK,
     )?)?
-    .subcommand(over_area(
+    .subcommand(in_form(
         alloc,
         "show",
         "Prints what is written in a swap area, a fact a line",
@@ -81,6 +81,22 @@ fn over_area<'a>(
         .required(true)
         .help("A swap file or a block device");
     named(alloc, name, about, details).arg(offset)?.arg(swap)
+}
+
+/// Such a command, which prints in lines or as JSON.
+fn in_form<'a>(
+    alloc: Global,
+    name: &'a str,
+    about: &'a str,
+    details: &'a str,
+) -> Result<Command<'a>, AllocError>
+    ensures { IfOk result (IsApp (formed_app name.entry.now)) }
+{
+    let json = Arg::new(alloc, "json")
+        .long("json")
+        .action(ArgAction::SetTrue)
+        .help("Print one JSON object in place of lines");
+    over_area(alloc, name, about, details)?.arg(json)
 }
 
 fn page<'a>(alloc: Global) -> Result<Command<'a>, AllocError>

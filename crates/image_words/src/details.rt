@@ -10,13 +10,15 @@ pub(crate) const CHECK: &str =
     "It only reads SWAP, each block of the image once, and prints a line for each finding with its place, as
 `map 2 block 513 entry 17: block 0`, and at the end `whole` or, with status 1, `N findings`. Where SWAP has no
 image it prints `no image`, with status 1. The header of a swap file that lies in a device is in the block where
-the file begins; its image names blocks of the device.
+the file begins; its image names blocks of the device. With --json it prints one object in a line, with the members
+`image`, `findings` and `whole`.
 
 Example: swsusp_image check --offset 2048 /dev/sda2";
 
 pub(crate) const SHOW: &str =
     "It only reads SWAP, and prints what the header block of the area says, whether it has an image, and what the
-image says of itself and of its machine, a fact a line: its name and its value.
+image says of itself and of its machine, a fact a line: its name and its value. With --json these are the members
+of one object in a line; numbers above 2^53 are text there.
 
 Example: swsusp_image show /dev/sda2";
 

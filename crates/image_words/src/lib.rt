@@ -8,5 +8,5 @@ mod matched;
 mod spelled;
 mod unparsed;
 
-pub use command::{Area, Command};
+pub use command::{Area, Command, Form};
 pub use unparsed::Unparsed;

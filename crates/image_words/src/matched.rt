@@ -1,9 +1,9 @@
 ghost use Rattle.std.specs.Prelude.{◌≡◌};
 ghost use Rattle.clap.specs.Words.{found_of, rows_of, subcommand_rows_of};
-ghost use Rattle.image_words.specs.Asked.{area_by, asked_by};
-ghost use Rattle.image_words.specs.Matched.{Answers, area_in, asked_in, differ_in, matched_by, page_in};
+ghost use Rattle.image_words.specs.Asked.{area_by, asked_by, formed_by, is_json};
+ghost use Rattle.image_words.specs.Matched.{Answers, area_in, asked_in, differ_in, formed_in, matched_by, page_in};
 
-use crate::command::{Area, Command};
+use crate::command::{Area, Command, Form};
 use clap::ArgMatches;
 
 /// The command that matches ask for.
@@ -12,8 +12,14 @@ pub(crate) fn matched<'a>(matches: &ArgMatches<'a>) -> Option<Command<'a>>
 {
     let (name, values) = matches.subcommand()?;
     match name {
-        "check" => Some(Command::Check(area_of(values)?)),
-        "show" => Some(Command::Show(area_of(values)?)),
+        "check" => {
+            let (area, form) = formed(values)?;
+            Some(Command::Check { area, form })
+        }
+        "show" => {
+            let (area, form) = formed(values)?;
+            Some(Command::Show { area, form })
+        }
         "stream" => Some(Command::Stream(area_of(values)?)),
         "page" => page(values),
         "core" => Some(Command::Core(area_of(values)?)),
@@ -21,6 +27,21 @@ pub(crate) fn matched<'a>(matches: &ArgMatches<'a>) -> Option<Command<'a>>
         "discard" => Some(Command::Discard(area_of(values)?)),
         _ => None,
     }
+}
+
+/// An area, and in which form something of it is printed.
+fn formed<'a>(values: &ArgMatches<'a>) -> Option<(Area<'a>, Form)>
+    ensures { Answers formed_by (formed_in (rows_of (found_of values.now))) result }
+{
+    let area = area_of(values)?;
+    let form = form_of(values.get_flag("json"));
+    Some((area, form))
+}
+
+fn form_of(json: bool) -> Form
+    ensures { is_json result ≡ json }
+{
+    if json { Form::Json } else { Form::Lines }
 }
 
 fn page<'a>(values: &ArgMatches<'a>) -> Option<Command<'a>>

@@ -1,11 +1,11 @@
-ghost use Rattle.std.specs.Prelude.{◌≡◌, ◌↔◌, ◌++◌, IfSome, IsSome, IsTrue, Some, map, string_bytes};
+ghost use Rattle.std.specs.Prelude.{◌≡◌, ◌↔◌, ◌++◌, [], codes, IfSome, IsSome, IsTrue, Some, map, string_bytes};
 ghost use Rattle.clap.specs.Words.{subcommand_rows_of};
 ghost use Rattle.image_words.specs.Matched.{asked_in};
-ghost use Rattle.image_words.specs.Asked.{area_by, asked_by};
-ghost use Rattle.image_words.specs.Spelled.{IsArea, IsSpelledFlagged, IsSpelledOver, Spells};
+ghost use Rattle.image_words.specs.Asked.{area_by, asked_by, is_json};
+ghost use Rattle.image_words.specs.Spelled.{IsArea, IsSpelledFlagged, IsSpelledOver, IsSpelledWith, Spells};
 ghost use Rattle.image_words.specs.Words.{Asked, command_of, differ};
 
-use crate::command::{Area, Command};
+use crate::command::{Area, Command, Form};
 use crate::matched::matched;
 use clap::ArgMatches;
 use itoa::Buffer;
@@ -39,8 +39,8 @@ fn spells(command: &Command<'_>, words: &[String]) -> bool
     ensures { IsTrue result ↔ Spells (asked_by command.now) (map string_bytes words.now) }
 {
     match *command {
-        Command::Check(area) => spells_over(area, words, "check", &[]),
-        Command::Show(area) => spells_over(area, words, "show", &[]),
+        Command::Check { area, form } => spells_in(form, area, words, "check"),
+        Command::Show { area, form } => spells_in(form, area, words, "show"),
         Command::Stream(area) => spells_over(area, words, "stream", &[]),
         Command::Page { area, frame } => {
             let mut buffer = Buffer::new();
@@ -53,6 +53,17 @@ fn spells(command: &Command<'_>, words: &[String]) -> bool
             first_only,
         } => spells_differ(first_only, area, words, other),
         Command::Discard(area) => spells_over(area, words, "discard", &[]),
+    }
+}
+
+/// Whether words are a command's name, and the plain words of an area and of a form.
+fn spells_in(form: Form, area: Area<'_>, words: &[String], name: &str) -> bool
+    ensures { IsTrue result ↔ IsArea (area_by area.entry) ×
+        IsSpelledWith (is_json form) (area_by area.entry) name.now (codes "--json") [] (map string_bytes words.now) }
+{
+    match form {
+        Form::Lines => spells_over(area, words, name, &[]),
+        Form::Json => spells_flagged(area, words, name, "--json", &[]),
     }
 }
 

@@ -5,11 +5,13 @@ use byte_streams::StdSink;
 use command_kit::{Status, print, tell};
 use file_disk::FileDisk;
 use image_check::Printer;
-use image_cli::{Wanted, check, core, differ, discard, page, show, stream};
+use image_cli::{
+    Wanted, check, check_json, core, differ, discard, page, show, show_json, stream,
+};
 use image_differ::Side;
 use image_machine::Layout;
 use image_machine_cli::loader;
-use image_words::{Area, Command, Unparsed};
+use image_words::{Area, Command, Form, Unparsed};
 use loader_words::Asked;
 use progress_disk::{Meter, ProgressDisk};
 use standard_streams::{Held, hold, is_output, sync_output};
@@ -41,8 +43,8 @@ fn main(rt: HostRuntime) -> ExitCode {
     match Command::parse(rt.alloc(), words) {
         Ok(Command::Stream(_) | Command::Page { .. } | Command::Core(_))
             if rt.stdout().is_terminal() => { sink_fault(&rt) }
-        Ok(Command::Check(area)) => check_image(&rt, area, quiet),
-        Ok(Command::Show(area)) => show_image(&rt, area, quiet),
+        Ok(Command::Check { area, form }) => check_image(&rt, area, form, quiet),
+        Ok(Command::Show { area, form }) => show_image(&rt, area, form, quiet),
         Ok(Command::Stream(area)) => stream_image(&rt, area, quiet),
         Ok(Command::Page { area, frame }) => write_page(&rt, area, frame, quiet),
         Ok(Command::Core(area)) => core_image(&rt, area, quiet),
@@ -70,27 +72,36 @@ fn after_quiet(words: &[String]) -> (&[String], bool) {
 
 /// Checks the image of an area.
 #[inline(never)]
-fn check_image(rt: &HostRuntime, area: Area<'_>, quiet: bool) -> ExitCode {
-    let (_held, mut disk) = match open_to_read(rt, area.swap, quiet) {
-        Ok(opened) => opened,
-        Err(error) => return not_opened(rt, area.swap, &error),
-    };
-    let mut out = Printer::new(StdSink::new(rt.stdout()));
-    let mut note = StdSink::new(rt.stderr());
-    let status = check(rt.alloc(), &mut disk, area.offset, &mut out, &mut note);
-    finished(rt, status)
-}
-
-/// Prints what is written in an area.
-#[inline(never)]
-fn show_image(rt: &HostRuntime, area: Area<'_>, quiet: bool) -> ExitCode {
+fn check_image(rt: &HostRuntime, area: Area<'_>, form: Form, quiet: bool) -> ExitCode {
     let (_held, mut disk) = match open_to_read(rt, area.swap, quiet) {
         Ok(opened) => opened,
         Err(error) => return not_opened(rt, area.swap, &error),
     };
     let mut out = StdSink::new(rt.stdout());
     let mut note = StdSink::new(rt.stderr());
-    let status = show(rt.alloc(), &mut disk, area.offset, &mut out, &mut note);
+    let status = match form {
+        Form::Lines => {
+            let mut out = Printer::new(out);
+            check(rt.alloc(), &mut disk, area.offset, &mut out, &mut note)
+        }
+        Form::Json => check_json(rt.alloc(), &mut disk, area.offset, &mut out, &mut note),
+    };
+    finished(rt, status)
+}
+
+/// Prints what is written in an area.
+#[inline(never)]
+fn show_image(rt: &HostRuntime, area: Area<'_>, form: Form, quiet: bool) -> ExitCode {
+    let (_held, mut disk) = match open_to_read(rt, area.swap, quiet) {
+        Ok(opened) => opened,
+        Err(error) => return not_opened(rt, area.swap, &error),
+    };
+    let mut out = StdSink::new(rt.stdout());
+    let mut note = StdSink::new(rt.stderr());
+    let status = match form {
+        Form::Lines => show(rt.alloc(), &mut disk, area.offset, &mut out, &mut note),
+        Form::Json => show_json(rt.alloc(), &mut disk, area.offset, &mut out, &mut note),
+    };
     finished(rt, status)
 }
 

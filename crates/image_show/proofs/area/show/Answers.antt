@@ -1,12 +1,11 @@
-use Rattle.std.proofs.Common.{◌≡◌, ℕ, [], ◌∷◌, Bool, true, false, Option, Result, Ok, Err, OnOk, OnErr, refl, sym, ap, ◌∙◌, subst, inl, inr, arith}
+use Rattle.std.proofs.Common.{◌≡◌, [], ◌∷◌, Bool, true, false, Option, Result, Ok, Err, OnOk, OnErr, refl, sym, ap, ◌∙◌, subst, inl, inr, arith}
 use Rattle.std.specs.Result.{is_err}
 use Rattle.std.proofs.lemmas.Result.{err_from_is_err_and}
-use Rattle.definitions.specs.Streams.{TakesAll, TakesFront}
 use Rattle.definitions.specs.Disk.{Content}
 use Rattle.image_walk.specs.Names.{IsReadFrom}
 use Rattle.image_facts.specs.declared.fact.Fact.TheVariants as fact
 use Rattle.image_show.specs.Shown.{ShowsHeader}
-use Rattle.image_show.specs.Texts.{text_of}
+use Rattle.image_show.specs.Forms.{Puts, PutsFront}
 use Rattle.image_show.specs.declared.fault.Fault.{Fault}
 use Rattle.image_show.specs.declared.fault.Fault.TheVariants.{Write}
 use Rattle.image_show.specs.declared.shown.Shown.{Shown}
@@ -38,7 +37,7 @@ returns-then-header-blocks-clause-shown g c =
       fact.Blocks blocks ∷ fact.HeaderMissing ∷ [],
       (
         inl (omega (arith, c.if-header-blocks.true, c.blocks-blocks.ensures), refl),
-        subst (λ n. TakesAll (text_of (fact.Blocks n ∷ fact.HeaderMissing ∷ [])) (g.S.Sink.taken c.args.sink.now) (g.S.Sink.taken c.print_only.new.sink)) c.blocks-blocks.ensures c.in_ok-print_only.ensures.whole,
+        subst (λ n. Puts g.F.Form.style (fact.Blocks n ∷ fact.HeaderMissing ∷ []) (g.F.Form.written c.args.form.now) (g.F.Form.written c.print_only.new.form)) c.blocks-blocks.ensures c.in_ok-print_only.ensures.whole,
       ),
     )
 
@@ -48,7 +47,7 @@ returns-in_err-print_only-clause-front g c = λ e.
       fact.Blocks blocks ∷ fact.HeaderMissing ∷ [],
       (
         inl (inl (omega (arith, c.if-header-blocks.true, c.blocks-blocks.ensures), refl)),
-        subst (λ n. TakesFront (text_of (fact.Blocks n ∷ fact.HeaderMissing ∷ [])) (g.S.Sink.taken c.args.sink.now) (g.S.Sink.taken c.print_only.new.sink)) c.blocks-blocks.ensures c.print_only.ensures.front,
+        subst (λ n. PutsFront g.F.Form.style (fact.Blocks n ∷ fact.HeaderMissing ∷ []) (g.F.Form.written c.args.form.now) (g.F.Form.written c.print_only.new.form)) c.blocks-blocks.ensures c.print_only.ensures.front,
       ),
     )
 
@@ -58,7 +57,7 @@ returns-then-is_err-clause-shown g c =
       fact.Blocks blocks ∷ fact.HeaderUnread ∷ [],
       (
         inr (on_err c.read.result c.is_err.result c.if-is_err.true c.is_err.ensures.value c.read.ensures.cause, refl),
-        subst (λ n. TakesAll (text_of (fact.Blocks n ∷ fact.HeaderUnread ∷ [])) (g.S.Sink.taken c.args.sink.now) (g.S.Sink.taken c.print_only-then-is_err.new.sink)) c.blocks-blocks.ensures c.in_ok-print_only-2.ensures.whole,
+        subst (λ n. Puts g.F.Form.style (fact.Blocks n ∷ fact.HeaderUnread ∷ []) (g.F.Form.written c.args.form.now) (g.F.Form.written c.print_only-then-is_err.new.form)) c.blocks-blocks.ensures c.in_ok-print_only-2.ensures.whole,
       ),
     )
 
@@ -68,7 +67,7 @@ returns-in_err-print_only-2-clause-front g c = λ e.
       fact.Blocks blocks ∷ fact.HeaderUnread ∷ [],
       (
         inl (inr (on_err c.read.result c.is_err.result c.if-is_err.true c.is_err.ensures.value c.read.ensures.cause, refl)),
-        subst (λ n. TakesFront (text_of (fact.Blocks n ∷ fact.HeaderUnread ∷ [])) (g.S.Sink.taken c.args.sink.now) (g.S.Sink.taken c.print_only-then-is_err.new.sink)) c.blocks-blocks.ensures c.print_only-then-is_err.ensures.front,
+        subst (λ n. PutsFront g.F.Form.style (fact.Blocks n ∷ fact.HeaderUnread ∷ []) (g.F.Form.written c.args.form.now) (g.F.Form.written c.print_only-then-is_err.new.form)) c.blocks-blocks.ensures c.print_only-then-is_err.ensures.front,
       ),
     )
 

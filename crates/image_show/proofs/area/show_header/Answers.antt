@@ -1,5 +1,4 @@
 use Rattle.std.proofs.Common.{◌≡◌, List, [], ◌++◌, true, false, Option, Some, None, refl, sym, ap, ◌∙◌, subst, append-nil}
-use Rattle.definitions.specs.Streams.{TakesAll, TakesFront}
 use Rattle.sig_header.specs.AreaKind.{area_kind}
 use Rattle.sig_header.specs.declared.area.AreaKind.{AreaKind}
 use Rattle.sig_header.specs.declared.area.Mark.{Mark}
@@ -7,8 +6,8 @@ use Rattle.image_check.specs.Checked.{mark_in}
 use Rattle.image_facts.specs.HeaderFacts.{header_facts}
 use Rattle.image_facts.specs.declared.fact.Fact.{Fact}
 use Rattle.image_show.specs.Shown.{readable_mark, ShowsMark}
-use Rattle.image_show.specs.Texts.{text_of}
-use Rattle.image_show.proofs.Lines.{on_ok_then}
+use Rattle.image_show.specs.Forms.{Puts, PutsFront}
+use Rattle.image_show.proofs.Putting.{on_ok_then}
 use Rattle.image_show.proofs.area.show_header.Goals as goal
 
 pub returns-in-Some-clause-shown : goal.returns-in-Some-clause-shown
@@ -81,7 +80,7 @@ returns-in-None-clause-shown g c = λ read.
           shows_image = subst (λ (m : Option Mark). ShowsMark true content blocks c.args.header before before page nothing m) (sym marked) refl;
           says = refl;
         },
-        subst (λ (fs : List Fact). TakesAll (text_of fs) (g.S.Sink.taken c.args.sink.now) (g.S.Sink.taken c.print_header_only.new.sink)) says takes,
+        subst (λ (fs : List Fact). Puts g.F.Form.style fs (g.F.Form.written c.args.form.now) (g.F.Form.written c.print_header_only.new.form)) says takes,
       ),
     ))
     c.print_header_only.ensures.whole
@@ -106,6 +105,6 @@ returns-in-None-clause-front g c = λ read e.
           shows_image = subst (λ (m : Option Mark). ShowsMark false content blocks c.args.header before before page nothing m) (sym marked) refl;
           says = refl;
         },
-        subst (λ (fs : List Fact). TakesFront (text_of fs) (g.S.Sink.taken c.args.sink.now) (g.S.Sink.taken c.print_header_only.new.sink)) says c.print_header_only.ensures.front,
+        subst (λ (fs : List Fact). PutsFront g.F.Form.style fs (g.F.Form.written c.args.form.now) (g.F.Form.written c.print_header_only.new.form)) says c.print_header_only.ensures.front,
       ),
     )

@@ -1,19 +1,18 @@
 use Rattle.std.proofs.Common.{◌≡◌, ℕ, List, map, false, Option, Some, refl, subst, sym, ap, ◌∙◌, arith}
 use Rattle.definitions.specs.Disk.{Content}
-use Rattle.definitions.specs.Streams.{TakesAll, TakesFront}
 use Rattle.image_walk.specs.declared.limits.Limits.{Limits}
 use Rattle.image_facts.specs.Reads.{ReadsOn}
 use Rattle.image_facts.specs.Runs.{list_of}
 use Rattle.image_facts.specs.Told.{frame_run, IsEnd}
 use Rattle.image_facts.specs.declared.fact.Fact.{Fact}
-use Rattle.image_show.specs.Texts.{text_of}
+use Rattle.image_show.specs.Forms.{Puts, PutsFront}
 use Rattle.image_show.proofs.FrameSteps.{frames_cut, frames_end_cut, frames_start, frames_step, frames_whole}
-use Rattle.image_show.proofs.Lines.{on_any_err, on_ok_then}
+use Rattle.image_show.proofs.Putting.{on_any_err, on_ok_then}
 use Rattle.image_show.proofs.frames.print_frames.Goals as goal
 
 pub loop-part-init : goal.loop-part-init
 loop-part-init g c = record {
-  so_far = frames_start c.args.reading.now.walker.next (g.D.Disk.content c.args.disk.now) (g.D.Disk.faults c.args.disk.now) c.args.format (g.S.Sink.taken c.args.sink.now) c.args.reading.now c.new-runs.result.last
+  so_far = frames_start g.F.Form.style c.args.reading.now.walker.next (g.D.Disk.content c.args.disk.now) (g.D.Disk.faults c.args.disk.now) c.args.format (g.F.Form.written c.args.form.now) c.args.reading.now c.new-runs.result.last
       c.requires.start c.new-runs.ensures.start c.new-runs.ensures.count;
   blocks = c.requires.blocks;
   content = refl;
@@ -37,7 +36,7 @@ loop-part-preserved g c =
     let on : ReadsOn first content then now b.names r s part page =
     subst (λ (x : Option Content). ReadsOn first x then now b.names r s part page) i.content (c.in-Some.ensures.next first b.names b.reads) in
     record {
-      so_far = frames_step c.args.reading.now.walker.limits first content (g.D.Disk.faults c.args.disk.now) then now c.args.format (g.S.Sink.taken c.args.sink.now) (g.S.Sink.taken c.loop-part.sink) (g.S.Sink.taken c.print_numbers.new.sink)
+      so_far = frames_step g.F.Form.style c.args.reading.now.walker.limits first content (g.D.Disk.faults c.args.disk.now) then now c.args.format (g.F.Form.written c.args.form.now) (g.F.Form.written c.loop-part.form) (g.F.Form.written c.print_numbers.new.form)
           r s c.loop-part.runs.last c.print_numbers.new.runs.last c.loop-part.left part page
           b c.left_after-left.result c.numbers_in_part-count.result c.next_part.ensures.faults c.next_part.ensures.limits on
           c.numbers_in_part-count.ensures.count c.numbers_in_part-count.ensures.enough c.numbers_in_part-count.ensures.few
@@ -70,7 +69,7 @@ returns-in_err-print_numbers-clause-front g c =
     subst (λ (x : Option Content). ReadsOn first x then now b.names r s part page) i.content (c.in-Some.ensures.next first b.names b.reads) in
     on_any_err c.from_residual.result (
       false,
-      frames_cut c.args.reading.now.walker.limits first content (g.D.Disk.faults c.args.disk.now) then now c.args.format (g.S.Sink.taken c.args.sink.now) (g.S.Sink.taken c.loop-part.sink) (g.S.Sink.taken c.print_numbers.new.sink)
+      frames_cut g.F.Form.style c.args.reading.now.walker.limits first content (g.D.Disk.faults c.args.disk.now) then now c.args.format (g.F.Form.written c.args.form.now) (g.F.Form.written c.loop-part.form) (g.F.Form.written c.print_numbers.new.form)
           r s c.loop-part.runs.last c.print_numbers.new.runs.last c.loop-part.left part page
           b c.numbers_in_part-count.result c.next_part.ensures.limits on c.numbers_in_part-count.ensures.count c.print_numbers.ensures.front,
     )
@@ -87,9 +86,9 @@ returns-clause-whole g c =
     let end : (c.loop-part.left ≡ Some 0 → ⊥) → IsEnd limits first content then now b.names =
     λ more. subst (λ (x : Option Content). IsEnd limits first x then now b.names) i.content (c.in_default.ensures.end more first b.names b.reads) in
     on_ok_then c.print_any.result
-    (λ takes. frames_whole c.args.reading.now.walker.limits first content (g.D.Disk.faults c.args.disk.now) then now c.args.format (g.S.Sink.taken c.args.sink.now) (g.S.Sink.taken c.loop-part.sink) c.loop-part.reading
-    c.loop-part.runs.last c.loop-part.left (g.S.Sink.taken c.print_any.new.sink) b end
-    (subst (λ (fs : List Fact). TakesAll (text_of fs) (g.S.Sink.taken c.loop-part.sink) (g.S.Sink.taken c.print_any.new.sink)) (c.frame_run.ensures ∙ ap (λ (o : Option (ℕ × ℕ)). map frame_run (list_of o)) c.last.ensures) takes))
+    (λ takes. frames_whole g.F.Form.style c.args.reading.now.walker.limits first content (g.D.Disk.faults c.args.disk.now) then now c.args.format (g.F.Form.written c.args.form.now) (g.F.Form.written c.loop-part.form) c.loop-part.reading
+    c.loop-part.runs.last c.loop-part.left (g.F.Form.written c.print_any.new.form) b end
+    (subst (λ (fs : List Fact). Puts g.F.Form.style fs (g.F.Form.written c.loop-part.form) (g.F.Form.written c.print_any.new.form)) (c.frame_run.ensures ∙ ap (λ (o : Option (ℕ × ℕ)). map frame_run (list_of o)) c.last.ensures) takes))
     c.print_any.ensures.whole
 
 pub returns-clause-front : goal.returns-clause-front
@@ -104,6 +103,6 @@ returns-clause-front g c =
     let end : (c.loop-part.left ≡ Some 0 → ⊥) → IsEnd limits first content then now b.names =
     λ more. subst (λ (x : Option Content). IsEnd limits first x then now b.names) i.content (c.in_default.ensures.end more first b.names b.reads) in
     on_any_err c.print_any.result
-    (frames_end_cut c.args.reading.now.walker.limits first content (g.D.Disk.faults c.args.disk.now) then now c.args.format (g.S.Sink.taken c.args.sink.now) (g.S.Sink.taken c.loop-part.sink) c.loop-part.reading
-    c.loop-part.runs.last c.loop-part.left (g.S.Sink.taken c.print_any.new.sink) b end
-    (subst (λ (fs : List Fact). TakesFront (text_of fs) (g.S.Sink.taken c.loop-part.sink) (g.S.Sink.taken c.print_any.new.sink)) (c.frame_run.ensures ∙ ap (λ (o : Option (ℕ × ℕ)). map frame_run (list_of o)) c.last.ensures) c.print_any.ensures.front))
+    (frames_end_cut g.F.Form.style c.args.reading.now.walker.limits first content (g.D.Disk.faults c.args.disk.now) then now c.args.format (g.F.Form.written c.args.form.now) (g.F.Form.written c.loop-part.form) c.loop-part.reading
+    c.loop-part.runs.last c.loop-part.left (g.F.Form.written c.print_any.new.form) b end
+    (subst (λ (fs : List Fact). PutsFront g.F.Form.style fs (g.F.Form.written c.loop-part.form) (g.F.Form.written c.print_any.new.form)) (c.frame_run.ensures ∙ ap (λ (o : Option (ℕ × ℕ)). map frame_run (list_of o)) c.last.ensures) c.print_any.ensures.front))

@@ -1,18 +1,17 @@
 use Rattle.std.proofs.Common.{◌≡◌, ℕ, ◌+◌, ◌<◌, List, map, take, subst, sym, ap, ◌∙◌, arith}
 use Rattle.definitions.specs.Bytes.{word}
-use Rattle.definitions.specs.Streams.{TakesAll, TakesFront}
 use Rattle.image_check.specs.Numbers.{frame_of}
 use Rattle.image_facts.specs.Told.{frame_run, words_of}
 use Rattle.image_facts.specs.declared.fact.Fact.{Fact}
 use Rattle.image_show.specs.Parts.{RunsOn}
-use Rattle.image_show.specs.Texts.{text_of}
+use Rattle.image_show.specs.Forms.{Puts, PutsFront}
 use Rattle.image_show.proofs.BlockSteps.{Adds}
 use Rattle.image_show.proofs.FrameSteps.{numbers_cut, numbers_more, numbers_start, one_word, NumbersSoFar}
 use Rattle.image_show.proofs.frames.print_numbers.Goals as goal
 
 pub loop-i-init : goal.loop-i-init
 loop-i-init g c = record {
-  so_far = numbers_start c.args.runs.now.last (g.S.Sink.taken c.args.sink.now);
+  so_far = numbers_start g.F.Form.style c.args.runs.now.last (g.F.Form.written c.args.form.now);
   count = omega arith;
   counted = omega arith;
 }
@@ -33,13 +32,13 @@ loop-i-preserved g c =
     let here : c.frame_of.result ≡ frame_of format (word page i) = c.frame_of.ensures ∙ ap (frame_of format) c.word.ensures in
     let adds : Adds mid (frame_of format (word page i)) new c.add-ended.result =
     subst (λ n. Adds mid n new c.add-ended.result) here c.add-ended.ensures.runs in
-    let before = g.S.Sink.taken c.args.sink.now in
-    let then = g.S.Sink.taken c.loop-i.sink in
-    let now = g.S.Sink.taken c.print_any.new.sink in
+    let before = g.F.Form.written c.args.form.now in
+    let then = g.F.Form.written c.loop-i.form in
+    let now = g.F.Form.written c.print_any.new.form in
     record {
-      so_far = subst (λ (xs : List ℕ). NumbersSoFar old new xs before now) (sym (one_word (frame_of format) page i lt))
-          (numbers_more old mid new c.add-ended.result ns (frame_of format (word page i)) before then now c.loop-i.invariant.so_far adds
-          (subst (λ (fs : List Fact). TakesAll (text_of fs) then now) c.frame_run.ensures c.in_ok-print_any.ensures.whole));
+      so_far = subst (λ (xs : List ℕ). NumbersSoFar g.F.Form.style old new xs before now) (sym (one_word (frame_of format) page i lt))
+          (numbers_more g.F.Form.style old mid new c.add-ended.result ns (frame_of format (word page i)) before then now c.loop-i.invariant.so_far adds
+          (subst (λ (fs : List Fact). Puts g.F.Form.style fs then now) c.frame_run.ensures c.in_ok-print_any.ensures.whole));
       count = omega (arith, c.loop-i.invariant.count, c.add-ended.ensures.count);
       counted = omega (arith, c.loop-i.invariant.counted, c.in_ok-print_any.ensures.counted);
     }
@@ -57,15 +56,15 @@ returns-in_err-print_any-clause-front g c =
     let here : c.frame_of.result ≡ frame_of format (word page i) = c.frame_of.ensures ∙ ap (frame_of format) c.word.ensures in
     let adds : Adds mid (frame_of format (word page i)) new c.add-ended.result =
     subst (λ n. Adds mid n new c.add-ended.result) here c.add-ended.ensures.runs in
-    let before = g.S.Sink.taken c.args.sink.now in
-    let then = g.S.Sink.taken c.loop-i.sink in
-    let now = g.S.Sink.taken c.print_any.new.sink in (
+    let before = g.F.Form.written c.args.form.now in
+    let then = g.F.Form.written c.loop-i.form in
+    let now = g.F.Form.written c.print_any.new.form in (
       i + 1,
       (
         omega (arith, c.loop-i-test.true),
-        subst (λ (xs : List ℕ). (more : List (ℕ × ℕ)) × (RunsOn old new xs more × TakesFront (text_of (map frame_run more)) before now)) (sym (one_word (frame_of format) page i lt))
-            (numbers_cut old mid new c.add-ended.result ns (frame_of format (word page i)) before then now c.loop-i.invariant.so_far adds
-            (subst (λ (fs : List Fact). TakesFront (text_of fs) then now) c.frame_run.ensures c.print_any.ensures.front)),
+        subst (λ (xs : List ℕ). (more : List (ℕ × ℕ)) × (RunsOn old new xs more × PutsFront g.F.Form.style (map frame_run more) before now)) (sym (one_word (frame_of format) page i lt))
+            (numbers_cut g.F.Form.style old mid new c.add-ended.result ns (frame_of format (word page i)) before then now c.loop-i.invariant.so_far adds
+            (subst (λ (fs : List Fact). PutsFront g.F.Form.style fs then now) c.frame_run.ensures c.print_any.ensures.front)),
       ),
     )
 
@@ -74,4 +73,4 @@ returns-clause-whole g c =
     let s = c.loop-i.invariant.so_far in
     let all : c.loop-i.i ≡ c.args.count = omega (arith, c.loop-i.auto.i-end, c.loop-i-test.false) in
     subst (λ n. (more : List (ℕ × ℕ)) × (RunsOn c.args.runs.now.last c.loop-i.runs.last (map (frame_of c.args.format) (take n (words_of c.args.page.now))) more
-    × TakesAll (text_of (map frame_run more)) (g.S.Sink.taken c.args.sink.now) (g.S.Sink.taken c.loop-i.sink))) all (s.more, (s.runs, s.taken))
+    × Puts g.F.Form.style (map frame_run more) (g.F.Form.written c.args.form.now) (g.F.Form.written c.loop-i.form))) all (s.more, (s.runs, s.taken))

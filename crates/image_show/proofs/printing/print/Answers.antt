@@ -1,26 +1,21 @@
-use Rattle.std.proofs.Common.{ℕ, List, ◌∙◌, subst, arith}
-use Rattle.definitions.specs.Streams.{TakesAll, TakesFront}
-use Rattle.image_show.specs.Texts.{line_text}
-use Rattle.fact_lines.proofs.Items.{all_of_more, front_of_more}
+use Rattle.std.proofs.Common.{arith}
+use Rattle.image_show.proofs.Putting.{front_more, one_more, puts_none}
 use Rattle.image_show.proofs.printing.print.Goals as goal
 
-pub returns-in_err-put_all-clause-front : goal.returns-in_err-put_all-clause-front
-returns-in_err-put_all-clause-front g c =
-    let taken = g.S.Sink.taken in
-    let old = taken c.args.sink.now in
-    let mid = taken c.loop-fact.sink in
-    let new = taken c.put_all.new.sink in
-    front_of_more line_text c.args.facts.now c.loop-fact.fact-index _ old mid new c.loop-fact-test.true c.loop-fact.invariant.so_far
-    (subst (λ (text : List ℕ). TakesFront text mid new) (c.as_bytes.ensures.bytes ∙ c.line_of.ensures) c.put_all.ensures.front)
+pub loop-fact-init : goal.loop-fact-init
+loop-fact-init g c = record { so_far = puts_none g.F.Form.style (g.F.Form.written c.args.form.now); counted = omega arith }
+
+pub returns-in_err-put-clause-front : goal.returns-in_err-put-clause-front
+returns-in_err-put-clause-front g c =
+    let written = g.F.Form.written in
+    front_more g.F.Form.style c.args.facts.now c.loop-fact.fact-index _ (written c.args.form.now) (written c.loop-fact.form) (written c.put.new.self) c.loop-fact-test.true
+    c.loop-fact.invariant.so_far c.put.ensures.front
 
 pub loop-fact-preserved : goal.loop-fact-preserved
 loop-fact-preserved g c =
-    let taken = g.S.Sink.taken in
-    let old = taken c.args.sink.now in
-    let mid = taken c.loop-fact.sink in
-    let new = taken c.put_all.new.sink in
+    let written = g.F.Form.written in
     record {
-      so_far = all_of_more line_text c.args.facts.now c.loop-fact.fact-index _ old mid new c.loop-fact-test.true c.loop-fact.invariant.so_far
-          (subst (λ (text : List ℕ). TakesAll text mid new) (c.as_bytes.ensures.bytes ∙ c.line_of.ensures) c.in_ok-put_all.ensures.whole);
-      counted = omega (arith, c.loop-fact.invariant.counted, c.in_ok-put_all.ensures.counted);
+      so_far = one_more g.F.Form.style c.args.facts.now c.loop-fact.fact-index _ (written c.args.form.now) (written c.loop-fact.form) (written c.put.new.self) c.loop-fact-test.true
+          c.loop-fact.invariant.so_far c.in_ok-put.ensures.whole;
+      counted = omega (arith, c.loop-fact.invariant.counted, c.in_ok-put.ensures.counted);
     }

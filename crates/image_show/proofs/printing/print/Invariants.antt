@@ -1,10 +1,9 @@
 use Rattle.std.proofs.Common.{◌≤◌, take}
-use Rattle.definitions.specs.Streams.{TakesAll}
-use Rattle.image_show.specs.Texts.{text_of}
+use Rattle.image_show.specs.Forms.{Puts}
 use Rattle.image_show.proofs.printing.print.Given as goal
 
 abbrev pub invariant-loop-fact : goal.invariant-loop-fact
 invariant-loop-fact g l = record {
-  so_far : TakesAll (text_of (take l.fact-index l.facts)) (g.S.Sink.taken l.fn.sink) (g.S.Sink.taken l.sink);
-  counted : g.S.Sink.faults l.fn.sink ≤ g.S.Sink.faults l.sink;
+  so_far : Puts g.F.Form.style (take l.fact-index l.facts) (g.F.Form.written l.fn.form) (g.F.Form.written l.form);
+  counted : g.F.Form.faults l.fn.form ≤ g.F.Form.faults l.form;
 }

@@ -1,0 +1,44 @@
+-- What `show --json` and `check --json` print.
+use Rattle.std.specs.Prelude.{ℕ, ◌⊎◌, Bool, true, false, List, [], Option}
+use Rattle.definitions.specs.Disk.{Content}
+use Rattle.command_kit.specs.Answer.{RunResult, memory_told}
+use Rattle.command_kit.specs.Told.{IsTold}
+use Rattle.command_kit.specs.View.{SinkView}
+use Rattle.command_kit.specs.declared.status.Status.{Status}
+use Rattle.command_kit.specs.declared.status.Status.TheVariants.{Done, Refused}
+use Rattle.image_check.specs.Checked.{Finds}
+use Rattle.image_check.specs.declared.finding.Finding.{Finding}
+use Rattle.image_facts.specs.declared.fact.Fact.{Fact}
+use Rattle.image_json.specs.Findings.{found_line, found_whole}
+use Rattle.image_json.specs.Objects.{object_line}
+use Rattle.image_show.specs.Shown.{Shows}
+use Rattle.image_show.specs.declared.shown.Shown.{Shown}
+use Rattle.image_cli.specs.Shows.{status_shown}
+
+-- the object of these facts, in a line
+abbrev pub object_told : List Fact → Shown → RunResult
+object_told facts shown = record { status = status_shown shown; out = object_line facts; note = [] }
+
+-- just what is written in the area is told, or that memory was refused
+abbrev pub PrintsObject : Option Content → (blocks header before now : ℕ) → Status
+    → (out out' note note' : SinkView) → Type 0
+PrintsObject content blocks header before now status out out' note note' =
+    IsTold memory_told status out out' note note'
+    ⊎ ((facts : List Fact) × ((shown : Shown) × (Shows content blocks header before now facts shown
+    × IsTold (object_told facts shown) status out out' note note')))
+
+abbrev pub status_whole : Bool → Status
+status_whole true = Done
+status_whole false = Refused
+
+-- the object of these findings, in a line
+abbrev pub check_told : Option (List Finding) → RunResult
+check_told found = record { status = status_whole (found_whole found); out = found_line found; note = [] }
+
+-- just what is wrong with the image of the area is told, or that memory was refused
+abbrev pub PrintsCheck : Option Content → (blocks header before now : ℕ) → Status
+    → (out out' note note' : SinkView) → Type 0
+PrintsCheck content blocks header before now status out out' note note' =
+    IsTold memory_told status out out' note note'
+    ⊎ ((found : Option (List Finding)) × (Finds content blocks header before now found
+    × IsTold (check_told found) status out out' note note'))

@@ -1,0 +1,4 @@
+pub mod Findings
+pub mod Objects
+pub mod Pieces
+pub mod Values

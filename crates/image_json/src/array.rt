@@ -1,0 +1,26 @@
+ghost use Rattle.std.specs.Prelude.{◌≡◌};
+ghost use Rattle.image_json.specs.Values.{array_of};
+
+use image_facts::Fact;
+
+/// The arrays of an object: facts of each of these kinds may be many.
+#[derive(Clone, Copy, Debug, PartialEq, Eq)]
+pub enum Array {
+    BadPages,
+    Flags,
+    BlockRuns,
+    FrameRuns,
+}
+
+/// The array that a fact is an item of.
+pub(crate) fn array_of(fact: &Fact) -> Option<Array>
+    ensures { result ≡ array_of fact.now }
+{
+    match *fact {
+        Fact::BadPage(_) => Some(Array::BadPages),
+        Fact::Flag(_) => Some(Array::Flags),
+        Fact::BlockRun(..) => Some(Array::BlockRuns),
+        Fact::FrameRun(..) => Some(Array::FrameRuns),
+        _ => None,
+    }
+}
