@@ -1,3 +1,4 @@
 pub mod Given
+pub mod Laid
 pub mod Making
 pub mod Since

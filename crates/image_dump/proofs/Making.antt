@@ -7,11 +7,14 @@ use Rattle.image_check.specs.Told.{Told}
 use Rattle.image_pages.proofs.Earlier.{refused_earlier}
 use Rattle.image_stream.proofs.Starting.{bad_earlier}
 use Rattle.image_frames.specs.Opens.{IsBad}
+use Rattle.image_frames.specs.SavedFrames.{AreAllSaved, SavedFrame}
 use Rattle.image_frames.specs.SavedNumbers.{AreAllNumbers}
 use Rattle.image_machine.specs.Layouts.{zones_of}
 use Rattle.image_machine.specs.Limits.{PassesAtLast}
 use Rattle.image_machine.specs.Loaders.{IsLoaderFor}
+use Rattle.image_machine.specs.Machines.{IsMachineFor, PassesWith}
 use Rattle.image_machine.specs.Plans.{IsPlan}
+use Rattle.image_machine.specs.declared.filled.FilledPlan.{FilledPlan}
 use Rattle.image_machine.specs.declared.heading.Heading.{Heading}
 use Rattle.image_machine.specs.declared.heading.Layout.{Layout}
 use Rattle.image_machine.specs.declared.limit.Limit.{Limit}
@@ -20,9 +23,10 @@ use Rattle.machine.specs.declared.dump.Dump.{Dump as MachineDump}
 use Rattle.page_core.specs.declared.NoMemory.{NoMemory}
 use Rattle.image_dump.specs.Adds.{IsOutside}
 use Rattle.image_dump.specs.Headings.{IsHeadingOf}
-use Rattle.image_dump.specs.Makes.{HasLimit, IsLoaderOf, Makes, outside, at_last}
-use Rattle.image_dump.specs.declared.loader.Made.{Made}
-use Rattle.image_dump.specs.declared.loader.Made.TheVariants.{NoImage, Refused, SkipsZeros, NoArea, Limit as Passed, Dump}
+use Rattle.image_dump.specs.Lays.{LiesOutside, pages_of}
+use Rattle.image_dump.specs.Makes.{HasLimit, HasMachineLimit, IsLoaderOf, IsMachineOf, MakesBy, at_last, lies_outside, outside, passed_at_last}
+use Rattle.image_dump.specs.declared.made.Made.{Made}
+use Rattle.image_dump.specs.declared.made.Made.TheVariants.{NoImage, Refused, SkipsZeros, NoArea, Limit as Passed, Dump}
 
 pub limit_outside : (content : Option Content) (heading : Heading) (layout : Layout) (new : Plan) (limit : Limit) → IsPlan new →
     new.heading ≡ heading → new.layout ≡ layout → IsHeadingOf content layout.offset heading →
@@ -55,28 +59,61 @@ loader_made content heading layout new dump e f headed all loader = record {
       (subst (λ (l : Layout). IsLoaderFor new.heading l new.saved.members dump.hw dump.frames) f loader);
 }
 
--- The same over a disk that reads as before.
+-- A plan that was given page frames with their pages.
+
+pub machine_outside : (content : Option Content) (heading : Heading) (layout : Layout) (tables : Option (ℕ × ℕ)) (new : FilledPlan) (limit : Limit) →
+    new.plan.zones ≡ zones_of heading layout → IsHeadingOf content layout.offset heading →
+    LiesOutside content layout.offset new limit → HasMachineLimit content layout tables limit
+machine_outside content heading layout tables new limit zones headed o =
+    lies_outside heading o.given o.number headed o.first o.last
+    (λ in'. o.outside (subst (λ (zs : List (ℕ × ℕ)). Contains (numbers zs) o.number) (sym zones) in')) o.is
+
+pub machine_at_last : (content : Option Content) (heading : Heading) (layout : Layout) (tables : Option (ℕ × ℕ)) (new : FilledPlan) (limit : Limit) →
+    new.plan.heading ≡ heading → new.plan.layout ≡ layout → IsHeadingOf content layout.offset heading →
+    (saved : List SavedFrame) → AreAllSaved content layout.offset saved →
+    PassesWith new.plan.heading new.plan.layout tables (pages_of saved) limit → HasMachineLimit content layout tables limit
+machine_at_last content heading layout tables new limit e f headed saved all passes =
+    passed_at_last heading saved headed all
+    (subst (λ (h : Heading). PassesWith h layout tables (pages_of saved) limit) e
+    (subst (λ (l : Layout). PassesWith new.plan.heading l tables (pages_of saved) limit) f passes))
+
+pub machine_made : (content : Option Content) (heading : Heading) (layout : Layout) (tables : Option (ℕ × ℕ)) (new : FilledPlan) (dump : MachineDump) →
+    new.plan.heading ≡ heading → new.plan.layout ≡ layout → IsHeadingOf content layout.offset heading →
+    (saved : List SavedFrame) → AreAllSaved content layout.offset saved →
+    IsMachineFor new.plan.heading new.plan.layout tables (pages_of saved) dump.hw dump.frames → IsMachineOf content layout tables dump
+machine_made content heading layout tables new dump e f headed saved all machine = record {
+  heading = heading;
+  saved = saved;
+  headed = headed;
+  read = all;
+  machine =
+      subst (λ (h : Heading). IsMachineFor h layout tables (pages_of saved) dump.hw dump.frames) e
+      (subst (λ (l : Layout). IsMachineFor new.plan.heading l tables (pages_of saved) dump.hw dump.frames) f machine);
+}
+
+-- The same over a disk that reads as before, whichever limits and dumps are an image's.
 
 bad_before : (content : Option Content) (blocks header before then now : ℕ) (told end : Told) → before ≤ then → IsBad content blocks header then now told end → IsBad content blocks header before now told end
 bad_before content blocks header before then now told end le (inl bad) = inl (bad_earlier content blocks header before then now told end le bad)
 bad_before content blocks header before then now told end le (inr (pages, refused)) = inr (pages, refused_earlier content blocks header before then now told end pages le refused)
 
-makes_earlier : (content : Option Content) (blocks before then now : ℕ) (told end : Told) (layout : Layout) (made : Made) → before ≤ then → Makes content blocks then now told end layout made → Makes content blocks before now told end layout made
-makes_earlier content blocks before then now told end layout NoImage le h = h
-makes_earlier content blocks before then now told end layout Refused le h = bad_before content blocks layout.offset before then now told end le h
-makes_earlier content blocks before then now told end layout SkipsZeros le h = h
-makes_earlier content blocks before then now told end layout NoArea le h = h
-makes_earlier content blocks before then now told end layout (Passed limit) le h = h
-makes_earlier content blocks before then now told end layout (Dump dump) le h = h
+makes_earlier : (limits : Limit → Type 0) (dumps : MachineDump → Type 0) (content : Option Content) (blocks header before then now : ℕ) (told end : Told) (made : Made) → before ≤ then → MakesBy limits dumps content blocks header then now told end made → MakesBy limits dumps content blocks header before now told end made
+makes_earlier limits dumps content blocks header before then now told end NoImage le h = h
+makes_earlier limits dumps content blocks header before then now told end Refused le h = bad_before content blocks header before then now told end le h
+makes_earlier limits dumps content blocks header before then now told end SkipsZeros le h = h
+makes_earlier limits dumps content blocks header before then now told end NoArea le h = h
+makes_earlier limits dumps content blocks header before then now told end (Passed limit) le h = h
+makes_earlier limits dumps content blocks header before then now told end (Dump dump) le h = h
 
-makes_since : (c d : Option Content) (m n before then now : ℕ) (told old end : Told) (l k : Layout) (made : Made) → c ≡ d → m ≡ n → old ≡ told → l ≡ k → before ≤ then → Makes c m then now old end l made → Makes d n before now told end k made
-makes_since c d m n before then now told old end l k made e i t j le h =
-    makes_earlier d n before then now told end k made le
-    (subst (λ (x : Layout). Makes d n then now told end x made) j
-    (subst (λ (x : Told). Makes d n then now x end l made) t
-    (subst (λ (x : Option Content). Makes x n then now old end l made) e
-    (subst (λ (b : ℕ). Makes c b then now old end l made) i h))))
+module _ (limits : Option Content → Layout → Limit → Type 0) (dumps : Option Content → Layout → MachineDump → Type 0) where
+  makes_since : (c d : Option Content) (m n before then now : ℕ) (told old end : Told) (l k : Layout) (made : Made) → c ≡ d → m ≡ n → old ≡ told → l ≡ k → before ≤ then → MakesBy (limits c l) (dumps c l) c m l.offset then now old end made → MakesBy (limits d k) (dumps d k) d n k.offset before now told end made
+  makes_since c d m n before then now told old end l k made e i t j le h =
+      makes_earlier (limits d k) (dumps d k) d n k.offset before then now told end made le
+      (subst (λ (x : Layout). MakesBy (limits d x) (dumps d x) d n x.offset then now told end made) j
+      (subst (λ (x : Told). MakesBy (limits d l) (dumps d l) d n l.offset then now x end made) t
+      (subst (λ (x : Option Content). MakesBy (limits x l) (dumps x l) x n l.offset then now old end made) e
+      (subst (λ (b : ℕ). MakesBy (limits c l) (dumps c l) c b l.offset then now old end made) i h))))
 
-pub if_made_since : (c d : Option Content) (m n before then now : ℕ) (told old end : Told) (l k : Layout) (r : Result Made NoMemory) → c ≡ d → m ≡ n → old ≡ told → l ≡ k → before ≤ then → IfOk r (Makes c m then now old end l) → IfOk r (Makes d n before now told end k)
-if_made_since c d m n before then now told old end l k (Ok made) e i t j le h = makes_since c d m n before then now told old end l k made e i t j le h
-if_made_since c d m n before then now told old end l k (Err why) e i t j le h = tt
+  pub if_made_since : (c d : Option Content) (m n before then now : ℕ) (told old end : Told) (l k : Layout) (r : Result Made NoMemory) → c ≡ d → m ≡ n → old ≡ told → l ≡ k → before ≤ then → IfOk r (MakesBy (limits c l) (dumps c l) c m l.offset then now old end) → IfOk r (MakesBy (limits d k) (dumps d k) d n k.offset before now told end)
+  if_made_since c d m n before then now told old end l k (Ok made) e i t j le h = makes_since c d m n before then now told old end l k made e i t j le h
+  if_made_since c d m n before then now told old end l k (Err why) e i t j le h = tt

@@ -1,4 +1,5 @@
 pub mod Adds
 pub mod Begins
 pub mod Headings
+pub mod Lays
 pub mod Makes

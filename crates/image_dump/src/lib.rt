@@ -1,8 +1,13 @@
-//! The dumps of a hibernation image: of a loader into which it can be resumed.
+//! The dumps of a hibernation image: of a loader into which it can be resumed, and of the machine that it saved.
 #![tactic(auto)]
 
 mod adding;
 mod begun;
+mod laying;
 mod loader;
+mod made;
+mod saved_machine;
 
-pub use loader::{Made, loader_of};
+pub use loader::loader_of;
+pub use made::Made;
+pub use saved_machine::machine_of;

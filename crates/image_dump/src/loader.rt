@@ -7,29 +7,13 @@ ghost use Rattle.image_dump.specs.Makes.{Makes};
 
 use crate::adding::{Added, add_all};
 use crate::begun::{Begun, begin};
+use crate::made::Made;
 use image_check::Report;
 use image_frames::Numbers;
-use image_machine::{Layout, Limit, Plan, Stop};
-use machine::Dump;
+use image_machine::{Layout, Plan, Stop};
 use page_core::NoMemory;
 use sector_disk::Disk;
 use std::alloc::Global;
-
-/// What was made of an image.
-#[derive(Drop)]
-pub enum Made {
-    /// The header block, if the disk has it, isn't marked.
-    NoImage,
-    /// The findings of the header block, or of the first block that is named and has some, were told.
-    Refused,
-    /// Pages of zeros have no data page.
-    SkipsZeros,
-    /// Without the mark the header block isn't that of a version 1 area.
-    NoArea,
-    /// There is no such machine.
-    Limit(Limit),
-    Dump(Dump),
-}
 
 /// Makes the dump of a loader into which the image of an area can be resumed: a machine that has just booted, of which no page
 /// frame that the image saves is a table's. Of the image its header block, its info page and its number pages are read.

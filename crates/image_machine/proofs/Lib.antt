@@ -1,5 +1,9 @@
 pub mod Adding
+pub mod Filling
 pub mod FrameTests
+pub mod Hibernated
+pub mod Laying
+pub mod MachineMade
 pub mod Made
 pub mod RowLaws
 pub mod Sets

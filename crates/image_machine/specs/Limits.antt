@@ -1,5 +1,5 @@
 -- Which limit keeps an image from having a machine.
-use Rattle.std.specs.Prelude.{◌≡◌, ◌≢◌, ◌<◌, ◌⊎◌, ℕ, List, length, Some, None, Contains, Ok, ⊤}
+use Rattle.std.specs.Prelude.{◌≡◌, ◌≢◌, ◌<◌, ◌⊎◌, ℕ, List, length, Some, None, Ok, ⊤}
 use Rattle.definitions.specs.Slots.{extent_at}
 use Rattle.definitions.specs.Zones.{numbers}
 use Rattle.machine.specs.FreshSlots.{slot_of_area}
@@ -48,6 +48,7 @@ PassesAtOnce heading layout (limit.Outside number) = ⊥
 PassesAtOnce heading layout limit.NoRoom = ⊥
 PassesAtOnce heading layout (limit.Hardware fault) = ⊥
 PassesAtOnce heading layout (limit.TooFew have need) = ⊥
+PassesAtOnce heading layout (limit.Tables number) = ⊥
 
 -- What they pass, where just these page frames were saved and each is valid.
 abbrev pub PassesAtLast : Heading → Layout → List ℕ → Limit → Type 0
@@ -62,6 +63,7 @@ PassesAtLast heading layout saved (limit.Hardware fault) =
     (f : ℕ) × ((s : ℕ) × (AreTables heading layout saved f s × (hard_fault (hardware_with heading layout f s) ≡ Some fault)))
 PassesAtLast heading layout saved (limit.TooFew have need) =
     (f : ℕ) × ((s : ℕ) × (AreTables heading layout saved f s × HasTooFew heading saved (hardware_with heading layout f s) have need))
+PassesAtLast heading layout saved (limit.Tables number) = ⊥
 
 -- nothing was made, since a limit is passed, or since memory was refused
 abbrev pub StopsAtOnce : Heading → Layout → Stop → Type 0

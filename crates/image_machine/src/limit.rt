@@ -33,6 +33,9 @@ pub enum Limit {
     /// A resume needs more free page frames than there are.
     #[error("free page frames {have}: needed {need}")]
     TooFew { have: u32, need: u64 },
+    /// The tables that are said to be in the image aren't a machine's, or save other page frames than the image.
+    #[error("tables: page frame {number}")]
+    Tables { number: u32 },
 }
 
 /// Why nothing was made.

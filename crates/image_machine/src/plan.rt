@@ -10,6 +10,7 @@ ghost use Rattle.plain_machine.specs.Machine.{Fits, IsHardware, unused};
 ghost use Rattle.image_machine.specs.Layouts.{extents_of, extents_or_one, slots_of, zones_of, zones_or_one};
 ghost use Rattle.image_machine.specs.Limits.{AreTables, HasNoRoom, HasTooFew, PassesAtLast, StopsAtLast, StopsAtOnce, PassesAtOnce};
 ghost use Rattle.image_machine.specs.Loaders.{IsLoaderFor, hardware_with};
+ghost use Rattle.image_machine.specs.Machines.{PassesByTables};
 ghost use Rattle.image_machine.specs.Plans.{IsPlan, IsSmall};
 ghost use Rattle.image_machine.specs.declared.heading.Heading.{Heading};
 ghost use Rattle.image_machine.specs.declared.heading.Layout.{Layout};
@@ -42,8 +43,8 @@ const MOVES_A_LIST_FRAME: u32 = 85;
 pub struct Plan<'a> {
     pub heading: Heading,
     pub layout: Layout<'a>,
-    zones: Zones,
-    saved: Bitmap,
+    pub(crate) zones: Zones,
+    pub(crate) saved: Bitmap,
 }
 
 impl<'a> Plan<'a> {
@@ -55,7 +56,11 @@ impl<'a> Plan<'a> {
     ghost use Rattle.plain_machine.specs.Machine.{IsHardware};
     ghost use Rattle.std.specs.Prelude.{ℕ};
     ghost use Rattle.image_machine.specs.Loaders.{IsLoaderFor, hardware_with};
+    ghost use Rattle.image_machine.specs.Machines.{PassesByTables};
     ghost use Rattle.image_machine.specs.Plans.{IsPlan};
+    ghost use Rattle.machine.specs.HardFault.{hard_fault};
+    ghost use Rattle.machine.specs.declared.hardware.HardFault.{HardFault};
+    ghost use Rattle.std.specs.Prelude.{None, Some};
     ghost use Rattle.image_machine.specs.declared.limit.Limit.TheVariants as limit;
 
     /// Begins with an image of which no saved page frame is known.
@@ -118,7 +123,7 @@ impl<'a> Plan<'a> {
 
     /// The machine whose tables lie in unsaved page frames.
     #[inline(never)]
-    fn hardware(&self) -> Result<Hardware, Limit>
+    pub(crate) fn hardware(&self) -> Result<Hardware, Limit>
         requires { IsPlan self.now }
         ensures hardware { IfOk result (λ hw.
             hw ≡ hardware_with self.now.heading self.now.layout hw.frame_table hw.slot_table) }
@@ -126,9 +131,23 @@ impl<'a> Plan<'a> {
             AreTables self.now.heading self.now.layout self.now.saved.members hw.frame_table hw.slot_table) }
         ensures is { IfOk result IsHardware }
         ensures passed { IfErr result (PassesAtLast self.now.heading self.now.layout self.now.saved.members) }
+        ensures by_tables { IfErr result (PassesByTables self.now.heading self.now.layout self.now.saved.members) }
     {
-        let slots = self.heading.area.last + 1;
-        let (frame_table, slot_table) = self.tables(slots)?;
+        let (frame_table, slot_table) = self.tables(self.slots())?;
+        self.hardware_with(frame_table, slot_table)
+    }
+
+    /// The machine whose tables begin at these page frames.
+    pub(crate) fn hardware_with(&self, frame_table: u32, slot_table: u32) -> Result<Hardware, Limit>
+        requires { IsPlan self.now }
+        ensures hardware { IfOk result (λ hw.
+            hw ≡ hardware_with self.now.heading self.now.layout frame_table slot_table) }
+        ensures is { IfOk result IsHardware }
+        ensures none { OnOk result (hard_fault (hardware_with self.now.heading self.now.layout frame_table slot_table) ≡ None) }
+        ensures refused { IfErr result (λ why. (fault : HardFault) × ((why ≡ limit.Hardware fault)
+            × (hard_fault (hardware_with self.now.heading self.now.layout frame_table slot_table) ≡ Some fault))) }
+    {
+        let slots = self.slots();
         let whole = [(0, slots, 0)];
         let parts = Parts {
             zones: self.zones.as_slice(),
@@ -144,6 +163,14 @@ impl<'a> Plan<'a> {
             Ok(hw) => Ok(hw),
             Err(fault) => Err(Limit::Hardware(fault)),
         }
+    }
+
+    /// How many slots the area has.
+    fn slots(&self) -> u32
+        requires { IsPlan self.now }
+        ensures { result ≡ slots_of self.now.heading }
+    {
+        self.heading.area.last + 1
     }
 
     /// The first page frames of the frame table and of the slot table.

@@ -34,7 +34,8 @@ fn is_clear(zones: &Zones, saved: &Bitmap, first: u32, len: u32) -> bool
     (first..first + len).all(|p| is_unsaved(zones, saved, p))
 }
 
-fn is_unsaved(zones: &Zones, saved: &Bitmap, p: u32) -> bool
+/// Whether a page frame is valid and wasn't saved.
+pub(crate) fn is_unsaved(zones: &Zones, saved: &Bitmap, p: u32) -> bool
     ensures { result ≡ is_unsaved zones.now saved.now.members p }
 {
     zones.valid(p) && !saved.has(p)

@@ -6,11 +6,11 @@ use Rattle.machine.specs.declared.hardware.HardFault.TheVariants as hard
 use Rattle.image_machine.specs.declared.limit.Limit.{Limit}
 use Rattle.image_machine.specs.declared.limit.Limit.TheVariants as limit
 
--- Zones, slots, tables and regions were looked at before.
+-- Zones, slots and regions were looked at before, and tables unless they are said to be in the image.
 abbrev pub hardware_text : HardFault → List ℕ
 hardware_text hard.Zones = codes "hardware refused"
 hardware_text hard.Slots = codes "hardware refused"
-hardware_text hard.Tables = codes "hardware refused"
+hardware_text hard.Tables = codes "tables refused"
 hardware_text hard.Regions = codes "hardware refused"
 hardware_text hard.Extents = codes "extents refused"
 
@@ -25,6 +25,7 @@ limit_text (limit.Outside number) = codes "page frame " ++ decimal number ++ cod
 limit_text limit.NoRoom = codes "no room for the tables"
 limit_text (limit.Hardware fault) = hardware_text fault
 limit_text (limit.TooFew have need) = codes "free page frames " ++ decimal have ++ codes ": needed " ++ decimal need
+limit_text (limit.Tables number) = codes "tables: page frame " ++ decimal number
 
 abbrev pub limit_line : Limit → List ℕ
 limit_line passed = line (limit_text passed)

@@ -1,4 +1,4 @@
--- What `loader` prints.
+-- What `loader` and `machine` print.
 use Rattle.std.specs.Prelude.{◌≡◌, ℕ, ⊤, [], List, codes, length, Option}
 use Rattle.definitions.specs.Disk.{Content}
 use Rattle.definitions.specs.Zones.{top}
@@ -11,9 +11,9 @@ use Rattle.command_kit.specs.declared.status.Status.TheVariants as status
 use Rattle.image_check.specs.Told.{Told}
 use Rattle.image_check.specs.declared.report.Printer.{Printer}
 use Rattle.image_machine.specs.declared.heading.Layout.{Layout}
-use Rattle.image_dump.specs.Makes.{Makes}
-use Rattle.image_dump.specs.declared.loader.Made.{Made}
-use Rattle.image_dump.specs.declared.loader.Made.TheVariants.{NoImage, Refused, SkipsZeros, NoArea, Limit, Dump}
+use Rattle.image_dump.specs.Makes.{Makes, MakesMachine}
+use Rattle.image_dump.specs.declared.made.Made.{Made}
+use Rattle.image_dump.specs.declared.made.Made.TheVariants.{NoImage, Refused, SkipsZeros, NoArea, Limit, Dump}
 use Rattle.swsusp_cli.specs.Loads.{written_told}
 use Rattle.image_machine_cli.specs.LimitLines.{limit_line}
 
@@ -49,10 +49,19 @@ pub record IsNoted (told : Told) (note : SinkView) : Type 0 where
   pub faults : note.faults ≡ told.faults
 
 -- What was made of the image is told, or that memory was refused.
-pub data Loads (content : Option Content) (blocks before now : ℕ) (told : Told) (layout : Layout) (status : Status)
-    (out out' note' : SinkView) : Type 0 where
-  made : (what : Made) (then : Told) (note : SinkView) → Makes content blocks before now told then layout what →
-      IsNoted then note → IsTold (made_told what) status out out' note note' →
-      Loads content blocks before now told layout status out out' note'
+pub data TellsMade (makes : Told → Made → Type 0) (told : Told) (status : Status) (out out' note' : SinkView) : Type 0 where
+  made : (what : Made) (then : Told) (note : SinkView) → makes then what → IsNoted then note →
+      IsTold (made_told what) status out out' note note' → TellsMade makes told status out out' note'
   no_memory : (note : SinkView) → IsNoted told note → IsTold memory_told status out out' note note' →
-      Loads content blocks before now told layout status out out' note'
+      TellsMade makes told status out out' note'
+
+-- The dump of a loader.
+abbrev pub Loads : Option Content → (blocks before now : ℕ) → Told → Layout → Status → (out out' note' : SinkView) → Type 0
+Loads content blocks before now told layout status out out' note' =
+    TellsMade (λ then what. Makes content blocks before now told then layout what) told status out out' note'
+
+-- The dump of the machine that was saved.
+abbrev pub GivesMachine : Option Content → (blocks before now : ℕ) → Told → Layout → Option (ℕ × ℕ) → Status →
+    (out out' note' : SinkView) → Type 0
+GivesMachine content blocks before now told layout tables status out out' note' =
+    TellsMade (λ then what. MakesMachine content blocks before now told then layout tables what) told status out out' note'

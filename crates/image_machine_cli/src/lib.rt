@@ -4,4 +4,4 @@
 mod limits;
 mod loading;
 
-pub use loading::loader;
+pub use loading::{loader, machine};

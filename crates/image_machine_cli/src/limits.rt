@@ -38,6 +38,7 @@ pub(crate) fn limit_line(limit: &Limit) -> Line
             line.put(b" lies in no zone");
         }
         Limit::NoRoom => line.put(b"no room for the tables"),
+        Limit::Hardware(HardFault::Tables) => line.put(b"tables refused"),
         Limit::Hardware(HardFault::Extents) => line.put(b"extents refused"),
         Limit::Hardware(_) => line.put(b"hardware refused"),
         Limit::TooFew { have, need } => {
@@ -45,6 +46,10 @@ pub(crate) fn limit_line(limit: &Limit) -> Line
             line.put_number(u64::from(have));
             line.put(b": needed ");
             line.put_number(need);
+        }
+        Limit::Tables { number } => {
+            line.put(b"tables: page frame ");
+            line.put_number(u64::from(number));
         }
     }
     line.put(b"\n");

@@ -42,7 +42,7 @@ module _ (name : Text) where
 
   help_of_commands : AllByRecursion (λ command. AllByRecursion (λ flag. fault_of image_app (name ∷ command ∷ flag ∷ []) ≡ kind.DisplayHelp ∷ []) help_flags) commands
   unfolding clap_on_literals
-  help_of_commands = ((refl, (refl, tt)), ((refl, (refl, tt)), ((refl, (refl, tt)), ((refl, (refl, tt)), ((refl, (refl, tt)), ((refl, (refl, tt)), ((refl, (refl, tt)), ((refl, (refl, tt)), tt))))))))
+  help_of_commands = ((refl, (refl, tt)), ((refl, (refl, tt)), ((refl, (refl, tt)), ((refl, (refl, tt)), ((refl, (refl, tt)), ((refl, (refl, tt)), ((refl, (refl, tt)), ((refl, (refl, tt)), ((refl, (refl, tt)), tt)))))))))
 
 -- clap's fault is help or the version
 abbrev IsRequest : Kinds → Type 0

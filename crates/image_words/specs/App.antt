@@ -59,8 +59,24 @@ extent_rule = record (new_rule (codes "extent")) {
   parser = Some (parser.Signed (pos 0) (pos 4294967295));
 }
 
+abbrev pub dump_app : List ℕ → App
+dump_app name = with_rule (with_rule (area_app name) zone_rule) extent_rule
+
 abbrev pub loader_app : App
-loader_app = with_rule (with_rule (area_app (codes "loader")) zone_rule) extent_rule
+loader_app = dump_app (codes "loader")
+
+-- --tables F S
+abbrev pub tables_rule : Rule
+tables_rule = record (new_rule (codes "tables")) {
+  long = Some (codes "tables");
+  action = Some Append;
+  range = Some (record { start_inclusive = 2; end_inclusive = 2 });
+  value_names = 2;
+  parser = Some (parser.Signed (pos 0) (pos 4294967295));
+}
+
+abbrev pub machine_app : App
+machine_app = with_rule (dump_app (codes "machine")) tables_rule
 
 -- the program, which has a version and wants one of the commands
 abbrev pub program_app : App
@@ -75,10 +91,12 @@ image_app =
     (with_subcommand
     (with_subcommand
     (with_subcommand
+    (with_subcommand
     (with_subcommand (with_subcommand program_app (formed_app (codes "check")).top) (formed_app (codes "show")).top)
     (area_app (codes "stream")).top)
     page_app.top)
     (area_app (codes "core")).top)
     differ_app.top)
     (area_app (codes "discard")).top)
-    loader_app.top
+    loader_app.top)
+    machine_app.top

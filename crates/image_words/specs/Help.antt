@@ -10,7 +10,7 @@ is_among texts word = list_any (pointwise nat_eq word) texts
 abbrev pub commands : List (List ℕ)
 commands =
     codes "check" ∷ codes "show" ∷ codes "stream" ∷ codes "page" ∷ codes "core" ∷ codes "differ" ∷ codes "discard"
-    ∷ codes "loader" ∷ []
+    ∷ codes "loader" ∷ codes "machine" ∷ []
 
 abbrev pub help_flags : List (List ℕ)
 help_flags = codes "--help" ∷ codes "-h" ∷ []

@@ -1,7 +1,8 @@
 ghost use Rattle.std.specs.Prelude.{IfOk};
 ghost use Rattle.clap.specs.Words.{new_app};
 ghost use Rattle.swsusp_words.specs.App.{IsApp};
-ghost use Rattle.image_words.specs.App.{area_app, differ_app, formed_app, image_app, loader_app, page_app};
+ghost use Rattle.image_words.specs.App.{area_app, differ_app, dump_app, formed_app, image_app};
+ghost use Rattle.image_words.specs.App.{loader_app, machine_app, page_app};
 
 use crate::details;
 use clap::{Arg, ArgAction, Command, value_parser};
@@ -51,7 +52,8 @@ pub(crate) fn command_line<'a>(alloc: Global) -> Result<Command<'a>, AllocError>
         "Takes the mark of an image back",
         details::DISCARD,
     )?)?
-    .subcommand(loader(alloc)?)
+    .subcommand(loader(alloc)?)?
+    .subcommand(machine(alloc)?)
 }
 
 /// A command with its name, what it does, and the rest of its help.
@@ -137,9 +139,44 @@ fn comparison<'a>(alloc: Global) -> Result<Command<'a>, AllocError>
     .arg(other)
 }
 
-/// A loader's options may be repeated.
 fn loader<'a>(alloc: Global) -> Result<Command<'a>, AllocError>
     ensures { IfOk result (IsApp loader_app) }
+{
+    over_layout(
+        alloc,
+        "loader",
+        "Makes the dump of a loader for the image of a swap area",
+        details::LOADER,
+    )
+}
+
+fn machine<'a>(alloc: Global) -> Result<Command<'a>, AllocError>
+    ensures { IfOk result (IsApp machine_app) }
+{
+    let tables = Arg::new(alloc, "tables")
+        .long("tables")
+        .action(ArgAction::Append)
+        .num_args(2)
+        .value_names(&["F", "S"])
+        .value_parser(value_parser!(u32))
+        .help("The first page frames of the tables in the image");
+    over_layout(
+        alloc,
+        "machine",
+        "Makes the dump of the machine that the image of a swap area saved",
+        details::MACHINE,
+    )?
+    .arg(tables)
+}
+
+/// A command whose options say where page frames and slots lie, and may be repeated.
+fn over_layout<'a>(
+    alloc: Global,
+    name: &'a str,
+    about: &'a str,
+    details: &'a str,
+) -> Result<Command<'a>, AllocError>
+    ensures { IfOk result (IsApp (dump_app name.entry.now)) }
 {
     let zone = Arg::new(alloc, "zone")
         .long("zone")
@@ -155,12 +192,7 @@ fn loader<'a>(alloc: Global) -> Result<Command<'a>, AllocError>
         .value_names(&["START", "LENGTH", "BLOCK"])
         .value_parser(value_parser!(u32))
         .help("An extent of the area, one of up to 64");
-    over_area(
-        alloc,
-        "loader",
-        "Makes the dump of a loader for the image of a swap area",
-        details::LOADER,
-    )?
-    .arg(zone)?
-    .arg(extent)
+    over_area(alloc, name, about, details)?
+        .arg(zone)?
+        .arg(extent)
 }

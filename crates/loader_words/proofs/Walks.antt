@@ -4,10 +4,10 @@ use Rattle.std.proofs.lemmas.Option.{none-some}
 use Rattle.std.specs.Prelude.{IfNone, option_and_then}
 use Rattle.loader_words.specs.Words.{Given, Read, option_first, options_in}
 
-pub no_more : (k : ℕ) (given : Given) → k < 82 → options_in (82 - k) given [] ≡ Some given
+pub no_more : (k : ℕ) (given : Given) → k < 83 → options_in (83 - k) given [] ≡ Some given
 unfolding options_in
 no_more k given lt =
-    let more : 82 - k ≡ suc (81 - k) = omega arith in
+    let more : 83 - k ≡ suc (82 - k) = omega arith in
     ap (λ (n : ℕ). options_in n given []) more
 
 one_more : (n : ℕ) (given : Given) (words : List (List ℕ)) (some : Given) (rest : List (List ℕ)) →
@@ -16,23 +16,23 @@ unfolding options_in
 one_more n given [] some rest e = absurd (none-some (some, rest) e)
 one_more n given (flag ∷ words) some rest e = ap (λ (r : Read). option_and_then (λ read. options_in n read.0 read.1) r) e
 
-pub one_read : (k : ℕ) (given : Given) (words : List (List ℕ)) (some : Given) (rest : List (List ℕ)) → k < 82 →
-    option_first given words ≡ Some (some, rest) → options_in (82 - k) given words ≡ options_in (82 - (k + 1)) some rest
+pub one_read : (k : ℕ) (given : Given) (words : List (List ℕ)) (some : Given) (rest : List (List ℕ)) → k < 83 →
+    option_first given words ≡ Some (some, rest) → options_in (83 - k) given words ≡ options_in (83 - (k + 1)) some rest
 one_read k given words some rest lt e =
-    let more : 82 - k ≡ suc (82 - (k + 1)) = omega arith in
-    ap (λ (n : ℕ). options_in n given words) more ∙ one_more (82 - (k + 1)) given words some rest e
+    let more : 83 - k ≡ suc (83 - (k + 1)) = omega arith in
+    ap (λ (n : ℕ). options_in n given words) more ∙ one_more (83 - (k + 1)) given words some rest e
 
 none_more : (n : ℕ) (given : Given) (flag : List ℕ) (words : List (List ℕ)) → option_first given (flag ∷ words) ≡ None →
     options_in (suc n) given (flag ∷ words) ≡ None
 unfolding options_in
 none_more n given flag words e = ap (λ (r : Read). option_and_then (λ read. options_in n read.0 read.1) r) e
 
-pub none_read : (k : ℕ) (given : Given) (words : List (List ℕ)) → k < 82 → (words ≡ [] → ⊥) → option_first given words ≡ None →
-    options_in (82 - k) given words ≡ None
+pub none_read : (k : ℕ) (given : Given) (words : List (List ℕ)) → k < 83 → (words ≡ [] → ⊥) → option_first given words ≡ None →
+    options_in (83 - k) given words ≡ None
 none_read k given [] lt some e = absurd (some refl)
 none_read k given (flag ∷ words) lt some e =
-    let more : 82 - k ≡ suc (81 - k) = omega arith in
-    ap (λ (n : ℕ). options_in n given (flag ∷ words)) more ∙ none_more (81 - k) given flag words e
+    let more : 83 - k ≡ suc (82 - k) = omega arith in
+    ap (λ (n : ℕ). options_in n given (flag ∷ words)) more ∙ none_more (82 - k) given flag words e
 
 pub too_many : (given : Given) (words : List (List ℕ)) → options_in 0 given words ≡ None
 unfolding options_in

@@ -1,4 +1,4 @@
--- The command line of `swsusp_image loader`: which lists of words are plain, and what they ask for.
+-- The command lines of `swsusp_image loader` and `swsusp_image machine`: which lists of words are plain, and what they ask for.
 use Rattle.std.specs.Prelude.{ℕ, zero, suc, ◌^◌, List, [], ◌∷◌, ◌++◌, length, nat_eq, nat_lt, is_none, codes, if◌then◌else◌}
 use Rattle.std.specs.Prelude.{Option, Some, None, option_map, option_and_then, take, drop, unwrap_or, slice_index_or}
 use Rattle.std.specs.Cmp.Lexicographic.{pointwise}
@@ -7,17 +7,24 @@ use Rattle.swsusp_words.specs.Words.{is_path, plain_number}
 -- the options of a command line: each number has 32 bits
 pub record Given : Type 0 where
   pub offset : Option ℕ
+  pub tables : Option (ℕ × ℕ)
   pub zones : List (ℕ × ℕ)
   pub extents : List (ℕ × ℕ × ℕ)
 
-pub record AskedLoader : Type 0 where
+-- which dump is wanted: that of a loader, or of the machine that was saved, with its tables where they are in the image
+pub data WantedDump : Type 0 where
+  loader : WantedDump
+  machine : (tables : Option (ℕ × ℕ)) → WantedDump
+
+pub record AskedDump : Type 0 where
+  pub wanted : WantedDump
   pub swap : List ℕ
   pub offset : ℕ
   pub zones : List (ℕ × ℕ)
   pub extents : List (ℕ × ℕ × ℕ)
 
 abbrev pub no_options : Given
-no_options = record { offset = None; zones = []; extents = [] }
+no_options = record { offset = None; tables = None; zones = []; extents = [] }
 
 abbrev pub number : List ℕ → Option ℕ
 number word = plain_number (2 ^ 32) word
@@ -31,6 +38,16 @@ offset_first given [] = None
 offset_first given (n ∷ words) =
     if is_none given.offset
     then option_map (λ offset. ((record given { offset = Some offset }), words)) (number n)
+    else None
+
+-- F S, once
+abbrev pub tables_first : Given → List (List ℕ) → Read
+tables_first given [] = None
+tables_first given (frames ∷ []) = None
+tables_first given (frames ∷ slots ∷ words) =
+    if is_none given.tables
+    then option_and_then
+    (λ f. option_map (λ s. ((record given { tables = Some (f, s) }), words)) (number slots)) (number frames)
     else None
 
 -- one more zone, of at most 16
@@ -63,6 +80,7 @@ abbrev pub option_first : Given → List (List ℕ) → Read
 option_first given [] = None
 option_first given (flag ∷ words) =
     if pointwise nat_eq flag (codes "--offset") then offset_first given words
+    else if pointwise nat_eq flag (codes "--tables") then tables_first given words
     else if pointwise nat_eq flag (codes "--zone") then zone_first given words
     else if pointwise nat_eq flag (codes "--extent") then extent_first given words
     else None
@@ -74,22 +92,32 @@ options_in (suc n) given [] = Some given
 options_in (suc n) given (flag ∷ words) =
     option_and_then (λ read. options_in n read.0 read.1) (option_first given (flag ∷ words))
 
--- the options before SWAP: --offset once, 16 zones and 64 extents at most
-abbrev pub over_path : List (List ℕ) → List ℕ → Option AskedLoader
-over_path options swap =
-    if is_path swap
-    then option_map
-    (λ given. record { swap = swap; offset = unwrap_or given.offset 0; zones = given.zones; extents = given.extents })
-    (options_in 82 no_options options)
+-- which dump a command wants, where these tables are given
+abbrev pub wanted_of : List ℕ → Option (ℕ × ℕ) → Option WantedDump
+wanted_of command tables =
+    if pointwise nat_eq command (codes "loader") then (if is_none tables then Some loader else None)
+    else if pointwise nat_eq command (codes "machine") then Some (machine tables)
     else None
 
-abbrev pub over_words : List (List ℕ) → Option AskedLoader
-over_words [] = None
-over_words (word ∷ words) =
-    over_path (take (length words) (word ∷ words)) (slice_index_or (word ∷ words) (length words) [])
+abbrev pub asked_with : List ℕ → Given → WantedDump → AskedDump
+asked_with swap given wanted =
+    record { wanted = wanted; swap = swap; offset = unwrap_or given.offset 0; zones = given.zones; extents = given.extents }
 
--- What a plain list of words asks for: the program's name, `loader`, options and SWAP.
-abbrev pub loader_of : List (List ℕ) → Option AskedLoader
-loader_of [] = None
-loader_of (name ∷ []) = None
-loader_of (name ∷ command ∷ words) = if pointwise nat_eq command (codes "loader") then over_words words else None
+-- the options before SWAP: --offset and --tables once each, 16 zones and 64 extents at most
+abbrev pub over_path : List ℕ → List (List ℕ) → List ℕ → Option AskedDump
+over_path command options swap =
+    if is_path swap
+    then option_and_then (λ given. option_map (asked_with swap given) (wanted_of command given.tables))
+    (options_in 83 no_options options)
+    else None
+
+abbrev pub over_words : List ℕ → List (List ℕ) → Option AskedDump
+over_words command [] = None
+over_words command (word ∷ words) =
+    over_path command (take (length words) (word ∷ words)) (slice_index_or (word ∷ words) (length words) [])
+
+-- What a plain list of words asks for: the program's name, `loader` or `machine`, options and SWAP.
+abbrev pub asked_of : List (List ℕ) → Option AskedDump
+asked_of [] = None
+asked_of (name ∷ []) = None
+asked_of (name ∷ command ∷ words) = over_words command words

@@ -1,17 +1,27 @@
-ghost use Rattle.std.specs.Prelude.{◌≡◌, Some, None, IfSome, IfNone, map, string_bytes};
-ghost use Rattle.loader_words.specs.Given.{asked_by, given_by};
-ghost use Rattle.loader_words.specs.Words.{loader_of, no_options, options_in};
+ghost use Rattle.std.specs.Prelude.{◌≡◌, Some, None, IfSome, IfNone, map, option_map, string_bytes};
+ghost use Rattle.loader_words.specs.Given.{asked_by, given_by, wanted_by};
+ghost use Rattle.loader_words.specs.Words.{asked_of, no_options, options_in, wanted_of};
 
 use crate::options::{MOST_EXTENTS, MOST_ZONES, Options};
 use arrayvec::ArrayVec;
 use swsusp_words::is_path;
 
-/// One more than the options: the offset, zones and extents.
-const MOST_READS: u32 = 82;
+/// One more than the options: the offset, the tables, zones and extents.
+const MOST_READS: u32 = 83;
 
-/// A loader that is asked for.
+/// Which dump is wanted of an image.
+#[derive(Clone, Copy, Debug, PartialEq, Eq)]
+pub enum Wanted {
+    /// That of a loader.
+    Loader,
+    /// That of the machine which was saved, whose tables are in the image from these page frames on, or aren't.
+    Machine(Option<(u32, u32)>),
+}
+
+/// A dump that is asked for.
 #[derive(Drop)]
 pub struct Asked<'a> {
+    pub wanted: Wanted,
     /// The path of the swap file or block device.
     pub swap: &'a str,
     /// The block of the area's header.
@@ -20,17 +30,14 @@ pub struct Asked<'a> {
     pub extents: ArrayVec<(u32, u32, u32), MOST_EXTENTS>,
 }
 
-/// The loader that a plain list of words asks for, of which the first is the program's name.
+/// The dump that a plain list of words asks for, of which the first is the program's name.
 pub fn parse(words: &[String]) -> Option<Asked<'_>>
-    ensures asked { IfSome result (λ asked. loader_of (map string_bytes words.now) ≡ Some (asked_by asked)) }
-    ensures none { IfNone result (loader_of (map string_bytes words.now) ≡ None) }
+    ensures asked { IfSome result (λ asked. asked_of (map string_bytes words.now) ≡ Some (asked_by asked)) }
+    ensures none { IfNone result (asked_of (map string_bytes words.now) ≡ None) }
 {
     let [_, command, words @ ..] = words else {
         return None;
     };
-    if command.as_str() != "loader" {
-        return None;
-    }
     let [options @ .., swap] = words else {
         return None;
     };
@@ -38,7 +45,9 @@ pub fn parse(words: &[String]) -> Option<Asked<'_>>
         return None;
     }
     let options = options_in(options)?;
+    let wanted = wanted_of(command.as_str(), options.tables)?;
     Some(Asked {
+        wanted,
         swap: swap.as_str(),
         offset: options.offset.unwrap_or(0),
         zones: options.zones,
@@ -46,10 +55,24 @@ pub fn parse(words: &[String]) -> Option<Asked<'_>>
     })
 }
 
+/// Which dump a command wants: a loader's tables aren't given.
+fn wanted_of(command: &str, tables: Option<(u32, u32)>) -> Option<Wanted>
+    ensures { option_map wanted_by result ≡ wanted_of command.now tables }
+{
+    match command {
+        "loader" => match tables {
+            None => Some(Wanted::Loader),
+            Some(_) => None,
+        },
+        "machine" => Some(Wanted::Machine(tables)),
+        _ => None,
+    }
+}
+
 /// The options that words are.
 fn options_in(words: &[String]) -> Option<Options>
-    ensures given { IfSome result (λ given. options_in 82 no_options (map string_bytes words.now) ≡ Some (given_by given)) }
-    ensures none { IfNone result (options_in 82 no_options (map string_bytes words.now) ≡ None) }
+    ensures given { IfSome result (λ given. options_in 83 no_options (map string_bytes words.now) ≡ Some (given_by given)) }
+    ensures none { IfNone result (options_in 83 no_options (map string_bytes words.now) ≡ None) }
 {
     let mut given = Options::new();
     let mut rest = words;

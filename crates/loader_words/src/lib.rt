@@ -1,8 +1,8 @@
-//! The command line of `swsusp_image loader`, whose options may be repeated.
+//! The command lines of `swsusp_image loader` and `swsusp_image machine`, whose options may be repeated.
 #![tactic(auto)]
 
 mod asked;
 mod numbers;
 mod options;
 
-pub use asked::{Asked, parse};
+pub use asked::{Asked, Wanted, parse};

@@ -1,5 +1,5 @@
 ghost use Rattle.std.specs.Prelude.{◌≡◌, ℕ, [], IfSome, IfNone, None, Some, map, string_bytes};
-ghost use Rattle.loader_words.specs.Words.{extent_first, no_options, option_first, zone_first, offset_first};
+ghost use Rattle.loader_words.specs.Words.{extent_first, no_options, option_first, zone_first, offset_first, tables_first};
 ghost use Rattle.loader_words.specs.Given.{given_by};
 
 use crate::numbers::number;
@@ -15,13 +15,15 @@ pub(crate) const MOST_EXTENTS: usize = 64;
 #[derive(Drop)]
 pub(crate) struct Options {
     pub offset: Option<u32>,
+    /// The first page frames of the frame table and of the slot table.
+    pub tables: Option<(u32, u32)>,
     pub zones: ArrayVec<(u32, u32), MOST_ZONES>,
     pub extents: ArrayVec<(u32, u32, u32), MOST_EXTENTS>,
 }
 
 impl Options {
     ghost use Rattle.std.specs.Prelude.{◌≡◌, ◌∷◌, IfSome, IfNone, None, Some, map, string_bytes};
-    ghost use Rattle.loader_words.specs.Words.{extent_first, no_options, option_first, zone_first, offset_first};
+    ghost use Rattle.loader_words.specs.Words.{extent_first, no_options, option_first, zone_first, offset_first, tables_first};
     ghost use Rattle.loader_words.specs.Given.{given_by};
 
     pub fn new() -> Options
@@ -29,6 +31,7 @@ impl Options {
     {
         Options {
             offset: None,
+            tables: None,
             zones: ArrayVec::new(),
             extents: ArrayVec::new(),
         }
@@ -44,6 +47,7 @@ impl Options {
             [] => None,
             [flag, words @ ..] => match flag.as_str() {
                 "--offset" => self.read_offset(words),
+                "--tables" => self.read_tables(words),
                 "--zone" => self.read_zone(words),
                 "--extent" => self.read_extent(words),
                 _ => None,
@@ -63,6 +67,21 @@ impl Options {
             return None;
         }
         self.offset = Some(number(offset.as_str())?);
+        Some(words)
+    }
+
+    fn read_tables<'a>(&mut self, words: &'a [String]) -> Option<&'a [String]>
+        ensures read { IfSome result (λ rest.
+            tables_first (given_by self.old) (map string_bytes words.now) ≡ Some (given_by self.new, map string_bytes rest.now)) }
+        ensures none { IfNone result (tables_first (given_by self.old) (map string_bytes words.now) ≡ None) }
+    {
+        let [frame_table, slot_table, words @ ..] = words else {
+            return None;
+        };
+        if self.tables.is_some() {
+            return None;
+        }
+        self.tables = Some((number(frame_table.as_str())?, number(slot_table.as_str())?));
         Some(words)
     }
 

@@ -5,12 +5,10 @@ use byte_streams::StdSink;
 use command_kit::{Status, print, tell};
 use file_disk::FileDisk;
 use image_check::Printer;
-use image_cli::{
-    Wanted, check, check_json, core, differ, discard, page, show, show_json, stream,
-};
+use image_cli::{Wanted, check, check_json, core, differ, discard, page, show, show_json, stream};
 use image_differ::Side;
 use image_machine::Layout;
-use image_machine_cli::loader;
+use image_machine_cli::{loader, machine};
 use image_words::{Area, Command, Form, Unparsed};
 use loader_words::Asked;
 use progress_disk::{Meter, ProgressDisk};
@@ -37,7 +35,7 @@ fn main(rt: HostRuntime) -> ExitCode {
         return if rt.stdout().is_terminal() {
             sink_fault(&rt)
         } else {
-            make_loader(&rt, &asked, quiet)
+            make_dump(&rt, &asked, quiet)
         };
     }
     match Command::parse(rt.alloc(), words) {
@@ -181,9 +179,9 @@ fn compare_images(
     finished(rt, status)
 }
 
-/// Writes the dump of a loader for the image of an area. Why there is none is noted.
+/// Writes the dump of a loader for the image of an area, or of the machine that it saved. Why there is none is noted.
 #[inline(never)]
-fn make_loader(rt: &HostRuntime, asked: &Asked<'_>, quiet: bool) -> ExitCode {
+fn make_dump(rt: &HostRuntime, asked: &Asked<'_>, quiet: bool) -> ExitCode {
     let (_held, mut disk) = match open_to_read(rt, asked.swap, quiet) {
         Ok(opened) => opened,
         Err(error) => return not_opened(rt, asked.swap, &error),
@@ -195,7 +193,17 @@ fn make_loader(rt: &HostRuntime, asked: &Asked<'_>, quiet: bool) -> ExitCode {
     };
     let mut out = StdSink::new(rt.stdout());
     let mut note = Printer::new(StdSink::new(rt.stderr()));
-    let status = loader(rt.alloc(), &mut disk, &layout, &mut out, &mut note);
+    let status = match asked.wanted {
+        loader_words::Wanted::Loader => loader(rt.alloc(), &mut disk, &layout, &mut out, &mut note),
+        loader_words::Wanted::Machine(tables) => machine(
+            rt.alloc(),
+            &mut disk,
+            &layout,
+            tables,
+            &mut out,
+            &mut note,
+        ),
+    };
     finished(rt, status)
 }
 

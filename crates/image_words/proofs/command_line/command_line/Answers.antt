@@ -3,7 +3,7 @@ use Rattle.std.proofs.lemmas.Result.{IfOk-weaker}
 use Rattle.clap.specs.Words.{App, new_app, with_subcommand}
 use Rattle.clap.specs.Simple.{on_top}
 use Rattle.swsusp_words.proofs.Builders.{subcommand_added, subcommand_wanted, version_set}
-use Rattle.image_words.specs.App.{area_app, differ_app, formed_app, loader_app, page_app, program_app}
+use Rattle.image_words.specs.App.{area_app, differ_app, formed_app, loader_app, machine_app, page_app, program_app}
 use Rattle.image_words.proofs.command_line.command_line.Goals as goal
 
 abbrev one : App
@@ -27,6 +27,9 @@ six = with_subcommand five differ_app.top
 abbrev seven : App
 seven = with_subcommand six (area_app (codes "discard")).top
 
+abbrev eight : App
+eight = with_subcommand seven loader_app.top
+
 pub returns : goal.returns
 returns c =
     let versioned = version_set c.named.result c.version.result (new_app (codes "swsusp_image")) _ c.named.ensures c.version.ensures in
@@ -38,4 +41,5 @@ returns c =
     let f = subcommand_added c.in_ok-subcommand-4.field-0 c.in_ok-over_area-2.field-0 c.in_ok-subcommand-5.field-0 four (area_app (codes "core")) e c.in_ok-over_area-2.ensures c.in_ok-subcommand-5.ensures in
     let h = subcommand_added c.in_ok-subcommand-5.field-0 c.in_ok-comparison.field-0 c.in_ok-subcommand-6.field-0 five differ_app f c.in_ok-comparison.ensures c.in_ok-subcommand-6.ensures in
     let i = subcommand_added c.in_ok-subcommand-6.field-0 c.in_ok-over_area-3.field-0 c.in_ok-subcommand-7.field-0 six (area_app (codes "discard")) h c.in_ok-over_area-3.ensures c.in_ok-subcommand-7.ensures in
-    IfOk-weaker c.subcommand-8.result _ _ (λ r k. subcommand_added c.in_ok-subcommand-7.field-0 c.in_ok-loader.field-0 r seven loader_app i c.in_ok-loader.ensures k) c.subcommand-8.ensures
+    let j = subcommand_added c.in_ok-subcommand-7.field-0 c.in_ok-loader.field-0 c.in_ok-subcommand-8.field-0 seven loader_app i c.in_ok-loader.ensures c.in_ok-subcommand-8.ensures in
+    IfOk-weaker c.subcommand-9.result _ _ (λ r k. subcommand_added c.in_ok-subcommand-8.field-0 c.in_ok-machine.field-0 r eight machine_app j c.in_ok-machine.ensures k) c.subcommand-9.ensures

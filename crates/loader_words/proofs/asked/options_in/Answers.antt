@@ -12,7 +12,7 @@ returns-then-is_empty-clause-given c =
     let given = given_by c.loop.given in
     let none : length c.loop.rest.now ≡ 0 = grind (arith, nat_tests, c.is_empty.ensures, c.if-is_empty.true) in
     sym c.loop.invariant
-    ∙ ap (λ (ws : List (List ℕ)). options_in (82 - k) given ws) (none_left string_bytes c.loop.rest.now none)
+    ∙ ap (λ (ws : List (List ℕ)). options_in (83 - k) given ws) (none_left string_bytes c.loop.rest.now none)
     ∙ no_more k given c.loop-test.true
 
 pub returns-in_err-rest-clause-none : goal.returns-in_err-rest-clause-none
@@ -34,7 +34,7 @@ pub returns-clause-none : goal.returns-clause-none
 returns-clause-none c =
     let end = c.loop-test.false in
     let k = c.loop.counter in
-    let over : 82 - k ≡ 0 = omega arith in
+    let over : 83 - k ≡ 0 = omega arith in
     sym c.loop.invariant
     ∙ ap (λ (n : ℕ). options_in n (given_by c.loop.given) (map string_bytes c.loop.rest.now)) over
     ∙ too_many (given_by c.loop.given) (map string_bytes c.loop.rest.now)

@@ -1,6 +1,6 @@
 use Rattle.std.proofs.Common.{Result, Err, sym, ap, ◌∙◌, subst}
 use Rattle.std.proofs.lemmas.Result.{err_from_is_err_and}
-use Rattle.std.specs.Prelude.{IfErr, []}
+use Rattle.std.specs.Prelude.{IfErr}
 use Rattle.image_machine.specs.Limits.{StopsAtOnce}
 use Rattle.image_machine.specs.declared.limit.Stop.{Stop}
 use Rattle.image_machine.specs.declared.plan.Plan.{Plan}

@@ -1,0 +1,18 @@
+use image_machine::Limit;
+use machine::Dump;
+
+/// What was made of an image.
+#[derive(Drop)]
+pub enum Made {
+    /// The header block, if the disk has it, isn't marked.
+    NoImage,
+    /// The findings of the header block, or of the first block that is named and has some, were told.
+    Refused,
+    /// Pages of zeros have no data page.
+    SkipsZeros,
+    /// Without the mark the header block isn't that of a version 1 area.
+    NoArea,
+    /// There is no such machine.
+    Limit(Limit),
+    Dump(Dump),
+}

@@ -1,0 +1,84 @@
+ghost use Rattle.std.specs.Prelude.{◌≡◌, ◌≤◌, [], IfOk, OnErr};
+ghost use Rattle.image_machine.specs.Filled.{IsFilled};
+ghost use Rattle.image_dump.specs.Headings.{IsHeadingOf};
+ghost use Rattle.image_dump.specs.Makes.{MakesMachine};
+
+use crate::adding::Added;
+use crate::begun::{Begun, begin};
+use crate::laying::lay_all;
+use crate::made::Made;
+use image_check::Report;
+use image_frames::{Frames, Opened};
+use image_machine::{FilledPlan, Layout, Stop};
+use page_core::NoMemory;
+use sector_disk::Disk;
+use std::alloc::Global;
+
+/// Makes the dump of the machine that the image of an area saved: its page frames in use are the saved ones, with their pages,
+/// and it can hibernate again. Its frame table and its slot table are in the image, from these page frames on, or else it is
+/// given new ones in page frames that the image doesn't save. The image is read to its end; its header block and its info page
+/// are read twice, so that a limit which they pass is told before a page is read.
+pub fn machine_of<D: Disk, R: Report>(
+    alloc: Global,
+    disk: &mut D,
+    layout: &Layout<'_>,
+    tables: Option<(u32, u32)>,
+    report: &mut R,
+) -> Result<Made, NoMemory>
+    ensures made { IfOk result (MakesMachine (D.content disk.old) (D.block_count disk.old)
+        (D.faults disk.old) (D.faults disk.new) (R.told report.old) (R.told report.new) layout.now tables) }
+    ensures untold { OnErr result (R.told report.new ≡ R.told report.old) }
+    ensures content { D.content disk.new ≡ D.content disk.old }
+    ensures faults { D.faults disk.old ≤ D.faults disk.new }
+    ensures orders { D.orders disk.new ≡ D.orders disk.old }
+    ensures blocks { D.block_count disk.new ≡ D.block_count disk.old }
+{
+    let heading = match begin(alloc, disk, layout.offset, report)? {
+        Begun::NoImage => return Ok(Made::NoImage),
+        Begun::Refused => return Ok(Made::Refused),
+        Begun::SkipsZeros => return Ok(Made::SkipsZeros),
+        Begun::NoArea => return Ok(Made::NoArea),
+        Begun::Open(heading, _) => heading,
+    };
+    match FilledPlan::of(alloc, &heading, *layout) {
+        Ok(filled) => fill(alloc, filled, tables, disk, report),
+        Err(Stop::Limit(limit)) => Ok(Made::Limit(limit)),
+        Err(Stop::Memory) => Err(NoMemory),
+    }
+}
+
+/// Makes the machine of an image of which the heading was read.
+#[inline(never)]
+fn fill<D: Disk, R: Report>(
+    alloc: Global,
+    mut filled: FilledPlan<'_>,
+    tables: Option<(u32, u32)>,
+    disk: &mut D,
+    report: &mut R,
+) -> Result<Made, NoMemory>
+    requires filled { IsFilled filled [] }
+    requires heading { IsHeadingOf (D.content disk.old) filled.plan.layout.offset filled.plan.heading }
+    ensures made { IfOk result (MakesMachine (D.content disk.old) (D.block_count disk.old)
+        (D.faults disk.old) (D.faults disk.new) (R.told report.old) (R.told report.new) filled.entry.plan.layout tables) }
+    ensures untold { OnErr result (R.told report.new ≡ R.told report.old) }
+    ensures content { D.content disk.new ≡ D.content disk.old }
+    ensures faults { D.faults disk.old ≤ D.faults disk.new }
+    ensures orders { D.orders disk.new ≡ D.orders disk.old }
+    ensures blocks { D.block_count disk.new ≡ D.block_count disk.old }
+{
+    let mut frames = match Frames::open(alloc, disk, filled.plan.layout.offset, report)? {
+        Opened::NoImage => return Ok(Made::NoImage),
+        Opened::Refused => return Ok(Made::Refused),
+        Opened::SkipsZeros => return Ok(Made::SkipsZeros),
+        Opened::Open(frames) => frames,
+    };
+    match lay_all(&mut filled, &mut frames, disk, report) {
+        Added::All => {}
+        Added::Refused => return Ok(Made::Refused),
+        Added::Limit(limit) => return Ok(Made::Limit(limit)),
+    }
+    match filled.machine(tables) {
+        Ok(dump) => Ok(Made::Dump(dump)),
+        Err(limit) => Ok(Made::Limit(limit)),
+    }
+}
