@@ -50,6 +50,7 @@ def test_each_command_runs_in_its_stack():
     within("swsusp", "replay", stdin=SCRIPT)
     within("swsusp", "drill", 10)
     within("swsusp_machine", "loader", stdin=saved)
+    within("swsusp_machine", "core", stdin=saved)
     within("swsusp_machine", "show", stdin=saved)
     within("swsusp_machine", "draw", stdin=SCRIPT)
     within("swsusp_machine", "make", stdin=b"boot\nstep core\nstep core\n")

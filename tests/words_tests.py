@@ -6,7 +6,7 @@ from harness import Mismatch, check, check_same, run
 VERSION = (pathlib.Path(__file__).resolve().parent.parent / "VERSION").read_text().strip()
 
 COMMANDS = ["inspect", "hibernate", "resume", "replay", "drill", "export", "import"]
-MACHINE_COMMANDS = ["make", "loader", "show", "differ", "check"]
+MACHINE_COMMANDS = ["make", "draw", "loader", "core", "show", "differ", "check"]
 
 # clap takes these, and yet they aren't plain.
 NOT_PLAIN = [

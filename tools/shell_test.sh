@@ -185,6 +185,7 @@ each "export" io 0 empty saved "$program" export
 each "make" io 0 empty story "$machine" make
 each "draw" io 0 empty story "$machine" draw
 each "loader" io 0 empty saved "$machine" loader
+each "core" io 0 empty saved "$machine" core
 each "show" io 0 empty saved "$machine" show
 each "differ, the same" o 0 empty nothing "$machine" differ "$room/dump" "$room/dump"
 each "differ, no dump" n 3 empty nothing "$machine" differ "$room/dump" "$room/stream"
@@ -250,6 +251,7 @@ same "export on a terminal" "4|sink fault||kept" "$(shown saved "$program" expor
 same "make on a terminal" "4|sink fault||kept" "$(shown story "$machine" make)"
 same "draw on a terminal" "4|sink fault||kept" "$(shown story "$machine" draw)"
 same "loader on a terminal" "4|sink fault||kept" "$(shown saved "$machine" loader)"
+same "core on a terminal" "4|sink fault||kept" "$(shown saved "$machine" core)"
 same "show on a terminal" "0||slots 1600|kept" "$(shown saved "$machine" show)"
 same "check on a terminal" "0||resumed 5|kept" "$(shown loader "$machine" check "$room/disk")"
 same "stream on a terminal" "4|sink fault||kept" "$(shown nothing "$images" stream "$room/disk")"

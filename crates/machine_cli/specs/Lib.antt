@@ -1,5 +1,6 @@
 pub mod Checked
 pub mod Compared
+pub mod Cored
 pub mod Drawn
 pub mod Freshened
 pub mod Made

@@ -2,6 +2,7 @@
 #![tactic(auto)]
 
 mod checking;
+mod coring;
 mod differing;
 mod drawing;
 mod loading;
@@ -9,6 +10,7 @@ mod making;
 mod showing;
 
 pub use checking::check;
+pub use coring::core;
 pub use differing::differ;
 pub use drawing::draw;
 pub use loading::loader;

@@ -7,7 +7,7 @@ use Rattle.plain_machine.specs.declared.event.IdentCheck.TheVariants.{Compare, S
 use Rattle.swsusp_words.specs.Words.{is_path}
 use Rattle.swsusp_words.proofs.Numbers.{some_if}
 use Rattle.machine_words.specs.Spelled.{IsSpelled, IsValid, Spells}
-use Rattle.machine_words.specs.Words.{Asked, make, draw, loader, show, differ, check, alone, check_of, command_by, command_of, differ_of}
+use Rattle.machine_words.specs.Words.{Asked, make, draw, loader, core, show, differ, check, alone, check_of, command_by, command_of, differ_of}
 
 abbrev Words : Type 0
 Words = List (List ℕ)
@@ -56,13 +56,16 @@ spells_command command words asked e =
         | inl h ↦ named command _ words asked h.0 (spells_alone draw asked (codes "draw") words h.1 (tt, refl))
         | inr e2 ↦ elim (either (pointwise nat_eq command (codes "loader")) (alone loader words) _ asked e2) [
           | inl h ↦ named command _ words asked h.0 (spells_alone loader asked (codes "loader") words h.1 (tt, refl))
-          | inr e3 ↦ elim (either (pointwise nat_eq command (codes "show")) (alone show words) _ asked e3) [
-            | inl h ↦ named command _ words asked h.0 (spells_alone show asked (codes "show") words h.1 (tt, refl))
-            | inr e4 ↦ elim (either (pointwise nat_eq command (codes "differ")) (differ_of words) _ asked e4) [
-              | inl h ↦ named command _ words asked h.0 (spells_differ words asked h.1)
-              | inr e5 ↦ elim (either (pointwise nat_eq command (codes "check")) (check_of words) _ asked e5) [
-                | inl h ↦ named command _ words asked h.0 (spells_check words asked h.1)
-                | inr e6 ↦ cc
+          | inr e3 ↦ elim (either (pointwise nat_eq command (codes "core")) (alone core words) _ asked e3) [
+            | inl h ↦ named command _ words asked h.0 (spells_alone core asked (codes "core") words h.1 (tt, refl))
+            | inr e4 ↦ elim (either (pointwise nat_eq command (codes "show")) (alone show words) _ asked e4) [
+              | inl h ↦ named command _ words asked h.0 (spells_alone show asked (codes "show") words h.1 (tt, refl))
+              | inr e5 ↦ elim (either (pointwise nat_eq command (codes "differ")) (differ_of words) _ asked e5) [
+                | inl h ↦ named command _ words asked h.0 (spells_differ words asked h.1)
+                | inr e6 ↦ elim (either (pointwise nat_eq command (codes "check")) (check_of words) _ asked e6) [
+                  | inl h ↦ named command _ words asked h.0 (spells_check words asked h.1)
+                  | inr e7 ↦ cc
+                ]
               ]
             ]
           ]
@@ -84,6 +87,7 @@ pub asks : (name : List ℕ) (words : Words) (asked : Asked) → IsValid asked �
 asks name words make valid spelled = of_same words _ _ name spelled refl
 asks name words draw valid spelled = of_same words _ _ name spelled refl
 asks name words loader valid spelled = of_same words _ _ name spelled refl
+asks name words core valid spelled = of_same words _ _ name spelled refl
 asks name words show valid spelled = of_same words _ _ name spelled refl
 asks name words (differ first second) valid spelled = of_same words _ _ name spelled (rw (valid.0, valid.1) refl)
 asks name words (check Compare swap) valid spelled = of_same words _ _ name spelled (rw valid refl)

@@ -7,7 +7,7 @@ use Rattle.swsusp_words.proofs.Values.{IsValue, path_value}
 use Rattle.machine_words.specs.App.{machine_app}
 use Rattle.machine_words.specs.Matched.{asked_in}
 use Rattle.machine_words.specs.Spelled.{IsSpelled, IsValid}
-use Rattle.machine_words.specs.Words.{Asked, make, draw, loader, show, differ, check, command_of}
+use Rattle.machine_words.specs.Words.{Asked, make, draw, loader, core, show, differ, check, command_of}
 use Rattle.machine_words.proofs.Forms.{spells}
 
 -- clap takes the words, and its matches ask for this
@@ -27,6 +27,10 @@ module _ (name : Text) where
   loads : Asks (name ∷ codes "loader" ∷ []) loader
   unfolding clap_on_literals
   loads = record { taken = refl; matched = refl }
+
+  cores : Asks (name ∷ codes "core" ∷ []) core
+  unfolding clap_on_literals
+  cores = record { taken = refl; matched = refl }
 
   shows : Asks (name ∷ codes "show" ∷ []) show
   unfolding clap_on_literals
@@ -74,6 +78,7 @@ taken : (name : Text) (words : List Text) (asked : Asked) → IsValid asked → 
 taken name words make valid spelled = of_same words _ _ name spelled (makes name)
 taken name words draw valid spelled = of_same words _ _ name spelled (draws name)
 taken name words loader valid spelled = of_same words _ _ name spelled (loads name)
+taken name words core valid spelled = of_same words _ _ name spelled (cores name)
 taken name words show valid spelled = of_same words _ _ name spelled (shows name)
 taken name words (differ first second) valid spelled =
     of_same words _ _ name spelled (differs name first second (path_value first valid.0) (path_value second valid.1))

@@ -13,6 +13,9 @@ draw_app = new_app (codes "draw")
 abbrev pub loader_app : App
 loader_app = new_app (codes "loader")
 
+abbrev pub core_app : App
+core_app = new_app (codes "core")
+
 abbrev pub show_app : App
 show_app = new_app (codes "show")
 
@@ -41,6 +44,8 @@ abbrev pub machine_app : App
 machine_app =
     with_subcommand
     (with_subcommand
-    (with_subcommand (with_subcommand (with_subcommand (with_subcommand program_app make_app.top) draw_app.top) loader_app.top) show_app.top)
+    (with_subcommand
+    (with_subcommand (with_subcommand (with_subcommand (with_subcommand program_app make_app.top) draw_app.top) loader_app.top) core_app.top)
+    show_app.top)
     differ_app.top)
     check_app.top

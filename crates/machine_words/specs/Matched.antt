@@ -5,7 +5,7 @@ use Rattle.clap.specs.Words.{Row, Text, first_of}
 use Rattle.swsusp_words.specs.Matched.{check_by, flag_at}
 use Rattle.machine_words.specs.Asked.{asked_by}
 use Rattle.machine_words.specs.declared.command.Command.{Command}
-use Rattle.machine_words.specs.Words.{Asked, make, draw, loader, show, differ, check}
+use Rattle.machine_words.specs.Words.{Asked, make, draw, loader, core, show, differ, check}
 
 abbrev pub differ_in : List Row → Option Asked
 differ_in rows = option_and_then (λ first. option_map (λ second. differ first second) (first_of (codes "second") rows)) (first_of (codes "first") rows)
@@ -21,6 +21,7 @@ matched_by name rows =
     if bytes_eq name (codes "make") then Some make
     else if bytes_eq name (codes "draw") then Some draw
     else if bytes_eq name (codes "loader") then Some loader
+    else if bytes_eq name (codes "core") then Some core
     else if bytes_eq name (codes "show") then Some show
     else if bytes_eq name (codes "differ") then differ_in rows
     else if bytes_eq name (codes "check") then check_in rows

@@ -2,13 +2,14 @@
 use Rattle.std.specs.Prelude.{◌≡◌, ℕ, true, List, [], ◌∷◌, codes, ⊤}
 use Rattle.plain_machine.specs.declared.event.IdentCheck.TheVariants.{Compare, Skip}
 use Rattle.swsusp_words.specs.Words.{is_path}
-use Rattle.machine_words.specs.Words.{Asked, make, draw, loader, show, differ, check}
+use Rattle.machine_words.specs.Words.{Asked, make, draw, loader, core, show, differ, check}
 
 -- the values that a command can have
 abbrev pub IsValid : Asked → Type 0
 IsValid make = ⊤
 IsValid draw = ⊤
 IsValid loader = ⊤
+IsValid core = ⊤
 IsValid show = ⊤
 IsValid (differ first second) = (is_path first ≡ true) × (is_path second ≡ true)
 IsValid (check ident swap) = is_path swap ≡ true
@@ -18,6 +19,7 @@ abbrev pub IsSpelled : Asked → List (List ℕ) → Type 0
 IsSpelled make words = words ≡ codes "make" ∷ []
 IsSpelled draw words = words ≡ codes "draw" ∷ []
 IsSpelled loader words = words ≡ codes "loader" ∷ []
+IsSpelled core words = words ≡ codes "core" ∷ []
 IsSpelled show words = words ≡ codes "show" ∷ []
 IsSpelled (differ first second) words = words ≡ codes "differ" ∷ first ∷ second ∷ []
 IsSpelled (check Compare swap) words = words ≡ codes "check" ∷ swap ∷ []

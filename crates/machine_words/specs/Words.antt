@@ -10,6 +10,7 @@ pub data Asked : Type 0 where
   make : Asked
   draw : Asked
   loader : Asked
+  core : Asked
   show : Asked
   differ : (first second : List ℕ) → Asked
   check : (ident : IdentCheck) (swap : List ℕ) → Asked
@@ -40,6 +41,7 @@ command_by command words =
     if pointwise nat_eq command (codes "make") then alone make words
     else if pointwise nat_eq command (codes "draw") then alone draw words
     else if pointwise nat_eq command (codes "loader") then alone loader words
+    else if pointwise nat_eq command (codes "core") then alone core words
     else if pointwise nat_eq command (codes "show") then alone show words
     else if pointwise nat_eq command (codes "differ") then differ_of words
     else if pointwise nat_eq command (codes "check") then check_of words

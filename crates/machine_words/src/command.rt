@@ -13,6 +13,8 @@ pub enum Command<'a> {
     Draw,
     /// Writes the dump of a machine when it has just booted.
     Loader,
+    /// Writes a dump as a core file.
+    Core,
     /// Prints what a dump says of its machine.
     Show,
     /// Tells where two dumps differ first.

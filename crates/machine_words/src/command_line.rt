@@ -1,7 +1,7 @@
 ghost use Rattle.std.specs.Prelude.{IfOk};
 ghost use Rattle.clap.specs.Words.{new_app};
 ghost use Rattle.swsusp_words.specs.App.{IsApp};
-ghost use Rattle.machine_words.specs.App.{check_app, differ_app, draw_app, loader_app, machine_app, make_app, show_app};
+ghost use Rattle.machine_words.specs.App.{check_app, core_app, differ_app, draw_app, loader_app, machine_app, make_app, show_app};
 
 use crate::details;
 use clap::{Arg, ArgAction, Command};
@@ -22,6 +22,7 @@ pub(crate) fn command_line<'a>(alloc: Global) -> Result<Command<'a>, AllocError>
     .subcommand(making(alloc))?
     .subcommand(drawing(alloc))?
     .subcommand(loading(alloc))?
+    .subcommand(coring(alloc))?
     .subcommand(showing(alloc))?
     .subcommand(comparison(alloc)?)?
     .subcommand(trial(alloc)?)
@@ -64,6 +65,17 @@ fn loading<'a>(alloc: Global) -> Command<'a>
         "loader",
         "Writes the dump of the same machine when it has just booted",
         details::LOADER,
+    )
+}
+
+fn coring<'a>(alloc: Global) -> Command<'a>
+    ensures { IsApp core_app result }
+{
+    named(
+        alloc,
+        "core",
+        "Writes the memory of a dump as an ELF core file",
+        details::CORE,
     )
 }
 

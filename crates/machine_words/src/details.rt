@@ -25,6 +25,12 @@ can be resumed.
 
 Example: swsusp_machine loader < saved.dump > loader.dump";
 
+pub(crate) const CORE: &str =
+    "It reads a dump from standard input, and writes a core file for `crash`, `gdb` or `readelf` to standard
+output, with a segment for each run of page frames that are in use or hold a byte other than zero.
+
+Example: swsusp_machine core < saved.dump > memory.core";
+
 pub(crate) const SHOW: &str =
     "It reads the dump from standard input, and prints to standard output, as `frames_saveable 5`.
 

@@ -16,6 +16,7 @@ pub(crate) fn matched<'a>(matches: &ArgMatches<'a>) -> Option<Command<'a>>
         "make" => Some(Command::Make),
         "draw" => Some(Command::Draw),
         "loader" => Some(Command::Loader),
+        "core" => Some(Command::Core),
         "show" => Some(Command::Show),
         "differ" => comparison(values),
         "check" => trial(values),

@@ -42,6 +42,7 @@ fn spells(command: &Command<'_>, words: &[String]) -> bool
         Command::Make => equal(words, &["make"]),
         Command::Draw => equal(words, &["draw"]),
         Command::Loader => equal(words, &["loader"]),
+        Command::Core => equal(words, &["core"]),
         Command::Show => equal(words, &["show"]),
         Command::Differ { first, second } => {
             is_path(first) && is_path(second) && equal(words, &["differ", first, second])

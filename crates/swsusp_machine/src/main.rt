@@ -4,7 +4,7 @@
 use byte_streams::{StdSink, StdSource};
 use command_kit::{Status, print, tell};
 use file_disk::{FileDisk, first_map_beyond};
-use machine_cli::{check, differ, draw, loader, make, show_facts};
+use machine_cli::{check, core, differ, draw, loader, make, show_facts};
 use machine_words::{Command, Unparsed};
 use page_core::NoMemory;
 use plain_machine::IdentCheck;
@@ -33,11 +33,12 @@ fn main(rt: HostRuntime) -> ExitCode {
     };
     let (words, quiet) = after_quiet(&words);
     match Command::parse(rt.alloc(), words) {
-        Ok(Command::Make | Command::Draw | Command::Loader) if rt.stdout().is_terminal() =>
-            sink_fault(&rt),
+        Ok(Command::Make | Command::Draw | Command::Loader | Command::Core)
+            if rt.stdout().is_terminal() => sink_fault(&rt),
         Ok(Command::Make) => make_over_memory(&rt, quiet),
         Ok(Command::Draw) => draw_over_memory(&rt, quiet),
         Ok(Command::Loader) => make_loader(&rt),
+        Ok(Command::Core) => write_core(&rt),
         Ok(Command::Show) => show_dump(&rt),
         Ok(Command::Differ { first, second }) => differ_files(&rt, first, second),
         Ok(Command::Check { check, swap }) => check_file(&rt, swap, check, quiet),
@@ -94,6 +95,16 @@ fn make_loader(rt: &HostRuntime) -> ExitCode {
     let mut out = StdSink::new(rt.stdout());
     let mut note = StdSink::new(rt.stderr());
     let status = loader(rt.alloc(), &mut input, &mut out, &mut note);
+    finished(rt, status)
+}
+
+/// Reads a dump from standard input, and writes the core file of its memory.
+#[inline(never)]
+fn write_core(rt: &HostRuntime) -> ExitCode {
+    let mut input = StdSource::new(rt.stdin());
+    let mut out = StdSink::new(rt.stdout());
+    let mut note = StdSink::new(rt.stderr());
+    let status = core(rt.alloc(), &mut input, &mut out, &mut note);
     finished(rt, status)
 }
 

@@ -1,0 +1,4 @@
+pub mod Loads
+pub mod PageRuns
+pub mod Pieces
+pub mod RunLaws

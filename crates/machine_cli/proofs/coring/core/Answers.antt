@@ -1,0 +1,23 @@
+use Rattle.std.proofs.Common.{refl, subst}
+use Rattle.dump_file.specs.Dump.{DumpValue}
+use Rattle.command_kit.specs.Answer.{RunResult}
+use Rattle.command_kit.specs.Told.{IsTold}
+use Rattle.command_kit.specs.View.{SinkView}
+use Rattle.swsusp_cli.proofs.Inputs.{without_dump}
+use Rattle.machine_cli.specs.Cored.{cored, no_dump, out_of_memory, unread}
+use Rattle.machine_cli.proofs.coring.core.Goals as goal
+
+pub returns-in-Err-clause-outcome : goal.returns-in-Err-clause-outcome
+returns-in-Err-clause-outcome g c disk = without_dump _ _ _ c.tell.result c.in-Err.stop c.in-Err.ensures.lacks c.tell.ensures.told (refl {a = disk}) no_dump out_of_memory unread
+
+pub returns-in-Ok-told_runs-clause-outcome : goal.returns-in-Ok-told_runs-clause-outcome
+returns-in-Ok-told_runs-clause-outcome g c disk =
+    let dump : DumpValue = record { hw = c.in-Ok.dump.hw; memory = c.in-Ok.dump.frames } in
+    cored dump (record { says = λ bytes left. c.in-Ok.ensures.dump bytes left; over = c.in-Ok.ensures.end refl }) c.tell_core.ensures.told
+
+pub returns-clause-outcome : goal.returns-clause-outcome
+returns-clause-outcome g c disk =
+    let tell = c.tell-in-Err-told_runs in
+    let out : SinkView = record { taken = g.O.Sink.taken c.args.out.now; flushed = g.O.Sink.flushed c.args.out.now; faults = g.O.Sink.faults c.args.out.now } in
+    let note : SinkView = record { taken = g.N.Sink.taken c.args.note.now; flushed = g.N.Sink.flushed c.args.note.now; faults = g.N.Sink.faults c.args.note.now } in
+    out_of_memory (record { told = subst (λ (t : RunResult). IsTold t tell.result out (record { taken = g.O.Sink.taken tell.new.out; flushed = g.O.Sink.flushed tell.new.out; faults = g.O.Sink.faults tell.new.out }) note (record { taken = g.N.Sink.taken tell.new.note; flushed = g.N.Sink.flushed tell.new.note; faults = g.N.Sink.faults tell.new.note })) c.no_memory.ensures.told tell.ensures.told; untouched = refl {a = disk} })
