@@ -137,12 +137,15 @@ each "words that don't parse" "$room/area" "$room/nothing" hibernate --fast "$ro
 
 program=$image
 each "show" "$room/image" "$room/nothing" show "$room/disk"
+each "show --json" "$room/image" "$room/nothing" show --json "$room/disk"
 each "check" "$room/image" "$room/nothing" check "$room/disk"
+each "check --json" "$room/image" "$room/nothing" check --json "$room/disk"
 each "stream" "$room/image" "$room/nothing" stream "$room/disk"
 each "page" "$room/image" "$room/nothing" page "$room/disk" 0
 each "core" "$room/image" "$room/nothing" core "$room/disk"
 each "differ" "$room/image" "$room/nothing" differ "$room/disk" "$room/image"
 each "loader" "$room/image" "$room/nothing" loader "$room/disk"
+each "machine" "$room/image" "$room/nothing" machine "$room/disk"
 each "discard" "$room/image" "$room/nothing" discard "$room/disk"
 
 program=$machine
@@ -150,6 +153,7 @@ each "show a dump" "$room/area" "$room/saved" show
 each "loader of a dump" "$room/area" "$room/saved" loader
 each "differ of dumps" "$room/area" "$room/nothing" differ "$room/saved" "$room/loader"
 each "check with a dump" "$room/image" "$room/loader" check "$room/disk"
+each "core of a dump" "$room/area" "$room/saved" core
 each "make" "$room/area" "$top/examples/tasks.txt" make
 each "draw" "$room/area" "$top/examples/tasks.txt" draw
 exit $failed
