@@ -23,8 +23,8 @@ use Rattle.image_dump.specs.declared.made.Made.{Made}
 use Rattle.image_dump.specs.Lays.{pages_of}
 use Rattle.image_dump.specs.declared.made.Made.TheVariants.{NoImage, Refused, SkipsZeros, NoArea, Limit as Passed, Dump}
 
--- The image has no machine of this layout, since this limit is passed: whatever page frames were saved, by the last of the
--- first numbers, or by all of them.
+-- The image has no machine of this layout, since this limit is passed: whatever page frames were saved, by the last
+-- of the first numbers, or by all of them.
 pub data HasLimit (content : Option Content) (layout : Layout) (passed : Limit) : Type 0 where
   at_once : (heading : Heading) → IsHeadingOf content layout.offset heading → PassesAtOnce heading layout passed →
       HasLimit content layout passed
@@ -60,22 +60,26 @@ abbrev pub Makes : Option Content → (blocks before now : ℕ) → (told then :
 Makes content blocks before now told then layout made =
     MakesBy (HasLimit content layout) (IsLoaderOf content layout) content blocks layout.offset before now told then made
 
--- The machine that the image saved isn't one of this layout, with tables from these page frames on or without: since this
--- limit is passed whatever page frames were saved, by the last of the first ones, or by all of them.
-pub data HasMachineLimit (content : Option Content) (layout : Layout) (tables : Option (ℕ × ℕ)) (passed : Limit) : Type 0 where
-  passed_at_once : (heading : Heading) → IsHeadingOf content layout.offset heading → PassesAtOnce heading layout passed →
+-- The machine that the image saved isn't one of this layout, with tables from these page frames on or without: since
+-- this limit is passed whatever page frames were saved, by the last of the first ones, or by all of them.
+pub data HasMachineLimit (content : Option Content) (layout : Layout) (tables : Option (ℕ × ℕ))
+    (passed : Limit) : Type 0 where
+  passed_at_once : (heading : Heading) → IsHeadingOf content layout.offset heading →
+      PassesAtOnce heading layout passed →
       HasMachineLimit content layout tables passed
-  lies_outside : (heading : Heading) (given : List SavedFrame) (number : ℕ) → IsHeadingOf content layout.offset heading →
-      AreFirstSaved content layout.offset given → Contains (numbers_of (pages_of given)) number →
+  lies_outside : (heading : Heading) (given : List SavedFrame) (number : ℕ) →
+      IsHeadingOf content layout.offset heading → AreFirstSaved content layout.offset given →
+      Contains (numbers_of (pages_of given)) number →
       (Contains (numbers (zones_of heading layout)) number → ⊥) → passed ≡ limit.Outside number →
       HasMachineLimit content layout tables passed
   passed_at_last : (heading : Heading) (saved : List SavedFrame) → IsHeadingOf content layout.offset heading →
       AreAllSaved content layout.offset saved → PassesWith heading layout tables (pages_of saved) passed →
       HasMachineLimit content layout tables passed
 
--- The dump is that of the machine which the image saved: its page frames in use are those that the chain names, each with
--- its page.
-pub record IsMachineOf (content : Option Content) (layout : Layout) (tables : Option (ℕ × ℕ)) (dump : MachineDump) : Type 0 where
+-- The dump is that of the machine which the image saved: its page frames in use are those that the chain names, each
+-- with its page.
+pub record IsMachineOf (content : Option Content) (layout : Layout) (tables : Option (ℕ × ℕ))
+    (dump : MachineDump) : Type 0 where
   pub heading : Heading
   pub saved : List SavedFrame
   pub headed : IsHeadingOf content layout.offset heading

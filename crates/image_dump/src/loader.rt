@@ -15,8 +15,9 @@ use page_core::NoMemory;
 use sector_disk::Disk;
 use std::alloc::Global;
 
-/// Makes the dump of a loader into which the image of an area can be resumed: a machine that has just booted, of which no page
-/// frame that the image saves is a table's. Of the image its header block, its info page and its number pages are read.
+/// Makes the dump of a loader into which the image of an area can be resumed: a machine that has just booted, of
+/// which no page frame that the image saves is a table's. Of the image its header block, its info page and its number
+/// pages are read.
 pub fn loader_of<D: Disk, R: Report>(
     alloc: Global,
     disk: &mut D,

@@ -14,10 +14,10 @@ use page_core::NoMemory;
 use sector_disk::Disk;
 use std::alloc::Global;
 
-/// Makes the dump of the machine that the image of an area saved: its page frames in use are the saved ones, with their pages,
-/// and it can hibernate again. Its frame table and its slot table are in the image, from these page frames on, or else it is
-/// given new ones in page frames that the image doesn't save. The image is read to its end; its header block and its info page
-/// are read twice, so that a limit which they pass is told before a page is read.
+/// Makes the dump of the machine that the image of an area saved: its page frames in use are the saved ones, with
+/// their pages, and it can hibernate again. Its frame table and its slot table are in the image, from these page
+/// frames on, or else it is given new ones in page frames that the image doesn't save. The image is read to its end;
+/// its header block and its info page are read twice, so that a limit which they pass is told before a page is read.
 pub fn machine_of<D: Disk, R: Report>(
     alloc: Global,
     disk: &mut D,
@@ -59,7 +59,8 @@ fn fill<D: Disk, R: Report>(
     requires filled { IsFilled filled [] }
     requires heading { IsHeadingOf (D.content disk.old) filled.plan.layout.offset filled.plan.heading }
     ensures made { IfOk result (MakesMachine (D.content disk.old) (D.block_count disk.old)
-        (D.faults disk.old) (D.faults disk.new) (R.told report.old) (R.told report.new) filled.entry.plan.layout tables) }
+        (D.faults disk.old) (D.faults disk.new) (R.told report.old) (R.told report.new)
+        filled.entry.plan.layout tables) }
     ensures untold { OnErr result (R.told report.new ≡ R.told report.old) }
     ensures content { D.content disk.new ≡ D.content disk.old }
     ensures faults { D.faults disk.old ≤ D.faults disk.new }

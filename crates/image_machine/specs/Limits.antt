@@ -60,9 +60,11 @@ PassesAtLast heading layout saved (limit.Offset block offset) = ⊥
 PassesAtLast heading layout saved (limit.Outside number) = ⊥
 PassesAtLast heading layout saved limit.NoRoom = HasNoRoom heading layout saved
 PassesAtLast heading layout saved (limit.Hardware fault) =
-    (f : ℕ) × ((s : ℕ) × (AreTables heading layout saved f s × (hard_fault (hardware_with heading layout f s) ≡ Some fault)))
+    (f : ℕ) × ((s : ℕ) × (AreTables heading layout saved f s
+    × (hard_fault (hardware_with heading layout f s) ≡ Some fault)))
 PassesAtLast heading layout saved (limit.TooFew have need) =
-    (f : ℕ) × ((s : ℕ) × (AreTables heading layout saved f s × HasTooFew heading saved (hardware_with heading layout f s) have need))
+    (f : ℕ) × ((s : ℕ) × (AreTables heading layout saved f s
+    × HasTooFew heading saved (hardware_with heading layout f s) have need))
 PassesAtLast heading layout saved (limit.Tables number) = ⊥
 
 -- nothing was made, since a limit is passed, or since memory was refused

@@ -23,9 +23,9 @@ hardware_with heading layout frame_table slot_table = record {
   extents = extents_of heading layout;
 }
 
--- The machine has what the image says of it, its tables lie in page frames that the image doesn't save, its memory is that
--- of a boot, and as many page frames are free as a resume needs. What a resume compares is the same: the number of page
--- frames, and the block of slot 0.
+-- The machine has what the image says of it, its tables lie in page frames that the image doesn't save, its memory is
+-- that of a boot, and as many page frames are free as a resume needs. What a resume compares is the same: the number
+-- of page frames, and the block of slot 0.
 pub record IsLoaderFor (heading : Heading) (layout : Layout) (saved : List ℕ) (h : Hardware) (m : Memory) : Type 0 where
   pub is : h ≡ hardware_with heading layout h.frame_table h.slot_table
   pub frame_table : frame_row h.zones saved ≡ Some h.frame_table

@@ -1,5 +1,6 @@
 -- The machine that an image saved, with its memory.
-use Rattle.std.specs.Prelude.{◌≡◌, ◌↔◌, ℕ, List, length, map, not, ◌&&◌, ◌<◌, ◌⊎◌, if◌then◌else◌, Option, Some, None, Contains, Ok}
+use Rattle.std.specs.Prelude.{◌≡◌, ◌↔◌, ℕ, List, length, map, not, ◌&&◌, ◌<◌, ◌⊎◌, if◌then◌else◌, Option, Some, None}
+use Rattle.std.specs.Prelude.{Contains, Ok}
 use Rattle.std.specs.List.{All, range_with_len}
 use Rattle.definitions.specs.Bytes.{IsPage, zero_page}
 use Rattle.definitions.specs.Slots.{extent_at}
@@ -8,7 +9,8 @@ use Rattle.machine.specs.FreshSlots.{slot_of_area}
 use Rattle.machine.specs.HardFault.{hard_fault}
 use Rattle.plain_machine.specs.FreshMemory.{with_each_entry}
 use Rattle.plain_machine.specs.Loader.{page_or, saved_page}
-use Rattle.plain_machine.specs.Machine.{Fits, Hardware, IsHardware, IsTableFrame, Memory, is_table_frame, saveable, tables_fault}
+use Rattle.plain_machine.specs.Machine.{Fits, Hardware, IsHardware, IsTableFrame, Memory, is_table_frame, saveable}
+use Rattle.plain_machine.specs.Machine.{tables_fault}
 use Rattle.image_machine.specs.Limits.{AreTables, HasNoRoom}
 use Rattle.image_machine.specs.Loaders.{hardware_with}
 use Rattle.image_machine.specs.Rows.{is_unsaved}
@@ -28,7 +30,8 @@ laid_page saved p = page_or (saved_page saved p) zero_page
 unfoldable pub laid : ℕ → List (ℕ × List ℕ) → Memory
 laid n saved = map (laid_page saved) (range_with_len 0 n)
 
--- A valid page frame that wasn't saved and is no table's is free; every other entry is 0: in use, with no owner and no flag.
+-- A valid page frame that wasn't saved and is no table's is free; every other entry is 0: in use, with no owner and
+-- no flag.
 unfoldable pub entry_with : Hardware → List ℕ → ℕ → ℕ
 entry_with h saved p = if is_unsaved h.zones saved p && not (is_table_frame h p) then 1 else 0
 
@@ -36,7 +39,8 @@ entry_with h saved p = if is_unsaved h.zones saved p && not (is_table_frame h p)
 abbrev pub memory_with : Hardware → (ℕ → ℕ) → List (ℕ × List ℕ) → Memory
 memory_with h slots saved =
     with_each_entry slots (range_with_len 0 h.slots) h.slot_table
-    (with_each_entry (entry_with h (numbers_of saved)) (range_with_len 0 (top h.zones)) h.frame_table (laid (top h.zones) saved))
+    (with_each_entry (entry_with h (numbers_of saved)) (range_with_len 0 (top h.zones)) h.frame_table
+    (laid (top h.zones) saved))
 
 -- just these page frames are saveable
 abbrev pub SavesJust : Hardware → Memory → List ℕ → Type 0
@@ -54,10 +58,11 @@ HasMemory heading layout None saved h m =
     × (m ≡ memory_with h (slot_of_area (Ok heading.area)) saved)
     × ((p : ℕ) → IsTableFrame h p → Contains (numbers_of saved) p → ⊥)
 HasMemory heading layout (Some tables) saved h m =
-    (h ≡ hardware_with heading layout tables.0 tables.1) × (m ≡ laid (top h.zones) saved) × SavesJust h m (numbers_of saved)
+    (h ≡ hardware_with heading layout tables.0 tables.1) × (m ≡ laid (top h.zones) saved)
+    × SavesJust h m (numbers_of saved)
 
--- The machine has what the image says of it, and each saved page frame is in use and has its page. It can hibernate: what
--- a dump must hold it has.
+-- The machine has what the image says of it, and each saved page frame is in use and has its page. It can hibernate:
+-- what a dump must hold it has.
 pub record IsMachineFor (heading : Heading) (layout : Layout) (tables : Option (ℕ × ℕ)) (saved : List (ℕ × List ℕ))
     (h : Hardware) (m : Memory) : Type 0 where
   pub is : h ≡ hardware_with heading layout h.frame_table h.slot_table
@@ -79,7 +84,8 @@ PassesByTables heading layout saved (limit.Offset block offset) = ⊥
 PassesByTables heading layout saved (limit.Outside number) = ⊥
 PassesByTables heading layout saved limit.NoRoom = HasNoRoom heading layout saved
 PassesByTables heading layout saved (limit.Hardware fault) =
-    (f : ℕ) × ((s : ℕ) × (AreTables heading layout saved f s × (hard_fault (hardware_with heading layout f s) ≡ Some fault)))
+    (f : ℕ) × ((s : ℕ) × (AreTables heading layout saved f s
+    × (hard_fault (hardware_with heading layout f s) ≡ Some fault)))
 PassesByTables heading layout saved (limit.TooFew have need) = ⊥
 PassesByTables heading layout saved (limit.Tables number) = ⊥
 

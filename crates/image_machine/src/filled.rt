@@ -60,8 +60,8 @@ impl<'a> FilledPlan<'a> {
         Ok(())
     }
 
-    /// The machine of an image of which these are all saved page frames. Its tables are in the image, from these page frames
-    /// on, or else it is given tables in page frames that the image doesn't save.
+    /// The machine of an image of which these are all saved page frames. Its tables are in the image, from these page
+    /// frames on, or else it is given tables in page frames that the image doesn't save.
     #[inline(never)]
     pub fn machine(self, tables: Option<(u32, u32)>) -> Result<Dump, Limit>
         requires { (saved : List (ℕ × List ℕ)) × IsFilled self saved }

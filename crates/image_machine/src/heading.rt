@@ -19,8 +19,8 @@ pub struct Heading {
 pub struct Layout<'a> {
     /// The first page frame and the count of each zone. Where there are none there is one, from page frame 0 on.
     pub zones: &'a [(u32, u32)],
-    /// Where the slots lie on the blocks of the disk: the first slot, the length and the first block of each extent. Where
-    /// there are none there is one, from block 0 on.
+    /// Where the slots lie on the blocks of the disk: the first slot, the length and the first block of each extent.
+    /// Where there are none there is one, from block 0 on.
     pub extents: &'a [(u32, u32, u32)],
     /// The block of the area's header.
     pub offset: u32,

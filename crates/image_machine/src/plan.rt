@@ -1,4 +1,5 @@
-ghost use Rattle.std.specs.Prelude.{◌≡◌, ◌≤◌, ◌<◌, ℕ, ◌+◌, ◌++◌, [], ◌∷◌, length, IfOk, IfErr, OnOk, OnErr, Contains, All, Some, None, Ok};
+ghost use Rattle.std.specs.Prelude.{◌≡◌, ◌≤◌, ◌<◌, ℕ, ◌+◌, ◌++◌, [], ◌∷◌, length, IfOk, IfErr, OnOk, OnErr, Contains};
+ghost use Rattle.std.specs.Prelude.{All, Some, None, Ok};
 ghost use Rattle.definitions.specs.FrameSets.{inserted};
 ghost use Rattle.definitions.specs.Slots.{extent_at};
 ghost use Rattle.definitions.specs.Zones.{numbers, top};
@@ -8,7 +9,8 @@ ghost use Rattle.plain_machine.specs.FreshMemory.{fresh_memory};
 ghost use Rattle.plain_machine.specs.Loader.{need};
 ghost use Rattle.plain_machine.specs.Machine.{Fits, IsHardware, unused};
 ghost use Rattle.image_machine.specs.Layouts.{extents_of, extents_or_one, slots_of, zones_of, zones_or_one};
-ghost use Rattle.image_machine.specs.Limits.{AreTables, HasNoRoom, HasTooFew, PassesAtLast, StopsAtLast, StopsAtOnce, PassesAtOnce};
+ghost use Rattle.image_machine.specs.Limits.{AreTables, HasNoRoom, HasTooFew, PassesAtLast, StopsAtLast, StopsAtOnce};
+ghost use Rattle.image_machine.specs.Limits.{PassesAtOnce};
 ghost use Rattle.image_machine.specs.Loaders.{IsLoaderFor, hardware_with};
 ghost use Rattle.image_machine.specs.Machines.{PassesByTables};
 ghost use Rattle.image_machine.specs.Plans.{IsPlan, IsSmall};
@@ -52,7 +54,8 @@ impl<'a> Plan<'a> {
     ghost use Rattle.definitions.specs.FrameSets.{inserted};
     ghost use Rattle.definitions.specs.Zones.{numbers};
     ghost use Rattle.image_machine.specs.Layouts.{slots_of};
-    ghost use Rattle.image_machine.specs.Limits.{PassesAtLast, StopsAtLast, StopsAtOnce, PassesAtOnce, HasNoRoom, AreTables};
+    ghost use Rattle.image_machine.specs.Limits.{PassesAtLast, StopsAtLast, StopsAtOnce, PassesAtOnce, HasNoRoom};
+    ghost use Rattle.image_machine.specs.Limits.{AreTables};
     ghost use Rattle.plain_machine.specs.Machine.{IsHardware};
     ghost use Rattle.std.specs.Prelude.{ℕ};
     ghost use Rattle.image_machine.specs.Loaders.{IsLoaderFor, hardware_with};
@@ -143,7 +146,8 @@ impl<'a> Plan<'a> {
         ensures hardware { IfOk result (λ hw.
             hw ≡ hardware_with self.now.heading self.now.layout frame_table slot_table) }
         ensures is { IfOk result IsHardware }
-        ensures none { OnOk result (hard_fault (hardware_with self.now.heading self.now.layout frame_table slot_table) ≡ None) }
+        ensures none { OnOk result
+            (hard_fault (hardware_with self.now.heading self.now.layout frame_table slot_table) ≡ None) }
         ensures refused { IfErr result (λ why. (fault : HardFault) × ((why ≡ limit.Hardware fault)
             × (hard_fault (hardware_with self.now.heading self.now.layout frame_table slot_table) ≡ Some fault))) }
     {
@@ -252,7 +256,8 @@ fn zones_given(given: &[(u32, u32)], pages: u32) -> Result<Zones, ZoneFault>
 
 /// Whether slot 0 lies on the block of the area's header.
 fn begins_at_header(layout: &Layout<'_>) -> Result<(), Limit>
-    ensures header { OnOk result ((heading : Heading) → (extent_at (extents_of heading layout.now) 0).2 ≡ layout.now.offset) }
+    ensures header { OnOk result ((heading : Heading) →
+        (extent_at (extents_of heading layout.now) 0).2 ≡ layout.now.offset) }
     ensures passed { IfErr result (λ why. (heading : Heading) → PassesAtOnce heading layout.now why) }
 {
     let block = first_block(layout.extents);

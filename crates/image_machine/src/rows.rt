@@ -17,7 +17,8 @@ pub(crate) fn table_len(entries: u32) -> u32
     entries.div_ceil(ENTRIES)
 }
 
-/// The first page frame of the lowest row of so many valid page frames of which none was saved and none lies in another row.
+/// The first page frame of the lowest row of so many valid page frames of which none was saved and none lies in
+/// another row.
 pub(crate) fn lowest_row(zones: &Zones, saved: &Bitmap, len: u32, other: (u32, u32)) -> Option<u32>
     requires len { len ≤ 128 }
     ensures { result ≡ lowest_row zones.now saved.now.members len other }

@@ -20,7 +20,8 @@ limit_text (limit.Slots last) = codes "limit slots 131072: last page " ++ decima
 limit_text (limit.Zones fault) = codes "zones refused"
 limit_text (limit.Count count pages) =
     codes "page frames in zones " ++ decimal count ++ codes ": memory pages " ++ decimal pages
-limit_text (limit.Offset block offset) = codes "block of slot 0 " ++ decimal block ++ codes ": offset " ++ decimal offset
+limit_text (limit.Offset block offset) =
+    codes "block of slot 0 " ++ decimal block ++ codes ": offset " ++ decimal offset
 limit_text (limit.Outside number) = codes "page frame " ++ decimal number ++ codes " lies in no zone"
 limit_text limit.NoRoom = codes "no room for the tables"
 limit_text (limit.Hardware fault) = hardware_text fault

@@ -19,7 +19,8 @@ use Rattle.image_machine_cli.specs.LimitLines.{limit_line}
 
 -- what a printer was told of
 abbrev pub printer_view : {N : Type 0} → sink.Ghosts N → Printer N → Told
-printer_view told p = record { text = told.taken p.sink; count = p.count; failed = p.failed; faults = told.faults p.sink }
+printer_view told p =
+    record { text = told.taken p.sink; count = p.count; failed = p.failed; faults = told.faults p.sink }
 
 -- nothing on out, and this as the note
 abbrev pub refused : List ℕ → RunResult
@@ -49,14 +50,16 @@ pub record IsNoted (told : Told) (note : SinkView) : Type 0 where
   pub faults : note.faults ≡ told.faults
 
 -- What was made of the image is told, or that memory was refused.
-pub data TellsMade (makes : Told → Made → Type 0) (told : Told) (status : Status) (out out' note' : SinkView) : Type 0 where
+pub data TellsMade (makes : Told → Made → Type 0) (told : Told) (status : Status)
+    (out out' note' : SinkView) : Type 0 where
   made : (what : Made) (then : Told) (note : SinkView) → makes then what → IsNoted then note →
       IsTold (made_told what) status out out' note note' → TellsMade makes told status out out' note'
   no_memory : (note : SinkView) → IsNoted told note → IsTold memory_told status out out' note note' →
       TellsMade makes told status out out' note'
 
 -- The dump of a loader.
-abbrev pub Loads : Option Content → (blocks before now : ℕ) → Told → Layout → Status → (out out' note' : SinkView) → Type 0
+abbrev pub Loads : Option Content → (blocks before now : ℕ) → Told → Layout → Status →
+    (out out' note' : SinkView) → Type 0
 Loads content blocks before now told layout status out out' note' =
     TellsMade (λ then what. Makes content blocks before now told then layout what) told status out out' note'
 
@@ -64,4 +67,5 @@ Loads content blocks before now told layout status out out' note' =
 abbrev pub GivesMachine : Option Content → (blocks before now : ℕ) → Told → Layout → Option (ℕ × ℕ) → Status →
     (out out' note' : SinkView) → Type 0
 GivesMachine content blocks before now told layout tables status out out' note' =
-    TellsMade (λ then what. MakesMachine content blocks before now told then layout tables what) told status out out' note'
+    TellsMade (λ then what. MakesMachine content blocks before now told then layout tables what)
+    told status out out' note'

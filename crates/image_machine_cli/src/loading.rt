@@ -15,8 +15,8 @@ use sector_disk::Disk;
 use std::alloc::Global;
 use swsusp_cli::tell_dump;
 
-/// Prints the dump of a loader into which the image of an area can be resumed. Where there is none the note says why: what is
-/// wrong with the image, or which limit is passed. The disk is only read.
+/// Prints the dump of a loader into which the image of an area can be resumed. Where there is none the note says why:
+/// what is wrong with the image, or which limit is passed. The disk is only read.
 #[inline(never)]
 pub fn loader<D: Disk, O: Sink, N: Sink>(
     alloc: Global,
@@ -45,9 +45,9 @@ pub fn loader<D: Disk, O: Sink, N: Sink>(
     }
 }
 
-/// Prints the dump of the machine that the image of an area saved. Its tables are in the image, from these page frames on, or
-/// else it is given new ones. Where there is no such machine the note says why: what is wrong with the image, or which limit is
-/// passed. The disk is only read.
+/// Prints the dump of the machine that the image of an area saved. Its tables are in the image, from these page
+/// frames on, or else it is given new ones. Where there is no such machine the note says why: what is wrong with the
+/// image, or which limit is passed. The disk is only read.
 #[inline(never)]
 pub fn machine<D: Disk, O: Sink, N: Sink>(
     alloc: Global,

@@ -7,7 +7,12 @@ use Rattle.loader_words.specs.declared.asked.Wanted.TheVariants.{Loader, Machine
 use Rattle.loader_words.specs.declared.options.Options.{Options}
 
 abbrev pub given_by : Options → Given
-given_by options = record { offset = options.offset; tables = options.tables; zones = options.zones.items; extents = options.extents.items }
+given_by options = record {
+  offset = options.offset;
+  tables = options.tables;
+  zones = options.zones.items;
+  extents = options.extents.items;
+}
 
 abbrev pub wanted_by : Wanted → WantedDump
 wanted_by Loader = loader

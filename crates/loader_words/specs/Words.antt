@@ -1,5 +1,7 @@
--- The command lines of `swsusp_image loader` and `swsusp_image machine`: which lists of words are plain, and what they ask for.
-use Rattle.std.specs.Prelude.{ℕ, zero, suc, ◌^◌, List, [], ◌∷◌, ◌++◌, length, nat_eq, nat_lt, is_none, codes, if◌then◌else◌}
+-- The command lines of `swsusp_image loader` and `swsusp_image machine`: which lists of words are plain, and what
+-- they ask for.
+use Rattle.std.specs.Prelude.{ℕ, zero, suc, ◌^◌, List, [], ◌∷◌, ◌++◌, length, nat_eq, nat_lt, is_none, codes}
+use Rattle.std.specs.Prelude.{if◌then◌else◌}
 use Rattle.std.specs.Prelude.{Option, Some, None, option_map, option_and_then, take, drop, unwrap_or, slice_index_or}
 use Rattle.std.specs.Cmp.Lexicographic.{pointwise}
 use Rattle.swsusp_words.specs.Words.{is_path, plain_number}
@@ -65,7 +67,8 @@ zone_first given (start ∷ count ∷ words) =
 -- one more extent, of at most 64
 abbrev pub more_extents : Given → ℕ × ℕ × ℕ → List (List ℕ) → Read
 more_extents given extent words =
-    if nat_lt (length given.extents) 64 then Some ((record given { extents = given.extents ++ extent ∷ [] }), words) else None
+    if nat_lt (length given.extents) 64 then Some ((record given { extents = given.extents ++ extent ∷ [] }), words)
+    else None
 
 -- START LENGTH BLOCK
 abbrev pub extent_first : Given → List (List ℕ) → Read
@@ -73,7 +76,8 @@ extent_first given [] = None
 extent_first given (start ∷ []) = None
 extent_first given (start ∷ len ∷ []) = None
 extent_first given (start ∷ len ∷ block ∷ words) =
-    option_and_then (λ s. option_and_then (λ l. option_and_then (λ b. more_extents given (s, l, b) words) (number block)) (number len)) (number start)
+    option_and_then (λ s. option_and_then (λ l. option_and_then (λ b. more_extents given (s, l, b) words)
+    (number block)) (number len)) (number start)
 
 -- an option, and the words after it
 abbrev pub option_first : Given → List (List ℕ) → Read
@@ -101,7 +105,13 @@ wanted_of command tables =
 
 abbrev pub asked_with : List ℕ → Given → WantedDump → AskedDump
 asked_with swap given wanted =
-    record { wanted = wanted; swap = swap; offset = unwrap_or given.offset 0; zones = given.zones; extents = given.extents }
+    record {
+      wanted = wanted;
+      swap = swap;
+      offset = unwrap_or given.offset 0;
+      zones = given.zones;
+      extents = given.extents;
+    }
 
 -- the options before SWAP: --offset and --tables once each, 16 zones and 64 extents at most
 abbrev pub over_path : List ℕ → List (List ℕ) → List ℕ → Option AskedDump

@@ -71,7 +71,8 @@ fn wanted_of(command: &str, tables: Option<(u32, u32)>) -> Option<Wanted>
 
 /// The options that words are.
 fn options_in(words: &[String]) -> Option<Options>
-    ensures given { IfSome result (λ given. options_in 83 no_options (map string_bytes words.now) ≡ Some (given_by given)) }
+    ensures given { IfSome result (λ given.
+        options_in 83 no_options (map string_bytes words.now) ≡ Some (given_by given)) }
     ensures none { IfNone result (options_in 83 no_options (map string_bytes words.now) ≡ None) }
 {
     let mut given = Options::new();

@@ -1,5 +1,6 @@
 ghost use Rattle.std.specs.Prelude.{◌≡◌, ℕ, [], IfSome, IfNone, None, Some, map, string_bytes};
-ghost use Rattle.loader_words.specs.Words.{extent_first, no_options, option_first, zone_first, offset_first, tables_first};
+ghost use Rattle.loader_words.specs.Words.{extent_first, no_options, option_first, zone_first, offset_first};
+ghost use Rattle.loader_words.specs.Words.{tables_first};
 ghost use Rattle.loader_words.specs.Given.{given_by};
 
 use crate::numbers::number;
@@ -23,7 +24,8 @@ pub(crate) struct Options {
 
 impl Options {
     ghost use Rattle.std.specs.Prelude.{◌≡◌, ◌∷◌, IfSome, IfNone, None, Some, map, string_bytes};
-    ghost use Rattle.loader_words.specs.Words.{extent_first, no_options, option_first, zone_first, offset_first, tables_first};
+    ghost use Rattle.loader_words.specs.Words.{extent_first, no_options, option_first, zone_first, offset_first};
+    ghost use Rattle.loader_words.specs.Words.{tables_first};
     ghost use Rattle.loader_words.specs.Given.{given_by};
 
     pub fn new() -> Options
@@ -40,7 +42,8 @@ impl Options {
     /// Reads the option at the front of words, and returns those after it.
     pub fn read<'a>(&mut self, words: &'a [String]) -> Option<&'a [String]>
         ensures read { IfSome result (λ rest.
-            option_first (given_by self.old) (map string_bytes words.now) ≡ Some (given_by self.new, map string_bytes rest.now)) }
+            option_first (given_by self.old) (map string_bytes words.now)
+            ≡ Some (given_by self.new, map string_bytes rest.now)) }
         ensures none { IfNone result (option_first (given_by self.old) (map string_bytes words.now) ≡ None) }
     {
         match words {
@@ -57,7 +60,8 @@ impl Options {
 
     fn read_offset<'a>(&mut self, words: &'a [String]) -> Option<&'a [String]>
         ensures read { IfSome result (λ rest.
-            offset_first (given_by self.old) (map string_bytes words.now) ≡ Some (given_by self.new, map string_bytes rest.now)) }
+            offset_first (given_by self.old) (map string_bytes words.now)
+            ≡ Some (given_by self.new, map string_bytes rest.now)) }
         ensures none { IfNone result (offset_first (given_by self.old) (map string_bytes words.now) ≡ None) }
     {
         let [offset, words @ ..] = words else {
@@ -72,7 +76,8 @@ impl Options {
 
     fn read_tables<'a>(&mut self, words: &'a [String]) -> Option<&'a [String]>
         ensures read { IfSome result (λ rest.
-            tables_first (given_by self.old) (map string_bytes words.now) ≡ Some (given_by self.new, map string_bytes rest.now)) }
+            tables_first (given_by self.old) (map string_bytes words.now)
+            ≡ Some (given_by self.new, map string_bytes rest.now)) }
         ensures none { IfNone result (tables_first (given_by self.old) (map string_bytes words.now) ≡ None) }
     {
         let [frame_table, slot_table, words @ ..] = words else {
@@ -87,7 +92,8 @@ impl Options {
 
     fn read_zone<'a>(&mut self, words: &'a [String]) -> Option<&'a [String]>
         ensures read { IfSome result (λ rest.
-            zone_first (given_by self.old) (map string_bytes words.now) ≡ Some (given_by self.new, map string_bytes rest.now)) }
+            zone_first (given_by self.old) (map string_bytes words.now)
+            ≡ Some (given_by self.new, map string_bytes rest.now)) }
         ensures none { IfNone result (zone_first (given_by self.old) (map string_bytes words.now) ≡ None) }
     {
         let [start, count, words @ ..] = words else {
@@ -100,7 +106,8 @@ impl Options {
 
     fn read_extent<'a>(&mut self, words: &'a [String]) -> Option<&'a [String]>
         ensures read { IfSome result (λ rest.
-            extent_first (given_by self.old) (map string_bytes words.now) ≡ Some (given_by self.new, map string_bytes rest.now)) }
+            extent_first (given_by self.old) (map string_bytes words.now)
+            ≡ Some (given_by self.new, map string_bytes rest.now)) }
         ensures none { IfNone result (extent_first (given_by self.old) (map string_bytes words.now) ≡ None) }
     {
         let [start, length, block, words @ ..] = words else {
