@@ -1,7 +1,9 @@
 #!/bin/sh
 # Takes the time of a hibernation and of a resume of 32,000 page frames, on a machine with 65,536 of them and 131,072 slots, over
 # files, beside a copy of as many bytes that is synced (with python3), and the greatest memory of each, and so for an export and an
-# import of the image as a stream; and of `swsusp_image check` and `stream` beside a reading and a copy of the saved dump. Then counts the
+# import of the image as a stream; and of `swsusp_image check` and `stream` beside a reading and a copy of the saved dump. Each of the
+# four is measured beside a C program that does the same work (tools/bench.c, where there is a cc), and so is a script's cycle: what both
+# leave must be the same, byte for byte. Then counts the
 # instructions of the built program by valgrind's callgrind: of an empty script, of a line that claims a page frame, of
 # a line that shows a word, of that line's parse alone, and of a hibernation and a resume of 1,500 page frames; and takes the time of a
 # boot, a hibernation and a resume of 15,000 page frames at a script's limits. The programs are the first and the second word, or
@@ -20,11 +22,12 @@ room=$(mktemp -d)
 trap 'trap "" PIPE HUP INT TERM; rm -rf "$room"' EXIT
 trap 'exit 1' PIPE HUP INT TERM
 
-# The seconds that a command takes from this input to this output, and the greatest memory that it has, in MiB. The memory is looked at
+# The seconds that a command takes from this input to this output, the greatest memory that it has, in MiB, and the seconds of a
+# processor. The memory is looked at
 # while it runs: what the system counts of a child that has ended has its parent's from before the child's own program.
 measure() {
     python3 -c '
-import re, subprocess, sys, time
+import re, resource, subprocess, sys, time
 most = 0
 begin = time.monotonic()
 with open(sys.argv[1], "rb") as source, open(sys.argv[2], "wb") as target:
@@ -40,7 +43,8 @@ with open(sys.argv[1], "rb") as source, open(sys.argv[2], "wb") as target:
 seconds = time.monotonic() - begin
 if child.returncode != 0:
     sys.exit(child.returncode)
-print("%.2f %d" % (seconds, -(-most // 1024)))
+used = resource.getrusage(resource.RUSAGE_CHILDREN)
+print("%.3f %d %.3f" % (seconds, -(-most // 1024), used.ru_utime + used.ru_stime))
 ' "$@"
 }
 
@@ -52,6 +56,28 @@ beside() {
     }'
 }
 
+# Tells what a command took beside the C program, which has done the same, and that both left the same.
+against() {
+    [ -x "$room/bench" ] || return 0
+    cmp -s "$3" "$4" || { echo "$3 isn't what the C program leaves"; exit 1; }
+    awk -v own="$1" -v c="$2" 'BEGIN {
+        split(own, a); split(c, b)
+        printf "  in C %.2f s, ratio %.2f; %.2f s of a processor, in C %.2f s, ratio %.2f; %d MiB, in C %d MiB\n",
+            b[1], a[1] / b[1], a[3], b[3], a[3] / b[3], a[2], b[2]
+    }'
+}
+
+if command -v cc >/dev/null; then
+    cc -O2 -Wall -Wextra -Werror -std=c11 -D_DEFAULT_SOURCE -o "$room/bench" "$top/tools/bench.c" || exit 1
+else
+    echo "not measured beside C: no cc is there"
+fi
+
+# What the C program takes, where it is there.
+in_c() {
+    [ ! -x "$room/bench" ] || measure "$@"
+}
+
 # The tables take 192 page frames of the 32,000.
 sh "$top/tools/make_area.sh" "$room/area" 131071
 python3 "$top/tools/make_dump.py" saved 31808 >"$room/saved"
@@ -60,6 +86,10 @@ sync
 copy=$(measure /dev/null "$room/line" sh -c "cp '$room/saved' '$room/copy' && sync '$room/copy'")
 own=$(measure "$room/saved" "$room/line" "$program" hibernate "$room/area")
 beside "$(cat "$room/line")" "$own" "$copy"
+sh "$top/tools/make_area.sh" "$room/area_c" 131071
+sync
+c=$(in_c "$room/saved" "$room/line" "$room/bench" hibernate "$room/area_c")
+against "$own" "$c" "$room/area" "$room/area_c"
 copy=$(measure /dev/null /dev/null cat "$room/saved")
 own=$(measure /dev/null "$room/line" "$image" check "$room/area")
 beside "checked, $(cat "$room/line")" "$own" "$copy"
@@ -70,15 +100,23 @@ own=$(measure "$room/loader" "$room/restored" "$program" resume "$room/area")
 sync
 copy=$(measure /dev/null "$room/line" sh -c "cp '$room/restored' '$room/copy' && sync '$room/copy'")
 beside "resumed, a dump of $(($(wc -c <"$room/restored"))) bytes" "$own" "$copy"
+c=$(in_c "$room/loader" "$room/copy" "$room/bench" resume "$room/area_c")
+against "$own" "$c" "$room/restored" "$room/copy"
 own=$(measure "$room/saved" "$room/stream" "$program" export)
 copy=$(measure /dev/null "$room/line" cp "$room/stream" "$room/copy")
 beside "exported, a stream of $(($(wc -c <"$room/stream"))) bytes" "$own" "$copy"
+c=$(in_c "$room/saved" "$room/copy" "$room/bench" export)
+against "$own" "$c" "$room/stream" "$room/copy"
 sh "$top/tools/make_area.sh" "$room/area" 131071
 sync
 copy=$(measure /dev/null "$room/line" sh -c "cp '$room/stream' '$room/copy' && sync '$room/copy'")
 own=$(measure "$room/stream" "$room/line" "$program" import "$room/area")
 beside "$(cat "$room/line")" "$own" "$copy"
-rm -f "$room/area" "$room/saved" "$room/loader" "$room/restored" "$room/stream" "$room/copy"
+sh "$top/tools/make_area.sh" "$room/area_c" 131071
+sync
+c=$(in_c "$room/stream" "$room/line" "$room/bench" import "$room/area_c")
+against "$own" "$c" "$room/area" "$room/area_c"
+rm -f "$room/area" "$room/area_c" "$room/saved" "$room/loader" "$room/restored" "$room/stream" "$room/copy"
 
 if ! command -v valgrind >/dev/null; then
     echo "not counted: valgrind isn't there"
@@ -90,11 +128,15 @@ lines() {
     awk -v n="$1" -v text="$2" 'BEGIN { for (i = 0; i < n; i++) { line = text; sub(/FRAME/, 16 + i, line); print line } }'
 }
 
-# How many instructions a script takes. Where the processor has string instructions the C library would fill memory by one that
+# How many instructions a command takes. Where the processor has string instructions the C library would fill memory by one that
 # valgrind counts byte for byte, so it is told not to.
+instructions() {
+    GLIBC_TUNABLES=glibc.cpu.hwcaps=-ERMS valgrind --tool=callgrind --callgrind-out-file=/dev/null "$@" 2>&1 >/dev/null |
+        sed -n 's/.*Collected *: *//p'
+}
+
 count() {
-    GLIBC_TUNABLES=glibc.cpu.hwcaps=-ERMS valgrind --tool=callgrind --callgrind-out-file=/dev/null "$program" replay \
-        <"$room/$1" 2>&1 >/dev/null | sed -n 's/.*Collected *: *//p'
+    instructions "$program" replay <"$room/$1"
 }
 
 # 1,500 page frames of a task and the 7 of the tables: 1,511 pages, 3 maps, and 4 steps more.
@@ -119,6 +161,11 @@ echo "an empty script: $empty instructions"
 echo "a claim: $(((claims - one) / 1499))"
 echo "a show: $(((shows - one) / 10000)), of these its parse: $(((shows_parsed - one_parsed) / 10000))"
 echo "a hibernation and a resume of 1500 page frames: $((cycle - claims))"
+if [ -x "$room/bench" ]; then
+    none=$(instructions "$room/bench" cycle 0)
+    all=$(instructions "$room/bench" cycle 1500)
+    awk -v own=$((cycle - claims)) -v c=$((all - none)) 'BEGIN { printf "  in C %d, ratio %.2f\n", c, own / c }'
+fi
 "$program" replay <"$room/cycle" | tail -n 1
 
 # 65,536 page frames in 8 zones and 16,384 slots. The 80 page frames of the tables and two regions are saved: 15,031 pages and 30 maps.
