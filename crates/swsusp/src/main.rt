@@ -8,13 +8,16 @@ use page_core::NoMemory;
 use sector_disk::{Disk, MemDisk};
 use standard_streams::{hold, is_output, sync_output};
 use std::fs::File;
-use std::io::IsTerminal;
+use std::io::{BufReader, IsTerminal};
 use std::process::ExitCode;
 use std::{env, io};
 use swsusp_cli::{Choice, run, swap_name};
 
 /// The status of a file that can't be opened, which no run answers.
 const NOT_OPENED: u8 = 7;
+
+/// How many bytes of standard input are asked for at once: a record of a dump costs a sixteenth of a call of the system.
+const INPUT_PIECE: usize = 65_536;
 
 fn main(rt: HostRuntime) -> ExitCode {
     let words = match env::args(&rt) {
@@ -80,7 +83,10 @@ fn is_command(words: &[String], name: &str) -> bool {
 /// Runs over a disk, with the standard streams. What was printed is synced before the run ends well: after a resume it is the only
 /// copy of a machine.
 fn run_over<D: Disk>(rt: &HostRuntime, words: &[String], disk: &mut D) -> ExitCode {
-    let mut input = StdSource::new(rt.stdin());
+    let Ok(reader) = BufReader::with_capacity(rt.alloc(), INPUT_PIECE, rt.stdin()) else {
+        return no_memory(rt);
+    };
+    let mut input = StdSource::new(reader);
     let mut out = StdSink::new(rt.stdout());
     let mut note = StdSink::new(rt.stderr());
     let status = run(rt.alloc(), words, &mut input, &mut out, &mut note, disk);
