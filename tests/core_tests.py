@@ -152,9 +152,8 @@ def test_damaged_images():
     built.put_word(built.places[2], 3, 5)
     ran, _, _ = ran_over(built, "core")
     check_same("a number out of order", (ran[0], ran[1]), (1, b""))
-    for flags, note in [(5, "header: flags 5, a compressed image, which can't be read yet"), (258, "pages of zeros aren't in the image")]:
-        ran, _, _ = ran_over(Built(8, flags=flags), "core")
-        check_refused(ran, note, 1)
+    ran, _, _ = ran_over(Built(8, flags=5), "core")
+    check_refused(ran, "header: flags 5, a compressed image, which can't be read yet", 1)
     with fresh_area() as empty:
         check_refused(run("swsusp_image", "core", empty.path), "no image", 1)
 

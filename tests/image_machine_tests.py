@@ -163,8 +163,6 @@ def test_a_large_area():
 def test_what_is_no_image():
     with area() as file:
         check_refused(loader(file), "no image")
-    built = Built(8, flags=2 | 256)
-    check_refused(ran_over(built), "pages of zeros aren't in the image")
     built = Built(8, flags=4)
     ran = ran_over(built)
     check_same("the status of a compressed image", (ran[0], ran[1]), (1, b""))

@@ -4,6 +4,7 @@ The images come from `Built` below, and those of tests/linux from real kernels. 
 """
 import itertools
 import pathlib
+import shutil
 import struct
 import subprocess
 import tempfile
@@ -26,7 +27,7 @@ class Built:
     """An image of so many pages in an area, block by block: maps and pages from block 1 on, as Linux lays them on a fresh area."""
 
     def __init__(self, saved, last=None, bad=(), first=1, header=0, flags=2):
-        numbers = [p + p // 1000 for p in range(saved)]
+        numbers = self.numbers = [p + p // 1000 for p in range(saved)]
         listed = [numbers[k : k + 512] for k in range(0, saved, 512)]
         pages = [self.info(saved)]
         pages += [words(page + [END] * (len(page) < 512)) for page in listed]
@@ -192,9 +193,6 @@ def test_images_that_cant_be_compared():
     none = changed(lambda built: built.put(0, 4086, b"SWAPSPACE2"))
     for name, images in [("first", (none, Built(600))), ("second", (Built(600), none))]:
         check(compared(*images), 1, note=f"{name}: no image\n")
-    skips = Built(600, flags=258)
-    for name, images in [("first", (skips, Built(600))), ("second", (Built(600), skips))]:
-        check(compared(*images), 1, note=f"{name}: pages of zeros aren't in the image\n")
     # The entry of page frame 300, and page frame 0 changed in the other.
     torn = changed(lambda built: built.put_entry(1, 303, 0))
     other = changed(lambda built: built.put(5, 0, b"\0"))
@@ -226,7 +224,7 @@ def test_damages_of_the_header():
     check_findings(built, "header: the original signature is no swap area's")
     built = damaged()
     built.put(0, 4076, b"SWAP-SPACE")
-    check_findings(built)
+    check_findings(built, "header: the area has version 0")
     built = damaged()
     built.put(0, 1024, struct.pack("<I", 3))
     check_findings(built, "header: the area has version 3")
@@ -356,9 +354,33 @@ def test_an_image_without_pages_of_zeros():
     built.put(built.places[0], 424, struct.pack("<QQ", 9, 9 * PAGE))
     built.put_entry(1, 9, 0)
     check_findings(built)
+    # Without its mark the number has a data page that isn't there, and with a mark one is there that isn't named.
+    built.put_word(built.places[1], 3, 3)
+    check_findings(built, "number pages: data pages 8, but pages 9")
+    built = Built(600, flags=258)
+    built.put_word(built.places[2], 20, built.numbers[532] + 2**63)
+    check_findings(built, "number pages: data pages 599, but pages 603")
+    # What isn't read isn't counted.
+    built.put_entry(1, 1, 0)
+    check_findings(built, f"map 1 block {built.maps[0]} entry 1: block 0")
     built = Built(8)
     built.put_word(built.places[1], 3, 3 + 2**63)
     check_findings(built, f"numbers page 1 word 3: {3 + 2**63} is no page frame", f"numbers page 1 word 4: 4 after {3 + 2**63}")
+
+
+def test_what_a_resume_refuses_is_found():
+    # Page frame 3 of this machine is zero and has no data page; the image is then told to have one page more, which is named.
+    machine = Machine()
+    with fresh_area() as area:
+        check_same("the status", run("swsusp", "hibernate", "--skip-zeros", area.path, stdin=machine.saved())[0], 0)
+        check(run("swsusp_image", "check", area.path), 0, b"whole\n")
+        info = area.block(2)
+        counts = struct.unpack_from("<QQ", info, 416)
+        area.write(2, info[:424] + struct.pack("<QQ", counts[1] + 1, (counts[1] + 1) * PAGE) + info[440:])
+        area.change((1, 8 * counts[1], 1000))
+        ran = run("swsusp_image", "check", area.path)
+        check(ran, 1, f"number pages: data pages {counts[1] - 2}, but pages {counts[1] + 1}\n1 findings\n".encode())
+        check_refused(run("swsusp", "resume", area.path, stdin=machine.loader(1000)), f"bad counts {counts[0]} {counts[1] + 1}", 1)
 
 
 def test_real_kernels():
@@ -542,8 +564,6 @@ def test_stream_of_a_damaged_image_stops_before_the_damage():
     check_same("the area", after, before)
     ran, _, _ = ran_over(Built(8, flags=5), "stream")
     check_refused(ran, "header: flags 5, a compressed image, which can't be read yet", 1)
-    ran, _, _ = ran_over(Built(8, flags=258), "stream")
-    check_refused(ran, "pages of zeros aren't in the image", 1)
 
 
 def paged(built, frame):
@@ -598,6 +618,27 @@ def test_discard():
     check(ran, 0, b"discarded\n")
     at = 77 * PAGE
     check_same("the area", after, before[: at + 4086] + before[at + 4076 : at + 4086] + before[at + 4096 :])
+
+
+def probed(path):
+    """The type, the UUID and the label that blkid finds."""
+    told = subprocess.run(["blkid", "-p", "-o", "export", path], capture_output=True, text=True).stdout
+    facts = dict(line.split("=", 1) for line in told.splitlines())
+    return [facts.get(key) for key in ["TYPE", "UUID", "LABEL"]]
+
+
+def test_blkid_finds_the_area_that_was_discarded():
+    if not shutil.which("blkid"):
+        return
+    built = Built(8)
+    built.put(0, 1036, bytes(range(16)) + b"sleeps")
+    with tempfile.TemporaryDirectory() as room:
+        path = pathlib.Path(room) / "area"
+        built.write(path)
+        names = ["00010203-0405-0607-0809-0a0b0c0d0e0f", "sleeps"]
+        check_same("what blkid finds of an image", probed(path), ["swsuspend", *names])
+        check(run("swsusp_image", "discard", path), 0, b"discarded\n")
+        check_same("what blkid finds afterwards", probed(path), ["swap", *names])
 
 
 def test_discard_without_a_mark_to_take_back():

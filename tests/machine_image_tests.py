@@ -135,7 +135,6 @@ def test_what_is_no_image():
     with area() as file:
         check_refused(machine(file), "no image")
         check_refused(machine(file, "--offset", 5000, "--extent", 0, 1600, 5000), "no image")
-    check_refused(ran_over(Built(8, flags=2 | 256)), "pages of zeros aren't in the image")
     ran = ran_over(Built(8, flags=4))
     check_same("the status of a compressed image", (ran[0], ran[1]), (1, b""))
 

@@ -6,7 +6,7 @@ from harness import Mismatch, check, check_same, run
 VERSION = (pathlib.Path(__file__).resolve().parent.parent / "VERSION").read_text().strip()
 
 COMMANDS = ["inspect", "hibernate", "resume", "replay", "drill", "export", "import"]
-MACHINE_COMMANDS = ["make", "draw", "loader", "core", "show", "differ", "check"]
+MACHINE_COMMANDS = ["make", "draw", "loader", "core", "from-core", "show", "differ", "check"]
 
 # clap takes these, and yet they aren't plain.
 NOT_PLAIN = [
@@ -135,11 +135,11 @@ def test_help_for_machines():
 
 
 def test_words_of_no_machine_command():
-    note = "words: a path isn't empty nor begins with -, and nothing but --any-kernel stands between a command and its paths\n"
-    for words in [[], ["make", "a"], ["differ", "a"], ["check", "--any-kernel"], ["check", "--any-kernel", "--any-kernel", "s"], ["no-command"], ["--quiet"], ["--quiet", "--quiet", "make"], ["make", "--quiet"]]:
+    note = "words: a path isn't empty nor begins with -, a number has no zero before it, and nothing but --any-kernel stands between a command and its paths\n"
+    for words in [[], ["make", "a"], ["from-core", "a"], ["from-core", "--slots"], ["from-core", "--slots", "1"], ["from-core", "--slots", "131073"], ["differ", "a"], ["check", "--any-kernel"], ["check", "--any-kernel", "--any-kernel", "s"], ["no-command"], ["--quiet"], ["--quiet", "--quiet", "make"], ["make", "--quiet"]]:
         if refused("swsusp_machine", *words) == note:
             raise Mismatch(f"{words}")
-    for words in [["differ", "-", "b"], ["differ", "a", ""], ["differ", "--", "a", "b"], ["check", ""], ["check", "-"], ["check", "--any-kernel", "-"], ["check", "s", "--any-kernel"], ["make", "--"]]:
+    for words in [["differ", "-", "b"], ["differ", "a", ""], ["differ", "--", "a", "b"], ["check", ""], ["check", "-"], ["check", "--any-kernel", "-"], ["check", "s", "--any-kernel"], ["make", "--"], ["from-core", "--slots", "010"], ["from-core", "--slots=10"]]:
         check(run("swsusp_machine", *words), 2, note=note)
         check(run("swsusp_machine", "--quiet", *words), 2, note=note)
 

@@ -116,6 +116,8 @@ python3 "$top/tools/make_dump.py" saved >"$room/saved"
 python3 "$top/tools/make_dump.py" loader >"$room/loader"
 cp "$room/area" "$room/image"
 "$swsusp" hibernate "$room/image" <"$room/saved" >"$room/line" || exit 1
+cp "$room/area" "$room/skipped"
+"$swsusp" hibernate --skip-zeros "$room/skipped" <"$room/saved" >"$room/line" || exit 1
 "$swsusp" export <"$room/saved" >"$room/stream" || exit 1
 : >"$room/nothing"
 
@@ -141,6 +143,7 @@ each "show --json" "$room/image" "$room/nothing" show --json "$room/disk"
 each "check" "$room/image" "$room/nothing" check "$room/disk"
 each "check --json" "$room/image" "$room/nothing" check --json "$room/disk"
 each "stream" "$room/image" "$room/nothing" stream "$room/disk"
+each "stream of an image without pages of zeros" "$room/skipped" "$room/nothing" stream "$room/disk"
 each "page" "$room/image" "$room/nothing" page "$room/disk" 0
 each "core" "$room/image" "$room/nothing" core "$room/disk"
 each "differ" "$room/image" "$room/nothing" differ "$room/disk" "$room/image"
@@ -154,6 +157,8 @@ each "loader of a dump" "$room/area" "$room/saved" loader
 each "differ of dumps" "$room/area" "$room/nothing" differ "$room/saved" "$room/loader"
 each "check with a dump" "$room/image" "$room/loader" check "$room/disk"
 each "core of a dump" "$room/area" "$room/saved" core
+"$machine" core <"$room/saved" >"$room/core"
+each "from-core" "$room/area" "$room/core" from-core
 each "make" "$room/area" "$top/examples/tasks.txt" make
 each "draw" "$room/area" "$top/examples/tasks.txt" draw
 exit $failed

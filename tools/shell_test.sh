@@ -114,6 +114,7 @@ echo "step core" >"$room/script"
 printf 'boot\nsteps core 2\nclaim 3 10\n' >"$room/story"
 : >"$room/nothing"
 cp "$room/saved" "$room/dump"
+"$machine" core <"$room/saved" >"$room/core" || failed=1
 
 # Runs a command with the streams in $1 closed, over a fresh area: its status.
 closed() {
@@ -186,6 +187,8 @@ each "make" io 0 empty story "$machine" make
 each "draw" io 0 empty story "$machine" draw
 each "loader" io 0 empty saved "$machine" loader
 each "core" io 0 empty saved "$machine" core
+each "from-core" io 0 empty core "$machine" from-core
+each "from-core of no core file" in 1 empty saved "$machine" from-core
 each "show" io 0 empty saved "$machine" show
 each "differ, the same" o 0 empty nothing "$machine" differ "$room/dump" "$room/dump"
 each "differ, no dump" n 3 empty nothing "$machine" differ "$room/dump" "$room/stream"
@@ -256,6 +259,7 @@ same "make on a terminal" "4|sink fault||kept" "$(shown story "$machine" make)"
 same "draw on a terminal" "4|sink fault||kept" "$(shown story "$machine" draw)"
 same "loader on a terminal" "4|sink fault||kept" "$(shown saved "$machine" loader)"
 same "core on a terminal" "4|sink fault||kept" "$(shown saved "$machine" core)"
+same "from-core on a terminal" "4|sink fault||kept" "$(shown core "$machine" from-core)"
 same "show on a terminal" "0||slots 1600|kept" "$(shown saved "$machine" show)"
 same "check on a terminal" "0||resumed 5|kept" "$(shown loader "$machine" check "$room/disk")"
 same "stream on a terminal" "4|sink fault||kept" "$(shown nothing "$images" stream "$room/disk")"

@@ -1,5 +1,6 @@
 -- What is told of an image on a disk.
-use Rattle.std.specs.Prelude.{◌≡◌, ℕ, ◌≤◌, ◌⊎◌, ◌/◌, ◌%◌, ◌==◌, Bool, true, List, [], ◌∷◌, ◌++◌, if◌then◌else◌, MatchBool, Ok, Option, Some, None}
+use Rattle.std.specs.Prelude.{◌≡◌, ℕ, ◌≤◌, ◌⊎◌, ◌/◌, ◌%◌, ◌==◌, Bool, true, List, [], ◌∷◌, ◌++◌, if◌then◌else◌}
+use Rattle.std.specs.Prelude.{MatchBool, Ok, Option, Some, None}
 use Rattle.std.specs.List.{list_any}
 use Rattle.page_core.specs.declared.format.Format.{Format}
 use Rattle.page_core.specs.declared.format.Format.TheVariants.{Plain, SkipZeros}
@@ -27,8 +28,8 @@ format_of flags = if flags / 256 % 2 == 1 then SkipZeros else Plain
 abbrev pub has_unread : List Name → Bool
 has_unread h = list_any (λ x. is_unread (answer_of x)) h
 
--- A whole reading of an image whose first map is named: each name follows those before it, up to the end of the chain. The pages are
--- those that the disk holds; where one couldn't be read, a call of the disk failed.
+-- A whole reading of an image whose first map is named: each name follows those before it, up to the end of the chain.
+-- The pages are those that the disk holds; where one couldn't be read, a call of the disk failed.
 pub record IsWhole (l : Limits) (first : ℕ) (content : Option Content) (before now : ℕ) (h : List Name) : Type 0 where
   pub reading : IsReading l first h
   pub over : is_over h ≡ true
@@ -40,11 +41,13 @@ abbrev pub FindsNames : Limits → ℕ → Option Content → (before now : ℕ)
 FindsNames l first content before now format found =
     (h : List Name) × (IsWhole l first content before now h × (found ≡ history_findings format h))
 
--- What is wrong with an image: with its header block, and, if it isn't compressed, with each name of a whole reading of it.
+-- What is wrong with an image: with its header block, and, if it isn't compressed, with each name of a whole reading of
+-- it.
 abbrev pub FindsImage : Option Content → (blocks header before now : ℕ) → Mark → List ℕ → List Finding → Type 0
 FindsImage content blocks header before now mark page found =
     MatchBool (is_compressed mark.flags) (found ≡ header_findings blocks header mark.flags page)
-    ((more : List Finding) × (FindsNames (limits_of blocks header (area_kind (taken_back page))) mark.first content before now
+    ((more : List Finding)
+    × (FindsNames (limits_of blocks header (area_kind (taken_back page))) mark.first content before now
     (format_of mark.flags) more × (found ≡ header_findings blocks header mark.flags page ++ more)))
 
 -- the mark of an image, where the header block has one
@@ -56,13 +59,15 @@ mark_in (kind.BadArea why) = None
 mark_in (kind.Swap area) = None
 
 -- what is found by that mark: nothing where there is none
-abbrev pub FindsMark : Option Content → (blocks header before now : ℕ) → List ℕ → Option Mark → Option (List Finding) → Type 0
+abbrev pub FindsMark : Option Content → (blocks header before now : ℕ) → List ℕ → Option Mark → Option (List Finding) →
+    Type 0
 FindsMark content blocks header before now page None found = found ≡ None
 FindsMark content blocks header before now page (Some mark) None = ⊥
-FindsMark content blocks header before now page (Some mark) (Some found) = FindsImage content blocks header before now mark page found
+FindsMark content blocks header before now page (Some mark) (Some found) =
+    FindsImage content blocks header before now mark page found
 
--- What is wrong with the image of an area, if it has one: the header block is none of the disk's, or it couldn't be read, or it is as it
--- reads.
+-- What is wrong with the image of an area, if it has one: the header block is none of the disk's, or it couldn't be
+-- read, or it is as it reads.
 abbrev pub Finds : Option Content → (blocks header before now : ℕ) → Option (List Finding) → Type 0
 Finds content blocks header before now found =
     ((blocks ≤ header) × (found ≡ None))

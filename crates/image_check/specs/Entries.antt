@@ -1,7 +1,10 @@
 -- What is wrong with a name of a history, and with the page that it names.
-use Rattle.std.specs.Prelude.{ℕ, ◌+◌, ◌*◌, ◌-◌, ◌/◌, ◌==◌, ◌&&◌, Bool, List, [], ◌∷◌, nat_le, nat_lt, if◌then◌else◌, Option, Some, None, Result, Ok, Err}
+use Rattle.std.specs.Prelude.{ℕ, ◌+◌, ◌*◌, ◌-◌, ◌/◌, ◌==◌, ◌&&◌, not, min, Bool, List, [], ◌∷◌, nat_le, nat_lt}
+use Rattle.std.specs.Prelude.{if◌then◌else◌, Option, Some, None, Result, Ok, Err}
 use Rattle.page_core.specs.declared.format.Format.{Format}
+use Rattle.page_core.specs.declared.format.Format.TheVariants.{Plain, SkipZeros}
 use Rattle.definitions.specs.Bytes.{word}
+use Rattle.definitions.specs.Disk.{last_count}
 use Rattle.definitions.specs.NumberPages.{meta_of}
 use Rattle.image_walk.specs.Names.{Name, map_at, page_at, maps_in, newest_map, left_in}
 use Rattle.image_walk.specs.declared.visit.BlockFault.{BlockFault}
@@ -10,7 +13,8 @@ use Rattle.image_check.specs.declared.finding.Finding.{Finding}
 use Rattle.image_check.specs.declared.finding.Finding.TheVariants as finding
 use Rattle.image_check.specs.declared.finding.Place.{Place}
 use Rattle.image_check.specs.Info.{counts_in, info_findings}
-use Rattle.image_check.specs.Numbers.{number_findings}
+use Rattle.image_check.specs.Numbers.{data_words, number_findings}
+use Rattle.image_check.specs.Told.{list_of}
 
 -- which page of the image the next entry names: 0 is the info page
 abbrev pub position_of : List Name → ℕ
@@ -39,6 +43,28 @@ previous_of [] = None
 previous_of (map_at b answer ∷ h) = previous_of h
 previous_of (page_at b answer ∷ h) = if position_of h == 0 then None else last_word answer
 
+-- How many numbers of the number pages have a data page, so far; not known once one of these pages wasn't read. The
+-- count stays at its last value.
+abbrev pub counted_with : Option ℕ → Option ℕ → Option ℕ
+counted_with None more = None
+counted_with (Some d) None = None
+counted_with (Some d) (Some more) = Some (min (d + more) last_count)
+
+abbrev pub data_seen : (n position : ℕ) → Result (List ℕ) BlockFault → Option ℕ
+data_seen n position (Ok page) = Some (data_words n position page)
+data_seen n position (Err why) = None
+
+abbrev pub data_after : Option Counts → (position : ℕ) → Option ℕ → Result (List ℕ) BlockFault → Option ℕ
+data_after None position counted answer = counted
+data_after (Some c) position counted answer =
+    if nat_le position (meta_of c.image_pages) then counted_with counted (data_seen c.image_pages position answer)
+    else counted
+
+abbrev pub data_of : List Name → Option ℕ
+data_of [] = Some 0
+data_of (map_at b answer ∷ h) = data_of h
+data_of (page_at b answer ∷ h) = data_after (counts_of h) (position_of h) (data_of h) answer
+
 -- no page is wanted: the image has no more, or, where it isn't known how many it has, none is named
 abbrev pub is_unused : Option Counts → (position b : ℕ) → Bool
 is_unused None position b = nat_lt 0 position && (b == 0)
@@ -51,7 +77,8 @@ wanted_fault place (Err why) = Some (finding.Entry place why)
 -- what is wrong with the block that an entry names
 abbrev pub entry_fault : {A : Type 0} → Option Counts → ℕ → Place → ℕ → Result A BlockFault → Option Finding
 entry_fault counts position place b answer =
-    if is_unused counts position b then (if b == 0 then None else Some (finding.AfterPages place b)) else wanted_fault place answer
+    if is_unused counts position b then (if b == 0 then None else Some (finding.AfterPages place b))
+    else wanted_fault place answer
 
 -- what is wrong with a page of the image: after the info page come the number pages, and after these the saved pages
 abbrev pub listed_findings : Format → Option Counts → ℕ → Option ℕ → List ℕ → List Finding
@@ -63,10 +90,25 @@ abbrev pub page_findings : Format → Option Counts → ℕ → Option ℕ → L
 page_findings format counts position previous page =
     if position == 0 then info_findings format page else listed_findings format counts position previous page
 
-abbrev pub read_findings : Format → Option Counts → (position b : ℕ) → Option ℕ → Result (List ℕ) BlockFault → List Finding
+abbrev pub read_findings : Format → Option Counts → (position b : ℕ) → Option ℕ → Result (List ℕ) BlockFault →
+    List Finding
 read_findings format counts position b previous (Err why) = []
 read_findings format counts position b previous (Ok page) =
     if is_unused counts position b then [] else page_findings format counts position previous page
+
+-- After the last number page: where pages of zeros have no data page, the pages are counted by the numbers that have
+-- one.
+abbrev pub data_fault : Format → Option Counts → ℕ → Option ℕ → Option Finding
+data_fault Plain counts position counted = None
+data_fault SkipZeros None position counted = None
+data_fault SkipZeros (Some c) position None = None
+data_fault SkipZeros (Some c) position (Some d) =
+    if (position == meta_of c.image_pages) && not (c.pages == d + (meta_of c.image_pages + 1))
+    then Some (finding.DataPages d c.pages) else None
+
+abbrev pub data_findings : Format → Option Counts → ℕ → Option ℕ → Result (List ℕ) BlockFault → List Finding
+data_findings format counts position counted (Err why) = []
+data_findings format counts position counted (Ok page) = list_of (data_fault format counts position counted)
 
 -- the chain has ended too early
 abbrev pub ends_fault : Option Counts → ℕ → Option Finding
@@ -81,4 +123,5 @@ after_fault (Some c) map b = if nat_lt (c.pages / 511 + 1) map then Some (findin
 -- What is wrong with the block that is named as a map. No block is named after the last one.
 abbrev pub map_fault : {A : Type 0} → Option Counts → (map b : ℕ) → Result A BlockFault → Option Finding
 map_fault counts map b (Ok page) = after_fault counts map b
-map_fault counts map b (Err why) = if (b == 0) && nat_lt 1 map then ends_fault counts (map - 1) else Some (finding.Map map why)
+map_fault counts map b (Err why) =
+    if (b == 0) && nat_lt 1 map then ends_fault counts (map - 1) else Some (finding.Map map why)

@@ -1,7 +1,10 @@
--- What a header block with the mark of an image (struct swsusp_header, kernel/power/swap.c) says, and what is wrong with it.
-use Rattle.std.specs.Prelude.{ℕ, ◌/◌, ◌%◌, ◌==◌, ◌&&◌, Bool, List, ◌++◌, nat_le, replicate, if◌then◌else◌, Option, Some, None}
+-- What a header block with the mark of an image (struct swsusp_header, kernel/power/swap.c) says, and what is wrong
+-- with it.
+use Rattle.std.specs.Prelude.{ℕ, ◌/◌, ◌%◌, ◌==◌, ◌&&◌, Bool, List, ◌++◌, nat_le, replicate, if◌then◌else◌, Option, Some}
+use Rattle.std.specs.Prelude.{None}
 use Rattle.definitions.specs.SwapHeader.{taken_back}
 use Rattle.sig_header.specs.AreaKind.{area_kind}
+use Rattle.sig_header.specs.declared.area.AreaFault.TheVariants as fault
 use Rattle.sig_header.specs.declared.area.AreaKind.{AreaKind}
 use Rattle.sig_header.specs.declared.area.AreaKind.TheVariants as kind
 use Rattle.image_walk.specs.declared.limits.Limits.{Limits}
@@ -9,13 +12,16 @@ use Rattle.image_check.specs.declared.finding.Finding.{Finding}
 use Rattle.image_check.specs.declared.finding.Finding.TheVariants as finding
 use Rattle.image_check.specs.Told.{list_of}
 
--- What is wrong with the area that the header describes once it is taken back. Only of an area from block 0 on it is known where it ends.
+-- What is wrong with the area that the header describes once it is taken back. No kernel swaps on an area of version 0
+-- (SWAP-SPACE), in whose header other bytes stand for the last page. Only of an area from block 0 on it is known where
+-- it ends.
 abbrev pub area_fault : ℕ → ℕ → AreaKind → Option Finding
 area_fault blocks header (kind.Image mark) = Some finding.OriginalSignature
-area_fault blocks header kind.Old = None
+area_fault blocks header kind.Old = Some (finding.Area (fault.Version 0))
 area_fault blocks header (kind.Other sig) = Some finding.OriginalSignature
 area_fault blocks header (kind.BadArea why) = Some (finding.Area why)
-area_fault blocks header (kind.Swap area) = if (header == 0) && nat_le blocks area.last then Some (finding.LastPage area.last blocks) else None
+area_fault blocks header (kind.Swap area) =
+    if (header == 0) && nat_le blocks area.last then Some (finding.LastPage area.last blocks) else None
 
 -- which blocks the image may name: those of an area from block 0 on, else those of the file
 abbrev pub any_block : ℕ → ℕ → Limits
@@ -27,7 +33,8 @@ limits_of blocks header kind.Old = any_block blocks header
 limits_of blocks header (kind.Other sig) = any_block blocks header
 limits_of blocks header (kind.BadArea why) = any_block blocks header
 limits_of blocks header (kind.Swap area) =
-    if header == 0 then record { blocks = blocks; header = header; last = area.last; bad = area.bad } else any_block blocks header
+    if header == 0 then record { blocks = blocks; header = header; last = area.last; bad = area.bad }
+    else any_block blocks header
 
 -- the image is compressed: SF_NOCOMPRESS_MODE, which is 2, isn't set
 abbrev pub is_compressed : ℕ → Bool
@@ -38,4 +45,5 @@ compressed_fault flags = if is_compressed flags then Some (finding.Compressed fl
 
 -- all that is wrong with a header block whose mark has these flags
 abbrev pub header_findings : (blocks header flags : ℕ) → List ℕ → List Finding
-header_findings blocks header flags page = list_of (area_fault blocks header (area_kind (taken_back page))) ++ list_of (compressed_fault flags)
+header_findings blocks header flags page =
+    list_of (area_fault blocks header (area_kind (taken_back page))) ++ list_of (compressed_fault flags)

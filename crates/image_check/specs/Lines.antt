@@ -52,7 +52,8 @@ finding_text (finding.Ends map pages) =
 finding_text (finding.AfterMaps map b) =
     named (codes "map ") map (codes " block ") ++ named [] b (codes ": after the last map")
 finding_text (finding.Entry place why) = place_text place ++ codes ": " ++ block_text why
-finding_text (finding.AfterPages place b) = place_text place ++ named (codes ": block ") b (codes " after the last page")
+finding_text (finding.AfterPages place b) =
+    place_text place ++ named (codes ": block ") b (codes " after the last page")
 finding_text (finding.NoEnd name) = named (codes "info page name ") name (codes ": no end")
 finding_text (finding.Magic magic) =
     codes "info page: the header of an architecture, but with magic 0x" ++ hex_text (big_bytes 8 magic)
@@ -63,6 +64,8 @@ finding_text (finding.Number page word number) = word_text page word ++ named []
 finding_text (finding.Order page word number before) =
     word_text page word ++ decimal number ++ named (codes " after ") before []
 finding_text (finding.End page word found) = word_text page word ++ named [] found (codes " after the last number")
+finding_text (finding.DataPages counted pages) =
+    named (codes "number pages: data pages ") counted (codes ", but pages ") ++ decimal pages
 
 -- the line of a finding, and the lines of findings, one after another
 abbrev pub line_of : Finding → List ℕ

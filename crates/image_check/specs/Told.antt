@@ -1,20 +1,21 @@
 -- What is told of findings.
-use Rattle.std.specs.Prelude.{◌≡◌, ◌⊎◌, ℕ, ◌+◌, ◌≤◌, Bool, true, false, List, [], ◌∷◌, ◌++◌, length, min, zero, suc, Option, Some, None}
+use Rattle.std.specs.Prelude.{◌≡◌, ◌⊎◌, ℕ, ◌+◌, ◌≤◌, Bool, true, false, List, [], ◌∷◌, ◌++◌, length, min, zero, suc}
+use Rattle.std.specs.Prelude.{Option, Some, None}
 use Rattle.definitions.specs.Disk.{HasRisen, last_count}
 use Rattle.definitions.specs.Streams.{TakesAll, TakesFront}
 use Rattle.image_check.specs.declared.finding.Finding.{Finding}
 use Rattle.image_check.specs.Lines.{lines_of}
 
--- the text that was printed, where that is told, how many findings there were, whether a line couldn't be printed, and how often the
--- output has failed
+-- the text that was printed, where that is told, how many findings there were, whether a line couldn't be printed, and
+-- how often the output has failed
 pub record Told : Type 0 where
   pub text : Option (List ℕ)
   pub count : ℕ
   pub failed : Bool
   pub faults : ℕ
 
--- The lines of these findings are printed one after another, and they are counted; the count stays at its last value. Where a line
--- can't be printed the output has failed: a front of the lines is printed, and nothing after it.
+-- The lines of these findings are printed one after another, and they are counted; the count stays at its last value.
+-- Where a line can't be printed the output has failed: a front of the lines is printed, and nothing after it.
 pub record Tells (more : List Finding) (old new : Told) : Type 0 where
   pub count : old.count ≤ last_count → new.count ≡ min (old.count + length more) last_count
   pub front : TakesFront (lines_of more) old.text new.text

@@ -29,8 +29,9 @@ pub enum Outcome {
     Checked,
 }
 
-/// Checks the image of the area whose header lies in a block, and tells each finding in the order in which the image is read. It goes
-/// on after a finding as far as the bytes allow, and reads each block once. It takes memory of a bit for each block of the disk.
+/// Checks the image of the area whose header lies in a block, and tells each finding in the order in which the image is
+/// read. It goes on after a finding as far as the bytes allow, and reads each block once. It takes memory of a bit for
+/// each block of the disk.
 pub fn check<D: Disk, R: Report>(
     alloc: Global,
     disk: &mut D,
@@ -84,7 +85,8 @@ fn check_image<D: Disk, R: Report>(
     report: &mut R,
 ) -> Result<(), NoMemory>
     ensures told { OnOk result ((found : List Finding) ×
-        (FindsImage (D.content disk.old) (D.block_count disk.old) header (D.faults disk.old) (D.faults disk.new) mark page.now found
+        (FindsImage (D.content disk.old) (D.block_count disk.old) header (D.faults disk.old) (D.faults disk.new)
+        mark page.now found
         × Tells found (R.told report.old) (R.told report.new))) }
     ensures refused { OnErr result (R.told report.new ≡ R.told report.old) }
     ensures content { D.content disk.new ≡ D.content disk.old }
@@ -123,7 +125,8 @@ fn check_names<D: Disk, R: Report>(
     requires blocks { D.block_count disk.old ≡ walker.old.limits.blocks }
     requires start { Follows walker.old.next walker.old [] }
     ensures told { (found : List Finding) ×
-        (FindsNames walker.old.limits walker.old.next (D.content disk.old) (D.faults disk.old) (D.faults disk.new) format found
+        (FindsNames walker.old.limits walker.old.next (D.content disk.old) (D.faults disk.old) (D.faults disk.new)
+        format found
         × Tells found (R.told report.old) (R.told report.new)) }
     ensures content { D.content disk.new ≡ D.content disk.old }
     ensures faults { D.faults disk.old ≤ D.faults disk.new }
@@ -134,6 +137,7 @@ fn check_names<D: Disk, R: Report>(
     let mut progress = Progress {
         counts: None,
         previous: None,
+        counted: Some(0),
     };
     while let Some(visit) = walker.step(disk, &mut page) {
         check_name(report, format, &mut progress, &visit, &page);

@@ -1,14 +1,18 @@
 //! The blocks that maps and entries name, and the pages in them.
-ghost use Rattle.std.specs.Prelude.{◌≡◌, ◌<◌, ◌^◌, ◌==◌, ◌∷◌, List, Ok, Some, None, if◌then◌else◌};
+ghost use Rattle.std.specs.Prelude.{◌≡◌, ◌+◌, ◌<◌, ◌^◌, ◌==◌, ◌∷◌, ◌++◌, List, Ok, Some, None, if◌then◌else◌};
+ghost use Rattle.page_core.specs.declared.format.Format.TheVariants.{SkipZeros};
 ghost use Rattle.image_walk.specs.Names.{Name, seen};
 ghost use Rattle.image_walk.specs.Walking.{IsPlaced, name_of};
-ghost use Rattle.image_check.specs.Entries.{after_fault, counts_seen, ends_fault, entry_fault, is_unused, last_word, listed_findings, map_fault, page_findings, read_findings};
+ghost use Rattle.image_check.specs.Entries.{after_fault, counted_with, counts_seen, data_after, data_fault};
+ghost use Rattle.image_check.specs.Entries.{data_findings, data_seen};
+ghost use Rattle.image_check.specs.Entries.{ends_fault, entry_fault, is_unused, last_word, listed_findings, map_fault};
+ghost use Rattle.image_check.specs.Entries.{page_findings, read_findings};
 ghost use Rattle.image_check.specs.Image.{name_findings};
 ghost use Rattle.image_check.specs.Knows.{Knows};
 ghost use Rattle.image_check.specs.Told.{Tells};
 
 use crate::info::{check_info, counts_in};
-use crate::numbers::{NumberPage, check_numbers};
+use crate::numbers::{NumberPage, check_numbers, data_words};
 use crate::progress::Progress;
 use crate::report::tell_any;
 use crate::{Counts, Finding, Place, Report};
@@ -28,7 +32,8 @@ pub fn check_name<R: Report>(
 )
     ensures told { (h : List Name) → IsPlaced h visit.now → Knows progress.old h →
         Tells (name_findings format h (name_of visit.now page.now)) (R.told report.old) (R.told report.new) }
-    ensures known { (h : List Name) → IsPlaced h visit.now → Knows progress.old h → Knows progress.new (name_of visit.now page.now ∷ h) }
+    ensures known { (h : List Name) → IsPlaced h visit.now → Knows progress.old h →
+        Knows progress.new (name_of visit.now page.now ∷ h) }
 {
     match *visit {
         Visit::Map { map, block, answer } => tell_any(
@@ -124,7 +129,7 @@ fn is_unused(counts: Option<Counts>, position: u64, block: u64) -> bool
     }
 }
 
-/// Tells what is wrong with a page that was read.
+/// Tells what is wrong with a page that was read, and with the number of data pages where it is the last number page.
 fn check_page<R: Report>(
     report: &mut R,
     format: Format,
@@ -134,7 +139,31 @@ fn check_page<R: Report>(
     page: &Page,
 )
     requires { position < 2 ^ 42 }
-    ensures { Tells (read_findings format progress.counts position block progress.previous (Ok page.now)) (R.told report.old) (R.told report.new) }
+    ensures { Tells (read_findings format progress.counts position block progress.previous (Ok page.now)
+        ++ data_findings format progress.counts position
+        (data_after progress.counts position progress.counted (Ok page.now)) (Ok page.now))
+        (R.told report.old) (R.told report.new) }
+{
+    check_read(report, format, progress, position, block, page);
+    let counted = data_after(&progress, position, Ok(()), page);
+    tell_any(
+        report,
+        data_fault(format, progress.counts, position, counted),
+    );
+}
+
+/// Tells what is wrong with a page that was read.
+fn check_read<R: Report>(
+    report: &mut R,
+    format: Format,
+    progress: Progress,
+    position: u64,
+    block: u64,
+    page: &Page,
+)
+    requires { position < 2 ^ 42 }
+    ensures { Tells (read_findings format progress.counts position block progress.previous (Ok page.now))
+        (R.told report.old) (R.told report.new) }
 {
     if is_unused(progress.counts, position, block) {
         return;
@@ -157,7 +186,8 @@ fn check_listed<R: Report>(
     page: &Page,
 )
     requires { position < 2 ^ 42 }
-    ensures { Tells (listed_findings format (Some counts) position previous page.now) (R.told report.old) (R.told report.new) }
+    ensures { Tells (listed_findings format (Some counts) position previous page.now)
+        (R.told report.old) (R.told report.new) }
 {
     if position <= counts.image_pages.div_ceil(512) {
         let of = NumberPage {
@@ -176,20 +206,105 @@ fn after_entry(
     answer: Result<(), BlockFault>,
     page: &Page,
 ) -> Progress
+    requires { position < 2 ^ 42 }
     ensures counts { result.counts ≡ (if position == 0 then counts_seen (seen answer page.now) else progress.counts) }
     ensures previous { result.previous ≡ (if position == 0 then None else last_word (seen answer page.now)) }
+    ensures counted { result.counted ≡ data_after progress.counts position progress.counted (seen answer page.now) }
 {
     let read = answer.is_ok();
+    let counted = data_after(&progress, position, answer, page);
     if position == 0 {
         let counts = if read { Some(counts_in(page)) } else { None };
         return Progress {
             counts,
             previous: None,
+            counted,
         };
     }
     let previous = if read { Some(page.word(511)) } else { None };
     Progress {
         counts: progress.counts,
         previous,
+        counted,
     }
+}
+
+/// How many numbers have a data page, after a page.
+fn data_after(
+    progress: &Progress,
+    position: u64,
+    answer: Result<(), BlockFault>,
+    page: &Page,
+) -> Option<u64>
+    requires { position < 2 ^ 42 }
+    ensures { result ≡ data_after progress.now.counts position progress.now.counted (seen answer page.now) }
+{
+    let Some(counts) = progress.counts else {
+        return progress.counted;
+    };
+    if counts.image_pages.div_ceil(512) < position {
+        return progress.counted;
+    }
+    let seen = data_seen(counts.image_pages, position, answer, page);
+    counted_with(progress.counted, seen)
+}
+
+/// How many numbers of a number page have a data page, if it was read.
+fn data_seen(
+    numbers: u64,
+    position: u64,
+    answer: Result<(), BlockFault>,
+    page: &Page,
+) -> Option<u64>
+    requires { position < 2 ^ 42 }
+    ensures { result ≡ data_seen numbers position (seen answer page.now) }
+{
+    match answer {
+        Ok(()) => Some(data_words(numbers, position, page)),
+        Err(_) => None,
+    }
+}
+
+/// The sum of two counts that are known.
+fn counted_with(counted: Option<u64>, more: Option<u64>) -> Option<u64>
+    ensures { result ≡ counted_with counted more }
+{
+    Some(counted?.saturating_add(more?))
+}
+
+/// What is wrong with the number of data pages, which is known after the last number page.
+fn data_fault(
+    format: Format,
+    counts: Option<Counts>,
+    position: u64,
+    counted: Option<u64>,
+) -> Option<Finding>
+    ensures { result ≡ data_fault format counts position counted }
+{
+    match format {
+        Format::Plain => None,
+        Format::SkipZeros => zeros_fault(counts?, position, counted?),
+    }
+}
+
+fn zeros_fault(counts: Counts, position: u64, counted: u64) -> Option<Finding>
+    ensures { result ≡ data_fault SkipZeros (Some counts) position (Some counted) }
+{
+    let number_pages = counts.image_pages.div_ceil(512);
+    if position == number_pages && !follows(counts.pages, counted, number_pages) {
+        Some(Finding::DataPages {
+            counted,
+            pages: counts.pages,
+        })
+    } else {
+        None
+    }
+}
+
+/// Whether so many pages are the info page, the number pages and the data pages.
+fn follows(pages: u64, data_pages: u64, number_pages: u64) -> bool
+    requires { number_pages < 2 ^ 63 }
+    ensures { result ≡ (pages == data_pages + (number_pages + 1)) }
+{
+    pages > number_pages && pages - number_pages - 1 == data_pages
 }

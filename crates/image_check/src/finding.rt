@@ -62,7 +62,8 @@ pub enum Finding {
     },
     /// A name of 65 bytes without a zero byte, from 0 to 5 in the order of `struct new_utsname`.
     NoEnd(u32),
-    /// No version code and no version text, but not the magic number of an x86-64 header (`restore_data_record`) either.
+    /// No version code and no version text, but not the magic number of an x86-64 header (`restore_data_record`)
+    /// either.
     Magic(u64),
     /// No page frame was saved, or `pages` doesn't follow from `image_pages`.
     Counts {
@@ -92,5 +93,10 @@ pub enum Finding {
         page: u64,
         word: u32,
         found: u64,
+    },
+    /// Pages of zeros have no data page, and `pages` doesn't follow from the numbers that have one.
+    DataPages {
+        counted: u64,
+        pages: u64,
     },
 }

@@ -2,14 +2,15 @@
 ghost use Rattle.std.specs.Prelude.{◌≡◌};
 ghost use Rattle.definitions.specs.SwapHeader.{taken_back};
 ghost use Rattle.sig_header.specs.AreaKind.{area_kind};
-ghost use Rattle.image_check.specs.Header.{any_block, area_fault, compressed_fault, header_findings, is_compressed, limits_of};
+ghost use Rattle.image_check.specs.Header.{any_block, area_fault, compressed_fault, header_findings, is_compressed};
+ghost use Rattle.image_check.specs.Header.{limits_of};
 ghost use Rattle.image_check.specs.Told.{Tells};
 
 use crate::report::tell_any;
 use crate::{Finding, Report};
 use image_walk::Limits;
 use page_core::Page;
-use sig_header::{Area, AreaKind, MOST_BADPAGES, SF_NOCOMPRESS_MODE, take_back};
+use sig_header::{Area, AreaFault, AreaKind, MOST_BADPAGES, SF_NOCOMPRESS_MODE, take_back};
 
 /// Tells what is wrong with a header block that has this mark's flags.
 pub fn check_header<R: Report>(report: &mut R, blocks: u32, header: u32, flags: u32, page: &Page)
@@ -28,7 +29,7 @@ fn area_fault(blocks: u32, header: u32, kind: AreaKind) -> Option<Finding>
 {
     match kind {
         AreaKind::Image(_) => Some(Finding::OriginalSignature),
-        AreaKind::Old => None,
+        AreaKind::Old => Some(Finding::Area(AreaFault::Version { version: 0 })),
         AreaKind::Other { .. } => Some(Finding::OriginalSignature),
         AreaKind::BadArea { why } => Some(Finding::Area(why)),
         AreaKind::Swap(area) => {

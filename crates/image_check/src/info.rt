@@ -3,7 +3,8 @@ ghost use Rattle.std.specs.Prelude.{◌≡◌, ◌<◌, ◌==◌, ◌&&◌, nat_
 ghost use Rattle.std.specs.List.{list_all, list_any};
 ghost use Rattle.definitions.specs.Bytes.{bytes_at, number_at};
 ghost use Rattle.definitions.specs.InfoPage.{text_of_name};
-ghost use Rattle.image_check.specs.Info.{counts_fault, counts_in, follows, identity_findings, info_findings, is_version_text, magic_fault, name_fault, size_fault};
+ghost use Rattle.image_check.specs.Info.{counts_fault, counts_in, follows, identity_findings, info_findings};
+ghost use Rattle.image_check.specs.Info.{is_version_text, magic_fault, name_fault, size_fault};
 ghost use Rattle.image_check.specs.Told.{Tells, each_below};
 
 use crate::report::tell_any;

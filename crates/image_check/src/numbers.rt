@@ -1,7 +1,8 @@
 //! The pages of page frame numbers.
 ghost use Rattle.std.specs.Prelude.{◌≡◌, ◌<◌, ◌^◌, ◌-◌};
 ghost use Rattle.definitions.specs.Bytes.{word};
-ghost use Rattle.image_check.specs.Numbers.{end_fault, frame_of, number_fault, number_findings, order_fault, word_before, word_fault};
+ghost use Rattle.image_check.specs.Numbers.{data_words, end_fault, frame_of, number_fault, number_findings};
+ghost use Rattle.image_check.specs.Numbers.{order_fault, word_before, word_fault};
 ghost use Rattle.image_check.specs.Told.{Tells};
 
 use crate::report::tell_any;
@@ -38,7 +39,8 @@ pub(crate) fn check_numbers<R: Report>(
     bytes: &Page,
 )
     requires { of.page < 2 ^ 42 }
-    ensures { Tells (number_findings of.format of.numbers of.page previous bytes.now) (R.told report.old) (R.told report.new) }
+    ensures { Tells (number_findings of.format of.numbers of.page previous bytes.now)
+        (R.told report.old) (R.told report.new) }
 {
     for i in 0..WORDS {
         tell_any(
@@ -106,6 +108,19 @@ fn number_fault(of: NumberPage, i: u32, word: u64, before: Option<u64>) -> Optio
     } else {
         None
     }
+}
+
+/// How many words of a number page are numbers, of so many in the image, that have a data page. Number pages count
+/// from 1.
+pub(crate) fn data_words(numbers: u64, page: u64, bytes: &Page) -> u64
+    requires { page < 2 ^ 42 }
+    ensures { result ≡ data_words numbers page bytes.now }
+{
+    let first = 512 * page.saturating_sub(1);
+    let words = 0..u64::from(WORDS);
+    words
+        .filter(|&i| first + i < numbers && bytes.word(i as usize) < ZERO_BIT)
+        .count() as u64
 }
 
 /// The page frame number of a word.

@@ -7,4 +7,6 @@ pub struct Progress {
     pub counts: Option<Counts>,
     /// The last word of the page before, where that is no info page.
     pub previous: Option<u64>,
+    /// How many numbers of the number pages have a data page, so far; not known once one of these pages wasn't read.
+    pub counted: Option<u64>,
 }

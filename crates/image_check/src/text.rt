@@ -109,6 +109,10 @@ fn put_finding(line: &mut Line, finding: &Finding)
             put_word(line, page, word);
             put_named(line, b"", found, b" after the last number");
         }
+        Finding::DataPages { counted, pages } => {
+            put_named(line, b"number pages: data pages ", counted, b", but pages ");
+            line.put_number(pages);
+        }
     }
 }
 
@@ -182,7 +186,8 @@ fn put_word(line: &mut Line, page: u64, word: u32)
 /// Writes a magic number into an empty buffer, by 16 hexadecimal digits.
 fn put_magic(line: &mut Line, magic: u64)
     requires { length line.old ≡ 0 }
-    ensures text { line.new ≡ codes "info page: the header of an architecture, but with magic 0x" ++ hex_text (big_bytes 8 magic) }
+    ensures text { line.new ≡ codes "info page: the header of an architecture, but with magic 0x"
+        ++ hex_text (big_bytes 8 magic) }
     ensures len { length line.new ≤ 120 }
 {
     let mut bytes = [0; 8];

@@ -2,10 +2,10 @@
 use Rattle.std.proofs.Common.{◌≡◌, ℕ, ◌≤◌, List, Option, ap, inl, inr, arith}
 use Rattle.definitions.specs.Disk.{Content}
 use Rattle.image_check.specs.Told.{Told}
-use Rattle.image_stream.specs.Found.{Finds}
+use Rattle.image_saved.specs.Found.{Finds}
 use Rattle.image_stream.specs.Streamed.{IsStreamed}
-use Rattle.image_stream.specs.declared.finding.Found.{Found}
-use Rattle.image_stream.specs.declared.finding.Found.TheVariants as found
+use Rattle.image_saved.specs.declared.finding.Found.{Found}
+use Rattle.image_saved.specs.declared.finding.Found.TheVariants as found
 use Rattle.image_stream.specs.declared.streaming.Streamed.{Streamed}
 use Rattle.image_stream.specs.declared.streaming.Streamed.TheVariants as streamed
 
@@ -17,8 +17,8 @@ pub streamed_counted : (content : Option Content) (blocks header before now : �
 streamed_counted content blocks header before now told then old new streamed.NoImage (none, same) = same_faults told then none.0
 streamed_counted content blocks header before now told then old new streamed.Refused (inl (inl (tells, risen), same)) = tells.faults
 streamed_counted content blocks header before now told then old new streamed.Refused (inl (inr (page, (mark, (read, marked, some, tells))), same)) = tells.faults
-streamed_counted content blocks header before now told then old new streamed.Refused (inr cut) = cut.refused.told.faults
-streamed_counted content blocks header before now told then old new streamed.SkipsZeros (skips, untold, same) = same_faults told then untold
+streamed_counted content blocks header before now told then old new streamed.Refused (inr cut) =
+    elim cut.refused [ inl read ↦ read.0.told.faults | inr made ↦ made.1.1.told.faults ]
 streamed_counted content blocks header before now told then old new streamed.Whole (written, untold) = same_faults told then untold
 
 pub found_counted : (content : Option Content) (blocks header before now : ℕ) (told then : Told) (frame : ℕ) (page : List ℕ) (what : Found) → Finds content blocks header before now told then frame page what → told.faults ≤ then.faults
@@ -26,6 +26,5 @@ found_counted content blocks header before now told then frame page found.NoImag
 found_counted content blocks header before now told then frame page found.Refused (inl (inl (tells, risen))) = tells.faults
 found_counted content blocks header before now told then frame page found.Refused (inl (inr (p, (mark, (read, marked, some, tells))))) = tells.faults
 found_counted content blocks header before now told then frame page found.Refused (inr (pages, refused)) = refused.told.faults
-found_counted content blocks header before now told then frame page found.SkipsZeros (skips, untold) = same_faults told then untold
 found_counted content blocks header before now told then frame page found.NoPage (none, untold) = same_faults told then untold
 found_counted content blocks header before now told then frame page found.Page (there, untold) = same_faults told then untold

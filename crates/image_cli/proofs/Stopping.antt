@@ -6,7 +6,7 @@ use Rattle.command_kit.specs.declared.status.Status.{Status}
 use Rattle.image_check.specs.Told.{Told}
 use Rattle.image_core.specs.Cores.{IsStopped}
 use Rattle.image_core.specs.declared.stop.Stop.{Stop}
-use Rattle.image_core.specs.declared.stop.Stop.TheVariants.{NoImage, Refused, SkipsZeros, TooMany, Changed, Sink, Memory}
+use Rattle.image_core.specs.declared.stop.Stop.TheVariants.{NoImage, Refused, TooMany, Changed, Sink, Memory}
 use Rattle.image_cli.specs.Cores.{TellsStop}
 use Rattle.image_cli.proofs.Noting.{same_faults}
 
@@ -16,7 +16,6 @@ stop_counted content blocks header before now told then first last NoImage none 
 stop_counted content blocks header before now told then first last Refused (inl (inl (tells, risen))) = tells.faults
 stop_counted content blocks header before now told then first last Refused (inl (inr (page, (mark, (read, marked, some, tells))))) = tells.faults
 stop_counted content blocks header before now told then first last Refused (inr (pages, refused)) = refused.told.faults
-stop_counted content blocks header before now told then first last SkipsZeros (skips, untold) = same_faults told then untold
 stop_counted content blocks header before now told then first last TooMany (has, untold) = same_faults told then untold
 stop_counted content blocks header before now told then first last Changed (none, untold) = same_faults told then untold
 stop_counted content blocks header before now told then first last Sink (risen, untold) = same_faults told then untold

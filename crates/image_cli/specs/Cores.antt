@@ -9,7 +9,7 @@ use Rattle.command_kit.specs.declared.status.Status.TheVariants.{Done, Stream}
 use Rattle.image_check.specs.Told.{Told}
 use Rattle.image_core.specs.Cores.{IsFront, IsStopped, IsUnwritten, IsWritten}
 use Rattle.image_core.specs.declared.stop.Stop.{Stop}
-use Rattle.image_core.specs.declared.stop.Stop.TheVariants.{NoImage, Refused, SkipsZeros, TooMany, Changed, Sink}
+use Rattle.image_core.specs.declared.stop.Stop.TheVariants.{NoImage, Refused, TooMany, Changed, Sink}
 use Rattle.image_core.specs.declared.stop.Stop.TheVariants.{Memory}
 use Rattle.image_cli.specs.Notes.{IsNoted}
 use Rattle.image_cli.specs.Streams.{refused_told}
@@ -28,7 +28,6 @@ pub record NotesFailure (status : Status) (out out' note note' : SinkView) : Typ
 abbrev pub TellsStop : Stop → Status → (out out' note note' : SinkView) → Type 0
 TellsStop NoImage = IsTold (refused_told (line (codes "no image")))
 TellsStop Refused = IsTold (refused_told [])
-TellsStop SkipsZeros = IsTold (refused_told (line (codes "pages of zeros aren't in the image")))
 TellsStop TooMany = IsTold (refused_told (line (codes "too many page frames")))
 TellsStop Changed = IsTold (refused_told (line (codes "the image changed")))
 TellsStop Sink = NotesFailure

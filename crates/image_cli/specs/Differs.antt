@@ -31,7 +31,6 @@ has_findings = codes "the image has findings"
 abbrev pub note_of : Opened → List ℕ
 note_of (opened.NoImage which) = refused_note which (codes "no image")
 note_of (opened.Refused which) = refused_note which has_findings
-note_of (opened.SkipsZeros which) = refused_note which (codes "pages of zeros aren't in the image")
 note_of (opened.Open c) = []
 
 abbrev pub unopened_told : Opened → RunResult

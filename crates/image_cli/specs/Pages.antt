@@ -7,16 +7,15 @@ use Rattle.command_kit.specs.View.{SinkView}
 use Rattle.command_kit.specs.declared.status.Status.{Status}
 use Rattle.command_kit.specs.declared.status.Status.TheVariants.{Done}
 use Rattle.image_check.specs.Told.{Told}
-use Rattle.image_stream.specs.Found.{Finds}
-use Rattle.image_stream.specs.declared.finding.Found.{Found}
-use Rattle.image_stream.specs.declared.finding.Found.TheVariants as found
+use Rattle.image_saved.specs.Found.{Finds}
+use Rattle.image_saved.specs.declared.finding.Found.{Found}
+use Rattle.image_saved.specs.declared.finding.Found.TheVariants as found
 use Rattle.image_cli.specs.Notes.{IsNoted}
 use Rattle.image_cli.specs.Streams.{refused_told}
 
 -- the page, or why there is none, after the findings that were noted
 abbrev pub found_told : ℕ → List ℕ → Found → RunResult
 found_told frame page found.NoImage = refused_told (line (codes "no image"))
-found_told frame page found.SkipsZeros = refused_told (line (codes "pages of zeros aren't in the image"))
 found_told frame page found.Refused = refused_told []
 found_told frame page found.NoPage = refused_told (line (codes "no page " ++ decimal frame))
 found_told frame page found.Page = record { status = Done; out = page; note = [] }

@@ -19,7 +19,6 @@ refused_told note = record { status = Refused; out = []; note = note }
 -- what is told after the pages that were written and the findings that were noted
 abbrev pub streamed_told : Streamed → RunResult
 streamed_told streamed.NoImage = refused_told (line (codes "no image"))
-streamed_told streamed.SkipsZeros = refused_told (line (codes "pages of zeros aren't in the image"))
 streamed_told streamed.Refused = refused_told []
 streamed_told streamed.Whole = record { status = Done; out = []; note = [] }
 

@@ -57,13 +57,6 @@ fn tell_stop<O: Sink, N: Sink>(why: Stop, out: &mut O, note: &mut N) -> Status
     match why {
         Stop::NoImage => tell(Status::Refused, b"", b"no image\n", out, note),
         Stop::Refused => tell(Status::Refused, b"", b"", out, note),
-        Stop::SkipsZeros => tell(
-            Status::Refused,
-            b"",
-            b"pages of zeros aren't in the image\n",
-            out,
-            note,
-        ),
         Stop::TooMany => tell(Status::Refused, b"", b"too many page frames\n", out, note),
         Stop::Changed => tell(Status::Refused, b"", b"the image changed\n", out, note),
         Stop::Sink => cut_short(note),

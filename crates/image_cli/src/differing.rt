@@ -174,7 +174,6 @@ fn note_of(opened: &Opened) -> Line
     match opened {
         Opened::NoImage(which) => refused_note(*which, b"no image"),
         Opened::Refused(which) => refused_note(*which, b"the image has findings"),
-        Opened::SkipsZeros(which) => refused_note(*which, b"pages of zeros aren't in the image"),
         Opened::Open(_) => Line::new(),
     }
 }

@@ -12,7 +12,8 @@ use crate::showing::cut_short;
 use byte_streams::{Line, Sink};
 use command_kit::{Answer, Status, no_memory, tell};
 use image_check::Printer;
-use image_stream::{Found, Stop, Streamed, page_of};
+use image_saved::{Found, page_of};
+use image_stream::{Stop, Streamed};
 use page_core::{NoMemory, Page};
 use sector_disk::Disk;
 use std::alloc::Global;
@@ -93,7 +94,6 @@ fn streamed_told(streamed: Streamed) -> Answer
             note: Line::new(),
         },
         Streamed::NoImage => refused(b"no image\n"),
-        Streamed::SkipsZeros => refused(b"pages of zeros aren't in the image\n"),
         Streamed::Refused => refused(b""),
     }
 }
@@ -135,7 +135,6 @@ fn tell_found<O: Sink, N: Sink>(
         Found::Page => tell(Status::Done, page.as_bytes(), b"", out, note),
         Found::NoPage => refused_frame(frame).tell(out, note),
         Found::NoImage => refused(b"no image\n").tell(out, note),
-        Found::SkipsZeros => refused(b"pages of zeros aren't in the image\n").tell(out, note),
         Found::Refused => refused(b"").tell(out, note),
     }
 }

@@ -7,7 +7,8 @@ use Rattle.definitions.specs.Slots.{runs_of}
 use Rattle.image_check.specs.Info.{counts_in}
 use Rattle.image_facts.specs.Runs.{list_of}
 use Rattle.image_pages.specs.Chain.{chain_page}
-use Rattle.image_stream.specs.Saved.{count_in, number_in}
+use Rattle.image_saved.specs.Formats.{chain_format}
+use Rattle.image_saved.specs.Saved.{count_in, number_in}
 use Rattle.image_frames.specs.Numbered.{HasNumbered}
 use Rattle.image_frames.specs.SaysNumber.{IsNextNumber}
 use Rattle.image_frames.specs.SavedNumbers.{AreAllNumbers, AreFirstNumbers, first_numbers, saved_numbers}
@@ -30,14 +31,15 @@ count_in_chain held blocks header n given frames h will =
 pub all_numbers : (content : Option Content) (blocks header : ℕ) (n : Numbers) (given : List ℕ) (frames : ℕ) → HasNumbered content blocks header n given → WillGive n frames → AreFirstNumbers content header given → length given ≡ frames → AreAllNumbers content header given
 all_numbers None blocks header n given frames h will first size = tt
 all_numbers (Some held) blocks header n given frames h will first size =
-    first ∙ ap (first_numbers (chain_page (as_it_reads held) header)) (size ∙ sym (count_in_chain held blocks header n given frames h will))
+    first ∙ ap (first_numbers (chain_format (as_it_reads held) header) (chain_page (as_it_reads held) header)) (size ∙ sym (count_in_chain held blocks header n given frames h will))
 
 -- fewer numbers than that are all only on a disk that doesn't tell what it holds
 pub ends_early : (content : Option Content) (blocks header : ℕ) (n : Numbers) (given : List ℕ) (frames : ℕ) → HasNumbered content blocks header n given → WillGive n frames → AreAllNumbers content header given → length given < frames → content ≡ None
 ends_early None blocks header n given frames h will all lt = refl
 ends_early (Some held) blocks header n given frames h will all lt =
     let at = chain_page (as_it_reads held) header in
-    absurd (omega (arith, ap length all, length-map-range_with_len (number_in at) 0 (count_in at), count_in_chain held blocks header n given frames h will))
+    let format = chain_format (as_it_reads held) header in
+    absurd (omega (arith, ap length all, length-map-range_with_len (number_in format at) 0 (count_in at), count_in_chain held blocks header n given frames h will))
 
 -- so many numbers were given, and their runs counted
 pub record Counts (content : Option Content) (blocks header : ℕ) (n : Numbers) (runs : RunCounter) (i : ℕ) : Type 0 where

@@ -9,9 +9,10 @@ use Rattle.definitions.specs.Streams.{TakesAll, TakesFront}
 use Rattle.byte_streams.proofs.Taken.{TakesAll-both, TakesAll-none, TakesFront-all, TakesFront-first, TakesFront-second}
 use Rattle.image_check.specs.Info.{counts_in}
 use Rattle.image_pages.specs.Chain.{chain_page}
+use Rattle.image_saved.specs.Formats.{chain_format}
 use Rattle.image_pages.specs.Ends.{IsEnded}
 use Rattle.image_pages.proofs.Earlier.{ended_earlier}
-use Rattle.image_stream.specs.Saved.{count_in}
+use Rattle.image_saved.specs.Saved.{count_in}
 use Rattle.image_frames.specs.Given.{HasGiven, frame_of}
 use Rattle.image_frames.specs.SavedFrames.{AreAllSaved, AreFirstSaved, SavedFrame, first_saved, saved_at, saved_frames}
 use Rattle.image_frames.specs.Says.{AreAllGiven, IsNextFrame}
@@ -35,12 +36,13 @@ few_frames held blocks header f given h =
     ap (λ (page : List ℕ). (counts_in page).image_pages) (sym (info_in_chain (Some held) blocks header f.numbers.pages f.numbers.info n.listed n.stands)) in
     omega (arith, n.size, n.few, n.count, count, length-map given (λ (g : SavedFrame). g.number))
 
-frames_of_chain : (held : Content) (blocks header : ℕ) (f : Frames) (given : List SavedFrame) → HasGiven (Some held) blocks header f given → AreFirstSaved (Some held) header given → (more : List SavedFrame) × (saved_frames (chain_page (as_it_reads held) header) ≡ given ++ more)
+frames_of_chain : (held : Content) (blocks header : ℕ) (f : Frames) (given : List SavedFrame) → HasGiven (Some held) blocks header f given → AreFirstSaved (Some held) header given → (more : List SavedFrame) × (saved_frames (chain_format (as_it_reads held) header) (chain_page (as_it_reads held) header) ≡ given ++ more)
 frames_of_chain held blocks header f given h first =
     let at = chain_page (as_it_reads held) header in
-    let front : take (length given) (saved_frames at) ≡ given =
-    take-map-range_with_len (saved_at at) 0 (count_in at) (length given) (few_frames held blocks header f given h) ∙ sym first in
-    (drop (length given) (saved_frames at), sym (take-append-drop (length given) (saved_frames at)) ∙ ap (λ (xs : List SavedFrame). xs ++ drop (length given) (saved_frames at)) front)
+    let format = chain_format (as_it_reads held) header in
+    let front : take (length given) (saved_frames format at) ≡ given =
+    take-map-range_with_len (saved_at format at) 0 (count_in at) (length given) (few_frames held blocks header f given h) ∙ sym first in
+    (drop (length given) (saved_frames format at), sym (take-append-drop (length given) (saved_frames format at)) ∙ ap (λ (xs : List SavedFrame). xs ++ drop (length given) (saved_frames format at)) front)
 
 pages_both : (xs ys : List SavedFrame) → concat (pages_of (xs ++ ys)) ≡ concat (pages_of xs) ++ concat (pages_of ys)
 pages_both xs ys = ap concat (map-append (λ (f : SavedFrame). f.page) xs ys) ∙ concat-append (pages_of xs) (pages_of ys)
@@ -72,7 +74,7 @@ writes_more c d m k header p q i number page old mid new e f s next taken =
 -- a front of the pages of the image
 abbrev pub IsPageFront : Option Content → ℕ → (old new : Option (List ℕ)) → Type 0
 IsPageFront content header old new =
-    IfSome content (λ held. TakesFront (concat (pages_of (saved_frames (chain_page (as_it_reads held) header)))) old new)
+    IfSome content (λ held. TakesFront (concat (pages_of (saved_frames (chain_format (as_it_reads held) header) (chain_page (as_it_reads held) header)))) old new)
 
 given_front : (content : Option Content) (blocks header : ℕ) (f : Frames) (given : List SavedFrame) (old new : Option (List ℕ)) → HasGiven content blocks header f given → AreFirstSaved content header given → TakesFront (concat (pages_of given)) old new → IsPageFront content header old new
 given_front None blocks header f given old new h first front = tt
@@ -96,7 +98,8 @@ pub fewer_frames : (content : Option Content) (header : ℕ) (tally : Tally) (gi
 fewer_frames None header tally given t all lt = refl
 fewer_frames (Some held) header tally given t all lt =
     let at = chain_page (as_it_reads held) header in
-    absurd (omega (arith, ap length all, length-map-range_with_len (saved_at at) 0 (count_in at), count_by_tally held header tally t))
+    let format = chain_format (as_it_reads held) header in
+    absurd (omega (arith, ap length all, length-map-range_with_len (saved_at format at) 0 (count_in at), count_by_tally held header tally t))
 
 pub more_frames : (content : Option Content) (blocks header : ℕ) (tally : Tally) (f : Frames) (given : List SavedFrame) → HasTallied content header tally → HasGiven content blocks header f given → tally.frames < length given → content ≡ None
 more_frames None blocks header tally f given t h lt = refl

@@ -8,11 +8,11 @@ use Rattle.image_pages.specs.Stands.{Stands}
 use Rattle.image_pages.specs.declared.pages.Pages.{Pages}
 use Rattle.image_pages.proofs.Earlier.{refused_earlier}
 use Rattle.image_pages.proofs.Reading.{page_of_first, read_given}
-use Rattle.image_stream.proofs.Starting.{bad_earlier}
+use Rattle.image_saved.proofs.Starting.{bad_earlier}
 use Rattle.image_frames.specs.Opens.{IsBad}
 use Rattle.image_core.specs.Cores.{IsStopped}
 use Rattle.image_core.specs.declared.stop.Stop.{Stop}
-use Rattle.image_core.specs.declared.stop.Stop.TheVariants.{NoImage, Refused, SkipsZeros, TooMany, Changed, Sink, Memory}
+use Rattle.image_core.specs.declared.stop.Stop.TheVariants.{NoImage, Refused, TooMany, Changed, Sink, Memory}
 
 -- a fact on the content of a disk and on how many blocks it has
 pub over : (P : Option Content → ℕ → Type 0) (c d : Option Content) (m n : ℕ) → c ≡ d → m ≡ n → P c m → P d n
@@ -30,7 +30,6 @@ bad_since content blocks header before then now told end le (inr (given, refused
 stopped_earlier : (content : Option Content) (blocks header before then now : ℕ) (told end : Told) (first last : ℕ) (s : Stop) → before ≤ then → IsStopped content blocks header then now told end first last s → IsStopped content blocks header before now told end first last s
 stopped_earlier content blocks header before then now told end first last NoImage le h = h
 stopped_earlier content blocks header before then now told end first last Refused le h = bad_since content blocks header before then now told end le h
-stopped_earlier content blocks header before then now told end first last SkipsZeros le h = h
 stopped_earlier content blocks header before then now told end first last TooMany le h = h
 stopped_earlier content blocks header before then now told end first last Changed le h = h
 stopped_earlier content blocks header before then now told end first last Sink le h = h
@@ -52,7 +51,6 @@ info_in_chain (Some held) blocks header p info rest s =
 pub sink_earlier : (content : Option Content) (blocks header before now : ℕ) (told end : Told) (first mid last : ℕ) (s : Stop) → first ≤ mid → IsStopped content blocks header before now told end mid last s → IsStopped content blocks header before now told end first last s
 sink_earlier content blocks header before now told end first mid last NoImage le h = h
 sink_earlier content blocks header before now told end first mid last Refused le h = h
-sink_earlier content blocks header before now told end first mid last SkipsZeros le h = h
 sink_earlier content blocks header before now told end first mid last TooMany le h = h
 sink_earlier content blocks header before now told end first mid last Changed le h = h
 sink_earlier content blocks header before now told end first mid last Sink le h = (risen_earlier first mid last le h.0, h.1)
@@ -66,7 +64,6 @@ no_faults (inr last) = omega arith
 pub stopped_without : (content : Option Content) (blocks header before now : ℕ) (told end : Told) (first last : ℕ) (s : Stop) → IsStopped content blocks header before now told end 0 0 s → IsStopped content blocks header before now told end first last s
 stopped_without content blocks header before now told end first last NoImage h = h
 stopped_without content blocks header before now told end first last Refused h = h
-stopped_without content blocks header before now told end first last SkipsZeros h = h
 stopped_without content blocks header before now told end first last TooMany h = h
 stopped_without content blocks header before now told end first last Changed h = h
 stopped_without content blocks header before now told end first last Sink h = absurd (no_faults h.0)

@@ -10,7 +10,8 @@ use Rattle.definitions.specs.Streams.{TakesAll, TakesFront}
 use Rattle.elf_core.specs.Elf.{loads_bytes, page_offset}
 use Rattle.image_check.specs.Info.{counts_in}
 use Rattle.image_pages.specs.Chain.{chain_page}
-use Rattle.image_stream.specs.Saved.{count_in, number_in}
+use Rattle.image_saved.specs.Formats.{chain_format}
+use Rattle.image_saved.specs.Saved.{count_in, number_in}
 use Rattle.image_frames.specs.Numbered.{HasNumbered}
 use Rattle.image_frames.specs.SaysNumber.{IsNextNumber}
 use Rattle.image_frames.specs.SavedNumbers.{AreAllNumbers, AreFirstNumbers, first_numbers, saved_numbers}
@@ -32,24 +33,26 @@ if_none content P e = subst (λ (x : Option Content). IfSome x P) (sym e) tt
 pub count_by_tally : (held : Content) (header : ℕ) (tally : Tally) → HasTallied (Some held) header tally → count_in (chain_page (as_it_reads held) header) ≡ tally.frames
 count_by_tally held header tally t =
     let at = chain_page (as_it_reads held) header in
+    let format = chain_format (as_it_reads held) header in
     let size = t.counted.size in
-    omega (arith, ap length t.counted.all, length-map-range_with_len (number_in at) 0 (count_in at))
+    omega (arith, ap length t.counted.all, length-map-range_with_len (number_in format at) 0 (count_in at))
 
-pub runs_of_chain : (held : Content) (header : ℕ) (tally : Tally) → HasTallied (Some held) header tally → tally.runs ≡ length (runs_of (saved_numbers (chain_page (as_it_reads held) header)))
+pub runs_of_chain : (held : Content) (header : ℕ) (tally : Tally) → HasTallied (Some held) header tally → tally.runs ≡ length (runs_of (saved_numbers (chain_format (as_it_reads held) header) (chain_page (as_it_reads held) header)))
 runs_of_chain held header tally t = t.counted.count ∙ ap (λ (xs : List ℕ). length (runs_of xs)) t.counted.all
 
 -- so many numbers are all
 pub all_by_tally : (content : Option Content) (header : ℕ) (tally : Tally) (given : List ℕ) → HasTallied content header tally → AreFirstNumbers content header given → length given ≡ tally.frames → AreAllNumbers content header given
 all_by_tally None header tally given t first size = tt
 all_by_tally (Some held) header tally given t first size =
-    first ∙ ap (first_numbers (chain_page (as_it_reads held) header)) (size ∙ sym (count_by_tally held header tally t))
+    first ∙ ap (first_numbers (chain_format (as_it_reads held) header) (chain_page (as_it_reads held) header)) (size ∙ sym (count_by_tally held header tally t))
 
 -- they end earlier, or have other runs, only on a disk that doesn't tell what it holds
 pub early_by_tally : (content : Option Content) (header : ℕ) (tally : Tally) (given : List ℕ) → HasTallied content header tally → AreAllNumbers content header given → length given < tally.frames → content ≡ None
 early_by_tally None header tally given t all lt = refl
 early_by_tally (Some held) header tally given t all lt =
     let at = chain_page (as_it_reads held) header in
-    absurd (omega (arith, ap length all, length-map-range_with_len (number_in at) 0 (count_in at), count_by_tally held header tally t))
+    let format = chain_format (as_it_reads held) header in
+    absurd (omega (arith, ap length all, length-map-range_with_len (number_in format at) 0 (count_in at), count_by_tally held header tally t))
 
 pub other_by_tally : (content : Option Content) (header : ℕ) (tally : Tally) (given : List ℕ) → HasTallied content header tally → AreAllNumbers content header given → length (runs_of given) ≢ tally.runs → content ≡ None
 other_by_tally None header tally given t all ne = refl
@@ -57,15 +60,16 @@ other_by_tally (Some held) header tally given t all ne =
     absurd (ne (ap (λ (xs : List ℕ). length (runs_of xs)) all ∙ sym (runs_of_chain held header tally t)))
 
 -- numbers that were given are the first ones of the chain
-pub first_of_chain : (held : Content) (blocks header : ℕ) (n : Numbers) (given : List ℕ) → HasNumbered (Some held) blocks header n given → AreFirstNumbers (Some held) header given → (more : List ℕ) × (saved_numbers (chain_page (as_it_reads held) header) ≡ given ++ more)
+pub first_of_chain : (held : Content) (blocks header : ℕ) (n : Numbers) (given : List ℕ) → HasNumbered (Some held) blocks header n given → AreFirstNumbers (Some held) header given → (more : List ℕ) × (saved_numbers (chain_format (as_it_reads held) header) (chain_page (as_it_reads held) header) ≡ given ++ more)
 first_of_chain held blocks header n given h first =
     let at = chain_page (as_it_reads held) header in
+    let format = chain_format (as_it_reads held) header in
     let count : count_in at ≡ (counts_in n.info).image_pages =
     ap (λ (page : List ℕ). (counts_in page).image_pages) (sym (info_in_chain (Some held) blocks header n.pages n.info h.listed h.stands)) in
     let few : length given ≤ count_in at = omega (arith, h.size, h.few, h.count, count) in
-    let front : take (length given) (saved_numbers at) ≡ given =
-    take-map-range_with_len (number_in at) 0 (count_in at) (length given) few ∙ sym first in
-    (drop (length given) (saved_numbers at), sym (take-append-drop (length given) (saved_numbers at)) ∙ ap (λ (xs : List ℕ). xs ++ drop (length given) (saved_numbers at)) front)
+    let front : take (length given) (saved_numbers format at) ≡ given =
+    take-map-range_with_len (number_in format at) 0 (count_in at) (length given) few ∙ sym first in
+    (drop (length given) (saved_numbers format at), sym (take-append-drop (length given) (saved_numbers format at)) ∙ ap (λ (xs : List ℕ). xs ++ drop (length given) (saved_numbers format at)) front)
 
 -- Program headers of numbers that are given one after another.
 
@@ -111,19 +115,19 @@ pub can_list_all : (start : ℕ) (given : List ℕ) (frames : ℕ) → start < 2
 can_list_all start given frames place le few small = record { place = place; few = omega arith; small = small }
 
 -- what is a front whichever numbers follow is one of the program headers of the image
-pub front_of_chain : (content : Option Content) (blocks header : ℕ) (n : Numbers) (given : List ℕ) (tally : Tally) (start : ℕ) (old new : Option (List ℕ)) → HasTallied content header tally → start ≡ page_offset tally.runs → HasNumbered content blocks header n given → AreFirstNumbers content header given → IsListFront start given old new → IfSome content (λ held. TakesFront (loads_of (chain_page (as_it_reads held) header)) old new)
+pub front_of_chain : (content : Option Content) (blocks header : ℕ) (n : Numbers) (given : List ℕ) (tally : Tally) (start : ℕ) (old new : Option (List ℕ)) → HasTallied content header tally → start ≡ page_offset tally.runs → HasNumbered content blocks header n given → AreFirstNumbers content header given → IsListFront start given old new → IfSome content (λ held. TakesFront (loads_of (chain_format (as_it_reads held) header) (chain_page (as_it_reads held) header)) old new)
 front_of_chain None blocks header n given tally start old new t place h first front = tt
 front_of_chain (Some held) blocks header n given tally start old new t place h first front =
-    let all = saved_numbers (chain_page (as_it_reads held) header) in
+    let all = saved_numbers (chain_format (as_it_reads held) header) (chain_page (as_it_reads held) header) in
     let (more, e) = first_of_chain held blocks header n given h first in
     let same : start ≡ page_offset (length (runs_of all)) = place ∙ ap page_offset (runs_of_chain held header tally t) in
     subst (λ (k : ℕ). TakesFront (loads_bytes k (runs_of all)) old new) same
     (subst (λ (xs : List ℕ). TakesFront (loads_bytes start (runs_of xs)) old new) (sym e) (front more))
 
-pub whole_of_chain : (content : Option Content) (header : ℕ) (given : List ℕ) (tally : Tally) (start : ℕ) (old new : Option (List ℕ)) → HasTallied content header tally → start ≡ page_offset tally.runs → AreAllNumbers content header given → TakesFront (loads_bytes start (runs_of given)) old new → IfSome content (λ held. TakesFront (loads_of (chain_page (as_it_reads held) header)) old new)
+pub whole_of_chain : (content : Option Content) (header : ℕ) (given : List ℕ) (tally : Tally) (start : ℕ) (old new : Option (List ℕ)) → HasTallied content header tally → start ≡ page_offset tally.runs → AreAllNumbers content header given → TakesFront (loads_bytes start (runs_of given)) old new → IfSome content (λ held. TakesFront (loads_of (chain_format (as_it_reads held) header) (chain_page (as_it_reads held) header)) old new)
 whole_of_chain None header given tally start old new t place all front = tt
 whole_of_chain (Some held) header given tally start old new t place all front =
-    let chain = saved_numbers (chain_page (as_it_reads held) header) in
+    let chain = saved_numbers (chain_format (as_it_reads held) header) (chain_page (as_it_reads held) header) in
     let same : start ≡ page_offset (length (runs_of chain)) = place ∙ ap page_offset (runs_of_chain held header tally t) in
     subst (λ (k : ℕ). TakesFront (loads_bytes k (runs_of chain)) old new) same
     (subst (λ (xs : List ℕ). TakesFront (loads_bytes start (runs_of xs)) old new) all front)

@@ -1,21 +1,22 @@
 -- The core file of an image, by the pages of its stream.
 use Rattle.std.specs.Prelude.{◌≡◌, ℕ, ◌≤◌, List, length, map, Option, None, IfSome, ⊤}
+use Rattle.page_core.specs.declared.format.Format.{Format}
 use Rattle.definitions.specs.Disk.{Content, HasRisen, as_it_reads}
 use Rattle.definitions.specs.Slots.{runs_of}
 use Rattle.definitions.specs.Streams.{TakesAll, TakesFront}
 use Rattle.image_check.specs.Told.{Told}
 use Rattle.image_pages.specs.Chain.{IsChainPage, IsWholeStream, chain_page}
+use Rattle.image_saved.specs.Formats.{chain_format}
 use Rattle.image_pages.specs.Ends.{IsEnded}
 use Rattle.image_pages.specs.Opens.{IsNoImage}
-use Rattle.image_stream.specs.Saved.{count_in}
-use Rattle.image_stream.specs.Streamed.{SkipsZerosThere}
+use Rattle.image_saved.specs.Saved.{count_in}
 use Rattle.image_frames.specs.Opens.{IsBad}
 use Rattle.image_frames.specs.SavedFrames.{AreAllSaved, SavedFrame, saved_frames}
 use Rattle.image_frames.specs.SavedNumbers.{AreAllNumbers}
 use Rattle.elf_core.specs.Elf.{core_bytes}
 use Rattle.image_core.specs.Identity.{identity_of, machine_of}
 use Rattle.image_core.specs.declared.stop.Stop.{Stop}
-use Rattle.image_core.specs.declared.stop.Stop.TheVariants.{NoImage, Refused, SkipsZeros, TooMany, Changed, Sink}
+use Rattle.image_core.specs.declared.stop.Stop.TheVariants.{NoImage, Refused, TooMany, Changed, Sink}
 use Rattle.image_core.specs.declared.stop.Stop.TheVariants.{Memory}
 
 abbrev pub numbers_in : List SavedFrame → List ℕ
@@ -28,9 +29,9 @@ pages_of frames = map (λ (f : SavedFrame). f.page) frames
 abbrev pub core_of_frames : List ℕ → List SavedFrame → List ℕ
 core_of_frames info frames = core_bytes (machine_of info) (identity_of info) (numbers_in frames) (pages_of frames)
 
--- the core file of an image, by the pages of its stream, of which the first is the info page
-abbrev pub core_of : (ℕ → List ℕ) → List ℕ
-core_of at = core_of_frames (at 0) (saved_frames at)
+-- the core file of an image, by its format and the pages of its stream, of which the first is the info page
+abbrev pub core_of : Format → (ℕ → List ℕ) → List ℕ
+core_of format at = core_of_frames (at 0) (saved_frames format at)
 
 -- The core file was written of what was read: of the info page, of the numbers, and of the page frames that were read
 -- at last, up to their end. Nothing is wrong with a whole reading of the image. Where the disk tells what it holds,
@@ -48,12 +49,14 @@ pub record IsWritten (content : Option Content) (blocks header before now : ℕ)
   pub pages : List (List ℕ)
   pub ended : IsEnded content blocks header before now pages
   pub whole : IsWholeStream content header pages
-  pub core : IfSome content (λ held. TakesAll (core_of (chain_page (as_it_reads held) header)) old new)
+  pub core : IfSome content (λ held.
+      TakesAll (core_of (chain_format (as_it_reads held) header) (chain_page (as_it_reads held) header)) old new)
 
 -- a front of the core file is taken, where the disk tells what it holds
 abbrev pub IsFront : Option Content → ℕ → (old new : Option (List ℕ)) → Type 0
 IsFront content header old new =
-    IfSome content (λ held. TakesFront (core_of (chain_page (as_it_reads held) header)) old new)
+    IfSome content (λ held.
+    TakesFront (core_of (chain_format (as_it_reads held) header) (chain_page (as_it_reads held) header)) old new)
 
 -- the info page counts 2^32 - 1 page frames or more
 abbrev pub HasTooMany : Option Content → ℕ → Type 0
@@ -67,8 +70,6 @@ abbrev pub IsStopped : Option Content → (blocks header before now : ℕ) → (
 IsStopped content blocks header before now told then first last NoImage = IsNoImage content blocks header told then
 IsStopped content blocks header before now told then first last Refused =
     IsBad content blocks header before now told then
-IsStopped content blocks header before now told then first last SkipsZeros =
-    SkipsZerosThere content blocks header × (then ≡ told)
 IsStopped content blocks header before now told then first last TooMany = HasTooMany content header × (then ≡ told)
 IsStopped content blocks header before now told then first last Changed = (content ≡ None) × (then ≡ told)
 IsStopped content blocks header before now told then first last Sink = HasRisen first last × (then ≡ told)
@@ -77,7 +78,6 @@ IsStopped content blocks header before now told then first last Memory = then �
 -- nothing is written where it ends before the image is open
 abbrev pub IsUnwritten : (old new : Option (List ℕ)) → Stop → Type 0
 IsUnwritten old new NoImage = new ≡ old
-IsUnwritten old new SkipsZeros = new ≡ old
 IsUnwritten old new TooMany = new ≡ old
 IsUnwritten old new Memory = new ≡ old
 IsUnwritten old new Refused = ⊤

@@ -1,6 +1,7 @@
 -- The parts of an image's core file that are written one after another.
 use Rattle.std.specs.Prelude.{◌≡◌, ℕ, List, length, Option}
 use Rattle.std.specs.List.{concat}
+use Rattle.page_core.specs.declared.format.Format.{Format}
 use Rattle.definitions.specs.Disk.{Content}
 use Rattle.definitions.specs.Slots.{runs_of}
 use Rattle.definitions.specs.Streams.{TakesAll}
@@ -17,8 +18,8 @@ abbrev pub loads_over : List ℕ → List ℕ
 loads_over numbers = loads_bytes (page_offset (length (runs_of numbers))) (runs_of numbers)
 
 -- of those that an image saves, by the pages of its stream
-abbrev pub loads_of : (ℕ → List ℕ) → List ℕ
-loads_of at = loads_over (saved_numbers at)
+abbrev pub loads_of : Format → (ℕ → List ℕ) → List ℕ
+loads_of format at = loads_over (saved_numbers format at)
 
 -- the program headers of all page frames are taken, as many as were counted
 pub record HasLoads (content : Option Content) (header : ℕ) (tally : Tally) (old new : Option (List ℕ)) : Type 0 where

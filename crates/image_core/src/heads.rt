@@ -3,6 +3,7 @@ ghost use Rattle.definitions.specs.Disk.{HasRisen, as_it_reads};
 ghost use Rattle.definitions.specs.Streams.{TakesAll, TakesFront};
 ghost use Rattle.elf_core.specs.Elf.{back_bytes, front_bytes};
 ghost use Rattle.image_pages.specs.Chain.{chain_page};
+ghost use Rattle.image_saved.specs.Formats.{chain_format};
 ghost use Rattle.image_frames.specs.Numbered.{HasNumbered};
 ghost use Rattle.image_core.specs.Cores.{IsStopped, IsUnwritten};
 ghost use Rattle.image_core.specs.Counted.{HasTallied};
@@ -68,7 +69,8 @@ pub(crate) fn write_loads<D: Disk, S: Sink, R: Report>(
         HasNumbered (D.content disk.old) (D.block_count disk.old) header numbers.old [] →
         HasTallied (D.content disk.old) header tally →
         OnErr result (IfSome (D.content disk.old) (λ held.
-        TakesFront (loads_of (chain_page (as_it_reads held) header)) (S.taken out.old) (S.taken out.new))) }
+        TakesFront (loads_of (chain_format (as_it_reads held) header) (chain_page (as_it_reads held) header))
+        (S.taken out.old) (S.taken out.new))) }
     ensures stopped { (header : ℕ) →
         HasNumbered (D.content disk.old) (D.block_count disk.old) header numbers.old [] →
         HasTallied (D.content disk.old) header tally →

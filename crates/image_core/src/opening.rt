@@ -8,7 +8,7 @@ use crate::stop::Stop;
 use image_check::Report;
 use image_frames::{Frames, Numbers, Opened, OpenedNumbers};
 use image_pages::{self, Pages};
-use image_stream::read_page;
+use image_saved::read_page;
 use page_core::Page;
 use sector_disk::Disk;
 use std::alloc::Global;
@@ -33,7 +33,6 @@ pub(crate) fn open_numbers<D: Disk, R: Report>(
     match Numbers::open(alloc, disk, header, report)? {
         OpenedNumbers::NoImage => Err(Stop::NoImage),
         OpenedNumbers::Refused => Err(Stop::Refused),
-        OpenedNumbers::SkipsZeros => Err(Stop::SkipsZeros),
         OpenedNumbers::Open(numbers) => Ok(numbers),
     }
 }
@@ -58,7 +57,6 @@ pub(crate) fn open_frames<D: Disk, R: Report>(
     match Frames::open(alloc, disk, header, report)? {
         Opened::NoImage => Err(Stop::NoImage),
         Opened::Refused => Err(Stop::Refused),
-        Opened::SkipsZeros => Err(Stop::SkipsZeros),
         Opened::Open(frames) => Ok(frames),
     }
 }

@@ -3,6 +3,7 @@ ghost use Rattle.std.specs.List.{concat};
 ghost use Rattle.definitions.specs.Disk.{as_it_reads};
 ghost use Rattle.definitions.specs.Streams.{TakesFront};
 ghost use Rattle.image_pages.specs.Chain.{chain_page};
+ghost use Rattle.image_saved.specs.Formats.{chain_format};
 ghost use Rattle.image_frames.specs.Given.{HasGiven};
 ghost use Rattle.image_frames.specs.SavedFrames.{saved_frames};
 ghost use Rattle.image_core.specs.Cores.{IsStopped, IsUnwritten, pages_of};
@@ -37,7 +38,8 @@ pub(crate) fn write_pages<D: Disk, S: Sink, R: Report>(
         HasGiven (D.content disk.old) (D.block_count disk.old) header frames.old [] →
         HasTallied (D.content disk.old) header tally →
         OnErr result (IfSome (D.content disk.old) (λ held.
-        TakesFront (concat (pages_of (saved_frames (chain_page (as_it_reads held) header))))
+        TakesFront (concat (pages_of
+        (saved_frames (chain_format (as_it_reads held) header) (chain_page (as_it_reads held) header))))
         (S.taken out.old) (S.taken out.new))) }
     ensures stopped { (header : ℕ) →
         HasGiven (D.content disk.old) (D.block_count disk.old) header frames.old [] →

@@ -11,8 +11,6 @@ pub enum Stop {
     #[error("findings")]
     Refused,
     /// Pages of zeros have no data page.
-    #[error("pages of zeros aren't in the image")]
-    SkipsZeros,
     /// The info page counts more page frames than a disk has blocks.
     #[error("too many page frames")]
     TooMany,

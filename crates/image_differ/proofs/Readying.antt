@@ -89,6 +89,10 @@ all_since v header before now info given a = λ earlier later.
       whole = a.whole;
       first_page = a.first_page;
       count = a.count;
+      format = a.format;
+      saves = a.saves;
+      listed = a.listed;
+      read = a.read;
       saved = a.saved;
       all = a.all;
     }

@@ -6,7 +6,7 @@ use Rattle.image_frames.specs.Given.{HasGiven}
 use Rattle.image_frames.specs.SavedFrames.{SavedFrame}
 use Rattle.image_frames.specs.Says.{AreAllGiven}
 use Rattle.image_frames.specs.declared.frames.Frames.{Frames}
-use Rattle.image_stream.proofs.Since.{refused_since}
+use Rattle.image_saved.proofs.Since.{refused_since}
 use Rattle.image_differ.specs.Compares.{HasCompared, IsWrong, Says}
 use Rattle.image_differ.specs.Marks.{IsHeading}
 use Rattle.image_differ.specs.Readings.{IsPlace, IsReading}

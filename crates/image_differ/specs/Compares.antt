@@ -5,7 +5,6 @@ use Rattle.image_frames.specs.SavedFrames.{SavedFrame}
 use Rattle.image_frames.specs.Says.{AreAllGiven}
 use Rattle.image_pages.specs.Ends.{IsRefused}
 use Rattle.image_pages.specs.Opens.{IsNoImage}
-use Rattle.image_stream.specs.Streamed.{SkipsZerosThere}
 use Rattle.image_differ.specs.Differences.{Image, differences, frame_differences, no_frame}
 use Rattle.image_differ.specs.Headings.{heading_differences}
 use Rattle.image_differ.specs.Marks.{IsHeading}
@@ -74,7 +73,6 @@ Steps a a' b b' header told p q (Some n) = Says a a' b b' header told q n
 abbrev pub Begins : ℕ → (old new : SideView) → Begun → Type 0
 Begins header old new begun.NoImage = IsNoImage old.content old.blocks header old.told new.told
 Begins header old new begun.Refused = IsBad old.content old.blocks header old.faults new.faults old.told new.told
-Begins header old new begun.SkipsZeros = SkipsZerosThere old.content old.blocks header × (new.told ≡ old.told)
 Begins header old new (begun.Open h r) =
     (new.told ≡ old.told) × IsHeading old header r.frames.numbers.info h × IsReading old header r [] 0
 
@@ -88,8 +86,4 @@ Opens a a' b b' header (opened.Refused First) =
     IsBad a.content a.blocks header a.faults a'.faults a.told a'.told × (b'.told ≡ b.told)
 Opens a a' b b' header (opened.Refused Second) =
     IsBad b.content b.blocks header b.faults b'.faults b.told b'.told × (a'.told ≡ a.told)
-Opens a a' b b' header (opened.SkipsZeros First) =
-    SkipsZerosThere a.content a.blocks header × AreUntold a a' b b'
-Opens a a' b b' header (opened.SkipsZeros Second) =
-    SkipsZerosThere b.content b.blocks header × AreUntold a a' b b'
 Opens a a' b b' header (opened.Open c) = AreUntold a a' b b' × HasCompared a b header c []

@@ -19,7 +19,6 @@ pub(crate) enum Begun {
     NoImage,
     /// What is wrong was told.
     Refused,
-    SkipsZeros,
     Open(Heading, Reading),
 }
 
@@ -51,7 +50,6 @@ pub(crate) fn begin<D: Disk, R: Report>(
     match Frames::open(alloc, &mut side.disk, header, &mut side.report)? {
         Opened::NoImage => Ok(Begun::NoImage),
         Opened::Refused => Ok(Begun::Refused),
-        Opened::SkipsZeros => Ok(Begun::SkipsZeros),
         Opened::Open(frames) => Ok(opened(mark, frames)),
     }
 }

@@ -29,8 +29,6 @@ pub enum Opened {
     NoImage(Which),
     /// What is wrong with the image was told.
     Refused(Which),
-    /// Pages of zeros have no data page.
-    SkipsZeros(Which),
     Open(Comparison),
 }
 
@@ -69,13 +67,11 @@ impl Comparison {
         let (one, first) = match begin(alloc, first, header)? {
             Begun::NoImage => return Ok(Opened::NoImage(Which::First)),
             Begun::Refused => return Ok(Opened::Refused(Which::First)),
-            Begun::SkipsZeros => return Ok(Opened::SkipsZeros(Which::First)),
             Begun::Open(heading, reading) => (heading, reading),
         };
         match begin(alloc, second, header)? {
             Begun::NoImage => Ok(Opened::NoImage(Which::Second)),
             Begun::Refused => Ok(Opened::Refused(Which::Second)),
-            Begun::SkipsZeros => Ok(Opened::SkipsZeros(Which::Second)),
             Begun::Open(two, second) => Ok(Opened::Open(Comparison {
                 one,
                 two,

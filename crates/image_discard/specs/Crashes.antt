@@ -3,7 +3,8 @@ use Rattle.std.specs.Prelude.{◌≡◌, ℕ, ◌+◌, ◌*◌, ◌<◌, ◌⊎�
 use Rattle.definitions.specs.Disk.{Content, DiskImage, as_it_reads, block, sector, sector_bytes}
 use Rattle.definitions.specs.SwapHeader.{IsMarked, taken_back}
 
--- A sector is one that a crash might have left before; or, in a header block that is marked, that of the block with its mark taken back.
+-- A sector is one that a crash might have left before; or, in a header block that is marked, that of the block with its
+-- mark taken back.
 abbrev pub IsLeft : ℕ → List ℕ → Content → ℕ → List ℕ → Type 0
 IsLeft header page old s bytes =
     Contains (sector old s).candidates bytes

@@ -1,7 +1,8 @@
 -- What giving an image up makes of a disk.
 use Rattle.std.specs.Prelude.{◌≡◌, ℕ, ◌≤◌, ◌⊎◌, List, Option, Some, None}
 use Rattle.std.specs.Option.{IfSome}
-use Rattle.definitions.specs.Disk.{Content, DiskImage, IsImage, as_it_reads, block, Writes, FailsToWrite, Syncs, Changes}
+use Rattle.definitions.specs.Disk.{Content, DiskImage, IsImage, as_it_reads, block, Writes, FailsToWrite, Syncs}
+use Rattle.definitions.specs.Disk.{Changes}
 use Rattle.definitions.specs.SwapHeader.{IsMarked, taken_back}
 use Rattle.image_discard.specs.declared.discarding.Discarded.{Discarded}
 use Rattle.image_discard.specs.declared.discarding.Discarded.TheVariants.{Done, NoImage, NoOriginal}
@@ -18,15 +19,20 @@ TakesBack b page old new = (written : Content) × (Writes b (taken_back page) ol
 
 -- what each end leaves
 abbrev pub Ends : (header blocks : ℕ) → (old new : Option Content) → Discarded → Type 0
-Ends header blocks old new Done = (page : List ℕ) × (Reads header old page × IsMarked page × Changes (TakesBack header page) old new)
-Ends header blocks old new NoImage = (new ≡ old) × ((blocks ≤ header) ⊎ ((page : List ℕ) × (Reads header old page × (IsMarked page → ⊥))))
-Ends header blocks old new NoOriginal = (new ≡ old) × ((page : List ℕ) × (Reads header old page × IsMarked page × IsMarked (taken_back page)))
+Ends header blocks old new Done =
+    (page : List ℕ) × (Reads header old page × IsMarked page × Changes (TakesBack header page) old new)
+Ends header blocks old new NoImage =
+    (new ≡ old) × ((blocks ≤ header) ⊎ ((page : List ℕ) × (Reads header old page × (IsMarked page → ⊥))))
+Ends header blocks old new NoOriginal =
+    (new ≡ old) × ((page : List ℕ) × (Reads header old page × IsMarked page × IsMarked (taken_back page)))
 
 -- what each failure leaves
 abbrev pub Fails : ℕ → (old new : Option Content) → Fault → Type 0
 Fails header old new Read = new ≡ old
-Fails header old new Write = (page : List ℕ) × (Reads header old page × IsMarked page × Changes (FailsToWrite header (taken_back page)) old new)
-Fails header old new Sync = (page : List ℕ) × (Reads header old page × IsMarked page × Changes (Writes header (taken_back page)) old new)
+Fails header old new Write =
+    (page : List ℕ) × (Reads header old page × IsMarked page × Changes (FailsToWrite header (taken_back page)) old new)
+Fails header old new Sync =
+    (page : List ℕ) × (Reads header old page × IsMarked page × Changes (Writes header (taken_back page)) old new)
 
 -- whatever a power cut leaves of the disk, the header block has no mark
 abbrev pub LeavesNoImage : ℕ → Content → Type 0

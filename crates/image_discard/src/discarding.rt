@@ -16,7 +16,8 @@ pub enum Discarded {
     Done,
     /// There is no header block, or it has no mark. Nothing was written.
     NoImage,
-    /// `orig_sig` is the signature of an image too, so that there is nothing to take the mark back to. Nothing was written.
+    /// `orig_sig` is the signature of an image too, so that there is nothing to take the mark back to. Nothing was
+    /// written.
     NoOriginal,
 }
 
@@ -34,8 +35,8 @@ pub enum Fault {
     Sync,
 }
 
-/// Takes back the mark of the area whose header lies in a block, whatever kernel its image is of and however it is saved: `sig` gets
-/// `orig_sig`, and all other bytes of the disk stay (`swsusp_check`, kernel/power/swap.c).
+/// Takes back the mark of the area whose header lies in a block, whatever kernel its image is of and however it is
+/// saved: `sig` gets `orig_sig`, and all other bytes of the disk stay (`swsusp_check`, kernel/power/swap.c).
 pub fn discard<D: Disk>(disk: &mut D, header: u32) -> Result<Discarded, Fault>
     ensures ends { IfOk result (Ends header (D.block_count disk.old) (D.content disk.old) (D.content disk.new)) }
     ensures unmarked { result ≡ Ok Discarded.Done → IfSome (D.content disk.new) (LeavesNoImage header) }

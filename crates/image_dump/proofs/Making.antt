@@ -5,7 +5,7 @@ use Rattle.definitions.specs.Disk.{Content}
 use Rattle.definitions.specs.Zones.{numbers}
 use Rattle.image_check.specs.Told.{Told}
 use Rattle.image_pages.proofs.Earlier.{refused_earlier}
-use Rattle.image_stream.proofs.Starting.{bad_earlier}
+use Rattle.image_saved.proofs.Starting.{bad_earlier}
 use Rattle.image_frames.specs.Opens.{IsBad}
 use Rattle.image_frames.specs.SavedFrames.{AreAllSaved, SavedFrame}
 use Rattle.image_frames.specs.SavedNumbers.{AreAllNumbers}
@@ -26,7 +26,7 @@ use Rattle.image_dump.specs.Headings.{IsHeadingOf}
 use Rattle.image_dump.specs.Lays.{LiesOutside, pages_of}
 use Rattle.image_dump.specs.Makes.{HasLimit, HasMachineLimit, IsLoaderOf, IsMachineOf, MakesBy, at_last, lies_outside, outside, passed_at_last}
 use Rattle.image_dump.specs.declared.made.Made.{Made}
-use Rattle.image_dump.specs.declared.made.Made.TheVariants.{NoImage, Refused, SkipsZeros, NoArea, Limit as Passed, Dump}
+use Rattle.image_dump.specs.declared.made.Made.TheVariants.{NoImage, Refused, NoArea, Limit as Passed, Dump}
 
 pub limit_outside : (content : Option Content) (heading : Heading) (layout : Layout) (new : Plan) (limit : Limit) → IsPlan new →
     new.heading ≡ heading → new.layout ≡ layout → IsHeadingOf content layout.offset heading →
@@ -100,7 +100,6 @@ bad_before content blocks header before then now told end le (inr (pages, refuse
 makes_earlier : (limits : Limit → Type 0) (dumps : MachineDump → Type 0) (content : Option Content) (blocks header before then now : ℕ) (told end : Told) (made : Made) → before ≤ then → MakesBy limits dumps content blocks header then now told end made → MakesBy limits dumps content blocks header before now told end made
 makes_earlier limits dumps content blocks header before then now told end NoImage le h = h
 makes_earlier limits dumps content blocks header before then now told end Refused le h = bad_before content blocks header before then now told end le h
-makes_earlier limits dumps content blocks header before then now told end SkipsZeros le h = h
 makes_earlier limits dumps content blocks header before then now told end NoArea le h = h
 makes_earlier limits dumps content blocks header before then now told end (Passed limit) le h = h
 makes_earlier limits dumps content blocks header before then now told end (Dump dump) le h = h

@@ -5,10 +5,9 @@ use Rattle.image_check.specs.Told.{Told}
 use Rattle.image_frames.specs.Numbered.{HasNumbered}
 use Rattle.image_frames.specs.Opens.{IsBad}
 use Rattle.image_pages.specs.Opens.{IsBadHeader, IsNoImage}
-use Rattle.image_stream.specs.Streamed.{SkipsZerosThere}
 use Rattle.image_dump.specs.Headings.{HasNoArea, IsHeadingOf, IsMarkedBlock}
 use Rattle.image_dump.specs.declared.begun.Begun.{Begun}
-use Rattle.image_dump.specs.declared.begun.Begun.TheVariants.{NoImage, Refused, SkipsZeros, NoArea, Open}
+use Rattle.image_dump.specs.declared.begun.Begun.TheVariants.{NoImage, Refused, NoArea, Open}
 use Rattle.image_dump.specs.declared.begun.Marked.{Marked}
 use Rattle.image_dump.specs.declared.begun.Marked.TheVariants as marked
 
@@ -21,8 +20,6 @@ Marks content blocks header before now told then (marked.Block page mark) =
 abbrev pub Begins : Option Content → (blocks header before now : ℕ) → (told then : Told) → Begun → Type 0
 Begins content blocks header before now told then NoImage = IsNoImage content blocks header told then
 Begins content blocks header before now told then Refused = IsBad content blocks header before now told then
-Begins content blocks header before now told then SkipsZeros =
-    SkipsZerosThere content blocks header × (then ≡ told)
 Begins content blocks header before now told then NoArea = HasNoArea content header × (then ≡ told)
 Begins content blocks header before now told then (Open heading numbers) =
     (then ≡ told) × IsHeadingOf content header heading × HasNumbered content blocks header numbers []

@@ -7,7 +7,6 @@ use Rattle.image_frames.specs.Opens.{IsBad}
 use Rattle.image_frames.specs.SavedFrames.{AreAllSaved, AreFirstSaved, SavedFrame}
 use Rattle.image_frames.specs.SavedNumbers.{AreAllNumbers, AreFirstNumbers}
 use Rattle.image_pages.specs.Opens.{IsNoImage}
-use Rattle.image_stream.specs.Streamed.{SkipsZerosThere}
 use Rattle.image_machine.specs.Layouts.{zones_of}
 use Rattle.image_machine.specs.Limits.{PassesAtLast, PassesAtOnce}
 use Rattle.image_machine.specs.Loaders.{IsLoaderFor}
@@ -21,7 +20,7 @@ use Rattle.image_dump.specs.Headings.{HasNoArea, IsHeadingOf}
 use Rattle.image_dump.specs.Lays.{pages_of}
 use Rattle.image_dump.specs.declared.made.Made.{Made}
 use Rattle.image_dump.specs.Lays.{pages_of}
-use Rattle.image_dump.specs.declared.made.Made.TheVariants.{NoImage, Refused, SkipsZeros, NoArea, Limit as Passed, Dump}
+use Rattle.image_dump.specs.declared.made.Made.TheVariants.{NoImage, Refused, NoArea, Limit as Passed, Dump}
 
 -- The image has no machine of this layout, since this limit is passed: whatever page frames were saved, by the last
 -- of the first numbers, or by all of them.
@@ -50,8 +49,6 @@ abbrev pub MakesBy : (Limit → Type 0) → (MachineDump → Type 0) → Option 
 MakesBy limits dumps content blocks header before now told then NoImage = IsNoImage content blocks header told then
 MakesBy limits dumps content blocks header before now told then Refused =
     IsBad content blocks header before now told then
-MakesBy limits dumps content blocks header before now told then SkipsZeros =
-    SkipsZerosThere content blocks header × (then ≡ told)
 MakesBy limits dumps content blocks header before now told then NoArea = HasNoArea content header × (then ≡ told)
 MakesBy limits dumps content blocks header before now told then (Passed limit) = (then ≡ told) × limits limit
 MakesBy limits dumps content blocks header before now told then (Dump dump) = (then ≡ told) × dumps dump

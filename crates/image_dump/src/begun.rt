@@ -22,7 +22,6 @@ pub(crate) enum Begun {
     NoImage,
     /// What is wrong was told.
     Refused,
-    SkipsZeros,
     /// Without the mark the header block isn't that of a version 1 area.
     NoArea,
     Open(Heading, Numbers),
@@ -61,7 +60,6 @@ pub(crate) fn begin<D: Disk, R: Report>(
     match Numbers::open(alloc, disk, header, report)? {
         OpenedNumbers::NoImage => Ok(Begun::NoImage),
         OpenedNumbers::Refused => Ok(Begun::Refused),
-        OpenedNumbers::SkipsZeros => Ok(Begun::SkipsZeros),
         OpenedNumbers::Open(numbers) => Ok(opened(&block, &mark, numbers)),
     }
 }

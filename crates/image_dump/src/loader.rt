@@ -35,7 +35,6 @@ pub fn loader_of<D: Disk, R: Report>(
     let (heading, numbers) = match begin(alloc, disk, layout.offset, report)? {
         Begun::NoImage => return Ok(Made::NoImage),
         Begun::Refused => return Ok(Made::Refused),
-        Begun::SkipsZeros => return Ok(Made::SkipsZeros),
         Begun::NoArea => return Ok(Made::NoArea),
         Begun::Open(heading, numbers) => (heading, numbers),
     };

@@ -8,8 +8,6 @@ pub enum Made {
     NoImage,
     /// The findings of the header block, or of the first block that is named and has some, were told.
     Refused,
-    /// Pages of zeros have no data page.
-    SkipsZeros,
     /// Without the mark the header block isn't that of a version 1 area.
     NoArea,
     /// There is no such machine.

@@ -36,7 +36,6 @@ pub fn machine_of<D: Disk, R: Report>(
     let heading = match begin(alloc, disk, layout.offset, report)? {
         Begun::NoImage => return Ok(Made::NoImage),
         Begun::Refused => return Ok(Made::Refused),
-        Begun::SkipsZeros => return Ok(Made::SkipsZeros),
         Begun::NoArea => return Ok(Made::NoArea),
         Begun::Open(heading, _) => heading,
     };
@@ -70,7 +69,6 @@ fn fill<D: Disk, R: Report>(
     let mut frames = match Frames::open(alloc, disk, filled.plan.layout.offset, report)? {
         Opened::NoImage => return Ok(Made::NoImage),
         Opened::Refused => return Ok(Made::Refused),
-        Opened::SkipsZeros => return Ok(Made::SkipsZeros),
         Opened::Open(frames) => frames,
     };
     match lay_all(&mut filled, &mut frames, disk, report) {

@@ -1,5 +1,7 @@
--- What the header block of an area says (union swap_header, include/linux/swap.h; struct swsusp_header, kernel/power/swap.c).
-use Rattle.std.specs.Prelude.{ℕ, ◌/◌, ◌%◌, ◌==◌, true, false, List, [], ◌∷◌, ◌++◌, length, map, take, if◌then◌else◌, Option, Some, None}
+-- What the header block of an area says (union swap_header, include/linux/swap.h; struct swsusp_header,
+-- kernel/power/swap.c).
+use Rattle.std.specs.Prelude.{ℕ, ◌/◌, ◌%◌, ◌==◌, true, false, List, [], ◌∷◌, ◌++◌, length, map, take, if◌then◌else◌}
+use Rattle.std.specs.Prelude.{Option, Some, None}
 use Rattle.definitions.specs.Bytes.{bytes_at, number_at}
 use Rattle.definitions.specs.InfoPage.{text_of_name}
 use Rattle.definitions.specs.SwapHeader.{taken_back}

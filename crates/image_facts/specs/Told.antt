@@ -1,5 +1,6 @@
 -- What is told of the blocks that an image names: of those up to its last page.
-use Rattle.std.specs.Prelude.{◌≡◌, ℕ, ◌+◌, true, false, Bool, List, [], ◌∷◌, ◌++◌, length, map, take, flat_map, nat_lt, Option, Ok, Err}
+use Rattle.std.specs.Prelude.{◌≡◌, ℕ, ◌+◌, true, false, Bool, List, [], ◌∷◌, ◌++◌, length, map, take, flat_map, nat_lt}
+use Rattle.std.specs.Prelude.{Option, Ok, Err}
 use Rattle.std.specs.List.{range_with_len}
 use Rattle.page_core.specs.declared.format.Format.{Format}
 use Rattle.definitions.specs.Bytes.{number_at, word}
@@ -39,8 +40,8 @@ abbrev pub AreTold : List Name → Type 0
 AreTold [] = Unit {0}
 AreTold (x ∷ h) = AreTold h × (is_told h x ≡ true)
 
--- A front of a reading of the image whose first map is named: each name follows those before it, and is told. The pages are those that
--- the disk holds.
+-- A front of a reading of the image whose first map is named: each name follows those before it, and is told. The pages
+-- are those that the disk holds.
 pub record IsFront (l : Limits) (first : ℕ) (content : Option Content) (h : List Name) : Type 0 where
   pub reading : IsReading l first h
   pub told : AreTold h
@@ -59,7 +60,8 @@ facts_of_first (info ∷ rest) = info_facts info
 unfoldable pub words_of : List ℕ → List ℕ
 words_of page = map (word page) (range_with_len 0 512)
 
--- The page frame numbers are the first words of the pages that follow the info page, as many as it says that page frames were saved.
+-- The page frame numbers are the first words of the pages that follow the info page, as many as it says that page
+-- frames were saved.
 unfoldable pub numbers_in : List (List ℕ) → List ℕ
 numbers_in [] = []
 numbers_in (info ∷ rest) = take (number_at 8 info 416) (flat_map words_of rest)

@@ -3,7 +3,8 @@ ghost use Rattle.std.specs.Prelude.{◌≡◌, ◌+◌, ◌<◌, ◌≤◌, ◌+
 ghost use Rattle.definitions.specs.Bytes.{bytes_at};
 ghost use Rattle.definitions.specs.InfoPage.{text_of_name};
 ghost use Rattle.sig_header.specs.AreaKind.{area_kind};
-ghost use Rattle.image_facts.specs.HeaderFacts.{area_facts, facts_by_mark, flag_fact, flag_facts, header_facts, label_facts, mark_facts, swap_facts};
+ghost use Rattle.image_facts.specs.HeaderFacts.{area_facts, facts_by_mark, flag_fact, flag_facts, header_facts};
+ghost use Rattle.image_facts.specs.HeaderFacts.{label_facts, mark_facts, swap_facts};
 ghost use Rattle.image_facts.specs.declared.fact.Fact.TheVariants.{BadPage};
 
 use crate::fact::{Fact, Flag};

@@ -9,11 +9,12 @@ use page_core::{NoMemory, Page};
 use sector_disk::Disk;
 use std::alloc::Global;
 
-/// The word of an info page that tells how many pages the image has (`pages`, `struct swsusp_info`, kernel/power/power.h).
+/// The word of an info page that tells how many pages the image has (`pages`, `struct swsusp_info`,
+/// kernel/power/power.h).
 const PAGES_WORD: usize = 53;
 
-/// Reads the blocks of an image, up to its last page: to the first block that can't be one of the image or can't be read, or to an
-/// entry behind the last page.
+/// Reads the blocks of an image, up to its last page: to the first block that can't be one of the image or can't be
+/// read, or to an entry behind the last page.
 #[derive(Drop)]
 pub struct Reading {
     walker: Walker,

@@ -1,7 +1,8 @@
 ghost use Rattle.std.specs.Prelude.{◌≡◌, ◌+◌, ◌<◌, ◌≤◌, ◌^◌, List, ℕ, [], ◌∷◌, ◌++◌};
 ghost use Rattle.image_facts.specs.Runs.{count_of, end_of, list_of, IsUpTo};
 
-/// Puts numbers that come one after another into runs, each a first number and how many there are. Of all runs it keeps the last one.
+/// Puts numbers that come one after another into runs, each a first number and how many there are. Of all runs it keeps
+/// the last one.
 #[derive(Clone, Copy, Debug, PartialEq, Eq)]
 pub struct Runs {
     last: Option<(u64, u64)>,

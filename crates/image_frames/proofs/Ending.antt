@@ -6,7 +6,7 @@ use Rattle.image_pages.specs.Chain.{IsWholeStream}
 use Rattle.image_pages.specs.Ends.{IsEnded}
 use Rattle.image_pages.specs.declared.pages.Pages.{Pages}
 use Rattle.image_pages.proofs.Earlier.{ended_earlier}
-use Rattle.image_stream.proofs.Since.{refused_since, stands_since}
+use Rattle.image_saved.proofs.Since.{refused_since, stands_since}
 use Rattle.image_frames.specs.Turns.{Ends, IsFull}
 use Rattle.image_frames.specs.declared.frames.Next.{Next}
 use Rattle.image_frames.specs.declared.frames.Next.TheVariants.{Frame, End, Refused}

@@ -3,6 +3,7 @@ pub mod Ending
 pub mod Giving
 pub mod Numbering
 pub mod Opening
+pub mod Refusing
 pub mod NumberPage
 pub mod Since
 pub mod Turning

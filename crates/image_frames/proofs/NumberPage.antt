@@ -1,21 +1,14 @@
 -- What is known of a number page that has no finding.
 use Rattle.std.proofs.Common.{◌≡◌, ℕ, ◌+◌, ◌*◌, ◌-◌, ◌<◌, Bool, true, false, List, [], Option, Some, None, cond, eqb, leb, ltb, zero, suc, refl, sym, ap, subst, ◌∙◌, inl, inr, arith}
 use Rattle.std.proofs.lemmas.Bool.{cases_lt, leb-false, lt-ltb, ne_eqb}
-use Rattle.page_core.specs.declared.format.Format.TheVariants.{Plain}
+use Rattle.page_core.specs.declared.format.Format.{Format}
 use Rattle.definitions.specs.Bytes.{word}
-use Rattle.image_check.specs.Numbers.{end_fault, number_fault, number_findings, order_fault, word_before, word_fault}
+use Rattle.image_check.specs.Numbers.{end_fault, frame_of, number_fault, number_findings, order_fault, word_before, word_fault}
 use Rattle.image_check.specs.Told.{each_below, list_of}
 use Rattle.image_check.specs.declared.finding.Finding.{Finding}
 use Rattle.image_check.specs.declared.finding.Finding.TheVariants as finding
 use Rattle.image_pages.proofs.Findings.{left_none, right_none, no_finding}
-
-pub when : {A : Type 0} (t : Bool) (x y : A) → t ≡ true → cond t x y ≡ x
-when true x y e = refl
-when false x y e = cc
-
-pub unless : {A : Type 0} (t : Bool) (x y : A) → t ≡ false → cond t x y ≡ y
-unless true x y e = cc
-unless false x y e = refl
+use Rattle.image_saved.proofs.Begun.{unless, when}
 
 -- a test that leads to a finding isn't met
 not_met : (t : Bool) (f : Finding) (rest : Option Finding) → cond t (Some f) rest ≡ None → (t ≡ false) × (rest ≡ None)
@@ -32,28 +25,28 @@ each_none f (suc m) none i lt = elim (cases_lt i m) [
 ]
 
 -- a number is that of a page frame, and above the one before
-pub record IsNumber (w : ℕ) (before : Option ℕ) : Type 0 where
-  pub small : w < 4503599627370496
-  pub above : (b : ℕ) → before ≡ Some b → b < w
+pub record IsNumber (format : Format) (w : ℕ) (before : Option ℕ) : Type 0 where
+  pub small : frame_of format w < 4503599627370496
+  pub above : (b : ℕ) → before ≡ Some b → frame_of format b < frame_of format w
 
-word_clean : (n page i w : ℕ) (before : Option ℕ) → word_fault Plain n page i w before ≡ None → 512 * (page - 1) + i < n → IsNumber w before
-word_clean n page i w before clean lt =
+word_clean : (format : Format) (n page i w : ℕ) (before : Option ℕ) → word_fault format n page i w before ≡ None → 512 * (page - 1) + i < n → IsNumber format w before
+word_clean format n page i w before clean lt =
     let at = 512 * (page - 1) + i in
-    let number : number_fault Plain page i w before ≡ None =
-    sym (when (ltb at n) (number_fault Plain page i w before) (cond (eqb at n) (end_fault page i w) None) (lt-ltb at n lt)) ∙ clean in
-    let both = not_met (leb 4503599627370496 w) (finding.Number page i w) (order_fault Plain page i w before) number in
+    let number : number_fault format page i w before ≡ None =
+    sym (when (ltb at n) (number_fault format page i w before) (cond (eqb at n) (end_fault page i w) None) (lt-ltb at n lt)) ∙ clean in
+    let both = not_met (leb 4503599627370496 (frame_of format w)) (finding.Number page i (frame_of format w)) (order_fault format page i w before) number in
     record {
-      small = leb-false 4503599627370496 w both.0;
+      small = leb-false 4503599627370496 (frame_of format w) both.0;
       above = λ b is.
-          let order = subst (λ (x : Option ℕ). order_fault Plain page i w x ≡ None) is both.1 in
-          leb-false w b (not_met (leb w b) (finding.Order page i w b) None order).0;
+          let order = subst (λ (x : Option ℕ). order_fault format page i w x ≡ None) is both.1 in
+          leb-false (frame_of format w) (frame_of format b) (not_met (leb (frame_of format w) (frame_of format b)) (finding.Order page i (frame_of format w) (frame_of format b)) None order).0;
     }
 
 -- each number of a page without a finding
-pub page_clean : (n position : ℕ) (previous : Option ℕ) (page : List ℕ) → number_findings Plain n position previous page ≡ [] → (j : ℕ) → j < 512 → 512 * (position - 1) + j < n → IsNumber (word page j) (word_before previous page j)
-page_clean n position previous page clean j lt inside =
-    word_clean n position j (word page j) (word_before previous page j)
-    (each_none (λ i. word_fault Plain n position i (word page i) (word_before previous page i)) 512 clean j lt) inside
+pub page_clean : (format : Format) (n position : ℕ) (previous : Option ℕ) (page : List ℕ) → number_findings format n position previous page ≡ [] → (j : ℕ) → j < 512 → 512 * (position - 1) + j < n → IsNumber format (word page j) (word_before previous page j)
+page_clean format n position previous page clean j lt inside =
+    word_clean format n position j (word page j) (word_before previous page j)
+    (each_none (λ i. word_fault format n position i (word page i) (word_before previous page i)) 512 clean j lt) inside
 
 pub before_first : (previous : Option ℕ) (page : List ℕ) (j : ℕ) → j ≡ 0 → word_before previous page j ≡ previous
 before_first previous page j e = ap (λ (i : ℕ). word_before previous page i) e

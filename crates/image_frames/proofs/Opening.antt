@@ -5,7 +5,7 @@ use Rattle.definitions.specs.NumberPages.{meta_of}
 use Rattle.image_check.specs.Info.{counts_in}
 use Rattle.image_pages.specs.Stands.{Stands}
 use Rattle.image_pages.specs.declared.pages.Pages.{Pages}
-use Rattle.image_stream.proofs.Since.{stands_since}
+use Rattle.image_saved.proofs.Since.{stands_since}
 use Rattle.image_frames.specs.Numbered.{HasNumbered}
 use Rattle.image_frames.specs.declared.numbers.Numbers.{Numbers}
 
@@ -24,4 +24,4 @@ ahead_stands c d m k header n p e i h f =
     stands_since c d m k header p (n.info ∷ []) (sym e) (sym i) (f (info_stands c m header n h))
 
 pub enough_ahead : (content : Option Content) (blocks header : ℕ) (n : Numbers) (count pages : ℕ) → HasNumbered content blocks header n [] → count ≡ (counts_in n.info).image_pages → pages ≡ meta_of count → length (n.info ∷ []) + pages ≤ (counts_in n.info).pages
-enough_ahead content blocks header n count pages h same all = omega (arith, h.follows, h.count, same, all)
+enough_ahead content blocks header n count pages h same all = omega (arith, h.room, h.count, same, all)

@@ -6,12 +6,12 @@ use Rattle.definitions.specs.Disk.{Content}
 use Rattle.image_check.specs.Told.{Told}
 use Rattle.image_pages.specs.Stands.{Stands}
 use Rattle.image_pages.specs.declared.pages.Pages.{Pages}
-use Rattle.image_stream.specs.Ahead.{GivesOne, HasMore}
-use Rattle.image_stream.specs.Found.{page_at}
+use Rattle.image_saved.specs.Ahead.{GivesOne, HasMore}
+use Rattle.image_saved.specs.Found.{page_at}
 use Rattle.image_frames.specs.Turns.{IsAtNumber, IsNumberRead, Turns}
 
-pub wants_more : (content : Option Content) (blocks header : ℕ) (p : Pages) (info : List ℕ) (pages : List (List ℕ)) (given : ℕ) (listed : List ℕ) → IsAtNumber content blocks header p info pages given listed → HasMore (info ∷ pages)
-wants_more content blocks header p info pages given listed at = omega (arith, at.size, at.count, at.follows)
+pub wants_more : (content : Option Content) (blocks header : ℕ) (p : Pages) (info : List ℕ) (pages : List (List ℕ)) (given : ℕ) (listed : List ℕ) → IsAtNumber content blocks header p info pages given listed → given % 512 ≤ 0 → HasMore (info ∷ pages)
+wants_more content blocks header p info pages given listed at start = omega (arith, at.size, at.count, at.room, start)
 
 -- the newest number page has the next number too
 pub same_page : (content : Option Content) (blocks header : ℕ) (p : Pages) (info : List ℕ) (pages : List (List ℕ)) (given : ℕ) (listed : List ℕ) → IsAtNumber content blocks header p info pages given listed → 0 < given % 512 → IsNumberRead content blocks header p info pages given listed

@@ -5,4 +5,5 @@ pub mod SavedFrames
 pub mod SavedNumbers
 pub mod Says
 pub mod SaysNumber
+pub mod SaysWord
 pub mod Turns

@@ -4,13 +4,12 @@ use Rattle.definitions.specs.Disk.{Content}
 use Rattle.image_check.specs.Told.{Told}
 use Rattle.image_pages.specs.Ends.{IsRefused}
 use Rattle.image_pages.specs.Opens.{IsBadHeader, IsNoImage}
-use Rattle.image_stream.specs.Streamed.{SkipsZerosThere}
 use Rattle.image_frames.specs.Given.{HasGiven}
 use Rattle.image_frames.specs.Numbered.{HasNumbered}
 use Rattle.image_frames.specs.declared.frames.Opened.{Opened}
 use Rattle.image_frames.specs.declared.frames.Opened.TheVariants as opened
 use Rattle.image_frames.specs.declared.numbers.OpenedNumbers.{OpenedNumbers}
-use Rattle.image_frames.specs.declared.numbers.OpenedNumbers.TheVariants.{NoImage, Refused, SkipsZeros, Open}
+use Rattle.image_frames.specs.declared.numbers.OpenedNumbers.TheVariants.{NoImage, Refused, Open}
 
 -- the findings of the header block, or of the first block that is named and has some, are told
 abbrev pub IsBad : Option Content → (blocks header before now : ℕ) → (told then : Told) → Type 0
@@ -22,8 +21,6 @@ IsBad content blocks header before now told then =
 abbrev pub OpensNumbers : Option Content → (blocks header before now : ℕ) → (told then : Told) → OpenedNumbers → Type 0
 OpensNumbers content blocks header before now told then NoImage = IsNoImage content blocks header told then
 OpensNumbers content blocks header before now told then Refused = IsBad content blocks header before now told then
-OpensNumbers content blocks header before now told then SkipsZeros =
-    SkipsZerosThere content blocks header × (then ≡ told)
 OpensNumbers content blocks header before now told then (Open numbers) =
     (then ≡ told) × HasNumbered content blocks header numbers []
 
@@ -31,7 +28,5 @@ OpensNumbers content blocks header before now told then (Open numbers) =
 abbrev pub Opens : Option Content → (blocks header before now : ℕ) → (told then : Told) → Opened → Type 0
 Opens content blocks header before now told then opened.NoImage = IsNoImage content blocks header told then
 Opens content blocks header before now told then opened.Refused = IsBad content blocks header before now told then
-Opens content blocks header before now told then opened.SkipsZeros =
-    SkipsZerosThere content blocks header × (then ≡ told)
 Opens content blocks header before now told then (opened.Open frames) =
     (then ≡ told) × HasGiven content blocks header frames []

@@ -1,13 +1,16 @@
 -- What comes next of the saved page frames of an image.
-use Rattle.std.specs.Prelude.{◌≡◌, ℕ, ◌<◌, ◌^◌, List, [], ◌∷◌, ◌++◌, length, All, Option}
+use Rattle.std.specs.Prelude.{◌≡◌, ℕ, ◌<◌, ◌^◌, List, [], ◌∷◌, ◌++◌, length, drop, All, Option}
+use Rattle.page_core.specs.declared.format.Format.{Format}
 use Rattle.definitions.specs.Disk.{Content}
 use Rattle.image_check.specs.Told.{Told}
+use Rattle.image_pages.specs.AreRead.{AreRead}
 use Rattle.image_pages.specs.Chain.{IsWholeStream}
 use Rattle.image_pages.specs.Ends.{IsEnded, IsRefused}
-use Rattle.image_stream.specs.Found.{page_at}
-use Rattle.image_stream.specs.Saved.{count_in, place_in}
+use Rattle.image_saved.specs.Formats.{SavesThere}
+use Rattle.image_saved.specs.Found.{page_at}
+use Rattle.image_saved.specs.Saved.{count_in}
 use Rattle.image_frames.specs.Given.{HasGiven, frame_at, frame_of}
-use Rattle.image_frames.specs.SavedFrames.{SavedFrame, AreAllSaved, AreFirstSaved}
+use Rattle.image_frames.specs.SavedFrames.{SavedFrame, AreAllSaved, AreFirstSaved, saved_at}
 use Rattle.image_frames.specs.declared.frames.Frames.{Frames}
 use Rattle.image_frames.specs.declared.frames.Next.{Next}
 use Rattle.image_frames.specs.declared.frames.Next.TheVariants.{Frame, End, Refused}
@@ -21,7 +24,7 @@ pub record IsNextFrame (content : Option Content) (blocks header : ℕ) (given :
   pub first : AreFirstSaved content header (given ++ f ∷ [])
 
 -- All saved page frames were given, and nothing is wrong with a whole reading of the image, in which these pages
--- were read.
+-- were read. The numbers are those of number pages that were read once more.
 pub record AreAllGiven (content : Option Content) (blocks header before now : ℕ) (info : List ℕ)
     (given : List SavedFrame) : Type 0 where
   pub pages : List (List ℕ)
@@ -29,7 +32,12 @@ pub record AreAllGiven (content : Option Content) (blocks header before now : �
   pub whole : IsWholeStream content header pages
   pub first_page : page_at pages 0 ≡ info
   pub count : length given ≡ count_in (page_at pages)
-  pub saved : (i : ℕ) → i < length given → (frame_at given i).page ≡ page_at pages (place_in (page_at pages) i)
+  pub format : Format
+  pub saves : SavesThere format content blocks header
+  pub listed : List (List ℕ)
+  pub read : AreRead content blocks header (info ∷ listed)
+  pub saved : (i : ℕ) → i < length given →
+      frame_at given i ≡ saved_at format (page_at ((info ∷ listed) ++ drop (length (info ∷ listed)) pages)) i
   pub all : AreAllSaved content header given
 
 abbrev pub Says : Option Content → (blocks header before now : ℕ) → (told then : Told) → List SavedFrame →

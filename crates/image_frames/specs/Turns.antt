@@ -1,5 +1,5 @@
 -- Number pages that are read as their numbers are given, and the end of the data pages.
-use Rattle.std.specs.Prelude.{◌≡◌, ℕ, ◌+◌, ◌/◌, ◌%◌, ◌<◌, Bool, true, false, List, ◌∷◌, length, Option}
+use Rattle.std.specs.Prelude.{◌≡◌, ℕ, ◌+◌, ◌/◌, ◌%◌, ◌<◌, ◌≤◌, Bool, true, false, List, ◌∷◌, length, Option}
 use Rattle.definitions.specs.Disk.{Content}
 use Rattle.definitions.specs.NumberPages.{meta_of}
 use Rattle.image_check.specs.Info.{counts_in}
@@ -8,7 +8,7 @@ use Rattle.image_pages.specs.Chain.{IsWholeStream}
 use Rattle.image_pages.specs.Ends.{IsEnded, IsRefused}
 use Rattle.image_pages.specs.Stands.{Stands}
 use Rattle.image_pages.specs.declared.pages.Pages.{Pages}
-use Rattle.image_stream.specs.Found.{page_at}
+use Rattle.image_saved.specs.Found.{page_at}
 use Rattle.image_frames.specs.declared.frames.Next.{Next}
 use Rattle.image_frames.specs.declared.frames.Next.TheVariants.{Frame, End, Refused}
 
@@ -19,7 +19,7 @@ pub record IsAtNumber (content : Option Content) (blocks header : ℕ) (p : Page
   pub size : length pages ≡ meta_of given
   pub newest : 0 < given % 512 → page ≡ page_at pages (given / 512)
   pub count : given < (counts_in info).image_pages
-  pub follows : (counts_in info).pages ≡ (counts_in info).image_pages + (meta_of (counts_in info).image_pages + 1)
+  pub room : meta_of (counts_in info).image_pages + 1 ≤ (counts_in info).pages
 
 -- the number page of the next number was read
 pub record IsNumberRead (content : Option Content) (blocks header : ℕ) (q : Pages) (info : List ℕ)

@@ -1,23 +1,25 @@
 ghost use Rattle.std.specs.Prelude.{◌≡◌, ◌≤◌, ℕ, List, ◌∷◌};
 ghost use Rattle.image_frames.specs.Turns.{Ends, IsFull};
 
-use crate::numbers::{NUMBERS, NextNumber, Numbers, OpenedNumbers};
+use crate::numbers::{NUMBERS, NextWord, Numbers, OpenedNumbers};
 use image_check::Report;
 use image_header::Info;
 use image_pages::{self, Pages};
-use image_stream::{read_ahead, read_page};
+use image_saved::{read_ahead, read_page};
 use page_core::{NoMemory, Page};
 use sector_disk::Disk;
 use std::alloc::Global;
 
-/// The saved page frames of an image in the plain format, in ascending order, up to the first block that is named and
+/// The saved page frames of an image, in ascending order, up to the first block that is named and
 /// has findings. The numbers and the pages of an image lie far from one another, so the image is read at two places. It
 /// takes memory of two bits for each block of the disk.
 #[derive(Drop)]
 pub struct Frames {
     numbers: Numbers,
-    /// After the data page given last.
+    /// After the data page that was read last.
     pages: Pages,
+    /// How many data pages are left.
+    left: u64,
 }
 
 /// What there was to open.
@@ -27,8 +29,6 @@ pub enum Opened {
     NoImage,
     /// The findings of the header block, of the info page or of the first number page that has some were told.
     Refused,
-    /// Pages of zeros have no data page.
-    SkipsZeros,
     Open(Frames),
 }
 
@@ -44,11 +44,11 @@ pub enum Next {
 }
 
 impl Frames {
-    ghost use Rattle.std.specs.Prelude.{◌≡◌, ◌≤◌, ℕ, List, Option, IfOk, OnErr};
+    ghost use Rattle.std.specs.Prelude.{◌≡◌, ◌≤◌, ℕ, List, [], Option, IfOk, OnErr};
     ghost use Rattle.definitions.specs.Disk.{Content};
     ghost use Rattle.definitions.specs.InfoPage.{info_of};
     ghost use Rattle.image_pages.specs.Chain.{IsChainPage};
-    ghost use Rattle.image_frames.specs.Given.{HasGiven};
+    ghost use Rattle.image_frames.specs.Given.{HasGiven, HasPassed};
     ghost use Rattle.image_frames.specs.Opens.{Opens};
     ghost use Rattle.image_frames.specs.SavedFrames.{SavedFrame};
     ghost use Rattle.image_frames.specs.Says.{Says};
@@ -71,7 +71,6 @@ impl Frames {
         let numbers = match Numbers::open(alloc, disk, header, report)? {
             OpenedNumbers::NoImage => return Ok(Opened::NoImage),
             OpenedNumbers::Refused => return Ok(Opened::Refused),
-            OpenedNumbers::SkipsZeros => return Ok(Opened::SkipsZeros),
             OpenedNumbers::Open(numbers) => numbers,
         };
         let mut pages = numbers.pages_ahead()?;
@@ -80,11 +79,31 @@ impl Frames {
         if !read_ahead(&mut pages, disk, report, number_pages, &mut passed) {
             return Ok(Opened::Refused);
         }
-        Ok(Opened::Open(Frames { numbers, pages }))
+        Ok(Opened::Open(Frames::of(numbers, pages)))
     }
 
-    /// Reads the next saved page frame. It isn't called again after an end or a refusal. The page frames that were
-    /// given are the first ones that the chain of the disk names; an end says that they are all.
+    /// Begins with numbers of which none was given, and the pages after all number pages.
+    pub fn of(numbers: Numbers, pages: Pages) -> Frames
+        requires { (content : Option Content) × ((blocks : ℕ) × ((header : ℕ) ×
+            HasPassed content blocks header numbers pages)) }
+        ensures given { (content : Option Content) (blocks header : ℕ) →
+            HasPassed content blocks header numbers pages → HasGiven content blocks header result [] }
+        ensures info { result.numbers.info ≡ numbers.info }
+    {
+        let Some(counts) = pages.counts() else {
+            unreachable!()
+        };
+        let left = counts.pages - numbers.count().div_ceil(NUMBERS) - 1;
+        Frames {
+            numbers,
+            pages,
+            left,
+        }
+    }
+
+    /// Reads the next saved page frame: where its number says that its page is zeros, no data page is read. It isn't
+    /// called again after an end or a refusal. The page frames that were given are the first ones that the chain of
+    /// the disk names; an end says that they are all.
     pub fn next<D: Disk, R: Report>(
         &mut self,
         disk: &mut D,
@@ -103,14 +122,23 @@ impl Frames {
         ensures orders { D.orders disk.new ≡ D.orders disk.old }
         ensures blocks { D.block_count disk.new ≡ D.block_count disk.old }
     {
-        let number = match self.numbers.next(disk, report) {
-            NextNumber::Frame(number) => number,
-            NextNumber::End => return end(&mut self.pages, disk, report, page),
-            NextNumber::Refused => return Next::Refused,
+        let (number, has_data) = match self.numbers.next_word(disk, report) {
+            NextWord::Frame { number, has_data } => (number, has_data),
+            NextWord::End => return end(&mut self.pages, disk, report, page),
+            NextWord::Refused => return Next::Refused,
         };
+        if !has_data {
+            *page = Page::zero();
+            return Next::Frame(number);
+        }
+        if self.left == 0 {
+            self.numbers.refuse(disk, report);
+            return Next::Refused;
+        }
         if !read_page(&mut self.pages, disk, report, page) {
             return Next::Refused;
         }
+        self.left -= 1;
         Next::Frame(number)
     }
 

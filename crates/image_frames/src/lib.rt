@@ -1,4 +1,4 @@
-//! The saved page frames of an image in the plain format, one after another: their numbers, and their pages too.
+//! The saved page frames of an image, one after another: their numbers, and their pages too.
 #![tactic(auto)]
 
 mod frames;

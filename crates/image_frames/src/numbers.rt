@@ -1,21 +1,20 @@
 ghost use Rattle.std.specs.Prelude.{◌≡◌, ◌≤◌, ℕ, List, []};
-ghost use Rattle.page_core.specs.declared.format.Format.TheVariants.{Plain};
 ghost use Rattle.image_pages.specs.Stands.{Stands};
 ghost use Rattle.image_frames.specs.Opens.{OpensNumbers};
 ghost use Rattle.image_frames.specs.Turns.{IsAtNumber, Turns};
 
-use image_check::Report;
+use image_check::{Counts, Report};
 use image_header::{Info, decode};
 use image_pages::{Opened, Pages};
-use image_stream::read_page;
-use page_core::{Format, NoMemory, Page};
+use image_saved::{frame_of, has_page, read_ahead, read_page};
+use page_core::{NoMemory, Page};
 use sector_disk::Disk;
 use std::alloc::Global;
 
 /// How many numbers a page of page frame numbers has.
 pub(crate) const NUMBERS: u64 = 512;
 
-/// The numbers of the saved page frames of an image in the plain format, in ascending order. Only its number pages are
+/// The numbers of the saved page frames of an image, in ascending order. Only its number pages are
 /// read, up to the first block that is named and has findings. It takes memory of a bit for each block of the disk.
 #[derive(Drop)]
 pub struct Numbers {
@@ -36,8 +35,6 @@ pub enum OpenedNumbers {
     NoImage,
     /// The findings of the header block or of the info page were told.
     Refused,
-    /// Pages of zeros have no data page.
-    SkipsZeros,
     Open(Numbers),
 }
 
@@ -52,16 +49,28 @@ pub enum NextNumber {
     Refused,
 }
 
+/// What comes next, with whether its page is a data page.
+#[derive(Clone, Copy)]
+pub(crate) enum NextWord {
+    Frame { number: u64, has_data: bool },
+    End,
+    Refused,
+}
+
 impl Numbers {
-    ghost use Rattle.std.specs.Prelude.{◌≡◌, ◌≤◌, ℕ, List, Option, IfOk, OnErr};
+    ghost use Rattle.std.specs.Prelude.{◌≡◌, ◌≤◌, ℕ, List, [], Option, IfOk, OnErr};
     ghost use Rattle.definitions.specs.Disk.{Content};
     ghost use Rattle.definitions.specs.InfoPage.{info_of};
     ghost use Rattle.image_check.specs.Info.{counts_in};
     ghost use Rattle.image_pages.specs.Chain.{IsChainPage};
     ghost use Rattle.image_pages.specs.Stands.{Stands};
+    ghost use Rattle.image_saved.specs.Ahead.{HasInfo};
     ghost use Rattle.image_frames.specs.Numbered.{HasNumbered};
     ghost use Rattle.image_frames.specs.Opens.{OpensNumbers};
+    ghost use Rattle.image_frames.specs.Numbered.{HasTooMany};
     ghost use Rattle.image_frames.specs.SaysNumber.{SaysNumber};
+    ghost use Rattle.image_frames.specs.SaysWord.{SaysWord};
+    ghost use Rattle.image_pages.specs.Ends.{IsRefused};
 
     /// Opens the image of the area whose header lies in a block, and reads its info page.
     pub fn open<D: Disk, R: Report>(
@@ -78,14 +87,25 @@ impl Numbers {
         ensures orders { D.orders disk.new ≡ D.orders disk.old }
         ensures blocks { D.block_count disk.new ≡ D.block_count disk.old }
     {
-        let pages = match Pages::open(alloc, disk, header, report)? {
-            Opened::NoImage => return Ok(OpenedNumbers::NoImage),
-            Opened::Refused => return Ok(OpenedNumbers::Refused),
-            Opened::Open(pages) => pages,
-        };
-        match pages.format() {
-            Format::Plain => Ok(begin(pages, disk, report)),
-            Format::SkipZeros => Ok(OpenedNumbers::SkipsZeros),
+        match Pages::open(alloc, disk, header, report)? {
+            Opened::NoImage => Ok(OpenedNumbers::NoImage),
+            Opened::Refused => Ok(OpenedNumbers::Refused),
+            Opened::Open(pages) => Ok(begin(pages, disk, report)),
+        }
+    }
+
+    /// Begins after the info page of an image, which says this.
+    pub fn of(info: Page, counts: Counts, pages: Pages) -> Numbers
+        ensures numbered { (content : Option Content) (blocks header : ℕ) →
+            HasInfo content blocks header pages counts info → HasNumbered content blocks header result [] }
+        ensures info { result.info ≡ info }
+    {
+        Numbers {
+            info,
+            count: counts.image_pages,
+            given: 0,
+            pages,
+            listed: Page::zero(),
         }
     }
 
@@ -104,15 +124,62 @@ impl Numbers {
         ensures orders { D.orders disk.new ≡ D.orders disk.old }
         ensures blocks { D.block_count disk.new ≡ D.block_count disk.old }
     {
+        match self.next_word(disk, report) {
+            NextWord::Frame { number, .. } => NextNumber::Frame(number),
+            NextWord::End => NextNumber::End,
+            NextWord::Refused => NextNumber::Refused,
+        }
+    }
+
+    /// The same, with whether its page is a data page.
+    pub(crate) fn next_word<D: Disk, R: Report>(&mut self, disk: &mut D, report: &mut R) -> NextWord
+        requires { (header : ℕ) × ((given : List ℕ) ×
+            HasNumbered (D.content disk.old) (D.block_count disk.old) header self.old given) }
+        ensures says { (header : ℕ) (given : List ℕ)
+            (h : HasNumbered (D.content disk.old) (D.block_count disk.old) header self.old given) →
+            SaysWord (D.content disk.old) (D.block_count disk.old) header (D.faults disk.old) (D.faults disk.new)
+            (R.told report.old) (R.told report.new) given self.old h self.new result }
+        ensures info { self.new.info ≡ self.old.info }
+        ensures content { D.content disk.new ≡ D.content disk.old }
+        ensures faults { D.faults disk.old ≤ D.faults disk.new }
+        ensures orders { D.orders disk.new ≡ D.orders disk.old }
+        ensures blocks { D.block_count disk.new ≡ D.block_count disk.old }
+    {
         if self.given == self.count {
-            return NextNumber::End;
+            return NextWord::End;
         }
         if !turn(&mut self.pages, disk, report, self.given, &mut self.listed) {
-            return NextNumber::Refused;
+            return NextWord::Refused;
         }
-        let number = self.listed.word((self.given % NUMBERS) as usize);
+        let format = self.pages.format();
+        let word = self.listed.word((self.given % NUMBERS) as usize);
         self.given += 1;
-        NextNumber::Frame(number)
+        NextWord::Frame {
+            number: frame_of(format, word),
+            has_data: has_page(format, word),
+        }
+    }
+
+    /// Reads on to the number page in which something is wrong: more numbers have a data page than the image has.
+    pub(crate) fn refuse<D: Disk, R: Report>(&mut self, disk: &mut D, report: &mut R)
+        requires { (header : ℕ) × ((given : List ℕ) ×
+            ((h : HasNumbered (D.content disk.old) (D.block_count disk.old) header self.old given) ×
+            HasTooMany (D.content disk.old) (D.block_count disk.old) header self.old given h)) }
+        ensures refused { (header : ℕ) (given : List ℕ)
+            (h : HasNumbered (D.content disk.old) (D.block_count disk.old) header self.old given) →
+            HasTooMany (D.content disk.old) (D.block_count disk.old) header self.old given h →
+            (pages : List (List ℕ)) × IsRefused (D.content disk.old) (D.block_count disk.old) header
+            (D.faults disk.old) (D.faults disk.new) (R.told report.old) (R.told report.new) pages }
+        ensures info { self.new.info ≡ self.old.info }
+        ensures content { D.content disk.new ≡ D.content disk.old }
+        ensures faults { D.faults disk.old ≤ D.faults disk.new }
+        ensures orders { D.orders disk.new ≡ D.orders disk.old }
+        ensures blocks { D.block_count disk.new ≡ D.block_count disk.old }
+    {
+        let left = self.count.div_ceil(NUMBERS) - self.given.div_ceil(NUMBERS);
+        if read_ahead(&mut self.pages, disk, report, left, &mut self.listed) {
+            unreachable!()
+        }
     }
 
     /// What the info page says: whose image it is, and how many page frames were saved.
@@ -141,10 +208,9 @@ impl Numbers {
     }
 }
 
-/// Begins with a plain image of which nothing was read.
+/// Begins with an image of which nothing was read.
 fn begin<D: Disk, R: Report>(mut pages: Pages, disk: &mut D, report: &mut R) -> OpenedNumbers
-    requires stands { (header : ℕ) × Stands (D.content disk.old) (D.block_count disk.old) header pages [] }
-    requires plain { pages.format ≡ Plain }
+    requires { (header : ℕ) × Stands (D.content disk.old) (D.block_count disk.old) header pages [] }
     ensures opened { (header : ℕ) → Stands (D.content disk.old) (D.block_count disk.old) header pages [] →
         OpensNumbers (D.content disk.old) (D.block_count disk.old) header
         (D.faults disk.old) (D.faults disk.new) (R.told report.old) (R.told report.new) result }
@@ -160,13 +226,7 @@ fn begin<D: Disk, R: Report>(mut pages: Pages, disk: &mut D, report: &mut R) -> 
     let Some(counts) = pages.counts() else {
         unreachable!()
     };
-    OpenedNumbers::Open(Numbers {
-        info,
-        count: counts.image_pages,
-        given: 0,
-        pages,
-        listed: Page::zero(),
-    })
+    OpenedNumbers::Open(Numbers::of(info, counts, pages))
 }
 
 /// Reads on to the number page of the next number, where that is another than the last one's, and answers whether it

@@ -143,6 +143,9 @@ finding_line (finding.Order page word n before) =
     (with_number (codes " after ") before [] refl refl)
 finding_line (finding.End page word found) =
     then (word_text page word) (named [] found (codes " after the last number")) (word_line page word) (with_number [] found (codes " after the last number") refl refl)
+finding_line (finding.DataPages counted pages) =
+    then (named (codes "number pages: data pages ") counted (codes ", but pages ")) (decimal pages)
+    (with_number (codes "number pages: data pages ") counted (codes ", but pages ") refl refl) (number pages)
 
 are_texts : (found : List Finding) → are_lines (bytes_of found) ≡ true
 are_texts [] = refl

@@ -1,4 +1,5 @@
--- The object of an area's facts: a member for each fact, in order, or an array for those in a row that are items of the same one.
+-- The object of an area's facts: a member for each fact, in order, or an array for those in a row that are items of the
+-- same one.
 use Rattle.std.specs.Prelude.{ℕ, List, [], ◌∷◌, ◌++◌, is_some, if◌then◌else◌, Option}
 use Rattle.serde_json.specs.Data.{Data, array, null, object, Members, member, no_members}
 use Rattle.serde_json.specs.View.{items_of}
@@ -20,7 +21,8 @@ alone f = record { key = key_of f; array = array_of f; values = value_of f ∷ [
 abbrev pub with_fact : Fact → List Group → List Group
 with_fact f [] = alone f ∷ []
 with_fact f (g ∷ gs) =
-    if is_same (array_of f) g.array then record { key = key_of f; array = array_of f; values = value_of f ∷ g.values } ∷ gs
+    if is_same (array_of f) g.array
+    then record { key = key_of f; array = array_of f; values = value_of f ∷ g.values } ∷ gs
     else alone f ∷ g ∷ gs
 
 abbrev pub grouped : List Fact → List Group

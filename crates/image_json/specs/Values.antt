@@ -1,5 +1,6 @@
 -- The key and the value of a fact as JSON, by the text of its line.
-use Rattle.std.specs.Prelude.{ℕ, ◌+◌, ◌^◌, ◌==◌, Bool, false, List, length, drop, not, nat_le, decimal, take_while, if◌then◌else◌, Option, Some, None}
+use Rattle.std.specs.Prelude.{ℕ, ◌+◌, ◌^◌, ◌==◌, Bool, false, List, length, drop, not, nat_le, decimal, take_while}
+use Rattle.std.specs.Prelude.{if◌then◌else◌, Option, Some, None}
 use Rattle.std.specs.Str.{encode_utf8_all}
 use Rattle.serde_json.specs.Data.{Data, array, boolean, item, no_items, number, string, unsigned}
 use Rattle.image_facts.specs.declared.fact.Fact.{Fact}

@@ -4,7 +4,7 @@ use Rattle.definitions.specs.Disk.{Content, HasRisen}
 use Rattle.image_check.specs.Told.{Told}
 use Rattle.image_dump.specs.Makes.{MakesBy}
 use Rattle.image_dump.specs.declared.made.Made.{Made}
-use Rattle.image_dump.specs.declared.made.Made.TheVariants.{NoImage, Refused, SkipsZeros, NoArea, Limit, Dump}
+use Rattle.image_dump.specs.declared.made.Made.TheVariants.{NoImage, Refused, NoArea, Limit, Dump}
 use Rattle.image_machine.specs.declared.limit.Limit.{Limit as OneLimit}
 use Rattle.machine.specs.declared.dump.Dump.{Dump as MachineDump}
 
@@ -21,7 +21,6 @@ made_counted limits dumps content blocks header before now told then NoImage non
 made_counted limits dumps content blocks header before now told then Refused (inl (inl (tells, risen))) = tells.faults
 made_counted limits dumps content blocks header before now told then Refused (inl (inr (page, (mark, (read, marked, some, tells))))) = tells.faults
 made_counted limits dumps content blocks header before now told then Refused (inr (pages, refused)) = refused.told.faults
-made_counted limits dumps content blocks header before now told then SkipsZeros (skips, untold) = same_faults told then untold
 made_counted limits dumps content blocks header before now told then NoArea (none, untold) = same_faults told then untold
 made_counted limits dumps content blocks header before now told then (Limit limit) (untold, has) = same_faults told then untold
 made_counted limits dumps content blocks header before now told then (Dump dump) (untold, is) = same_faults told then untold

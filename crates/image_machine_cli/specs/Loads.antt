@@ -13,7 +13,7 @@ use Rattle.image_check.specs.declared.report.Printer.{Printer}
 use Rattle.image_machine.specs.declared.heading.Layout.{Layout}
 use Rattle.image_dump.specs.Makes.{Makes, MakesMachine}
 use Rattle.image_dump.specs.declared.made.Made.{Made}
-use Rattle.image_dump.specs.declared.made.Made.TheVariants.{NoImage, Refused, SkipsZeros, NoArea, Limit, Dump}
+use Rattle.image_dump.specs.declared.made.Made.TheVariants.{NoImage, Refused, NoArea, Limit, Dump}
 use Rattle.swsusp_cli.specs.Loads.{written_told}
 use Rattle.image_machine_cli.specs.LimitLines.{limit_line}
 
@@ -30,7 +30,6 @@ refused note = record { status = status.Refused; out = []; note = note }
 abbrev pub made_told : Made → RunResult
 made_told NoImage = refused (line (codes "no image"))
 made_told Refused = refused []
-made_told SkipsZeros = refused (line (codes "pages of zeros aren't in the image"))
 made_told NoArea = refused (line (codes "no version 1 area"))
 made_told (Limit limit) = refused (limit_line limit)
 made_told (Dump dump) = written_told dump.hw dump.frames
@@ -39,7 +38,6 @@ made_told (Dump dump) = written_told dump.hw dump.frames
 abbrev pub HasFrames : Made → Type 0
 HasFrames NoImage = ⊤
 HasFrames Refused = ⊤
-HasFrames SkipsZeros = ⊤
 HasFrames NoArea = ⊤
 HasFrames (Limit limit) = ⊤
 HasFrames (Dump dump) = length dump.frames ≡ top dump.hw.zones

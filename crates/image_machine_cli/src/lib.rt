@@ -4,4 +4,5 @@
 mod limits;
 mod loading;
 
+pub use limits::limit_line;
 pub use loading::{loader, machine};

@@ -94,13 +94,6 @@ fn tell_made<O: Sink, N: Sink>(made: &Made, out: &mut O, note: &mut N) -> Status
         Made::Dump(dump) => tell_dump(&dump.hw, &dump.frames, out, note),
         Made::NoImage => tell(Status::Refused, b"", b"no image\n", out, note),
         Made::Refused => tell(Status::Refused, b"", b"", out, note),
-        Made::SkipsZeros => tell(
-            Status::Refused,
-            b"",
-            b"pages of zeros aren't in the image\n",
-            out,
-            note,
-        ),
         Made::NoArea => tell(Status::Refused, b"", b"no version 1 area\n", out, note),
         Made::Limit(limit) => tell(
             Status::Refused,

@@ -5,11 +5,12 @@ use Rattle.page_core.specs.declared.format.Format.{Format}
 use Rattle.image_walk.specs.declared.limits.Limits.{Limits}
 use Rattle.image_walk.specs.declared.visit.BlockFault.{BlockFault}
 use Rattle.image_walk.specs.Names.{Name, map_at, page_at, maps_in, left_in, IsNext, IsReading}
-use Rattle.image_check.specs.Entries.{position_of, place_of, counts_of, counts_seen, previous_of, entry_fault, read_findings, ends_fault}
+use Rattle.image_check.specs.Entries.{position_of, place_of, counts_of, counts_seen, previous_of, data_of, entry_fault, read_findings, data_findings, ends_fault}
 use Rattle.image_check.specs.Image.{history_findings, name_findings}
 use Rattle.image_check.specs.Info.{counts_in, counts_fault}
 use Rattle.image_check.specs.Told.{list_of}
 use Rattle.image_check.specs.declared.finding.Counts.{Counts}
+use Rattle.image_check.specs.declared.finding.Finding.{Finding}
 use Rattle.image_check.specs.declared.finding.Finding.TheVariants as finding
 use Rattle.image_pages.specs.Clean.{counts_by, page_in, pages_in}
 use Rattle.image_pages.proofs.Findings.{left_none, right_none, end_wanted, end_mapped, info_clean, entry_clean, info_counts, counts_some}
@@ -102,18 +103,23 @@ known_first position answer known e = ap (λ t. cond t (counts_seen answer) know
 known_later : (position : ℕ) (answer : Result (List ℕ) BlockFault) (known : Option Counts) → 0 < position → cond (eqb position 0) (counts_seen answer) known ≡ known
 known_later position answer known lt = ap (λ t. cond t (counts_seen answer) known) (ne_eqb position 0 (λ e. omega arith))
 
+-- what is wrong with the number of data pages after an entry
+abbrev data_in : Format → List Name → ℕ → Result (List ℕ) BlockFault → List Finding
+data_in format h b answer = data_findings format (counts_of h) (position_of h) (data_of (page_at b answer ∷ h)) answer
+
 info_read : (format : Format) (h : List Name) (b : ℕ) (answer : Result (List ℕ) BlockFault) → pages_in h ≡ [] → counts_of h ≡ None → position_of h ≡ 0 → name_findings format h (page_at b answer) ≡ [] → IsCounted format 1 (counts_seen answer) (pages_in h ++ page_in answer)
 info_read format h b answer none unknown at clean =
-    let (page, is, fine) = info_clean format (place_of h) b (previous_of h) answer
-    (subst (λ (k : ℕ). list_of (entry_fault None k (place_of h) b answer) ++ read_findings format None k b (previous_of h) answer ≡ []) at
-    (subst (λ (x : Option Counts). list_of (entry_fault x (position_of h) (place_of h) b answer) ++ read_findings format x (position_of h) b (previous_of h) answer ≡ []) unknown clean)) in
+    let more = data_in format h b answer in
+    let (page, is, fine) = info_clean format (place_of h) b (previous_of h) answer more
+    (subst (λ (k : ℕ). list_of (entry_fault None k (place_of h) b answer) ++ (read_findings format None k b (previous_of h) answer ++ more) ≡ []) at
+    (subst (λ (x : Option Counts). list_of (entry_fault x (position_of h) (place_of h) b answer) ++ (read_findings format x (position_of h) b (previous_of h) answer ++ more) ≡ []) unknown clean)) in
     subst (λ (a : Result (List ℕ) BlockFault). IsCounted format 1 (counts_seen a) (pages_in h ++ page_in a)) (sym is)
     (first_read format page (pages_in h) none (info_counts format page fine))
 
 later_read : (format : Format) (l : Limits) (first : ℕ) (h : List Name) (b : ℕ) (answer : Result (List ℕ) BlockFault) → IsNext l first h (page_at b answer) → name_findings format h (page_at b answer) ≡ [] → IsCounted format (position_of h) (counts_of h) (pages_in h) → IsCounted format (position_of h + 1) (counts_of h) (pages_in h ++ page_in answer)
 later_read format l first h b answer next clean c =
-    elim (entry_clean format l h c.counts (position_of h) (place_of h) b (previous_of h) answer
-    (subst (λ (x : Option Counts). list_of (entry_fault x (position_of h) (place_of h) b answer) ++ read_findings format x (position_of h) b (previous_of h) answer ≡ []) c.is_known clean) next.2) [
+    elim (entry_clean format l h c.counts (position_of h) (place_of h) b (previous_of h) answer (data_in format h b answer)
+    (subst (λ (x : Option Counts). list_of (entry_fault x (position_of h) (place_of h) b answer) ++ (read_findings format x (position_of h) b (previous_of h) answer ++ data_in format h b answer) ≡ []) c.is_known clean) next.2) [
       | inl (all, is) ↦ subst (λ (a : Result (List ℕ) BlockFault). IsCounted format (position_of h + 1) (counts_of h) (pages_in h ++ page_in a)) (sym is)
           (none_more format (position_of h + 1) (counts_of h) (pages_in h) (ended format (position_of h) (position_of h + 1) (counts_of h) (pages_in h) (omega arith) c all))
       | inr (more, (page, is)) ↦ subst (λ (a : Result (List ℕ) BlockFault). IsCounted format (position_of h + 1) (counts_of h) (pages_in h ++ page_in a)) (sym is)

@@ -92,9 +92,9 @@ wanted_page place (Ok page) rest clean = (page, refl)
 wanted_page place (Err why) rest clean = cc
 
 -- the first entry without a finding has an info page, in which nothing is wrong
-pub info_clean : (format : Format) (place : Place) (b : ℕ) (previous : Option ℕ) (answer : Result (List ℕ) BlockFault) → list_of (entry_fault None 0 place b answer) ++ read_findings format None 0 b previous answer ≡ [] → (page : List ℕ) × (answer ≡ Ok page) × (info_findings format page ≡ [])
-info_clean format place b previous (Ok page) clean = (page, refl, clean)
-info_clean format place b previous (Err why) clean = cc
+pub info_clean : (format : Format) (place : Place) (b : ℕ) (previous : Option ℕ) (answer : Result (List ℕ) BlockFault) → (more : List Finding) → list_of (entry_fault None 0 place b answer) ++ (read_findings format None 0 b previous answer ++ more) ≡ [] → (page : List ℕ) × (answer ≡ Ok page) × (info_findings format page ≡ [])
+info_clean format place b previous (Ok page) more clean = (page, refl, left_none (info_findings format page) more clean)
+info_clean format place b previous (Err why) more clean = cc
 
 -- an entry that isn't wanted has no page
 unused_answer : (none : Bool) (f : Finding) (rest : Option BlockFault) (b : ℕ) (more : List Finding) (answer : Result (List ℕ) BlockFault) → list_of (cond none None (Some f)) ++ more ≡ [] → IsAnswer (cond none (Some fault.Zero) rest) b answer → answer ≡ Err fault.Zero
@@ -102,12 +102,12 @@ unused_answer true f rest b more answer clean is = is
 unused_answer false f rest b more answer clean is = cc
 
 -- an entry after the info page is wanted, and has a page, or has none
-pub entry_clean : (format : Format) (l : Limits) (h : List Name) (c : Counts) (position : ℕ) (place : Place) (b : ℕ) (previous : Option ℕ) (answer : Result (List ℕ) BlockFault) → list_of (entry_fault (Some c) position place b answer) ++ read_findings format (Some c) position b previous answer ≡ [] → IsAnswer (fault_of l h b) b answer → ((c.pages ≤ position) × (answer ≡ Err fault.Zero)) ⊎ ((position < c.pages) × ((page : List ℕ) × (answer ≡ Ok page)))
-entry_clean format l h c position place b previous answer clean is = go (leb c.pages position) refl clean where
-  go : (t : Bool) → t ≡ leb c.pages position → list_of (cond t (cond (eqb b 0) None (Some (finding.AfterPages place b))) (wanted_fault place answer)) ++ read_findings format (Some c) position b previous answer ≡ []
+pub entry_clean : (format : Format) (l : Limits) (h : List Name) (c : Counts) (position : ℕ) (place : Place) (b : ℕ) (previous : Option ℕ) (answer : Result (List ℕ) BlockFault) (more : List Finding) → list_of (entry_fault (Some c) position place b answer) ++ (read_findings format (Some c) position b previous answer ++ more) ≡ [] → IsAnswer (fault_of l h b) b answer → ((c.pages ≤ position) × (answer ≡ Err fault.Zero)) ⊎ ((position < c.pages) × ((page : List ℕ) × (answer ≡ Ok page)))
+entry_clean format l h c position place b previous answer more clean is = go (leb c.pages position) refl clean where
+  go : (t : Bool) → t ≡ leb c.pages position → list_of (cond t (cond (eqb b 0) None (Some (finding.AfterPages place b))) (wanted_fault place answer)) ++ (read_findings format (Some c) position b previous answer ++ more) ≡ []
       → ((c.pages ≤ position) × (answer ≡ Err fault.Zero)) ⊎ ((position < c.pages) × ((page : List ℕ) × (answer ≡ Ok page)))
-  go true t none = inl (leb-true c.pages position (sym t), unused_answer (eqb b 0) (finding.AfterPages place b) (other_fault l h b) b (read_findings format (Some c) position b previous answer) answer none is)
-  go false t none = inr (leb-false c.pages position (sym t), wanted_page place answer (read_findings format (Some c) position b previous answer) none)
+  go true t none = inl (leb-true c.pages position (sym t), unused_answer (eqb b 0) (finding.AfterPages place b) (other_fault l h b) b (read_findings format (Some c) position b previous answer ++ more) answer none is)
+  go false t none = inr (leb-false c.pages position (sym t), wanted_page place answer (read_findings format (Some c) position b previous answer ++ more) none)
 
 -- there is a page
 pub counts_some : (format : Format) (c : Counts) → counts_fault format c ≡ None → 0 < c.pages

@@ -23,7 +23,8 @@ pub record IsEnded (content : Option Content) (blocks header before now : ℕ) (
   pub pages : pages_in history ≡ given
 
 -- These pages were read, and nothing was wrong. Then comes the first name with findings, and just these are told.
-pub record IsRefused (content : Option Content) (blocks header before now : ℕ) (old new : Told) (given : List (List ℕ)) : Type 0 where
+pub record IsRefused (content : Option Content) (blocks header before now : ℕ) (old new : Told)
+    (given : List (List ℕ)) : Type 0 where
   pub start : Start
   pub history : List Name
   pub name : Name
@@ -38,7 +39,8 @@ pub record IsRefused (content : Option Content) (blocks header before now : ℕ)
 
 -- What an answer says, where these pages were given before: the page is the next one of the stream; at the end they
 -- are all of it.
-abbrev pub Says : Option Content → (blocks header before now : ℕ) → Told → Told → List (List ℕ) → (p q : Pages) → List ℕ → Next → Type 0
+abbrev pub Says : Option Content → (blocks header before now : ℕ) → Told → Told → List (List ℕ) → (p q : Pages) →
+    List ℕ → Next → Type 0
 Says content blocks header before now old new given p q page Page =
     (new ≡ old) × Stands content blocks header q (given ++ page ∷ []) × IsChainPage content header (length given) page
     × (names_left q.walker < names_left p.walker)
@@ -48,7 +50,8 @@ Says content blocks header before now old new given p q page Refused =
     IsRefused content blocks header before now old new given
 
 -- a step on the way to an answer gives nothing
-abbrev pub Reads : Option Content → (blocks header before now : ℕ) → Told → Told → List (List ℕ) → (p q : Pages) → List ℕ → Option Next → Type 0
+abbrev pub Reads : Option Content → (blocks header before now : ℕ) → Told → Told → List (List ℕ) → (p q : Pages) →
+    List ℕ → Option Next → Type 0
 Reads content blocks header before now old new given p q page None =
     (new ≡ old) × Stands content blocks header q given × (names_left q.walker < names_left p.walker)
 Reads content blocks header before now old new given p q page (Some next) =

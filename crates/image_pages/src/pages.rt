@@ -84,6 +84,7 @@ impl Pages {
             progress: Progress {
                 counts: None,
                 previous: None,
+                counted: Some(0),
             },
         }))
     }

@@ -4,7 +4,8 @@ use Rattle.definitions.specs.Disk.{HasRisen}
 use Rattle.definitions.specs.Streams.{TakesAll, TakesFront}
 use Rattle.image_facts.specs.declared.fact.Fact.{Fact}
 
--- The style of a form: what is printed of a fact after the fact that is kept of those before it, and which fact is kept then.
+-- The style of a form: what is printed of a fact after the fact that is kept of those before it, and which fact is kept
+-- then.
 pub record Style : Type 0 where
   pub piece : Option Fact → Fact → List ℕ
   pub kept : Option Fact → Fact → Option Fact

@@ -1,5 +1,6 @@
 -- What is shown of an area.
-use Rattle.std.specs.Prelude.{◌≡◌, ℕ, ◌-◌, ◌≤◌, ◌⊎◌, true, false, Bool, List, [], ◌∷◌, ◌++◌, length, map, take, Ok, Option, Some, None}
+use Rattle.std.specs.Prelude.{◌≡◌, ℕ, ◌-◌, ◌≤◌, ◌⊎◌, true, false, Bool, List, [], ◌∷◌, ◌++◌, length, map, take, Ok}
+use Rattle.std.specs.Prelude.{Option, Some, None}
 use Rattle.page_core.specs.declared.format.Format.{Format}
 use Rattle.definitions.specs.Disk.{Content, HasRisen}
 use Rattle.definitions.specs.Slots.{runs_of}
@@ -11,7 +12,8 @@ use Rattle.image_walk.specs.declared.limits.Limits.{Limits}
 use Rattle.image_check.specs.Checked.{format_of, mark_in}
 use Rattle.image_check.specs.Header.{is_compressed, limits_of}
 use Rattle.image_facts.specs.HeaderFacts.{header_facts}
-use Rattle.image_facts.specs.Told.{blocks_in, block_run, facts_of_first, frames_in, frame_run, pages_in, HasNumbers, IsEnd, IsFront}
+use Rattle.image_facts.specs.Told.{blocks_in, block_run, facts_of_first, frames_in, frame_run, pages_in, HasNumbers}
+use Rattle.image_facts.specs.Told.{IsEnd, IsFront}
 use Rattle.image_facts.specs.declared.fact.Fact.{Fact}
 use Rattle.image_facts.specs.declared.fact.Fact.TheVariants as fact
 use Rattle.image_show.specs.declared.shown.Shown.{Shown}
@@ -21,7 +23,8 @@ use Rattle.image_show.specs.declared.shown.Shown.TheVariants.{Area, NoHeader}
 abbrev pub but_last : List (ℕ × ℕ) → List (ℕ × ℕ)
 but_last runs = take (length runs - 1) runs
 
--- what is shown of the names of a history: its info page, the runs of its blocks, and how many maps it has; `whole` says that it has ended
+-- what is shown of the names of a history: its info page, the runs of its blocks, and how many maps it has; `whole`
+-- says that it has ended
 abbrev pub block_facts : (whole : Bool) → List Name → List Fact
 block_facts false h = facts_of_first (pages_in h) ++ map block_run (but_last (runs_of (blocks_in h)))
 block_facts true h = facts_of_first (pages_in h) ++ (map block_run (runs_of (blocks_in h)) ++ fact.Maps (maps_in h)
@@ -49,7 +52,8 @@ pub record ShowsFrames (whole : Bool) (l : Limits) (first : ℕ) (content : Opti
   pub count : ℕ
   pub says : facts ≡ frame_facts whole count (frames_in format names)
 
--- What is shown of an image that isn't compressed: of all its blocks, and then of all its page frames, or as far as that goes.
+-- What is shown of an image that isn't compressed: of all its blocks, and then of all its page frames, or as far as
+-- that goes.
 pub record ShowsImage (all : Bool) (l : Limits) (first : ℕ) (content : Option Content) (before now : ℕ)
     (format : Format) (facts : List Fact) : Type 0 where
   pub blocks : List Fact

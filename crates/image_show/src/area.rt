@@ -18,10 +18,10 @@ use sector_disk::Disk;
 use sig_header::{AreaKind, Mark};
 use std::alloc::Global;
 
-/// Prints what is written in the area whose header lies in a block, a fact a line, and, where it has an image that isn't compressed, what
-/// that says and names. It reads as far as the bytes allow: a block that can't be one of the image, or can't be read, ends what is told.
-/// The image is read twice, the second time to its last number page. Nothing is flushed. It takes memory of two bits for each block of
-/// the disk.
+/// Prints what is written in the area whose header lies in a block, a fact a line, and, where it has an image that
+/// isn't compressed, what that says and names. It reads as far as the bytes allow: a block that can't be one of the
+/// image, or can't be read, ends what is told. The image is read twice, the second time to its last number page.
+/// Nothing is flushed. It takes memory of two bits for each block of the disk.
 pub fn show<D: Disk, F: Form>(
     alloc: Global,
     disk: &mut D,

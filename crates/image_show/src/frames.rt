@@ -1,5 +1,6 @@
 //! The page frames of an image.
-ghost use Rattle.std.specs.Prelude.{◌≡◌, ◌+◌, ◌<◌, ◌≤◌, ◌^◌, ◌++◌, [], List, ℕ, Bool, true, Some, IfSome, IfNone, OnOk, OnErr, map, take};
+ghost use Rattle.std.specs.Prelude.{◌≡◌, ◌+◌, ◌<◌, ◌≤◌, ◌^◌, ◌++◌, [], List, ℕ, Bool, true, Some, IfSome, IfNone, OnOk};
+ghost use Rattle.std.specs.Prelude.{OnErr, map, take};
 ghost use Rattle.image_walk.specs.Names.{Name};
 ghost use Rattle.image_check.specs.Numbers.{frame_of};
 ghost use Rattle.image_facts.specs.Reads.{Reads, ReadsOn};
@@ -19,7 +20,8 @@ use sector_disk::Disk;
 /// How many words a page has.
 const WORDS: u64 = 512;
 
-/// The word of an info page that tells how many page frames were saved (`image_pages`, `struct swsusp_info`, kernel/power/power.h).
+/// The word of an info page that tells how many page frames were saved (`image_pages`, `struct swsusp_info`,
+/// kernel/power/power.h).
 const IMAGE_PAGES_WORD: usize = 52;
 
 /// The bit of a page of zeros that has no data page (own).

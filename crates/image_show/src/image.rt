@@ -86,10 +86,12 @@ fn print_image<D: Disk, F: Form>(
     requires start_again { Reads again.old.walker.next again.old [] }
     ensures shown { OnOk result ((image : List OneFact) × (ShowsImage true once.old.walker.limits once.old.walker.next
         (D.content disk.old) (D.faults disk.old) (D.faults disk.new) format image
-        × Puts F.style (header_facts (D.block_count disk.old) page.now ++ image) (F.written form.old) (F.written form.new))) }
+        × Puts F.style (header_facts (D.block_count disk.old) page.now ++ image)
+        (F.written form.old) (F.written form.new))) }
     ensures front { OnErr result ((image : List OneFact) × (ShowsImage false once.old.walker.limits once.old.walker.next
         (D.content disk.old) (D.faults disk.old) (D.faults disk.new) format image
-        × PutsFront F.style (header_facts (D.block_count disk.old) page.now ++ image) (F.written form.old) (F.written form.new))) }
+        × PutsFront F.style (header_facts (D.block_count disk.old) page.now ++ image)
+        (F.written form.old) (F.written form.new))) }
     ensures cause { OnErr result (HasFailed (F.faults form.old) (F.faults form.new) (F.refused form.new)) }
     ensures counted { F.faults form.old ≤ F.faults form.new }
     ensures content { D.content disk.new ≡ D.content disk.old }

@@ -3,7 +3,8 @@ ghost use Rattle.definitions.specs.InfoPage.{text_of_name};
 ghost use Rattle.fact_lines.specs.Texts.{value_text};
 ghost use Rattle.plain_machine.specs.Area.{no_swap_at};
 ghost use Rattle.plain_machine.specs.Texts.{hex_text, why_text};
-ghost use Rattle.image_show.specs.Texts.{fact_text, flag_key, header_key, image_text, kernel_text, line_text, uuid_text};
+ghost use Rattle.image_show.specs.Texts.{fact_text, flag_key, header_key, image_text, kernel_text, line_text};
+ghost use Rattle.image_show.specs.Texts.{uuid_text};
 
 use byte_streams::Line;
 use fact_lines::{put_hex_word, put_name, put_numbers, put_text};

@@ -1,5 +1,7 @@
-pub mod Saving
-pub mod Searching
-pub mod Since
+pub mod Composing
+pub mod Framing
+pub mod Listing
+pub mod Making
 pub mod Starting
+pub mod Words
 pub mod Writing

@@ -1,4 +1,3 @@
-pub mod Ahead
-pub mod Found
-pub mod Saved
+pub mod Converted
+pub mod Plain
 pub mod Streamed

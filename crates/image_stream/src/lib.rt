@@ -1,8 +1,8 @@
-//! What an image holds, as its chain names it: its stream of bytes, and single pages.
+//! The stream of an image, as its chain names it.
 #![tactic(auto)]
 
-mod finding;
+mod converting;
+mod plain;
 mod streaming;
 
-pub use finding::{Found, page_of, read_ahead, read_page};
 pub use streaming::{Stop, Streamed, stream};

@@ -4,6 +4,7 @@ ghost use Rattle.definitions.specs.Disk.{HasRisen};
 ghost use Rattle.image_pages.specs.Stands.{Stands};
 ghost use Rattle.image_stream.specs.Streamed.{IsFront, IsStopped, IsStreamed};
 
+use crate::converting::convert;
 use byte_streams::{Sink, put_all};
 use image_check::Report;
 use image_pages::{Next, Opened, Pages};
@@ -19,8 +20,6 @@ pub enum Streamed {
     NoImage,
     /// The findings of the header block, or of the first block that is named and has some, were told.
     Refused,
-    /// Pages of zeros have no data page.
-    SkipsZeros,
     Whole,
 }
 
@@ -83,7 +82,7 @@ pub fn stream<D: Disk, S: Sink, R: Report>(
     };
     match pages.format() {
         Format::Plain => Ok(write_pages(&mut pages, disk, out, report)?),
-        Format::SkipZeros => Ok(Streamed::SkipsZeros),
+        Format::SkipZeros => convert(pages, disk, out, report),
     }
 }
 

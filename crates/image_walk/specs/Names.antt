@@ -1,6 +1,8 @@
--- The blocks that an image names, in the order in which they are read: the first map, its entries, the map of its link, and so on
--- (get_swap_reader, swap_read_page, kernel/power/swap.c). A history is what was named so far, the newest name first.
-use Rattle.std.specs.Prelude.{◌≡◌, ℕ, ◌+◌, ◌-◌, ◌<◌, Bool, true, false, ◌==◌, ◌||◌, nat_le, nat_lt, List, [], ◌∷◌, if◌then◌else◌, ⊤, Option, Some, None, Result, Ok, Err}
+-- The blocks that an image names, in the order in which they are read: the first map, its entries, the map of its link,
+-- and so on (get_swap_reader, swap_read_page, kernel/power/swap.c). A history is what was named so far, the newest name
+-- first.
+use Rattle.std.specs.Prelude.{◌≡◌, ℕ, ◌+◌, ◌-◌, ◌<◌, Bool, true, false, ◌==◌, ◌||◌, nat_le, nat_lt, List, [], ◌∷◌}
+use Rattle.std.specs.Prelude.{if◌then◌else◌, ⊤, Option, Some, None, Result, Ok, Err}
 use Rattle.std.specs.Option.{IfSome}
 use Rattle.std.specs.List.{list_any}
 use Rattle.definitions.specs.Disk.{Content, as_it_reads, block}
@@ -90,8 +92,10 @@ IsAnswer None b (Err why) = why ≡ fault.Unread b
 
 -- A name follows a history: an entry where the newest map has one left, else the next map, unless the chain has ended.
 abbrev pub IsNext : Limits → ℕ → List Name → Name → Type 0
-IsNext l first h (map_at b answer) = (left_in h ≡ 0) × (is_over h ≡ false) × (b ≡ next_map first h) × IsAnswer (fault_of l h b) b answer
-IsNext l first h (page_at b answer) = (0 < left_in h) × (b ≡ map_entry (newest_page h) (511 - left_in h)) × IsAnswer (fault_of l h b) b answer
+IsNext l first h (map_at b answer) =
+    (left_in h ≡ 0) × (is_over h ≡ false) × (b ≡ next_map first h) × IsAnswer (fault_of l h b) b answer
+IsNext l first h (page_at b answer) =
+    (0 < left_in h) × (b ≡ map_entry (newest_page h) (511 - left_in h)) × IsAnswer (fault_of l h b) b answer
 
 -- each name follows those before it
 abbrev pub IsReading : Limits → ℕ → List Name → Type 0

@@ -2,7 +2,8 @@
 use Rattle.std.specs.Prelude.{◌≡◌, ℕ, ◌+◌, ◌*◌, ◌-◌, ◌<◌, true, List, ◌∷◌, Option}
 use Rattle.definitions.specs.Disk.{Content, HasRisen}
 use Rattle.image_walk.specs.Taken.{IsTaken}
-use Rattle.image_walk.specs.Names.{Name, map_at, page_at, seen, block_of, answer_of, maps_in, newest_map, newest_page, left_in, next_map, is_over, is_unread, IsNext, IsReading, IsReadFrom}
+use Rattle.image_walk.specs.Names.{Name, map_at, page_at, seen, block_of, answer_of, maps_in, newest_map, newest_page}
+use Rattle.image_walk.specs.Names.{left_in, next_map, is_over, is_unread, IsNext, IsReading, IsReadFrom}
 use Rattle.image_walk.specs.declared.limits.Limits.{Limits}
 use Rattle.image_walk.specs.declared.visit.Visit.{Visit}
 use Rattle.image_walk.specs.declared.visit.Visit.TheVariants as visit
@@ -34,10 +35,12 @@ name_of (visit.Entry number at index b answer) page = page_at b (seen answer pag
 -- the place of that name: the number of its map, and of an entry the map's block and which of its entries it is
 abbrev pub IsPlaced : List Name → Visit → Type 0
 IsPlaced h (visit.Map number b answer) = number ≡ maps_in h + 1
-IsPlaced h (visit.Entry number at index b answer) = (number ≡ maps_in h) × (at ≡ newest_map h) × (index ≡ 511 - left_in h)
+IsPlaced h (visit.Entry number at index b answer) =
+    (number ≡ maps_in h) × (at ≡ newest_map h) × (index ≡ 511 - left_in h)
 
 -- a name is the next one, with the page that the disk holds; a page that isn't read is a fault of the disk
-pub record IsSeen (l : Limits) (first : ℕ) (content : Option Content) (before now : ℕ) (h : List Name) (x : Name) : Type 0 where
+pub record IsSeen (l : Limits) (first : ℕ) (content : Option Content) (before now : ℕ) (h : List Name)
+    (x : Name) : Type 0 where
   pub next : IsNext l first h x
   pub page : IsReadFrom content (block_of x) (answer_of x)
   pub unread : is_unread (answer_of x) ≡ true → HasRisen before now
@@ -47,7 +50,8 @@ abbrev pub names_left : Walker → ℕ
 names_left w = 512 * (w.limits.blocks + 1 - w.maps) + w.left
 
 -- a step shows the next name in its place, and the walker follows it
-pub record StepsTo (first : ℕ) (content : Option Content) (before now : ℕ) (h : List Name) (old new : Walker) (v : Visit) (page : List ℕ) : Type 0 where
+pub record StepsTo (first : ℕ) (content : Option Content) (before now : ℕ) (h : List Name) (old new : Walker)
+    (v : Visit) (page : List ℕ) : Type 0 where
   pub seen : IsSeen old.limits first content before now h (name_of v page)
   pub place : IsPlaced h v
   pub follows : Follows first new (name_of v page ∷ h)

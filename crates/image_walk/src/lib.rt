@@ -1,4 +1,5 @@
-//! The blocks that an image names, one after another: the maps of its chain and the pages of their entries, as a disk reads.
+//! The blocks that an image names, one after another: the maps of its chain and the pages of their entries, as a disk
+//! reads.
 #![tactic(auto)]
 
 mod block_set;

@@ -13,7 +13,8 @@ use sector_disk::Disk;
 /// Why a block isn't read. It counts as named from now on.
 fn fault(limits: &Limits, named: &mut BlockSet, block: u64) -> Option<BlockFault>
     requires { limits.now.blocks ≤ 64 * length named.old.words.items }
-    ensures fault { (h : List Name) → IsTaken limits.now named.old.words.items h → result ≡ fault_of limits.now h block }
+    ensures fault { (h : List Name) → IsTaken limits.now named.old.words.items h →
+        result ≡ fault_of limits.now h block }
     ensures taken { (h : List Name) (x : Name) → block_of x ≡ block → IsTaken limits.now named.old.words.items h →
         IsTaken limits.now named.new.words.items (x ∷ h) }
     ensures room { length named.new.words.items ≡ length named.old.words.items }

@@ -70,7 +70,8 @@ impl Walker {
     pub fn step<D: Disk>(&mut self, disk: &mut D, page: &mut Page) -> Option<Visit>
         requires { D.block_count disk.old ≡ self.old.limits.blocks }
         ensures step { IfSome result (λ visit. (first : ℕ) (h : List Name) → Follows first self.old h →
-            StepsTo first (D.content disk.old) (D.faults disk.old) (D.faults disk.new) h self.old self.new visit page.new) }
+            StepsTo first (D.content disk.old) (D.faults disk.old) (D.faults disk.new) h
+            self.old self.new visit page.new) }
         ensures end { IfNone result ((first : ℕ) (h : List Name) → Follows first self.old h → is_over h ≡ true) }
         ensures limits { self.new.limits ≡ self.old.limits }
         ensures content { D.content disk.new ≡ D.content disk.old }
@@ -91,7 +92,8 @@ impl Walker {
         requires blocks { D.block_count disk.old ≡ self.old.limits.blocks }
         requires left { 0 < self.old.left }
         ensures step { (first : ℕ) (h : List Name) → Follows first self.old h →
-            StepsTo first (D.content disk.old) (D.faults disk.old) (D.faults disk.new) h self.old self.new result page.new }
+            StepsTo first (D.content disk.old) (D.faults disk.old) (D.faults disk.new) h
+            self.old self.new result page.new }
         ensures limits { self.new.limits ≡ self.old.limits }
         ensures content { D.content disk.new ≡ D.content disk.old }
         ensures faults { D.faults disk.old ≤ D.faults disk.new }
@@ -115,7 +117,8 @@ impl Walker {
         requires left { self.old.left ≡ 0 }
         requires goes_on { self.old.over ≡ false }
         ensures step { (first : ℕ) (h : List Name) → Follows first self.old h →
-            StepsTo first (D.content disk.old) (D.faults disk.old) (D.faults disk.new) h self.old self.new result page.new }
+            StepsTo first (D.content disk.old) (D.faults disk.old) (D.faults disk.new) h
+            self.old self.new result page.new }
         ensures limits { self.new.limits ≡ self.old.limits }
         ensures content { D.content disk.new ≡ D.content disk.old }
         ensures faults { D.faults disk.old ≤ D.faults disk.new }

@@ -1,13 +1,15 @@
 -- Clap takes each list of words that asks for a command, and its matches ask for it.
-use Rattle.std.proofs.Common.{◌≡◌, true, refl, sym, subst, Some, List, [], ◌∷◌, codes}
+use Rattle.std.proofs.Common.{◌≡◌, ℕ, true, pos, refl, sym, subst, arith, decimal, Some, None, List, [], ◌∷◌, codes}
 use Rattle.clap.specs.Words.{Text, subcommand_of, takes}
 use Rattle.clap.proofs.OnLiterals.{clap_on_literals}
 use Rattle.plain_machine.specs.declared.event.IdentCheck.TheVariants.{Compare, Skip}
-use Rattle.swsusp_words.proofs.Values.{IsValue, path_value}
+use Rattle.clap.specs.declared.builder.value_parser.ValueParser.TheVariants as parser
+use Rattle.swsusp_words.proofs.Numbers.{as_signed, plain_decimal}
+use Rattle.swsusp_words.proofs.Values.{IsNumber, IsValue, path_value}
 use Rattle.machine_words.specs.App.{machine_app}
 use Rattle.machine_words.specs.Matched.{asked_in}
 use Rattle.machine_words.specs.Spelled.{IsSpelled, IsValid}
-use Rattle.machine_words.specs.Words.{Asked, make, draw, loader, core, show, differ, check, command_of}
+use Rattle.machine_words.specs.Words.{Asked, make, draw, loader, core, from_core, show, differ, check, command_of}
 use Rattle.machine_words.proofs.Forms.{spells}
 
 -- clap takes the words, and its matches ask for this
@@ -31,6 +33,22 @@ module _ (name : Text) where
   cores : Asks (name ∷ codes "core" ∷ []) core
   unfolding clap_on_literals
   cores = record { taken = refl; matched = refl }
+
+  reads : Asks (name ∷ codes "from-core" ∷ []) (from_core None)
+  unfolding clap_on_literals
+  reads = record { taken = refl; matched = refl }
+
+  module _ (number : Text) (n : ℕ) (d : IsNumber 32 (parser.Signed (pos 2) (pos 131072)) number n) where
+    taken_slots : takes machine_app (name ∷ codes "from-core" ∷ codes "--slots" ∷ number ∷ []) ≡ true
+    unfolding clap_on_literals
+    taken_slots = simp (d.plain.dash, d.plain.dashes, d.fits)
+
+    matched_slots : asked_in (subcommand_of machine_app (name ∷ codes "from-core" ∷ codes "--slots" ∷ number ∷ [])) ≡ Some (from_core (Some n))
+    unfolding clap_on_literals
+    matched_slots = simp (d.plain.dash, d.plain.dashes, d.reads)
+
+    reads_slots : Asks (name ∷ codes "from-core" ∷ codes "--slots" ∷ number ∷ []) (from_core (Some n))
+    reads_slots = record { taken = taken_slots; matched = matched_slots }
 
   shows : Asks (name ∷ codes "show" ∷ []) show
   unfolding clap_on_literals
@@ -79,6 +97,11 @@ taken name words make valid spelled = of_same words _ _ name spelled (makes name
 taken name words draw valid spelled = of_same words _ _ name spelled (draws name)
 taken name words loader valid spelled = of_same words _ _ name spelled (loads name)
 taken name words core valid spelled = of_same words _ _ name spelled (cores name)
+taken name words (from_core None) valid spelled = of_same words _ _ name spelled (reads name)
+taken name words (from_core (Some n)) valid spelled =
+    let plain = plain_decimal 131073 n (omega arith) (omega (arith, valid.1)) in
+    let number = as_signed 131073 2 131072 (decimal n) n (omega (arith, valid.0)) (omega (arith, valid.1)) (omega arith) plain in
+    of_same words _ _ name spelled (reads_slots name (decimal n) n number)
 taken name words show valid spelled = of_same words _ _ name spelled (shows name)
 taken name words (differ first second) valid spelled =
     of_same words _ _ name spelled (differs name first second (path_value first valid.0) (path_value second valid.1))

@@ -1,7 +1,8 @@
 -- The program's commands as clap reads them.
-use Rattle.std.specs.Prelude.{true, codes}
+use Rattle.std.specs.Prelude.{true, pos, Some, codes}
 use Rattle.clap.specs.Words.{App, Rule, new_app, new_rule, with_rule, with_subcommand}
 use Rattle.clap.specs.Simple.{on_top}
+use Rattle.clap.specs.declared.builder.value_parser.ValueParser.TheVariants as parser
 use Rattle.swsusp_words.specs.App.{any_kernel_rule}
 
 abbrev pub make_app : App
@@ -15,6 +16,17 @@ loader_app = new_app (codes "loader")
 
 abbrev pub core_app : App
 core_app = new_app (codes "core")
+
+-- N of `--slots`
+abbrev pub slots_rule : Rule
+slots_rule = record (new_rule (codes "slots")) {
+  long = Some (codes "slots");
+  value_names = 1;
+  parser = Some (parser.Signed (pos 2) (pos 131072));
+}
+
+abbrev pub from_core_app : App
+from_core_app = with_rule (new_app (codes "from-core")) slots_rule
 
 abbrev pub show_app : App
 show_app = new_app (codes "show")
@@ -38,14 +50,19 @@ check_app = with_rule (with_rule (new_app (codes "check")) any_kernel_rule) swap
 
 -- the program, which has a version and wants one of the commands
 abbrev pub program_app : App
-program_app = on_top (λ top. record top { has_version = true; subcommand_required = true }) (new_app (codes "swsusp_machine"))
+program_app =
+    on_top (λ top. record top { has_version = true; subcommand_required = true }) (new_app (codes "swsusp_machine"))
+
+abbrev pub with_dumps : App
+with_dumps =
+    with_subcommand
+    (with_subcommand
+    (with_subcommand (with_subcommand (with_subcommand program_app make_app.top) draw_app.top) loader_app.top)
+    core_app.top)
+    from_core_app.top
 
 abbrev pub machine_app : App
 machine_app =
     with_subcommand
-    (with_subcommand
-    (with_subcommand
-    (with_subcommand (with_subcommand (with_subcommand (with_subcommand program_app make_app.top) draw_app.top) loader_app.top) core_app.top)
-    show_app.top)
-    differ_app.top)
+    (with_subcommand (with_subcommand with_dumps show_app.top) differ_app.top)
     check_app.top

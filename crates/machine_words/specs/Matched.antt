@@ -2,13 +2,18 @@
 use Rattle.std.specs.Prelude.{◌≡◌, List, Option, Some, None, option_map, option_and_then, codes, if◌then◌else◌}
 use Rattle.std.specs.Str.{bytes_eq}
 use Rattle.clap.specs.Words.{Row, Text, first_of}
-use Rattle.swsusp_words.specs.Matched.{check_by, flag_at}
+use Rattle.swsusp_words.specs.Matched.{check_by, flag_at, number_at}
 use Rattle.machine_words.specs.Asked.{asked_by}
 use Rattle.machine_words.specs.declared.command.Command.{Command}
-use Rattle.machine_words.specs.Words.{Asked, make, draw, loader, core, show, differ, check}
+use Rattle.machine_words.specs.Words.{Asked, make, draw, loader, core, from_core, show, differ, check}
+
+abbrev pub from_core_in : List Row → Option Asked
+from_core_in rows = Some (from_core (number_at 32 (codes "slots") rows))
 
 abbrev pub differ_in : List Row → Option Asked
-differ_in rows = option_and_then (λ first. option_map (λ second. differ first second) (first_of (codes "second") rows)) (first_of (codes "first") rows)
+differ_in rows =
+    option_and_then (λ first. option_map (λ second. differ first second) (first_of (codes "second") rows))
+    (first_of (codes "first") rows)
 
 abbrev pub check_in : List Row → Option Asked
 check_in rows =
@@ -22,6 +27,7 @@ matched_by name rows =
     else if bytes_eq name (codes "draw") then Some draw
     else if bytes_eq name (codes "loader") then Some loader
     else if bytes_eq name (codes "core") then Some core
+    else if bytes_eq name (codes "from-core") then from_core_in rows
     else if bytes_eq name (codes "show") then Some show
     else if bytes_eq name (codes "differ") then differ_in rows
     else if bytes_eq name (codes "check") then check_in rows

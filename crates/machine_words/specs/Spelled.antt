@@ -1,8 +1,8 @@
 -- Which words a command is spelled by.
-use Rattle.std.specs.Prelude.{◌≡◌, ℕ, true, List, [], ◌∷◌, codes, ⊤}
+use Rattle.std.specs.Prelude.{◌≡◌, ◌≤◌, ℕ, true, Some, None, List, [], ◌∷◌, codes, decimal, ⊤}
 use Rattle.plain_machine.specs.declared.event.IdentCheck.TheVariants.{Compare, Skip}
 use Rattle.swsusp_words.specs.Words.{is_path}
-use Rattle.machine_words.specs.Words.{Asked, make, draw, loader, core, show, differ, check}
+use Rattle.machine_words.specs.Words.{Asked, make, draw, loader, core, from_core, show, differ, check}
 
 -- the values that a command can have
 abbrev pub IsValid : Asked → Type 0
@@ -10,6 +10,8 @@ IsValid make = ⊤
 IsValid draw = ⊤
 IsValid loader = ⊤
 IsValid core = ⊤
+IsValid (from_core None) = ⊤
+IsValid (from_core (Some slots)) = (2 ≤ slots) × (slots ≤ 131072)
 IsValid show = ⊤
 IsValid (differ first second) = (is_path first ≡ true) × (is_path second ≡ true)
 IsValid (check ident swap) = is_path swap ≡ true
@@ -20,6 +22,8 @@ IsSpelled make words = words ≡ codes "make" ∷ []
 IsSpelled draw words = words ≡ codes "draw" ∷ []
 IsSpelled loader words = words ≡ codes "loader" ∷ []
 IsSpelled core words = words ≡ codes "core" ∷ []
+IsSpelled (from_core None) words = words ≡ codes "from-core" ∷ []
+IsSpelled (from_core (Some slots)) words = words ≡ codes "from-core" ∷ codes "--slots" ∷ decimal slots ∷ []
 IsSpelled show words = words ≡ codes "show" ∷ []
 IsSpelled (differ first second) words = words ≡ codes "differ" ∷ first ∷ second ∷ []
 IsSpelled (check Compare swap) words = words ≡ codes "check" ∷ swap ∷ []

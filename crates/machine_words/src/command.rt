@@ -15,6 +15,11 @@ pub enum Command<'a> {
     Loader,
     /// Writes a dump as a core file.
     Core,
+    /// Writes the dump of a machine with the memory of a core file.
+    FromCore {
+        /// How many slots it has, from 2 to 131,072; else as many as page frames.
+        slots: Option<u32>,
+    },
     /// Prints what a dump says of its machine.
     Show,
     /// Tells where two dumps differ first.
@@ -52,7 +57,7 @@ impl<'a> Command<'a> {
             Some(command) => Ok(command),
             None => Err(Unparsed::Words(String::from_str(
                 alloc,
-                "words: a path isn't empty nor begins with -, and nothing but --any-kernel stands between a command and its paths\n",
+                "words: a path isn't empty nor begins with -, a number has no zero before it, and nothing but --any-kernel stands between a command and its paths\n",
             )?)),
         }
     }

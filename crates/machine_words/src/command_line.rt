@@ -1,10 +1,11 @@
 ghost use Rattle.std.specs.Prelude.{IfOk};
 ghost use Rattle.clap.specs.Words.{new_app};
 ghost use Rattle.swsusp_words.specs.App.{IsApp};
-ghost use Rattle.machine_words.specs.App.{check_app, core_app, differ_app, draw_app, loader_app, machine_app, make_app, show_app};
+ghost use Rattle.machine_words.specs.App.{check_app, core_app, differ_app, draw_app, from_core_app, loader_app};
+ghost use Rattle.machine_words.specs.App.{machine_app, make_app, show_app};
 
 use crate::details;
-use clap::{Arg, ArgAction, Command};
+use clap::{Arg, ArgAction, Command, value_parser};
 use std::alloc::{AllocError, Global};
 
 /// The commands as clap knows them.
@@ -23,6 +24,7 @@ pub(crate) fn command_line<'a>(alloc: Global) -> Result<Command<'a>, AllocError>
     .subcommand(drawing(alloc))?
     .subcommand(loading(alloc))?
     .subcommand(coring(alloc))?
+    .subcommand(reading(alloc)?)?
     .subcommand(showing(alloc))?
     .subcommand(comparison(alloc)?)?
     .subcommand(trial(alloc)?)
@@ -77,6 +79,25 @@ fn coring<'a>(alloc: Global) -> Command<'a>
         "Writes the memory of a dump as an ELF core file",
         details::CORE,
     )
+}
+
+fn reading<'a>(alloc: Global) -> Result<Command<'a>, AllocError>
+    ensures { IfOk result (IsApp from_core_app) }
+{
+    let slots = Arg::new(alloc, "slots")
+        .long("slots")
+        .value_name("N")
+        .value_parser(value_parser!(u32).range(2..=131072))
+        .help(
+            "How many swap slots the machine has, 2 to 131072 [default: one for each page frame]",
+        );
+    named(
+        alloc,
+        "from-core",
+        "Writes the dump of a machine with the memory of an ELF core file",
+        details::FROM_CORE,
+    )
+    .arg(slots)
 }
 
 fn showing<'a>(alloc: Global) -> Command<'a>

@@ -31,6 +31,13 @@ output, with a segment for each run of page frames that are in use or hold a byt
 
 Example: swsusp_machine core < saved.dump > memory.core";
 
+pub(crate) const FROM_CORE: &str =
+    "It reads an ELF64 core file of a machine's memory from standard input, such as qemu's `dump-guest-memory`,
+/proc/vmcore and `swsusp_machine core` write, and writes the dump of a machine of at most 65,536 page frames
+to standard output. Page frames of zeros are free in it, and the others are in use.
+
+Example: swsusp_machine from-core < memory.core > machine.dump";
+
 pub(crate) const SHOW: &str =
     "It reads the dump from standard input, and prints to standard output, as `frames_saveable 5`.
 

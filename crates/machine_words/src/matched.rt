@@ -1,6 +1,6 @@
 ghost use Rattle.std.specs.Prelude.{◌≡◌};
 ghost use Rattle.clap.specs.Words.{found_of, rows_of, subcommand_rows_of};
-ghost use Rattle.machine_words.specs.Matched.{AnswersTo, asked_in, check_in, differ_in, matched_by};
+ghost use Rattle.machine_words.specs.Matched.{AnswersTo, asked_in, check_in, differ_in, from_core_in, matched_by};
 ghost use Rattle.swsusp_words.specs.Matched.{check_by};
 
 use crate::command::Command;
@@ -17,11 +17,19 @@ pub(crate) fn matched<'a>(matches: &ArgMatches<'a>) -> Option<Command<'a>>
         "draw" => Some(Command::Draw),
         "loader" => Some(Command::Loader),
         "core" => Some(Command::Core),
+        "from-core" => reading(values),
         "show" => Some(Command::Show),
         "differ" => comparison(values),
         "check" => trial(values),
         _ => None,
     }
+}
+
+fn reading<'a>(values: &ArgMatches<'a>) -> Option<Command<'a>>
+    ensures { AnswersTo (from_core_in (rows_of (found_of values.now))) result }
+{
+    let slots = values.get_one::<u32>("slots");
+    Some(Command::FromCore { slots })
 }
 
 fn comparison<'a>(values: &ArgMatches<'a>) -> Option<Command<'a>>

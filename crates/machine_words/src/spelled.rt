@@ -3,11 +3,12 @@ ghost use Rattle.clap.specs.Words.{subcommand_rows_of};
 ghost use Rattle.machine_words.specs.Matched.{asked_in};
 ghost use Rattle.machine_words.specs.Asked.{asked_by};
 ghost use Rattle.machine_words.specs.Spelled.{Spells};
-ghost use Rattle.machine_words.specs.Words.{Asked, check, command_of};
+ghost use Rattle.machine_words.specs.Words.{Asked, check, command_of, from_core};
 
 use crate::command::Command;
 use crate::matched::matched;
 use clap::ArgMatches;
+use itoa::Buffer;
 use plain_machine::IdentCheck;
 use swsusp_words::{equal, is_path};
 
@@ -43,12 +44,32 @@ fn spells(command: &Command<'_>, words: &[String]) -> bool
         Command::Draw => equal(words, &["draw"]),
         Command::Loader => equal(words, &["loader"]),
         Command::Core => equal(words, &["core"]),
+        Command::FromCore { slots } => is_reading(slots, words),
         Command::Show => equal(words, &["show"]),
         Command::Differ { first, second } => {
             is_path(first) && is_path(second) && equal(words, &["differ", first, second])
         }
         Command::Check { check, swap } => is_check(check, swap, words),
     }
+}
+
+fn is_reading(slots: Option<u32>, words: &[String]) -> bool
+    ensures { IsTrue result ↔ Spells (from_core slots) (map string_bytes words.now) }
+{
+    match slots {
+        None => equal(words, &["from-core"]),
+        Some(slots) => is_slotted(slots, words),
+    }
+}
+
+fn is_slotted(slots: u32, words: &[String]) -> bool
+    ensures { IsTrue result ↔ Spells (from_core (Some slots)) (map string_bytes words.now) }
+{
+    if slots < 2 || 131_072 < slots {
+        return false;
+    }
+    let mut buffer = Buffer::new();
+    equal(words, &["from-core", "--slots", buffer.format(slots)])
 }
 
 fn is_check(ident: IdentCheck, swap: &str, words: &[String]) -> bool

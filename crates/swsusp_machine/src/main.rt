@@ -3,6 +3,7 @@
 
 use byte_streams::{StdSink, StdSource};
 use command_kit::{Status, print, tell};
+use core_machine_cli::from_core;
 use file_disk::{FileDisk, first_map_beyond};
 use machine_cli::{check, core, differ, draw, loader, make, show_facts};
 use machine_words::{Command, Unparsed};
@@ -12,12 +13,16 @@ use progress_disk::{Meter, ProgressDisk};
 use sector_disk::MemDisk;
 use standard_streams::{Held, hold, is_output, sync_output};
 use std::fs::File;
-use std::io::IsTerminal;
+use std::io::{BufReader, IsTerminal};
 use std::process::ExitCode;
+use std::rt::Stdin;
 use std::{env, io};
 
 /// The status of a file that can't be opened.
 const NOT_OPENED: u8 = 7;
+
+/// How many bytes of standard input are asked for at once.
+const INPUT_PIECE: usize = 65_536;
 
 /// How many blocks the disk in memory has that a script is played over.
 const MEMORY_BLOCKS: u32 = 16384;
@@ -33,12 +38,18 @@ fn main(rt: HostRuntime) -> ExitCode {
     };
     let (words, quiet) = after_quiet(&words);
     match Command::parse(rt.alloc(), words) {
-        Ok(Command::Make | Command::Draw | Command::Loader | Command::Core)
-            if rt.stdout().is_terminal() => sink_fault(&rt),
+        Ok(
+            Command::Make
+            | Command::Draw
+            | Command::Loader
+            | Command::Core
+            | Command::FromCore { .. },
+        ) if rt.stdout().is_terminal() => sink_fault(&rt),
         Ok(Command::Make) => make_over_memory(&rt, quiet),
         Ok(Command::Draw) => draw_over_memory(&rt, quiet),
         Ok(Command::Loader) => make_loader(&rt),
         Ok(Command::Core) => write_core(&rt),
+        Ok(Command::FromCore { slots }) => read_core(&rt, slots),
         Ok(Command::Show) => show_dump(&rt),
         Ok(Command::Differ { first, second }) => differ_files(&rt, first, second),
         Ok(Command::Check { check, swap }) => check_file(&rt, swap, check, quiet),
@@ -62,13 +73,21 @@ fn watched<D>(rt: &HostRuntime, disk: D, quiet: bool) -> ProgressDisk<'_, D> {
     ProgressDisk { disk, meter }
 }
 
+/// Standard input, of which pieces are asked for.
+fn input_of(rt: &HostRuntime) -> io::Result<StdSource<BufReader<Stdin>>> {
+    let reader = BufReader::with_capacity(rt.alloc(), INPUT_PIECE, rt.stdin())?;
+    Ok(StdSource::new(reader))
+}
+
 /// Plays a script over a disk in memory.
 fn make_over_memory(rt: &HostRuntime, quiet: bool) -> ExitCode {
     let mut disk = match MemDisk::create(rt.alloc(), MEMORY_BLOCKS) {
         Ok(disk) => watched(rt, disk, quiet),
         Err(NoMemory) => return no_memory(rt),
     };
-    let mut input = StdSource::new(rt.stdin());
+    let Ok(mut input) = input_of(rt) else {
+        return no_memory(rt);
+    };
     let mut out = StdSink::new(rt.stdout());
     let mut note = StdSink::new(rt.stderr());
     let status = make(rt.alloc(), &mut input, &mut out, &mut note, &mut disk);
@@ -82,7 +101,9 @@ fn draw_over_memory(rt: &HostRuntime, quiet: bool) -> ExitCode {
         Ok(disk) => watched(rt, disk, quiet),
         Err(NoMemory) => return no_memory(rt),
     };
-    let mut input = StdSource::new(rt.stdin());
+    let Ok(mut input) = input_of(rt) else {
+        return no_memory(rt);
+    };
     let mut out = StdSink::new(rt.stdout());
     let mut note = StdSink::new(rt.stderr());
     let status = draw(rt.alloc(), &mut input, &mut out, &mut note, &mut disk);
@@ -91,7 +112,9 @@ fn draw_over_memory(rt: &HostRuntime, quiet: bool) -> ExitCode {
 
 /// Reads a dump from standard input, and writes its loader.
 fn make_loader(rt: &HostRuntime) -> ExitCode {
-    let mut input = StdSource::new(rt.stdin());
+    let Ok(mut input) = input_of(rt) else {
+        return no_memory(rt);
+    };
     let mut out = StdSink::new(rt.stdout());
     let mut note = StdSink::new(rt.stderr());
     let status = loader(rt.alloc(), &mut input, &mut out, &mut note);
@@ -101,17 +124,33 @@ fn make_loader(rt: &HostRuntime) -> ExitCode {
 /// Reads a dump from standard input, and writes the core file of its memory.
 #[inline(never)]
 fn write_core(rt: &HostRuntime) -> ExitCode {
-    let mut input = StdSource::new(rt.stdin());
+    let Ok(mut input) = input_of(rt) else {
+        return no_memory(rt);
+    };
     let mut out = StdSink::new(rt.stdout());
     let mut note = StdSink::new(rt.stderr());
     let status = core(rt.alloc(), &mut input, &mut out, &mut note);
     finished(rt, status)
 }
 
+/// Reads a core file from standard input, and writes the dump of a machine with its memory.
+#[inline(never)]
+fn read_core(rt: &HostRuntime, slots: Option<u32>) -> ExitCode {
+    let Ok(mut input) = input_of(rt) else {
+        return no_memory(rt);
+    };
+    let mut out = StdSink::new(rt.stdout());
+    let mut note = StdSink::new(rt.stderr());
+    let status = from_core(rt.alloc(), &mut input, slots, &mut out, &mut note);
+    finished(rt, status)
+}
+
 /// Reads a dump from standard input, and prints its facts.
 #[inline(never)]
 fn show_dump(rt: &HostRuntime) -> ExitCode {
-    let mut input = StdSource::new(rt.stdin());
+    let Ok(mut input) = input_of(rt) else {
+        return no_memory(rt);
+    };
     let mut out = StdSink::new(rt.stdout());
     let mut note = StdSink::new(rt.stderr());
     let status = show_facts(rt.alloc(), &mut input, &mut out, &mut note);
@@ -150,7 +189,9 @@ fn check_file(rt: &HostRuntime, swap: &str, ident_check: IdentCheck, quiet: bool
     };
     warn_of_file(rt, &mut disk);
     let mut disk = watched(rt, disk, quiet);
-    let mut input = StdSource::new(rt.stdin());
+    let Ok(mut input) = input_of(rt) else {
+        return no_memory(rt);
+    };
     let mut out = StdSink::new(rt.stdout());
     let mut note = StdSink::new(rt.stderr());
     let status = check(

@@ -5,11 +5,11 @@ use Rattle.image_walk.specs.Walking.{IsPlaced, name_of}
 use Rattle.image_walk.specs.declared.visit.BlockFault.{BlockFault}
 use Rattle.image_walk.specs.declared.visit.Visit.{Visit}
 use Rattle.image_walk.specs.declared.visit.Visit.TheVariants as visit
-use Rattle.image_check.specs.Entries.{position_of, entry_fault, read_findings}
+use Rattle.image_check.specs.Entries.{position_of, entry_fault}
 use Rattle.image_check.specs.Image.{name_findings}
 use Rattle.image_check.specs.Told.{Tells, list_of}
 use Rattle.image_check.specs.declared.finding.Finding.{Finding}
-use Rattle.image_check.proofs.EntryFindings.{findings_by, entry_told, name_told, place_at, same_place}
+use Rattle.image_check.proofs.EntryFindings.{findings_by, page_by, entry_told, name_told, place_at, same_place}
 use Rattle.image_check.proofs.entries.check_name.Goals.{then-is_ok, else-is_ok}
 use Rattle.image_check.proofs.entries.check_name.Goals as goal
 
@@ -33,14 +33,14 @@ returns-after-is_ok-clause-told g c = λ h placed knows.
     let there : position ≡ position_of h = omega (arith, put.0, put.2, c.from.ensures, c.saturating_sub.ensures, c.from-in-Entry.ensures) in
     let fault : Tells (list_of (entry_fault progress.counts position place e.block e.answer)) first then =
     subst (λ (f : Option Finding). Tells (list_of f) first then) c.entry_fault.ensures c.tell_any-in-Entry.ensures in
-    let told : Tells (findings_by c.args.format progress.counts progress.previous position e.block place (seen e.answer page)) first last = elim c.if-is_ok.branch [
-      | then-is_ok w ↦ entry_told c.args.format progress.counts progress.previous position e.block place e.answer page first then last fault
-          (λ q. subst (λ (r : _). Tells (read_findings c.args.format progress.counts position e.block progress.previous (Ok page)) then (g.R.Report.told r)) (sym w.report-is) w.check_page.ensures)
+    let told : Tells (findings_by c.args.format progress.counts progress.previous progress.counted position e.block place (seen e.answer page)) first last = elim c.if-is_ok.branch [
+      | then-is_ok w ↦ entry_told c.args.format progress.counts progress.previous progress.counted position e.block place e.answer page first then last fault
+          (λ q. subst (λ (r : _). Tells (page_by c.args.format progress.counts progress.previous progress.counted position e.block (Ok page)) then (g.R.Report.told r)) (sym w.report-is) w.check_page.ensures)
           (λ why q. absurd (true_err c.is_ok.result e.answer why w.if-is_ok.true c.is_ok.ensures.value q))
-      | else-is_ok w ↦ entry_told c.args.format progress.counts progress.previous position e.block place e.answer page first then last fault
+      | else-is_ok w ↦ entry_told c.args.format progress.counts progress.previous progress.counted position e.block place e.answer page first then last fault
           (λ q. absurd (false_ok c.is_ok.result e.answer w.if-is_ok.false c.is_ok.ensures.value q))
           (λ why q. ap g.R.Report.told w.report-is)
     ] in
     subst (λ (v : Visit). Tells (name_findings c.args.format h (name_of v page)) first last) (sym e.is)
-    (name_told c.args.format h progress.counts progress.previous position e.block place (seen e.answer page) first last knows.counts knows.previous there
+    (name_told c.args.format h progress.counts progress.previous progress.counted position e.block place (seen e.answer page) first last knows.counts knows.previous knows.counted there
     (same_place e.map (maps_in h) e.at (newest_map h) e.entry (511 - left_in h) put.0 put.1 put.2) told)

@@ -5,7 +5,8 @@ use Rattle.definitions.specs.Slots.{runs_of}
 use Rattle.definitions.specs.Streams.{TakesFront}
 use Rattle.elf_core.specs.Elf.{page_offset}
 use Rattle.image_pages.specs.Chain.{chain_page}
-use Rattle.image_stream.proofs.Since.{refused_since}
+use Rattle.image_saved.specs.Formats.{chain_format}
+use Rattle.image_saved.proofs.Since.{refused_since}
 use Rattle.image_core.specs.Cores.{IsStopped}
 use Rattle.image_core.specs.Counted.{HasTallied}
 use Rattle.image_core.specs.Listed.{AreListed}
@@ -18,7 +19,7 @@ use Rattle.image_core.proofs.Tallied.{Lists, all_by_tally, can_list, can_list_al
 use Rattle.image_core.proofs.heads.write_loads.Goals as goal
 
 abbrev Front : Option Content → ℕ → (old new : Option (List ℕ)) → Type 0
-Front content header old new = IfSome content (λ held. TakesFront (loads_of (chain_page (as_it_reads held) header)) old new)
+Front content header old new = IfSome content (λ held. TakesFront (loads_of (chain_format (as_it_reads held) header) (chain_page (as_it_reads held) header)) old new)
 
 pub loop-init : goal.loop-init
 loop-init g c = record {

@@ -5,7 +5,7 @@ use Rattle.definitions.specs.Zones.{numbers}
 use Rattle.image_frames.specs.Given.{HasGiven, frame_of}
 use Rattle.image_frames.specs.SavedFrames.{AreAllSaved, AreFirstSaved}
 use Rattle.image_machine.specs.Filled.{IsFilled}
-use Rattle.image_stream.proofs.Since.{refused_since}
+use Rattle.image_saved.proofs.Since.{refused_since}
 use Rattle.image_dump.specs.Lays.{pages_of}
 use Rattle.image_dump.proofs.Laid.{above_numbers, fewer_laid, has_number, pages_more}
 use Rattle.image_dump.proofs.Since.{given_since}

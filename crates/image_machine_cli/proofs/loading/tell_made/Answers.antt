@@ -5,11 +5,6 @@ use Rattle.image_dump.specs.declared.made.Made.{Made}
 use Rattle.image_machine_cli.specs.Loads.{made_told}
 use Rattle.image_machine_cli.proofs.loading.tell_made.Goals as goal
 
-pub returns-in-SkipsZeros-clause-told : goal.returns-in-SkipsZeros-clause-told
-returns-in-SkipsZeros-clause-told g c =
-    subst (λ (m : Made). IsTold (made_told m) c.tell-in-SkipsZeros.result (sink_view g.O.Sink c.args.out.now) (sink_view g.O.Sink c.tell-in-SkipsZeros.new.out) (sink_view g.N.Sink c.args.note.now) (sink_view g.N.Sink c.tell-in-SkipsZeros.new.note))
-    (sym c.in-SkipsZeros.is) c.tell-in-SkipsZeros.ensures.told
-
 pub returns-in-NoArea-clause-told : goal.returns-in-NoArea-clause-told
 returns-in-NoArea-clause-told g c =
     subst (λ (m : Made). IsTold (made_told m) c.tell-in-NoArea.result (sink_view g.O.Sink c.args.out.now) (sink_view g.O.Sink c.tell-in-NoArea.new.out) (sink_view g.N.Sink c.args.note.now) (sink_view g.N.Sink c.tell-in-NoArea.new.note))

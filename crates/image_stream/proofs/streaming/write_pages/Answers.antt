@@ -65,7 +65,7 @@ returns-in_err-put_all-in-Page-clause-stopped g c = λ h start.
     on_err_any c.from_residual.result (IsFront content blocks h first last)
     (subst (λ (x : Option Content). IsFront x blocks h first last) i.content
     (subst (λ (n : ℕ). IsFront (g.D.Disk.content c.loop-out.disk) n h first last) i.blocks
-    (so_far_front (g.D.Disk.content c.loop-out.disk) (g.D.Disk.block_count c.loop-out.disk) h c.loop-out.pages c.next.new.self c.next.new.page first (g.S.Sink.taken c.loop-out.out) last so_far now.1 (subst (λ (x : List ℕ). TakesFront x (g.S.Sink.taken c.loop-out.out) last) c.as_bytes.ensures.bytes c.in_err-put_all-in-Page.ensures.front))))
+    (so_far_front (g.D.Disk.content c.loop-out.disk) (g.D.Disk.block_count c.loop-out.disk) h c.loop-out.pages c.next.new.self c.next.new.page first (g.S.Sink.taken c.loop-out.out) last so_far now.1 (c.next.ensures.format ∙ i.plain) (subst (λ (x : List ℕ). TakesFront x (g.S.Sink.taken c.loop-out.out) last) c.as_bytes.ensures.bytes c.in_err-put_all-in-Page.ensures.front))))
 
 pub returns-in_err-put_all-in-Page-clause-untold : goal.returns-in_err-put_all-in-Page-clause-untold
 returns-in_err-put_all-in-Page-clause-untold g c =
@@ -109,4 +109,4 @@ returns-in-Refused-clause-streamed g c = λ h start.
     inr (subst (λ (x : Option Content). IsCutShort x blocks h before now told end first last) i.content
     (subst (λ (m : ℕ). IsCutShort held m h before now told end first last) i.blocks
     (so_far_cut held n h before then now c.loop-out.pages told end first last so_far i.faults
-    (subst (λ (t : Told). IsRefused held n h then now t end so_far.given) i.told says))))
+    (subst (λ (t : Told). IsRefused held n h then now t end so_far.given) i.told says) i.plain)))

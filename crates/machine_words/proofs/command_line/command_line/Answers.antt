@@ -3,7 +3,7 @@ use Rattle.std.proofs.lemmas.Result.{IfOk-weaker}
 use Rattle.clap.specs.Words.{App, new_app, with_subcommand}
 use Rattle.clap.specs.Simple.{on_top}
 use Rattle.swsusp_words.proofs.Builders.{subcommand_added, subcommand_wanted, version_set}
-use Rattle.machine_words.specs.App.{check_app, core_app, differ_app, draw_app, loader_app, make_app, program_app, show_app}
+use Rattle.machine_words.specs.App.{check_app, core_app, differ_app, draw_app, from_core_app, loader_app, make_app, program_app, show_app}
 use Rattle.machine_words.proofs.command_line.command_line.Goals as goal
 
 abbrev one : App
@@ -19,10 +19,13 @@ abbrev four : App
 four = with_subcommand three core_app.top
 
 abbrev five : App
-five = with_subcommand four show_app.top
+five = with_subcommand four from_core_app.top
 
 abbrev six : App
-six = with_subcommand five differ_app.top
+six = with_subcommand five show_app.top
+
+abbrev seven : App
+seven = with_subcommand six differ_app.top
 
 pub returns : goal.returns
 returns c =
@@ -32,6 +35,7 @@ returns c =
     let b = subcommand_added c.in_ok-subcommand.field-0 c.drawing.result c.in_ok-subcommand-2.field-0 one draw_app a c.drawing.ensures c.in_ok-subcommand-2.ensures in
     let d = subcommand_added c.in_ok-subcommand-2.field-0 c.loading.result c.in_ok-subcommand-3.field-0 two loader_app b c.loading.ensures c.in_ok-subcommand-3.ensures in
     let e = subcommand_added c.in_ok-subcommand-3.field-0 c.coring.result c.in_ok-subcommand-4.field-0 three core_app d c.coring.ensures c.in_ok-subcommand-4.ensures in
-    let f = subcommand_added c.in_ok-subcommand-4.field-0 c.showing.result c.in_ok-subcommand-5.field-0 four show_app e c.showing.ensures c.in_ok-subcommand-5.ensures in
-    let h = subcommand_added c.in_ok-subcommand-5.field-0 c.in_ok-comparison.field-0 c.in_ok-subcommand-6.field-0 five differ_app f c.in_ok-comparison.ensures c.in_ok-subcommand-6.ensures in
-    IfOk-weaker c.subcommand-7.result _ _ (λ r i. subcommand_added c.in_ok-subcommand-6.field-0 c.in_ok-trial.field-0 r six check_app h c.in_ok-trial.ensures i) c.subcommand-7.ensures
+    let f = subcommand_added c.in_ok-subcommand-4.field-0 c.in_ok-reading.field-0 c.in_ok-subcommand-5.field-0 four from_core_app e c.in_ok-reading.ensures c.in_ok-subcommand-5.ensures in
+    let h = subcommand_added c.in_ok-subcommand-5.field-0 c.showing.result c.in_ok-subcommand-6.field-0 five show_app f c.showing.ensures c.in_ok-subcommand-6.ensures in
+    let i = subcommand_added c.in_ok-subcommand-6.field-0 c.in_ok-comparison.field-0 c.in_ok-subcommand-7.field-0 six differ_app h c.in_ok-comparison.ensures c.in_ok-subcommand-7.ensures in
+    IfOk-weaker c.subcommand-8.result _ _ (λ r j. subcommand_added c.in_ok-subcommand-7.field-0 c.in_ok-trial.field-0 r seven check_app i c.in_ok-trial.ensures j) c.subcommand-8.ensures

@@ -1,4 +1,4 @@
-use Rattle.std.proofs.Common.{◌≡◌, ℕ, [], Bool, false, None, Result, Ok, Err, OnOk, refl, subst, sym, ap, ◌∙◌}
+use Rattle.std.proofs.Common.{◌≡◌, ℕ, [], Bool, false, None, Some, Result, Ok, Err, OnOk, refl, subst, sym, ap, ◌∙◌}
 use Rattle.std.specs.Result.{is_err}
 use Rattle.image_check.specs.Checked.{mark_in}
 use Rattle.image_pages.specs.Stands.{Stands}
@@ -17,7 +17,7 @@ returns-clause-opened g c =
     let pages : Pages = record {
       walker = c.in_ok-begin.field-0;
       format = c.format_of.result;
-      progress = record { counts = None; previous = None };
+      progress = record { counts = None; previous = None; counted = Some 0 };
     } in
     let fine = c.if-not-accept_header.ensures in (
       fine.1,
@@ -39,7 +39,7 @@ returns-clause-opened g c =
         limits = c.in_ok-begin.ensures.limits;
         format = refl;
         follows = c.in_ok-begin.ensures.start;
-        knows = record { counts = refl; previous = refl };
+        knows = record { counts = refl; previous = refl; counted = refl };
         pages = refl;
       }),
     )

@@ -1,0 +1,26 @@
+use Rattle.std.proofs.Common.{ℕ, List, subst, sym}
+use Rattle.command_kit.specs.Answer.{RunResult}
+use Rattle.command_kit.specs.Told.{IsTold}
+use Rattle.command_kit.specs.View.{sink_view}
+use Rattle.core_machine.specs.declared.stop.Stop.{Stop}
+use Rattle.core_machine_cli.specs.Given.{IsWhyTold}
+use Rattle.image_machine_cli.specs.Loads.{refused}
+use Rattle.core_machine_cli.proofs.making.tell_why.Goals as goal
+
+pub returns-in-Limit-clause-told : goal.returns-in-Limit-clause-told
+returns-in-Limit-clause-told g c =
+    let out = sink_view g.O.Sink c.args.out.now in
+    let printed = sink_view g.O.Sink c.refuse-in-Limit.new.out in
+    let note = sink_view g.N.Sink c.args.note.now in
+    let noted = sink_view g.N.Sink c.refuse-in-Limit.new.note in
+    subst (λ (w : Stop). IsWhyTold w c.refuse-in-Limit.result out printed note noted) (sym c.in-Limit.is)
+    (subst (λ (t : List ℕ). IsTold (refused t) c.refuse-in-Limit.result out printed note noted) c.limit_line.ensures c.refuse-in-Limit.ensures.told)
+
+pub returns-in-Memory-clause-told : goal.returns-in-Memory-clause-told
+returns-in-Memory-clause-told g c =
+    let out = sink_view g.O.Sink c.args.out.now in
+    let printed = sink_view g.O.Sink c.tell-in-Memory.new.out in
+    let note = sink_view g.N.Sink c.args.note.now in
+    let noted = sink_view g.N.Sink c.tell-in-Memory.new.note in
+    subst (λ (w : Stop). IsWhyTold w c.tell-in-Memory.result out printed note noted) (sym c.in-Memory.is)
+    (subst (λ (r : RunResult). IsTold r c.tell-in-Memory.result out printed note noted) c.no_memory.ensures.told c.tell-in-Memory.ensures.told)

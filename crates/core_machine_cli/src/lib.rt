@@ -1,0 +1,7 @@
+//! The command of `swsusp_machine` that makes a dump of a core file.
+#![tactic(auto)]
+
+mod faults;
+mod making;
+
+pub use making::from_core;

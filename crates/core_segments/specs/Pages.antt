@@ -1,0 +1,62 @@
+-- The page frames of a core file, with their pages.
+use Rattle.std.specs.Prelude.{ℕ, ◌+◌, ◌-◌, ◌*◌, ◌&&◌, nat_le, nat_lt, Bool, List, [], ◌∷◌, map, min, max, slice_index}
+use Rattle.std.specs.Prelude.{Option, None, if◌then◌else◌}
+use Rattle.std.specs.List.{flat_map, range_with_len}
+use Rattle.plain_machine.specs.Chain.{or_else}
+use Rattle.core_segments.specs.Faults.{wanted}
+use Rattle.core_segments.specs.Heads.{segments_in}
+use Rattle.core_segments.specs.Notes.{head_end, head_fault}
+use Rattle.core_segments.specs.Segments.{frames_of, place_after}
+use Rattle.core_segments.specs.declared.fault.Fault.{Fault}
+use Rattle.core_segments.specs.declared.segment.Segment.{Segment}
+
+-- The byte at an address: it is in the file where the address lies in p_filesz, and else 0.
+abbrev pub byte_at : List ℕ → Segment → ℕ → ℕ
+byte_at bytes s address =
+    if nat_le s.address address && nat_lt address (s.address + s.file_size)
+    then slice_index bytes (s.offset + (address - s.address)) else 0
+
+-- the page of a page frame of a segment
+unfoldable pub page_of : List ℕ → Segment → ℕ → List ℕ
+page_of bytes s p = map (λ k. byte_at bytes s (4096 * p + k)) (range_with_len 0 4096)
+
+-- all page frames of segments, each with its page
+abbrev pub pages_in : List ℕ → Segment → List (ℕ × List ℕ)
+pages_in bytes s = map (λ p. (p, page_of bytes s p)) (frames_of s)
+
+unfoldable pub pages_of : List ℕ → List Segment → List (ℕ × List ℕ)
+pages_of bytes segments = flat_map (pages_in bytes) segments
+
+-- Of the addresses of a page frame the file has bytes for those from one on up to before another.
+abbrev pub from_address : Segment → ℕ → ℕ
+from_address s p = max s.address (4096 * p)
+
+abbrev pub to_address : Segment → ℕ → ℕ
+to_address s p = min (s.address + s.file_size) (4096 * p + 4096)
+
+abbrev pub has_bytes : Segment → ℕ → Bool
+has_bytes s p = nat_lt (from_address s p) (to_address s p)
+
+-- where these bytes lie, and where they end
+abbrev pub page_place : Segment → ℕ → ℕ
+page_place s p = s.offset + (from_address s p - s.address)
+
+abbrev pub page_end : Segment → ℕ → ℕ
+page_end s p = s.offset + (to_address s p - s.address)
+
+-- where a file is read to that was read to a place, once it is read for a page frame
+abbrev pub reached : ℕ → Segment → ℕ → ℕ
+reached place s p = if has_bytes s p then page_end s p else place
+
+-- the fault of a file that ends before
+abbrev pub page_fault : List ℕ → Segment → ℕ → Option Fault
+page_fault bytes s p = if has_bytes s p then wanted bytes (page_end s p) else None
+
+-- where the bytes of segments end that lie from a place on
+unfoldable pub places_end : ℕ → List Segment → ℕ
+places_end place [] = place
+places_end place (s ∷ segments) = places_end (place_after place s) segments
+
+-- the first fault of a file: it has what stands before the bytes of its segments, and those
+unfoldable pub core_fault : List ℕ → Option Fault
+core_fault bytes = or_else (head_fault bytes) (wanted bytes (places_end (head_end bytes) (segments_in bytes)))

@@ -1,0 +1,4 @@
+pub mod Ahead
+pub mod Formats
+pub mod Found
+pub mod Saved

@@ -1,0 +1,53 @@
+//! Pages of an image that skips pages of zeros, as they are in the plain format.
+ghost use Rattle.std.specs.Prelude.{◌≡◌, ◌<◌};
+ghost use Rattle.image_check.specs.Info.{counts_in};
+ghost use Rattle.image_stream.specs.Plain.{plain_info, plain_numbers, plain_word};
+
+use image_saved::frame_of;
+use page_core::{Format, Page};
+
+/// How many numbers a page of page frame numbers has.
+pub(crate) const NUMBERS: u64 = 512;
+
+/// Which words of an info page count its pages and their bytes (struct swsusp_info, kernel/power/power.h).
+const PAGES: usize = 424 / 8;
+
+const SIZE: usize = 432 / 8;
+
+/// The info page of so many numbers, which counts a data page for each saved page frame.
+pub(crate) fn plain_info(info: &Page, numbers: u64) -> Page
+    requires { (counts_in info.now).image_pages ≡ numbers }
+    ensures { result ≡ plain_info info.now }
+{
+    let pages = numbers
+        .wrapping_add(numbers.div_ceil(NUMBERS))
+        .wrapping_add(1);
+    let mut plain = Page::from_bytes(info.as_bytes());
+    plain.set_word(PAGES, pages);
+    plain.set_word(SIZE, pages.wrapping_mul(4096));
+    plain
+}
+
+/// A page of page frame numbers without their marks. So many of its words are numbers.
+pub(crate) fn plain_numbers(page: &Page, count: u64) -> Page
+    ensures { result ≡ plain_numbers count page.now }
+{
+    let mut plain = Page::zero();
+    for i in 0..NUMBERS {
+        plain.set_word(i as usize, plain_word(page, i, count));
+    }
+    plain
+}
+
+/// Word i of it.
+fn plain_word(page: &Page, i: u64, count: u64) -> u64
+    requires { i < 512 }
+    ensures { result ≡ plain_word count page.now i }
+{
+    let word = page.word(i as usize);
+    if i < count {
+        frame_of(Format::SkipZeros, word)
+    } else {
+        word
+    }
+}
