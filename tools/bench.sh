@@ -3,7 +3,7 @@
 # files, beside a copy of as many bytes that is synced (with python3), and the greatest memory of each, and so for an export and an
 # import of the image as a stream; and of `swsusp_image check` and `stream` beside a reading and a copy of the saved dump. Each of the
 # four is measured beside a C program that does the same work (tools/bench.c, where there is a cc), and so is a script's cycle: what both
-# leave must be the same, byte for byte. Then counts the
+# leave must be the same, byte for byte. The system calls of the four are counted, where there is an strace. Then counts the
 # instructions of the built program by valgrind's callgrind: of an empty script, of a line that claims a page frame, of
 # a line that shows a word, of that line's parse alone, and of a hibernation and a resume of 1,500 page frames; and takes the time of a
 # boot, a hibernation and a resume of 15,000 page frames at a script's limits. The programs are the first and the second word, or
@@ -73,6 +73,17 @@ else
     echo "not measured beside C: no cc is there"
 fi
 
+# Tells the system calls that a command makes, from this input to this output, most first.
+calls() {
+    command -v strace >/dev/null || return 0
+    name=$1 source=$2 target=$3
+    shift 3
+    strace -f -c -o "$room/calls" "$@" <"$source" >"$target" || exit 1
+    awk '$1 ~ /^[0-9.]+$/ && $NF != "total" { print $4, $NF }' "$room/calls" | sort -rn |
+        awk -v name="$name" 'NR <= 4 { told = told sep $0; sep = ", " } NR > 4 { rest += $1 }
+            END { printf "system calls, %s: %s, and %d others\n", name, told, rest }'
+}
+
 # What the C program takes, where it is there.
 in_c() {
     [ ! -x "$room/bench" ] || measure "$@"
@@ -116,6 +127,11 @@ sh "$top/tools/make_area.sh" "$room/area_c" 131071
 sync
 c=$(in_c "$room/stream" "$room/line" "$room/bench" import "$room/area_c")
 against "$own" "$c" "$room/area" "$room/area_c"
+sh "$top/tools/make_area.sh" "$room/area" 131071
+calls hibernated "$room/saved" /dev/null "$program" hibernate "$room/area"
+calls resumed "$room/loader" "$room/restored" "$program" resume "$room/area"
+calls exported "$room/saved" "$room/stream" "$program" export
+calls imported "$room/stream" /dev/null "$program" import "$room/area"
 rm -f "$room/area" "$room/area_c" "$room/saved" "$room/loader" "$room/restored" "$room/stream" "$room/copy"
 
 if ! command -v valgrind >/dev/null; then

@@ -13,9 +13,9 @@ use progress_disk::{Meter, ProgressDisk};
 use sector_disk::MemDisk;
 use standard_streams::{Held, hold, is_output, sync_output};
 use std::fs::File;
-use std::io::{BufReader, IsTerminal};
+use std::io::{BufReader, BufWriter, IsTerminal};
 use std::process::ExitCode;
-use std::rt::Stdin;
+use std::rt::{Stdin, Stdout};
 use std::{env, io};
 
 /// The status of a file that can't be opened.
@@ -23,6 +23,9 @@ const NOT_OPENED: u8 = 7;
 
 /// How many bytes of standard input are asked for at once.
 const INPUT_PIECE: usize = 65_536;
+
+/// How many bytes of a dump or a core file are handed to standard output at once.
+const OUTPUT_PIECE: usize = 65_536;
 
 /// How many blocks the disk in memory has that a script is played over.
 const MEMORY_BLOCKS: u32 = 16384;
@@ -79,6 +82,12 @@ fn input_of(rt: &HostRuntime) -> io::Result<StdSource<BufReader<Stdin>>> {
     Ok(StdSource::new(reader))
 }
 
+/// Standard output, which is handed pieces.
+fn output_of(rt: &HostRuntime) -> io::Result<StdSink<BufWriter<Stdout>>> {
+    let writer = BufWriter::with_capacity(rt.alloc(), OUTPUT_PIECE, rt.stdout())?;
+    Ok(StdSink::new(writer))
+}
+
 /// Plays a script over a disk in memory.
 fn make_over_memory(rt: &HostRuntime, quiet: bool) -> ExitCode {
     let mut disk = match MemDisk::create(rt.alloc(), MEMORY_BLOCKS) {
@@ -88,7 +97,9 @@ fn make_over_memory(rt: &HostRuntime, quiet: bool) -> ExitCode {
     let Ok(mut input) = input_of(rt) else {
         return no_memory(rt);
     };
-    let mut out = StdSink::new(rt.stdout());
+    let Ok(mut out) = output_of(rt) else {
+        return no_memory(rt);
+    };
     let mut note = StdSink::new(rt.stderr());
     let status = make(rt.alloc(), &mut input, &mut out, &mut note, &mut disk);
     finished(rt, status)
@@ -104,7 +115,9 @@ fn draw_over_memory(rt: &HostRuntime, quiet: bool) -> ExitCode {
     let Ok(mut input) = input_of(rt) else {
         return no_memory(rt);
     };
-    let mut out = StdSink::new(rt.stdout());
+    let Ok(mut out) = output_of(rt) else {
+        return no_memory(rt);
+    };
     let mut note = StdSink::new(rt.stderr());
     let status = draw(rt.alloc(), &mut input, &mut out, &mut note, &mut disk);
     finished(rt, status)
@@ -115,7 +128,9 @@ fn make_loader(rt: &HostRuntime) -> ExitCode {
     let Ok(mut input) = input_of(rt) else {
         return no_memory(rt);
     };
-    let mut out = StdSink::new(rt.stdout());
+    let Ok(mut out) = output_of(rt) else {
+        return no_memory(rt);
+    };
     let mut note = StdSink::new(rt.stderr());
     let status = loader(rt.alloc(), &mut input, &mut out, &mut note);
     finished(rt, status)
@@ -127,7 +142,9 @@ fn write_core(rt: &HostRuntime) -> ExitCode {
     let Ok(mut input) = input_of(rt) else {
         return no_memory(rt);
     };
-    let mut out = StdSink::new(rt.stdout());
+    let Ok(mut out) = output_of(rt) else {
+        return no_memory(rt);
+    };
     let mut note = StdSink::new(rt.stderr());
     let status = core(rt.alloc(), &mut input, &mut out, &mut note);
     finished(rt, status)
@@ -139,7 +156,9 @@ fn read_core(rt: &HostRuntime, slots: Option<u32>) -> ExitCode {
     let Ok(mut input) = input_of(rt) else {
         return no_memory(rt);
     };
-    let mut out = StdSink::new(rt.stdout());
+    let Ok(mut out) = output_of(rt) else {
+        return no_memory(rt);
+    };
     let mut note = StdSink::new(rt.stderr());
     let status = from_core(rt.alloc(), &mut input, slots, &mut out, &mut note);
     finished(rt, status)
