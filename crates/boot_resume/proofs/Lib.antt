@@ -1,0 +1,9 @@
+pub mod Accepting
+pub mod Asking
+pub mod Counting
+pub mod Going
+pub mod Handed
+pub mod Listing
+pub mod Once
+pub mod HandedOut
+pub mod Wanting

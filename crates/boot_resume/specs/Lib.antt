@@ -1,0 +1,12 @@
+pub mod Marks
+pub mod Listed
+pub mod Memory
+pub mod Ranges
+pub mod OnDisk
+pub mod Ends
+pub mod Calls
+pub mod Wanted
+pub mod HandedOut
+pub mod Standing
+pub mod Accepted
+pub mod Asked

@@ -1,0 +1,14 @@
+-- The mark of a header block, where it has one.
+use Rattle.std.specs.Prelude.{ℕ, List, Option, Some, None, if◌then◌else◌}
+use Rattle.definitions.specs.SwapHeader.{image_signature, sig_of}
+use Rattle.sig_header.specs.AreaKind.{mark_of, same_bytes}
+use Rattle.sig_header.specs.declared.area.Mark.{Mark}
+use Rattle.sig_header.specs.declared.area.AreaKind.{AreaKind}
+use Rattle.sig_header.specs.declared.area.AreaKind.TheVariants.{Image}
+
+abbrev pub mark_within : AreaKind → Option Mark
+mark_within (Image mark) = Some mark
+mark_within _ = None
+
+abbrev pub mark_by : List ℕ → Option Mark
+mark_by page = if same_bytes (sig_of page) image_signature then Some (mark_of page) else None

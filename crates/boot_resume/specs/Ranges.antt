@@ -1,0 +1,18 @@
+-- Why what a caller says of its machine can't be so: the first fault.
+use Rattle.std.specs.Prelude.{◌≡◌, ℕ, ◌+◌, ◌^◌, ◌≤◌, ◌&&◌, ◌⊎◌, List, [], ◌∷◌, nat_lt, nat_le, Option, Some, None, if◌then◌else◌}
+use Rattle.boot_resume.specs.Memory.{AreApart}
+use Rattle.boot_resume.specs.declared.machine.FrameRange.{FrameRange}
+use Rattle.boot_resume.specs.declared.machine.MachineFault.{MachineFault}
+use Rattle.boot_resume.specs.declared.machine.MachineFault.TheVariants.{Memory, Present, Header}
+
+-- The first of some ranges that is empty, or begins below the end of the one before; the ranges count from `index`.
+abbrev pub misplaced : (floor index : ℕ) → List FrameRange → Option ℕ
+misplaced floor index [] = None
+misplaced floor index (r ∷ rs) =
+    if nat_le floor r.start && nat_lt r.start r.end then misplaced r.end (index + 1) rs else Some index
+
+abbrev pub IsFault : List FrameRange → (present blocks header : ℕ) → MachineFault → Type 0
+IsFault memory present blocks header (Memory index) = misplaced 0 0 memory ≡ Some index
+IsFault memory present blocks header (Present said) =
+    AreApart memory × ((said ≡ present) × ((present ≡ 0) ⊎ (2 ^ 52 ≤ present)))
+IsFault memory present blocks header (Header said) = AreApart memory × ((said ≡ header) × (blocks ≤ header))

@@ -1,0 +1,21 @@
+//! A resume as a value that asks: it names the next call of the disk or the page frame that a page belongs to, and is
+//! told how that went. It makes no call itself and takes no memory, so a boot loader can embed it (kernel/power/swap.c,
+//! swsusp_check and swsusp_read).
+#![tactic(auto)]
+
+mod call;
+mod cause;
+mod header;
+mod info;
+mod machine;
+mod numbers;
+mod pages;
+mod ranges;
+mod reading;
+mod resume;
+mod stage;
+
+pub use call::{Call, FailedCall, Left};
+pub use cause::Cause;
+pub use machine::{FrameRange, Identity, Machine, MachineFault};
+pub use resume::Resume;

@@ -1,0 +1,139 @@
+ghost use Rattle.std.specs.Prelude.{◌≡◌, ◌<◌, ◌≤◌, ◌^◌};
+
+use crate::cause::Cause;
+use crate::ranges::first_misplaced;
+use definitions::Ident;
+use thiserror::Error;
+
+/// The page frames from `start` up to before `end` are memory.
+#[derive(Clone, Copy, Debug, PartialEq, Eq)]
+pub struct FrameRange {
+    pub start: u64,
+    pub end: u64,
+}
+
+/// What an image is to say of the kernel that made it.
+#[derive(Clone, Copy)]
+pub enum Identity<'a> {
+    /// The version code and four of the six names, each up to its first zero byte (`check_image_kernel`,
+    /// kernel/power/snapshot.c).
+    Generic(&'a Ident),
+    /// All 390 bytes at the begin of the info page, where an architecture has its own header.
+    Architecture(&'a [u8; 390]),
+}
+
+/// Why what a caller says of its machine can't be so.
+#[derive(Clone, Copy, Debug, PartialEq, Eq, Error)]
+pub enum MachineFault {
+    /// A range is empty, or doesn't begin behind the one before it.
+    #[error("range {index} of memory")]
+    Memory { index: usize },
+    /// There are no page frames, or 2^52 and more.
+    #[error("{present} page frames")]
+    Present { present: u64 },
+    /// The header's block isn't one of the disk's.
+    #[error("header block {header}")]
+    Header { header: u64 },
+}
+
+/// The machine that an image is resumed into, and the place of the swap area, as the caller lends them.
+#[derive(Clone, Copy)]
+pub struct Machine<'a> {
+    memory: &'a [FrameRange],
+    present: u64,
+    identity: Option<Identity<'a>>,
+    hardware_signature: u32,
+    blocks: u64,
+    header: u64,
+    ghost few: { present < 2 ^ 52 },
+}
+
+impl<'a> Machine<'a> {
+    ghost use Rattle.std.specs.Prelude.{◌≡◌, ◌<◌, ◌≤◌, ◌^◌, ◌↔◌, IsOk, IfErr, IfOk, IsTrue};
+    ghost use Rattle.boot_resume.specs.Ranges.{IsFault};
+    ghost use Rattle.boot_resume.specs.Memory.{AreApart, block_fault, is_memory, Names};
+
+    /// `memory` are the ranges of page frames that are memory, ascending and apart; `present` says how many page frames
+    /// the kernel counts (`num_physpages`), which may be fewer or more than the ranges have. An image that carries a
+    /// hardware signature must carry this one. The disk has so many blocks of 4096 bytes, and the area's header lies
+    /// in block `header`.
+    pub fn new(
+        memory: &'a [FrameRange],
+        present: u64,
+        identity: Option<Identity<'a>>,
+        hardware_signature: u32,
+        blocks: u64,
+        header: u64,
+    ) -> Result<Machine<'a>, MachineFault>
+        ensures ok { IsOk result ↔ (AreApart memory.now × (0 < present) × (present < 2 ^ 52) × (header < blocks)) }
+        ensures fault { IfErr result (IsFault memory.now present blocks header) }
+        ensures memory { IfOk result (λ m. m.memory ≡ memory.entry) }
+        ensures present { IfOk result (λ m. m.present ≡ present) }
+        ensures identity { IfOk result (λ m. m.identity ≡ identity.entry) }
+        ensures signature { IfOk result (λ m. m.hardware_signature ≡ hardware_signature) }
+        ensures disk { IfOk result (λ m. (m.blocks ≡ blocks) × (m.header ≡ header)) }
+    {
+        if let Some(index) = first_misplaced(memory) {
+            return Err(MachineFault::Memory { index });
+        }
+        if present == 0 || present >= 1 << 52 {
+            return Err(MachineFault::Present { present });
+        }
+        if header >= blocks {
+            return Err(MachineFault::Header { header });
+        }
+        Ok(Machine {
+            memory,
+            present,
+            identity,
+            hardware_signature,
+            blocks,
+            header,
+        })
+    }
+
+    pub(crate) fn present(&self) -> u64
+        ensures present { result ≡ self.now.present }
+        ensures few { result < 2 ^ 52 }
+    {
+        self.present
+    }
+
+    pub(crate) fn identity(&self) -> Option<Identity<'a>>
+        ensures { result ≡ self.now.identity }
+    {
+        self.identity
+    }
+
+    pub(crate) fn hardware_signature(&self) -> u32
+        ensures { result ≡ self.now.hardware_signature }
+    {
+        self.hardware_signature
+    }
+
+    pub(crate) fn header(&self) -> u64
+        ensures { result ≡ self.now.header }
+    {
+        self.header
+    }
+
+    /// Whether a page frame is memory.
+    pub(crate) fn is_memory(&self, frame: u64) -> bool
+        ensures { result ≡ is_memory self.now.memory.now frame }
+    {
+        self.memory
+            .iter()
+            .any(|range| range.start <= frame && frame < range.end)
+    }
+
+    /// A block that an image names, where it may. The area's last page is `last`.
+    pub(crate) fn checked(&self, last: u32, block: u64) -> Result<u64, Cause>
+        ensures { Names (block_fault self.now last block) block result }
+    {
+        let beyond = block >= self.blocks || self.header == 0 && block > u64::from(last);
+        if block == 0 || block == self.header || beyond {
+            return Err(Cause::BadBlock { block });
+        }
+        Ok(block)
+    }
+}

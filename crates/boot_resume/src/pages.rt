@@ -1,0 +1,117 @@
+//! The maps of an image, and the pages that they name.
+ghost use Rattle.std.specs.Prelude.{◌≡◌, ◌≢◌, ℕ, ◌/◌, ◌%◌, ◌+◌, ◌^◌, ◌<◌, ◌↔◌, List, IfOk, IsTrue};
+ghost use Rattle.definitions.specs.Disk.{DiskImage};
+ghost use Rattle.definitions.specs.SwapMap.{map_link};
+ghost use Rattle.boot_resume.specs.Calls.{Turn, page_then};
+ghost use Rattle.boot_resume.specs.Memory.{Names, block_fault};
+ghost use Rattle.boot_resume.specs.OnDisk.{map_fault, mark_in};
+ghost use Rattle.boot_resume.specs.Wanted.{begun_map, HasMapBefore, IsReadAt, Wants, entry_of};
+
+use crate::call::Call;
+use crate::cause::Cause;
+use crate::machine::Machine;
+use crate::stage::{Move, Stage};
+use page_core::Page;
+use sig_header::Mark;
+
+/// How many entries a map has (MAP_PAGE_ENTRIES). The link is the word behind them.
+const ENTRIES: u64 = 511;
+
+/// The block of map `map`, from 0, which is named so.
+pub(crate) fn map_named(machine: &Machine, mark: &Mark, map: u64, block: u64) -> Result<u64, Cause>
+    ensures { Names (map_fault machine.now mark.now.last map block) block result }
+{
+    if block != 0 {
+        return machine.checked(mark.last, block);
+    }
+    Err(if map == 0 {
+        Cause::NoChain
+    } else {
+        Cause::ChainEnds { map }
+    })
+}
+
+/// The block of page `page` of the stream, by its map.
+pub(crate) fn page_named(
+    machine: &Machine,
+    mark: &Mark,
+    page: u64,
+    map: &Page,
+) -> Result<u64, Cause>
+    ensures { Names (block_fault machine.now mark.now.last (entry_of map.now page)) (entry_of map.now page) result }
+{
+    machine.checked(mark.last, map.word((page % ENTRIES) as usize))
+}
+
+/// Which map names the page of the stream, from 0.
+pub(crate) fn map_of(page: u64) -> u64
+    ensures { result ≡ page / 511 }
+{
+    page / ENTRIES
+}
+
+/// The block of the map that begins with the page of the stream, where `map` is the map of the page before it.
+fn begun_map(mark: &Mark, page: u64, map: &Page) -> u64
+    ensures { result ≡ begun_map mark.now page map.now }
+{
+    if page == 0 {
+        mark.first
+    } else {
+        map.word(ENTRIES as usize)
+    }
+}
+
+/// The block of the map of the page behind page `page`, whose map is `map`, in block `at`.
+pub(crate) fn map_behind(page: u64, map: &Page, at: u64) -> u64
+    requires { page < 2 ^ 63 }
+    ensures begins { (page + 1) % 511 ≡ 0 → result ≡ map_link map.now }
+    ensures goes_on { ((page + 1) % 511 ≢ 0) → result ≡ at }
+{
+    if begins_map(page + 1) {
+        map.word(ENTRIES as usize)
+    } else {
+        at
+    }
+}
+
+/// Whether a map is read before the page of the stream.
+fn begins_map(page: u64) -> bool
+    ensures { IsTrue result ↔ (page % 511 ≡ 0) }
+{
+    page % ENTRIES == 0
+}
+
+/// What is read next for page `page` of the stream, where `map` is the map of the page before it.
+pub(crate) fn want(
+    machine: &Machine,
+    mark: &Mark,
+    page: u64,
+    map: &Page,
+    stages: (Stage, Stage),
+) -> Result<Move, Cause>
+    ensures wants { (v : DiskImage) (rest : List Turn) → mark.now ≡ mark_in machine.now v →
+        HasMapBefore machine.now v map.now page →
+        Wants machine.now v map.now page stages rest (page_then machine.now v page rest) result }
+    ensures reads { IfOk result (IsReadAt stages) }
+{
+    if !begins_map(page) {
+        let block = page_named(machine, mark, page, map)?;
+        return Ok(Move {
+            stage: stages.1,
+            call: Call::Read { block },
+        });
+    }
+    let named = begun_map(mark, page, map);
+    let block = map_named(machine, mark, map_of(page), named)?;
+    Ok(Move {
+        stage: stages.0,
+        call: Call::Read { block },
+    })
+}
+
+/// The page of the stream behind this one.
+pub(crate) fn following(page: u64) -> u64
+    ensures { page < 2 ^ 63 → result ≡ page + 1 }
+{
+    if page < u64::MAX { page + 1 } else { page }
+}
