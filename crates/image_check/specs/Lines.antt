@@ -4,6 +4,9 @@ use Rattle.byteorder.specs.Endian.{big_bytes}
 use Rattle.plain_machine.specs.Texts.{hex_text}
 use Rattle.sig_header.specs.declared.area.AreaFault.{AreaFault}
 use Rattle.sig_header.specs.declared.area.AreaFault.TheVariants as area
+use Rattle.lzo.specs.declared.fault.Kind.{Kind}
+use Rattle.lzo.specs.declared.fault.Kind.TheVariants as kind
+use Rattle.lzo.specs.declared.fault.LzoFault.{LzoFault}
 use Rattle.image_walk.specs.declared.visit.BlockFault.{BlockFault}
 use Rattle.image_walk.specs.declared.visit.BlockFault.TheVariants as block
 use Rattle.image_check.specs.declared.finding.Finding.{Finding}
@@ -38,6 +41,32 @@ place_text p = codes "map " ++ decimal p.map ++ codes " block " ++ decimal p.at 
 abbrev pub word_text : (page word : ℕ) → List ℕ
 word_text page word = named (codes "numbers page ") page (codes " word ") ++ named [] word (codes ": ")
 
+-- a unit of a compressed image
+abbrev pub unit_text : ℕ → List ℕ
+unit_text unit = named (codes "unit ") unit (codes " ")
+
+-- what is wrong with a stream
+abbrev pub kind_text : Kind → List ℕ
+kind_text kind.Versioned = codes "a stream of another version"
+kind_text kind.InputTooShort = codes "the input is too short"
+kind_text kind.OutputTooLong = codes "the output is too long"
+kind_text kind.BeforeBegin = codes "a match before the begin"
+kind_text kind.BadEnd = codes "a bad end marker"
+kind_text kind.BehindEnd = codes "bytes after the end"
+
+abbrev pub stream_text : ℕ → LzoFault → List ℕ
+stream_text unit why = named (codes "unit ") unit (codes " byte ") ++ named [] why.at (codes ": ") ++ kind_text why.kind
+
+abbrev pub size_text : (unit bytes wanted : ℕ) → List ℕ
+size_text unit bytes wanted =
+    named (codes "unit ") unit (codes ": ") ++ named [] bytes (codes " bytes, but ")
+    ++ named [] wanted (codes " are wanted")
+
+abbrev pub checksum_text : (header units : ℕ) → List ℕ
+checksum_text header units =
+    codes "checksum 0x" ++ hex_text (big_bytes 4 header)
+    ++ (codes ", but the units have 0x" ++ hex_text (big_bytes 4 units))
+
 abbrev pub finding_text : Finding → List ℕ
 finding_text (finding.HeaderUnread b) = named (codes "header block ") b (codes ": can't be read")
 finding_text finding.OriginalSignature = codes "header: the original signature is no swap area's"
@@ -66,6 +95,11 @@ finding_text (finding.Order page word number before) =
 finding_text (finding.End page word found) = word_text page word ++ named [] found (codes " after the last number")
 finding_text (finding.DataPages counted pages) =
     named (codes "number pages: data pages ") counted (codes ", but pages ") ++ decimal pages
+finding_text (finding.UnitLength unit place length) =
+    unit_text unit ++ place_text place ++ named (codes ": length ") length []
+finding_text (finding.UnitStream unit why) = stream_text unit why
+finding_text (finding.UnitSize unit bytes wanted) = size_text unit bytes wanted
+finding_text (finding.Checksum header units) = checksum_text header units
 
 -- the line of a finding, and the lines of findings, one after another
 abbrev pub line_of : Finding → List ℕ

@@ -1,4 +1,5 @@
 use image_walk::BlockFault;
+use lzo::LzoFault;
 use sig_header::AreaFault;
 
 /// What an info page says of an image's size.
@@ -98,5 +99,27 @@ pub enum Finding {
     DataPages {
         counted: u64,
         pages: u64,
+    },
+    /// The length that a unit of a compressed image begins with, in the page that this entry names. Units count from 1.
+    UnitLength {
+        unit: u32,
+        place: Place,
+        length: u64,
+    },
+    /// The first fault of a unit's stream, with its offset in the compressed bytes.
+    UnitStream {
+        unit: u32,
+        why: LzoFault,
+    },
+    /// A unit expands to fewer bytes than its pages have.
+    UnitSize {
+        unit: u32,
+        bytes: u64,
+        wanted: u64,
+    },
+    /// The checksum in the header (`crc32`), and that of the units.
+    Checksum {
+        header: u32,
+        units: u32,
     },
 }

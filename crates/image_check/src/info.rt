@@ -31,7 +31,7 @@ const MAGIC: u64 = 0x2345_6789_abcd_ef02;
 const MAGIC_WORD: usize = 3;
 
 /// What an info page says of the image's size.
-pub(crate) fn counts_in(page: &Page) -> Counts
+pub fn counts_in(page: &Page) -> Counts
     ensures { result ≡ counts_in page.now }
 {
     Counts {
@@ -41,7 +41,7 @@ pub(crate) fn counts_in(page: &Page) -> Counts
 }
 
 /// Tells what is wrong with an info page.
-pub(crate) fn check_info<R: Report>(report: &mut R, format: Format, page: &Page)
+pub fn check_info<R: Report>(report: &mut R, format: Format, page: &Page)
     ensures { Tells (info_findings format page.now) (R.told report.old) (R.told report.new) }
 {
     check_identity(report, page);

@@ -3,11 +3,13 @@ ghost use Rattle.std.specs.Prelude.{◌≡◌, ◌+◌, ◌≤◌, ◌++◌, cod
 ghost use Rattle.byteorder.specs.Endian.{big_bytes};
 ghost use Rattle.plain_machine.specs.Texts.{hex_text};
 ghost use Rattle.image_check.specs.Lines.{area_text, block_text, finding_text, line_of, named, place_text, word_text};
+ghost use Rattle.image_check.specs.Lines.{checksum_text, kind_text, size_text, stream_text, unit_text};
 
 use crate::{Finding, Place};
 use byte_streams::Line;
 use byteorder::{BigEndian, ByteOrder};
 use image_walk::BlockFault;
+use lzo::{Kind, LzoFault};
 use sig_header::AreaFault;
 
 /// The line of a finding.
@@ -113,6 +115,21 @@ fn put_finding(line: &mut Line, finding: &Finding)
             put_named(line, b"number pages: data pages ", counted, b", but pages ");
             line.put_number(pages);
         }
+        Finding::UnitLength {
+            unit,
+            place,
+            length,
+        } => {
+            put_unit_place(line, unit, place);
+            put_named(line, b": length ", length, b"");
+        }
+        Finding::UnitStream { unit, why } => put_stream(line, unit, why),
+        Finding::UnitSize {
+            unit,
+            bytes,
+            wanted,
+        } => put_size(line, unit, bytes, wanted),
+        Finding::Checksum { header, units } => put_checksum(line, header, units),
     }
 }
 
@@ -193,5 +210,70 @@ fn put_magic(line: &mut Line, magic: u64)
     let mut bytes = [0; 8];
     BigEndian::write_u64(&mut bytes, magic);
     line.put(b"info page: the header of an architecture, but with magic 0x");
+    line.put_hex(&bytes);
+}
+
+/// Writes the number of a unit and the place of its first page into an empty buffer.
+fn put_unit_place(line: &mut Line, unit: u32, place: Place)
+    requires { length line.old ≡ 0 }
+    ensures text { line.new ≡ unit_text unit ++ place_text place }
+    ensures len { length line.new ≤ 120 }
+{
+    put_named(line, b"unit ", u64::from(unit), b" ");
+    put_named(line, b"map ", u64::from(place.map), b" block ");
+    put_named(line, b"", place.at, b" entry ");
+    line.put_number(u64::from(place.entry));
+}
+
+/// Writes the fault of a unit's stream into an empty buffer.
+fn put_stream(line: &mut Line, unit: u32, why: LzoFault)
+    requires { length line.old ≡ 0 }
+    ensures text { line.new ≡ stream_text unit why }
+    ensures len { length line.new ≤ 120 }
+{
+    put_named(line, b"unit ", u64::from(unit), b" byte ");
+    put_named(line, b"", why.at as u64, b": ");
+    put_kind(line, why.kind);
+}
+
+fn put_kind(line: &mut Line, kind: Kind)
+    requires { length line.old ≤ 100 }
+    ensures added { line.new ≡ line.old ++ kind_text kind }
+    ensures len { length line.new ≤ length line.old + 30 }
+{
+    match kind {
+        Kind::Versioned => line.put(b"a stream of another version"),
+        Kind::InputTooShort => line.put(b"the input is too short"),
+        Kind::OutputTooLong => line.put(b"the output is too long"),
+        Kind::BeforeBegin => line.put(b"a match before the begin"),
+        Kind::BadEnd => line.put(b"a bad end marker"),
+        Kind::BehindEnd => line.put(b"bytes after the end"),
+    }
+}
+
+/// Writes how many bytes a unit has, and how many are wanted, into an empty buffer.
+fn put_size(line: &mut Line, unit: u32, bytes: u64, wanted: u64)
+    requires { length line.old ≡ 0 }
+    ensures text { line.new ≡ size_text unit bytes wanted }
+    ensures len { length line.new ≤ 120 }
+{
+    put_named(line, b"unit ", u64::from(unit), b": ");
+    put_named(line, b"", bytes, b" bytes, but ");
+    put_named(line, b"", wanted, b" are wanted");
+}
+
+/// Writes two checksums into an empty buffer, each by eight hexadecimal digits.
+fn put_checksum(line: &mut Line, header: u32, units: u32)
+    requires { length line.old ≡ 0 }
+    ensures text { line.new ≡ checksum_text header units }
+    ensures len { length line.new ≤ 120 }
+{
+    let mut bytes = [0; 4];
+    BigEndian::write_u32(&mut bytes, header);
+    line.put(b"checksum 0x");
+    line.put_hex(&bytes);
+    let mut bytes = [0; 4];
+    BigEndian::write_u32(&mut bytes, units);
+    line.put(b", but the units have 0x");
     line.put_hex(&bytes);
 }

@@ -8,9 +8,11 @@ use Rattle.byteorder.specs.Endian.{big_bytes}
 use Rattle.plain_machine.specs.Texts.{hex_digit, hex_text}
 use Rattle.sig_header.specs.declared.area.AreaFault.{AreaFault}
 use Rattle.sig_header.specs.declared.area.AreaFault.TheVariants as area
+use Rattle.lzo.specs.declared.fault.Kind.{Kind}
+use Rattle.lzo.specs.declared.fault.Kind.TheVariants as kind
 use Rattle.image_walk.specs.declared.visit.BlockFault.{BlockFault}
 use Rattle.image_walk.specs.declared.visit.BlockFault.TheVariants as block
-use Rattle.image_check.specs.Lines.{area_text, block_text, finding_text, named, place_text, word_text}
+use Rattle.image_check.specs.Lines.{area_text, block_text, finding_text, kind_text, named, place_text, unit_text, word_text}
 use Rattle.image_check.specs.Lines as told
 use Rattle.image_check.specs.declared.finding.Finding.{Finding}
 use Rattle.image_check.specs.declared.finding.Finding.TheVariants as finding
@@ -108,6 +110,14 @@ word_line page word =
     then (named (codes "numbers page ") page (codes " word ")) (named [] word (codes ": "))
     (with_number (codes "numbers page ") page (codes " word ") refl refl) (with_number [] word (codes ": ") refl refl)
 
+kind_line : (why : Kind) → is_line (kind_text why) ≡ true
+kind_line kind.Versioned = refl
+kind_line kind.InputTooShort = refl
+kind_line kind.OutputTooLong = refl
+kind_line kind.BeforeBegin = refl
+kind_line kind.BadEnd = refl
+kind_line kind.BehindEnd = refl
+
 finding_line : (f : Finding) → is_line (finding_text f) ≡ true
 finding_line (finding.HeaderUnread b) = with_number (codes "header block ") b (codes ": can't be read") refl refl
 finding_line finding.OriginalSignature = refl
@@ -146,6 +156,23 @@ finding_line (finding.End page word found) =
 finding_line (finding.DataPages counted pages) =
     then (named (codes "number pages: data pages ") counted (codes ", but pages ")) (decimal pages)
     (with_number (codes "number pages: data pages ") counted (codes ", but pages ") refl refl) (number pages)
+finding_line (finding.UnitLength unit place length) =
+    then (unit_text unit ++ place_text place) (named (codes ": length ") length [])
+    (then (unit_text unit) (place_text place) (with_number (codes "unit ") unit (codes " ") refl refl) (place_line place))
+    (with_number (codes ": length ") length [] refl refl)
+finding_line (finding.UnitStream unit why) =
+    then (named (codes "unit ") unit (codes " byte ") ++ named [] why.at (codes ": ")) (kind_text why.kind)
+    (then (named (codes "unit ") unit (codes " byte ")) (named [] why.at (codes ": "))
+    (with_number (codes "unit ") unit (codes " byte ") refl refl) (with_number [] why.at (codes ": ") refl refl)) (kind_line why.kind)
+finding_line (finding.UnitSize unit bytes wanted) =
+    then (named (codes "unit ") unit (codes ": ") ++ named [] bytes (codes " bytes, but ")) (named [] wanted (codes " are wanted"))
+    (then (named (codes "unit ") unit (codes ": ")) (named [] bytes (codes " bytes, but "))
+    (with_number (codes "unit ") unit (codes ": ") refl refl) (with_number [] bytes (codes " bytes, but ") refl refl))
+    (with_number [] wanted (codes " are wanted") refl refl)
+finding_line (finding.Checksum header units) =
+    then (codes "checksum 0x" ++ hex_text (big_bytes 4 header)) (codes ", but the units have 0x" ++ hex_text (big_bytes 4 units))
+    (then (codes "checksum 0x") (hex_text (big_bytes 4 header)) refl (hex (big_bytes 4 header)))
+    (then (codes ", but the units have 0x") (hex_text (big_bytes 4 units)) refl (hex (big_bytes 4 units)))
 
 are_texts : (found : List Finding) → are_lines (bytes_of found) ≡ true
 are_texts [] = refl

@@ -4,11 +4,12 @@ ghost use Rattle.image_walk.specs.Names.{Name};
 ghost use Rattle.image_walk.specs.Walking.{IsPlaced, name_of};
 ghost use Rattle.image_check.specs.Header.{header_findings};
 ghost use Rattle.image_check.specs.Image.{name_findings};
+ghost use Rattle.image_check.specs.Info.{info_findings};
 ghost use Rattle.image_check.specs.Knows.{Knows};
 ghost use Rattle.image_pages.specs.Accepted.{Accepts};
 
 use crate::tally::Tally;
-use image_check::{Progress, Report, check_header, check_name};
+use image_check::{Progress, Report, check_header, check_info, check_name};
 use image_walk::Visit;
 use page_core::{Format, Page};
 
