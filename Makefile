@@ -79,6 +79,7 @@ check: built
 	python3 tools/check_examples.py
 	sh examples/story.sh | diff examples/story.out -
 	python3 tools/check_promises.py
+	python3 tools/reading.py --check
 	python3 tools/check_replies.py
 	python3 tools/defended.py --check
 	sh tools/check_completions.sh

@@ -1,7 +1,9 @@
 #!/usr/bin/env python3
 """Checks docs/PROOFS.md: each file and edit that a table names is there, and each name in a row stands in one of the row's files.
 
-A file without a folder of its own is one of the crate that the row has named before it. Says what it misses, and ends with status 1.
+A file without a folder of its own is one of the crate that the row has named before it. A name stands there where it is
+declared: a function, a type, a variant, a trait, a clause or a law of a source, or a definition, a field, a constructor or a lemma of
+a specification or proof. Says what it misses, and ends with status 1.
 """
 
 import pathlib
@@ -41,6 +43,17 @@ def files_of(cell):
     return found, missing
 
 
+def declares(text, name):
+    """Whether a line of the text declares the name: in a source or in a specification."""
+    word = re.escape(name) + r"(?![\w-])"
+    source = rf"\b(?:fn|struct|enum|trait|type|const|static|mod|ensures|requires|ghost)\s+{word}"
+    variant = rf"^\s+{word}\s*(?:,|\(|\{{|$)"
+    bound = rf"\bimpl\b[^{{]*\b{word}"
+    definition = rf"^\s*(?:pub\s+)?(?:(?:abbrev|unfoldable|record|data)\s+)?(?:pub\s+)?{word}[^=\n]*:(?=\s|$)"
+    parameters = rf"^\s*(?:pub\s+)?(?:record|data)\s+{word}"
+    return any(re.search(it, text, re.MULTILINE) for it in (source, variant, bound, definition, parameters))
+
+
 def text_of(path):
     if path.is_dir():
         return "\n".join(p.read_text() for p in sorted(path.rglob("*")) if p.suffix in (".rt", ".antt") and "out" not in p.parts)
@@ -64,7 +77,7 @@ def main():
         text = "\n".join(text_of(p) for p in found)
         for name in NAME.findall(clause + " " + where):
             checked += 1
-            if not re.search(r"(?<![\w-])" + re.escape(name) + r"(?![\w-])", text):
+            if not declares(text, name):
                 print(f"docs/PROOFS.md:{number}: no {name} in {', '.join(str(p.relative_to(TOP)) for p in found) or 'no file'}")
                 wrong += 1
     print(f"docs/PROOFS.md: {checked} names checked, {wrong} missing")

@@ -22,8 +22,9 @@ use Rattle.protocol_laws.proofs.Unwritten.{block_same}
 use Rattle.world_core.specs.Row.{SimulatesWhereTold, Restores}
 use Rattle.world_core.specs.StandsFor.{StandsFor, IsNew, hardware_of}
 use Rattle.world_core.specs.World.{World}
-use Rattle.command_core.specs.Hibernation.{held_at_first, machine_of_dump, is_booted, IsUp, machine_to_save}
-use Rattle.command_core.specs.Turns.{Point, IsTurn, EndsInFault, goes_on}
+use Rattle.command_core.specs.Answers.{EndsInFault, goes_on, held_at_first, is_booted, machine_of_dump, machine_to_save}
+use Rattle.command_core.specs.Parts.{IsUp}
+use Rattle.command_core.specs.Turns.{Point, IsTurn}
 use Rattle.command_core.proofs.Booting.{boot_begins, boot_syncs, boot_ends, shrinks}
 use Rattle.command_core.proofs.Leaving.{leaves_then}
 use Rattle.command_core.proofs.Points.{Turned, turned, reads_same}

@@ -1,6 +1,7 @@
 pub mod Leaving
 pub mod Traces
 pub mod Points
+pub mod Runs
 pub mod Begun
 pub mod Booting
 pub mod Hibernating

@@ -24,9 +24,9 @@ use Rattle.protocol_laws.proofs.WrittenWhileHeld.{header_of_load}
 use Rattle.protocol_laws.specs.Rows.{LeavesBlock, blocks_written, IsNewFault}
 use Rattle.world_core.specs.StandsFor.{StandsFor, hardware_of}
 use Rattle.world_core.specs.World.{World}
-use Rattle.command_core.specs.Hibernation.{held_at_first}
+use Rattle.command_core.specs.Answers.{EndsInFault, goes_on, held_at_first}
 use Rattle.command_core.specs.Resumption.{IsLast, LeavesMark, HasResumed}
-use Rattle.command_core.specs.Turns.{Point, IsTurn, EndsInFault, AreSteps, HasGone, goes_on}
+use Rattle.command_core.specs.Turns.{Point, IsTurn, AreSteps, HasGone}
 use Rattle.command_core.specs.declared.ending.Ended.{Ended}
 use Rattle.command_core.proofs.Begun.{IsUntouched, untouched_then, reads_first}
 use Rattle.command_core.proofs.Booting.{one_outcome}
@@ -254,6 +254,7 @@ resumes h m check v blocks world start ended now zones hw whole unfailed is at g
       told = made.told;
       answer = exactly (IsLast (trace_of h m check v) ended.reply) ended.reply ended.failed (answer_of h m check v ended.reply end.state ended.failed here)
           (λ failed. subst EndsInFault made.reply_is (shows_fault h m check v blocks gone.steps start end whole unfailed is at made.are (made.failed_is ∙ failed)));
+      over = over;
       restored = λ n resumed. sym made.frames ∙ restored_last h m check v blocks gone.steps n start end whole is at made.are (made.reply_is ∙ resumed);
       gone = gone_at h m check v world end.content ended.reply end.state ended.failed hw made.stands here;
       unwritten = after.unwritten;

@@ -16,11 +16,12 @@ use Rattle.plain_machine.specs.declared.reply.Reply.{Reply}
 use Rattle.plain_machine.specs.declared.reply.Reply.TheVariants as reply
 use Rattle.protocol_laws.specs.Rows.{LeavesBlock, IsNewFault}
 use Rattle.protocol_laws.proofs.WrittenWhileHeld.{at_written}
-use Rattle.resume_core.specs.Row.{restored_by}
+use Rattle.resume_core.specs.Restored.{restored_by}
 use Rattle.world_core.specs.Row.{SimulatesWhereTold, Restores, IsCalled}
 use Rattle.world_core.specs.StandsFor.{StandsFor, hardware_of, shown}
 use Rattle.world_core.specs.World.{World}
-use Rattle.command_core.specs.Turns.{Point, IsTurn, AreSteps, HaveMade, Elapsed, goes_on}
+use Rattle.command_core.specs.Turns.{Point, IsTurn, AreSteps, HaveMade, Elapsed}
+use Rattle.command_core.specs.Answers.{goes_on}
 
 -- Where no block is written, the one image stays.
 
@@ -148,10 +149,6 @@ elapsed_more h start old new n r r' failed failed' blocks before now m0 m m' fir
     }
 
 -- Counts.
-
-pub called_within : (e : Event) (r : Reply) (start before now n : ℕ) → before ≤ start + n → IsCalled e r before now → now ≤ start + (n + 1)
-called_within e r start before now n so_far (inl same) = omega arith
-called_within e r start before now n so_far (inr called) = let is = called.2 in omega (arith, min-le_left (before + 1) disk.last_count)
 
 pub risen_then : (earlier fault : Type 0) (first before now : ℕ) → first ≤ before → before ≤ now → (earlier → disk.HasRisen first before) → (fault → disk.HasRisen before now) → earlier ⊎ fault → disk.HasRisen first now
 risen_then earlier fault first before now so_far later risen rises (inl is) = elim (risen is) [

@@ -30,8 +30,10 @@ use Rattle.protocol_laws.proofs.Unwritten.{step_in_laid}
 use Rattle.protocol_laws.proofs.WrittenWhileHeld.{header_alone}
 use Rattle.world_core.specs.StandsFor.{StandsFor, hardware_of}
 use Rattle.world_core.specs.World.{World}
-use Rattle.command_core.specs.Hibernation.{image_to_save, hibernation_answer, HasHibernated, HasFailedEarly}
-use Rattle.command_core.specs.Turns.{Point, EndsInFault, AreSteps, HasGone, goes_on}
+use Rattle.command_core.specs.Hibernation.{HasHibernated}
+use Rattle.command_core.specs.Answers.{EndsInFault, goes_on, hibernation_answer, image_to_save}
+use Rattle.command_core.specs.Parts.{HasFailedEarly}
+use Rattle.command_core.specs.Turns.{Point, AreSteps, HasGone}
 use Rattle.command_core.specs.declared.ending.Ended.{Ended}
 use Rattle.command_core.proofs.Begun.{IsUntouched}
 use Rattle.command_core.proofs.Hibernating.{IsAt, after_steps, few_steps, undoing_step}
@@ -263,6 +265,7 @@ saves h a f v world start ended now zones hw unfailed is none at gone =
       told = made.told;
       answer = exactly (ended.reply ≡ hibernation_answer h a f) ended.reply ended.failed (answer_at h a f v ended.reply end.state ended.failed none here)
           (λ failed. fault_at_end ended.reply over (subst ShowsFault made.reply_is (shows_fault h i a gone.steps start end unfailed at made.are (made.failed_is ∙ failed))));
+      over = over;
       image = λ n hibernated. image_at h world end.content i ended.reply end.state ended.failed n hw made.stands here hibernated;
       unwritten = (all_after h i a v gone.steps start end is at made.are).unwritten;
       refused = λ r refused b. absurd (none-some r (sym none ∙ refused));
@@ -281,6 +284,7 @@ refused h a f v world q start ended now unfailed is says same gone =
       content = made.end.content;
       told = made.told;
       answer = inl (answer ∙ sym (ap (λ (o : Option Reply). unwrap_or o (reply.Hibernated (n_of (image_to_save h a f)))) says), sym made.failed_is ∙ ap (λ (p : Point). p.failed) end ∙ unfailed);
+      over = ap goes_on answer ∙ refuses_over q refuses;
       image = λ n hibernated. absurd (subst Refuses (sym answer ∙ hibernated) refuses);
       unwritten = λ b not. untouched.unwritten b;
       refused = λ r refused b. untouched.unwritten b;
@@ -292,6 +296,7 @@ failed_early h a f v ended now early = record {
   content = early.content;
   told = early.told;
   answer = inr (early.fault, early.failed);
+  over = faults_stop ended.reply early.fault;
   image = λ n hibernated. absurd (fault_no_end ended.reply n early.fault hibernated);
   unwritten = λ b not. early.unwritten b;
   refused = λ r refused b. early.unwritten b;

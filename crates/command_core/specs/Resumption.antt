@@ -11,7 +11,7 @@ use Rattle.plain_machine.specs.declared.reply.Left.TheVariants.{Gone}
 use Rattle.plain_machine.specs.declared.reply.Reply.{Reply}
 use Rattle.plain_machine.specs.declared.reply.Reply.TheVariants as reply
 use Rattle.protocol_laws.specs.Rows.{LeavesBlock}
-use Rattle.command_core.specs.Turns.{EndsInFault}
+use Rattle.command_core.specs.Answers.{EndsInFault, goes_on}
 use Rattle.command_core.specs.declared.ending.Ended.{Ended}
 
 -- this is the last of the replies
@@ -34,6 +34,7 @@ pub record HasResumed (h : Hardware) (m : Memory) (check : IdentCheck) (v : disk
   pub content : disk.Content
   pub told : now ≡ Some content
   pub answer : (IsLast (trace h m v Table check) ended.reply × (ended.failed ≡ false)) ⊎ (EndsInFault ended.reply × (ended.failed ≡ true))
+  pub over : goes_on ended.reply ≡ false
   pub restored : (n : ℕ) → ended.reply ≡ reply.Resumed n → frames ≡ restored_in h m v Table
   pub gone : LeavesMark ended.reply ⊎ EachImage content (λ w. Marked h w → ⊥)
   pub unwritten : (b : ℕ) → b ≢ block_of_slot h 0 → LeavesBlock b (disk.settled v) content

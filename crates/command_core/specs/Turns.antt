@@ -12,24 +12,11 @@ use Rattle.plain_machine.specs.declared.event.Event.TheVariants as event
 use Rattle.plain_machine.specs.declared.reply.Reply.{Reply}
 use Rattle.plain_machine.specs.declared.reply.Reply.TheVariants as reply
 use Rattle.protocol_laws.specs.Rows.{IsSameArea, LeavesBlock, LeavesHeader, blocks_written, IsNewFault}
-use Rattle.resume_core.specs.Row.{restored_by}
+use Rattle.resume_core.specs.Restored.{restored_by}
 use Rattle.world_core.specs.StandsFor.{StandsFor}
 use Rattle.world_core.specs.World.{World}
+use Rattle.command_core.specs.Answers.{goes_on}
 use Rattle.command_core.specs.declared.ending.Ended.{Ended}
-
--- whether an operation has a step left after this reply
-abbrev pub goes_on : Reply → Bool
-goes_on (reply.More k of) = true
-goes_on (reply.Undo call k) = true
-goes_on (reply.Loading k) = true
-goes_on _ = false
-
--- a reply of a call of the disk that failed, at its event or before an undo
-abbrev pub EndsInFault : Reply → Type 0
-EndsInFault (reply.ReadFault left) = ⊤
-EndsInFault (reply.WriteFault left) = ⊤
-EndsInFault (reply.SyncFault left) = ⊤
-EndsInFault _ = ⊥
 
 -- After an event: the reply, whether a call of the disk has failed so far, the state of the plain machine, what the disk holds, and
 -- the page frames.

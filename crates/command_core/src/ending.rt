@@ -3,7 +3,9 @@ ghost use Rattle.definitions.specs.Disk.{Content, HasRisen};
 ghost use Rattle.plain_machine.specs.State.{State};
 ghost use Rattle.protocol_laws.specs.Rows.{IsNewFault};
 ghost use Rattle.world_core.specs.StandsFor.{IsOff, StandsFor, blocks_of, hardware_of};
-ghost use Rattle.command_core.specs.Turns.{goes_on, HasGone, Elapsed};
+ghost use Rattle.command_core.specs.Answers.{goes_on};
+ghost use Rattle.command_core.specs.Parts.{Finishes};
+ghost use Rattle.command_core.specs.Turns.{HasGone, Elapsed};
 
 use plain_machine::{Actor, Event, Left, Reply};
 use sector_disk::Disk;
@@ -42,10 +44,10 @@ pub(crate) fn finish<D: Disk>(world: &mut World, disk: &mut D, begun: Reply) -> 
     ensures inside { IsTrue (D.tells_moments disk.old) → (c : Content) (a : State) → D.content disk.old ≡ Some c → StandsFor world.old c a →
         Elapsed (hardware_of world.old) (record { reply = begun; failed = false; state = a; content = c; frames = world.old.frames }) (D.moment disk.old) (D.moment disk.new)
         (D.left_since disk.old) (D.left_since disk.new) }
+    ensures ran { Finishes D.Disk world.old world.new begun result.reply disk.old disk.new }
     ensures hardware { hardware_of world.new ≡ hardware_of world.old }
     ensures cause { IsTrue result.failed → HasRisen (D.faults disk.old) (D.faults disk.new) }
     ensures faults { D.faults disk.old ≤ D.faults disk.new }
-    ensures calls { D.calls disk.new ≤ D.calls disk.old + 66000 }
     ensures orders { D.orders disk.new ≡ D.orders disk.old }
 {
     let mut reply = begun;

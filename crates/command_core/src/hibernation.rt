@@ -3,9 +3,12 @@ ghost use Rattle.definitions.specs.Disk.{DiskImage, HasRisen, settled};
 ghost use Rattle.plain_machine.specs.Chain.{Marked};
 ghost use Rattle.plain_machine.specs.Machine.{IsHardware};
 ghost use Rattle.plain_machine.specs.Premises.{HasOriginal};
-ghost use Rattle.world_core.specs.StandsFor.{IsNew, IsOff, blocks_of, hardware_of};
+ghost use Rattle.world_core.specs.StandsFor.{IsNew, IsOff, blocks_of, hardware_of, shown};
+ghost use Rattle.command_core.specs.Runs.{IsHibernation, RanAs};
+ghost use Rattle.command_core.specs.Answers.{image_to_save, is_booted, machine_of_dump, machine_to_save};
+ghost use Rattle.command_core.specs.Parts.{Boots, IsUpOrFails, Starts};
 ghost use Rattle.command_core.specs.Turns.{IsStill};
-ghost use Rattle.command_core.specs.Hibernation.{HasHibernated, IsUnmarkedOrHolds, IsUpOrFails, image_to_save, is_booted, machine_of_dump, machine_to_save};
+ghost use Rattle.command_core.specs.Hibernation.{HasHibernated, IsUnmarkedOrHolds};
 
 use crate::ending::{Ended, finish, goes_on};
 use page_core::Format;
@@ -27,10 +30,10 @@ pub fn hibernate<D: Disk>(
         HasHibernated (hardware_of world.old) (machine_to_save (hardware_of world.old) world.old.frames size v) format v result (D.content disk.new) }
     ensures inside { IsTrue (D.tells_moments disk.old) → (v : DiskImage) → D.content disk.old ≡ Some (settled v) → (Marked (hardware_of world.old) v → ⊥) → (w : DiskImage) → D.left_since disk.new (D.moment disk.old) w →
         IsUnmarkedOrHolds (hardware_of world.old) (image_to_save (hardware_of world.old) (machine_to_save (hardware_of world.old) world.old.frames size v) format) w }
+    ensures ran { RanAs (IsHibernation format size result.reply) D.Disk (hardware_of world.old) world.old.frames (shown world.new) disk.old disk.new }
     ensures hardware { hardware_of world.new ≡ hardware_of world.old }
     ensures cause { IsTrue result.failed → HasRisen (D.faults disk.old) (D.faults disk.new) }
     ensures faults { D.faults disk.old ≤ D.faults disk.new }
-    ensures calls { D.calls disk.new ≤ D.calls disk.old + 66002 }
     ensures orders { D.orders disk.new ≡ D.orders disk.old }
 {
     match start(world, disk, size) {
@@ -48,11 +51,11 @@ fn start<D: Disk>(world: &mut World, disk: &mut D, size: Option<u64>) -> Result<
         IsUpOrFails (hardware_of world.old) (machine_to_save (hardware_of world.old) world.old.frames size v) v world.new result (D.content disk.new) }
     ensures still { IsTrue (D.tells_moments disk.old) → (v : DiskImage) → D.content disk.old ≡ Some (settled v) → (Marked (hardware_of world.old) v → HasOriginal (hardware_of world.old) v) →
         IsStill (D.moment disk.old) (D.moment disk.new) (D.left_since disk.new) v }
+    ensures ran { Starts D.Disk size world.old world.new result disk.old disk.new }
     ensures telling { D.tells_moments disk.new ≡ D.tells_moments disk.old }
     ensures hardware { hardware_of world.new ≡ hardware_of world.old }
     ensures cause { IfErr result (λ ended. IsTrue ended.failed → HasRisen (D.faults disk.old) (D.faults disk.new)) }
     ensures faults { D.faults disk.old ≤ D.faults disk.new }
-    ensures calls { D.calls disk.new ≤ D.calls disk.old + 2 }
     ensures orders { D.orders disk.new ≡ D.orders disk.old }
     ensures blocks { IsOff world.new ⊎ (D.block_count disk.new ≡ blocks_of world.new) }
 {
@@ -73,11 +76,11 @@ fn boot<D: Disk>(world: &mut World, disk: &mut D) -> Result<(), Ended>
         IsUpOrFails (hardware_of world.old) (machine_of_dump (hardware_of world.old) world.old.frames v) v world.new result (D.content disk.new) }
     ensures still { IsTrue (D.tells_moments disk.old) → (v : DiskImage) → D.content disk.old ≡ Some (settled v) → (Marked (hardware_of world.old) v → HasOriginal (hardware_of world.old) v) →
         IsStill (D.moment disk.old) (D.moment disk.new) (D.left_since disk.new) v }
+    ensures ran { Boots D.Disk world.old world.new result disk.old disk.new }
     ensures telling { D.tells_moments disk.new ≡ D.tells_moments disk.old }
     ensures hardware { hardware_of world.new ≡ hardware_of world.old }
     ensures cause { IfErr result (λ ended. IsTrue ended.failed → HasRisen (D.faults disk.old) (D.faults disk.new)) }
     ensures faults { D.faults disk.old ≤ D.faults disk.new }
-    ensures calls { D.calls disk.new ≤ D.calls disk.old + 2 }
     ensures orders { D.orders disk.new ≡ D.orders disk.old }
     ensures blocks { IsOff world.new ⊎ (D.block_count disk.new ≡ blocks_of world.new) }
 {

@@ -4,8 +4,9 @@ ghost use Rattle.plain_machine.specs.Chain.{Marked};
 ghost use Rattle.plain_machine.specs.Machine.{IsHardware};
 ghost use Rattle.plain_machine.specs.Premises.{HasOriginal};
 ghost use Rattle.plain_machine.specs.Stands.{IsTakenBack};
-ghost use Rattle.world_core.specs.StandsFor.{IsNew, hardware_of};
+ghost use Rattle.world_core.specs.StandsFor.{IsNew, hardware_of, shown};
 ghost use Rattle.command_core.specs.Resumption.{HasResumed};
+ghost use Rattle.command_core.specs.Runs.{IsResumption, RanAs};
 
 use crate::ending::{Ended, finish};
 use plain_machine::{Event, IdentCheck, Loader};
@@ -21,10 +22,10 @@ pub fn resume<D: Disk>(world: &mut World, disk: &mut D, check: IdentCheck) -> En
         HasResumed (hardware_of world.old) world.old.frames check v world.new.frames result (D.content disk.new) }
     ensures inside { IsTrue (D.tells_moments disk.old) → (v : DiskImage) → D.content disk.old ≡ Some (settled v) → (Marked (hardware_of world.old) v → HasOriginal (hardware_of world.old) v) →
         (w : DiskImage) → D.left_since disk.new (D.moment disk.old) w → IsTakenBack (hardware_of world.old) v w }
+    ensures ran { RanAs (IsResumption check result.reply) D.Disk (hardware_of world.old) world.old.frames (shown world.new) disk.old disk.new }
     ensures hardware { hardware_of world.new ≡ hardware_of world.old }
     ensures cause { IsTrue result.failed → HasRisen (D.faults disk.old) (D.faults disk.new) }
     ensures faults { D.faults disk.old ≤ D.faults disk.new }
-    ensures calls { D.calls disk.new ≤ D.calls disk.old + 66000 }
     ensures orders { D.orders disk.new ≡ D.orders disk.old }
 {
     let begun = world.event(disk, Event::Resume(Loader::Table, check));

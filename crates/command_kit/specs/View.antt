@@ -26,13 +26,14 @@ pub record SinkView : Type 0 where
 abbrev pub sink_view : {K : Type 0} → sink.Ghosts K → K → SinkView
 sink_view told k = record { taken = told.taken k; flushed = told.flushed k; faults = told.faults k }
 
--- the bytes that a source has left, a disk, and two sinks
+-- the bytes that a source has left, and how often it has failed; a disk, and two sinks
 pub record View : Type 0 where
   pub left : Option (List ℕ)
+  pub read_faults : ℕ
   pub disk : DiskView
   pub out : SinkView
   pub note : SinkView
 
 abbrev pub view : {I O N D : Type 0} → source.Ghosts I → sink.Ghosts O → sink.Ghosts N → disk.Ghosts D → I → O → N → D → View
 view source_told out_told note_told disk_told input out note disk =
-    record { left = source_told.remaining input; disk = disk_view disk_told disk; out = sink_view out_told out; note = sink_view note_told note }
+    record { left = source_told.remaining input; read_faults = source_told.faults input; disk = disk_view disk_told disk; out = sink_view out_told out; note = sink_view note_told note }

@@ -7,7 +7,7 @@ use Rattle.plain_machine.specs.declared.event.IdentCheck.{IdentCheck}
 use Rattle.plain_machine.specs.declared.event.Loader.TheVariants.{Table}
 use Rattle.plain_machine.specs.declared.reply.Reply.TheVariants as reply
 use Rattle.command_core.specs.Resumption.{IsLast}
-use Rattle.command_core.specs.Turns.{EndsInFault}
+use Rattle.command_core.specs.Answers.{EndsInFault}
 use Rattle.command_core.specs.declared.ending.Ended.{Ended}
 
 -- The answer over a disk that reads as v: the last reply of a resume's trace, unless a call of the disk has failed. Where that is Resumed,

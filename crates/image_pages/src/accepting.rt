@@ -14,7 +14,7 @@ use image_walk::Visit;
 use page_core::{Format, Page};
 
 /// Whether nothing is wrong with a header block that has this mark's flags. What is wrong is told.
-pub(crate) fn accept_header<R: Report>(
+pub fn accept_header<R: Report>(
     report: &mut R,
     blocks: u32,
     header: u32,
@@ -30,6 +30,19 @@ pub(crate) fn accept_header<R: Report>(
         return true;
     }
     check_header(report, blocks, header, flags, page);
+    false
+}
+
+/// Whether nothing is wrong with an info page. What is wrong is told.
+pub fn accept_info<R: Report>(report: &mut R, format: Format, page: &Page) -> bool
+    ensures { Accepts (info_findings format page.now) (R.told report.old) (R.told report.new) result }
+{
+    let mut tally = Tally { count: 0 };
+    check_info(&mut tally, format, page);
+    if tally.count == 0 {
+        return true;
+    }
+    check_info(report, format, page);
     false
 }
 

@@ -5,4 +5,5 @@ mod accepting;
 mod pages;
 mod tally;
 
+pub use accepting::{accept_header, accept_info};
 pub use pages::{Next, Opened, Pages};

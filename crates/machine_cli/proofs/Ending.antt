@@ -8,8 +8,7 @@ use Rattle.plain_machine.specs.State.{State, Running, on}
 use Rattle.plain_machine.specs.declared.reply.Reply.{Reply}
 use Rattle.script.specs.Grammar.{ScriptValue}
 use Rattle.world_core.specs.declared.world.Core.TheVariants.{Running as Runs}
-use Rattle.world_core.specs.StandsFor.{StandsFor, IsNew, IsOff, hardware_of}
-use Rattle.world_core.specs.StandsFor.{blocks_of as boot_blocks}
+use Rattle.world_core.specs.StandsFor.{StandsFor, IsNew, hardware_of}
 use Rattle.world_core.specs.World.{World}
 use Rattle.world_core.proofs.Cases.{activity_by, activity_for, at_run}
 use Rattle.world_core.proofs.TaskRows.{on_parts}
@@ -20,7 +19,7 @@ use Rattle.swsusp_cli.specs.declared.setting_up.Unready.{Unready}
 use Rattle.swsusp_cli.specs.declared.setting_up.Unready.TheVariants.{Small, Unformatted as NotFormatted}
 use Rattle.command_kit.specs.declared.status.Status.{Status}
 use Rattle.swsusp_cli.specs.Playing.{HasPlayed}
-use Rattle.swsusp_cli.proofs.Replays.{not_formatted, replies_of, small_disk, world_at_end}
+use Rattle.swsusp_cli.proofs.Replays.{not_formatted, replies_of, small_disk, stands_at_end}
 use Rattle.machine_cli.specs.Made.{HasPlayedTo, IsMade, RunsNot, RunsWith, too_small, unformatted}
 
 -- a world that runs stands for a machine that runs, with the memory that its page frames show
@@ -36,12 +35,12 @@ runs_not w c end idle stands a e = idle c end stands (ap activity_in e)
 
 -- Events that were played over a machine that was set up end in what the world stands for.
 pub has_played : (x x' : View) (script : ScriptValue) (old new : World) (replies : List Reply) (between : DiskView) (says : IsScript x x' script)
-    (whole : IfSome x.disk.content (disk.IsContent x.disk.blocks)) (whole_between : IfSome between.content (disk.IsContent between.blocks)) (whole_now : IfSome x'.disk.content (disk.IsContent x'.disk.blocks))
+    (whole : IfSome x.disk.content (disk.IsContent x.disk.blocks)) (whole_between : IfSome between.content (disk.IsContent between.blocks))
     (set : IsSetUp script x.disk between) (fresh : IsNew script.hardware None old) (few : length script.bad ≤ 630) (was_played : HasPlayed old new script.events replies between x'.disk)
-    (hw : hardware_of new ≡ hardware_of old) (booted : IsOff new ⊎ (x'.disk.blocks ≡ boot_blocks new)) →
+    (hw : hardware_of new ≡ hardware_of old) →
     (Ends : State → Type 0) → ((c : disk.Content) (end : State) → StandsFor new c end → Ends end) → HasPlayedTo x x' script Ends
-has_played x x' script old new replies between says whole whole_between whole_now set fresh few was_played hw booted Ends ends =
-    let are = replies_of script old new script.events replies x.disk between x'.disk whole whole_between whole_now set fresh few was_played hw booted in
+has_played x x' script old new replies between says whole whole_between set fresh few was_played hw Ends ends =
+    let are = replies_of script old new script.events replies x.disk between x'.disk whole whole_between set fresh few was_played hw in
     record {
       script_is = says;
       roomy = set.roomy;
@@ -49,7 +48,7 @@ has_played x x' script old new replies between says whole whole_between whole_no
       are = are;
       ends = λ c told.
           let run = are.run c told in
-          ends run.held run.end (subst (λ (w : World). StandsFor w run.held run.end) (world_at_end script old new script.events replies x.disk between x'.disk whole whole_between whole_now set fresh few was_played hw booted c told) run.stands);
+          ends run.held run.end (stands_at_end script old new script.events replies x.disk between x'.disk whole whole_between set fresh few was_played hw c told);
     }
 
 -- A script whose machine isn't set up, as it is told.

@@ -1,6 +1,7 @@
 -- From events whose columns were drawn to what is told of a picture.
 use Rattle.std.proofs.Common.{◌≡◌, ◌⊎◌, inl, inr, ◌≤◌, ℕ, List, length, take, sym, subst, arith}
 use Rattle.std.proofs.lemmas.List.{take_all}
+use Rattle.definitions.specs.Disk.{HasRisen}
 use Rattle.definitions.specs.Streams.{TakesAll, TakesFront}
 use Rattle.plain_machine.specs.declared.event.Event.{Event}
 use Rattle.plain_machine.specs.declared.reply.Reply.{Reply}
@@ -19,7 +20,8 @@ use Rattle.swsusp_cli.specs.declared.setting_up.Unready.{Unready}
 use Rattle.swsusp_cli.specs.declared.setting_up.Unready.TheVariants.{Small, Unformatted as NotFormatted}
 use Rattle.swsusp_cli.proofs.Prints.{fails_early, printed_then, whole_still}
 use Rattle.swsusp_cli.proofs.Replays.{not_formatted, small_disk}
-use Rattle.machine_cli.specs.Drawn.{IsDrawn, cut_off, drawn, too_small, unformatted}
+use Rattle.world_runs.proofs.Counted.{risen_earlier}
+use Rattle.machine_cli.specs.Drawn.{Draws, IsDrawn, cut_off, drawn, too_small, unformatted}
 
 -- A script whose machine isn't set up, as it is told.
 pub not_drawn : (x x' : View) (status : Status) (script : ScriptValue) (why : Unready) → IsScript x x' script → IsNotSetUp script x.disk x'.disk why → Tells (unready_told why) status x x' → IsDrawn x x' status
@@ -28,20 +30,21 @@ not_drawn x x' status script (NotFormatted call) is fails told = unformatted scr
 
 -- All events were played and the picture is whole, and the ends of the texts are printed, or a sink fails there.
 pub drawn_whole : (x x' : View) (status : Status) (script : ScriptValue) (mid : SinkView) (replies : List Reply) → IsScript x x' script → LieBelow script.hardware x.disk.blocks → AreReplies x.disk x'.disk script script.events replies →
-    TakesAll (picture script.events replies) x.out.taken mid.taken → IsTold done status mid x'.out x.note x'.note → IsDrawn x x' status
-drawn_whole x x' status script mid replies script_is roomy are taken (inl whole) = drawn script (record {
+    TakesAll (picture script.events replies) x.out.taken mid.taken → x.out.faults ≤ mid.faults → IsTold done status mid x'.out x.note x'.note → IsDrawn x x' status
+drawn_whole x x' status script mid replies script_is roomy are taken later (inl whole) = drawn script (record {
   script_is = script_is;
   roomy = roomy;
   status_is = whole.status_is;
   draws = (replies, are, printed_then (picture script.events replies) x.out mid x'.out taken whole.out_whole);
   note = whole.note_whole;
 })
-drawn_whole x x' status script mid replies script_is roomy are taken (inr short) = by_sink short.fronts where
+drawn_whole x x' status script mid replies script_is roomy are taken later (inr short) = by_sink short.fronts where
   all : take (length script.events) script.events ≡ script.events
   all = take_all (length script.events) script.events (omega arith)
 
-  ended : TakesAll (picture script.events replies) x.out.taken x'.out.taken → IsTried sink_note x.note x'.note → IsDrawn x x' status
-  ended whole note = cut_off script (record {
+  ended : TakesAll (picture script.events replies) x.out.taken x'.out.taken → IsTried sink_note x.note x'.note →
+      HasRisen x.out.faults x'.out.faults ⊎ (Draws script x x' × HasRisen x.note.faults x'.note.faults) → IsDrawn x x' status
+  ended whole note whose = cut_off script (record {
     script_is = script_is;
     roomy = roomy;
     status_is = short.status_is;
@@ -52,9 +55,14 @@ drawn_whole x x' status script mid replies script_is roomy are taken (inr short)
       subst (λ (events : List Event). TakesFront (pictured (length script.events) events replies) x.out.taken x'.out.taken) (sym all)
           (TakesFront-all (picture script.events replies) x.out.taken x'.out.taken whole),
     );
+    whose = whose;
     note = note;
   })
 
   by_sink : AreFronts done mid x'.out x.note x'.note → IsDrawn x x' status
-  by_sink (inl out) = ended (whole_still (picture script.events replies) x.out mid x'.out taken out.0) out.1
-  by_sink (inr note) = ended ((printed_then (picture script.events replies) x.out mid x'.out taken note.0).whole) (inr (fails_early sink_note x.note x'.note note.1))
+  by_sink (inl out) =
+      ended (whole_still (picture script.events replies) x.out mid x'.out taken out.0) out.1
+      (inl (risen_earlier x.out.faults mid.faults x'.out.faults later out.0.risen))
+  by_sink (inr note) =
+      let printed = printed_then (picture script.events replies) x.out mid x'.out taken note.0 in
+      ended printed.whole (inr (fails_early sink_note x.note x'.note note.1)) (inr ((replies, are, printed), note.1.risen))

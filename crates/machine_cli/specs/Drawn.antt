@@ -1,5 +1,6 @@
 -- How `draw` may end: a script is played as in a replay, and out takes the picture of what happened in place of the replies.
-use Rattle.std.specs.Prelude.{◌≡◌, ℕ, List, [], length, take}
+use Rattle.std.specs.Prelude.{◌≡◌, ◌⊎◌, ℕ, List, [], length, take}
+use Rattle.definitions.specs.Disk.{HasRisen}
 use Rattle.definitions.specs.Streams.{TakesFront}
 use Rattle.plain_machine.specs.declared.reply.Reply.{Reply}
 use Rattle.script.specs.Grammar.{ScriptValue}
@@ -33,12 +34,13 @@ pub record IsWhole (x x' : View) (status : Status) (script : ScriptValue) : Type
   pub draws : Draws script x x'
   pub note : IsPrinted [] x.note x'.note
 
--- a sink failed: out took a front of the picture of a run over first events, and the fault is noted
+-- Out failed: it took a front of the picture of a run over first events, and the fault is noted. Or all is printed, and note failed.
 pub record IsCutOff (x x' : View) (status : Status) (script : ScriptValue) : Type 0 where
   pub script_is : IsScript x x' script
   pub roomy : LieBelow script.hardware x.disk.blocks
   pub status_is : status ≡ Stream
   pub draws : DrawsFront script x x'
+  pub whose : HasRisen x.out.faults x'.out.faults ⊎ (Draws script x x' × HasRisen x.note.faults x'.note.faults)
   pub note : IsTried sink_note x.note x'.note
 
 -- One of these, by what the outside told before and after.

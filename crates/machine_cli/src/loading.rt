@@ -21,11 +21,13 @@ pub fn loader<I: Source, O: Sink, N: Sink>(
 ) -> Status
     ensures outcome { (disk : DiskView) → Freshens (record {
       left = I.remaining input.old;
+      read_faults = I.faults input.old;
       disk = disk;
       out = sink_view O.Sink out.old;
       note = sink_view N.Sink note.old;
     }) (record {
       left = I.remaining input.new;
+      read_faults = I.faults input.new;
       disk = disk;
       out = sink_view O.Sink out.new;
       note = sink_view N.Sink note.new;

@@ -39,7 +39,8 @@ use Rattle.machine.specs.declared.flight.Flight.TheVariants.{Nothing}
 use Rattle.machine.specs.declared.machine.Machine.{Machine}
 use Rattle.machine.proofs.Readiness.{flights-none}
 use Rattle.resume_core.specs.Loading.{shown_by}
-use Rattle.resume_core.specs.Row.{HasRead, HavePlaces, EndsOn, swap_area, restored_found}
+use Rattle.resume_core.specs.Restored.{restored_found}
+use Rattle.resume_core.specs.Row.{HasRead, HavePlaces, EndsOn, swap_area}
 use Rattle.resume_core.specs.declared.load.Load.{Load}
 use Rattle.resume_core.specs.declared.load.OpenChain.{OpenChain}
 use Rattle.resume_core.specs.declared.load.Stage.TheVariants as stage

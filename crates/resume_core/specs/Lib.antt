@@ -3,4 +3,5 @@ pub mod Ready
 pub mod Header
 pub mod Refusals
 pub mod Placing
+pub mod Restored
 pub mod Row

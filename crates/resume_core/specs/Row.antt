@@ -11,12 +11,12 @@ use Rattle.sig_header.specs.declared.area.AreaKind.TheVariants.{Image, Old, Othe
 use Rattle.page_restore.specs.Waiting.{Awaiting, waiting_pages}
 use Rattle.plain_machine.specs.Machine.{Hardware, Memory}
 use Rattle.plain_machine.specs.Chain.{header_of, blocks_of}
-use Rattle.plain_machine.specs.Loader.{left_free, loader_frame, restored}
+use Rattle.plain_machine.specs.Loader.{left_free, loader_frame}
 use Rattle.plain_machine.specs.UsableArea.{area_block}
 use Rattle.plain_machine.specs.Shows.{WorldView}
-use Rattle.plain_machine.specs.State.{State, off, on, booting, hibernating, undoing, settling, waking, loading, asleep, Held, Load as Resume, Found, not_yet, found_own, found_other}
+use Rattle.plain_machine.specs.State.{State, off, on, booting, hibernating, undoing, settling, waking, loading, asleep, Held, Load as Resume}
 use Rattle.plain_machine.specs.Stands.{Stands}
-use Rattle.plain_machine.specs.Trace.{info_in, place_count, header_cause, want_cause, place, restored_in, data_frames, data_pages}
+use Rattle.plain_machine.specs.Trace.{info_in, place_count, header_cause, want_cause, place, data_frames, data_pages}
 use Rattle.plain_machine.specs.declared.event.Event.{Event}
 use Rattle.plain_machine.specs.declared.event.Event.TheVariants as event
 use Rattle.plain_machine.specs.declared.event.Actor.TheVariants as actor
@@ -35,6 +35,7 @@ use Rattle.protocol_laws.specs.Rows as rows
 use Rattle.restore_laws.specs.DataPages.{data_before}
 use Rattle.machine.specs.declared.machine.Machine.{Machine}
 use Rattle.resume_core.specs.Loading.{shown_by}
+use Rattle.resume_core.specs.Restored.{restored_by}
 use Rattle.resume_core.specs.declared.load.FoundHeader.{FoundHeader}
 use Rattle.resume_core.specs.declared.load.Load.{Load}
 use Rattle.resume_core.specs.declared.load.OpenChain.{OpenChain}
@@ -122,15 +123,6 @@ IsOfState machine frames load c (asleep i held a) = ⊤
 pub record StandsFor (machine : Machine) (frames : Memory) (load : Load) (c : disk.Content) (a : State) : Type 0 where
   pub stands : Stands machine.hw (shown_by machine frames load) c a
   pub resume : IsOfState machine frames load c a
-
--- Restored, of the image that was found: an own one's pages, or those of another's on the disk v
-abbrev pub restored_found : Hardware → Resume → Found → Memory
-restored_found h l not_yet = []
-restored_found h l (found_own i) = restored h l.dump l.loader i
-restored_found h l (found_other v) = restored_in h l.dump v l.loader
-
-abbrev pub restored_by : Hardware → Resume → Memory
-restored_by h l = restored_found h l l.found
 
 -- a machine that runs has the area that the header block says
 abbrev pub RunsOverArea : Machine → disk.Content → State → Type 0

@@ -22,9 +22,8 @@ use Rattle.stream_in.specs.declared.session.StreamIn.{StreamIn}
 use Rattle.stream_in.specs.Holding.{first_blocks, HasComeIn, IsReadyFor, ComesIn}
 use Rattle.stream_in.specs.Marking.{Marks}
 use Rattle.stream_in.specs.Moments.{ElapsesOverMark, IsTried, TriesMark, MarksWhole, LeavesWhole}
-use Rattle.stream_in.specs.Putting.{writes_after}
 use Rattle.stream_in.specs.Session.{IsOutput, TakesInto}
-use Rattle.stream_in.specs.Written.{page_at, AreOfMap, ReadAsMade}
+use Rattle.stream_in.specs.Written.{page_at, AreOfMap, ReadAsMade, writes_after}
 use Rattle.stream_in.proofs.Contents.{changes_from}
 use Rattle.stream_in.proofs.Undoing.{unmarked}
 use Rattle.stream_in.proofs.Holding.{IsWholeFor, not_zero, has_come_in}

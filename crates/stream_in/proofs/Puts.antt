@@ -8,7 +8,8 @@ use Rattle.image_write.specs.Writing.{Writing, IsWriting, BlocksBelow, IsSameIma
 use Rattle.image_write.specs.declared.write_step.WriteStep.{WriteStep}
 use Rattle.image_write.specs.declared.write_step.WriteStep.TheVariants.{More, Done, Fault}
 use Rattle.image_write.proofs.Places.{page_write, page_is_one}
-use Rattle.stream_in.specs.Putting.{writes_after, is_map_next, IsPagePut}
+use Rattle.stream_in.specs.Putting.{is_map_next, IsPagePut}
+use Rattle.stream_in.specs.Written.{writes_after}
 
 -- what a put of the writer says
 pub record IsPut (free : List ℕ) (frames : List (List ℕ)) (old new : Writing) (r : WriteStep) : Type 0 where

@@ -10,8 +10,10 @@ use Rattle.plain_machine.specs.Laid.{page_of_write}
 use Rattle.image_write.specs.Writing.{Writing, BlocksBelow}
 use Rattle.stream_check.specs.Grammar.{image_pages, all_pages, are_counts, first_fault}
 use Rattle.stream_check.proofs.Steps.{IsSound, sound_from, counts_none, all_pages-append}
-use Rattle.stream_in.specs.Putting.{CanPut, HasPut, HasTooFew, Suffice, writes_after}
-use Rattle.stream_in.specs.Session.{HasPage, IsBegun, IsOutput, HasTooFewFor}
+use Rattle.stream_in.specs.Putting.{CanPut, HasPut, HasTooFew, Suffice}
+use Rattle.stream_in.specs.Written.{writes_after}
+use Rattle.stream_in.specs.Session.{HasPage, IsBegun, IsOutput}
+use Rattle.stream_in.specs.Area.{HasTooFewFor}
 
 -- The page with more of its bytes.
 pub page_part : (bs part page x post : List ℕ) (begun : ℕ) → begun ≡ length bs % 4096 → begun ≤ length page → x ≡ part → HasPage bs page → (i : ℕ) → i < begun + length part →

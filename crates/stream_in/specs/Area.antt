@@ -1,5 +1,5 @@
 -- The area that an image comes into. It lies at the first blocks of the disk, slot s on block s.
-use Rattle.std.specs.Prelude.{◌≤◌, ℕ, ◌==◌, List, take, nat_lt, Option, Some, None, if◌then◌else◌}
+use Rattle.std.specs.Prelude.{◌≡◌, ◌≤◌, ◌<◌, ℕ, ◌+◌, ◌==◌, List, length, take, nat_lt, Option, Some, None, if◌then◌else◌}
 use Rattle.std.specs.List.{Contains}
 use Rattle.std.specs.List.Sorted.{IsStrictlyIncreasing}
 use Rattle.definitions.specs.Bytes.{zero_page}
@@ -8,6 +8,7 @@ use Rattle.sig_header.specs.declared.area.Area.{Area}
 use Rattle.sig_header.specs.declared.area.AreaKind.{AreaKind}
 use Rattle.sig_header.specs.declared.area.AreaKind.TheVariants.{Image, Old, Other, BadArea, Swap}
 use Rattle.plain_machine.specs.UsableArea.{kind_fault, bad_slots_of}
+use Rattle.stream_check.specs.Grammar.{all_pages, first_fault}
 use Rattle.plain_machine.specs.declared.no_swap.NoSwap.{NoSwap}
 use Rattle.plain_machine.specs.declared.no_swap.NoSwap.TheVariants as no_swap
 
@@ -39,3 +40,11 @@ pub record AreUsable (area : Area) (free : List ℕ) : Type 0 where
 pub record HasBounds (area : Area) : Type 0 where
   pub count : area.count ≤ 630
   pub bad : (k : ℕ) → Contains (take area.count area.bad) k → k ≤ area.last
+
+-- Of these bytes the info page is without a fault, and fewer slots are free than the image may need.
+pub record HasTooFewFor (free bs : List ℕ) (told need : ℕ) : Type 0 where
+  pub whole : 4096 ≤ length bs
+  pub sound : first_fault (take 4096 bs) ≡ None
+  pub told_free : told ≡ length free
+  pub told_need : need ≡ all_pages bs + 1026
+  pub fewer : told < need

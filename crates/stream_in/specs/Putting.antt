@@ -3,16 +3,12 @@
 use Rattle.std.specs.Prelude.{◌≡◌, ◌<◌, ◌≤◌, ◌==◌, ℕ, ◌+◌, ◌/◌, ◌%◌, ◌^◌, ◌||◌, Bool, false, IsTrue, List, length, Option, Some, None, ⊤, if◌then◌else◌}
 use Rattle.swap_slots.specs.Table.{free_in}
 use Rattle.swap_slots.specs.declared.table.SlotTable.{SlotTable}
-use Rattle.plain_machine.specs.Image.{maps_of}
 use Rattle.plain_machine.specs.Laid.{page_of_write, is_map_write, laid_block}
 use Rattle.image_write.specs.Writing.{Writing, IsWriting, IsSameImage, BlocksBelow, writes_of}
 use Rattle.image_write.specs.declared.write_step.WriteStep.{WriteStep}
 use Rattle.image_write.specs.declared.write_step.WriteStep.TheVariants.{More, Done, Fault}
+use Rattle.stream_in.specs.Written.{writes_after}
 use Rattle.stream_check.specs.Grammar.{image_pages, all_pages, are_counts}
-
--- how many writes of Laid are made when k pages of so many are written: the pages, the maps that they fill, and in the end the last map
-abbrev pub writes_after : ℕ → ℕ → ℕ
-writes_after pages k = if k == pages then pages + maps_of pages else k + k / 511
 
 -- whether a map is written next
 abbrev pub is_map_next : WriteStep → Bool

@@ -1,16 +1,15 @@
 -- A session, and the bytes that it has taken.
-use Rattle.std.specs.Prelude.{◌≡◌, ◌⊎◌, ◌≤◌, ◌<◌, ℕ, ◌+◌, ◌-◌, ◌*◌, ◌/◌, ◌%◌, ◌^◌, List, [], ◌∷◌, length, take, slice_index, Option, Some, None}
+use Rattle.std.specs.Prelude.{◌≡◌, ◌⊎◌, ◌≤◌, ◌<◌, ℕ, ◌+◌, ◌-◌, ◌*◌, ◌/◌, ◌%◌, ◌^◌, List, [], ◌∷◌, length, slice_index, Option, Some, None}
 use Rattle.swap_slots.specs.Table.{LiesIn, Matches, free_in}
 use Rattle.swap_slots.specs.declared.table.SlotTable.{SlotTable}
 use Rattle.plain_machine.specs.Laid.{laid_block}
 use Rattle.image_write.specs.Writing.{Writing, IsWriting, BlocksBelow}
-use Rattle.stream_check.specs.Grammar.{all_pages, first_fault}
+use Rattle.stream_check.specs.Grammar.{all_pages}
 use Rattle.stream_check.specs.Taken.{HasTaken}
 use Rattle.sig_header.specs.declared.area.Area.{Area}
 use Rattle.stream_in.specs.Area.{AreUsable}
 use Rattle.stream_in.specs.Holding.{first_blocks}
-use Rattle.stream_in.specs.Written.{AreOfMap}
-use Rattle.stream_in.specs.Putting.{writes_after}
+use Rattle.stream_in.specs.Written.{AreOfMap, writes_after}
 use Rattle.stream_in.specs.declared.session.StreamIn.{StreamIn}
 use Rattle.stream_in.specs.declared.stop.InStop.{InStop}
 
@@ -59,14 +58,6 @@ IsStopped s = (why : InStop) × (s.stop ≡ Some why)
 -- each session that is handed out is one of the two
 abbrev pub IsSession : StreamIn → Type 0
 IsSession s = IsStopped s ⊎ IsGoing s
-
--- Of these bytes the info page is without a fault, and fewer slots are free than the image may need.
-pub record HasTooFewFor (free bs : List ℕ) (told need : ℕ) : Type 0 where
-  pub whole : 4096 ≤ length bs
-  pub sound : first_fault (take 4096 bs) ≡ None
-  pub told_free : told ≡ length free
-  pub told_need : need ≡ all_pages bs + 1026
-  pub fewer : told < need
 
 -- A session that was just opened over an area: it has taken no byte, slot s lies on block s, and the area's slots are free.
 pub record IsOpened (area : Area) (blocks : ℕ) (s : StreamIn) : Type 0 where

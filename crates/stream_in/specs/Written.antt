@@ -1,11 +1,11 @@
 -- What the writes of a stream have left on the disk.
-use Rattle.std.specs.Prelude.{◌≡◌, ◌<◌, ◌≤◌, ℕ, ◌*◌, ◌/◌, List, ◌++◌, length, slice_index}
+use Rattle.std.specs.Prelude.{◌≡◌, ◌<◌, ◌≤◌, ◌==◌, ℕ, ◌+◌, ◌*◌, ◌/◌, List, ◌++◌, length, slice_index, if◌then◌else◌}
 use Rattle.definitions.specs.Bytes.{bytes_at}
 use Rattle.definitions.specs.Disk.{Content, DiskImage, as_it_reads, block}
 use Rattle.definitions.specs.Slots.{IsFileMap}
+use Rattle.plain_machine.specs.Image.{maps_of}
 use Rattle.plain_machine.specs.Laid.{laid_write, page_of_write}
 use Rattle.stream_check.specs.Grammar.{all_pages}
-use Rattle.stream_in.specs.Putting.{writes_after}
 
 -- the slots are those of a file map
 abbrev pub AreOfMap : List (ℕ × ℕ × ℕ) → List ℕ → Type 0
@@ -23,6 +23,10 @@ MakesMore extents free count pages k m old new = ReadAsMade extents free count p
 -- page i of these bytes
 abbrev pub page_at : List ℕ → ℕ → List ℕ
 page_at bs i = bytes_at 4096 bs (4096 * i)
+
+-- how many writes of Laid are made when k pages of so many are written: the pages, the maps that they fill, and in the end the last map
+abbrev pub writes_after : ℕ → ℕ → ℕ
+writes_after pages k = if k == pages then pages + maps_of pages else k + k / 511
 
 -- Of the stream of these bytes the writes that its whole pages take read as they were made.
 abbrev pub AreWritten : List (ℕ × ℕ × ℕ) → List ℕ → List ℕ → DiskImage → Type 0

@@ -56,7 +56,8 @@ impl StreamIn {
     ghost use Rattle.stream_check.specs.Grammar.{first_fault, short_fault, image_pages};
     ghost use Rattle.stream_check.specs.declared.fault.StreamFault.{StreamFault};
     ghost use Rattle.stream_in.specs.Stops.{IsDiskStop, IsOfOpen, IsOfFeed, IsOfFinish, IfNoSwap};
-    ghost use Rattle.stream_in.specs.Session.{IsOpened, IsFed, IsGoing, IsSession, HasTooFewFor, TakesInto};
+    ghost use Rattle.stream_in.specs.Area.{HasTooFewFor};
+    ghost use Rattle.stream_in.specs.Session.{IsOpened, IsFed, IsGoing, IsSession, TakesInto};
     ghost use Rattle.stream_in.specs.declared.stop.InStop.{InStop};
     ghost use Rattle.stream_in.specs.declared.stop.InStop.TheVariants as stop;
 

@@ -8,7 +8,7 @@ use page_core::NoMemory;
 use sector_disk::{Disk, MemDisk};
 use standard_streams::{hold, is_output, sync_output};
 use std::fs::File;
-use std::io::{BufReader, IsTerminal};
+use std::io::{BufReader, BufWriter, IsTerminal};
 use std::process::ExitCode;
 use std::{env, io};
 use swsusp_cli::{Choice, run, swap_name};
@@ -18,6 +18,9 @@ const NOT_OPENED: u8 = 7;
 
 /// How many bytes of standard input are asked for at once: a record of a dump costs a sixteenth of a call of the system.
 const INPUT_PIECE: usize = 65_536;
+
+/// How many bytes of a restored dump are handed to standard output at once.
+const OUTPUT_PIECE: usize = 65_536;
 
 fn main(rt: HostRuntime) -> ExitCode {
     let words = match env::args(&rt) {
@@ -86,8 +89,17 @@ fn run_over<D: Disk>(rt: &HostRuntime, words: &[String], disk: &mut D) -> ExitCo
     let Ok(reader) = BufReader::with_capacity(rt.alloc(), INPUT_PIECE, rt.stdin()) else {
         return no_memory(rt);
     };
+    // The replies of a replay are handed on one by one, each before the next event.
+    let piece = if is_command(words, "resume") {
+        OUTPUT_PIECE
+    } else {
+        0
+    };
+    let Ok(writer) = BufWriter::with_capacity(rt.alloc(), piece, rt.stdout()) else {
+        return no_memory(rt);
+    };
     let mut input = StdSource::new(reader);
-    let mut out = StdSink::new(rt.stdout());
+    let mut out = StdSink::new(writer);
     let mut note = StdSink::new(rt.stderr());
     let status = run(rt.alloc(), words, &mut input, &mut out, &mut note, disk);
     if status == Status::Done && sync_output(rt).is_err() {

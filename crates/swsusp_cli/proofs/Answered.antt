@@ -5,6 +5,7 @@ use Rattle.swsusp_cli.specs.Run.{IsAnswer, IsInspection, NoMachine}
 use Rattle.swsusp_cli.specs.Drills as drills
 use Rattle.swsusp_cli.specs.Drills.{IsDrilled}
 use Rattle.swsusp_cli.specs.Dumps as dumps
+use Rattle.sector_disk.specs.declared.disk.Disk.{Ghosts}
 use Rattle.swsusp_cli.specs.Dumps.{Hibernates}
 use Rattle.swsusp_cli.specs.Exports as exports
 use Rattle.swsusp_cli.specs.Exports.{Exports}
@@ -47,11 +48,11 @@ module _ (x x' : View) (status : Status) (told : Tells memory_told status x x') 
   pub memory_drills : (number : ℕ) → IsDrilled number x x' status
   memory_drills number = drills.out_of_memory (record { told = told; untouched = untouched })
 
-  pub memory_hibernates : (format : Format) (size : Option ℕ) → Hibernates format size x x' status
-  memory_hibernates format size = dumps.out_of_memory (record { told = told; untouched = untouched })
+  pub memory_hibernates : {X : Type 0} (D : Ghosts X) (before after : X) (format : Format) (size : Option ℕ) → Hibernates D before after format size x x' status
+  memory_hibernates D before after format size = dumps.out_of_memory (record { told = told; untouched = untouched })
 
-  pub memory_resumes : (check : IdentCheck) → Resumes check x x' status
-  memory_resumes check = loads.out_of_memory (record { told = told; untouched = untouched })
+  pub memory_resumes : {X : Type 0} (D : Ghosts X) (before after : X) (check : IdentCheck) → Resumes D before after check x x' status
+  memory_resumes D before after check = loads.out_of_memory (record { told = told; untouched = untouched })
 
   pub memory_exports : Exports x x' status
   memory_exports = exports.out_of_memory (record { told = told; untouched = untouched })

@@ -12,8 +12,14 @@ use Rattle.plain_machine.specs.Machine.{Hardware, Memory}
 use Rattle.plain_machine.specs.Premises.{HasOriginal}
 use Rattle.plain_machine.specs.Stands.{IsTakenBack}
 use Rattle.plain_machine.specs.declared.event.IdentCheck.{IdentCheck}
+use Rattle.plain_machine.specs.Shows.{WorldView}
+use Rattle.plain_machine.specs.declared.event.Event.{Event}
+use Rattle.plain_machine.specs.declared.reply.Reply.{Reply}
+use Rattle.sector_disk.specs.declared.disk.Disk.{Ghosts}
 use Rattle.protocol_laws.proofs.Inside.{taken_itself}
-use Rattle.command_core.specs.Hibernation.{HasHibernated, IsUnmarkedOrHolds, image_to_save, machine_to_save}
+use Rattle.command_core.specs.Runs.{RanAs}
+use Rattle.command_core.specs.Hibernation.{HasHibernated, IsUnmarkedOrHolds}
+use Rattle.command_core.specs.Answers.{image_to_save, machine_to_save}
 use Rattle.command_core.specs.Resumption.{HasResumed}
 use Rattle.command_core.specs.declared.ending.Ended.{Ended}
 use Rattle.swsusp_cli.specs.Dumps.{SavesInside}
@@ -30,6 +36,10 @@ pub resumed_as : (h h' : Hardware) (m m' : Memory) (check : IdentCheck) (v : dis
 resumed_as h h' m m' check v frames frames' ended now hw memory same has original =
     subst (λ (y : Memory). HasResumed h' m' check v y ended now) same
     (subst (λ (g : Hardware). Original g v → HasResumed g m' check v frames ended now) hw (subst (λ (x : Memory). Original h v → HasResumed h x check v frames ended now) memory has) original)
+
+pub ran_as : {X : Type 0} (D : Ghosts X) (IsThis : List Event → List Reply → Type 0) (h h' : Hardware) (m m' : Memory) (shown : WorldView) (x y : X) → h ≡ h' → m ≡ m' → RanAs IsThis D h m shown x y → RanAs IsThis D h' m' shown x y
+ran_as D IsThis h h' m m' shown x y hw memory ran =
+    subst (λ (g : Hardware). RanAs IsThis D g m' shown x y) hw (subst (λ (n : Memory). RanAs IsThis D h n shown x y) memory ran)
 
 -- What a crash inside may leave.
 

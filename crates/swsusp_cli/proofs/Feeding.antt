@@ -7,14 +7,15 @@ use Rattle.definitions.specs.Streams.{HandsOut}
 use Rattle.stream_check.specs.Grammar.{first_fault}
 use Rattle.stream_check.proofs.Steps.{sound_from}
 use Rattle.stream_in.specs.Outside.{StopsAtRest, WritesAtRest}
-use Rattle.stream_in.specs.Session.{HasTooFewFor}
+use Rattle.stream_in.specs.Area.{HasTooFewFor}
 use Rattle.stream_in.specs.Stops.{IsOfFeed}
 use Rattle.stream_in.specs.Written.{WritesOn}
 use Rattle.stream_in.specs.declared.stop.InStop.{InStop}
 use Rattle.stream_in.specs.declared.stop.InStop.TheVariants as stop
 use Rattle.stream_check.specs.declared.fault.StreamFault.{StreamFault}
 use Rattle.stream_in.proofs.Rests.{stops_then, unwritten, writes_then}
-use Rattle.swsusp_cli.specs.Feeding.{Holds, IsCalled, IsStopFor}
+use Rattle.swsusp_cli.specs.Called.{IsCalled}
+use Rattle.swsusp_cli.specs.Feeding.{Holds, IsStopFor}
 use Rattle.command_kit.specs.View.{DiskView}
 
 -- No stream without a fault is longer than the longest.

@@ -25,16 +25,16 @@ use Rattle.stream_in.specs.Holding.{ComesIn}
 use Rattle.stream_in.specs.Marking.{Marks, LeavesAt}
 use Rattle.stream_in.specs.Outside.{IsBlockOf, KeepsOutside, StopsAtRest}
 use Rattle.stream_in.proofs.Rests.{stops_still}
-use Rattle.stream_in.specs.Putting.{writes_after}
 use Rattle.stream_in.specs.Session.{IsOpened, IsOutput}
 use Rattle.stream_in.specs.Stops.{IsDiskStop, IsOfOpen, IsOfFinish, IfNoSwap}
-use Rattle.stream_in.specs.Written.{page_at}
+use Rattle.stream_in.specs.Written.{page_at, writes_after}
 use Rattle.stream_in.specs.declared.session.StreamIn.{StreamIn}
 use Rattle.stream_in.specs.declared.stop.InStop.{InStop}
 use Rattle.stream_in.specs.declared.stop.InStop.TheVariants as stop
 use Rattle.stream_in.proofs.Contents.{changes_then, changes_as}
 use Rattle.stream_in.proofs.Undoing.{first_block-some}
-use Rattle.swsusp_cli.specs.Feeding.{Feeds, Holds, HasFed, HasStopped, IsCalled, IsStopFor}
+use Rattle.swsusp_cli.specs.Called.{IsCalled}
+use Rattle.swsusp_cli.specs.Feeding.{Feeds, Holds, HasFed, HasStopped, IsStopFor}
 use Rattle.swsusp_cli.specs.Imports.{Ends, HasWritten, IsArea, AreRead, IsUnmarked, IsUsable, KeepsUnusable, LeavesUnusable, MarksNot, OfSome, Stores, whole_map}
 use Rattle.command_kit.specs.View.{DiskView}
 use Rattle.swsusp_cli.specs.declared.importing.ImportStop.{ImportStop}

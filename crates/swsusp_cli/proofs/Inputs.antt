@@ -1,5 +1,6 @@
 -- From why a command has no input to how it ends.
 use Rattle.std.proofs.Common.{◌≡◌, ℕ, List, Option, Some, Err, refl}
+use Rattle.definitions.specs.Disk.{HasRisen}
 use Rattle.dump_file.specs.Dump.{dump_of}
 use Rattle.dump_file.specs.declared.dump.DumpFault.{DumpFault}
 use Rattle.dump_file.specs.declared.dump.DumpStop.{DumpStop}
@@ -27,17 +28,17 @@ dump_lacking left of_dump.SourceFault says = tt
 dump_lacking left of_dump.NoMemory says = tt
 
 -- a command that wants a dump
-pub without_dump : (P : Type 0) (x x' : View) (status : Status) (stop : Stop) → LacksDump x.left stop → IsStopTold stop status x.out x'.out x.note x'.note → x'.disk ≡ x.disk →
+pub without_dump : (P : Type 0) (x x' : View) (status : Status) (stop : Stop) → LacksDump x.left stop → IsStopTold stop status x.out x'.out x.note x'.note → x'.disk ≡ x.disk → (stop ≡ Source → HasRisen x.read_faults x'.read_faults) →
     ((fault : DumpFault) → IsNoDump x x' status fault → P) → (IsOutOfMemory x x' status → P) → (IsUnread x x' status → P) → P
-without_dump P x x' status Source lacks told untouched no_dump out_of_memory unread = unread (record { status_is = told.0; out = told.1; note = told.2; untouched = untouched })
-without_dump P x x' status Memory lacks told untouched no_dump out_of_memory unread = out_of_memory (record { told = told; untouched = untouched })
-without_dump P x x' status (Script fault) lacks told untouched no_dump out_of_memory unread = absurd lacks
-without_dump P x x' status (Dump fault) lacks told untouched no_dump out_of_memory unread = no_dump fault (record { says = lacks; told = told; untouched = untouched })
+without_dump P x x' status Source lacks told untouched cause no_dump out_of_memory unread = unread (record { status_is = told.0; risen = cause refl; out = told.1; note = told.2; untouched = untouched })
+without_dump P x x' status Memory lacks told untouched cause no_dump out_of_memory unread = out_of_memory (record { told = told; untouched = untouched })
+without_dump P x x' status (Script fault) lacks told untouched cause no_dump out_of_memory unread = absurd lacks
+without_dump P x x' status (Dump fault) lacks told untouched cause no_dump out_of_memory unread = no_dump fault (record { says = lacks; told = told; untouched = untouched })
 
 -- a command that wants a script
-pub without_script : (P : Type 0) (x x' : View) (status : Status) (stop : Stop) → LacksScript x.left stop → IsStopTold stop status x.out x'.out x.note x'.note → x'.disk ≡ x.disk →
+pub without_script : (P : Type 0) (x x' : View) (status : Status) (stop : Stop) → LacksScript x.left stop → IsStopTold stop status x.out x'.out x.note x'.note → x'.disk ≡ x.disk → (stop ≡ Source → HasRisen x.read_faults x'.read_faults) →
     ((fault : ScriptFault) → IsNoScript x x' status fault → P) → (IsOutOfMemory x x' status → P) → (IsUnread x x' status → P) → P
-without_script P x x' status Source lacks told untouched no_script out_of_memory unread = unread (record { status_is = told.0; out = told.1; note = told.2; untouched = untouched })
-without_script P x x' status Memory lacks told untouched no_script out_of_memory unread = out_of_memory (record { told = told; untouched = untouched })
-without_script P x x' status (Script fault) lacks told untouched no_script out_of_memory unread = no_script fault (record { says = lacks; told = told; untouched = untouched })
-without_script P x x' status (Dump fault) lacks told untouched no_script out_of_memory unread = absurd lacks
+without_script P x x' status Source lacks told untouched cause no_script out_of_memory unread = unread (record { status_is = told.0; risen = cause refl; out = told.1; note = told.2; untouched = untouched })
+without_script P x x' status Memory lacks told untouched cause no_script out_of_memory unread = out_of_memory (record { told = told; untouched = untouched })
+without_script P x x' status (Script fault) lacks told untouched cause no_script out_of_memory unread = no_script fault (record { says = lacks; told = told; untouched = untouched })
+without_script P x x' status (Dump fault) lacks told untouched cause no_script out_of_memory unread = absurd lacks

@@ -7,6 +7,7 @@ use Rattle.swsusp_cli.specs.Outcome.{IsReplayed, no_script, out_of_memory, unrea
 use Rattle.page_core.specs.declared.format.Format.{Format}
 use Rattle.plain_machine.specs.declared.event.IdentCheck.{IdentCheck}
 use Rattle.swsusp_cli.specs.Dumps as dumps
+use Rattle.sector_disk.specs.declared.disk.Disk.{Ghosts}
 use Rattle.swsusp_cli.specs.Dumps.{Hibernates, dump_told, hibernation_told}
 use Rattle.swsusp_cli.specs.Exports as exports
 use Rattle.swsusp_cli.specs.Exports.{Exports, slots_told, stream_told}
@@ -70,17 +71,17 @@ replay_flushed x x' status (unformatted script call of is) well = told_flushed (
 replay_flushed x x' status (played script is) well = (is.prints.2.flushed, is.note.flushed)
 replay_flushed x x' status (cut_off script is) well = absurd (well is.status_is)
 
-pub hibernates_flushed : (f : Format) (size : Option ℕ) (x x' : View) (status : Status) → Hibernates f size x x' status → status ≢ Stream → AreFlushed x'.out x'.note
-hibernates_flushed f size x x' status (dumps.no_dump fault is) well = told_flushed (dump_told fault) status x.out x'.out x.note x'.note is.told well
-hibernates_flushed f size x x' status (dumps.out_of_memory is) well = told_flushed memory_told status x.out x'.out x.note x'.note is.told well
-hibernates_flushed f size x x' status (dumps.unread is) well = absurd (well is.status_is)
-hibernates_flushed f size x x' status (dumps.answered dump ended is) well = told_flushed (hibernation_told ended) status x.out x'.out x.note x'.note is.told well
+pub hibernates_flushed : {X : Type 0} (D : Ghosts X) (before after : X) (f : Format) (size : Option ℕ) (x x' : View) (status : Status) → Hibernates D before after f size x x' status → status ≢ Stream → AreFlushed x'.out x'.note
+hibernates_flushed D before after f size x x' status (dumps.no_dump fault is) well = told_flushed (dump_told fault) status x.out x'.out x.note x'.note is.told well
+hibernates_flushed D before after f size x x' status (dumps.out_of_memory is) well = told_flushed memory_told status x.out x'.out x.note x'.note is.told well
+hibernates_flushed D before after f size x x' status (dumps.unread is) well = absurd (well is.status_is)
+hibernates_flushed D before after f size x x' status (dumps.answered dump ended is) well = told_flushed (hibernation_told ended) status x.out x'.out x.note x'.note is.told well
 
-pub resumes_flushed : (check : IdentCheck) (x x' : View) (status : Status) → Resumes check x x' status → status ≢ Stream → AreFlushed x'.out x'.note
-resumes_flushed check x x' status (loads.no_dump fault is) well = told_flushed (dump_told fault) status x.out x'.out x.note x'.note is.told well
-resumes_flushed check x x' status (loads.out_of_memory is) well = told_flushed memory_told status x.out x'.out x.note x'.note is.told well
-resumes_flushed check x x' status (loads.unread is) well = absurd (well is.status_is)
-resumes_flushed check x x' status (loads.answered dump memory ended is) well = told_flushed (resume_told dump.hw memory ended) status x.out x'.out x.note x'.note is.told well
+pub resumes_flushed : {X : Type 0} (D : Ghosts X) (before after : X) (check : IdentCheck) (x x' : View) (status : Status) → Resumes D before after check x x' status → status ≢ Stream → AreFlushed x'.out x'.note
+resumes_flushed D before after check x x' status (loads.no_dump fault is) well = told_flushed (dump_told fault) status x.out x'.out x.note x'.note is.told well
+resumes_flushed D before after check x x' status (loads.out_of_memory is) well = told_flushed memory_told status x.out x'.out x.note x'.note is.told well
+resumes_flushed D before after check x x' status (loads.unread is) well = absurd (well is.status_is)
+resumes_flushed D before after check x x' status (loads.answered dump ended is) well = told_flushed (resume_told dump.hw is.shown.frames ended) status x.out x'.out x.note x'.note is.told well
 
 pub exports_flushed : (x x' : View) (status : Status) → Exports x x' status → status ≢ Stream → AreFlushed x'.out x'.note
 exports_flushed x x' status (exports.no_dump fault is) well = told_flushed (dump_told fault) status x.out x'.out x.note x'.note is.told well

@@ -11,20 +11,21 @@ use Rattle.definitions.proofs.DiskLaws.{length-as_it_reads}
 use Rattle.plain_machine.specs.Machine.{Hardware, IsHardware}
 use Rattle.plain_machine.specs.Chain.{blocks_of}
 use Rattle.plain_machine.specs.Replies.{text_of}
-use Rattle.plain_machine.specs.State.{off, nothing}
+use Rattle.plain_machine.specs.Stands.{Stands}
+use Rattle.plain_machine.specs.State.{State, off, nothing}
 use Rattle.plain_machine.specs.Step.{Run}
 use Rattle.plain_machine.specs.declared.event.Event.{Event}
 use Rattle.plain_machine.specs.declared.reply.Reply.{Reply}
 use Rattle.protocol_laws.specs.Rows.{LeavesBlock}
 use Rattle.script.specs.Grammar.{ScriptValue}
-use Rattle.world_core.specs.StandsFor.{StandsFor, IsNew, IsOff, hardware_of}
-use Rattle.world_core.specs.StandsFor.{blocks_of as boot_blocks}
+use Rattle.world_core.specs.StandsFor.{StandsFor, IsNew, hardware_of, shown}
 use Rattle.world_core.specs.World.{World}
 use Rattle.swsusp_cli.specs.Formatting.{Formats, LieBelow, calls_until}
 use Rattle.command_kit.specs.Answer.{done}
 use Rattle.swsusp_cli.specs.Outcome.{IsScript, IsReplayed, IsTooSmall, IsUnformatted, Tells, no_script, out_of_memory, unread, too_small, unformatted, played, cut_off, small_told, unformatted_told}
-use Rattle.swsusp_cli.specs.Playing.{HasPlayed}
-use Rattle.swsusp_cli.specs.Replay.{orders_by, IsRun, IsNoSlot, AreReplies, is_step, steps_of}
+use Rattle.swsusp_cli.specs.Playing.{HasPlayed, Played}
+use Rattle.swsusp_cli.specs.Replay.{orders_by, IsRun, IsNoSlot, AreReplies, Prints}
+use Rattle.world_runs.specs.Counts.{is_step, steps_of}
 use Rattle.swsusp_cli.specs.SettingUp.{FailsToSetUp, HasTooFew, IsNotSetUp, IsSetUp, IsUnformatted as IsOfCall, unready_told}
 use Rattle.command_kit.specs.Told.{AreFronts, IsTold, IsTried, sink_note}
 use Rattle.command_kit.specs.View.{View, DiskView, SinkView}
@@ -40,16 +41,9 @@ use Rattle.run_laws.proofs.Sleeps.{never_both}
 use Rattle.command_core.proofs.Leaving.{leaves_then}
 use Rattle.swsusp_cli.proofs.Formatted.{CanFormat, formatted_unmarked, formats_leaves, formats_size}
 use Rattle.swsusp_cli.proofs.Prints.{printed_then, whole_still, fails_early}
-use Rattle.swsusp_cli.proofs.Turns.{counted_earlier, whole_of}
+use Rattle.world_runs.proofs.Counted.{counted_earlier, risen_earlier}
+use Rattle.swsusp_cli.proofs.Turns.{whole_of}
 use Rattle.protocol_laws.proofs.Told.{changed}
-
-world_blocks : (w : World) (before after n m : ℕ) (c c' : disk.Content) → IsOff w ⊎ (after ≡ n) → length c ≡ 8 * before → length c' ≡ 8 * after →
-    blocks_of (disk.as_it_reads c') ≡ blocks_of (disk.as_it_reads c) → IsOff w ⊎ (n ≡ before)
-world_blocks w before after n m c c' (inl is_off) size size' same = inl is_off
-world_blocks w before after n m c c' (inr is) size size' same =
-    let reads = length-as_it_reads c in
-    let reads' = length-as_it_reads c' in
-    inr (omega arith)
 
 pub small_disk : (x x' : View) (status : Status) (script : ScriptValue) (blocks need : ℕ) → HasTooFew script x.disk x'.disk blocks need → Tells (small_told blocks need) status x x' → IsTooSmall x x' status script
 small_disk x x' status script blocks need few told = record {
@@ -70,11 +64,12 @@ not_formatted x x' status script call fails told = record {
   orders = fails.orders;
 }
 
-run_formatted : (script : ScriptValue) (old new : World) (events : List Event) (replies : List Reply) (before between now : DiskView) (c : disk.Content) → before.content ≡ Some c → disk.IsContent before.blocks c →
-    IfSome between.content (disk.IsContent between.blocks) → IfSome now.content (disk.IsContent now.blocks) → CanFormat script before.blocks → IsNew script.hardware None old →
-    disk.Changes (Formats script.hardware script.last script.bad) before.content between.content →
-    HasPlayed old new events replies between now → hardware_of new ≡ hardware_of old → IsOff new ⊎ (now.blocks ≡ boot_blocks new) → IsRun before now script events replies c
-run_formatted script old new events replies before between now c told whole whole_between whole_now can fresh formats was_played hw booted =
+-- what the events lead to, from the area as it was formatted
+played_from : (script : ScriptValue) (old new : World) (events : List Event) (replies : List Reply) (before between now : DiskView) (c : disk.Content) (told : before.content ≡ Some c) → disk.IsContent before.blocks c →
+    CanFormat script before.blocks → IsNew script.hardware None old → (formats : disk.Changes (Formats script.hardware script.last script.bad) before.content between.content) →
+    HasPlayed old new events replies between now →
+    (c' : disk.Content) × (b : State) × Played old new events now.content (changed (Formats script.hardware script.last script.bad) before.content between.content c told formats).0 c' (off nothing None) b replies
+played_from script old new events replies before between now c told whole can fresh formats was_played =
     let h = script.hardware in
     let formatted = changed (Formats h script.last script.bad) before.content between.content c told formats in
     let c1 = formatted.0 in
@@ -83,10 +78,18 @@ run_formatted script old new events replies before between now c told whole whol
     let start : StandsFor old c1 (off nothing None) =
     subst (λ (x : disk.Content). StandsFor old x (off nothing None)) (sym formatted.2.2)
     (fresh.unmarked v (formatted_unmarked h script.last script.bad before.blocks c mid whole can.header can.few formatted.2.1)) in
-    let end = was_played.run c1 (off nothing None) formatted.1 start (tt, refl) in
+    was_played.run c1 (off nothing None) formatted.1 start (tt, refl)
+
+run_formatted : (script : ScriptValue) (old new : World) (events : List Event) (replies : List Reply) (before between now : DiskView) (c : disk.Content) → before.content ≡ Some c → disk.IsContent before.blocks c →
+    IfSome between.content (disk.IsContent between.blocks) → CanFormat script before.blocks → IsNew script.hardware None old →
+    disk.Changes (Formats script.hardware script.last script.bad) before.content between.content →
+    HasPlayed old new events replies between now → hardware_of new ≡ hardware_of old → IsRun before now script events replies c
+run_formatted script old new events replies before between now c told whole whole_between can fresh formats was_played hw =
+    let h = script.hardware in
+    let formatted = changed (Formats h script.last script.bad) before.content between.content c told formats in
+    let c1 = formatted.0 in
+    let end = played_from script old new events replies before between now c told whole can fresh formats was_played in
     let was = end.2 in
-    let here = whole_of now.blocks now.content end.0 was.told whole_now in
-    let same = formats_size h script.last script.bad c c1 formatted.2 in
     let kept : (b : ℕ) → IsNoSlot (hardware_of old) b → LeavesBlock b c1 end.0 =
     was.unwritten (subst (λ (g : Hardware). 0 < g.slots) (sym fresh.hardware) can.some_slots) in
     let run : Run h (disk.as_it_reads c1) (off nothing None) events replies end.1 =
@@ -99,12 +102,10 @@ run_formatted script old new events replies before between now c told whole whol
       once = resumed_once h (disk.as_it_reads c1) None events replies end.1 run;
       sleeps = never_both h (disk.as_it_reads c1) None events replies end.1 run;
       restores = all_restore h (disk.as_it_reads c1) None events replies end.1 run;
-      world = new;
-      hardware = hw ∙ fresh.hardware;
-      blocks = world_blocks new before.blocks now.blocks (boot_blocks new) 0 c1 end.0 booted (same ∙ whole.size) here.size was.area.blocks;
+      shown = shown new;
       held = end.0;
       told = was.told;
-      stands = was.stands;
+      stands = subst (λ (g : Hardware). Stands g (shown new) end.0 end.1) (hw ∙ fresh.hardware) was.stands.stands;
       unwritten = λ b none.
           leaves_then between.blocks b c c1 end.0 (whole_of between.blocks between.content c1 formatted.1 whole_between)
           (formats_leaves h before.blocks script.last script.bad b c c1 whole formatted.2 (λ e. none 0 can.some_slots (sym e)))
@@ -119,22 +120,25 @@ can_format : (script : ScriptValue) (blocks : ℕ) → IsHardware script.hardwar
 can_format script blocks hw roomy few = let some = hw.some_slots in record { some_slots = omega arith; header = roomy 0 (omega arith); few = few }
 
 pub replies_of : (script : ScriptValue) (old new : World) (events : List Event) (replies : List Reply) (before between now : DiskView) → IfSome before.content (disk.IsContent before.blocks) →
-    IfSome between.content (disk.IsContent between.blocks) → IfSome now.content (disk.IsContent now.blocks) → IsSetUp script before between → IsNew script.hardware None old → length script.bad ≤ 630 → HasPlayed old new events replies between now →
-    hardware_of new ≡ hardware_of old → IsOff new ⊎ (now.blocks ≡ boot_blocks new) → AreReplies before now script events replies
-replies_of script old new events replies before between now whole whole_between whole_now set fresh few was_played hw booted = record {
+    IfSome between.content (disk.IsContent between.blocks) → IsSetUp script before between → IsNew script.hardware None old → length script.bad ≤ 630 → HasPlayed old new events replies between now →
+    hardware_of new ≡ hardware_of old → AreReplies before now script events replies
+replies_of script old new events replies before between now whole whole_between set fresh few was_played hw = record {
   size = was_played.size;
   calls = calls_within before.calls between.calls now.calls (steps_of events) set.calls was_played.calls;
   orders = was_played.orders ∙ ap (orders_by events) set.orders;
   faults = counted_earlier replies before.faults between.faults now.faults set.faults was_played.faults;
-  run = λ c told. run_formatted script old new events replies before between now c told (whole_of before.blocks before.content c told whole) whole_between whole_now (can_format script before.blocks set.hardware set.roomy few) fresh set.formats was_played hw booted;
+  run = λ c told. run_formatted script old new events replies before between now c told (whole_of before.blocks before.content c told whole) whole_between (can_format script before.blocks set.hardware set.roomy few) fresh set.formats was_played hw;
 }
 
--- the world that stands for the state where the run ends is the one that played
-pub world_at_end : (script : ScriptValue) (old new : World) (events : List Event) (replies : List Reply) (before between now : DiskView) (whole : IfSome before.content (disk.IsContent before.blocks)) (whole_between : IfSome between.content (disk.IsContent between.blocks))
-    (whole_now : IfSome now.content (disk.IsContent now.blocks)) (set : IsSetUp script before between) (fresh : IsNew script.hardware None old) (few : length script.bad ≤ 630) (was_played : HasPlayed old new events replies between now) (hw : hardware_of new ≡ hardware_of old) (booted : IsOff new ⊎ (now.blocks ≡ boot_blocks new))
-    (c : disk.Content) (told : before.content ≡ Some c) → ((replies_of script old new events replies before between now whole whole_between whole_now set fresh few was_played hw booted).run c told).world ≡ new
+-- the world that played stands for the state where the run ends
+pub stands_at_end : (script : ScriptValue) (old new : World) (events : List Event) (replies : List Reply) (before between now : DiskView) (whole : IfSome before.content (disk.IsContent before.blocks)) (whole_between : IfSome between.content (disk.IsContent between.blocks))
+    (set : IsSetUp script before between) (fresh : IsNew script.hardware None old) (few : length script.bad ≤ 630) (was_played : HasPlayed old new events replies between now) (hw : hardware_of new ≡ hardware_of old)
+    (c : disk.Content) (told : before.content ≡ Some c) →
+    let run = (replies_of script old new events replies before between now whole whole_between set fresh few was_played hw).run c told in StandsFor new run.held run.end
 unfolding replies_of run_formatted
-world_at_end script old new events replies before between now whole whole_between whole_now set fresh few was_played hw booted c told = refl
+stands_at_end script old new events replies before between now whole whole_between set fresh few was_played hw c told =
+    let can = can_format script before.blocks set.hardware set.roomy few in
+    (played_from script old new events replies before between now c told (whole_of before.blocks before.content c told whole) can fresh set.formats was_played).2.stands
 
 -- a device fault is told where a call of the disk failed
 pub risen_of : (script : ScriptValue) (x x' : DiskView) (why : Unready) → IsNotSetUp script x x' why → IsOfCall why → disk.HasRisen x.faults x'.faults
@@ -189,27 +193,33 @@ few_calls x x' status (cut_off script is) =
 
 -- All events were played, and the ends of the texts are printed, or a sink fails there.
 pub played_whole : (x x' : View) (status : Status) (script : ScriptValue) (mid : SinkView) (replies : List Reply) → IsScript x x' script → LieBelow script.hardware x.disk.blocks → AreReplies x.disk x'.disk script script.events replies →
-    TakesAll (text_of replies) x.out.taken mid.taken → IsTold done status mid x'.out x.note x'.note → IsReplayed x x' status
-played_whole x x' status script mid replies script_is roomy are taken (inl whole) = played script (record {
+    TakesAll (text_of replies) x.out.taken mid.taken → x.out.faults ≤ mid.faults → IsTold done status mid x'.out x.note x'.note → IsReplayed x x' status
+played_whole x x' status script mid replies script_is roomy are taken later (inl whole) = played script (record {
   script_is = script_is;
   roomy = roomy;
   status_is = whole.status_is;
   prints = (replies, are, printed_then (text_of replies) x.out mid x'.out taken whole.out_whole);
   note = whole.note_whole;
 })
-played_whole x x' status script mid replies script_is roomy are taken (inr short) = by_sink short.fronts where
+played_whole x x' status script mid replies script_is roomy are taken later (inr short) = by_sink short.fronts where
   all : take (length script.events) script.events ≡ script.events
   all = take_all (length script.events) script.events (omega arith)
 
-  ended : TakesAll (text_of replies) x.out.taken x'.out.taken → IsTried sink_note x.note x'.note → IsReplayed x x' status
-  ended whole note = cut_off script (record {
+  ended : TakesAll (text_of replies) x.out.taken x'.out.taken → IsTried sink_note x.note x'.note →
+      disk.HasRisen x.out.faults x'.out.faults ⊎ (Prints script x x' × disk.HasRisen x.note.faults x'.note.faults) → IsReplayed x x' status
+  ended whole note whose = cut_off script (record {
     script_is = script_is;
     roomy = roomy;
     status_is = short.status_is;
     prints = (length script.events, replies, subst (λ (events : List Event). AreReplies x.disk x'.disk script events replies) (sym all) are, inl whole);
+    whose = whose;
     note = note;
   })
 
   by_sink : AreFronts done mid x'.out x.note x'.note → IsReplayed x x' status
-  by_sink (inl out) = ended (whole_still (text_of replies) x.out mid x'.out taken out.0) out.1
-  by_sink (inr note) = ended ((printed_then (text_of replies) x.out mid x'.out taken note.0).whole) (inr (fails_early sink_note x.note x'.note note.1))
+  by_sink (inl out) =
+      ended (whole_still (text_of replies) x.out mid x'.out taken out.0) out.1
+      (inl (risen_earlier x.out.faults mid.faults x'.out.faults later out.0.risen))
+  by_sink (inr note) =
+      let printed = printed_then (text_of replies) x.out mid x'.out taken note.0 in
+      ended printed.whole (inr (fails_early sink_note x.note x'.note note.1)) (inr ((replies, are, printed), note.1.risen))

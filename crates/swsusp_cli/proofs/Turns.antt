@@ -23,7 +23,9 @@ use Rattle.world_core.specs.Row.{SimulatesWhereTold, IsStep, IsCalled, orders_af
 use Rattle.world_core.specs.StandsFor.{hardware_of, shown}
 use Rattle.world_core.specs.World.{World}
 use Rattle.swsusp_cli.specs.Playing.{Played, HasPlayed}
-use Rattle.swsusp_cli.specs.Replay.{is_step, steps_of, is_order, raised_times, orders_by, AreCounted}
+use Rattle.swsusp_cli.specs.Replay.{is_order, raised_times, orders_by}
+use Rattle.world_runs.specs.Counts.{is_step, steps_of, AreCounted}
+use Rattle.world_runs.proofs.Counted.{called_one, counted_append, counted_one, counted_later, steps_append}
 use Rattle.command_kit.specs.View.{DiskView}
 use Rattle.command_core.proofs.Leaving.{leaves_then}
 use Rattle.protocol_laws.proofs.ReplaySteps.{same_steps, stays_of_replay}
@@ -36,25 +38,6 @@ run_more h v a [] [] b e r b' run step = (b', subst (λ (s : State). Step h v s 
 run_more h v a [] (q ∷ rs) b e r b' run step = absurd run
 run_more h v a (d ∷ es) [] b e r b' run step = absurd run
 run_more h v a (d ∷ es) (q ∷ rs) b e r b' run step = (run.0, run.1, run_more h v run.0 es rs b e r b' run.2 step)
-
-pub risen_earlier : (low mid high : ℕ) → low ≤ mid → disk.HasRisen mid high → disk.HasRisen low high
-risen_earlier low mid high a (inl lt) = inl (omega arith)
-risen_earlier low mid high a (inr e) = inr e
-
--- The count of faults, reply by reply.
-
-counted_then : (rs : List Reply) (r : Reply) (low mid high : ℕ) → (IsNewFault r → disk.HasRisen mid high) → mid ≤ high → AreCounted rs low mid → AreCounted (rs ++ r ∷ []) low high
-counted_then [] r low mid high risen later so_far = (high, omega arith, λ f. risen_earlier low mid high so_far (risen f), omega arith)
-counted_then (q ∷ rs) r low mid high risen later (m, le, f, rest) = (m, le, f, counted_then rs r m mid high risen later rest)
-
--- from an earlier count on
-pub counted_earlier : (rs : List Reply) (low mid high : ℕ) → low ≤ mid → AreCounted rs mid high → AreCounted rs low high
-counted_earlier [] low mid high a le = omega arith
-counted_earlier (r ∷ rs) low mid high a (m, le, f, rest) = (m, omega arith, λ fault. risen_earlier low mid m a (f fault), rest)
-
-pub counted_later : (rs : List Reply) (low high : ℕ) → AreCounted rs low high → low ≤ high
-counted_later [] low high le = le
-counted_later (r ∷ rs) low high (m, le, f, rest) = let later = counted_later rs m high rest in omega arith
 
 -- So replies that tell of a failed call are at most as many as the count rose by, its last value aside.
 pub counted_few : (tells : Reply → Bool) → ((r : Reply) → tells r ≡ true → IsNewFault r) → (rs : List Reply) (low high : ℕ) → AreCounted rs low high → (low + length (filter tells rs) ≤ high) ⊎ (disk.last_count ≤ high)
@@ -102,38 +85,6 @@ orders_more : (es : List Event) (e : Event) (n : ℕ) → orders_by (es ++ e ∷
 orders_more es e n =
     ap (λ (k : ℕ). raised_times k n) (ap length (filter-append is_order es (e ∷ [])) ∙ length-append (filter is_order es) (filter is_order (e ∷ [])))
     ∙ orders_next e (length (filter is_order es)) n
-
--- Steps.
-step_test : (e : Event) → IsStep e → is_step e ≡ true
-step_test (event.Step x) s = refl
-step_test (event.Boot from) s = absurd s
-step_test (event.Hibernate f) s = absurd s
-step_test (event.Suspend f) s = absurd s
-step_test event.Wake s = absurd s
-step_test event.Settle s = absurd s
-step_test (event.Shrink want) s = absurd s
-step_test (event.Resume loader check) s = absurd s
-step_test (event.Task u o) s = absurd s
-step_test (event.Cut pick) s = absurd s
-step_test (event.Arm first count pick) s = absurd s
-
-steps_more : (es : List Event) (e : Event) → steps_of (es ++ e ∷ []) ≡ steps_of es + cond (is_step e) 1 0
-steps_more es e = ap length (filter-append is_step es (e ∷ [])) ∙ length-append (filter is_step es) (filter is_step (e ∷ [])) ∙ ap (λ (n : ℕ). steps_of es + n) (one_test (is_step e)) where
-  one_test : (b : Bool) → length (cond b (e ∷ []) []) ≡ cond b 1 0
-  one_test true = refl
-  one_test false = refl
-
--- a count that is raised, where there is one step more
-raised_within : (start before now n m t : ℕ) → before ≤ start + n → m ≡ n + t → t ≡ 1 → now ≡ disk.raised before → now ≤ start + m
-raised_within start before now n m t so_far more one raised = omega (arith, min-le_left (before + 1) disk.last_count)
-
-same_within : (start before now n m t : ℕ) → before ≤ start + n → m ≡ n + t → now ≡ before → now ≤ start + m
-same_within start before now n m t so_far more same = omega arith
-
-calls_more : (es : List Event) (e : Event) (r : Reply) (start before now : ℕ) → before ≤ start + steps_of es → IsCalled e r before now → now ≤ start + steps_of (es ++ e ∷ [])
-calls_more es e r start before now so_far (inl same) = same_within start before now (steps_of es) (steps_of (es ++ e ∷ [])) (cond (is_step e) 1 0) so_far (steps_more es e) same
-calls_more es e r start before now so_far (inr called) =
-    raised_within start before now (steps_of es) (steps_of (es ++ e ∷ [])) (cond (is_step e) 1 0) so_far (steps_more es e) (ap (λ (b : Bool). cond b 1 0) (step_test e called.0)) called.2
 
 -- Played events, and one more.
 
@@ -194,9 +145,13 @@ pub played_more : (old mid new : World) (es : List Event) (rs : List Reply) (e :
     HasPlayed old new (es ++ e ∷ []) (rs ++ r ∷ []) before now
 played_more old mid new es rs e r before between now whole played row hw fault later called after = record {
   size = length-append rs (r ∷ []) ∙ ap (λ (n : ℕ). n + 1) played.size ∙ sym (length-append es (e ∷ []));
-  calls = calls_more es e r before.calls between.calls now.calls played.calls called;
+  calls =
+      let so_far = played.calls in
+      let one = called_one e r between.calls now.calls called in
+      let all = steps_append es (e ∷ []) in
+      omega arith;
   orders = after ∙ ap (orders_after e) played.orders ∙ sym (orders_more es e before.orders);
-  faults = counted_then rs r before.faults between.faults now.faults fault later played.faults;
+  faults = counted_append rs (r ∷ []) before.faults between.faults now.faults played.faults (counted_one r between.faults now.faults later fault);
   run = λ c a told stands of. run_then old mid new es rs e r between.blocks between.content now.content c a whole (played.run c a told stands of) row hw;
 }
 

@@ -12,7 +12,11 @@ use Rattle.plain_machine.specs.Premises.{HasOriginal}
 use Rattle.plain_machine.specs.Replies.{line_of}
 use Rattle.plain_machine.specs.declared.reply.Reply.{Reply}
 use Rattle.plain_machine.specs.declared.reply.Reply.TheVariants as reply
-use Rattle.command_core.specs.Hibernation.{HasHibernated, IsUnmarkedOrHolds, image_to_save, machine_to_save}
+use Rattle.plain_machine.specs.Shows.{WorldView}
+use Rattle.sector_disk.specs.declared.disk.Disk.{Ghosts}
+use Rattle.command_core.specs.Runs.{IsHibernation, RanAs}
+use Rattle.command_core.specs.Hibernation.{HasHibernated, IsUnmarkedOrHolds}
+use Rattle.command_core.specs.Answers.{image_to_save, machine_to_save}
 use Rattle.command_core.specs.declared.ending.Ended.{Ended}
 use Rattle.command_kit.specs.Answer.{RunResult, line}
 use Rattle.swsusp_cli.specs.Outcome.{IsOutOfMemory, IsUnread, Tells}
@@ -64,20 +68,25 @@ abbrev pub hibernation_told : Ended → RunResult
 hibernation_told ended = if is_hibernated ended.reply then record { status = Done; out = line_of ended.reply; note = [] } else stopped_told ended
 
 -- The machine of the dump has hibernated, or has answered why it doesn't; cached page frames were dropped before where a size was asked
--- for.
-pub record HasAnswered (f : Format) (size : Option ℕ) (x x' : View) (status : Status) (dump : DumpValue) (ended : Ended) : Type 0 where
+-- for. What it did over the disk is a run, of which this is the last reply.
+pub record HasAnswered {X : Type 0} (D : Ghosts X) (before after : X) (f : Format) (size : Option ℕ) (x x' : View)
+    (status : Status) (dump : DumpValue) (ended : Ended) : Type 0 where
   pub dump_is : IsDump x x' dump
   pub told : Tells (hibernation_told ended) status x x'
-  pub ends : (v : disk.DiskImage) → x.disk.content ≡ Some (disk.settled v) → (Marked dump.hw v → HasOriginal dump.hw v) → HasHibernated dump.hw (machine_to_save dump.hw dump.memory size v) f v ended x'.disk.content
-  pub calls : x'.disk.calls ≤ x.disk.calls + 66002
+  pub ends : (v : disk.DiskImage) → x.disk.content ≡ Some (disk.settled v) → (Marked dump.hw v → HasOriginal dump.hw v) →
+      HasHibernated dump.hw (machine_to_save dump.hw dump.memory size v) f v ended x'.disk.content
+  pub shown : WorldView
+  pub ran : RanAs (IsHibernation f size ended.reply) D dump.hw dump.memory shown before after
   pub orders : x'.disk.orders ≡ x.disk.orders
 
 -- One of these, by what the outside told before a hibernation and after it.
-pub data Hibernates (f : Format) (size : Option ℕ) (x x' : View) (status : Status) : Type 0 where
-  no_dump : (fault : DumpFault) → IsNoDump x x' status fault → Hibernates f size x x' status
-  out_of_memory : IsOutOfMemory x x' status → Hibernates f size x x' status
-  unread : IsUnread x x' status → Hibernates f size x x' status
-  answered : (dump : DumpValue) (ended : Ended) → HasAnswered f size x x' status dump ended → Hibernates f size x x' status
+pub data Hibernates {X : Type 0} (D : Ghosts X) (before after : X) (f : Format) (size : Option ℕ) (x x' : View)
+    (status : Status) : Type 0 where
+  no_dump : (fault : DumpFault) → IsNoDump x x' status fault → Hibernates D before after f size x x' status
+  out_of_memory : IsOutOfMemory x x' status → Hibernates D before after f size x x' status
+  unread : IsUnread x x' status → Hibernates D before after f size x x' status
+  answered : (dump : DumpValue) (ended : Ended) → HasAnswered D before after f size x x' status dump ended →
+      Hibernates D before after f size x x' status
 
 -- A crash since the command began leaves no image that is marked and doesn't hold the image of the dump that was read, over a disk that had
 -- one image, which wasn't marked. `left` is what the input had, `told` what the disk held, and `since` what a crash may leave.

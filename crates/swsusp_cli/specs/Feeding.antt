@@ -1,27 +1,25 @@
 -- A session that is fed what a source hands out.
-use Rattle.std.specs.Prelude.{◌≡◌, ◌≤◌, ℕ, ◌+◌, ◌*◌, ◌/◌, List, length, Option, Some, Result, Ok, Err, ⊤}
-use Rattle.definitions.specs.Disk.{Content, Changes, HasRisen, as_it_reads}
+use Rattle.std.specs.Prelude.{◌≡◌, ◌≤◌, ℕ, ◌+◌, ◌*◌, ◌/◌, List, [], length, Option, Some, Result, Ok, Err, ⊤}
+use Rattle.definitions.specs.Disk.{Content, Changes, DiskImage, HasRisen, as_it_reads}
 use Rattle.definitions.specs.Streams.{HandsOut, IsUsedUp}
 use Rattle.plain_machine.specs.declared.reply.Left.TheVariants.{Same}
 use Rattle.stream_check.specs.Grammar.{first_fault}
 use Rattle.stream_check.specs.Taken.{most_bytes}
+use Rattle.sig_header.specs.declared.area.Area.{Area}
+use Rattle.stream_in.specs.Holding.{StaysReady}
+use Rattle.stream_in.specs.Moments.{AddsNoHeader}
 use Rattle.stream_in.specs.Outside.{StopsAtRest, WritesAtRest}
-use Rattle.stream_in.specs.Session.{IsFed, HasTooFewFor}
+use Rattle.stream_in.specs.Session.{IsFed, TakesInto}
+use Rattle.stream_in.specs.Area.{HasTooFewFor}
 use Rattle.stream_in.specs.Stops.{IsDiskStop}
 use Rattle.stream_in.specs.Written.{AreWritten}
 use Rattle.stream_in.specs.declared.session.StreamIn.{StreamIn}
 use Rattle.stream_in.specs.declared.stop.InStop.{InStop}
 use Rattle.stream_in.specs.declared.stop.InStop.TheVariants as stop
 use Rattle.command_kit.specs.View.{DiskView}
+use Rattle.swsusp_cli.specs.Called.{IsCalled}
 use Rattle.swsusp_cli.specs.declared.importing.ImportStop.{ImportStop}
 use Rattle.swsusp_cli.specs.declared.importing.ImportStop.TheVariants.{Source, Session}
-
--- The disk was called so often at most, its count of failures didn't fall, and it got no orders.
-pub record IsCalled (most : ℕ) (d d' : DiskView) : Type 0 where
-  pub calls : d'.calls ≤ d.calls + most
-  pub faults : d.faults ≤ d'.faults
-  pub orders : d'.orders ≡ d.orders
-  pub blocks : d'.blocks ≡ d.blocks
 
 -- The disk reads as the whole pages of these bytes were written, the first of them when it had one image, and the blocks of no free slot
 -- are as they were then.
@@ -71,3 +69,16 @@ abbrev pub Feeds : List ℕ → StreamIn → StreamIn → Option (List ℕ) → 
 Feeds free s s' left left' d d' (Ok u) = (bs : List ℕ) × HasFed free bs s s' left left' d d' × IsUsedUp left'
 Feeds free s s' left left' d d' (Err Source) = (bs : List ℕ) × HasFed free bs s s' left left' d d'
 Feeds free s s' left left' d d' (Err (Session why)) = (bs : List ℕ) × HasStopped free bs why s left left' d d'
+
+-- Each header block that a crash since a moment before may leave it might have left before, and the clock hasn't fallen.
+pub record KeepsHeaders (before now : ℕ) (past since : ℕ → DiskImage → Type 0) : Type 0 where
+  pub later : before ≤ now
+  pub adds_none : AddsNoHeader before past since
+
+-- The input came to its end, and a disk that was ready for a stream of this area is ready for what was read.
+pub record TakesToEnd (area : Area) (free : List ℕ) (s' : StreamIn) (left left' : Option (List ℕ)) (old new : Option Content) : Type 0 where
+  pub bs : List ℕ
+  pub handed : HandsOut (length bs) bs left left'
+  pub over : IsUsedUp left'
+  pub takes : TakesInto area free bs s'
+  pub ready : Changes (StaysReady area free [] bs) old new

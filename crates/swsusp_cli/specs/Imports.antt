@@ -18,15 +18,14 @@ use Rattle.stream_check.specs.Taken.{most_bytes}
 use Rattle.stream_check.specs.declared.fault.Kind.{Kind}
 use Rattle.stream_check.specs.declared.fault.Kind.TheVariants as fault
 use Rattle.stream_check.specs.declared.fault.StreamFault.{StreamFault}
-use Rattle.stream_in.specs.Area.{AreUsable, first_block, open_fault}
+use Rattle.stream_in.specs.Area.{AreUsable, first_block, open_fault, HasTooFewFor}
 use Rattle.stream_in.specs.Holding.{HasComeIn}
 use Rattle.stream_in.specs.Marking.{LeavesAt}
-use Rattle.stream_in.specs.Session.{HasTooFewFor}
 use Rattle.stream_in.specs.Written.{AreWritten, ReadAsMade, page_at}
 use Rattle.stream_in.specs.declared.stop.InStop.{InStop}
 use Rattle.stream_in.specs.declared.stop.InStop.TheVariants as stop
 use Rattle.command_kit.specs.Answer.{RunResult, line, memory_told}
-use Rattle.swsusp_cli.specs.Feeding.{IsCalled}
+use Rattle.swsusp_cli.specs.Called.{IsCalled}
 use Rattle.swsusp_cli.specs.Outcome.{Tells}
 use Rattle.swsusp_cli.specs.Replay.{unread_note}
 use Rattle.command_kit.specs.Told.{IsTried}
@@ -233,6 +232,7 @@ Ends left left' d d' (Err (Session (stop.SyncFault what))) =
 pub record IsUnread (x x' : View) (status : Status) : Type 0 where
   pub ends : Ends x.left x'.left x.disk x'.disk (Err Source)
   pub status_is : status ≡ Stream
+  pub risen : HasRisen x.read_faults x'.read_faults
   pub out : x'.out ≡ x.out
   pub note : IsTried unread_note x.note x'.note
 

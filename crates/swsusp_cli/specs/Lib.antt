@@ -1,4 +1,6 @@
+pub mod Called
 pub mod Choice
+pub mod Crashes
 pub mod Drills
 pub mod Dumps
 pub mod Exports

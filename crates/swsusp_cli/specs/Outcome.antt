@@ -1,5 +1,5 @@
 -- How a replay may end.
-use Rattle.std.specs.Prelude.{◌≡◌, ◌≤◌, ◌<◌, ℕ, List, [], length, Some, Ok, Err}
+use Rattle.std.specs.Prelude.{◌≡◌, ◌⊎◌, ◌≤◌, ◌<◌, ℕ, List, [], length, Some, Ok, Err}
 use Rattle.definitions.specs.Disk as disk
 use Rattle.definitions.specs.Streams.{IsUsedUp}
 use Rattle.script.specs.Grammar.{ScriptValue, script_of}
@@ -52,6 +52,7 @@ pub record IsOutOfMemory (x x' : View) (status : Status) : Type 0 where
 -- the source failed: that is noted, out is as before, and the disk isn't called
 pub record IsUnread (x x' : View) (status : Status) : Type 0 where
   pub status_is : status ≡ Stream
+  pub risen : disk.HasRisen x.read_faults x'.read_faults
   pub out : x'.out ≡ x.out
   pub note : IsTried unread_note x.note x'.note
   pub untouched : x'.disk ≡ x.disk
@@ -81,12 +82,13 @@ pub record IsPlayed (x x' : View) (status : Status) (script : ScriptValue) : Typ
   pub prints : Prints script x x'
   pub note : IsPrinted [] x.note x'.note
 
--- a sink failed: out took a front of the lines of a run over first events, and the fault is noted
+-- Out failed: it took a front of the lines of a run over first events, and the fault is noted. Or all is printed, and note failed.
 pub record IsCutOff (x x' : View) (status : Status) (script : ScriptValue) : Type 0 where
   pub script_is : IsScript x x' script
   pub roomy : LieBelow script.hardware x.disk.blocks
   pub status_is : status ≡ Stream
   pub prints : PrintsFront script x x'
+  pub whose : disk.HasRisen x.out.faults x'.out.faults ⊎ (Prints script x x' × disk.HasRisen x.note.faults x'.note.faults)
   pub note : IsTried sink_note x.note x'.note
 
 -- One of these, by what the outside told before a replay and after it.

@@ -4,6 +4,8 @@ use Rattle.definitions.specs.Disk as disk
 use Rattle.definitions.specs.Streams.{TakesAll, TakesFront}
 use Rattle.plain_machine.specs.Machine.{Hardware, block_of_slot}
 use Rattle.plain_machine.specs.Replies.{text_of, line_of}
+use Rattle.plain_machine.specs.Shows.{WorldView}
+use Rattle.plain_machine.specs.Stands.{Stands}
 use Rattle.plain_machine.specs.State.{State, off, nothing}
 use Rattle.plain_machine.specs.Step.{Run}
 use Rattle.plain_machine.specs.declared.event.Event.{Event}
@@ -11,25 +13,16 @@ use Rattle.plain_machine.specs.declared.event.Event.TheVariants as event
 use Rattle.plain_machine.specs.declared.reply.Reply.{Reply}
 use Rattle.protocol_laws.specs.Rows.{IsNewFault, LeavesBlock}
 use Rattle.run_laws.specs.Copies.{AllRestore}
+use Rattle.world_runs.specs.Counts.{AreCounted, steps_of}
 use Rattle.run_laws.specs.Resumes.{AreResumedOnce}
 use Rattle.run_laws.specs.Sleeps.{NeverBothGoOn}
 use Rattle.script.specs.Grammar.{ScriptValue}
 use Rattle.script.specs.Kinds.{kind_name}
 use Rattle.script.specs.declared.fault.ScriptFault.{ScriptFault}
-use Rattle.world_core.specs.StandsFor.{StandsFor, IsOff, blocks_of, hardware_of}
-use Rattle.world_core.specs.World.{World}
 use Rattle.command_kit.specs.Answer.{line}
 use Rattle.swsusp_cli.specs.Formatting.{Formats}
 use Rattle.command_kit.specs.Told.{IsPrinted}
 use Rattle.command_kit.specs.View.{View, DiskView}
-
--- how many events are steps, each of which may call the disk once
-abbrev pub is_step : Event → Bool
-is_step (event.Step x) = true
-is_step _ = false
-
-abbrev pub steps_of : List Event → ℕ
-steps_of events = length (filter is_step events)
 
 -- each cut restarts the disk, and each arm arms it; the count of both stays at its last value
 abbrev pub is_order : Event → Bool
@@ -44,20 +37,14 @@ raised_times (suc k) orders = disk.raised (raised_times k orders)
 abbrev pub orders_by : List Event → ℕ → ℕ
 orders_by events orders = raised_times (length (filter is_order events)) orders
 
--- The disk's count of faults goes from `low` to `high` without falling, and rises at each reply that tells of a call that failed at
--- its event: such replies are at most as many as it rose by, its last value aside.
-abbrev pub AreCounted : List Reply → ℕ → ℕ → Type 0
-AreCounted [] low high = low ≤ high
-AreCounted (r ∷ replies) low high = (mid : ℕ) × (low ≤ mid) × (IsNewFault r → disk.HasRisen low mid) × AreCounted replies mid high
-
 -- no slot of the area lies on this block
 abbrev pub IsNoSlot : Hardware → ℕ → Type 0
 IsNoSlot h b = (s : ℕ) → s < h.slots → block_of_slot h s ≢ b
 
 -- Over a disk that held c the script's area was formatted, and the replies are a run of the plain machine over these events, which
 -- begins off with nothing held. A hibernation stands before each resume and between any two of them, each resume restores what was there at
--- the last one, and a machine that is woken and the image that it left never both go on. A world of the script's machine, over this disk,
--- and what the disk holds stand for the state that the run ends in. Blocks on which no slot lies have kept their bytes in every image of the
+-- the last one, and a machine that is woken and the image that it left never both go on. What is shown of the world, and what the disk
+-- holds, stand for the state that the run ends in. Blocks on which no slot lies have kept their bytes in every image of the
 -- disk.
 pub record IsRun (x x' : DiskView) (script : ScriptValue) (events : List Event) (replies : List Reply) (c : disk.Content) : Type 0 where
   pub formatted : disk.Content
@@ -67,12 +54,10 @@ pub record IsRun (x x' : DiskView) (script : ScriptValue) (events : List Event) 
   pub once : AreResumedOnce events replies
   pub sleeps : NeverBothGoOn script.hardware (disk.as_it_reads formatted) (off nothing None) events replies end
   pub restores : AllRestore script.hardware (disk.as_it_reads formatted) (off nothing None) events replies end
-  pub world : World
-  pub hardware : hardware_of world ≡ script.hardware
-  pub blocks : IsOff world ⊎ (blocks_of world ≡ x.blocks)
+  pub shown : WorldView
   pub held : disk.Content
   pub told : x'.content ≡ Some held
-  pub stands : StandsFor world held end
+  pub stands : Stands script.hardware shown held end
   pub unwritten : (b : ℕ) → IsNoSlot script.hardware b → LeavesBlock b c held
 
 -- Each event gave a reply, each step made at most one call of the disk after the formatting's two, the cuts

@@ -5,7 +5,7 @@ use Rattle.sig_header.specs.AreaKind.{area_kind}
 use Rattle.command_kit.specs.Answer.{RunResult, memory_told, unparsed, unread}
 use Rattle.swsusp_cli.specs.Inspect.{header_page, inspected}
 use Rattle.command_kit.specs.View.{DiskView}
-use Rattle.swsusp_words.specs.Words.{Asked, inspect, hibernate, resume, replay, drill, export, import}
+use Rattle.swsusp_words.specs.Words.{Asked, inspect, replay, drill, import}
 
 -- how many reads, writes and syncs there were after one of a block, which isn't made where the disk has no such block
 abbrev pub calls_for : ℕ → ℕ → ℕ → ℕ
@@ -37,54 +37,26 @@ pub record IsInspection (offset : ℕ) (d d' : DiskView) (told : RunResult) : Ty
 abbrev pub IsAnswer : Option Asked → DiskView → DiskView → RunResult → Type 0
 IsAnswer None d d' told = IsRefusal d d' told ⊎ HasNoMemory d d' told
 IsAnswer (Some (inspect offset swap)) d d' told = IsInspection offset d d' told ⊎ HasNoMemory d d' told
--- what these do is told by IsReplayed, IsDrilled, Hibernates, Resumes, Exports and Imports
-IsAnswer (Some replay) d d' told = ⊥
-IsAnswer (Some (drill number)) d d' told = ⊥
-IsAnswer (Some (hibernate format size swap)) d d' told = ⊥
-IsAnswer (Some (resume check swap)) d d' told = ⊥
-IsAnswer (Some export) d d' told = ⊥
-IsAnswer (Some (import swap)) d d' told = ⊥
+-- what the others do is told by IsReplayed, IsDrilled, Hibernates, Resumes, Exports and Imports
+IsAnswer _ d d' told = ⊥
 
 -- words after which no machine is made, and no stream is read or written
 abbrev pub NoMachine : Option Asked → Type 0
 NoMachine None = ⊤
 NoMachine (Some (inspect offset swap)) = ⊤
-NoMachine (Some (hibernate format size swap)) = ⊥
-NoMachine (Some (resume check swap)) = ⊥
-NoMachine (Some replay) = ⊥
-NoMachine (Some (drill number)) = ⊥
-NoMachine (Some export) = ⊥
-NoMachine (Some (import swap)) = ⊥
+NoMachine _ = ⊥
 
 -- words after which nothing is read
 abbrev pub NoInput : Option Asked → Type 0
-NoInput None = ⊤
-NoInput (Some (inspect offset swap)) = ⊤
-NoInput (Some (hibernate format size swap)) = ⊥
-NoInput (Some (resume check swap)) = ⊥
-NoInput (Some replay) = ⊥
 NoInput (Some (drill number)) = ⊤
-NoInput (Some export) = ⊥
-NoInput (Some (import swap)) = ⊥
+NoInput asked = NoMachine asked
 
 -- words after which no dump is read, and no stream
 abbrev pub NoDump : Option Asked → Type 0
-NoDump None = ⊤
-NoDump (Some (inspect offset swap)) = ⊤
-NoDump (Some (hibernate format size swap)) = ⊥
-NoDump (Some (resume check swap)) = ⊥
 NoDump (Some replay) = ⊤
-NoDump (Some (drill number)) = ⊤
-NoDump (Some export) = ⊥
-NoDump (Some (import swap)) = ⊥
+NoDump asked = NoInput asked
 
 -- words after which no stream is read
 abbrev pub NoImport : Option Asked → Type 0
-NoImport None = ⊤
-NoImport (Some (inspect offset swap)) = ⊤
-NoImport (Some (hibernate format size swap)) = ⊤
-NoImport (Some (resume check swap)) = ⊤
-NoImport (Some replay) = ⊤
-NoImport (Some (drill number)) = ⊤
-NoImport (Some export) = ⊤
 NoImport (Some (import swap)) = ⊥
+NoImport _ = ⊤

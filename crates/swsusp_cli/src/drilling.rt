@@ -31,13 +31,15 @@ pub fn drill<O: Sink, N: Sink, D: Disk>(
 ) -> Status
     requires some { 1 ≤ number }
     requires few { number ≤ 2000 }
-    ensures outcome { (left : Option (List ℕ)) → IsDrilled number (record {
+    ensures outcome { (left : Option (List ℕ)) (read_faults : ℕ) → IsDrilled number (record {
       left = left;
+      read_faults = read_faults;
       disk = disk_view D.Disk disk.old;
       out = sink_view O.Sink out.old;
       note = sink_view N.Sink note.old;
     }) (record {
       left = left;
+      read_faults = read_faults;
       disk = disk_view D.Disk disk.new;
       out = sink_view O.Sink out.new;
       note = sink_view N.Sink note.new;

@@ -1,13 +1,15 @@
-ghost use Rattle.std.specs.Prelude.{◌≡◌, ◌≢◌, ◌⊎◌, ◌≤◌, ◌<◌, ◌++◌, List, ℕ, [], IfOk, IfErr, OnErr, length, vec_len};
+ghost use Rattle.std.specs.Prelude.{◌≡◌, ◌≢◌, ◌⊎◌, ◌≤◌, ◌<◌, ◌++◌, List, ℕ, [], IfOk, IfErr, IsTrue, OnErr, OnOk, length, vec_len};
 ghost use Rattle.definitions.specs.Disk.{HasRisen};
 ghost use Rattle.definitions.specs.Streams.{HandsOut, IsUsedUp};
 ghost use Rattle.plain_machine.specs.Replies.{line_of};
-ghost use Rattle.stream_in.specs.Session.{IsFed};
+ghost use Rattle.sig_header.specs.declared.area.Area.{Area};
+ghost use Rattle.stream_in.specs.Session.{IsFed, TakesInto};
 ghost use Rattle.stream_in.specs.Stops.{IsDiskStop};
 ghost use Rattle.stream_in.specs.Written.{AreOfMap};
 ghost use Rattle.command_kit.specs.Answer.{RunResult};
 ghost use Rattle.command_kit.specs.AnswerOf.{told_by};
-ghost use Rattle.swsusp_cli.specs.Feeding.{Feeds, IsOfDisk, IsOfSource};
+ghost use Rattle.swsusp_cli.specs.Crashes.{ImportsInside};
+ghost use Rattle.swsusp_cli.specs.Feeding.{Feeds, IsOfDisk, IsOfSource, KeepsHeaders, TakesToEnd};
 ghost use Rattle.swsusp_cli.specs.Imports.{Ends, Imports, imported_told, kind_text, stop_told, stream_told};
 ghost use Rattle.command_kit.specs.View.{disk_view, view};
 
@@ -76,6 +78,8 @@ pub fn import_stream<I: Source, O: Sink, N: Sink, D: Disk>(
         ⊎ HasRisen (O.faults out.old) (O.faults out.new) ⊎ HasRisen (N.faults note.old) (N.faults note.new) }
     ensures device { result ≡ Status.Device → HasRisen (D.faults disk.old) (D.faults disk.new) }
     ensures words { result ≢ Status.Words }
+    ensures inside { IsTrue (D.tells_moments disk.old) → ImportsInside (I.remaining input.old) (I.remaining input.new)
+        (D.moment disk.old) (D.moment disk.new) (D.left_since disk.old) (D.left_since disk.new) }
 {
     match import_image(alloc, input, disk) {
         Ok(n) => imported(n).tell(out, note),
@@ -95,6 +99,8 @@ fn import_image<I: Source, D: Disk>(
         (disk_view D.Disk disk.new) result }
     ensures device { IfErr result (λ stop. IsOfDisk stop → HasRisen (D.faults disk.old) (D.faults disk.new)) }
     ensures source { IfErr result (λ stop. IsOfSource stop → HasRisen (I.faults input.old) (I.faults input.new)) }
+    ensures inside { IsTrue (D.tells_moments disk.old) → ImportsInside (I.remaining input.old) (I.remaining input.new)
+        (D.moment disk.old) (D.moment disk.new) (D.left_since disk.old) (D.left_since disk.new) }
 {
     let mut piece = empty_piece(alloc)?;
     let mut session = StreamIn::open(alloc, disk)?;
@@ -127,6 +133,11 @@ fn feed_input<I: Source, D: Disk>(
         (disk_view D.Disk disk.new) result }
     ensures device { IfErr result (λ stop. IsOfDisk stop → HasRisen (D.faults disk.old) (D.faults disk.new)) }
     ensures source { IfErr result (λ stop. IsOfSource stop → HasRisen (I.faults input.old) (I.faults input.new)) }
+    ensures headers { IsTrue (D.tells_moments disk.old) → (area : Area) (free : List ℕ) → TakesInto area free [] session.old →
+        KeepsHeaders (D.moment disk.old) (D.moment disk.new) (D.left_since disk.old) (D.left_since disk.new) }
+    ensures ready { (area : Area) (free : List ℕ) → TakesInto area free [] session.old → OnOk result
+        (TakesToEnd area free session.new (I.remaining input.old) (I.remaining input.new) (D.content disk.old) (D.content disk.new)) }
+    ensures telling { D.tells_moments disk.new ≡ D.tells_moments disk.old }
 {
     let mut taken = 0;
     'pieces: loop {

@@ -29,7 +29,7 @@ pub fn resume_dump<I: Source, O: Sink, N: Sink, D: Disk>(
     note: &mut N,
     disk: &mut D,
 ) -> Status
-    ensures outcome { Resumes check
+    ensures outcome { Resumes D.Disk disk.old disk.new check
         (view I.Source O.Sink N.Sink D.Disk input.old out.old note.old disk.old)
         (view I.Source O.Sink N.Sink D.Disk input.new out.new note.new disk.new) result }
     ensures stream { result ≡ Status.Stream → HasRisen (I.faults input.old) (I.faults input.new)

@@ -9,6 +9,7 @@ ghost use Rattle.swsusp_cli.specs.Outcome.{IsReplayed};
 ghost use Rattle.page_core.specs.declared.format.Format.{Format};
 ghost use Rattle.plain_machine.specs.declared.event.IdentCheck.{IdentCheck};
 ghost use Rattle.swsusp_cli.specs.Drills.{IsDrilled};
+ghost use Rattle.swsusp_cli.specs.Crashes.{ImportsInside};
 ghost use Rattle.swsusp_cli.specs.Dumps.{Hibernates, SavesInside};
 ghost use Rattle.swsusp_cli.specs.Exports.{Exports};
 ghost use Rattle.swsusp_cli.specs.Imports.{Imports};
@@ -51,10 +52,10 @@ pub fn run<I: Source, O: Sink, N: Sink, D: Disk>(
     ensures drilled { (number : ℕ) → command_of (map string_bytes words.now) ≡ Some (drill number) → IsDrilled number
         (view I.Source O.Sink N.Sink D.Disk input.old out.old note.old disk.old)
         (view I.Source O.Sink N.Sink D.Disk input.new out.new note.new disk.new) result }
-    ensures hibernated { (format : Format) (size : Option ℕ) (swap : List ℕ) → command_of (map string_bytes words.now) ≡ Some (hibernate format size swap) → Hibernates format size
+    ensures hibernated { (format : Format) (size : Option ℕ) (swap : List ℕ) → command_of (map string_bytes words.now) ≡ Some (hibernate format size swap) → Hibernates D.Disk disk.old disk.new format size
         (view I.Source O.Sink N.Sink D.Disk input.old out.old note.old disk.old)
         (view I.Source O.Sink N.Sink D.Disk input.new out.new note.new disk.new) result }
-    ensures resumed { (check : IdentCheck) (swap : List ℕ) → command_of (map string_bytes words.now) ≡ Some (resume check swap) → Resumes check
+    ensures resumed { (check : IdentCheck) (swap : List ℕ) → command_of (map string_bytes words.now) ≡ Some (resume check swap) → Resumes D.Disk disk.old disk.new check
         (view I.Source O.Sink N.Sink D.Disk input.old out.old note.old disk.old)
         (view I.Source O.Sink N.Sink D.Disk input.new out.new note.new disk.new) result }
     ensures exported { command_of (map string_bytes words.now) ≡ Some export → Exports
@@ -69,6 +70,9 @@ pub fn run<I: Source, O: Sink, N: Sink, D: Disk>(
         SavesInside format size (I.remaining input.old) (D.content disk.old) (D.left_since disk.new (D.moment disk.old)) }
     ensures loads_inside { (check : IdentCheck) (swap : List ℕ) → command_of (map string_bytes words.now) ≡ Some (resume check swap) → IsTrue (D.tells_moments disk.old) →
         LoadsInside (I.remaining input.old) (D.content disk.old) (D.left_since disk.new (D.moment disk.old)) }
+    ensures imports_inside { (swap : List ℕ) → command_of (map string_bytes words.now) ≡ Some (import swap) → IsTrue (D.tells_moments disk.old) →
+        ImportsInside (I.remaining input.old) (I.remaining input.new)
+        (D.moment disk.old) (D.moment disk.new) (D.left_since disk.old) (D.left_since disk.new) }
 
     // Each answer that isn't success has its cause.
     ensures words { result ≡ Status.Words → command_of (map string_bytes words.now) ≡ None }

@@ -5,7 +5,9 @@ use Rattle.plain_machine.specs.declared.event.Actor.TheVariants as actor
 use Rattle.plain_machine.specs.declared.event.Event.TheVariants as event
 use Rattle.protocol_laws.specs.Rows.{IsNewFault}
 use Rattle.world_core.specs.StandsFor.{hardware_of}
-use Rattle.command_core.proofs.Points.{made_first, made_more, elapsed_first, elapsed_more, called_within, risen_then}
+use Rattle.world_runs.proofs.Playing.{played_one}
+use Rattle.command_core.proofs.Points.{made_first, made_more, elapsed_first, elapsed_more, risen_then}
+use Rattle.command_core.proofs.Runs.{finishes_first, finishes_more}
 use Rattle.command_core.proofs.ending.finish.Goals as goal
 use Rattle.command_core.proofs.ending.finish.Goals.{then-failed, else-failed}
 
@@ -16,7 +18,7 @@ loop-made-init g c = record {
   blocks = c.requires.blocks;
   cause = λ is. absurd (false≢true is);
   faults = omega arith;
-  calls = omega arith;
+  ran = finishes_first g.D.Disk c.args.world.now c.args.begun c.args.disk.now;
   orders = refl;
   few = omega arith;
   telling = refl;
@@ -53,7 +55,10 @@ loop-made-preserved g c =
       blocks = row.blocks;
       cause = λ is. risen_then (c.loop-made.failed ≡ true) (IsNewFault r) (g.D.Disk.faults c.args.disk.now) (g.D.Disk.faults c.loop-made.disk) (g.D.Disk.faults c.event-reply.new.disk) so_far later inv.cause row.cause (either is);
       faults = omega arith;
-      calls = called_within (event.Step actor.Core) r (g.D.Disk.calls c.args.disk.now) (g.D.Disk.calls c.loop-made.disk) (g.D.Disk.calls c.event-reply.new.disk) c.loop-made.made inv.calls row.calls;
+      ran = finishes_more g.D.Disk c.args.world.now c.loop-made.world c.event-reply.new.self c.args.begun c.loop-made.reply r c.loop-made.made c.args.disk.now c.loop-made.disk c.event-reply.new.disk inv.ran
+          (let lt = c.loop-made-test.true in omega arith)
+          (sym c.goes_on.ensures ∙ c.if-goes_on.true)
+          (played_one g.D.Disk c.loop-made.world c.event-reply.new.self (event.Step actor.Core) r c.loop-made.disk c.event-reply.new.disk tt row.hardware row.row row.restored row.cause row.faults row.calls row.telling row.time);
       orders = row.orders ∙ inv.orders;
       few = let lt = c.loop-made-test.true in omega arith;
       telling = row.telling ∙ inv.telling;
@@ -85,3 +90,9 @@ returns-after-loop-made-clause-gone g c = λ content a told stands. record {
   made = c.loop-made.invariant.made content a told stands;
   over = inr (let few = c.loop-made.invariant.few in let past = c.loop-made-test.false in omega arith);
 }
+
+pub returns-else-goes_on-clause-ran : goal.returns-else-goes_on-clause-ran
+returns-else-goes_on-clause-ran g c = c.loop-made.invariant.ran.0
+
+pub returns-after-loop-made-clause-ran : goal.returns-after-loop-made-clause-ran
+returns-after-loop-made-clause-ran g c = c.loop-made.invariant.ran.0

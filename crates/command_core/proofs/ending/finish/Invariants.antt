@@ -1,7 +1,8 @@
-use Rattle.std.proofs.Common.{◌-◌, ◌≡◌, ◌⊎◌, ◌≤◌, ◌+◌, false, IsTrue, Some}
+use Rattle.std.proofs.Common.{◌-◌, ◌≡◌, ◌⊎◌, ◌≤◌, ◌+◌, false, length, IsTrue, Some}
 use Rattle.definitions.specs.Disk.{Content, HasRisen}
 use Rattle.plain_machine.specs.State.{State}
 use Rattle.world_core.specs.StandsFor.{IsOff, StandsFor, blocks_of, hardware_of}
+use Rattle.command_core.specs.Parts.{Finishes}
 use Rattle.command_core.specs.Turns.{HaveMade, Elapsed}
 use Rattle.command_core.proofs.ending.finish.Given as goal
 
@@ -13,7 +14,7 @@ invariant-loop-made g l = record {
   blocks : IsOff l.world ⊎ (g.D.Disk.block_count l.disk ≡ blocks_of l.world);
   cause : IsTrue l.failed → HasRisen (g.D.Disk.faults l.fn.disk) (g.D.Disk.faults l.disk);
   faults : g.D.Disk.faults l.fn.disk ≤ g.D.Disk.faults l.disk;
-  calls : g.D.Disk.calls l.disk ≤ g.D.Disk.calls l.fn.disk + l.made;
+  ran : (f : Finishes g.D.Disk l.fn.world l.world l.fn.begun l.reply l.fn.disk l.disk) × (length f.0 ≡ l.made);
   orders : g.D.Disk.orders l.disk ≡ g.D.Disk.orders l.fn.disk;
   few : l.made ≤ 66000;
   telling : g.D.Disk.tells_moments l.disk ≡ g.D.Disk.tells_moments l.fn.disk;

@@ -10,14 +10,17 @@ use Rattle.plain_machine.specs.declared.event.Event.TheVariants as event
 use Rattle.plain_machine.specs.declared.reply.Reply.{Reply}
 use Rattle.plain_machine.specs.declared.reply.Reply.TheVariants as reply
 use Rattle.world_core.specs.StandsFor.{hardware_of, shown}
-use Rattle.command_core.specs.Hibernation.{IsUnmarkedOrHolds, image_to_save, machine_to_save}
+use Rattle.command_core.specs.Hibernation.{IsUnmarkedOrHolds}
+use Rattle.command_core.specs.Answers.{image_to_save, machine_to_save}
 use Rattle.command_core.specs.Turns.{Point, StandsAt, HasGone, IsLeftInside}
 use Rattle.command_core.proofs.Begun.{told_whole, untouched_then, untouched_at, save_writes}
 use Rattle.command_core.proofs.Booting.{hibernation_begins}
-use Rattle.command_core.proofs.Crashes.{never_inside, same_length, saves_inside, still_then}
+use Rattle.command_core.proofs.Crashes.{never_inside, same_length, saves_inside, still_first, still_then}
 use Rattle.command_core.proofs.Hibernating.{IsAt}
 use Rattle.command_core.proofs.Saved.{failed_early, refused, saves}
 use Rattle.command_core.proofs.Points.{turned}
+use Rattle.world_runs.proofs.Playing.{played_one}
+use Rattle.command_core.proofs.Runs.{asked, ran}
 use Rattle.command_core.proofs.hibernation.hibernate.Goals as goal
 
 pub returns-in-Err-clause-hibernated : goal.returns-in-Err-clause-hibernated
@@ -102,3 +105,29 @@ returns-clause-inside g c = λ tells v told never w left.
                 (subst (λ (r : Reply). IsAt i a 0 r turn.new.state false) (sym (sym turn.reply_is ∙ is.1)) is.2) here
           ]
     ]
+
+pub returns-in-Err-clause-ran : goal.returns-in-Err-clause-ran
+returns-in-Err-clause-ran g c =
+    let failed = c.in-Err.ensures.ran in (
+      failed.0,
+      failed.1,
+      inl failed.2,
+      ran g.D.Disk c.args.world.now c.start.new.world failed.0 failed.1 c.args.disk.now c.start.new.disk c.requires.new
+          (λ v w told tells left. (still_first (g.D.Disk.moment c.args.disk.now) (g.D.Disk.left_since c.args.disk.now) (g.D.Disk.content c.args.disk.now) v told
+          (λ u now. g.met.D.Disk.only_now c.args.disk.now u tells now)).same w left) failed.3,
+    )
+
+pub returns-clause-ran : goal.returns-clause-ran
+returns-clause-ran g c =
+    let row = c.event-begun.ensures in
+    let all = asked g.D.Disk c.args.format c.args.size c.args.world.now c.start.new.world c.event-begun.new.self c.finish.new.world c.event-begun.result c.finish.result.reply
+    c.args.disk.now c.start.new.disk c.event-begun.new.disk c.finish.new.disk c.in-Ok.ensures.ran
+    (played_one g.D.Disk c.start.new.world c.event-begun.new.self (event.Hibernate c.args.format) c.event-begun.result c.start.new.disk c.event-begun.new.disk tt row.hardware row.row row.restored row.cause row.faults row.calls row.telling row.time)
+    c.finish.ensures.ran in (
+      all.0,
+      all.1,
+      all.2,
+      ran g.D.Disk c.args.world.now c.finish.new.world all.0 all.1 c.args.disk.now c.finish.new.disk c.requires.new
+          (λ v w told tells left. (still_first (g.D.Disk.moment c.args.disk.now) (g.D.Disk.left_since c.args.disk.now) (g.D.Disk.content c.args.disk.now) v told
+          (λ u now. g.met.D.Disk.only_now c.args.disk.now u tells now)).same w left) all.3,
+    )

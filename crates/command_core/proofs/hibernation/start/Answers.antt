@@ -1,13 +1,17 @@
-use Rattle.std.proofs.Common.{ℕ, Option, true, sym, subst}
+use Rattle.std.proofs.Common.{ℕ, Ok, Option, true, sym, subst}
 use Rattle.std.specs.Prelude.{IsTrue}
 use Rattle.definitions.specs.Disk as disk
 use Rattle.plain_machine.specs.State.{on}
 use Rattle.plain_machine.specs.declared.reply.Reply.TheVariants as reply
 use Rattle.world_core.specs.StandsFor.{hardware_of}
-use Rattle.command_core.specs.Hibernation.{IsUp, machine_of_dump, machine_to_save}
+use Rattle.command_core.specs.Answers.{machine_of_dump, machine_to_save}
+use Rattle.command_core.specs.Parts.{IsUp, Starts}
 use Rattle.command_core.specs.Turns.{Point}
 use Rattle.command_core.proofs.Begun.{told_whole, up_shrunk}
 use Rattle.command_core.proofs.Crashes.{still_untouched}
+use Rattle.plain_machine.specs.declared.event.Event.TheVariants as event
+use Rattle.world_runs.proofs.Playing.{played_one}
+use Rattle.command_core.proofs.Runs.{starts_shrunk}
 use Rattle.command_core.proofs.hibernation.start.Goals as goal
 
 pub returns-in-Some-clause-up : goal.returns-in-Some-clause-up
@@ -42,3 +46,14 @@ returns-in-Some-clause-still g c = λ tells v told original.
     (g.D.Disk.left_since c.boot.new.disk) (g.D.Disk.left_since c.event.new.disk) (told_whole (count c.args.disk.now) (content c.args.disk.now) (disk.settled v) told (wf c.args.disk.now))
     (record { blocks = booted.blocks; whole = booted.whole; same = booted.same; unwritten = booted.unwritten }) booted.told shrunk.told shrunk.whole shrunk.unwritten
     (boot.still tells v told original) (row.time tt (subst IsTrue (sym boot.telling) tells))
+
+pub returns-in-Some-clause-ran : goal.returns-in-Some-clause-ran
+returns-in-Some-clause-ran g c =
+    let row = c.event.ensures in
+    subst (λ (size : Option ℕ). Starts g.D.Disk size c.args.world.now c.event.new.self (Ok tt) c.args.disk.now c.event.new.disk) (sym c.in-Some.is)
+    (starts_shrunk g.D.Disk c.args.world.now c.boot.new.world c.event.new.self c.in-Some.want c.event.result c.args.disk.now c.boot.new.disk c.event.new.disk c.in-Ok.ensures.ran
+    (played_one g.D.Disk c.boot.new.world c.event.new.self (event.Shrink c.in-Some.want) c.event.result c.boot.new.disk c.event.new.disk tt row.hardware row.row row.restored row.cause row.faults row.calls row.telling row.time))
+
+pub returns-in_default-clause-ran : goal.returns-in_default-clause-ran
+returns-in_default-clause-ran g c =
+    subst (λ (size : Option ℕ). Starts g.D.Disk size c.args.world.now c.boot.new.world (Ok tt) c.args.disk.now c.boot.new.disk) (sym c.in_default.is) c.in-Ok.ensures.ran

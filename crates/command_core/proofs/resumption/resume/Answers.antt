@@ -8,13 +8,15 @@ use Rattle.plain_machine.specs.declared.event.Event.TheVariants as event
 use Rattle.plain_machine.specs.declared.event.Loader.TheVariants.{Table}
 use Rattle.plain_machine.specs.declared.reply.Reply.TheVariants as reply
 use Rattle.world_core.specs.StandsFor.{hardware_of}
-use Rattle.command_core.specs.Hibernation.{held_at_first}
+use Rattle.command_core.specs.Answers.{held_at_first}
 use Rattle.command_core.specs.Turns.{Point, HasGone, IsLeftInside}
 use Rattle.command_core.proofs.Begun.{new_stands, told_whole, untouched_first, untouched_then, untouched_at, off_writes}
 use Rattle.protocol_laws.proofs.Inside.{taken_itself}
 use Rattle.command_core.proofs.Crashes.{resumes_inside, still_first, still_then}
 use Rattle.command_core.proofs.Loaded.{resume_begins, begins_at, resumes}
 use Rattle.command_core.proofs.Points.{turned}
+use Rattle.world_runs.proofs.Playing.{played_one}
+use Rattle.command_core.proofs.Runs.{ran, resumed}
 use Rattle.command_core.proofs.resumption.resume.Goals as goal
 
 pub returns-clause-resumed : goal.returns-clause-resumed
@@ -72,3 +74,18 @@ returns-clause-inside g c = λ tells v told original w left.
       | inr inside ↦ resumes_inside h m check v w blocks start whole (untouched_at v turn.new start refl untouched)
           (begins_at h m check v c.event-begun.result turn.new.state false (sym turn.reply_is ∙ is.0) is.1) (subst (λ (x : Hardware). IsLeftInside x start w) row.hardware inside)
     ]
+
+pub returns-clause-ran : goal.returns-clause-ran
+returns-clause-ran g c =
+    let row = c.event-begun.ensures in
+    let all = resumed g.D.Disk c.args.check c.args.world.now c.event-begun.new.self c.finish.new.world c.event-begun.result c.finish.result.reply
+    c.args.disk.now c.event-begun.new.disk c.finish.new.disk
+    (played_one g.D.Disk c.args.world.now c.event-begun.new.self (event.Resume Table c.args.check) c.event-begun.result c.args.disk.now c.event-begun.new.disk tt row.hardware row.row row.restored row.cause row.faults row.calls row.telling row.time)
+    c.finish.ensures.ran in (
+      all.0,
+      all.1,
+      all.2,
+      ran g.D.Disk c.args.world.now c.finish.new.world all.0 all.1 c.args.disk.now c.finish.new.disk c.requires.new
+          (λ v w told tells left. (still_first (g.D.Disk.moment c.args.disk.now) (g.D.Disk.left_since c.args.disk.now) (g.D.Disk.content c.args.disk.now) v told
+          (λ u now. g.met.D.Disk.only_now c.args.disk.now u tells now)).same w left) all.3,
+    )

@@ -1,4 +1,4 @@
-use Rattle.std.proofs.Common.{◌≡◌, refl, subst}
+use Rattle.std.proofs.Common.{◌≡◌, refl, subst, Err, ap}
 use Rattle.dump_file.specs.Dump.{DumpValue}
 use Rattle.command_kit.specs.Answer.{RunResult}
 use Rattle.command_kit.specs.Told.{IsTold}
@@ -9,7 +9,7 @@ use Rattle.machine_cli.proofs.Foretold.{few_more, foretold_by}
 use Rattle.machine_cli.proofs.checking.check.Goals as goal
 
 pub returns-in-Err-clause-outcome : goal.returns-in-Err-clause-outcome
-returns-in-Err-clause-outcome g c = without_dump _ _ _ c.tell.result c.in-Err.stop c.in-Err.ensures.lacks c.tell.ensures.told refl no_dump
+returns-in-Err-clause-outcome g c = without_dump _ _ _ c.tell.result c.in-Err.stop c.in-Err.ensures.lacks c.tell.ensures.told refl (λ e. c.in-Err.ensures.cause (ap Err e)) no_dump
     (λ short. out_of_memory (record { told = short.told; only_read = record { content = refl; orders = refl; calls = few_more _ } })) unread
 
 pub returns-in-Err-machine_of-clause-outcome : goal.returns-in-Err-machine_of-clause-outcome

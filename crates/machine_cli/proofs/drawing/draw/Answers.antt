@@ -1,4 +1,4 @@
-use Rattle.std.proofs.Common.{inl, inr, List, None, length, refl, subst, take}
+use Rattle.std.proofs.Common.{inl, inr, List, None, length, refl, subst, take, Err, ap}
 use Rattle.definitions.specs.Streams.{TakesAll, TakesFront}
 use Rattle.plain_machine.specs.Machine.{Hardware}
 use Rattle.plain_machine.specs.declared.event.Event.{Event}
@@ -12,11 +12,11 @@ use Rattle.command_kit.specs.View.{DiskView, SinkView}
 use Rattle.swsusp_cli.proofs.Replays.{replies_of, risen_of, told_status}
 use Rattle.machine_cli.proofs.Pictures.{drawn_whole, not_drawn}
 use Rattle.swsusp_cli.proofs.Inputs.{without_script}
-use Rattle.swsusp_cli.proofs.Turns.{risen_earlier}
+use Rattle.world_runs.proofs.Counted.{risen_earlier}
 use Rattle.machine_cli.proofs.drawing.draw.Goals as goal
 
 pub returns-in-Err-clause-outcome : goal.returns-in-Err-clause-outcome
-returns-in-Err-clause-outcome g c = without_script _ _ _ c.tell.result c.in-Err.stop c.in-Err.ensures.ready c.tell.ensures.told refl no_script out_of_memory unread
+returns-in-Err-clause-outcome g c = without_script _ _ _ c.tell.result c.in-Err.stop c.in-Err.ensures.ready c.tell.ensures.told refl (λ e. c.in-Err.ensures.stream (ap Err e)) no_script out_of_memory unread
 
 pub returns-in-Err-create-clause-outcome : goal.returns-in-Err-create-clause-outcome
 returns-in-Err-create-clause-outcome g c =
@@ -51,9 +51,9 @@ returns-in-Ok-draw_run-clause-outcome g c =
     let rs = c.in-Ok-draw_run.ensures.drawn.0 in
     let was = subst (λ (events : List Event). HasPlayed c.in-Ok-create.world c.draw_run.new.world events rs between now) c.events.ensures c.in-Ok-draw_run.ensures.drawn.1 in
     let replies = replies_of script c.in-Ok-create.world c.draw_run.new.world script.events rs before between now
-    (g.met.D.Disk.well_formed c.args.disk.now) (g.met.D.Disk.well_formed c.set_up.new.disk) (g.met.D.Disk.well_formed c.draw_run.new.disk) set new c.in-Ok.ensures.few_bad was c.draw_run.ensures.hardware c.draw_run.ensures.blocks in
+    (g.met.D.Disk.well_formed c.args.disk.now) (g.met.D.Disk.well_formed c.set_up.new.disk) set new c.in-Ok.ensures.few_bad was c.draw_run.ensures.hardware in
     drawn_whole _ _ tell.result script out rs (record { says = c.in-Ok.ensures.ready.0; over = c.in-Ok.ensures.ready.1; few = c.in-Ok.ensures.few }) set.roomy replies (subst (λ (events : List Event). TakesAll (picture events rs) (g.O.Sink.taken c.args.out.now) (g.O.Sink.taken c.draw_run.new.out)) c.events.ensures c.in-Ok-draw_run.ensures.drawn.2)
-    tell.ensures.told
+    c.draw_run.ensures.stream_faults tell.ensures.told
 
 pub returns-clause-outcome : goal.returns-clause-outcome
 returns-clause-outcome g c =
@@ -67,12 +67,13 @@ returns-clause-outcome g c =
     let rs = c.in-Err-draw_run.ensures.drawn.1 in
     let was = subst (λ (events : List Event). HasPlayed c.in-Ok-create.world c.draw_run.new.world (take k events) rs between now) c.events.ensures c.in-Err-draw_run.ensures.drawn.2 in
     let replies = replies_of script c.in-Ok-create.world c.draw_run.new.world (take k script.events) rs before between now
-    (g.met.D.Disk.well_formed c.args.disk.now) (g.met.D.Disk.well_formed c.set_up.new.disk) (g.met.D.Disk.well_formed c.draw_run.new.disk) set new c.in-Ok.ensures.few_bad was c.draw_run.ensures.hardware c.draw_run.ensures.blocks in
+    (g.met.D.Disk.well_formed c.args.disk.now) (g.met.D.Disk.well_formed c.set_up.new.disk) set new c.in-Ok.ensures.few_bad was c.draw_run.ensures.hardware in
     cut_off script (record {
       script_is = record { says = c.in-Ok.ensures.ready.0; over = c.in-Ok.ensures.ready.1; few = c.in-Ok.ensures.few };
       roomy = set.roomy;
       status_is = c.cut_off.ensures.status;
       draws = (k, rs, replies, subst (λ (events : List Event). TakesFront (pictured (length events) (take k events) rs) (g.O.Sink.taken c.args.out.now) (g.O.Sink.taken c.draw_run.new.out)) c.events.ensures c.in-Err-draw_run.ensures.drawn.3);
+      whose = inl c.in-Err-draw_run.ensures.stream;
       note = c.cut_off.ensures.note;
     })
 

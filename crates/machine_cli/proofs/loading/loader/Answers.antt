@@ -1,4 +1,4 @@
-use Rattle.std.proofs.Common.{◌≡◌, refl, subst}
+use Rattle.std.proofs.Common.{◌≡◌, refl, subst, Err, ap}
 use Rattle.dump_file.specs.Dump.{DumpValue}
 use Rattle.command_kit.specs.Answer.{RunResult}
 use Rattle.swsusp_cli.specs.Loads.{written_told}
@@ -12,7 +12,7 @@ use Rattle.machine_cli.specs.Freshened.{no_dump, out_of_memory, unread, freshene
 use Rattle.machine_cli.proofs.loading.loader.Goals as goal
 
 pub returns-in-Err-clause-outcome : goal.returns-in-Err-clause-outcome
-returns-in-Err-clause-outcome g c disk = without_dump _ _ _ c.tell.result c.in-Err.stop c.in-Err.ensures.lacks c.tell.ensures.told (refl {a = disk}) no_dump out_of_memory unread
+returns-in-Err-clause-outcome g c disk = without_dump _ _ _ c.tell.result c.in-Err.stop c.in-Err.ensures.lacks c.tell.ensures.told (refl {a = disk}) (λ e. c.in-Err.ensures.cause (ap Err e)) no_dump out_of_memory unread
 
 pub returns-in-Ok-make_fresh-clause-outcome : goal.returns-in-Ok-make_fresh-clause-outcome
 returns-in-Ok-make_fresh-clause-outcome g c disk =

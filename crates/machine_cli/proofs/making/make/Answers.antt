@@ -1,4 +1,4 @@
-use Rattle.std.proofs.Common.{◌≡◌, ◌∙◌, List, Some, None, refl, sym, ap, subst}
+use Rattle.std.proofs.Common.{◌≡◌, ◌∙◌, List, Some, None, refl, sym, ap, subst, Err}
 use Rattle.definitions.specs.Disk as disk
 use Rattle.plain_machine.specs.Machine.{Hardware, Memory}
 use Rattle.plain_machine.specs.Shows.{seen_frames}
@@ -11,13 +11,13 @@ use Rattle.swsusp_cli.specs.Playing.{HasPlayed}
 use Rattle.command_kit.specs.Told.{IsTold}
 use Rattle.command_kit.specs.View.{DiskView, SinkView}
 use Rattle.swsusp_cli.proofs.Inputs.{without_script}
-use Rattle.swsusp_cli.proofs.Replays.{replies_of, risen_of, told_status, world_at_end}
+use Rattle.swsusp_cli.proofs.Replays.{replies_of, risen_of, told_status}
 use Rattle.machine_cli.specs.Made.{RunsNot, RunsWith, idle, no_script, out_of_memory, unread, written}
 use Rattle.machine_cli.proofs.Ending.{has_played, not_made, runs_not, runs_with}
 use Rattle.machine_cli.proofs.making.make.Goals as goal
 
 pub returns-in-Err-clause-outcome : goal.returns-in-Err-clause-outcome
-returns-in-Err-clause-outcome g c = without_script _ _ _ c.tell.result c.in-Err.stop c.in-Err.ensures.ready c.tell.ensures.told refl no_script out_of_memory unread
+returns-in-Err-clause-outcome g c = without_script _ _ _ c.tell.result c.in-Err.stop c.in-Err.ensures.ready c.tell.ensures.told refl (λ e. c.in-Err.ensures.stream (ap Err e)) no_script out_of_memory unread
 
 pub returns-in-Err-create-clause-outcome : goal.returns-in-Err-create-clause-outcome
 returns-in-Err-create-clause-outcome g c =
@@ -51,7 +51,7 @@ returns-in-Some-clause-outcome g c =
     let rs = c.play_through.ensures.played.0 in
     let was = subst (λ (events : List Event). HasPlayed c.in-Ok-create.world c.play_through.new.world events rs between now) c.events.ensures c.play_through.ensures.played.1 in
     let played = has_played _ _ script c.in-Ok-create.world c.play_through.new.world rs between (record { says = c.in-Ok.ensures.ready.0; over = c.in-Ok.ensures.ready.1; few = c.in-Ok.ensures.few })
-    (g.met.D.Disk.well_formed c.args.disk.now) (g.met.D.Disk.well_formed c.set_up.new.disk) (g.met.D.Disk.well_formed c.play_through.new.disk) c.in-Ok-set_up.ensures.outcome fresh c.in-Ok.ensures.few_bad was c.play_through.ensures.hardware c.play_through.ensures.blocks in
+    (g.met.D.Disk.well_formed c.args.disk.now) (g.met.D.Disk.well_formed c.set_up.new.disk) c.in-Ok-set_up.ensures.outcome fresh c.in-Ok.ensures.few_bad was c.play_through.ensures.hardware in
     let dump = c.in-Some.dump in
     let hw = c.in-Some.ensures.hardware ∙ c.play_through.ensures.hardware ∙ fresh.hardware in
     written script dump.frames (played (RunsWith script.hardware dump.frames) (λ content end stands. runs_with c.play_through.new.world content end script.hardware dump.frames (c.in-Some.ensures.runs.0 refl) (c.play_through.ensures.hardware ∙ fresh.hardware) c.in-Some.ensures.frames stands))
@@ -70,7 +70,7 @@ returns-clause-outcome g c =
     let rs = c.play_through.ensures.played.0 in
     let was = subst (λ (events : List Event). HasPlayed c.in-Ok-create.world c.play_through.new.world events rs between now) c.events.ensures c.play_through.ensures.played.1 in
     let played = has_played _ _ script c.in-Ok-create.world c.play_through.new.world rs between (record { says = c.in-Ok.ensures.ready.0; over = c.in-Ok.ensures.ready.1; few = c.in-Ok.ensures.few })
-    (g.met.D.Disk.well_formed c.args.disk.now) (g.met.D.Disk.well_formed c.set_up.new.disk) (g.met.D.Disk.well_formed c.play_through.new.disk) c.in-Ok-set_up.ensures.outcome fresh c.in-Ok.ensures.few_bad was c.play_through.ensures.hardware c.play_through.ensures.blocks in
+    (g.met.D.Disk.well_formed c.args.disk.now) (g.met.D.Disk.well_formed c.set_up.new.disk) c.in-Ok-set_up.ensures.outcome fresh c.in-Ok.ensures.few_bad was c.play_through.ensures.hardware in
     idle script (played RunsNot (λ content end stands. runs_not c.play_through.new.world content end (c.in-None.ensures.idle refl) stands))
     (subst (λ (t : RunResult). IsTold t tell.result out (record { taken = g.O.Sink.taken tell.new.out; flushed = g.O.Sink.flushed tell.new.out; faults = g.O.Sink.faults tell.new.out }) note (record { taken = g.N.Sink.taken tell.new.note; flushed = g.N.Sink.flushed tell.new.note; faults = g.N.Sink.faults tell.new.note })) c.idle.ensures.told tell.ensures.told)
 

@@ -1,11 +1,11 @@
-use Rattle.std.proofs.Common.{refl}
+use Rattle.std.proofs.Common.{refl, Err, ap}
 use Rattle.dump_file.specs.Dump.{DumpValue}
 use Rattle.swsusp_cli.proofs.Inputs.{without_dump}
 use Rattle.machine_cli.specs.Shown.{no_dump, out_of_memory, unread, shown}
 use Rattle.machine_cli.proofs.showing.show_facts.Goals as goal
 
 pub returns-in-Err-clause-outcome : goal.returns-in-Err-clause-outcome
-returns-in-Err-clause-outcome g c disk = without_dump _ _ _ c.tell.result c.in-Err.stop c.in-Err.ensures.lacks c.tell.ensures.told (refl {a = disk}) no_dump out_of_memory unread
+returns-in-Err-clause-outcome g c disk = without_dump _ _ _ c.tell.result c.in-Err.stop c.in-Err.ensures.lacks c.tell.ensures.told (refl {a = disk}) (λ e. c.in-Err.ensures.cause (ap Err e)) no_dump out_of_memory unread
 
 pub returns-clause-outcome : goal.returns-clause-outcome
 returns-clause-outcome g c disk =

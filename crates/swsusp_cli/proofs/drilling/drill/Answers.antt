@@ -18,7 +18,7 @@ use Rattle.swsusp_cli.proofs.Replays.{replies_of, risen_of, told_status}
 use Rattle.swsusp_cli.proofs.drilling.drill.Goals as goal
 
 pub returns-in-Err-set_up-clause-outcome : goal.returns-in-Err-set_up-clause-outcome
-returns-in-Err-set_up-clause-outcome g c = λ left.
+returns-in-Err-set_up-clause-outcome g c = λ left read_faults.
     let tell = c.tell-in-Err-set_up in
     let out : SinkView = record { taken = g.O.Sink.taken c.args.out.now; flushed = g.O.Sink.flushed c.args.out.now; faults = g.O.Sink.faults c.args.out.now } in
     let note : SinkView = record { taken = g.N.Sink.taken c.args.note.now; flushed = g.N.Sink.flushed c.args.note.now; faults = g.N.Sink.faults c.args.note.now } in
@@ -28,7 +28,7 @@ returns-in-Err-set_up-clause-outcome g c = λ left.
     (subst (λ (t : RunResult). IsTold t tell.result out (record { taken = g.O.Sink.taken tell.new.out; flushed = g.O.Sink.flushed tell.new.out; faults = g.O.Sink.faults tell.new.out }) note (record { taken = g.N.Sink.taken tell.new.note; flushed = g.N.Sink.flushed tell.new.note; faults = g.N.Sink.faults tell.new.note })) c.answer.ensures.told tell.ensures.told)
 
 pub returns-clause-outcome : goal.returns-clause-outcome
-returns-clause-outcome g c = λ left.
+returns-clause-outcome g c = λ left read_faults.
     let tell = c.tell-2 in
     let number = c.args.number in
     let script = c.in-Ok.script in
@@ -44,7 +44,7 @@ returns-clause-outcome g c = λ left.
     let was = subst (λ (events : List Event). HasPlayed c.in-Ok-create.world c.play_through-tally.new.world events rs between now) (c.events.ensures ∙ ap (λ (s : ScriptValue). s.events) script_is) c.play_through-tally.ensures.played.1 in
     let few = subst (λ (s : ScriptValue). length s.bad ≤ 630) script_is c.in-Ok.ensures.few_bad in
     let replies = replies_of (drill_script number) c.in-Ok-create.world c.play_through-tally.new.world (drill_script number).events rs before between now
-    (g.met.D.Disk.well_formed c.args.disk.now) (g.met.D.Disk.well_formed c.set_up.new.disk) (g.met.D.Disk.well_formed c.play_through-tally.new.disk) set new few was c.play_through-tally.ensures.hardware c.play_through-tally.ensures.blocks in
+    (g.met.D.Disk.well_formed c.args.disk.now) (g.met.D.Disk.well_formed c.set_up.new.disk) set new few was c.play_through-tally.ensures.hardware in
     let answer : told_by c.summed.result ≡ summary_told number rs = c.summed.ensures.told ∙ ap (λ (t : Tally). record { status = Done; out = summary number t; note = [] }) c.play_through-tally.ensures.played.2 in
     summed (record {
       roomy = set.roomy;
@@ -55,7 +55,7 @@ returns-clause-outcome g c = λ left.
     })
 
 pub returns-in-Err-clause-outcome : goal.returns-in-Err-clause-outcome
-returns-in-Err-clause-outcome g c = λ left.
+returns-in-Err-clause-outcome g c = λ left read_faults.
     let tell = c.tell in
     let out : SinkView = record { taken = g.O.Sink.taken c.args.out.now; flushed = g.O.Sink.flushed c.args.out.now; faults = g.O.Sink.faults c.args.out.now } in
     let note : SinkView = record { taken = g.N.Sink.taken c.args.note.now; flushed = g.N.Sink.flushed c.args.note.now; faults = g.N.Sink.faults c.args.note.now } in
@@ -66,7 +66,7 @@ returns-in-Err-clause-outcome g c = λ left.
     })
 
 pub returns-in-Err-create-clause-outcome : goal.returns-in-Err-create-clause-outcome
-returns-in-Err-create-clause-outcome g c = λ left.
+returns-in-Err-create-clause-outcome g c = λ left read_faults.
     let tell = c.tell-in-Err-create in
     let out : SinkView = record { taken = g.O.Sink.taken c.args.out.now; flushed = g.O.Sink.flushed c.args.out.now; faults = g.O.Sink.faults c.args.out.now } in
     let note : SinkView = record { taken = g.N.Sink.taken c.args.note.now; flushed = g.N.Sink.flushed c.args.note.now; faults = g.N.Sink.faults c.args.note.now } in
@@ -78,7 +78,7 @@ returns-in-Err-create-clause-outcome g c = λ left.
 
 pub returns-clause-few_calls : goal.returns-clause-few_calls
 returns-clause-few_calls g c =
-    drill_few_calls c.args.number _ _ c.tell-2.result (subst (λ (s : ScriptValue). length s.events ≤ 100000) c.in-Ok.ensures.script c.in-Ok.ensures.few_events) (returns-clause-outcome g c None)
+    drill_few_calls c.args.number _ _ c.tell-2.result (subst (λ (s : ScriptValue). length s.events ≤ 100000) c.in-Ok.ensures.script c.in-Ok.ensures.few_events) (returns-clause-outcome g c None 0)
 
 pub returns-in-Err-set_up-clause-device : goal.returns-in-Err-set_up-clause-device
 returns-in-Err-set_up-clause-device g c = λ device.

@@ -1,4 +1,4 @@
-use Rattle.std.proofs.Common.{List, ℕ, [], refl, subst}
+use Rattle.std.proofs.Common.{List, ℕ, [], refl, subst, Err, ap}
 use Rattle.dump_file.specs.Dump.{DumpValue}
 use Rattle.command_kit.specs.Answer.{RunResult}
 use Rattle.swsusp_cli.specs.Exports.{no_dump, out_of_memory, unread, in_use, exported}
@@ -9,7 +9,7 @@ use Rattle.swsusp_cli.proofs.Inputs.{without_dump}
 use Rattle.swsusp_cli.proofs.exporting.export_dump.Goals as goal
 
 pub returns-in-Err-clause-outcome : goal.returns-in-Err-clause-outcome
-returns-in-Err-clause-outcome g c disk = without_dump _ _ _ c.tell.result c.in-Err.stop c.in-Err.ensures.lacks c.tell.ensures.told (refl {a = disk}) no_dump out_of_memory unread
+returns-in-Err-clause-outcome g c disk = without_dump _ _ _ c.tell.result c.in-Err.stop c.in-Err.ensures.lacks c.tell.ensures.told (refl {a = disk}) (λ e. c.in-Err.ensures.cause (ap Err e)) no_dump out_of_memory unread
 
 pub returns-in-Err-saveable_set-clause-outcome : goal.returns-in-Err-saveable_set-clause-outcome
 returns-in-Err-saveable_set-clause-outcome g c disk =

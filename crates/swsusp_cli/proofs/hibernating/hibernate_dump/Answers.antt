@@ -1,15 +1,18 @@
-use Rattle.std.proofs.Common.{refl, subst}
+use Rattle.std.proofs.Common.{refl, subst, arith, Err, ap}
 use Rattle.dump_file.specs.Dump.{DumpValue}
 use Rattle.command_kit.specs.Answer.{RunResult}
 use Rattle.swsusp_cli.specs.Dumps.{no_dump, out_of_memory, unread, answered}
 use Rattle.command_kit.specs.Told.{IsTold}
 use Rattle.command_kit.specs.View.{DiskView, SinkView}
-use Rattle.swsusp_cli.proofs.Dumped.{hibernated_as, saves_as, saves_untouched}
+use Rattle.world_core.specs.StandsFor.{shown}
+use Rattle.command_core.specs.Runs.{IsHibernation}
+use Rattle.command_core.proofs.Runs.{hibernation_few}
+use Rattle.swsusp_cli.proofs.Dumped.{hibernated_as, saves_as, saves_untouched, ran_as}
 use Rattle.swsusp_cli.proofs.Inputs.{without_dump}
 use Rattle.swsusp_cli.proofs.hibernating.hibernate_dump.Goals as goal
 
 pub returns-in-Err-clause-outcome : goal.returns-in-Err-clause-outcome
-returns-in-Err-clause-outcome g c = without_dump _ _ _ c.tell.result c.in-Err.stop c.in-Err.ensures.lacks c.tell.ensures.told refl no_dump out_of_memory unread
+returns-in-Err-clause-outcome g c = without_dump _ _ _ c.tell.result c.in-Err.stop c.in-Err.ensures.lacks c.tell.ensures.told refl (λ e. c.in-Err.ensures.cause (ap Err e)) no_dump out_of_memory unread
 
 pub returns-in-Err-machine_of-clause-outcome : goal.returns-in-Err-machine_of-clause-outcome
 returns-in-Err-machine_of-clause-outcome g c =
@@ -34,7 +37,8 @@ returns-clause-outcome g c =
       dump_is = record { says = λ bytes left. c.in-Ok.ensures.dump bytes left; over = c.in-Ok.ensures.end refl };
       told = subst (λ (t : RunResult). IsTold t tell.result out (record { taken = g.O.Sink.taken tell.new.out; flushed = g.O.Sink.flushed tell.new.out; faults = g.O.Sink.faults tell.new.out }) note (record { taken = g.N.Sink.taken tell.new.note; flushed = g.N.Sink.flushed tell.new.note; faults = g.N.Sink.faults tell.new.note })) c.hibernation_answer.ensures.told tell.ensures.told;
       ends = λ v told original. hibernated_as _ dump.hw _ dump.memory c.args.format c.args.size v ended.result _ made.is made.frames (ended.ensures.hibernated v told) original;
-      calls = ended.ensures.calls;
+      shown = shown ended.new.world;
+      ran = ran_as g.D.Disk (IsHibernation c.args.format c.args.size ended.result.reply) _ dump.hw _ dump.memory _ c.args.disk.now ended.new.disk made.is made.frames ended.ensures.ran;
       orders = ended.ensures.orders;
     })
 
@@ -49,3 +53,10 @@ returns-clause-inside g c = λ tells.
     let made = c.in-Ok-machine_of.ensures in
     saves_as c.args.format c.args.size (g.I.Source.remaining c.args.input.now) (g.D.Disk.content c.args.disk.now) (g.D.Disk.left_since c.hibernate-ended.new.disk (g.D.Disk.moment c.args.disk.now))
     (record { hw = c.in-Ok.dump.hw; memory = c.in-Ok.dump.frames }) _ _ (λ bytes left. c.in-Ok.ensures.dump bytes left) made.is made.frames (λ v told never w left. c.hibernate-ended.ensures.inside tells v told never w left)
+
+pub returns-clause-few_calls : goal.returns-clause-few_calls
+returns-clause-few_calls g c =
+    let ran = c.hibernate-ended.ensures.ran in
+    let few = hibernation_few c.args.format c.args.size c.hibernate-ended.result.reply ran.0 ran.1 ran.2 in
+    let calls = ran.3.calls in
+    omega arith

@@ -1,7 +1,7 @@
 use Rattle.std.proofs.Common.{◌≡◌, ◌≤◌, ℕ, ◌+◌, List, ◌++◌, length, take, Option, Result, Err, refl, sym, ap, ◌∙◌, subst, arith, length-append}
 use Rattle.std.proofs.lemmas.Result.{err_from_is_err_and}
 use Rattle.std.proofs.lemmas.List.{length-take-le}
-use Rattle.std.specs.Prelude.{IfErr}
+use Rattle.std.specs.Prelude.{IfErr, IsTrue}
 use Rattle.definitions.specs.Disk.{Content, HasRisen}
 use Rattle.stream_in.specs.Session.{IsFed}
 use Rattle.stream_in.specs.Written.{AreOfMap}
@@ -9,6 +9,7 @@ use Rattle.swsusp_cli.specs.Feeding.{Feeds, IsOfDisk}
 use Rattle.command_kit.specs.View.{DiskView}
 use Rattle.swsusp_cli.specs.declared.importing.ImportStop.{ImportStop}
 use Rattle.swsusp_cli.proofs.Feeding.{bounded, handed_more, holds_more, keeps_more, called_more, stop_for, risen_from}
+use Rattle.swsusp_cli.proofs.Crashed.{headers_then, ready_more, takes_more}
 use Rattle.swsusp_cli.proofs.importing.feed_input.Goals as goal
 
 pub pieces-preserved : goal.pieces-preserved
@@ -38,6 +39,15 @@ pieces-preserved g c =
       bs = bs ++ part;
       size = omega arith;
       few = omega arith;
+      telling = c.feed.ensures.telling ∙ so_far.telling;
+      headers = λ tells area free into.
+          let takes = takes_more area free bs c.args.session.now c.pieces.session (g.I.Source.remaining c.args.input.now) (g.I.Source.remaining c.pieces.input) d e into (so_far.fed free into.fed into.of_map) in
+          let now = subst IsTrue (sym so_far.telling) tells in
+          headers_then (g.D.Disk.moment c.args.disk.now) (g.D.Disk.moment c.pieces.disk) (g.D.Disk.moment c.feed.new.disk) (g.D.Disk.left_since c.args.disk.now) (g.D.Disk.left_since c.pieces.disk) (g.D.Disk.left_since c.feed.new.disk)
+          (so_far.headers tells area free into) (c.feed.ensures.time now free bs takes.fed).later (c.feed.ensures.header now area free bs takes);
+      ready = λ area free into.
+          let takes = takes_more area free bs c.args.session.now c.pieces.session (g.I.Source.remaining c.args.input.now) (g.I.Source.remaining c.pieces.input) d e into (so_far.fed free into.fed into.of_map) in
+          ready_more area free bs part first mid last (so_far.ready area free into) (c.in_ok-feed.ensures.ready area free bs takes);
       session = (going.0, fed);
       fed = λ free begun of.
           let was = so_far.fed free begun of in
@@ -92,3 +102,14 @@ returns-in_err-feed-clause-device g c =
     let p = err_from_is_err_and c.from_residual.result c.from_residual.ensures.1 in
     subst (λ (r : Result (Unit {0}) ImportStop). IfErr r (λ stop. IsOfDisk stop → HasRisen (g.D.Disk.faults c.args.disk.now) (g.D.Disk.faults c.feed.new.disk))) (sym (p.1 ∙ ap Err p.2))
     (λ fault. risen_from (g.D.Disk.faults c.args.disk.now) (g.D.Disk.faults c.pieces.disk) (g.D.Disk.faults c.feed.new.disk) so_far.faults (c.in_err-feed.ensures.cause (going.0, so_far.bs, going.1) fault))
+
+pub returns-in_err-feed-clause-headers : goal.returns-in_err-feed-clause-headers
+returns-in_err-feed-clause-headers g c tells area free into =
+    let so_far = c.pieces.invariant in
+    let bs = so_far.bs in
+    let d : DiskView = record { blocks = g.D.Disk.block_count c.args.disk.now; content = g.D.Disk.content c.args.disk.now; faults = g.D.Disk.faults c.args.disk.now; calls = g.D.Disk.calls c.args.disk.now; orders = g.D.Disk.orders c.args.disk.now } in
+    let e : DiskView = record { blocks = g.D.Disk.block_count c.pieces.disk; content = g.D.Disk.content c.pieces.disk; faults = g.D.Disk.faults c.pieces.disk; calls = g.D.Disk.calls c.pieces.disk; orders = g.D.Disk.orders c.pieces.disk } in
+    let takes = takes_more area free bs c.args.session.now c.pieces.session (g.I.Source.remaining c.args.input.now) (g.I.Source.remaining c.pieces.input) d e into (so_far.fed free into.fed into.of_map) in
+    let now = subst IsTrue (sym so_far.telling) tells in
+    headers_then (g.D.Disk.moment c.args.disk.now) (g.D.Disk.moment c.pieces.disk) (g.D.Disk.moment c.feed.new.disk) (g.D.Disk.left_since c.args.disk.now) (g.D.Disk.left_since c.pieces.disk) (g.D.Disk.left_since c.feed.new.disk)
+    (so_far.headers tells area free into) (c.feed.ensures.time now free bs takes.fed).later (c.feed.ensures.header now area free bs takes)

@@ -1,7 +1,10 @@
-use Rattle.std.proofs.Common.{◌≡◌, ◌<◌, ◌≤◌, ◌-◌, ℕ, List, [], length}
-use Rattle.stream_in.specs.Session.{IsFed}
+use Rattle.std.proofs.Common.{◌≡◌, ◌<◌, ◌≤◌, ◌-◌, ℕ, List, [], length, IsTrue}
+use Rattle.definitions.specs.Disk.{Changes}
+use Rattle.sig_header.specs.declared.area.Area.{Area}
+use Rattle.stream_in.specs.Holding.{StaysReady}
+use Rattle.stream_in.specs.Session.{IsFed, TakesInto}
 use Rattle.stream_in.specs.Written.{AreOfMap}
-use Rattle.swsusp_cli.specs.Feeding.{HasFed}
+use Rattle.swsusp_cli.specs.Feeding.{HasFed, KeepsHeaders}
 use Rattle.swsusp_cli.proofs.importing.feed_input.Given as goal
 
 abbrev pub invariant-pieces : goal.invariant-pieces
@@ -13,6 +16,11 @@ invariant-pieces g l = record {
   bs : List ℕ;
   size : length bs ≡ l.taken;
   few : l.taken ≤ 268963840;
+  telling : g.D.Disk.tells_moments l.disk ≡ g.D.Disk.tells_moments l.fn.disk;
+  headers : IsTrue (g.D.Disk.tells_moments l.fn.disk) → (area : Area) (free : List ℕ) → TakesInto area free [] l.fn.session →
+      KeepsHeaders (g.D.Disk.moment l.fn.disk) (g.D.Disk.moment l.disk) (g.D.Disk.left_since l.fn.disk) (g.D.Disk.left_since l.disk);
+  ready : (area : Area) (free : List ℕ) → TakesInto area free [] l.fn.session →
+      Changes (StaysReady area free [] bs) (g.D.Disk.content l.fn.disk) (g.D.Disk.content l.disk);
   session : (free : List ℕ) × IsFed free bs l.session;
   fed : (free : List ℕ) → IsFed free [] l.fn.session → AreOfMap l.fn.session.map free →
       HasFed free bs l.fn.session l.session (g.I.Source.remaining l.fn.input) (g.I.Source.remaining l.input)

@@ -1,14 +1,20 @@
-use Rattle.std.proofs.Common.{◌≡◌, ℕ, List, Result, Err, sym, ap, ◌∙◌, subst}
+use Rattle.std.proofs.Common.{◌≡◌, ℕ, List, [], Option, Result, Err, sym, ap, ◌∙◌, subst}
+use Rattle.std.specs.Prelude.{IsTrue}
+use Rattle.std.specs.Option.{IfSome}
+use Rattle.definitions.specs.Disk.{Content, as_it_reads}
+use Rattle.plain_machine.specs.Laid.{laid_block}
+use Rattle.stream_in.specs.Holding.{IsReadyFor}
 use Rattle.std.proofs.lemmas.Result.{err_from_is_err_and}
 use Rattle.stream_check.specs.declared.fault.StreamFault.{StreamFault}
 use Rattle.stream_in.specs.Session.{IsGoing, TakesInto}
 use Rattle.stream_in.specs.Written.{AreOfMap}
 use Rattle.stream_in.specs.declared.stop.InStop.TheVariants as stop
-use Rattle.swsusp_cli.specs.Feeding.{IsCalled}
+use Rattle.swsusp_cli.specs.Called.{IsCalled}
 use Rattle.swsusp_cli.specs.Imports.{Ends}
 use Rattle.swsusp_cli.specs.declared.importing.ImportStop.{ImportStop}
 use Rattle.command_kit.specs.View.{DiskView}
 use Rattle.swsusp_cli.proofs.Imported.{ends_imported, ends_unfed, ends_unfinished, has_opened}
+use Rattle.swsusp_cli.proofs.Crashed.{inside_fed, inside_marked, marked_later}
 use Rattle.swsusp_cli.proofs.importing.import_image.Goals as goal
 
 pub returns-in_err-feed_input-clause-ends : goal.returns-in_err-feed_input-clause-ends
@@ -75,3 +81,42 @@ returns-in_err-finish-clause-ends g c =
     subst (λ (r : Result ℕ ImportStop). Ends left left' d g' r) (sym (p.1 ∙ ap Err p.2))
     (ends_unfinished area free fed.0 s c.feed_input.new.session c.finish.result c.in_err-finish.field-0.0 left left' d e f g' opened fed.1 fed.2 c.in_err-finish.was (c.in_err-finish.ensures.stops going) (c.finish.ensures.short free fed.0 fed.1.fed)
     (c.in_err-finish.ensures.no_swap going) untouched (c.in_err-finish.ensures.leaves going) last (c.in_err-finish.ensures.cause going))
+
+pub returns-in_err-feed_input-clause-inside : goal.returns-in_err-feed_input-clause-inside
+returns-in_err-feed_input-clause-inside g c tells =
+    let ready = c.in_ok-session.ensures.ready in
+    let opened = subst IsTrue (sym c.open.ensures.telling) tells in
+    inside_fed (g.I.Source.remaining c.args.input.now) (g.I.Source.remaining c.feed_input.new.input) (g.D.Disk.moment c.args.disk.now) (g.D.Disk.moment c.open.new.disk) (g.D.Disk.moment c.feed_input.new.disk)
+    (g.D.Disk.left_since c.args.disk.now) (g.D.Disk.left_since c.open.new.disk) (g.D.Disk.left_since c.feed_input.new.disk) (c.open.ensures.time tells) (c.feed_input.ensures.headers opened ready.0 ready.1 ready.2)
+
+pub returns-clause-inside : goal.returns-clause-inside
+returns-clause-inside g c tells =
+    let ready = c.in_ok-session.ensures.ready in
+    let opened = subst IsTrue (sym c.open.ensures.telling) tells in
+    let fed = subst IsTrue (sym c.feed_input.ensures.telling) opened in
+    let told = g.met.D.Disk.tells_content c.feed_input.new.disk fed in
+    let takes = c.in_ok-feed_input.ensures.ready ready.0 ready.1 ready.2 in
+    inside_marked ready.0 ready.1 c.feed_input.new.session (g.I.Source.remaining c.args.input.now) (g.I.Source.remaining c.feed_input.new.input)
+    (g.D.Disk.moment c.args.disk.now) (g.D.Disk.moment c.open.new.disk) (g.D.Disk.moment c.feed_input.new.disk) (g.D.Disk.moment c.finish.new.disk)
+    (g.D.Disk.left_since c.args.disk.now) (g.D.Disk.left_since c.open.new.disk) (g.D.Disk.left_since c.feed_input.new.disk) (g.D.Disk.left_since c.finish.new.disk)
+    (g.D.Disk.content c.open.new.disk) (g.D.Disk.content c.feed_input.new.disk) (c.open.ensures.time tells) (c.feed_input.ensures.headers opened ready.0 ready.1 ready.2)
+    (marked_later (laid_block c.feed_input.new.session.map ready.1 0) (g.D.Disk.moment c.feed_input.new.disk) (g.D.Disk.moment c.finish.new.disk) (g.D.Disk.left_since c.feed_input.new.disk) (g.D.Disk.left_since c.finish.new.disk)
+    (g.D.Disk.content c.feed_input.new.disk) told (c.finish.ensures.time fed ready.1 takes.bs takes.takes.fed))
+    told (subst (λ (o : Option Content). IfSome o (λ held. IsReadyFor ready.0 ready.1 [] (as_it_reads held))) (sym c.open.ensures.content) ready.3) takes
+    (c.finish.ensures.cut fed ready.0 ready.1 takes.bs takes.takes)
+
+pub returns-in_err-finish-clause-inside : goal.returns-in_err-finish-clause-inside
+returns-in_err-finish-clause-inside g c tells =
+    let ready = c.in_ok-session.ensures.ready in
+    let opened = subst IsTrue (sym c.open.ensures.telling) tells in
+    let fed = subst IsTrue (sym c.feed_input.ensures.telling) opened in
+    let told = g.met.D.Disk.tells_content c.feed_input.new.disk fed in
+    let takes = c.in_ok-feed_input.ensures.ready ready.0 ready.1 ready.2 in
+    inside_marked ready.0 ready.1 c.feed_input.new.session (g.I.Source.remaining c.args.input.now) (g.I.Source.remaining c.feed_input.new.input)
+    (g.D.Disk.moment c.args.disk.now) (g.D.Disk.moment c.open.new.disk) (g.D.Disk.moment c.feed_input.new.disk) (g.D.Disk.moment c.finish.new.disk)
+    (g.D.Disk.left_since c.args.disk.now) (g.D.Disk.left_since c.open.new.disk) (g.D.Disk.left_since c.feed_input.new.disk) (g.D.Disk.left_since c.finish.new.disk)
+    (g.D.Disk.content c.open.new.disk) (g.D.Disk.content c.feed_input.new.disk) (c.open.ensures.time tells) (c.feed_input.ensures.headers opened ready.0 ready.1 ready.2)
+    (marked_later (laid_block c.feed_input.new.session.map ready.1 0) (g.D.Disk.moment c.feed_input.new.disk) (g.D.Disk.moment c.finish.new.disk) (g.D.Disk.left_since c.feed_input.new.disk) (g.D.Disk.left_since c.finish.new.disk)
+    (g.D.Disk.content c.feed_input.new.disk) told (c.finish.ensures.time fed ready.1 takes.bs takes.takes.fed))
+    told (subst (λ (o : Option Content). IfSome o (λ held. IsReadyFor ready.0 ready.1 [] (as_it_reads held))) (sym c.open.ensures.content) ready.3) takes
+    (c.finish.ensures.cut fed ready.0 ready.1 takes.bs takes.takes)

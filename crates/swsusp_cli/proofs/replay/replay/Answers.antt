@@ -1,4 +1,4 @@
-use Rattle.std.proofs.Common.{inl, inr, List, None, refl, subst, take}
+use Rattle.std.proofs.Common.{inl, inr, List, None, refl, subst, take, Err, ap}
 use Rattle.plain_machine.specs.Machine.{Hardware}
 use Rattle.plain_machine.specs.declared.event.Event.{Event}
 use Rattle.world_core.specs.StandsFor.{IsNew}
@@ -9,11 +9,11 @@ use Rattle.command_kit.specs.Told.{IsTold}
 use Rattle.command_kit.specs.View.{DiskView, SinkView}
 use Rattle.swsusp_cli.proofs.Replays.{not_set_up, replies_of, risen_of, played_whole, told_status}
 use Rattle.swsusp_cli.proofs.Inputs.{without_script}
-use Rattle.swsusp_cli.proofs.Turns.{risen_earlier}
+use Rattle.world_runs.proofs.Counted.{risen_earlier}
 use Rattle.swsusp_cli.proofs.replay.replay.Goals as goal
 
 pub returns-in-Err-clause-outcome : goal.returns-in-Err-clause-outcome
-returns-in-Err-clause-outcome g c = without_script _ _ _ c.tell.result c.in-Err.stop c.in-Err.ensures.ready c.tell.ensures.told refl no_script out_of_memory unread
+returns-in-Err-clause-outcome g c = without_script _ _ _ c.tell.result c.in-Err.stop c.in-Err.ensures.ready c.tell.ensures.told refl (λ e. c.in-Err.ensures.stream (ap Err e)) no_script out_of_memory unread
 
 pub returns-in-Err-create-clause-outcome : goal.returns-in-Err-create-clause-outcome
 returns-in-Err-create-clause-outcome g c =
@@ -48,8 +48,8 @@ returns-in-Ok-play-clause-outcome g c =
     let rs = c.in-Ok-play.ensures.played.0 in
     let was = subst (λ (events : List Event). HasPlayed c.in-Ok-create.world c.play.new.world events rs between now) c.events.ensures c.in-Ok-play.ensures.played.1 in
     let replies = replies_of script c.in-Ok-create.world c.play.new.world script.events rs before between now
-    (g.met.D.Disk.well_formed c.args.disk.now) (g.met.D.Disk.well_formed c.set_up.new.disk) (g.met.D.Disk.well_formed c.play.new.disk) set new c.in-Ok.ensures.few_bad was c.play.ensures.hardware c.play.ensures.blocks in
-    played_whole _ _ tell.result script out rs (record { says = c.in-Ok.ensures.ready.0; over = c.in-Ok.ensures.ready.1; few = c.in-Ok.ensures.few }) set.roomy replies c.in-Ok-play.ensures.played.2
+    (g.met.D.Disk.well_formed c.args.disk.now) (g.met.D.Disk.well_formed c.set_up.new.disk) set new c.in-Ok.ensures.few_bad was c.play.ensures.hardware in
+    played_whole _ _ tell.result script out rs (record { says = c.in-Ok.ensures.ready.0; over = c.in-Ok.ensures.ready.1; few = c.in-Ok.ensures.few }) set.roomy replies c.in-Ok-play.ensures.played.2 c.play.ensures.stream_faults
     (subst (λ (t : RunResult). IsTold t tell.result out (record { taken = g.O.Sink.taken tell.new.out; flushed = g.O.Sink.flushed tell.new.out; faults = g.O.Sink.faults tell.new.out }) note (record { taken = g.N.Sink.taken tell.new.note; flushed = g.N.Sink.flushed tell.new.note; faults = g.N.Sink.faults tell.new.note })) c.done.ensures.told tell.ensures.told)
 
 pub returns-clause-outcome : goal.returns-clause-outcome
@@ -64,12 +64,13 @@ returns-clause-outcome g c =
     let rs = c.in-Err-play.ensures.played.1 in
     let was = subst (λ (events : List Event). HasPlayed c.in-Ok-create.world c.play.new.world (take k events) rs between now) c.events.ensures c.in-Err-play.ensures.played.2 in
     let replies = replies_of script c.in-Ok-create.world c.play.new.world (take k script.events) rs before between now
-    (g.met.D.Disk.well_formed c.args.disk.now) (g.met.D.Disk.well_formed c.set_up.new.disk) (g.met.D.Disk.well_formed c.play.new.disk) set new c.in-Ok.ensures.few_bad was c.play.ensures.hardware c.play.ensures.blocks in
+    (g.met.D.Disk.well_formed c.args.disk.now) (g.met.D.Disk.well_formed c.set_up.new.disk) set new c.in-Ok.ensures.few_bad was c.play.ensures.hardware in
     cut_off script (record {
       script_is = record { says = c.in-Ok.ensures.ready.0; over = c.in-Ok.ensures.ready.1; few = c.in-Ok.ensures.few };
       roomy = set.roomy;
       status_is = c.cut_off.ensures.status;
       prints = (k, rs, replies, c.in-Err-play.ensures.played.3);
+      whose = inl c.in-Err-play.ensures.stream;
       note = c.cut_off.ensures.note;
     })
 

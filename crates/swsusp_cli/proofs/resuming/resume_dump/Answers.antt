@@ -1,15 +1,20 @@
-use Rattle.std.proofs.Common.{refl, sym, subst, inr}
+use Rattle.std.proofs.Common.{refl, sym, subst, inr, arith, Err, ap}
 use Rattle.dump_file.specs.Dump.{DumpValue}
 use Rattle.command_kit.specs.Answer.{RunResult}
 use Rattle.swsusp_cli.specs.Loads.{no_dump, out_of_memory, unread, answered}
 use Rattle.command_kit.specs.Told.{IsTold}
 use Rattle.command_kit.specs.View.{DiskView, SinkView}
-use Rattle.swsusp_cli.proofs.Dumped.{resumed_as, loads_as, loads_untouched}
+use Rattle.plain_machine.specs.Machine.{Memory}
+use Rattle.world_core.specs.StandsFor.{shown}
+use Rattle.command_core.specs.Runs.{IsResumption}
+use Rattle.command_core.proofs.Runs.{resumption_few}
+use Rattle.swsusp_cli.specs.Loads.{resume_told}
+use Rattle.swsusp_cli.proofs.Dumped.{resumed_as, loads_as, loads_untouched, ran_as}
 use Rattle.swsusp_cli.proofs.Inputs.{without_dump}
 use Rattle.swsusp_cli.proofs.resuming.resume_dump.Goals as goal
 
 pub returns-in-Err-clause-outcome : goal.returns-in-Err-clause-outcome
-returns-in-Err-clause-outcome g c = without_dump _ _ _ c.tell.result c.in-Err.stop c.in-Err.ensures.lacks c.tell.ensures.told refl no_dump out_of_memory unread
+returns-in-Err-clause-outcome g c = without_dump _ _ _ c.tell.result c.in-Err.stop c.in-Err.ensures.lacks c.tell.ensures.told refl (λ e. c.in-Err.ensures.cause (ap Err e)) no_dump out_of_memory unread
 
 pub returns-in-Err-machine_of-clause-outcome : goal.returns-in-Err-machine_of-clause-outcome
 returns-in-Err-machine_of-clause-outcome g c =
@@ -30,11 +35,13 @@ returns-clause-outcome g c =
     let dump : DumpValue = record { hw = c.in-Ok.dump.hw; memory = c.in-Ok.dump.frames } in
     let made = c.in-Ok-machine_of.ensures in
     let ended = c.resume-ended in
-    answered dump c.frames.result.now ended.result (record {
+    let given = c.frames.ensures.frames in
+    answered dump ended.result (record {
       dump_is = record { says = λ bytes left. c.in-Ok.ensures.dump bytes left; over = c.in-Ok.ensures.end refl };
-      told = tell.ensures.told;
-      ends = λ v told original. resumed_as _ dump.hw _ dump.memory c.args.check v _ c.frames.result.now ended.result _ made.is made.frames (sym c.frames.ensures.frames) (ended.ensures.resumed v told) original;
-      calls = ended.ensures.calls;
+      shown = shown c.resume-ended.new.world;
+      told = subst (λ (m : Memory). IsTold (resume_told dump.hw m ended.result) tell.result out (record { taken = g.O.Sink.taken tell.new.out; flushed = g.O.Sink.flushed tell.new.out; faults = g.O.Sink.faults tell.new.out }) note (record { taken = g.N.Sink.taken tell.new.note; flushed = g.N.Sink.flushed tell.new.note; faults = g.N.Sink.faults tell.new.note })) given tell.ensures.told;
+      ends = λ v told original. resumed_as _ dump.hw _ dump.memory c.args.check v _ _ ended.result _ made.is made.frames refl (ended.ensures.resumed v told) original;
+      ran = ran_as g.D.Disk (IsResumption c.args.check ended.result.reply) _ dump.hw _ dump.memory _ c.args.disk.now ended.new.disk made.is made.frames ended.ensures.ran;
       orders = ended.ensures.orders;
     })
 
@@ -51,3 +58,10 @@ pub returns-clause-inside : goal.returns-clause-inside
 returns-clause-inside g c = λ tells.
     loads_as (g.I.Source.remaining c.args.input.now) (g.D.Disk.content c.args.disk.now) (g.D.Disk.left_since c.resume-ended.new.disk (g.D.Disk.moment c.args.disk.now))
     (record { hw = c.in-Ok.dump.hw; memory = c.in-Ok.dump.frames }) _ (λ bytes left. c.in-Ok.ensures.dump bytes left) c.in-Ok-machine_of.ensures.is (λ v told original w left. c.resume-ended.ensures.inside tells v told original w left)
+
+pub returns-clause-few_calls : goal.returns-clause-few_calls
+returns-clause-few_calls g c =
+    let ran = c.resume-ended.ensures.ran in
+    let few = resumption_few c.args.check c.resume-ended.result.reply ran.0 ran.1 ran.2 in
+    let calls = ran.3.calls in
+    omega arith

@@ -7,6 +7,7 @@ use Rattle.swsusp_cli.proofs.Drilled.{drill_flushed, drilled_as}
 use Rattle.swsusp_cli.proofs.Replays.{few_calls}
 use Rattle.std.proofs.Common.{◌∙◌, map, sym, refl, string_bytes}
 use Rattle.swsusp_cli.proofs.Answered.{inspected_as, memory_as, memory_drills, memory_exports, memory_hibernates, memory_imports, memory_replays, memory_resumes, refused_as}
+use Rattle.swsusp_cli.proofs.Crashed.{inside_none}
 use Rattle.swsusp_cli.proofs.Dumped.{loads_untouched, saves_untouched}
 use Rattle.swsusp_cli.proofs.top.run.Goals as goal
 
@@ -17,10 +18,10 @@ pub returns-in-Ok-Replay-clause-flushed : goal.returns-in-Ok-Replay-clause-flush
 returns-in-Ok-Replay-clause-flushed g c = replay_flushed _ _ _ c.replay.ensures.outcome
 
 pub returns-in-Ok-Hibernate-clause-flushed : goal.returns-in-Ok-Hibernate-clause-flushed
-returns-in-Ok-Hibernate-clause-flushed g c = hibernates_flushed _ _ _ _ _ c.hibernate_dump.ensures.outcome
+returns-in-Ok-Hibernate-clause-flushed g c = hibernates_flushed g.D.Disk _ _ _ _ _ _ _ c.hibernate_dump.ensures.outcome
 
 pub returns-in-Ok-Resume-clause-flushed : goal.returns-in-Ok-Resume-clause-flushed
-returns-in-Ok-Resume-clause-flushed g c = resumes_flushed _ _ _ _ c.resume_dump.ensures.outcome
+returns-in-Ok-Resume-clause-flushed g c = resumes_flushed g.D.Disk _ _ _ _ _ _ c.resume_dump.ensures.outcome
 
 pub returns-in-Ok-Export-clause-exported : goal.returns-in-Ok-Export-clause-exported
 returns-in-Ok-Export-clause-exported g c asked =
@@ -38,10 +39,10 @@ returns-in-Ok-Import-clause-flushed g c = imports_flushed _ _ _ c.import_stream.
 pub returns-in-Ok-Drill-clause-drilled : goal.returns-in-Ok-Drill-clause-drilled
 returns-in-Ok-Drill-clause-drilled g c = λ number asked.
     let asks = rw c.in-Ok-Drill.field-0-is at c.in-Ok-Drill.ensures.asks in
-    drilled_as c.in-Ok-Drill.number number _ _ _ (sym asks ∙ asked) (c.drill.ensures.outcome (g.I.Source.remaining c.args.input.now))
+    drilled_as c.in-Ok-Drill.number number _ _ _ (sym asks ∙ asked) (c.drill.ensures.outcome (g.I.Source.remaining c.args.input.now) (g.I.Source.faults c.args.input.now))
 
 pub returns-in-Ok-Drill-clause-flushed : goal.returns-in-Ok-Drill-clause-flushed
-returns-in-Ok-Drill-clause-flushed g c = drill_flushed _ _ _ _ (c.drill.ensures.outcome (g.I.Source.remaining c.args.input.now))
+returns-in-Ok-Drill-clause-flushed g c = drill_flushed _ _ _ _ (c.drill.ensures.outcome (g.I.Source.remaining c.args.input.now) (g.I.Source.faults c.args.input.now))
 
 pub returns-in-Err-Words-clause-answered : goal.returns-in-Err-Words-clause-answered
 returns-in-Err-Words-clause-answered g c = λ none.
@@ -68,13 +69,13 @@ pub returns-in-Err-NoMemory-clause-hibernated : goal.returns-in-Err-NoMemory-cla
 returns-in-Err-NoMemory-clause-hibernated g c = λ format size swap asked.
     let before : View = view g.I.Source g.O.Sink g.N.Sink g.D.Disk c.args.input.now c.args.out.now c.args.note.now c.args.disk.now in
     let after : View = view g.I.Source g.O.Sink g.N.Sink g.D.Disk c.args.input.now c.run_out_of_memory.new.out c.run_out_of_memory.new.note c.args.disk.now in
-    memory_hibernates before after c.run_out_of_memory.result c.run_out_of_memory.ensures.told refl format size
+    memory_hibernates before after c.run_out_of_memory.result c.run_out_of_memory.ensures.told refl g.D.Disk c.args.disk.now c.args.disk.now format size
 
 pub returns-in-Err-NoMemory-clause-resumed : goal.returns-in-Err-NoMemory-clause-resumed
 returns-in-Err-NoMemory-clause-resumed g c = λ check swap asked.
     let before : View = view g.I.Source g.O.Sink g.N.Sink g.D.Disk c.args.input.now c.args.out.now c.args.note.now c.args.disk.now in
     let after : View = view g.I.Source g.O.Sink g.N.Sink g.D.Disk c.args.input.now c.run_out_of_memory.new.out c.run_out_of_memory.new.note c.args.disk.now in
-    memory_resumes before after c.run_out_of_memory.result c.run_out_of_memory.ensures.told refl check
+    memory_resumes before after c.run_out_of_memory.result c.run_out_of_memory.ensures.told refl g.D.Disk c.args.disk.now c.args.disk.now check
 
 pub returns-in-Err-NoMemory-clause-exported : goal.returns-in-Err-NoMemory-clause-exported
 returns-in-Err-NoMemory-clause-exported g c = λ asked.
@@ -98,3 +99,7 @@ pub returns-in-Ok-Inspect-clause-answered : goal.returns-in-Ok-Inspect-clause-an
 returns-in-Ok-Inspect-clause-answered g c = λ none.
     let asks = rw c.in-Ok-Inspect.field-0-is at c.in-Ok-Inspect.ensures.asks in
     (told_by c.inspect.result, inspected_as (command_of (map string_bytes c.args.words.now)) c.in-Ok-Inspect.offset _ (disk_view g.D.Disk c.args.disk.now) (disk_view g.D.Disk c.inspect.new.disk) (told_by c.inspect.result) asks (record { inspected = c.inspect.ensures.answer; calls = c.inspect.ensures.calls }), c.tell.ensures.told)
+
+pub returns-in-Err-NoMemory-clause-imports_inside : goal.returns-in-Err-NoMemory-clause-imports_inside
+returns-in-Err-NoMemory-clause-imports_inside g c = λ swap asked tells.
+    inside_none (g.I.Source.remaining c.args.input.now) (g.I.Source.remaining c.args.input.now) (g.D.Disk.moment c.args.disk.now) (g.D.Disk.left_since c.args.disk.now)

@@ -2,7 +2,8 @@ use Rattle.std.proofs.Common.{refl, rules, append-nil, ◌≡◌, ℕ, ◌+◌, 
 use Rattle.std.proofs.lemmas.List.{length-take-le, take_all}
 use Rattle.stream_check.specs.Grammar.{first_fault}
 use Rattle.stream_check.proofs.Steps.{first_fault-stays}
-use Rattle.stream_in.specs.Session.{IsGoing, IsFed, HasTooFewFor}
+use Rattle.stream_in.specs.Session.{IsGoing, IsFed}
+use Rattle.stream_in.specs.Area.{HasTooFewFor}
 use Rattle.definitions.specs.Disk.{Changes, DiskImage}
 use Rattle.stream_in.specs.Written.{AreOfMap, WritesOn}
 use Rattle.stream_in.proofs.Pages.{on_none, on_then}

@@ -1,0 +1,216 @@
+-- The runs of the commands, from their parts.
+use Rattle.std.proofs.Common.{◌≡◌, ◌⊎◌, inl, inr, ◌≤◌, ◌<◌, ℕ, suc, true, false, List, [], ◌∷◌, ◌++◌, length, length-append, ◌+◌, map, Option, Some, None, Ok, Err, refl, sym, ap, ◌∙◌, subst, arith}
+use Rattle.std.specs.Prelude.{IsTrue}
+use Rattle.std.proofs.lemmas.List.{map-append}
+use Rattle.std.specs.Option.{IfSome}
+use Rattle.page_core.specs.declared.format.Format.{Format}
+use Rattle.definitions.specs.Disk as disk
+use Rattle.plain_machine.specs.Chain.{Marked}
+use Rattle.plain_machine.specs.Premises.{HasOriginal}
+use Rattle.plain_machine.specs.State.{off}
+use Rattle.plain_machine.specs.declared.event.Actor.TheVariants as actor
+use Rattle.plain_machine.specs.declared.event.BootFrom.TheVariants.{Kept}
+use Rattle.plain_machine.specs.declared.event.Event.{Event}
+use Rattle.plain_machine.specs.declared.event.Event.TheVariants as event
+use Rattle.plain_machine.specs.declared.event.IdentCheck.{IdentCheck}
+use Rattle.plain_machine.specs.declared.event.Loader.TheVariants.{Table}
+use Rattle.plain_machine.specs.declared.reply.Reply.{Reply}
+use Rattle.sector_disk.specs.declared.disk.Disk.{Ghosts}
+use Rattle.world_core.specs.StandsFor.{IsNew, hardware_of, shown}
+use Rattle.world_core.specs.World.{World}
+use Rattle.world_runs.specs.Played.{Played, situation_of}
+use Rattle.world_runs.specs.Turns.{Situation}
+use Rattle.world_runs.specs.Counts.{steps_of}
+use Rattle.world_runs.proofs.Counted.{steps_append}
+use Rattle.world_runs.proofs.Playing.{played_none, played_then}
+use Rattle.command_core.specs.Answers.{goes_on, held_at_first, is_booted}
+use Rattle.command_core.specs.Parts.{Boots, Finishes, Starts}
+use Rattle.command_core.specs.Runs.{AreStepped, GoOn, IsAsked, IsHibernation, IsReady, IsResumption, Ran, RanAs, RunsOver, boot_events, core_steps, last_reply, shrink_events}
+use Rattle.command_core.specs.declared.ending.Ended.{Ended}
+use Rattle.command_core.proofs.Begun.{new_stands}
+
+-- Steps, and one more.
+
+last_more : (r : Reply) (rest : List Reply) (s : Reply) → last_reply r (rest ++ s ∷ []) ≡ s
+last_more r [] s = refl
+last_more r (q ∷ rest) s = last_more q rest s
+
+goes_more : (r : Reply) (rest : List Reply) (s : Reply) → GoOn r rest → goes_on (last_reply r rest) ≡ true → GoOn r (rest ++ s ∷ [])
+goes_more r [] s goes last = (last, tt)
+goes_more r (q ∷ rest) s (first, goes) last = (first, goes_more q rest s goes last)
+
+abbrev core_step : Reply → Event
+core_step r = event.Step actor.Core
+
+pub finishes_first : {X : Type 0} (D : Ghosts X) (w : World) (begun : Reply) (x : X) → (f : Finishes D w w begun begun x x) × (length f.0 ≡ 0)
+finishes_first D w begun x = (([], record { last_is = refl; goes = tt; few = omega arith }, played_none D w x), refl)
+
+pub finishes_more : {X : Type 0} (D : Ghosts X) (old mid new : World) (begun last r : Reply) (n : ℕ) (x y z : X) →
+    (f : Finishes D old mid begun last x y) × (length f.0 ≡ n) → n < 66000 → goes_on last ≡ true →
+    Played D mid new (event.Step actor.Core ∷ []) (r ∷ []) y z → (f : Finishes D old new begun r x z) × (length f.0 ≡ n + 1)
+finishes_more D old mid new begun last r n x y z ((rest, stepped, so_far), made) few goes one =
+    let size : length (rest ++ r ∷ []) ≡ n + 1 = length-append rest (r ∷ []) ∙ ap (λ (k : ℕ). k + 1) made in (
+      (
+        rest ++ r ∷ [],
+        record { last_is = last_more begun rest r; goes = goes_more begun rest r stepped.goes (ap goes_on stepped.last_is ∙ goes); few = omega arith },
+        subst (λ (es : List Event). Played D old new es (rest ++ r ∷ []) x z) (sym (map-append core_step rest (r ∷ [])))
+            (played_then D old mid new (core_steps rest) (event.Step actor.Core ∷ []) rest (r ∷ []) x y z so_far one),
+      ),
+      size,
+    )
+
+-- A boot, by how it ends.
+
+pub boots_unsynced : {X : Type 0} (D : Ghosts X) (old one two : World) (begun r : Reply) (ended : Ended) (x y z : X) → ended.reply ≡ r → goes_on r ≡ false →
+    Played D old one (event.Boot Kept ∷ []) (begun ∷ []) x y → Played D one two (event.Step actor.Core ∷ []) (r ∷ []) y z → Boots D old two (Err ended) x z
+boots_unsynced D old one two begun r ended x y z is stops first second =
+    let replies = begun ∷ ended.reply ∷ [] in (
+      event.Boot Kept ∷ event.Step actor.Core ∷ [],
+      replies,
+      inl (record { begun = begun; stops = ap goes_on is ∙ stops; events_are = refl; replies_are = refl }),
+      subst (λ (q : Reply). Played D old two (event.Boot Kept ∷ event.Step actor.Core ∷ []) (begun ∷ q ∷ []) x z) (sym is)
+          (played_then D old one two (event.Boot Kept ∷ []) (event.Step actor.Core ∷ []) (begun ∷ []) (r ∷ []) x y z first second),
+    )
+
+played_boot : {X : Type 0} (D : Ghosts X) (old one two three : World) (begun synced r : Reply) (x y z u : X) →
+    Played D old one (event.Boot Kept ∷ []) (begun ∷ []) x y → Played D one two (event.Step actor.Core ∷ []) (synced ∷ []) y z →
+    Played D two three (event.Step actor.Core ∷ []) (r ∷ []) z u → Played D old three boot_events (begun ∷ synced ∷ r ∷ []) x u
+played_boot D old one two three begun synced r x y z u first second third =
+    played_then D old one three (event.Boot Kept ∷ []) (event.Step actor.Core ∷ event.Step actor.Core ∷ []) (begun ∷ []) (synced ∷ r ∷ []) x y u first
+    (played_then D one two three (event.Step actor.Core ∷ []) (event.Step actor.Core ∷ []) (synced ∷ []) (r ∷ []) y z u second third)
+
+pub boots_unread : {X : Type 0} (D : Ghosts X) (old one two three : World) (begun synced r : Reply) (ended : Ended) (x y z u : X) → ended.reply ≡ r →
+    goes_on synced ≡ true → is_booted r ≡ false → Played D old one (event.Boot Kept ∷ []) (begun ∷ []) x y →
+    Played D one two (event.Step actor.Core ∷ []) (synced ∷ []) y z → Played D two three (event.Step actor.Core ∷ []) (r ∷ []) z u → Boots D old three (Err ended) x u
+boots_unread D old one two three begun synced r ended x y z u is goes stops first second third = (
+  boot_events,
+  begun ∷ synced ∷ ended.reply ∷ [],
+  inr (record { begun = begun; synced = synced; goes = goes; stops = ap is_booted is ∙ stops; events_are = refl; replies_are = refl }),
+  subst (λ (q : Reply). Played D old three boot_events (begun ∷ synced ∷ q ∷ []) x u) (sym is) (played_boot D old one two three begun synced r x y z u first second third),
+)
+
+pub boots_up : {X : Type 0} (D : Ghosts X) (old one two three : World) (begun synced r : Reply) (x y z u : X) →
+    goes_on synced ≡ true → is_booted r ≡ true → Played D old one (event.Boot Kept ∷ []) (begun ∷ []) x y →
+    Played D one two (event.Step actor.Core ∷ []) (synced ∷ []) y z → Played D two three (event.Step actor.Core ∷ []) (r ∷ []) z u → Boots D old three (Ok tt) x u
+boots_up D old one two three begun synced r x y z u goes boots first second third = (
+  boot_events,
+  begun ∷ synced ∷ r ∷ [],
+  record { begun = begun; synced = synced; booted = r; shrunk = []; goes = goes; boots = boots; sizes = refl; events_are = refl; replies_are = refl },
+  played_boot D old one two three begun synced r x y z u first second third,
+)
+
+-- Then what is cached is dropped.
+
+ready_shrunk : (want : ℕ) (r : Reply) (events : List Event) (replies : List Reply) → IsReady None events replies →
+    IsReady (Some want) (events ++ event.Shrink want ∷ []) (replies ++ r ∷ [])
+ready_shrunk want r events replies is = record {
+  begun = is.begun;
+  synced = is.synced;
+  booted = is.booted;
+  shrunk = is.shrunk ++ r ∷ [];
+  goes = is.goes;
+  boots = is.boots;
+  sizes = length-append is.shrunk (r ∷ []) ∙ ap (λ (n : ℕ). n + 1) is.sizes;
+  events_are = ap (λ (es : List Event). es ++ event.Shrink want ∷ []) is.events_are;
+  replies_are = ap (λ (rs : List Reply). rs ++ r ∷ []) is.replies_are;
+}
+
+pub starts_shrunk : {X : Type 0} (D : Ghosts X) (old mid new : World) (want : ℕ) (r : Reply) (x y z : X) → Boots D old mid (Ok tt) x y →
+    Played D mid new (event.Shrink want ∷ []) (r ∷ []) y z → Starts D (Some want) old new (Ok tt) x z
+starts_shrunk D old mid new want r x y z (events, replies, ready, booted) one = (
+  events ++ event.Shrink want ∷ [],
+  replies ++ r ∷ [],
+  ready_shrunk want r events replies ready,
+  played_then D old mid new events (event.Shrink want ∷ []) replies (r ∷ []) x y z booted one,
+)
+
+-- A whole run over a disk with one image, from a new world.
+
+only_this : (c : Option disk.Content) (v w : disk.DiskImage) → c ≡ Some (disk.settled v) → IfSome c (λ held. disk.IsImage held w) → disk.IsImage (disk.settled v) w
+only_this c v w told is = subst (λ (o : Option disk.Content). IfSome o (λ held. disk.IsImage held w)) told is
+
+pub ran : {X : Type 0} (D : Ghosts X) (old new : World) (events : List Event) (replies : List Reply) (x y : X) → IsNew (hardware_of old) (Some old.frames) old →
+    ((v w : disk.DiskImage) → D.content x ≡ Some (disk.settled v) → IsTrue (D.tells_moments x) → D.left_since x (D.moment x) w → w ≡ v) →
+    Played D old new events replies x y → Ran D (hardware_of old) old.frames events replies (shown new) x y
+ran D old new events replies x y fresh only played = record {
+  calls = played.calls;
+  faults = played.faults;
+  over = λ v told original.
+      let h = hardware_of old in
+      let m = old.frames in
+      let a = off (held_at_first h v) (Some m) in
+      let stands = new_stands h m old v fresh original in
+      let leads = played.leads (disk.settled v) a told stands in
+      record {
+        first = situation_of old (disk.settled v) a;
+        state = refl;
+        content = refl;
+        stands = stands.stands;
+        through = leads.through;
+        turns = leads.turns;
+        told = leads.told ∙ ap (λ (p : Situation). Some p.content) (sym leads.ends);
+        shown_is = ap (λ (p : Situation). p.shown) leads.ends;
+        later = λ tells. (leads.time tells).later;
+        inside = λ tells w left. elim ((leads.time tells).nothing_else (D.moment x) w (omega arith) left) [
+          | inl was ↦ inl (only v w told tells was)
+          | inr inside ↦ inr inside
+        ];
+      };
+}
+
+-- The commands.
+
+pub asked : {X : Type 0} (D : Ghosts X) (f : Format) (size : Option ℕ) (old started begun new : World) (b last : Reply) (x y z u : X) →
+    Starts D size old started (Ok tt) x y → Played D started begun (event.Hibernate f ∷ []) (b ∷ []) y z → Finishes D begun new b last z u →
+    (events : List Event) × (replies : List Reply) × IsHibernation f size last events replies × Played D old new events replies x u
+asked D f size old started begun new b last x y z u (front, first, ready, so_far) one (rest, stepped, finished) =
+    let then = event.Hibernate f ∷ core_steps rest in (
+      front ++ then,
+      first ++ b ∷ rest,
+      inr (record { front = front; first = first; ready = ready; begun = b; rest = rest; stepped = stepped; events_are = refl; replies_are = refl }),
+      played_then D old started new front then first (b ∷ rest) x y u so_far
+          (played_then D started begun new (event.Hibernate f ∷ []) (core_steps rest) (b ∷ []) rest y z u one finished),
+    )
+
+pub resumed : {X : Type 0} (D : Ghosts X) (check : IdentCheck) (old begun new : World) (b last : Reply) (x y z : X) →
+    Played D old begun (event.Resume Table check ∷ []) (b ∷ []) x y → Finishes D begun new b last y z →
+    (events : List Event) × (replies : List Reply) × IsResumption check last events replies × Played D old new events replies x z
+resumed D check old begun new b last x y z one (rest, stepped, finished) = (
+  event.Resume Table check ∷ core_steps rest,
+  b ∷ rest,
+  record { begun = b; rest = rest; stepped = stepped; events_are = refl; replies_are = refl },
+  played_then D old begun new (event.Resume Table check ∷ []) (core_steps rest) (b ∷ []) rest x y z one finished,
+)
+
+-- Its steps are few.
+
+steps_few : (rest : List Reply) → steps_of (core_steps rest) ≡ length rest
+steps_few [] = refl
+steps_few (r ∷ rest) = ap (λ (n : ℕ). suc n) (steps_few rest)
+
+pub resumption_few : (check : IdentCheck) (last : Reply) (events : List Event) (replies : List Reply) → IsResumption check last events replies → steps_of events ≤ 66000
+resumption_few check last events replies is =
+    let few = is.stepped.few in
+    let count = ap steps_of is.events_are in
+    let steps = steps_few is.rest in
+    omega arith
+
+boot_few : steps_of boot_events ≡ 2
+boot_few = refl
+
+shrink_few : (size : Option ℕ) → steps_of (shrink_events size) ≡ 0
+shrink_few None = refl
+shrink_few (Some want) = refl
+
+pub hibernation_few : (f : Format) (size : Option ℕ) (last : Reply) (events : List Event) (replies : List Reply) → IsHibernation f size last events replies → steps_of events ≤ 66002
+hibernation_few f size last events replies (inl (inl is)) = let count = ap steps_of is.events_are in omega arith
+hibernation_few f size last events replies (inl (inr is)) = let count = ap steps_of is.events_are in omega arith
+hibernation_few f size last events replies (inr is) =
+    let few = is.stepped.few in
+    let steps = steps_few is.rest in
+    let front = ap steps_of is.ready.events_are in
+    let boot = steps_append boot_events (shrink_events size) in
+    let shrink = shrink_few size in
+    let count = ap steps_of is.events_are in
+    let parts = steps_append is.front (event.Hibernate f ∷ core_steps is.rest) in
+    omega arith

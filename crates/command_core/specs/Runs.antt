@@ -1,0 +1,133 @@
+-- The runs of the commands: which events a hibernation and a resume of a dump's machine give it, and what they did over the disk.
+use Rattle.std.specs.Prelude.{◌≡◌, ◌≤◌, ◌⊎◌, ◌+◌, ℕ, true, false, List, [], ◌∷◌, ◌++◌, length, map, Option, Some, None, IsTrue, ⊤}
+use Rattle.page_core.specs.declared.format.Format.{Format}
+use Rattle.definitions.specs.Disk as disk
+use Rattle.plain_machine.specs.Chain.{Marked}
+use Rattle.plain_machine.specs.Machine.{Hardware, Memory}
+use Rattle.plain_machine.specs.Premises.{HasOriginal}
+use Rattle.plain_machine.specs.Shows.{WorldView}
+use Rattle.plain_machine.specs.Stands.{Stands}
+use Rattle.plain_machine.specs.State.{off}
+use Rattle.plain_machine.specs.declared.event.Actor.TheVariants as actor
+use Rattle.plain_machine.specs.declared.event.BootFrom.TheVariants.{Kept}
+use Rattle.plain_machine.specs.declared.event.Event.{Event}
+use Rattle.plain_machine.specs.declared.event.Event.TheVariants as event
+use Rattle.plain_machine.specs.declared.event.IdentCheck.{IdentCheck}
+use Rattle.plain_machine.specs.declared.event.Loader.TheVariants.{Table}
+use Rattle.plain_machine.specs.declared.reply.Reply.{Reply}
+use Rattle.sector_disk.specs.declared.disk.Disk.{Ghosts}
+use Rattle.world_runs.specs.Counts.{AreCounted, steps_of}
+use Rattle.world_runs.specs.Turns.{AreTurns, IsLeftInside, Situation, end_of}
+use Rattle.command_core.specs.Answers.{held_at_first, is_booted, goes_on}
+
+-- the steps that gave these replies
+abbrev pub core_steps : List Reply → List Event
+core_steps replies = map (λ r. event.Step actor.Core) replies
+
+-- the last reply, and that each before it has a step left after it
+abbrev pub last_reply : Reply → List Reply → Reply
+last_reply r [] = r
+last_reply r (s ∷ rest) = last_reply s rest
+
+abbrev pub GoOn : Reply → List Reply → Type 0
+GoOn r [] = ⊤
+GoOn r (s ∷ rest) = (goes_on r ≡ true) × GoOn s rest
+
+-- An operation that begins with the first reply, and step after step up to the last. One over 65,536 page frames has 65,798 steps, and two of
+-- an undo.
+pub record AreStepped (begun : Reply) (rest : List Reply) (last : Reply) : Type 0 where
+  pub last_is : last_reply begun rest ≡ last
+  pub goes : GoOn begun rest
+  pub few : length rest ≤ 66000
+
+-- A resume is asked for with the dump's memory as the loader, and steps follow.
+pub record IsResumption (check : IdentCheck) (last : Reply) (events : List Event) (replies : List Reply) : Type 0 where
+  pub begun : Reply
+  pub rest : List Reply
+  pub stepped : AreStepped begun rest last
+  pub events_are : events ≡ event.Resume Table check ∷ core_steps rest
+  pub replies_are : replies ≡ begun ∷ rest
+
+-- a boot with the dump's memory, and its two steps
+abbrev pub boot_events : List Event
+boot_events = event.Boot Kept ∷ event.Step actor.Core ∷ event.Step actor.Core ∷ []
+
+-- cached page frames are dropped where a size is asked for
+abbrev pub shrink_events : Option ℕ → List Event
+shrink_events None = []
+shrink_events (Some want) = event.Shrink want ∷ []
+
+-- A boot ends early where a call of the disk fails: its sync, or its read.
+pub record IsUnsynced (last : Reply) (events : List Event) (replies : List Reply) : Type 0 where
+  pub begun : Reply
+  pub stops : goes_on last ≡ false
+  pub events_are : events ≡ event.Boot Kept ∷ event.Step actor.Core ∷ []
+  pub replies_are : replies ≡ begun ∷ last ∷ []
+
+pub record IsUnbooted (last : Reply) (events : List Event) (replies : List Reply) : Type 0 where
+  pub begun : Reply
+  pub synced : Reply
+  pub goes : goes_on synced ≡ true
+  pub stops : is_booted last ≡ false
+  pub events_are : events ≡ boot_events
+  pub replies_are : replies ≡ begun ∷ synced ∷ last ∷ []
+
+-- the machine runs, and what was to be dropped is dropped
+pub record IsReady (size : Option ℕ) (events : List Event) (replies : List Reply) : Type 0 where
+  pub begun : Reply
+  pub synced : Reply
+  pub booted : Reply
+  pub shrunk : List Reply
+  pub goes : goes_on synced ≡ true
+  pub boots : is_booted booted ≡ true
+  pub sizes : length shrunk ≡ length (shrink_events size)
+  pub events_are : events ≡ boot_events ++ shrink_events size
+  pub replies_are : replies ≡ (begun ∷ synced ∷ booted ∷ []) ++ shrunk
+
+-- Then a hibernation is asked for, and steps follow.
+pub record IsAsked (f : Format) (size : Option ℕ) (last : Reply) (events : List Event) (replies : List Reply) : Type 0 where
+  pub front : List Event
+  pub first : List Reply
+  pub ready : IsReady size front first
+  pub begun : Reply
+  pub rest : List Reply
+  pub stepped : AreStepped begun rest last
+  pub events_are : events ≡ front ++ event.Hibernate f ∷ core_steps rest
+  pub replies_are : replies ≡ first ++ begun ∷ rest
+
+abbrev pub FailsToBoot : Reply → List Event → List Reply → Type 0
+FailsToBoot last events replies = IsUnsynced last events replies ⊎ IsUnbooted last events replies
+
+abbrev pub IsHibernation : Format → Option ℕ → Reply → List Event → List Reply → Type 0
+IsHibernation f size last events replies = FailsToBoot last events replies ⊎ IsAsked f size last events replies
+
+-- Over the disk v, which has one image: the machine is off, with the dump's memory, and another's image where the disk is marked. The
+-- events lead from there, by rows of the plain machine, to what is shown of the world and what the disk holds at the end. A crash
+-- since the begin leaves the disk as it was, or what lies, sector by sector, between two neighbours on the way.
+pub record RunsOver {X : Type 0} (D : Ghosts X) (h : Hardware) (m : Memory) (v : disk.DiskImage) (events : List Event)
+    (replies : List Reply) (shown : WorldView) (before after : X) : Type 0 where
+  pub first : Situation
+  pub state : first.state ≡ off (held_at_first h v) (Some m)
+  pub content : first.content ≡ disk.settled v
+  pub stands : Stands h first.shown first.content first.state
+  pub through : List Situation
+  pub turns : AreTurns h first events replies through
+  pub told : D.content after ≡ Some (end_of first through).content
+  pub shown_is : (end_of first through).shown ≡ shown
+  pub later : IsTrue (D.tells_moments before) → D.moment before ≤ D.moment after
+  pub inside : IsTrue (D.tells_moments before) → (w : disk.DiskImage) → D.left_since after (D.moment before) w →
+      (w ≡ v) ⊎ IsLeftInside first through w
+
+-- What a command's machine did: the disk was called at most once a step event, its count of faults allows for the replies, and over a disk
+-- that tells what it holds the events are a run.
+pub record Ran {X : Type 0} (D : Ghosts X) (h : Hardware) (m : Memory) (events : List Event) (replies : List Reply)
+    (shown : WorldView) (before after : X) : Type 0 where
+  pub calls : D.calls after ≤ D.calls before + steps_of events
+  pub faults : AreCounted replies (D.faults before) (D.faults after)
+  pub over : (v : disk.DiskImage) → D.content before ≡ Some (disk.settled v) → (Marked h v → HasOriginal h v) →
+      RunsOver D h m v events replies shown before after
+
+-- a hibernation, or a resume, that ended with this reply
+abbrev pub RanAs : {X : Type 0} → (List Event → List Reply → Type 0) → Ghosts X → Hardware → Memory → WorldView → X → X → Type 0
+RanAs IsThis D h m shown before after =
+    (events : List Event) × (replies : List Reply) × IsThis events replies × Ran D h m events replies shown before after

@@ -1,0 +1,50 @@
+-- A machine's run over a disk: its events, each with its reply, and what there is between them. It has no counterpart in Linux.
+use Rattle.std.specs.Prelude.{◌≡◌, ◌⊎◌, ℕ, List, [], ◌∷◌, Contains, ⊤}
+use Rattle.definitions.specs.Disk as disk
+use Rattle.plain_machine.specs.Machine.{Hardware}
+use Rattle.plain_machine.specs.Shows.{WorldView}
+use Rattle.plain_machine.specs.Stands.{Stands}
+use Rattle.plain_machine.specs.State.{State, loading, Load}
+use Rattle.plain_machine.specs.Step.{Step}
+use Rattle.plain_machine.specs.declared.event.Actor.TheVariants as actor
+use Rattle.plain_machine.specs.declared.event.Event.{Event}
+use Rattle.plain_machine.specs.declared.event.Event.TheVariants as event
+use Rattle.plain_machine.specs.declared.reply.Reply.{Reply}
+use Rattle.plain_machine.specs.declared.reply.Reply.TheVariants as reply
+use Rattle.protocol_laws.specs.Rows.{IsSameArea, LeavesBlock, LeavesHeader, LeavesImage, blocks_at}
+use Rattle.resume_core.specs.Restored.{restored_by}
+
+-- What there is between two events: the state of the plain machine, what is shown of the world, and what the disk holds.
+pub record Situation : Type 0 where
+  pub state : State
+  pub shown : WorldView
+  pub content : disk.Content
+
+-- The plain machine gives this reply to the event, over the disk as it reads then, and what is there after it stands for the state that it
+-- goes on to. The area on the disk stays, no other block is written than the event may write, a hibernation that has ended has left its
+-- image, and block(0) is left so. Where a resume has ended the page frames are those that it restores.
+pub record Turn (h : Hardware) (e : Event) (r : Reply) (p q : Situation) : Type 0 where
+  pub step : Step h (disk.as_it_reads p.content) p.state e r q.state
+  pub stands : Stands h q.shown q.content q.state
+  pub area : IsSameArea h (disk.as_it_reads p.content) (disk.as_it_reads q.content)
+  pub unwritten : (b : ℕ) → (Contains (blocks_at h e p.state) b → ⊥) → LeavesBlock b p.content q.content
+  pub image : LeavesImage h e r p.state q.content
+  pub header : LeavesHeader h p.state p.content q.content
+  pub restored : (load : Load) (k n : ℕ) → e ≡ event.Step actor.Core → p.state ≡ loading load k →
+      r ≡ reply.Resumed n → q.shown.frames ≡ restored_by h load
+
+-- Event by event, from the situation p on, through these situations.
+abbrev pub AreTurns : Hardware → Situation → List Event → List Reply → List Situation → Type 0
+AreTurns h p [] [] [] = ⊤
+AreTurns h p (e ∷ events) (r ∷ replies) (q ∷ after) = Turn h e r p q × AreTurns h q events replies after
+AreTurns h p _ _ _ = ⊥
+
+-- the situation at the end
+abbrev pub end_of : Situation → List Situation → Situation
+end_of p [] = p
+end_of p (q ∷ after) = end_of q after
+
+-- A crash inside one of the events may leave this image: it has each sector from what the disk held before the event or after it.
+abbrev pub IsLeftInside : Situation → List Situation → disk.DiskImage → Type 0
+IsLeftInside p [] w = ⊥
+IsLeftInside p (q ∷ after) w = disk.IsMixture p.content q.content w ⊎ IsLeftInside q after w
