@@ -41,6 +41,7 @@ def test_damaged_dumps():
         (12, 1, "Header byte 12"),
         (16, 2047, "Header byte 16"),
         (28, 0, "Zone byte 28"),
+        (28, 17, "Zone byte 28"),
         (428, 0, "Zone byte 424"),
         (432, 2049, "Frame byte 432"),
         (4536, 0, "Order byte 4536"),
@@ -109,3 +110,13 @@ def test_each_byte_of_a_file_map():
         (460, 464, None),
         (464, 468, "Frame byte 464"),
     ])
+
+
+def test_dumps_that_end_early():
+    """Each front of a dump without records, and many of one with a record: the fault is at its end."""
+    dump = tiny()
+    for n in [*range(436), *range(436, 4536, 50), 4535]:
+        check_dump(dump[:n], f"Short byte {n}")
+    check_dump(dump[:432] + bytes(4), "Tables frame 1")
+    for n in range(432, 4568, 47):
+        check_dump(tiny(FILE_MAP)[:n], f"Short byte {n}")

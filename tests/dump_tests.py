@@ -1,7 +1,9 @@
-"""A machine hibernates from its memory dump onto a swap file, and is resumed into a loader's dump: whole cycles, images of a wanted size, what
-is refused of a whole dump, and images that are damaged or of another machine."""
+"""A machine hibernates from its memory dump onto a swap file, and is resumed into a loader's dump: whole cycles, the bytes of an image, images
+of a wanted size, what is refused of a whole dump, and images of another machine."""
+import struct
+
 from harness import check, check_line, check_refused, check_same, run
-from inputs import BAD, EXAMPLE, OVER_FILE, PAGE, SCRIPTED, Machine, area, disk, header, page
+from inputs import BAD, EXAMPLE, NAMES, OVER_FILE, PAGE, SCRIPTED, Machine, area, beginning_with, disk, header, page
 
 
 def hibernate(swap, dump=EXAMPLE.saved(), *options):
@@ -74,6 +76,52 @@ def test_over_a_swap_file():
         check_restored(ran, OVER_FILE)
         check_same("the dump's length", len(ran[1]), 20968)
         check_refused(resume(swap, dump), "no image")
+
+
+# The bytes of an image.
+
+
+def words(*numbers):
+    """A page that begins with these 8-byte words."""
+    return struct.pack(f"<{len(numbers)}Q", *numbers).ljust(PAGE, b"\0")
+
+
+def test_the_bytes_of_an_image():
+    """The map is in block 1, the info page in block 2, the number page in block 3, and the pages of page frames 0 to 6 and 10 are in blocks 4
+    to 11 (struct swsusp_header, struct swap_map_page and struct swsusp_info of kernel/power)."""
+    info = b"".join(name.ljust(65, b"\0") for name in NAMES) + bytes(2) + struct.pack("<6Q", 393472, 4096, 0, 8, 10, 40960)
+    numbers = words(*range(7), 10, 2**64 - 1)
+    pages = SCRIPTED.saved_pages()
+    with area(3000) as swap:
+        check_line(hibernate(swap, SCRIPTED.saved()), "hibernated 8")
+        check_same("the mark", swap.block(0)[4056:], struct.pack("<IIQI", 0, 0, 1, 2) + b"SWAPSPACE2S1SUSPEND\0")
+        check_same("the rest of the header block", swap.block(0)[:4056], header(3000)[:4056])
+        check_same("the map", swap.block(1), words(*range(2, 12)))
+        check_same("the info page", swap.block(2), info.ljust(PAGE, b"\0"))
+        check_same("the numbers", swap.block(3), numbers)
+        check_same("the pages", swap.bytes()[4 * PAGE : 12 * PAGE], b"".join(pages.get(p, bytes(PAGE)) for p in [*range(7), 10]))
+        check_same("the other blocks", swap.bytes()[12 * PAGE :], bytes(2989 * PAGE))
+
+
+def test_the_numbers_of_an_image_without_zeros():
+    """Page frames 5 and 6 are all zero: their numbers are marked, and their pages aren't there."""
+    with area(3000) as swap:
+        check_line(hibernate(swap, SCRIPTED.saved(), "--skip-zeros"), "hibernated 8")
+        check_same("the map", swap.block(1), words(*range(2, 10)))
+        check_same("the numbers", swap.block(3), words(*range(5), 2**63 + 5, 2**63 + 6, 10, 2**64 - 1))
+        check_same("the last page", swap.block(9), beginning_with(77))
+
+
+def test_where_a_second_map_lies():
+    """A map has 511 entries, for the info page, a page of numbers for each 512 page frames, and their pages. The next map lies in the slot
+    after the last of them; it is begun when the first one is full (swap_write_page, kernel/power/swap.c)."""
+    for saved, link, first in [(508, 0, None), (509, 513, 0), (510, 513, 514), (512, 513, 514), (513, 513, 514)]:
+        with area(3000) as swap:
+            check_line(hibernate(swap, SCRIPTED.loader(saved)), f"hibernated {saved}")
+            entries = struct.unpack("<512Q", swap.block(1))
+            check_same(f"the first map of {saved}", (entries[0], entries[511]), (2, link))
+            if link:
+                check_same(f"the second map of {saved}", swap.block(link)[:8], struct.pack("<Q", first))
 
 
 # Images of a wanted size: cached page frames are dropped before the machine hibernates.
@@ -204,68 +252,6 @@ def test_what_is_no_dump():
             check_refused(hibernate(swap, dump), note, status=3)
             check_refused(resume(swap, dump), note, status=3)
             check_same("the disk", swap.bytes(), before)
-
-
-# Images that are damaged: a machine of scripts hibernates by its dump. The map is in block 1, the info page in block 2, the number page in
-# block 3, and page frames 0 to 6 and 10 are in blocks 4 to 11.
-
-
-def check_damaged(changes, note, again="no image"):
-    """The image, changed so, is refused with this note, and with this one at the second time."""
-    with area(3000) as swap:
-        check_line(hibernate(swap, SCRIPTED.saved()), "hibernated 8")
-        swap.change(*changes)
-        dump = SCRIPTED.loader(7)
-        check_refused(resume(swap, dump), note)
-        check_refused(resume(swap, dump), again)
-
-
-def test_damaged_headers_and_maps():
-    check_damaged([(0, 4064, 0)], "no chain")
-    check_damaged([(0, 4064, 3001)], "bad block 3001")
-    check_damaged([(0, 4072, 10), (0, 4056, 7)], "hardware 7 own 0")
-    check_damaged([(1, 0, 0)], "bad block 0")
-    check_damaged([(1, 72, 3001)], "bad block 3001")
-
-
-def test_damaged_info_pages():
-    """The first byte of the sysname is 0, and the others those of `Linux`."""
-    check_damaged([(2, 392, 393473)], "mismatch version code")
-    check_damaged([(2, 0, 0x756E6900)], "mismatch sysname")
-    check_damaged([(2, 400, 4095)], "memory size 4095 own 4096")
-    check_damaged([(2, 416, 9)], "bad counts 9 10")
-    check_damaged([(2, 416, 0), (2, 424, 1)], "bad counts 0 1")
-
-
-def test_damaged_numbers():
-    check_damaged([(3, 56, 4096)], "bad pfn 4096")
-    check_damaged([(3, 48, 5)], "pfn order 5 5")
-    check_damaged([(3, 0, 5), (3, 8, 5)], "pfn order 5 5")
-    check_damaged([(3, 64, 0), (3, 68, 0)], "pfn end 0")
-
-
-def test_a_chain_that_ends():
-    """An image of 597 page frames has two maps. The first one's link is 0."""
-    dump = SCRIPTED.dump(SCRIPTED.loader_pages(597))
-    with area(3000) as swap:
-        check_line(hibernate(swap, dump), "hibernated 597")
-        swap.change((1, 4088, 0), (1, 4092, 0))
-        check_refused(resume(swap, SCRIPTED.loader(7)), "chain ends 1")
-        check_refused(resume(swap, SCRIPTED.loader(7)), "no image")
-
-
-def test_without_the_flag_of_plain_pages():
-    """Of these alone the disk is as before, and the second resume says the same."""
-    check_damaged([(0, 4072, 0)], "compressed 0", "compressed 0")
-
-
-def test_a_damaged_slot_table():
-    """The restored slot table says that slot 0 is free. A script's resume tells it, but the command restores any memory."""
-    with area(3000) as swap:
-        hibernate(swap, SCRIPTED.saved())
-        swap.change((8, 0, 0))
-        status, _, note = resume(swap, SCRIPTED.loader(7))
-        check_same("status and note", (status, note), (0, ""))
 
 
 # Of another machine.

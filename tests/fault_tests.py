@@ -151,6 +151,22 @@ def test_each_two_calls_of_a_hibernation():
     check_hibernations(2, ALL)
 
 
+def test_each_moment_behind_a_call_that_fails():
+    """The power is cut behind the step that failed, and behind each step of its undo: the image is there only where the sync behind the mark
+    has failed and the cut keeps the mark, until the undo has written."""
+    play = Faults()
+    for first in range(1, STEPS + 1):
+        end = end_of_hibernation(first, 1)
+        replies = counts("more ", 1, first - 1, " of 15") + end
+        for steps in range(first, first + len(end)):
+            for cut in [ALL, NONE]:
+                play.boots()
+                play.turn(f"hibernate\narm {first} 1 0", "more 0 of 15", "ok")
+                play.turn(f"steps core {steps}", *replies[:steps])
+                play.is_resumed(cut, (first, steps, cut) == (15, 15, ALL))
+    play.check()
+
+
 def test_undo_leaves_the_mark():
     """A write that fails leaves every sector: the mark stays, and the undo's write, which fails too, leaves it. Without a sync the last bytes
     are there only where the cut keeps them."""

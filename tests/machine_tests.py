@@ -7,7 +7,7 @@ import xml.etree.ElementTree
 
 from dump_tests import check_no_image, check_restored, hibernate, resume
 from harness import MARK, check, check_line, check_refused, check_same, counts, programs, run
-from inputs import EXAMPLE, Machine, area
+from inputs import BAD, EXAMPLE, ZERO_PAGE, Machine, area, page
 
 # The worked example's machine, by a script.
 SCRIPT = b"zone 0 2048\narea 1599\nboot\nsteps core 2\nclaim 3 10\nstore 3 10 0 77\n"
@@ -37,8 +37,12 @@ def test_scripts_without_a_machine():
 
 
 def test_loaders_that_are_made():
-    """Page frame 10 isn't a task's any more."""
+    """Page frame 10 isn't a task's any more, nor slot 1600 bad, which isn't there. Bad slots stay bad."""
     check(machine("loader", stdin=EXAMPLE.saved()), 0, EXAMPLE.loader(4))
+    entries = {0: BAD, 4: BAD, 4092: BAD}
+    bad = {2: page(entries), 3: page({0: BAD, 4 * 575: BAD})}
+    dump = {**EXAMPLE.saved_pages(slots=page({**entries, 8: 3})), 3: page({0: BAD, 4 * 575: BAD, 4 * 576: BAD})}
+    check(machine("loader", stdin=EXAMPLE.dump(dump)), 0, EXAMPLE.dump({**EXAMPLE.frame_table(4), **bad}))
 
 
 def differ(first, second):
@@ -56,6 +60,44 @@ def test_dumps_that_differ():
     check(differ(saved, EXAMPLE.saved(cached=range(20, 30))), 1, b"page 0\n")
     check_refused(differ(saved, saved[:435]), "dump Short byte 435", status=3)
     check_refused(differ(b"", saved), "dump Short byte 0", status=3)
+
+
+def changed(table, i, entry):
+    """The worked example's dump with this entry of a table, or number of a page frame."""
+    pages = {**EXAMPLE.saved_pages()}
+    p, at = table + i // 1024, 4 * (i % 1024)
+    content = pages.get(p, ZERO_PAGE)
+    pages[p] = content[:at] + entry.to_bytes(4, "little") + content[at + 4 :]
+    return EXAMPLE.dump(pages)
+
+
+def test_dumps_that_differ_in_a_word():
+    """The last word of page frame 10; owners, which stand in the frame table: that of page frame 10 in page frame 0, that of 1024 in 1; and
+    slots. What a free page frame holds is no difference."""
+    saved = EXAMPLE.saved()
+    for table, i, entry, line in [
+        (10, 0, 77, "same"),
+        (10, 0, 78, "page 10"),
+        (10, 1023, 1, "page 10"),
+        (0, 10, 262144, "page 0"),
+        (0, 1024, 131072, "page 1"),
+        (2, 1, 3, "page 2"),
+        (2, 1599, 3, "page 3"),
+        (11, 0, 5, "same"),
+        (2047, 1023, 5, "same"),
+    ]:
+        for dumps in [(saved, changed(table, i, entry)), (changed(table, i, entry), saved)]:
+            check(differ(*dumps), 0 if line == "same" else 1, f"{line}\n".encode())
+
+
+def test_dumps_of_other_hardware():
+    saved = EXAMPLE.saved()
+    others = [Machine(slots=1599).saved(), Machine(hw_sig=1).saved(), Machine(extents=((0, 1, 0), (1, 1599, 1))).saved()]
+    others += [with_names(saved, [b"Linux", b"machine", b"6.1.0", b"#1", b"plain", b"(none)".ljust(64, b"\0") + b"x"])]
+    others += [saved[:8] + (393473).to_bytes(4, "little") + saved[12:]]
+    for other in others:
+        for dumps in [(saved, other), (other, saved)]:
+            check(differ(*dumps), 1, b"hardware\n")
 
 
 def test_images_that_are_checked():
@@ -94,11 +136,84 @@ def test_damage_that_is_foretold():
         check_refused(check_image(swap), "no image")
 
 
+def check_shown(dump, text):
+    check(machine("show", stdin=dump), 0, text.encode())
+
+
+def with_names(dump, names):
+    """The dump with these six names: they lie behind its mark and six numbers."""
+    return dump[:32] + b"".join(name.ljust(65, b"\0") for name in names) + dump[422:]
+
+
+KEYS = ["sysname", "nodename", "release", "version", "machine", "domainname"]
+
+
 def test_facts_that_are_shown():
-    """The facts stand in tests of their own: these are the first and the last line."""
-    status, out, note = machine("show", stdin=EXAMPLE.saved())
-    lines = out.decode().splitlines()
-    check_same("what was shown", (status, note, lines[0], lines[-1]), (0, "", "slots 1600", "slots_needed_zeros 1032"))
+    """Page frames 0 to 3 and 10 are saveable, and page frame 3 is all zero. The names have no zero byte, and none that is visible."""
+    names = "".join(f"{key}_hex {'07' * 65}\n" for key in KEYS)
+    check_shown(with_names(EXAMPLE.saved(), [b"\7" * 65] * 6), f"""slots 1600
+frame_table 0
+slot_table 2
+zone 0 2048
+extent 0 1600 0
+hw_sig 0
+version_code 393472
+{names}frames_saveable 5
+frames_free 2043
+frames_needed 1030
+frames_owned 3 1
+slots_free 1599
+slots_bad 1
+image_plain 5 5 7
+slots_needed_plain 1033
+image_zeros 5 4 6
+slots_needed_zeros 1032
+""")
+
+
+def test_facts_of_tasks_and_extents():
+    """Task 3 has page frames 10, with a word, and 11, and slots 1 and 2; task 64 has page frame 12, with a last word, and slot 3. Slot 5 is
+    bad. Page frames 100 to 119 are cached, and 200 to 204 offline."""
+    owned = {10: 3 << 16, 11: 3 << 16, 12: 64 << 16, **{p: 64 for p in range(100, 120)}, **{p: 4 for p in range(200, 205)}}
+    small = Machine(frames=4096, slots=3001, hw_sig=7, extents=((0, 1, 50), (1, 3000, 100)))
+    slots = page({0: BAD, 4: 3, 8: 3, 12: 64, 20: BAD})
+    dump = small.dump({**small.frame_table(7, owned), 4: slots, 10: page({0: 77}), 12: page({4092: 1})})
+    check_shown(dump, """slots 3001
+frame_table 0
+slot_table 4
+zone 0 4096
+extent 0 1 50
+extent 1 3000 100
+hw_sig 7
+version_code 393472
+sysname Linux
+nodename machine
+release 6.1.0
+version #1
+machine plain
+domainname (none)
+frames_saveable 30
+frames_free 4061
+frames_needed 1055
+frames_owned 3 2
+frames_owned 64 1
+slots_free 2996
+slots_bad 2
+slots_owned 3 2
+slots_owned 64 1
+image_plain 30 30 32
+slots_needed_plain 1058
+image_zeros 30 7 9
+slots_needed_zeros 1035
+""")
+
+
+def test_facts_of_names():
+    """An empty name, one of 65 bytes, one that ends at a zero byte before others, and three with a byte that isn't printed."""
+    names = [b"", b"~" * 65, b"a b\0c", b"\n", b"a\x7f", b"\xc3\xa9"]
+    status, out, note = machine("show", stdin=with_names(EXAMPLE.saved(), names))
+    wanted = f"sysname \nnodename {'~' * 65}\nrelease a b\nversion_hex 0a\nmachine_hex 617f\ndomainname_hex c3a9\nframes_saveable"
+    check_same("what was shown", (status, note, wanted.encode() in out), (0, "", True))
 
 
 # What stands in a column: for each of `title`, `use` and `text` a list.

@@ -140,6 +140,112 @@ def test_what_a_cut_leaves():
     """)
 
 
+# What each state of a machine takes.
+
+
+def test_until_it_runs():
+    """A machine boots, and until it runs nothing else begins."""
+    check_transcript("""
+        > claim 3 10
+        not on
+        > hibernate
+        not on
+        > boot
+        more 0 of 2
+        > step core
+        more 1 of 2
+        > claim 3 10
+        frozen
+        > hibernate
+        frozen
+        > step core
+        booted image no
+        > boot
+        not off
+    """)
+
+
+def test_what_tasks_ask():
+    """Task 3 claims page frame 10, stores 77 in its first word and reads it back. The tables are in page frames 0 to 6."""
+    check_transcript("> zone 0 4096\n> area 3000", UP, """
+        > claim 3 6
+        not free
+        > claim 3 10
+        ok
+        > store 3 10 0 77
+        ok
+        > show 3 10 0
+        word 77
+        > release 4 10
+        not owner
+        > show 3 4096 0
+        no frame
+        > step 3
+        idle
+        > release 3 10
+        ok
+        > show 3 10 0
+        not owner
+    """)
+
+
+def test_while_it_hibernates():
+    """No page frame is claimed, and no hibernation begins. The power is cut behind its first step."""
+    check_transcript(B, """
+        > hibernate
+        more 0 of 15
+        > claim 3 11
+        frozen
+        > hibernate
+        frozen
+        > step core
+        more 1 of 15
+        > cut 0
+        cut
+        > step core
+        idle
+    """)
+
+
+def test_while_it_resumes():
+    """Nothing else begins, and as the disk has no image it is off again."""
+    check_transcript("""
+        > zone 0 4096
+        > area 3000
+        > resume
+        loading 0
+        > claim 3 10
+        frozen
+        > hibernate
+        frozen
+        > boot
+        not off
+        > resume
+        not off
+        > steps core 2
+        loading 1
+        no image
+        > step core
+        idle
+        > claim 3 10
+        not on
+    """)
+
+
+def test_fresh_memory_hibernates():
+    """The tables' page frames 0 to 6 are saved, so the image has 7 pages, a page of numbers and the info page. Nine pages, one map and the four
+    steps at the header block make 14. Page frames 5 and 6 have the entries of slots 1024 to 3000, which are free, so that they are all zero:
+    without them the image has 5 pages with data, and 12 steps."""
+    for event, steps in [("hibernate", 14), ("hibernate zeros", 12)]:
+        check_transcript("> zone 0 4096\n> area 3000", UP, f"""
+            > {event}
+            more 0 of {steps}
+            > steps core {steps}
+            more 1 .. {steps - 1} of {steps}
+            hibernated 7
+        """)
+
+
 # Frames and slots, just enough and one too few.
 
 
