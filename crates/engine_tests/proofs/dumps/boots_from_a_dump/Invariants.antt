@@ -1,7 +1,0 @@
-use Rattle.std.proofs.Common.{◌≡◌, ◌⊎◌}
-use Rattle.sector_disk.specs.MemDisk.{block_count}
-use Rattle.world_core.specs.StandsFor.{IsOff, blocks_of}
-use Rattle.engine_tests.proofs.dumps.boots_from_a_dump.Given as goal
-
-abbrev pub invariant-loop-event : goal.invariant-loop-event
-invariant-loop-event g l = IsOff l.world ⊎ (block_count l.disk ≡ blocks_of l.world)
