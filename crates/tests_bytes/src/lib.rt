@@ -1,0 +1,14 @@
+//! Tests of the crates that read and write bytes: header blocks, info pages and map pages, and what compressed images need, LZO1X streams
+//! and their checksum. Each is a worked example from outside, which shows that the definitions are those of Linux.
+#![tactic(auto)]
+
+#[cfg(test)]
+mod checksums;
+#[cfg(test)]
+mod expansions;
+#[cfg(test)]
+mod header_blocks;
+#[cfg(test)]
+mod info_pages;
+#[cfg(test)]
+mod map_pages;
