@@ -205,7 +205,7 @@ def crates():
         parts.append(text(30, y + 24, name))
         for k, boxes in enumerate(lines):
             for x, size, crate in boxes:
-                parts.append(labelled(150 + x, y + 12 + 40 * k, size, 34, [crate], "numbers" if (crate.startswith("tests_") or crate.endswith("_tests")) else "page"))
+                parts.append(labelled(150 + x, y + 12 + 40 * k, size, 34, [crate], "numbers" if crate.startswith("tests_") else "page"))
         y += tall + 8
     write("crates.svg", width, y + 12, parts)
 
