@@ -1,12 +1,15 @@
 # make            proves and builds the programs
 # make install    puts programs, manual pages, completions, examples, documents and the check before a resume below DESTDIR and PREFIX
 # make uninstall  removes them
+# make library    proves and builds the library for C, out/libswsusp.a; make install-library puts it, its header and its manual page in place
 # make check      tries the programs that are built, and checks the documents
 # make deb        makes a Debian package of the programs that are built, in out/deb
 VERSION := $(shell cat VERSION)
 PREFIX ?= /usr/local
 DESTDIR ?=
 BINDIR ?= $(PREFIX)/bin
+LIBDIR ?= $(PREFIX)/lib
+INCLUDEDIR ?= $(PREFIX)/include
 MANDIR ?= $(PREFIX)/share/man
 DOCDIR ?= $(PREFIX)/share/doc/dirukofe
 BASHDIR ?= $(PREFIX)/share/bash-completion/completions
@@ -18,6 +21,7 @@ DRACUTDIR ?= $(PREFIX)/lib/dracut/modules.d
 SWSUSP := crates/swsusp/out/swsusp
 MACHINE := crates/swsusp_machine/out/swsusp_machine
 IMAGE := crates/swsusp_image/out/swsusp_image
+LIBRARY := crates/swsusp_c/out/libswsusp_c.a
 PROGRAMS := $(SWSUSP) $(MACHINE) $(IMAGE)
 # What the scripts of examples/ call.
 TOOLS := tools/make_area.sh tools/make_dump.py tools/extents.py
@@ -29,12 +33,16 @@ PREMOUNT := $(INITRAMFSDIR)/scripts/local-premount/dirukofe
 CHECK := $(INITRAMFSDIR)/scripts/dirukofe_check
 MODULE := $(DRACUTDIR)/95dirukofe
 
-.PHONY: all install install-initramfs uninstall check deb built
+.PHONY: all library install install-initramfs install-library uninstall check deb built
 
 all:
 	cd crates/swsusp && rt run -- drill 10
 	cd crates/swsusp_machine && rt run -- --help
 	cd crates/swsusp_image && rt run -- --help
+
+library:
+	cd crates/swsusp_c && rt lib
+	install -D -m 644 $(LIBRARY) out/libswsusp.a
 
 built:
 	@test -z "$(MISSING)" || { echo "not built: $(MISSING); 'make' proves and builds them" >&2; exit 1; }
@@ -54,7 +62,7 @@ install: built install-initramfs
 	install -m 644 README.md CHANGELOG.md VERSION $(DESTDIR)$(DOCDIR)
 	install -m 644 $(wildcard docs/*) $(DESTDIR)$(DOCDIR)/docs
 	install -m 644 $(filter-out %.sh,$(wildcard examples/*)) $(DESTDIR)$(DOCDIR)/examples
-	install -m 755 $(filter %.sh,$(wildcard examples/*)) $(DESTDIR)$(DOCDIR)/examples
+	install -m 755 $(filter-out %/embed_test.sh,$(filter %.sh,$(wildcard examples/*))) $(DESTDIR)$(DOCDIR)/examples
 	install -m 755 $(TOOLS) $(DESTDIR)$(DOCDIR)/tools
 
 install-initramfs:
@@ -65,7 +73,14 @@ install-initramfs:
 	    packaging/initramfs/dracut/check-resume.sh
 	install -m 644 packaging/initramfs/dracut/resume.conf $(DESTDIR)$(MODULE)
 
+install-library:
+	@test -f $(LIBRARY) || { echo "not built: $(LIBRARY); 'make library' proves and builds it" >&2; exit 1; }
+	install -D -m 644 $(LIBRARY) $(DESTDIR)$(LIBDIR)/libswsusp.a
+	install -D -m 644 include/swsusp.h $(DESTDIR)$(INCLUDEDIR)/swsusp.h
+	install -D -m 644 man/libswsusp.3 $(DESTDIR)$(MANDIR)/man3/libswsusp.3
+
 uninstall:
+	rm -f $(DESTDIR)$(LIBDIR)/libswsusp.a $(DESTDIR)$(INCLUDEDIR)/swsusp.h $(DESTDIR)$(MANDIR)/man3/libswsusp.3
 	rm -f $(addprefix $(DESTDIR)$(BINDIR)/,$(notdir $(PROGRAMS)))
 	rm -f $(DESTDIR)$(MANDIR)/man5/swsusp-script.5 $(DESTDIR)$(MANDIR)/man7/swsusp-replies.7
 	rm -f $(addprefix $(DESTDIR)$(MANDIR)/man8/,swsusp.8 swsusp_machine.8 swsusp_image.8)
@@ -79,6 +94,7 @@ check: built
 	python3 tools/check_examples.py
 	sh examples/story.sh | diff examples/story.out -
 	python3 tools/check_promises.py
+	python3 tools/check_header.py
 	python3 tools/reading.py --check
 	python3 tools/check_replies.py
 	python3 tools/defended.py --check

@@ -6,7 +6,8 @@ use sig_header::take_back;
 /// The image of an area is given up: a value that its caller asks for the next call and tells how that one went.
 #[derive(Clone, Copy, Debug, PartialEq, Eq)]
 pub struct Discard {
-    step: Step,
+    /// The call that is to be made, or how it ended.
+    pub step: Step,
 }
 
 impl Discard {

@@ -140,7 +140,7 @@ asks_data m r made (Err why) read begun new may = tt
 
 -- a number that passes its test may be handed out
 pub may_place : (m : Machine) (last : Option ℕ) (p : ℕ) → number_fault m last p ≡ None → MayPlace m p last
-may_place m last p sound = passed (is_memory m.memory.now p) (order_fault last p) sound (above last) where
+may_place m last p sound = passed (is_memory m.memory p) (order_fault last p) sound (above last) where
   above : (o : Option ℕ) → order_fault o p ≡ None → IsAbove o p
   above None is = tt
   above (Some q) is = over (leb p q) is (leb-false p q) where

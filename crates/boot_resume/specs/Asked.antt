@@ -42,7 +42,7 @@ IsAbove (Some last) p = last < p
 
 -- a page frame of memory, above the one that was handed out last
 abbrev pub MayPlace : Machine → ℕ → Option ℕ → Type 0
-MayPlace m p last = (is_memory m.memory.now p ≡ true) × IsAbove last p
+MayPlace m p last = (is_memory m.memory p ≡ true) × IsAbove last p
 
 -- A page is handed out behind the first four calls alone, each page frame is above those before it, and what is written
 -- is the block of the header, once, right behind its read.

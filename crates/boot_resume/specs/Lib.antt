@@ -1,5 +1,6 @@
 pub mod Marks
 pub mod Listed
+pub mod Facts
 pub mod Memory
 pub mod Ranges
 pub mod OnDisk

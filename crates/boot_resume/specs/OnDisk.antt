@@ -18,10 +18,9 @@ use Rattle.definitions.specs.declared.info.Field.{Field}
 use Rattle.definitions.specs.declared.info.Info.{Info}
 use Rattle.plain_machine.specs.Chain.{map_block, entry_block, or_else, first_some}
 use Rattle.plain_machine.specs.Trace.{is_set, number_by, is_marked_by, are_bad_counts}
+use Rattle.boot_resume.specs.Facts.{Compared, any_kernel, same_kernel, same_bytes}
 use Rattle.boot_resume.specs.Memory.{block_fault, is_memory}
 use Rattle.boot_resume.specs.declared.machine.Machine.{Machine}
-use Rattle.boot_resume.specs.declared.machine.Identity.{Identity}
-use Rattle.boot_resume.specs.declared.machine.Identity.TheVariants.{Generic, Architecture}
 use Rattle.boot_resume.specs.declared.cause.Cause.{Cause}
 use Rattle.boot_resume.specs.declared.cause.Cause.TheVariants as cause
 
@@ -108,11 +107,11 @@ field_cause None = None
 field_cause (Some field) = Some (cause.Mismatch field)
 
 -- an architecture's bytes are compared whole
-abbrev pub identity_cause : Option Identity → List ℕ → Option Cause
-identity_cause None page = None
-identity_cause (Some (Generic own)) page = field_cause (mismatch (info_of page).ident own.now)
-identity_cause (Some (Architecture own)) page =
-    if pointwise nat_eq (bytes_at 390 page 0) own.now then None else Some cause.Architecture
+abbrev pub identity_cause : Compared → List ℕ → Option Cause
+identity_cause any_kernel page = None
+identity_cause (same_kernel ident) page = field_cause (mismatch (info_of page).ident ident)
+identity_cause (same_bytes bytes) page =
+    if pointwise nat_eq (bytes_at 390 page 0) bytes then None else Some cause.Architecture
 
 abbrev pub memory_cause : Machine → Info → Option Cause
 memory_cause m info =
@@ -134,7 +133,7 @@ order_fault None p = None
 order_fault (Some last) p = if nat_le p last then Some (cause.PfnOrder last p) else None
 
 abbrev pub number_fault : Machine → Option ℕ → ℕ → Option Cause
-number_fault m last p = if not (is_memory m.memory.now p) then Some (cause.BadPfn p) else order_fault last p
+number_fault m last p = if not (is_memory m.memory p) then Some (cause.BadPfn p) else order_fault last p
 
 abbrev pub number_before : Machine → disk.DiskImage → ℕ → Option ℕ
 number_before m v zero = None

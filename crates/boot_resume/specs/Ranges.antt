@@ -1,5 +1,6 @@
 -- Why what a caller says of its machine can't be so: the first fault.
-use Rattle.std.specs.Prelude.{◌≡◌, ℕ, ◌+◌, ◌^◌, ◌≤◌, ◌&&◌, ◌⊎◌, List, [], ◌∷◌, nat_lt, nat_le, Option, Some, None, if◌then◌else◌}
+use Rattle.std.specs.Prelude.{◌≡◌, ℕ, ◌+◌, ◌^◌, ◌<◌, ◌≤◌, ◌&&◌, ◌⊎◌, List, [], ◌∷◌, nat_lt, nat_le, Option, Some, None}
+use Rattle.std.specs.Prelude.{if◌then◌else◌}
 use Rattle.boot_resume.specs.Memory.{AreApart}
 use Rattle.boot_resume.specs.declared.machine.FrameRange.{FrameRange}
 use Rattle.boot_resume.specs.declared.machine.MachineFault.{MachineFault}
@@ -15,4 +16,5 @@ abbrev pub IsFault : List FrameRange → (present blocks header : ℕ) → Machi
 IsFault memory present blocks header (Memory index) = misplaced 0 0 memory ≡ Some index
 IsFault memory present blocks header (Present said) =
     AreApart memory × ((said ≡ present) × ((present ≡ 0) ⊎ (2 ^ 52 ≤ present)))
-IsFault memory present blocks header (Header said) = AreApart memory × ((said ≡ header) × (blocks ≤ header))
+IsFault memory present blocks header (Header said) =
+    AreApart memory × ((0 < present) × ((present < 2 ^ 52) × ((said ≡ header) × (blocks ≤ header))))

@@ -1,6 +1,7 @@
 //! The info page: whose image it is, and how many pages it has.
 ghost use Rattle.std.specs.Prelude.{◌≡◌, ◌<◌, ◌≤◌, ◌^◌, IfOk};
 ghost use Rattle.definitions.specs.InfoPage.{info_of, mismatch};
+ghost use Rattle.boot_resume.specs.Facts.{compared_by};
 ghost use Rattle.boot_resume.specs.Memory.{Tests};
 ghost use Rattle.boot_resume.specs.OnDisk.{counts_cause, field_cause, identity_cause, info_cause, memory_cause};
 
@@ -41,7 +42,7 @@ pub(crate) fn read_info(machine: &Machine, format: Format, page: &Page) -> Resul
 
 fn check_identity(identity: Option<Identity>, info: &Info, page: &Page) -> Result<(), Cause>
     requires { info.now ≡ info_of page.now }
-    ensures { Tests (identity_cause identity.entry page.now) result }
+    ensures { Tests (identity_cause (compared_by identity.entry) page.now) result }
 {
     match identity {
         None => Ok(()),

@@ -18,4 +18,6 @@ mod stage;
 pub use call::{Call, FailedCall, Left};
 pub use cause::Cause;
 pub use machine::{FrameRange, Identity, Machine, MachineFault};
+pub use reading::Reading;
 pub use resume::Resume;
+pub use stage::{Move, Stage};

@@ -3,9 +3,11 @@ ghost use Rattle.std.specs.Prelude.{◌≡◌, ◌<◌, ◌≤◌, ◌^◌};
 use crate::cause::Cause;
 use crate::ranges::first_misplaced;
 use definitions::Ident;
+use std::marker::Model;
 use thiserror::Error;
 
 /// The page frames from `start` up to before `end` are memory.
+#[repr(C)]
 #[derive(Clone, Copy, Debug, PartialEq, Eq)]
 pub struct FrameRange {
     pub start: u64,
@@ -36,8 +38,9 @@ pub enum MachineFault {
     Header { header: u64 },
 }
 
-/// The machine that an image is resumed into, and the place of the swap area, as the caller lends them.
-#[derive(Clone, Copy)]
+/// The machine that an image is resumed into, and the place of the swap area, as the caller lends them. A contract sees
+/// what they say, and not where they lie: two machines of the same ranges and numbers are one.
+#[derive(Drop)]
 pub struct Machine<'a> {
     memory: &'a [FrameRange],
     present: u64,
@@ -45,11 +48,23 @@ pub struct Machine<'a> {
     hardware_signature: u32,
     blocks: u64,
     header: u64,
-    ghost few: { present < 2 ^ 52 },
+}
+
+impl<'a> Model for Machine<'a> {
+    ghost use Rattle.std.specs.Prelude.{◌<◌, ◌^◌};
+    ghost use Rattle.boot_resume.specs.Facts.{Facts, compared_by, facts};
+
+    ghost Value = { Facts };
+
+    ghost view = { λ m.
+        facts m.memory.now m.present (compared_by m.identity) m.hardware_signature m.blocks m.header };
+
+    ghost invariant = { λ m. m.present < 2 ^ 52 };
 }
 
 impl<'a> Machine<'a> {
     ghost use Rattle.std.specs.Prelude.{◌≡◌, ◌<◌, ◌≤◌, ◌^◌, ◌↔◌, IsOk, IfErr, IfOk, IsTrue};
+    ghost use Rattle.boot_resume.specs.Facts.{compared_by, facts};
     ghost use Rattle.boot_resume.specs.Ranges.{IsFault};
     ghost use Rattle.boot_resume.specs.Memory.{AreApart, block_fault, is_memory, Names};
 
@@ -67,11 +82,8 @@ impl<'a> Machine<'a> {
     ) -> Result<Machine<'a>, MachineFault>
         ensures ok { IsOk result ↔ (AreApart memory.now × (0 < present) × (present < 2 ^ 52) × (header < blocks)) }
         ensures fault { IfErr result (IsFault memory.now present blocks header) }
-        ensures memory { IfOk result (λ m. m.memory ≡ memory.entry) }
-        ensures present { IfOk result (λ m. m.present ≡ present) }
-        ensures identity { IfOk result (λ m. m.identity ≡ identity.entry) }
-        ensures signature { IfOk result (λ m. m.hardware_signature ≡ hardware_signature) }
-        ensures disk { IfOk result (λ m. (m.blocks ≡ blocks) × (m.header ≡ header)) }
+        ensures machine { IfOk result (λ m. m ≡
+            facts memory.now present (compared_by identity.entry) hardware_signature blocks header) }
     {
         if let Some(index) = first_misplaced(memory) {
             return Err(MachineFault::Memory { index });
@@ -100,7 +112,7 @@ impl<'a> Machine<'a> {
     }
 
     pub(crate) fn identity(&self) -> Option<Identity<'a>>
-        ensures { result ≡ self.now.identity }
+        ensures { compared_by result ≡ self.now.identity }
     {
         self.identity
     }
@@ -119,7 +131,7 @@ impl<'a> Machine<'a> {
 
     /// Whether a page frame is memory.
     pub(crate) fn is_memory(&self, frame: u64) -> bool
-        ensures { result ≡ is_memory self.now.memory.now frame }
+        ensures { result ≡ is_memory self.now.memory frame }
     {
         self.memory
             .iter()

@@ -17,29 +17,30 @@ use sig_header::{Mark, take_back};
 
 /// How far an image is read, but for the pending call.
 #[derive(Drop)]
-pub(crate) struct Reading {
-    mark: Mark,
+pub struct Reading {
+    /// The mark of the header block; zeros until that is read.
+    pub mark: Mark,
     /// How many page frames were saved, and how many pages the stream has; 0 until the info page is read.
-    saved: u64,
-    pages: u64,
+    pub saved: u64,
+    pub pages: u64,
     /// The page of the stream that is read next for the first time, and the map of the one before it.
-    page: u64,
-    map: Page,
+    pub page: u64,
+    pub map: Page,
     /// How many numbers were listed, and from the end of the list on, how many pages were handed out.
-    given: u64,
+    pub given: u64,
     /// The page frame of the number before.
-    last: Option<u64>,
+    pub last: Option<u64>,
     /// How many of the listed numbers have a data page.
-    with_data: u64,
+    pub with_data: u64,
     /// The block of the map of the number page that is read again next.
-    again: u64,
+    pub again: u64,
     /// The number page that was read again.
-    numbers: Page,
+    pub numbers: Page,
     /// The page frame whose page is handed out next.
-    frame: u64,
-    ghost few: { saved < 2 ^ 52 },
-    ghost within: { given ≤ saved },
-    ghost counted: { with_data ≤ given },
+    pub frame: u64,
+    pub ghost few: { saved < 2 ^ 52 },
+    pub ghost within: { given ≤ saved },
+    pub ghost counted: { with_data ≤ given },
 }
 
 impl Reading {
@@ -63,7 +64,7 @@ impl Reading {
     ghost use Rattle.boot_resume.specs.declared.stage.Stage.TheVariants.{DataMap, DataPage, Place, Ended};
 
     /// Before anything is read.
-    pub fn new() -> Reading {
+    pub(crate) fn new() -> Reading {
         Reading {
             mark: Mark {
                 last: 0,
@@ -86,7 +87,12 @@ impl Reading {
     }
 
     /// What comes after the pending call.
-    pub fn take(&mut self, pending: Move, machine: &Machine, page: &mut Page) -> Result<Move, Cause>
+    pub(crate) fn take(
+        &mut self,
+        pending: Move,
+        machine: &Machine,
+        page: &mut Page,
+    ) -> Result<Move, Cause>
         ensures leads { (v : DiskImage) → Knows machine.now v self.old pending.stage pending.call →
             IsAnswer v pending.call page.old →
             (IsEnd pending.call → ⊥) →

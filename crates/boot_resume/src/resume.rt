@@ -5,11 +5,14 @@ use crate::reading::Reading;
 use crate::stage::{Move, Stage};
 use page_core::Page;
 
-/// A resume: a value of fixed size, which its caller asks for the next call and tells how that one went.
+/// A resume: a value of fixed size, which its caller asks for the next call and tells how that one went. Its fields are
+/// public so that a caller can keep it in a form of his own; what the clauses promise holds of what began with `new`.
 #[derive(Drop)]
 pub struct Resume {
-    pending: Move,
-    reading: Reading,
+    /// The call that is to be made, and what its answer is for.
+    pub pending: Move,
+    /// What was read so far.
+    pub reading: Reading,
 }
 
 impl Resume {

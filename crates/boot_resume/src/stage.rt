@@ -2,7 +2,7 @@ use crate::call::{Call, Left};
 
 /// What the answer to the pending call is for.
 #[derive(Clone, Copy, Debug, PartialEq, Eq)]
-pub(crate) enum Stage {
+pub enum Stage {
     /// Before anything is read.
     FirstSync,
     Header,
@@ -25,7 +25,7 @@ pub(crate) enum Stage {
 
 /// A call, and what its answer is for.
 #[derive(Clone, Copy, Debug, PartialEq, Eq)]
-pub(crate) struct Move {
+pub struct Move {
     pub stage: Stage,
     pub call: Call,
 }
@@ -35,7 +35,7 @@ impl Stage {
     ghost use Rattle.boot_resume.specs.Asked.{left_at};
 
     /// What a failure of the pending call leaves.
-    pub fn left(self) -> Left
+    pub(crate) fn left(self) -> Left
         ensures { result ≡ left_at self }
     {
         match self {

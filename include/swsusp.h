@@ -1,0 +1,250 @@
+/*
+ * libswsusp: the image of a hibernated Linux, for a boot loader or an initramfs.
+ *
+ * The library makes no call of its own and takes no memory: it says which call of the disk comes next, and is told how
+ * that went. All it keeps lies in the caller's struct swsusp_resume or struct swsusp_discard, which may lie anywhere,
+ * be copied and be moved. Two threads may not use one such struct at once. libswsusp(3) has a page for each function.
+ *
+ * Each pointer must hold what it says, and no two of a call may overlap; none may be NULL. Every other argument is
+ * tested, and refused with a code.
+ */
+#ifndef SWSUSP_H
+#define SWSUSP_H
+
+#include <stddef.h>
+#include <stdint.h>
+
+#ifdef __cplusplus
+extern "C" {
+#endif
+
+/* Blocks of the disk, page frames and the caller's buffer have so many bytes. */
+#define SWSUSP_PAGE 4096
+
+/* What the functions return. Unless it is SWSUSP_OK, nothing was changed. */
+enum {
+    SWSUSP_OK = 0,
+    SWSUSP_BAD_STATE = 1,    /* the state isn't one that the library wrote */
+    SWSUSP_BAD_PAGE = 2,     /* the buffer hasn't SWSUSP_PAGE bytes */
+    SWSUSP_BAD_MEMORY = 3,   /* a range of page frames is empty, or begins before the end of the one before it */
+    SWSUSP_BAD_PRESENT = 4,  /* there are no page frames, or 2^52 and more */
+    SWSUSP_BAD_HEADER = 5,   /* the header's block isn't one of the disk's */
+    SWSUSP_BAD_IDENTITY = 6  /* none of SWSUSP_ANY_KERNEL, SWSUSP_SAME_KERNEL and SWSUSP_SAME_ARCHITECTURE */
+};
+
+/* What comes next: the kind of a call. */
+enum {
+    SWSUSP_SYNC = 1,    /* what was written is to be on the disk before the answer */
+    SWSUSP_READ = 2,    /* block `first` is to be read into the buffer */
+    SWSUSP_WRITE = 3,   /* the buffer is to be written to block `first` */
+    SWSUSP_PLACE = 4,   /* the buffer is the page of page frame `first` */
+    SWSUSP_DONE = 5,    /* an end: each page was handed out, `first` of them */
+    SWSUSP_REFUSED = 6, /* an end: the image isn't resumed, for the cause `reason` */
+    SWSUSP_FAILED = 7   /* an end: the call `reason` (SWSUSP_SYNC to SWSUSP_PLACE) failed, and leaves `first` */
+};
+
+/* Why an image isn't resumed: the reason of SWSUSP_REFUSED, by the names of swsusp-replies(7). */
+enum {
+    SWSUSP_NO_IMAGE = 1,
+    SWSUSP_COMPRESSED = 2,    /* flags `first` */
+    SWSUSP_HW_MISMATCH = 3,   /* the image's signature `first`, the machine's `second` */
+    SWSUSP_NO_CHAIN = 4,
+    SWSUSP_BAD_BLOCK = 5,     /* block `first` */
+    SWSUSP_CHAIN_ENDS = 6,    /* after map `first`, counted from 1 */
+    SWSUSP_MISMATCH = 7,      /* field `first`: SWSUSP_VERSION_CODE to SWSUSP_MACHINE */
+    SWSUSP_ARCHITECTURE_MISMATCH = 8,
+    SWSUSP_MEMORY_SIZE = 9,   /* the image's page frames `first`, the machine's `second` */
+    SWSUSP_BAD_COUNTS = 10,   /* page frames saved `first`, pages of the stream `second` */
+    SWSUSP_BAD_PFN = 11,      /* page frame `first` is no memory */
+    SWSUSP_PFN_ORDER = 12,    /* page frame `second` isn't above `first`, the one before */
+    SWSUSP_PFN_END = 13,      /* the word `first` stands after the last page frame's number */
+    SWSUSP_NO_ORIGINAL = 14   /* of swsusp_discard_next alone: what the mark would be taken back to is an image's too */
+};
+
+/* The field of SWSUSP_MISMATCH. */
+enum {
+    SWSUSP_VERSION_CODE = 1,
+    SWSUSP_SYSNAME = 2,
+    SWSUSP_RELEASE = 3,
+    SWSUSP_VERSION = 4,
+    SWSUSP_MACHINE = 5
+};
+
+/* What a failed call leaves: `first` of SWSUSP_FAILED. */
+enum {
+    SWSUSP_SAME = 1,   /* the disk is as it was */
+    SWSUSP_UNSURE = 2, /* the image is there, or it was taken back */
+    SWSUSP_GONE = 3    /* the image was taken back */
+};
+
+/* What the image's identity is compared with. */
+enum {
+    SWSUSP_ANY_KERNEL = 0,       /* with nothing */
+    SWSUSP_SAME_KERNEL = 1,      /* with version_code and names, of which nodename and domainname may differ */
+    SWSUSP_SAME_ARCHITECTURE = 2 /* with the bytes of architecture */
+};
+
+/* The next call, or an end. Numbers that a kind doesn't name are 0. */
+struct swsusp_call {
+    uint32_t kind;
+    uint32_t reason;
+    uint64_t first;
+    uint64_t second;
+};
+
+/* The page frames from start up to before end are memory. */
+struct swsusp_range {
+    uint64_t start;
+    uint64_t end;
+};
+
+/* The machine that is resumed, and the place of its swap area. */
+struct swsusp_machine {
+    uint64_t present;            /* how many page frames the kernel counts (num_physpages), below 2^52 */
+    uint64_t blocks;             /* how many blocks of SWSUSP_PAGE bytes the disk has */
+    uint64_t header;             /* the block of the area's header */
+    uint32_t hardware_signature; /* compared where the image carries one */
+    uint32_t identity;           /* SWSUSP_ANY_KERNEL, SWSUSP_SAME_KERNEL or SWSUSP_SAME_ARCHITECTURE */
+    uint32_t version_code;       /* LINUX_VERSION_CODE */
+    uint8_t names[6][65];        /* sysname, nodename, release, version, machine, domainname, filled with zero bytes */
+    uint8_t architecture[390];   /* the first bytes of the info page, where an architecture has a header of its own */
+};
+
+/* A resume. Its fields are the library's. */
+struct swsusp_resume {
+    uint32_t stage;
+    uint32_t has_last;
+    struct swsusp_call call;
+    uint32_t mark_last;
+    uint32_t mark_count;
+    uint64_t mark_first;
+    uint32_t mark_flags;
+    uint32_t mark_hw_sig;
+    uint64_t saved;
+    uint64_t pages;
+    uint64_t page;
+    uint64_t given;
+    uint64_t last;
+    uint64_t with_data;
+    uint64_t again;
+    uint64_t frame;
+    uint8_t map[SWSUSP_PAGE];
+    uint8_t numbers[SWSUSP_PAGE];
+};
+
+/* The end of an image that isn't resumed. Its field is the library's. */
+struct swsusp_discard {
+    struct swsusp_call call;
+};
+
+/* What the header block of an area is. */
+enum {
+    SWSUSP_IMAGE = 1,    /* an image: first_map, last_page, bad_pages, flags and hardware_signature, untested */
+    SWSUSP_AREA = 2,     /* a version 1 swap area without an image: last_page and bad_pages */
+    SWSUSP_OLD_AREA = 3, /* a version 0 swap area */
+    SWSUSP_NO_AREA = 4,  /* no signature of a swap area */
+    SWSUSP_BAD_AREA = 5  /* a version 1 swap area that can't be used: fault and number */
+};
+
+/* Why a version 1 swap area can't be used. */
+enum {
+    SWSUSP_FAULT_VERSION = 1,   /* another version: `number` */
+    SWSUSP_FAULT_BAD_COUNT = 2, /* too many bad pages: `number` of them */
+    SWSUSP_FAULT_LAST_ZERO = 3, /* no slot but the header's */
+    SWSUSP_FAULT_BAD_ENTRY = 4  /* the bad page `number` is no slot */
+};
+
+/* What a header block says. Numbers that its kind doesn't name are 0. */
+struct swsusp_header {
+    uint64_t first_map;
+    uint32_t kind;
+    uint32_t last_page;
+    uint32_t bad_pages;
+    uint32_t flags;
+    uint32_t hardware_signature;
+    uint32_t fault;
+    uint32_t number;
+};
+
+/* A compiler that lays a struct out otherwise than the library is refused. */
+#if defined(__cplusplus)
+#define SWSUSP_SIZE(name, size) static_assert(sizeof(struct name) == (size), #name)
+#else
+#define SWSUSP_SIZE(name, size) _Static_assert(sizeof(struct name) == (size), #name)
+#endif
+SWSUSP_SIZE(swsusp_call, 24);
+SWSUSP_SIZE(swsusp_range, 16);
+SWSUSP_SIZE(swsusp_machine, 816);
+SWSUSP_SIZE(swsusp_resume, 8312);
+SWSUSP_SIZE(swsusp_discard, 24);
+SWSUSP_SIZE(swsusp_header, 40);
+
+/*
+ * Begins a resume: writes all of *resume, whatever was there. The first call is SWSUSP_SYNC.
+ */
+void swsusp_resume_begin(struct swsusp_resume *resume);
+
+/*
+ * Gives the call that is to be made, or how the resume ended, in *call. It changes nothing else, so it may be asked
+ * again.
+ */
+void swsusp_resume_next(const struct swsusp_resume *resume, struct swsusp_call *call);
+
+/*
+ * Tells that the pending call was made. `page` is the caller's buffer: after SWSUSP_READ it has what the disk gave, and
+ * where the next call is SWSUSP_WRITE or SWSUSP_PLACE, that page is in it. Between an answer and the call that needs
+ * the page the buffer is left as it is. `memory` has `ranges` ranges, ascending, none empty; they may touch. The same
+ * machine and ranges are lent to each call. After an end nothing changes.
+ *
+ * Returns SWSUSP_OK, after an end too; or SWSUSP_BAD_PAGE, SWSUSP_BAD_IDENTITY, SWSUSP_BAD_MEMORY, SWSUSP_BAD_PRESENT,
+ * SWSUSP_BAD_HEADER or SWSUSP_BAD_STATE, the first that fits in this order, and then nothing was changed.
+ */
+uint32_t swsusp_resume_answer(struct swsusp_resume *resume, const struct swsusp_machine *machine,
+                              const struct swsusp_range *memory, size_t ranges, uint8_t *page, size_t size);
+
+/*
+ * Tells that the pending call failed: the next one is SWSUSP_FAILED. After an end nothing changes.
+ *
+ * Returns SWSUSP_OK; or SWSUSP_BAD_STATE, and then nothing was changed.
+ */
+uint32_t swsusp_resume_fail(struct swsusp_resume *resume);
+
+/*
+ * Begins to give up the image whose header is in block `header`: writes all of *discard. The first call is the read of
+ * that block.
+ */
+void swsusp_discard_begin(struct swsusp_discard *discard, uint64_t header);
+
+/*
+ * Gives the call that is to be made, or how it ended, in *call: SWSUSP_READ, SWSUSP_WRITE and SWSUSP_SYNC, and then
+ * SWSUSP_DONE; SWSUSP_REFUSED with SWSUSP_NO_IMAGE or SWSUSP_NO_ORIGINAL, and nothing was written; or SWSUSP_FAILED.
+ */
+void swsusp_discard_next(const struct swsusp_discard *discard, struct swsusp_call *call);
+
+/*
+ * Tells that the pending call was made. `page` is the caller's buffer, as for swsusp_resume_answer. After an end
+ * nothing changes.
+ *
+ * Returns SWSUSP_OK, after an end too; or SWSUSP_BAD_PAGE or else SWSUSP_BAD_STATE, and then nothing was changed.
+ */
+uint32_t swsusp_discard_answer(struct swsusp_discard *discard, uint8_t *page, size_t size);
+
+/*
+ * Tells that the pending call failed: the next one is SWSUSP_FAILED, with reason 0. After an end nothing changes.
+ *
+ * Returns SWSUSP_OK; or SWSUSP_BAD_STATE, and then nothing was changed.
+ */
+uint32_t swsusp_discard_fail(struct swsusp_discard *discard);
+
+/*
+ * Says what the header block of an area is, which the caller read into `page`: writes all of *header.
+ *
+ * Returns SWSUSP_OK; or SWSUSP_BAD_PAGE, and then nothing was changed.
+ */
+uint32_t swsusp_inspect(const uint8_t *page, size_t size, struct swsusp_header *header);
+
+#ifdef __cplusplus
+}
+#endif
+
+#endif
