@@ -276,7 +276,8 @@ def page(edits, definitions):
     text += table(["Promise", "Edits"], [[title, listed(found)] for title, found in promised if found])
     bare = [title for title, found in promised if not found]
     if bare:
-        text += ["", "No edit names these alone. Several are promises of `run` and `World::event`, whose edits stand in the lists of swsusp_cli and world_core:"]
+        text += ["", "No edit names these alone. Several are promises of `run` and `World::event`, whose edits stand in the lists of swsusp_cli and world_core. Others say"]
+        text += ["all of a result by a definition, as the text of a line or what a list of words asks for, so any other result is refused by that; or they are laws:"]
         text += [""] + [f"- {title}" for title in bare]
     alone = [edit for edit in edits if edit.path not in held]
     if alone:
