@@ -153,7 +153,7 @@ def test_damaged_images():
     ran, _, _ = ran_over(built, "core")
     check_same("a number out of order", (ran[0], ran[1]), (1, b""))
     ran, _, _ = ran_over(Built(8, flags=5), "core")
-    check_refused(ran, "header: flags 5, a compressed image, which can't be read yet", 1)
+    check_refused(ran, "unit 1 map 1 block 1 entry 1: length 0", 1)
     with fresh_area() as empty:
         check_refused(run("swsusp_image", "core", empty.path), "no image", 1)
 

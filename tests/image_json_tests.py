@@ -8,7 +8,7 @@ import struct
 import subprocess
 import tempfile
 
-from harness import check_same, programs, run
+from harness import check, check_same, programs, run
 from image_tests import Built, ran_over
 from linux_tests import PLAIN, area
 
@@ -187,12 +187,16 @@ def members_of(lines):
 
 def test_both_forms_of_real_kernels_images():
     for name in [*PLAIN, "compressed"]:
-        with area(name) as (file, _):
+        with area(name) as (file, image):
             status, text, _ = run("swsusp_image", "show", file.path)
             got = run("swsusp_image", "show", "--json", file.path)
             check_same(f"{name}: status", (got[0], got[2]), (status, ""))
             shown, wanted = object_of(got[1]), members_of(text.decode().splitlines())
             check_same(f"{name}: members", (shown, list(shown)), (wanted, list(wanted)))
+            if name == "compressed":
+                why = f"header: flags {image.flags}, a compressed image, which can't be read yet"
+                check(run("swsusp_image", "check", "--json", file.path), 1, f'{{"findings":["{why}"],"image":true,"whole":false}}\n'.encode())
+                continue
             status, text, _ = run("swsusp_image", "check", file.path)
             got = run("swsusp_image", "check", "--json", file.path)
             check_same(f"{name}: status", (got[0], got[2]), (status, ""))

@@ -237,7 +237,7 @@ def test_damages_of_the_header():
     check_findings(built, "header: last page 700, but the file has 700 blocks")
     built = damaged()
     built.put(0, 4072, struct.pack("<I", 5))
-    check_findings(built, "header: flags 5, a compressed image, which can't be read yet")
+    check_findings(built, "unit 1 map 1 block 1 entry 1: length 0")
 
 
 def test_damages_of_the_chain():
@@ -387,9 +387,6 @@ def test_real_kernels():
     for name in PLAIN:
         with area(name) as (file, _):
             check(run("swsusp_image", "check", file.path), 0, b"whole\n")
-    with area("compressed") as (file, image):
-        line = f"header: flags {image.flags}, a compressed image, which can't be read yet\n1 findings\n"
-        check(run("swsusp_image", "check", file.path), 1, line.encode())
 
 
 AREA = ["image yes", "area swap"]
@@ -563,7 +560,7 @@ def test_stream_of_a_damaged_image_stops_before_the_damage():
     check_same("the stream", ran[1], streamed(built)[: (ENTRIES + 17) * PAGE])
     check_same("the area", after, before)
     ran, _, _ = ran_over(Built(8, flags=5), "stream")
-    check_refused(ran, "header: flags 5, a compressed image, which can't be read yet", 1)
+    check_refused(ran, "unit 1 map 1 block 1 entry 1: length 0", 1)
 
 
 def paged(built, frame):

@@ -59,7 +59,7 @@ def test_damaged_images_are_told_with_their_place():
     for name in reader.damages():
         with area("plain") as (file, _):
             _, _, found = getattr(reader.Damage(file.path), name)()
-            if not found or found == ["no image"] or "compressed" in found[0]:
+            if not found or found == ["no image"]:
                 continue
             told = [(ERROR, f"{file.path}: {text}") for text in [*found, "the image is damaged"]]
             before = file.bytes()
@@ -68,11 +68,15 @@ def test_damaged_images_are_told_with_their_place():
             check_same(f"{name}: the area", file.bytes(), before)
 
 
-def test_a_compressed_image_is_not_called_damaged():
+def test_a_compressed_image_is_checked():
     with area("compressed") as (file, image):
-        text = f"{file.path}: not checked: flags {image.flags}, a compressed image, which can't be read yet"
         for words in [(), ("dirukofe.check=stop",)]:
-            check_told(file.path, (REMARK, text), words=words)
+            check_told(file.path, (REMARK, f"{file.path}: the image is whole"), words=words)
+        file.change((image.chain[1], 0, 0))
+        text = f"unit 1 map 1 block {image.maps[0]} entry 1: length 0"
+        told = [(ERROR, f"{file.path}: {it}") for it in [text, "the image is damaged"]]
+        check_told(file.path, *told)
+        check_told(file.path, *told, words=["dirukofe.check=stop"], status=1)
 
 
 def test_a_compressed_image_with_a_finding():

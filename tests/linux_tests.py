@@ -5,6 +5,7 @@ together with made-up pages, and handed to every command that reads an area. Wha
 tools/linux_lab/image.py, and from docs/FORMATS.md.
 """
 import contextlib
+import functools
 import io
 import lzma
 import pathlib
@@ -12,9 +13,12 @@ import re
 import struct
 import sys
 import tempfile
+import zlib
 
+import lzo1x
 from harness import Mismatch, check, check_line, check_refused, check_same, run
 from inputs import PAGE, SwapFile
+from inputs import area as fresh_area
 
 HERE = pathlib.Path(__file__).resolve().parent
 sys.path.insert(0, str(HERE.parent / "tools" / "linux_lab"))
@@ -22,6 +26,9 @@ import image as reader  # noqa: E402
 
 # The images without compression by the flags, first map, bad slots and identity that the kernel gave them.
 PLAIN = ["plain", "used_bad", "x86_64"]
+
+# Those that Linux compressed, as it does by default.
+COMPRESSED = ["compressed", "x86_64_compressed"]
 
 
 def log_of(name):
@@ -41,30 +48,66 @@ def made_up(p):
     return struct.pack("<Q", (p + 1) * 0x9E3779B97F4A7C15 % 2**64) * 512
 
 
+def records_of(name):
+    """The blocks of a packed image by their numbers, and the number pages that lie in no block."""
+    content = lzma.decompress((HERE / "linux" / f"{name}.xz").read_bytes())
+    found = [(reader.number(content, at), content[at + 8 : at + 8 + PAGE]) for at in range(0, len(content), 8 + PAGE)]
+    return {b: page for b, page in found if b != reader.END}, [page for b, page in found if b == reader.END]
+
+
+@functools.cache
+def with_made_up_pages(name):
+    """The blocks of a compressed image with made-up pages, and what stands behind its info page: of a unit that the kernel's own bytes are packed of,
+    what these expand to; of each other the number pages and made-up ones, in a stream as long as the kernel's, of which the checksum is."""
+    blocks, number_pages = records_of(name)
+    with tempfile.NamedTemporaryFile() as file:
+        for b, page in blocks.items():
+            file.seek(b * PAGE)
+            file.write(page)
+        file.truncate((max(blocks) + 1 + 64) * PAGE)
+        file.flush()
+        image = reader.Image(file.name)
+        image.list_pages(b"".join(number_pages))
+        pages, units = number_pages + [made_up(p) for p in image.listed], []
+        for at, length, count in image.units():
+            content = b"".join(pages[32 * len(units) : 32 * len(units) + count])
+            if length <= reader.FEW:
+                content = lzo1x.expand(image.packed(at, length), count * PAGE)
+            else:
+                unit = length.to_bytes(8, "little") + lzo1x.of_length(content, length)
+                blocks |= {image.chain[at + k // PAGE]: unit[k : k + PAGE].ljust(PAGE, b"\0") for k in range(0, len(unit), PAGE)}
+            units.append(content)
+        content = b"".join(units)
+        checksum = (zlib.crc32(content, 0xFFFFFFFF) ^ 0xFFFFFFFF).to_bytes(4, "little")
+        blocks[0] = image.header[:4060] + checksum + image.header[4064:]
+    return blocks, content
+
+
 @contextlib.contextmanager
 def area(name):
     """The image of this name in a file, with made-up pages."""
-    blocks = lzma.decompress((HERE / "linux" / f"{name}.xz").read_bytes())
+    blocks, content = with_made_up_pages(name) if name in COMPRESSED else (records_of(name)[0], b"")
     with tempfile.TemporaryDirectory() as room:
         file = SwapFile(pathlib.Path(room) / "area")
         with file.path.open("wb") as made:
-            for at in range(0, len(blocks), 8 + PAGE):
-                made.seek(int.from_bytes(blocks[at : at + 8], "little") * PAGE)
-                made.write(blocks[at + 8 : at + 8 + PAGE])
-            made.truncate((reader.number(blocks, 8 + 1028, 4) + 1) * PAGE)
-        image = reader.Image(file.path)
-        with file.path.open("r+b") as made:
-            places = image.data() if image.plain else dict(enumerate(image.chain[1:]))
-            for p, b in places.items():
+            for b, page in blocks.items():
                 made.seek(b * PAGE)
-                made.write(made_up(p))
+                made.write(page)
+            made.truncate((reader.number(blocks[0], 1028, 4) + 1) * PAGE)
+        image = reader.Image(file.path)
+        if image.plain:
+            with file.path.open("r+b") as made:
+                for p, b in image.data().items():
+                    made.seek(b * PAGE)
+                    made.write(made_up(p))
+        else:
+            image.list_pages(content)
+            image.stream = image.info + content
         yield file, image
 
 
 def loader_of(image, hw_sig=0, ident=None):
     """The dump of a loader of the same hardware, of the image's identity or another."""
-    if not image.plain:
-        image.listed = [*range(1000), image.physpages - 1]
     if ident:
         image.info = ident + image.info[len(ident) :]
     out = io.BytesIO()
@@ -93,13 +136,18 @@ def looked(file, command, *more, offset=None):
     return run("swsusp_image", command, *([] if offset is None else ["--offset", offset]), file.path, *more)
 
 
-def check_pages(ran, image):
-    """A resume ended well, and its dump has each page of the image in its page frame."""
+def stream_of(image):
+    """What stands behind the marks of an image, page by page."""
+    return b"".join([image.info, *image.pages_behind_info()])
+
+
+def check_pages(ran, image, contents=None):
+    """A resume ended well, and its dump has each page of the image in its page frame: these, or made-up ones."""
     check_same("a resume's status and note", (ran[0], ran[2]), (0, ""))
     with tempfile.NamedTemporaryFile() as dump:
         pathlib.Path(dump.name).write_bytes(ran[1])
         found = reader.pages_of(dump.name)
-    check_same("the restored pages", {p: found.get(p) for p in image.listed}, {p: made_up(p) for p in image.listed})
+    check_same("the restored pages", {p: found.get(p, bytes(PAGE)) for p in image.listed}, contents or {p: made_up(p) for p in image.listed})
 
 
 def test_sizes_of_the_kernels_log():
@@ -114,7 +162,8 @@ def test_sizes_of_the_kernels_log():
 
 
 def test_headers_that_are_inspected():
-    for name, last, bad, flags in [("plain", 16383, 0, 2), ("used_bad", 16383, 7, 2), ("x86_64", 32000, 0, 2), ("compressed", 16383, 0, 4)]:
+    areas = [("plain", 16383, 0, 2), ("used_bad", 16383, 7, 2), ("x86_64", 32000, 0, 2), ("compressed", 16383, 0, 4), ("x86_64_compressed", 32000, 0, 4)]
+    for name, last, bad, flags in areas:
         with area(name) as (file, image):
             check_line(ran_over(file, b"", "swsusp", "inspect"), f"area last {last} bad {bad} image {image.first} flags {flags} hw -")
 
@@ -155,8 +204,7 @@ def test_areas_that_are_not_written_over():
         with area(name) as (file, image):
             before, dump = file.bytes(), loader_of(image)
             check_refused(ran_over(file, dump, "swsusp", "hibernate"), "closed")
-            stream = image.info + b"".join(map(image.block, image.chain[1:]))
-            check_refused(ran_over(file, stream, "swsusp", "import"), "no swap: image")
+            check_refused(ran_over(file, stream_of(image), "swsusp", "import"), "no swap: image")
             check_same(f"{name}: the area", file.bytes(), before)
 
 
@@ -164,7 +212,7 @@ def test_streams_of_real_images():
     """What stands behind an image's marks is a stream, as /dev/snapshot hands it out. Another area takes it, and it is resumed there."""
     for name in PLAIN:
         with area(name) as (file, image):
-            stream, dump = image.info + b"".join(map(image.block, image.chain[1:])), loader_of(image)
+            stream, dump = stream_of(image), loader_of(image)
             file.write(0, image.header[:4086] + b"SWAPSPACE2")
             check_line(ran_over(file, stream, "swsusp", "import"), f"imported {image.image_pages}")
             check_pages(resume(file, dump), image)
@@ -251,7 +299,7 @@ def image_facts(name, image):
 
 
 def test_what_show_prints():
-    for name in [*PLAIN, "compressed"]:
+    for name in [*PLAIN, *COMPRESSED]:
         with area(name) as (file, image):
             before = file.bytes()
             status, out, note = looked(file, "show")
@@ -312,17 +360,56 @@ def test_an_architectures_header():
         check_refused(resume(file, dump, "--any-kernel"), "no image")
 
 
-def test_a_compressed_image():
+def test_compressed_images_are_read():
+    """Each page is the one that the tests' own reader finds, and the checksum is that of the header."""
+    for name in COMPRESSED:
+        with area(name) as (file, image):
+            before, contents = file.bytes(), image.contents()
+            copied, = logged(name, r"Need to copy (\d+) pages")
+            saving, = logged(name, r"Compressing and saving image data \((\d+) pages\)")
+            check_same(f"{name}: pages", (image.image_pages, image.pages), (copied, saving + 1))
+            check(looked(file, "check"), 0, b"whole\n")
+            check(looked(file, "stream"), 0, image.stream)
+            for p in [image.listed[0], image.listed[511], image.listed[512], image.listed[-1]]:
+                check(looked(file, "page", p), 0, contents[p])
+            absent = min({*range(image.listed[-1])} - {*image.listed})
+            check_refused(looked(file, "page", absent), f"no page {absent}")
+            check_same(f"{name}: the area", file.bytes(), before)
+
+
+def test_a_compressed_image_is_still_refused_by_a_resume():
     """It is refused by its name, and left as it is."""
     with area("compressed") as (file, image):
         before, dump = file.bytes(), loader_of(image)
         for ran in [resume(file, dump), resume(file, dump, "--any-kernel"), check_image(file, dump)]:
             check_refused(ran, f"compressed {image.flags}")
-        why = f"header: flags {image.flags}, a compressed image, which can't be read yet"
-        check(looked(file, "check"), 1, f"{why}\n1 findings\n".encode())
-        for ran in [looked(file, "stream"), looked(file, "page", 300)]:
-            check_refused(ran, why)
         check_same("the area", file.bytes(), before)
+
+
+def test_a_compressed_image_is_carried_over():
+    """As README says: stream, compare, discard the old one, resume the new one."""
+    with area("compressed") as (file, image), fresh_area(image.last) as new:
+        stream = looked(file, "stream")[1]
+        check_line(ran_over(new, stream, "swsusp", "import"), f"imported {image.image_pages}")
+        check(looked(new, "stream"), 0, stream)
+        dump = looked(new, "loader")[1]
+        check_line(looked(file, "discard"), "discarded")
+        check_refused(resume(file, dump), "no image")
+        check_line(check_image(new, dump), f"resumed {image.image_pages}")
+        check_pages(resume(new, dump), image, image.contents())
+
+
+def test_a_damaged_byte_of_a_compressed_image():
+    """In the middle of each twentieth unit, of which the length is one that the kernel wrote."""
+    with area("compressed") as (file, image):
+        whole = file.bytes()
+        for at, length, _ in list(image.units())[::20]:
+            place = image.chain[at] * PAGE + 8 + min(length, PAGE - 8) // 2
+            file.path.write_bytes(whole[:place] + bytes([whole[place] ^ 255]) + whole[place + 1 :])
+            status, out, note = looked(file, "check")
+            lines = out.decode().splitlines()
+            check_same("status, note and last line", (status, note, lines[1:]), (1, "", ["1 findings"]))
+            check_same(f"the finding {lines[0]}", lines[0].startswith(("unit ", "checksum ")), True)
 
 
 def test_a_loader_of_other_hardware():

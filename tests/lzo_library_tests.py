@@ -1,4 +1,4 @@
-"""The codec of the tests beside liblzo2: streams of the library are read, and those of lzo1x.py are read by the library.
+"""The codec of the tests and `swsusp_image` beside liblzo2: streams of the library are read, and those of lzo1x.py are read by the library.
 
 Where liblzo2 isn't there (Debian's package liblzo2-2), it says so, and nothing is compared.
 """
@@ -8,7 +8,8 @@ import random
 import sys
 
 import lzo1x
-from compressed import EACH_KIND, UNIT, crafted
+from compressed import EACH_KIND, UNIT, crafted, twin
+from compressed_tests import check_streamed
 from harness import check_same
 from image_tests import Built, streamed
 from inputs import PAGE
@@ -85,3 +86,13 @@ def test_the_library_finds_the_same_faults():
             # The library knows no versions, and doesn't look at the length of an end marker.
             if fault.why not in (lzo1x.VERSIONED, lzo1x.BAD_END):
                 check_same(f"{fault.why} at byte {fault.at}: the library's status {status}", status != 0, True)
+
+
+def test_images_of_the_library_are_carried_over():
+    lzo = library()
+    for name in COMPRESSORS if lzo else ():
+        plain = Built(600)
+        for k, p in enumerate(plain.places[3:]):
+            plain.blocks[p] = (b"page %d of the kernel's memory, " % k * 200)[:PAGE]
+        built = twin(plain, packed=lambda _, unit: compressed_by(lzo, name, unit))
+        check_streamed(built, streamed(plain))

@@ -4,7 +4,9 @@ import resource
 import subprocess
 import tempfile
 
+from compressed import twin
 from harness import Mismatch, programs
+from image_tests import Built
 from inputs import Machine, area
 
 KIB = 1024
@@ -13,6 +15,8 @@ STACK = 256 * KIB
 SHOW_STACK = 320 * KIB
 CORE_STACK = 640 * KIB
 DIFFER_STACK = 1024 * KIB
+# The disk that expands a compressed image keeps its header block and its info page in its frame.
+COMPRESSED_STACK = 384 * KIB
 SCRIPT = (pathlib.Path(__file__).resolve().parent.parent / "examples" / "machine.txt").read_bytes()
 
 
@@ -29,6 +33,12 @@ def within(*words, stdin=b"", stack=STACK):
 def test_each_command_runs_in_its_stack():
     machine = Machine()
     saved, loader = machine.saved(), machine.loader(1000)
+    with tempfile.NamedTemporaryFile() as compressed:
+        twin(Built(40)).write(compressed.name)
+        within("swsusp_image", "check", compressed.name)
+        within("swsusp_image", "stream", compressed.name, stack=COMPRESSED_STACK)
+        within("swsusp_image", "page", compressed.name, 0, stack=COMPRESSED_STACK)
+        within("swsusp_image", "core", compressed.name, stack=CORE_STACK)
     with area() as swap, tempfile.NamedTemporaryFile() as dump:
         dump.write(saved)
         dump.flush()

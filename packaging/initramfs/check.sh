@@ -2,8 +2,8 @@
 # check.sh DEVICE [OFFSET]: tells the kernel's log what `swsusp_image check` finds of the image on DEVICE, before the kernel resumes it. OFFSET is
 # that of resume_offset, the block of the area's header. Nothing is written but the log.
 #
-# The status is 1 just where the image has a finding and the kernel's command line says dirukofe.check=stop. An image that the check can't
-# judge, as a compressed one, is named so and is no reason to stop; of an area without an image nothing is said.
+# The status is 1 just where the image has a finding and the kernel's command line says dirukofe.check=stop. A check that fails is named so and is no
+# reason to stop; of an area without an image nothing is said.
 device=$1
 offset=${2:-0}
 # At most so many findings are told one by one, since the kernel takes only some lines at a time from a program.
@@ -42,15 +42,13 @@ fi
 status=0
 told=$(swsusp_image "$@" 2>&1) || status=$?
 
-# The lines that say what is wrong: neither the last one, which counts them, nor the one of an image that is only compressed.
+# The lines that say what is wrong: not the last one, which counts them.
 findings=
-unread=
 tell() {
     shown=0
     while read -r line; do
         case $line in
         *[0-9]" findings" | whole | "no image" | "") ;;
-        "header: flags "*", a compressed image"*) unread=$line ;;
         *)
             findings=yes
             shown=$((shown + 1))
@@ -70,8 +68,6 @@ TOLD
     if [ "$findings" ]; then
         error "$place: the image is damaged"
         [ "$setting" = go ] || exit 1
-    elif [ "$unread" ]; then
-        remark "$place: not checked: ${unread#header: }"
     fi
     ;;
 *) error "$place: not checked: swsusp_image ended with status $status: $told" ;;

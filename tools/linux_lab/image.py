@@ -9,18 +9,18 @@
                                    the dump of a loader of the same hardware, with this hardware signature, that has all page frames
                                    free but those of its tables
   image.py stranger AREA > DUMP    that of one whose kernel has a generic header's names, as the image of an architecture's header has none
-  image.py any_loader AREA > DUMP  that of one for a compressed image, which doesn't show what it lists
   image.py tables AREA             in how many page frames these dumps have their tables
   image.py bad AREA SLOT..         names bad slots in an area without an image
   image.py compare AREA DUMP       tells whether the dump has each page of the image in its page frame; AREA's mark may be gone
   image.py patterns LOG DUMP       tells whether the dump has init.c's patterns in the page frames that its log names
-  image.py stream AREA > STREAM    the pages that the maps name, in their order
+  image.py stream AREA > STREAM    the pages of the image, in the order of the maps; of a compressed one those that its units expand to
   image.py pattern SET K > PAGE    the page that init.c fills as page K of a set
   image.py moved AREA N > DEVICE   a device that has the area from block N on, as a swap file: its image names blocks of the device
   image.py damage AREA [NAME]      damages the image, and prints what a kernel then does, what `swsusp resume` is to answer, and what
                                    `swsusp_image check` is to print, parted by bars; without NAME it prints the names, a line each
   image.py cases AREA > FILE       the damages that a kernel refuses, for a single boot (init.c)
-  image.py pack AREA > FILE        what the kernel's own code wrote of the image, without the pages of the memory, packed by xz
+  image.py pack AREA > FILE        what the kernel's own code wrote of the image, without the pages of the memory, packed by xz; of a
+                                   compressed one the number pages, the lengths of all units, and the units of few bytes
 
 The area is a whole disk: its header lies in block 0. Nothing here goes by the program that is tested.
 """
@@ -30,9 +30,14 @@ import struct
 import sys
 import tempfile
 
+sys.path.insert(0, str(pathlib.Path(__file__).resolve().parents[2] / "tests"))
+import lzo1x  # noqa: E402
+
 PAGE = 4096
 FREE, TASK_1, BAD = 1, 1 << 16, 131072
 END = 2**64 - 1
+# A unit of a compressed image has so many pages, and is packed as it is where its bytes aren't more than these.
+UNIT_PAGES, FEW = 32, 1500
 SIGNATURE = b"S1SUSPEND\0"
 SIGNED = 8
 
@@ -78,8 +83,10 @@ class Image:
         self.physpages, self.image_pages, self.pages = (number(self.info, at) for at in (400, 416, 424))
         self.meta = -(-self.image_pages // 512)
         if self.plain:
-            listed = b"".join(map(self.block, self.chain[1 : 1 + self.meta]))
-            self.listed = struct.unpack_from(f"<{self.image_pages}Q", listed)
+            self.list_pages(b"".join(map(self.block, self.chain[1 : 1 + self.meta])))
+
+    def list_pages(self, number_pages):
+        self.listed = struct.unpack_from(f"<{self.image_pages}Q", number_pages)
 
     def block(self, b):
         self.file.seek(b * PAGE)
@@ -91,6 +98,34 @@ class Image:
     def data(self):
         """The blocks of the pages, by their page frames."""
         return dict(zip(self.listed, self.chain[1 + self.meta :]))
+
+    def units(self):
+        """Of a compressed image: the place of each unit's first page in the chain, the length of its bytes, and how many pages it has."""
+        left, at = self.pages - 1, 1
+        while left:
+            length, count = number(self.block(self.chain[at]), 0), min(left, UNIT_PAGES)
+            yield at, length, count
+            at += -(-(8 + length) // PAGE)
+            left -= count
+
+    def packed(self, at, length):
+        """The compressed bytes of the unit at this place."""
+        blocks = self.chain[at : at + -(-(8 + length) // PAGE)]
+        return b"".join(map(self.block, blocks))[8 : 8 + length]
+
+    def pages_behind_info(self):
+        """The number pages and the saved pages, in the order of the chain."""
+        if self.plain:
+            return [self.block(b) for b in self.chain[1:]]
+        content = b"".join(lzo1x.expand(self.packed(at, length), count * PAGE) for at, length, count in self.units())
+        return [content[at : at + PAGE] for at in range(0, len(content), PAGE)]
+
+    def contents(self):
+        """The pages, by their page frames."""
+        found = self.pages_behind_info()
+        if not self.plain:
+            self.list_pages(b"".join(found[: self.meta]))
+        return dict(zip(self.listed, found[self.meta :]))
 
     def own_blocks(self):
         """The blocks that the kernel's own code filled: the header, maps, info page and number pages."""
@@ -190,26 +225,21 @@ def slots_of(words):
 
 def saved(path, *words):
     image = Image(path)
-    pages = {p: image.block(b) for p, b in image.data().items()}
+    pages = image.contents()
     hw_sig = image.hw_sig if image.flags & SIGNED else 0
     Hardware(image).dump(sys.stdout.buffer, image.listed, pages, hw_sig, slots_of(words))
 
 
 def loader(path, hw_sig="0"):
-    Hardware(Image(path)).dump(sys.stdout.buffer, [], {}, int(hw_sig))
+    image = Image(path)
+    image.contents()
+    Hardware(image).dump(sys.stdout.buffer, [], {}, int(hw_sig))
 
 
 def stranger(path):
     image = Image(path)
     names = [b"Linux", b"(none)", b"6.1.0-lab", b"#1", b"x86_64", b"(none)"]
     image.info = b"".join(it.ljust(65, b"\0") for it in names) + bytes(2) + struct.pack("<I", 393472) + image.info[396:]
-    Hardware(image).dump(sys.stdout.buffer, [], {}, 0)
-
-
-def any_loader(path):
-    """A loader for an area whose image can't be read: it is of the same identity, and of no certain memory."""
-    image = Image(path)
-    image.listed = [*range(1000), image.physpages - 1]
     Hardware(image).dump(sys.stdout.buffer, [], {}, 0)
 
 
@@ -237,7 +267,7 @@ def pages_of(path):
 
 def compare(path, dump):
     image, found = Image(path), pages_of(dump)
-    wrong = [p for p, b in image.data().items() if found.get(p, bytes(PAGE)) != image.block(b)]
+    wrong = [p for p, page in image.contents().items() if found.get(p, bytes(PAGE)) != page]
     print(f"pages {len(image.listed)} wrong {len(wrong)}")
     return 1 if wrong else 0
 
@@ -270,8 +300,7 @@ def pattern(group, k):
 
 def stream(path):
     image = Image(path)
-    for b in image.chain:
-        sys.stdout.buffer.write(image.block(b))
+    sys.stdout.buffer.write(b"".join([image.info, *image.pages_behind_info()]))
 
 
 def moved(path, by, out=sys.stdout.buffer):
@@ -285,9 +314,20 @@ def moved(path, by, out=sys.stdout.buffer):
         out.write(header if b == 0 else maps.get(b) or image.block(b))
 
 
+def packed_units(image):
+    """The number pages of a compressed image, under no block's number; and of each unit its blocks where it has few bytes, else its length alone."""
+    parts = [struct.pack("<Q", END) + page for page in image.pages_behind_info()[: image.meta]]
+    for at, length, _ in image.units():
+        unit = struct.pack("<Q", length) + (image.packed(at, length) if length <= FEW else b"")
+        parts.append(struct.pack("<Q", image.chain[at]) + unit.ljust(PAGE, b"\0"))
+    return parts
+
+
 def pack(path):
     image = Image(path)
     parts = [struct.pack("<Q", b) + image.block(b) for b in image.own_blocks()]
+    if not image.plain:
+        parts += packed_units(image)
     sys.stdout.buffer.write(lzma.compress(b"".join(parts), preset=9 | lzma.PRESET_EXTREME))
 
 
@@ -338,8 +378,10 @@ class Damage:
         return "overlooks", "no image", ["no image"]
 
     def flags_of_a_compressed_image(self):
+        # The first number page stands where a unit would begin with its length: page frame 0 is none.
         self.number(0, 4072, 0, 4)
-        return "refuses", "compressed 0", ["header: flags 0, a compressed image, which can't be read yet"]
+        assert self.image.listed[0] == 0
+        return "refuses", "compressed 0", [f"unit 1 {self.place(1)}: length 0"]
 
     def flags_unknown(self):
         self.number(0, 4072, self.image.flags | 0x40000000, 4)
@@ -494,7 +536,7 @@ def cases(path):
     out.write(bytes(PAGE))
 
 
-CALLS = [facts, saved, loader, stranger, any_loader, tables, bad, compare, patterns, stream, pattern, moved, damage, cases, pack]
+CALLS = [facts, saved, loader, stranger, tables, bad, compare, patterns, stream, pattern, moved, damage, cases, pack]
 COMMANDS = {call.__name__: call for call in CALLS}
 
 if __name__ == "__main__":

@@ -93,7 +93,7 @@ fn status_whole(whole: bool) -> Status
 }
 
 /// Ends a check whose findings were printed.
-fn sum_up<O: Sink, N: Sink>(out: &mut Printer<O>, note: &mut N) -> Status
+pub fn sum_up<O: Sink, N: Sink>(out: &mut Printer<O>, note: &mut N) -> Status
     ensures told { (found : List Finding) (start : SinkView) → IsSoFar found start (printer_view O.Sink out.old) →
         IsTold (findings_told found) result start
         (sink_view O.Sink out.new.sink)

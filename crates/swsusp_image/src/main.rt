@@ -3,9 +3,10 @@
 
 use byte_streams::StdSink;
 use command_kit::{Status, print, tell};
+use expanded_cli::{check, core, page, stream};
 use file_disk::FileDisk;
 use image_check::Printer;
-use image_cli::{Wanted, check, check_json, core, differ, discard, page, show, show_json, stream};
+use image_cli::{Wanted, check_json, differ, discard, show, show_json};
 use image_differ::Side;
 use image_machine::Layout;
 use image_machine_cli::{loader, machine};

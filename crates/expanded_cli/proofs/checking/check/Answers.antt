@@ -1,0 +1,181 @@
+use Rattle.std.proofs.Common.{refl, sym, ap, subst, ◌∙◌}
+use Rattle.definitions.specs.Disk.{HasRisen}
+use Rattle.command_kit.specs.Answer.{RunResult, memory_told}
+use Rattle.command_kit.specs.Told.{IsTold}
+use Rattle.command_kit.specs.View.{sink_view}
+use Rattle.image_check.specs.Told.{Told}
+use Rattle.image_cli.specs.Checks.{Checks, findings_told}
+use Rattle.image_cli.specs.Printed.{printer_view}
+use Rattle.expanded_cli.specs.Runs.{refused, no_memory}
+use Rattle.expanded_cli.specs.Checks.{ChecksAny}
+use Rattle.expanded_cli.proofs.Running.{checks_since, index_at, opened_plain, opened_refused, opened_whole, plainly, risen_since, so_far, told_since, unpacks}
+use Rattle.expanded_cli.proofs.checking.check.Goals as goal
+
+pub check-requires-clause-none : goal.check-requires-clause-none
+check-requires-clause-none g c =
+    let content = g.D.Disk.content c.args.disk.now in
+    let blocks = g.D.Disk.block_count c.args.disk.now in
+    let before = g.D.Disk.faults c.args.disk.now in
+    let then = g.D.Disk.faults c.open.new.disk in
+    let old = printer_view g.O.Sink c.args.out.now in
+    let mid = printer_view g.O.Sink c.open.new.report in
+    let opens = opened_plain content blocks c.args.header before then old mid c.in-Ok-Plain.field-0 c.in-Ok-Plain.field-0-is c.in-Ok-Plain.ensures.opened in
+    ap (λ (t : Told). t.count) opens.0 ∙ c.requires.none
+
+pub check_expanded-over-requires-clause-none : goal.check_expanded-over-requires-clause-none
+check_expanded-over-requires-clause-none g c =
+    let content = g.D.Disk.content c.args.disk.now in
+    let blocks = g.D.Disk.block_count c.args.disk.now in
+    let before = g.D.Disk.faults c.args.disk.now in
+    let then = g.D.Disk.faults c.open.new.disk in
+    let old = printer_view g.O.Sink c.args.out.now in
+    let mid = printer_view g.O.Sink c.open.new.report in
+    let opens = opened_whole content blocks c.args.header before then old mid c.in-Ok-Whole.field-0 c.in-Ok-Whole.index c.in-Ok-Whole.field-0-is c.in-Ok-Whole.ensures.opened in
+    ap (λ (t : Told). t.count) opens.0 ∙ c.requires.none
+
+pub check-requires-clause-sound : goal.check-requires-clause-sound
+check-requires-clause-sound g c =
+    let content = g.D.Disk.content c.args.disk.now in
+    let blocks = g.D.Disk.block_count c.args.disk.now in
+    let before = g.D.Disk.faults c.args.disk.now in
+    let then = g.D.Disk.faults c.open.new.disk in
+    let old = printer_view g.O.Sink c.args.out.now in
+    let mid = printer_view g.O.Sink c.open.new.report in
+    let opens = opened_plain content blocks c.args.header before then old mid c.in-Ok-Plain.field-0 c.in-Ok-Plain.field-0-is c.in-Ok-Plain.ensures.opened in
+    ap (λ (t : Told). t.failed) opens.0 ∙ c.requires.sound
+
+pub check_expanded-over-requires-clause-sound : goal.check_expanded-over-requires-clause-sound
+check_expanded-over-requires-clause-sound g c =
+    let content = g.D.Disk.content c.args.disk.now in
+    let blocks = g.D.Disk.block_count c.args.disk.now in
+    let before = g.D.Disk.faults c.args.disk.now in
+    let then = g.D.Disk.faults c.open.new.disk in
+    let old = printer_view g.O.Sink c.args.out.now in
+    let mid = printer_view g.O.Sink c.open.new.report in
+    let opens = opened_whole content blocks c.args.header before then old mid c.in-Ok-Whole.field-0 c.in-Ok-Whole.index c.in-Ok-Whole.field-0-is c.in-Ok-Whole.ensures.opened in
+    ap (λ (t : Told). t.failed) opens.0 ∙ c.requires.sound
+
+pub check_expanded-over-requires-clause-indexed : goal.check_expanded-over-requires-clause-indexed
+check_expanded-over-requires-clause-indexed g c =
+    let content = g.D.Disk.content c.args.disk.now in
+    let blocks = g.D.Disk.block_count c.args.disk.now in
+    let before = g.D.Disk.faults c.args.disk.now in
+    let then = g.D.Disk.faults c.open.new.disk in
+    let old = printer_view g.O.Sink c.args.out.now in
+    let mid = printer_view g.O.Sink c.open.new.report in
+    let opens = opened_whole content blocks c.args.header before then old mid c.in-Ok-Whole.field-0 c.in-Ok-Whole.index c.in-Ok-Whole.field-0-is c.in-Ok-Whole.ensures.opened in
+    index_at content (g.D.Disk.content c.open.new.disk) blocks (g.D.Disk.block_count c.open.new.disk) c.args.header c.in-Ok-Whole.index c.open.ensures.content c.open.ensures.blocks opens.1
+
+pub returns-in-Ok-Plain-clause-outcome : goal.returns-in-Ok-Plain-clause-outcome
+returns-in-Ok-Plain-clause-outcome g c =
+    let content = g.D.Disk.content c.args.disk.now in
+    let blocks = g.D.Disk.block_count c.args.disk.now in
+    let before = g.D.Disk.faults c.args.disk.now in
+    let then = g.D.Disk.faults c.open.new.disk in
+    let old = printer_view g.O.Sink c.args.out.now in
+    let mid = printer_view g.O.Sink c.open.new.report in
+    let opens = opened_plain content blocks c.args.header before then old mid c.in-Ok-Plain.field-0 c.in-Ok-Plain.field-0-is c.in-Ok-Plain.ensures.opened in
+    let first = sink_view g.O.Sink c.args.out.now.sink in
+    let second = sink_view g.O.Sink c.open.new.report.sink in
+    let note = sink_view g.N.Sink c.args.note.now in
+    let last = sink_view g.O.Sink c.check.new.out.sink in
+    let noted = sink_view g.N.Sink c.check.new.note in
+    let status = c.check.result in
+    plainly (λ c n h b f. Checks c n h b f status second last note noted) (λ c n h b f. Checks c n h b f status first last note noted)
+    (λ found. IsTold (findings_told found) status first last note noted) (IsTold memory_told status first last note noted)
+    content (g.D.Disk.content c.open.new.disk) blocks (g.D.Disk.block_count c.open.new.disk) c.args.header before then (g.D.Disk.faults c.check.new.disk)
+    c.open.ensures.content c.open.ensures.blocks c.open.ensures.faults
+    (checks_since status first second last note noted (ap (λ (t : Told). t.text) opens.0) (ap (λ (t : Told). t.faults) opens.0)) opens.1 c.check.ensures.outcome
+
+pub returns-in-Ok-Plain-clause-stream : goal.returns-in-Ok-Plain-clause-stream
+returns-in-Ok-Plain-clause-stream g c = λ e.
+    let content = g.D.Disk.content c.args.disk.now in
+    let blocks = g.D.Disk.block_count c.args.disk.now in
+    let before = g.D.Disk.faults c.args.disk.now in
+    let then = g.D.Disk.faults c.open.new.disk in
+    let old = printer_view g.O.Sink c.args.out.now in
+    let mid = printer_view g.O.Sink c.open.new.report in
+    let opens = opened_plain content blocks c.args.header before then old mid c.in-Ok-Plain.field-0 c.in-Ok-Plain.field-0-is c.in-Ok-Plain.ensures.opened in
+    risen_since old.faults mid.faults (g.O.Sink.faults c.check.new.out.sink) (HasRisen (g.N.Sink.faults c.args.note.now) (g.N.Sink.faults c.check.new.note))
+    (ap (λ (t : Told). t.faults) opens.0) (c.check.ensures.stream e)
+
+pub returns-in-Ok-Refused-clause-outcome : goal.returns-in-Ok-Refused-clause-outcome
+returns-in-Ok-Refused-clause-outcome g c =
+    let content = g.D.Disk.content c.args.disk.now in
+    let blocks = g.D.Disk.block_count c.args.disk.now in
+    let before = g.D.Disk.faults c.args.disk.now in
+    let then = g.D.Disk.faults c.open.new.disk in
+    let old = printer_view g.O.Sink c.args.out.now in
+    let mid = printer_view g.O.Sink c.open.new.report in
+    let opens = opened_refused content blocks c.args.header before then old mid c.in-Ok-Refused.field-0 c.in-Ok-Refused.field-0-is c.in-Ok-Refused.ensures.opened in
+    let first = sink_view g.O.Sink c.args.out.now.sink in
+    let second = sink_view g.O.Sink c.open.new.report.sink in
+    let note = sink_view g.N.Sink c.args.note.now in
+    refused opens.0 opens.1.1 (c.sum_up.ensures.told opens.0 first (so_far opens.0 first old mid refl refl c.requires.none c.requires.sound opens.1.0))
+
+pub returns-in-Ok-Refused-clause-stream : goal.returns-in-Ok-Refused-clause-stream
+returns-in-Ok-Refused-clause-stream g c = λ e.
+    let content = g.D.Disk.content c.args.disk.now in
+    let blocks = g.D.Disk.block_count c.args.disk.now in
+    let before = g.D.Disk.faults c.args.disk.now in
+    let then = g.D.Disk.faults c.open.new.disk in
+    let old = printer_view g.O.Sink c.args.out.now in
+    let mid = printer_view g.O.Sink c.open.new.report in
+    let opens = opened_refused content blocks c.args.header before then old mid c.in-Ok-Refused.field-0 c.in-Ok-Refused.field-0-is c.in-Ok-Refused.ensures.opened in
+    let first = sink_view g.O.Sink c.args.out.now.sink in
+    let second = sink_view g.O.Sink c.open.new.report.sink in
+    let note = sink_view g.N.Sink c.args.note.now in
+    c.sum_up.ensures.stream opens.0 first (so_far opens.0 first old mid refl refl c.requires.none c.requires.sound opens.1.0) e
+
+pub returns-in-Ok-Whole-clause-outcome : goal.returns-in-Ok-Whole-clause-outcome
+returns-in-Ok-Whole-clause-outcome g c =
+    let content = g.D.Disk.content c.args.disk.now in
+    let blocks = g.D.Disk.block_count c.args.disk.now in
+    let before = g.D.Disk.faults c.args.disk.now in
+    let then = g.D.Disk.faults c.open.new.disk in
+    let old = printer_view g.O.Sink c.args.out.now in
+    let mid = printer_view g.O.Sink c.open.new.report in
+    let opens = opened_whole content blocks c.args.header before then old mid c.in-Ok-Whole.field-0 c.in-Ok-Whole.index c.in-Ok-Whole.field-0-is c.in-Ok-Whole.ensures.opened in
+    let first = sink_view g.O.Sink c.args.out.now.sink in
+    let second = sink_view g.O.Sink c.open.new.report.sink in
+    let note = sink_view g.N.Sink c.args.note.now in
+    let last = sink_view g.O.Sink c.check_expanded-over.new.out.sink in
+    let noted = sink_view g.N.Sink c.check_expanded-over.new.note in
+    let status = c.check_expanded-over.result.1 in
+    let taken = ap (λ (t : Told). t.text) opens.0 in
+    let faults = ap (λ (t : Told). t.faults) opens.0 in
+    let given = c.disk-1.given.1 (sym c.check_expanded-over.ensures.same.which) in
+    subst (λ d. ChecksAny content blocks c.args.header before (g.D.Disk.faults d) status first last note noted) (sym given)
+    (unpacks (λ c n h b f. Checks c n h b f status second last note noted) (λ c n h b f. Checks c n h b f status first last note noted)
+    (λ found. IsTold (findings_told found) status first last note noted) (IsTold memory_told status second last note noted) (IsTold memory_told status first last note noted)
+    content (g.D.Disk.content c.open.new.disk) blocks c.args.header before then (g.D.Disk.faults c.check_expanded-over.result.0.disk.now) c.in-Ok-Whole.index
+    c.open.ensures.content c.open.ensures.faults
+    (checks_since status first second last note noted taken faults) (told_since memory_told status first second last note noted taken faults) opens.1 c.check_expanded-over.ensures.outcome)
+
+pub returns-in-Ok-Whole-clause-stream : goal.returns-in-Ok-Whole-clause-stream
+returns-in-Ok-Whole-clause-stream g c = λ e.
+    let content = g.D.Disk.content c.args.disk.now in
+    let blocks = g.D.Disk.block_count c.args.disk.now in
+    let before = g.D.Disk.faults c.args.disk.now in
+    let then = g.D.Disk.faults c.open.new.disk in
+    let old = printer_view g.O.Sink c.args.out.now in
+    let mid = printer_view g.O.Sink c.open.new.report in
+    let opens = opened_whole content blocks c.args.header before then old mid c.in-Ok-Whole.field-0 c.in-Ok-Whole.index c.in-Ok-Whole.field-0-is c.in-Ok-Whole.ensures.opened in
+    risen_since old.faults mid.faults (g.O.Sink.faults c.check_expanded-over.new.out.sink) (HasRisen (g.N.Sink.faults c.args.note.now) (g.N.Sink.faults c.check_expanded-over.new.note))
+    (ap (λ (t : Told). t.faults) opens.0) (c.check_expanded-over.ensures.stream e)
+
+pub returns-in-Err-clause-outcome : goal.returns-in-Err-clause-outcome
+returns-in-Err-clause-outcome g c =
+    let first = sink_view g.O.Sink c.args.out.now.sink in
+    let second = sink_view g.O.Sink c.open.new.report.sink in
+    let last = sink_view g.O.Sink c.tell.new.out in
+    let note = sink_view g.N.Sink c.args.note.now in
+    let noted = sink_view g.N.Sink c.tell.new.note in
+    let untold = c.in-Err.ensures.untold in
+    no_memory (told_since memory_told c.tell.result first second last note noted (ap (λ (t : Told). t.text) untold) (ap (λ (t : Told). t.faults) untold)
+    (subst (λ (r : RunResult). IsTold r c.tell.result second last note noted) c.no_memory.ensures.told c.tell.ensures.told))
+
+pub returns-in-Err-clause-stream : goal.returns-in-Err-clause-stream
+returns-in-Err-clause-stream g c = λ e.
+    risen_since (g.O.Sink.faults c.args.out.now.sink) (g.O.Sink.faults c.open.new.report.sink) (g.O.Sink.faults c.tell.new.out) (HasRisen (g.N.Sink.faults c.args.note.now) (g.N.Sink.faults c.tell.new.note))
+    (ap (λ (t : Told). t.faults) c.in-Err.ensures.untold) (c.tell.ensures.stream e)

@@ -1,0 +1,13 @@
+use Rattle.expanded_cli.proofs.streaming.page.Given as goal
+
+abbrev pub ghosts-page_expanded : goal.ghosts-page_expanded
+ghosts-page_expanded g a = record {
+  state = record {
+    which = a.below.disk.ghost_name;
+    blocks = g.D.Disk.block_count a.below.disk.now;
+    content = g.D.Disk.content a.below.disk.now;
+    faults = g.D.Disk.faults a.below.disk.now;
+    calls = g.D.Disk.calls a.below.disk.now;
+    orders = g.D.Disk.orders a.below.disk.now;
+  };
+}

@@ -1,0 +1,97 @@
+ghost use Rattle.std.specs.Prelude.{◌≡◌, ◌≢◌, ◌⊎◌, ◌≤◌, false};
+ghost use Rattle.definitions.specs.Disk.{HasRisen};
+ghost use Rattle.command_kit.specs.View.{sink_view};
+ghost use Rattle.overlay_disk.specs.DiskState.{IsSame};
+ghost use Rattle.expanded_disk.specs.Keeps.{HasIndex};
+ghost use Rattle.expanded_cli.specs.Checks.{ChecksAny, ChecksExpanded};
+
+use crate::expanding::Compressed;
+use byte_streams::Sink;
+use command_kit::{Status, no_memory};
+use expanded_disk::ExpandedDisk;
+use image_check::Printer;
+use image_cli::sum_up;
+use image_units::{Opened, Source, Walks, open};
+use overlay_disk::{Lent, Original};
+use page_core::NoMemory;
+use sector_disk::Disk;
+use std::alloc::Global;
+use std::marker::Brand;
+
+/// Prints what is wrong with the image of the area whose header lies in a block, as `image_cli::check` does. A
+/// compressed one is read whole first, up to the first that is wrong with its header, its info page, its units or its
+/// checksum; where nothing is, the plain image that it expands to is checked. The disk is only read.
+pub fn check<D: Disk, O: Sink, N: Sink>(
+    alloc: Global,
+    disk: &mut D,
+    header: u32,
+    out: &mut Printer<O>,
+    note: &mut N,
+) -> Status
+    requires none { out.old.count ≡ 0 }
+    requires sound { out.old.failed ≡ false }
+    ensures outcome { ChecksAny (D.content disk.old) (D.block_count disk.old) header
+        (D.faults disk.old) (D.faults disk.new) result
+        (sink_view O.Sink out.old.sink)
+        (sink_view O.Sink out.new.sink)
+        (sink_view N.Sink note.old)
+        (sink_view N.Sink note.new) }
+    ensures stream { result ≡ Status.Stream →
+        HasRisen (O.faults out.old.sink) (O.faults out.new.sink) ⊎ HasRisen (N.faults note.old) (N.faults note.new) }
+    ensures device { result ≢ Status.Device }
+    ensures words { result ≢ Status.Words }
+    ensures content { D.content disk.new ≡ D.content disk.old }
+    ensures faults { D.faults disk.old ≤ D.faults disk.new }
+    ensures orders { D.orders disk.new ≡ D.orders disk.old }
+    ensures blocks { D.block_count disk.new ≡ D.block_count disk.old }
+{
+    match open(alloc, disk, header, out) {
+        Ok(Opened::Plain) => image_cli::check(alloc, disk, header, out, note),
+        Ok(Opened::Refused) => sum_up(out, note),
+        Ok(Opened::Whole(index)) => {
+            let below = Lent { disk };
+            let image = Compressed { header, index };
+            let over = check_expanded::<Lent<'_, D>, Brand, O, N>(alloc, below, image, out, note);
+            over.1
+        }
+        Err(NoMemory) => no_memory().tell(&mut out.sink, note),
+    }
+}
+
+/// Checks the plain image that a compressed one expands to, over a disk that is given back.
+fn check_expanded<B: Walks + Drop, K: Original, O: Sink, N: Sink>(
+    alloc: Global,
+    below: B,
+    image: Compressed,
+    out: &mut Printer<O>,
+    note: &mut N,
+) -> (B, Status)
+    requires none { out.old.count ≡ 0 }
+    requires sound { out.old.failed ≡ false }
+    requires original { B.state below ≡ K.state }
+    requires indexed { HasIndex K.state.content K.state.blocks image.header image.index }
+    ensures outcome { ChecksExpanded K.state.content image.header image.index
+        K.state.faults (B.state result.0).faults result.1
+        (sink_view O.Sink out.old.sink)
+        (sink_view O.Sink out.new.sink)
+        (sink_view N.Sink note.old)
+        (sink_view N.Sink note.new) }
+    ensures stream { result.1 ≡ Status.Stream →
+        HasRisen (O.faults out.old.sink) (O.faults out.new.sink) ⊎ HasRisen (N.faults note.old) (N.faults note.new) }
+    ensures device { result.1 ≢ Status.Device }
+    ensures words { result.1 ≢ Status.Words }
+    ensures same { IsSame K.state (B.state result.0) }
+    ensures faults { K.state.faults ≤ (B.state result.0).faults }
+{
+    let source = Source::<B, K>::over(below);
+    match ExpandedDisk::over(alloc, source, image.index, image.header) {
+        Ok(mut disk) => {
+            let status = image_cli::check(alloc, &mut disk, 0, out, note);
+            (disk.into_source().into_below(), status)
+        }
+        Err((source, NoMemory)) => {
+            let status = no_memory().tell(&mut out.sink, note);
+            (source.into_below(), status)
+        }
+    }
+}

@@ -1,0 +1,12 @@
+//! The commands of `swsusp_image` over a disk whose image may be compressed: the whole image is read once, and then the
+//! command runs over the disk that expands it.
+#![tactic(auto)]
+
+mod checking;
+mod coring;
+mod expanding;
+mod streaming;
+
+pub use checking::check;
+pub use coring::core;
+pub use streaming::{page, stream};

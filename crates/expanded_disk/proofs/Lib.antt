@@ -1,0 +1,4 @@
+pub mod ExpandedReads
+pub mod Loads
+pub mod MapWords
+pub mod Refusals

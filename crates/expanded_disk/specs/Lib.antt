@@ -1,0 +1,4 @@
+pub mod Keeps
+pub mod Laid
+pub mod LaidLaws
+pub mod Parts

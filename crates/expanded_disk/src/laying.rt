@@ -1,0 +1,121 @@
+//! The blocks that the expanding disk makes itself.
+ghost use Rattle.std.specs.Prelude.{◌≡◌, ◌<◌, ◌≤◌, ◌+◌, ◌^◌};
+ghost use Rattle.definitions.specs.Bytes.{IsPage};
+ghost use Rattle.expanded_disk.specs.Laid.{blocks_for, laid_map, map_word, plain_flags_of, plain_header};
+ghost use Rattle.expanded_disk.specs.Parts.{IsPart};
+
+use image_units::SF_CRC32_MODE;
+use page_core::Page;
+use sig_header::SF_NOCOMPRESS_MODE;
+
+/// How many entries a map page has (MAP_PAGE_ENTRIES), and how many words.
+const ENTRIES: u64 = 511;
+
+const WORDS: u64 = 512;
+
+/// Where the fields of the header block lie, in bytes (`union swap_header`, include/linux/swap.h; struct swsusp_header,
+/// kernel/power/swap.c).
+const LAST_PAGE: usize = 1028;
+
+const NR_BADPAGES: usize = 1032;
+
+const IMAGE: usize = 4064;
+
+const FLAGS: usize = 4072;
+
+/// What a block of the expanded image is.
+#[derive(Clone, Copy)]
+pub(crate) enum Part {
+    Header,
+    /// A map, from 0.
+    Map(u64),
+    /// A page of the image, from 0.
+    Page(u64),
+}
+
+/// What block b is.
+pub(crate) fn part_of(b: u32) -> Part
+    ensures { IsPart b result }
+{
+    if b == 0 {
+        return Part::Header;
+    }
+    let behind = u64::from(b) - 1;
+    let map = behind / WORDS;
+    if behind % WORDS == 0 {
+        Part::Map(map)
+    } else {
+        Part::Page(ENTRIES * map + behind % WORDS - 1)
+    }
+}
+
+/// How many blocks an image of so many pages takes.
+pub(crate) fn blocks_for(pages: u64) -> u32
+    requires { pages ≤ 2147483648 }
+    ensures { result ≡ blocks_for pages }
+{
+    (1 + pages + pages.div_ceil(ENTRIES)) as u32
+}
+
+/// The header block of the expanded image.
+#[tactic(auto, unfolding(crate::specs::Laid::plain_header))]
+pub(crate) fn plain_header(header: &Page, pages: u64) -> Page
+    requires { pages ≤ 2147483648 }
+    ensures { result ≡ plain_header header.now pages }
+{
+    let flags = plain_flags(header.u32_at(FLAGS));
+    let mut page = Page::from_bytes(header.as_bytes());
+    page.put_u32(LAST_PAGE, blocks_for(pages) - 1);
+    page.put_u32(NR_BADPAGES, 0);
+    page.set_word(IMAGE / 8, 1);
+    page.put_u32(FLAGS, flags);
+    page
+}
+
+/// The flags of an image that isn't compressed, and has no checksum.
+fn plain_flags(flags: u32) -> u32
+    ensures { result ≡ plain_flags_of flags }
+{
+    let compressed = if flags / SF_NOCOMPRESS_MODE % 2 == 0 {
+        flags + SF_NOCOMPRESS_MODE
+    } else {
+        flags
+    };
+    if flags / SF_CRC32_MODE % 2 == 1 {
+        compressed - SF_CRC32_MODE
+    } else {
+        compressed
+    }
+}
+
+/// A map of the expanded image, from 0.
+#[tactic(auto, unfolding(crate::specs::Laid::laid_map))]
+pub(crate) fn laid_map(pages: u64, map: u64) -> Page
+    requires { map < 2 ^ 32 }
+    ensures { result ≡ laid_map pages map }
+{
+    let mut page = Page::zero();
+    for word in 0..WORDS {
+        page.set_word(word as usize, map_word(pages, map, word));
+    }
+    page
+}
+
+/// A word of it.
+fn map_word(pages: u64, map: u64, word: u64) -> u64
+    requires map { map < 2 ^ 32 }
+    requires word { word < 512 }
+    ensures { result ≡ map_word pages map word }
+{
+    if word == ENTRIES {
+        if ENTRIES * map + ENTRIES < pages {
+            WORDS * map + WORDS + 1
+        } else {
+            0
+        }
+    } else if ENTRIES * map + word < pages {
+        WORDS * map + word + 2
+    } else {
+        0
+    }
+}
