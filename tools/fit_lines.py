@@ -2,7 +2,8 @@
 """fit_lines.py FILE..: breaks the lines of specs (.antt) and sources (.rt) that are over 120 columns.
 
 Comments are filled anew, `use` lines are split, and other lines are broken where the fewest brackets are open: after an arrow or an
-equals sign, before another operator, `then` or `else`. Lines in which it finds no such place are told. Run `rt fmt` afterwards.
+equals sign, before another operator, `then` or `else`, or else before an argument. Lines in which it finds no such place are told. Run
+`rt fmt` afterwards.
 """
 import pathlib
 import re
@@ -14,7 +15,7 @@ COMMENT = re.compile(r"^(\s*)(//!|///|//|--)( |$)")
 USE = re.compile(r"^(\s*(?:ghost )?use [^{]*)\{(.*)\}(;?)$")
 
 # Where a line may be broken, and whether what is found stays on the first part.
-PLACES = [(" → ", True), (" = ", True), (" × ", False), (" ⊎ ", False), (" ++ ", False), (" ∷ ", False), (" && ", False), (" || ", False),
+PLACES = [("; ", True), (" → ", True), (" = ", True), (" × ", False), (" ⊎ ", False), (" ++ ", False), (" ∷ ", False), (" && ", False), (" || ", False),
           (" then ", False), (" else ", False)]
 
 
@@ -48,12 +49,25 @@ def place_in(line):
     for at, sign in enumerate(line):
         depth += (sign in "([{") - (sign in ")]}")
         for text, stays in PLACES:
-            if at > begin + 8 and line.startswith(text, at):
+            if at > begin + 8 and line.startswith(text, at) and not (text == " = " and depth > 0):
                 end = at + len(text) if stays else at
                 level = -1 if text == " = " and begin == 0 else depth
                 if end <= WIDTH and (found is None or level <= found[0]):
                     found = (level, end)
-    return found and found[1]
+    return found and found[1] or space_in(line)
+
+
+def space_in(line):
+    """Where else: before an argument or a parameter, at the least depth, and there as far on as fits. Texts and attributes aren't broken."""
+    begin = len(line) - len(line.lstrip())
+    depth, found = 0, None
+    for at, sign in enumerate(line[: WIDTH + 1]):
+        depth += (sign in "([{") - (sign in ")]}")
+        after = line[at + 1 :].lstrip()
+        opens = sign == " " and re.match(r"(?!where\b|Type\b|\d)[\w(]", after) and not line[:at].endswith((" =", " :", "λ", "let"))
+        if at > begin + 30 and opens and (found is None or depth <= found[0]):
+            found = (depth, at)
+    return None if '"' in line or line.lstrip().startswith("#") else found and found[1]
 
 
 def broken(line, rest):
@@ -78,7 +92,8 @@ def fitted(path):
         if len(line) > WIDTH and USE.match(line):
             made += split(USE.match(line))
         elif len(line) > WIDTH:
-            made += broken(line, " " * (indent + 4 if indent == 0 or path.suffix == ".rt" else indent))
+            deeper = indent == 0 or path.suffix == ".rt" or re.match(r"\s*(?!let )(pub )?[\w'-]+( [^=]*)? [:=] ", line)
+            made += broken(line, " " * (indent + 4 if deeper else indent))
         else:
             made.append(line)
         at += 1

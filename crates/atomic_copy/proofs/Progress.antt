@@ -79,6 +79,6 @@ next_left [] left left' (suc k) x a b = absurd (let e = ap length (sym a ∙ b) 
 next_left (y ∷ ys) left left' zero x a b = (omega arith, ap (λ (zs : List ℕ). get_or zs 0 0) (sym a ∙ b), ap (drop 1) (sym b ∙ a))
 next_left (y ∷ ys) left left' (suc k) x a b = let rest = next_left ys left left' k x a b in (let lt = rest.0 in omega arith, rest.1, rest.2)
 
--- nothing is left behind the last
+-- nothing is left after the last
 pub at_end : (xs left : List ℕ) (k : ℕ) → left ≡ drop k xs → left ≡ [] → length xs ≤ k
 at_end xs left k a b = let none : length xs - k ≡ 0 = sym (length-drop k xs) ∙ ap length (sym a ∙ b) in omega arith

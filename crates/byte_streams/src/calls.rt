@@ -4,8 +4,8 @@ ghost use Rattle.byte_streams.specs.Calls.{IsDue};
 
 use page_core::Failed;
 
-/// The calls of a source or a sink in memory, counted from 0: those that are to fail, how many were made, and how often one
-/// failed. Both counts stay at 2^64-1.
+/// The calls of a source or a sink in memory, counted from 0: those that are to fail, how many were made, and how often
+/// one failed. Both counts stay at 2^64-1.
 #[derive(Drop)]
 pub(crate) struct Calls {
     failing: Vec<u64>,

@@ -1,4 +1,5 @@
-ghost use Rattle.std.specs.Prelude.{◌≡◌, ℕ, ◌+◌, ◌-◌, ◌<◌, ◌≤◌, ◌↔◌, ◌⊎◌, List, Some, ◌++◌, [], take, length, min, vec_len, vec_capacity, IfOk, OnOk, IsOk, OnErr, IsErr};
+ghost use Rattle.std.specs.Prelude.{◌≡◌, ℕ, ◌+◌, ◌-◌, ◌<◌, ◌≤◌, ◌↔◌, ◌⊎◌, List, Some, ◌++◌, [], take, length, min};
+ghost use Rattle.std.specs.Prelude.{vec_len, vec_capacity, IfOk, OnOk, IsOk, OnErr, IsErr};
 ghost use Rattle.definitions.specs.Disk.{HasRisen, raised};
 ghost use Rattle.definitions.specs.Streams.{HandsOut, IsUsedUp, Takes};
 
@@ -109,7 +110,8 @@ impl MemSink {
 }
 
 impl Sink for MemSink {
-    ghost use Rattle.byte_streams.specs.Memory.{IsFullFor, RefusesNext, flushed_of, room_of, sink_calls_of, sink_failing_of, sink_faults_of, taken_by};
+    ghost use Rattle.byte_streams.specs.Memory.{IsFullFor, RefusesNext, flushed_of, room_of, sink_calls_of};
+    ghost use Rattle.byte_streams.specs.Memory.{sink_failing_of, sink_faults_of, taken_by};
 
     ghost taken = { λ s. Some (taken_by s) };
 

@@ -6,7 +6,8 @@ use crate::source::Source;
 use page_core::Failed;
 use std::io::{self, ErrorKind, Read, Write};
 
-/// A reader of the system, such as standard input. Of its bytes nothing is told. A call that a signal interrupts is made again.
+/// A reader of the system, such as standard input. Of its bytes nothing is told. A call that a signal interrupts is
+/// made again.
 #[derive(Drop)]
 pub struct StdSource<R: Read + Drop> {
     reader: R,
@@ -38,8 +39,8 @@ impl<R: Read + Drop> Source for StdSource<R> {
     }
 }
 
-/// A writer of the system, such as standard output. Of the bytes that it takes nothing is told. A call that a signal interrupts
-/// is made again.
+/// A writer of the system, such as standard output. Of the bytes that it takes nothing is told. A call that a signal
+/// interrupts is made again.
 #[derive(Drop)]
 pub struct StdSink<W: Write + Drop> {
     writer: W,

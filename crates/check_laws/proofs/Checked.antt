@@ -29,7 +29,7 @@ use Rattle.check_laws.proofs.Data.{data_found, data_is, has_page}
 use Rattle.check_laws.proofs.Tallies.{tally}
 use Rattle.check_laws.proofs.Chains.{chain_at, few_pages, mapped, said_by}
 
--- Nothing is wrong with page k of the chain: where it is the info page, or a number page, behind the last word of the one before.
+-- Nothing is wrong with page k of the chain: where it is the info page, or a number page, after the last word of the one before.
 pub record IsPageClean (format : Format) (v : DiskImage) (first k : ℕ) : Type 0 where
   pub info : k ≡ 0 → info_findings format (chain_at v first 0) ≡ []
   pub previous : Option ℕ

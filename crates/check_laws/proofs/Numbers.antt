@@ -75,7 +75,7 @@ each_none f (suc n) clean i lt = elim (cases_lt i n) [
       subst (λ (k : ℕ). f k ≡ None) at (no_finding (f n) (right_none (each_below f n) (list_of (f n)) clean))
 ]
 
--- word j, behind the word before
+-- word j, after the word before
 pub record IsWordClean (format : Format) (v : DiskImage) (first j : ℕ) : Type 0 where
   pub previous : Option ℕ
   pub before : 0 < j → previous ≡ Some (word_at v first (j - 1))

@@ -35,7 +35,8 @@ held_at_first h v = if is_marked_disk h v then sure other else nothing
 abbrev pub machine_of_dump : Hardware → Memory → disk.DiskImage → Running
 machine_of_dump h m v = booted h v Kept m (held_at_first h v)
 
--- a running machine whose cached page frames are dropped until so many saveable ones are left, where a size is asked for
+-- a running machine whose cached page frames are dropped until so many saveable ones are left, where a size is asked
+-- for
 abbrev pub shrunk_to : Hardware → Option ℕ → Running → Running
 shrunk_to h None a = a
 shrunk_to h (Some want) a = record a { memory = drop_memory h a.memory want }
@@ -50,7 +51,8 @@ image_to_save h a f = image_of_memory h a.memory a.slots f
 
 -- what it answers at the end, where no call of the disk fails: why it is refused, or how many page frames are saved
 abbrev pub hibernation_answer : Hardware → Running → Format → Reply
-hibernation_answer h a f = unwrap_or (refusal h (on a) (event.Hibernate f)) (reply.Hibernated (n_of (image_to_save h a f)))
+hibernation_answer h a f =
+    unwrap_or (refusal h (on a) (event.Hibernate f)) (reply.Hibernated (n_of (image_to_save h a f)))
 
 -- whether a boot has ended well
 abbrev pub is_booted : Reply → Bool

@@ -16,7 +16,8 @@ use Rattle.command_core.specs.Runs.{AreStepped, FailsToBoot, IsReady, core_steps
 use Rattle.command_core.specs.declared.ending.Ended.{Ended}
 
 -- The machine runs as this state says, over the disk v, which is as it was.
-pub record IsUp (h : Hardware) (a : Running) (v : disk.DiskImage) (world : World) (now : Option disk.Content) : Type 0 where
+pub record IsUp (h : Hardware) (a : Running) (v : disk.DiskImage) (world : World)
+    (now : Option disk.Content) : Type 0 where
   pub content : disk.Content
   pub told : now ≡ Some content
   pub blocks : ℕ
@@ -34,22 +35,27 @@ pub record HasFailedEarly (v : disk.DiskImage) (ended : Ended) (now : Option dis
   pub failed : ended.failed ≡ true
 
 -- one of the two
-abbrev pub IsUpOrFails : Hardware → Running → disk.DiskImage → World → Result (Unit {0}) Ended → Option disk.Content → Type 0
+abbrev pub IsUpOrFails : Hardware → Running → disk.DiskImage → World → Result (Unit {0}) Ended → Option disk.Content →
+    Type 0
 IsUpOrFails h a v world (Ok done) now = IsUp h a v world now
 IsUpOrFails h a v world (Err ended) now = HasFailedEarly v ended now
 
 -- a boot, then a boot with what is dropped, and the steps of an operation
 abbrev pub Boots : {X : Type 0} → Ghosts X → World → World → Result (Unit {0}) Ended → X → X → Type 0
 Boots D old new (Ok done) before after =
-    (events : List Event) × (replies : List Reply) × IsReady None events replies × Played D old new events replies before after
+    (events : List Event) × (replies : List Reply) × IsReady None events replies
+    × Played D old new events replies before after
 Boots D old new (Err ended) before after =
-    (events : List Event) × (replies : List Reply) × FailsToBoot ended.reply events replies × Played D old new events replies before after
+    (events : List Event) × (replies : List Reply) × FailsToBoot ended.reply events replies
+    × Played D old new events replies before after
 
 abbrev pub Starts : {X : Type 0} → Ghosts X → Option ℕ → World → World → Result (Unit {0}) Ended → X → X → Type 0
 Starts D size old new (Ok done) before after =
-    (events : List Event) × (replies : List Reply) × IsReady size events replies × Played D old new events replies before after
+    (events : List Event) × (replies : List Reply) × IsReady size events replies
+    × Played D old new events replies before after
 Starts D size old new (Err ended) before after =
-    (events : List Event) × (replies : List Reply) × FailsToBoot ended.reply events replies × Played D old new events replies before after
+    (events : List Event) × (replies : List Reply) × FailsToBoot ended.reply events replies
+    × Played D old new events replies before after
 
 abbrev pub Finishes : {X : Type 0} → Ghosts X → World → World → Reply → Reply → X → X → Type 0
 Finishes D old new begun last before after =

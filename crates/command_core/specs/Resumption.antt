@@ -18,8 +18,8 @@ use Rattle.command_core.specs.declared.ending.Ended.{Ended}
 abbrev pub IsLast : List Reply → Reply → Type 0
 IsLast replies r = (front : List Reply) × (replies ≡ front ++ r ∷ [])
 
--- The replies after which an image that was there may still be: it is compressed, or a call failed before one of the disk made certain
--- that it is gone.
+-- The replies after which an image that was there may still be: it is compressed, or a call failed before one of the
+-- disk made certain that it is gone.
 abbrev pub LeavesMark : Reply → Type 0
 LeavesMark (reply.Compressed flags) = ⊤
 LeavesMark (reply.ReadFault Gone) = ⊥
@@ -27,13 +27,16 @@ LeavesMark (reply.WriteFault Gone) = ⊥
 LeavesMark (reply.SyncFault Gone) = ⊥
 LeavesMark r = EndsInFault r
 
--- What the machine answers at the end over the disk v: the last reply of its trace, unless a call of the disk has failed. Where that is
--- Resumed, the page frames are those that are restored. Then, after each refusal but that of a compressed image, and after a fault that says
--- that the image is gone, no image of the disk is marked. Of the disk block(0) alone may be written, and none where no image was found or it is compressed.
-pub record HasResumed (h : Hardware) (m : Memory) (check : IdentCheck) (v : disk.DiskImage) (frames : Memory) (ended : Ended) (now : Option disk.Content) : Type 0 where
+-- What the machine answers at the end over the disk v: the last reply of its trace, unless a call of the disk has
+-- failed. Where that is Resumed, the page frames are those that are restored. Then, after each refusal but that of a
+-- compressed image, and after a fault that says that the image is gone, no image of the disk is marked. Of the disk
+-- block(0) alone may be written, and none where no image was found or it is compressed.
+pub record HasResumed (h : Hardware) (m : Memory) (check : IdentCheck) (v : disk.DiskImage) (frames : Memory)
+    (ended : Ended) (now : Option disk.Content) : Type 0 where
   pub content : disk.Content
   pub told : now ≡ Some content
-  pub answer : (IsLast (trace h m v Table check) ended.reply × (ended.failed ≡ false)) ⊎ (EndsInFault ended.reply × (ended.failed ≡ true))
+  pub answer : (IsLast (trace h m v Table check) ended.reply × (ended.failed ≡ false))
+      ⊎ (EndsInFault ended.reply × (ended.failed ≡ true))
   pub over : goes_on ended.reply ≡ false
   pub restored : (n : ℕ) → ended.reply ≡ reply.Resumed n → frames ≡ restored_in h m v Table
   pub gone : LeavesMark ended.reply ⊎ EachImage content (λ w. Marked h w → ⊥)

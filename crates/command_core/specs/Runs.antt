@@ -1,5 +1,7 @@
--- The runs of the commands: which events a hibernation and a resume of a dump's machine give it, and what they did over the disk.
-use Rattle.std.specs.Prelude.{◌≡◌, ◌≤◌, ◌⊎◌, ◌+◌, ℕ, true, false, List, [], ◌∷◌, ◌++◌, length, map, Option, Some, None, IsTrue, ⊤}
+-- The runs of the commands: which events a hibernation and a resume of a dump's machine give it, and what they did over
+-- the disk.
+use Rattle.std.specs.Prelude.{◌≡◌, ◌≤◌, ◌⊎◌, ◌+◌, ℕ, true, false, List, [], ◌∷◌, ◌++◌, length, map, Option, Some, None}
+use Rattle.std.specs.Prelude.{IsTrue, ⊤}
 use Rattle.page_core.specs.declared.format.Format.{Format}
 use Rattle.definitions.specs.Disk as disk
 use Rattle.plain_machine.specs.Chain.{Marked}
@@ -33,8 +35,8 @@ abbrev pub GoOn : Reply → List Reply → Type 0
 GoOn r [] = ⊤
 GoOn r (s ∷ rest) = (goes_on r ≡ true) × GoOn s rest
 
--- An operation that begins with the first reply, and step after step up to the last. One over 65,536 page frames has 65,798 steps, and two of
--- an undo.
+-- An operation that begins with the first reply, and step after step up to the last. One over 65,536 page frames has
+-- 65,798 steps, and two of an undo.
 pub record AreStepped (begun : Reply) (rest : List Reply) (last : Reply) : Type 0 where
   pub last_is : last_reply begun rest ≡ last
   pub goes : GoOn begun rest
@@ -85,7 +87,8 @@ pub record IsReady (size : Option ℕ) (events : List Event) (replies : List Rep
   pub replies_are : replies ≡ (begun ∷ synced ∷ booted ∷ []) ++ shrunk
 
 -- Then a hibernation is asked for, and steps follow.
-pub record IsAsked (f : Format) (size : Option ℕ) (last : Reply) (events : List Event) (replies : List Reply) : Type 0 where
+pub record IsAsked (f : Format) (size : Option ℕ) (last : Reply) (events : List Event)
+    (replies : List Reply) : Type 0 where
   pub front : List Event
   pub first : List Reply
   pub ready : IsReady size front first
@@ -101,9 +104,10 @@ FailsToBoot last events replies = IsUnsynced last events replies ⊎ IsUnbooted 
 abbrev pub IsHibernation : Format → Option ℕ → Reply → List Event → List Reply → Type 0
 IsHibernation f size last events replies = FailsToBoot last events replies ⊎ IsAsked f size last events replies
 
--- Over the disk v, which has one image: the machine is off, with the dump's memory, and another's image where the disk is marked. The
--- events lead from there, by rows of the plain machine, to what is shown of the world and what the disk holds at the end. A crash
--- since the begin leaves the disk as it was, or what lies, sector by sector, between two neighbours on the way.
+-- Over the disk v, which has one image: the machine is off, with the dump's memory, and another's image where the disk
+-- is marked. The events lead from there, by rows of the plain machine, to what is shown of the world and what the disk
+-- holds at the end. A crash since the begin leaves the disk as it was, or what lies, sector by sector, between two
+-- neighbours on the way.
 pub record RunsOver {X : Type 0} (D : Ghosts X) (h : Hardware) (m : Memory) (v : disk.DiskImage) (events : List Event)
     (replies : List Reply) (shown : WorldView) (before after : X) : Type 0 where
   pub first : Situation
@@ -118,8 +122,8 @@ pub record RunsOver {X : Type 0} (D : Ghosts X) (h : Hardware) (m : Memory) (v :
   pub inside : IsTrue (D.tells_moments before) → (w : disk.DiskImage) → D.left_since after (D.moment before) w →
       (w ≡ v) ⊎ IsLeftInside first through w
 
--- What a command's machine did: the disk was called at most once a step event, its count of faults allows for the replies, and over a disk
--- that tells what it holds the events are a run.
+-- What a command's machine did: the disk was called at most once a step event, its count of faults allows for the
+-- replies, and over a disk that tells what it holds the events are a run.
 pub record Ran {X : Type 0} (D : Ghosts X) (h : Hardware) (m : Memory) (events : List Event) (replies : List Reply)
     (shown : WorldView) (before after : X) : Type 0 where
   pub calls : D.calls after ≤ D.calls before + steps_of events
@@ -128,6 +132,7 @@ pub record Ran {X : Type 0} (D : Ghosts X) (h : Hardware) (m : Memory) (events :
       RunsOver D h m v events replies shown before after
 
 -- a hibernation, or a resume, that ended with this reply
-abbrev pub RanAs : {X : Type 0} → (List Event → List Reply → Type 0) → Ghosts X → Hardware → Memory → WorldView → X → X → Type 0
+abbrev pub RanAs : {X : Type 0} → (List Event → List Reply → Type 0) → Ghosts X → Hardware → Memory → WorldView → X →
+    X → Type 0
 RanAs IsThis D h m shown before after =
     (events : List Event) × (replies : List Reply) × IsThis events replies × Ran D h m events replies shown before after

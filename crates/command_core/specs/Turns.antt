@@ -18,8 +18,8 @@ use Rattle.world_core.specs.World.{World}
 use Rattle.command_core.specs.Answers.{goes_on}
 use Rattle.command_core.specs.declared.ending.Ended.{Ended}
 
--- After an event: the reply, whether a call of the disk has failed so far, the state of the plain machine, what the disk holds, and
--- the page frames.
+-- After an event: the reply, whether a call of the disk has failed so far, the state of the plain machine, what the
+-- disk holds, and the page frames.
 pub record Point : Type 0 where
   pub reply : Reply
   pub failed : Bool
@@ -31,9 +31,9 @@ pub record Point : Type 0 where
 abbrev pub StandsAt : Hardware → Point → Type 0
 StandsAt h p = (shown : WorldView) × Stands h shown p.content p.state
 
--- The plain machine gives the reply to this event, and goes on to the state, for which the disk stands. The area on the disk stays, no
--- other block is written than it may write, and block(0) is left so. A call that failed is noticed, and none else. Where a resume has ended
--- the page frames are those that it restores.
+-- The plain machine gives the reply to this event, and goes on to the state, for which the disk stands. The area on the
+-- disk stays, no other block is written than it may write, and block(0) is left so. A call that failed is noticed, and
+-- none else. Where a resume has ended the page frames are those that it restores.
 pub record IsTurn (h : Hardware) (e : Event) (old new : Point) : Type 0 where
   pub step : Step h (disk.as_it_reads old.content) old.state e new.reply new.state
   pub area : IsSameArea h (disk.as_it_reads old.content) (disk.as_it_reads new.content)
@@ -45,12 +45,14 @@ pub record IsTurn (h : Hardware) (e : Event) (old new : Point) : Type 0 where
   pub noticed : IsNewFault new.reply → new.failed ≡ true
   pub noted : old.failed ≡ true → new.failed ≡ true
   pub no_other : new.failed ≡ true → (old.failed ≡ true) ⊎ IsNewFault new.reply
-  pub restored : (load : Load) (k n : ℕ) → e ≡ event.Step actor.Core → old.state ≡ loading load k → new.reply ≡ reply.Resumed n → new.frames ≡ restored_by h load
+  pub restored : (load : Load) (k n : ℕ) → e ≡ event.Step actor.Core → old.state ≡ loading load k →
+      new.reply ≡ reply.Resumed n → new.frames ≡ restored_by h load
 
 -- so many steps of the core, each after a reply that goes on
 abbrev pub AreSteps : Hardware → ℕ → Point → Point → Type 0
 AreSteps h zero old new = new ≡ old
-AreSteps h (suc n) old new = (mid : Point) × AreSteps h n old mid × (goes_on mid.reply ≡ true) × IsTurn h (event.Step actor.Core) mid new
+AreSteps h (suc n) old new =
+    (mid : Point) × AreSteps h n old mid × (goes_on mid.reply ≡ true) × IsTurn h (event.Step actor.Core) mid new
 
 -- A crash inside a step from this point on may leave this image: it has each sector from before the step or after it.
 pub record IsLeftInside (h : Hardware) (start : Point) (w : disk.DiskImage) : Type 0 where
@@ -62,8 +64,10 @@ pub record IsLeftInside (h : Hardware) (start : Point) (w : disk.DiskImage) : Ty
   pub turn : IsTurn h (event.Step actor.Core) before after
   pub mixed : disk.IsMixture before.content after.content w
 
--- So time goes on over such steps: `past` and `since` are what a crash since a moment might have left, before them and after.
-pub record Elapsed (h : Hardware) (start : Point) (before now : ℕ) (past since : ℕ → disk.DiskImage → Type 0) : Type 0 where
+-- So time goes on over such steps: `past` and `since` are what a crash since a moment might have left, before them and
+-- after.
+pub record Elapsed (h : Hardware) (start : Point) (before now : ℕ) (past since : ℕ → disk.DiskImage →
+    Type 0) : Type 0 where
   pub later : before ≤ now
   pub nothing_else : (t : ℕ) (w : disk.DiskImage) → t ≤ before → since t w → past t w ⊎ IsLeftInside h start w
 
@@ -73,7 +77,8 @@ pub record IsStill (before now : ℕ) (since : ℕ → disk.DiskImage → Type 0
   pub same : (w : disk.DiskImage) → since before w → w ≡ v
 
 -- so many steps from this point on have led to this reply, and to what the world and the disk stand for
-pub record HaveMade (h : Hardware) (world : World) (start : Point) (steps : ℕ) (r : Reply) (failed : Bool) (now : Option disk.Content) : Type 0 where
+pub record HaveMade (h : Hardware) (world : World) (start : Point) (steps : ℕ) (r : Reply) (failed : Bool)
+    (now : Option disk.Content) : Type 0 where
   pub end : Point
   pub told : now ≡ Some end.content
   pub reply_is : end.reply ≡ r
@@ -83,7 +88,8 @@ pub record HaveMade (h : Hardware) (world : World) (start : Point) (steps : ℕ)
   pub are : AreSteps h steps start end
 
 -- The steps from this point on have led to the end: nothing is left to do there, or it is step 66,000.
-pub record HasGone (h : Hardware) (world : World) (start : Point) (ended : Ended) (now : Option disk.Content) : Type 0 where
+pub record HasGone (h : Hardware) (world : World) (start : Point) (ended : Ended)
+    (now : Option disk.Content) : Type 0 where
   pub steps : ℕ
   pub made : HaveMade h world start steps ended.reply ended.failed now
   pub over : (goes_on ended.reply ≡ false) ⊎ (steps ≡ 66000)

@@ -40,9 +40,22 @@ impl Ended {
 pub(crate) fn finish<D: Disk>(world: &mut World, disk: &mut D, begun: Reply) -> Ended
     requires blocks { IsOff world.old ⊎ (D.block_count disk.old ≡ blocks_of world.old) }
     ensures gone { (c : Content) (a : State) → D.content disk.old ≡ Some c → StandsFor world.old c a →
-        HasGone (hardware_of world.old) world.new (record { reply = begun; failed = false; state = a; content = c; frames = world.old.frames }) result (D.content disk.new) }
-    ensures inside { IsTrue (D.tells_moments disk.old) → (c : Content) (a : State) → D.content disk.old ≡ Some c → StandsFor world.old c a →
-        Elapsed (hardware_of world.old) (record { reply = begun; failed = false; state = a; content = c; frames = world.old.frames }) (D.moment disk.old) (D.moment disk.new)
+        HasGone (hardware_of world.old) world.new (record {
+          reply = begun;
+          failed = false;
+          state = a;
+          content = c;
+          frames = world.old.frames;
+        }) result (D.content disk.new) }
+    ensures inside { IsTrue (D.tells_moments disk.old) → (c : Content) (a : State) → D.content disk.old ≡ Some c →
+        StandsFor world.old c a →
+        Elapsed (hardware_of world.old) (record {
+          reply = begun;
+          failed = false;
+          state = a;
+          content = c;
+          frames = world.old.frames;
+        }) (D.moment disk.old) (D.moment disk.new)
         (D.left_since disk.old) (D.left_since disk.new) }
     ensures ran { Finishes D.Disk world.old world.new begun result.reply disk.old disk.new }
     ensures hardware { hardware_of world.new ≡ hardware_of world.old }

@@ -16,8 +16,8 @@ use plain_machine::{Actor, BootFrom, Event, Reply};
 use sector_disk::Disk;
 use world_core::World;
 
-/// Boots a new machine with the memory of its dump, drops cached page frames until so many saveable ones are left, where a size is asked
-/// for, and lets it hibernate (hibernate, kernel/power/hibernate.c). What it answers last.
+/// Boots a new machine with the memory of its dump, drops cached page frames until so many saveable ones are left,
+/// where a size is asked for, and lets it hibernate (hibernate, kernel/power/hibernate.c). What it answers last.
 pub fn hibernate<D: Disk>(
     world: &mut World,
     disk: &mut D,
@@ -26,11 +26,17 @@ pub fn hibernate<D: Disk>(
 ) -> Ended
     requires hardware { IsHardware (hardware_of world.old) }
     requires new { IsNew (hardware_of world.old) (Some world.old.frames) world.old }
-    ensures hibernated { (v : DiskImage) → D.content disk.old ≡ Some (settled v) → (Marked (hardware_of world.old) v → HasOriginal (hardware_of world.old) v) →
-        HasHibernated (hardware_of world.old) (machine_to_save (hardware_of world.old) world.old.frames size v) format v result (D.content disk.new) }
-    ensures inside { IsTrue (D.tells_moments disk.old) → (v : DiskImage) → D.content disk.old ≡ Some (settled v) → (Marked (hardware_of world.old) v → ⊥) → (w : DiskImage) → D.left_since disk.new (D.moment disk.old) w →
-        IsUnmarkedOrHolds (hardware_of world.old) (image_to_save (hardware_of world.old) (machine_to_save (hardware_of world.old) world.old.frames size v) format) w }
-    ensures ran { RanAs (IsHibernation format size result.reply) D.Disk (hardware_of world.old) world.old.frames (shown world.new) disk.old disk.new }
+    ensures hibernated { (v : DiskImage) → D.content disk.old ≡ Some (settled v) →
+        (Marked (hardware_of world.old) v → HasOriginal (hardware_of world.old) v) →
+        HasHibernated (hardware_of world.old) (machine_to_save (hardware_of world.old) world.old.frames size v) format v
+        result (D.content disk.new) }
+    ensures inside { IsTrue (D.tells_moments disk.old) → (v : DiskImage) → D.content disk.old ≡ Some (settled v) →
+        (Marked (hardware_of world.old) v → ⊥) → (w : DiskImage) → D.left_since disk.new (D.moment disk.old) w →
+        IsUnmarkedOrHolds (hardware_of world.old)
+        (image_to_save (hardware_of world.old) (machine_to_save (hardware_of world.old) world.old.frames size v)
+        format) w }
+    ensures ran { RanAs (IsHibernation format size result.reply) D.Disk (hardware_of world.old) world.old.frames
+        (shown world.new) disk.old disk.new }
     ensures hardware { hardware_of world.new ≡ hardware_of world.old }
     ensures cause { IsTrue result.failed → HasRisen (D.faults disk.old) (D.faults disk.new) }
     ensures faults { D.faults disk.old ≤ D.faults disk.new }
@@ -44,12 +50,16 @@ pub fn hibernate<D: Disk>(
     finish(world, disk, begun)
 }
 
-/// Boots the machine, and drops cached page frames where a size is asked for; or tells the call of the disk that failed.
+/// Boots the machine, and drops cached page frames where a size is asked for; or tells the call of the disk that
+/// failed.
 fn start<D: Disk>(world: &mut World, disk: &mut D, size: Option<u64>) -> Result<(), Ended>
     requires new { IsNew (hardware_of world.old) (Some world.old.frames) world.old }
-    ensures up { (v : DiskImage) → D.content disk.old ≡ Some (settled v) → (Marked (hardware_of world.old) v → HasOriginal (hardware_of world.old) v) →
-        IsUpOrFails (hardware_of world.old) (machine_to_save (hardware_of world.old) world.old.frames size v) v world.new result (D.content disk.new) }
-    ensures still { IsTrue (D.tells_moments disk.old) → (v : DiskImage) → D.content disk.old ≡ Some (settled v) → (Marked (hardware_of world.old) v → HasOriginal (hardware_of world.old) v) →
+    ensures up { (v : DiskImage) → D.content disk.old ≡ Some (settled v) →
+        (Marked (hardware_of world.old) v → HasOriginal (hardware_of world.old) v) →
+        IsUpOrFails (hardware_of world.old) (machine_to_save (hardware_of world.old) world.old.frames size v) v
+        world.new result (D.content disk.new) }
+    ensures still { IsTrue (D.tells_moments disk.old) → (v : DiskImage) → D.content disk.old ≡ Some (settled v) →
+        (Marked (hardware_of world.old) v → HasOriginal (hardware_of world.old) v) →
         IsStill (D.moment disk.old) (D.moment disk.new) (D.left_since disk.new) v }
     ensures ran { Starts D.Disk size world.old world.new result disk.old disk.new }
     ensures telling { D.tells_moments disk.new ≡ D.tells_moments disk.old }
@@ -72,9 +82,12 @@ fn start<D: Disk>(world: &mut World, disk: &mut D, size: Option<u64>) -> Result<
 /// Boots the machine, or tells the call of the disk that failed.
 fn boot<D: Disk>(world: &mut World, disk: &mut D) -> Result<(), Ended>
     requires new { IsNew (hardware_of world.old) (Some world.old.frames) world.old }
-    ensures booted { (v : DiskImage) → D.content disk.old ≡ Some (settled v) → (Marked (hardware_of world.old) v → HasOriginal (hardware_of world.old) v) →
-        IsUpOrFails (hardware_of world.old) (machine_of_dump (hardware_of world.old) world.old.frames v) v world.new result (D.content disk.new) }
-    ensures still { IsTrue (D.tells_moments disk.old) → (v : DiskImage) → D.content disk.old ≡ Some (settled v) → (Marked (hardware_of world.old) v → HasOriginal (hardware_of world.old) v) →
+    ensures booted { (v : DiskImage) → D.content disk.old ≡ Some (settled v) →
+        (Marked (hardware_of world.old) v → HasOriginal (hardware_of world.old) v) →
+        IsUpOrFails (hardware_of world.old) (machine_of_dump (hardware_of world.old) world.old.frames v) v world.new
+        result (D.content disk.new) }
+    ensures still { IsTrue (D.tells_moments disk.old) → (v : DiskImage) → D.content disk.old ≡ Some (settled v) →
+        (Marked (hardware_of world.old) v → HasOriginal (hardware_of world.old) v) →
         IsStill (D.moment disk.old) (D.moment disk.new) (D.left_since disk.new) v }
     ensures ran { Boots D.Disk world.old world.new result disk.old disk.new }
     ensures telling { D.tells_moments disk.new ≡ D.tells_moments disk.old }

@@ -13,16 +13,20 @@ use plain_machine::{Event, IdentCheck, Loader};
 use sector_disk::Disk;
 use world_core::World;
 
-/// Resumes the image on a disk into a new machine, whose dump's memory is the loader's (software_resume, kernel/power/hibernate.c). What
-/// it answers last; where that is `Resumed`, its page frames are those of the machine that was saved.
+/// Resumes the image on a disk into a new machine, whose dump's memory is the loader's (software_resume,
+/// kernel/power/hibernate.c). What it answers last; where that is `Resumed`, its page frames are those of the machine
+/// that was saved.
 pub fn resume<D: Disk>(world: &mut World, disk: &mut D, check: IdentCheck) -> Ended
     requires hardware { IsHardware (hardware_of world.old) }
     requires new { IsNew (hardware_of world.old) (Some world.old.frames) world.old }
-    ensures resumed { (v : DiskImage) → D.content disk.old ≡ Some (settled v) → (Marked (hardware_of world.old) v → HasOriginal (hardware_of world.old) v) →
+    ensures resumed { (v : DiskImage) → D.content disk.old ≡ Some (settled v) →
+        (Marked (hardware_of world.old) v → HasOriginal (hardware_of world.old) v) →
         HasResumed (hardware_of world.old) world.old.frames check v world.new.frames result (D.content disk.new) }
-    ensures inside { IsTrue (D.tells_moments disk.old) → (v : DiskImage) → D.content disk.old ≡ Some (settled v) → (Marked (hardware_of world.old) v → HasOriginal (hardware_of world.old) v) →
+    ensures inside { IsTrue (D.tells_moments disk.old) → (v : DiskImage) → D.content disk.old ≡ Some (settled v) →
+        (Marked (hardware_of world.old) v → HasOriginal (hardware_of world.old) v) →
         (w : DiskImage) → D.left_since disk.new (D.moment disk.old) w → IsTakenBack (hardware_of world.old) v w }
-    ensures ran { RanAs (IsResumption check result.reply) D.Disk (hardware_of world.old) world.old.frames (shown world.new) disk.old disk.new }
+    ensures ran { RanAs (IsResumption check result.reply) D.Disk (hardware_of world.old) world.old.frames
+        (shown world.new) disk.old disk.new }
     ensures hardware { hardware_of world.new ≡ hardware_of world.old }
     ensures cause { IsTrue result.failed → HasRisen (D.faults disk.old) (D.faults disk.new) }
     ensures faults { D.faults disk.old ≤ D.faults disk.new }

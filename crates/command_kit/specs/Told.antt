@@ -34,7 +34,8 @@ pub record IsToldWhole (told : RunResult) (status : Status) (out out' note note'
 -- out failed in its text, and that is noted; or note failed in its own
 abbrev pub AreFronts : RunResult → SinkView → SinkView → SinkView → SinkView → Type 0
 AreFronts told out out' note note' =
-    (FailsToPrint told.out out out' × IsTried sink_note note note') ⊎ (IsPrinted told.out out out' × FailsToPrint told.note note note')
+    (FailsToPrint told.out out out' × IsTried sink_note note note')
+    ⊎ (IsPrinted told.out out out' × FailsToPrint told.note note note')
 
 -- a sink failed
 pub record IsCutShort (told : RunResult) (status : Status) (out out' note note' : SinkView) : Type 0 where
@@ -42,4 +43,5 @@ pub record IsCutShort (told : RunResult) (status : Status) (out out' note note' 
   pub fronts : AreFronts told out out' note note'
 
 abbrev pub IsTold : RunResult → Status → SinkView → SinkView → SinkView → SinkView → Type 0
-IsTold told status out out' note note' = IsToldWhole told status out out' note note' ⊎ IsCutShort told status out out' note note'
+IsTold told status out out' note note' =
+    IsToldWhole told status out out' note note' ⊎ IsCutShort told status out out' note note'

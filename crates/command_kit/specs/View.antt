@@ -15,7 +15,13 @@ pub record DiskView : Type 0 where
 
 abbrev pub disk_view : {D : Type 0} → disk.Ghosts D → D → DiskView
 disk_view told d =
-    record { blocks = told.block_count d; content = told.content d; faults = told.faults d; calls = told.calls d; orders = told.orders d }
+    record {
+      blocks = told.block_count d;
+      content = told.content d;
+      faults = told.faults d;
+      calls = told.calls d;
+      orders = told.orders d;
+    }
 
 -- a sink: the bytes taken, how many of them were flushed, and how often it has failed
 pub record SinkView : Type 0 where
@@ -34,6 +40,13 @@ pub record View : Type 0 where
   pub out : SinkView
   pub note : SinkView
 
-abbrev pub view : {I O N D : Type 0} → source.Ghosts I → sink.Ghosts O → sink.Ghosts N → disk.Ghosts D → I → O → N → D → View
+abbrev pub view : {I O N D : Type 0} → source.Ghosts I → sink.Ghosts O → sink.Ghosts N → disk.Ghosts D → I → O → N →
+    D → View
 view source_told out_told note_told disk_told input out note disk =
-    record { left = source_told.remaining input; read_faults = source_told.faults input; disk = disk_view disk_told disk; out = sink_view out_told out; note = sink_view note_told note }
+    record {
+      left = source_told.remaining input;
+      read_faults = source_told.faults input;
+      disk = disk_view disk_told disk;
+      out = sink_view out_told out;
+      note = sink_view note_told note;
+    }

@@ -1,5 +1,6 @@
 -- The machine of a core file.
-use Rattle.std.specs.Prelude.{◌≡◌, ℕ, ◌-◌, ⊤, Bool, not, max, List, [], ◌∷◌, filter, replicate, unwrap_or, Option, Some, None}
+use Rattle.std.specs.Prelude.{◌≡◌, ℕ, ◌-◌, ⊤, Bool, not, max, List, [], ◌∷◌, filter, replicate, unwrap_or, Option, Some}
+use Rattle.std.specs.Prelude.{None}
 use Rattle.definitions.specs.declared.info.Ident.{Ident}
 use Rattle.plain_machine.specs.Image.{is_zeros}
 use Rattle.core_segments.specs.Notes.{ident_in}
@@ -28,7 +29,7 @@ saved_of bytes segments = filter holds_bytes (pages_of bytes segments)
 abbrev pub saved_in : List ℕ → List (ℕ × List ℕ)
 saved_in bytes = saved_of bytes (segments_in bytes)
 
--- the page frame behind the last one of segments, of which the first ones end at a page frame
+-- the page frame after the last one of segments, of which the first ones end at a page frame
 abbrev pub end_after : ℕ → List Segment → ℕ
 end_after frame [] = frame
 end_after frame (s ∷ segments) = end_after (frame_end s) segments

@@ -30,7 +30,7 @@ pub(crate) fn heading_of(ident: Ident, frames: u32, slots: Option<u32>) -> Headi
     }
 }
 
-/// The page frame behind the last one of ascending segments.
+/// The page frame after the last one of ascending segments.
 pub(crate) fn frames_in(segments: &[Segment]) -> u32
     requires { All (λ s. address_end s ≤ 2 ^ 28) segments.now }
     ensures { result ≡ frames_in segments.now }

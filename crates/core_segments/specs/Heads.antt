@@ -39,7 +39,7 @@ table_end header = table_place header + 56 * entry_count header
 abbrev pub has_magic : List ℕ → Bool
 has_magic header = starts_with nat_eq header (127 ∷ 69 ∷ 76 ∷ 70 ∷ [])
 
--- ELFCLASS64, ELFDATA2LSB, EV_CURRENT, ET_CORE, EV_CURRENT; program headers of their size behind the file header, at
+-- ELFCLASS64, ELFDATA2LSB, EV_CURRENT, ET_CORE, EV_CURRENT; program headers of their size after the file header, at
 -- least one of them, and fewer than PN_XNUM
 unfoldable pub header_fault : List ℕ → Option Fault
 header_fault header = first_some (
@@ -93,7 +93,7 @@ table_in bytes = entries bytes (table_place (header_in bytes)) (entry_count (hea
 unfoldable pub segments_in : List ℕ → List Segment
 segments_in bytes = kept (loads_of (table_in bytes))
 
--- what is wrong with segments whose bytes lie behind a place
+-- what is wrong with segments whose bytes lie after a place
 abbrev pub kept_fault : ℕ → List Segment → Option Fault
 kept_fault place segments = or_else (none_fault segments) (segments_fault 0 place segments)
 

@@ -51,7 +51,7 @@ is_note from to entry =
     entry.kind == 4 && entry.segment.file_size == 420
     && nat_le from entry.segment.offset && nat_le (entry.segment.offset + 420) to
 
--- the first one behind the program headers and before the segments' bytes
+-- the first one after the program headers and before the segments' bytes
 abbrev pub note_between : List ProgramHeader → ℕ → List Segment → Option ProgramHeader
 note_between table place segments = find (is_note place (first_place segments)) table
 

@@ -26,7 +26,7 @@ impl Segment {
         (self.address / 4096) as u32
     }
 
-    /// The page frame behind the last one that it has an address of.
+    /// The page frame after the last one that it has an address of.
     pub fn frame_end(&self) -> u32
         requires { address_end self.now ≤ 2 ^ 28 }
         ensures frame { result ≡ frame_end self.now }

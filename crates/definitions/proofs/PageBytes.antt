@@ -140,7 +140,7 @@ pub with_bytes-nil : (page : List ℕ) (k : ℕ) → with_bytes page k [] ≡ pa
 unfolding with_bytes
 with_bytes-nil page k = rw (append-nil, add-zero, take-append-drop) refl
 
--- what is written right behind what was written is written with it
+-- what is written right after what was written is written with it
 pub with_bytes-append : (page : List ℕ) (k : ℕ) (xs ys : List ℕ) → k ≤ length page → with_bytes (with_bytes page k xs) (k + length xs) ys ≡ with_bytes page k (xs ++ ys)
 unfolding with_bytes
 with_bytes-append page k xs ys h =

@@ -124,7 +124,7 @@ length-numbers n (w ∷ words) = length-append (little_bytes n w) (flat_map (lit
 pub length-words : (words : List ℕ) → length (flat_map (little_bytes 8) words) ≡ 8 * length words
 length-words words = length-numbers 8 words
 
--- one more number behind the others
+-- one more number after the others
 push_number : (n : ℕ) (page words : List ℕ) (v : ℕ) → with_number n (with_bytes page 0 (flat_map (little_bytes n) words)) (n * length words) v ≡ with_bytes page 0 (flat_map (little_bytes n) (words ++ v ∷ []))
 push_number n page words v =
     let place : n * length words ≡ 0 + length (flat_map (little_bytes n) words) = omega (arith, length-numbers n words) in

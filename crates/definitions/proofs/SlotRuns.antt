@@ -54,7 +54,7 @@ in_front-apart s (y ∷ slots) apart =
     cond-false (eqb y (s + 1)) ((s, head.0 + 1) ∷ head.1) ((s, 1) ∷ (y, head.0) ∷ head.1) (ne_eqb y (s + 1) (λ e. omega arith)) in
     ap (in_front s) head.2 ∙ alone ∙ ap (λ (runs : List (ℕ × ℕ)). (s, 1) ∷ runs) (sym head.2)
 
--- n + 1 numbers in a row, and none right behind them
+-- n + 1 numbers in a row, and none right after them
 pub runs_of-first : (s n : ℕ) (slots : List ℕ) → ((y : ℕ) → Contains slots y → s + n + 1 < y) → runs_of (range_with_len s (n + 1) ++ slots) ≡ (s, n + 1) ∷ runs_of slots
 runs_of-first s zero slots apart = runs_of-cons s slots ∙ in_front-apart s slots (λ y in'. let above = apart y in' in omega arith)
 runs_of-first s (suc n) slots apart =

@@ -1,6 +1,7 @@
 -- What a disk holds, and what a power cut may make of it. A sector is 512 bytes, and block b is the sectors 8b to
 -- 8b+7. The disk keeps a sector whole: a cut leaves, for each, one of the contents that it may have.
-use Rattle.std.specs.Prelude.{◌≡◌, ℕ, ◌+◌, ◌*◌, ◌^◌, ◌-◌, ◌<◌, ◌≤◌, ◌⊎◌, List, [], ◌∷◌, length, map, take, drop, min, Contains, All, Option, Some, None, slice_index_or}
+use Rattle.std.specs.Prelude.{◌≡◌, ℕ, ◌+◌, ◌*◌, ◌^◌, ◌-◌, ◌<◌, ◌≤◌, ◌⊎◌, List, [], ◌∷◌, length, map, take, drop, min}
+use Rattle.std.specs.Prelude.{Contains, All, Option, Some, None, slice_index_or}
 use Rattle.std.specs.List.{concat}
 use Rattle.definitions.specs.Bytes.{bytes_at}
 
@@ -99,7 +100,8 @@ Changes R (Some old) (Some new) = R old new
 -- each sector has a candidate from before or from after
 pub record IsMixture (old new : Content) (v : DiskImage) : Type 0 where
   pub size : length v ≡ length old
-  pub each : (s : ℕ) → s < length v → Contains (sector old s).candidates (slice_index_or v s []) ⊎ Contains (sector new s).candidates (slice_index_or v s [])
+  pub each : (s : ℕ) → s < length v → Contains (sector old s).candidates (slice_index_or v s [])
+      ⊎ Contains (sector new s).candidates (slice_index_or v s [])
 
 -- Time goes on over a call: a crash since t might have left what it might have left before the call, or,
 -- sector by sector, what a crash just before or just after the call may leave.

@@ -1,6 +1,7 @@
 -- Sets of page frames, as ascending lists of their numbers, and as bits in blocks of 4096 bytes (struct memory_bitmap,
 -- kernel/power/snapshot.c).
-use Rattle.std.specs.Prelude.{ℕ, ◌+◌, ◌-◌, ◌*◌, ◌/◌, ◌%◌, ◌<◌, ◌↔◌, ◌==◌, List, ◌∷◌, ◌++◌, map, filter, min, not, nat_lt, slice_index, Contains, IsBitSet}
+use Rattle.std.specs.Prelude.{ℕ, ◌+◌, ◌-◌, ◌*◌, ◌/◌, ◌%◌, ◌<◌, ◌↔◌, ◌==◌, List, ◌∷◌, ◌++◌, map, filter, min, not}
+use Rattle.std.specs.Prelude.{nat_lt, slice_index, Contains, IsBitSet}
 use Rattle.std.specs.List.{range_with_len, flat_map}
 
 -- the set with p

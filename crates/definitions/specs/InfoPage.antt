@@ -1,5 +1,6 @@
 -- The first page of an image (struct swsusp_info with the generic header, kernel/power/power.h and snapshot.c).
-use Rattle.std.specs.Prelude.{◌≡◌, ℕ, ◌*◌, ◌^◌, ◌<◌, ◌==◌, Bool, List, [], All, length, map, not, nat_eq, if◌then◌else◌, Option, Some, None, take_while, slice_index_or}
+use Rattle.std.specs.Prelude.{◌≡◌, ℕ, ◌*◌, ◌^◌, ◌<◌, ◌==◌, Bool, List, [], All, length, map, not, nat_eq, if◌then◌else◌}
+use Rattle.std.specs.Prelude.{Option, Some, None, take_while, slice_index_or}
 use Rattle.std.specs.List.{concat, range_with_len}
 use Rattle.std.specs.Cmp.Lexicographic.{pointwise}
 use Rattle.definitions.specs.Bytes.{zero_page, bytes_at, with_bytes, number_at, with_number}
@@ -12,7 +13,8 @@ use Rattle.definitions.specs.declared.info.Field.TheVariants.{VersionCode, Sysna
 unfoldable pub info_page : Info → List ℕ
 info_page info =
     let names = with_number 4 (with_bytes zero_page 0 (concat info.ident.names)) 392 info.ident.version_code in
-    let counts = with_number 8 (with_number 8 (with_number 8 names 400 info.physpages) 416 info.image_pages) 424 info.pages in
+    let counts =
+    with_number 8 (with_number 8 (with_number 8 names 400 info.physpages) 416 info.image_pages) 424 info.pages in
     with_number 8 counts 432 (info.pages * 4096)
 
 -- the six names of 65 bytes
@@ -34,7 +36,8 @@ text_of_name name = take_while (λ b. not (b == 0)) name
 
 -- whether name j is the same in both
 abbrev pub same_name : ℕ → Ident → Ident → Bool
-same_name j a b = pointwise nat_eq (text_of_name (slice_index_or a.names j [])) (text_of_name (slice_index_or b.names j []))
+same_name j a b =
+    pointwise nat_eq (text_of_name (slice_index_or a.names j [])) (text_of_name (slice_index_or b.names j []))
 
 -- the first field in which an image's identity isn't the machine's (check_image_kernel)
 unfoldable pub mismatch : Ident → Ident → Option Field

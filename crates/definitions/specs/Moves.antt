@@ -1,6 +1,7 @@
--- Pages moved over each other (struct pbe, the restore list of kernel/power/snapshot.c). A move is a pair (from, to) of page
--- frames; the sources are distinct, and so are the targets.
-use Rattle.std.specs.Prelude.{◌≡◌, ℕ, ◌+◌, ◌-◌, ◌==◌, ◌&&◌, ◌||◌, Bool, true, false, not, nat_lt, nat_le, List, [], ◌∷◌, ◌++◌, length, map, filter, reverse, Option, Some, None, if◌then◌else◌, zero, suc}
+-- Pages moved over each other (struct pbe, the restore list of kernel/power/snapshot.c). A move is a pair (from, to) of
+-- page frames; the sources are distinct, and so are the targets.
+use Rattle.std.specs.Prelude.{◌≡◌, ℕ, ◌+◌, ◌-◌, ◌==◌, ◌&&◌, ◌||◌, Bool, true, false, not, nat_lt, nat_le, List, [], ◌∷◌}
+use Rattle.std.specs.Prelude.{◌++◌, length, map, filter, reverse, Option, Some, None, if◌then◌else◌, zero, suc}
 use Rattle.std.specs.List.{list_any, find, range_with_len}
 use Rattle.definitions.specs.Tables.{frame}
 
@@ -17,9 +18,11 @@ page_from frames (Some m) page = frame frames m.0
 
 -- Assign(F, moves): at once, each target has the page that its source has in F; all other page frames are as in F.
 unfoldable pub assigned : List (List ℕ) → List Move → List (List ℕ)
-assigned frames moves = map (λ p. page_from frames (move_into moves p) (frame frames p)) (range_with_len 0 (length frames))
+assigned frames moves =
+    map (λ p. page_from frames (move_into moves p) (frame frames p)) (range_with_len 0 (length frames))
 
--- [order of moves]: the order in which pending moves are emitted, so that one after another they do what they do at once.
+-- [order of moves]: the order in which pending moves are emitted, so that one after another they do what they do at
+-- once.
 
 -- whether page frame p is the source of a pending move
 abbrev pub is_source : List Move → ℕ → Bool
@@ -65,7 +68,8 @@ path_from (suc n) (Some m) pass =
 abbrev pub paths_over : List ℕ → Pass → Pass
 paths_over [] pass = pass
 paths_over (p ∷ ps) pass =
-    paths_over ps (if is_target pass.pending p && not (is_source pass.pending p) then path_from (length pass.pending) (move_into pass.pending p) pass else pass)
+    paths_over ps (if is_target pass.pending p && not (is_source pass.pending p)
+    then path_from (length pass.pending) (move_into pass.pending p) pass else pass)
 
 -- A cycle through t: its page waits in the bounce frame, and the last move takes it from there.
 abbrev pub with_bounce : ℕ → ℕ → Move → Move
@@ -76,22 +80,27 @@ cycle_from zero bounce t next pass = pass
 cycle_from (suc n) bounce t None pass = pass
 cycle_from (suc n) bounce t (Some m) pass =
     let rest = without_target pass.pending m.1 in
-    cycle_from n bounce t (move_into rest m.0) (record { emitted = pass.emitted ++ with_bounce bounce t m ∷ []; pending = rest })
+    cycle_from n bounce t (move_into rest m.0) (record {
+      emitted = pass.emitted ++ with_bounce bounce t m ∷ [];
+      pending = rest;
+    })
 
 abbrev pub cycles_over : ℕ → List ℕ → Pass → Pass
 cycles_over bounce [] pass = pass
 cycles_over bounce (t ∷ ts) pass =
     let waiting : Pass = record { emitted = pass.emitted ++ (t, bounce) ∷ []; pending = pass.pending } in
-    cycles_over bounce ts (if is_target pass.pending t then cycle_from (length pass.pending) bounce t (move_into pass.pending t) waiting else pass)
+    cycles_over bounce ts (if is_target pass.pending t
+    then cycle_from (length pass.pending) bounce t (move_into pass.pending t) waiting else pass)
 
 -- the moves in order: descending, ascending, paths, cycles; a move of a page frame to itself is dropped at once
 unfoldable pub sequence : ℕ → ℕ → List Move → List Move
 sequence top bounce moves =
     let first : Pass = record { emitted = []; pending = filter (λ m. not (m.0 == m.1)) moves } in
-    (cycles_over bounce (ascending top) (paths_over (ascending top) (pass_over (ascending top) (pass_over (descending top) first)))).emitted
+    (cycles_over bounce (ascending top)
+    (paths_over (ascending top) (pass_over (ascending top) (pass_over (descending top) first)))).emitted
 
--- Joining: an entry is a run (from, to, count). From the first on, an entry joins the run before it where neither touches
--- the bounce frame and it continues that run, upwards or downwards.
+-- Joining: an entry is a run (from, to, count). From the first on, an entry joins the run before it where neither
+-- touches the bounce frame and it continues that run, upwards or downwards.
 abbrev pub Entry : Type 0
 Entry = ℕ × ℕ × ℕ
 

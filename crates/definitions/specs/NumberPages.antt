@@ -1,5 +1,6 @@
 -- The pages of frame numbers that follow the info page (pack_pfns, kernel/power/snapshot.c).
-use Rattle.std.specs.Prelude.{ℕ, ◌+◌, ◌*◌, ◌/◌, ◌%◌, ◌^◌, ◌-◌, List, [], ◌∷◌, ◌++◌, map, take, drop, length, flat_map, slice_index_or, ◌==◌, nat_lt, if◌then◌else◌}
+use Rattle.std.specs.Prelude.{ℕ, ◌+◌, ◌*◌, ◌/◌, ◌%◌, ◌^◌, ◌-◌, List, [], ◌∷◌, ◌++◌, map, take, drop, length, flat_map}
+use Rattle.std.specs.Prelude.{slice_index_or, ◌==◌, nat_lt, if◌then◌else◌}
 use Rattle.std.specs.List.{list_any, range_with_len}
 use Rattle.byteorder.specs.Endian.{little_bytes}
 use Rattle.definitions.specs.Bytes.{zero_page, with_bytes, word}
@@ -32,7 +33,7 @@ number_page numbers k = page_of_words (take 512 (drop (512 * k) (numbers ++ end_
 abbrev pub number_pages : List ℕ → List (List ℕ)
 number_pages numbers = map (number_page numbers) (range_with_len 0 (meta_of (length numbers)))
 
--- the number behind a word, and whether it is marked
+-- the number after a word, and whether it is marked
 abbrev pub number_of_word : ℕ → ℕ
 number_of_word w = w % zero_bit
 

@@ -1,5 +1,6 @@
 -- Slots of a swap area, and the blocks of the device that they lie on.
-use Rattle.std.specs.Prelude.{◌≡◌, ◌⊎◌, ◌≤◌, ◌<◌, ℕ, zero, suc, ◌+◌, ◌-◌, ◌==◌, List, [], ◌∷◌, length, slice_index_or, nat_lt, if◌then◌else◌}
+use Rattle.std.specs.Prelude.{◌≡◌, ◌⊎◌, ◌≤◌, ◌<◌, ℕ, zero, suc, ◌+◌, ◌-◌, ◌==◌, List, [], ◌∷◌, length, slice_index_or}
+use Rattle.std.specs.Prelude.{nat_lt, if◌then◌else◌}
 use Rattle.definitions.specs.Lists.{free_slots}
 
 -- The block of slot s. An extent is (start page, length, start block), in ascending order (struct swap_extent,
@@ -10,7 +11,7 @@ block_of [] s = s
 block_of (e ∷ []) s = e.2 + (s - e.0)
 block_of (e ∷ next ∷ extents) s = if nat_lt s next.0 then e.2 + (s - e.0) else block_of (next ∷ extents) s
 
--- A number in front of runs: it joins the first of them where that begins right behind it.
+-- A number in front of runs: it joins the first of them where that begins right after it.
 abbrev pub in_front : ℕ → List (ℕ × ℕ) → List (ℕ × ℕ)
 in_front s [] = (s, 1) ∷ []
 in_front s (run ∷ runs) = if run.0 == s + 1 then (s, run.1 + 1) ∷ runs else ((s, 1) ∷ run ∷ runs)
@@ -47,8 +48,8 @@ slots_of extents = slots_before extents (length extents)
 abbrev pub LieApart : ℕ × ℕ × ℕ → ℕ × ℕ × ℕ → Type 0
 LieApart e f = (e.2 + e.1 ≤ f.2) ⊎ (f.2 + f.1 ≤ e.2)
 
--- Extent i begins at slot 0 or where the one before ends, has a slot, ends at a block that a 32-bit number can name, has no
--- block of an extent before, and has block 0 for slot 0 alone, since that number means "no block" elsewhere.
+-- Extent i begins at slot 0 or where the one before ends, has a slot, ends at a block that a 32-bit number can name,
+-- has no block of an extent before, and has block 0 for slot 0 alone, since that number means "no block" elsewhere.
 pub record IsInOrder (extents : List (ℕ × ℕ × ℕ)) (i : ℕ) : Type 0 where
   pub start : (extent_at extents i).0 ≡ slots_before extents i
   pub some : 1 ≤ (extent_at extents i).1
@@ -73,4 +74,5 @@ abbrev pub IsExtentFault : List (ℕ × ℕ × ℕ) → ℕ → ℕ → Type 0
 IsExtentFault extents slots at =
     (((length extents ≡ 0) ⊎ (64 < length extents)) × (at ≡ 0))
     ⊎ (AreFew extents × (at < length extents) × ((i : ℕ) → i < at → IsInOrder extents i) × (IsInOrder extents at → ⊥))
-    ⊎ (AreFew extents × (at ≡ length extents) × ((i : ℕ) → i < at → IsInOrder extents i) × (slots_of extents ≡ slots → ⊥))
+    ⊎ (AreFew extents × (at ≡ length extents) × ((i : ℕ) → i < at → IsInOrder extents i)
+    × (slots_of extents ≡ slots → ⊥))

@@ -1,6 +1,7 @@
 -- The header block of a swap area, and the mark of an image over it (union swap_header, include/linux/swap.h;
 -- struct swsusp_header, kernel/power/swap.c).
-use Rattle.std.specs.Prelude.{◌≡◌, ℕ, ◌+◌, ◌*◌, ◌==◌, ◌||◌, ◌++◌, List, [], ◌∷◌, nat_lt, if◌then◌else◌, map, codes, flat_map, bit_or, Option, find, length}
+use Rattle.std.specs.Prelude.{◌≡◌, ℕ, ◌+◌, ◌*◌, ◌==◌, ◌||◌, ◌++◌, List, [], ◌∷◌, nat_lt, if◌then◌else◌, map, codes}
+use Rattle.std.specs.Prelude.{flat_map, bit_or, Option, find, length}
 use Rattle.std.specs.List.{range_with_len}
 use Rattle.byteorder.specs.Endian.{little_bytes}
 use Rattle.definitions.specs.Bytes.{bytes_at, with_bytes, number_at, with_number, zero_page}

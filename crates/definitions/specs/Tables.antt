@@ -1,5 +1,6 @@
 -- The tables in page frames. Memory is a list of pages, the content of each page frame by its number.
-use Rattle.std.specs.Prelude.{◌≡◌, ◌≢◌, ◌≤◌, ◌<◌, ◌⊎◌, ℕ, ◌+◌, ◌*◌, ◌/◌, ◌%◌, ◌==◌, ◌&&◌, ◌||◌, Bool, not, IsTrue, List, [], ◌∷◌, ◌++◌, length, take, drop, slice_index_or, slice_set, bit_and}
+use Rattle.std.specs.Prelude.{◌≡◌, ◌≢◌, ◌≤◌, ◌<◌, ◌⊎◌, ℕ, ◌+◌, ◌*◌, ◌/◌, ◌%◌, ◌==◌, ◌&&◌, ◌||◌, Bool, not, IsTrue, List}
+use Rattle.std.specs.Prelude.{[], ◌∷◌, ◌++◌, length, take, drop, slice_index_or, slice_set, bit_and}
 use Rattle.definitions.specs.Bytes.{number_at, with_number}
 
 -- the content of page frame p
@@ -40,8 +41,8 @@ unfoldable pub with_entries : List (List ℕ) → ℕ → List ℕ → ℕ → L
 with_entries frames table [] v = frames
 with_entries frames table (k ∷ ks) v = with_entries (with_entry frames table k v) table ks v
 
--- An entry of the frame table: flags in the low 16 bits (struct page's flags, as far as kernel/power/snapshot.c asks for
--- them), the owner in the high 16: 0, or a task from 1 to 64.
+-- An entry of the frame table: flags in the low 16 bits (struct page's flags, as far as kernel/power/snapshot.c asks
+-- for them), the owner in the high 16: 0, or a task from 1 to 64.
 abbrev pub page_flags : ℕ → ℕ
 page_flags entry = entry % 65536
 

@@ -1,7 +1,8 @@
 use thiserror::Error;
 
-/// What an image is tied to: the kernel's version code and the names of `struct new_utsname` (include/uapi/linux/utsname.h),
-/// in the order of the info page: sysname, nodename, release, version, machine, domainname.
+/// What an image is tied to: the kernel's version code and the names of `struct new_utsname`
+/// (include/uapi/linux/utsname.h), in the order of the info page: sysname, nodename, release, version, machine,
+/// domainname.
 #[derive(Clone, Copy, Debug, PartialEq, Eq)]
 pub struct Ident {
     /// LINUX_VERSION_CODE.

@@ -10,8 +10,10 @@ use Rattle.command_core.specs.Resumption.{IsLast}
 use Rattle.command_core.specs.Answers.{EndsInFault}
 use Rattle.command_core.specs.declared.ending.Ended.{Ended}
 
--- The answer over a disk that reads as v: the last reply of a resume's trace, unless a call of the disk has failed. Where that is Resumed,
--- the page frames are those that it would restore.
-pub record Foretells (h : Hardware) (m : Memory) (check : IdentCheck) (v : disk.DiskImage) (frames : Memory) (ended : Ended) : Type 0 where
-  pub answer : (IsLast (trace h m v Table check) ended.reply × (ended.failed ≡ false)) ⊎ (EndsInFault ended.reply × (ended.failed ≡ true))
+-- The answer over a disk that reads as v: the last reply of a resume's trace, unless a call of the disk has failed.
+-- Where that is Resumed, the page frames are those that it would restore.
+pub record Foretells (h : Hardware) (m : Memory) (check : IdentCheck) (v : disk.DiskImage) (frames : Memory)
+    (ended : Ended) : Type 0 where
+  pub answer : (IsLast (trace h m v Table check) ended.reply × (ended.failed ≡ false))
+      ⊎ (EndsInFault ended.reply × (ended.failed ≡ true))
   pub restored : (n : ℕ) → ended.reply ≡ reply.Resumed n → frames ≡ restored_in h m v Table

@@ -15,8 +15,8 @@ use sector_disk::Disk;
 use std::marker::Brand;
 use world_core::World;
 
-/// What a resume of the image on a disk into a new machine, whose dump's memory is the loader's, would answer last. The disk is only
-/// read: what the resume writes stays in memory, and an error says that there was none for a page of it.
+/// What a resume of the image on a disk into a new machine, whose dump's memory is the loader's, would answer last. The
+/// disk is only read: what the resume writes stays in memory, and an error says that there was none for a page of it.
 pub fn would_resume<D: Disk>(
     world: &mut World,
     disk: &mut D,
@@ -24,7 +24,8 @@ pub fn would_resume<D: Disk>(
 ) -> Result<Ended, NoMemory>
     requires hardware { IsHardware (hardware_of world.old) }
     requires new { IsNew (hardware_of world.old) (Some world.old.frames) world.old }
-    ensures resumed { (c : Content) → D.content disk.old ≡ Some c → (Marked (hardware_of world.old) (as_it_reads c) → HasOriginal (hardware_of world.old) (as_it_reads c)) →
+    ensures resumed { (c : Content) → D.content disk.old ≡ Some c →
+        (Marked (hardware_of world.old) (as_it_reads c) → HasOriginal (hardware_of world.old) (as_it_reads c)) →
         IfOk result (Foretells (hardware_of world.old) world.old.frames check (as_it_reads c) world.new.frames) }
     ensures hardware { hardware_of world.new ≡ hardware_of world.old }
 
@@ -51,7 +52,8 @@ fn resume_over<B: ReadOnly + Drop, K: Original>(
     requires hardware { IsHardware (hardware_of world.old) }
     requires new { IsNew (hardware_of world.old) (Some world.old.frames) world.old }
     requires original { B.state below ≡ K.state }
-    ensures resumed { (c : Content) → K.state.content ≡ Some c → (Marked (hardware_of world.old) (as_it_reads c) → HasOriginal (hardware_of world.old) (as_it_reads c)) →
+    ensures resumed { (c : Content) → K.state.content ≡ Some c →
+        (Marked (hardware_of world.old) (as_it_reads c) → HasOriginal (hardware_of world.old) (as_it_reads c)) →
         IfOk result.1 (Foretells (hardware_of world.old) world.old.frames check (as_it_reads c) world.new.frames) }
     ensures hardware { hardware_of world.new ≡ hardware_of world.old }
     ensures cause { IfOk result.1 (λ ended. IsTrue ended.failed → HasRisen K.state.faults (B.state result.0).faults) }

@@ -1,5 +1,5 @@
-//! A dump as a core file of its machine's memory (elf_core), with a segment for each run of page frames that are in use or
-//! hold a byte other than zero.
+//! A dump as a core file of its machine's memory (elf_core), with a segment for each run of page frames that are in use
+//! or hold a byte other than zero.
 #![tactic(auto)]
 
 mod heads;

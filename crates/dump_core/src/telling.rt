@@ -14,8 +14,8 @@ use page_core::{NoMemory, Page};
 use page_states::{PageFlags, entry};
 use std::alloc::Global;
 
-/// The runs of page frames that go into the core file of a dump, ascending: the first page frame of each, and how many it
-/// has.
+/// The runs of page frames that go into the core file of a dump, ascending: the first page frame of each, and how many
+/// it has.
 pub fn told_runs(alloc: Global, dump: &Dump) -> Result<Vec<(u32, u32)>, NoMemory>
     requires { length dump.now.frames ≡ top dump.now.hw.zones }
     ensures { IfOk result (λ runs. runs.items ≡ told_runs dump.now.hw dump.now.frames) }

@@ -52,7 +52,7 @@ agree_with a b p below here q lt = elim (cases_lt q p) [
   | inr ge ↦ let same : p ≡ q = omega arith in subst (AgreeAt a b) same here
 ]
 
--- behind the last one they agree
+-- after the last one they agree
 pub agree_behind : (a b : Dump) (from : ℕ) → b.hw ≡ a.hw → AgreeBelow a b from → ((p : ℕ) → Contains (numbers a.hw.zones) p → p < from) → AgreeEverywhere a b
 agree_behind a b from same below last p = elim (cases_lt p from) [
   | inl low ↦ below p low

@@ -1,4 +1,5 @@
--- How two dumps differ: in their hardware, or in what an image of their memories would save (saveable_page, kernel/power/snapshot.c).
+-- How two dumps differ: in their hardware, or in what an image of their memories would save (saveable_page,
+-- kernel/power/snapshot.c).
 use Rattle.std.specs.Prelude.{◌≡◌, ◌≢◌, ◌<◌, ◌↔◌, ◌⊎◌, ℕ, Contains}
 use Rattle.definitions.specs.Tables.{frame}
 use Rattle.plain_machine.specs.Machine as plain
@@ -44,7 +45,8 @@ IsDifferenceAt a b p Hardware = ⊥
 IsDifferenceAt a b p (Saveable q) = (q ≡ p) × IsOfOneAlone a b p
 IsDifferenceAt a b p (Page q) = (q ≡ p) × HasTwoPages a b p
 
--- Their first difference: the hardware, or else the first page frame, ascending, that is saveable in one alone or has two pages.
+-- Their first difference: the hardware, or else the first page frame, ascending, that is saveable in one alone or has
+-- two pages.
 abbrev pub IsFirst : Dump → Dump → Difference → Type 0
 IsFirst a b Hardware = b.hw ≢ a.hw
 IsFirst a b (Saveable p) = (b.hw ≡ a.hw) × AgreeBelow a b p × IsOfOneAlone a b p

@@ -1,4 +1,5 @@
-//! Where two dumps differ first: in their hardware, in which page frames are saveable, or in a saveable page frame's page.
+//! Where two dumps differ first: in their hardware, in which page frames are saveable, or in a saveable page frame's
+//! page.
 #![tactic(auto)]
 
 mod hardware;
@@ -22,8 +23,8 @@ pub enum Difference {
     Page(u32),
 }
 
-/// The first difference of two dumps: in their hardware, or else at the first page frame, ascending, that tells them apart.
-/// What a page frame holds that isn't saveable is none.
+/// The first difference of two dumps: in their hardware, or else at the first page frame, ascending, that tells them
+/// apart. What a page frame holds that isn't saveable is none.
 pub fn first_difference(first: &Dump, second: &Dump) -> Option<Difference>
     requires first { length first.now.frames ≡ top first.now.hw.zones }
     requires second { length second.now.frames ≡ top second.now.hw.zones }

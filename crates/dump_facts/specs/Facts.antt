@@ -57,19 +57,22 @@ owned_frames h m = owned_by fact.OwnedFrames (λ t. length (frames_of h m (Owned
 abbrev pub owned_slots : Hardware → Memory → List Fact
 owned_slots h m = owned_by fact.OwnedSlots (λ t. length (slots_of h m t)) tasks
 
--- Page frames: those that are saveable or free, and how many must be free for a hibernation (enough_free_mem), and the tasks'.
+-- Page frames: those that are saveable or free, and how many must be free for a hibernation (enough_free_mem), and the
+-- tasks'.
 abbrev pub frame_facts : Hardware → Memory → List Fact
 frame_facts h m =
-    (fact.SaveableFrames (length (saveable h m)) ∷ fact.FreeFrames (length (unused h m)) ∷ fact.NeededFrames (length (saveable h m) + 1025) ∷ [])
+    (fact.SaveableFrames (length (saveable h m)) ∷ fact.FreeFrames (length (unused h m))
+    ∷ fact.NeededFrames (length (saveable h m) + 1025) ∷ [])
     ++ owned_frames h m
 
 -- slots: those that are free or bad, and the tasks'
 abbrev pub slot_facts : Hardware → Memory → List Fact
 slot_facts h m =
-    (fact.FreeSlots (length (unused_slots h m)) ∷ fact.BadSlots (length (slots_of h m bad_slot)) ∷ []) ++ owned_slots h m
+    (fact.FreeSlots (length (unused_slots h m)) ∷ fact.BadSlots (length (slots_of h m bad_slot)) ∷ [])
+    ++ owned_slots h m
 
--- What an image of n page frames takes, d of them with data: the pages of its stream, and how many slots must be free for a
--- hibernation (enough_swap).
+-- What an image of n page frames takes, d of them with data: the pages of its stream, and how many slots must be free
+-- for a hibernation (enough_swap).
 abbrev pub image_facts : Format → ℕ → ℕ → List Fact
 image_facts f n d = fact.Image f n d (d + meta_of n + 1) ∷ fact.NeededSlots f (d + meta_of n + 1 + 1026) ∷ []
 
@@ -79,7 +82,8 @@ facts_of_image f i = fact.Image f (n_of i) (d_of i) (pages_of i) ∷ fact.Needed
 
 unfoldable pub images_facts : Hardware → Memory → List Fact
 images_facts h m =
-    facts_of_image Plain (image_of_memory h m no_slots Plain) ++ facts_of_image SkipZeros (image_of_memory h m no_slots SkipZeros)
+    facts_of_image Plain (image_of_memory h m no_slots Plain)
+    ++ facts_of_image SkipZeros (image_of_memory h m no_slots SkipZeros)
 
 -- all facts
 unfoldable pub facts_of : Hardware → Memory → List Fact

@@ -1,5 +1,5 @@
-//! What a dump says of its machine, as a list of facts: the hardware, who has the page frames and the slots, and what a hibernation
-//! would take.
+//! What a dump says of its machine, as a list of facts: the hardware, who has the page frames and the slots, and what a
+//! hibernation would take.
 #![tactic(auto)]
 
 mod counting;

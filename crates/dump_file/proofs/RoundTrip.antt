@@ -235,7 +235,7 @@ no_table_fault h m hw fits =
     (find-none test h.frame_table (table_len (top h.zones)) (λ i lt. faultless h m (h.frame_table + i) hw fits (inl (of_run h.frame_table (top h.zones) i lt))))
     (find-none test h.slot_table (table_len h.slots) (λ i lt. faultless h m (h.slot_table + i) hw fits (inr (of_run h.slot_table h.slots i lt))))
 
--- Nothing is wrong in the records and behind them.
+-- Nothing is wrong in the records and after them.
 
 contents_back : (h : Hardware) (m : Memory) (text : List ℕ) → IsWritten h m text → contents text (first_record text) (record_count text) (top h.zones) ≡ carried_memory h m
 contents_back h m text w =

@@ -77,7 +77,7 @@ extent_is text first s es i few is all lt =
     let c : number text (at + 8) ≡ e.2 = number_stands text (at + 8) e.2 (omega (arith, fits)) (second_stands text at two (number_bytes e.2) 8 size here) in
     sym (ap (λ (x : ℕ). triple x (number text (at + 4)) (number text (at + 8))) a ∙ ap (λ (y : ℕ). triple e.0 y (number text (at + 8))) b ∙ ap (triple e.0 e.1) c)
 
--- where the parts of a file map stand, behind the zones
+-- where the parts of a file map stand, after the zones
 pub record HasMap (h : Hardware) (text : List ℕ) (k : ℕ) : Type 0 where
   pub offset : StandsAt text k (number_bytes (slot.extent_at h.extents 0).2)
   pub count : StandsAt text (k + 4) (number_bytes (length h.extents))

@@ -1,6 +1,7 @@
--- What is a dump, and the first fault of bytes that are none. Faults are told as they come up in reading: each field is tested
--- when it has been read, a record's page frame number before its content.
-use Rattle.std.specs.Prelude.{ℕ, ◌+◌, ◌-◌, ◌==◌, ◌&&◌, ◌||◌, nat_lt, nat_le, Bool, true, zero, suc, List, [], ◌∷◌, length, map, Option, Some, None, Result, Ok, Err, if◌then◌else◌}
+-- What is a dump, and the first fault of bytes that are none. Faults are told as they come up in reading: each field is
+-- tested when it has been read, a record's page frame number before its content.
+use Rattle.std.specs.Prelude.{ℕ, ◌+◌, ◌-◌, ◌==◌, ◌&&◌, ◌||◌, nat_lt, nat_le, Bool, true, zero, suc, List, [], ◌∷◌}
+use Rattle.std.specs.Prelude.{length, map, Option, Some, None, Result, Ok, Err, if◌then◌else◌}
 use Rattle.std.specs.List.{range_with_len}
 use Rattle.definitions.specs.Slots.{extent_at, slots_of}
 use Rattle.definitions.specs.Zones.{numbers, top}
@@ -10,7 +11,8 @@ use Rattle.plain_machine.specs.Loader.{has}
 use Rattle.machine.specs.HardFault.{is_zone, is_extent, has_tables}
 use Rattle.dump_file.specs.declared.dump.DumpFault.{DumpFault}
 use Rattle.dump_file.specs.declared.dump.DumpKind.{DumpKind}
-use Rattle.dump_file.specs.declared.dump.DumpKind.TheVariants.{Short, Magic, Header, Zone, Extent, Frame, Order, Extra, Tables}
+use Rattle.dump_file.specs.declared.dump.DumpKind.TheVariants.{Short, Magic, Header, Zone, Extent, Frame, Order, Extra}
+use Rattle.dump_file.specs.declared.dump.DumpKind.TheVariants.{Tables}
 use Rattle.dump_file.specs.Fields as at
 
 -- what a dump tells: hardware, and the content of its page frames
@@ -47,11 +49,12 @@ zone_fault bytes j =
 unfoldable pub zones_fault : List ℕ → Option DumpFault
 zones_fault bytes = first_some (map (zone_fault bytes) (range_with_len 0 (at.zone_count bytes)))
 
--- The file map of version 2: 1 to 64 extents; the first that isn't in order, or the last where they don't cover just the slots;
--- the resume offset is the first one's start block.
+-- The file map of version 2: 1 to 64 extents; the first that isn't in order, or the last where they don't cover just
+-- the slots; the resume offset is the first one's start block.
 abbrev pub extent_fault : List ℕ → ℕ → Option DumpFault
 extent_fault bytes i =
-    or_else (wanted bytes (at.extent_byte bytes (i + 1))) (unless (is_extent (at.extents bytes) i) Extent (at.extent_byte bytes i))
+    or_else (wanted bytes (at.extent_byte bytes (i + 1)))
+    (unless (is_extent (at.extents bytes) i) Extent (at.extent_byte bytes i))
 
 abbrev pub extent_count_fault : List ℕ → Option DumpFault
 extent_count_fault bytes =
@@ -65,7 +68,8 @@ cover_fault bytes =
     unless (slots_of (at.extents bytes) == at.slots bytes) Extent (at.extent_byte bytes (at.extent_count bytes - 1))
 
 abbrev pub offset_fault : List ℕ → Option DumpFault
-offset_fault bytes = unless (at.number bytes (at.map_byte bytes) == (extent_at (at.extents bytes) 0).2) Extent (at.map_byte bytes)
+offset_fault bytes =
+    unless (at.number bytes (at.map_byte bytes) == (extent_at (at.extents bytes) 0).2) Extent (at.map_byte bytes)
 
 unfoldable pub map_fault : List ℕ → Option DumpFault
 map_fault bytes =
@@ -98,7 +102,7 @@ abbrev pub frame_before : List ℕ → ℕ → ℕ → Option ℕ
 frame_before bytes first zero = None
 frame_before bytes first (suc j) = Some (at.record_frame bytes first j)
 
--- The record at byte k, behind one of page frame `before`: its page frame is valid and lies above that.
+-- The record at byte k, after one of page frame `before`: its page frame is valid and lies above that.
 unfoldable pub fault_of_record : List (ℕ × ℕ) → List ℕ → Option ℕ → ℕ → Option DumpFault
 fault_of_record zones bytes before k =
     or_else (wanted bytes (k + 4)) (or_else (unless (has (numbers zones) (at.number bytes k)) Frame k)
@@ -120,7 +124,7 @@ abbrev pub table_fault : Option ℕ → Option DumpFault
 table_fault None = None
 table_fault (Some f) = Some (record { kind = Tables; at = f })
 
--- what stands behind the head
+-- what stands after the head
 unfoldable pub body_fault : Hardware → List ℕ → ℕ → ℕ → Option DumpFault
 body_fault h bytes first count =
     or_else (records_fault h.zones bytes first count) (or_else (end_fault bytes (at.record_byte first count))
@@ -128,7 +132,8 @@ body_fault h bytes first count =
 
 -- the first fault
 unfoldable pub dump_fault : List ℕ → Option DumpFault
-dump_fault bytes = or_else (head_fault bytes) (body_fault (at.hardware bytes) bytes (at.first_record bytes) (at.record_count bytes))
+dump_fault bytes =
+    or_else (head_fault bytes) (body_fault (at.hardware bytes) bytes (at.first_record bytes) (at.record_count bytes))
 
 abbrev pub dump_unless : Option DumpFault → List ℕ → Result DumpValue DumpFault
 dump_unless None bytes = Ok (record { hw = at.hardware bytes; memory = at.memory bytes })

@@ -1,5 +1,6 @@
 -- Where a dump has its fields. All numbers have 4 bytes, little-endian.
-use Rattle.std.specs.Prelude.{ℕ, ◌+◌, ◌*◌, ◌==◌, Bool, List, [], ◌∷◌, nat_eq, drop, map, Option, Some, None, if◌then◌else◌}
+use Rattle.std.specs.Prelude.{ℕ, ◌+◌, ◌*◌, ◌==◌, Bool, List, [], ◌∷◌, nat_eq, drop, map, Option, Some, None}
+use Rattle.std.specs.Prelude.{if◌then◌else◌}
 use Rattle.std.specs.List.{starts_with, range_with_len, find}
 use Rattle.definitions.specs.Bytes.{bytes_at, number_at, zero_page}
 use Rattle.definitions.specs.InfoPage.{names_of}
@@ -39,8 +40,8 @@ zone bytes j = (number bytes (zone_byte j), number bytes (zone_byte j + 4))
 abbrev pub zones : List ℕ → List (ℕ × ℕ)
 zones bytes = map (zone bytes) (range_with_len 0 (zone_count bytes))
 
--- Behind the zones, in version 2 alone: the resume offset, the number of extents, and the extents, 12 bytes each: start page,
--- length, start block.
+-- Behind the zones, in version 2 alone: the resume offset, the number of extents, and the extents, 12 bytes each: start
+-- page, length, start block.
 abbrev pub map_byte : List ℕ → ℕ
 map_byte bytes = zone_byte (zone_count bytes)
 
@@ -55,12 +56,14 @@ extent_byte bytes i = first_extent bytes + 12 * i
 
 -- extent i of those that begin at byte `first`
 abbrev pub extent_at : List ℕ → ℕ → ℕ → ℕ × ℕ × ℕ
-extent_at bytes first i = (number bytes (first + 12 * i), number bytes (first + 12 * i + 4), number bytes (first + 12 * i + 8))
+extent_at bytes first i =
+    (number bytes (first + 12 * i), number bytes (first + 12 * i + 4), number bytes (first + 12 * i + 8))
 
 -- version 1 is read as the one extent that lays each slot on the block of its number
 abbrev pub extents : List ℕ → List (ℕ × ℕ × ℕ)
 extents bytes =
-    if is_second bytes then map (extent_at bytes (first_extent bytes)) (range_with_len 0 (extent_count bytes)) else ((0, slots bytes, 0) ∷ [])
+    if is_second bytes then map (extent_at bytes (first_extent bytes)) (range_with_len 0 (extent_count bytes))
+    else ((0, slots bytes, 0) ∷ [])
 
 -- a dump has no regions
 unfoldable pub hardware : List ℕ → Hardware

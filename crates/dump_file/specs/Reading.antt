@@ -1,5 +1,6 @@
 -- How far a source has been read.
-use Rattle.std.specs.Prelude.{◌≡◌, ℕ, ◌+◌, ◌<◌, ◌≤◌, not, nat_lt, Bool, true, false, List, length, drop, Option, Some, None, if◌then◌else◌}
+use Rattle.std.specs.Prelude.{◌≡◌, ℕ, ◌+◌, ◌<◌, ◌≤◌, not, nat_lt, Bool, true, false, List, length, drop, Option, Some}
+use Rattle.std.specs.Prelude.{None, if◌then◌else◌}
 use Rattle.definitions.specs.Streams.{HandsOut}
 use Rattle.plain_machine.specs.Machine.{Hardware}
 use Rattle.zones.specs.declared.fault.ZoneFault.{ZoneFault}
@@ -16,8 +17,8 @@ pub record IsReadTo (bytes : List ℕ) (k : ℕ) (left : Option (List ℕ)) : Ty
   pub within : k ≤ length bytes
   pub rest : left ≡ Some (drop k bytes)
 
--- How many bytes stand before the records, as far as the front of a dump tells: the 424 that each dump has; the zones, at most 16;
--- in version 2 two numbers, and the extents, at most 64; and the number of records.
+-- How many bytes stand before the records, as far as the front of a dump tells: the 424 that each dump has; the zones,
+-- at most 16; in version 2 two numbers, and the extents, at most 64; and the number of records.
 unfoldable pub head_len : List ℕ → ℕ
 head_len bytes =
     if nat_lt (length bytes) 424 then 424
@@ -41,7 +42,8 @@ pub record IsFirstNot (test : ℕ → Bool) (n at : ℕ) : Type 0 where
   pub not_there : test at ≡ false
   pub before : (j : ℕ) → j < at → test j ≡ true
 
--- these bytes have no fault before their records, and say so of the machine, where the records begin, and how many there are
+-- these bytes have no fault before their records, and say so of the machine, where the records begin, and how many
+-- there are
 pub record IsHeader (bytes : List ℕ) (hw : Hardware) (first count : ℕ) : Type 0 where
   pub no_fault : head_fault bytes ≡ None
   pub hw_is : hw ≡ at.hardware bytes

@@ -1,5 +1,6 @@
 -- The one dump that is written of a machine without regions. Numbers have 4 bytes, little-endian.
-use Rattle.std.specs.Prelude.{ℕ, Bool, false, not, ◌==◌, ◌&&◌, List, [], ◌∷◌, ◌++◌, length, filter, codes, if◌then◌else◌}
+use Rattle.std.specs.Prelude.{ℕ, Bool, false, not, ◌==◌, ◌&&◌, List, [], ◌∷◌, ◌++◌, length, filter, codes}
+use Rattle.std.specs.Prelude.{if◌then◌else◌}
 use Rattle.std.specs.List.{concat, flat_map}
 use Rattle.byteorder.specs.Endian.{little_bytes}
 use Rattle.definitions.specs.Slots.{extent_at}
@@ -12,7 +13,8 @@ use Rattle.plain_machine.specs.Machine.{Hardware, Memory}
 unfoldable pub number_bytes : ℕ → List ℕ
 number_bytes n = little_bytes 4 n
 
--- The file map is the one extent that lays each slot on the block of its number: such a machine has a dump of version 1.
+-- The file map is the one extent that lays each slot on the block of its number: such a machine has a dump of version
+-- 1.
 abbrev pub is_plain_map : List (ℕ × ℕ × ℕ) → ℕ → Bool
 is_plain_map [] slots = false
 is_plain_map (e ∷ []) slots = (e.0 == 0) && (e.1 == slots) && (e.2 == 0)
@@ -36,7 +38,8 @@ zone_bytes zone = number_bytes zone.0 ++ number_bytes zone.1
 abbrev pub extent_bytes : ℕ × ℕ × ℕ → List ℕ
 extent_bytes e = number_bytes e.0 ++ number_bytes e.1 ++ number_bytes e.2
 
--- a file map, as version 2 has it behind the zones: the resume offset, which is the first extent's start block, and the extents
+-- a file map, as version 2 has it after the zones: the resume offset, which is the first extent's start block, and the
+-- extents
 abbrev pub map_bytes : List (ℕ × ℕ × ℕ) → List ℕ
 map_bytes extents =
     number_bytes (extent_at extents 0).2 ++ number_bytes (length extents) ++ flat_map extent_bytes extents
@@ -45,7 +48,8 @@ map_bytes extents =
 unfoldable pub front_bytes : Hardware → List ℕ
 front_bytes h =
     (if is_plain h then first_mark else second_mark)
-    ++ number_bytes h.ident.version_code ++ number_bytes h.slots ++ number_bytes h.frame_table ++ number_bytes h.slot_table
+    ++ number_bytes h.ident.version_code ++ number_bytes h.slots ++ number_bytes h.frame_table
+    ++ number_bytes h.slot_table
     ++ number_bytes h.hw_sig ++ number_bytes (length h.zones) ++ concat h.ident.names ++ (0 ∷ 0 ∷ [])
 
 -- the zones, and in version 2 the file map

@@ -18,10 +18,14 @@ pub(crate) fn take_exact<S: Source>(
 ) -> Result<(), DumpStop>
     requires early { at ≤ 2 ^ 48 }
     requires small { length piece.old ≤ 4096 }
-    ensures short { (bytes : List ℕ) (f : DumpFault) → IsReadTo bytes at (S.remaining source.old) → result ≡ Err (DumpStop.Fault f) → wanted bytes (at + length piece.old) ≡ Some f }
-    ensures whole { (bytes : List ℕ) → IsReadTo bytes at (S.remaining source.old) → IsOk result → wanted bytes (at + length piece.old) ≡ None }
-    ensures piece { (bytes : List ℕ) → IsReadTo bytes at (S.remaining source.old) → IsOk result → piece.new ≡ bytes_at (length piece.old) bytes at }
-    ensures left { (bytes : List ℕ) → IsReadTo bytes at (S.remaining source.old) → IsOk result → IsReadTo bytes (at + length piece.old) (S.remaining source.new) }
+    ensures short { (bytes : List ℕ) (f : DumpFault) → IsReadTo bytes at (S.remaining source.old) →
+        result ≡ Err (DumpStop.Fault f) → wanted bytes (at + length piece.old) ≡ Some f }
+    ensures whole { (bytes : List ℕ) → IsReadTo bytes at (S.remaining source.old) → IsOk result →
+        wanted bytes (at + length piece.old) ≡ None }
+    ensures piece { (bytes : List ℕ) → IsReadTo bytes at (S.remaining source.old) → IsOk result →
+        piece.new ≡ bytes_at (length piece.old) bytes at }
+    ensures left { (bytes : List ℕ) → IsReadTo bytes at (S.remaining source.old) → IsOk result →
+        IsReadTo bytes (at + length piece.old) (S.remaining source.new) }
     ensures counted { S.faults source.old ≤ S.faults source.new }
     ensures cause { result ≡ Err DumpStop.SourceFault → HasRisen (S.faults source.old) (S.faults source.new) }
     ensures memory { result ≡ Err DumpStop.NoMemory → ⊥ }
@@ -36,10 +40,14 @@ pub(crate) fn take_exact<S: Source>(
 /// Reads the number at byte `at`.
 pub(crate) fn read_number<S: Source>(source: &mut S, at: u64) -> Result<u32, DumpStop>
     requires { at ≤ 2 ^ 48 }
-    ensures short { (bytes : List ℕ) (f : DumpFault) → IsReadTo bytes at (S.remaining source.old) → result ≡ Err (DumpStop.Fault f) → wanted bytes (at + 4) ≡ Some f }
-    ensures whole { (bytes : List ℕ) → IsReadTo bytes at (S.remaining source.old) → IsOk result → wanted bytes (at + 4) ≡ None }
-    ensures number { IfOk result (λ n. (bytes : List ℕ) → IsReadTo bytes at (S.remaining source.old) → n ≡ number bytes at) }
-    ensures left { (bytes : List ℕ) → IsReadTo bytes at (S.remaining source.old) → IsOk result → IsReadTo bytes (at + 4) (S.remaining source.new) }
+    ensures short { (bytes : List ℕ) (f : DumpFault) → IsReadTo bytes at (S.remaining source.old) →
+        result ≡ Err (DumpStop.Fault f) → wanted bytes (at + 4) ≡ Some f }
+    ensures whole { (bytes : List ℕ) → IsReadTo bytes at (S.remaining source.old) → IsOk result →
+        wanted bytes (at + 4) ≡ None }
+    ensures number { IfOk result (λ n. (bytes : List ℕ) → IsReadTo bytes at (S.remaining source.old) →
+        n ≡ number bytes at) }
+    ensures left { (bytes : List ℕ) → IsReadTo bytes at (S.remaining source.old) → IsOk result →
+        IsReadTo bytes (at + 4) (S.remaining source.new) }
     ensures counted { S.faults source.old ≤ S.faults source.new }
     ensures cause { result ≡ Err DumpStop.SourceFault → HasRisen (S.faults source.old) (S.faults source.new) }
     ensures memory { result ≡ Err DumpStop.NoMemory → ⊥ }

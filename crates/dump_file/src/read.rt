@@ -1,4 +1,5 @@
-ghost use Rattle.std.specs.Prelude.{◌≡◌, ◌≢◌, ℕ, ◌≤◌, List, [], Some, None, Ok, Err, length, nat_le, IsTrue, IsOk, IfOk};
+ghost use Rattle.std.specs.Prelude.{◌≡◌, ◌≢◌, ℕ, ◌≤◌, List, [], Some, None, Ok, Err, length, nat_le, IsTrue, IsOk};
+ghost use Rattle.std.specs.Prelude.{IfOk};
 ghost use Rattle.definitions.specs.Disk.{HasRisen};
 ghost use Rattle.definitions.specs.Streams.{IsUsedUp};
 ghost use Rattle.definitions.specs.Zones.{top};
@@ -20,12 +21,15 @@ use std::alloc::Global;
 
 /// Reads a dump to its end. A fault is the first one, where several could be named.
 pub fn read_dump<S: Source>(alloc: Global, source: &mut S) -> Result<Dump, DumpStop>
-    ensures dump { IfOk result (λ d. (bytes : List ℕ) → S.remaining source.old ≡ Some bytes → dump_of bytes ≡ Ok (record { hw = d.hw; memory = d.frames })) }
+    ensures dump { IfOk result (λ d. (bytes : List ℕ) → S.remaining source.old ≡ Some bytes →
+        dump_of bytes ≡ Ok (record { hw = d.hw; memory = d.frames })) }
     ensures end { IsOk result → IsUsedUp (S.remaining source.new) }
-    ensures fault { (bytes : List ℕ) (f : DumpFault) → S.remaining source.old ≡ Some bytes → result ≡ Err (DumpStop.Fault f) → dump_of bytes ≡ Err f }
+    ensures fault { (bytes : List ℕ) (f : DumpFault) → S.remaining source.old ≡ Some bytes →
+        result ≡ Err (DumpStop.Fault f) → dump_of bytes ≡ Err f }
     ensures fits { IfOk result (λ d. Fits d.hw d.frames) }
     ensures no_region { IfOk result (λ d. d.hw.regions ≡ []) }
-    ensures memory { (bytes : List ℕ) → S.remaining source.old ≡ Some bytes → result ≡ Err DumpStop.NoMemory → head_fault bytes ≡ None }
+    ensures memory { (bytes : List ℕ) → S.remaining source.old ≡ Some bytes → result ≡ Err DumpStop.NoMemory →
+        head_fault bytes ≡ None }
     ensures counted { S.faults source.old ≤ S.faults source.new }
     ensures cause { result ≡ Err DumpStop.SourceFault → HasRisen (S.faults source.old) (S.faults source.new) }
 {
@@ -42,9 +46,12 @@ pub fn read_dump<S: Source>(alloc: Global, source: &mut S) -> Result<Dump, DumpS
 
 /// Reads what stands before the records.
 fn read_header<S: Source>(source: &mut S) -> Result<Header, DumpStop>
-    ensures fault { (bytes : List ℕ) (f : DumpFault) → S.remaining source.old ≡ Some bytes → result ≡ Err (DumpStop.Fault f) → head_fault bytes ≡ Some f }
-    ensures header { IfOk result (λ h. (bytes : List ℕ) → S.remaining source.old ≡ Some bytes → IsHeader bytes h.hw h.first h.count) }
-    ensures left { IfOk result (λ h. (bytes : List ℕ) → S.remaining source.old ≡ Some bytes → IsReadTo bytes h.first (S.remaining source.new)) }
+    ensures fault { (bytes : List ℕ) (f : DumpFault) → S.remaining source.old ≡ Some bytes →
+        result ≡ Err (DumpStop.Fault f) → head_fault bytes ≡ Some f }
+    ensures header { IfOk result (λ h. (bytes : List ℕ) → S.remaining source.old ≡ Some bytes →
+        IsHeader bytes h.hw h.first h.count) }
+    ensures left { IfOk result (λ h. (bytes : List ℕ) → S.remaining source.old ≡ Some bytes →
+        IsReadTo bytes h.first (S.remaining source.new)) }
     ensures early { IfOk result (λ h. h.first ≤ 1332) }
     ensures no_region { IfOk result (λ h. h.hw.regions ≡ []) }
     ensures memory { result ≢ Err DumpStop.NoMemory }
@@ -71,9 +78,15 @@ fn read_body<S: Source>(
 ) -> Result<(), DumpStop>
     requires size { length frames.old ≡ top header.now.hw.zones }
     requires early { header.now.first ≤ 1332 }
-    ensures fault { (bytes : List ℕ) (f : DumpFault) → IsReadTo bytes header.now.first (S.remaining source.old) → frames.old ≡ contents bytes header.now.first 0 (top header.now.hw.zones) → result ≡ Err (DumpStop.Fault f) → body_fault header.now.hw bytes header.now.first header.now.count ≡ Some f }
-    ensures none { (bytes : List ℕ) → IsReadTo bytes header.now.first (S.remaining source.old) → frames.old ≡ contents bytes header.now.first 0 (top header.now.hw.zones) → IsOk result → body_fault header.now.hw bytes header.now.first header.now.count ≡ None }
-    ensures frames { (bytes : List ℕ) → IsReadTo bytes header.now.first (S.remaining source.old) → frames.old ≡ contents bytes header.now.first 0 (top header.now.hw.zones) → IsOk result → frames.new ≡ contents bytes header.now.first header.now.count (top header.now.hw.zones) }
+    ensures fault { (bytes : List ℕ) (f : DumpFault) → IsReadTo bytes header.now.first (S.remaining source.old) →
+        frames.old ≡ contents bytes header.now.first 0 (top header.now.hw.zones) → result ≡ Err (DumpStop.Fault f) →
+        body_fault header.now.hw bytes header.now.first header.now.count ≡ Some f }
+    ensures none { (bytes : List ℕ) → IsReadTo bytes header.now.first (S.remaining source.old) →
+        frames.old ≡ contents bytes header.now.first 0 (top header.now.hw.zones) → IsOk result →
+        body_fault header.now.hw bytes header.now.first header.now.count ≡ None }
+    ensures frames { (bytes : List ℕ) → IsReadTo bytes header.now.first (S.remaining source.old) →
+        frames.old ≡ contents bytes header.now.first 0 (top header.now.hw.zones) → IsOk result →
+        frames.new ≡ contents bytes header.now.first header.now.count (top header.now.hw.zones) }
     ensures end { IsOk result → IsUsedUp (S.remaining source.new) }
     ensures fits { IsOk result → Fits header.now.hw frames.new }
     ensures counted { S.faults source.old ≤ S.faults source.new }
@@ -94,7 +107,8 @@ fn read_body<S: Source>(
 /// Whether no byte is left. Takes one where there is one.
 fn is_over<S: Source>(source: &mut S) -> Result<bool, DumpStop>
     ensures over { IfOk result (λ over. IsTrue over → IsUsedUp (S.remaining source.new)) }
-    ensures at { IfOk result (λ over. (bytes : List ℕ) (k : ℕ) → IsReadTo bytes k (S.remaining source.old) → over ≡ nat_le (length bytes) k) }
+    ensures at { IfOk result (λ over. (bytes : List ℕ) (k : ℕ) → IsReadTo bytes k (S.remaining source.old) →
+        over ≡ nat_le (length bytes) k) }
     ensures no_fault { (f : DumpFault) → result ≢ Err (DumpStop.Fault f) }
     ensures memory { result ≢ Err DumpStop.NoMemory }
     ensures counted { S.faults source.old ≤ S.faults source.new }

@@ -1,4 +1,5 @@
-ghost use Rattle.std.specs.Prelude.{◌≡◌, ℕ, ◌+◌, ◌*◌, ◌^◌, ◌<◌, ◌≤◌, ◌↔◌, List, Some, None, Err, IsOk, length, IsTrue, IfOk, IfSome};
+ghost use Rattle.std.specs.Prelude.{◌≡◌, ℕ, ◌+◌, ◌*◌, ◌^◌, ◌<◌, ◌≤◌, ◌↔◌, List, Some, None, Err, IsOk, length, IsTrue};
+ghost use Rattle.std.specs.Prelude.{IfOk, IfSome};
 ghost use Rattle.std.specs.List.{Contains};
 ghost use Rattle.definitions.specs.Bytes.{bytes_at, zero_page};
 ghost use Rattle.definitions.specs.Disk.{HasRisen};
@@ -28,10 +29,15 @@ pub(crate) fn read_records<S: Source>(
 ) -> Result<(), DumpStop>
     requires size { length frames.old ≡ top zones.now }
     requires early { first ≤ 2 ^ 32 }
-    ensures fault { (bytes : List ℕ) (f : DumpFault) → IsReadTo bytes first (S.remaining source.old) → result ≡ Err (DumpStop.Fault f) → records_fault zones.now bytes first count ≡ Some f }
-    ensures none { (bytes : List ℕ) → IsReadTo bytes first (S.remaining source.old) → IsOk result → records_fault zones.now bytes first count ≡ None }
-    ensures left { (bytes : List ℕ) → IsReadTo bytes first (S.remaining source.old) → IsOk result → IsReadTo bytes (record_byte first count) (S.remaining source.new) }
-    ensures frames { (bytes : List ℕ) → IsReadTo bytes first (S.remaining source.old) → frames.old ≡ contents bytes first 0 (top zones.now) → IsOk result → frames.new ≡ contents bytes first count (top zones.now) }
+    ensures fault { (bytes : List ℕ) (f : DumpFault) → IsReadTo bytes first (S.remaining source.old) →
+        result ≡ Err (DumpStop.Fault f) → records_fault zones.now bytes first count ≡ Some f }
+    ensures none { (bytes : List ℕ) → IsReadTo bytes first (S.remaining source.old) → IsOk result →
+        records_fault zones.now bytes first count ≡ None }
+    ensures left { (bytes : List ℕ) → IsReadTo bytes first (S.remaining source.old) → IsOk result →
+        IsReadTo bytes (record_byte first count) (S.remaining source.new) }
+    ensures frames { (bytes : List ℕ) → IsReadTo bytes first (S.remaining source.old) →
+        frames.old ≡ contents bytes first 0 (top zones.now) → IsOk result →
+        frames.new ≡ contents bytes first count (top zones.now) }
     ensures size { length frames.new ≡ length frames.old }
     ensures counted { S.faults source.old ≤ S.faults source.new }
     ensures cause { result ≡ Err DumpStop.SourceFault → HasRisen (S.faults source.old) (S.faults source.new) }
@@ -57,12 +63,17 @@ fn read_record<S: Source>(
 ) -> Result<u32, DumpStop>
     requires size { length frames.old ≡ top zones.now }
     requires early { at ≤ 2 ^ 47 }
-    ensures fault { (bytes : List ℕ) (f : DumpFault) → IsReadTo bytes at (S.remaining source.old) → result ≡ Err (DumpStop.Fault f) → fault_of_record zones.now bytes before at ≡ Some f }
-    ensures none { (bytes : List ℕ) → IsReadTo bytes at (S.remaining source.old) → IsOk result → fault_of_record zones.now bytes before at ≡ None }
-    ensures frame { IfOk result (λ p. (bytes : List ℕ) → IsReadTo bytes at (S.remaining source.old) → p ≡ number bytes at) }
+    ensures fault { (bytes : List ℕ) (f : DumpFault) → IsReadTo bytes at (S.remaining source.old) →
+        result ≡ Err (DumpStop.Fault f) → fault_of_record zones.now bytes before at ≡ Some f }
+    ensures none { (bytes : List ℕ) → IsReadTo bytes at (S.remaining source.old) → IsOk result →
+        fault_of_record zones.now bytes before at ≡ None }
+    ensures frame { IfOk result (λ p. (bytes : List ℕ) → IsReadTo bytes at (S.remaining source.old) →
+        p ≡ number bytes at) }
     ensures within { IfOk result (λ p. p < length frames.old) }
-    ensures frames { IfOk result (λ p. (bytes : List ℕ) → IsReadTo bytes at (S.remaining source.old) → frames.new ≡ with_frame frames.old p (bytes_at 4096 bytes (at + 4))) }
-    ensures left { (bytes : List ℕ) → IsReadTo bytes at (S.remaining source.old) → IsOk result → IsReadTo bytes (at + 4100) (S.remaining source.new) }
+    ensures frames { IfOk result (λ p. (bytes : List ℕ) → IsReadTo bytes at (S.remaining source.old) →
+        frames.new ≡ with_frame frames.old p (bytes_at 4096 bytes (at + 4))) }
+    ensures left { (bytes : List ℕ) → IsReadTo bytes at (S.remaining source.old) → IsOk result →
+        IsReadTo bytes (at + 4100) (S.remaining source.new) }
     ensures size { length frames.new ≡ length frames.old }
     ensures counted { S.faults source.old ≤ S.faults source.new }
     ensures cause { result ≡ Err DumpStop.SourceFault → HasRisen (S.faults source.old) (S.faults source.new) }

@@ -1,4 +1,5 @@
-ghost use Rattle.std.specs.Prelude.{◌≡◌, ℕ, ◌+◌, ◌*◌, ◌<◌, ◌≤◌, not, IsTrue, ◌↔◌, List, [], ◌++◌, length, filter, IsOk, OnOk, OnErr, Some, if◌then◌else◌, All};
+ghost use Rattle.std.specs.Prelude.{◌≡◌, ℕ, ◌+◌, ◌*◌, ◌<◌, ◌≤◌, not, IsTrue, ◌↔◌, List, [], ◌++◌, length, filter, IsOk};
+ghost use Rattle.std.specs.Prelude.{OnOk, OnErr, Some, if◌then◌else◌, All};
 ghost use Rattle.std.specs.List.{flat_map, concat, range_with_len};
 ghost use Rattle.definitions.specs.Bytes.{IsPage, zero_page};
 ghost use Rattle.definitions.specs.Disk.{HasRisen};
@@ -8,7 +9,8 @@ ghost use Rattle.definitions.specs.Zones.{numbers, top};
 ghost use Rattle.plain_machine.specs.Image.{is_zeros};
 ghost use Rattle.plain_machine.specs.Machine.{Fits, IsHardware};
 ghost use Rattle.dump_file.specs.ReadBack.{ReadsBack};
-ghost use Rattle.dump_file.specs.Written.{dump_bytes, extent_bytes, front_bytes, head_bytes, is_plain, layout_bytes, map_bytes, nonzero, record_bytes, records_bytes, zone_bytes};
+ghost use Rattle.dump_file.specs.Written.{dump_bytes, extent_bytes, front_bytes, head_bytes, is_plain, layout_bytes};
+ghost use Rattle.dump_file.specs.Written.{map_bytes, nonzero, record_bytes, records_bytes, zone_bytes};
 
 use crate::head::Head;
 use crate::put::put_number;
@@ -18,16 +20,18 @@ use machine::Hardware;
 use page_core::{Failed, Page};
 use zones::Zones;
 
-/// Writes the dump of a machine: its hardware without its regions, and a record for each valid page frame that isn't all zero.
-/// Nothing is flushed.
+/// Writes the dump of a machine: its hardware without its regions, and a record for each valid page frame that isn't
+/// all zero. Nothing is flushed.
 #[tactic(auto, unfolding(crate::specs::Written::dump_bytes))]
 pub fn write_dump<K: Sink>(sink: &mut K, hw: &Hardware, frames: &Frames) -> Result<(), Failed>
     requires frames { length frames.now ≡ top hw.now.zones }
     ensures whole { OnOk result (TakesAll (dump_bytes hw.now frames.now) (K.taken sink.old) (K.taken sink.new)) }
     ensures front { TakesFront (dump_bytes hw.now frames.now) (K.taken sink.old) (K.taken sink.new) }
 
-    // What a sink takes that was empty is a dump of this machine, where that has no regions and its tables are well formed.
-    ensures reads_back { (bytes : List ℕ) → hw.now.regions ≡ [] → Fits hw.now frames.now → K.taken sink.old ≡ Some [] → K.taken sink.new ≡ Some bytes → IsOk result → ReadsBack hw.now frames.now bytes }
+    // What a sink takes that was empty is a dump of this machine, where that has no regions and its tables are well
+    // formed.
+    ensures reads_back { (bytes : List ℕ) → hw.now.regions ≡ [] → Fits hw.now frames.now → K.taken sink.old ≡ Some [] →
+        K.taken sink.new ≡ Some bytes → IsOk result → ReadsBack hw.now frames.now bytes }
 
     ensures counted { K.faults sink.old ≤ K.faults sink.new }
     ensures cause { OnErr result (HasRisen (K.faults sink.old) (K.faults sink.new)) }
@@ -185,7 +189,8 @@ fn count_records_of_zone(frames: &Frames, start: u32, count: u32) -> u32
 /// Writes the records, in ascending order of their page frames.
 fn put_records<K: Sink>(sink: &mut K, frames: &Frames, zones: &Zones) -> Result<(), Failed>
     requires { length frames.now ≡ top zones.now }
-    ensures whole { OnOk result (TakesAll (records_bytes frames.now (numbers zones.now)) (K.taken sink.old) (K.taken sink.new)) }
+    ensures whole { OnOk result (TakesAll (records_bytes frames.now (numbers zones.now)) (K.taken sink.old)
+        (K.taken sink.new)) }
     ensures front { TakesFront (records_bytes frames.now (numbers zones.now)) (K.taken sink.old) (K.taken sink.new) }
     ensures counted { K.faults sink.old ≤ K.faults sink.new }
     ensures cause { OnErr result (HasRisen (K.faults sink.old) (K.faults sink.new)) }
@@ -205,8 +210,10 @@ fn put_records_of_zone<K: Sink>(
 ) -> Result<(), Failed>
     requires within { start + count ≤ length frames.now }
     requires few { start + count ≤ 65536 }
-    ensures whole { OnOk result (TakesAll (records_bytes frames.now (range_with_len start count)) (K.taken sink.old) (K.taken sink.new)) }
-    ensures front { TakesFront (records_bytes frames.now (range_with_len start count)) (K.taken sink.old) (K.taken sink.new) }
+    ensures whole { OnOk result (TakesAll (records_bytes frames.now (range_with_len start count)) (K.taken sink.old)
+        (K.taken sink.new)) }
+    ensures front { TakesFront (records_bytes frames.now (range_with_len start count)) (K.taken sink.old)
+        (K.taken sink.new) }
     ensures counted { K.faults sink.old ≤ K.faults sink.new }
     ensures cause { OnErr result (HasRisen (K.faults sink.old) (K.faults sink.new)) }
 {

@@ -42,8 +42,8 @@ pub fn put_name(line: &mut Line, name: Name, bytes: &[u8; 65])
     put_text(line, name.key(), bytes);
 }
 
-/// Writes a key into an empty buffer, and a text after it up to its first zero byte: as it is, or by the hexadecimal digits of its bytes
-/// where a byte isn't printable.
+/// Writes a key into an empty buffer, and a text after it up to its first zero byte: as it is, or by the hexadecimal
+/// digits of its bytes where a byte isn't printable.
 pub fn put_text(line: &mut Line, key: &[u8], bytes: &[u8])
     requires empty { length line.old ≡ 0 }
     requires short { length key.now ≤ 20 }

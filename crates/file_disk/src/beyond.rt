@@ -7,12 +7,13 @@ use page_core::Page;
 use sector_disk::Disk;
 use sig_header::AreaKind;
 
-/// The block of the first map that the header block of an image names, where the disk ends before it. So it is where a swap file is
-/// given in place of the device that it lies in: the header is the file's first block, and the maps name blocks of the device. A
-/// header block that can't be read names none.
+/// The block of the first map that the header block of an image names, where the disk ends before it. So it is where a
+/// swap file is given in place of the device that it lies in: the header is the file's first block, and the maps name
+/// blocks of the device. A header block that can't be read names none.
 pub fn first_map_beyond<D: Disk>(disk: &mut D) -> Option<u64>
     ensures beyond { 0 < D.block_count disk.old → IfSome (D.content disk.old) (λ held.
-        (result ≡ map_beyond (D.block_count disk.old) (area_kind (block (as_it_reads held) 0))) ⊎ HasRisen (D.faults disk.old) (D.faults disk.new)) }
+        (result ≡ map_beyond (D.block_count disk.old) (area_kind (block (as_it_reads held) 0)))
+        ⊎ HasRisen (D.faults disk.old) (D.faults disk.new)) }
     ensures names_beyond { IfSome result (λ first. D.block_count disk.old ≤ first) }
     ensures unread { D.block_count disk.old ≡ 0 → result ≡ None }
     ensures content { D.content disk.new ≡ D.content disk.old }

@@ -44,8 +44,8 @@ pub(crate) enum Access {
 }
 
 impl FileDisk<File> {
-    /// Opens a file or a block device for reading and writing, and locks it. One that somebody else has locked is refused, and so is
-    /// one that the kernel uses.
+    /// Opens a file or a block device for reading and writing, and locks it. One that somebody else has locked is
+    /// refused, and so is one that the kernel uses.
     ///
     /// What is neither a file nor a block device is refused before it is opened, since to open a FIFO is to wait.
     pub fn open<R: Files<File = File> + Alloc + Clone + Drop>(
@@ -64,8 +64,8 @@ impl FileDisk<File> {
         FileDisk::over(file, &found, Access::ReadAndWrite)
     }
 
-    /// Opens a file or a block device for reading alone: each write fails. One that somebody else has locked for himself alone is
-    /// refused, and so is, before it is opened, what is neither a file nor a block device.
+    /// Opens a file or a block device for reading alone: each write fails. One that somebody else has locked for
+    /// himself alone is refused, and so is, before it is opened, what is neither a file nor a block device.
     pub fn open_read_only<R: Files<File = File>>(rt: &R, path: &str) -> io::Result<FileDisk<File>>
         ensures new { IfOk result IsNew }
         ensures no_stream { IfOk result (λ disk. IsNoStream (file_raw_fd disk.file)) }
@@ -78,8 +78,8 @@ impl FileDisk<File> {
 }
 
 impl<F: FileExt + Seek + OpenFile + AsRawFd + Drop> FileDisk<F> {
-    /// A disk over an open file, which must be the one that was found at its path, and no standard stream: what the program prints
-    /// must not reach the disk. Of a device the system tells the length at its end alone.
+    /// A disk over an open file, which must be the one that was found at its path, and no standard stream: what the
+    /// program prints must not reach the disk. Of a device the system tells the length at its end alone.
     pub(crate) fn over(mut file: F, found: &Metadata, access: Access) -> io::Result<FileDisk<F>>
         ensures new { IfOk result IsNew }
         ensures no_stream { IfOk result (λ disk. IfSome (F.raw_fd disk.file) IsNoStream) }
@@ -104,10 +104,11 @@ impl<F: FileExt + Seek + OpenFile + AsRawFd + Drop> FileDisk<F> {
         })
     }
 
-    /// Reads a block. The first one of a disk that may be written is written back where it is a header block, and synced.
+    /// Reads a block. The first one of a disk that may be written is written back where it is a header block, and
+    /// synced.
     ///
-    /// After a sync that failed, Linux takes what it has in memory for what the disk has, and hands it out. So what a command rests
-    /// on, whether an image is there, is brought to the disk before the command does anything.
+    /// After a sync that failed, Linux takes what it has in memory for what the disk has, and hands it out. So what a
+    /// command rests on, whether an image is there, is brought to the disk before the command does anything.
     fn read_block(&mut self, b: u32, into: &mut [u8; 4096]) -> io::Result<()>
         ensures calls { self.new.calls ≡ self.old.calls }
         ensures faults { self.new.faults ≡ self.old.faults }

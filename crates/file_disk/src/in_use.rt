@@ -1,5 +1,5 @@
-//! Whether the kernel uses a file or a block device. The library can't open a device for its own alone, so the kernel is asked: /proc
-//! tells its mounts and swap areas, and /sys which device holds another (device mapper, RAID).
+//! Whether the kernel uses a file or a block device. The library can't open a device for its own alone, so the kernel
+//! is asked: /proc tells its mounts and swap areas, and /sys which device holds another (device mapper, RAID).
 use std::alloc::{AllocError, Allocator};
 use std::fs::{self, Metadata};
 use std::io::{self, ErrorKind};
@@ -14,7 +14,8 @@ pub(crate) struct Device {
 }
 
 impl Device {
-    /// The device of an inode, in Linux' encoding of 64 bits (`new_encode_dev`, include/linux/kdev_t.h, and glibc's `makedev`).
+    /// The device of an inode, in Linux' encoding of 64 bits (`new_encode_dev`, include/linux/kdev_t.h, and glibc's
+    /// `makedev`).
     pub(crate) fn of(number: u64) -> Device {
         Device {
             major: ((number >> 8) & 0xfff) as u32 | ((number >> 32) & 0xffff_f000) as u32,
@@ -32,8 +33,8 @@ impl Device {
     }
 }
 
-/// What a line of /proc/self/mountinfo tells of the mounted device: the number of the file system, which for some kinds is
-/// none of a device, and the source, which for some kinds is no path.
+/// What a line of /proc/self/mountinfo tells of the mounted device: the number of the file system, which for some kinds
+/// is none of a device, and the source, which for some kinds is no path.
 pub(crate) fn mounted(line: &str) -> Option<(Device, &str)> {
     let (places, file_system) = line.split_once(" - ")?;
     let number = Device::parse(places.split_ascii_whitespace().nth(2)?)?;
@@ -58,8 +59,8 @@ pub(crate) fn swap_area(line: &str) -> Option<SwapArea<'_>> {
     }
 }
 
-/// A path that /proc prints. A space, a tab, a line feed and a backslash stand there as a backslash and three octal digits
-/// (`mangle_path`, fs/seq_file.c).
+/// A path that /proc prints. A space, a tab, a line feed and a backslash stand there as a backslash and three octal
+/// digits (`mangle_path`, fs/seq_file.c).
 pub(crate) fn unescaped<A: Allocator>(alloc: A, text: &str) -> Result<String<A>, AllocError> {
     let mut path = String::new(alloc);
     for (at, piece) in text.split('\\').enumerate() {
@@ -154,7 +155,8 @@ fn device_at<R: Files + Alloc>(rt: &R, printed: &str) -> io::Result<Option<Devic
     }
 }
 
-/// What /proc/swaps prints. Without it, as without /proc or in a kernel that can't swap, there is no swap area that is known of.
+/// What /proc/swaps prints. Without it, as without /proc or in a kernel that can't swap, there is no swap area that is
+/// known of.
 fn printed_swaps<R: Files + Alloc>(rt: &R) -> io::Result<Option<String<R::A>>> {
     match fs::read_to_string(rt, "/proc/swaps") {
         Ok(swaps) => Ok(Some(swaps)),
@@ -163,8 +165,8 @@ fn printed_swaps<R: Files + Alloc>(rt: &R) -> io::Result<Option<String<R::A>>> {
     }
 }
 
-/// Whether the kernel swaps to the device, to its disk or to a partition of it. A swap area at a path where no device is
-/// found might be any.
+/// Whether the kernel swaps to the device, to its disk or to a partition of it. A swap area at a path where no device
+/// is found might be any.
 fn is_swapped_to<R: Files + Alloc>(rt: &R, sought: &Sought) -> io::Result<bool> {
     let Some(swaps) = printed_swaps(rt)? else {
         return Ok(false);
@@ -223,8 +225,9 @@ fn exists_within<R: Files>(rt: &R, path: &str) -> io::Result<bool> {
     }
 }
 
-/// Whether the kernel uses the device: it has a file system of it mounted, swaps to it, or another device holds it. A disk is
-/// used where a partition of it is, and a partition where its disk is. Where the kernel doesn't tell, that is an error.
+/// Whether the kernel uses the device: it has a file system of it mounted, swaps to it, or another device holds it. A
+/// disk is used where a partition of it is, and a partition where its disk is. Where the kernel doesn't tell, that is
+/// an error.
 fn is_used_device<R: Files + Alloc + Clone + Drop>(rt: &R, number: u64) -> io::Result<bool> {
     let sought = Sought::of(rt, Device::of(number))?;
     Ok(
@@ -236,8 +239,9 @@ fn is_used_device<R: Files + Alloc + Clone + Drop>(rt: &R, number: u64) -> io::R
     )
 }
 
-/// Whether the kernel swaps to a regular file, as far as it tells where its swap files are: one that it shows by no path that
-/// leads there, as that of another root, might be any. Where /proc/swaps is there and can't be read, that is an error.
+/// Whether the kernel swaps to a regular file, as far as it tells where its swap files are: one that it shows by no
+/// path that leads there, as that of another root, might be any. Where /proc/swaps is there and can't be read, that is
+/// an error.
 fn is_swap_file<R: Files + Alloc>(rt: &R, sought: &Metadata) -> io::Result<bool> {
     let Some(swaps) = printed_swaps(rt)? else {
         return Ok(false);

@@ -2,7 +2,8 @@
 use std::fs::{File, TryLockError};
 use std::io::{self, ErrorKind};
 
-/// The system's number of the error that it has no more locks, which a file server without a lock manager gives (ENOLCK).
+/// The system's number of the error that it has no more locks, which a file server without a lock manager gives
+/// (ENOLCK).
 const NO_LOCKS: i32 = 37;
 
 /// Locks a file for this process alone. What another one has locked is refused.

@@ -122,7 +122,8 @@ impl<'a> OpenFile for Watched<'a> {
     }
 }
 
-/// A block of zeros that ends with a signature, as a header block does (`magic` of union swap_header, include/linux/swap.h).
+/// A block of zeros that ends with a signature, as a header block does (`magic` of union swap_header,
+/// include/linux/swap.h).
 fn signed(signature: &[u8; 10]) -> [u8; 4096] {
     let mut block = [0; 4096];
     block[4086..].copy_from_slice(signature);
@@ -242,7 +243,8 @@ fn a_file_is_locked(rt: HostRuntime) -> Result<(), Fail> {
     Ok(())
 }
 
-// Errors of flock(2) by their numbers: no locks (ENOLCK), none in this system (ENOSYS, EOPNOTSUPP), a bad descriptor (EBADF).
+// Errors of flock(2) by their numbers: no locks (ENOLCK), none in this system (ENOSYS, EOPNOTSUPP), a bad descriptor
+// (EBADF).
 #[test]
 fn systems_without_locks(rt: HostRuntime) -> Result<(), Fail> {
     let told = [37, 38, 95, 9].map(|number| has_no_locks(&io::Error::from_raw_os_error(number)));
@@ -374,8 +376,8 @@ fn paths_of_proc(rt: HostRuntime) -> Result<(), Fail> {
     Ok(())
 }
 
-// The file `devices`, which tools/device_test.sh makes, names block devices: `used PATH`, or `free PATH`. Without it there is
-// nothing to open.
+// The file `devices`, which tools/device_test.sh makes, names block devices: `used PATH`, or `free PATH`. Without it
+// there is nothing to open.
 #[test]
 fn devices_in_use_are_refused(rt: HostRuntime) -> Result<(), Fail> {
     let Ok(devices) = fs::read_to_string(&rt, DEVICES) else {

@@ -1,4 +1,5 @@
--- The slots of the fresh memory that a boot without a disk makes: no header names the bad ones, so they are those that were bad.
+-- The slots of the fresh memory that a boot without a disk makes: no header names the bad ones, so they are those that
+-- were bad.
 use Rattle.std.specs.Prelude.{ℕ, ◌==◌, ◌||◌, if◌then◌else◌}
 use Rattle.plain_machine.specs.Machine.{Hardware, Memory, raw_slot_entry, bad_slot}
 

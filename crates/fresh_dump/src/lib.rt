@@ -17,8 +17,8 @@ use page_core::NoMemory;
 use std::alloc::Global;
 use swap_slots::{SlotEntry, SlotTable};
 
-/// Makes a dump's memory that of the same machine when it has just booted: no task has a page frame or a slot, and the bad slots
-/// are those that were bad. Where memory is refused nothing changes.
+/// Makes a dump's memory that of the same machine when it has just booted: no task has a page frame or a slot, and the
+/// bad slots are those that were bad. Where memory is refused nothing changes.
 pub fn make_fresh(alloc: Global, dump: &mut Dump) -> Result<(), NoMemory>
     requires { length dump.old.frames ≡ top dump.old.hw.zones }
     ensures fresh { OnOk result (dump.new.frames ≡ fresh_memory dump.old.hw (kept_slot dump.old.hw dump.old.frames)) }
@@ -46,7 +46,8 @@ fn fresh_frames(alloc: Global, hw: &Hardware, before: &Frames) -> Result<Frames,
 fn keep_bad_slots(frames: &mut Frames, hw: &Hardware, before: &Frames)
     requires before { length before.now ≡ top hw.now.zones }
     requires size { length frames.old ≡ top hw.now.zones }
-    ensures { frames.new ≡ with_each_entry (kept_slot hw.now before.now) (range_with_len 0 hw.now.slots) hw.now.slot_table frames.old }
+    ensures { frames.new ≡ with_each_entry (kept_slot hw.now before.now) (range_with_len 0 hw.now.slots)
+        hw.now.slot_table frames.old }
 {
     let table = slot_table(hw);
     for slot in 0..table.slots {

@@ -1,4 +1,4 @@
--- The rows of the sync behind the writes, and of the read of the header block.
+-- The rows of the sync after the writes, and of the read of the header block.
 use Rattle.protocol_laws.proofs.Unwritten.{block_same, block_synced}
 use Rattle.std.proofs.Common.{◌≡◌, ◌<◌, Bool, All, ℕ, ◌+◌, List, [], Some, refl, sym, ap, ◌∙◌, subst, arith}
 use Rattle.definitions.specs.Disk as disk

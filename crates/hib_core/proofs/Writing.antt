@@ -177,7 +177,7 @@ told_write R blocks frames frames' sets w w' before now c ready writes told =
       both_told : (P : disk.Content → disk.Content → Type 0) (b n : Option disk.Content) (x y : disk.Content) → b ≡ Some x → n ≡ Some y → disk.Changes P b n → P x y
       both_told P b n x y be ne ch = subst (λ (o : Option disk.Content). disk.Changes P (Some x) o) ne (subst (λ (o : Option disk.Content). disk.Changes P o n) be ch)
 
--- the numbers at the stage behind a write
+-- the numbers at the stage after a write
 pub numbers_on : (h : Hardware) (frames frames' : Memory) (saving : Saving) (w w' : Writing) → IsSameImage w w' → w'.written ≡ w.written + 1 → ((free : List ℕ) → IsWriting free frames w → IsWriting free frames' w') →
     (a : Running) (i : Image) → IsSavingOf h a i saving → IsWriterOf h a i saving.done frames w → IsStageOf (stage.Write (after_step saving) w') h frames' a i
 numbers_on h frames frames' saving w w' same made writing a i numbers writer = (still_saving h a i saving numbers, writer_after h frames frames' i a saving.done w w' same made writing writer)

@@ -1,5 +1,6 @@
 -- The begin of a hibernation: why it is refused, what is counted, and what is taken.
-use Rattle.std.specs.Prelude.{◌≡◌, ◌≢◌, ◌≤◌, ◌<◌, ℕ, ◌+◌, ◌-◌, List, length, map, take, All, Contains, Option, Some, None, IsOk, is_some}
+use Rattle.std.specs.Prelude.{◌≡◌, ◌≢◌, ◌≤◌, ◌<◌, ℕ, ◌+◌, ◌-◌, List, length, map, take, All, Contains, Option, Some}
+use Rattle.std.specs.Prelude.{None, IsOk, is_some}
 use Rattle.std.specs.List.{range_with_len, find}
 use Rattle.page_core.specs.declared.format.Format.{Format}
 use Rattle.definitions.specs.Bytes.{IsPage}
@@ -28,9 +29,12 @@ use Rattle.hib_core.specs.declared.hib.Hib.{Hib}
 use Rattle.hib_core.specs.declared.hib.Ending.{Ending}
 use Rattle.hib_core.specs.declared.hib.Stage.TheVariants as stage
 
--- The hibernation is refused with this reply in every running state that a machine stands for; a suspend would be with the same one.
+-- The hibernation is refused with this reply in every running state that a machine stands for; a suspend would be with
+-- the same one.
 abbrev pub IsRefused : Machine → Memory → Format → Reply → Type 0
-IsRefused machine frames f r = (c : disk.Content) (a : Running) → Stands machine.hw (running_by machine frames) c (on a) → refusal machine.hw (on a) (event.Hibernate f) ≡ Some r
+IsRefused machine frames f r =
+    (c : disk.Content) (a : Running) → Stands machine.hw (running_by machine frames) c (on a) →
+    refusal machine.hw (on a) (event.Hibernate f) ≡ Some r
 
 -- A job that begins tells how many steps it has; every other reply to its begin refuses it.
 abbrev pub IsRefusedWith : Reply → Type 0
@@ -49,7 +53,8 @@ busy_of machine = find (λ t. is_some (flights_in machine.flights t)) (range_wit
 abbrev pub pages_of : Counts → ℕ
 pages_of counts = counts.d + meta_of counts.n + 1
 
--- A hibernation that isn't refused has counted what it saves: there is room for the copies and the image, and no copy will lie in a table.
+-- A hibernation that isn't refused has counted what it saves: there is room for the copies and the image, and no copy
+-- will lie in a table.
 pub record IsCounted (machine : Machine) (frames : Memory) (hib : Hib) (counts : Counts) : Type 0 where
   pub idle : busy_of machine ≡ None
   pub held : machine.held ≡ No
@@ -68,14 +73,18 @@ steps_of counts = pages_of counts + maps_of (pages_of counts) + 4
 
 -- what an image's first page says of it
 abbrev pub info_of : Hardware → Counts → Info
-info_of h counts = record { ident = h.ident; physpages = valid_count h; image_pages = counts.n; pages = pages_of counts }
+info_of h counts =
+    record { ident = h.ident; physpages = valid_count h; image_pages = counts.n; pages = pages_of counts }
 
--- The counted page frames are copied, which leaves all but the copies, and the image's writer has taken the slot of its first map.
-pub record IsTaken (machine : Machine) (frames frames' : Memory) (hib hib' : Hib) (counts : Counts) (last : Ending) : Type 0 where
+-- The counted page frames are copied, which leaves all but the copies, and the image's writer has taken the slot of its
+-- first map.
+pub record IsTaken (machine : Machine) (frames frames' : Memory) (hib hib' : Hib) (counts : Counts)
+    (last : Ending) : Type 0 where
   pub copied : Memory
   pub writer : Writing
   pub pages : All IsPage copied
-  pub snapshot : hib'.snapshot ≡ record hib.snapshot { copies = take (length hib.snapshot.origs) (unused machine.hw frames) }
+  pub snapshot : hib'.snapshot ≡ record
+      hib.snapshot { copies = take (length hib.snapshot.origs) (unused machine.hw frames) }
   pub copies : map (frame copied) hib'.snapshot.copies ≡ map (frame frames) hib.snapshot.origs
   pub others : (p : ℕ) → (Contains hib'.snapshot.copies p → ⊥) → frame copied p ≡ frame frames p
   pub size : length copied ≡ length frames
@@ -86,5 +95,12 @@ pub record IsTaken (machine : Machine) (frames frames' : Memory) (hib hib' : Hib
   pub written : writer.written ≡ 0
   pub writing : IsWriting (free_in copied (slot_table_of machine.hw)) frames' writer
   pub reading : (origs copies zeros : List ℕ) → HasReadCopies origs copies zeros writer
-  pub slots : frames' ≡ with_entries copied machine.hw.slot_table (take 1 (free_in copied (slot_table_of machine.hw))) image_slot
-  pub next : hib'.stage ≡ stage.Write (record { ending = last; saved = counts.n; first = writer.first; done = 0; steps = steps_of counts }) writer
+  pub slots : frames' ≡ with_entries copied machine.hw.slot_table (take 1 (free_in copied (slot_table_of machine.hw)))
+      image_slot
+  pub next : hib'.stage ≡ stage.Write (record {
+    ending = last;
+    saved = counts.n;
+    first = writer.first;
+    done = 0;
+    steps = steps_of counts;
+  }) writer

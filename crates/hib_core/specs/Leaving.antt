@@ -12,7 +12,8 @@ use Rattle.hib_core.specs.declared.hib.Job.TheVariants as job
 use Rattle.hib_core.specs.declared.hib.Stage.{Stage}
 use Rattle.hib_core.specs.declared.hib.Stage.TheVariants as stage
 
--- With the image's slots given back, every page frame that isn't free stays, the slot table included, and so does which are free.
+-- With the image's slots given back, every page frame that isn't free stays, the slot table included, and so does which
+-- are free.
 abbrev pub KeepsUsed : Hardware → Memory → Memory → Type 0
 KeepsUsed h old new = IsSameMemory h (seen_frames h old) (seen_frames h new)
 
@@ -58,7 +59,8 @@ abbrev pub change_at_read : Stage → Change
 change_at_read stage.SettleRead = stays
 change_at_read _ = gives
 
--- By the reply to a step: where nothing is held any more the image's slots are given back, and where an image may be there they stay.
+-- By the reply to a step: where nothing is held any more the image's slots are given back, and where an image may be
+-- there they stay.
 abbrev pub change_of : Reply → Stage → Change
 change_of (reply.More k of) next = takes
 change_of reply.Settled next = gives

@@ -24,8 +24,9 @@ is_busy_at _ = ⊤
 abbrev pub IsBusy : Hib → Type 0
 IsBusy hib = is_busy_at hib.stage
 
--- a writer that makes the write behind the steps that are done, of the image of these sets, on a disk of so many blocks
-pub record CanWrite (h : Hardware) (blocks : ℕ) (frames : Memory) (sets : Taken) (saving : Saving) (writer : Writing) : Type 0 where
+-- a writer that makes the write after the steps that are done, of the image of these sets, on a disk of so many blocks
+pub record CanWrite (h : Hardware) (blocks : ℕ) (frames : Memory) (sets : Taken) (saving : Saving)
+    (writer : Writing) : Type 0 where
   pub table : writer.table ≡ slot_table_of h
   pub done : writer.written ≡ saving.done
   pub steps : writes_of writer.info + 4 ≡ saving.steps
@@ -34,16 +35,18 @@ pub record CanWrite (h : Hardware) (blocks : ℕ) (frames : Memory) (sets : Take
   pub copies : All (λ p. p < length frames) sets.copies
   pub reading : HasReadCopies sets.origs sets.copies sets.zeros writer
 
--- what the step that is next needs: the last four come behind all writes
+-- what the step that is next needs: the last four come after all writes
 abbrev pub CanMake : Stage → Hardware → ℕ → Memory → Taken → Type 0
-CanMake (stage.Write saving writer) h blocks frames sets = (saving.done + 4 < saving.steps) × CanWrite h blocks frames sets saving writer
+CanMake (stage.Write saving writer) h blocks frames sets =
+    (saving.done + 4 < saving.steps) × CanWrite h blocks frames sets saving writer
 CanMake (stage.Sync saving) h blocks frames sets = saving.done + 4 ≡ saving.steps
 CanMake (stage.Read saving) h blocks frames sets = saving.done + 3 ≡ saving.steps
 CanMake (stage.Mark saving header) h blocks frames sets = saving.done + 2 ≡ saving.steps
 CanMake (stage.End saving header) h blocks frames sets = saving.done + 1 ≡ saving.steps
 CanMake _ h blocks frames sets = ⊤
 
--- The machine is one, with a disk of so many blocks. Memory has its page frames, the runs are those of its slot table, and the header block is one of the disk's.
+-- The machine is one, with a disk of so many blocks. Memory has its page frames, the runs are those of its slot table,
+-- and the header block is one of the disk's.
 pub record CanStep (machine : Machine) (frames : Memory) (runs : SlotRuns) (hib : Hib) : Type 0 where
   pub hardware : IsHardware machine.hw
   pub few : machine.blocks < 2 ^ 32

@@ -5,7 +5,8 @@ use Rattle.definitions.specs.Disk as disk
 use Rattle.plain_machine.specs.Machine.{Hardware, Memory, IsOfTable, unused_slots}
 use Rattle.plain_machine.specs.Image.{Image, n_of, numbers_of, without_data, hibernate_steps}
 use Rattle.plain_machine.specs.Laid.{laid_block}
-use Rattle.plain_machine.specs.State.{State, off, on, booting, hibernating, undoing, settling, waking, loading, asleep, Running}
+use Rattle.plain_machine.specs.State.{State, off, on, booting, hibernating, undoing, settling, waking, loading, asleep}
+use Rattle.plain_machine.specs.State.{Running}
 use Rattle.plain_machine.specs.Stands.{Stands}
 use Rattle.plain_machine.specs.declared.event.Event.{Event}
 use Rattle.plain_machine.specs.declared.event.Event.TheVariants as event
@@ -32,7 +33,8 @@ pub record IsSavingOf (h : Hardware) (a : Running) (i : Image) (saving : Saving)
 
 -- so they are at each step of it, and its writer is the image's
 abbrev pub IsStageOf : Stage → Hardware → Memory → Running → Image → Type 0
-IsStageOf (stage.Write saving writer) h frames a i = IsSavingOf h a i saving × IsWriterOf h a i saving.done frames writer
+IsStageOf (stage.Write saving writer) h frames a i =
+    IsSavingOf h a i saving × IsWriterOf h a i saving.done frames writer
 IsStageOf (stage.Sync saving) h frames a i = IsSavingOf h a i saving
 IsStageOf (stage.Read saving) h frames a i = IsSavingOf h a i saving
 IsStageOf (stage.Mark saving header) h frames a i = IsSavingOf h a i saving
@@ -65,11 +67,13 @@ pub record StandsFor (machine : Machine) (frames : Memory) (hib : Hib) (c : disk
   pub image : IsOfState machine.hw frames hib a
 
 -- the row of an event over these contents of the disk, and over a disk that tells its content
-abbrev pub Simulates : Machine → Memory → Hib → Machine → Memory → Hib → Event → Reply → disk.Content → disk.Content → Type 0
+abbrev pub Simulates : Machine → Memory → Hib → Machine → Memory → Hib → Event → Reply → disk.Content → disk.Content →
+    Type 0
 Simulates machine frames hib machine' frames' hib' e r c c' =
     rows.Simulates machine.hw (StandsFor machine frames hib) (StandsFor machine' frames' hib') e r c c'
 
-abbrev pub SimulatesWhereTold : Machine → Memory → Hib → Machine → Memory → Hib → Event → Reply → Option disk.Content → Option disk.Content → Type 0
+abbrev pub SimulatesWhereTold : Machine → Memory → Hib → Machine → Memory → Hib → Event → Reply → Option disk.Content →
+    Option disk.Content → Type 0
 SimulatesWhereTold machine frames hib machine' frames' hib' e r before now =
     rows.SimulatesWhereTold machine.hw (StandsFor machine frames hib) (StandsFor machine' frames' hib') e r before now
 
@@ -87,4 +91,5 @@ event_of job.Settle = event.Settle
 -- The row of the begin of a job, by a machine that runs.
 abbrev pub IsBegun : Machine → Memory → Memory → Hib → Job → Reply → disk.Content → Type 0
 IsBegun machine frames frames' hib' asked r c =
-    rows.Simulates machine.hw (λ held s. Stands machine.hw (running_by machine frames) held s) (StandsFor machine frames' hib') (event_of asked) r c c
+    rows.Simulates machine.hw (λ held s. Stands machine.hw (running_by machine frames) held s)
+    (StandsFor machine frames' hib') (event_of asked) r c c

@@ -1,4 +1,5 @@
-ghost use Rattle.std.specs.Prelude.{◌≡◌, ◌≤◌, ◌⊎◌, ◌<◌, ◌+◌, ◌/◌, ◌^◌, ℕ, ⊤, length, Contains, IfOk, IfErr, IfSome, IfNone};
+ghost use Rattle.std.specs.Prelude.{◌≡◌, ◌≤◌, ◌⊎◌, ◌<◌, ◌+◌, ◌/◌, ◌^◌, ℕ, ⊤, length, Contains, IfOk, IfErr, IfSome};
+ghost use Rattle.std.specs.Prelude.{IfNone};
 ghost use Rattle.definitions.specs.Disk.{Content};
 ghost use Rattle.definitions.specs.Lists.{saveable_frames};
 ghost use Rattle.definitions.specs.Tables.{HasTable};
@@ -24,7 +25,7 @@ use saveable::View;
 use snapshot::Counts;
 use swap_slots::FreeRuns;
 
-/// Free slots that are left behind an image and the block of its first map (PAGES_FOR_IO, kernel/power/power.h).
+/// Free slots that are left after an image and the block of its first map (PAGES_FOR_IO, kernel/power/power.h).
 const SLOTS_LEFT: u32 = 1026;
 
 // The begin of a hibernation (hibernation_snapshot, kernel/power/hibernate.c; enough_swap, kernel/power/swap.c).
@@ -36,7 +37,8 @@ impl Hib {
     ghost use Rattle.hib_core.specs.Row.{IsBegun, saving};
     ghost use Rattle.hib_core.specs.declared.hib.Stage.TheVariants as stage;
 
-    /// Begins a job, or refuses it and changes nothing. Saveable page frames are copied into free ones. No call of a disk is made.
+    /// Begins a job, or refuses it and changes nothing. Saveable page frames are copied into free ones. No call of a
+    /// disk is made.
     pub fn begin(
         &mut self,
         machine: &mut Machine,
@@ -78,7 +80,8 @@ impl Hib {
         ending: Ending,
     ) -> Reply
         requires ready { CanBegin machine.now frames.old runs.old self.old }
-        ensures row { (c : Content) → IsBegun machine.now frames.old frames.new self.new (saving ending format) result c }
+        ensures row { (c : Content) →
+            IsBegun machine.now frames.old frames.new self.new (saving ending format) result c }
         ensures phase { phase_of self.new ≡ phase_told result }
         ensures begun { (phase_told result ≡ under_way) ⊎ (phase_told result ≡ runs_on) }
         ensures ready { IsBusy self.new → CanStep machine.now frames.new runs.new self.new }

@@ -136,7 +136,8 @@ impl Hib {
         requires ready { CanStep machine.old frames.old runs.old self.old }
         requires blocks { D.block_count disk.old ≡ machine.old.blocks }
         requires busy { IsBusy self.old }
-        ensures row { SimulatesWhereTold machine.old frames.old self.old machine.new frames.new self.new (event.Step actor.Core) result (D.content disk.old) (D.content disk.new) }
+        ensures row { SimulatesWhereTold machine.old frames.old self.old machine.new frames.new self.new
+            (event.Step actor.Core) result (D.content disk.old) (D.content disk.new) }
         ensures phase { phase_of self.new ≡ phase_told result }
         ensures zones { self.new.snapshot.zones ≡ self.old.snapshot.zones }
         ensures works { is_idle result ≡ false }

@@ -20,7 +20,8 @@ use swap_slots::FreeRuns;
 /// Steps of a settling: a read, a write and a sync.
 const STEPS: u32 = 3;
 
-// Settling: the mark of a held image is taken back while the machine runs (swsusp_unmark, kernel/power/swap.c; own as a job by itself).
+// Settling: the mark of a held image is taken back while the machine runs (swsusp_unmark, kernel/power/swap.c; own as a
+// job by itself).
 impl Hib {
     ghost use Rattle.plain_machine.specs.declared.event.Event.TheVariants as event;
     ghost use Rattle.plain_machine.specs.declared.event.Actor.TheVariants as actor;
@@ -69,7 +70,8 @@ impl Hib {
         requires ready { CanStep machine.now frames.now runs.now self.old }
         requires blocks { D.block_count disk.old ≡ machine.now.blocks }
         requires at { self.old.stage ≡ stage.SettleRead }
-        ensures row { SimulatesWhereTold machine.now frames.now self.old machine.now frames.now self.new (event.Step actor.Core) result (D.content disk.old) (D.content disk.new) }
+        ensures row { SimulatesWhereTold machine.now frames.now self.old machine.now frames.now self.new
+            (event.Step actor.Core) result (D.content disk.old) (D.content disk.new) }
         ensures phase { phase_of self.new ≡ phase_told result }
         ensures zones { self.new.snapshot.zones ≡ self.old.snapshot.zones }
         ensures works { is_idle result ≡ false }
@@ -102,7 +104,8 @@ impl Hib {
         requires ready { CanStep machine.old frames.now runs.now self.old }
         requires blocks { D.block_count disk.old ≡ machine.old.blocks }
         requires at { (header : List ℕ) × (self.old.stage ≡ stage.SettleWrite header) }
-        ensures row { SimulatesWhereTold machine.old frames.now self.old machine.new frames.now self.new (event.Step actor.Core) result (D.content disk.old) (D.content disk.new) }
+        ensures row { SimulatesWhereTold machine.old frames.now self.old machine.new frames.now self.new
+            (event.Step actor.Core) result (D.content disk.old) (D.content disk.new) }
         ensures phase { phase_of self.new ≡ phase_told result }
         ensures zones { self.new.snapshot.zones ≡ self.old.snapshot.zones }
         ensures works { is_idle result ≡ false }
@@ -140,7 +143,8 @@ impl Hib {
         requires ready { CanStep machine.old frames.old runs.old self.old }
         requires blocks { D.block_count disk.old ≡ machine.old.blocks }
         requires at { self.old.stage ≡ stage.SettleSync }
-        ensures row { SimulatesWhereTold machine.old frames.old self.old machine.new frames.new self.new (event.Step actor.Core) result (D.content disk.old) (D.content disk.new) }
+        ensures row { SimulatesWhereTold machine.old frames.old self.old machine.new frames.new self.new
+            (event.Step actor.Core) result (D.content disk.old) (D.content disk.new) }
         ensures phase { phase_of self.new ≡ phase_told result }
         ensures zones { self.new.snapshot.zones ≡ self.old.snapshot.zones }
         ensures works { is_idle result ≡ false }

@@ -9,7 +9,8 @@ ghost use Rattle.sig_header.specs.AreaKind.{area_kind};
 ghost use Rattle.plain_machine.specs.UsableArea.{kind_fault};
 ghost use Rattle.sector_disk.specs.Called.{Called, OneCall};
 ghost use Rattle.image_write.specs.Answers.{Succeeds, GoesOn};
-ghost use Rattle.image_write.specs.Writing.{IsWriting, IsReady, AreOfImage, HasReadCopies, Makes, FailsToMake, writes_of};
+ghost use Rattle.image_write.specs.Writing.{IsWriting, IsReady, AreOfImage, HasReadCopies, Makes, FailsToMake};
+ghost use Rattle.image_write.specs.Writing.{writes_of};
 ghost use Rattle.hib_core.specs.Writes.{Writes};
 
 use crate::Hib;
@@ -24,7 +25,8 @@ use sig_header::AreaKind;
 use snapshot::Snapshot;
 use swap_slots::FreeRuns;
 
-// The writes of pages and maps, and what follows them up to the mark (save_image and swap_writer_finish, kernel/power/swap.c).
+// The writes of pages and maps, and what follows them up to the mark (save_image and swap_writer_finish,
+// kernel/power/swap.c).
 impl Hib {
     ghost use Rattle.plain_machine.specs.declared.event.Event.TheVariants as event;
     ghost use Rattle.plain_machine.specs.declared.event.Actor.TheVariants as actor;
@@ -46,7 +48,8 @@ impl Hib {
         requires ready { CanStep machine.now frames.old runs.old self.old }
         requires blocks { D.block_count disk.old ≡ machine.now.blocks }
         requires at { (saving : Saving) × (writer : Writing) × (self.old.stage ≡ stage.Write saving writer) }
-        ensures row { SimulatesWhereTold machine.now frames.old self.old machine.now frames.new self.new (event.Step actor.Core) result (D.content disk.old) (D.content disk.new) }
+        ensures row { SimulatesWhereTold machine.now frames.old self.old machine.now frames.new self.new
+            (event.Step actor.Core) result (D.content disk.old) (D.content disk.new) }
         ensures phase { phase_of self.new ≡ phase_told result }
         ensures zones { self.new.snapshot.zones ≡ self.old.snapshot.zones }
         ensures works { is_idle result ≡ false }
@@ -86,7 +89,8 @@ impl Hib {
         requires ready { CanStep machine.now frames.old runs.old self.old }
         requires blocks { D.block_count disk.old ≡ machine.now.blocks }
         requires at { self.old.stage ≡ stage.Sync saving }
-        ensures row { SimulatesWhereTold machine.now frames.old self.old machine.now frames.new self.new (event.Step actor.Core) result (D.content disk.old) (D.content disk.new) }
+        ensures row { SimulatesWhereTold machine.now frames.old self.old machine.now frames.new self.new
+            (event.Step actor.Core) result (D.content disk.old) (D.content disk.new) }
         ensures phase { phase_of self.new ≡ phase_told result }
         ensures zones { self.new.snapshot.zones ≡ self.old.snapshot.zones }
         ensures works { is_idle result ≡ false }
@@ -119,7 +123,8 @@ impl Hib {
         requires ready { CanStep machine.now frames.old runs.old self.old }
         requires blocks { D.block_count disk.old ≡ machine.now.blocks }
         requires at { self.old.stage ≡ stage.Read saving }
-        ensures row { SimulatesWhereTold machine.now frames.old self.old machine.now frames.new self.new (event.Step actor.Core) result (D.content disk.old) (D.content disk.new) }
+        ensures row { SimulatesWhereTold machine.now frames.old self.old machine.now frames.new self.new
+            (event.Step actor.Core) result (D.content disk.old) (D.content disk.new) }
         ensures phase { phase_of self.new ≡ phase_told result }
         ensures zones { self.new.snapshot.zones ≡ self.old.snapshot.zones }
         ensures works { is_idle result ≡ false }
@@ -180,11 +185,17 @@ fn write_step<D: Disk>(
     requires copies { All (λ p. p < length frames.old) snapshot.now.copies }
     requires reading { HasReadCopies snapshot.now.origs snapshot.now.copies snapshot.now.zeros writer.old }
     ensures done { result ≡ WriteStep.Done → writer.old.written + 1 ≡ writes_of writer.old.info }
-    ensures made { Succeeds result → Writes Makes frames.old frames.new snapshot.now writer.old writer.new (D.content disk.old) (D.content disk.new) }
-    ensures failed { result ≡ WriteStep.Fault → Writes FailsToMake frames.old frames.new snapshot.now writer.old writer.new (D.content disk.old) (D.content disk.new) }
+    ensures made { Succeeds result →
+        Writes Makes frames.old frames.new snapshot.now writer.old writer.new (D.content disk.old)
+        (D.content disk.new) }
+    ensures failed { result ≡ WriteStep.Fault →
+        Writes FailsToMake frames.old frames.new snapshot.now writer.old writer.new (D.content disk.old)
+        (D.content disk.new) }
     ensures written { Succeeds result → writer.new.written ≡ writer.old.written + 1 }
-    ensures goes_on { GoesOn result → (free : List ℕ) → IsWriting free frames.old writer.old → IsWriting free frames.new writer.new }
-    ensures reading { GoesOn result → HasReadCopies snapshot.now.origs snapshot.now.copies snapshot.now.zeros writer.new }
+    ensures goes_on { GoesOn result → (free : List ℕ) → IsWriting free frames.old writer.old →
+        IsWriting free frames.new writer.new }
+    ensures reading { GoesOn result →
+        HasReadCopies snapshot.now.origs snapshot.now.copies snapshot.now.zeros writer.new }
     ensures pages { All IsPage frames.old }
     ensures size { length frames.new ≡ length frames.old }
     ensures matches { Matches frames.new writer.old.table runs.new }

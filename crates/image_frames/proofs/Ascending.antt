@@ -171,7 +171,7 @@ ascends_of format l first (entry_at b (Ok page) ∷ h) c reading clean said =
           j lt inside)
     ]
 
--- the numbers of number pages behind an info page
+-- the numbers of number pages after an info page
 pub ascends_by : (content : Option Content) (blocks header : ℕ) (p : Pages) (info : List ℕ) (listed : List (List ℕ)) → Stands content blocks header p (info ∷ listed) → Ascends p.format (counts_in info).image_pages (info ∷ listed)
 ascends_by content blocks header p info listed s =
     same_ascends p.format (counts_in info).image_pages (pages_in s.history) (info ∷ listed) s.pages

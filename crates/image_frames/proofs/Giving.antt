@@ -203,7 +203,7 @@ no_page content blocks header p q info rest page full s =
     let size = full.size in
     omega (arith, few_pages content blocks header q info (rest ++ page ∷ []) s, length-append rest (page ∷ []))
 
--- behind number pages and data pages that were read
+-- after number pages and data pages that were read
 drop_front : (xs ys : List (List ℕ)) (n : ℕ) → length xs ≡ n → drop n (xs ++ ys) ≡ ys
 drop_front [] ys zero e = refl
 drop_front [] ys (suc n) e = cc

@@ -11,7 +11,7 @@ use Rattle.image_frames.specs.declared.numbers.NextWord.{NextWord}
 use Rattle.image_frames.specs.declared.numbers.NextWord.TheVariants.{Frame, End, Refused}
 use Rattle.image_frames.specs.declared.numbers.Numbers.{Numbers}
 
--- The next number is given, of the word behind those before.
+-- The next number is given, of the word after those before.
 pub record IsNextWord (content : Option Content) (blocks header : ℕ) (given : List ℕ) (n : Numbers)
     (h : HasNumbered content blocks header n given) (q : Numbers) (number : ℕ) (has_data : Bool) : Type 0 where
   pub next : IsNextNumber content blocks header given q number

@@ -7,4 +7,5 @@ use Rattle.page_core.specs.declared.format.Format.TheVariants.{Plain, SkipZeros}
 -- Plain: each saved page is in the stream. SkipZeros: those that aren't all zero, which the counts don't tell.
 abbrev pub are_bad_counts : Format → ℕ → ℕ → ℕ → Bool
 are_bad_counts Plain valid n pages = (n == 0) || nat_lt valid n || not (pages == n + meta_of n + 1)
-are_bad_counts SkipZeros valid n pages = (n == 0) || nat_lt valid n || nat_lt pages (meta_of n + 1) || nat_lt (n + meta_of n + 1) pages
+are_bad_counts SkipZeros valid n pages =
+    (n == 0) || nat_lt valid n || nat_lt pages (meta_of n + 1) || nat_lt (n + meta_of n + 1) pages

@@ -18,7 +18,7 @@ const NAME_SIZE: usize = 65;
 
 const NAMES_SIZE: usize = 6 * NAME_SIZE;
 
-/// Where the fields behind the names lie, in bytes (`struct swsusp_info`, kernel/power/power.h, 64-bit).
+/// Where the fields after the names lie, in bytes (`struct swsusp_info`, kernel/power/power.h, 64-bit).
 const VERSION_CODE: usize = 392;
 
 const NUM_PHYSPAGES: usize = 400;

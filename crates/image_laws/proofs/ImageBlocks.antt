@@ -221,7 +221,7 @@ stays_either p q k p_whole q_whole k_lt agree blocks b old new whole lt all trie
     either_whole v b k p q p_whole q_whole k_lt agree (omega arith)
     (λ j few. tried_sector blocks b p q old new j (get_or v (8 * b + j) []) whole lt all tries few (is.chosen (8 * b + j) (omega arith)))
 
--- Pages that agree but for a part are the same before and behind it.
+-- Pages that agree but for a part are the same before and after it.
 
 pub agree_from_parts : (n m : ℕ) (p q : List ℕ) → length p ≡ length q → take n p ≡ take n q → drop m p ≡ drop m q → AgreeBut n m p q
 agree_from_parts n m p q size front back = record {
@@ -247,7 +247,7 @@ same_back n m p q agree =
     same_number_lists (drop m p) (drop m q) (length-drop m p ∙ ap (λ (k : ℕ). k - m) size ∙ sym (length-drop m q))
     (λ i lt. get_or-drop m p i 0 ∙ agree.after (m + i) (omega arith) ∙ sym (get_or-drop m q i 0))
 
--- the same of what was compared: the front of the pages, and the rest behind the part
+-- the same of what was compared: the front of the pages, and the rest after the part
 pub agree_by_parts : (n m : ℕ) (xs ys p q : List ℕ) → xs ≡ p → ys ≡ q → IsPage p → IsPage q → take n xs ≡ take n ys → take (4096 - m) (drop m xs) ≡ take (4096 - m) (drop m ys) → AgreeBut n m p q
 agree_by_parts n m xs ys p q xs_is ys_is p_whole q_whole front back =
     let rest : take (4096 - m) (drop m p) ≡ take (4096 - m) (drop m q) =

@@ -6,7 +6,8 @@ use Rattle.definitions.specs.NumberPages.{zero_bit}
 use Rattle.definitions.specs.Tables.{frame}
 use Rattle.page_core.specs.declared.format.Format.{Format}
 use Rattle.plain_machine.specs.Machine.{Hardware, Memory, IsHardware, saveable}
-use Rattle.plain_machine.specs.Image.{Image, SlotPages, n_of, d_of, numbers_of, with_data, info_of_image, image_of_memory}
+use Rattle.plain_machine.specs.Image.{Image, SlotPages, n_of, d_of, numbers_of, with_data, info_of_image}
+use Rattle.plain_machine.specs.Image.{image_of_memory}
 use Rattle.plain_machine.specs.Chain.{Holds}
 use Rattle.plain_machine.specs.Trace.{info_in, number_in, stream_page, meta_in, image_in, restored_in}
 use Rattle.plain_machine.specs.declared.event.Loader.{Loader}
@@ -21,7 +22,8 @@ pub record IsSayable (i : Image) : Type 0 where
 -- so is each image of a memory
 abbrev pub MemoriesAreSayable : Type 0
 MemoriesAreSayable =
-    (h : Hardware) (m : Memory) (slots : SlotPages) (f : Format) → IsHardware h → IsSayable (image_of_memory h m slots f)
+    (h : Hardware) (m : Memory) (slots : SlotPages) (f : Format) → IsHardware h →
+    IsSayable (image_of_memory h m slots f)
 
 -- the info page says the image's identity and counts
 abbrev pub SaysInfo : Type 0
@@ -46,6 +48,7 @@ Decodes = (h : Hardware) (v : disk.DiskImage) (i : Image) → Holds h v i → Is
 -- [resumes]: from a disk that holds the image of a memory each saveable page frame gets its page back
 abbrev pub ResumesMemory : Type 0
 ResumesMemory =
-    (h : Hardware) (m : Memory) (slots : SlotPages) (f : Format) (dump : Memory) (loader : Loader) (v : disk.DiskImage) →
+    (h : Hardware) (m : Memory) (slots : SlotPages) (f : Format) (dump : Memory) (loader : Loader)
+    (v : disk.DiskImage) →
     IsHardware h → Holds h v (image_of_memory h m slots f) →
     (p : ℕ) → Contains (saveable h m) p → frame (restored_in h dump v loader) p ≡ frame m p

@@ -22,7 +22,8 @@ RealisesMoves least top bounce moves =
 -- Two page frames a and b change places: a waits in the bounce frame.
 abbrev pub RealisesSwap : ℕ → ℕ → ℕ → Type 0
 RealisesSwap a b bounce =
-    (frames : List (List ℕ)) → a < length frames → b < length frames → bounce < length frames → a ≢ b → bounce ≢ a → bounce ≢ b →
+    (frames : List (List ℕ)) → a < length frames → b < length frames → bounce < length frames → a ≢ b → bounce ≢ a →
+    bounce ≢ b →
     Realises bounce ((a, bounce, 1) ∷ (b, a, 1) ∷ (bounce, b, 1) ∷ []) ((a, b) ∷ (b, a) ∷ []) frames
 
 -- n page frames in a row move

@@ -5,7 +5,8 @@ use Rattle.pfn_pack.specs.declared.unpack.PfnFault.TheVariants as numbers
 use Rattle.plain_machine.specs.declared.reply.Reply.{Reply}
 use Rattle.plain_machine.specs.declared.reply.Reply.TheVariants as reply
 use Rattle.image_read.specs.declared.cause.Cause.{Cause}
-use Rattle.image_read.specs.declared.cause.Cause.TheVariants.{NoChain, BadBlock, ChainEnds, Mismatch, MemorySize, BadCounts as TheBadCounts, BadPfn, PfnOrder, PfnEnd}
+use Rattle.image_read.specs.declared.cause.Cause.TheVariants.{NoChain, BadBlock, ChainEnds, Mismatch, MemorySize}
+use Rattle.image_read.specs.declared.cause.Cause.TheVariants.{BadCounts as TheBadCounts, BadPfn, PfnOrder, PfnEnd}
 
 abbrev pub reply_of : Cause → Reply
 reply_of NoChain = reply.NoChain

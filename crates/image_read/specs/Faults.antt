@@ -13,7 +13,8 @@ use Rattle.swap_map.specs.declared.reader.ChainFault.TheVariants as chain
 use Rattle.plain_machine.specs.Chain.{is_fault_of, or_else}
 use Rattle.image_read.specs.Reading.{Reading}
 use Rattle.image_read.specs.declared.cause.Cause.{Cause}
-use Rattle.image_read.specs.declared.cause.Cause.TheVariants.{NoChain, BadBlock, ChainEnds, Mismatch, MemorySize, BadCounts}
+use Rattle.image_read.specs.declared.cause.Cause.TheVariants.{NoChain, BadBlock, ChainEnds, Mismatch, MemorySize}
+use Rattle.image_read.specs.declared.cause.Cause.TheVariants.{BadCounts}
 
 -- a block of a chain
 abbrev pub block_fault : Reading → ℕ → Option Cause
@@ -30,7 +31,8 @@ named_block r t = if t % 512 == 0 then map_link r.map.page else map_entry r.map.
 
 abbrev pub named_fault : Reading → ℕ → Option Cause
 named_fault r t =
-    if t % 512 == 0 then (if map_link r.map.page == 0 then Some (ChainEnds r.map.map) else block_fault r (map_link r.map.page))
+    if t % 512 == 0
+    then (if map_link r.map.page == 0 then Some (ChainEnds r.map.map) else block_fault r (map_link r.map.page))
     else block_fault r (map_entry r.map.page (t % 512 - 1))
 
 -- what a map page told: a block, or that there is none
@@ -58,11 +60,14 @@ size_fault valid info = if info.physpages == valid then None else Some (MemorySi
 
 abbrev pub counts_fault : ℕ → Format → Info → Option Cause
 counts_fault valid format info =
-    if are_bad_counts format valid info.image_pages info.pages then Some (BadCounts info.image_pages info.pages) else None
+    if are_bad_counts format valid info.image_pages info.pages then Some (BadCounts info.image_pages info.pages)
+    else None
 
 unfoldable pub info_fault : Option Ident → ℕ → Format → Info → Option Cause
-info_fault own valid format info = or_else (identity_fault own info) (or_else (size_fault valid info) (counts_fault valid format info))
+info_fault own valid format info =
+    or_else (identity_fault own info) (or_else (size_fault valid info) (counts_fault valid format info))
 
 -- after the last number, of which so many have no data page
 abbrev pub pages_fault : ℕ → ℕ → ℕ → Option Cause
-pages_fault saved pages zeros = if pages == saved - zeros + meta_of saved + 1 then None else Some (BadCounts saved pages)
+pages_fault saved pages zeros =
+    if pages == saved - zeros + meta_of saved + 1 then None else Some (BadCounts saved pages)

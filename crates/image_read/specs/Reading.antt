@@ -7,9 +7,9 @@ use Rattle.swap_map.specs.MapPages.{NumberedPage}
 use Rattle.plain_machine.specs.Trace.{place_count}
 
 -- The slots on the blocks of the disk (extents, the last slot, how many blocks), the format, how many blocks were read,
--- the block that is next, the map that the entries are taken from, how many pages the stream has and how many page frames
--- were saved (1 and 0 until the info page tells it), the number pages, n once all numbers are accepted, and a page frame
--- below which no page is still to come.
+-- the block that is next, the map that the entries are taken from, how many pages the stream has and how many page
+-- frames were saved (1 and 0 until the info page tells it), the number pages, n once all numbers are accepted, and a
+-- page frame below which no page is still to come.
 pub record Reading : Type 0 where
   pub extents : List (ℕ × ℕ × ℕ)
   pub last : ℕ
@@ -28,8 +28,8 @@ pub record Reading : Type 0 where
 abbrev pub HasReadAll : Reading → Type 0
 HasReadAll r = r.steps ≡ place_count r.pages
 
--- What holds between two steps, of the reader and of the page frames that are listed so far: the next block is one of the
--- disk, the page frames are the numbers that were read, and more numbers are wanted until all are accepted.
+-- What holds between two steps, of the reader and of the page frames that are listed so far: the next block is one of
+-- the disk, the page frames are the numbers that were read, and more numbers are wanted until all are accepted.
 pub record IsReady (r : Reading) (origs zeros : List ℕ) : Type 0 where
   pub saved : r.saved ≤ 65536
   pub within : r.steps ≤ place_count r.pages

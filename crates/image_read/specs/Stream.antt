@@ -1,5 +1,6 @@
 -- An image on a disk, as far as its first places are read.
-use Rattle.std.specs.Prelude.{◌≡◌, ◌<◌, ◌≤◌, ℕ, ◌+◌, ◌-◌, ◌*◌, ◌/◌, ◌%◌, ◌==◌, zero, suc, false, not, nat_lt, List, length, map, filter, min, Option, Some, None, if◌then◌else◌, slice_index, slice_get}
+use Rattle.std.specs.Prelude.{◌≡◌, ◌<◌, ◌≤◌, ℕ, ◌+◌, ◌-◌, ◌*◌, ◌/◌, ◌%◌, ◌==◌, zero, suc, false, not, nat_lt, List}
+use Rattle.std.specs.Prelude.{length, map, filter, min, Option, Some, None, if◌then◌else◌, slice_index, slice_get}
 use Rattle.std.specs.List.{range_with_len}
 use Rattle.std.specs.List.Sorted.{IsStrictlyIncreasing}
 use Rattle.definitions.specs.NumberPages.{meta_of}
@@ -9,7 +10,8 @@ use Rattle.definitions.specs.SwapHeader.{last_page_of}
 use Rattle.pfn_pack.specs.Unpacked.{Unpacked}
 use Rattle.plain_machine.specs.Machine.{Hardware}
 use Rattle.plain_machine.specs.Chain.{blocks_of, header_of, is_at_fault, map_block, entry_block, or_else}
-use Rattle.plain_machine.specs.Trace.{data_frames, first_map, info_in, format_in, meta_in, number_in, number_word, is_marked_by, Place, map_at, page_at, place, place_count, read_cause, next_cause}
+use Rattle.plain_machine.specs.Trace.{data_frames, first_map, info_in, format_in, meta_in, number_in, number_word}
+use Rattle.plain_machine.specs.Trace.{is_marked_by, Place, map_at, page_at, place, place_count, read_cause, next_cause}
 use Rattle.plain_machine.specs.declared.event.IdentCheck.{IdentCheck}
 use Rattle.plain_machine.specs.declared.reply.Reply.{Reply}
 use Rattle.image_read.specs.Reading.{Reading}
@@ -40,7 +42,8 @@ unfoldable pub frames_in : Hardware → disk.DiskImage → ℕ → List ℕ
 frames_in h v m = map (number_in h v) (range_with_len 0 m)
 
 unfoldable pub marked_in : Hardware → disk.DiskImage → ℕ → List ℕ
-marked_in h v m = map (number_in h v) (filter (λ j. is_marked_by (format_in h v) (number_word h v j)) (range_with_len 0 m))
+marked_in h v m =
+    map (number_in h v) (filter (λ j. is_marked_by (format_in h v) (number_word h v j)) (range_with_len 0 m))
 
 abbrev pub last_number : Hardware → disk.DiskImage → ℕ → Option ℕ
 last_number h v zero = None
@@ -57,7 +60,8 @@ unpacked_at h v k = record {
 -- n once the last number page is read
 abbrev pub told : Hardware → disk.DiskImage → ℕ → Option ℕ
 told h v zero = None
-told h v (suc k) = if numbers_read h v (suc k) == (info_in h v).image_pages then Some (info_in h v).image_pages else None
+told h v (suc k) =
+    if numbers_read h v (suc k) == (info_in h v).image_pages then Some (info_in h v).image_pages else None
 
 -- the number after the page frame of the last data page
 abbrev pub frame_after : List ℕ → ℕ → ℕ
@@ -75,7 +79,8 @@ pub record HasCounts (n pages : ℕ) : Type 0 where
   pub least : meta_of n + 1 ≤ pages
 
 -- the slots on the blocks of this disk, by its header
-pub record IsAreaOf (h : Hardware) (v : disk.DiskImage) (extents : List (ℕ × ℕ × ℕ)) (last blocks : ℕ) (format : Format) : Type 0 where
+pub record IsAreaOf (h : Hardware) (v : disk.DiskImage) (extents : List (ℕ × ℕ
+    × ℕ)) (last blocks : ℕ) (format : Format) : Type 0 where
   pub same_extents : extents ≡ h.extents
   pub same_last : last ≡ last_page_of (header_of h v)
   pub same_blocks : blocks ≡ blocks_of v
@@ -94,7 +99,8 @@ abbrev pub step_cause : Hardware → disk.DiskImage → IdentCheck → ℕ → O
 step_cause h v check t = or_else (read_cause h v check (place t)) (next_cause h v t)
 
 -- The first t places of the disk v were read, and nothing is wrong with them.
-pub record HasReadPlaces (h : Hardware) (v : disk.DiskImage) (check : IdentCheck) (r : Reading) (t : ℕ) (origs zeros : List ℕ) : Type 0 where
+pub record HasReadPlaces (h : Hardware) (v : disk.DiskImage) (check : IdentCheck) (r : Reading) (t : ℕ)
+    (origs zeros : List ℕ) : Type 0 where
   pub area : IsAreaOf h v r.extents r.last r.blocks r.format
   pub steps : r.steps ≡ t
   pub sound : (s : ℕ) → s < t → step_cause h v check s ≡ None
@@ -103,7 +109,8 @@ pub record HasReadPlaces (h : Hardware) (v : disk.DiskImage) (check : IdentCheck
   pub within : t ≤ place_count (known_pages h v (pages_read t))
   pub block : t < place_count (known_pages h v (pages_read t)) → r.block ≡ place_block h v (place t)
   pub apart : t < place_count (known_pages h v (pages_read t)) → is_at_fault h v r.block ≡ false
-  pub map : (t % 512 ≡ 0 → ⊥) → r.map ≡ record { page = disk.block v (map_block v (first_map h v) (t / 512)); map = t / 512 + 1 }
+  pub map : (t % 512 ≡ 0 → ⊥) →
+      r.map ≡ record { page = disk.block v (map_block v (first_map h v) (t / 512)); map = t / 512 + 1 }
   pub numbers : r.numbers ≡ unpacked_at h v (pages_read t)
   pub listed : r.listed ≡ told h v (pages_read t)
   pub frame : r.frame ≡ frame_after (data_frames h v) (pages_read t - 1 - meta_in h v)

@@ -44,7 +44,8 @@ impl Area {
 
     /// Whether a slot that the extents cover, up to the last, lies on this block.
     fn is_below_end(&self, block: u64) -> bool
-        ensures below { IsTrue result ↔ ((s : ℕ) × (s < slots_of self.now.map) × (s ≤ self.now.last) × (block_of self.now.map s ≡ block)) }
+        ensures below { IsTrue result ↔ ((s : ℕ) × (s < slots_of self.now.map) × (s ≤ self.now.last)
+            × (block_of self.now.map s ≡ block)) }
         ensures map { IsFileMap self.now.map (slots_of self.now.map) }
     {
         match self.map.slot_of(block) {
@@ -53,10 +54,12 @@ impl Area {
         }
     }
 
-    /// Whether the last slot's way back to this block leads to a slot that lies on it: so it is where the last extent goes on.
+    /// Whether the last slot's way back to this block leads to a slot that lies on it: so it is where the last extent
+    /// goes on.
     fn is_past_end(&self, block: u64) -> bool
         ensures sound { IsTrue result → HasSlotOn self.now.map self.now.last block }
-        ensures past { (s : ℕ) → slots_of self.now.map ≤ s → 1 ≤ s → s ≤ self.now.last → block_of self.now.map s ≡ block → IsTrue result }
+        ensures past { (s : ℕ) → slots_of self.now.map ≤ s → 1 ≤ s → s ≤ self.now.last →
+            block_of self.now.map s ≡ block → IsTrue result }
     {
         let end = self.map.block(self.last);
         if block > end {

@@ -1,4 +1,5 @@
-ghost use Rattle.std.specs.Prelude.{◌≡◌, ℕ, ◌+◌, ◌-◌, ◌<◌, ◌≤◌, ◌↔◌, ◌++◌, [], length, Some, None, Ok, Err, IsOk, IfOk, IfErr, IfSome, OnOk, OnErr, MatchResult, IsTrue, List, Option};
+ghost use Rattle.std.specs.Prelude.{◌≡◌, ℕ, ◌+◌, ◌-◌, ◌<◌, ◌≤◌, ◌↔◌, ◌++◌, [], length, Some, None, Ok, Err, IsOk, IfOk};
+ghost use Rattle.std.specs.Prelude.{IfErr, IfSome, OnOk, OnErr, MatchResult, IsTrue, List, Option};
 ghost use Rattle.std.specs.Option.{option_copied};
 ghost use Rattle.definitions.specs.Zones.{numbers, first_from};
 ghost use Rattle.definitions.specs.Disk.{DiskImage, block, Changes, Elapses, raised, HasRisen};
@@ -80,15 +81,17 @@ impl Model for Reader {
 impl Reader {
     ghost use Rattle.image_read.specs.Reading.{Reading, HasReadAll, IsReady};
     ghost use Rattle.image_read.specs.Causes.{reply_of};
-    ghost use Rattle.image_read.specs.Faults.{first_fault, info_fault, pages_fault, named_fault, named_block, chain_fault, block_named};
+    ghost use Rattle.image_read.specs.Faults.{first_fault, info_fault, pages_fault, named_fault, named_block};
+    ghost use Rattle.image_read.specs.Faults.{chain_fault, block_named};
     ghost use Rattle.pfn_pack.specs.Numbers.{wanted, numbers_in, marked_in};
-    ghost use Rattle.image_read.specs.Taking.{Takes, Advances, with_data, after_frame, with_info, with_numbers, numbers_fault};
+    ghost use Rattle.image_read.specs.Taking.{Takes, Advances, with_data, after_frame, with_info, with_numbers};
+    ghost use Rattle.image_read.specs.Taking.{numbers_fault};
     ghost use Rattle.image_read.specs.Stream.{IsAreaOf, HasReadPlaces, place_block};
     ghost use Rattle.image_read.specs.Answers.{Compares, Reads, Gives, Answers, GoesOn};
     ghost use Rattle.image_read.specs.declared.cause.Cause.{Cause};
 
-    /// Begins with the fields of the header block: `first` is the block of the first map, `last` the last slot. The disk
-    /// has so many blocks. It keeps a copy of the file map.
+    /// Begins with the fields of the header block: `first` is the block of the first map, `last` the last slot. The
+    /// disk has so many blocks. It keeps a copy of the file map.
     pub fn begin(
         first: u64,
         map: &FileMap,
@@ -97,12 +100,15 @@ impl Reader {
         format: Format,
     ) -> Result<Reader, Cause>
         ensures ok { IsOk result ↔ (first_fault map.now blocks last first ≡ None) }
-        ensures refused { (cause : Cause) → (result ≡ Err cause) ↔ (first_fault map.now blocks last first ≡ Some cause) }
+        ensures refused { (cause : Cause) →
+            (result ≡ Err cause) ↔ (first_fault map.now blocks last first ≡ Some cause) }
         ensures chain { (h : Hardware) (v : DiskImage) → IsAreaOf h v map.now last blocks format →
-            MatchResult result (λ r. map_fault h v first 0 ≡ None) (λ cause. map_fault h v first 0 ≡ Some (reply_of cause)) }
+            MatchResult result (λ r. map_fault h v first 0 ≡ None)
+            (λ cause. map_fault h v first 0 ≡ Some (reply_of cause)) }
         ensures ready { IfOk result (λ r. IsReady r [] []) }
         ensures blocks { IfOk result (λ r. r.blocks ≡ blocks) }
-        ensures reading { (h : Hardware) (v : DiskImage) (check : IdentCheck) → IsAreaOf h v map.now last blocks format → first ≡ first_map h v →
+        ensures reading { (h : Hardware) (v : DiskImage) (check : IdentCheck) →
+            IsAreaOf h v map.now last blocks format → first ≡ first_map h v →
             IfOk result (λ r. HasReadPlaces h v check r 0 [] []) }
     {
         if first == 0 {
@@ -138,15 +144,17 @@ impl Reader {
     /// Whether every page of the stream was read.
     pub fn over(&self) -> bool
         ensures over { IsTrue result ↔ HasReadAll self.now }
-        ensures whole { (h : Hardware) (v : DiskImage) (check : IdentCheck) (t : ℕ) (origs zeros : List ℕ) → HasReadPlaces h v check self.now t origs zeros →
+        ensures whole { (h : Hardware) (v : DiskImage) (check : IdentCheck) (t : ℕ) (origs zeros : List ℕ) →
+            HasReadPlaces h v check self.now t origs zeros →
             IsTrue result ↔ ((2 ≤ t) × (t ≡ place_count (info_in h v).pages)) }
     {
         self.steps == self.places()
     }
 
-    /// Reads the next block. A number page's page frames go into `origs`, and those without a data page into `zeros` too. A
-    /// data page is in `page` then. With `ident` the image's identity is compared. Where the wanted next block is refused and
-    /// `listed` tells a count, the sets hold all the page frames of the image, so room for its pages can be planned.
+    /// Reads the next block. A number page's page frames go into `origs`, and those without a data page into `zeros`
+    /// too. A data page is in `page` then. With `ident` the image's identity is compared. Where the wanted next block
+    /// is refused and `listed` tells a count, the sets hold all the page frames of the image, so room for its pages can
+    /// be planned.
     pub fn step<D: Disk>(
         &mut self,
         disk: &mut D,
@@ -223,7 +231,8 @@ impl Reader {
         requires zones { origs.old.zones ≡ zones.now }
         requires same_zones { zeros.old.zones ≡ zones.now }
         ensures gives { (h : Hardware) (v : DiskImage) (check : IdentCheck) (t : ℕ) →
-            HasReadPlaces h v check self.old t origs.old.members zeros.old.members → page.now ≡ block v (place_block h v (place t)) →
+            HasReadPlaces h v check self.old t origs.old.members zeros.old.members →
+            page.now ≡ block v (place_block h v (place t)) →
             zones.now ≡ h.zones → Compares h check (option_copied ident.entry) →
             Gives h v check t result self.new origs.new.members zeros.new.members }
         ensures ready { IfOk result (λ frame. IsReady self.new origs.new.members zeros.new.members) }
@@ -249,7 +258,8 @@ impl Reader {
         requires more { self.old.steps < place_count self.old.pages }
         requires zones { origs.old.zones ≡ zones.now }
         requires same_zones { zeros.old.zones ≡ zones.now }
-        ensures takes { Takes (option_copied ident.entry) zones.now page.now self.old origs.old.members zeros.old.members result self.new origs.new.members zeros.new.members }
+        ensures takes { Takes (option_copied ident.entry) zones.now page.now self.old origs.old.members
+            zeros.old.members result self.new origs.new.members zeros.new.members }
         ensures saved { IfOk result (λ frame. self.new.saved ≤ 65536) }
         ensures blocks { self.new.blocks ≡ self.old.blocks }
         ensures zones { origs.new.zones ≡ origs.old.zones }
@@ -277,8 +287,10 @@ impl Reader {
         zones: &Zones,
         ident: Option<&Ident>,
     ) -> Result<(), Cause>
-        ensures ok { IsOk result ↔ (info_fault (option_copied ident.entry) (length (numbers zones.now)) self.old.format (info_of page.now) ≡ None) }
-        ensures fault { IfErr result (λ cause. info_fault (option_copied ident.entry) (length (numbers zones.now)) self.old.format (info_of page.now) ≡ Some cause) }
+        ensures ok { IsOk result ↔ (info_fault (option_copied ident.entry) (length (numbers zones.now)) self.old.format
+            (info_of page.now) ≡ None) }
+        ensures fault { IfErr result (λ cause. info_fault (option_copied ident.entry) (length (numbers zones.now))
+            self.old.format (info_of page.now) ≡ Some cause) }
         ensures info { OnOk result (self.new ≡ with_info self.old (info_of page.now)) }
         ensures saved { OnOk result (self.new.saved ≤ 65536) }
         ensures same { OnErr result (self.new ≡ self.old) }
@@ -304,10 +316,13 @@ impl Reader {
         requires zones { origs.old.zones ≡ zones.now }
         requires same_zones { zeros.old.zones ≡ zones.now }
         ensures ok { IsOk result ↔ (numbers_fault zones.now self.old zeros.old.members page.now ≡ None) }
-        ensures fault { IfErr result (λ cause. numbers_fault zones.now self.old zeros.old.members page.now ≡ Some cause) }
+        ensures fault { IfErr result (λ cause. numbers_fault zones.now self.old zeros.old.members page.now ≡ Some
+            cause) }
         ensures numbers { OnOk result (self.new ≡ with_numbers self.old page.now) }
-        ensures origs { OnOk result (origs.new.members ≡ origs.old.members ++ numbers_in self.old.numbers page.now (wanted self.old.numbers)) }
-        ensures zeros { OnOk result (zeros.new.members ≡ zeros.old.members ++ marked_in self.old.numbers page.now (wanted self.old.numbers)) }
+        ensures origs { OnOk result (origs.new.members ≡ origs.old.members
+            ++ numbers_in self.old.numbers page.now (wanted self.old.numbers)) }
+        ensures zeros { OnOk result (zeros.new.members ≡ zeros.old.members
+            ++ marked_in self.old.numbers page.now (wanted self.old.numbers)) }
         ensures listed { OnErr result (self.new.listed ≡ self.old.listed) }
         ensures blocks { self.new.blocks ≡ self.old.blocks }
         ensures zones { origs.new.zones ≡ origs.old.zones }
@@ -412,8 +427,10 @@ fn next_with_data(origs: &Bitmap, zeros: &Bitmap, from: u32) -> Option<u32>
 /// Whether an image is of this machine, with so many page frames, and its counts fit.
 #[tactic(auto, unfolding(crate::specs::Faults::info_fault))]
 fn test_info(info: &Info, zones: &Zones, ident: Option<&Ident>, format: Format) -> Result<(), Cause>
-    ensures ok { IsOk result ↔ (info_fault (option_copied ident.entry) (length (numbers zones.now)) format info.now ≡ None) }
-    ensures fault { IfErr result (λ cause. info_fault (option_copied ident.entry) (length (numbers zones.now)) format info.now ≡ Some cause) }
+    ensures ok { IsOk result ↔ (info_fault (option_copied ident.entry) (length (numbers zones.now)) format info.now ≡
+        None) }
+    ensures fault { IfErr result (λ cause. info_fault (option_copied ident.entry) (length (numbers zones.now)) format
+        info.now ≡ Some cause) }
     ensures fits { OnOk result (FitsIn 65536 info.now) }
 {
     if let Some(ident) = ident {

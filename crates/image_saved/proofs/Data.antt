@@ -88,7 +88,7 @@ counted_join p a (suc n) =
       next : (b m : ℕ) → b + suc m ≡ suc (b + m)
       next b m = omega arith
 
--- the words of number pages behind an info page
+-- the words of number pages after an info page
 pub behind_info : (info : List ℕ) (rest : List (List ℕ)) (k : ℕ) → page_at (info ∷ rest) (1 + k) ≡ page_at rest k
 behind_info info rest k = ap (page_at (info ∷ rest)) (let e : 1 + k ≡ suc k = omega arith in e)
 

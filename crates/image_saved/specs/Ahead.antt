@@ -76,7 +76,7 @@ pub record IsMarked (format : Format) (pages : List (List ℕ)) (n frame : ℕ) 
   pub at : IsListed format pages n frame
   pub marked : has_page format (listed pages at.index) ≡ false
 
--- it has one, behind so many more number pages, and it is that one of the data pages, from 1
+-- it has one, after so many more number pages, and it is that one of the data pages, from 1
 pub record IsAhead (format : Format) (pages : List (List ℕ)) (n frame lists wanted : ℕ) : Type 0 where
   pub at : IsListed format pages n frame
   pub has : has_page format (listed pages at.index) ≡ true

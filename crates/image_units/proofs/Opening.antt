@@ -134,7 +134,7 @@ behind_compared content header info old new before now told then pages crc start
       (whole_index content header info old new pages crc starts index same count pass made agrees is),
 )
 
--- what is said behind the info page, of the whole image
+-- what is said after the info page, of the whole image
 pub opens_behind : (content : Option Content) (flags : ℕ) (header info : List ℕ) (old mid : Chain) (before now : ℕ) (told then : Told) (o : Opened) → IsSameChain old mid → IsInfo content old.first info → info_findings (format_of flags) info ≡ [] → OpensBehind content header info mid before now told then o → OpensChain content flags header old before now told then o
 opens_behind content flags header info old mid before now told then Plain same is clean says = absurd says
 opens_behind content flags header info old mid before now told then Refused same is clean (f, (tells, inl bad)) = (

@@ -18,7 +18,7 @@ use Rattle.image_units.specs.Names.{HasRead, IsNameFault, chain_of, place_in}
 use Rattle.image_units.specs.Units.{bytes_from, bytes_of, is_length, length_at, outcome_of, pages_with, size_of, start_of, stream_at, stream_fault, unit_fault}
 use Rattle.image_units.specs.Faults.{IsFaulty, IsUnread, IsWithin, pages_before}
 
--- the page behind a unit
+-- the page after a unit
 pub start_of-next : (chain : ℕ → List ℕ) (j : ℕ) → start_of chain (j + 1) ≡ start_of chain j + pages_with (length_at chain (start_of chain j))
 unfolding start_of
 start_of-next chain j = ap (start_of chain) (add-one j)
@@ -34,7 +34,7 @@ bytes_from-more chain k n =
     ∙ concat-append (map chain (range_with_len k n)) (chain (k + n) ∷ [])
     ∙ ap (λ (x : List ℕ). bytes_from chain k n ++ x) (append-nil (chain (k + n)))
 
--- the first page, and those behind it
+-- the first page, and those after it
 pub bytes_from-first : (chain : ℕ → List ℕ) (k n : ℕ) → bytes_from chain k (n + 1) ≡ chain k ++ bytes_from chain (k + 1) n
 bytes_from-first chain k zero = refl
 bytes_from-first chain k (suc n) =
@@ -104,7 +104,7 @@ stream-packed chain k packed is =
     sym (take-take len room (drop 8 packed) fits)
     ∙ ap (take len) (sym (drop-take 8 room packed) ∙ ap (λ (n : ℕ). drop 8 (take n packed)) whole ∙ ap (drop 8) is)
 
--- the whole unit: its pages are those of the first one and of those behind it
+-- the whole unit: its pages are those of the first one and of those after it
 pub pages-packed : (chain : ℕ → List ℕ) (k n : ℕ) (page before packed : List ℕ) → take 4096 before ≡ page → page ≡ chain k → take (4096 * (n + 1)) packed ≡ take 4096 before ++ bytes_from chain (k + 1) n → take (4096 * (n + 1)) packed ≡ bytes_from chain k (n + 1)
 pages-packed chain k n page before packed first is rest =
     rest ∙ ap (λ (x : List ℕ). x ++ bytes_from chain (k + 1) n) (first ∙ is) ∙ sym (bytes_from-first chain k n)
@@ -123,7 +123,7 @@ no_fault unit size written None e = (refl, same (eqb written size) refl e) where
   same true is e = eqb-true written size (sym is)
   same false is e = cc
 
--- a page more behind the first one
+-- a page more after the first one
 pub filled-more : (content : Option Content) (first count i : ℕ) (page before old new : List ℕ) → take (4096 * (i + 1) + 4096) new ≡ take (4096 * (i + 1)) old ++ page → IfSome content (λ held. take (4096 * (i + 1)) old ≡ take 4096 before ++ bytes_from (chain_of (as_it_reads held) first) count i) → IfSome content (λ held. page ≡ chain_of (as_it_reads held) first (count + i)) → IfSome content (λ held. take (4096 * (i + 1 + 1)) new ≡ take 4096 before ++ bytes_from (chain_of (as_it_reads held) first) count (i + 1))
 filled-more None first count i page before old new added filled is = tt
 filled-more (Some held) first count i page before old new added filled is =

@@ -11,7 +11,7 @@ use Rattle.image_units.specs.Units.{IsUnit, bytes_from, bytes_of, checksum_of, i
 use Rattle.image_units.specs.Units.{unit_fault}
 use Rattle.image_units.specs.declared.chain.Chain.{Chain}
 
--- page k is one that unit j takes; behind its first page only where its length is one
+-- page k is one that unit j takes; after its first page only where its length is one
 pub record IsWithin (chain : ℕ → List ℕ) (unit k : ℕ) : Type 0 where
   pub low : start_of chain unit ≤ k
   pub high : k < start_of chain (unit + 1)
@@ -61,7 +61,7 @@ UnitSays content pages unit before now old new bytes None =
 UnitSays content pages unit before now old new bytes (Some f) =
     IsUnitWrong old.walker.limits old.first content pages unit before now f
 
--- what is told of the pages behind a unit's first one
+-- what is told of the pages after a unit's first one
 abbrev pub FillSays : Option Content → (pages count before now : ℕ) → (old new : Chain) → (packed filled : List ℕ) →
     Option Finding → Type 0
 FillSays content pages count before now old new packed filled None =

@@ -26,7 +26,7 @@ pub record IsBadPass (content : Option Content) (pages before now : ℕ) (c : Ch
   pub earlier : AreFine content c.first pages unit
   pub wrong : IsUnitWrong c.walker.limits c.first content pages unit before now f
 
--- the units from the page behind the info page on
+-- the units from the page after the info page on
 abbrev pub PassSays : Option Content → (pages before now : ℕ) → (old new : Chain) → Units → Type 0
 PassSays content pages before now old new (units.Wrong f) = IsBadPass content pages before now old f
 PassSays content pages before now old new (units.Whole starts crc) =
@@ -54,7 +54,7 @@ pub record IsOtherSum (content : Option Content) (pages : ℕ) (header : List �
   pub is : IfSome content (λ held. found ≡ checksum_of (chain_of (as_it_reads held) c.first) pages (units_of pages))
   pub finding : f ≡ finding.Checksum wanted found
 
--- what an answer says of the pages behind the info page
+-- what an answer says of the pages after the info page
 abbrev pub OpensBehind : Option Content → (header info : List ℕ) → Chain → (before now : ℕ) → Told → Told → Opened →
     Type 0
 OpensBehind content header info c before now old new Plain = ⊥

@@ -16,7 +16,7 @@ pub struct Index {
     pub pages: u64,
     /// The blocks of the maps.
     pub maps: Vec<u64>,
-    /// The page of the chain at which each unit starts, and the page behind the last one.
+    /// The page of the chain at which each unit starts, and the page after the last one.
     pub starts: Vec<u32>,
     ghost few: { pages ≤ 2147483648 },
     ghost header_page: { IsPage header },

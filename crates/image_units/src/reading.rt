@@ -135,7 +135,7 @@ fn read_chain<B: Walks, K: Original, R: Report>(
     }
 }
 
-/// Reads the image behind its info page.
+/// Reads the image after its info page.
 fn read_behind<B: Walks, K: Original, R: Report>(
     alloc: Global,
     source: &mut Source<B, K>,

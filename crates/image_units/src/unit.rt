@@ -47,7 +47,7 @@ impl Unit {
         put_page(self.packed.as_mut_slice(), PAGE * i, page);
     }
 
-    /// Expands the stream of so many bytes behind the length, into at most `size` bytes.
+    /// Expands the stream of so many bytes after the length, into at most `size` bytes.
     pub fn expand(&mut self, len: usize, size: usize) -> Result<usize, LzoFault>
         requires len { len ≤ 143352 }
         requires size { size ≤ 131072 }

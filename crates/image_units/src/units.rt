@@ -95,7 +95,7 @@ pub(crate) fn read_unit<B: Walks, K: Original>(
     }
 }
 
-/// Reads so many pages behind a unit's first one.
+/// Reads so many pages after a unit's first one.
 fn fill<B: Walks, K: Original>(
     chain: &mut Chain,
     source: &mut Source<B, K>,

@@ -35,7 +35,8 @@ Tells error unparsed.NoMemory = ⊤
 
 -- clap may answer the list by help or the version
 abbrev pub MayAskHelp : List (List ℕ) → Type 0
-MayAskHelp words = IsAmong kind.DisplayHelp (fault_of image_app words) ⊎ IsAmong kind.DisplayVersion (fault_of image_app words)
+MayAskHelp words =
+    IsAmong kind.DisplayHelp (fault_of image_app words) ⊎ IsAmong kind.DisplayVersion (fault_of image_app words)
 
 -- a list that asks for help or the version gets it, and none that clap answers otherwise
 abbrev pub GivesHelp : List (List ℕ) → Unparsed → Type 0

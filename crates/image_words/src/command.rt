@@ -64,7 +64,8 @@ impl<'a> Command<'a> {
 
     /// The command of a plain list of words, of which the first is the program's name. No other list parses, also where
     /// clap takes it: clap's options may stand anywhere, and its numbers may have a sign and zeros before them. Such a
-    /// list gets a line that says so, one that asks for help or the version gets that, and any other what clap says of it.
+    /// list gets a line that says so, one that asks for help or the version gets that, and any other what clap says of
+    /// it.
     pub fn parse(alloc: Global, words: &'a [String]) -> Result<Command<'a>, Unparsed>
         ensures asks { IfOk result (λ command. command_of (map string_bytes words.now) ≡ Some (asked_by command)) }
         ensures refused { IfErr result (IsRefusedBy (map string_bytes words.now)) }

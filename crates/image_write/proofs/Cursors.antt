@@ -68,7 +68,7 @@ pass_one origs copies zeros orig copy passed found pair h lt =
           ∙ ap₂ (λ (n : ℕ) (p : ℕ × ℕ). n + cond (has_data zeros p) 1 0) h.counted (get_or-zip origs copies passed (0, 0) lt (omega arith));
     }
 
--- a pair that passes a test stands in the filtered list behind those of the pairs before it
+-- a pair that passes a test stands in the filtered list after those of the pairs before it
 filtered_at : (test : ℕ × ℕ → Bool) (pairs : List (ℕ × ℕ)) (i : ℕ) → i < length pairs → test (get_or pairs i (0, 0)) ≡ true → get_or (filter test pairs) (length (filter test (take i pairs))) (0, 0) ≡ get_or pairs i (0, 0)
 filtered_at test [] i lt passes = absurd (omega arith)
 filtered_at test (p ∷ pairs) zero lt passes = ap (λ (xs : List (ℕ × ℕ)). get_or xs 0 (0, 0)) (cond-true (test p) (p ∷ filter test pairs) (filter test pairs) passes)

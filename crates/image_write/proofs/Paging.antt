@@ -20,7 +20,7 @@ pub length-entries : (free : List ℕ) (frames : List (List ℕ)) (w : Writing) 
 length-entries free frames w h =
     ap length h.entries ∙ length-map-range_with_len (λ i. laid_block w.extents free (page_place i)) (511 * (w.written / 512)) (w.written % 512)
 
--- the writer behind the page, where the slots for it are taken
+-- the writer after the page, where the slots for it are taken
 pub next_writing : (free : List ℕ) (frames after : List (List ℕ)) (w : Writing) (m : MapEntries) (b next : ℕ) → IsWriting free frames w → IsPageWrite w.info.pages w.written →
     HasTaken free (taken_after (w.written + 1)) after w.table → b ≡ laid_block w.extents free (page_place (page_of_write w.written)) → m.entries ≡ w.entries.entries ++ b ∷ [] →
     m.link ≡ cond (eqb ((w.written + 1) % 512) 511) next 0 → ((w.written + 1) % 512 ≡ 511 → next ≡ laid_block w.extents free (map_place (w.written / 512 + 1))) →
@@ -71,7 +71,7 @@ page_taken free frames w h page at =
     subst (λ (s : ℕ). HasTaken free (taken_after w.written + 1) (with_entry frames w.table.first s 65536) w.table) (sym is)
     (taken_more free (taken_after w.written) frames w.table at h.ascending h.slots (page_slot free frames w h page))
 
--- The map has room behind the page.
+-- The map has room after the page.
 pub with_room : (free : List ℕ) (frames : List (List ℕ)) (w : Writing) (m : MapEntries) (b : ℕ) → IsWriting free frames w → IsPageWrite w.info.pages w.written → IsTable frames w.table →
     b ≡ block_of w.extents (get_or (free_in frames w.table) 0 0) → m.entries ≡ w.entries.entries ++ b ∷ [] → m.link ≡ w.entries.link → length m.entries < 511 →
     IsWriting free (with_page frames w) (record w { written = w.written + 1; entries = m })
@@ -124,7 +124,7 @@ with_map free frames w m linked b next h page at is entries full next_is linked_
     (link ∙ sym (cond-true (eqb ((k + 1) % 512) 511) next 0 (eq-eqb ((k + 1) % 512) 511 now_full)))
     (λ e. next_is ∙ ap (block_of w.extents) slot ∙ ap (laid_block w.extents free) place)
 
--- Memory behind the page, by the slots that its write takes.
+-- Memory after the page, by the slots that its write takes.
 
 pub one_slot : (frames : List (List ℕ)) (table s v : ℕ) → with_entries frames table (s ∷ []) v ≡ with_entry frames table s v
 unfolding with_entries

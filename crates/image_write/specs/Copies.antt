@@ -15,8 +15,8 @@ with_data origs copies zeros = filter (has_data zeros) (zip origs copies)
 abbrev pub data_pages : List (List ℕ) → List ℕ → List ℕ → List ℕ → List (List ℕ)
 data_pages frames origs copies zeros = map (λ pair. frame frames pair.1) (with_data origs copies zeros)
 
--- How far the copies are read: so many pairs of an original and its copy are passed, which lie below these two numbers, and
--- so many of them have data.
+-- How far the copies are read: so many pairs of an original and its copy are passed, which lie below these two numbers,
+-- and so many of them have data.
 pub record IsPassed (origs copies zeros : List ℕ) (orig copy passed found : ℕ) : Type 0 where
   pub within : passed ≤ length origs
   pub origs_below : count_below origs orig ≡ passed

@@ -20,6 +20,6 @@ writing w = record {
   passed = w.cursor.passed;
 }
 
--- so many pages with data lie behind the cursor
+-- so many pages with data lie after the cursor
 abbrev pub HasPassed : List ℕ → List ℕ → List ℕ → Cursor → ℕ → Type 0
 HasPassed origs copies zeros cursor found = IsPassed origs copies zeros cursor.orig cursor.copy cursor.passed found

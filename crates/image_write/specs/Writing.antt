@@ -1,5 +1,6 @@
 -- A writer, and how far it has come.
-use Rattle.std.specs.Prelude.{◌≡◌, ◌≤◌, ◌<◌, ◌==◌, ◌^◌, ℕ, ◌+◌, ◌-◌, ◌*◌, ◌/◌, ◌%◌, List, [], length, take, drop, All, if◌then◌else◌, slice_index_or}
+use Rattle.std.specs.Prelude.{◌≡◌, ◌≤◌, ◌<◌, ◌==◌, ◌^◌, ℕ, ◌+◌, ◌-◌, ◌*◌, ◌/◌, ◌%◌, List, [], length, take, drop, All}
+use Rattle.std.specs.Prelude.{if◌then◌else◌, slice_index_or}
 use Rattle.std.specs.List.Sorted.{IsStrictlyIncreasing}
 use Rattle.definitions.specs.Disk.{Content, Writes, FailsToWrite}
 use Rattle.definitions.specs.declared.info.Info.{Info}
@@ -9,11 +10,13 @@ use Rattle.swap_map.specs.MapPages.{MapEntries}
 use Rattle.swap_slots.specs.Table.{free_in}
 use Rattle.swap_slots.specs.declared.table.SlotTable.{SlotTable}
 use Rattle.plain_machine.specs.Image.{maps_of, stream_pages}
-use Rattle.plain_machine.specs.Laid.{page_place, map_place, laid_block, laid_entries, laid_map, laid_write, is_map_write, page_of_write}
+use Rattle.plain_machine.specs.Laid.{page_place, map_place, laid_block, laid_entries, laid_map, laid_write}
+use Rattle.plain_machine.specs.Laid.{is_map_write, page_of_write}
 use Rattle.image_write.specs.Copies.{with_data, data_pages, IsPassed}
 
--- What it writes, where, and how many writes it has made: the block of the first map, the block of the map that is filled, its
--- entries so far and its link, and the block of the next map once that is taken. Of the copies it has passed so many.
+-- What it writes, where, and how many writes it has made: the block of the first map, the block of the map that is
+-- filled, its entries so far and its link, and the block of the next map once that is taken. Of the copies it has
+-- passed so many.
 pub record Writing : Type 0 where
   pub info : Info
   pub extents : List (ℕ × ℕ × ℕ)
@@ -31,12 +34,13 @@ pub record Writing : Type 0 where
 abbrev pub writes_of : Info → ℕ
 writes_of info = info.pages + maps_of info.pages
 
--- how many slots are taken when so many writes are made: that of the first map, one for each page, and one for each next map
+-- how many slots are taken when so many writes are made: that of the first map, one for each page, and one for each
+-- next map
 abbrev pub taken_after : ℕ → ℕ
 taken_after written = page_place (page_of_write written)
 
--- The slots that write k takes: that of its page, and with the 511th page of a map that of the next one. A write of a map
--- takes none.
+-- The slots that write k takes: that of its page, and with the 511th page of a map that of the next one. A write of a
+-- map takes none.
 abbrev pub slots_of_write : Info → List ℕ → ℕ → List ℕ
 slots_of_write info free k =
     if is_map_write info.pages k then [] else take (if k % 512 == 510 then 2 else 1) (drop (taken_after k) free)
@@ -46,12 +50,13 @@ pub record HasTaken (free : List ℕ) (count : ℕ) (frames : List (List ℕ)) (
   pub left : free_in frames table ≡ drop count free
   pub taken : All (λ s. entry_at frames table.first s ≡ 65536) (take count free)
 
--- the blocks of the first so many of these slots lie below a limit: those that the disk has, or that a 32-bit number can name
+-- the blocks of the first so many of these slots lie below a limit: those that the disk has, or that a 32-bit number
+-- can name
 abbrev pub BlocksBelow : List (ℕ × ℕ × ℕ) → List ℕ → ℕ → ℕ → Type 0
 BlocksBelow extents free count limit = (place : ℕ) → place < count → laid_block extents free place < limit
 
--- A writer that isn't done, where these slots were free at its begin: it has taken those for what was written, and fills the
--- map of the next write.
+-- A writer that isn't done, where these slots were free at its begin: it has taken those for what was written, and
+-- fills the map of the next write.
 pub record IsWriting (free : List ℕ) (frames : List (List ℕ)) (w : Writing) : Type 0 where
   pub ascending : IsStrictlyIncreasing free
   pub few : length free < 2 ^ 32
@@ -78,7 +83,8 @@ write_next free w page = laid_write w.extents free w.info.pages page w.written
 
 -- the map that is filled, and its block
 abbrev pub map_next : List ℕ → Writing → ℕ × List ℕ
-map_next free w = (laid_block w.extents free (map_place (w.written / 512)), laid_map w.extents free w.info.pages (w.written / 512))
+map_next free w =
+    (laid_block w.extents free (map_place (w.written / 512)), laid_map w.extents free w.info.pages (w.written / 512))
 
 -- a write is made, or fails
 abbrev pub Makes : ℕ × List ℕ → Content → Content → Type 0
@@ -96,9 +102,11 @@ pub record IsSameImage (old new : Writing) : Type 0 where
 
 -- the stream of these sets: the info page, the numbers of the originals, and the copies with data
 abbrev pub stream_of_sets : Info → List (List ℕ) → List ℕ → List ℕ → List ℕ → List (List ℕ)
-stream_of_sets info frames origs copies zeros = stream_pages info (marked_numbers origs zeros) (data_pages frames origs copies zeros)
+stream_of_sets info frames origs copies zeros =
+    stream_pages info (marked_numbers origs zeros) (data_pages frames origs copies zeros)
 
--- The sets are those of the image: as many originals and copies as the info page says, and pages with data for its count of pages.
+-- The sets are those of the image: as many originals and copies as the info page says, and pages with data for its
+-- count of pages.
 pub record AreOfImage (info : Info) (origs copies zeros : List ℕ) : Type 0 where
   pub originals : length origs ≡ info.image_pages
   pub copied : length copies ≡ info.image_pages

@@ -32,12 +32,18 @@ impl Cursor {
     /// The copy frame of the next original that isn't in `zeros`.
     pub fn next(&mut self, origs: &Bitmap, copies: &Bitmap, zeros: Option<&Bitmap>) -> u32
         requires equal { length origs.now.members ≡ length copies.now.members }
-        requires more { (found : ℕ) × (found < length (with_data origs.now.members copies.now.members (members_in (option_copied zeros)))) × HasPassed origs.now.members copies.now.members (members_in (option_copied zeros)) self.old found }
-        ensures copy { (found : ℕ) → HasPassed origs.now.members copies.now.members (members_in (option_copied zeros.entry)) self.old found
-            → result ≡ (slice_index_or (with_data origs.now.members copies.now.members (members_in (option_copied zeros.entry))) found (0, 0)).1 }
+        requires more { (found : ℕ)
+            × (found < length (with_data origs.now.members copies.now.members (members_in (option_copied zeros))))
+            × HasPassed origs.now.members copies.now.members (members_in (option_copied zeros)) self.old found }
+        ensures copy { (found : ℕ) →
+            HasPassed origs.now.members copies.now.members (members_in (option_copied zeros.entry)) self.old found
+            → result ≡ (slice_index_or (with_data origs.now.members copies.now.members
+            (members_in (option_copied zeros.entry))) found (0, 0)).1 }
         ensures member { Contains copies.now.members result }
-        ensures passed { (found : ℕ) → HasPassed origs.now.members copies.now.members (members_in (option_copied zeros.entry)) self.old found
-            → HasPassed origs.now.members copies.now.members (members_in (option_copied zeros.entry)) self.new (found + 1) }
+        ensures passed { (found : ℕ) →
+            HasPassed origs.now.members copies.now.members (members_in (option_copied zeros.entry)) self.old found
+            → HasPassed origs.now.members copies.now.members (members_in (option_copied zeros.entry)) self.new
+            (found + 1) }
     {
         let count = origs.len();
         let equal = copies.len() == count;

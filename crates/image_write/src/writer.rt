@@ -1,4 +1,5 @@
-ghost use Rattle.std.specs.Prelude.{◌≡◌, ◌⊎◌, ℕ, ◌+◌, ◌-◌, ◌*◌, ◌/◌, ◌%◌, ◌^◌, ◌<◌, ◌≤◌, List, ◌↔◌, false, true, IsTrue, All, length, take, slice_index, option_copied};
+ghost use Rattle.std.specs.Prelude.{◌≡◌, ◌⊎◌, ℕ, ◌+◌, ◌-◌, ◌*◌, ◌/◌, ◌%◌, ◌^◌, ◌<◌, ◌≤◌, List, ◌↔◌, false, true};
+ghost use Rattle.std.specs.Prelude.{IsTrue, All, length, take, slice_index, option_copied};
 ghost use Rattle.definitions.specs.Disk.{Changes};
 ghost use Rattle.definitions.specs.Bytes.{IsPage};
 ghost use Rattle.definitions.specs.Slots.{block_of};
@@ -24,8 +25,9 @@ use std::marker::Model;
 use swap_map::{MapWriter, Pushed};
 use swap_slots::{FileMap, FreeRuns, SlotEntry, SlotTable};
 
-/// An image that is written to free slots (`struct swap_map_handle`, kernel/power/swap.c). The first map's slot is taken at the
-/// begin, and each page takes one. With a map's last entry the slot of the next map is taken, and the full map is written.
+/// An image that is written to free slots (`struct swap_map_handle`, kernel/power/swap.c). The first map's slot is
+/// taken at the begin, and each page takes one. With a map's last entry the slot of the next map is taken, and the full
+/// map is written.
 #[derive(Drop)]
 pub struct Writer {
     info: Info,
@@ -55,7 +57,9 @@ impl Model for Writer {
 impl Writer {
     ghost use Rattle.image_write.specs.Answers.{Succeeds, GoesOn};
     ghost use Rattle.image_write.specs.Copies.{IsPassed};
-    ghost use Rattle.image_write.specs.Writing.{IsWriting, IsReady, BlocksBelow, IsSameImage, Makes, FailsToMake, page_next, write_next, map_next, IsSameCursor, slots_of_write, AreOfImage, HasReadCopies, stream_of_sets};
+    ghost use Rattle.image_write.specs.Writing.{IsWriting, IsReady, BlocksBelow, IsSameImage, Makes, FailsToMake};
+    ghost use Rattle.image_write.specs.Writing.{page_next, write_next, map_next, IsSameCursor, slots_of_write};
+    ghost use Rattle.image_write.specs.Writing.{AreOfImage, HasReadCopies, stream_of_sets};
 
     /// Takes the slot of the first map.
     pub fn begin(
@@ -77,7 +81,8 @@ impl Writer {
         ensures writing { IsWriting (free_in frames.old table.now) frames.new result }
         ensures reading { (origs copies zeros : List ℕ) → HasReadCopies origs copies zeros result }
 
-        ensures taken { frames.new ≡ with_entries frames.old table.now.first (take 1 (free_in frames.old table.now)) 65536 }
+        ensures taken { frames.new ≡ with_entries frames.old table.now.first
+            (take 1 (free_in frames.old table.now)) 65536 }
         ensures len { length frames.new ≡ length frames.old }
         ensures runs { Matches frames.new table.now runs.new }
         ensures runs_room { runs.new.room ≡ runs.old.room }
@@ -105,8 +110,8 @@ impl Writer {
         self.first
     }
 
-    /// Makes the next write: that of a page of the image, or of a map. The pages are the info page, the number pages of `origs`,
-    /// and the copies in `copies` of those that aren't in `zeros`.
+    /// Makes the next write: that of a page of the image, or of a map. The pages are the info page, the number pages of
+    /// `origs`, and the copies in `copies` of those that aren't in `zeros`.
     pub fn step<D: Disk>(
         &mut self,
         frames: &mut Frames,
@@ -119,25 +124,35 @@ impl Writer {
         requires table { LiesIn frames.old self.old.table }
         requires matches { Matches frames.old self.old.table runs.old }
         requires writing { IsReady (D.block_count disk.old) frames.old self.old }
-        requires sets { AreOfImage self.old.info origs.now.members copies.now.members (members_in (option_copied zeros)) }
+        requires sets { AreOfImage self.old.info origs.now.members copies.now.members
+            (members_in (option_copied zeros)) }
         requires copies { All (λ p. p < length frames.old) copies.now.members }
-        requires reading { HasReadCopies origs.now.members copies.now.members (members_in (option_copied zeros)) self.old }
+        requires reading { HasReadCopies origs.now.members copies.now.members (members_in (option_copied zeros))
+            self.old }
 
-        ensures answer { (result ≡ WriteStep.Fault) ⊎ (result ≡ after (self.old.written + 1) (writes_of self.old.info)) }
-        ensures written { (free : List ℕ) → IsWriting free frames.old self.old → Succeeds result → let page = page_next (stream_of_sets self.old.info frames.old origs.now.members copies.now.members (members_in (option_copied zeros.entry))) self.old in
+        ensures answer { (result ≡ WriteStep.Fault)
+            ⊎ (result ≡ after (self.old.written + 1) (writes_of self.old.info)) }
+        ensures written { (free : List ℕ) → IsWriting free frames.old self.old → Succeeds result →
+            let page = page_next (stream_of_sets self.old.info frames.old origs.now.members copies.now.members
+            (members_in (option_copied zeros.entry))) self.old in
             Changes (Makes (write_next free self.old page)) (D.content disk.old) (D.content disk.new) }
-        ensures failed { (free : List ℕ) → IsWriting free frames.old self.old → result ≡ WriteStep.Fault → let page = page_next (stream_of_sets self.old.info frames.old origs.now.members copies.now.members (members_in (option_copied zeros.entry))) self.old in
+        ensures failed { (free : List ℕ) → IsWriting free frames.old self.old → result ≡ WriteStep.Fault →
+            let page = page_next (stream_of_sets self.old.info frames.old origs.now.members copies.now.members
+            (members_in (option_copied zeros.entry))) self.old in
             Changes (FailsToMake (write_next free self.old page)) (D.content disk.old) (D.content disk.new) }
 
         ensures called { Called D.Disk OneCall (result ≡ WriteStep.Fault) disk.old disk.new }
 
         ensures image { IsSameImage self.old self.new }
         ensures made { Succeeds result → self.new.written ≡ self.old.written + 1 }
-        ensures writing { (free : List ℕ) → IsWriting free frames.old self.old → GoesOn result → IsWriting free frames.new self.new }
-        ensures reading { GoesOn result → HasReadCopies origs.now.members copies.now.members (members_in (option_copied zeros.entry)) self.new }
+        ensures writing { (free : List ℕ) → IsWriting free frames.old self.old → GoesOn result →
+            IsWriting free frames.new self.new }
+        ensures reading { GoesOn result →
+            HasReadCopies origs.now.members copies.now.members (members_in (option_copied zeros.entry)) self.new }
 
         ensures taken { (free : List ℕ) → IsWriting free frames.old self.old →
-            frames.new ≡ with_entries frames.old self.old.table.first (slots_of_write self.old.info free self.old.written) 65536 }
+            frames.new ≡ with_entries frames.old self.old.table.first
+            (slots_of_write self.old.info free self.old.written) 65536 }
         ensures len { length frames.new ≡ length frames.old }
         ensures runs { Matches frames.new self.old.table runs.new }
         ensures room { runs.new.room ≡ runs.old.room }
@@ -164,7 +179,8 @@ impl Writer {
         requires matches { Matches frames.old self.old.table runs.old }
         requires writing { IsReady (D.block_count disk.old) frames.old self.old }
 
-        ensures answer { (result ≡ WriteStep.Fault) ⊎ (result ≡ after (self.old.written + 1) (writes_of self.old.info)) }
+        ensures answer { (result ≡ WriteStep.Fault)
+            ⊎ (result ≡ after (self.old.written + 1) (writes_of self.old.info)) }
         ensures written { (free : List ℕ) → IsWriting free frames.old self.old → Succeeds result →
             Changes (Makes (write_next free self.old page.now)) (D.content disk.old) (D.content disk.new) }
         ensures failed { (free : List ℕ) → IsWriting free frames.old self.old → result ≡ WriteStep.Fault →
@@ -174,11 +190,13 @@ impl Writer {
 
         ensures image { IsSameImage self.old self.new }
         ensures made { Succeeds result → self.new.written ≡ self.old.written + 1 }
-        ensures writing { (free : List ℕ) → IsWriting free frames.old self.old → GoesOn result → IsWriting free frames.new self.new }
+        ensures writing { (free : List ℕ) → IsWriting free frames.old self.old → GoesOn result →
+            IsWriting free frames.new self.new }
         ensures cursor { IsSameCursor self.old self.new }
 
         ensures taken { (free : List ℕ) → IsWriting free frames.old self.old →
-            frames.new ≡ with_entries frames.old self.old.table.first (slots_of_write self.old.info free self.old.written) 65536 }
+            frames.new ≡ with_entries frames.old self.old.table.first
+            (slots_of_write self.old.info free self.old.written) 65536 }
         ensures len { length frames.new ≡ length frames.old }
         ensures runs { Matches frames.new self.old.table runs.new }
         ensures room { runs.new.room ≡ runs.old.room }
@@ -189,8 +207,8 @@ impl Writer {
         self.write_page(frames, runs, disk, page)
     }
 
-    /// Writes the info page or the number page that is next, as `write_page` does. It is a call of its own, so that a step that
-    /// writes a copy makes no room for a page that is made here.
+    /// Writes the info page or the number page that is next, as `write_page` does. It is a call of its own, so that a
+    /// step that writes a copy makes no room for a page that is made here.
     #[inline(never)]
     fn write_head<D: Disk>(
         &mut self,
@@ -207,23 +225,30 @@ impl Writer {
         requires originals { length origs.now.members ≡ self.old.info.image_pages }
         requires head { page_of_write self.old.written ≤ meta_of self.old.info.image_pages }
 
-        ensures answer { (result ≡ WriteStep.Fault) ⊎ (result ≡ after (self.old.written + 1) (writes_of self.old.info)) }
-        ensures written { (free : List ℕ) (saved : List (List ℕ)) → IsWriting free frames.old self.old → Succeeds result →
-            let page = page_next (stream_pages self.old.info (marked_numbers origs.now.members (members_in (option_copied zeros.entry))) saved) self.old in
+        ensures answer { (result ≡ WriteStep.Fault)
+            ⊎ (result ≡ after (self.old.written + 1) (writes_of self.old.info)) }
+        ensures written { (free : List ℕ) (saved : List (List ℕ)) → IsWriting free frames.old self.old →
+            Succeeds result →
+            let page = page_next (stream_pages self.old.info
+            (marked_numbers origs.now.members (members_in (option_copied zeros.entry))) saved) self.old in
             Changes (Makes (write_next free self.old page)) (D.content disk.old) (D.content disk.new) }
-        ensures failed { (free : List ℕ) (saved : List (List ℕ)) → IsWriting free frames.old self.old → result ≡ WriteStep.Fault →
-            let page = page_next (stream_pages self.old.info (marked_numbers origs.now.members (members_in (option_copied zeros.entry))) saved) self.old in
+        ensures failed { (free : List ℕ) (saved : List (List ℕ)) → IsWriting free frames.old self.old →
+            result ≡ WriteStep.Fault →
+            let page = page_next (stream_pages self.old.info
+            (marked_numbers origs.now.members (members_in (option_copied zeros.entry))) saved) self.old in
             Changes (FailsToMake (write_next free self.old page)) (D.content disk.old) (D.content disk.new) }
 
         ensures called { Called D.Disk OneCall (result ≡ WriteStep.Fault) disk.old disk.new }
 
         ensures image { IsSameImage self.old self.new }
         ensures made { Succeeds result → self.new.written ≡ self.old.written + 1 }
-        ensures writing { (free : List ℕ) → IsWriting free frames.old self.old → GoesOn result → IsWriting free frames.new self.new }
+        ensures writing { (free : List ℕ) → IsWriting free frames.old self.old → GoesOn result →
+            IsWriting free frames.new self.new }
         ensures cursor { IsSameCursor self.old self.new }
 
         ensures taken { (free : List ℕ) → IsWriting free frames.old self.old →
-            frames.new ≡ with_entries frames.old self.old.table.first (slots_of_write self.old.info free self.old.written) 65536 }
+            frames.new ≡ with_entries frames.old self.old.table.first
+            (slots_of_write self.old.info free self.old.written) 65536 }
         ensures len { length frames.new ≡ length frames.old }
         ensures runs { Matches frames.new self.old.table runs.new }
         ensures room { runs.new.room ≡ runs.old.room }
@@ -232,7 +257,8 @@ impl Writer {
         self.write_page(frames, runs, disk, &page)
     }
 
-    /// Writes a page of the image to the next free slot. With the last entry of the map the slot of the next map is taken.
+    /// Writes a page of the image to the next free slot. With the last entry of the map the slot of the next map is
+    /// taken.
     fn write_page<D: Disk>(
         &mut self,
         frames: &mut Frames,
@@ -245,7 +271,8 @@ impl Writer {
         requires writing { IsReady (D.block_count disk.old) frames.old self.old }
         requires page { is_map_write self.old.info.pages self.old.written ≡ false }
 
-        ensures answer { (result ≡ WriteStep.Fault) ⊎ (result ≡ after (self.old.written + 1) (writes_of self.old.info)) }
+        ensures answer { (result ≡ WriteStep.Fault)
+            ⊎ (result ≡ after (self.old.written + 1) (writes_of self.old.info)) }
         ensures written { (free : List ℕ) → IsWriting free frames.old self.old → Succeeds result →
             Changes (Makes (write_next free self.old page.now)) (D.content disk.old) (D.content disk.new) }
         ensures failed { (free : List ℕ) → IsWriting free frames.old self.old → result ≡ WriteStep.Fault →
@@ -255,11 +282,13 @@ impl Writer {
 
         ensures image { IsSameImage self.old self.new }
         ensures made { Succeeds result → self.new.written ≡ self.old.written + 1 }
-        ensures writing { (free : List ℕ) → IsWriting free frames.old self.old → GoesOn result → IsWriting free frames.new self.new }
+        ensures writing { (free : List ℕ) → IsWriting free frames.old self.old → GoesOn result →
+            IsWriting free frames.new self.new }
         ensures cursor { IsSameCursor self.old self.new }
 
         ensures taken { (free : List ℕ) → IsWriting free frames.old self.old →
-            frames.new ≡ with_entries frames.old self.old.table.first (slots_of_write self.old.info free self.old.written) 65536 }
+            frames.new ≡ with_entries frames.old self.old.table.first
+            (slots_of_write self.old.info free self.old.written) 65536 }
         ensures len { length frames.new ≡ length frames.old }
         ensures runs { Matches frames.new self.old.table runs.new }
         ensures room { runs.new.room ≡ runs.old.room }
@@ -272,7 +301,8 @@ impl Writer {
         }
     }
 
-    /// Writes a copy frame to the next free slot, as `write_page` does a page. It is lent to the disk, so its slot is taken afterwards.
+    /// Writes a copy frame to the next free slot, as `write_page` does a page. It is lent to the disk, so its slot is
+    /// taken afterwards.
     fn write_copy<D: Disk>(
         &mut self,
         frames: &mut Frames,
@@ -286,21 +316,26 @@ impl Writer {
         requires copy { copy < length frames.old }
         requires page { is_map_write self.old.info.pages self.old.written ≡ false }
 
-        ensures answer { (result ≡ WriteStep.Fault) ⊎ (result ≡ after (self.old.written + 1) (writes_of self.old.info)) }
+        ensures answer { (result ≡ WriteStep.Fault)
+            ⊎ (result ≡ after (self.old.written + 1) (writes_of self.old.info)) }
         ensures written { (free : List ℕ) → IsWriting free frames.old self.old → Succeeds result →
-            Changes (Makes (write_next free self.old (frame frames.old copy))) (D.content disk.old) (D.content disk.new) }
+            Changes (Makes (write_next free self.old (frame frames.old copy))) (D.content disk.old)
+            (D.content disk.new) }
         ensures failed { (free : List ℕ) → IsWriting free frames.old self.old → result ≡ WriteStep.Fault →
-            Changes (FailsToMake (write_next free self.old (frame frames.old copy))) (D.content disk.old) (D.content disk.new) }
+            Changes (FailsToMake (write_next free self.old (frame frames.old copy))) (D.content disk.old)
+            (D.content disk.new) }
 
         ensures called { Called D.Disk OneCall (result ≡ WriteStep.Fault) disk.old disk.new }
 
         ensures image { IsSameImage self.old self.new }
         ensures made { Succeeds result → self.new.written ≡ self.old.written + 1 }
-        ensures writing { (free : List ℕ) → IsWriting free frames.old self.old → GoesOn result → IsWriting free frames.new self.new }
+        ensures writing { (free : List ℕ) → IsWriting free frames.old self.old → GoesOn result →
+            IsWriting free frames.new self.new }
         ensures cursor { IsSameCursor self.old self.new }
 
         ensures taken { (free : List ℕ) → IsWriting free frames.old self.old →
-            frames.new ≡ with_entries frames.old self.old.table.first (slots_of_write self.old.info free self.old.written) 65536 }
+            frames.new ≡ with_entries frames.old self.old.table.first
+            (slots_of_write self.old.info free self.old.written) 65536 }
         ensures len { length frames.new ≡ length frames.old }
         ensures runs { Matches frames.new self.old.table runs.new }
         ensures room { runs.new.room ≡ runs.old.room }
@@ -321,28 +356,31 @@ impl Writer {
         requires matches { Matches frames.now self.now.table runs.now }
         requires writing { (free : List ℕ) × IsWriting free frames.now self.now }
         requires page { is_map_write self.now.info.pages self.now.written ≡ false }
-        ensures block { (free : List ℕ) → IsWriting free frames.now self.now → result ≡ laid_block self.now.extents free (page_place (page_of_write self.now.written)) }
+        ensures block { (free : List ℕ) → IsWriting free frames.now self.now →
+            result ≡ laid_block self.now.extents free (page_place (page_of_write self.now.written)) }
     {
         let slot = runs.first().unwrap();
         self.extents.block(slot) as u32
     }
 
-    /// Takes the slot of the next page of the image, and with the last entry of the map that of the next map. The answer is the
-    /// page's block.
+    /// Takes the slot of the next page of the image, and with the last entry of the map that of the next map. The
+    /// answer is the page's block.
     fn take_page(&mut self, frames: &mut Frames, runs: &mut FreeRuns) -> u32
         requires table { LiesIn frames.old self.old.table }
         requires matches { Matches frames.old self.old.table runs.old }
         requires writing { (free : List ℕ) × IsWriting free frames.old self.old }
         requires page { is_map_write self.old.info.pages self.old.written ≡ false }
 
-        ensures block { (free : List ℕ) → IsWriting free frames.old self.old → result ≡ laid_block self.old.extents free (page_place (page_of_write self.old.written)) }
+        ensures block { (free : List ℕ) → IsWriting free frames.old self.old →
+            result ≡ laid_block self.old.extents free (page_place (page_of_write self.old.written)) }
         ensures written { self.new.written ≡ self.old.written + 1 }
         ensures image { IsSameImage self.old self.new }
         ensures writing { (free : List ℕ) → IsWriting free frames.old self.old → IsWriting free frames.new self.new }
         ensures cursor { IsSameCursor self.old self.new }
 
         ensures taken { (free : List ℕ) → IsWriting free frames.old self.old →
-            frames.new ≡ with_entries frames.old self.old.table.first (slots_of_write self.old.info free self.old.written) 65536 }
+            frames.new ≡ with_entries frames.old self.old.table.first
+            (slots_of_write self.old.info free self.old.written) 65536 }
         ensures len { length frames.new ≡ length frames.old }
         ensures runs { Matches frames.new self.old.table runs.new }
         ensures room { runs.new.room ≡ runs.old.room }
@@ -362,16 +400,19 @@ impl Writer {
         requires writing { (memory : List (List ℕ)) × IsReady (D.block_count disk.old) memory self.old }
         requires map { is_map_write self.old.info.pages self.old.written ≡ true }
 
-        ensures answer { (result ≡ WriteStep.Fault) ⊎ (result ≡ after (self.old.written + 1) (writes_of self.old.info)) }
+        ensures answer { (result ≡ WriteStep.Fault)
+            ⊎ (result ≡ after (self.old.written + 1) (writes_of self.old.info)) }
         ensures written { (free : List ℕ) (memory : List (List ℕ)) → IsWriting free memory self.old → Succeeds result →
             Changes (Makes (map_next free self.old)) (D.content disk.old) (D.content disk.new) }
-        ensures failed { (free : List ℕ) (memory : List (List ℕ)) → IsWriting free memory self.old → result ≡ WriteStep.Fault →
+        ensures failed { (free : List ℕ) (memory : List (List ℕ)) → IsWriting free memory self.old →
+            result ≡ WriteStep.Fault →
             Changes (FailsToMake (map_next free self.old)) (D.content disk.old) (D.content disk.new) }
         ensures called { Called D.Disk OneCall (result ≡ WriteStep.Fault) disk.old disk.new }
 
         ensures image { IsSameImage self.old self.new }
         ensures made { Succeeds result → self.new.written ≡ self.old.written + 1 }
-        ensures writing { (free : List ℕ) (memory : List (List ℕ)) → IsWriting free memory self.old → GoesOn result → IsWriting free memory self.new }
+        ensures writing { (free : List ℕ) (memory : List (List ℕ)) → IsWriting free memory self.old → GoesOn result →
+            IsWriting free memory self.new }
         ensures cursor { IsSameCursor self.old self.new }
     {
         let writes = writes(&self.info);
@@ -400,7 +441,9 @@ impl Writer {
         requires few { self.now.info.pages < 2 ^ 52 }
         requires originals { length origs.now.members ≡ self.now.info.image_pages }
         requires head { page_of_write self.now.written ≤ meta_of self.now.info.image_pages }
-        ensures { (saved : List (List ℕ)) → result ≡ page_next (stream_pages self.now.info (marked_numbers origs.now.members (members_in (option_copied zeros.entry))) saved) self.now }
+        ensures { (saved : List (List ℕ)) →
+            result ≡ page_next (stream_pages self.now.info
+            (marked_numbers origs.now.members (members_in (option_copied zeros.entry))) saved) self.now }
     {
         head_page(&self.info, origs, zeros, self.written - self.written / 512)
     }
@@ -415,13 +458,22 @@ impl Writer {
     ) -> u32
         requires page { page_of_write self.old.written < self.old.info.pages }
         requires data { meta_of self.old.info.image_pages < page_of_write self.old.written }
-        requires sets { AreOfImage self.old.info origs.now.members copies.now.members (members_in (option_copied zeros)) }
+        requires sets { AreOfImage self.old.info origs.now.members copies.now.members
+            (members_in (option_copied zeros)) }
         requires copies { All (λ p. p < length frames.now) copies.now.members }
-        requires reading { HasReadCopies origs.now.members copies.now.members (members_in (option_copied zeros)) self.old }
+        requires reading { HasReadCopies origs.now.members copies.now.members (members_in (option_copied zeros))
+            self.old }
         ensures within { result < length frames.now }
-        ensures page { frame frames.now result ≡ page_next (stream_of_sets self.old.info frames.now origs.now.members copies.now.members (members_in (option_copied zeros.entry))) self.old }
-        ensures same { self.new ≡ record self.old { orig = self.new.orig; copy = self.new.copy; passed = self.new.passed } }
-        ensures reading { IsPassed origs.now.members copies.now.members (members_in (option_copied zeros.entry)) self.new.orig self.new.copy self.new.passed
+        ensures page { frame frames.now result ≡ page_next
+            (stream_of_sets self.old.info frames.now origs.now.members copies.now.members
+            (members_in (option_copied zeros.entry))) self.old }
+        ensures same { self.new ≡ record self.old {
+          orig = self.new.orig;
+          copy = self.new.copy;
+          passed = self.new.passed;
+        } }
+        ensures reading { IsPassed origs.now.members copies.now.members (members_in (option_copied zeros.entry))
+            self.new.orig self.new.copy self.new.passed
             (page_of_write self.old.written + 1 - (meta_of self.old.info.image_pages + 1)) }
     {
         self.cursor.next(origs, copies, zeros)
@@ -452,7 +504,8 @@ fn take_block(frames: &mut Frames, runs: &mut FreeRuns, table: &SlotTable, map: 
     requires some { 0 < length (free_in frames.old table.now) }
     requires fits { block_of map.now (slice_index (free_in frames.old table.now) 0) < 2 ^ 32 }
     ensures block { result ≡ block_of map.now (slice_index (free_in frames.old table.now) 0) }
-    ensures taken { frames.new ≡ with_entry frames.old table.now.first (slice_index (free_in frames.old table.now) 0) 65536 }
+    ensures taken { frames.new ≡ with_entry frames.old table.now.first
+        (slice_index (free_in frames.old table.now) 0) 65536 }
     ensures pages { All IsPage frames.old }
     ensures len { length frames.new ≡ length frames.old }
     ensures matches { Matches frames.new table.now runs.new }

@@ -115,7 +115,7 @@ region-frames h r is all = record {
 pub frames-region : (h : Hardware) (r : ℕ × ℕ × ℕ) → IsRegion h r → HasFrames h (frames_of r)
 frames-region h r is p from below = (is.valid p (record { from = from; below = below }), is.of_no_table p (record { from = from; below = below }))
 
--- a region behind those before it
+-- a region after those before it
 abbrev pub LiesApart : List (ℕ × ℕ × ℕ) → ℕ × ℕ × ℕ → Type 0
 LiesApart before r = (j : ℕ) → j < length before → LieApart (frames_of (region_at before j)) (frames_of r)
 

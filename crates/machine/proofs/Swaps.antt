@@ -195,7 +195,7 @@ swap_begun machine machine' frames new t o r next flight idle now asked named = 
       refl,
     )
 
--- What comes behind the page frame's owner.
+-- What comes after the page frame's owner.
 
 first_refusal : (x y z : Option Reply) (r : Reply) → or_else x y ≡ Some r → or_else x (or_else y z) ≡ Some r
 first_refusal None None z r e = absurd (none-some r e)

@@ -60,7 +60,7 @@ reaches_more zones first end end' j h within reaches if_inside if_outside =
       ]
     ]
 
--- behind the last zone: a run from `first` on is valid just where it ends at `end` or before
+-- after the last zone: a run from `first` on is valid just where it ends at `end` or before
 pub reaches_all : (zones : List (ℕ × ℕ)) (first count end j : ℕ) → length zones ≤ j → Reaches zones first end j → (first + count ≤ end) ↔ ((p : ℕ) → first ≤ p → p < first + count → Contains (numbers zones) p)
 reaches_all zones first count end j over reaches = (
   λ le p from below. reaches.valid p from (omega arith),

@@ -1,5 +1,5 @@
--- The tasks' unfinished operations, as a machine keeps them: one for each of the tasks 1 to 64 (a page under writeback or being
--- read, swap_writepage and swap_readpage, mm/page_io.c).
+-- The tasks' unfinished operations, as a machine keeps them: one for each of the tasks 1 to 64 (a page under writeback
+-- or being read, swap_writepage and swap_readpage, mm/page_io.c).
 use Rattle.std.specs.Prelude.{ℕ, zero, suc, List, Option, Some, None, slice_index_or}
 use Rattle.plain_machine.specs.State as plain
 use Rattle.machine.specs.declared.flight.Flight.{Flight}

@@ -1,9 +1,11 @@
 -- Which parts make a machine, and which of them is at fault where they don't.
-use Rattle.std.specs.Prelude.{ℕ, ◌+◌, ◌-◌, ◌%◌, ◌==◌, ◌&&◌, ◌||◌, Bool, not, nat_lt, nat_le, List, length, Option, Some, None, if◌then◌else◌, slice_index_or}
+use Rattle.std.specs.Prelude.{ℕ, ◌+◌, ◌-◌, ◌%◌, ◌==◌, ◌&&◌, ◌||◌, Bool, not, nat_lt, nat_le, List, length, Option, Some}
+use Rattle.std.specs.Prelude.{None, if◌then◌else◌, slice_index_or}
 use Rattle.std.specs.List.{list_all, list_any, range_with_len}
 use Rattle.definitions.specs.Zones.{top, zone_at, zone_end}
 use Rattle.definitions.specs.Slots.{extent_at, slots_before, slots_of}
-use Rattle.plain_machine.specs.Machine.{Hardware, is_valid, is_table_frame, is_of_table, table_frames, slot_table_frames}
+use Rattle.plain_machine.specs.Machine.{Hardware, is_valid, is_table_frame, is_of_table, table_frames}
+use Rattle.plain_machine.specs.Machine.{slot_table_frames}
 use Rattle.machine.specs.declared.hardware.Parts.{Parts}
 use Rattle.machine.specs.declared.hardware.HardFault.{HardFault}
 use Rattle.machine.specs.declared.hardware.HardFault.TheVariants.{Zones, Slots, Tables, Regions, Extents}
@@ -41,7 +43,9 @@ has_slots h = nat_le 2 h.slots && nat_le h.slots 131072
 
 -- the page frames of the tables are valid, and none is of both
 abbrev pub has_tables : Hardware → Bool
-has_tables h = list_all (is_valid h) (table_frames h) && not (list_any (is_of_table h.frame_table (top h.zones)) (slot_table_frames h))
+has_tables h =
+    list_all (is_valid h) (table_frames h)
+    && not (list_any (is_of_table h.frame_table (top h.zones)) (slot_table_frames h))
 
 -- region j, from 0: its first page frame, its count and its flags
 abbrev pub region_at : List (ℕ × ℕ × ℕ) → ℕ → ℕ × ℕ × ℕ
@@ -76,8 +80,8 @@ has_regions h = nat_le (length h.regions) 64 && each_below (length h.regions) (i
 abbrev pub lie_apart : ℕ × ℕ × ℕ → ℕ × ℕ × ℕ → Bool
 lie_apart e f = nat_le (e.2 + e.1) f.2 || nat_le (f.2 + f.1) e.2
 
--- Extent i begins at slot 0 or where the one before ends, has a slot, ends at a block that a 32-bit number can name, has no
--- block of an extent before, and has block 0 for slot 0 alone (struct swap_extent).
+-- Extent i begins at slot 0 or where the one before ends, has a slot, ends at a block that a 32-bit number can name,
+-- has no block of an extent before, and has block 0 for slot 0 alone (struct swap_extent).
 abbrev pub is_extent : List (ℕ × ℕ × ℕ) → ℕ → Bool
 is_extent extents i =
     ((extent_at extents i).0 == slots_before extents i) && nat_lt 0 (extent_at extents i).1

@@ -20,7 +20,8 @@ Answers None r = ⊥
 Answers (Some (goes_out s p)) r = (r ≡ reply.Written s) ⊎ (r ≡ reply.WriteFault Same)
 Answers (Some (comes_in s p)) r = (r ≡ reply.Fetched s) ⊎ (r ≡ reply.ReadFault Same)
 
--- What the call makes of the disk: an out writes the page of its page frame to its slot's block, or fails to; an in leaves the disk.
+-- What the call makes of the disk: an out writes the page of its page frame to its slot's block, or fails to; an in
+-- leaves the disk.
 abbrev pub CallsDisk : Hardware → Memory → Option Flight → Reply → Option disk.Content → Option disk.Content → Type 0
 CallsDisk h frames None r before now = now ≡ before
 CallsDisk h frames (Some (goes_out s p)) r before now =
@@ -32,16 +33,20 @@ CallsDisk h frames (Some (comes_in s p)) r before now = now ≡ before
 abbrev pub EndsOut : Hardware → ℕ → Memory → Memory → ℕ → ℕ → Reply → Option disk.Content → Option disk.Content → Type 0
 EndsOut h b old new s p r before now =
     ((r ≡ reply.Written s) × (new ≡ old) × disk.Changes (disk.Writes b (frame old p)) before now)
-    ⊎ ((r ≡ reply.WriteFault Same) × (new ≡ with_entry old h.slot_table s 0) × disk.Changes (disk.FailsToWrite b (frame old p)) before now)
+    ⊎ ((r ≡ reply.WriteFault Same) × (new ≡ with_entry old h.slot_table s 0)
+    × disk.Changes (disk.FailsToWrite b (frame old p)) before now)
 
 -- The end of an in from slot s: the slot is free and the page frame has the block's page, or all is as it was.
 abbrev pub EndsIn : Hardware → ℕ → Memory → Memory → ℕ → ℕ → Reply → Option disk.Content → Type 0
 EndsIn h b old new s p r content =
-    ((r ≡ reply.Fetched s) × ((page : List ℕ) × IsPage page × (new ≡ with_frame (with_entry old h.slot_table s 0) p page) × IfSome content (λ c. page ≡ disk.block (disk.as_it_reads c) b)))
+    ((r ≡ reply.Fetched s)
+    × ((page : List ℕ) × IsPage page × (new ≡ with_frame (with_entry old h.slot_table s 0) p page)
+    × IfSome content (λ c. page ≡ disk.block (disk.as_it_reads c) b)))
     ⊎ ((r ≡ reply.ReadFault Same) × (new ≡ old))
 
 -- the end of an operation: the call of the disk, and what it makes of the page frames
-abbrev pub Ends : Hardware → Option Flight → Memory → Memory → Reply → Option disk.Content → Option disk.Content → Type 0
+abbrev pub Ends : Hardware → Option Flight → Memory → Memory → Reply → Option disk.Content → Option disk.Content →
+    Type 0
 Ends h None old new r before now = ⊥
 Ends h (Some (goes_out s p)) old new r before now = EndsOut h (block_of_slot h s) old new s p r before now
 Ends h (Some (comes_in s p)) old new r before now = EndsIn h (block_of_slot h s) old new s p r before × (now ≡ before)
@@ -50,9 +55,11 @@ Ends h (Some (comes_in s p)) old new r before now = EndsIn h (block_of_slot h s)
 abbrev pub HasSource : ℕ → Running → Type 0
 HasSource t a = (s p : ℕ) → a.flights t ≡ Some (comes_in s p) → IsSome (a.slots s)
 
--- The row of the plain machine for the end of a task's operation, over a disk that tells its content: whichever running state the
--- machine showed, whose operations have their slots and whose slots the disk reads, the reply is a step of it.
+-- The row of the plain machine for the end of a task's operation, over a disk that tells its content: whichever running
+-- state the machine showed, whose operations have their slots and whose slots the disk reads, the reply is a step of
+-- it.
 abbrev pub HasEnd : Machine → Memory → ℕ → Machine → Memory → Reply → Option disk.Content → Type 0
 HasEnd machine frames t machine' frames' r content =
     NamesNone machine frames → (c : disk.Content) → content ≡ Some c → (a : Running) → ShowsAs machine frames a →
-    HasFlights machine.hw a → HaveSlotPages machine.hw c a.slots → HasSource t a → (b : Running) × StepsOn machine frames (Step (actor.Task t)) machine' frames' r a b
+    HasFlights machine.hw a → HaveSlotPages machine.hw c a.slots → HasSource t a → (b : Running)
+    × StepsOn machine frames (Step (actor.Task t)) machine' frames' r a b

@@ -28,8 +28,8 @@ slot_table_of h = record { first = h.slot_table; slots = h.slots }
 abbrev pub AreReserved : Hardware → Memory → Type 0
 AreReserved h m = (p : ℕ) → IsTableFrame h p → (owner_of (frame_entry h m p) ≡ 0) × (frame_entry h m p ≢ 1)
 
--- Slot and page frame of a task's unfinished operation are there, the slot's block is one of the disk's, and the page frame is the
--- task's.
+-- Slot and page frame of a task's unfinished operation are there, the slot's block is one of the disk's, and the page
+-- frame is the task's.
 pub record IsInFlight (h : Hardware) (blocks : ℕ) (frames : Memory) (t s p : ℕ) : Type 0 where
   pub task : IsTask t
   pub slot : s < h.slots
@@ -42,8 +42,9 @@ pub record AreInFlight (h : Hardware) (blocks : ℕ) (frames : Memory) (flights 
   pub outs : (t s p : ℕ) → flights_in flights t ≡ Some (goes_out s p) → IsInFlight h blocks frames t s p
   pub ins : (t s p : ℕ) → flights_in flights t ≡ Some (comes_in s p) → IsInFlight h blocks frames t s p
 
--- A machine that can run: memory has its page frames, the runs are those of its slot table, where the area can be used each slot's
--- block is one of the disk's, the tables' page frames are nobody's, and the unfinished operations have what they need.
+-- A machine that can run: memory has its page frames, the runs are those of its slot table, where the area can be used
+-- each slot's block is one of the disk's, the tables' page frames are nobody's, and the unfinished operations have what
+-- they need.
 pub record CanRun (machine : Machine) (frames : Memory) (runs : SlotRuns) : Type 0 where
   pub size : length frames ≡ top machine.hw.zones
   pub matches : Matches frames (slot_table_of machine.hw) runs

@@ -23,21 +23,26 @@ use Rattle.machine.specs.declared.machine.Machine.{Machine}
 -- why page frame p isn't task t's
 abbrev pub own_refusal : Hardware → Memory → ℕ → ℕ → Option Reply
 own_refusal h m t p =
-    or_else (refused_if (not (is_valid h p)) reply.NoFrame) (refused_if (not (owner_of (frame_entry h m p) == t)) reply.NotOwner)
+    or_else (refused_if (not (is_valid h p)) reply.NoFrame)
+    (refused_if (not (owner_of (frame_entry h m p) == t)) reply.NotOwner)
 
--- The reply and the running state b are a step of the plain machine from the running state a. The machine shows b by its page
--- frames and operations now, which name no slot as the image's that wasn't. What is held and why the area can't be used stay.
-pub record GoesOn (h : Hardware) (e : Event) (flag : Held) (why : Option NoSwap) (operations : ℕ → Option Flight) (old new : Memory) (r : Reply) (a b : Running) : Type 0 where
+-- The reply and the running state b are a step of the plain machine from the running state a. The machine shows b by
+-- its page frames and operations now, which name no slot as the image's that wasn't. What is held and why the area
+-- can't be used stay.
+pub record GoesOn (h : Hardware) (e : Event) (flag : Held) (why : Option NoSwap) (operations : ℕ →
+    Option Flight) (old new : Memory) (r : Reply) (a b : Running) : Type 0 where
   pub step : (v : disk.DiskImage) → Step h v (on a) e r (on b)
   pub runs : RunsAs h flag why operations new b
   pub held : b.held ≡ a.held
   pub unusable : b.unusable ≡ a.unusable
   pub named : (s : ℕ) → s < h.slots → raw_slot_entry h new s ≡ image_slot → raw_slot_entry h old s ≡ image_slot
 
--- the row of a request that looks at page frames alone, whatever else the machine shows, but that its task has no unfinished operation
+-- the row of a request that looks at page frames alone, whatever else the machine shows, but that its task has no
+-- unfinished operation
 abbrev pub HasFrameRow : Hardware → ℕ → TaskOp → Memory → Memory → Reply → Type 0
 HasFrameRow h t o old new r =
-    (flag : Held) (why : Option NoSwap) (operations : ℕ → Option Flight) → operations t ≡ None → (a : Running) → RunsAs h flag why operations old a →
+    (flag : Held) (why : Option NoSwap) (operations : ℕ → Option Flight) → operations t ≡ None → (a : Running) →
+    RunsAs h flag why operations old a →
     (b : Running) × GoesOn h (Task t o) flag why operations old new r a b × (b.slots ≡ a.slots)
 
 -- the machine and its page frames run as the state says
@@ -46,18 +51,20 @@ ShowsAs machine frames a = RunsAs machine.hw machine.held (reason_of machine.are
 
 -- where no image is held, no slot is named as the image's
 abbrev pub NamesNone : Machine → Memory → Type 0
-NamesNone machine frames = machine.held ≡ No → (s : ℕ) → s < machine.hw.slots → raw_slot_entry machine.hw frames s ≢ image_slot
+NamesNone machine frames =
+    machine.held ≡ No → (s : ℕ) → s < machine.hw.slots → raw_slot_entry machine.hw frames s ≢ image_slot
 
 -- a step from a that leaves the machine as it is but for its operations
 abbrev pub StepsOn : Machine → Memory → Event → Machine → Memory → Reply → Running → Running → Type 0
 StepsOn machine frames e machine' frames' r a b =
     GoesOn machine.hw e machine.held (reason_of machine.area) (flights_in machine'.flights) frames frames' r a b
 
--- The row of the plain machine for a task's request: whichever running state the machine showed, the reply is a step of it. The pages
--- in the tasks' slots stay.
+-- The row of the plain machine for a task's request: whichever running state the machine showed, the reply is a step of
+-- it. The pages in the tasks' slots stay.
 abbrev pub SimulatesRequest : Machine → Memory → ℕ → TaskOp → Machine → Memory → Reply → Type 0
 SimulatesRequest machine frames t o machine' frames' r =
-    NamesNone machine frames → (a : Running) → ShowsAs machine frames a → (b : Running) × StepsOn machine frames (Task t o) machine' frames' r a b × (b.slots ≡ a.slots)
+    NamesNone machine frames → (a : Running) → ShowsAs machine frames a → (b : Running)
+    × StepsOn machine frames (Task t o) machine' frames' r a b × (b.slots ≡ a.slots)
 
 -- a reply that refuses what a task asks of a machine that runs
 abbrev pub IsRefusal : Reply → Type 0

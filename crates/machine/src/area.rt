@@ -9,8 +9,8 @@ use crate::Hardware;
 use plain_machine::NoSwap;
 use sig_header::{Area, AreaKind};
 
-/// The area of a header block, if the machine can use it on a disk of so many blocks: it is a version 1 area, each of its slots
-/// lies on a block of the disk, and it has the machine's number of slots.
+/// The area of a header block, if the machine can use it on a disk of so many blocks: it is a version 1 area, each of
+/// its slots lies on a block of the disk, and it has the machine's number of slots.
 pub fn usable(hw: &Hardware, blocks: u32, kind: &AreaKind) -> Result<Area, NoSwap>
     ensures { MatchResult result
         (λ area. HasKind kind.now area × (kind_or_fit_fault hw.now blocks kind.now ≡ None))

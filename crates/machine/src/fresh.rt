@@ -25,8 +25,8 @@ const IN_USE: u16 = 0;
 /// How many entries of 4 bytes a page frame has.
 pub(crate) const ENTRIES: u32 = 1024;
 
-/// Makes the page frames those of fresh memory, but for the slot table's entries: zeros and the frame table, in which the
-/// tables' page frames are in use, those of a region have its flags, and all others are free.
+/// Makes the page frames those of fresh memory, but for the slot table's entries: zeros and the frame table, in which
+/// the tables' page frames are in use, those of a region have its flags, and all others are free.
 pub fn set_fresh(frames: &mut Frames, hw: &Hardware)
     requires { length frames.old ≡ top hw.now.zones }
     ensures fresh { frames.new ≡ fresh_frames hw.now }
@@ -42,7 +42,8 @@ pub fn set_fresh(frames: &mut Frames, hw: &Hardware)
 fn set_zone(frames: &mut Frames, hw: &Hardware, start: u32, count: u32)
     requires number { start + count ≤ 65536 }
     requires table { HasTable frames.old hw.now.frame_table (start + count) }
-    ensures set { frames.new ≡ with_each_entry (fresh_entry hw.now) (range_with_len start count) hw.now.frame_table frames.old }
+    ensures set { frames.new ≡ with_each_entry (fresh_entry hw.now) (range_with_len start count) hw.now.frame_table
+        frames.old }
     ensures len { length frames.new ≡ length frames.old }
 {
     for p in start..start + count {
@@ -93,11 +94,12 @@ fn is_of_table(first: u32, entries: u32, p: u32) -> bool
     first <= p && p < first + entries.div_ceil(ENTRIES)
 }
 
-/// Sets the slot table's entries in fresh memory: in an area that can be used slot 0 and the bad pages are bad and all others
-/// free, in any other every slot is bad.
+/// Sets the slot table's entries in fresh memory: in an area that can be used slot 0 and the bad pages are bad and all
+/// others free, in any other every slot is bad.
 pub fn set_slots(frames: &mut Frames, hw: &Hardware, area: &Result<Area, NoSwap>)
     requires { length frames.old ≡ top hw.now.zones }
-    ensures set { frames.new ≡ with_each_entry (slot_of_area area.now) (range_with_len 0 hw.now.slots) hw.now.slot_table frames.old }
+    ensures set { frames.new ≡ with_each_entry (slot_of_area area.now) (range_with_len 0 hw.now.slots) hw.now.slot_table
+        frames.old }
     ensures len { length frames.new ≡ length frames.old }
 {
     let table = slot_table(hw);

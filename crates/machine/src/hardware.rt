@@ -42,8 +42,8 @@ pub enum HardFault {
     /// A page frame of a table isn't valid, or the tables share one.
     #[error("a table lies outside the zones or on the other one")]
     Tables,
-    /// There are more than 64 regions, one is empty, has odd flags or flags above 126, or has a page frame that isn't valid, is a
-    /// table's or lies in another region.
+    /// There are more than 64 regions, one is empty, has odd flags or flags above 126, or has a page frame that isn't
+    /// valid, is a table's or lies in another region.
     #[error("the regions are at fault")]
     Regions,
     /// The extents don't cover the slots, as `FileMap::of` says.
@@ -51,8 +51,8 @@ pub enum HardFault {
     Extents,
 }
 
-/// What a machine has and keeps: the page frames of its zones, the slots of its swap area and the blocks that they lie on, where
-/// the two tables begin, the regions with flags of their own, and what its images are tied to.
+/// What a machine has and keeps: the page frames of its zones, the slots of its swap area and the blocks that they lie
+/// on, where the two tables begin, the regions with flags of their own, and what its images are tied to.
 #[derive(Clone, Copy)]
 pub struct Hardware {
     zones: Zones,

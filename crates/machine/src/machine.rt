@@ -2,8 +2,8 @@ use crate::{Flight, Hardware};
 use plain_machine::{Held, NoSwap};
 use sig_header::Area;
 
-/// A machine, as far as it isn't its page frames: its hardware, its swap area or why that can't be used, how many blocks its disk
-/// has, whether an image is on it, and its tasks' unfinished operations.
+/// A machine, as far as it isn't its page frames: its hardware, its swap area or why that can't be used, how many
+/// blocks its disk has, whether an image is on it, and its tasks' unfinished operations.
 #[derive(Clone, Copy)]
 pub struct Machine {
     pub hw: Hardware,

@@ -1,7 +1,8 @@
 ghost use Rattle.std.specs.Prelude.{◌≡◌, ◌⊎◌, ℕ, ◌+◌, ◌<◌, ◌≤◌, ◌↔◌, IsTrue, true, length, Contains};
 ghost use Rattle.definitions.specs.Zones.{numbers, top, zone_end, IsZone, AreZones};
 ghost use Rattle.plain_machine.specs.Machine.{IsTableFrame, table_len};
-ghost use Rattle.machine.specs.HardFault.{hardware_of, has_flags, has_regions, has_slots, has_tables, is_region, is_region_at, region_at};
+ghost use Rattle.machine.specs.HardFault.{hardware_of, has_flags, has_regions, has_slots, has_tables, is_region};
+ghost use Rattle.machine.specs.HardFault.{is_region_at, region_at};
 ghost use Rattle.machine.specs.Runs.{LieApart, frames_of};
 
 use crate::hardware::Parts;
@@ -105,7 +106,8 @@ fn has_frames(parts: &Parts, zones: &Zones, run: (u32, u32)) -> bool
     requires zones { zones.now ≡ parts.now.zones.now }
     requires slots { has_slots (hardware_of parts.now) ≡ true }
     requires some { 0 < run.1 }
-    ensures { IsTrue result ↔ ((p : ℕ) → run.0 ≤ p → p < run.0 + run.1 → Contains (numbers parts.now.zones.now) p × (IsTableFrame (hardware_of parts.now) p → ⊥)) }
+    ensures { IsTrue result ↔ ((p : ℕ) → run.0 ≤ p → p < run.0 + run.1 → Contains (numbers parts.now.zones.now) p
+        × (IsTableFrame (hardware_of parts.now) p → ⊥)) }
 {
     if !has_run(zones, run) {
         return false;
@@ -115,7 +117,8 @@ fn has_frames(parts: &Parts, zones: &Zones, run: (u32, u32)) -> bool
 
 /// Whether a region, which isn't empty, has no page frame of the regions before it.
 fn lies_apart(before: &[(u32, u32, u32)], region: (u32, u32, u32)) -> bool
-    ensures { IsTrue result ↔ ((j : ℕ) → j < length before.now → LieApart (frames_of (region_at before.now j)) (frames_of region)) }
+    ensures { IsTrue result ↔ ((j : ℕ) → j < length before.now →
+        LieApart (frames_of (region_at before.now j)) (frames_of region)) }
 {
     before.iter().all(|&other| lie_apart((other.0, other.1), (region.0, region.1)))
 }

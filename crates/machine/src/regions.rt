@@ -5,8 +5,8 @@ use std::marker::Model;
 /// At most this many regions.
 pub(crate) const MOST_REGIONS: usize = 64;
 
-/// The runs of page frames that fresh memory gives flags. A contract sees the list of them: the first number, the count and the
-/// flags of each.
+/// The runs of page frames that fresh memory gives flags. A contract sees the list of them: the first number, the count
+/// and the flags of each.
 #[derive(Clone, Copy)]
 pub(crate) struct Regions {
     regions: [(u32, u32, u32); MOST_REGIONS],

@@ -1,4 +1,5 @@
-ghost use Rattle.std.specs.Prelude.{◌≡◌, ◌-◌, ◌/◌, ◌<◌, ◌==◌, ◌&&◌, nat_lt, length, IsSome, IsTrue, IfSome, Contains, All, set, is_ok, slice_get, slice_set};
+ghost use Rattle.std.specs.Prelude.{◌≡◌, ◌-◌, ◌/◌, ◌<◌, ◌==◌, ◌&&◌, nat_lt, length, IsSome, IsTrue, IfSome, Contains};
+ghost use Rattle.std.specs.Prelude.{All, set, is_ok, slice_get, slice_set};
 ghost use Rattle.definitions.specs.Bytes.{IsPage};
 ghost use Rattle.definitions.specs.Disk.{Writes, block};
 ghost use Rattle.definitions.specs.Tables.{frame, with_entry};
@@ -24,16 +25,17 @@ use plain_machine::{Held, Left, Reply};
 use sector_disk::Disk;
 use swap_slots::{FreeRuns, SlotEntry};
 
-// Tasks' page frames that go out to slots of the swap area, and come in from there (swap_writepage and swap_readpage, mm/page_io.c).
+// Tasks' page frames that go out to slots of the swap area, and come in from there (swap_writepage and swap_readpage,
+// mm/page_io.c).
 impl Machine {
     ghost use Rattle.machine.specs.Flights.{flights_in};
     ghost use Rattle.machine.specs.Landing.{Answers, CallsDisk, Ends, HasEnd};
     ghost use Rattle.machine.specs.Running.{CanRun, slot_table_of};
     ghost use Rattle.machine.specs.TaskRow.{SimulatesRequest, IsRefusal};
 
-    /// Makes the call of the disk that ends a task's operation, which is unfinished no more. An out writes its page frame to the slot;
-    /// where that fails the slot is given back. An in reads the slot into its page frame and gives the slot back; where that fails
-    /// both stay.
+    /// Makes the call of the disk that ends a task's operation, which is unfinished no more. An out writes its page
+    /// frame to the slot; where that fails the slot is given back. An in reads the slot into its page frame and gives
+    /// the slot back; where that fails both stay.
     pub fn finish<D: Disk>(
         &mut self,
         frames: &mut Frames,
@@ -46,7 +48,8 @@ impl Machine {
         requires flies { IsSome (flights_in self.old.flights t) }
         requires blocks { D.block_count disk.old ≡ self.old.blocks }
         ensures row { HasEnd self.old frames.old t self.new frames.new result (D.content disk.old) }
-        ensures disk { CallsDisk self.old.hw frames.old (flights_in self.old.flights t) result (D.content disk.old) (D.content disk.new) }
+        ensures disk { CallsDisk self.old.hw frames.old (flights_in self.old.flights t) result (D.content disk.old)
+            (D.content disk.new) }
         ensures answer { Answers (flights_in self.old.flights t) result }
         ensures ready { CanRun self.new frames.new runs.new }
         ensures machine { self.new ≡ record self.old { flights = slice_set self.old.flights (t - 1) Flight.Nothing } }
@@ -70,7 +73,8 @@ impl Machine {
         requires ready { CanRun self.now frames.old runs.old }
         requires flies { IsSome (flights_in self.now.flights t) }
         requires blocks { D.block_count disk.old ≡ self.now.blocks }
-        ensures ends { Ends self.now.hw (flights_in self.now.flights t) frames.old frames.new result (D.content disk.old) (D.content disk.new) }
+        ensures ends { Ends self.now.hw (flights_in self.now.flights t) frames.old frames.new result
+            (D.content disk.old) (D.content disk.new) }
         ensures pages { All IsPage frames.old }
         ensures hardware { IsHardware self.now.hw }
         ensures matches { Matches frames.new (slot_table_of self.now.hw) runs.new }
@@ -157,7 +161,8 @@ impl Machine {
         requires size { length frames.old ≡ top self.now.hw.zones }
         requires matches { Matches frames.old (slot_table_of self.now.hw) runs.old }
         ensures usable { IsSome result → IsTrue (is_ok self.now.area) }
-        ensures least { IsTrue (is_ok self.now.area) → result ≡ slice_get (free_in frames.old (slot_table_of self.now.hw)) 0 }
+        ensures least { IsTrue (is_ok self.now.area) →
+            result ≡ slice_get (free_in frames.old (slot_table_of self.now.hw)) 0 }
         ensures taken { IfSome result (λ slot. frames.new ≡ with_entry frames.old self.now.hw.slot_table slot t) }
         ensures none { result ≡ None → frames.new ≡ frames.old }
         ensures matches { Matches frames.new (slot_table_of self.now.hw) runs.new }
@@ -179,7 +184,8 @@ impl Machine {
     fn owns_slot(&self, frames: &Frames, t: u32, slot: u32) -> bool
         requires task { IsTask t }
         requires size { length frames.now ≡ top self.now.hw.zones }
-        ensures test { result ≡ (is_ok self.now.area && nat_lt slot self.now.hw.slots && (raw_slot_entry self.now.hw frames.now slot == t)) }
+        ensures test { result ≡ (is_ok self.now.area && nat_lt slot self.now.hw.slots
+            && (raw_slot_entry self.now.hw frames.now slot == t)) }
         ensures hardware { IsHardware self.now.hw }
     {
         let table = slot_table(&self.hw);

@@ -1,10 +1,13 @@
-ghost use Rattle.std.specs.Prelude.{◌≡◌, ℕ, ◌+◌, ◌*◌, ◌/◌, ◌<◌, ◌↔◌, not, true, length, IsTrue, IsOk, IfErr, MatchResult, Some, None, Contains};
+ghost use Rattle.std.specs.Prelude.{◌≡◌, ℕ, ◌+◌, ◌*◌, ◌/◌, ◌<◌, ◌↔◌, not, true, length, IsTrue, IsOk, IfErr};
+ghost use Rattle.std.specs.Prelude.{MatchResult, Some, None, Contains};
 ghost use Rattle.std.specs.List.{find};
 ghost use Rattle.definitions.specs.Tables.{entry_of, page_flags, owner_of, is_saveable};
 ghost use Rattle.definitions.specs.Zones.{numbers, top};
 ghost use Rattle.page_states.specs.Flags.{bits_of};
 ghost use Rattle.plain_machine.specs.Loader.{has};
-ghost use Rattle.plain_machine.specs.Machine.{Fits, IsHardware, IsTableFrame, bad_slot, frame_entry, frame_table_frames, is_slot_entry, is_table_at_fault, is_well_formed, raw_slot_entry, slot_table_frames, table_len, tables_fault};
+ghost use Rattle.plain_machine.specs.Machine.{Fits, IsHardware, IsTableFrame, bad_slot, frame_entry};
+ghost use Rattle.plain_machine.specs.Machine.{frame_table_frames, is_slot_entry, is_table_at_fault, is_well_formed};
+ghost use Rattle.plain_machine.specs.Machine.{raw_slot_entry, slot_table_frames, table_len, tables_fault};
 ghost use Rattle.plain_machine.specs.UsableArea.{bad_slots_of, has_bad_slots_of};
 ghost use Rattle.swap_slots.specs.Entries.{entry_of_word, word_of};
 ghost use Rattle.machine.specs.Running.{slot_table_of};
@@ -32,8 +35,8 @@ pub fn slot_table(hw: &Hardware) -> SlotTable
     }
 }
 
-/// Whether the tables in memory are well formed; else the first table frame at fault: it isn't saveable, has an owner, or an
-/// entry in it is one that no valid page frame, or no slot, may have.
+/// Whether the tables in memory are well formed; else the first table frame at fault: it isn't saveable, has an owner,
+/// or an entry in it is one that no valid page frame, or no slot, may have.
 pub fn tables_fit(frames: &Frames, hw: &Hardware) -> Result<(), u32>
     requires { length frames.now ≡ top hw.now.zones }
     ensures fits { IsOk result ↔ (tables_fault hw.now frames.now ≡ None) }
@@ -109,7 +112,8 @@ fn slot_table_frame_fits(frames: &Frames, hw: &Hardware, i: u32) -> bool
 fn is_used(frames: &Frames, hw: &Hardware, f: u32) -> bool
     requires size { length frames.now ≡ top hw.now.zones }
     requires table { IsTableFrame hw.now f }
-    ensures { IsTrue result ↔ ((is_saveable (page_flags (frame_entry hw.now frames.now f)) ≡ true) × (owner_of (frame_entry hw.now frames.now f) ≡ 0)) }
+    ensures { IsTrue result ↔ ((is_saveable (page_flags (frame_entry hw.now frames.now f)) ≡ true)
+        × (owner_of (frame_entry hw.now frames.now f) ≡ 0)) }
 {
     let (flags, owner) = entry(frames, hw.frame_table(), f);
     is_saveable(flags) && owner == 0
@@ -130,7 +134,8 @@ fn is_saveable(flags: PageFlags) -> bool
 fn entries_fit(frames: &Frames, hw: &Hardware, i: u32) -> bool
     requires size { length frames.now ≡ top hw.now.zones }
     requires within { i < 128 }
-    ensures { IsTrue result ↔ ((p : ℕ) → p / 1024 ≡ i → Contains (numbers hw.now.zones) p → is_well_formed (frame_entry hw.now frames.now p) ≡ true) }
+    ensures { IsTrue result ↔ ((p : ℕ) → p / 1024 ≡ i → Contains (numbers hw.now.zones) p →
+        is_well_formed (frame_entry hw.now frames.now p) ≡ true) }
 {
     for p in ENTRIES * i..ENTRIES * (i + 1) {
         if !entry_fits(frames, hw, p) {
@@ -143,7 +148,8 @@ fn entries_fit(frames: &Frames, hw: &Hardware, i: u32) -> bool
 /// Whether a page frame's entry is well formed, if the page frame is valid.
 fn entry_fits(frames: &Frames, hw: &Hardware, p: u32) -> bool
     requires { length frames.now ≡ top hw.now.zones }
-    ensures { IsTrue result ↔ (Contains (numbers hw.now.zones) p → is_well_formed (frame_entry hw.now frames.now p) ≡ true) }
+    ensures { IsTrue result ↔ (Contains (numbers hw.now.zones) p →
+        is_well_formed (frame_entry hw.now frames.now p) ≡ true) }
 {
     if !is_valid(hw, p) {
         return true;
@@ -152,8 +158,8 @@ fn entry_fits(frames: &Frames, hw: &Hardware, p: u32) -> bool
     is_well_formed(flags.bits(), owner)
 }
 
-/// Whether a page frame may have these flags and this owner: none above CACHE, nothing beside FREE, and nothing but CACHE beside
-/// an owner.
+/// Whether a page frame may have these flags and this owner: none above CACHE, nothing beside FREE, and nothing but
+/// CACHE beside an owner.
 fn is_well_formed(flags: u16, owner: u16) -> bool
     ensures { result ≡ is_well_formed (entry_of flags owner) }
 {
@@ -167,7 +173,8 @@ fn is_well_formed(flags: u16, owner: u16) -> bool
 fn slots_fit(frames: &Frames, hw: &Hardware, i: u32) -> bool
     requires size { length frames.now ≡ top hw.now.zones }
     requires within { i < 128 }
-    ensures { IsTrue result ↔ ((s : ℕ) → s / 1024 ≡ i → s < hw.now.slots → is_slot_entry s (raw_slot_entry hw.now frames.now s) ≡ true) }
+    ensures { IsTrue result ↔ ((s : ℕ) → s / 1024 ≡ i → s < hw.now.slots →
+        is_slot_entry s (raw_slot_entry hw.now frames.now s) ≡ true) }
 {
     for slot in ENTRIES * i..hw.slots().min(ENTRIES * (i + 1)) {
         if !slot_fits(frames, hw, slot) {
@@ -212,7 +219,8 @@ pub fn has_bad_slots(frames: &Frames, hw: &Hardware, area: &Area) -> bool
 /// Whether each bad slot of the slot table is one of the area's.
 fn are_named(frames: &Frames, hw: &Hardware, area: &Area) -> bool
     requires { length frames.now ≡ top hw.now.zones }
-    ensures { IsTrue result ↔ ((s : ℕ) → s < hw.now.slots → raw_slot_entry hw.now frames.now s ≡ bad_slot → has (bad_slots_of area.now) s ≡ true) }
+    ensures { IsTrue result ↔ ((s : ℕ) → s < hw.now.slots → raw_slot_entry hw.now frames.now s ≡ bad_slot →
+        has (bad_slots_of area.now) s ≡ true) }
 {
     for slot in 0..hw.slots() {
         if is_bad_slot(frames, hw, slot) && !names(area, slot) {
@@ -241,7 +249,8 @@ fn names(area: &Area, slot: u32) -> bool
 /// Whether each of the area's bad slots that the slot table has is bad there.
 fn named_are_bad(frames: &Frames, hw: &Hardware, area: &Area) -> bool
     requires { length frames.now ≡ top hw.now.zones }
-    ensures { IsTrue result ↔ ((s : ℕ) → s < hw.now.slots → has (bad_slots_of area.now) s ≡ true → raw_slot_entry hw.now frames.now s ≡ bad_slot) }
+    ensures { IsTrue result ↔ ((s : ℕ) → s < hw.now.slots → has (bad_slots_of area.now) s ≡ true →
+        raw_slot_entry hw.now frames.now s ≡ bad_slot) }
 {
     let count = (area.count as usize).min(area.bad.len());
     for &slot in &area.bad[..count] {

@@ -20,7 +20,9 @@ use Rattle.command_kit.specs.declared.status.Status.TheVariants.{Done}
 
 -- a resume that would end well is told on out, and why it wouldn't as a note
 abbrev pub foretold_told : Ended → RunResult
-foretold_told ended = if is_resumed ended.reply then record { status = Done; out = line_of ended.reply; note = [] } else stopped_told ended
+foretold_told ended =
+    if is_resumed ended.reply then record { status = Done; out = line_of ended.reply; note = [] }
+    else stopped_told ended
 
 -- the disk was only read
 pub record IsOnlyRead (x x' : DiskView) : Type 0 where

@@ -1,5 +1,6 @@
 -- How `differ` may end: it reads two dumps, and tells where they differ first.
-use Rattle.std.specs.Prelude.{◌≡◌, ◌≢◌, ℕ, List, [], ◌++◌, codes, decimal, Option, Some, None, Ok, Err, IsNone, IfSome, ◌↔◌}
+use Rattle.std.specs.Prelude.{◌≡◌, ◌≢◌, ℕ, List, [], ◌++◌, codes, decimal, Option, Some, None, Ok, Err, IsNone, IfSome}
+use Rattle.std.specs.Prelude.{◌↔◌}
 use Rattle.dump_differ.specs.Differences.{AreSame, IsFirst}
 use Rattle.dump_differ.specs.declared.Difference.{Difference}
 use Rattle.dump_differ.specs.declared.Difference.TheVariants.{Hardware, Saveable, Page}
@@ -18,7 +19,8 @@ use Rattle.command_kit.specs.declared.status.Status.TheVariants.{Done, Refused, 
 abbrev pub difference_told : Option Difference → RunResult
 difference_told None = record { status = Done; out = line (codes "same"); note = [] }
 difference_told (Some Hardware) = record { status = Refused; out = line (codes "hardware"); note = [] }
-difference_told (Some (Saveable p)) = record { status = Refused; out = line (codes "saveable " ++ decimal p); note = [] }
+difference_told (Some (Saveable p)) =
+    record { status = Refused; out = line (codes "saveable " ++ decimal p); note = [] }
 difference_told (Some (Page p)) = record { status = Refused; out = line (codes "page " ++ decimal p); note = [] }
 
 -- the machine of a dump
@@ -39,8 +41,13 @@ HasFault left fault = (bytes : List ℕ) → left ≡ Some bytes → dump_of byt
 
 -- One of these, by the bytes of the two inputs and what the outputs told before and after.
 pub data Compares (first second : Option (List ℕ)) (status : Status) (out out' note note' : SinkView) : Type 0 where
-  no_first : (fault : DumpFault) → HasFault first fault → IsTold (dump_told fault) status out out' note note' → Compares first second status out out' note note'
-  no_second : (a : DumpValue) (fault : DumpFault) → IsOf first a → HasFault second fault → IsTold (dump_told fault) status out out' note note' → Compares first second status out out' note note'
+  no_first : (fault : DumpFault) → HasFault first fault → IsTold (dump_told fault) status out out' note note' →
+      Compares first second status out out' note note'
+  no_second : (a : DumpValue) (fault : DumpFault) → IsOf first a → HasFault second fault →
+      IsTold (dump_told fault) status out out' note note' → Compares first second status out out' note note'
   out_of_memory : IsTold memory_told status out out' note note' → Compares first second status out out' note note'
-  unread : status ≡ Stream → out' ≡ out → IsTried unread_note note note' → Compares first second status out out' note note'
-  compared : (a b : DumpValue) (difference : Option Difference) → IsOf first a → IsOf second b → IsDifference a b difference → IsTold (difference_told difference) status out out' note note' → Compares first second status out out' note note'
+  unread : status ≡ Stream → out' ≡ out → IsTried unread_note note note' →
+      Compares first second status out out' note note'
+  compared : (a b : DumpValue) (difference : Option Difference) → IsOf first a → IsOf second b →
+      IsDifference a b difference → IsTold (difference_told difference) status out out' note note' →
+      Compares first second status out out' note note'

@@ -1,4 +1,5 @@
--- How `draw` may end: a script is played as in a replay, and out takes the picture of what happened in place of the replies.
+-- How `draw` may end: a script is played as in a replay, and out takes the picture of what happened in place of the
+-- replies.
 use Rattle.std.specs.Prelude.{◌≡◌, ◌⊎◌, ℕ, List, [], length, take}
 use Rattle.definitions.specs.Disk.{HasRisen}
 use Rattle.definitions.specs.Streams.{TakesFront}
@@ -34,7 +35,8 @@ pub record IsWhole (x x' : View) (status : Status) (script : ScriptValue) : Type
   pub draws : Draws script x x'
   pub note : IsPrinted [] x.note x'.note
 
--- Out failed: it took a front of the picture of a run over first events, and the fault is noted. Or all is printed, and note failed.
+-- Out failed: it took a front of the picture of a run over first events, and the fault is noted. Or all is printed, and
+-- note failed.
 pub record IsCutOff (x x' : View) (status : Status) (script : ScriptValue) : Type 0 where
   pub script_is : IsScript x x' script
   pub roomy : LieBelow script.hardware x.disk.blocks

@@ -15,4 +15,6 @@ pub data Freshens (x x' : View) (status : Status) : Type 0 where
   no_dump : (fault : DumpFault) → IsNoDump x x' status fault → Freshens x x' status
   out_of_memory : IsOutOfMemory x x' status → Freshens x x' status
   unread : IsUnread x x' status → Freshens x x' status
-  freshened : (dump : DumpValue) → IsDump x x' dump → Tells (written_told dump.hw (fresh_memory dump.hw (kept_slot dump.hw dump.memory))) status x x' → Freshens x x' status
+  freshened : (dump : DumpValue) → IsDump x x' dump →
+      Tells (written_told dump.hw (fresh_memory dump.hw (kept_slot dump.hw dump.memory))) status x x' →
+      Freshens x x' status

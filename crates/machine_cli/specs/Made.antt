@@ -28,8 +28,8 @@ RunsWith h m state = (a : Running) × (state ≡ on a) × IsSameMemory h a.memor
 abbrev pub RunsNot : State → Type 0
 RunsNot state = (a : Running) → state ≡ on a → ⊥
 
--- All events were played, and their replies are those of a run of the plain machine, as in a replay; where the disk tells its content the
--- run ends in a machine that runs, or doesn't.
+-- All events were played, and their replies are those of a run of the plain machine, as in a replay; where the disk
+-- tells its content the run ends in a machine that runs, or doesn't.
 pub record HasPlayedTo (x x' : View) (script : ScriptValue) (Ends : State → Type 0) : Type 0 where
   pub script_is : IsScript x x' script
   pub roomy : LieBelow script.hardware x.disk.blocks
@@ -43,6 +43,8 @@ pub data IsMade (x x' : View) (status : Status) : Type 0 where
   out_of_memory : IsOutOfMemory x x' status → IsMade x x' status
   unread : IsUnread x x' status → IsMade x x' status
   too_small : (script : ScriptValue) → IsScript x x' script → IsTooSmall x x' status script → IsMade x x' status
-  unformatted : (script : ScriptValue) (call : Unformatted) → IsScript x x' script → IsUnformatted x x' status script call → IsMade x x' status
+  unformatted : (script : ScriptValue) (call : Unformatted) → IsScript x x' script →
+      IsUnformatted x x' status script call → IsMade x x' status
   idle : (script : ScriptValue) → HasPlayedTo x x' script RunsNot → Tells idle_told status x x' → IsMade x x' status
-  written : (script : ScriptValue) (m : Memory) → HasPlayedTo x x' script (RunsWith script.hardware m) → Tells (written_told script.hardware m) status x x' → IsMade x x' status
+  written : (script : ScriptValue) (m : Memory) → HasPlayedTo x x' script (RunsWith script.hardware m) →
+      Tells (written_told script.hardware m) status x x' → IsMade x x' status

@@ -10,7 +10,8 @@ use dump_differ::{Difference, first_difference};
 use std::alloc::Global;
 use swsusp_cli::dump_of_input;
 
-/// Reads two dumps, one after the other, and tells where they differ first, or that an image would save the same of both machines.
+/// Reads two dumps, one after the other, and tells where they differ first, or that an image would save the same of
+/// both machines.
 #[inline(never)]
 pub fn differ<I: Source, J: Source, O: Sink, N: Sink>(
     alloc: Global,

@@ -13,7 +13,8 @@ use std::alloc::Global;
 use swsusp_cli::{parse_input, play_through, set_up, tell_dump};
 use world_core::World;
 
-/// Plays a script over a disk, and writes the memory of the machine that runs at its end as a dump. Where none runs, that is noted.
+/// Plays a script over a disk, and writes the memory of the machine that runs at its end as a dump. Where none runs,
+/// that is noted.
 #[inline(never)]
 pub fn make<I: Source, O: Sink, N: Sink, D: Disk>(
     alloc: Global,

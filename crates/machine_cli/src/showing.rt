@@ -47,7 +47,8 @@ pub fn show_facts<I: Source, O: Sink, N: Sink>(
     tell_facts(&dump, out, note)
 }
 
-/// Prints the facts of a dump, and nothing as a note. Where a sink fails the status is `Stream`, and `sink fault` is tried as a note.
+/// Prints the facts of a dump, and nothing as a note. Where a sink fails the status is `Stream`, and `sink fault` is
+/// tried as a note.
 fn tell_facts<O: Sink, N: Sink>(dump: &Dump, out: &mut O, note: &mut N) -> Status
     requires frames { length dump.now.frames ≡ top dump.now.hw.zones }
     ensures told { IsTold (facts_told dump.now.hw dump.now.frames) result

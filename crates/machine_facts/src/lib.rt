@@ -19,7 +19,8 @@ use printing::print;
 /// Prints the facts of a dump, each on a line of its own: a key, and its value's numbers or text. Nothing is flushed.
 pub fn show<S: Sink>(sink: &mut S, dump: &Dump) -> Result<(), Failed>
     requires { length dump.now.frames ≡ top dump.now.hw.zones }
-    ensures whole { OnOk result (TakesAll (facts_text dump.now.hw dump.now.frames) (S.taken sink.old) (S.taken sink.new)) }
+    ensures whole { OnOk result (TakesAll (facts_text dump.now.hw dump.now.frames) (S.taken sink.old)
+        (S.taken sink.new)) }
     ensures front { TakesFront (facts_text dump.now.hw dump.now.frames) (S.taken sink.old) (S.taken sink.new) }
     ensures counted { S.faults sink.old ≤ S.faults sink.new }
     ensures cause { OnErr result (HasRisen (S.faults sink.old) (S.faults sink.new)) }

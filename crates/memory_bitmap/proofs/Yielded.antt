@@ -1,4 +1,4 @@
--- A loop over the members of a set: those that it has yielded, and behind them those that are left.
+-- A loop over the members of a set: those that it has yielded, and after them those that are left.
 use Rattle.std.proofs.Common.{◌≡◌, ℕ, ◌+◌, ◌<◌, List, [], ◌∷◌, ◌++◌, length, get_or, drop, Option, Some, None, refl, sym, ap, ◌∙◌, subst, inl, inr, arith, Contains}
 use Rattle.std.specs.Iterator.{YieldsFirst}
 use Rattle.std.specs.List.Sorted.{IsStrictlyIncreasing}
@@ -7,7 +7,7 @@ use Rattle.definitions.proofs.Ascending.{Contains-head, Contains-tail, Contains-
 use Rattle.memory_bitmap.specs.declared.iter.Iter.{Iter}
 use Rattle.memory_bitmap.specs.Left.{left_in}
 
--- the next member comes behind those that were yielded
+-- the next member comes after those that were yielded
 pub record IsNext (members yielded : List ℕ) (member : ℕ) (left : List ℕ) : Type 0 where
   pub within : Contains members member
   pub above : (p : ℕ) → Contains yielded p → p < member

@@ -1,4 +1,5 @@
-ghost use Rattle.std.specs.Prelude.{◌≡◌, ℕ, ◌+◌, ◌-◌, ◌*◌, ◌/◌, ◌%◌, ◌<◌, ◌≤◌, ◌↔◌, ◌^◌, IsTrue, MatchOption, IfOk, All, length, vec_len, min};
+ghost use Rattle.std.specs.Prelude.{◌≡◌, ℕ, ◌+◌, ◌-◌, ◌*◌, ◌/◌, ◌%◌, ◌<◌, ◌≤◌, ◌↔◌, ◌^◌, IsTrue, MatchOption, IfOk};
+ghost use Rattle.std.specs.Prelude.{All, length, vec_len, min};
 ghost use Rattle.memory_bitmap.specs.Bits.{bit_of, AllClear, IsFirstBit, ChangesBit, IsEmptyBlock, HasFirstBits};
 
 use page_core::NoMemory;

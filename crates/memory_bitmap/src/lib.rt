@@ -4,7 +4,8 @@
 mod block;
 mod iter;
 
-ghost use Rattle.std.specs.Prelude.{◌≡◌, ℕ, ◌+◌, ◌-◌, ◌*◌, ◌/◌, ◌<◌, ◌≤◌, ◌↔◌, ◌++◌, [], IsTrue, IfOk, OnOk, MatchOption, List, length, vec_len, slice_index, All};
+ghost use Rattle.std.specs.Prelude.{◌≡◌, ℕ, ◌+◌, ◌-◌, ◌*◌, ◌/◌, ◌<◌, ◌≤◌, ◌↔◌, ◌++◌, [], IsTrue, IfOk, OnOk};
+ghost use Rattle.std.specs.Prelude.{MatchOption, List, length, vec_len, slice_index, All};
 ghost use Rattle.std.specs.List.{Contains};
 ghost use Rattle.definitions.specs.Zones.{numbers, first_from, zone_at, IsZone, AreZones};
 ghost use Rattle.definitions.specs.FrameSets.{inserted, removed, zone_blocks, blocks, HoldsBits};

@@ -2,7 +2,8 @@
 use Rattle.std.specs.Prelude.{◌≡◌, ◌≢◌, ◌<◌, ℕ, Option}
 use Rattle.definitions.specs.Disk.{Content, last_count}
 
--- which disk it is, its number of blocks, its content where it tells that, and how many calls failed, were made, and were restarts or arms
+-- which disk it is, its number of blocks, its content where it tells that, and how many calls failed, were made, and
+-- were restarts or arms
 pub record DiskState : Type 0 where
   pub which : ℕ
   pub blocks : ℕ

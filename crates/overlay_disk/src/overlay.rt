@@ -9,9 +9,9 @@ use page_core::{Failed, NoMemory, Page};
 use sector_disk::Disk;
 use std::marker::PhantomData;
 
-/// A disk over one that is only read. It has memory for one block, the first that is written: a write of any other fails, and
-/// counts as a fault. A block that was written is read from memory, each other from below. A sync, a restart and an arm do
-/// nothing but count.
+/// A disk over one that is only read. It has memory for one block, the first that is written: a write of any other
+/// fails, and counts as a fault. A block that was written is read from memory, each other from below. A sync, a restart
+/// and an arm do nothing but count.
 ///
 /// It tells its content where the disk below does, and no moments.
 #[derive(Drop)]
@@ -60,7 +60,8 @@ impl<B: ReadOnly, K: Original> Overlay<B, K> {
         ensures same { IsSame K.state (B.state result.0) }
         ensures calls { (B.state result.0).calls ≤ K.state.calls + ⟦<Overlay<B, K> as Disk>⟧.calls self }
         ensures faults { K.state.faults ≤ (B.state result.0).faults }
-        ensures cause { OnOk result.1 (0 < ⟦<Overlay<B, K> as Disk>⟧.faults self → HasRisen K.state.faults (B.state result.0).faults) }
+        ensures cause { OnOk result.1 (0 < ⟦<Overlay<B, K> as Disk>⟧.faults self →
+            HasRisen K.state.faults (B.state result.0).faults) }
         ensures counted { OnErr result.1 (0 < ⟦<Overlay<B, K> as Disk>⟧.faults self) }
     {
         let Overlay { below, refused, .. } = self;

@@ -7,7 +7,14 @@ use Rattle.page_restore.specs.Waiting.{Awaiting}
 use Rattle.page_restore.specs.declared.Waiting.TheInside.{Inside}
 
 abbrev pub kept_waiting : Inside → Awaiting
-kept_waiting w = record { zones = w.free.zones; free = w.free.members; originals = w.origs.members; placement = record w.placement { ready = w.ready }; loaded = w.loaded }
+kept_waiting w =
+    record {
+      zones = w.free.zones;
+      free = w.free.members;
+      originals = w.origs.members;
+      placement = record w.placement { ready = w.ready };
+      loaded = w.loaded;
+    }
 
 pub record IsPlanned (w : Inside) : Type 0 where
   pub ready : w.placement.ready ≡ true

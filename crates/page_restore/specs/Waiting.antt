@@ -1,14 +1,15 @@
 -- Pages of an image that wait until all of them go to their own page frames (prepare_image and get_buffer,
 -- kernel/power/snapshot.c).
-use Rattle.std.specs.Prelude.{◌≡◌, ◌≤◌, ◌<◌, ◌+◌, ◌++◌, length, Contains, ℕ, ◌==◌, ◌||◌, not, List, [], ◌∷◌, Option, Some, None, map, take, filter, if◌then◌else◌}
+use Rattle.std.specs.Prelude.{◌≡◌, ◌≤◌, ◌<◌, ◌+◌, ◌++◌, length, Contains, ℕ, ◌==◌, ◌||◌, not, List, [], ◌∷◌, Option}
+use Rattle.std.specs.Prelude.{Some, None, map, take, filter, if◌then◌else◌}
 use Rattle.std.specs.List.{list_any, zip}
 use Rattle.definitions.specs.Bytes.{zero_page}
 use Rattle.definitions.specs.Tables.{frame, with_frame}
 use Rattle.definitions.specs.Zones.{top}
 use Rattle.safe_pages.specs.Placed.{Placed, sources}
 
--- The page frames that are free to the loader, the originals with data of the last plan, where their pages wait, and how
--- many of them wait so far.
+-- The page frames that are free to the loader, the originals with data of the last plan, where their pages wait, and
+-- how many of them wait so far.
 pub record Awaiting : Type 0 where
   pub zones : List (ℕ × ℕ)
   pub free : List ℕ
@@ -24,12 +25,16 @@ with_data origs zeros = filter (λ p. not (list_any (λ q. q == p) zeros)) origs
 abbrev pub waiting_pages : List (List ℕ) → Awaiting → List (List ℕ)
 waiting_pages frames w = map (frame frames) (take w.loaded (sources w.placement.moves))
 
--- The next page waits in page frame p, one that is free to the loader. Whatever is written there, the pages that wait already stay.
+-- The next page waits in page frame p, one that is free to the loader. Whatever is written there, the pages that wait
+-- already stay.
 pub record WaitsNext (w : Awaiting) (p : ℕ) : Type 0 where
   pub free : Contains w.free p
   pub within : (frames : List (List ℕ)) → top w.zones ≤ length frames → p < length frames
-  pub before : (frames : List (List ℕ)) (page : List ℕ) → waiting_pages (with_frame frames p page) w ≡ waiting_pages frames w
-  pub after : (frames : List (List ℕ)) (page : List ℕ) → top w.zones ≤ length frames → waiting_pages (with_frame frames p page) (record w { loaded = w.loaded + 1 }) ≡ waiting_pages frames w ++ page ∷ []
+  pub before : (frames : List (List ℕ)) (page : List ℕ) →
+      waiting_pages (with_frame frames p page) w ≡ waiting_pages frames w
+  pub after : (frames : List (List ℕ)) (page : List ℕ) → top w.zones ≤ length frames →
+      waiting_pages (with_frame frames p page) (record w { loaded = w.loaded + 1 }) ≡ waiting_pages frames w ++ page
+      ∷ []
 
 -- the page of the first pair whose number is p
 abbrev pub saved_page : List (ℕ × List ℕ) → ℕ → Option (List ℕ)
@@ -40,8 +45,8 @@ abbrev pub page_or : Option (List ℕ) → List ℕ → List ℕ
 page_or (Some page) other = page
 page_or None other = other
 
--- What page frame p has once the image is back: an original with data has the page that waited for it, any other page frame
--- that is to be cleared or was free to the loader is zero, and the rest is as before.
+-- What page frame p has once the image is back: an original with data has the page that waited for it, any other page
+-- frame that is to be cleared or was free to the loader is zero, and the rest is as before.
 unfoldable pub restored_page : List (List ℕ) → Awaiting → List ℕ → ℕ → List ℕ
 restored_page frames w cleared p =
     page_or (saved_page (zip w.originals (waiting_pages frames w)) p)

@@ -4,7 +4,8 @@
 
 mod sets;
 
-ghost use Rattle.std.specs.Prelude.{◌≡◌, ◌≢◌, ℕ, ◌+◌, ◌<◌, ◌≤◌, ◌↔◌, ◌++◌, ◌∷◌, [], true, false, Contains, IsErr, IsNone, IfOk, IfErr, IfSome, OnOk, OnErr, length};
+ghost use Rattle.std.specs.Prelude.{◌≡◌, ◌≢◌, ℕ, ◌+◌, ◌<◌, ◌≤◌, ◌↔◌, ◌++◌, ◌∷◌, [], true, false, Contains, IsErr};
+ghost use Rattle.std.specs.Prelude.{IsNone, IfOk, IfErr, IfSome, OnOk, OnErr, length};
 ghost use Rattle.definitions.specs.Moves.{assigned};
 ghost use Rattle.definitions.specs.Tables.{frame};
 ghost use Rattle.definitions.specs.Zones.{top};
@@ -86,13 +87,19 @@ impl Waiting {
     /// free.
     pub fn plan(&mut self, origs: &Bitmap, zeros: &Bitmap) -> Result<(), TooFew>
         requires { origs.now.zones ≡ self.old.zones }
-        ensures refused { IsErr result ↔ (length self.old.free < need_for (length (with_data origs.now.members zeros.now.members))) }
-        ensures tells { IfErr result (λ few. few ≡ record { have = length self.old.free; need = need_for (length (with_data origs.now.members zeros.now.members)) }) }
-        ensures planned { OnOk result (self.new.placement ≡ planned self.old.zones (with_data origs.now.members zeros.now.members) self.old.free) }
+        ensures refused { IsErr result ↔
+            (length self.old.free < need_for (length (with_data origs.now.members zeros.now.members))) }
+        ensures tells { IfErr result (λ few. few ≡ record {
+          have = length self.old.free;
+          need = need_for (length (with_data origs.now.members zeros.now.members));
+        }) }
+        ensures planned { OnOk result (self.new.placement ≡ planned self.old.zones
+            (with_data origs.now.members zeros.now.members) self.old.free) }
         ensures ready { OnOk result (self.new.placement.ready ≡ true) }
         ensures placement { OnOk result (IsPlacement self.new.placement) }
         ensures taken { OnOk result (TakesFrom self.old.free self.new.placement) }
-        ensures targets { OnOk result (targets self.new.placement.moves ≡ with_data origs.now.members zeros.now.members) }
+        ensures targets { OnOk result (targets self.new.placement.moves ≡ with_data origs.now.members
+            zeros.now.members) }
         ensures unready { OnErr result (self.new.placement.ready ≡ false) }
         ensures originals { self.new.originals ≡ with_data origs.now.members zeros.now.members }
         ensures free { self.new.free ≡ self.old.free }
@@ -140,14 +147,15 @@ impl Waiting {
         self.loaded += 1;
     }
 
-    /// Brings the pages to their page frames at once. Once all are placed, every other page frame of `cleared`, which are the
-    /// originals or those of them without data, is zero afterwards, and so is every other page frame that was free to the loader
-    /// (swsusp_arch_resume, and clear_free_pages of kernel/power/snapshot.c).
+    /// Brings the pages to their page frames at once. Once all are placed, every other page frame of `cleared`, which
+    /// are the originals or those of them without data, is zero afterwards, and so is every other page frame that was
+    /// free to the loader (swsusp_arch_resume, and clear_free_pages of kernel/power/snapshot.c).
     pub fn finish(&mut self, frames: &mut Frames, cleared: &Bitmap)
         requires ready { self.old.placement.ready ≡ true }
         requires frames { top self.old.zones ≤ length frames.old }
         requires cleared { cleared.now.zones ≡ self.old.zones }
-        ensures restored { self.old.loaded ≡ length self.old.originals → (p : ℕ) → frame frames.new p ≡ restored_page frames.old self.old cleared.now.members p }
+        ensures restored { self.old.loaded ≡ length self.old.originals → (p : ℕ) →
+            frame frames.new p ≡ restored_page frames.old self.old cleared.now.members p }
         ensures size { length frames.new ≡ length frames.old }
         ensures waiting { self.new ≡ self.old }
     {
@@ -166,7 +174,8 @@ fn move_pages<L: Ledger>(placement: &Placement, work: &mut Work, frames: &mut Fr
     requires placement { IsPlacement placement.now }
     requires frames { top placement.now.zones ≤ length frames.old }
     requires work { top placement.now.zones ≤ work.old }
-    ensures moves { (p : ℕ) → (Contains placement.now.list p → ⊥) → p ≢ placement.now.bounce → frame frames.new p ≡ frame (assigned frames.old placement.now.moves) p }
+    ensures moves { (p : ℕ) → (Contains placement.now.list p → ⊥) → p ≢ placement.now.bounce →
+        frame frames.new p ≡ frame (assigned frames.old placement.now.moves) p }
     ensures size { length frames.new ≡ length frames.old }
     ensures work { work.new ≡ work.old }
 {

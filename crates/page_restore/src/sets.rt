@@ -25,7 +25,8 @@ pub(crate) fn mark_with_data(set: &mut Bitmap, origs: &Bitmap, zeros: &Bitmap)
 /// Sets each page frame of a set to zero that isn't in the other one.
 pub(crate) fn zero_apart(frames: &mut Frames, set: &Bitmap, kept: &Bitmap)
     requires { top set.now.zones ≤ length frames.old }
-    ensures zero { (p : ℕ) → Contains set.now.members p → (Contains kept.now.members p → ⊥) → frame frames.new p ≡ zero_page }
+    ensures zero { (p : ℕ) → Contains set.now.members p → (Contains kept.now.members p → ⊥) →
+        frame frames.new p ≡ zero_page }
     ensures kept { (p : ℕ) → Contains kept.now.members p → frame frames.new p ≡ frame frames.old p }
     ensures others { (p : ℕ) → (Contains set.now.members p → ⊥) → frame frames.new p ≡ frame frames.old p }
     ensures size { length frames.new ≡ length frames.old }

@@ -37,7 +37,7 @@ count_below-all [] p below = refl
 count_below-all (x ∷ xs) p below =
     count_below-cons x xs p (below x (Contains-head x xs)) ∙ ap suc (count_below-all xs p (λ q in'. below q (Contains-tail x xs q in')))
 
--- the members from p on are those behind the ones below
+-- the members from p on are those after the ones below
 pub left_from : (xs : List ℕ) (p : ℕ) → IsStrictlyIncreasing xs → members_from p xs ≡ drop (count_below xs p) xs
 unfolding count_below
 left_from [] p up = refl

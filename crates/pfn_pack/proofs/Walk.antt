@@ -177,7 +177,7 @@ to_shifted base xs t (k, lt, e) =
     let add : ℕ → ℕ = λ i. base + i in
     (k, omega (arith, length-map xs add), get_or-map add xs k t (base + t) lt ∙ ap add e)
 
--- The members of the first w + 1 words lie below the place behind the highest bit of word w.
+-- The members of the first w + 1 words lie below the place after the highest bit of word w.
 pub passed_word : (set : FrameSet) (w word from low width : ℕ) → IsFrameSet set → IsWord set w word → IsSpan word low width → IsPassed set w from → IsPassed set (w + 1) (start set (w / 512) + 64 * (w % 512) + low + width)
 passed_word set w word from low width h at span passed =
     let base = start set (w / 512) + 64 * (w % 512) in

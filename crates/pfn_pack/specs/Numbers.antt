@@ -1,5 +1,6 @@
 -- The numbers of a number page, and what is wrong with them (unpack_orig_pfns, kernel/power/snapshot.c).
-use Rattle.std.specs.Prelude.{ℕ, ◌+◌, ◌-◌, ◌==◌, ◌&&◌, zero, suc, Bool, false, not, nat_lt, nat_le, List, map, filter, min, Option, Some, None, if◌then◌else◌}
+use Rattle.std.specs.Prelude.{ℕ, ◌+◌, ◌-◌, ◌==◌, ◌&&◌, zero, suc, Bool, false, not, nat_lt, nat_le, List, map, filter}
+use Rattle.std.specs.Prelude.{min, Option, Some, None, if◌then◌else◌}
 use Rattle.std.specs.List.{list_any, range_with_len}
 use Rattle.page_core.specs.declared.format.Format.{Format}
 use Rattle.page_core.specs.declared.format.Format.TheVariants.{Plain, SkipZeros}
@@ -51,7 +52,8 @@ before_in u page (suc j) = Some (number_in u page j)
 -- the word after the last number, where that number doesn't fill its page
 abbrev pub end_fault : Unpacked → List ℕ → Option PfnFault
 end_fault u page =
-    if nat_lt (u.n - u.read) 512 && not (word page (u.n - u.read) == end_value) then Some (PfnEnd (word page (u.n - u.read))) else None
+    if nat_lt (u.n - u.read) 512 && not (word page (u.n - u.read) == end_value)
+    then Some (PfnEnd (word page (u.n - u.read))) else None
 
 -- the first fault of the next page
 abbrev pub fault_in : List (ℕ × ℕ) → Unpacked → List ℕ → ℕ → Option PfnFault

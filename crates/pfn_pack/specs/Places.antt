@@ -1,5 +1,6 @@
 -- Places of members in a set of page frames, and what an image says of them.
-use Rattle.std.specs.Prelude.{◌≡◌, ◌≤◌, ◌<◌, ℕ, ◌+◌, ◌-◌, ◌*◌, ◌/◌, ◌%◌, ◌^◌, ◌==◌, Contains, List, [], length, filter, nat_lt, Option, Some, None, if◌then◌else◌}
+use Rattle.std.specs.Prelude.{◌≡◌, ◌≤◌, ◌<◌, ℕ, ◌+◌, ◌-◌, ◌*◌, ◌/◌, ◌%◌, ◌^◌, ◌==◌, Contains, List, [], length, filter}
+use Rattle.std.specs.Prelude.{nat_lt, Option, Some, None, if◌then◌else◌}
 use Rattle.std.specs.List.{list_any}
 use Rattle.std.specs.Int.{bit_at}
 use Rattle.definitions.specs.FrameSets.{blocks}
@@ -44,5 +45,8 @@ word_of set q b = 512 * b + (q - start set b) / 64
 pub record IsWord (set : FrameSet) (w word : ℕ) : Type 0 where
   pub within : w / 512 < length (runs set)
   pub fits : word < 2 ^ 64
-  pub bit : (q b : ℕ) → Contains set.members q → InZone (runs set) q b → word_of set q b ≡ w → bit_at word ((q - start set b) % 64) ≡ 1
-  pub member : (t : ℕ) → t < 64 → bit_at word t ≡ 1 → InZone (runs set) (start set (w / 512) + 64 * (w % 512) + t) (w / 512) × Contains set.members (start set (w / 512) + 64 * (w % 512) + t)
+  pub bit : (q b : ℕ) → Contains set.members q → InZone (runs set) q b → word_of set q b ≡ w →
+      bit_at word ((q - start set b) % 64) ≡ 1
+  pub member : (t : ℕ) → t < 64 → bit_at word t ≡ 1 →
+      InZone (runs set) (start set (w / 512) + 64 * (w % 512) + t) (w / 512)
+      × Contains set.members (start set (w / 512) + 64 * (w % 512) + t)

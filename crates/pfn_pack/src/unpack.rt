@@ -1,4 +1,5 @@
-ghost use Rattle.std.specs.Prelude.{◌≡◌, ℕ, ◌+◌, ◌-◌, ◌*◌, ◌^◌, ◌<◌, ◌≤◌, ◌↔◌, ◌++◌, Some, None, Ok, Err, IsOk, IsTrue, OnOk, OnErr, IfOk, IsSome, IfSome, Option};
+ghost use Rattle.std.specs.Prelude.{◌≡◌, ℕ, ◌+◌, ◌-◌, ◌*◌, ◌^◌, ◌<◌, ◌≤◌, ◌↔◌, ◌++◌, Some, None, Ok, Err, IsOk, IsTrue};
+ghost use Rattle.std.specs.Prelude.{OnOk, OnErr, IfOk, IsSome, IfSome, Option};
 ghost use Rattle.definitions.specs.Bytes.{word};
 
 use memory_bitmap::Bitmap;
@@ -50,7 +51,8 @@ impl Model for Unpack {
 
 impl Unpack {
     ghost use Rattle.pfn_pack.specs.Unpacked.{Unpacked, IsUpTo};
-    ghost use Rattle.pfn_pack.specs.Numbers.{number_by, is_marked_by, wanted, page_fault, numbers_in, marked_in, after_page, first_below, fault_in, before_in, end_fault};
+    ghost use Rattle.pfn_pack.specs.Numbers.{number_by, is_marked_by, wanted, page_fault, numbers_in, marked_in};
+    ghost use Rattle.pfn_pack.specs.Numbers.{after_page, first_below, fault_in, before_in, end_fault};
     ghost use Rattle.pfn_pack.specs.declared.unpack.PfnFault.{PfnFault};
 
     /// The number pages of `n` numbers, none of which is read yet.
@@ -65,8 +67,8 @@ impl Unpack {
         }
     }
 
-    /// Reads the next number page. Its numbers go into `origs`, and those of pages without a data page into `zeros` too.
-    /// A page that is refused changes nothing.
+    /// Reads the next number page. Its numbers go into `origs`, and those of pages without a data page into `zeros`
+    /// too. A page that is refused changes nothing.
     pub fn feed(
         &mut self,
         page: &Page,
@@ -81,11 +83,18 @@ impl Unpack {
         requires marked { IsUpTo self.old.last zeros.old.members }
 
         ensures ok { IsOk result ↔ (page_fault zones.now self.old page.now ≡ None) }
-        ensures fault { (fault : PfnFault) → (result ≡ Err fault) ↔ (page_fault zones.now self.old page.now ≡ Some fault) }
+        ensures fault { (fault : PfnFault) →
+            (result ≡ Err fault) ↔ (page_fault zones.now self.old page.now ≡ Some fault) }
 
         ensures read { OnOk result (self.new ≡ after_page self.old page.now) }
-        ensures listed { OnOk result (origs.new ≡ record origs.old { members = origs.old.members ++ numbers_in self.old page.now (wanted self.old) }) }
-        ensures marked { OnOk result (zeros.new ≡ record zeros.old { members = zeros.old.members ++ marked_in self.old page.now (wanted self.old) }) }
+        ensures listed { OnOk result (origs.new ≡ record origs.old {
+          members = origs.old.members
+              ++ numbers_in self.old page.now (wanted self.old);
+        }) }
+        ensures marked { OnOk result (zeros.new ≡ record zeros.old {
+          members = zeros.old.members
+              ++ marked_in self.old page.now (wanted self.old);
+        }) }
 
         ensures same { OnErr result (self.new ≡ self.old) }
         ensures same_origs { OnErr result (origs.new ≡ origs.old) }
@@ -124,7 +133,8 @@ impl Unpack {
     fn check(&self, page: &Page, zones: &Zones, count: u32) -> Result<Option<u32>, PfnFault>
         requires { count ≤ 512 }
         ensures ok { IsOk result ↔ (first_below (fault_in zones.now self.now page.now) count ≡ None) }
-        ensures fault { (fault : PfnFault) → (result ≡ Err fault) ↔ (first_below (fault_in zones.now self.now page.now) count ≡ Some fault) }
+        ensures fault { (fault : PfnFault) →
+            (result ≡ Err fault) ↔ (first_below (fault_in zones.now self.now page.now) count ≡ Some fault) }
         ensures last { IfOk result (λ last. last ≡ before_in self.now page.now count) }
     {
         let mut last = self.last;
@@ -158,8 +168,14 @@ impl Unpack {
         requires same_zones { zeros.old.zones ≡ origs.old.zones }
         requires listed { IsUpTo self.now.last origs.old.members }
         requires marked { IsUpTo self.now.last zeros.old.members }
-        ensures listed { origs.new ≡ record origs.old { members = origs.old.members ++ numbers_in self.now page.now count } }
-        ensures marked { zeros.new ≡ record zeros.old { members = zeros.old.members ++ marked_in self.now page.now count } }
+        ensures listed { origs.new ≡ record origs.old {
+          members = origs.old.members
+              ++ numbers_in self.now page.now count;
+        } }
+        ensures marked { zeros.new ≡ record zeros.old {
+          members = zeros.old.members
+              ++ marked_in self.now page.now count;
+        } }
     {
         let _ = origs.len();
         for j in 0..count {

@@ -1,4 +1,4 @@
--- Which call of a hibernation comes behind so many steps.
+-- Which call of a hibernation comes after so many steps.
 use Rattle.std.proofs.Common.{◌≡◌, ◌≤◌, ◌<◌, ℕ, ◌+◌, ◌-◌, zero, suc, ltb, true, Option, Some, None, refl, sym, ap, ◌∙◌, subst, inl, inr, arith}
 use Rattle.std.proofs.lemmas.Bool.{cases_lt, cond-true, cond-false, lt-ltb, le-ltb}
 use Rattle.plain_machine.specs.Image.{Image, pages_of, maps_of, hibernate_steps}

@@ -73,7 +73,7 @@ byte-each_or e n (k ∷ ks) table m j b pages has lt below this =
 pub byte-each : (e : ℕ → ℕ) (n : ℕ) (ks : List ℕ) (table : ℕ) (m : List (List ℕ)) (j b : ℕ) → All IsPage m → HasTable m table n → b < 4 → ((k : ℕ) → Contains ks k → k < n) → Contains ks j → byte_at (with_each_entry e ks table m) table j b ≡ get_or (little_bytes 4 (e j)) b 0
 byte-each e n ks table m j b pages has lt below in' = byte-each_or e n ks table m j b pages has lt below (inr in')
 
--- The bytes of lists of one width, one behind another.
+-- The bytes of lists of one width, one after another.
 
 get_or-flat : (f : ℕ → List ℕ) (a n k b : ℕ) → ((i : ℕ) → length (f i) ≡ 4) → k < n → b < 4 → get_or (flat_map f (range_with_len a n)) (4 * k + b) 0 ≡ get_or (f (a + k)) b 0
 get_or-flat f a zero k b width lt below = absurd (omega arith)

@@ -55,7 +55,7 @@ page_isn't_map pages k lt =
     (ne_eqb (write_of_page k % 512) 511 (λ e. omega arith))
     (ne_eqb (write_of_page k + 1) (pages + maps_of pages) (λ e. omega arith))
 
--- the write of map j: behind 511 pages more, or behind the last page
+-- the write of map j: after 511 pages more, or after the last page
 pub record IsMapWrite (pages j k : ℕ) : Type 0 where
   pub within : k < pages + maps_of pages
   pub map_is : k / 512 ≡ j

@@ -39,7 +39,8 @@ are_synced_before (Some writes_page) = false
 are_synced_before (Some syncs_pages) = false
 are_synced_before call = true
 
--- Where a mark is taken back, block(0) is read, written taken back, and synced. An undo has the block, and begins with its write.
+-- Where a mark is taken back, block(0) is read, written taken back, and synced. An undo has the block, and begins with
+-- its write.
 pub data BackCall : Type 0 where
   reads_mark : BackCall
   takes_back : BackCall

@@ -1,6 +1,8 @@
 -- The chain of an image: its map pages and what they point to, in any disk.
 -- In Linux: get_swap_reader and swap_read_page, kernel/power/swap.c.
-use Rattle.std.specs.Prelude.{◌≡◌, ◌≢◌, ℕ, ◌*◌, ◌/◌, ◌%◌, ◌==◌, ◌&&◌, ◌||◌, List, [], ◌∷◌, Bool, not, nat_eq, nat_lt, length, map, Option, Some, None, Result, Ok, Err, if◌then◌else◌, ◌↔◌, ◌<◌, ◌≤◌, bit_and, zero, suc}
+use Rattle.std.specs.Prelude.{◌≡◌, ◌≢◌, ℕ, ◌*◌, ◌/◌, ◌%◌, ◌==◌, ◌&&◌, ◌||◌, List, [], ◌∷◌, Bool, not, nat_eq, nat_lt}
+use Rattle.std.specs.Prelude.{length, map, Option, Some, None, Result, Ok, Err, if◌then◌else◌, ◌↔◌, ◌<◌, ◌≤◌, bit_and}
+use Rattle.std.specs.Prelude.{zero, suc}
 use Rattle.std.specs.List.{list_any, range_with_len}
 use Rattle.std.specs.Cmp.Lexicographic.{pointwise}
 use Rattle.page_core.specs.declared.format.Format.TheVariants.{SkipZeros}
@@ -56,7 +58,8 @@ block_fault h v x = if is_at_fault h v x then Some (BadBlock x) else None
 -- what is wrong with map j, when it is wanted
 abbrev pub map_fault : Hardware → disk.DiskImage → ℕ → ℕ → Option Reply
 map_fault h v b zero = if b == 0 then Some NoChain else block_fault h v b
-map_fault h v b (suc j) = if map_block v b (suc j) == 0 then Some (ChainEnds (suc j)) else block_fault h v (map_block v b (suc j))
+map_fault h v b (suc j) =
+    if map_block v b (suc j) == 0 then Some (ChainEnds (suc j)) else block_fault h v (map_block v b (suc j))
 
 -- what is wrong with entry k, when it is wanted
 abbrev pub entry_fault : Hardware → disk.DiskImage → ℕ → ℕ → Option Reply
@@ -91,7 +94,10 @@ pub record Holds (h : Hardware) (v : disk.DiskImage) (i : Image) : Type 0 where
   pub marked : Marked h v
   pub uncompressed : bit_and (flags_of (header_of h v)) 2 ≢ 0
   pub format : (bit_and (flags_of (header_of h v)) 256 ≢ 0) ↔ (i.format ≡ SkipZeros)
-  pub whole : (blocks : List ℕ) × (chain h v (image_of (header_of h v)) (pages_of i) ≡ Ok blocks) × (map (disk.block v) blocks ≡ stream_of i)
+  pub whole : (blocks : List ℕ) × (chain h v (image_of (header_of h v)) (pages_of i) ≡ Ok blocks)
+      × (map (disk.block v) blocks ≡ stream_of i)
   pub slots : (s : ℕ) (page : List ℕ) → i.slots s ≡ Some page → disk.block v (block_of_slot h s) ≡ page
-  pub maps_apart : (s j : ℕ) (page : List ℕ) → i.slots s ≡ Some page → 511 * j ≤ pages_of i → map_block v (image_of (header_of h v)) j ≢ block_of_slot h s
-  pub pages_apart : (s k : ℕ) (page : List ℕ) → i.slots s ≡ Some page → k < pages_of i → entry_block v (image_of (header_of h v)) k ≢ block_of_slot h s
+  pub maps_apart : (s j : ℕ) (page : List ℕ) → i.slots s ≡ Some page → 511 * j ≤ pages_of i →
+      map_block v (image_of (header_of h v)) j ≢ block_of_slot h s
+  pub pages_apart : (s k : ℕ) (page : List ℕ) → i.slots s ≡ Some page → k < pages_of i →
+      entry_block v (image_of (header_of h v)) k ≢ block_of_slot h s

@@ -1,6 +1,7 @@
 -- [tables]: the memory of a machine that has just booted, page frame by page frame and entry by entry.
 -- In Linux the page allocator frees all memory at a boot but what is reserved: memblock_free_all, mm/memblock.c.
-use Rattle.std.specs.Prelude.{ℕ, ◌+◌, ◌*◌, ◌-◌, ◌&&◌, List, [], ◌∷◌, map, flat_map, Option, Some, None, if◌then◌else◌, nat_le, nat_lt}
+use Rattle.std.specs.Prelude.{ℕ, ◌+◌, ◌*◌, ◌-◌, ◌&&◌, List, [], ◌∷◌, map, flat_map, Option, Some, None, if◌then◌else◌}
+use Rattle.std.specs.Prelude.{nat_le, nat_lt}
 use Rattle.std.specs.List.{range_with_len, find}
 use Rattle.byteorder.specs.Endian.{little_bytes}
 use Rattle.definitions.specs.Bytes.{zero_page}
@@ -32,7 +33,8 @@ table_page first entry p = flat_map (λ k. little_bytes 4 (entry (1024 * (p - fi
 unfoldable pub fresh_page : Hardware → (ℕ → ℕ) → ℕ → List ℕ
 fresh_page h slots p =
     if is_of_table h.frame_table (top h.zones) p then table_page h.frame_table (frame_table_entry h) p
-    else (if is_of_table h.slot_table h.slots p then table_page h.slot_table (slot_table_entry h slots) p else zero_page)
+    else (if is_of_table h.slot_table h.slots p then table_page h.slot_table (slot_table_entry h slots) p
+    else zero_page)
 
 -- with these slots
 unfoldable pub fresh_memory : Hardware → (ℕ → ℕ) → Memory

@@ -85,4 +85,5 @@ info_of_image i = record { ident = i.ident; physpages = i.physpages; image_pages
 
 abbrev pub stream_of : Image → List (List ℕ)
 stream_of i =
-    stream_pages (info_of_image i) (marked_numbers (numbers_of i) (without_data i)) (map (λ saved. saved.1) (with_data i))
+    stream_pages (info_of_image i) (marked_numbers (numbers_of i) (without_data i))
+    (map (λ saved. saved.1) (with_data i))

@@ -1,6 +1,7 @@
 -- Resuming over the loader's memory: which page frames it leaves free, and what memory is afterwards.
 -- In Linux: prepare_image and get_buffer, kernel/power/snapshot.c; swsusp_arch_resume.
-use Rattle.std.specs.Prelude.{ℕ, ◌+◌, ◌/◌, ◌==◌, ◌&&◌, List, [], ◌∷◌, Bool, not, nat_lt, nat_le, map, filter, replicate, take, Option, Some, None, if◌then◌else◌}
+use Rattle.std.specs.Prelude.{ℕ, ◌+◌, ◌/◌, ◌==◌, ◌&&◌, List, [], ◌∷◌, Bool, not, nat_lt, nat_le, map, filter, replicate}
+use Rattle.std.specs.Prelude.{take, Option, Some, None, if◌then◌else◌}
 use Rattle.std.specs.List.{list_any, range_with_len}
 use Rattle.definitions.specs.Bytes.{zero_page}
 use Rattle.definitions.specs.Zones.{numbers, top}
@@ -26,7 +27,8 @@ is_in_regions h p = list_any (λ r. nat_le r.0 p && nat_lt p (r.0 + r.1) && not 
 -- L: the page frames free to the loader. A scripted loader holds its ranges, and regions with flags; a dump's loader
 -- what isn't free in the dump.
 abbrev pub left_free : Hardware → Memory → Loader → List ℕ
-left_free h dump (loader.Ranges ranges) = filter (λ p. not (is_in_ranges ranges p) && not (is_in_regions h p)) (numbers h.zones)
+left_free h dump (loader.Ranges ranges) =
+    filter (λ p. not (is_in_ranges ranges p) && not (is_in_regions h p)) (numbers h.zones)
 left_free h dump loader.Table = unused h dump
 
 -- how many page frames resuming d pages with data needs: one for each, a list frame for each 85, and a bounce frame

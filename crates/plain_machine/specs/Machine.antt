@@ -1,7 +1,7 @@
--- The machine: its hardware and its memory.
--- In Linux: struct zone (include/linux/mmzone.h), struct page, and struct swap_info_struct (include/linux/swap.h); saveable
--- and free page frames are those of kernel/power/snapshot.c.
-use Rattle.std.specs.Prelude.{◌≡◌, ◌≤◌, ◌<◌, ◌⊎◌, ℕ, ◌+◌, ◌/◌, ◌%◌, ◌^◌, All, ◌==◌, ◌&&◌, ◌||◌, Bool, true, not, nat_lt, nat_le, List, ◌++◌, length, filter, Option, if◌then◌else◌, Contains, slice_index_or}
+-- The machine: its hardware and its memory. In Linux: struct zone (include/linux/mmzone.h), struct page, and struct
+-- swap_info_struct (include/linux/swap.h); saveable and free page frames are those of kernel/power/snapshot.c.
+use Rattle.std.specs.Prelude.{◌≡◌, ◌≤◌, ◌<◌, ◌⊎◌, ℕ, ◌+◌, ◌/◌, ◌%◌, ◌^◌, All, ◌==◌, ◌&&◌, ◌||◌, Bool, true, not, nat_lt}
+use Rattle.std.specs.Prelude.{nat_le, List, ◌++◌, length, filter, Option, if◌then◌else◌, Contains, slice_index_or}
 use Rattle.std.specs.List.{list_any, range_with_len, find}
 use Rattle.definitions.specs.Bytes.{IsPage}
 use Rattle.definitions.specs.Zones.{numbers, top, AreZones}
@@ -10,9 +10,9 @@ use Rattle.definitions.specs.Slots.{block_of, IsFileMap}
 use Rattle.definitions.specs.Lists.{saveable_frames, free_frames}
 use Rattle.definitions.specs.declared.info.Ident.{Ident}
 
--- What a machine has and keeps: zones (start, count), the number of slots (last_page + 1), the first page frames of the frame
--- table and of the slot table, regions (start, count, flags), its identity and hardware signature (0 where there is none),
--- and the extents of its swap area (start page, length, start block).
+-- What a machine has and keeps: zones (start, count), the number of slots (last_page + 1), the first page frames of the
+-- frame table and of the slot table, regions (start, count, flags), its identity and hardware signature (0 where there
+-- is none), and the extents of its swap area (start page, length, start block).
 pub record Hardware : Type 0 where
   pub zones : List (ℕ × ℕ)
   pub slots : ℕ
@@ -94,7 +94,8 @@ pub record IsOfTable (first entries f : ℕ) : Type 0 where
 abbrev pub IsTableFrame : Hardware → ℕ → Type 0
 IsTableFrame h f = IsOfTable h.frame_table (top h.zones) f ⊎ IsOfTable h.slot_table h.slots f
 
--- whether page frame p is one of a table that begins at `first` and has so many entries, and whether it is one of the two
+-- whether page frame p is one of a table that begins at `first` and has so many entries, and whether it is one of the
+-- two
 abbrev pub is_of_table : ℕ → ℕ → ℕ → Bool
 is_of_table first entries p = nat_le first p && nat_lt p (first + table_len entries)
 
@@ -117,7 +118,8 @@ abbrev pub is_table_at_fault : Hardware → Memory → ℕ → Bool
 is_table_at_fault h m f =
     not (is_saveable (page_flags (frame_entry h m f))) || not (owner_of (frame_entry h m f) == 0)
     || list_any (λ p. (h.frame_table + p / 1024 == f) && not (is_well_formed (frame_entry h m p))) (numbers h.zones)
-    || list_any (λ s. (h.slot_table + s / 1024 == f) && not (is_slot_entry s (raw_slot_entry h m s))) (range_with_len 0 h.slots)
+    || list_any (λ s. (h.slot_table + s / 1024 == f)
+    && not (is_slot_entry s (raw_slot_entry h m s))) (range_with_len 0 h.slots)
 
 -- the first table frame at fault
 abbrev pub tables_fault : Hardware → Memory → Option ℕ
@@ -128,7 +130,8 @@ pub record Fits (h : Hardware) (m : Memory) : Type 0 where
   pub pages : All IsPage m
   pub size : length m ≡ top h.zones
   pub entries : (p : ℕ) → Contains (numbers h.zones) p → is_well_formed (frame_entry h m p) ≡ true
-  pub tables : (f : ℕ) → IsTableFrame h f → (is_saveable (page_flags (frame_entry h m f)) ≡ true) × (owner_of (frame_entry h m f) ≡ 0)
+  pub tables : (f : ℕ) → IsTableFrame h f → (is_saveable (page_flags (frame_entry h m f)) ≡ true)
+      × (owner_of (frame_entry h m f) ≡ 0)
   pub slots : (s : ℕ) → s < h.slots → is_slot_entry s (raw_slot_entry h m s) ≡ true
 
 -- an identity that an info page can say: names of 65 bytes, and a version code of 4 (struct new_utsname)
@@ -150,18 +153,21 @@ pub record IsRegion (h : Hardware) (r : ℕ × ℕ × ℕ) : Type 0 where
   pub valid : (p : ℕ) → IsInRegion r p → Contains (numbers h.zones) p
   pub of_no_table : (p : ℕ) → IsInRegion r p → IsTableFrame h p → ⊥
 
--- What a machine is, and nothing else: the page frames of the tables are valid and no page frame is of both, the regions are at
--- most 64 and apart, the extents of the swap area cover just its slots, and identity and signature fit their fields.
+-- What a machine is, and nothing else: the page frames of the tables are valid and no page frame is of both, the
+-- regions are at most 64 and apart, the extents of the swap area cover just its slots, and identity and signature fit
+-- their fields.
 pub record IsHardware (h : Hardware) : Type 0 where
   pub zones : AreZones h.zones
   pub some_slots : 2 ≤ h.slots
   pub few_slots : h.slots ≤ 131072
   pub frame_table : (i : ℕ) → i < table_len (top h.zones) → Contains (numbers h.zones) (h.frame_table + i)
   pub slot_table : (i : ℕ) → i < table_len h.slots → Contains (numbers h.zones) (h.slot_table + i)
-  pub apart : (h.frame_table + table_len (top h.zones) ≤ h.slot_table) ⊎ (h.slot_table + table_len h.slots ≤ h.frame_table)
+  pub apart : (h.frame_table + table_len (top h.zones) ≤ h.slot_table)
+      ⊎ (h.slot_table + table_len h.slots ≤ h.frame_table)
   pub few_regions : length h.regions ≤ 64
   pub regions : All (IsRegion h) h.regions
-  pub regions_apart : (j k p : ℕ) → j < k → k < length h.regions → IsInRegion (slice_index_or h.regions j (0, 0, 0)) p → IsInRegion (slice_index_or h.regions k (0, 0, 0)) p → ⊥
+  pub regions_apart : (j k p : ℕ) → j < k → k < length h.regions →
+      IsInRegion (slice_index_or h.regions j (0, 0, 0)) p → IsInRegion (slice_index_or h.regions k (0, 0, 0)) p → ⊥
   pub map : IsFileMap h.extents h.slots
   pub ident : IsIdent h.ident
   pub signature : h.hw_sig < 2 ^ 32

@@ -1,15 +1,17 @@
--- Which events are refused, and why: the first of each event's tests, in the order in which they stand here. A refused event
--- changes nothing.
--- In Linux: freeze_processes, kernel/power/process.c; enough_free_mem, kernel/power/snapshot.c; enough_swap, kernel/power/swap.c.
--- The order is own.
-use Rattle.std.specs.Prelude.{ℕ, ◌+◌, ◌==◌, ◌&&◌, Bool, true, false, not, nat_lt, length, Option, Some, None, if◌then◌else◌, is_none, is_some}
+-- Which events are refused, and why: the first of each event's tests, in the order in which they stand here. A refused
+-- event changes nothing. In Linux: freeze_processes, kernel/power/process.c; enough_free_mem, kernel/power/snapshot.c;
+-- enough_swap, kernel/power/swap.c. The order is own.
+use Rattle.std.specs.Prelude.{ℕ, ◌+◌, ◌==◌, ◌&&◌, Bool, true, false, not, nat_lt, length, Option, Some, None}
+use Rattle.std.specs.Prelude.{if◌then◌else◌, is_none, is_some}
 use Rattle.std.specs.List.{range_with_len, find}
 use Rattle.page_core.specs.declared.format.Format.{Format}
 use Rattle.definitions.specs.Tables.{owner_of}
-use Rattle.plain_machine.specs.Machine.{Hardware, Memory, is_valid, frame_entry, slot_entry, is_slot_of, unused, unused_slots}
+use Rattle.plain_machine.specs.Machine.{Hardware, Memory, is_valid, frame_entry, slot_entry, is_slot_of, unused}
+use Rattle.plain_machine.specs.Machine.{unused_slots}
 use Rattle.plain_machine.specs.Image.{Image, image_of_memory, n_of, pages_of}
 use Rattle.plain_machine.specs.Chain.{or_else}
-use Rattle.plain_machine.specs.State.{State, off, on, booting, hibernating, undoing, settling, waking, loading, asleep, Running, Held, nothing, sure, maybe}
+use Rattle.plain_machine.specs.State.{State, off, on, booting, hibernating, undoing, settling, waking, loading, asleep}
+use Rattle.plain_machine.specs.State.{Running, Held, nothing, sure, maybe}
 use Rattle.plain_machine.specs.declared.event.Event.{Event}
 use Rattle.plain_machine.specs.declared.event.Event.TheVariants as event
 use Rattle.plain_machine.specs.declared.event.TaskOp.{TaskOp}
@@ -89,12 +91,14 @@ no_swap (Some why) = Some (reply.NoSwap why)
 -- enough_free_mem: the copies and PAGES_FOR_IO
 abbrev pub no_frames : Hardware → Running → Image → Option Reply
 no_frames h a i =
-    refused_if (nat_lt (length (unused h a.memory)) (n_of i + 1025)) (reply.NoFrames (length (unused h a.memory)) (n_of i + 1025))
+    refused_if (nat_lt (length (unused h a.memory)) (n_of i + 1025))
+    (reply.NoFrames (length (unused h a.memory)) (n_of i + 1025))
 
 -- enough_swap: the stream after a block for the first map
 abbrev pub no_slots : Hardware → Running → Image → Option Reply
 no_slots h a i =
-    refused_if (nat_lt (length (unused_slots h a.memory)) (pages_of i + 1026)) (reply.NoSlots (length (unused_slots h a.memory)) (pages_of i + 1026))
+    refused_if (nat_lt (length (unused_slots h a.memory)) (pages_of i + 1026))
+    (reply.NoSlots (length (unused_slots h a.memory)) (pages_of i + 1026))
 
 abbrev pub hibernate_refusal : Hardware → Format → Running → Option Reply
 hibernate_refusal h f a =
@@ -107,14 +111,16 @@ not_owner h a t p = refused_if (not (owner_of (frame_entry h a.memory p) == t)) 
 
 -- in an area that can't be used every slot counts as bad
 abbrev pub free_slots_of : Hardware → Running → Option ℕ
-free_slots_of h a = if is_some a.unusable then None else find (λ s. slot_entry h a.memory s == 0) (range_with_len 0 h.slots)
+free_slots_of h a =
+    if is_some a.unusable then None else find (λ s. slot_entry h a.memory s == 0) (range_with_len 0 h.slots)
 
 abbrev pub owns_slot : Hardware → Running → ℕ → ℕ → Bool
 owns_slot h a t s = is_none a.unusable && is_slot_of h a.memory t s
 
 abbrev pub op_refusal : Hardware → Running → ℕ → TaskOp → Option Reply
 op_refusal h a t (op.Claim p) =
-    or_else (refused_if (not (is_valid h p)) reply.NoFrame) (refused_if (not (frame_entry h a.memory p == 1)) reply.NotFree)
+    or_else (refused_if (not (is_valid h p)) reply.NoFrame)
+    (refused_if (not (frame_entry h a.memory p == 1)) reply.NotFree)
 op_refusal h a t (op.Release p) = or_else (refused_if (not (is_valid h p)) reply.NoFrame) (not_owner h a t p)
 op_refusal h a t (op.Store p k v) = or_else (refused_if (not (is_valid h p)) reply.NoFrame) (not_owner h a t p)
 op_refusal h a t (op.Show p k) = or_else (refused_if (not (is_valid h p)) reply.NoFrame) (not_owner h a t p)
@@ -165,7 +171,8 @@ refusal h a (event.Boot from) = start_refusal a (asks_dump_to_boot from)
 refusal h a (event.Resume loader check) = start_refusal a (asks_dump_to_load loader)
 refusal h a (event.Hibernate f) = refusal_if_running a (hibernate_refusal h f)
 refusal h a (event.Suspend f) = refusal_if_running a (hibernate_refusal h f)
-refusal h a event.Settle = refusal_if_running a (λ r. or_else (busy r) (refused_if (not (is_held r.held)) reply.NothingHeld))
+refusal h a event.Settle =
+    refusal_if_running a (λ r. or_else (busy r) (refused_if (not (is_held r.held)) reply.NothingHeld))
 refusal h a (event.Shrink want) = refusal_if_running a busy
 refusal h a event.Wake = not_asleep a
 refusal h a (event.Task t o) = refusal_if_running a (task_refusal h t o)

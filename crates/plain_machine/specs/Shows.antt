@@ -4,7 +4,8 @@ use Rattle.std.specs.Prelude.{◌≡◌, ℕ, Bool, true, false, List, Option, S
 use Rattle.definitions.specs.Tables.{with_entries}
 use Rattle.definitions.specs.Lists.{image_slots}
 use Rattle.plain_machine.specs.Machine.{Hardware, Memory, IsSameMemory, Fits}
-use Rattle.plain_machine.specs.State.{State, off, on, booting, hibernating, undoing, settling, waking, loading, asleep, Running, Held, nothing, sure, maybe, Flight}
+use Rattle.plain_machine.specs.State.{State, off, on, booting, hibernating, undoing, settling, waking, loading, asleep}
+use Rattle.plain_machine.specs.State.{Running, Held, nothing, sure, maybe, Flight}
 use Rattle.plain_machine.specs.declared.event.BootFrom.{BootFrom}
 use Rattle.plain_machine.specs.declared.event.IdentCheck.{IdentCheck}
 use Rattle.plain_machine.specs.declared.event.Loader.{Loader}
@@ -13,8 +14,8 @@ use Rattle.plain_machine.specs.declared.held.Held.{Held as HeldFlag}
 use Rattle.plain_machine.specs.declared.held.Held.TheVariants.{No, Yes, Perhaps}
 use Rattle.plain_machine.specs.declared.no_swap.NoSwap.{NoSwap}
 
--- What a world is at, and how many steps of it it has made. A boot says what memory it is from, a hibernation whether it is
--- of a suspend, an undo the call that failed.
+-- What a world is at, and how many steps of it it has made. A boot says what memory it is from, a hibernation whether
+-- it is of a suspend, an undo the call that failed.
 pub data Activity : Type 0 where
   rests : Activity
   runs : Activity
@@ -38,9 +39,9 @@ activity_in (loading load k) = loads k
 activity_in (asleep i held a) = sleeps
 
 -- What a world shows: what it is at, whether it keeps a dump's memory, whether it holds an image, why its area can't be
--- used, the tasks' unfinished operations, the content of its page frames, the block that it keeps between two calls of the
--- disk, the page frames of its copies, and of a resume that is under way loader and check and the pages that it has read, by
--- page frame.
+-- used, the tasks' unfinished operations, the content of its page frames, the block that it keeps between two calls of
+-- the disk, the page frames of its copies, and of a resume that is under way loader and check and the pages that it has
+-- read, by page frame.
 pub record WorldView : Type 0 where
   pub activity : Activity
   pub keeps_dump : Bool
@@ -69,9 +70,10 @@ ShowsHeld Perhaps (maybe x) = ⊤
 abbrev pub seen_frames : Hardware → Memory → Memory
 seen_frames h frames = with_entries frames h.slot_table (image_slots h.slots h.slot_table frames) 0
 
--- A machine with this flag, reason, operations and page frames runs as the state says. The page frames, with the image's
--- slots given back, are the state's memory, which fits.
-pub record RunsAs (h : Hardware) (flag : HeldFlag) (why : Option NoSwap) (operations : ℕ → Option Flight) (frames : Memory) (a : Running) : Type 0 where
+-- A machine with this flag, reason, operations and page frames runs as the state says. The page frames, with the
+-- image's slots given back, are the state's memory, which fits.
+pub record RunsAs (h : Hardware) (flag : HeldFlag) (why : Option NoSwap) (operations : ℕ →
+    Option Flight) (frames : Memory) (a : Running) : Type 0 where
   pub held : ShowsHeld flag a.held
   pub unusable : a.unusable ≡ why
   pub flights : (t : ℕ) → a.flights t ≡ operations t

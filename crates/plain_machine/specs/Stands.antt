@@ -1,6 +1,7 @@
 -- [stands]: when a world and a disk stand for a state of the plain machine. Each part is a definition of its own.
 -- It has no counterpart in Linux: it is what the promises are about.
-use Rattle.std.specs.Prelude.{◌≡◌, ◌≢◌, ◌<◌, ◌≤◌, ◌⊎◌, ℕ, ◌+◌, ◌-◌, ◌/◌, true, List, [], length, map, take, Option, Some, None, IsSome, Contains, All, bit_and, ⊤}
+use Rattle.std.specs.Prelude.{◌≡◌, ◌≢◌, ◌<◌, ◌≤◌, ◌⊎◌, ℕ, ◌+◌, ◌-◌, ◌/◌, true, List, [], length, map, take, Option}
+use Rattle.std.specs.Prelude.{Some, None, IsSome, Contains, All, bit_and, ⊤}
 use Rattle.std.specs.List.{zip}
 use Rattle.definitions.specs.Disk as disk
 use Rattle.definitions.specs.Bytes.{bytes_at}
@@ -8,7 +9,8 @@ use Rattle.definitions.specs.SwapHeader.{IsMarked, taken_back, flags_of, hw_sig_
 use Rattle.definitions.specs.Tables.{frame, owner_of}
 use Rattle.definitions.specs.Zones.{top}
 use Rattle.sig_header.specs.AreaKind.{area_kind}
-use Rattle.plain_machine.specs.Machine.{Hardware, Memory, block_of_slot, raw_slot_entry, slot_entry, frame_entry, image_slot, is_slot_of, is_valid, Fits, unused_slots}
+use Rattle.plain_machine.specs.Machine.{Hardware, Memory, block_of_slot, raw_slot_entry, slot_entry, frame_entry}
+use Rattle.plain_machine.specs.Machine.{image_slot, is_slot_of, is_valid, Fits, unused_slots}
 use Rattle.definitions.specs.NumberPages.{meta_of}
 use Rattle.plain_machine.specs.Image.{Image, SlotPages, n_of, with_data, maps_of, pages_of, stream_of, image_of_memory}
 use Rattle.plain_machine.specs.Laid.{laid, laid_block}
@@ -17,8 +19,13 @@ use Rattle.plain_machine.specs.Mark.{HasMark}
 use Rattle.plain_machine.specs.Fitting.{IsTask}
 use Rattle.plain_machine.specs.Loader.{left_free, loader_frame}
 use Rattle.plain_machine.specs.UsableArea.{area_block, area_fault, bad_set_fault, dump_area_fault}
-use Rattle.plain_machine.specs.State.{State, off, on, booting, hibernating, undoing, settling, waking, loading, asleep, Running, Flight, goes_out, comes_in, Held, nothing, sure, maybe, Saved, own, other, Load, Found, not_yet, found_own, found_other, held_while_loading, held_hibernating, held_back}
-use Rattle.plain_machine.specs.Calls.{BootCall, reads_area, boot_call, HibernationCall, reads_header, writes_mark, syncs_mark, hibernation_call, are_synced_before, BackCall, reads_mark, takes_back, syncs_back, back_call, undo_call, LoadCall, of_mark, load_call}
+use Rattle.plain_machine.specs.State.{State, off, on, booting, hibernating, undoing, settling, waking, loading, asleep}
+use Rattle.plain_machine.specs.State.{Running, Flight, goes_out, comes_in, Held, nothing, sure, maybe, Saved, own}
+use Rattle.plain_machine.specs.State.{other, Load, Found, not_yet, found_own, found_other, held_while_loading}
+use Rattle.plain_machine.specs.State.{held_hibernating, held_back}
+use Rattle.plain_machine.specs.Calls.{BootCall, reads_area, boot_call, HibernationCall, reads_header, writes_mark}
+use Rattle.plain_machine.specs.Calls.{syncs_mark, hibernation_call, are_synced_before, BackCall, reads_mark, takes_back}
+use Rattle.plain_machine.specs.Calls.{syncs_back, back_call, undo_call, LoadCall, of_mark, load_call}
 use Rattle.plain_machine.specs.Shows.{WorldView, activity_in, ShowsRunning, ShowsKept}
 use Rattle.plain_machine.specs.FreshMemory.{fresh_frames}
 use Rattle.plain_machine.specs.Step.{no_flights}
@@ -42,16 +49,17 @@ IsTaskSlot h m s = (s < h.slots) × (1 ≤ slot_entry h m s) × (slot_entry h m 
 abbrev pub IsTarget : (ℕ → Option Flight) → ℕ → Type 0
 IsTarget flights s = (t : ℕ) × (p : ℕ) × (flights t ≡ Some (goes_out s p))
 
--- The slots that have a page are just the tasks' by the table, but for the targets of unfinished outs. Where the area can't be
--- used, for this reason, every slot counts as bad, and none has a page.
-pub record AreTaskSlots (h : Hardware) (why : Option NoSwap) (m : Memory) (flights : ℕ → Option Flight) (slots : SlotPages) : Type 0 where
+-- The slots that have a page are just the tasks' by the table, but for the targets of unfinished outs. Where the area
+-- can't be used, for this reason, every slot counts as bad, and none has a page.
+pub record AreTaskSlots (h : Hardware) (why : Option NoSwap) (m : Memory) (flights : ℕ →
+    Option Flight) (slots : SlotPages) : Type 0 where
   pub usable : (s : ℕ) (page : List ℕ) → slots s ≡ Some page → why ≡ None
   pub tasks : (s : ℕ) (page : List ℕ) → slots s ≡ Some page → IsTaskSlot h m s
   pub landed : (s : ℕ) (page : List ℕ) → slots s ≡ Some page → IsTarget flights s → ⊥
   pub paged : why ≡ None → (s : ℕ) → IsTaskSlot h m s → (IsTarget flights s → ⊥) → IsSome (slots s)
 
--- Of a task's unfinished operation the slot and the page frame are its own, so no two have one slot. Only in an area that can be
--- used has a task a slot.
+-- Of a task's unfinished operation the slot and the page frame are its own, so no two have one slot. Only in an area
+-- that can be used has a task a slot.
 pub record IsFlight (h : Hardware) (a : Running) (t s p : ℕ) : Type 0 where
   pub task : IsTask t
   pub usable : a.unusable ≡ None
@@ -70,7 +78,8 @@ pub record FitsArea (h : Hardware) (v : disk.DiskImage) (m : Memory) : Type 0 wh
   pub area : area_fault h v ≡ None
   pub bad_slots : bad_set_fault h m (area_kind (area_block h v)) ≡ None
 
--- An own image is the image of a memory that fits and whose slot table fits the area, made under the machine's signature.
+-- An own image is the image of a memory that fits and whose slot table fits the area, made under the machine's
+-- signature.
 pub record IsImageOf (h : Hardware) (v : disk.DiskImage) (i : Image) (m : Memory) : Type 0 where
   pub fits : Fits h m
   pub task_slots : AreTaskSlots h None m no_flights i.slots
@@ -105,8 +114,8 @@ blocks_laid h m i = map (λ written. written.0) (laid h.extents (unused_slots h 
 abbrev pub laid_blocks : Hardware → Running → Image → List ℕ
 laid_blocks h a i = blocks_laid h a.memory i
 
--- The slots that are named as an image's: those of the held one lie on its blocks, also where it is only perhaps there. Of
--- another's image no slot is named so.
+-- The slots that are named as an image's: those of the held one lie on its blocks, also where it is only perhaps there.
+-- Of another's image no slot is named so.
 pub record NamesOwn (h : Hardware) (shown : WorldView) (i : Image) : Type 0 where
   pub memory : Memory
   pub image : i ≡ image_of_memory h memory i.slots i.format
@@ -130,15 +139,15 @@ pub record IsHeader (h : Hardware) (c : disk.Content) : Type 0 where
   pub unmarked : EachImage c (λ v. IsMarked (area_block h v) → ⊥)
   pub one : EachImage c (λ v. AgreeOnArea (area_block h v) (area_block h (disk.as_it_reads c)))
 
--- A running machine's area is that block's: why it can't be used is what the block calls for, and where it can be used its bad
--- slots are the table's.
+-- A running machine's area is that block's: why it can't be used is what the block calls for, and where it can be used
+-- its bad slots are the table's.
 abbrev pub HasArea : Hardware → disk.Content → Running → Type 0
 HasArea h c a = a.unusable ≡ dump_area_fault h (disk.as_it_reads c) a.memory
 
 -- 4. Hibernating.
 
--- A hibernation that was accepted: the image is that of the memory, no task has an unfinished operation, no image is held, and the
--- area can be used and has the slots.
+-- A hibernation that was accepted: the image is that of the memory, no task has an unfinished operation, no image is
+-- held, and the area can be used and has the slots.
 pub record IsAccepted (h : Hardware) (a : Running) (i : Image) : Type 0 where
   pub idle : (t : ℕ) → IsTask t → a.flights t ≡ None
   pub image : i ≡ image_of_memory h a.memory a.slots i.format
@@ -157,16 +166,18 @@ first_map_block h a = laid_block h.extents (unused_slots h a.memory) 0
 abbrev pub Reads : disk.DiskImage → ℕ × List ℕ → Type 0
 Reads v written = disk.block v written.0 ≡ written.1
 
--- Every image of the disk has the blocks of the hibernation and the tasks' slots. One that is marked says that the chain that was
--- laid is the image: its first map lies in the least slot that was free.
+-- Every image of the disk has the blocks of the hibernation and the tasks' slots. One that is marked says that the
+-- chain that was laid is the image: its first map lies in the least slot that was free.
 pub record HasLaid (h : Hardware) (c : disk.Content) (i : Image) (a : Running) : Type 0 where
   pub blocks : EachImage c (λ v. All (Reads v) (laid_writes h a i))
-  pub slots : (s : ℕ) (page : List ℕ) → i.slots s ≡ Some page → EachImage c (λ v. disk.block v (block_of_slot h s) ≡ page)
+  pub slots : (s : ℕ) (page : List ℕ) → i.slots s ≡ Some page →
+      EachImage c (λ v. disk.block v (block_of_slot h s) ≡ page)
   pub mark : EachImage c (λ v. Marked h v → HasMark h i.format (first_map_block h a) (header_of h v))
 
--- What the first k steps wrote reads as laid, and the copies are the image's pages. After the first sync every image of the
--- disk has it.
-pub record IsWritten (h : Hardware) (shown : WorldView) (c : disk.Content) (i : Image) (a : Running) (k : ℕ) : Type 0 where
+-- What the first k steps wrote reads as laid, and the copies are the image's pages. After the first sync every image of
+-- the disk has it.
+pub record IsWritten (h : Hardware) (shown : WorldView) (c : disk.Content) (i : Image) (a : Running)
+    (k : ℕ) : Type 0 where
   pub laid : All (Reads (disk.as_it_reads c)) (take k (laid_writes h a i))
   pub copies : map (frame shown.frames) shown.copies ≡ map (λ saved. saved.1) i.frames
   pub durable : are_synced_before (hibernation_call i k) ≡ true → HasLaid h c i a
@@ -179,8 +190,8 @@ pub record IsTakenBack (h : Hardware) (v w : disk.DiskImage) : Type 0 where
   pub others : (b : ℕ) → b < blocks_of v → b ≢ block_of_slot h 0 → disk.block w b ≡ disk.block v b
   pub header : (header_of h w ≡ header_of h v) ⊎ (header_of h w ≡ taken_back (header_of h v))
 
--- how many pages with data are read after k steps: behind the four steps at block(0) each 512th step, from the first on, reads
--- a map, and the info page and the number pages come first
+-- how many pages with data are read after k steps: after the four steps at block(0) each 512th step, from the first
+-- on, reads a map, and the info page and the number pages come first
 abbrev pub pages_read : ℕ → ℕ
 pages_read k = k - 4 - (k - 4 + 511) / 512
 
@@ -191,13 +202,15 @@ data_read i k = pages_read k - (meta_of (n_of i) + 1)
 abbrev pub data_read_in : Hardware → disk.DiskImage → ℕ → ℕ
 data_read_in h v k = pages_read k - (meta_in h v + 1)
 
--- What a resume shows after k steps: its loader and its check, the page frames that the loader holds, and the pages with data
--- that were read, by page frame.
+-- What a resume shows after k steps: its loader and its check, the page frames that the loader holds, and the pages
+-- with data that were read, by page frame.
 pub record ShowsResume (h : Hardware) (shown : WorldView) (load : Load) (k : ℕ) : Type 0 where
   pub told : shown.resume ≡ Some (load.loader, load.check)
-  pub kept : (p : ℕ) → p < top h.zones → (Contains (left_free h load.dump load.loader) p → ⊥) → frame shown.frames p ≡ loader_frame load.dump load.loader p
+  pub kept : (p : ℕ) → p < top h.zones → (Contains (left_free h load.dump load.loader) p → ⊥) →
+      frame shown.frames p ≡ loader_frame load.dump load.loader p
   pub read : (i : Image) → load.found ≡ found_own i → shown.loaded ≡ take (data_read i k) (with_data i)
-  pub read_other : (v : disk.DiskImage) → load.found ≡ found_other v → shown.loaded ≡ zip (data_frames h v) (data_pages h v (data_read_in h v k))
+  pub read_other : (v : disk.DiskImage) → load.found ≡ found_other v →
+      shown.loaded ≡ zip (data_frames h v) (data_pages h v (data_read_in h v k))
 
 -- a dump's loader has a memory that fits
 abbrev pub FitsLoader : Hardware → Load → Type 0
@@ -208,17 +221,19 @@ IsFound not_yet = ⊥
 IsFound (found_own i) = ⊤
 IsFound (found_other v) = ⊤
 
--- From the second step on it is known which image is read. Every image of the disk is the one that this step found, but for
--- block(0). From the fourth on none is marked.
+-- From the second step on it is known which image is read. Every image of the disk is the one that this step found, but
+-- for block(0). From the fourth on none is marked.
 pub record IsLoading (h : Hardware) (shown : WorldView) (c : disk.Content) (load : Load) (k : ℕ) : Type 0 where
   pub shows : ShowsResume h shown load k
   pub fits : FitsLoader h load
   pub found : 2 ≤ k → IsFound load.found
-  pub own : (i : Image) → load.found ≡ found_own i → (v : disk.DiskImage) × Holds h v i × IsOwn h v i × EachImage c (IsTakenBack h v)
+  pub own : (i : Image) → load.found ≡ found_own i → (v : disk.DiskImage) × Holds h v i × IsOwn h v i
+      × EachImage c (IsTakenBack h v)
   pub others : (v : disk.DiskImage) → load.found ≡ found_other v → EachImage c (IsTakenBack h v)
   pub taken_back : 4 ≤ k → EachImage c (λ v. Marked h v → ⊥)
 
--- 6. Between two calls: a restart or a sync has left one image, and the block that is kept is the disk's, or the marked page.
+-- 6. Between two calls: a restart or a sync has left one image, and the block that is kept is the disk's, or the
+-- marked page.
 abbrev pub HasOneImage : disk.Content → Type 0
 HasOneImage c = (v w : disk.DiskImage) → disk.IsImage c v → disk.IsImage c w → v ≡ w
 
@@ -241,7 +256,8 @@ pub record IsBeforeMark (h : Hardware) (shown : WorldView) (c : disk.Content) : 
   pub one : HasOneImage c
   pub header : KeepsHeader h shown c
 
-pub record IsBeforeLastSync (h : Hardware) (shown : WorldView) (c : disk.Content) (i : Image) (a : Running) : Type 0 where
+pub record IsBeforeLastSync (h : Hardware) (shown : WorldView) (c : disk.Content) (i : Image)
+    (a : Running) : Type 0 where
   pub mark : KeepsMark h shown c i a
   pub holds : Holds h (disk.as_it_reads c) i
 
@@ -277,7 +293,8 @@ pub record IsSaved (h : Hardware) (i : Image) (held : Held) (a : Running) : Type
 
 -- Stands, by the state: what the world shows is the state's, and what the disk may hold is as its parts say.
 
-pub record StandsOff (h : Hardware) (shown : WorldView) (c : disk.Content) (image : Held) (kept : Option Memory) : Type 0 where
+pub record StandsOff (h : Hardware) (shown : WorldView) (c : disk.Content) (image : Held)
+    (kept : Option Memory) : Type 0 where
   pub memory : ShowsKept h shown kept
   pub held : IsHeld h c image
   pub header : IsHeader h c
@@ -296,8 +313,9 @@ pub record StandsRunning (h : Hardware) (shown : WorldView) (c : disk.Content) (
   pub memory : ShowsRunning h shown a
   pub disk : StandsOn h shown c a
 
--- an operation, behind which a running state waits, and where this image is held
-pub record StandsBehind (h : Hardware) (shown : WorldView) (c : disk.Content) (a : Running) (image : Held) : Type 0 where
+-- an operation, after which a running state waits, and where this image is held
+pub record StandsBehind (h : Hardware) (shown : WorldView) (c : disk.Content) (a : Running)
+    (image : Held) : Type 0 where
   pub memory : ShowsRunning h shown a
   pub held : IsHeld h c image
   pub task_slots : AreTaskSlots h a.unusable a.memory a.flights a.slots
@@ -311,20 +329,23 @@ abbrev pub ShowsBoot : Hardware → WorldView → BootFrom → Memory → Type 0
 ShowsBoot h shown Fresh dump = shown.frames ≡ fresh_frames h
 ShowsBoot h shown Kept dump = (shown.frames ≡ dump) × Fits h dump
 
-pub record StandsBooting (h : Hardware) (shown : WorldView) (c : disk.Content) (from : BootFrom) (dump : Memory) (image : Held) (k : ℕ) : Type 0 where
+pub record StandsBooting (h : Hardware) (shown : WorldView) (c : disk.Content) (from : BootFrom) (dump : Memory)
+    (image : Held) (k : ℕ) : Type 0 where
   pub memory : ShowsBoot h shown from dump
   pub held : IsHeld h c image
   pub header : IsHeader h c
   pub before : IsBeforeBoot c (boot_call k)
 
-pub record StandsHibernating (h : Hardware) (shown : WorldView) (c : disk.Content) (i : Image) (a : Running) (k : ℕ) : Type 0 where
+pub record StandsHibernating (h : Hardware) (shown : WorldView) (c : disk.Content) (i : Image) (a : Running)
+    (k : ℕ) : Type 0 where
   pub behind : StandsBehind h shown c a (held_hibernating i (hibernation_call i k))
   pub accepted : IsAccepted h a i
   pub names : NamesOnly h shown (laid_blocks h a i)
   pub written : IsWritten h shown c i a k
   pub before : IsBeforeCall h shown c i a (hibernation_call i k)
 
-pub record StandsUndoing (h : Hardware) (shown : WorldView) (c : disk.Content) (i : Image) (a : Running) (k : ℕ) : Type 0 where
+pub record StandsUndoing (h : Hardware) (shown : WorldView) (c : disk.Content) (i : Image) (a : Running)
+    (k : ℕ) : Type 0 where
   pub behind : StandsBehind h shown c a (maybe (own i))
   pub accepted : IsAccepted h a i
   pub names : NamesOnly h shown (laid_blocks h a i)
@@ -336,7 +357,8 @@ pub record StandsSettling (h : Hardware) (shown : WorldView) (c : disk.Content) 
   pub names : NamesHeld h shown a.held
   pub before : IsBeforeBack h shown c (back_call k)
 
-pub record StandsWaking (h : Hardware) (shown : WorldView) (c : disk.Content) (i : Image) (held : Held) (a : Running) (k : ℕ) : Type 0 where
+pub record StandsWaking (h : Hardware) (shown : WorldView) (c : disk.Content) (i : Image) (held : Held) (a : Running)
+    (k : ℕ) : Type 0 where
   pub behind : StandsBehind h shown c a (held_back held (back_call k))
   pub names : NamesHeld h shown held
   pub saved : IsSaved h i held a
@@ -348,7 +370,8 @@ pub record StandsLoading (h : Hardware) (shown : WorldView) (c : disk.Content) (
   pub resume : IsLoading h shown c load k
   pub before : IsBeforeLoad h shown c (load_call k)
 
-pub record StandsAsleep (h : Hardware) (shown : WorldView) (c : disk.Content) (i : Image) (held : Held) (a : Running) : Type 0 where
+pub record StandsAsleep (h : Hardware) (shown : WorldView) (c : disk.Content) (i : Image) (held : Held)
+    (a : Running) : Type 0 where
   pub behind : StandsBehind h shown c a held
   pub names : NamesHeld h shown held
   pub saved : IsSaved h i held a
@@ -364,7 +387,8 @@ HasParts h shown c (waking i held a k) = StandsWaking h shown c i held a k
 HasParts h shown c (loading load k) = StandsLoading h shown c load k
 HasParts h shown c (asleep i held a) = StandsAsleep h shown c i held a
 
--- A world that shows this and a disk with this content stand for a state: it shows what the state is at, and its parts hold.
+-- A world that shows this and a disk with this content stand for a state: it shows what the state is at, and its parts
+-- hold.
 pub record Stands (h : Hardware) (shown : WorldView) (c : disk.Content) (a : State) : Type 0 where
   pub activity : shown.activity ≡ activity_in a
   pub parts : HasParts h shown c a

@@ -4,7 +4,9 @@ use Rattle.std.specs.Prelude.{ℕ, Bool, Option, Some, None}
 use Rattle.definitions.specs.Disk as disk
 use Rattle.plain_machine.specs.Machine.{Memory}
 use Rattle.plain_machine.specs.Image.{Image, SlotPages}
-use Rattle.plain_machine.specs.Calls.{HibernationCall, writes_page, syncs_pages, reads_header, writes_mark, syncs_mark, hibernation_call, BackCall, reads_mark, takes_back, syncs_back, back_call, LoadCall, syncs_first, of_mark, reads_image, load_call}
+use Rattle.plain_machine.specs.Calls.{HibernationCall, writes_page, syncs_pages, reads_header, writes_mark, syncs_mark}
+use Rattle.plain_machine.specs.Calls.{hibernation_call, BackCall, reads_mark, takes_back, syncs_back, back_call}
+use Rattle.plain_machine.specs.Calls.{LoadCall, syncs_first, of_mark, reads_image, load_call}
 use Rattle.plain_machine.specs.declared.no_swap.NoSwap.{NoSwap}
 use Rattle.plain_machine.specs.declared.event.BootFrom.{BootFrom}
 use Rattle.plain_machine.specs.declared.event.Loader.{Loader}

@@ -1,7 +1,9 @@
--- [step]: what the machine may answer, and the state after it. A pair that isn't among the outcomes can't come.
--- In Linux: hibernation_snapshot, create_image and software_resume, kernel/power/hibernate.c; swsusp_write, mark_swapfiles,
--- swsusp_check and swsusp_unmark, kernel/power/swap.c.
-use Rattle.std.specs.Prelude.{◌≡◌, ℕ, ◌+◌, ◌-◌, ◌*◌, ◌==◌, ◌&&◌, ◌||◌, Bool, true, false, not, nat_lt, nat_le, List, [], ◌∷◌, ◌++◌, length, filter, take, Option, Some, None, if◌then◌else◌, is_none, is_some, unwrap_or, slice_get, slice_set, Contains}
+-- [step]: what the machine may answer, and the state after it. A pair that isn't among the outcomes can't come. In
+-- Linux: hibernation_snapshot, create_image and software_resume, kernel/power/hibernate.c; swsusp_write,
+-- mark_swapfiles, swsusp_check and swsusp_unmark, kernel/power/swap.c.
+use Rattle.std.specs.Prelude.{◌≡◌, ℕ, ◌+◌, ◌-◌, ◌*◌, ◌==◌, ◌&&◌, ◌||◌, Bool, true, false, not, nat_lt, nat_le, List, []}
+use Rattle.std.specs.Prelude.{◌∷◌, ◌++◌, length, filter, take, Option, Some, None, if◌then◌else◌, is_none, is_some}
+use Rattle.std.specs.Prelude.{unwrap_or, slice_get, slice_set, Contains}
 use Rattle.page_core.specs.declared.format.Format.{Format}
 use Rattle.definitions.specs.Bytes.{zero_page, word, with_word}
 use Rattle.definitions.specs.Disk as disk
@@ -15,8 +17,14 @@ use Rattle.plain_machine.specs.Loader.{has, left_free, need, restored}
 use Rattle.plain_machine.specs.Trace.{trace, restored_in, slots_in}
 use Rattle.plain_machine.specs.UsableArea.{area_fault, dump_area_fault, area_block, bad_slots_in}
 use Rattle.plain_machine.specs.Chain.{is_marked_disk}
-use Rattle.plain_machine.specs.State.{State, off, on, booting, hibernating, undoing, settling, waking, loading, asleep, Running, Held, nothing, sure, maybe, perhaps, own, other, Flight, goes_out, comes_in, Load, Found, not_yet, found_own, found_other, held_in, kept_in, saved_found}
-use Rattle.plain_machine.specs.Calls.{BootCall, syncs_disk, reads_area, boot_call, HibernationCall, writes_page, syncs_pages, reads_header, writes_mark, syncs_mark, hibernation_call, BackCall, reads_mark, takes_back, syncs_back, back_call, undo_call, LoadCall, syncs_first, of_mark, reads_image, load_call}
+use Rattle.plain_machine.specs.State.{State, off, on, booting, hibernating, undoing, settling, waking, loading, asleep}
+use Rattle.plain_machine.specs.State.{Running, Held, nothing, sure, maybe, perhaps, own, other, Flight, goes_out}
+use Rattle.plain_machine.specs.State.{comes_in, Load, Found, not_yet, found_own, found_other, held_in, kept_in}
+use Rattle.plain_machine.specs.State.{saved_found}
+use Rattle.plain_machine.specs.Calls.{BootCall, syncs_disk, reads_area, boot_call, HibernationCall, writes_page}
+use Rattle.plain_machine.specs.Calls.{syncs_pages, reads_header, writes_mark, syncs_mark, hibernation_call, BackCall}
+use Rattle.plain_machine.specs.Calls.{reads_mark, takes_back, syncs_back, back_call, undo_call, LoadCall, syncs_first}
+use Rattle.plain_machine.specs.Calls.{of_mark, reads_image, load_call}
 use Rattle.plain_machine.specs.FreshMemory.{fresh_memory}
 use Rattle.plain_machine.specs.Refusals.{refusal, free_slots_of}
 use Rattle.plain_machine.specs.declared.event.Event.{Event}
@@ -73,12 +81,17 @@ abbrev pub requested : Hardware → Running → ℕ → TaskOp → List Outcome
 requested h a t (op.Claim p) =
     only reply.Done (on (record a { memory = with_frame_entry h (with_frame a.memory p zero_page) p (owned_by t) }))
 requested h a t (op.Release p) = only reply.Done (on (record a { memory = with_frame_entry h a.memory p 1 }))
-requested h a t (op.Store p k v) = only reply.Done (on (record a { memory = with_frame a.memory p (with_word (frame a.memory p) k v) }))
+requested h a t (op.Store p k v) =
+    only reply.Done (on (record a { memory = with_frame a.memory p (with_word (frame a.memory p) k v) }))
 requested h a t (op.Show p k) = only (reply.Word (word (frame a.memory p) k)) (on a)
-requested h a t (op.Cache p) = only reply.Done (on (record a { memory = with_frame_entry h a.memory p (owned_by t + 64) }))
+requested h a t (op.Cache p) =
+    only reply.Done (on (record a { memory = with_frame_entry h a.memory p (owned_by t + 64) }))
 requested h a t (op.Out p) =
     let s = unwrap_or (free_slots_of h a) 0 in
-    only (reply.Slot s) (on (record a { memory = with_slot_entry h a.memory s t; flights = with_flight a.flights t (Some (goes_out s p)) }))
+    only (reply.Slot s) (on (record a {
+      memory = with_slot_entry h a.memory s t;
+      flights = with_flight a.flights t (Some (goes_out s p));
+    }))
 requested h a t (op.TakeIn s p) =
     only (reply.Reading s) (on (record a { flights = with_flight a.flights t (Some (comes_in s p)) }))
 
@@ -134,7 +147,8 @@ abbrev pub boot_outcomes : Hardware → disk.DiskImage → BootFrom → Memory �
 boot_outcomes h v from dump nothing = only (reply.Booted false) (on (booted h v from dump nothing))
 boot_outcomes h v from dump (sure x) = only (reply.Booted true) (on (booted h v from dump (sure x)))
 boot_outcomes h v from dump (maybe x) =
-    (reply.Booted false, on (booted h v from dump nothing)) ∷ (reply.Booted true, on (booted h v from dump (sure x))) ∷ []
+    (reply.Booted false, on (booted h v from dump nothing)) ∷ (reply.Booted true, on (booted h v from dump (sure x)))
+    ∷ []
 
 abbrev pub boot_step : Hardware → disk.DiskImage → BootFrom → Memory → Held → ℕ → List Outcome
 boot_step h v from dump held k = by_call (boot_call k) where
@@ -156,11 +170,16 @@ hibernates_on suspends i a k = (reply.More (k + 1) (hibernate_steps i), hibernat
 -- by the call that it makes
 abbrev pub hibernation_outcomes : Bool → Image → Running → ℕ → Option HibernationCall → List Outcome
 hibernation_outcomes suspends i a k None = []
-hibernation_outcomes suspends i a k (Some writes_page) = hibernates_on suspends i a k ∷ (reply.WriteFault Same, on a) ∷ []
-hibernation_outcomes suspends i a k (Some syncs_pages) = hibernates_on suspends i a k ∷ (reply.SyncFault Same, on a) ∷ []
-hibernation_outcomes suspends i a k (Some reads_header) = hibernates_on suspends i a k ∷ (reply.ReadFault Same, on a) ∷ []
-hibernation_outcomes suspends i a k (Some writes_mark) = hibernates_on suspends i a k ∷ (reply.Undo undo.Write 0, undoing i undo.Write a 0) ∷ []
-hibernation_outcomes suspends i a k (Some syncs_mark) = hibernated suspends i a ∷ (reply.Undo undo.Sync 0, undoing i undo.Sync a 0) ∷ []
+hibernation_outcomes suspends i a k (Some writes_page) =
+    hibernates_on suspends i a k ∷ (reply.WriteFault Same, on a) ∷ []
+hibernation_outcomes suspends i a k (Some syncs_pages) =
+    hibernates_on suspends i a k ∷ (reply.SyncFault Same, on a) ∷ []
+hibernation_outcomes suspends i a k (Some reads_header) =
+    hibernates_on suspends i a k ∷ (reply.ReadFault Same, on a) ∷ []
+hibernation_outcomes suspends i a k (Some writes_mark) =
+    hibernates_on suspends i a k ∷ (reply.Undo undo.Write 0, undoing i undo.Write a 0) ∷ []
+hibernation_outcomes suspends i a k (Some syncs_mark) =
+    hibernated suspends i a ∷ (reply.Undo undo.Sync 0, undoing i undo.Sync a 0) ∷ []
 
 abbrev pub hibernate_step : Bool → Image → Running → ℕ → List Outcome
 hibernate_step suspends i a k = hibernation_outcomes suspends i a k (hibernation_call i k)
@@ -190,7 +209,8 @@ settle_step a k = by_call (back_call k) where
   by_call None = []
   by_call (Some reads_mark) = done_or (reply.More 1 3) (settling a 1) (reply.ReadFault Same) (on a)
   by_call (Some takes_back) = done_or (reply.More 2 3) (settling a 2) (reply.WriteFault Unsure) uncertain
-  by_call (Some syncs_back) = done_or reply.Settled (on (record a { held = nothing })) (reply.SyncFault Unsure) uncertain
+  by_call (Some syncs_back) =
+      done_or reply.Settled (on (record a { held = nothing })) (reply.SyncFault Unsure) uncertain
 
 abbrev pub wake_step : Image → Held → Running → ℕ → List Outcome
 wake_step i held a k = by_call (back_call k) where
@@ -215,8 +235,10 @@ resumed m slots loader.Table = off nothing None
 abbrev pub fault_of_load : Load → LoadCall → Outcome
 fault_of_load load syncs_first = (reply.SyncFault Same, off load.held None)
 fault_of_load load (of_mark reads_mark) = (reply.ReadFault Same, off load.held None)
-fault_of_load load (of_mark takes_back) = (reply.WriteFault Unsure, off (perhaps (saved_found load.found load.held)) None)
-fault_of_load load (of_mark syncs_back) = (reply.SyncFault Unsure, off (perhaps (saved_found load.found load.held)) None)
+fault_of_load load (of_mark takes_back) =
+    (reply.WriteFault Unsure, off (perhaps (saved_found load.found load.held)) None)
+fault_of_load load (of_mark syncs_back) =
+    (reply.SyncFault Unsure, off (perhaps (saved_found load.found load.held)) None)
 fault_of_load load reads_image = (reply.ReadFault Gone, off nothing None)
 
 abbrev pub load_fault : Load → ℕ → Outcome
@@ -233,7 +255,8 @@ too_few h load d =
 abbrev pub own_step : Hardware → Load → Image → ℕ → Outcome
 own_step h load i k =
     if (k + 1 == 6 + meta_of (n_of i)) && not (has_room h load (d_of i)) then too_few h load (d_of i)
-    else (if k + 1 == resume_steps i then (reply.Resumed (n_of i), resumed (restored h load.dump load.loader i) i.slots load.loader)
+    else (if k + 1 == resume_steps i
+    then (reply.Resumed (n_of i), resumed (restored h load.dump load.loader i) i.slots load.loader)
     else (reply.Loading (k + 1), loading load (k + 1)))
 
 -- step k + 1 over another's image: the replies are those of the trace over the disk that step 2 read
@@ -258,7 +281,8 @@ abbrev pub find_step : Hardware → disk.DiskImage → Load → Held → List Ou
 find_step h v load nothing = no_image
 find_step h v load (sure (own i)) = only (reply.Loading 2) (loading (record load { found = found_own i }) 2)
 find_step h v load (maybe (own i)) = (reply.Loading 2, loading (record load { found = found_own i }) 2) ∷ no_image
-find_step h v load (sure other) = if is_marked_disk h v then other_step h (record load { found = found_other v }) v 1 else []
+find_step h v load (sure other) =
+    if is_marked_disk h v then other_step h (record load { found = found_other v }) v 1 else []
 find_step h v load (maybe other) = other_step h (record load { found = found_other v }) v 1
 
 abbrev pub loaded_step : Hardware → Load → Found → ℕ → List Outcome
@@ -266,7 +290,7 @@ loaded_step h load not_yet k = []
 loaded_step h load (found_own i) k = own_step h load i k ∷ []
 loaded_step h load (found_other v) k = other_step h load v k
 
--- whether there is a step k + 1 behind the four at block(0)
+-- whether there is a step k + 1 after the four at block(0)
 abbrev pub has_place : Hardware → Load → Found → ℕ → Bool
 has_place h load not_yet k = false
 has_place h load (found_own i) k = nat_lt k (resume_steps i)
@@ -340,13 +364,20 @@ abbrev pub accepted : Hardware → disk.DiskImage → State → Event → List O
 accepted h v a (event.Boot from) = only (reply.More 0 2) (booting from (unwrap_or (kept_in a) []) (held_in a) 0)
 accepted h v a (event.Resume l check) =
     only (reply.Loading 0)
-    (loading (record { held = held_in a; found = not_yet; loader = l; dump = unwrap_or (kept_in a) []; check = check }) 0)
+    (loading (record {
+      held = held_in a;
+      found = not_yet;
+      loader = l;
+      dump = unwrap_or (kept_in a) [];
+      check = check;
+    }) 0)
 accepted h v a (event.Hibernate f) = if_running a (begun h false f)
 accepted h v a (event.Suspend f) = if_running a (begun h true f)
 accepted h v a event.Settle = if_running a (λ r. only (reply.More 0 3) (settling r 0))
 accepted h v a (event.Shrink want) =
     if_running a (λ r. only
-    (reply.Shrunk (length (dropped_by h r.memory want)) (length (saveable h r.memory) - length (dropped_by h r.memory want)))
+    (reply.Shrunk (length (dropped_by h r.memory want))
+    (length (saveable h r.memory) - length (dropped_by h r.memory want)))
     (on (record r { memory = drop_memory h r.memory want })))
 accepted h v a event.Wake = woken a
 accepted h v a (event.Task t o) = if_running a (λ r. requested h r t o)

@@ -1,7 +1,8 @@
 -- What is printed, without the end of the line.
 use Rattle.std.specs.Prelude.{ℕ, ◌/◌, ◌%◌, ◌+◌, List, [], ◌∷◌, ◌++◌, codes, decimal, flat_map, nat_lt, if◌then◌else◌}
 use Rattle.plain_machine.specs.declared.no_swap.NoSwap.{NoSwap}
-use Rattle.plain_machine.specs.declared.no_swap.NoSwap.TheVariants.{Image, Old, Signature, Version, BadCount, LastZero, BadEntry, Short, Misfit, BadSet}
+use Rattle.plain_machine.specs.declared.no_swap.NoSwap.TheVariants.{Image, Old, Signature, Version, BadCount, LastZero}
+use Rattle.plain_machine.specs.declared.no_swap.NoSwap.TheVariants.{BadEntry, Short, Misfit, BadSet}
 
 -- a hexadecimal digit
 abbrev pub hex_digit : ℕ → ℕ

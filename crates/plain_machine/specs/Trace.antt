@@ -1,7 +1,9 @@
 -- [trace]: the replies of a resume without device faults, over any disk. It reads a whole disk by place.
 -- In Linux: swsusp_check and swsusp_read, kernel/power/swap.c; load_header, check_header, unpack_orig_pfns and
 -- snapshot_write_next, kernel/power/snapshot.c.
-use Rattle.std.specs.Prelude.{ℕ, ◌+◌, ◌*◌, ◌/◌, ◌%◌, ◌-◌, ◌==◌, ◌&&◌, ◌||◌, List, [], ◌∷◌, Bool, false, not, nat_lt, nat_le, length, map, filter, min, max, Option, Some, None, if◌then◌else◌, bit_and, unwrap_or, is_none, nat_eq, zero, suc}
+use Rattle.std.specs.Prelude.{ℕ, ◌+◌, ◌*◌, ◌/◌, ◌%◌, ◌-◌, ◌==◌, ◌&&◌, ◌||◌, List, [], ◌∷◌, Bool, false, not, nat_lt}
+use Rattle.std.specs.Prelude.{nat_le, length, map, filter, min, max, Option, Some, None, if◌then◌else◌, bit_and}
+use Rattle.std.specs.Prelude.{unwrap_or, is_none, nat_eq, zero, suc}
 use Rattle.std.specs.List.{range_with_len}
 use Rattle.std.specs.Cmp.Lexicographic.{pointwise}
 use Rattle.page_core.specs.declared.format.Format.{Format}
@@ -13,7 +15,8 @@ use Rattle.definitions.specs.InfoPage.{info_of, mismatch}
 use Rattle.definitions.specs.NumberPages.{meta_of, number_of_word, zero_bit, end_value}
 use Rattle.definitions.specs.declared.info.Field.{Field}
 use Rattle.definitions.specs.declared.info.Info.{Info}
-use Rattle.plain_machine.specs.Machine.{Hardware, Memory, block_of_slot, is_valid, valid_count, tables_fault, slot_entry}
+use Rattle.plain_machine.specs.Machine.{Hardware, Memory, block_of_slot, is_valid, valid_count, tables_fault}
+use Rattle.plain_machine.specs.Machine.{slot_entry}
 use Rattle.plain_machine.specs.Image.{Image, SlotPages, maps_read}
 use Rattle.plain_machine.specs.Chain.{header_of, map_fault, entry_fault, entry_block, or_else, first_some}
 use Rattle.plain_machine.specs.Loader.{left_free, need, restored}
@@ -73,7 +76,8 @@ d_in h v = length (filter (λ w. not (is_marked_by (format_in h v) w)) (words_in
 -- the page frames that have data pages, in the order of the stream
 unfoldable pub data_frames : Hardware → disk.DiskImage → List ℕ
 data_frames h v =
-    map (number_in h v) (filter (λ j. not (is_marked_by (format_in h v) (number_word h v j))) (range_with_len 0 (info_in h v).image_pages))
+    map (number_in h v) (filter (λ j. not (is_marked_by (format_in h v) (number_word h v j)))
+    (range_with_len 0 (info_in h v).image_pages))
 
 -- data page m of the stream, from 0
 abbrev pub data_page : Hardware → disk.DiskImage → ℕ → List ℕ
@@ -116,7 +120,8 @@ memory_cause h v =
 
 abbrev pub are_bad_counts : Format → ℕ → ℕ → ℕ → Bool
 are_bad_counts Plain valid n pages = (n == 0) || nat_lt valid n || not (pages == n + meta_of n + 1)
-are_bad_counts SkipZeros valid n pages = (n == 0) || nat_lt valid n || nat_lt pages (meta_of n + 1) || nat_lt (n + meta_of n + 1) pages
+are_bad_counts SkipZeros valid n pages =
+    (n == 0) || nat_lt valid n || nat_lt pages (meta_of n + 1) || nat_lt (n + meta_of n + 1) pages
 
 abbrev pub counts_cause : Hardware → disk.DiskImage → Option Reply
 counts_cause h v =
@@ -130,7 +135,8 @@ info_cause h v check = or_else (identity_cause h v check) (or_else (memory_cause
 abbrev pub number_cause : Hardware → disk.DiskImage → ℕ → Option Reply
 number_cause h v j =
     if not (is_valid h (number_in h v j)) then Some (reply.BadPfn (number_in h v j))
-    else (if nat_lt 0 j && nat_le (number_in h v j) (number_in h v (j - 1)) then Some (reply.PfnOrder (number_in h v (j - 1)) (number_in h v j))
+    else (if nat_lt 0 j && nat_le (number_in h v j) (number_in h v (j - 1))
+    then Some (reply.PfnOrder (number_in h v (j - 1)) (number_in h v j))
     else None)
 
 -- the word after the last number, where the last page isn't full
@@ -138,7 +144,8 @@ abbrev pub end_cause : Hardware → disk.DiskImage → ℕ → Option Reply
 end_cause h v n =
     if (n % 512 == 0) || (number_word h v n == end_value) then None else Some (reply.PfnEnd (number_word h v n))
 
--- After the last number page: the data pages are as many as pages says. (In a Plain image the info page's test says so.)
+-- After the last number page: the data pages are as many as pages says. (In a Plain image the info page's test says
+-- so.)
 abbrev pub listed_cause : Hardware → disk.DiskImage → Option Reply
 listed_cause h v =
     if (info_in h v).pages == d_in h v + meta_in h v + 1 then None
@@ -147,7 +154,8 @@ listed_cause h v =
 -- and the loader has room for them
 abbrev pub room_cause : Hardware → Memory → disk.DiskImage → Loader → Option Reply
 room_cause h dump v loader =
-    if nat_lt (length (left_free h dump loader)) (need (d_in h v)) then Some (reply.TooFewLoaderFrames (length (left_free h dump loader)) (need (d_in h v)))
+    if nat_lt (length (left_free h dump loader)) (need (d_in h v))
+    then Some (reply.TooFewLoaderFrames (length (left_free h dump loader)) (need (d_in h v)))
     else None
 
 -- number page q, from 0, of n numbers
@@ -202,43 +210,50 @@ cause_at h dump v loader check t = or_else (content_cause h dump v loader check 
 
 -- The slots of the tasks in the restored memory, with their pages as the disk reads.
 abbrev pub slots_in : Hardware → disk.DiskImage → Memory → SlotPages
-slots_in h v m = λ s. if nat_lt s h.slots && nat_lt 0 (slot_entry h m s) && nat_le (slot_entry h m s) 64 then Some (disk.block v (block_of_slot h s)) else None
+slots_in h v m =
+    λ s. if nat_lt s h.slots && nat_lt 0 (slot_entry h m s) && nat_le (slot_entry h m s) 64
+    then Some (disk.block v (block_of_slot h s)) else None
 
 -- At the last step: the restored tables don't fit, or not the area; not tested after a dump's loader.
 abbrev pub tables_cause : Hardware → disk.DiskImage → Memory → Option Reply
-tables_cause h v m = frame_reply (or_else (tables_fault h m) (if is_none (dump_area_fault h v m) then None else Some h.slot_table)) where
-  frame_reply : Option ℕ → Option Reply
-  frame_reply None = None
-  frame_reply (Some f) = Some (reply.BadTables f)
+tables_cause h v m =
+    frame_reply (or_else (tables_fault h m) (if is_none (dump_area_fault h v m) then None else Some h.slot_table)) where
+      frame_reply : Option ℕ → Option Reply
+      frame_reply None = None
+      frame_reply (Some f) = Some (reply.BadTables f)
 
 abbrev pub restored_in : Hardware → Memory → disk.DiskImage → Loader → Memory
 restored_in h dump v loader = restored h dump loader (image_in h v (λ s. None))
 
 abbrev pub last_reply : Hardware → Memory → disk.DiskImage → Loader → Reply
 last_reply h dump v (loaders.Ranges ranges) =
-    unwrap_or (tables_cause h v (restored_in h dump v (loaders.Ranges ranges))) (reply.Resumed (info_in h v).image_pages)
+    unwrap_or (tables_cause h v (restored_in h dump v (loaders.Ranges ranges)))
+    (reply.Resumed (info_in h v).image_pages)
 last_reply h dump v loaders.Table = reply.Resumed (info_in h v).image_pages
 
 -- at the end of step 4, once the block is taken back
 abbrev pub taken_back_cause : Hardware → disk.DiskImage → Option Reply
 taken_back_cause h v =
-    if is_set (flags_of (header_of h v)) 8 && not (hw_sig_of (header_of h v) == h.hw_sig) then Some (reply.HwMismatch (hw_sig_of (header_of h v)) h.hw_sig)
+    if is_set (flags_of (header_of h v)) 8 && not (hw_sig_of (header_of h v) == h.hw_sig)
+    then Some (reply.HwMismatch (hw_sig_of (header_of h v)) h.hw_sig)
     else map_fault h v (first_map h v) 0
 
 -- at the end of step 2
 abbrev pub header_cause : Hardware → disk.DiskImage → Option Reply
 header_cause h v =
     if not (pointwise nat_eq (sig_of (header_of h v)) image_signature) then Some reply.NoImage
-    else (if not (is_set (flags_of (header_of h v)) 2) then Some (reply.Compressed (flags_of (header_of h v))) else None)
+    else (if not (is_set (flags_of (header_of h v)) 2) then Some (reply.Compressed (flags_of (header_of h v)))
+    else None)
 
--- what is wrong at the end of each step, in order: the first syncs, the third writes the block taken back, and the fifth and
--- later ones read a place each
+-- what is wrong at the end of each step, in order: the first syncs, the third writes the block taken back, and the
+-- fifth and later ones read a place each
 abbrev pub causes : Hardware → Memory → disk.DiskImage → Loader → IdentCheck → List (Option Reply)
 causes h dump v loader check =
     None ∷ header_cause h v ∷ None ∷ taken_back_cause h v
     ∷ map (cause_at h dump v loader check) (range_with_len 0 (place_count (info_in h v).pages))
 
--- the replies of step k and of those after it, by their causes: Loading up to the first cause, or else up to the last reply
+-- the replies of step k and of those after it, by their causes: Loading up to the first cause, or else up to the last
+-- reply
 abbrev pub replies_to : Reply → ℕ → List (Option Reply) → List Reply
 replies_to last k [] = []
 replies_to last k (Some cause ∷ rest) = cause ∷ []

@@ -1,6 +1,7 @@
 -- Which swap areas a machine can use.
 -- In Linux: swsusp_swap_check, kernel/power/swap.c; read_swap_header, mm/swapfile.c.
-use Rattle.std.specs.Prelude.{ℕ, ◌+◌, ◌==◌, List, [], ◌∷◌, Bool, not, nat_eq, nat_lt, Option, Some, None, if◌then◌else◌, take}
+use Rattle.std.specs.Prelude.{ℕ, ◌+◌, ◌==◌, List, [], ◌∷◌, Bool, not, nat_eq, nat_lt, Option, Some, None, if◌then◌else◌}
+use Rattle.std.specs.Prelude.{take}
 use Rattle.std.specs.List.{list_any, list_all, range_with_len}
 use Rattle.std.specs.Cmp.Lexicographic.{pointwise}
 use Rattle.definitions.specs.Disk as disk
@@ -32,7 +33,8 @@ kind_fault (Swap area) = None
 -- why the machine can't use a version 1 area: a slot lies on no block of the disk, or the slots are of another number
 abbrev pub fit_fault : Hardware → ℕ → Area → Option NoSwap
 fit_fault h blocks area =
-    if list_any (λ s. not (nat_lt (block_of_slot h s) blocks)) (range_with_len 0 (area.last + 1)) then Some (no_swap.Short area.last blocks)
+    if list_any (λ s. not (nat_lt (block_of_slot h s) blocks)) (range_with_len 0 (area.last + 1))
+    then Some (no_swap.Short area.last blocks)
     else (if area.last + 1 == h.slots then None else Some (no_swap.Misfit area.last h.slots))
 
 -- the bad slots of an area: the header's, and its bad pages
@@ -42,7 +44,8 @@ bad_slots_of area = 0 ∷ take area.count area.bad
 -- whether just the area's bad slots are bad in a slot table
 abbrev pub has_bad_slots_of : Hardware → Memory → Area → Bool
 has_bad_slots_of h m area =
-    list_all (λ s. if raw_slot_entry h m s == bad_slot then has (bad_slots_of area) s else not (has (bad_slots_of area) s)) (range_with_len 0 h.slots)
+    list_all (λ s. if raw_slot_entry h m s == bad_slot then has (bad_slots_of area) s
+    else not (has (bad_slots_of area) s)) (range_with_len 0 h.slots)
 
 abbrev pub kind_or_fit_fault : Hardware → ℕ → AreaKind → Option NoSwap
 kind_or_fit_fault h blocks (Swap area) = fit_fault h blocks area

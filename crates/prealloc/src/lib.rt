@@ -2,7 +2,8 @@
 //! enough_free_mem and swsusp_alloc).
 #![tactic(auto)]
 
-ghost use Rattle.std.specs.Prelude.{◌≡◌, ℕ, ◌+◌, ◌-◌, ◌/◌, ◌<◌, ◌≤◌, ◌↔◌, ◌++◌, IsOk, IsErr, IfErr, filter, take, List, length};
+ghost use Rattle.std.specs.Prelude.{◌≡◌, ℕ, ◌+◌, ◌-◌, ◌/◌, ◌<◌, ◌≤◌, ◌↔◌, ◌++◌, IsOk, IsErr, IfErr, filter, take, List};
+ghost use Rattle.std.specs.Prelude.{length};
 ghost use Rattle.std.specs.List.{Contains, range_with_len};
 ghost use Rattle.definitions.specs.Zones.{numbers, top, IsZone, zone_end};
 ghost use Rattle.definitions.specs.Tables.{HasTable};
@@ -43,7 +44,10 @@ pub fn enough(free: u32, n: u32) -> Result<(), Short>
 pub fn pick(view: &View, n: u32, set: &mut Bitmap)
     requires table { HasTable view.now.frames.now view.now.table (top view.now.zones.now) }
     requires zones { set.old.zones ≡ view.now.zones.now }
-    ensures { set.new ≡ record set.old { members = take n (free_frames view.now.zones.now view.now.table view.now.frames.now) } }
+    ensures { set.new ≡ record set.old {
+      members = take n
+          (free_frames view.now.zones.now view.now.table view.now.frames.now);
+    } }
 {
     set.clear_all();
     let mut left = n;
@@ -59,8 +63,12 @@ fn pick_in_zone(view: &View, zone: (u32, u32), most: u32, set: &mut Bitmap) -> u
     requires valid { (p : ℕ) → zone.0 ≤ p → p < zone_end zone → Contains (numbers set.old.zones) p }
     requires above { (p : ℕ) → Contains set.old.members p → p < zone.0 }
     requires table { HasTable view.now.frames.now view.now.table (zone_end zone) }
-    ensures set { set.new ≡ record set.old { members = set.old.members ++ take most (filter (free_by_entry view.now.table view.now.frames.now) (range_with_len zone.0 zone.1)) } }
-    ensures left { result ≡ most - length (filter (free_by_entry view.now.table view.now.frames.now) (range_with_len zone.0 zone.1)) }
+    ensures set { set.new ≡ record set.old {
+      members = set.old.members
+          ++ take most (filter (free_by_entry view.now.table view.now.frames.now) (range_with_len zone.0 zone.1));
+    } }
+    ensures left { result ≡ most - length
+        (filter (free_by_entry view.now.table view.now.frames.now) (range_with_len zone.0 zone.1)) }
 {
     let (start, count) = zone;
     let mut left = most;

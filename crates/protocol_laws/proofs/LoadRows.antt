@@ -272,7 +272,7 @@ take_back_fault_row h shown shown' c c' blocks load v hw whole after stands is f
   leaves = tt;
 }
 
--- The sync behind it.
+-- The sync after it.
 
 pub back_sync_row : BackSyncRow
 back_sync_row h shown shown' c c' blocks load v hw whole stands is gone syncs none shows = record {

@@ -1,4 +1,4 @@
--- The state behind the mark's write, failed or not.
+-- The state after the mark's write, failed or not.
 use Rattle.std.proofs.Common.{◌≡◌, ℕ, ◌+◌, ◌⊎◌, inl, inr, Bool, bit_and, List, Some, All, refl, sym, ap, ap₂, ◌∙◌, subst, arith}
 use Rattle.std.proofs.lemmas.List.Elements.{All-take}
 use Rattle.definitions.specs.Bytes.{AgreeBut}
@@ -151,7 +151,7 @@ tried_slots h shown c c' blocks suspends i a k is s old e =
     let task = behind.task_slots.tasks s old e in
     reads_kept (block_of_slot h 0) (block_of_slot h s) (marked_header h a i shown.header) c c' is.tries (task_not_header h a.memory s is.ready.over.hardware behind.memory.fits task.0 task.2)
 
--- what is behind the mark's write
+-- what is after the mark's write
 pub behind_mark : (h : Hardware) (shown shown' : WorldView) (c c' : disk.Content) (blocks : ℕ) (suspends : Bool) (i : Image) (a : Running) (k : ℕ) → IsTried h shown c c' blocks suspends i a k → ShowsRunning h shown' a → StandsBehind h shown' c' a (maybe (own i))
 behind_mark h shown shown' c c' blocks suspends i a k is shows =
     let behind = is.ready.stands.parts.behind in

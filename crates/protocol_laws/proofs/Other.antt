@@ -160,7 +160,7 @@ take_other_back_fails h shown shown' c c' blocks load v hw whole after stands fa
   parts = record { memory = kept; held = tt; header = still_header h shown c c' blocks (before_other h shown c blocks load v whole stands) after (inr fails) };
 }
 
--- The sync behind it.
+-- The sync after it.
 
 pub back_syncs_other : BackSyncsOther
 back_syncs_other h shown shown' c c' blocks load v = unmarked_synced h shown shown' c c' blocks (with_found_other load v)

@@ -25,7 +25,7 @@ use Rattle.protocol_laws.proofs.Marking.{area_block-marked, area_block-unmarked}
 use Rattle.protocol_laws.specs.Resuming.{with_found, resumed_running, LoadFails, LoadStops, Resumes}
 use Rattle.protocol_laws.proofs.TakingBack.{held_later, fits_by_area}
 
--- a resume that ends early: with a fault or a refusal behind its fourth step
+-- a resume that ends early: with a fault or a refusal after its fourth step
 pub load_stops : LoadStops
 load_stops h shown shown' c load k le stands activity kept = record { activity = activity; parts = record { memory = kept; held = subst (IsHeld h c) (held_later load k le) stands.parts.held; header = stands.parts.header } }
 

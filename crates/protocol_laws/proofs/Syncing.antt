@@ -1,4 +1,4 @@
--- The first sync of a hibernation, and the read of the header block behind it.
+-- The first sync of a hibernation, and the read of the header block after it.
 use Rattle.std.proofs.Common.{◌≡◌, ℕ, ◌+◌, ◌≤◌, Bool, true, false, nat_eq, List, None, length, All, refl, sym, ap, ◌∙◌, subst, arith}
 use Rattle.std.specs.Cmp.Lexicographic.{pointwise, same_text}
 use Rattle.std.proofs.lemmas.Bool.{cond-false}

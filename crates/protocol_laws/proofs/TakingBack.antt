@@ -1,4 +1,4 @@
--- Block(0) taken back, and the sync behind it.
+-- Block(0) taken back, and the sync after it.
 use Rattle.std.proofs.Common.{◌≡◌, ℕ, ◌+◌, ◌/◌, ◌≤◌, ◌⊎◌, inl, inr, List, sym, ap, ap₂, ◌∙◌, subst, arith}
 use Rattle.definitions.specs.Disk as disk
 use Rattle.definitions.specs.SwapHeader.{IsMarked, taken_back}

@@ -13,7 +13,8 @@ use Rattle.protocol_laws.specs.Rows.{IsSameArea}
 -- a write of another block, failed or not, and a sync
 abbrev pub KeptByOtherWrite : Type 0
 KeptByOtherWrite =
-    (h : Hardware) (blocks b : ℕ) (page : List ℕ) (c c' : Content) → IsContent blocks c → b ≢ block_of_slot h 0 → Tries b page c c' → IsSameArea h (as_it_reads c) (as_it_reads c')
+    (h : Hardware) (blocks b : ℕ) (page : List ℕ) (c c' : Content) → IsContent blocks c → b ≢ block_of_slot h 0 →
+    Tries b page c c' → IsSameArea h (as_it_reads c) (as_it_reads c')
 
 abbrev pub KeptBySync : Type 0
 KeptBySync = (h : Hardware) (c c' : Content) → Syncs c c' → IsSameArea h (as_it_reads c) (as_it_reads c')
@@ -21,17 +22,21 @@ KeptBySync = (h : Hardware) (c c' : Content) → Syncs c c' → IsSameArea h (as
 -- a write of block(0), failed or not: of an unmarked page that says of the area what the block says,
 abbrev pub KeptByHeader : Type 0
 KeptByHeader =
-    (h : Hardware) (blocks : ℕ) (page : List ℕ) (c c' : Content) → IsContent blocks c → block_of_slot h 0 < blocks → IsPage page → (IsMarked page → ⊥) → AgreeOnArea page (area_block h (as_it_reads c)) →
+    (h : Hardware) (blocks : ℕ) (page : List ℕ) (c c' : Content) → IsContent blocks c → block_of_slot h 0 < blocks →
+    IsPage page → (IsMarked page → ⊥) → AgreeOnArea page (area_block h (as_it_reads c)) →
     Tries (block_of_slot h 0) page c c' → IsSameArea h (as_it_reads c) (as_it_reads c')
 
 -- of the block taken back,
 abbrev pub KeptByTakingBack : Type 0
 KeptByTakingBack =
     (h : Hardware) (blocks : ℕ) (c c' : Content) → IsContent blocks c → IsHeader h c → Marked h (as_it_reads c) →
-    Tries (block_of_slot h 0) (taken_back (header_of h (as_it_reads c))) c c' → IsSameArea h (as_it_reads c) (as_it_reads c')
+    Tries (block_of_slot h 0) (taken_back (header_of h (as_it_reads c))) c c' →
+    IsSameArea h (as_it_reads c) (as_it_reads c')
 
 -- and of the block marked
 abbrev pub KeptByMark : Type 0
 KeptByMark =
-    (h : Hardware) (blocks first flags hw : ℕ) (c c' : Content) → IsContent blocks c → block_of_slot h 0 < blocks → (Marked h (as_it_reads c) → ⊥) →
-    Tries (block_of_slot h 0) (marked (header_of h (as_it_reads c)) first flags hw) c c' → IsSameArea h (as_it_reads c) (as_it_reads c')
+    (h : Hardware) (blocks first flags hw : ℕ) (c c' : Content) → IsContent blocks c → block_of_slot h 0 < blocks →
+    (Marked h (as_it_reads c) → ⊥) →
+    Tries (block_of_slot h 0) (marked (header_of h (as_it_reads c)) first flags hw) c c' →
+    IsSameArea h (as_it_reads c) (as_it_reads c')

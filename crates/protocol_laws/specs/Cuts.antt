@@ -1,4 +1,5 @@
--- A power cut, at any state: the machine is off, and what was held is held (own; Linux finds after it what the disk has).
+-- A power cut, at any state: the machine is off, and what was held is held (own; Linux finds after it what the disk
+-- has).
 use Rattle.std.specs.Prelude.{◌≡◌, ℕ}
 use Rattle.definitions.specs.Disk.{Content, IsContent, Restarts, as_it_reads}
 use Rattle.plain_machine.specs.Machine.{Hardware}
@@ -10,9 +11,11 @@ use Rattle.protocol_laws.specs.Rows.{IsSameArea}
 -- what the world shows of the state that it was cut in: nothing but a dump's memory, where that was kept
 abbrev pub CutsOff : Type 0
 CutsOff =
-    (h : Hardware) (shown shown' : WorldView) (c c' : Content) (a : State) → Stands h shown c a → Restarts c c' → shown'.activity ≡ rests → ShowsKept h shown' (kept_in a) → Stands h shown' c' (off (held_in a) (kept_in a))
+    (h : Hardware) (shown shown' : WorldView) (c c' : Content) (a : State) → Stands h shown c a → Restarts c c' →
+    shown'.activity ≡ rests → ShowsKept h shown' (kept_in a) → Stands h shown' c' (off (held_in a) (kept_in a))
 
 -- the area on the disk stays
 abbrev pub CutKeepsArea : Type 0
 CutKeepsArea =
-    (h : Hardware) (shown : WorldView) (c c' : Content) (blocks : ℕ) (a : State) → IsContent blocks c → Stands h shown c a → Restarts c c' → IsSameArea h (as_it_reads c) (as_it_reads c')
+    (h : Hardware) (shown : WorldView) (c c' : Content) (blocks : ℕ) (a : State) → IsContent blocks c →
+    Stands h shown c a → Restarts c c' → IsSameArea h (as_it_reads c) (as_it_reads c')

@@ -1,5 +1,5 @@
--- What a hibernation's calls of the disk make of the state that a world and its disk stand for: for each step of the plain
--- machine the state after it (save_image, swap_writer_finish and mark_swapfiles, kernel/power/swap.c).
+-- What a hibernation's calls of the disk make of the state that a world and its disk stand for: for each step of the
+-- plain machine the state after it (save_image, swap_writer_finish and mark_swapfiles, kernel/power/swap.c).
 use Rattle.std.specs.Prelude.{◌≡◌, ◌≢◌, ◌<◌, ℕ, ◌+◌, Bool, false, [], None}
 use Rattle.page_core.specs.declared.format.Format.{Format}
 use Rattle.definitions.specs.Disk.{Content, IsContent, Writes, FailsToWrite, Syncs, as_it_reads}
@@ -20,87 +20,120 @@ use Rattle.protocol_laws.specs.Steps.{write_of_step, marked_header, IsOverDisk, 
 -- A hibernation that isn't refused has its image, its area and its slots,
 abbrev pub IsAcceptedUnlessRefused : Type 0
 IsAcceptedUnlessRefused =
-    (h : Hardware) (a : Running) (f : Format) → IsHardware h → refusal h (on a) (Hibernate f) ≡ None → IsAccepted h a (image_of_memory h a.memory a.slots f)
+    (h : Hardware) (a : Running) (f : Format) → IsHardware h → refusal h (on a) (Hibernate f) ≡ None →
+    IsAccepted h a (image_of_memory h a.memory a.slots f)
 
 -- and begins, where the world has made its copies.
 abbrev pub Begins : Type 0
 Begins =
-    (h : Hardware) (shown shown' : WorldView) (c : Content) (a : Running) (f : Format) (suspends : Bool) → IsHardware h → Stands h shown c (on a) → refusal h (on a) (Hibernate f) ≡ None →
-    shown'.activity ≡ hibernates suspends 0 → ShowsCopies h shown' a (image_of_memory h a.memory a.slots f) → Stands h shown' c (hibernating suspends (image_of_memory h a.memory a.slots f) a 0)
+    (h : Hardware) (shown shown' : WorldView) (c : Content) (a : Running) (f : Format) (suspends : Bool) →
+    IsHardware h → Stands h shown c (on a) → refusal h (on a) (Hibernate f) ≡ None →
+    shown'.activity ≡ hibernates suspends 0 → ShowsCopies h shown' a (image_of_memory h a.memory a.slots f) →
+    Stands h shown' c (hibernating suspends (image_of_memory h a.memory a.slots f) a 0)
 
 -- A write of a page or map is a step. Where it fails the machine runs again.
 abbrev pub WritesOn : Type 0
 WritesOn =
-    (h : Hardware) (shown shown' : WorldView) (c c' : Content) (blocks : ℕ) (suspends : Bool) (i : Image) (a : Running) (k : ℕ) → IsOverDisk h i blocks c → Stands h shown c (hibernating suspends i a k) → k + 4 < hibernate_steps i →
-    Writes (write_of_step h a i k).0 (write_of_step h a i k).1 c c' → shown'.activity ≡ hibernates suspends (k + 1) → ShowsCopies h shown' a i → Stands h shown' c' (hibernating suspends i a (k + 1))
+    (h : Hardware) (shown shown' : WorldView) (c c' : Content) (blocks : ℕ) (suspends : Bool) (i : Image) (a : Running)
+    (k : ℕ) → IsOverDisk h i blocks c → Stands h shown c (hibernating suspends i a k) → k + 4 < hibernate_steps i →
+    Writes (write_of_step h a i k).0 (write_of_step h a i k).1 c c' → shown'.activity ≡ hibernates suspends (k + 1) →
+    ShowsCopies h shown' a i → Stands h shown' c' (hibernating suspends i a (k + 1))
 
 abbrev pub WriteFails : Type 0
 WriteFails =
-    (h : Hardware) (shown shown' : WorldView) (c c' : Content) (blocks : ℕ) (suspends : Bool) (i : Image) (a : Running) (k : ℕ) → IsOverDisk h i blocks c → Stands h shown c (hibernating suspends i a k) → k + 4 < hibernate_steps i →
-    FailsToWrite (write_of_step h a i k).0 (write_of_step h a i k).1 c c' → shown'.activity ≡ runs → ShowsRunning h shown' a → NamesOnly h shown' [] → Stands h shown' c' (on a)
+    (h : Hardware) (shown shown' : WorldView) (c c' : Content) (blocks : ℕ) (suspends : Bool) (i : Image) (a : Running)
+    (k : ℕ) → IsOverDisk h i blocks c → Stands h shown c (hibernating suspends i a k) → k + 4 < hibernate_steps i →
+    FailsToWrite (write_of_step h a i k).0 (write_of_step h a i k).1 c c' → shown'.activity ≡ runs →
+    ShowsRunning h shown' a → NamesOnly h shown' [] → Stands h shown' c' (on a)
 
 -- It is of no block of the header's.
 abbrev pub WritesElsewhere : Type 0
 WritesElsewhere =
-    (h : Hardware) (shown : WorldView) (c : Content) (blocks : ℕ) (suspends : Bool) (i : Image) (a : Running) (k : ℕ) → IsOverDisk h i blocks c → Stands h shown c (hibernating suspends i a k) → k + 4 < hibernate_steps i → (write_of_step h a i k).0 ≢ block_of_slot h 0
+    (h : Hardware) (shown : WorldView) (c : Content) (blocks : ℕ) (suspends : Bool) (i : Image) (a : Running) (k : ℕ) →
+    IsOverDisk h i blocks c → Stands h shown c (hibernating suspends i a k) → k + 4 < hibernate_steps i →
+    (write_of_step h a i k).0 ≢ block_of_slot h 0
 
--- The sync behind the writes is a step, and the read of block(0) behind it. Where one fails the machine runs again.
+-- The sync after the writes is a step, and the read of block(0) after it. Where one fails the machine runs again.
 abbrev pub SyncsOn : Type 0
 SyncsOn =
-    (h : Hardware) (shown shown' : WorldView) (c c' : Content) (blocks : ℕ) (suspends : Bool) (i : Image) (a : Running) (k : ℕ) → IsOverDisk h i blocks c → Stands h shown c (hibernating suspends i a k) → k + 4 ≡ hibernate_steps i →
-    Syncs c c' → shown'.activity ≡ hibernates suspends (k + 1) → ShowsCopies h shown' a i → Stands h shown' c' (hibernating suspends i a (k + 1))
+    (h : Hardware) (shown shown' : WorldView) (c c' : Content) (blocks : ℕ) (suspends : Bool) (i : Image) (a : Running)
+    (k : ℕ) → IsOverDisk h i blocks c → Stands h shown c (hibernating suspends i a k) → k + 4 ≡ hibernate_steps i →
+    Syncs c c' → shown'.activity ≡ hibernates suspends (k + 1) → ShowsCopies h shown' a i →
+    Stands h shown' c' (hibernating suspends i a (k + 1))
 
 abbrev pub ReadsOn : Type 0
 ReadsOn =
-    (h : Hardware) (shown shown' : WorldView) (c : Content) (blocks : ℕ) (suspends : Bool) (i : Image) (a : Running) (k : ℕ) → IsOverDisk h i blocks c → Stands h shown c (hibernating suspends i a k) → k + 3 ≡ hibernate_steps i →
-    shown'.header ≡ header_of h (as_it_reads c) → shown'.activity ≡ hibernates suspends (k + 1) → ShowsCopies h shown' a i → Stands h shown' c (hibernating suspends i a (k + 1))
+    (h : Hardware) (shown shown' : WorldView) (c : Content) (blocks : ℕ) (suspends : Bool) (i : Image) (a : Running)
+    (k : ℕ) → IsOverDisk h i blocks c → Stands h shown c (hibernating suspends i a k) → k + 3 ≡ hibernate_steps i →
+    shown'.header ≡ header_of h (as_it_reads c) → shown'.activity ≡ hibernates suspends (k + 1) →
+    ShowsCopies h shown' a i → Stands h shown' c (hibernating suspends i a (k + 1))
 
 -- What is read is the header block of a version 1 area that isn't marked.
 abbrev pub ReadsArea : Type 0
 ReadsArea =
-    (h : Hardware) (shown : WorldView) (c : Content) (blocks : ℕ) (suspends : Bool) (i : Image) (a : Running) (k : ℕ) → IsContent blocks c → Stands h shown c (hibernating suspends i a k) → k + 3 ≡ hibernate_steps i → kind_fault (area_kind (header_of h (as_it_reads c))) ≡ None
+    (h : Hardware) (shown : WorldView) (c : Content) (blocks : ℕ) (suspends : Bool) (i : Image) (a : Running) (k : ℕ) →
+    IsContent blocks c → Stands h shown c (hibernating suspends i a k) → k + 3 ≡ hibernate_steps i →
+    kind_fault (area_kind (header_of h (as_it_reads c))) ≡ None
 
 abbrev pub CallFails : Type 0
 CallFails =
-    (h : Hardware) (shown shown' : WorldView) (c : Content) (suspends : Bool) (i : Image) (a : Running) (k : ℕ) → Stands h shown c (hibernating suspends i a k) → k + 1 < hibernate_steps i →
+    (h : Hardware) (shown shown' : WorldView) (c : Content) (suspends : Bool) (i : Image) (a : Running) (k : ℕ) →
+    Stands h shown c (hibernating suspends i a k) → k + 1 < hibernate_steps i →
     shown'.activity ≡ runs → ShowsRunning h shown' a → NamesOnly h shown' [] → Stands h shown' c (on a)
 
 -- The header block is kept as the disk reads it, and it isn't marked.
 abbrev pub MarksUnmarked : Type 0
 MarksUnmarked =
-    (h : Hardware) (shown : WorldView) (c : Content) (blocks : ℕ) (suspends : Bool) (i : Image) (a : Running) (k : ℕ) → IsContent blocks c → Stands h shown c (hibernating suspends i a k) → k + 2 ≡ hibernate_steps i → (shown.header ≡ header_of h (as_it_reads c)) × (Marked h (as_it_reads c) → ⊥)
+    (h : Hardware) (shown : WorldView) (c : Content) (blocks : ℕ) (suspends : Bool) (i : Image) (a : Running) (k : ℕ) →
+    IsContent blocks c → Stands h shown c (hibernating suspends i a k) → k + 2 ≡ hibernate_steps i →
+    (shown.header ≡ header_of h (as_it_reads c)) × (Marked h (as_it_reads c) → ⊥)
 
--- The write of the mark is a step: from then on each image of the disk is unmarked or holds the image, and what the disk reads
--- holds it. Where the write fails an undo begins.
+-- The write of the mark is a step: from then on each image of the disk is unmarked or holds the image, and what the
+-- disk reads holds it. Where the write fails an undo begins.
 abbrev pub MarksOn : Type 0
 MarksOn =
-    (h : Hardware) (shown shown' : WorldView) (c c' : Content) (blocks : ℕ) (suspends : Bool) (i : Image) (a : Running) (k : ℕ) → IsOverDisk h i blocks c → IsContent blocks c' → Stands h shown c (hibernating suspends i a k) → k + 2 ≡ hibernate_steps i →
-    Writes (block_of_slot h 0) (marked_header h a i shown.header) c c' → shown'.header ≡ marked_header h a i shown.header → shown'.activity ≡ hibernates suspends (k + 1) → ShowsCopies h shown' a i → Stands h shown' c' (hibernating suspends i a (k + 1))
+    (h : Hardware) (shown shown' : WorldView) (c c' : Content) (blocks : ℕ) (suspends : Bool) (i : Image) (a : Running)
+    (k : ℕ) → IsOverDisk h i blocks c → IsContent blocks c' → Stands h shown c (hibernating suspends i a k) →
+    k + 2 ≡ hibernate_steps i →
+    Writes (block_of_slot h 0) (marked_header h a i shown.header) c c' →
+    shown'.header ≡ marked_header h a i shown.header → shown'.activity ≡ hibernates suspends (k + 1) →
+    ShowsCopies h shown' a i → Stands h shown' c' (hibernating suspends i a (k + 1))
 
 abbrev pub MarkFails : Type 0
 MarkFails =
-    (h : Hardware) (shown shown' : WorldView) (c c' : Content) (blocks : ℕ) (suspends : Bool) (i : Image) (a : Running) (k : ℕ) → IsOverDisk h i blocks c → IsContent blocks c' → Stands h shown c (hibernating suspends i a k) → k + 2 ≡ hibernate_steps i →
-    FailsToWrite (block_of_slot h 0) (marked_header h a i shown.header) c c' → shown'.header ≡ marked_header h a i shown.header → shown'.activity ≡ undoes undo.Write 0 → ShowsCopies h shown' a i → Stands h shown' c' (undoing i undo.Write a 0)
+    (h : Hardware) (shown shown' : WorldView) (c c' : Content) (blocks : ℕ) (suspends : Bool) (i : Image) (a : Running)
+    (k : ℕ) → IsOverDisk h i blocks c → IsContent blocks c' → Stands h shown c (hibernating suspends i a k) →
+    k + 2 ≡ hibernate_steps i →
+    FailsToWrite (block_of_slot h 0) (marked_header h a i shown.header) c c' →
+    shown'.header ≡ marked_header h a i shown.header → shown'.activity ≡ undoes undo.Write 0 →
+    ShowsCopies h shown' a i → Stands h shown' c' (undoing i undo.Write a 0)
 
--- The last sync ends it: the machine is off, and every image of the disk holds the image. Where it fails an undo begins.
+-- The last sync ends it: the machine is off, and every image of the disk holds the image. Where it fails an undo
+-- begins.
 abbrev pub Ends : Type 0
 Ends =
-    (h : Hardware) (shown shown' : WorldView) (c c' : Content) (blocks : ℕ) (suspends : Bool) (i : Image) (a : Running) (k : ℕ) → IsOverDisk h i blocks c → Stands h shown c (hibernating suspends i a k) → k + 1 ≡ hibernate_steps i →
+    (h : Hardware) (shown shown' : WorldView) (c c' : Content) (blocks : ℕ) (suspends : Bool) (i : Image) (a : Running)
+    (k : ℕ) → IsOverDisk h i blocks c → Stands h shown c (hibernating suspends i a k) → k + 1 ≡ hibernate_steps i →
     Syncs c c' → shown'.activity ≡ rests → shown'.keeps_dump ≡ false → Stands h shown' c' (off (sure (own i)) None)
 
 -- Where it is a suspend's the machine sleeps, as it ran before, and the slots of the image stay named.
 abbrev pub EndsAsleep : Type 0
 EndsAsleep =
-    (h : Hardware) (shown shown' : WorldView) (c c' : Content) (blocks : ℕ) (suspends : Bool) (i : Image) (a : Running) (k : ℕ) → IsOverDisk h i blocks c → Stands h shown c (hibernating suspends i a k) → k + 1 ≡ hibernate_steps i →
-    Syncs c c' → shown'.activity ≡ sleeps → ShowsRunning h shown' a → NamesHeld h shown' (sure (own i)) → Stands h shown' c' (asleep i (sure (own i)) a)
+    (h : Hardware) (shown shown' : WorldView) (c c' : Content) (blocks : ℕ) (suspends : Bool) (i : Image) (a : Running)
+    (k : ℕ) → IsOverDisk h i blocks c → Stands h shown c (hibernating suspends i a k) → k + 1 ≡ hibernate_steps i →
+    Syncs c c' → shown'.activity ≡ sleeps → ShowsRunning h shown' a → NamesHeld h shown' (sure (own i)) →
+    Stands h shown' c' (asleep i (sure (own i)) a)
 
 -- It has left the mark and the blocks in every image.
 abbrev pub EndLeaves : Type 0
 EndLeaves =
-    (h : Hardware) (shown : WorldView) (c c' : Content) (blocks : ℕ) (suspends : Bool) (i : Image) (a : Running) (k : ℕ) → IsOverDisk h i blocks c → Stands h shown c (hibernating suspends i a k) → k + 1 ≡ hibernate_steps i →
+    (h : Hardware) (shown : WorldView) (c c' : Content) (blocks : ℕ) (suspends : Bool) (i : Image) (a : Running)
+    (k : ℕ) → IsOverDisk h i blocks c → Stands h shown c (hibernating suspends i a k) → k + 1 ≡ hibernate_steps i →
     Syncs c c' → EachImage c' (HasImage h i a)
 
 abbrev pub EndFails : Type 0
 EndFails =
-    (h : Hardware) (shown shown' : WorldView) (c : Content) (suspends : Bool) (i : Image) (a : Running) (k : ℕ) → Stands h shown c (hibernating suspends i a k) → k + 1 ≡ hibernate_steps i →
-    shown'.header ≡ shown.header → shown'.activity ≡ undoes undo.Sync 0 → ShowsCopies h shown' a i → Stands h shown' c (undoing i undo.Sync a 0)
+    (h : Hardware) (shown shown' : WorldView) (c : Content) (suspends : Bool) (i : Image) (a : Running) (k : ℕ) →
+    Stands h shown c (hibernating suspends i a k) → k + 1 ≡ hibernate_steps i →
+    shown'.header ≡ shown.header → shown'.activity ≡ undoes undo.Sync 0 → ShowsCopies h shown' a i →
+    Stands h shown' c (undoing i undo.Sync a 0)

@@ -7,7 +7,9 @@ use Rattle.plain_machine.specs.Machine.{Hardware, Memory, IsHardware, Fits, IsSa
 
 -- page frames that are the same as a memory whose tables are well formed have well formed tables
 abbrev pub FitsCarried : Type 0
-FitsCarried = (h : Hardware) (m n : Memory) → IsHardware h → Fits h m → IsSameMemory h m n → All IsPage n → length n ≡ top h.zones → Fits h n
+FitsCarried =
+    (h : Hardware) (m n : Memory) → IsHardware h → Fits h m → IsSameMemory h m n → All IsPage n →
+    length n ≡ top h.zones → Fits h n
 
 -- the same slot entries have the same runs of free slots
 abbrev pub RunsSame : Type 0

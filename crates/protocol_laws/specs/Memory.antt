@@ -1,9 +1,11 @@
--- What a hibernation makes of memory: slots that it takes are seen as free, and given back they are so. The sets that it has from the
--- page frames are those of the memory that they show (swsusp_save and alloc_swapdev_block, kernel/power/snapshot.c and swap.c).
+-- What a hibernation makes of memory: slots that it takes are seen as free, and given back they are so. The sets that
+-- it has from the page frames are those of the memory that they show (swsusp_save and alloc_swapdev_block,
+-- kernel/power/snapshot.c and swap.c).
 use Rattle.std.specs.Prelude.{◌≡◌, ◌≢◌, ◌<◌, ℕ, List, Contains, Option}
 use Rattle.definitions.specs.Lists.{free_slots}
 use Rattle.definitions.specs.Tables.{frame}
-use Rattle.plain_machine.specs.Machine.{Hardware, Memory, IsHardware, IsSameMemory, IsOfTable, Fits, saveable, unused, unused_slots, raw_slot_entry, block_of_slot, image_slot}
+use Rattle.plain_machine.specs.Machine.{Hardware, Memory, IsHardware, IsSameMemory, IsOfTable, Fits, saveable, unused}
+use Rattle.plain_machine.specs.Machine.{unused_slots, raw_slot_entry, block_of_slot, image_slot}
 use Rattle.plain_machine.specs.Image.{Image, info_of_image, stream_of}
 use Rattle.plain_machine.specs.Shows.{RunsAs, seen_frames}
 use Rattle.plain_machine.specs.State.{Running, Flight}
@@ -13,47 +15,59 @@ use Rattle.image_laws.specs.Decoding.{IsSayable}
 use Rattle.image_write.specs.Writing.{stream_of_sets, AreOfImage}
 use Rattle.protocol_laws.specs.Slots.{IsMemoryOf, AreFree, taken, HasSets}
 
--- Free slots that the image takes: what is seen of memory stays, page frames outside the slot table stay as they are, and a slot of
--- the image is one of before or one that was taken.
+-- Free slots that the image takes: what is seen of memory stays, page frames outside the slot table stay as they are,
+-- and a slot of the image is one of before or one that was taken.
 abbrev pub SeenTaken : Type 0
-SeenTaken = (h : Hardware) (m : Memory) (slots : List ℕ) → IsMemoryOf h m → AreFree h m slots → seen_frames h (taken h m slots) ≡ seen_frames h m
+SeenTaken =
+    (h : Hardware) (m : Memory) (slots : List ℕ) → IsMemoryOf h m → AreFree h m slots →
+    seen_frames h (taken h m slots) ≡ seen_frames h m
 
 abbrev pub FrameTaken : Type 0
-FrameTaken = (h : Hardware) (m : Memory) (slots : List ℕ) (p : ℕ) → AreFree h m slots → (IsOfTable h.slot_table h.slots p → ⊥) → frame (taken h m slots) p ≡ frame m p
+FrameTaken =
+    (h : Hardware) (m : Memory) (slots : List ℕ) (p : ℕ) → AreFree h m slots → (IsOfTable h.slot_table h.slots p → ⊥) →
+    frame (taken h m slots) p ≡ frame m p
 
 abbrev pub NamesTaken : Type 0
 NamesTaken =
     (h : Hardware) (m : Memory) (slots blocks : List ℕ) → IsMemoryOf h m → AreFree h m slots →
-    ((k : ℕ) → k < h.slots → raw_slot_entry h m k ≡ image_slot → Contains blocks (block_of_slot h k)) → ((k : ℕ) → Contains slots k → Contains blocks (block_of_slot h k)) →
+    ((k : ℕ) → k < h.slots → raw_slot_entry h m k ≡ image_slot → Contains blocks (block_of_slot h k)) →
+    ((k : ℕ) → Contains slots k → Contains blocks (block_of_slot h k)) →
     (k : ℕ) → k < h.slots → raw_slot_entry h (taken h m slots) k ≡ image_slot → Contains blocks (block_of_slot h k)
 
 -- Given back, no slot is the image's.
 abbrev pub NoneLeft : Type 0
-NoneLeft = (h : Hardware) (m : Memory) (k : ℕ) → IsMemoryOf h m → k < h.slots → raw_slot_entry h (seen_frames h m) k ≢ image_slot
+NoneLeft = (h : Hardware) (m : Memory) (k : ℕ) → IsMemoryOf h m → k < h.slots →
+    raw_slot_entry h (seen_frames h m) k ≢ image_slot
 
 -- The running state that the page frames show is shown by them with the slots taken, and with all given back.
 abbrev pub RunsTaken : Type 0
 RunsTaken =
-    (h : Hardware) (flag : Held) (why : Option NoSwap) (operations : ℕ → Option Flight) (m : Memory) (slots : List ℕ) (a : Running) → IsMemoryOf h m → AreFree h m slots →
+    (h : Hardware) (flag : Held) (why : Option NoSwap) (operations : ℕ →
+    Option Flight) (m : Memory) (slots : List ℕ) (a : Running) → IsMemoryOf h m → AreFree h m slots →
     RunsAs h flag why operations m a → RunsAs h flag why operations (taken h m slots) a
 
 abbrev pub RunsGivenBack : Type 0
 RunsGivenBack =
-    (h : Hardware) (flag : Held) (why : Option NoSwap) (operations : ℕ → Option Flight) (m : Memory) (a : Running) → IsMemoryOf h m →
+    (h : Hardware) (flag : Held) (why : Option NoSwap) (operations : ℕ → Option Flight) (m : Memory) (a : Running) →
+    IsMemoryOf h m →
     RunsAs h flag why operations m a → RunsAs h flag why operations (seen_frames h m) a
 
--- Saveable and free page frames are those of the memory that is shown, and so are the free slots where none is the image's.
+-- Saveable and free page frames are those of the memory that is shown, and so are the free slots where none is the
+-- image's.
 abbrev pub ShownLists : Type 0
 ShownLists =
-    (h : Hardware) (m frames : Memory) → IsHardware h → Fits h m → IsSameMemory h m (seen_frames h frames) → (saveable h frames ≡ saveable h m) × (unused h frames ≡ unused h m)
+    (h : Hardware) (m frames : Memory) → IsHardware h → Fits h m → IsSameMemory h m (seen_frames h frames) →
+    (saveable h frames ≡ saveable h m) × (unused h frames ≡ unused h m)
 
 abbrev pub ShownSlots : Type 0
 ShownSlots =
-    (h : Hardware) (m frames : Memory) → IsHardware h → Fits h m → IsSameMemory h m (seen_frames h frames) → ((s : ℕ) → s < h.slots → raw_slot_entry h frames s ≢ image_slot) →
+    (h : Hardware) (m frames : Memory) → IsHardware h → Fits h m → IsSameMemory h m (seen_frames h frames) →
+    ((s : ℕ) → s < h.slots → raw_slot_entry h frames s ≢ image_slot) →
     free_slots h.slots h.slot_table frames ≡ unused_slots h m
 
 -- What a writer writes from the sets of an image is the image's stream.
 abbrev pub WritesStream : Type 0
 WritesStream =
     (i : Image) (m : Memory) (origs copies zeros : List ℕ) → IsSayable i → HasSets i m origs copies zeros →
-    (stream_of_sets (info_of_image i) m origs copies zeros ≡ stream_of i) × AreOfImage (info_of_image i) origs copies zeros
+    (stream_of_sets (info_of_image i) m origs copies zeros ≡ stream_of i)
+    × AreOfImage (info_of_image i) origs copies zeros

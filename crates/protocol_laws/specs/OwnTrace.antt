@@ -22,5 +22,6 @@ Comes h load i k = (k + 1 ≤ 6 + meta_of (n_of i)) ⊎ (has_room h load (d_of i
 -- Over a disk that holds an own image the trace is, from the second step on, what the plain machine answers.
 abbrev pub TracesOwn : Type 0
 TracesOwn =
-    (h : Hardware) (v : disk.DiskImage) (i : Image) (load : Load) (k : ℕ) → IsHardware h → Holds h v i → IsOwn h v i → 1 ≤ k → k < resume_steps i → Comes h load i k →
+    (h : Hardware) (v : disk.DiskImage) (i : Image) (load : Load) (k : ℕ) → IsHardware h → Holds h v i → IsOwn h v i →
+    1 ≤ k → k < resume_steps i → Comes h load i k →
     slice_get (trace h load.dump v load.loader load.check) k ≡ Some (own_reply h load i k)

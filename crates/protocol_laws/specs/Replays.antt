@@ -1,9 +1,10 @@
--- Replays: the states of a run in which no image is another's and no dump's memory comes in. Their steps look at nothing on the disk
--- but its area.
+-- Replays: the states of a run in which no image is another's and no dump's memory comes in. Their steps look at
+-- nothing on the disk but its area.
 use Rattle.std.specs.Prelude.{◌≡◌, None, ⊤}
 use Rattle.definitions.specs.Disk as disk
 use Rattle.plain_machine.specs.Machine.{Hardware}
-use Rattle.plain_machine.specs.State.{State, off, on, booting, hibernating, undoing, settling, waking, loading, asleep, Held, nothing, sure, maybe, own, other, Found, not_yet, found_own, found_other}
+use Rattle.plain_machine.specs.State.{State, off, on, booting, hibernating, undoing, settling, waking, loading, asleep}
+use Rattle.plain_machine.specs.State.{Held, nothing, sure, maybe, own, other, Found, not_yet, found_own, found_other}
 use Rattle.plain_machine.specs.Step.{Step}
 use Rattle.plain_machine.specs.declared.event.BootFrom.TheVariants.{Fresh}
 use Rattle.plain_machine.specs.declared.event.Event.{Event}
@@ -38,8 +39,11 @@ IsOfReplay (asleep i held a) = IsOwnHeld held × IsOwnHeld a.held
 -- Over one area a step of a replay may be the same: only its area is looked at.
 abbrev pub SameSteps : Type 0
 SameSteps =
-    (h : Hardware) (v w : disk.DiskImage) (a : State) (e : Event) (r : Reply) (b : State) → IsSameArea h v w → IsOfReplay a → Step h w a e r b → Step h v a e r b
+    (h : Hardware) (v w : disk.DiskImage) (a : State) (e : Event) (r : Reply) (b : State) → IsSameArea h v w →
+    IsOfReplay a → Step h w a e r b → Step h v a e r b
 
 -- A step of a replay leads to a state of one: a boot or a resume that asks for a dump's memory is refused.
 abbrev pub StaysOfReplay : Type 0
-StaysOfReplay = (h : Hardware) (v : disk.DiskImage) (a : State) (e : Event) (r : Reply) (b : State) → IsOfReplay a → Step h v a e r b → IsOfReplay b
+StaysOfReplay =
+    (h : Hardware) (v : disk.DiskImage) (a : State) (e : Event) (r : Reply) (b : State) → IsOfReplay a →
+    Step h v a e r b → IsOfReplay b

@@ -1,5 +1,6 @@
--- What a resume's calls of the disk make of the state that a world and its disk stand for, where the image is another's: a mark
--- that the disk had before the program began (swsusp_check and swsusp_read, kernel/power/swap.c; swsusp_unmark).
+-- What a resume's calls of the disk make of the state that a world and its disk stand for, where the image is
+-- another's: a mark that the disk had before the program began (swsusp_check and swsusp_read, kernel/power/swap.c;
+-- swsusp_unmark).
 use Rattle.std.specs.Prelude.{◌≡◌, ◌≤◌, ◌⊎◌, ℕ, ◌+◌, false, [], None}
 use Rattle.definitions.specs.Disk as disk
 use Rattle.definitions.specs.Disk.{Content, IsContent, Writes, FailsToWrite, Syncs, as_it_reads}
@@ -19,7 +20,8 @@ IsHeldOther held = (held ≡ sure other) ⊎ (held ≡ maybe other)
 
 -- the resume that has found it on the disk v
 abbrev pub with_found_other : Load → disk.DiskImage → Load
-with_found_other load v = record { held = load.held; found = found_other v; loader = load.loader; dump = load.dump; check = load.check }
+with_found_other load v =
+    record { held = load.held; found = found_other v; loader = load.loader; dump = load.dump; check = load.check }
 
 -- the machine that runs after it: its tasks' slots are those of the restored memory, as the disk v has them
 abbrev pub other_running : Hardware → Load → disk.DiskImage → Running
@@ -34,42 +36,57 @@ other_running h load v = record {
 -- The read of block(0): with a mark the image is there. Where it is compressed the resume stops, and leaves it.
 abbrev pub FindsOther : Type 0
 FindsOther =
-    (h : Hardware) (shown shown' : WorldView) (c : Content) (blocks : ℕ) (load : Load) → IsContent blocks c → Stands h shown c (loading load 1) → IsHeldOther load.held → Marked h (as_it_reads c) →
-    shown'.header ≡ header_of h (as_it_reads c) → ShowsLoad h shown' (with_found_other load (as_it_reads c)) 2 → Stands h shown' c (loading (with_found_other load (as_it_reads c)) 2)
+    (h : Hardware) (shown shown' : WorldView) (c : Content) (blocks : ℕ) (load : Load) → IsContent blocks c →
+    Stands h shown c (loading load 1) → IsHeldOther load.held → Marked h (as_it_reads c) →
+    shown'.header ≡ header_of h (as_it_reads c) → ShowsLoad h shown' (with_found_other load (as_it_reads c)) 2 →
+    Stands h shown' c (loading (with_found_other load (as_it_reads c)) 2)
 
 abbrev pub StopsAtOther : Type 0
 StopsAtOther =
-    (h : Hardware) (shown shown' : WorldView) (c : Content) (blocks : ℕ) (load : Load) → IsContent blocks c → Stands h shown c (loading load 1) → IsHeldOther load.held → Marked h (as_it_reads c) →
+    (h : Hardware) (shown shown' : WorldView) (c : Content) (blocks : ℕ) (load : Load) → IsContent blocks c →
+    Stands h shown c (loading load 1) → IsHeldOther load.held → Marked h (as_it_reads c) →
     shown'.activity ≡ rests → shown'.keeps_dump ≡ false → Stands h shown' c (off (sure other) None)
 
 -- Block(0) is written taken back. Where the write fails a mark is there or not, and the machine is off.
 abbrev pub TakesBackOther : Type 0
 TakesBackOther =
-    (h : Hardware) (shown shown' : WorldView) (c c' : Content) (blocks : ℕ) (load : Load) (v : disk.DiskImage) → IsHardware h → IsContent blocks c → IsContent blocks c' → Stands h shown c (loading (with_found_other load v) 2) →
-    Writes (block_of_slot h 0) (taken_back shown.header) c c' → ShowsLoad h shown' (with_found_other load v) 3 → Stands h shown' c' (loading (with_found_other load v) 3)
+    (h : Hardware) (shown shown' : WorldView) (c c' : Content) (blocks : ℕ) (load : Load) (v : disk.DiskImage) →
+    IsHardware h → IsContent blocks c → IsContent blocks c' → Stands h shown c (loading (with_found_other load v) 2) →
+    Writes (block_of_slot h 0) (taken_back shown.header) c c' → ShowsLoad h shown' (with_found_other load v) 3 →
+    Stands h shown' c' (loading (with_found_other load v) 3)
 
 abbrev pub TakeBackOtherFails : Type 0
 TakeBackOtherFails =
-    (h : Hardware) (shown shown' : WorldView) (c c' : Content) (blocks : ℕ) (load : Load) (v : disk.DiskImage) → IsHardware h → IsContent blocks c → IsContent blocks c' → Stands h shown c (loading (with_found_other load v) 2) →
-    FailsToWrite (block_of_slot h 0) (taken_back shown.header) c c' → shown'.activity ≡ rests → shown'.keeps_dump ≡ false → Stands h shown' c' (off (maybe other) None)
+    (h : Hardware) (shown shown' : WorldView) (c c' : Content) (blocks : ℕ) (load : Load) (v : disk.DiskImage) →
+    IsHardware h → IsContent blocks c → IsContent blocks c' → Stands h shown c (loading (with_found_other load v) 2) →
+    FailsToWrite (block_of_slot h 0) (taken_back shown.header) c c' → shown'.activity ≡ rests →
+    shown'.keeps_dump ≡ false → Stands h shown' c' (off (maybe other) None)
 
--- The sync behind it: no image is marked any more.
+-- The sync after it: no image is marked any more.
 abbrev pub BackSyncsOther : Type 0
 BackSyncsOther =
-    (h : Hardware) (shown shown' : WorldView) (c c' : Content) (blocks : ℕ) (load : Load) (v : disk.DiskImage) → IsContent blocks c → Stands h shown c (loading (with_found_other load v) 3) → Syncs c c' → ShowsLoad h shown' (with_found_other load v) 4 → Stands h shown' c' (loading (with_found_other load v) 4)
+    (h : Hardware) (shown shown' : WorldView) (c c' : Content) (blocks : ℕ) (load : Load) (v : disk.DiskImage) →
+    IsContent blocks c → Stands h shown c (loading (with_found_other load v) 3) → Syncs c c' →
+    ShowsLoad h shown' (with_found_other load v) 4 → Stands h shown' c' (loading (with_found_other load v) 4)
 
 abbrev pub BackSyncOtherFails : Type 0
 BackSyncOtherFails =
-    (h : Hardware) (shown shown' : WorldView) (c : Content) (load : Load) (v : disk.DiskImage) → Stands h shown c (loading (with_found_other load v) 3) → shown'.activity ≡ rests → shown'.keeps_dump ≡ false → Stands h shown' c (off (maybe other) None)
+    (h : Hardware) (shown shown' : WorldView) (c : Content) (load : Load) (v : disk.DiskImage) →
+    Stands h shown c (loading (with_found_other load v) 3) → shown'.activity ≡ rests → shown'.keeps_dump ≡ false →
+    Stands h shown' c (off (maybe other) None)
 
--- A page is read; or it was the last one, and the machine runs, where the restored tables fit it and the area. That the disk v was
--- marked says that its area is the one of block(0) taken back.
+-- A page is read; or it was the last one, and the machine runs, where the restored tables fit it and the area. That the
+-- disk v was marked says that its area is the one of block(0) taken back.
 abbrev pub ReadsPageOther : Type 0
 ReadsPageOther =
-    (h : Hardware) (shown shown' : WorldView) (c : Content) (load : Load) (v : disk.DiskImage) (k : ℕ) → 4 ≤ k → Stands h shown c (loading (with_found_other load v) k) → ShowsLoad h shown' (with_found_other load v) (k + 1) → Stands h shown' c (loading (with_found_other load v) (k + 1))
+    (h : Hardware) (shown shown' : WorldView) (c : Content) (load : Load) (v : disk.DiskImage) (k : ℕ) → 4 ≤ k →
+    Stands h shown c (loading (with_found_other load v) k) → ShowsLoad h shown' (with_found_other load v) (k + 1) →
+    Stands h shown' c (loading (with_found_other load v) (k + 1))
 
 abbrev pub ResumesOther : Type 0
 ResumesOther =
-    (h : Hardware) (shown shown' : WorldView) (c : Content) (blocks : ℕ) (load : Load) (v : disk.DiskImage) (k : ℕ) → IsHardware h → IsContent blocks c → 4 ≤ k → Stands h shown c (loading (with_found_other load v) k) →
+    (h : Hardware) (shown shown' : WorldView) (c : Content) (blocks : ℕ) (load : Load) (v : disk.DiskImage) (k : ℕ) →
+    IsHardware h → IsContent blocks c → 4 ≤ k → Stands h shown c (loading (with_found_other load v) k) →
     Marked h v → tables_cause h v (restored_in h load.dump v load.loader) ≡ None →
-    shown'.activity ≡ runs → ShowsRunning h shown' (other_running h load v) → NamesOnly h shown' [] → Stands h shown' c (on (other_running h load v))
+    shown'.activity ≡ runs → ShowsRunning h shown' (other_running h load v) → NamesOnly h shown' [] →
+    Stands h shown' c (on (other_running h load v))

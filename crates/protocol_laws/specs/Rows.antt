@@ -1,16 +1,19 @@
--- What an event makes of something that stands for a state of the plain machine over a disk: for each state that it stood for there is
--- one that the plain machine goes on to.
-use Rattle.std.specs.Prelude.{◌≡◌, ◌⊎◌, ◌≤◌, ◌<◌, ◌+◌, ◌*◌, ◌==◌, ℕ, zero, Bool, true, false, List, [], ◌∷◌, length, All, flat_map, Contains, slice_index_or, Option, Some, None, ⊤, if◌then◌else◌}
+-- What an event makes of something that stands for a state of the plain machine over a disk: for each state that it
+-- stood for there is one that the plain machine goes on to.
+use Rattle.std.specs.Prelude.{◌≡◌, ◌⊎◌, ◌≤◌, ◌<◌, ◌+◌, ◌*◌, ◌==◌, ℕ, zero, Bool, true, false, List, [], ◌∷◌, length}
+use Rattle.std.specs.Prelude.{All, flat_map, Contains, slice_index_or, Option, Some, None, ⊤, if◌then◌else◌}
 use Rattle.std.specs.List.{range_with_len}
 use Rattle.definitions.specs.Disk as disk
 use Rattle.definitions.specs.SwapHeader.{taken_back}
 use Rattle.plain_machine.specs.Machine.{Hardware, block_of_slot}
 use Rattle.plain_machine.specs.Chain.{Marked, header_of, blocks_of}
 use Rattle.plain_machine.specs.Image.{Image}
-use Rattle.plain_machine.specs.Calls.{HibernationCall, writes_page, writes_mark, hibernation_call, BackCall, takes_back, back_call, undo_call, LoadCall, of_mark, load_call}
+use Rattle.plain_machine.specs.Calls.{HibernationCall, writes_page, writes_mark, hibernation_call, BackCall, takes_back}
+use Rattle.plain_machine.specs.Calls.{back_call, undo_call, LoadCall, of_mark, load_call}
 use Rattle.plain_machine.specs.Mark.{HasMark}
 use Rattle.plain_machine.specs.Stands.{EachImage, AgreeOnArea, Reads, laid_writes, first_map_block}
-use Rattle.plain_machine.specs.State.{State, off, on, booting, hibernating, undoing, settling, waking, loading, asleep, Running, Flight, goes_out, comes_in}
+use Rattle.plain_machine.specs.State.{State, off, on, booting, hibernating, undoing, settling, waking, loading, asleep}
+use Rattle.plain_machine.specs.State.{Running, Flight, goes_out, comes_in}
 use Rattle.plain_machine.specs.Step.{Step}
 use Rattle.plain_machine.specs.UsableArea.{area_block}
 use Rattle.plain_machine.specs.declared.event.Actor.TheVariants as actor
@@ -21,7 +24,8 @@ use Rattle.plain_machine.specs.declared.reply.Reply.TheVariants as reply
 use Rattle.plain_machine.specs.declared.reply.Left.TheVariants.{Gone}
 use Rattle.protocol_laws.specs.Steps.{write_of_step}
 
--- Two disks have the same swap area: as many blocks, and the same header block, taken back where it is marked, but for bytes 4056 to 4085.
+-- Two disks have the same swap area: as many blocks, and the same header block, taken back where it is marked, but for
+-- bytes 4056 to 4085.
 pub record IsSameArea (h : Hardware) (v w : disk.DiskImage) : Type 0 where
   pub blocks : blocks_of w ≡ blocks_of v
   pub header : AgreeOnArea (area_block h w) (area_block h v)
@@ -54,8 +58,8 @@ abbrev pub block_of_load : Hardware → LoadCall → List ℕ
 block_of_load h (of_mark call) = block_taken_back h (Some call)
 block_of_load h call = []
 
--- The blocks that may be written, by the state before an event: those of unfinished outs while the machine runs, and else that of the
--- call that comes next.
+-- The blocks that may be written, by the state before an event: those of unfinished outs while the machine runs, and
+-- else that of the call that comes next.
 abbrev pub blocks_written : Hardware → State → List ℕ
 blocks_written h (off held kept) = []
 blocks_written h (on a) = flat_map (λ t. out_block h (a.flights t)) (range_with_len 1 64)
@@ -79,7 +83,8 @@ blocks_at h e a = blocks_written h a
 
 -- Each image that a crash may leave afterwards has in this block what a crash might have left there before.
 pub record LeavesBlock (b : ℕ) (c c' : disk.Content) : Type 0 where
-  pub leaves : (v : disk.DiskImage) (s : ℕ) → disk.IsImage c' v → s < length v → 8 * b ≤ s → s < 8 * b + 8 → Contains (disk.sector c s).candidates (slice_index_or v s [])
+  pub leaves : (v : disk.DiskImage) (s : ℕ) → disk.IsImage c' v → s < length v → 8 * b ≤ s → s < 8 * b + 8 →
+      Contains (disk.sector c s).candidates (slice_index_or v s [])
 
 -- A hibernation that ended has left the mark in this image of the disk, and the blocks as they are laid.
 pub record HasImage (h : Hardware) (i : Image) (a : Running) (v : disk.DiskImage) : Type 0 where
@@ -93,14 +98,18 @@ LeavesImage h (event.Step actor.Core) (reply.Hibernated n) (hibernating suspends
 LeavesImage h (event.Step actor.Core) (reply.Asleep n) (hibernating suspends i a k) c = EachImage c (HasImage h i a)
 LeavesImage h _ _ _ c = ⊤
 
--- Each image that a crash may leave afterwards has in block(0) what a crash might have left there before, or that block taken back.
+-- Each image that a crash may leave afterwards has in block(0) what a crash might have left there before, or that block
+-- taken back.
 abbrev pub KeepsHeaderOrTakesBack : Hardware → disk.Content → disk.Content → Type 0
 KeepsHeaderOrTakesBack h c c' =
-    (w : disk.DiskImage) → disk.IsImage c' w → (v : disk.DiskImage) × disk.IsImage c v × ((header_of h w ≡ header_of h v) ⊎ (header_of h w ≡ taken_back (header_of h v)))
+    (w : disk.DiskImage) → disk.IsImage c' w → (v : disk.DiskImage) × disk.IsImage c v
+    × ((header_of h w ≡ header_of h v) ⊎ (header_of h w ≡ taken_back (header_of h v)))
 
 -- Each marked block(0) that a crash may leave afterwards it might have left before.
 abbrev pub AddsNoMark : Hardware → disk.Content → disk.Content → Type 0
-AddsNoMark h c c' = (w : disk.DiskImage) → disk.IsImage c' w → Marked h w → (v : disk.DiskImage) × disk.IsImage c v × (header_of h w ≡ header_of h v)
+AddsNoMark h c c' =
+    (w : disk.DiskImage) → disk.IsImage c' w → Marked h w → (v : disk.DiskImage) × disk.IsImage c v
+    × (header_of h w ≡ header_of h v)
 
 -- what a step leaves of block(0) in a resume and in an undo
 abbrev pub LeavesHeader : Hardware → State → disk.Content → disk.Content → Type 0
@@ -108,9 +117,10 @@ LeavesHeader h (loading load k) c c' = KeepsHeaderOrTakesBack h c c'
 LeavesHeader h (undoing i call a k) c c' = AddsNoMark h c c'
 LeavesHeader h _ c c' = ⊤
 
--- The reply is one that the plain machine may give, and what is there afterwards stands for the state that it goes on to. The
--- area on the disk stays, no other block than those is written, and block(0) is left so.
-pub record StepsTo (h : Hardware) (new : StandsBy) (e : Event) (r : Reply) (c c' : disk.Content) (a b : State) : Type 0 where
+-- The reply is one that the plain machine may give, and what is there afterwards stands for the state that it goes on
+-- to. The area on the disk stays, no other block than those is written, and block(0) is left so.
+pub record StepsTo (h : Hardware) (new : StandsBy) (e : Event) (r : Reply) (c c' : disk.Content)
+    (a b : State) : Type 0 where
   pub step : Step h (disk.as_it_reads c) a e r b
   pub stands : new c' b
   pub area : IsSameArea h (disk.as_it_reads c) (disk.as_it_reads c')
@@ -123,15 +133,18 @@ abbrev pub Simulates : Hardware → StandsBy → StandsBy → Event → Reply �
 Simulates h old new e r c c' = (a : State) → old c a → (b : State) × StepsTo h new e r c c' a b
 
 -- the row over a disk that tells its content
-abbrev pub SimulatesWhereTold : Hardware → StandsBy → StandsBy → Event → Reply → Option disk.Content → Option disk.Content → Type 0
-SimulatesWhereTold h old new e r before now = (c : disk.Content) → before ≡ Some c → (c' : disk.Content) × (now ≡ Some c') × Simulates h old new e r c c'
+abbrev pub SimulatesWhereTold : Hardware → StandsBy → StandsBy → Event → Reply → Option disk.Content →
+    Option disk.Content → Type 0
+SimulatesWhereTold h old new e r before now =
+    (c : disk.Content) → before ≡ Some c → (c' : disk.Content) × (now ≡ Some c') × Simulates h old new e r c c'
 
 -- whether a reply says that there was nothing to do
 abbrev pub is_idle : Reply → Bool
 is_idle reply.Idle = true
 is_idle _ = false
 
--- A reply that tells of a call of the disk that failed at this event. An undo's end tells of the one that the undo began with.
+-- A reply that tells of a call of the disk that failed at this event. An undo's end tells of the one that the undo
+-- began with.
 abbrev pub IsNewFault : Reply → Type 0
 IsNewFault (reply.ReadFault left) = ⊤
 IsNewFault (reply.WriteFault Gone) = ⊥

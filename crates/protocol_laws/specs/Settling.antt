@@ -1,5 +1,6 @@
--- What the calls of the disk of a settling make of the state: block(0) is read, written taken back where it is marked, and synced
--- (swsusp_unmark, kernel/power/swap.c; that a machine does it while it runs is own). It doesn't matter whose the image was.
+-- What the calls of the disk of a settling make of the state: block(0) is read, written taken back where it is marked,
+-- and synced (swsusp_unmark, kernel/power/swap.c; that a machine does it while it runs is own). It doesn't matter whose
+-- the image was.
 use Rattle.std.specs.Prelude.{◌≡◌, ◌<◌, ℕ, List, [], nat_eq, if◌then◌else◌}
 use Rattle.std.specs.Cmp.Lexicographic.{pointwise}
 use Rattle.definitions.specs.Disk.{Content, IsContent, Writes, FailsToWrite, Syncs, as_it_reads}
@@ -33,38 +34,48 @@ SettleBegins =
 abbrev pub SettleReads : Type 0
 SettleReads =
     (h : Hardware) (shown shown' : WorldView) (c : Content) (a : Running) → Stands h shown c (settling a 0) →
-    shown'.header ≡ header_of h (as_it_reads c) → shown'.activity ≡ settles 1 → ShowsRunning h shown' a → NamesHeld h shown' a.held → Stands h shown' c (settling a 1)
+    shown'.header ≡ header_of h (as_it_reads c) → shown'.activity ≡ settles 1 → ShowsRunning h shown' a →
+    NamesHeld h shown' a.held → Stands h shown' c (settling a 1)
 
 abbrev pub SettleReadFails : Type 0
 SettleReadFails =
     (h : Hardware) (shown shown' : WorldView) (c : Content) (a : Running) → Stands h shown c (settling a 0) →
     shown'.activity ≡ runs → ShowsRunning h shown' a → NamesHeld h shown' a.held → Stands h shown' c (on a)
 
--- The write: from then on the disk reads as unmarked, but a cut may still find the image. Where it fails the machine runs, and the
--- image is there or not.
+-- The write: from then on the disk reads as unmarked, but a cut may still find the image. Where it fails the machine
+-- runs, and the image is there or not.
 abbrev pub SettleWrites : Type 0
 SettleWrites =
-    (h : Hardware) (shown shown' : WorldView) (c c' : Content) (blocks : ℕ) (a : Running) → IsOnDisk h blocks c → IsContent blocks c' → Stands h shown c (settling a 1) →
-    Writes (block_of_slot h 0) (unmarked_block shown.header) c c' → shown'.activity ≡ settles 2 → ShowsRunning h shown' a → NamesHeld h shown' a.held → Stands h shown' c' (settling a 2)
+    (h : Hardware) (shown shown' : WorldView) (c c' : Content) (blocks : ℕ) (a : Running) → IsOnDisk h blocks c →
+    IsContent blocks c' → Stands h shown c (settling a 1) →
+    Writes (block_of_slot h 0) (unmarked_block shown.header) c c' → shown'.activity ≡ settles 2 →
+    ShowsRunning h shown' a → NamesHeld h shown' a.held → Stands h shown' c' (settling a 2)
 
 abbrev pub SettleWriteFails : Type 0
 SettleWriteFails =
-    (h : Hardware) (shown shown' : WorldView) (c c' : Content) (blocks : ℕ) (a : Running) → IsOnDisk h blocks c → IsContent blocks c' → Stands h shown c (settling a 1) →
-    FailsToWrite (block_of_slot h 0) (unmarked_block shown.header) c c' → shown'.activity ≡ runs → ShowsRunning h shown' (with_held a (perhaps a.held)) → NamesHeld h shown' a.held → Stands h shown' c' (on (with_held a (perhaps a.held)))
+    (h : Hardware) (shown shown' : WorldView) (c c' : Content) (blocks : ℕ) (a : Running) → IsOnDisk h blocks c →
+    IsContent blocks c' → Stands h shown c (settling a 1) →
+    FailsToWrite (block_of_slot h 0) (unmarked_block shown.header) c c' → shown'.activity ≡ runs →
+    ShowsRunning h shown' (with_held a (perhaps a.held)) → NamesHeld h shown' a.held →
+    Stands h shown' c' (on (with_held a (perhaps a.held)))
 
 -- It leaves the area, failed or not.
 abbrev pub SettleKeepsArea : Type 0
 SettleKeepsArea =
-    (h : Hardware) (shown : WorldView) (c c' : Content) (blocks : ℕ) (a : Running) → IsOnDisk h blocks c → Stands h shown c (settling a 1) →
+    (h : Hardware) (shown : WorldView) (c c' : Content) (blocks : ℕ) (a : Running) → IsOnDisk h blocks c →
+    Stands h shown c (settling a 1) →
     Tries (block_of_slot h 0) (unmarked_block shown.header) c c' → IsSameArea h (as_it_reads c) (as_it_reads c')
 
 -- The sync: no image is there any more. Where it fails the image is there or not.
 abbrev pub SettleSyncs : Type 0
 SettleSyncs =
-    (h : Hardware) (shown shown' : WorldView) (c c' : Content) (blocks : ℕ) (a : Running) → IsContent blocks c → Stands h shown c (settling a 2) → Syncs c c' →
-    shown'.activity ≡ runs → ShowsRunning h shown' (with_held a nothing) → NamesOnly h shown' [] → Stands h shown' c' (on (with_held a nothing))
+    (h : Hardware) (shown shown' : WorldView) (c c' : Content) (blocks : ℕ) (a : Running) → IsContent blocks c →
+    Stands h shown c (settling a 2) → Syncs c c' →
+    shown'.activity ≡ runs → ShowsRunning h shown' (with_held a nothing) → NamesOnly h shown' [] →
+    Stands h shown' c' (on (with_held a nothing))
 
 abbrev pub SettleSyncFails : Type 0
 SettleSyncFails =
     (h : Hardware) (shown shown' : WorldView) (c : Content) (a : Running) → Stands h shown c (settling a 2) →
-    shown'.activity ≡ runs → ShowsRunning h shown' (with_held a (perhaps a.held)) → NamesHeld h shown' a.held → Stands h shown' c (on (with_held a (perhaps a.held)))
+    shown'.activity ≡ runs → ShowsRunning h shown' (with_held a (perhaps a.held)) → NamesHeld h shown' a.held →
+    Stands h shown' c (on (with_held a (perhaps a.held)))

@@ -26,7 +26,7 @@ pub record IsOverDisk (h : Hardware) (i : Image) (blocks : ℕ) (c : Content) : 
   pub content : IsContent blocks c
   pub few : blocks < 2 ^ 32
 
--- A world behind whose hibernation this running state waits shows it, its copies, and no slot of another image.
+-- A world after whose hibernation this running state waits shows it, its copies, and no slot of another image.
 pub record ShowsCopies (h : Hardware) (shown : WorldView) (a : Running) (i : Image) : Type 0 where
   pub shows : ShowsRunning h shown a
   pub names : NamesOnly h shown (laid_blocks h a i)

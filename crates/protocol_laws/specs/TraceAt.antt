@@ -25,6 +25,7 @@ reply_at h dump v loader check (suc (suc (suc (suc t)))) =
 -- Where each step before answered Loading, the trace has that reply.
 abbrev pub TracesAt : Type 0
 TracesAt =
-    (h : Hardware) (dump : Memory) (v : disk.DiskImage) (loader : Loader) (check : IdentCheck) (k : ℕ) → k < 4 + place_count (info_in h v).pages →
+    (h : Hardware) (dump : Memory) (v : disk.DiskImage) (loader : Loader) (check : IdentCheck) (k : ℕ) →
+    k < 4 + place_count (info_in h v).pages →
     ((j : ℕ) → j < k → reply_at h dump v loader check j ≡ reply.Loading (j + 1)) →
     slice_get (trace h dump v loader check) k ≡ Some (reply_at h dump v loader check k)

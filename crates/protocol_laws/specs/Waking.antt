@@ -1,6 +1,7 @@
--- What the calls of the disk of a waking make of the state: block(0) is read, written taken back where it is marked, and synced, before the
--- machine that slept runs again (hibernation mode "suspend", kernel/power/hibernate.c; swsusp_unmark, kernel/power/swap.c). The image
--- that is held is the state's; the running state is that from before the suspend, in which nothing was.
+-- What the calls of the disk of a waking make of the state: block(0) is read, written taken back where it is marked,
+-- and synced, before the machine that slept runs again (hibernation mode "suspend", kernel/power/hibernate.c;
+-- swsusp_unmark, kernel/power/swap.c). The image that is held is the state's; the running state is that from before the
+-- suspend, in which nothing was.
 use Rattle.std.specs.Prelude.{◌≡◌, ℕ, []}
 use Rattle.definitions.specs.Disk.{Content, IsContent, Writes, FailsToWrite, Syncs, as_it_reads}
 use Rattle.image_laws.specs.ImageBlocks.{Tries}
@@ -17,45 +18,59 @@ use Rattle.protocol_laws.specs.Undo.{with_held}
 -- It begins,
 abbrev pub WakeBegins : Type 0
 WakeBegins =
-    (h : Hardware) (shown shown' : WorldView) (c : Content) (i : Image) (held : Held) (a : Running) → Stands h shown c (asleep i held a) →
-    shown'.activity ≡ wakes 0 → ShowsRunning h shown' a → NamesHeld h shown' held → Stands h shown' c (waking i held a 0)
+    (h : Hardware) (shown shown' : WorldView) (c : Content) (i : Image) (held : Held) (a : Running) →
+    Stands h shown c (asleep i held a) →
+    shown'.activity ≡ wakes 0 → ShowsRunning h shown' a → NamesHeld h shown' held →
+    Stands h shown' c (waking i held a 0)
 
 -- and reads the header block, which is kept. Where that fails the machine sleeps as it slept.
 abbrev pub WakeReads : Type 0
 WakeReads =
-    (h : Hardware) (shown shown' : WorldView) (c : Content) (i : Image) (held : Held) (a : Running) → Stands h shown c (waking i held a 0) →
-    shown'.header ≡ header_of h (as_it_reads c) → shown'.activity ≡ wakes 1 → ShowsRunning h shown' a → NamesHeld h shown' held → Stands h shown' c (waking i held a 1)
+    (h : Hardware) (shown shown' : WorldView) (c : Content) (i : Image) (held : Held) (a : Running) →
+    Stands h shown c (waking i held a 0) →
+    shown'.header ≡ header_of h (as_it_reads c) → shown'.activity ≡ wakes 1 → ShowsRunning h shown' a →
+    NamesHeld h shown' held → Stands h shown' c (waking i held a 1)
 
 abbrev pub WakeReadFails : Type 0
 WakeReadFails =
-    (h : Hardware) (shown shown' : WorldView) (c : Content) (i : Image) (held : Held) (a : Running) → Stands h shown c (waking i held a 0) →
+    (h : Hardware) (shown shown' : WorldView) (c : Content) (i : Image) (held : Held) (a : Running) →
+    Stands h shown c (waking i held a 0) →
     shown'.activity ≡ sleeps → ShowsRunning h shown' a → NamesHeld h shown' held → Stands h shown' c (asleep i held a)
 
--- The write: from then on the disk reads as unmarked, but a cut may still find the image. Where it fails the machine sleeps, and the
--- image is there or not.
+-- The write: from then on the disk reads as unmarked, but a cut may still find the image. Where it fails the machine
+-- sleeps, and the image is there or not.
 abbrev pub WakeWrites : Type 0
 WakeWrites =
-    (h : Hardware) (shown shown' : WorldView) (c c' : Content) (blocks : ℕ) (i : Image) (held : Held) (a : Running) → IsOnDisk h blocks c → IsContent blocks c' → Stands h shown c (waking i held a 1) →
-    Writes (block_of_slot h 0) (unmarked_block shown.header) c c' → shown'.activity ≡ wakes 2 → ShowsRunning h shown' a → NamesHeld h shown' held → Stands h shown' c' (waking i held a 2)
+    (h : Hardware) (shown shown' : WorldView) (c c' : Content) (blocks : ℕ) (i : Image) (held : Held) (a : Running) →
+    IsOnDisk h blocks c → IsContent blocks c' → Stands h shown c (waking i held a 1) →
+    Writes (block_of_slot h 0) (unmarked_block shown.header) c c' → shown'.activity ≡ wakes 2 →
+    ShowsRunning h shown' a → NamesHeld h shown' held → Stands h shown' c' (waking i held a 2)
 
 abbrev pub WakeWriteFails : Type 0
 WakeWriteFails =
-    (h : Hardware) (shown shown' : WorldView) (c c' : Content) (blocks : ℕ) (i : Image) (held : Held) (a : Running) → IsOnDisk h blocks c → IsContent blocks c' → Stands h shown c (waking i held a 1) →
-    FailsToWrite (block_of_slot h 0) (unmarked_block shown.header) c c' → shown'.activity ≡ sleeps → ShowsRunning h shown' a → NamesHeld h shown' held → Stands h shown' c' (asleep i (perhaps held) a)
+    (h : Hardware) (shown shown' : WorldView) (c c' : Content) (blocks : ℕ) (i : Image) (held : Held) (a : Running) →
+    IsOnDisk h blocks c → IsContent blocks c' → Stands h shown c (waking i held a 1) →
+    FailsToWrite (block_of_slot h 0) (unmarked_block shown.header) c c' → shown'.activity ≡ sleeps →
+    ShowsRunning h shown' a → NamesHeld h shown' held → Stands h shown' c' (asleep i (perhaps held) a)
 
 -- It leaves the area, failed or not.
 abbrev pub WakeKeepsArea : Type 0
 WakeKeepsArea =
-    (h : Hardware) (shown : WorldView) (c c' : Content) (blocks : ℕ) (i : Image) (held : Held) (a : Running) → IsOnDisk h blocks c → Stands h shown c (waking i held a 1) →
+    (h : Hardware) (shown : WorldView) (c c' : Content) (blocks : ℕ) (i : Image) (held : Held) (a : Running) →
+    IsOnDisk h blocks c → Stands h shown c (waking i held a 1) →
     Tries (block_of_slot h 0) (unmarked_block shown.header) c c' → IsSameArea h (as_it_reads c) (as_it_reads c')
 
 -- The sync: no image is there any more, and the machine runs. Where it fails it sleeps, and the image is there or not.
 abbrev pub WakeSyncs : Type 0
 WakeSyncs =
-    (h : Hardware) (shown shown' : WorldView) (c c' : Content) (blocks : ℕ) (i : Image) (held : Held) (a : Running) → IsContent blocks c → Stands h shown c (waking i held a 2) → Syncs c c' →
-    shown'.activity ≡ runs → ShowsRunning h shown' (with_held a nothing) → NamesOnly h shown' [] → Stands h shown' c' (on (with_held a nothing))
+    (h : Hardware) (shown shown' : WorldView) (c c' : Content) (blocks : ℕ) (i : Image) (held : Held) (a : Running) →
+    IsContent blocks c → Stands h shown c (waking i held a 2) → Syncs c c' →
+    shown'.activity ≡ runs → ShowsRunning h shown' (with_held a nothing) → NamesOnly h shown' [] →
+    Stands h shown' c' (on (with_held a nothing))
 
 abbrev pub WakeSyncFails : Type 0
 WakeSyncFails =
-    (h : Hardware) (shown shown' : WorldView) (c : Content) (i : Image) (held : Held) (a : Running) → Stands h shown c (waking i held a 2) →
-    shown'.activity ≡ sleeps → ShowsRunning h shown' a → NamesHeld h shown' held → Stands h shown' c (asleep i (perhaps held) a)
+    (h : Hardware) (shown shown' : WorldView) (c : Content) (i : Image) (held : Held) (a : Running) →
+    Stands h shown c (waking i held a 2) →
+    shown'.activity ≡ sleeps → ShowsRunning h shown' a → NamesHeld h shown' held →
+    Stands h shown' c (asleep i (perhaps held) a)

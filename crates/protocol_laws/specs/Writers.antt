@@ -1,4 +1,5 @@
--- A writer at work for a hibernation: what it writes next is the next write of the hibernation, and what the world shows stays.
+-- A writer at work for a hibernation: what it writes next is the next write of the hibernation, and what the world
+-- shows stays.
 use Rattle.std.specs.Prelude.{◌≡◌, ℕ, List, Contains}
 use Rattle.definitions.specs.Tables.{with_entries}
 use Rattle.image_laws.specs.Decoding.{IsSayable}
@@ -22,8 +23,10 @@ pub record IsWriterOf (h : Hardware) (a : Running) (i : Image) (k : ℕ) (frames
 -- what it writes next is the write of step k + 1
 abbrev pub WritesNext : Type 0
 WritesNext =
-    (h : Hardware) (a : Running) (i : Image) (k : ℕ) (frames : Memory) (w : Writing) (origs copies zeros : List ℕ) → IsWriterOf h a i k frames w → IsSayable i → HasSets i frames origs copies zeros →
-    write_next (unused_slots h a.memory) w (page_next (stream_of_sets w.info frames origs copies zeros) w) ≡ write_of_step h a i k
+    (h : Hardware) (a : Running) (i : Image) (k : ℕ) (frames : Memory) (w : Writing) (origs copies zeros : List ℕ) →
+    IsWriterOf h a i k frames w → IsSayable i → HasSets i frames origs copies zeros →
+    write_next (unused_slots h a.memory) w (page_next (stream_of_sets w.info frames origs copies zeros) w) ≡
+    write_of_step h a i k
 
 -- the world that shows this, with the slots of write k taken
 pub record TakesSlots (h : Hardware) (a : Running) (w : Writing) (k : ℕ) (old new : WorldView) : Type 0 where
@@ -31,10 +34,13 @@ pub record TakesSlots (h : Hardware) (a : Running) (w : Writing) (k : ℕ) (old 
   pub unusable : new.unusable ≡ old.unusable
   pub flights : (t : ℕ) → new.flights t ≡ old.flights t
   pub copies : new.copies ≡ old.copies
-  pub frames : new.frames ≡ with_entries old.frames h.slot_table (slots_of_write w.info (unused_slots h a.memory) k) image_slot
+  pub frames : new.frames ≡ with_entries old.frames h.slot_table (slots_of_write w.info (unused_slots h a.memory) k)
+      image_slot
 
 -- it still shows the running state, its copies, and no slot of another image
 abbrev pub ShowsStill : Type 0
 ShowsStill =
-    (h : Hardware) (a : Running) (i : Image) (k : ℕ) (w : Writing) (old new : WorldView) → IsHardware h → IsAccepted h a i → IsWriterOf h a i k old.frames w → IsMemoryOf h old.frames →
-    ((p : ℕ) → Contains old.copies p → IsOfTable h.slot_table h.slots p → ⊥) → TakesSlots h a w k old new → ShowsCopies h old a i → ShowsCopies h new a i
+    (h : Hardware) (a : Running) (i : Image) (k : ℕ) (w : Writing) (old new : WorldView) → IsHardware h →
+    IsAccepted h a i → IsWriterOf h a i k old.frames w → IsMemoryOf h old.frames →
+    ((p : ℕ) → Contains old.copies p → IsOfTable h.slot_table h.slots p → ⊥) → TakesSlots h a w k old new →
+    ShowsCopies h old a i → ShowsCopies h new a i

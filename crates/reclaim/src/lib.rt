@@ -1,5 +1,5 @@
-//! Dropping page frames that hold what can be read again, so that an image becomes as small as is wanted (own policy; in Linux
-//! shrink_all_memory, mm/vmscan.c, for hibernate_preallocate_memory, kernel/power/snapshot.c).
+//! Dropping page frames that hold what can be read again, so that an image becomes as small as is wanted (own policy;
+//! in Linux shrink_all_memory, mm/vmscan.c, for hibernate_preallocate_memory, kernel/power/snapshot.c).
 #![tactic(auto)]
 
 ghost use Rattle.std.specs.Prelude.{◌≡◌, ℕ, ◌+◌, ◌-◌, ◌/◌, ◌<◌, ◌≤◌, ◌↔◌, ◌==◌, IsTrue, filter, take, List, length};
@@ -16,18 +16,19 @@ use page_states::{PageFlags, entry, set_entry};
 use saveable::{View, saveable};
 use zones::Zones;
 
-/// Whether page frame `p` may be dropped: it is valid, its one flag is CACHE, and it lies in none of the runs (first, count) that
-/// are kept.
+/// Whether page frame `p` may be dropped: it is valid, its one flag is CACHE, and it lies in none of the runs (first,
+/// count) that are kept.
 pub fn droppable(view: &View, keep: &[(u32, u32)], p: u32) -> bool
     requires { HasTable view.now.frames.now view.now.table (top view.now.zones.now) }
-    ensures { IsTrue result ↔ Contains (droppable_frames view.now.zones.now view.now.table keep.now view.now.frames.now) p }
+    ensures { IsTrue result ↔ Contains (droppable_frames view.now.zones.now view.now.table keep.now view.now.frames.now)
+        p }
 {
     view.zones.valid(p) && may_drop(view.frames, view.table, keep, p)
 }
 
-/// Drops the first of the page frames that may be dropped, until `want` saveable ones are left or there is none more: their entries
-/// in the frame table, which begins at page frame `table`, become FREE. It answers how many it dropped, and how many saveable
-/// page frames are left.
+/// Drops the first of the page frames that may be dropped, until `want` saveable ones are left or there is none more:
+/// their entries in the frame table, which begins at page frame `table`, become FREE. It answers how many it dropped,
+/// and how many saveable page frames are left.
 pub fn shrink(
     frames: &mut Frames,
     zones: &Zones,
@@ -36,10 +37,12 @@ pub fn shrink(
     want: u64,
 ) -> (u32, u32)
     requires { HasTable frames.old table (top zones.now) }
-    ensures frames { frames.new ≡ with_entries frames.old table (dropped_frames zones.now table keep.now want frames.old) 1 }
+    ensures frames { frames.new ≡ with_entries frames.old table
+        (dropped_frames zones.now table keep.now want frames.old) 1 }
     ensures dropped { result.0 ≡ length (dropped_frames zones.now table keep.now want frames.old) }
     ensures left { result.1 ≡ length (saveable_frames zones.now table frames.new) }
-    ensures rest { result.1 ≡ length (saveable_frames zones.now table frames.old) - length (dropped_frames zones.now table keep.now want frames.old) }
+    ensures rest { result.1 ≡ length (saveable_frames zones.now table frames.old) - length
+        (dropped_frames zones.now table keep.now want frames.old) }
     ensures len { length frames.new ≡ length frames.old }
 {
     // Each page frame has 4096 bytes, so that an entry that is set leaves the others.
@@ -75,7 +78,8 @@ fn saveable_in_zone(view: &View, zone: (u32, u32)) -> u32
     requires zone { IsZone zone }
     requires valid { (p : ℕ) → zone.0 ≤ p → p < zone_end zone → Contains (numbers view.now.zones.now) p }
     requires table { HasTable view.now.frames.now view.now.table (top view.now.zones.now) }
-    ensures { result ≡ length (filter (saveable_by_entry view.now.table view.now.frames.now) (range_with_len zone.0 zone.1)) }
+    ensures { result ≡ length (filter (saveable_by_entry view.now.table view.now.frames.now)
+        (range_with_len zone.0 zone.1)) }
 {
     let (start, count) = zone;
     let mut saved = 0;
@@ -97,8 +101,10 @@ fn drop_in_zone(
 ) -> u32
     requires zone { IsZone zone }
     requires table { HasTable frames.old table (zone_end zone) }
-    ensures frames { frames.new ≡ with_entries frames.old table (take most (filter (may_drop keep.now table frames.old) (range_with_len zone.0 zone.1))) 1 }
-    ensures dropped { result ≡ length (take most (filter (may_drop keep.now table frames.old) (range_with_len zone.0 zone.1))) }
+    ensures frames { frames.new ≡ with_entries frames.old table
+        (take most (filter (may_drop keep.now table frames.old) (range_with_len zone.0 zone.1))) 1 }
+    ensures dropped { result ≡ length
+        (take most (filter (may_drop keep.now table frames.old) (range_with_len zone.0 zone.1))) }
     ensures len { length frames.new ≡ length frames.old }
 {
     // Each page frame has 4096 bytes, so that an entry that is set leaves the others.

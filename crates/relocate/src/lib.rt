@@ -1,5 +1,6 @@
-//! Pages moved over each other: the order of the moves, and their performance (the restore list of kernel/power/snapshot.c).
-//! On resume the saved pages wait wherever the loader has room, often in page frames that other saved pages must go to.
+//! Pages moved over each other: the order of the moves, and their performance (the restore list of
+//! kernel/power/snapshot.c). On resume the saved pages wait wherever the loader has room, often in page frames that
+//! other saved pages must go to.
 #![tactic(auto)]
 
 ghost use Rattle.std.specs.Prelude.{◌≡◌, ◌≢◌, ℕ, ◌+◌, ◌*◌, ◌<◌, ◌≤◌, ◌∷◌, [], true, List, length, take, IfOk, Contains};
@@ -66,7 +67,8 @@ pub fn sequence(placement: &Placement, work: &mut Work, frames: &mut Frames, lis
     ensures list { list.new ≡ record list.old { len = length (order_of placement.now) } }
     ensures others { (p : ℕ) → (Contains placement.now.list p → ⊥) → frame frames.new p ≡ frame frames.old p }
     // The moves at once, as `execute` makes them, bring the pages from before the call.
-    ensures moves { (p : ℕ) → (Contains placement.now.list p → ⊥) → frame (assigned frames.new placement.now.moves) p ≡ frame (assigned frames.old placement.now.moves) p }
+    ensures moves { (p : ℕ) → (Contains placement.now.list p → ⊥) →
+        frame (assigned frames.new placement.now.moves) p ≡ frame (assigned frames.old placement.now.moves) p }
     ensures size { length frames.new ≡ length frames.old }
     ensures work { work.new ≡ work.old }
 {
@@ -78,12 +80,15 @@ pub fn sequence(placement: &Placement, work: &mut Work, frames: &mut Frames, lis
 /// Moves the pages of a restore list, run by run. Each page that is copied is a step.
 pub fn execute<L: Ledger>(frames: &mut Frames, list: &RestoreList, steps: &mut Steps<L>)
     requires { IsReady frames.old list.now }
-    ensures performed { (entries : List Entry) → LiesIn frames.old list.now entries → frames.new ≡ performed frames.old entries }
+    ensures performed { (entries : List Entry) → LiesIn frames.old list.now entries →
+        frames.new ≡ performed frames.old entries }
     ensures relocates { Relocates frames.old frames.new list.now }
     ensures list { (p : ℕ) → Contains list.now.frames p → frame frames.new p ≡ frame frames.old p }
     ensures size { length frames.new ≡ length frames.old }
-    ensures steps { (entries : List Entry) → LiesIn frames.old list.now entries → steps.new ≡ steps.old + steps_of entries }
-    ensures most { (p : Placed) → IsPlacement p → LiesIn frames.old list.now (order_of p) → steps.new ≤ steps.old + most_steps p }
+    ensures steps { (entries : List Entry) → LiesIn frames.old list.now entries →
+        steps.new ≡ steps.old + steps_of entries }
+    ensures most { (p : Placed) → IsPlacement p → LiesIn frames.old list.now (order_of p) →
+        steps.new ≤ steps.old + most_steps p }
 {
     for j in 0..list.len() {
         let (from, to, count) = list.entry(frames, j);

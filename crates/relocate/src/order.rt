@@ -1,5 +1,7 @@
-ghost use Rattle.std.specs.Prelude.{◌≡◌, ℕ, ◌+◌, ◌*◌, ◌<◌, ◌≤◌, ◌++◌, ◌∷◌, [], List, length, take, IfOk, IfSome, IfNone, None, slice_index_or};
-ghost use Rattle.definitions.specs.Moves.{Pass, Move, without_target, pass_over, paths_over, cycles_over, ascending, descending, with_bounce, sequence};
+ghost use Rattle.std.specs.Prelude.{◌≡◌, ℕ, ◌+◌, ◌*◌, ◌<◌, ◌≤◌, ◌++◌, ◌∷◌, [], List, length, take, IfOk, IfSome};
+ghost use Rattle.std.specs.Prelude.{IfNone, None, slice_index_or};
+ghost use Rattle.definitions.specs.Moves.{Pass, Move, without_target, pass_over, paths_over, cycles_over, ascending};
+ghost use Rattle.definitions.specs.Moves.{descending, with_bounce, sequence};
 ghost use Rattle.relocate.specs.Pending.{IsMovable, begun};
 
 use page_core::NoMemory;
@@ -85,7 +87,8 @@ impl Order {
         }
     }
 
-    /// From the highest target to the lowest: puts each pending move in order that overwrites no page which is to be moved.
+    /// From the highest target to the lowest: puts each pending move in order that overwrites no page which is to be
+    /// moved.
     fn descend(&mut self)
         requires pass { HasPass self.old }
         requires room { HasRoom self.old }
@@ -191,7 +194,10 @@ impl Order {
     fn emit(&mut self, from: u32, to: u32)
         requires pass { HasPass self.old }
         requires room { self.old.len < length self.old.moves.items }
-        ensures follows { Follows self.old self.new (λ pass. record pass { emitted = pass.emitted ++ (from, to) ∷ [] }) }
+        ensures follows { Follows self.old self.new (λ pass. record pass {
+          emitted = pass.emitted ++ (from, to)
+              ∷ [];
+        }) }
         ensures len { self.new.len ≡ self.old.len + 1 }
         ensures pending { self.new.pending ≡ self.old.pending }
     {
@@ -203,7 +209,8 @@ impl Order {
     fn take(&mut self, target: u32) -> Option<u32>
         requires pass { HasPass self.old }
         requires within { target < self.old.top }
-        ensures follows { Follows self.old self.new (λ pass. record pass { pending = without_target pass.pending target }) }
+        ensures follows { Follows self.old self.new
+            (λ pass. record pass { pending = without_target pass.pending target }) }
         ensures source { result ≡ slice_index_or self.old.sources.items target None }
         ensures len { self.new.len ≡ self.old.len }
         ensures fewer { IfSome result (λ s. (s < self.old.top) × (self.new.pending + 1 ≡ self.old.pending)) }

@@ -10,7 +10,8 @@ use restore_list::RestoreList;
 /// A run of moves: the page of `from + i` goes to `to + i`, for each i below `count`.
 type Run = (u32, u32, u32);
 
-/// Writes moves, in their order, into an empty restore list. A move is joined to the run before it where it continues that.
+/// Writes moves, in their order, into an empty restore list. A move is joined to the run before it where it continues
+/// that.
 pub(crate) fn write_runs(
     moves: &[(u32, u32)],
     bounce: u32,

@@ -26,14 +26,17 @@ listed_marks h v = marked_in h v (info_in h v).image_pages
 abbrev pub data_before : Hardware → disk.DiskImage → ℕ → ℕ
 data_before h v t = pages_read t - 1 - meta_in h v
 
--- The page frames with data pages are those that are listed without a mark, as the reader says it and as the pages wait.
+-- The page frames with data pages are those that are listed without a mark, as the reader says it and as the pages
+-- wait.
 abbrev pub ReadsWithData : Type 0
 ReadsWithData =
-    (h : Hardware) (v : disk.DiskImage) → IsStrictlyIncreasing (listed_frames h v) → taking.with_data (listed_frames h v) (listed_marks h v) ≡ data_frames h v
+    (h : Hardware) (v : disk.DiskImage) → IsStrictlyIncreasing (listed_frames h v) →
+    taking.with_data (listed_frames h v) (listed_marks h v) ≡ data_frames h v
 
 abbrev pub WaitsWithData : Type 0
 WaitsWithData =
-    (h : Hardware) (v : disk.DiskImage) → IsStrictlyIncreasing (listed_frames h v) → waiting.with_data (listed_frames h v) (listed_marks h v) ≡ data_frames h v
+    (h : Hardware) (v : disk.DiskImage) → IsStrictlyIncreasing (listed_frames h v) →
+    waiting.with_data (listed_frames h v) (listed_marks h v) ≡ data_frames h v
 
 -- once the numbers are listed, the reader's sets are the image's
 pub record AreListed (h : Hardware) (v : disk.DiskImage) (n : ℕ) (origs zeros : List ℕ) : Type 0 where
@@ -45,7 +48,8 @@ pub record AreListed (h : Hardware) (v : disk.DiskImage) (n : ℕ) (origs zeros 
 
 abbrev pub ListedSets : Type 0
 ListedSets =
-    (h : Hardware) (v : disk.DiskImage) (check : IdentCheck) (r : Reading) (t n : ℕ) (origs zeros : List ℕ) → HasReadPlaces h v check r t origs zeros →
+    (h : Hardware) (v : disk.DiskImage) (check : IdentCheck) (r : Reading) (t n : ℕ) (origs zeros : List ℕ) →
+    HasReadPlaces h v check r t origs zeros →
     r.listed ≡ Some n → AreListed h v n origs zeros
 
 abbrev pub DataCount : Type 0
@@ -64,7 +68,8 @@ NextPage = (h : Hardware) (v : disk.DiskImage) (t p : ℕ) → frame_at h v (pla
 -- a place that was read and is no data page's
 abbrev pub NoPage : Type 0
 NoPage =
-    (h : Hardware) (v : disk.DiskImage) (check : IdentCheck) (r : Reading) (t : ℕ) (origs zeros : List ℕ) → HasReadPlaces h v check r (t + 1) origs zeros →
+    (h : Hardware) (v : disk.DiskImage) (check : IdentCheck) (r : Reading) (t : ℕ) (origs zeros : List ℕ) →
+    HasReadPlaces h v check r (t + 1) origs zeros →
     frame_at h v (place t) ≡ None → data_before h v (t + 1) ≡ data_before h v t
 
 -- until all numbers are read there is no data page, and at the end all of them are read
@@ -73,17 +78,20 @@ NoneBefore = (h : Hardware) (v : disk.DiskImage) (t : ℕ) → told h v (pages_r
 
 abbrev pub AllRead : Type 0
 AllRead =
-    (h : Hardware) (v : disk.DiskImage) (check : IdentCheck) (r : Reading) (t : ℕ) (origs zeros : List ℕ) → HasReadPlaces h v check r t origs zeros →
+    (h : Hardware) (v : disk.DiskImage) (check : IdentCheck) (r : Reading) (t : ℕ) (origs zeros : List ℕ) →
+    HasReadPlaces h v check r t origs zeros →
     1 ≤ pages_read t → t ≡ place_count (info_in h v).pages → data_before h v t ≡ length (data_frames h v)
 
 -- Over a disk that holds an image of the machine: how many of its pages with data are read, and which.
 abbrev pub OwnRead : Type 0
 OwnRead =
-    (h : Hardware) (v : disk.DiskImage) (i : Image) (t : ℕ) → Holds h v i → IsSayable i → data_read i (4 + t) ≡ data_before h v t
+    (h : Hardware) (v : disk.DiskImage) (i : Image) (t : ℕ) → Holds h v i → IsSayable i →
+    data_read i (4 + t) ≡ data_before h v t
 
 abbrev pub OwnFrames : Type 0
 OwnFrames =
-    (h : Hardware) (v : disk.DiskImage) (i : Image) → Holds h v i → IsSayable i → data_frames h v ≡ map (λ saved. saved.0) (with_data i)
+    (h : Hardware) (v : disk.DiskImage) (i : Image) → Holds h v i → IsSayable i →
+    data_frames h v ≡ map (λ saved. saved.0) (with_data i)
 
 abbrev pub OwnPages : Type 0
 OwnPages =

@@ -20,5 +20,7 @@ RoomSuffices =
 
 abbrev pub RoomFails : Type 0
 RoomFails =
-    (h : Hardware) (dump : Memory) (v : disk.DiskImage) (loader : Loader) → length (left_free h dump loader) < need_for (d_in h v) →
-    room_cause h dump v loader ≡ Some (reply.TooFewLoaderFrames (length (left_free h dump loader)) (need_for (d_in h v)))
+    (h : Hardware) (dump : Memory) (v : disk.DiskImage) (loader : Loader) →
+    length (left_free h dump loader) < need_for (d_in h v) →
+    room_cause h dump v loader ≡ Some
+    (reply.TooFewLoaderFrames (length (left_free h dump loader)) (need_for (d_in h v)))

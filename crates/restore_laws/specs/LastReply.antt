@@ -19,41 +19,54 @@ use Rattle.sig_header.specs.declared.area.AreaKind.TheVariants.{Swap}
 -- it has resumed, unless the restored tables are at fault
 abbrev pub LastResumed : Type 0
 LastResumed =
-    (h : Hardware) (dump : Memory) (v : disk.DiskImage) (ranges : Ranges) → tables_cause h v (restored_in h dump v (loaders.Ranges ranges)) ≡ None →
+    (h : Hardware) (dump : Memory) (v : disk.DiskImage) (ranges : Ranges) →
+    tables_cause h v (restored_in h dump v (loaders.Ranges ranges)) ≡ None →
     last_reply h dump v (loaders.Ranges ranges) ≡ reply.Resumed (info_in h v).image_pages
 
 abbrev pub LastRefused : Type 0
 LastRefused =
-    (h : Hardware) (dump : Memory) (v : disk.DiskImage) (ranges : Ranges) (r : Reply) → tables_cause h v (restored_in h dump v (loaders.Ranges ranges)) ≡ Some r →
+    (h : Hardware) (dump : Memory) (v : disk.DiskImage) (ranges : Ranges) (r : Reply) →
+    tables_cause h v (restored_in h dump v (loaders.Ranges ranges)) ≡ Some r →
     last_reply h dump v (loaders.Ranges ranges) ≡ r
 
 -- The tables are at fault in themselves, or don't fit the area: then its first page frame is named.
 abbrev pub TableAtFault : Type 0
-TableAtFault = (h : Hardware) (v : disk.DiskImage) (m : Memory) (f : ℕ) → tables_fault h m ≡ Some f → tables_cause h v m ≡ Some (reply.BadTables f)
+TableAtFault =
+    (h : Hardware) (v : disk.DiskImage) (m : Memory) (f : ℕ) → tables_fault h m ≡ Some f →
+    tables_cause h v m ≡ Some (reply.BadTables f)
 
 abbrev pub TablesFit : Type 0
-TablesFit = (h : Hardware) (v : disk.DiskImage) (m : Memory) → tables_fault h m ≡ None → dump_area_fault h v m ≡ None → tables_cause h v m ≡ None
+TablesFit =
+    (h : Hardware) (v : disk.DiskImage) (m : Memory) → tables_fault h m ≡ None → dump_area_fault h v m ≡ None →
+    tables_cause h v m ≡ None
 
 abbrev pub AreaMisfits : Type 0
 AreaMisfits =
-    (h : Hardware) (v : disk.DiskImage) (m : Memory) (why : NoSwap) → tables_fault h m ≡ None → dump_area_fault h v m ≡ Some why →
+    (h : Hardware) (v : disk.DiskImage) (m : Memory) (why : NoSwap) → tables_fault h m ≡ None →
+    dump_area_fault h v m ≡ Some why →
     tables_cause h v m ≡ Some (reply.BadTables h.slot_table)
 
 -- a usable area fits a memory just where its bad slots are bad in the slot table
 abbrev pub AreaFits : Type 0
 AreaFits =
-    (h : Hardware) (v : disk.DiskImage) (m : Memory) (area : Area) → area_fault h v ≡ None → area_kind (area_block h v) ≡ Swap area →
+    (h : Hardware) (v : disk.DiskImage) (m : Memory) (area : Area) → area_fault h v ≡ None →
+    area_kind (area_block h v) ≡ Swap area →
     (dump_area_fault h v m ≡ None) ↔ (has_bad_slots_of h m area ≡ true)
 
 abbrev pub BadSetDiffers : Type 0
 BadSetDiffers =
-    (h : Hardware) (v : disk.DiskImage) (m : Memory) (area : Area) → area_fault h v ≡ None → area_kind (area_block h v) ≡ Swap area →
+    (h : Hardware) (v : disk.DiskImage) (m : Memory) (area : Area) → area_fault h v ≡ None →
+    area_kind (area_block h v) ≡ Swap area →
     has_bad_slots_of h m area ≡ false → dump_area_fault h v m ≡ Some no_swap.BadSet
 
 -- one that can't be used fits none
 abbrev pub AreaUnusable : Type 0
-AreaUnusable = (h : Hardware) (v : disk.DiskImage) (m : Memory) (why : NoSwap) → area_fault h v ≡ Some why → dump_area_fault h v m ≡ Some why
+AreaUnusable =
+    (h : Hardware) (v : disk.DiskImage) (m : Memory) (why : NoSwap) → area_fault h v ≡ Some why →
+    dump_area_fault h v m ≡ Some why
 
 -- tables without a fault are well formed
 abbrev pub SoundTablesFit : Type 0
-SoundTablesFit = (h : Hardware) (m : Memory) → IsHardware h → All IsPage m → length m ≡ top h.zones → tables_fault h m ≡ None → Fits h m
+SoundTablesFit =
+    (h : Hardware) (m : Memory) → IsHardware h → All IsPage m → length m ≡ top h.zones → tables_fault h m ≡ None →
+    Fits h m

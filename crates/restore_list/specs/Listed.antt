@@ -1,6 +1,7 @@
 -- The restore list (struct pbe, kernel/power/snapshot.c) as it lies in the list frames: in each frame the number of the
 -- next list frame, then up to 170 entries.
-use Rattle.std.specs.Prelude.{◌≡◌, ◌≤◌, ◌<◌, ℕ, ◌+◌, ◌-◌, ◌*◌, ◌^◌, List, [], ◌∷◌, length, take, drop, flat_map, nat_eq, nat_lt, slice_index, if◌then◌else◌, All}
+use Rattle.std.specs.Prelude.{◌≡◌, ◌≤◌, ◌<◌, ℕ, ◌+◌, ◌-◌, ◌*◌, ◌^◌, List, [], ◌∷◌, length, take, drop, flat_map, nat_eq}
+use Rattle.std.specs.Prelude.{nat_lt, slice_index, if◌then◌else◌, All}
 use Rattle.std.specs.List.{IsDistinct}
 use Rattle.definitions.specs.Moves.{Entry}
 use Rattle.definitions.specs.NumberPages.{page_of_words}
@@ -43,4 +44,5 @@ pub record LiesIn (memory : List (List ℕ)) (listed : Listed) (entries : List E
   pub len : listed.len ≡ length entries
   pub room : length entries ≤ 170 * length listed.frames
   pub fits : All IsEntry entries
-  pub pages : (i : ℕ) → i < length listed.frames → frame memory (slice_index listed.frames i) ≡ list_page (next_frame listed.frames i) (part entries i)
+  pub pages : (i : ℕ) → i < length listed.frames →
+      frame memory (slice_index listed.frames i) ≡ list_page (next_frame listed.frames i) (part entries i)

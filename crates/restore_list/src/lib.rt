@@ -2,7 +2,8 @@
 //! (struct pbe, kernel/power/snapshot.c).
 #![tactic(auto)]
 
-ghost use Rattle.std.specs.Prelude.{◌≡◌, ℕ, ◌+◌, ◌*◌, ◌/◌, ◌%◌, ◌<◌, ◌≤◌, List, [], ◌∷◌, ◌++◌, true, All, Some, length, slice_get, slice_index, Contains};
+ghost use Rattle.std.specs.Prelude.{◌≡◌, ℕ, ◌+◌, ◌*◌, ◌/◌, ◌%◌, ◌<◌, ◌≤◌, List, [], ◌∷◌, ◌++◌, true, All, Some, length};
+ghost use Rattle.std.specs.Prelude.{slice_get, slice_index, Contains};
 ghost use Rattle.definitions.specs.Moves.{Entry};
 ghost use Rattle.definitions.specs.Tables.{frame};
 ghost use Rattle.definitions.specs.Zones.{top};
@@ -18,8 +19,8 @@ const ENTRIES: u32 = 170;
 /// The word of the last list frame that names no next one.
 const END: u64 = u64::MAX;
 
-/// A restore list in the list frames of a placement. An entry is a run (from, to, count): the pages of `count` page frames
-/// from `from` on are to be copied to those from `to` on.
+/// A restore list in the list frames of a placement. An entry is a run (from, to, count): the pages of `count` page
+/// frames from `from` on are to be copied to those from `to` on.
 #[derive(Drop)]
 pub struct RestoreList<'a> {
     frames: &'a [u32],
@@ -64,7 +65,8 @@ impl<'a> RestoreList<'a> {
         requires within { All (λ p. p < length frames.old) self.old.frames }
         requires room { self.old.len < 170 * length self.old.frames }
         ensures list { self.new ≡ record self.old { len = self.old.len + 1 } }
-        ensures pushed { (entries : List Entry) → LiesIn frames.old self.old entries → LiesIn frames.new self.new (entries ++ (from, to, count) ∷ []) }
+        ensures pushed { (entries : List Entry) → LiesIn frames.old self.old entries →
+            LiesIn frames.new self.new (entries ++ (from, to, count) ∷ []) }
         ensures others { (p : ℕ) → (Contains self.old.frames p → ⊥) → frame frames.new p ≡ frame frames.old p }
         ensures size { length frames.new ≡ length frames.old }
     {

@@ -106,7 +106,7 @@ no_want_at h dump v loader t apart = elim (eqb_tells (t % 512) 0) [
   | inr is ↦ ap (want_cause h dump v loader) (at_page t is.1) ∙ cond-false (eqb (pages_read t) (meta_in h v)) (room_cause h dump v loader) None (ne_eqb (pages_read t) (meta_in h v) (apart is.1))
 ]
 
--- not behind the last number page,
+-- not after the last number page,
 pub no_want_after : (h : Hardware) (dump : Memory) (v : disk.DiskImage) (loader : Loader) (t : ℕ) → told h v (pages_read t) ≡ Some (info_in h v).image_pages → want_cause h dump v loader (place t) ≡ None
 no_want_after h dump v loader t e =
     let all = all_read h v (pages_read t) e in

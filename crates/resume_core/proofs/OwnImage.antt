@@ -27,7 +27,7 @@ zip_take [] (y ∷ ys) = refl
 zip_take (x ∷ xs) [] = refl
 zip_take (x ∷ xs) (y ∷ ys) = ap (λ (zs : List (ℕ × List ℕ)). (x, y) ∷ zs) (zip_take xs ys)
 
--- behind it the pages read are the image's first ones with data
+-- after it the pages read are the image's first ones with data
 pub pages_are : (h : Hardware) (v : disk.DiskImage) (i : Image) (t m : ℕ) → Holds h v i → IsSayable i → m ≡ data_before h v t → m ≤ length (data_frames h v) → zip (data_frames h v) (data_pages h v m) ≡ take (data_read i (4 + t)) (with_data i)
 pages_are h v i t m holds sayable is few =
     let count = ap length (own_frames h v i holds sayable) ∙ length-map (with_data i) (λ (saved : ℕ × List ℕ). saved.0) in

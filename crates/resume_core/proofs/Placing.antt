@@ -1,4 +1,4 @@
--- The rows behind the last number page: the room for the pages to come, and the pages as they come.
+-- The rows after the last number page: the room for the pages to come, and the pages as they come.
 use Rattle.std.proofs.Common.{◌≡◌, ◌<◌, ◌≤◌, ◌⊎◌, inl, inr, ℕ, ◌+◌, ◌-◌, ◌%◌, ◌^◌, List, [], ◌∷◌, ◌++◌, length, map, take, Contains, Option, Some, None, IsSome, IsTrue, is_none, unwrap_or, get_or, slice_get, suc, zero, cond, ltb, eqb, Bool, true, false, refl, sym, ap, ap₂, ◌∙◌, subst, arith}
 use Rattle.std.specs.List.{zip}
 use Rattle.std.proofs.lemmas.Bool.{cases_lt, cond-true, lt-ltb, eq-eqb, false≢true}
@@ -330,7 +330,7 @@ read_on_row machine frames frames' load mid after chain chain' machine' frames''
       subst (λ (x : Hardware). rows.StepsTo x (StandsAfter machine' frames'' load' r (loading l chain.done)) (event.Step actor.Core) r c c (loading l chain.done) led.0) same led.1,
     ))
 
--- the place of a page behind the last number page: it is one with data, of those that the numbers name
+-- the place of a page after the last number page: it is one with data, of those that the numbers name
 pub record IsDataPlace (h : Hardware) (v : disk.DiskImage) (t : ℕ) : Type 0 where
   pub behind : meta_in h v < pages_read t
   pub within : pages_read t - 1 - meta_in h v < length (data_frames h v)
@@ -418,7 +418,7 @@ page_keeps h frames frames' waiting waiting' chain chain' load mid result pfn is
 pub no_page : (result : ReadStep) → ((k : ℕ) × (result ≡ read_step.More k)) ⊎ (result ≡ read_step.Done) → HasNoCause result
 no_page result is = elim is [ inl more ↦ inl more | inr done ↦ inr (inr done) ]
 
--- A refusal before all is listed, or behind the last number page.
+-- A refusal before all is listed, or after the last number page.
 
 first_cause : (a w n : Option Reply) (x r : Reply) → a ≡ Some x → or_else a n ≡ Some r → or_else (or_else a w) n ≡ Some r
 first_cause a w n x r e some = ap (λ (y : Option Reply). or_else (or_else y w) n) e ∙ sym (ap (λ (y : Option Reply). or_else y n) e) ∙ some

@@ -1,4 +1,4 @@
--- The rows of the header block taken back, and of the sync behind it.
+-- The rows of the header block taken back, and of the sync after it.
 use Rattle.std.proofs.Common.{◌≡◌, ℕ, inl, List, [], Option, Some, None, unwrap_or, refl, sym, ap, ◌∙◌, subst, arith}
 use Rattle.definitions.specs.Disk as disk
 use Rattle.definitions.specs.SwapHeader.{taken_back}

@@ -1,5 +1,6 @@
 -- What a header block says of an image, and what a reader of its chain begins with.
-use Rattle.std.specs.Prelude.{◌≡◌, [], ℕ, ◌==◌, ◌&&◌, not, nat_eq, List, Option, Some, None, Result, MatchResult, if◌then◌else◌}
+use Rattle.std.specs.Prelude.{◌≡◌, [], ℕ, ◌==◌, ◌&&◌, not, nat_eq, List, Option, Some, None, Result, MatchResult}
+use Rattle.std.specs.Prelude.{if◌then◌else◌}
 use Rattle.std.specs.Cmp.Lexicographic.{pointwise}
 use Rattle.definitions.specs.Disk as disk
 use Rattle.definitions.specs.SwapHeader.{sig_of, flags_of, image_signature}
@@ -32,10 +33,13 @@ mark_in (Swap area) = None
 
 -- why an image that has this mark isn't read further: it was made under another signature than the machine's
 abbrev pub signature_fault : Hardware → Mark → Option Reply
-signature_fault h mark = if is_set mark.flags 8 && not (mark.hw_sig == h.hw_sig) then Some (reply.HwMismatch mark.hw_sig h.hw_sig) else None
+signature_fault h mark =
+    if is_set mark.flags 8 && not (mark.hw_sig == h.hw_sig) then Some (reply.HwMismatch mark.hw_sig h.hw_sig) else None
 
--- A reader of the chain that a mark names, or why there is none, over each disk of so many blocks whose header has that mark.
+-- A reader of the chain that a mark names, or why there is none, over each disk of so many blocks whose header has that
+-- mark.
 abbrev pub Opens : Hardware → ℕ → Mark → Result Reading Reply → Type 0
 Opens h blocks mark result =
     (v : disk.DiskImage) → mark ≡ mark_of (header_of h v) → blocks ≡ blocks_of v →
-    MatchResult result (λ r. (taken_back_cause h v ≡ None) × ((check : IdentCheck) → HasReadPlaces h v check r 0 [] [])) (λ why. taken_back_cause h v ≡ Some why)
+    MatchResult result (λ r. (taken_back_cause h v ≡ None)
+    × ((check : IdentCheck) → HasReadPlaces h v check r 0 [] [])) (λ why. taken_back_cause h v ≡ Some why)

@@ -53,7 +53,8 @@ activity_told loader (reply.Loading k) = loads k
 activity_told loader (reply.Resumed n) = activity_resumed loader
 activity_told loader _ = rests
 
--- What the second step of a resume says of an image on the disk v: it is there, or it isn't. Where the disk failed it says nothing.
+-- What the second step of a resume says of an image on the disk v: it is there, or it isn't. Where the disk failed it
+-- says nothing.
 abbrev pub FindsMark : Hardware → Reply → disk.DiskImage → Type 0
 FindsMark h (reply.Loading k) v = Marked h v
 FindsMark h (reply.Compressed flags) v = Marked h v

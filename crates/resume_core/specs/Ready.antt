@@ -56,7 +56,8 @@ NoneListed load = (load.origs.members ≡ []) × (load.zeros.members ≡ [])
 abbrev pub IsUsable : Machine → Type 0
 IsUsable machine = IfOk machine.area (λ area. fit_fault machine.hw machine.blocks area ≡ None)
 
--- what a machine has that runs on after a resume: its tables are nobody's, nothing is held, and no task has an unfinished operation
+-- what a machine has that runs on after a resume: its tables are nobody's, nothing is held, and no task has an
+-- unfinished operation
 pub record RunsOn (machine : Machine) (frames : Memory) (runs : SlotRuns) : Type 0 where
   pub area : IsOk machine.area
   pub usable : IsUsable machine
@@ -65,19 +66,23 @@ pub record RunsOn (machine : Machine) (frames : Memory) (runs : SlotRuns) : Type
   pub reserved : AreReserved machine.hw frames
   pub idle : (t : ℕ) → flights_in machine.flights t ≡ None
 
--- what the step that is next needs, and what is there behind the last one
+-- what the step that is next needs, and what is there after the last one
 abbrev pub CanMake : Stage → Machine → Memory → SlotRuns → Load → Type 0
 CanMake stage.Runs machine frames runs load = RunsOn machine frames runs
 CanMake stage.Rest machine frames runs load = ⊤
 CanMake stage.Sync machine frames runs load = NoneListed load
 CanMake stage.Find machine frames runs load = NoneListed load
-CanMake (stage.TakeBack found) machine frames runs load = (block_of_slot machine.hw 0 < machine.blocks) × NoneListed load
+CanMake (stage.TakeBack found) machine frames runs load =
+    (block_of_slot machine.hw 0 < machine.blocks) × NoneListed load
 CanMake (stage.SyncBack found) machine frames runs load = NoneListed load
-CanMake (stage.List chain) machine frames runs load = CanRead machine.blocks chain.reader load.origs.members load.zeros.members × (4 ≤ chain.done)
+CanMake (stage.List chain) machine frames runs load =
+    CanRead machine.blocks chain.reader load.origs.members load.zeros.members × (4 ≤ chain.done)
 CanMake (stage.Read chain) machine frames runs load =
-    CanRead machine.blocks chain.reader load.origs.members load.zeros.members × (4 ≤ chain.done) × (load.waiting.placement.ready ≡ true)
+    CanRead machine.blocks chain.reader load.origs.members load.zeros.members × (4 ≤ chain.done)
+    × (load.waiting.placement.ready ≡ true)
 
--- A resume over this machine: memory has its page frames, the runs have room for its slots, and the sets are over its zones.
+-- A resume over this machine: memory has its page frames, the runs have room for its slots, and the sets are over its
+-- zones.
 pub record IsOverMachine (machine : Machine) (frames : Memory) (runs : SlotRuns) (load : Load) : Type 0 where
   pub hardware : IsHardware machine.hw
   pub few : machine.blocks < 2 ^ 32

@@ -10,7 +10,7 @@ use Rattle.image_read.specs.declared.cause.Cause.{Cause}
 abbrev pub room_refusal : ℕ → ℕ → Option Reply
 room_refusal have d = if nat_lt have (need_for d) then Some (reply.TooFewLoaderFrames have (need_for d)) else None
 
--- where the block behind is at fault, too: behind the last number page the room comes first
+-- where the block after is at fault, too: after the last number page the room comes first
 abbrev pub refusal_behind : Option ℕ → ℕ → ℕ → Cause → Reply
 refusal_behind None have d cause = reply_of cause
 refusal_behind (Some n) have d cause = unwrap_or (room_refusal have d) (reply_of cause)

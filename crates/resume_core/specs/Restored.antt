@@ -1,4 +1,5 @@
--- The memory that a resume restores, by the image that it found (swsusp_arch_resume, and the copy list of kernel/power/snapshot.c).
+-- The memory that a resume restores, by the image that it found (swsusp_arch_resume, and the copy list of
+-- kernel/power/snapshot.c).
 use Rattle.std.specs.Prelude.{[]}
 use Rattle.plain_machine.specs.Machine.{Hardware, Memory}
 use Rattle.plain_machine.specs.Loader.{restored}

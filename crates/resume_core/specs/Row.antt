@@ -14,7 +14,8 @@ use Rattle.plain_machine.specs.Chain.{header_of, blocks_of}
 use Rattle.plain_machine.specs.Loader.{left_free, loader_frame}
 use Rattle.plain_machine.specs.UsableArea.{area_block}
 use Rattle.plain_machine.specs.Shows.{WorldView}
-use Rattle.plain_machine.specs.State.{State, off, on, booting, hibernating, undoing, settling, waking, loading, asleep, Held, Load as Resume}
+use Rattle.plain_machine.specs.State.{State, off, on, booting, hibernating, undoing, settling, waking, loading, asleep}
+use Rattle.plain_machine.specs.State.{Held, Load as Resume}
 use Rattle.plain_machine.specs.Stands.{Stands}
 use Rattle.plain_machine.specs.Trace.{info_in, place_count, header_cause, want_cause, place, data_frames, data_pages}
 use Rattle.plain_machine.specs.declared.event.Event.{Event}
@@ -61,14 +62,17 @@ swap_area (Other sig) = None
 swap_area (BadArea why) = None
 swap_area (Swap area) = Some area
 
--- The image was found on the disk v, and the disk with this content reads like it but for block(0), which taken back says the same area.
-pub record HasFound (machine : Machine) (header : List ℕ) (c : disk.Content) (l : Resume) (v : disk.DiskImage) : Type 0 where
+-- The image was found on the disk v, and the disk with this content reads like it but for block(0), which taken back
+-- says the same area.
+pub record HasFound (machine : Machine) (header : List ℕ) (c : disk.Content) (l : Resume)
+    (v : disk.DiskImage) : Type 0 where
   pub found : IsFoundIn machine.hw l v
   pub uncaused : header_cause machine.hw v ≡ None
   pub is_header : header ≡ header_of machine.hw v
   pub reads : Reads machine.hw v (Some c)
   pub blocks : blocks_of v ≡ machine.blocks
-  pub area : swap_area (area_kind (area_block machine.hw (disk.as_it_reads c))) ≡ swap_area (area_kind (taken_back header))
+  pub area : swap_area (area_kind (area_block machine.hw (disk.as_it_reads c))) ≡ swap_area
+      (area_kind (taken_back header))
 
 -- The reader has read the first t places of the disk v.
 abbrev pub HasReader : Hardware → disk.DiskImage → Reading → Load → ℕ → Type 0
@@ -88,7 +92,8 @@ NoneWaits load = load.waiting.originals ≡ []
 -- the image was found, and nothing of it is read
 abbrev pub KnowsHeader : Machine → Load → FoundHeader → disk.Content → Resume → ℕ → Type 0
 KnowsHeader machine load found c l k =
-    (v : disk.DiskImage) × HasFound machine found.header c l v × HaveGoneOn machine.hw l v k × (load.origs.members ≡ []) × (load.zeros.members ≡ []) × NoneWaits load
+    (v : disk.DiskImage) × HasFound machine found.header c l v × HaveGoneOn machine.hw l v k × (load.origs.members ≡ [])
+    × (load.zeros.members ≡ []) × NoneWaits load
     × (found.mark ≡ mark_of (header_of machine.hw v))
 
 -- what is known by the step that is next: what was found, and how far it is read
@@ -96,15 +101,19 @@ abbrev pub KnowsAt : Stage → Machine → Memory → Load → disk.Content → 
 KnowsAt (stage.TakeBack found) machine frames load c l k = KnowsHeader machine load found c l k
 KnowsAt (stage.SyncBack found) machine frames load c l k = KnowsHeader machine load found c l k
 KnowsAt (stage.List chain) machine frames load c l k =
-    (v : disk.DiskImage) × HasFound machine chain.header c l v × HaveGoneOn machine.hw l v k × (k < 4 + place_count (info_in machine.hw v).pages)
-    × HasReader machine.hw v chain.reader load (k - 4) × (told machine.hw v (pages_read (k - 4)) ≡ None) × NoneWaits load
+    (v : disk.DiskImage) × HasFound machine chain.header c l v × HaveGoneOn machine.hw l v k
+    × (k < 4 + place_count (info_in machine.hw v).pages)
+    × HasReader machine.hw v chain.reader load (k - 4) × (told machine.hw v (pages_read (k - 4)) ≡ None)
+    × NoneWaits load
 KnowsAt (stage.Read chain) machine frames load c l k =
-    (v : disk.DiskImage) × HasFound machine chain.header c l v × HaveGoneOn machine.hw l v k × (k < 4 + place_count (info_in machine.hw v).pages)
+    (v : disk.DiskImage) × HasFound machine chain.header c l v × HaveGoneOn machine.hw l v k
+    × (k < 4 + place_count (info_in machine.hw v).pages)
     × HasReader machine.hw v chain.reader load (k - 4) × HavePlaces machine.hw v frames load.waiting (k - 4)
 KnowsAt _ machine frames load c l k = (load.origs.members ≡ []) × (load.zeros.members ≡ []) × NoneWaits load
 
 -- The resume is the one that a state is at. (Loader and check are shown.)
-pub record IsOf (machine : Machine) (frames : Memory) (load : Load) (c : disk.Content) (l : Resume) (k : ℕ) : Type 0 where
+pub record IsOf (machine : Machine) (frames : Memory) (load : Load) (c : disk.Content) (l : Resume)
+    (k : ℕ) : Type 0 where
   pub free : load.waiting.free ≡ left_free machine.hw l.dump l.loader
   pub knows : KnowsAt load.stage machine frames load c l k
 
@@ -126,7 +135,9 @@ pub record StandsFor (machine : Machine) (frames : Memory) (load : Load) (c : di
 
 -- a machine that runs has the area that the header block says
 abbrev pub RunsOverArea : Machine → disk.Content → State → Type 0
-RunsOverArea machine c (on a) = (area : Area) × (machine.area ≡ Ok area) × (swap_area (area_kind (area_block machine.hw (disk.as_it_reads c))) ≡ Some area)
+RunsOverArea machine c (on a) =
+    (area : Area) × (machine.area ≡ Ok area)
+    × (swap_area (area_kind (area_block machine.hw (disk.as_it_reads c))) ≡ Some area)
 RunsOverArea machine c (off held kept) = ⊤
 RunsOverArea machine c (booting from dump held k) = ⊤
 RunsOverArea machine c (hibernating suspends i a k) = ⊤
@@ -136,8 +147,8 @@ RunsOverArea machine c (waking i held a k) = ⊤
 RunsOverArea machine c (loading load k) = ⊤
 RunsOverArea machine c (asleep i held a) = ⊤
 
--- A resume that has ended leaves just Restored, free page frames too, after either loader; and after a scripted one the area that
--- the header block says.
+-- A resume that has ended leaves just Restored, free page frames too, after either loader; and after a scripted one the
+-- area that the header block says.
 pub record HasResumed (machine : Machine) (frames : Memory) (c : disk.Content) (l : Resume) (b : State) : Type 0 where
   pub memory : frames ≡ restored_by machine.hw l
   pub area : RunsOverArea machine c b
@@ -146,9 +157,10 @@ abbrev pub HasEnded : Machine → Memory → disk.Content → Reply → State �
 HasEnded machine frames c (reply.Resumed n) (loading l k) b = HasResumed machine frames c l b
 HasEnded machine frames c _ a b = ⊤
 
--- What a machine shows after this reply to a step of a resume, from state a, and its disk, stand for a state; where the resume has ended
--- memory is as it says.
-pub record StandsAfter (machine : Machine) (frames : Memory) (load : Load) (r : Reply) (a : State) (c : disk.Content) (b : State) : Type 0 where
+-- What a machine shows after this reply to a step of a resume, from state a, and its disk, stand for a state; where the
+-- resume has ended memory is as it says.
+pub record StandsAfter (machine : Machine) (frames : Memory) (load : Load) (r : Reply) (a : State) (c : disk.Content)
+    (b : State) : Type 0 where
   pub stands : Stands machine.hw (shown_by machine frames load) c b
   pub resume : IsOfState machine frames load c b
   pub ended : HasEnded machine frames c r a b
@@ -158,23 +170,29 @@ abbrev pub GoesOn : Machine → Memory → Load → Event → Reply → disk.Con
 GoesOn machine frames load e r c c' a b = rows.StepsTo machine.hw (StandsAfter machine frames load r a) e r c c' a b
 
 -- the row of an event over these contents of the disk, and over a disk that tells its content
-abbrev pub Simulates : Machine → Memory → Load → Machine → Memory → Load → Event → Reply → disk.Content → disk.Content → Type 0
+abbrev pub Simulates : Machine → Memory → Load → Machine → Memory → Load → Event → Reply → disk.Content →
+    disk.Content → Type 0
 Simulates machine frames load machine' frames' load' e r c c' =
-    (a : State) → StandsFor machine frames load c a → (b : State) × rows.StepsTo machine.hw (StandsAfter machine' frames' load' r a) e r c c' a b
+    (a : State) → StandsFor machine frames load c a → (b : State)
+    × rows.StepsTo machine.hw (StandsAfter machine' frames' load' r a) e r c c' a b
 
-abbrev pub SimulatesWhereTold : Machine → Memory → Load → Machine → Memory → Load → Event → Reply → Option disk.Content → Option disk.Content → Type 0
+abbrev pub SimulatesWhereTold : Machine → Memory → Load → Machine → Memory → Load → Event → Reply →
+    Option disk.Content → Option disk.Content → Type 0
 SimulatesWhereTold machine frames load machine' frames' load' e r before now =
-    (c : disk.Content) → before ≡ Some c → (c' : disk.Content) × (now ≡ Some c') × Simulates machine frames load machine' frames' load' e r c c'
+    (c : disk.Content) → before ≡ Some c → (c' : disk.Content) × (now ≡ Some c')
+    × Simulates machine frames load machine' frames' load' e r c c'
 
 -- the row of a begin, from each state of a machine that is off and has the loader's memory
 abbrev pub BeginsRow : Machine → Memory → Memory → Load → Loader → IdentCheck → Reply → Type 0
 BeginsRow machine frames frames' load' loader check r =
-    (shown : WorldView) (c : disk.Content) (held : Held) (kept : Option Memory) → HasLoaderMemory loader frames shown → Stands machine.hw shown c (off held kept) →
+    (shown : WorldView) (c : disk.Content) (held : Held) (kept : Option Memory) → HasLoaderMemory loader frames shown →
+    Stands machine.hw shown c (off held kept) →
     (b : State) × GoesOn machine frames' load' (event.Resume loader check) r c c (off held kept) b
 
--- A block was read at the step behind k others, and neither it nor the block behind it is at fault. What the machine showed before
--- stood for the state.
-pub record HasRead (machine : Machine) (frames : Memory) (load : Load) (chain : OpenChain) (c : disk.Content) (l : Resume) (v : disk.DiskImage) (k : ℕ) : Type 0 where
+-- A block was read at the step after k others, and neither it nor the block after it is at fault. What the machine
+-- showed before stood for the state.
+pub record HasRead (machine : Machine) (frames : Memory) (load : Load) (chain : OpenChain) (c : disk.Content)
+    (l : Resume) (v : disk.DiskImage) (k : ℕ) : Type 0 where
   pub shown : WorldView
   pub whole : disk.IsContent machine.blocks c
   pub reading : load_rows.IsBeforeRead machine.hw shown c l v k
@@ -182,7 +200,8 @@ pub record HasRead (machine : Machine) (frames : Memory) (load : Load) (chain : 
   pub found : HasFound machine chain.header c l v
   pub sound : step_cause machine.hw v l.check (k - 4) ≡ None
   pub read : HasReader machine.hw v chain.reader load (k - 4 + 1)
-  pub kept : (p : ℕ) → p < top machine.hw.zones → (Contains (left_free machine.hw l.dump l.loader) p → ⊥) → frame frames p ≡ loader_frame l.dump l.loader p
+  pub kept : (p : ℕ) → p < top machine.hw.zones → (Contains (left_free machine.hw l.dump l.loader) p → ⊥) →
+      frame frames p ≡ loader_frame l.dump l.loader p
   pub done : chain.done ≡ k
 
 -- where the reply leads, from the state that is at that step
@@ -193,17 +212,21 @@ LeadsOn machine' frames' load' r c l k =
 -- of the page frames that the image names, not all were listed before; the reader tells whether they are now
 abbrev pub ListsOn : Machine → Memory → Load → OpenChain → Machine → Memory → Load → Reply → Type 0
 ListsOn machine frames load chain machine' frames' load' r =
-    (c : disk.Content) (l : Resume) (v : disk.DiskImage) (k : ℕ) → HasRead machine frames load chain c l v k → told machine.hw v (pages_read (k - 4)) ≡ None → NoneWaits load →
+    (c : disk.Content) (l : Resume) (v : disk.DiskImage) (k : ℕ) → HasRead machine frames load chain c l v k →
+    told machine.hw v (pages_read (k - 4)) ≡ None → NoneWaits load →
     LeadsOn machine' frames' load' r c l k
 
 -- all are listed, and the pages read wait; the machine may have had room to test at this step, which it did
 abbrev pub ReadsOn : Machine → Memory → Load → OpenChain → Machine → Memory → Load → Reply → Type 0
 ReadsOn machine frames load chain machine' frames' load' r =
-    (c : disk.Content) (l : Resume) (v : disk.DiskImage) (k : ℕ) → HasRead machine frames load chain c l v k → HavePlaces machine.hw v frames load.waiting (k - 4 + 1) →
+    (c : disk.Content) (l : Resume) (v : disk.DiskImage) (k : ℕ) → HasRead machine frames load chain c l v k →
+    HavePlaces machine.hw v frames load.waiting (k - 4 + 1) →
     want_cause machine.hw l.dump v l.loader (place (k - 4)) ≡ None → LeadsOn machine' frames' load' r c l k
 
 -- at the last step
 abbrev pub EndsOn : Machine → Memory → Load → OpenChain → Machine → Memory → Load → Reply → Type 0
 EndsOn machine frames load chain machine' frames' load' r =
-    (c : disk.Content) (l : Resume) (v : disk.DiskImage) (k : ℕ) → HasRead machine frames load chain c l v k → HavePlaces machine.hw v frames load.waiting (k - 4 + 1) →
-    want_cause machine.hw l.dump v l.loader (place (k - 4)) ≡ None → k - 4 + 1 ≡ place_count (info_in machine.hw v).pages → LeadsOn machine' frames' load' r c l k
+    (c : disk.Content) (l : Resume) (v : disk.DiskImage) (k : ℕ) → HasRead machine frames load chain c l v k →
+    HavePlaces machine.hw v frames load.waiting (k - 4 + 1) →
+    want_cause machine.hw l.dump v l.loader (place (k - 4)) ≡ None →
+    k - 4 + 1 ≡ place_count (info_in machine.hw v).pages → LeadsOn machine' frames' load' r c l k

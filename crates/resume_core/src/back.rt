@@ -40,7 +40,8 @@ impl Load {
         requires ready { CanStep machine.now frames.now runs.now self.old }
         requires blocks { D.block_count disk.old ≡ machine.now.blocks }
         requires stage { takes_back_at self.old.stage }
-        ensures row { SimulatesWhereTold machine.now frames.now self.old machine.now frames.now self.new (event.Step actor.Core) result (D.content disk.old) (D.content disk.new) }
+        ensures row { SimulatesWhereTold machine.now frames.now self.old machine.now frames.now self.new
+            (event.Step actor.Core) result (D.content disk.old) (D.content disk.new) }
         ensures activity { activity_of self.new ≡ activity_told self.old.loader result }
         ensures loader { self.new.loader ≡ self.old.loader }
         ensures works { is_idle result ≡ false }
@@ -73,7 +74,8 @@ impl Load {
         requires ready { CanStep machine.now frames.now runs.now self.old }
         requires blocks { D.block_count disk.old ≡ machine.now.blocks }
         requires stage { syncs_back_at self.old.stage }
-        ensures row { SimulatesWhereTold machine.now frames.now self.old machine.now frames.now self.new (event.Step actor.Core) result (D.content disk.old) (D.content disk.new) }
+        ensures row { SimulatesWhereTold machine.now frames.now self.old machine.now frames.now self.new
+            (event.Step actor.Core) result (D.content disk.old) (D.content disk.new) }
         ensures activity { activity_of self.new ≡ activity_told self.old.loader result }
         ensures loader { self.new.loader ≡ self.old.loader }
         ensures works { is_idle result ≡ false }

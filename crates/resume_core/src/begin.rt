@@ -28,8 +28,8 @@ impl Load {
     ghost use Rattle.resume_core.specs.Ready.{CanBegin, CanStep};
     ghost use Rattle.resume_core.specs.Row.{BeginsRow};
 
-    /// Begins, over a machine that is off. A scripted loader fills each page frame that isn't free to it; a dump's loader is the memory
-    /// that is there.
+    /// Begins, over a machine that is off. A scripted loader fills each page frame that isn't free to it; a dump's
+    /// loader is the memory that is there.
     pub fn begin(
         &mut self,
         machine: &Machine,
@@ -41,7 +41,8 @@ impl Load {
         ensures row { BeginsRow machine.now frames.old frames.new self.new loader check result }
         ensures activity { activity_of self.new ≡ activity_told loader result }
         ensures loader { self.new.loader ≡ loader }
-        ensures ready { (runs : SlotRuns) → machine.now.hw.slots ≤ runs.room → CanStep machine.now frames.new runs self.new }
+        ensures ready { (runs : SlotRuns) → machine.now.hw.slots ≤ runs.room →
+            CanStep machine.now frames.new runs self.new }
         ensures begun { result ≡ reply.Loading 0 }
         ensures no_fault { IsNewFault result → ⊥ }
     {
@@ -63,7 +64,8 @@ impl Load {
 fn make_loader(frames: &mut Frames, set: &mut Bitmap, hw: &Hardware, loader: &Loader)
     requires size { length frames.old ≡ top hw.now.zones }
     requires zones { set.old.zones ≡ hw.now.zones }
-    ensures loader { (p : ℕ) → p < length frames.old → (Contains (left_free hw.now frames.old loader.now) p → ⊥) → frame frames.new p ≡ loader_frame frames.old loader.now p }
+    ensures loader { (p : ℕ) → p < length frames.old → (Contains (left_free hw.now frames.old loader.now) p → ⊥) →
+        frame frames.new p ≡ loader_frame frames.old loader.now p }
     ensures size { length frames.new ≡ length frames.old }
     ensures set { set.new ≡ record set.old { members = left_free hw.now frames.old loader.now } }
     ensures hardware { IsHardware hw.now }
@@ -137,7 +139,10 @@ fn clear_regions(set: &mut Bitmap, hw: &Hardware)
 /// Takes the page frames from `first` to `last`, both included, out of the set.
 fn clear_between(set: &mut Bitmap, first: u32, last: u32)
     requires { IsFrameSet set.old }
-    ensures { set.new ≡ record set.old { members = filter (λ p. not (nat_le first p && nat_le p last)) set.old.members } }
+    ensures { set.new ≡ record set.old {
+      members = filter (λ p. not (nat_le first p
+          && nat_le p last)) set.old.members;
+    } }
 {
     let mut from = first;
     while let Some(p) = set.first_from(from) {
@@ -151,7 +156,8 @@ fn clear_between(set: &mut Bitmap, first: u32, last: u32)
 
 /// Fills each page frame that isn't in the set.
 fn fill_apart(frames: &mut Frames, set: &Bitmap)
-    ensures filled { (p : ℕ) → p < length frames.old → (Contains set.now.members p → ⊥) → frame frames.new p ≡ filled_page 165 }
+    ensures filled { (p : ℕ) → p < length frames.old → (Contains set.now.members p → ⊥) →
+        frame frames.new p ≡ filled_page 165 }
     ensures size { length frames.new ≡ length frames.old }
 {
     for p in 0..frames.len() {

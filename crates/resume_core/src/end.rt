@@ -28,8 +28,9 @@ impl Load {
     ghost use Rattle.resume_core.specs.declared.load.OpenChain.{OpenChain};
     ghost use Rattle.resume_core.specs.Row.{EndsOn};
 
-    /// Brings the pages home. After a scripted loader the machine runs, where the tables fit it and the area; after a dump's loader
-    /// it is off. No page is missing here, since the reader has tested the stream's number of pages by the numbers that it names.
+    /// Brings the pages home. After a scripted loader the machine runs, where the tables fit it and the area; after a
+    /// dump's loader it is off. No page is missing here, since the reader has tested the stream's number of pages by
+    /// the numbers that it names.
     pub(crate) fn end(
         &mut self,
         machine: &mut Machine,
@@ -38,7 +39,8 @@ impl Load {
     ) -> Reply
         requires ready { CanStep machine.old frames.old runs.old self.old }
         requires stage { reads_at self.old.stage }
-        ensures row { (chain : OpenChain) → self.old.stage ≡ stage.Read chain → EndsOn machine.old frames.old self.old chain machine.new frames.new self.new result }
+        ensures row { (chain : OpenChain) → self.old.stage ≡ stage.Read chain →
+            EndsOn machine.old frames.old self.old chain machine.new frames.new self.new result }
         ensures activity { activity_of self.new ≡ activity_told self.old.loader result }
         ensures loader { self.new.loader ≡ self.old.loader }
         ensures works { is_idle result ≡ false }
@@ -79,14 +81,16 @@ impl Load {
     }
 }
 
-/// The area of the header block taken back, where the restored tables fit the machine and it. Else a table frame at fault.
+/// The area of the header block taken back, where the restored tables fit the machine and it. Else a table frame at
+/// fault.
 fn restored_area(hw: &Hardware, blocks: u32, frames: &Frames, header: &Page) -> Result<Area, u32>
     requires { length frames.now ≡ top hw.now.zones }
     ensures fits { IfOk result (λ area. fit_fault hw.now blocks area ≡ None) }
     ensures reserved { IfOk result (λ area. AreReserved hw.now frames.now) }
     ensures kind { IfOk result (λ area. area_kind (taken_back header.now) ≡ Swap area) }
     ensures tables { (v : DiskImage) → header.now ≡ header_of hw.now v → blocks ≡ blocks_of v → Marked hw.now v →
-        MatchResult result (λ area. tables_cause hw.now v frames.now ≡ None) (λ f. tables_cause hw.now v frames.now ≡ Some (reply.BadTables f)) }
+        MatchResult result (λ area. tables_cause hw.now v frames.now ≡ None)
+        (λ f. tables_cause hw.now v frames.now ≡ Some (reply.BadTables f)) }
 {
     tables_fit(frames, hw)?;
     match usable(hw, blocks, &AreaKind::read(&take_back(header))) {

@@ -38,7 +38,8 @@ impl Load {
         requires ready { CanStep machine.now frames.now runs.now self.old }
         requires blocks { D.block_count disk.old ≡ machine.now.blocks }
         requires stage { self.old.stage ≡ stage.Sync }
-        ensures row { SimulatesWhereTold machine.now frames.now self.old machine.now frames.now self.new (event.Step actor.Core) result (D.content disk.old) (D.content disk.new) }
+        ensures row { SimulatesWhereTold machine.now frames.now self.old machine.now frames.now self.new
+            (event.Step actor.Core) result (D.content disk.old) (D.content disk.new) }
         ensures activity { activity_of self.new ≡ activity_told self.old.loader result }
         ensures loader { self.new.loader ≡ self.old.loader }
         ensures works { is_idle result ≡ false }
@@ -54,8 +55,8 @@ impl Load {
         }
     }
 
-    /// Reads the header block, which must carry the mark of an image that isn't compressed. One that isn't below the disk's
-    /// blocks counts as zeros, and isn't read.
+    /// Reads the header block, which must carry the mark of an image that isn't compressed. One that isn't below the
+    /// disk's blocks counts as zeros, and isn't read.
     pub(crate) fn find<D: Disk>(
         &mut self,
         machine: &Machine,
@@ -67,7 +68,8 @@ impl Load {
         requires blocks { D.block_count disk.old ≡ machine.now.blocks }
         requires stage { self.old.stage ≡ stage.Find }
         ensures found { (c : Content) → D.content disk.old ≡ Some c → FindsMark machine.now.hw result (as_it_reads c) }
-        ensures row { SimulatesWhereTold machine.now frames.now self.old machine.now frames.now self.new (event.Step actor.Core) result (D.content disk.old) (D.content disk.new) }
+        ensures row { SimulatesWhereTold machine.now frames.now self.old machine.now frames.now self.new
+            (event.Step actor.Core) result (D.content disk.old) (D.content disk.new) }
         ensures activity { activity_of self.new ≡ activity_told self.old.loader result }
         ensures loader { self.new.loader ≡ self.old.loader }
         ensures works { is_idle result ≡ false }

@@ -43,7 +43,8 @@ impl Load {
         requires ready { CanStep machine.old frames.old runs.old self.old }
         requires blocks { D.block_count disk.old ≡ machine.old.blocks }
         requires stage { lists_at self.old.stage }
-        ensures row { SimulatesWhereTold machine.old frames.old self.old machine.new frames.new self.new (event.Step actor.Core) result (D.content disk.old) (D.content disk.new) }
+        ensures row { SimulatesWhereTold machine.old frames.old self.old machine.new frames.new self.new
+            (event.Step actor.Core) result (D.content disk.old) (D.content disk.new) }
         ensures activity { activity_of self.new ≡ activity_told self.old.loader result }
         ensures loader { self.new.loader ≡ self.old.loader }
         ensures works { is_idle result ≡ false }
@@ -73,10 +74,11 @@ impl Load {
         }
     }
 
-    /// Where the last number page was accepted and the block behind it is at fault, too little room comes first.
+    /// Where the last number page was accepted and the block after it is at fault, too little room comes first.
     fn refuse_listing(&mut self, listed: Option<u32>, cause: Cause) -> Reply
         requires zones { self.old.origs.zones ≡ self.old.waiting.zones }
-        ensures reply { result ≡ refusal_behind listed (length self.old.waiting.free) (length (with_data self.old.origs.members self.old.zeros.members)) cause }
+        ensures reply { result ≡ refusal_behind listed (length self.old.waiting.free)
+            (length (with_data self.old.origs.members self.old.zeros.members)) cause }
         ensures load { self.new ≡ record self.old { stage = stage.Rest; waiting = self.new.waiting } }
         ensures same_zones { self.new.waiting.zones ≡ self.old.waiting.zones }
         ensures no_fault { IsNewFault result → ⊥ }
@@ -96,7 +98,8 @@ impl Load {
     fn list_on(&mut self, machine: &mut Machine, frames: &mut Frames, runs: &mut FreeRuns) -> Reply
         requires ready { CanStep machine.old frames.old runs.old self.old }
         requires stage { lists_at self.old.stage }
-        ensures row { (chain : OpenChain) → self.old.stage ≡ stage.List chain → ListsOn machine.old frames.old self.old chain machine.new frames.new self.new result }
+        ensures row { (chain : OpenChain) → self.old.stage ≡ stage.List chain →
+            ListsOn machine.old frames.old self.old chain machine.new frames.new self.new result }
         ensures activity { activity_of self.new ≡ activity_told self.old.loader result }
         ensures loader { self.new.loader ≡ self.old.loader }
         ensures works { is_idle result ≡ false }
@@ -122,7 +125,8 @@ impl Load {
     ) -> Reply
         requires ready { CanStep machine.old frames.old runs.old self.old }
         requires stage { lists_at self.old.stage }
-        ensures row { (chain : OpenChain) → self.old.stage ≡ stage.List chain → IsSome chain.reader.listed → ListsOn machine.old frames.old self.old chain machine.new frames.new self.new result }
+        ensures row { (chain : OpenChain) → self.old.stage ≡ stage.List chain → IsSome chain.reader.listed →
+            ListsOn machine.old frames.old self.old chain machine.new frames.new self.new result }
         ensures activity { activity_of self.new ≡ activity_told self.old.loader result }
         ensures loader { self.new.loader ≡ self.old.loader }
         ensures works { is_idle result ≡ false }
@@ -146,11 +150,13 @@ impl Load {
     /// Plans where the pages to come wait.
     fn plan(&mut self) -> Result<(), Reply>
         requires { self.old.origs.zones ≡ self.old.waiting.zones }
-        ensures refused { IfErr result (λ why. room_refusal (length self.old.waiting.free) (length (with_data self.old.origs.members self.old.zeros.members)) ≡ Some why) }
+        ensures refused { IfErr result (λ why. room_refusal (length self.old.waiting.free)
+            (length (with_data self.old.origs.members self.old.zeros.members)) ≡ Some why) }
         ensures no_fault { IfErr result (λ why. IsNewFault why → ⊥) }
         ensures rests { IfErr result (λ why. activity_told self.old.loader why ≡ rests) }
         ensures works { IfErr result (λ why. is_idle why ≡ false) }
-        ensures room { OnOk result (room_refusal (length self.old.waiting.free) (length (with_data self.old.origs.members self.old.zeros.members)) ≡ None) }
+        ensures room { OnOk result (room_refusal (length self.old.waiting.free)
+            (length (with_data self.old.origs.members self.old.zeros.members)) ≡ None) }
         ensures ready { OnOk result (self.new.waiting.placement.ready ≡ true) }
         ensures originals { self.new.waiting.originals ≡ with_data self.old.origs.members self.old.zeros.members }
         ensures free { self.new.waiting.free ≡ self.old.waiting.free }
@@ -186,8 +192,11 @@ impl OpenChain {
         requires origs { origs.old.zones ≡ machine.now.hw.zones }
         requires zeros { zeros.old.zones ≡ machine.now.hw.zones }
         requires blocks { D.block_count disk.old ≡ machine.now.blocks }
-        ensures answers { (v : DiskImage) (t : ℕ) → HasReadPlaces machine.now.hw v check self.old.reader t origs.old.members zeros.old.members → Reads machine.now.hw v (D.content disk.old) →
-            Answers machine.now.hw v check t result self.old.reader self.new.reader origs.new.members zeros.new.members page.new }
+        ensures answers { (v : DiskImage) (t : ℕ) →
+            HasReadPlaces machine.now.hw v check self.old.reader t origs.old.members zeros.old.members →
+            Reads machine.now.hw v (D.content disk.old) →
+            Answers machine.now.hw v check t result self.old.reader self.new.reader origs.new.members zeros.new.members
+            page.new }
         ensures page { IsPage page.new }
         ensures goes_on { GoesOn result self.new.reader origs.new.members zeros.new.members }
         ensures within { self.new.reader.blocks ≤ machine.now.blocks }

@@ -109,8 +109,10 @@ impl Load {
         requires ready { CanStep machine.old frames.old runs.old self.old }
         requires blocks { D.block_count disk.old ≡ machine.old.blocks }
         requires busy { IsBusy self.old }
-        ensures found { self.old.stage ≡ stage.Find → (c : Content) → D.content disk.old ≡ Some c → FindsMark machine.old.hw result (as_it_reads c) }
-        ensures row { SimulatesWhereTold machine.old frames.old self.old machine.new frames.new self.new (event.Step actor.Core) result (D.content disk.old) (D.content disk.new) }
+        ensures found { self.old.stage ≡ stage.Find → (c : Content) → D.content disk.old ≡ Some c →
+            FindsMark machine.old.hw result (as_it_reads c) }
+        ensures row { SimulatesWhereTold machine.old frames.old self.old machine.new frames.new self.new
+            (event.Step actor.Core) result (D.content disk.old) (D.content disk.new) }
         ensures activity { activity_of self.new ≡ activity_told self.old.loader result }
         ensures loader { self.new.loader ≡ self.old.loader }
         ensures works { is_idle result ≡ false }

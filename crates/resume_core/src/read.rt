@@ -40,7 +40,8 @@ impl Load {
         requires ready { CanStep machine.old frames.old runs.old self.old }
         requires blocks { D.block_count disk.old ≡ machine.old.blocks }
         requires stage { reads_at self.old.stage }
-        ensures row { SimulatesWhereTold machine.old frames.old self.old machine.new frames.new self.new (event.Step actor.Core) result (D.content disk.old) (D.content disk.new) }
+        ensures row { SimulatesWhereTold machine.old frames.old self.old machine.new frames.new self.new
+            (event.Step actor.Core) result (D.content disk.old) (D.content disk.new) }
         ensures activity { activity_of self.new ≡ activity_told self.old.loader result }
         ensures loader { self.new.loader ≡ self.old.loader }
         ensures works { is_idle result ≡ false }
@@ -80,7 +81,8 @@ impl Load {
     ) -> Reply
         requires ready { CanStep machine.old frames.old runs.old self.old }
         requires stage { reads_at self.old.stage }
-        ensures row { (chain : OpenChain) → self.old.stage ≡ stage.Read chain → ReadsOn machine.old frames.old self.old chain machine.new frames.new self.new result }
+        ensures row { (chain : OpenChain) → self.old.stage ≡ stage.Read chain →
+            ReadsOn machine.old frames.old self.old chain machine.new frames.new self.new result }
         ensures activity { activity_of self.new ≡ activity_told self.old.loader result }
         ensures loader { self.new.loader ≡ self.old.loader }
         ensures works { is_idle result ≡ false }
@@ -105,8 +107,8 @@ impl OpenChain {
     ghost use Rattle.resume_core.specs.Placing.{PutsPage};
     ghost use Rattle.resume_core.specs.Ready.{CanRead};
 
-    /// Reads the chain's next block straight into the page frame where the next page waits, whatever comes: it is free to the loader.
-    /// Where all of them wait it is read into `spare`.
+    /// Reads the chain's next block straight into the page frame where the next page waits, whatever comes: it is free
+    /// to the loader. Where all of them wait it is read into `spare`.
     fn read_in_place<D: Disk>(
         &mut self,
         machine: &Machine,
@@ -125,8 +127,11 @@ impl OpenChain {
         requires ready { waiting.now.placement.ready ≡ true }
         requires frames { top waiting.now.zones ≤ length frames.old }
         ensures read { (page : List ℕ) × PutsPage waiting.now frames.old frames.new page ×
-            ((v : DiskImage) (t : ℕ) → HasReadPlaces machine.now.hw v check self.old.reader t origs.old.members zeros.old.members → Reads machine.now.hw v (D.content disk.old) →
-            Answers machine.now.hw v check t result self.old.reader self.new.reader origs.new.members zeros.new.members page) }
+            ((v : DiskImage) (t : ℕ) →
+            HasReadPlaces machine.now.hw v check self.old.reader t origs.old.members zeros.old.members →
+            Reads machine.now.hw v (D.content disk.old) →
+            Answers machine.now.hw v check t result self.old.reader self.new.reader origs.new.members zeros.new.members
+            page) }
         ensures goes_on { GoesOn result self.new.reader origs.new.members zeros.new.members }
         ensures within { self.new.reader.blocks ≤ machine.now.blocks }
         ensures chain { self.new ≡ record self.old { reader = self.new.reader } }
@@ -149,7 +154,8 @@ impl OpenChain {
 /// Counts the page that was read. There is a place for each page that the numbers name.
 fn count_page(waiting: &mut Waiting)
     requires { waiting.old.placement.ready ≡ true }
-    ensures counted { waiting.old.loaded < length waiting.old.originals → waiting.new ≡ record waiting.old { loaded = waiting.old.loaded + 1 } }
+    ensures counted { waiting.old.loaded < length waiting.old.originals →
+        waiting.new ≡ record waiting.old { loaded = waiting.old.loaded + 1 } }
     ensures waiting { waiting.new ≡ record waiting.old { loaded = waiting.new.loaded } }
 {
     if waiting.left() > 0 {

@@ -45,7 +45,7 @@ is_restored h before f after from = subst (IsRestored h before) (sym from.2) (re
 abbrev NoneBefore : List Event → List Reply → ℕ → Type 0
 NoneBefore es rs k = (j : ℕ) → j < k → HibernatesAt es rs j → ⊥
 
--- no hibernation is accepted before event k, behind which the machine is as this image says
+-- no hibernation is accepted before event k, after which the machine is as this image says
 record IsOfImage (h : Hardware) (v : disk.DiskImage) (i : Image) (a : State) (es : List Event) (rs : List Reply) (b : State) (k : ℕ) : Type 0 where
   pub none : NoneBefore es rs k
   pub after : State
@@ -98,7 +98,7 @@ later_copy h v a mid e es r rs b k step copy = record {
 abbrev IsFound : Hardware → disk.DiskImage → Image → State → List Event → List Reply → State → ℕ → Type 0
 IsFound h v i a es rs b k = IsCopyOf h v a es rs b k ⊎ IsOfImage h v i a es rs b k
 
--- behind a hibernation that was accepted
+-- after a hibernation that was accepted
 after_begin : (h : Hardware) (v : disk.DiskImage) (i : Image) (a mid : State) (e : Event) (es : List Event) (r : Reply) (rs : List Reply) (b : State) (k : ℕ) → Step h v a e r mid → is_hibernation e r ≡ true →
     (begun : BeginsFrom h a mid) → IsFound h v (image_of_memory h begun.0.memory begun.0.slots begun.1) mid es rs b k → IsFound h v i a (e ∷ es) (r ∷ rs) b (suc k)
 after_begin h v i a mid e es r rs b k step is begun (inl copy) = inl (later_copy h v a mid e es r rs b k step copy)
@@ -116,7 +116,7 @@ after_begin h v i a mid e es r rs b k step is (before, f, same, has) (inr image)
       restored = is_restored h before f image.after image.from;
     })
 
--- behind another event
+-- after another event
 after_other : (h : Hardware) (v : disk.DiskImage) (i : Image) (a mid : State) (e : Event) (es : List Event) (r : Reply) (rs : List Reply) (b : State) (k : ℕ) → Step h v a e r mid → is_hibernation e r ≡ false →
     IsFound h v i mid es rs b k → IsFound h v i a (e ∷ es) (r ∷ rs) b (suc k)
 after_other h v i a mid e es r rs b k step none (inl copy) = inl (later_copy h v a mid e es r rs b k step copy)

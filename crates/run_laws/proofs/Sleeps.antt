@@ -145,7 +145,7 @@ later_waking h v a mid e es r rs b k step found = record {
 abbrev IsFound : Hardware → disk.DiskImage → State → List Event → List Reply → State → ℕ → Type 0
 IsFound h v a es rs b k = WakesAsBefore h v a es rs b k ⊎ ((before : Running) × (sleeper a ≡ Some before) × IsWakeOf h v before a es rs b k)
 
--- the step that its wake stands behind
+-- the step that its wake stands after
 longer : (h : Hardware) (v : disk.DiskImage) (before : Running) (a mid : State) (e : Event) (es : List Event) (r : Reply) (rs : List Reply) (b : State) (k : ℕ) → Step h v a e r mid → sleeper mid ≡ sleeper a → is_cut e ≡ false →
     sleeper mid ≡ Some before → IsWakeOf h v before mid es rs b k → IsFound h v a (e ∷ es) (r ∷ rs) b (suc k)
 longer h v before a mid e es r rs b k step same uncut is wake =

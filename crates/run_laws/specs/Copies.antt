@@ -4,7 +4,8 @@ use Rattle.definitions.specs.Disk as disk
 use Rattle.definitions.specs.Tables.{frame}
 use Rattle.definitions.specs.Zones.{top}
 use Rattle.plain_machine.specs.Machine.{Hardware, saveable}
-use Rattle.plain_machine.specs.State.{State, off, on, booting, hibernating, undoing, settling, waking, loading, asleep, Running}
+use Rattle.plain_machine.specs.State.{State, off, on, booting, hibernating, undoing, settling, waking, loading, asleep}
+use Rattle.plain_machine.specs.State.{Running}
 use Rattle.plain_machine.specs.Step.{Run}
 use Rattle.plain_machine.specs.declared.event.Event.{Event}
 use Rattle.plain_machine.specs.declared.reply.Reply.{Reply}
@@ -12,7 +13,8 @@ use Rattle.run_laws.specs.Resumes.{HibernatesAt, ResumesAt}
 
 -- each page frame that was saveable has its page, and each slot its page, if it had one
 pub record HasCopy (h : Hardware) (before after : Running) : Type 0 where
-  pub pages : (p : ℕ) → Contains (saveable h before.memory) p → p < top h.zones → frame after.memory p ≡ frame before.memory p
+  pub pages : (p : ℕ) → Contains (saveable h before.memory) p → p < top h.zones →
+      frame after.memory p ≡ frame before.memory p
   pub slots : after.slots ≡ before.slots
 
 -- A machine that runs after the resume has them; after a dump's loader it is off.
@@ -27,10 +29,11 @@ IsRestored h before (waking i held a k) = ⊥
 IsRestored h before (loading load k) = ⊥
 IsRestored h before (asleep i held a) = ⊥
 
--- A run from a to b, in which event k ends a resume: of the hibernations that were accepted before, the last was at this event. The run
--- goes from a to the machine that hibernated, from there to what event k left, and on to b; and event k left what that machine had
--- when its hibernation was accepted, at the atomic copy.
-pub record IsCopyOf (h : Hardware) (v : disk.DiskImage) (a : State) (events : List Event) (replies : List Reply) (b : State) (k : ℕ) : Type 0 where
+-- A run from a to b, in which event k ends a resume: of the hibernations that were accepted before, the last was at
+-- this event. The run goes from a to the machine that hibernated, from there to what event k left, and on to b; and
+-- event k left what that machine had when its hibernation was accepted, at the atomic copy.
+pub record IsCopyOf (h : Hardware) (v : disk.DiskImage) (a : State) (events : List Event) (replies : List Reply)
+    (b : State) (k : ℕ) : Type 0 where
   pub at : ℕ
   pub earlier : at < k
   pub hibernates : HibernatesAt events replies at

@@ -26,4 +26,5 @@ ResumesAt replies k = (n : ℕ) × (slice_get replies k ≡ Some (reply.Resumed 
 -- a hibernation stands before each resume, and between any two of them
 pub record AreResumedOnce (events : List Event) (replies : List Reply) : Type 0 where
   pub hibernated : (k : ℕ) → ResumesAt replies k → (j : ℕ) × (j < k) × HibernatesAt events replies j
-  pub once : (i k : ℕ) → i < k → ResumesAt replies i → ResumesAt replies k → (j : ℕ) × (i < j) × (j < k) × HibernatesAt events replies j
+  pub once : (i k : ℕ) → i < k → ResumesAt replies i → ResumesAt replies k → (j : ℕ) × (i < j) × (j < k)
+      × HibernatesAt events replies j

@@ -1,5 +1,5 @@
--- Hybrid sleep: a machine that is woken, and the image that it left when it fell asleep, never both go on.
--- In Linux: power_down with HIBERNATION_SUSPEND, kernel/power/hibernate.c, which takes the mark back where the machine wakes.
+-- Hybrid sleep: a machine that is woken, and the image that it left when it fell asleep, never both go on. In Linux:
+-- power_down with HIBERNATION_SUSPEND, kernel/power/hibernate.c, which takes the mark back where the machine wakes.
 use Rattle.std.specs.Prelude.{suc, ◌≡◌, ◌⊎◌, ◌<◌, ℕ, Bool, true, false, List, take, drop, Option, Some, slice_get, ⊤}
 use Rattle.page_core.specs.declared.format.Format.{Format}
 use Rattle.definitions.specs.Disk as disk
@@ -46,7 +46,8 @@ pub record TaskGoesOnAt (events : List Event) (replies : List Reply) (k : ℕ) :
 -- a suspend is accepted at event k; the machine falls asleep there; it is woken; its power is cut
 abbrev pub SuspendsAt : List Event → List Reply → ℕ → Type 0
 SuspendsAt events replies k =
-    (f : Format) × (step steps : ℕ) × (slice_get events k ≡ Some (event.Suspend f)) × (slice_get replies k ≡ Some (reply.More step steps))
+    (f : Format) × (step steps : ℕ) × (slice_get events k ≡ Some (event.Suspend f))
+    × (slice_get replies k ≡ Some (reply.More step steps))
 
 abbrev pub FallsAsleepAt : List Reply → ℕ → Type 0
 FallsAsleepAt replies k = (n : ℕ) × (slice_get replies k ≡ Some (reply.Asleep n))
@@ -57,16 +58,18 @@ WakesAt replies k = slice_get replies k ≡ Some reply.Woken
 abbrev pub IsCutAt : List Event → ℕ → Type 0
 IsCutAt events k = (pick : ℕ) × (slice_get events k ≡ Some (event.Cut pick))
 
--- A run from a to b, in which a machine wakes at event k: its suspend was accepted at the event `at`, no cut came since, and it goes on as it
--- was before the suspend, with no image held. So no image of the disk is marked.
-pub record WakesAsBefore (h : Hardware) (v : disk.DiskImage) (a : State) (events : List Event) (replies : List Reply) (b : State) (k : ℕ) : Type 0 where
+-- A run from a to b, in which a machine wakes at event k: its suspend was accepted at the event `at`, no cut came
+-- since, and it goes on as it was before the suspend, with no image held. So no image of the disk is marked.
+pub record WakesAsBefore (h : Hardware) (v : disk.DiskImage) (a : State) (events : List Event) (replies : List Reply)
+    (b : State) (k : ℕ) : Type 0 where
   pub at : ℕ
   pub earlier : at < k
   pub suspends : SuspendsAt events replies at
   pub uncut : (j : ℕ) → at < j → j < k → IsCutAt events j → ⊥
   pub before : Running
   pub begins : Run h v a (take at events) (take at replies) (on before)
-  pub wakes : Run h v (on before) (drop at (take (suc k) events)) (drop at (take (suc k) replies)) (on (record before { held = nothing }))
+  pub wakes : Run h v (on before) (drop at (take (suc k) events)) (drop at (take (suc k) replies))
+      (on (record before { held = nothing }))
   pub ends : Run h v (on (record before { held = nothing })) (drop (suc k) events) (drop (suc k) replies) b
 
 -- an image that a machine made is there, surely or perhaps
@@ -78,20 +81,26 @@ HoldsOwn (maybe (own i)) = ⊤
 HoldsOwn (maybe other) = ⊥
 
 -- a run from a to b in which event k leaves a machine that is off, with this on the disk
-pub record LeavesOff (h : Hardware) (v : disk.DiskImage) (a : State) (events : List Event) (replies : List Reply) (b : State) (k : ℕ) (held : Held) : Type 0 where
+pub record LeavesOff (h : Hardware) (v : disk.DiskImage) (a : State) (events : List Event) (replies : List Reply)
+    (b : State) (k : ℕ) (held : Held) : Type 0 where
   pub kept : Option Memory
   pub leaves : Run h v a (take (suc k) events) (take (suc k) replies) (off held kept)
   pub ends : Run h v (off held kept) (drop (suc k) events) (drop (suc k) replies) b
 
--- Over a run: between the place where a machine falls asleep and the next one where a task goes on it wakes, or its power is cut; a machine
--- wakes as it was before its suspend; and between its waking and the next resume that ends a hibernation is accepted. The first cut of a
--- machine that sleeps leaves an image, surely or perhaps, and what a resume restores of it AllRestore says; one after it woke, and before a
--- hibernation is accepted, leaves none.
-pub record NeverBothGoOn (h : Hardware) (v : disk.DiskImage) (a : State) (events : List Event) (replies : List Reply) (b : State) : Type 0 where
-  pub asleep : (j k : ℕ) → j < k → FallsAsleepAt replies j → TaskGoesOnAt events replies k → (i : ℕ) × (j < i) × (i < k) × (WakesAt replies i ⊎ IsCutAt events i)
+-- Over a run: between the place where a machine falls asleep and the next one where a task goes on it wakes, or its
+-- power is cut; a machine wakes as it was before its suspend; and between its waking and the next resume that ends a
+-- hibernation is accepted. The first cut of a machine that sleeps leaves an image, surely or perhaps, and what a resume
+-- restores of it AllRestore says; one after it woke, and before a hibernation is accepted, leaves none.
+pub record NeverBothGoOn (h : Hardware) (v : disk.DiskImage) (a : State) (events : List Event) (replies : List Reply)
+    (b : State) : Type 0 where
+  pub asleep : (j k : ℕ) → j < k → FallsAsleepAt replies j → TaskGoesOnAt events replies k → (i : ℕ) × (j < i) × (i < k)
+      × (WakesAt replies i ⊎ IsCutAt events i)
   pub wakes : (k : ℕ) → WakesAt replies k → WakesAsBefore h v a events replies b k
-  pub spent : (j k : ℕ) → j < k → WakesAt replies j → ResumesAt replies k → (i : ℕ) × (j < i) × (i < k) × HibernatesAt events replies i
-  pub cut : (j k : ℕ) → j < k → FallsAsleepAt replies j → IsCutAt events k → ((i : ℕ) → j < i → i < k → WakesAt replies i ⊎ IsCutAt events i → ⊥) →
+  pub spent : (j k : ℕ) → j < k → WakesAt replies j → ResumesAt replies k → (i : ℕ) × (j < i) × (i < k)
+      × HibernatesAt events replies i
+  pub cut : (j k : ℕ) → j < k → FallsAsleepAt replies j → IsCutAt events k →
+      ((i : ℕ) → j < i → i < k → WakesAt replies i ⊎ IsCutAt events i → ⊥) →
       (held : Held) × HoldsOwn held × LeavesOff h v a events replies b k held
-  pub gone : (j k : ℕ) → j < k → WakesAt replies j → IsCutAt events k → ((i : ℕ) → j < i → i < k → HibernatesAt events replies i → ⊥) →
+  pub gone : (j k : ℕ) → j < k → WakesAt replies j → IsCutAt events k →
+      ((i : ℕ) → j < i → i < k → HibernatesAt events replies i → ⊥) →
       LeavesOff h v a events replies b k nothing

@@ -12,7 +12,8 @@ use Rattle.run_picture.specs.declared.calls.Call.TheVariants.{Write, Read, Heade
 use Rattle.run_picture.specs.declared.calls.Drawn.{Drawn}
 use Rattle.run_picture.specs.declared.calls.Drawn.TheVariants.{NoCall, Made, Fails}
 use Rattle.run_picture.specs.declared.lanes.Activity.{Activity}
-use Rattle.run_picture.specs.declared.lanes.Activity.TheVariants.{Nothing, Boots, Runs, Saves, Undoes, Undone, Settles, Wakes, Loads, Sleeps}
+use Rattle.run_picture.specs.declared.lanes.Activity.TheVariants.{Nothing, Boots, Runs, Saves, Undoes, Undone, Settles}
+use Rattle.run_picture.specs.declared.lanes.Activity.TheVariants.{Wakes, Loads, Sleeps}
 use Rattle.run_picture.specs.declared.telling.Failing.{Failing}
 use Rattle.run_picture.specs.declared.telling.Failing.TheVariants as failing
 use Rattle.run_picture.specs.declared.telling.Told.{Told}

@@ -8,7 +8,8 @@ use Rattle.plain_machine.specs.declared.reply.Left.TheVariants.{Same, Gone, Unsu
 use Rattle.plain_machine.specs.declared.reply.Reply.{Reply}
 use Rattle.run_picture.specs.Telling.{told_by}
 use Rattle.run_picture.specs.declared.lanes.Activity.{Activity}
-use Rattle.run_picture.specs.declared.lanes.Activity.TheVariants.{Nothing, Boots, Runs, Saves, Undoes, Undone, Settles, Wakes, Loads, Sleeps}
+use Rattle.run_picture.specs.declared.lanes.Activity.TheVariants.{Nothing, Boots, Runs, Saves, Undoes, Undone, Settles}
+use Rattle.run_picture.specs.declared.lanes.Activity.TheVariants.{Wakes, Loads, Sleeps}
 use Rattle.run_picture.specs.declared.lanes.ImageShown.{ImageShown}
 use Rattle.run_picture.specs.declared.lanes.ImageShown.TheVariants.{NoImage, Image, Perhaps}
 use Rattle.run_picture.specs.declared.lanes.Lanes.{Lanes}

@@ -1,5 +1,5 @@
--- The picture of a run, as the text of an SVG: a head, a column for each event, and a foot. It is drawn from the events and
--- their replies alone.
+-- The picture of a run, as the text of an SVG: a head, a column for each event, and a foot. It is drawn from the events
+-- and their replies alone.
 use Rattle.std.specs.Prelude.{ℕ, Bool, ◌+◌, ◌*◌, List, [], ◌∷◌, ◌++◌, codes, decimal, length, nat_lt, if◌then◌else◌}
 use Rattle.plain_machine.specs.Replies.{line_of}
 use Rattle.plain_machine.specs.declared.event.Actor.TheVariants as actor

@@ -1,6 +1,8 @@
 //! Which call of the disk a step makes.
 ghost use Rattle.std.specs.Prelude.{◌≡◌, ◌==◌, if◌then◌else◌};
-ghost use Rattle.run_picture.specs.Calls.{back_call, boot_call, call_of, core_call, load_call, load_step, save_call, save_step, task_call, undo_call, undone_by, undone_call, unloaded, unmarked, unsaved, untaken};
+ghost use Rattle.run_picture.specs.Calls.{back_call, boot_call, call_of, core_call, load_call, load_step, save_call};
+ghost use Rattle.run_picture.specs.Calls.{save_step, task_call, undo_call, undone_by, undone_call, unloaded, unmarked};
+ghost use Rattle.run_picture.specs.Calls.{unsaved, untaken};
 
 use crate::lanes::Activity;
 use crate::telling::{Failing, Told};

@@ -5,7 +5,10 @@ ghost use Rattle.definitions.specs.Streams.{TakesAll, TakesFront};
 ghost use Rattle.plain_machine.specs.Fitting.{IsFitting};
 ghost use Rattle.plain_machine.specs.Replies.{line_of};
 ghost use Rattle.run_picture.specs.Lanes.{after, begins};
-ghost use Rattle.run_picture.specs.Picture.{above_of, activity_label, activity_name, bands_text, begun_label, below_of, call_name, call_text, column, column_by, cut_text, image_label, image_name, label_text, open_text, power_name, reply_class, reply_label, shown_by, shown_text, title_of, words_label};
+ghost use Rattle.run_picture.specs.Picture.{above_of, activity_label, activity_name, bands_text, begun_label, below_of};
+ghost use Rattle.run_picture.specs.Picture.{call_name, call_text, column, column_by, cut_text, image_label, image_name};
+ghost use Rattle.run_picture.specs.Picture.{label_text, open_text, power_name, reply_class, reply_label, shown_by};
+ghost use Rattle.run_picture.specs.Picture.{shown_text, title_of, words_label};
 ghost use Rattle.run_picture.specs.Telling.{told_by};
 ghost use Rattle.run_picture.specs.Words.{event_words};
 

@@ -1,6 +1,7 @@
 //! What the lanes show, and what an event makes of it.
 ghost use Rattle.std.specs.Prelude.{◌≡◌, ◌==◌, if◌then◌else◌};
-ghost use Rattle.run_picture.specs.Lanes.{activity_after, begins, begun, ends, given_up, image_after, is_core, left_by, loaded, marked, refused, stepped, written};
+ghost use Rattle.run_picture.specs.Lanes.{activity_after, begins, begun, ends, given_up, image_after, is_core, left_by};
+ghost use Rattle.run_picture.specs.Lanes.{loaded, marked, refused, stepped, written};
 
 use crate::telling::Told;
 use plain_machine::{Actor, Event, Left};

@@ -2,7 +2,8 @@
 ghost use Rattle.std.specs.Prelude.{◌≡◌, ◌+◌, ◌*◌, ◌≤◌, ◌++◌, codes, length};
 ghost use Rattle.plain_machine.specs.Fitting.{AreRanges, IsFitting};
 ghost use Rattle.run_picture.specs.Texts.{named};
-ghost use Rattle.run_picture.specs.Words.{event_words, one_words, range_words, ranges_words, request_words, saving_words, two_words};
+ghost use Rattle.run_picture.specs.Words.{event_words, one_words, range_words, ranges_words, request_words};
+ghost use Rattle.run_picture.specs.Words.{saving_words, two_words};
 
 use crate::piece::Piece;
 use page_core::Format;

@@ -6,7 +6,8 @@ use Rattle.safe_pages.specs.Plan.{list_frames_for}
 use Rattle.safe_pages.specs.declared.Placement.TheInside.{Inside}
 
 abbrev pub kept_placement : Inside → Placed
-kept_placement p = record { zones = p.zones; ready = p.ready; moves = p.moves.items; list = p.list.items; bounce = p.bounce }
+kept_placement p =
+    record { zones = p.zones; ready = p.ready; moves = p.moves.items; list = p.list.items; bounce = p.bounce }
 
 pub record IsKept (p : Inside) : Type 0 where
   pub zones : AreZones p.zones

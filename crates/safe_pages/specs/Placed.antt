@@ -29,9 +29,9 @@ pub record IsUnnamed (moves : List Move) (p : ℕ) : Type 0 where
   pub no_source : Contains (sources moves) p → ⊥
   pub no_target : Contains (targets moves) p → ⊥
 
--- Every page frame is valid; no two moves share a source, and no two a target. The list frames are distinct, and they and
--- the bounce frame are named by no move. The list frames suffice: a list frame has 170 entries, and 85 moves make at
--- most 170.
+-- Every page frame is valid; no two moves share a source, and no two a target. The list frames are distinct, and they
+-- and the bounce frame are named by no move. The list frames suffice: a list frame has 170 entries, and 85 moves make
+-- at most 170.
 pub record IsPlacement (p : Placed) : Type 0 where
   pub zones : AreZones p.zones
   pub sources_valid : All (Contains (numbers p.zones)) (sources p.moves)
@@ -46,7 +46,8 @@ pub record IsPlacement (p : Placed) : Type 0 where
   pub bounce_apart : Contains p.list p.bounce → ⊥
   pub room : length p.moves ≤ 85 * length p.list
 
--- a placement that takes only page frames of this set: pages wait in them, and the restore list and the bounce frame are some
+-- a placement that takes only page frames of this set: pages wait in them, and the restore list and the bounce frame
+-- are some
 pub record TakesFrom (set : List ℕ) (p : Placed) : Type 0 where
   pub sources_in : All (Contains set) (sources p.moves)
   pub list_in : All (Contains set) p.list

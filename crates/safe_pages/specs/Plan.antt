@@ -25,8 +25,8 @@ waiting origs free =
     let rest = without free (reserved origs free) in
     drop (length rest - length origs) rest
 
--- The k-th page waits in the k-th of these page frames and goes to the k-th original. The bounce frame is the highest of
--- the reserved ones, the others are list frames.
+-- The k-th page waits in the k-th of these page frames and goes to the k-th original. The bounce frame is the highest
+-- of the reserved ones, the others are list frames.
 unfoldable pub planned : List (ℕ × ℕ) → List ℕ → List ℕ → Placed
 planned zones origs free =
     let count = list_frames_for (length origs) in

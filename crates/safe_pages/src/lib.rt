@@ -4,7 +4,8 @@
 
 mod plan;
 
-ghost use Rattle.std.specs.Prelude.{◌≡◌, ◌<◌, ◌↔◌, [], true, false, IsErr, IfOk, IfErr, OnOk, OnErr, Some, length, slice_get};
+ghost use Rattle.std.specs.Prelude.{◌≡◌, ◌<◌, ◌↔◌, [], true, false, IsErr, IfOk, IfErr, OnOk, OnErr, Some, length};
+ghost use Rattle.std.specs.Prelude.{slice_get};
 ghost use Rattle.safe_pages.specs.Placed.{placed, sources, targets, IsPlacement, TakesFrom};
 ghost use Rattle.safe_pages.specs.Plan.{list_frames_for, need_for, planned};
 
@@ -27,8 +28,8 @@ pub struct TooFew {
     pub need: u32,
 }
 
-/// The page frames in which loaded pages wait, each with the original that its page goes to, and the page frames for the
-/// restore list and for a page that has to make way. It takes all its memory when it is made.
+/// The page frames in which loaded pages wait, each with the original that its page goes to, and the page frames for
+/// the restore list and for a page that has to make way. It takes all its memory when it is made.
 #[derive(Drop)]
 pub struct Placement {
     zones: Zones,
@@ -95,14 +96,17 @@ impl Placement {
         Ok(placement)
     }
 
-    /// Plans the moves of pages to these originals, all but the ones without data, over the page frames that are free to
-    /// the loader. The list frames and the bounce frame are the lowest free ones that are no originals; the pages wait
-    /// in the highest of the others. Refused where too few are free; the placement isn't ready then.
+    /// Plans the moves of pages to these originals, all but the ones without data, over the page frames that are free
+    /// to the loader. The list frames and the bounce frame are the lowest free ones that are no originals; the pages
+    /// wait in the highest of the others. Refused where too few are free; the placement isn't ready then.
     pub fn plan(&mut self, origs: &Bitmap, free: &Bitmap) -> Result<(), TooFew>
         requires origs { origs.now.zones ≡ self.old.zones }
         requires free { free.now.zones ≡ self.old.zones }
         ensures refused { IsErr result ↔ (length free.now.members < need_for (length origs.now.members)) }
-        ensures tells { IfErr result (λ few. few ≡ record { have = length free.now.members; need = need_for (length origs.now.members) }) }
+        ensures tells { IfErr result (λ few. few ≡ record {
+          have = length free.now.members;
+          need = need_for (length origs.now.members);
+        }) }
         ensures planned { OnOk result (self.new ≡ planned self.old.zones origs.now.members free.now.members) }
         ensures ready { OnOk result (self.new.ready ≡ true) }
         ensures placement { OnOk result (IsPlacement self.new) }

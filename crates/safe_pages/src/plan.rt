@@ -39,7 +39,8 @@ pub(crate) fn pair(
     requires free { IsFrameSet free.now }
     requires each { skip + length origs.now.members ≡ length (unreserved origs.now.members free.now.members bounce) }
     requires room { length origs.now.members ≤ vec_capacity moves.old }
-    ensures moves { moves.new.items ≡ zip (drop skip (unreserved origs.now.members free.now.members bounce)) origs.now.members }
+    ensures moves { moves.new.items ≡ zip (drop skip (unreserved origs.now.members free.now.members bounce))
+        origs.now.members }
     ensures room { vec_capacity moves.old ≤ vec_capacity moves.new }
 {
     moves.clear();

@@ -35,7 +35,10 @@ pub fn saveable(view: &View, p: u32) -> bool
 pub fn mark_all(view: &View, set: &mut Bitmap) -> u32
     requires table { HasTable view.now.frames.now view.now.table (top view.now.zones.now) }
     requires zones { set.old.zones ≡ view.now.zones.now }
-    ensures set { set.new ≡ record set.old { members = saveable_frames view.now.zones.now view.now.table view.now.frames.now } }
+    ensures set { set.new ≡ record set.old {
+      members = saveable_frames view.now.zones.now view.now.table
+          view.now.frames.now;
+    } }
     ensures count { result ≡ length (saveable_frames view.now.zones.now view.now.table view.now.frames.now) }
 {
     set.clear_all();
@@ -74,7 +77,10 @@ fn mark_zone(view: &View, zone: (u32, u32), set: &mut Bitmap)
     requires valid { (p : ℕ) → zone.0 ≤ p → p < zone_end zone → Contains (numbers set.old.zones) p }
     requires above { (p : ℕ) → Contains set.old.members p → p < zone.0 }
     requires table { HasTable view.now.frames.now view.now.table (zone_end zone) }
-    ensures { set.new ≡ record set.old { members = set.old.members ++ filter (saveable_by_entry view.now.table view.now.frames.now) (range_with_len zone.0 zone.1) } }
+    ensures { set.new ≡ record set.old {
+      members = set.old.members
+          ++ filter (saveable_by_entry view.now.table view.now.frames.now) (range_with_len zone.0 zone.1);
+    } }
 {
     let (start, count) = zone;
     for p in start..start + count {
@@ -88,7 +94,8 @@ fn mark_zone(view: &View, zone: (u32, u32), set: &mut Bitmap)
 fn free_in_zone(view: &View, zone: (u32, u32)) -> u32
     requires zone { IsZone zone }
     requires table { HasTable view.now.frames.now view.now.table (zone_end zone) }
-    ensures { result ≡ length (filter (free_by_entry view.now.table view.now.frames.now) (range_with_len zone.0 zone.1)) }
+    ensures { result ≡ length (filter (free_by_entry view.now.table view.now.frames.now)
+        (range_with_len zone.0 zone.1)) }
 {
     let (start, count) = zone;
     let mut free = 0;

@@ -51,7 +51,7 @@ length-texts words = length-map words (λ word. word.now)
 pub texts-more : (words : List (Bor (List ℕ))) (word : Bor (List ℕ)) → texts (words ++ word ∷ []) ≡ texts words ++ word.now ∷ []
 texts-more words word = map-append (λ w. w.now) words (word ∷ [])
 
--- the first word, and those behind it
+-- the first word, and those after it
 pub texts-split : (words : List (Bor (List ℕ))) (d : Bor (List ℕ)) → 1 ≤ length words → texts words ≡ (get_or words 0 d).now ∷ texts (take (length words - 1) (drop 1 words))
 texts-split [] d some = absurd (omega arith)
 texts-split (word ∷ words) d some = ap (λ rest. word.now ∷ texts rest) (sym (take_all (suc (length words) - 1) words (omega arith)))

@@ -65,7 +65,7 @@ all_ranges-read ws list i n end len few size rest e =
       ranges_same : (a b : ℕ) (xs ys : List (ℕ × ℕ)) → a ≡ b → xs ≡ ys → ◌≡◌ {A = Ranges} (record { count = a; list = xs }) (record { count = b; list = ys })
       ranges_same a b xs ys e h = cc
 
--- the places behind those that are read
+-- the places after those that are read
 pub rest_more : (rs : List (ℕ × ℕ)) (i : ℕ) (r : ℕ × ℕ) → length rs ≡ 8 → i < 8 → drop i rs ≡ replicate {A = ℕ × ℕ} (8 - i) (0, 0) → drop (i + 1) (set rs i r) ≡ replicate {A = ℕ × ℕ} (8 - (i + 1)) (0, 0)
 rest_more rs i r len in_list rest =
     let nought : ℕ × ℕ = (0, 0) in

@@ -22,7 +22,7 @@ use Rattle.script.specs.Shapes.{Row, setting_rows, event_rows}
 use Rattle.script.specs.Words.{◌>>=◌, words_of}
 use Rattle.script.specs.Grammar.{ScriptValue, is_printable, row_of, by_rows, words_item, item_of, line_item, setting_of, all_settings, by_kind, settings_in, settings_behind, events_of, events_in, kind_by, kind_after, Stops, StopsBy, fault_at, end_fault, first_of, script_by, value_of, line_count, lines_of, script_of, stop_at}
 
--- A line behind an event.
+-- A line after an event.
 
 late_rows : (e : Option (Row (ℕ × Event))) (s : Option (Row Setting)) (words : List (List ℕ)) (item : Item) → by_rows true e s words ≡ Ok item → by_rows false e s words ≡ Ok item
 late_rows (Some row) s words item is = is
@@ -63,7 +63,7 @@ none_in_line true c words item e = absurd (cc)
 none_in_line false true words item e = ap setting_of (sym e)
 none_in_line false false words item e = none_in_words words item e
 
--- no line behind an event is a setting
+-- no line after an event is a setting
 setting_of-late : (line : List ℕ) (item : Item) → line_item true line ≡ Ok item → setting_of (Ok item) ≡ None
 unfolding line_item
 setting_of-late line item e = none_in_line (not (list_all is_printable line)) (nat_eq (get_or line 0 0) 35) (words_of line) item e

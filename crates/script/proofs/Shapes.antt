@@ -1,4 +1,4 @@
--- The rows of lines, and the words behind the first that they read.
+-- The rows of lines, and the words after the first that they read.
 use Rattle.std.proofs.Common.{◌≡◌, inl, inr, ℕ, ◌<◌, Bool, true, false, cond, List, [], ◌∷◌, ◌++◌, length, take, get_or, Option, Some, None, Result, Ok, Err, codes, refl, sym, ap, ◌∙◌, arith, ne_eqb}
 use Rattle.std.specs.Prelude.{⊤, slice_index}
 use Rattle.std.specs.List.{find, list_all}
@@ -24,7 +24,7 @@ use Rattle.script.specs.Grammar.{is_printable, row_of, by_rows, if_found, settin
 use Rattle.script.proofs.NumbersLaws.{all_numbers-other}
 use Rattle.script.proofs.RangesLaws.{all_ranges-many}
 
--- No line that says something has more than nine words: what a line says hangs on the first nine words behind the first alone.
+-- No line that says something has more than nine words: what a line says hangs on the first nine words after the first alone.
 
 abbrev ReadsNine : {A : Type 0} → Row A → Type 0
 ReadsNine row = (words : List (List ℕ)) → row.reads (take 9 words) ≡ row.reads words

@@ -1,6 +1,8 @@
--- [drill]: the run that is made from one number, 1 to 2000, and the line that sums it up. Own: tasks claim page frames, store into them and
--- swap some of them out, the machine hibernates, the power is cut, the image is resumed, and the tasks show what they stored.
-use Rattle.std.specs.Prelude.{ℕ, ◌+◌, ◌*◌, ◌%◌, ◌^◌, List, [], ◌∷◌, ◌++◌, Bool, true, false, Option, Some, None, codes, decimal, length, map, flat_map, replicate, reverse, nat_lt, count_by, if◌then◌else◌}
+-- [drill]: the run that is made from one number, 1 to 2000, and the line that sums it up. Own: tasks claim page frames,
+-- store into them and swap some of them out, the machine hibernates, the power is cut, the image is resumed, and the
+-- tasks show what they stored.
+use Rattle.std.specs.Prelude.{ℕ, ◌+◌, ◌*◌, ◌%◌, ◌^◌, List, [], ◌∷◌, ◌++◌, Bool, true, false, Option, Some, None, codes}
+use Rattle.std.specs.Prelude.{decimal, length, map, flat_map, replicate, reverse, nat_lt, count_by, if◌then◌else◌}
 use Rattle.std.specs.List.{filter_map, range_with_len, sum}
 use Rattle.definitions.specs.NumberPages.{meta_of}
 use Rattle.page_core.specs.declared.format.Format.TheVariants.{Plain}
@@ -21,7 +23,8 @@ use Rattle.script.specs.Grammar.{ScriptValue}
 use Rattle.script.specs.Ident.{scripted_ident}
 use Rattle.script.specs.declared.tally.Tally.{Tally}
 
--- The machine: page frames 0 to 8191 with the tables in the lowest, and slots 0 to 16383, each on the block of its number.
+-- The machine: page frames 0 to 8191 with the tables in the lowest, and slots 0 to 16383, each on the block of its
+-- number.
 abbrev pub drill_hardware : Hardware
 drill_hardware = record {
   zones = (0, 8192) ∷ [];
@@ -89,8 +92,9 @@ pages c = 24 + c + meta_of (24 + c) + 1
 abbrev pub loader_ranges : Ranges
 loader_ranges = record { count = 2; list = (0, 99) ∷ (4000, 4999) ∷ replicate 6 (0, 0) }
 
--- What happens, part by part: pages that are claimed are stored into; some go out, the last one first to be written, and are stored into again;
--- the machine hibernates; after a cut it is resumed; every page is shown; those that went out come in again, and are shown.
+-- What happens, part by part: pages that are claimed are stored into; some go out, the last one first to be written,
+-- and are stored into again; the machine hibernates; after a cut it is resumed; every page is shown; those that went
+-- out come in again, and are shown.
 abbrev pub boots : List Event
 boots = event.Boot Fresh ∷ core_steps 2
 
@@ -104,14 +108,16 @@ abbrev pub hibernates : ℕ → List Event
 hibernates c = event.Hibernate Plain ∷ core_steps (pages c + maps_of (pages c) + 4)
 
 abbrev pub resumes : ℕ → List Event
-resumes c = event.Cut c ∷ event.Resume (loader.Ranges loader_ranges) Compare ∷ core_steps (4 + maps_read (pages c) + pages c)
+resumes c =
+    event.Cut c ∷ event.Resume (loader.Ranges loader_ranges) Compare ∷ core_steps (4 + maps_read (pages c) + pages c)
 
 abbrev pub taken_in : ℕ → List Event
 taken_in t = map takes_in (below t) ++ map steps (below t) ++ map shows (below t)
 
 unfoldable pub drill_events : ℕ → List Event
 drill_events c =
-    boots ++ claimed c ++ gone_out c (swapped c) ++ hibernates c ++ resumes c ++ map shows (below c) ++ taken_in (swapped c)
+    boots ++ claimed c ++ gone_out c (swapped c) ++ hibernates c ++ resumes c ++ map shows (below c)
+    ++ taken_in (swapped c)
 
 -- the run of drill c
 abbrev pub drill_script : ℕ → ScriptValue
@@ -144,5 +150,6 @@ tally_of replies = record {
 -- the line of drill c
 abbrev pub summary : ℕ → Tally → List ℕ
 summary c t =
-    codes "drill " ++ decimal c ++ codes " events " ++ decimal t.events ++ codes " hibernated " ++ decimal t.hibernated ++ codes " resumed " ++ decimal t.resumed
+    codes "drill " ++ decimal c ++ codes " events " ++ decimal t.events ++ codes " hibernated " ++ decimal t.hibernated
+    ++ codes " resumed " ++ decimal t.resumed
     ++ codes " words " ++ decimal t.words ++ codes " sum " ++ decimal t.sum ++ 10 ∷ []

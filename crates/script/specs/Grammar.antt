@@ -1,5 +1,8 @@
--- What a script says, or its first fault. In a line the first kind of fault that applies is named, in the order of `FaultKind`.
-use Rattle.std.specs.Prelude.{◌≡◌, ℕ, ◌+◌, ◌-◌, ◌≤◌, ◌==◌, ◌&&◌, List, [], ◌∷◌, ◌++◌, Bool, false, not, Option, Some, None, Result, Ok, Err, length, nat_lt, nat_le, if◌then◌else◌, ⊤, count_by, flat_map, replicate, reverse, take, slice_index, slice_index_or, unwrap_or, slice_get}
+-- What a script says, or its first fault. In a line the first kind of fault that applies is named, in the order of
+-- `FaultKind`.
+use Rattle.std.specs.Prelude.{◌≡◌, ℕ, ◌+◌, ◌-◌, ◌≤◌, ◌==◌, ◌&&◌, List, [], ◌∷◌, ◌++◌, Bool, false, not, Option, Some}
+use Rattle.std.specs.Prelude.{None, Result, Ok, Err, length, nat_lt, nat_le, if◌then◌else◌, ⊤, count_by, flat_map}
+use Rattle.std.specs.Prelude.{replicate, reverse, take, slice_index, slice_index_or, unwrap_or, slice_get}
 use Rattle.std.specs.List.{find, filter_map, list_all, range_with_len, slice_split}
 use Rattle.std.specs.Option.{option_map}
 use Rattle.std.specs.Str.{bytes_eq}
@@ -18,7 +21,8 @@ use Rattle.script.specs.declared.grammar.Setting.TheVariants.{Zone, Last, Bad, R
 use Rattle.script.specs.declared.grammar.LineStop.{LineStop}
 use Rattle.script.specs.declared.grammar.LineStop.TheVariants as stop
 use Rattle.script.specs.Settings.{SettingsValue, hardware_by, is_faulty, with_setting, IsFittingSetting}
-use Rattle.script.specs.Shapes.{Row, setting_rows, event_rows, core_rows, machine_rows, outside_rows, task_rows, IsScripted}
+use Rattle.script.specs.Shapes.{Row, setting_rows, event_rows, core_rows, machine_rows, outside_rows, task_rows}
+use Rattle.script.specs.Shapes.{IsScripted}
 use Rattle.script.specs.Words.{◌>>=◌, words_of}
 use denote.Ref.{Bor}
 
@@ -31,7 +35,7 @@ is_printable b = nat_le 32 b && nat_le b 126
 abbrev pub row_of : {A : Type 0} → List ℕ → List (Row A) → Option (Row A)
 row_of first rows = find (λ row. bytes_eq row.first first) rows
 
--- what the words behind the first say, by its row
+-- what the words after the first say, by its row
 abbrev pub by_rows : Bool → Option (Row (ℕ × Event)) → Option (Row Setting) → List (List ℕ) → Result Item FaultKind
 by_rows begun (Some row) setting words = row.reads words >>= λ e. Ok (Events e.0 e.1)
 by_rows begun None (Some row) words = if begun then Err kind.Late else (row.reads words >>= λ s. Ok (Sets s))
@@ -139,8 +143,8 @@ all_settings lines = filter_map (λ line. setting_of (line_item false line)) lin
 abbrev pub last_one : {A : Type 0} → (Setting → Option A) → List Setting → Option A
 last_one says settings = slice_get (filter_map says (reverse settings)) 0
 
--- Each line with a zone, a bad slot, a region or an extent adds one. Of the lines with a last page, with tables and with a
--- signature the last one counts; the last page is 3000 where there is none, and the signature 0.
+-- Each line with a zone, a bad slot, a region or an extent adds one. Of the lines with a last page, with tables and
+-- with a signature the last one counts; the last page is 3000 where there is none, and the signature 0.
 abbrev pub by_kind : List Setting → SettingsValue
 by_kind settings = record {
   zones = filter_map zone_of settings;
@@ -155,7 +159,7 @@ by_kind settings = record {
 unfoldable pub settings_in : List (List ℕ) → SettingsValue
 settings_in lines = by_kind (all_settings lines)
 
--- the settings behind a line
+-- the settings after a line
 abbrev pub settings_behind : Result Item FaultKind → SettingsValue → SettingsValue
 settings_behind (Ok (Sets s)) settings = with_setting s settings
 settings_behind (Ok (Events n e)) settings = settings
@@ -201,16 +205,19 @@ abbrev pub stop_at : LineStop → ℕ → ParseStop
 stop_at stop.NoMemory line = parse_stop.NoMemory
 stop_at (stop.Fault k) line = parse_stop.Fault (record { line = line; kind = k })
 
--- how a line is at fault that stands behind these settings and events
+-- how a line is at fault that stands after these settings and events
 unfoldable pub kind_after : SettingsValue → List Event → List ℕ → Option FaultKind
 kind_after settings before line = kind_by settings before (line_item (nat_lt 0 (length before)) line)
 
 -- the fault of the line that k lines stand before, if it has one
 unfoldable pub fault_at : List (List ℕ) → ℕ → Option ScriptFault
 fault_at lines k =
-    option_map (λ kind. record { line = k + 1; kind = kind }) (kind_after (settings_in (take k lines)) (events_in (take k lines)) (slice_index_or lines k []))
+    option_map (λ kind. record {
+      line = k + 1;
+      kind = kind;
+    }) (kind_after (settings_in (take k lines)) (events_in (take k lines)) (slice_index_or lines k []))
 
--- the fault at the end of a script without events whose settings describe no machine, in a line behind the last
+-- the fault at the end of a script without events whose settings describe no machine, in a line after the last
 abbrev pub end_fault : ℕ → SettingsValue → List Event → List ScriptFault
 end_fault line settings events =
     if (length events == 0) && is_faulty settings then (record { line = line; kind = kind.Hardware } ∷ []) else []
@@ -244,12 +251,14 @@ pub record ScriptValue : Type 0 where
   pub events : List Event
 
 abbrev pub script_by : SettingsValue → List Event → ScriptValue
-script_by settings events = record { hardware = hardware_by settings; last = settings.last; bad = settings.bad; events = events }
+script_by settings events =
+    record { hardware = hardware_by settings; last = settings.last; bad = settings.bad; events = events }
 
--- what lines say, where behind is the number of the line behind the last
+-- what lines say, where behind is the number of the line after the last
 unfoldable pub value_of : ℕ → List (List ℕ) → Result ScriptValue ScriptFault
 value_of behind lines =
-    first_of (filter_map (fault_at lines) (range_with_len 0 (length lines)) ++ end_fault behind (settings_in lines) (events_in lines)) (script_by (settings_in lines) (events_in lines))
+    first_of (filter_map (fault_at lines) (range_with_len 0 (length lines))
+    ++ end_fault behind (settings_in lines) (events_in lines)) (script_by (settings_in lines) (events_in lines))
 
 -- what a script says, or its first fault
 unfoldable pub script_of : List ℕ → Result ScriptValue ScriptFault

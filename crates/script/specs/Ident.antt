@@ -10,6 +10,7 @@ filled_name text = text ++ replicate (65 - length text) 0
 unfoldable pub scripted_ident : Ident
 scripted_ident = record {
   version_code = 393472;
-  names = filled_name (codes "Linux") ∷ filled_name (codes "machine") ∷ filled_name (codes "6.1.0") ∷ filled_name (codes "#1")
+  names = filled_name (codes "Linux") ∷ filled_name (codes "machine") ∷ filled_name (codes "6.1.0")
+      ∷ filled_name (codes "#1")
       ∷ filled_name (codes "plain") ∷ filled_name (codes "(none)") ∷ [];
 }

@@ -1,7 +1,8 @@
 -- The names of faults, as a note prints them.
 use Rattle.std.specs.Prelude.{ℕ, List, codes}
 use Rattle.script.specs.declared.fault.FaultKind.{FaultKind}
-use Rattle.script.specs.declared.fault.FaultKind.TheVariants.{TooLong, Byte, Word, Late, Count, Number, Range, Events, Hardware}
+use Rattle.script.specs.declared.fault.FaultKind.TheVariants.{TooLong, Byte, Word, Late, Count, Number, Range, Events}
+use Rattle.script.specs.declared.fault.FaultKind.TheVariants.{Hardware}
 
 abbrev pub kind_name : FaultKind → List ℕ
 kind_name TooLong = codes "TooLong"

@@ -1,5 +1,6 @@
--- Ranges of page frames, as the words behind `resume` name them.
-use Rattle.std.specs.Prelude.{ℕ, ◌+◌, ◌-◌, ◌==◌, List, [], ◌∷◌, ◌++◌, Option, Some, None, Result, Ok, Err, length, take, drop, replicate, nat_lt, if◌then◌else◌}
+-- Ranges of page frames, as the words after `resume` name them.
+use Rattle.std.specs.Prelude.{ℕ, ◌+◌, ◌-◌, ◌==◌, List, [], ◌∷◌, ◌++◌, Option, Some, None, Result, Ok, Err, length, take}
+use Rattle.std.specs.Prelude.{drop, replicate, nat_lt, if◌then◌else◌}
 use Rattle.std.specs.List.{position}
 use Rattle.plain_machine.specs.declared.event.Ranges.{Ranges}
 use Rattle.script.specs.declared.fault.FaultKind.{FaultKind}
@@ -10,7 +11,8 @@ use Rattle.script.specs.Words.{◌>>=◌, number_of}
 abbrev pub as_range : Option ℕ → Option ℕ → Result (ℕ × ℕ) FaultKind
 as_range None high = Err Number
 as_range (Some low) None = Err Number
-as_range (Some low) (Some high) = if nat_lt high low then Err Range else if nat_lt 65535 high then Err Range else Ok (low, high)
+as_range (Some low) (Some high) =
+    if nat_lt high low then Err Range else if nat_lt 65535 high then Err Range else Ok (low, high)
 
 -- the numbers on both sides of a dash
 abbrev pub around : List ℕ → Option ℕ → Result (ℕ × ℕ) FaultKind
@@ -26,7 +28,7 @@ unfoldable pub ranges_in : List (List ℕ) → Result (List (ℕ × ℕ)) FaultK
 ranges_in [] = Ok []
 ranges_in (word ∷ words) = range_in word >>= λ range. ranges_in words >>= λ ranges. Ok (range ∷ ranges)
 
--- a loader's ranges: those that are named, and (0, 0) in the places behind them
+-- a loader's ranges: those that are named, and (0, 0) in the places after them
 abbrev pub ranges_of : List (ℕ × ℕ) → Ranges
 ranges_of ranges = record { count = length ranges; list = ranges ++ replicate (8 - length ranges) (0, 0) }
 

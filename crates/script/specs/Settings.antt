@@ -1,5 +1,6 @@
 -- What the settings of a script describe.
-use Rattle.std.specs.Prelude.{ℕ, ◌+◌, ◌≤◌, ◌||◌, All, Bool, is_some, List, [], ◌∷◌, ◌++◌, Option, Some, length, nat_lt, unwrap_or, ⊤}
+use Rattle.std.specs.Prelude.{ℕ, ◌+◌, ◌≤◌, ◌||◌, All, Bool, is_some, List, [], ◌∷◌, ◌++◌, Option, Some, length, nat_lt}
+use Rattle.std.specs.Prelude.{unwrap_or, ⊤}
 use Rattle.std.specs.List.{list_any}
 use Rattle.definitions.specs.Zones.{numbers, first_from, top}
 use Rattle.plain_machine.specs.Machine.{Hardware, table_len}
@@ -30,7 +31,7 @@ zones_by s = or_default s.zones ((0, 4096) ∷ [])
 abbrev pub lowest_frame : List (ℕ × ℕ) → ℕ
 lowest_frame zones = unwrap_or (first_from (numbers zones) 0) 0
 
--- by default the frame table begins at the lowest page frame, and the slot table behind it
+-- by default the frame table begins at the lowest page frame, and the slot table after it
 abbrev pub tables_in : List (ℕ × ℕ) → ℕ × ℕ
 tables_in zones = (lowest_frame zones, lowest_frame zones + table_len (top zones))
 
@@ -50,12 +51,12 @@ hardware_by s = record {
   extents = or_default s.extents ((0, s.last + 1, 0) ∷ []);
 }
 
--- Settings describe no machine: the header block of an area names up to 630 bad slots (MAX_SWAP_BADPAGES), none above the last,
--- and the parts of the hardware must fit together.
+-- Settings describe no machine: the header block of an area names up to 630 bad slots (MAX_SWAP_BADPAGES), none above
+-- the last, and the parts of the hardware must fit together.
 unfoldable pub is_faulty : SettingsValue → Bool
 is_faulty s = nat_lt 630 (length s.bad) || list_any (nat_lt s.last) s.bad || is_some (hard_fault (hardware_by s))
 
--- the settings behind one more of them
+-- the settings after one more of them
 abbrev pub with_setting : Setting → SettingsValue → SettingsValue
 with_setting (Zone start count) s = record s { zones = s.zones ++ (start, count) ∷ [] }
 with_setting (Last last) s = record s { last = last }

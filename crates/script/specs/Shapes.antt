@@ -1,5 +1,6 @@
 -- The lines that a script may have, by their first word.
-use Rattle.std.specs.Prelude.{◌≡◌, ℕ, ◌%◌, ◌==◌, List, [], ◌∷◌, ◌++◌, codes, Result, Ok, Err, slice_index, if◌then◌else◌, ⊤}
+use Rattle.std.specs.Prelude.{◌≡◌, ℕ, ◌%◌, ◌==◌, List, [], ◌∷◌, ◌++◌, codes, Result, Ok, Err, slice_index}
+use Rattle.std.specs.Prelude.{if◌then◌else◌, ⊤}
 use Rattle.std.specs.Str.{bytes_eq}
 use Rattle.page_core.specs.declared.format.Format.{Format}
 use Rattle.page_core.specs.declared.format.Format.TheVariants.{Plain, SkipZeros}
@@ -21,12 +22,12 @@ use Rattle.script.specs.declared.words.Span.{Span}
 use Rattle.script.specs.Ranges.{all_ranges}
 use Rattle.script.specs.Words.{◌>>=◌, all_numbers}
 
--- A line's first word, and what the words behind it say.
+-- A line's first word, and what the words after it say.
 pub record Row (A : Type 0) : Type 0 where
   pub first : List ℕ
   pub reads : List (List ℕ) → Result A FaultKind
 
--- the words behind one that must stand first
+-- the words after one that must stand first
 abbrev pub second_word : List ℕ → List (List ℕ) → Result (List (List ℕ)) FaultKind
 second_word second [] = Err kind.Count
 second_word second (word ∷ words) = if bytes_eq word second then Ok words else Err kind.Word
@@ -61,7 +62,9 @@ lengths = span 1 16384
 
 -- the flags of a region are even
 abbrev pub with_flags : List ℕ → Result Setting FaultKind
-with_flags n = if slice_index n 2 % 2 == 0 then Ok (Region (slice_index n 0) (slice_index n 1) (slice_index n 2)) else Err kind.Range
+with_flags n =
+    if slice_index n 2 % 2 == 0 then Ok (Region (slice_index n 0) (slice_index n 1) (slice_index n 2))
+    else Err kind.Range
 
 abbrev pub region_row : Row Setting
 region_row = record {
@@ -78,7 +81,8 @@ setting_rows =
     ∷ region_row
     ∷ number_row (codes "tables") (frames ∷ frames ∷ []) (λ n. Tables (slice_index n 0) (slice_index n 1))
     ∷ number_row (codes "hwsig") (span 0 4294967295 ∷ []) (λ n. Signature (slice_index n 0))
-    ∷ number_row (codes "extent") (slots ∷ lengths ∷ slots ∷ []) (λ n. Extent (slice_index n 0) (slice_index n 1) (slice_index n 2))
+    ∷ number_row (codes "extent") (slots ∷ lengths ∷ slots
+    ∷ []) (λ n. Extent (slice_index n 0) (slice_index n 1) (slice_index n 2))
     ∷ []
 
 -- The events. A line says how many times an event.
@@ -138,8 +142,8 @@ resume_row = record {
   reads = λ line. all_ranges line >>= λ ranges. Ok (1, event.Resume (loader.Ranges ranges) Compare);
 }
 
--- a row for each first word of an event of the whole machine, of what happens to it from outside or step by step, and of what a task asks
--- for
+-- a row for each first word of an event of the whole machine, of what happens to it from outside or step by step, and
+-- of what a task asks for
 abbrev pub machine_rows : List (Row (ℕ × Event))
 machine_rows =
     event_row (codes "boot") [] (λ n. event.Boot Fresh)
@@ -154,7 +158,8 @@ machine_rows =
 abbrev pub outside_rows : List (Row (ℕ × Event))
 outside_rows =
     event_row (codes "cut") (values ∷ []) (λ n. event.Cut (slice_index n 0))
-    ∷ event_row (codes "arm") (span 1 1000000 ∷ span 0 1000000 ∷ values ∷ []) (λ n. event.Arm (slice_index n 0) (slice_index n 1) (slice_index n 2))
+    ∷ event_row (codes "arm") (span 1 1000000 ∷ span 0 1000000 ∷ values
+    ∷ []) (λ n. event.Arm (slice_index n 0) (slice_index n 1) (slice_index n 2))
     ∷ step_row
     ∷ core_row (codes "steps") (span 1 100000 ∷ []) (λ n. slice_index n 0)
     ∷ []
@@ -166,7 +171,8 @@ abbrev pub task_rows : List (Row (ℕ × Event))
 task_rows =
     task_row (codes "claim") (frames ∷ []) (λ n. op.Claim (slice_index n 1))
     ∷ task_row (codes "release") (frames ∷ []) (λ n. op.Release (slice_index n 1))
-    ∷ task_row (codes "store") (frames ∷ words ∷ values ∷ []) (λ n. op.Store (slice_index n 1) (slice_index n 2) (slice_index n 3))
+    ∷ task_row (codes "store") (frames ∷ words ∷ values
+    ∷ []) (λ n. op.Store (slice_index n 1) (slice_index n 2) (slice_index n 3))
     ∷ task_row (codes "show") (frames ∷ words ∷ []) (λ n. op.Show (slice_index n 1) (slice_index n 2))
     ∷ task_row (codes "cache") (frames ∷ []) (λ n. op.Cache (slice_index n 1))
     ∷ task_row (codes "out") (frames ∷ []) (λ n. op.Out (slice_index n 1))

@@ -1,5 +1,6 @@
 -- The words of a line of a script, and the numbers that they are.
-use Rattle.std.specs.Prelude.{ℕ, ◌^◌, ◌==◌, ◌≤◌, ◌&&◌, List, [], ◌∷◌, not, Bool, Option, Some, None, Result, Ok, Err, filter, map, length, nat_lt, if◌then◌else◌, ⊤}
+use Rattle.std.specs.Prelude.{ℕ, ◌^◌, ◌==◌, ◌≤◌, ◌&&◌, List, [], ◌∷◌, not, Bool, Option, Some, None, Result, Ok, Err}
+use Rattle.std.specs.Prelude.{filter, map, length, nat_lt, if◌then◌else◌, ⊤}
 use Rattle.std.specs.List.{list_all, slice_split}
 use Rattle.std.specs.Char.{is_ascii_digit}
 use Rattle.std.specs.Str.Parse.{digits_value}
@@ -29,7 +30,8 @@ words_of line = filter is_word (slice_split (λ b. b == 32) line)
 -- the number of at most 64 bits that decimal digits are; leading zeros are allowed
 unfoldable pub number_of : List ℕ → Option ℕ
 number_of word =
-    if list_all is_ascii_digit word && nat_lt 0 (length word) && nat_lt (digits_value 10 word) (2 ^ 64) then Some (digits_value 10 word) else None
+    if list_all is_ascii_digit word && nat_lt 0 (length word) && nat_lt (digits_value 10 word) (2 ^ 64)
+    then Some (digits_value 10 word) else None
 
 abbrev pub in_span : Span → Option ℕ → Result ℕ FaultKind
 in_span s None = Err Number

@@ -1,8 +1,11 @@
-ghost use Rattle.std.specs.Prelude.{◌≡◌, ℕ, ◌+◌, ◌*◌, ◌<◌, ◌≤◌, ◌∷◌, ◌++◌, [], All, IfOk, OnOk, length, flat_map, map, reverse, replicate};
+ghost use Rattle.std.specs.Prelude.{◌≡◌, ℕ, ◌+◌, ◌*◌, ◌<◌, ◌≤◌, ◌∷◌, ◌++◌, [], All, IfOk, OnOk, length, flat_map, map};
+ghost use Rattle.std.specs.Prelude.{reverse, replicate};
 ghost use Rattle.plain_machine.specs.declared.event.Event.TheVariants.{Cut};
 ghost use Rattle.plain_machine.specs.Fitting.{IsFitting};
 ghost use Rattle.plain_machine.specs.Image.{maps_of, maps_read};
-ghost use Rattle.script.specs.Drill.{asks, below, boots, claimed, claims, core_steps, drill_events, drill_hardware, drill_script, goes_out, gone_out, hibernates, loader_ranges, pages, resumes, shows, steps, stores, swapped, taken_in, takes_in, value};
+ghost use Rattle.script.specs.Drill.{asks, below, boots, claimed, claims, core_steps, drill_events, drill_hardware};
+ghost use Rattle.script.specs.Drill.{drill_script, goes_out, gone_out, hibernates, loader_ranges, pages, resumes};
+ghost use Rattle.script.specs.Drill.{shows, steps, stores, swapped, taken_in, takes_in, value};
 ghost use Rattle.script.specs.Shapes.{IsScripted};
 
 use crate::ident::scripted_ident;
@@ -18,8 +21,8 @@ const MOST_SWAPPED: u32 = 8;
 /// How many page frames the two tables take.
 const TABLE_FRAMES: u32 = 24;
 
-/// The run of drill `number`: a machine of 8192 page frames and 16,384 slots, and events that claim `number` page frames, swap some out,
-/// hibernate, cut the power, resume and show what was stored.
+/// The run of drill `number`: a machine of 8192 page frames and 16,384 slots, and events that claim `number` page
+/// frames, swap some out, hibernate, cut the power, resume and show what was stored.
 pub fn generate(alloc: Global, number: u32) -> Result<Script, NoMemory>
     requires some { 1 ≤ number }
     requires few { number ≤ 2000 }
@@ -232,7 +235,8 @@ fn add_last_steps_first(events: &mut Vec<Event>, count: u32) -> Result<(), Alloc
 /// Stores one more than was stored before.
 fn add_stores(events: &mut Vec<Event>, number: u32, count: u32) -> Result<(), AllocError>
     requires { count ≤ 2000 }
-    ensures { OnOk result (events.new.items ≡ events.old.items ++ map (λ i. stores (value number i + 1) i) (below count)) }
+    ensures { OnOk result (events.new.items ≡ events.old.items
+        ++ map (λ i. stores (value number i + 1) i) (below count)) }
 {
     for i in 0..count {
         events.push(store(i, value(number, i) + 1))?;
@@ -242,7 +246,8 @@ fn add_stores(events: &mut Vec<Event>, number: u32, count: u32) -> Result<(), Al
 
 fn add_hibernation(events: &mut Vec<Event>, pages: u32) -> Result<(), AllocError>
     requires { pages ≤ 3000 }
-    ensures { OnOk result (events.new.items ≡ events.old.items ++ Event.Hibernate Format.Plain ∷ core_steps (pages + maps_of pages + 4)) }
+    ensures { OnOk result (events.new.items ≡ events.old.items ++ Event.Hibernate Format.Plain
+        ∷ core_steps (pages + maps_of pages + 4)) }
 {
     events.push(Event::Hibernate(Format::Plain))?;
     add_core_steps(events, pages + (pages / 511 + 1) + 4)
@@ -251,7 +256,8 @@ fn add_hibernation(events: &mut Vec<Event>, pages: u32) -> Result<(), AllocError
 /// Cuts the power and resumes.
 fn add_resume(events: &mut Vec<Event>, pick: u32, pages: u32) -> Result<(), AllocError>
     requires { pages ≤ 3000 }
-    ensures { OnOk result (events.new.items ≡ events.old.items ++ Event.Cut pick ∷ Event.Resume (Loader.Ranges loader_ranges) IdentCheck.Compare ∷ core_steps (4 + maps_read pages + pages)) }
+    ensures { OnOk result (events.new.items ≡ events.old.items ++ Event.Cut pick
+        ∷ Event.Resume (Loader.Ranges loader_ranges) IdentCheck.Compare ∷ core_steps (4 + maps_read pages + pages)) }
 {
     events.push(Event::Cut(u64::from(pick)))?;
     events.push(Event::Resume(Loader::Ranges(held_by_loader()), IdentCheck::Compare))?;

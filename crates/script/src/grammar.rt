@@ -1,7 +1,8 @@
 ghost use Rattle.std.specs.Prelude.{◌≡◌, ◌<◌, ◌≤◌, IfOk, IfSome, IsOk, ◌↔◌, true, false, take, IfErr};
 ghost use Rattle.std.specs.List.{list_all};
 ghost use Rattle.script.specs.Words.{texts, words_of};
-ghost use Rattle.script.specs.Grammar.{core_event_in, event_in, machine_event_in, outside_event_in, is_printable, line_item, setting_in, setting_item, task_event_in, words_item, IsFittingItem};
+ghost use Rattle.script.specs.Grammar.{core_event_in, event_in, machine_event_in, outside_event_in, is_printable};
+ghost use Rattle.script.specs.Grammar.{line_item, setting_in, setting_item, task_event_in, words_item, IsFittingItem};
 ghost use Rattle.script.specs.Settings.{IsFittingSetting};
 ghost use Rattle.script.specs.Shapes.{actor_in, format_in, region_row, second_word};
 ghost use Rattle.plain_machine.specs.Fitting.{IsFittingActor};
@@ -158,7 +159,7 @@ fn before_events(begun: bool) -> Result<(), FaultKind>
     if begun { Err(FaultKind::Late) } else { Ok(()) }
 }
 
-/// The words behind one that must stand first.
+/// The words after one that must stand first.
 fn behind<'a>(word: &[u8], words: &'a [&'a [u8]]) -> Result<&'a [&'a [u8]], FaultKind>
     ensures ok { IfOk result (λ rest. second_word word.now (texts words.now) ≡ Ok (texts rest.now)) }
     ensures err { IfErr result (λ kind. second_word word.now (texts words.now) ≡ Err kind) }
@@ -182,7 +183,7 @@ fn task(t: u64, op: TaskOp) -> (u32, Event)
     (1, Event::Task(t as u32, op))
 }
 
-/// Whose step it is, by the words behind `step`: the core's, or that of a task by its number.
+/// Whose step it is, by the words after `step`: the core's, or that of a task by its number.
 fn actor(words: &[&[u8]]) -> Result<Actor, FaultKind>
     ensures says { result ≡ actor_in (texts words.now) }
     ensures fits { IfOk result IsFittingActor }
@@ -200,7 +201,7 @@ fn actor(words: &[&[u8]]) -> Result<Actor, FaultKind>
     }
 }
 
-/// How pages are to be written, by the words behind `hibernate` or `suspend`.
+/// How pages are to be written, by the words after `hibernate` or `suspend`.
 fn format(words: &[&[u8]]) -> Result<Format, FaultKind>
     ensures { result ≡ format_in (texts words.now) }
 {

@@ -13,12 +13,12 @@ pub const MAX_WORDS: usize = 10;
 #[derive(Clone, Copy)]
 pub struct FirstLine<'a> {
     pub line: &'a [u8],
-    /// The text behind its LF, where it has one.
+    /// The text after its LF, where it has one.
     pub behind: Option<&'a [u8]>,
 }
 
-/// Takes the first line off a text, and puts its first words, which stand between spaces, into an empty list. A line that says something
-/// has fewer than fit.
+/// Takes the first line off a text, and puts its first words, which stand between spaces, into an empty list. A line
+/// that says something has fewer than fit.
 pub fn first_line<'a>(
     text: &'a [u8],
     words: &mut ArrayVec<&'a [u8], MAX_WORDS>,
@@ -28,7 +28,8 @@ pub fn first_line<'a>(
     ensures printable { OnOk result (list_all is_printable (first_line text.now) ≡ true) }
     ensures words { OnOk result (texts words.new.items ≡ take 10 (words_of (first_line text.now))) }
     ensures behind { IfOk result (λ first. lines_in first.behind ≡ drop 1 (lines_of text.now)) }
-    ensures byte { IfErr result (λ kind. (kind ≡ FaultKind.Byte) × (list_all is_printable (first_line text.now) ≡ false)) }
+    ensures byte { IfErr result (λ kind. (kind ≡ FaultKind.Byte)
+        × (list_all is_printable (first_line text.now) ≡ false)) }
 {
     let mut from = 0;
     for (i, b) in text.iter().enumerate() {

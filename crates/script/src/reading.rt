@@ -1,6 +1,9 @@
-ghost use Rattle.std.specs.Prelude.{◌≡◌, ◌+◌, ◌<◌, ◌≤◌, ◌∷◌, ◌++◌, ℕ, All, IfOk, IfErr, IfSome, OnOk, length, drop, true, false, Ok, Err, Some, None, []};
+ghost use Rattle.std.specs.Prelude.{◌≡◌, ◌+◌, ◌<◌, ◌≤◌, ◌∷◌, ◌++◌, ℕ, All, IfOk, IfErr, IfSome, OnOk, length, drop};
+ghost use Rattle.std.specs.Prelude.{true, false, Ok, Err, Some, None, []};
 ghost use Rattle.plain_machine.specs.Fitting.{IsFitting};
-ghost use Rattle.script.specs.Grammar.{end_fault, events_of, first_line, kind_after, kind_by, line_count, line_item, lines_in, lines_of, script_by, script_of, setting_of, settings_behind, stop_at, IsFittingItem, StopsBy};
+ghost use Rattle.script.specs.Grammar.{end_fault, events_of, first_line, kind_after, kind_by, line_count, line_item};
+ghost use Rattle.script.specs.Grammar.{lines_in, lines_of, script_by, script_of, setting_of, settings_behind, stop_at};
+ghost use Rattle.script.specs.Grammar.{IsFittingItem, StopsBy};
 ghost use Rattle.script.specs.Reading.{IsOfLines, IsSettled};
 ghost use Rattle.script.specs.Settings.{hardware_by, is_faulty, IsLastPage};
 ghost use Rattle.script.specs.Shapes.{IsScripted};
@@ -101,8 +104,8 @@ impl Reader {
         }
     }
 
-    /// Settles the hardware, where the settings describe a machine. It is large, and stands apart so that the first event alone pays for
-    /// its room.
+    /// Settles the hardware, where the settings describe a machine. It is large, and stands apart so that the first
+    /// event alone pays for its room.
     #[inline(never)]
     fn settle(&mut self) -> Result<(), FaultKind>
         requires { IsOfLines self.old }
@@ -122,7 +125,8 @@ impl Reader {
         ensures events { OnOk result (self.new.events ≡ self.old.events ++ events_of (Ok (Item.Events count event))) }
         ensures reading { OnOk result (IsOfLines self.new) }
         ensures none { OnOk result (kind_by self.old.settings self.old.events (Ok (Item.Events count event)) ≡ None) }
-        ensures fault { IfErr result (StopsBy (kind_by self.old.settings self.old.events (Ok (Item.Events count event)))) }
+        ensures fault { IfErr result (StopsBy
+            (kind_by self.old.settings self.old.events (Ok (Item.Events count event)))) }
     {
         let more = count as usize;
         if more > MAX_EVENTS - self.events.len() {
@@ -153,11 +157,13 @@ impl Reader {
         }
     }
 
-    /// Adds what the first line of a text says, and gives the text behind it, where there is one.
+    /// Adds what the first line of a text says, and gives the text after it, where there is one.
     fn read<'a>(&mut self, text: &'a [u8]) -> Result<Option<&'a [u8]>, LineStop>
         requires { IsOfLines self.old }
-        ensures settings { OnOk result (self.new.settings ≡ settings_behind (line_item false (first_line text.now)) self.old.settings) }
-        ensures events { OnOk result (self.new.events ≡ self.old.events ++ events_of (line_item false (first_line text.now))) }
+        ensures settings { OnOk result (self.new.settings ≡ settings_behind (line_item false (first_line text.now))
+            self.old.settings) }
+        ensures events { OnOk result (self.new.events ≡ self.old.events
+            ++ events_of (line_item false (first_line text.now))) }
         ensures reading { OnOk result (IsOfLines self.new) }
         ensures none { OnOk result (kind_after self.old.settings self.old.events (first_line text.now) ≡ None) }
         ensures behind { IfOk result (λ behind. lines_in behind ≡ drop 1 (lines_of text.now)) }
@@ -176,7 +182,8 @@ impl Reader {
         ensures script { IfSome result (λ script. script ≡ script_by self.settings self.events) }
         ensures no_fault { IfSome result (λ script. (line : ℕ) → end_fault line self.settings self.events ≡ []) }
         ensures sound { IfSome result (λ script. is_faulty self.settings ≡ false) }
-        ensures fault { result ≡ None → (line : ℕ) → end_fault line self.settings self.events ≡ record { line = line; kind = FaultKind.Hardware } ∷ [] }
+        ensures fault { result ≡ None → (line : ℕ) →
+            end_fault line self.settings self.events ≡ record { line = line; kind = FaultKind.Hardware } ∷ [] }
     {
         let Reader {
             settings,
@@ -224,8 +231,8 @@ pub fn parse(alloc: Global, bytes: &[u8]) -> Result<Script, ParseStop>
     ensures script { IfOk result (λ script. script_of bytes.now ≡ Ok script) }
     ensures fault { (fault : ScriptFault) → result ≡ Err (ParseStop.Fault fault) → script_of bytes.now ≡ Err fault }
 
-    // The last page and the bad slots are those that an area may have, which is the machine's, and each event is one that the
-    // machine takes and that a line may give.
+    // The last page and the bad slots are those that an area may have, which is the machine's, and each event is one
+    // that the machine takes and that a line may give.
     ensures slots { IfOk result (λ script. script.hardware.slots ≡ script.last + 1) }
     ensures area { IfOk result (λ script. IsLastPage script.last) }
     ensures few_bad { IfOk result (λ script. length script.bad ≤ 630) }

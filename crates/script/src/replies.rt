@@ -1,5 +1,6 @@
 ghost use Rattle.std.specs.Prelude.{◌≡◌, ◌+◌, ◌≤◌, ◌++◌, length, codes, decimal};
-ghost use Rattle.plain_machine.specs.Replies.{call_text, field_text, left_text, line_of, one, reply_text, two, booted_text};
+ghost use Rattle.plain_machine.specs.Replies.{call_text, field_text, left_text, line_of, one, reply_text, two};
+ghost use Rattle.plain_machine.specs.Replies.{booted_text};
 
 use crate::texts::put_no_swap;
 use byte_streams::Line;

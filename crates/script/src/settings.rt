@@ -1,6 +1,7 @@
 ghost use Rattle.std.specs.Prelude.{◌≡◌, ◌≤◌, ◌↔◌, All, IfSome, IsNone, OnOk, length, nat_lt, true, []};
 ghost use Rattle.std.specs.List.{list_any};
-ghost use Rattle.script.specs.Settings.{hardware_by, is_faulty, or_default, tables_by, tables_in, with_setting, zones_by, AreFitting, IsFittingSetting, IsZoneLine};
+ghost use Rattle.script.specs.Settings.{hardware_by, is_faulty, or_default, tables_by, tables_in, with_setting};
+ghost use Rattle.script.specs.Settings.{zones_by, AreFitting, IsFittingSetting, IsZoneLine};
 
 use crate::grammar::Setting;
 use crate::ident::scripted_ident;
@@ -160,7 +161,7 @@ fn or_default<'a, T>(given: &'a [T], default: &'a [T]) -> &'a [T]
     if given.is_empty() { default } else { given }
 }
 
-/// The frame table in the lowest page frames, and the slot table behind it.
+/// The frame table in the lowest page frames, and the slot table after it.
 fn tables_in(zones: &[(u32, u32)]) -> (u32, u32)
     requires some { 1 ≤ length zones.now }
     requires lines { All IsZoneLine zones.now }

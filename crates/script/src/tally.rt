@@ -4,7 +4,8 @@ ghost use Rattle.script.specs.Drill.{is_hibernated, is_resumed, summary, word_in
 use byte_streams::Line;
 use plain_machine::Reply;
 
-/// What replies come to: how many there are, how many hibernations, resumes and words they tell of, and the words' sum modulo 2^64.
+/// What replies come to: how many there are, how many hibernations, resumes and words they tell of, and the words' sum
+/// modulo 2^64.
 #[derive(Clone, Copy, Debug)]
 pub struct Tally {
     pub events: u64,
@@ -36,7 +37,8 @@ impl Tally {
     /// Adds one more reply, of at most 2^32.
     pub fn add(&mut self, reply: &Reply)
         requires { (replies : List PlainReply) × (self.old ≡ tally_of replies) × (length replies < 2 ^ 32) }
-        ensures { (replies : List PlainReply) → self.old ≡ tally_of replies → self.new ≡ tally_of (replies ++ reply.now ∷ []) }
+        ensures { (replies : List PlainReply) → self.old ≡ tally_of replies →
+            self.new ≡ tally_of (replies ++ reply.now ∷ []) }
     {
         self.events += 1;
         self.hibernated += u64::from(is_hibernated(reply));

@@ -1,4 +1,5 @@
--- What one call of a disk leaves, or at most one, over the meanings of the trait (src/disk.rt). It has no counterpart in Linux.
+-- What one call of a disk leaves, or at most one, over the meanings of the trait (src/disk.rt). It has no counterpart
+-- in Linux.
 use Rattle.std.specs.Prelude.{◌≡◌, ◌≤◌, ◌⊎◌, ℕ, IsTrue}
 use Rattle.definitions.specs.Disk.{Changes, Elapses, HasRisen, raised}
 use Rattle.sector_disk.specs.declared.disk.Disk.{Ghosts}
@@ -10,8 +11,9 @@ OneCall before after = after ≡ raised before
 abbrev pub AtMostOneCall : ℕ → ℕ → Type 0
 AtMostOneCall before after = (after ≡ before) ⊎ (after ≡ raised before)
 
--- So many calls were made, and no restart or arm. Where it fails by one, that is a failure of the disk. The disk is as large as before,
--- and tells what it told: over one that tells moments the clock doesn't fall, and what a cut may leave now it may have left since before.
+-- So many calls were made, and no restart or arm. Where it fails by one, that is a failure of the disk. The disk is as
+-- large as before, and tells what it told: over one that tells moments the clock doesn't fall, and what a cut may leave
+-- now it may have left since before.
 pub record Called {X : Type 0} (D : Ghosts X) (made : ℕ → ℕ → Type 0) (fails : Type 0) (before after : X) : Type 0 where
   pub cause : fails → HasRisen (D.faults before) (D.faults after)
   pub faults : D.faults before ≤ D.faults after
@@ -19,4 +21,6 @@ pub record Called {X : Type 0} (D : Ghosts X) (made : ℕ → ℕ → Type 0) (f
   pub orders : D.orders after ≡ D.orders before
   pub blocks : D.block_count after ≡ D.block_count before
   pub telling : D.tells_moments after ≡ D.tells_moments before
-  pub time : IsTrue (D.tells_moments before) → Changes (Elapses (D.moment before) (D.moment after) (D.left_since before) (D.left_since after)) (D.content before) (D.content after)
+  pub time : IsTrue (D.tells_moments before) →
+      Changes (Elapses (D.moment before) (D.moment after) (D.left_since before) (D.left_since after)) (D.content before)
+      (D.content after)

@@ -1,5 +1,6 @@
 -- What `content_of` says of each sector.
-use Rattle.std.proofs.Common.{◌≡◌, ℕ, ◌*◌, ◌<◌, ◌⊎◌, zero, suc, Bool, true, false, cond, List, [], ◌∷◌, length, get_or, Contains, refl, sym, ap, ◌∙◌, inl, inr, subst, arith}
+use Rattle.std.proofs.Common.{◌≡◌, ℕ, ◌*◌, ◌<◌, ◌⊎◌, zero, suc, Bool, true, false, cond, List, [], ◌∷◌, length, get_or}
+use Rattle.std.proofs.Common.{Contains, refl, sym, ap, ◌∙◌, inl, inr, subst, arith}
 use Rattle.std.proofs.lemmas.Slice.Eq.{bytes_eq-Decides}
 use Rattle.std.proofs.lemmas.List.{get_or_default}
 use Rattle.std.specs.Str.{bytes_eq}
@@ -46,32 +47,41 @@ pub candidates_of-same : (l : List ℕ) → candidates_of l l ≡ l ∷ []
 unfolding candidates_of
 candidates_of-same l = rw ((bytes_eq-Decides l l).1 refl) refl
 
-pub length-content_of : (durable live : DiskImage) → length durable ≡ length live → length (content_of durable live) ≡ length live
+pub length-content_of : (durable live : DiskImage) → length durable ≡ length live →
+    length (content_of durable live) ≡ length live
 length-content_of [] [] h = refl
 length-content_of [] (l ∷ live) h = absurd (omega arith)
 length-content_of (d ∷ durable) [] h = absurd (omega arith)
 length-content_of (d ∷ durable) (l ∷ live) h = ap suc (length-content_of durable live (omega arith))
 
-pub get_or-content_of : (durable live : DiskImage) (s : ℕ) (e : Sector) → s < length durable → s < length live → get_or (content_of durable live) s e ≡ record { live = get_or live s []; candidates = candidates_of (get_or durable s []) (get_or live s []) }
+pub get_or-content_of : (durable live : DiskImage) (s : ℕ) (e : Sector) → s < length durable → s < length live →
+    get_or (content_of durable live) s e ≡ record {
+      live = get_or live s [];
+      candidates = candidates_of (get_or durable s []) (get_or live s []);
+    }
 get_or-content_of [] live s e hd hl = absurd (omega arith)
 get_or-content_of (d ∷ durable) [] s e hd hl = absurd (omega arith)
 get_or-content_of (d ∷ durable) (l ∷ live) zero e hd hl = refl
-get_or-content_of (d ∷ durable) (l ∷ live) (suc s) e hd hl = get_or-content_of durable live s e (omega arith) (omega arith)
+get_or-content_of (d ∷ durable) (l ∷ live) (suc s) e hd hl =
+    get_or-content_of durable live s e (omega arith) (omega arith)
 
 either_length : (d l x : List ℕ) → length d ≡ 512 → length l ≡ 512 → (x ≡ d) ⊎ (x ≡ l) → length x ≡ 512
 either_length d l x hd hl (inl e) = ap length e ∙ hd
 either_length d l x hd hl (inr e) = ap length e ∙ hl
 
-is_sector : (d l : List ℕ) → length d ≡ 512 → length l ≡ 512 → IsSector (record { live = l; candidates = candidates_of d l })
+is_sector : (d l : List ℕ) → length d ≡ 512 → length l ≡ 512 →
+    IsSector (record { live = l; candidates = candidates_of d l })
 is_sector d l hd hl = record {
   each = λ k e lt.
       either_length d l (get_or (candidates_of d l) k e) hd hl
-      (candidates_of-are d l (get_or (candidates_of d l) k e) (k, lt, get_or_default (candidates_of d l) k (get_or (candidates_of d l) k e) e lt));
+      (candidates_of-are d l (get_or (candidates_of d l) k e)
+      (k, lt, get_or_default (candidates_of d l) k (get_or (candidates_of d l) k e) e lt));
   live = candidates_of-live d l;
 }
 
 -- the content of a disk of so many blocks
-pub content_of-is : (blocks : ℕ) (durable live : DiskImage) → AreSectors (8 * blocks) durable → AreSectors (8 * blocks) live → IsContent blocks (content_of durable live)
+pub content_of-is : (blocks : ℕ) (durable live : DiskImage) → AreSectors (8 * blocks) durable →
+    AreSectors (8 * blocks) live → IsContent blocks (content_of durable live)
 content_of-is blocks durable live hd hl = record {
   size = length-content_of durable live (hd.size ∙ sym hl.size) ∙ hl.size;
   sectors = λ k e lt.

@@ -1,5 +1,6 @@
 -- What a disk holds that began with one image, and what a power cut might have left of it, by its recorded calls.
-use Rattle.std.specs.Prelude.{◌≡◌, ℕ, ◌+◌, ◌-◌, ◌*◌, ◌≤◌, Bool, true, ◌&&◌, nat_le, nat_lt, if◌then◌else◌, List, [], ◌∷◌, length, map, take, slice_index_or}
+use Rattle.std.specs.Prelude.{◌≡◌, ℕ, ◌+◌, ◌-◌, ◌*◌, ◌≤◌, Bool, true, ◌&&◌, nat_le, nat_lt, if◌then◌else◌, List, []}
+use Rattle.std.specs.Prelude.{◌∷◌, length, map, take, slice_index_or}
 use Rattle.std.specs.List.{fold, range_with_len}
 use Rattle.definitions.specs.Disk.{Sector, Content, DiskImage, sector, as_it_reads, settled, sector_bytes, IsMixture}
 use Rattle.sector_disk.specs.Sectors.{picks}
@@ -16,7 +17,8 @@ with_live bytes x = record { live = bytes; candidates = bytes ∷ x.candidates }
 
 -- what a write to block b makes of sector s, where it takes some sectors
 abbrev pub sector_after : (ℕ → Bool) → ℕ → List ℕ → Content → ℕ → Sector
-sector_after takes b page c s = if lies_in b s && takes s then with_live (sector_bytes page (s - 8 * b)) (sector c s) else sector c s
+sector_after takes b page c s =
+    if lies_in b s && takes s then with_live (sector_bytes page (s - 8 * b)) (sector c s) else sector c s
 
 -- what it makes of each
 unfoldable pub written : (ℕ → Bool) → ℕ → List ℕ → Content → Content
@@ -40,7 +42,8 @@ held_at start log k = held_after start (take k log)
 -- A power cut after k of these calls, at moment t or later, might have left this image. It came before the next call or
 -- inside it, which may have done its work for some sectors.
 abbrev pub WasLeft : DiskImage → List Recorded → ℕ → DiskImage → Type 0
-WasLeft start log t v = (k : ℕ) × (t ≤ k) × (k ≤ length log) × IsMixture (held_at start log k) (held_at start log (k + 1)) v
+WasLeft start log t v =
+    (k : ℕ) × (t ≤ k) × (k ≤ length log) × IsMixture (held_at start log k) (held_at start log (k + 1)) v
 
 -- the image as the last sync or restart left it: of each sector the oldest candidate
 abbrev pub as_synced : Content → DiskImage

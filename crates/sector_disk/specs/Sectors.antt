@@ -1,5 +1,6 @@
 -- What a disk in memory keeps: for each sector its durable bytes and its live ones.
-use Rattle.std.specs.Prelude.{◌≡◌, ℕ, ◌+◌, ◌*◌, ◌%◌, ◌<◌, ◌≤◌, Bool, ◌==◌, if◌then◌else◌, List, [], ◌∷◌, length, All, slice_index_or}
+use Rattle.std.specs.Prelude.{◌≡◌, ℕ, ◌+◌, ◌*◌, ◌%◌, ◌<◌, ◌≤◌, Bool, ◌==◌, if◌then◌else◌, List, [], ◌∷◌, length, All}
+use Rattle.std.specs.Prelude.{slice_index_or}
 use Rattle.std.specs.Int.{bit_at}
 use Rattle.std.specs.Str.{bytes_eq}
 use Rattle.definitions.specs.Disk.{Content, DiskImage, sector_bytes}
@@ -19,7 +20,8 @@ picks pick s = bit_at pick (s % 64) == 1
 -- the sectors of new that are picked, and the others of old, in a run of sectors whose first has this number
 pub record IsPickedFrom (first pick : ℕ) (old new image : DiskImage) : Type 0 where
   pub size : length image ≡ length old
-  pub each : (s : ℕ) → s < length image → slice_index_or image s [] ≡ (if picks pick (first + s) then slice_index_or new s [] else slice_index_or old s [])
+  pub each : (s : ℕ) → s < length image →
+      slice_index_or image s [] ≡ (if picks pick (first + s) then slice_index_or new s [] else slice_index_or old s [])
 
 -- the sectors of new that are picked, and the others of old
 abbrev pub IsPicked : ℕ → DiskImage → DiskImage → DiskImage → Type 0
@@ -27,7 +29,10 @@ IsPicked pick old new image = IsPickedFrom 0 pick old new image
 
 -- the sectors of block b that are picked have their bytes of the page, the others are as before
 abbrev pub TakesPicked : ℕ → ℕ → List ℕ → DiskImage → DiskImage → Type 0
-TakesPicked pick b page old new = (j : ℕ) → j < 8 → slice_index_or new (8 * b + j) [] ≡ (if picks pick (8 * b + j) then sector_bytes page j else slice_index_or old (8 * b + j) [])
+TakesPicked pick b page old new =
+    (j : ℕ) → j < 8 →
+    slice_index_or new (8 * b + j) [] ≡ (if picks pick (8 * b + j) then sector_bytes page j
+    else slice_index_or old (8 * b + j) [])
 
 -- each sector of block b has its bytes of the page
 abbrev pub TakesPage : ℕ → List ℕ → DiskImage → Type 0

@@ -1,5 +1,6 @@
 ghost use Rattle.std.specs.Prelude.{◌≡◌, ℕ, ◌<◌, ◌≤◌, Bool, IsTrue, Option, IsSome, IfSome, OnOk, OnErr};
-ghost use Rattle.definitions.specs.Disk.{Content, DiskImage, IsContent, IsImage, as_it_reads, block, Writes, FailsToWrite, Syncs, Restarts, Changes, Elapses, raised, HasRisen};
+ghost use Rattle.definitions.specs.Disk.{Content, DiskImage, IsContent, IsImage, as_it_reads, block, Writes};
+ghost use Rattle.definitions.specs.Disk.{FailsToWrite, Syncs, Restarts, Changes, Elapses, raised, HasRisen};
 
 use page_core::{Failed, Page};
 

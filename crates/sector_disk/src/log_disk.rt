@@ -11,13 +11,13 @@ use std::alloc::Global;
 
 /// A disk in memory that records its writes and syncs since the last restart.
 ///
-/// It tells its content, with every candidate since the last sync: what the last sync or restart left, and what each write
-/// since then wrote. A restart takes of each sector the live bytes or those of the last sync, as its pick says. It tells
-/// moments too: the clock is the number of the recorded calls, and a restart begins a new record. A test of power cuts may
-/// also restart it at an earlier moment.
+/// It tells its content, with every candidate since the last sync: what the last sync or restart left, and what each
+/// write since then wrote. A restart takes of each sector the live bytes or those of the last sync, as its pick says.
+/// It tells moments too: the clock is the number of the recorded calls, and a restart begins a new record. A test of
+/// power cuts may also restart it at an earlier moment.
 ///
-/// Each write and each sync takes room in the record, also one that fails because it was armed. Without room it fails, is
-/// a fault, and leaves every sector.
+/// Each write and each sync takes room in the record, also one that fails because it was armed. Without room it fails,
+/// is a fault, and leaves every sector.
 #[derive(Drop)]
 pub struct LogDisk {
     disk: MemDisk,
@@ -39,7 +39,9 @@ impl LogDisk {
     ghost use Rattle.definitions.specs.Disk.{DiskImage, Restarts, settled};
     ghost use Rattle.sector_disk.specs.Recorded.{held_at};
     ghost use Rattle.sector_disk.specs.Sectors.{IsPicked};
-    ghost use Rattle.sector_disk.specs.LogDisk.{IsNew, IsFull, content, moment, left_since, first_sectors, recorded, durable_sectors, live_sectors, KeepsArmed, IsOrdered, IsCalled, LeavesAll};
+    ghost use Rattle.sector_disk.specs.LogDisk.{IsNew, IsFull, content, moment, left_since, first_sectors, recorded};
+    ghost use Rattle.sector_disk.specs.LogDisk.{durable_sectors, live_sectors, KeepsArmed, IsOrdered, IsCalled};
+    ghost use Rattle.sector_disk.specs.LogDisk.{LeavesAll};
 
     /// A disk of zeros, with room for so many recorded calls.
     pub fn create(alloc: Global, blocks: u32, calls: u32) -> Result<LogDisk, NoMemory>
@@ -56,13 +58,15 @@ impl LogDisk {
         })
     }
 
-    /// A power cut at an earlier moment: after so many of the recorded calls, or after all where there are fewer. It takes
-    /// of each sector the bytes that were live then, or those that the last sync before left, as the pick says. Like a
-    /// restart it begins a new record.
+    /// A power cut at an earlier moment: after so many of the recorded calls, or after all where there are fewer. It
+    /// takes of each sector the bytes that were live then, or those that the last sync before left, as the pick says.
+    /// Like a restart it begins a new record.
     pub fn restart_at(&mut self, calls: u32, pick: u64)
         ensures restarted { Restarts (held_at (first_sectors self.old) (recorded self.old) calls) (content self.new) }
-        ensures past { calls ≤ moment self.old → (v : DiskImage) × left_since self.old calls v × (content self.new ≡ settled v) }
-        ensures picked { let held = held_at (first_sectors self.old) (recorded self.old) calls in IsPicked pick (as_synced held) (as_it_reads held) (live_sectors self.new) }
+        ensures past { calls ≤ moment self.old → (v : DiskImage) × left_since self.old calls v
+            × (content self.new ≡ settled v) }
+        ensures picked { let held = held_at (first_sectors self.old) (recorded self.old) calls in IsPicked pick
+            (as_synced held) (as_it_reads held) (live_sectors self.new) }
         ensures durable { durable_sectors self.new ≡ live_sectors self.new }
         ensures first { first_sectors self.new ≡ live_sectors self.new }
         ensures recorded { recorded self.new ≡ [] }
@@ -105,7 +109,9 @@ impl Disk for LogDisk {
     ghost use Rattle.std.specs.Prelude.{ℕ, ◌+◌, ◌<◌, ◌↔◌, ◌⊎◌, [], Some, OnOk, OnErr, IsErr, true, length, refl};
     ghost use Rattle.std.specs.List.{push};
     ghost use Rattle.definitions.specs.Disk.{block, Writes, FailsToWrite, Syncs, Restarts, Elapses};
-    ghost use Rattle.sector_disk.specs.LogDisk.{block_count, content, moment, left_since, first_sectors, recorded, durable_sectors, live_sectors, IsArmed, armed_pick, KeepsArmed, IsCalled, IsOrdered, IsFull, LeavesAll};
+    ghost use Rattle.sector_disk.specs.LogDisk.{block_count, content, moment, left_since, first_sectors, recorded};
+    ghost use Rattle.sector_disk.specs.LogDisk.{durable_sectors, live_sectors, IsArmed, armed_pick, KeepsArmed};
+    ghost use Rattle.sector_disk.specs.LogDisk.{IsCalled, IsOrdered, IsFull, LeavesAll};
     ghost use Rattle.sector_disk.specs.Recorded.{WasLeft};
     ghost use Rattle.sector_disk.specs.RecordedLaws.{held_whole, WasLeft-now, WasLeft-only};
     ghost use Rattle.sector_disk.specs.Sectors.{IsPicked, TakesPicked};
@@ -153,11 +159,14 @@ impl Disk for LogDisk {
         requires { b < block_count self.old }
         ensures written { OnOk result (Writes b from.now (content self.old) (content self.new)) }
         ensures failed { OnErr result (FailsToWrite b from.now (content self.old) (content self.new)) }
-        ensures picked { OnErr result ((IsFull self.old → ⊥) → TakesPicked (armed_pick self.old) b from.now (live_sectors self.old) (live_sectors self.new)) }
+        ensures picked { OnErr result ((IsFull self.old → ⊥) →
+            TakesPicked (armed_pick self.old) b from.now (live_sectors self.old) (live_sectors self.new)) }
         ensures durable { durable_sectors self.new ≡ durable_sectors self.old }
         ensures recorded { OnOk result (recorded self.new ≡ push (recorded self.old) (call.Write b from.now)) }
-        ensures recorded_failure { OnErr result ((IsFull self.old → ⊥) → recorded self.new ≡ push (recorded self.old) (call.FailedWrite b from.now (armed_pick self.old))) }
-        ensures time { Elapses (moment self.old) (moment self.new) (left_since self.old) (left_since self.new) (content self.old) (content self.new) }
+        ensures recorded_failure { OnErr result ((IsFull self.old → ⊥) →
+            recorded self.new ≡ push (recorded self.old) (call.FailedWrite b from.now (armed_pick self.old))) }
+        ensures time { Elapses (moment self.old) (moment self.new) (left_since self.old) (left_since self.new)
+            (content self.old) (content self.new) }
         ensures fails { IsErr result ↔ (IsArmed self.old 1 ⊎ IsFull self.old) }
         ensures full { IsFull self.old → LeavesAll self.old self.new }
         ensures called { IsCalled self.old self.new result }
@@ -184,8 +193,10 @@ impl Disk for LogDisk {
         ensures failed_durable { OnErr result (durable_sectors self.new ≡ durable_sectors self.old) }
         ensures live { live_sectors self.new ≡ live_sectors self.old }
         ensures recorded { OnOk result (recorded self.new ≡ push (recorded self.old) call.Sync) }
-        ensures recorded_failure { OnErr result ((IsFull self.old → ⊥) → recorded self.new ≡ push (recorded self.old) call.FailedSync) }
-        ensures time { Elapses (moment self.old) (moment self.new) (left_since self.old) (left_since self.new) (content self.old) (content self.new) }
+        ensures recorded_failure { OnErr result ((IsFull self.old → ⊥) →
+            recorded self.new ≡ push (recorded self.old) call.FailedSync) }
+        ensures time { Elapses (moment self.old) (moment self.new) (left_since self.old) (left_since self.new)
+            (content self.old) (content self.new) }
         ensures fails { IsErr result ↔ (IsArmed self.old 1 ⊎ IsFull self.old) }
         ensures full { IsFull self.old → LeavesAll self.old self.new }
         ensures called { IsCalled self.old self.new result }

@@ -34,7 +34,8 @@ pub struct MemDisk {
 impl MemDisk {
     ghost use Rattle.std.specs.Prelude.{◌≡◌, All};
     ghost use Rattle.sector_disk.specs.Recorded.{AreKept, held_after, page_size, blocks_needed};
-    ghost use Rattle.sector_disk.specs.MemDisk.{IsNew, IsRefused, block_count, armed_pick, durable_sectors, live_sectors};
+    ghost use Rattle.sector_disk.specs.MemDisk.{IsNew, IsRefused, block_count, armed_pick, durable_sectors};
+    ghost use Rattle.sector_disk.specs.MemDisk.{live_sectors};
 
     /// A disk of zeros.
     pub fn create(alloc: Global, blocks: u32) -> Result<MemDisk, NoMemory>
@@ -97,7 +98,8 @@ impl MemDisk {
 impl Disk for MemDisk {
     ghost use Rattle.std.specs.Prelude.{◌≡◌, ℕ, ◌+◌, ◌<◌, ◌≤◌, ◌↔◌, Some, OnOk, OnErr, false};
     ghost use Rattle.definitions.specs.Disk.{as_it_reads, block, Writes, FailsToWrite, Syncs, Restarts};
-    ghost use Rattle.sector_disk.specs.MemDisk.{block_count, content, durable_sectors, live_sectors, IsArmed, armed_pick, KeepsArmed, IsCalled, IsOrdered};
+    ghost use Rattle.sector_disk.specs.MemDisk.{block_count, content, durable_sectors, live_sectors, IsArmed};
+    ghost use Rattle.sector_disk.specs.MemDisk.{armed_pick, KeepsArmed, IsCalled, IsOrdered};
     ghost use Rattle.std.proofs.lemmas.Bool.{false≢true};
     ghost use Rattle.sector_disk.specs.Sectors.{content_of, IsPicked, TakesPicked};
     ghost use Rattle.sector_disk.specs.ContentLaws.{content_of-is};
@@ -147,7 +149,8 @@ impl Disk for MemDisk {
         requires { b < block_count self.old }
         ensures written { OnOk result (Writes b from.now (content self.old) (content self.new)) }
         ensures failed { OnErr result (FailsToWrite b from.now (content self.old) (content self.new)) }
-        ensures picked { OnErr result (TakesPicked (armed_pick self.old) b from.now (live_sectors self.old) (live_sectors self.new)) }
+        ensures picked { OnErr result (TakesPicked (armed_pick self.old) b from.now (live_sectors self.old)
+            (live_sectors self.new)) }
         ensures durable { durable_sectors self.new ≡ durable_sectors self.old }
         ensures called { IsCalled self.old self.new result }
     {

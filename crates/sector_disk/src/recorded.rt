@@ -23,7 +23,8 @@ impl Recorded {
     pub fn redo(&self, durable: &mut [Sector], live: &mut [Sector])
         requires same_length { length durable.old ≡ length live.old }
         requires inside { 8 * blocks_needed self.now ≤ length live.old }
-        ensures { (blocks : ℕ) (c : Content) → IsContent blocks c → AreKept c durable.old live.old → AreKept (after c self.now) durable.new live.new }
+        ensures { (blocks : ℕ) (c : Content) → IsContent blocks c → AreKept c durable.old live.old →
+            AreKept (after c self.now) durable.new live.new }
     {
         match self {
             Recorded::Write(b, page) => write_block(live, *b as usize, page),
@@ -38,7 +39,8 @@ impl Recorded {
 pub fn redo_all(log: &[Recorded], durable: &mut [Sector], live: &mut [Sector])
     requires same_length { length durable.old ≡ length live.old }
     requires inside { All (λ r. 8 * blocks_needed r ≤ length live.old) log.now }
-    ensures { (blocks : ℕ) (c : Content) → IsContent blocks c → All (λ r. page_size r ≡ 4096) log.now → AreKept c durable.old live.old → AreKept (fold after c log.now) durable.new live.new }
+    ensures { (blocks : ℕ) (c : Content) → IsContent blocks c → All (λ r. page_size r ≡ 4096) log.now →
+        AreKept c durable.old live.old → AreKept (fold after c log.now) durable.new live.new }
 {
     for call in log {
         call.redo(durable, live);

@@ -2,7 +2,8 @@
 ghost use Rattle.std.specs.Prelude.{◌≡◌, ◌+◌, ◌*◌, ◌^◌, ◌<◌, ◌≤◌, length, replicate, IfOk, All};
 ghost use Rattle.std.specs.List.{concat};
 ghost use Rattle.std.specs.Simd.{first_chunks};
-ghost use Rattle.sector_disk.specs.Sectors.{IsPicked, IsPickedFrom, TakesPicked, TakesPage, SameOutsideBlock, SameOutsideRange};
+ghost use Rattle.sector_disk.specs.Sectors.{IsPicked, IsPickedFrom, TakesPicked, TakesPage, SameOutsideBlock};
+ghost use Rattle.sector_disk.specs.Sectors.{SameOutsideRange};
 
 use page_core::{NoMemory, Page};
 use std::alloc::Global;

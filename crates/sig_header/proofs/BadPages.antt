@@ -11,7 +11,7 @@ use Rattle.definitions.specs.Bytes.{number_at, with_number, with_bytes}
 use Rattle.definitions.specs.SwapHeader.{bad_pages_of}
 use Rattle.definitions.proofs.PageBytes.{with_number-append}
 
--- the element at the end of the front is set, and the zeros behind it stay
+-- the element at the end of the front is set, and the zeros after it stay
 set-front : (n i v : ℕ) (xs : List ℕ) → length xs ≡ i → i < n → set (xs ++ replicate (n - i) 0) i v ≡ (xs ++ v ∷ []) ++ replicate (n - (i + 1)) 0
 set-front n i v xs e lt =
     let one : n - i ≡ suc (n - (i + 1)) = omega arith in

@@ -1,7 +1,11 @@
--- What the header block of a swap area says (union swap_header, include/linux/swap.h; swsusp_check, kernel/power/swap.c).
-use Rattle.std.specs.Prelude.{ℕ, ◌-◌, ◌==◌, ◌++◌, List, Bool, nat_eq, nat_lt, if◌then◌else◌, replicate, Option, Some, None}
+-- What the header block of a swap area says (union swap_header, include/linux/swap.h; swsusp_check,
+-- kernel/power/swap.c).
+use Rattle.std.specs.Prelude.{ℕ, ◌-◌, ◌==◌, ◌++◌, List, Bool, nat_eq, nat_lt, if◌then◌else◌, replicate, Option, Some}
+use Rattle.std.specs.Prelude.{None}
 use Rattle.std.specs.Cmp.Lexicographic.{pointwise}
-use Rattle.definitions.specs.SwapHeader.{image_signature, old_signature, area_signature, version_of, last_page_of, bad_count_of, bad_pages_of, hw_sig_of, image_of, flags_of, sig_of, first_outside}
+use Rattle.definitions.specs.SwapHeader.{image_signature, old_signature, area_signature, version_of, last_page_of}
+use Rattle.definitions.specs.SwapHeader.{bad_count_of, bad_pages_of, hw_sig_of, image_of, flags_of, sig_of}
+use Rattle.definitions.specs.SwapHeader.{first_outside}
 use Rattle.sig_header.specs.declared.area.Area.{Area}
 use Rattle.sig_header.specs.declared.area.Mark.{Mark}
 use Rattle.sig_header.specs.declared.area.AreaFault.{AreaFault}

@@ -6,8 +6,8 @@ use crate::layout::{self, FLAGS, HW_SIG, ORIG_SIG, SF_HW_SIG, SIG};
 use crate::signatures::{self, original_signature, signature, with_signature};
 use page_core::Page;
 
-/// The block with the mark of an image (`mark_swapfiles`, kernel/power/swap.c): the signature moves to `orig_sig` and the
-/// image's takes its place, `image` is the block of the first map, and where the machine has a hardware signature,
+/// The block with the mark of an image (`mark_swapfiles`, kernel/power/swap.c): the signature moves to `orig_sig` and
+/// the image's takes its place, `image` is the block of the first map, and where the machine has a hardware signature,
 /// which `hw` other than 0 is, it is set and SF_HW_SIG is added to the flags. All other bytes stay.
 pub fn mark(page: &Page, first: u64, flags: u32, hw: u32) -> Page
     ensures marked { result ≡ marked page.now first flags hw }

@@ -1,4 +1,5 @@
--- The rows of the plain machine that a waking makes, over whatever machine and page frames its caller has and leaves by its replies.
+-- The rows of the plain machine that a waking makes, over whatever machine and page frames its caller has and leaves by
+-- its replies.
 use Rattle.std.specs.Prelude.{◌≡◌, Option}
 use Rattle.definitions.specs.Disk as disk
 use Rattle.plain_machine.specs.Machine.{Memory}
@@ -32,19 +33,23 @@ StandsAfter (reply.More k of) machine frames waker = StandsFor machine frames wa
 StandsAfter reply.Woken machine frames waker = Runs machine frames
 StandsAfter _ machine frames waker = Sleeps machine frames
 
--- What the caller leaves by the reply: woken, the machine holds nothing, and the image's slots are given back. After any other reply all
--- is as it was: that an image is only perhaps there, after a fault, is the state's to know.
+-- What the caller leaves by the reply: woken, the machine holds nothing, and the image's slots are given back. After
+-- any other reply all is as it was: that an image is only perhaps there, after a fault, is the state's to know.
 abbrev pub IsLeft : Reply → Machine → Memory → Machine → Memory → Type 0
-IsLeft reply.Woken machine frames machine' frames' = (machine' ≡ record machine { held = No }) × (frames' ≡ seen_frames machine.hw frames)
+IsLeft reply.Woken machine frames machine' frames' =
+    (machine' ≡ record machine { held = No }) × (frames' ≡ seen_frames machine.hw frames)
 IsLeft _ machine frames machine' frames' = (machine' ≡ machine) × (frames' ≡ frames)
 
 -- the row of a step, over a disk that tells its content
 abbrev pub SimulatesWhereTold : Machine → Waker → Waker → Reply → Option disk.Content → Option disk.Content → Type 0
 SimulatesWhereTold machine waker waker' r before now =
-    (frames : Memory) → IsMemoryOf machine.hw frames → (machine' : Machine) (frames' : Memory) → IsLeft r machine frames machine' frames' →
-    rows.SimulatesWhereTold machine.hw (StandsFor machine frames waker) (StandsAfter r machine' frames' waker') (event.Step actor.Core) r before now
+    (frames : Memory) → IsMemoryOf machine.hw frames → (machine' : Machine) (frames' : Memory) →
+    IsLeft r machine frames machine' frames' →
+    rows.SimulatesWhereTold machine.hw (StandsFor machine frames waker) (StandsAfter r machine' frames' waker')
+    (event.Step actor.Core) r before now
 
 -- the row of Wake, whose event calls no disk
 abbrev pub IsBegun : Waker → Type 0
 IsBegun waker =
-    (machine : Machine) (frames : Memory) (c : disk.Content) → rows.Simulates machine.hw (Sleeps machine frames) (StandsFor machine frames waker) event.Wake (reply.More 0 3) c c
+    (machine : Machine) (frames : Memory) (c : disk.Content) →
+    rows.Simulates machine.hw (Sleeps machine frames) (StandsFor machine frames waker) event.Wake (reply.More 0 3) c c

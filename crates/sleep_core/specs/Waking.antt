@@ -49,8 +49,8 @@ IsReplyAt (stage.Write header) r = (r ≡ reply.More 2 3) ⊎ (r ≡ reply.Write
 IsReplyAt stage.Sync r = (r ≡ reply.Woken) ⊎ (r ≡ reply.SyncFault Unsure)
 IsReplyAt stage.Over r = ⊥
 
--- What is shown at something, with the block that is kept. A machine that sleeps or wakes shows what it held before the suspend, which is
--- nothing: what is held now is the state's.
+-- What is shown at something, with the block that is kept. A machine that sleeps or wakes shows what it held before the
+-- suspend, which is nothing: what is held now is the state's.
 abbrev pub shown_at : Machine → Memory → Activity → List ℕ → WorldView
 shown_at machine frames activity header = record {
   activity = activity;

@@ -47,14 +47,15 @@ impl Waker {
         Waker { stage: Stage::Read }
     }
 
-    /// Makes the next step: one call of the disk. After `Woken` the machine holds nothing any more, and the image's slots are given
-    /// back; after any other reply it is as it was.
+    /// Makes the next step: one call of the disk. After `Woken` the machine holds nothing any more, and the image's
+    /// slots are given back; after any other reply it is as it was.
     pub fn step<D: Disk>(&mut self, machine: &Machine, disk: &mut D) -> Reply
         requires under_way { is_over self.old ≡ false }
         requires blocks { D.block_count disk.old ≡ machine.now.blocks }
         requires hardware { IsHardware machine.now.hw }
         requires header { block_of_slot machine.now.hw 0 < machine.now.blocks }
-        ensures row { SimulatesWhereTold machine.now self.old self.new result (D.content disk.old) (D.content disk.new) }
+        ensures row { SimulatesWhereTold machine.now self.old self.new result (D.content disk.old)
+            (D.content disk.new) }
         ensures reply { IsReplyAt self.old.stage result }
         ensures finished { is_over self.new ≡ is_last result }
         ensures called { Called D.Disk OneCall (IsNewFault result) disk.old disk.new }
@@ -72,7 +73,8 @@ impl Waker {
         requires at { self.old.stage ≡ stage.Read }
         requires blocks { D.block_count disk.old ≡ machine.now.blocks }
         requires header { block_of_slot machine.now.hw 0 < machine.now.blocks }
-        ensures row { SimulatesWhereTold machine.now self.old self.new result (D.content disk.old) (D.content disk.new) }
+        ensures row { SimulatesWhereTold machine.now self.old self.new result (D.content disk.old)
+            (D.content disk.new) }
         ensures reply { IsReplyAt stage.Read result }
         ensures finished { is_over self.new ≡ is_last result }
         ensures called { Called D.Disk OneCall (IsNewFault result) disk.old disk.new }
@@ -93,13 +95,15 @@ impl Waker {
         }
     }
 
-    /// Writes it taken back where it is marked, and as it is where it isn't. Where that fails the image is perhaps there.
+    /// Writes it taken back where it is marked, and as it is where it isn't. Where that fails the image is perhaps
+    /// there.
     fn write_back<D: Disk>(&mut self, machine: &Machine, disk: &mut D) -> Reply
         requires at { (header : List ℕ) × (self.old.stage ≡ stage.Write header) }
         requires blocks { D.block_count disk.old ≡ machine.now.blocks }
         requires hardware { IsHardware machine.now.hw }
         requires header { block_of_slot machine.now.hw 0 < machine.now.blocks }
-        ensures row { SimulatesWhereTold machine.now self.old self.new result (D.content disk.old) (D.content disk.new) }
+        ensures row { SimulatesWhereTold machine.now self.old self.new result (D.content disk.old)
+            (D.content disk.new) }
         ensures reply { IsReplyAt self.old.stage result }
         ensures finished { is_over self.new ≡ is_last result }
         ensures called { Called D.Disk OneCall (IsNewFault result) disk.old disk.new }
@@ -127,7 +131,8 @@ impl Waker {
     fn sync_back<D: Disk>(&mut self, machine: &Machine, disk: &mut D) -> Reply
         requires at { self.old.stage ≡ stage.Sync }
         requires blocks { D.block_count disk.old ≡ machine.now.blocks }
-        ensures row { SimulatesWhereTold machine.now self.old self.new result (D.content disk.old) (D.content disk.new) }
+        ensures row { SimulatesWhereTold machine.now self.old self.new result (D.content disk.old)
+            (D.content disk.new) }
         ensures reply { IsReplyAt stage.Sync result }
         ensures finished { is_over self.new ≡ is_last result }
         ensures called { Called D.Disk OneCall (IsNewFault result) disk.old disk.new }

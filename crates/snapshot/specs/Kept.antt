@@ -5,7 +5,13 @@ use Rattle.snapshot.specs.Taken.{Taken}
 use Rattle.snapshot.specs.declared.Snapshot.TheInside.{Inside}
 
 abbrev pub taken : Inside → Taken
-taken s = record { zones = s.origs.zones; format = s.format; origs = s.origs.members; copies = s.copies.members; zeros = s.zeros.members }
+taken s = record {
+  zones = s.origs.zones;
+  format = s.format;
+  origs = s.origs.members;
+  copies = s.copies.members;
+  zeros = s.zeros.members;
+}
 
 pub record IsKept (s : Inside) : Type 0 where
   pub of_copies : s.copies.zones ≡ s.origs.zones

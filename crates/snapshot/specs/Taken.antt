@@ -19,7 +19,8 @@ pub record Taken : Type 0 where
 abbrev pub is_zero_frame : List (List ℕ) → ℕ → Bool
 is_zero_frame frames p = pointwise nat_eq (frame frames p) zero_page
 
--- the originals that have no data page in an image of this format: those that are all zero, and in the plain format none
+-- the originals that have no data page in an image of this format: those that are all zero, and in the plain format
+-- none
 abbrev pub zero_frames : Format → List (List ℕ) → List ℕ → List ℕ
 zero_frames Plain frames origs = []
 zero_frames SkipZeros frames origs = filter (is_zero_frame frames) origs

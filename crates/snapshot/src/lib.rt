@@ -2,7 +2,8 @@
 //! kernel/power/hibernate.c, and swsusp_save, kernel/power/snapshot.c).
 #![tactic(auto)]
 
-ghost use Rattle.std.specs.Prelude.{◌≡◌, ℕ, ◌+◌, ◌-◌, ◌<◌, ◌≤◌, ◌↔◌, [], All, Contains, IsOk, IsErr, IsSome, IfOk, IfErr, IfSome, IfNone, length, map, take};
+ghost use Rattle.std.specs.Prelude.{◌≡◌, ℕ, ◌+◌, ◌-◌, ◌<◌, ◌≤◌, ◌↔◌, [], All, Contains, IsOk, IsErr, IsSome, IfOk};
+ghost use Rattle.std.specs.Prelude.{IfErr, IfSome, IfNone, length, map, take};
 ghost use Rattle.definitions.specs.Bytes.{zero_page};
 ghost use Rattle.definitions.specs.Zones.{top};
 ghost use Rattle.definitions.specs.Tables.{frame, HasTable};
@@ -27,8 +28,8 @@ pub struct Counts {
     pub d: u32,
 }
 
-/// The saveable page frames at one moment, the page frames that they are copied to, and which of them are all zero where
-/// the format leaves those out.
+/// The saveable page frames at one moment, the page frames that they are copied to, and which of them are all zero
+/// where the format leaves those out.
 #[derive(Drop)]
 pub struct Snapshot {
     origs: Bitmap,
@@ -52,7 +53,13 @@ impl Model for Snapshot {
 impl Snapshot {
     /// A snapshot of nothing, over these zones.
     pub fn create(alloc: Global, zones: &Zones) -> Result<Snapshot, NoMemory>
-        ensures { IfOk result (λ s. s ≡ record { zones = zones.now; format = Format.Plain; origs = []; copies = []; zeros = [] }) }
+        ensures { IfOk result (λ s. s ≡ record {
+          zones = zones.now;
+          format = Format.Plain;
+          origs = [];
+          copies = [];
+          zeros = [];
+        }) }
     {
         Ok(Snapshot {
             origs: Bitmap::create(alloc, zones)?,
@@ -62,22 +69,33 @@ impl Snapshot {
         })
     }
 
-    /// Marks the saveable page frames and those of them that are all zero, and counts them. No copy is kept from before.
-    /// Refused where too few page frames are free for the copies and the writing.
+    /// Marks the saveable page frames and those of them that are all zero, and counts them. No copy is kept from
+    /// before. Refused where too few page frames are free for the copies and the writing.
     pub fn count(&mut self, view: &View, format: Format) -> Result<Counts, Short>
         requires table { HasTable view.now.frames.now view.now.table (top view.now.zones.now) }
         requires within { top view.now.zones.now ≤ length view.now.frames.now }
         requires zones { self.old.zones ≡ view.now.zones.now }
 
         ensures sets { let origs = saveable_frames view.now.zones.now view.now.table view.now.frames.now in
-            self.new ≡ record { zones = self.old.zones; format = format; origs = origs; copies = []; zeros = zero_frames format view.now.frames.now origs } }
+            self.new ≡ record {
+              zones = self.old.zones;
+              format = format;
+              origs = origs;
+              copies = [];
+              zeros = zero_frames format view.now.frames.now origs;
+            } }
         ensures valid { AreFrameSets self.new }
-        ensures enough { IsOk result ↔ (length (saveable_frames view.now.zones.now view.now.table view.now.frames.now) + 1025
+        ensures enough { IsOk result ↔ (length
+            (saveable_frames view.now.zones.now view.now.table view.now.frames.now) + 1025
             ≤ length (free_frames view.now.zones.now view.now.table view.now.frames.now)) }
         ensures short { IsErr result ↔ (length (free_frames view.now.zones.now view.now.table view.now.frames.now)
             < length (saveable_frames view.now.zones.now view.now.table view.now.frames.now) + 1025) }
-        ensures counts { IfOk result (λ counts. let origs = saveable_frames view.now.zones.now view.now.table view.now.frames.now in
-            counts ≡ record { n = length origs; d = length origs - length (zero_frames format view.now.frames.now origs) }) }
+        ensures counts { IfOk result (λ counts. let origs = saveable_frames view.now.zones.now view.now.table
+            view.now.frames.now in
+            counts ≡ record {
+              n = length origs;
+              d = length origs - length (zero_frames format view.now.frames.now origs);
+            }) }
         ensures tells { IfErr result (λ short. short ≡ record {
           free = length (free_frames view.now.zones.now view.now.table view.now.frames.now);
           need = length (saveable_frames view.now.zones.now view.now.table view.now.frames.now) + 1025;
@@ -101,7 +119,8 @@ impl Snapshot {
         requires counted { self.old.origs ≡ saveable_frames zones.now table frames.old }
         requires room { length self.old.origs ≤ length (free_frames zones.now table frames.old) }
 
-        ensures sets { self.new ≡ record self.old { copies = take (length self.old.origs) (free_frames zones.now table frames.old) } }
+        ensures sets { self.new ≡ record
+            self.old { copies = take (length self.old.origs) (free_frames zones.now table frames.old) } }
         ensures copied { map (frame frames.new) self.new.copies ≡ map (frame frames.old) self.old.origs }
         ensures originals { map (frame frames.new) self.old.origs ≡ map (frame frames.old) self.old.origs }
         ensures others { (p : ℕ) → (Contains self.new.copies p → ⊥) → frame frames.new p ≡ frame frames.old p }
@@ -128,7 +147,8 @@ impl Snapshot {
         &self.origs
     }
 
-    /// The page frames that the originals were copied to since the last count. The k-th has the page of the k-th original.
+    /// The page frames that the originals were copied to since the last count. The k-th has the page of the k-th
+    /// original.
     pub fn copies(&self) -> &Bitmap
         ensures { result.now ≡ set_over self.now.zones self.now.copies }
     {

@@ -1,4 +1,5 @@
--- The places of standard streams among a program's descriptors: 0 is standard input's, 1 standard output's, 2 standard error's (unistd.h).
+-- The places of standard streams among a program's descriptors: 0 is standard input's, 1 standard output's, 2 standard
+-- error's (unistd.h).
 use Rattle.std.specs.Prelude.{◌≡◌, ◌⊎◌, ℤ, pos, IfSome}
 use Rattle.std.specs.Fd.{file_raw_fd}
 use Rattle.standard_streams.specs.declared.Held.{Held}

@@ -1,5 +1,5 @@
-//! The standard streams: those that are closed keep their places (as coreutils and util-linux see to it, gnulib's stdopen), and
-//! standard output is synced where it is a file.
+//! The standard streams: those that are closed keep their places (as coreutils and util-linux see to it, gnulib's
+//! stdopen), and standard output is synced where it is a file.
 #![tactic(auto)]
 
 ghost use Rattle.std.specs.Prelude.{IfOk, IfSome};
@@ -25,8 +25,8 @@ pub struct Held {
     second: Option<File>,
 }
 
-/// Takes the places of standard streams that are closed, so that no file which is opened later becomes one. Standard input's is
-/// open for writing alone and those of the outputs for reading alone, so that they fail as closed ones do.
+/// Takes the places of standard streams that are closed, so that no file which is opened later becomes one. Standard
+/// input's is open for writing alone and those of the outputs for reading alone, so that they fail as closed ones do.
 pub fn hold(rt: &HostRuntime) -> io::Result<Held>
     ensures { IfOk result TakesPlaces }
 {
@@ -65,8 +65,8 @@ fn output_place(rt: &HostRuntime) -> io::Result<Option<File>>
     })
 }
 
-/// Whether standard output or standard error is the file or the block device at a path, so that what is printed would reach it. Where
-/// the system shows no descriptors that isn't known, and the answer is no.
+/// Whether standard output or standard error is the file or the block device at a path, so that what is printed would
+/// reach it. Where the system shows no descriptors that isn't known, and the answer is no.
 pub fn is_output(rt: &HostRuntime, path: &str) -> io::Result<bool> {
     let found = fs::metadata(rt, path)?;
     for output in OUTPUTS {
@@ -87,8 +87,8 @@ fn is_same(first: &Metadata, second: &Metadata) -> bool {
         || (devices && first.rdev() == second.rdev())
 }
 
-/// Syncs standard output where it is a regular file, so that what was printed outlasts a power cut. Where the system shows no
-/// descriptors, or doesn't let the program open the file itself, nothing is synced.
+/// Syncs standard output where it is a regular file, so that what was printed outlasts a power cut. Where the system
+/// shows no descriptors, or doesn't let the program open the file itself, nothing is synced.
 ///
 /// The library syncs files that it opened, so the file is opened once more.
 pub fn sync_output(rt: &HostRuntime) -> io::Result<()> {

@@ -1,4 +1,4 @@
--- What is kept of a stream, as bytes come behind it.
+-- What is kept of a stream, as bytes come after it.
 use Rattle.std.proofs.Common.{◌≡◌, ◌≢◌, ℕ, ◌+◌, ◌-◌, ◌*◌, ◌/◌, ◌%◌, ◌<◌, ◌≤◌, cond, ltb, List, [], ◌∷◌, ◌++◌, length, None, sym, ap, ap₂, subst, ◌∙◌, arith, add-one, length-append}
 use Rattle.std.proofs.lemmas.Bool.{cond-true, cond-false, lt-ltb, le-ltb}
 use Rattle.stream_check.specs.declared.taking.Taking.{Taking}
@@ -75,7 +75,7 @@ counts_info bs b t h read =
     first_fault-info bs b h ∙ ap (λ m. counts_fault m (all_pages bs)) (sym (read.image_count (omega arith)))
     ∙ ap (counts_fault t.image_pages) (sym (read.page_count (omega arith)))
 
--- Bytes behind the info page.
+-- Bytes after the info page.
 pub read_late : (bs more : List ℕ) (t : Taking) (least : ℕ) → 4096 ≤ length bs → HasRead bs t → first_fault (bs ++ more) ≡ None →
     (words (bs ++ more) ≤ image_pages bs → least ≡ least_number (bs ++ more) (words (bs ++ more))) →
     HasRead (bs ++ more) (record t { least = least })
@@ -112,7 +112,7 @@ read_word bs b v t h read sound whole v_is =
     (λ le. cond-true (ltb (words bs) t.image_pages) (v + 1) t.least (lt-ltb (words bs) t.image_pages (omega arith))
     ∙ ap (λ m. m + 1) v_is ∙ sym (ap (least_number bs') (one ∙ add-one (words bs))))
 
--- bytes behind the words that are tested
+-- bytes after the words that are tested
 pub rest_fault : (bs more : List ℕ) (t : Taking) → AreBounded t → HasTaken bs t → t.numbers_end ≤ t.taken → first_fault (bs ++ more) ≡ extra_fault (bs ++ more)
 rest_fault bs more t bounded has behind =
     let h : 4096 ≤ length bs = omega (arith, has.taken, bounded.numbers) in
@@ -127,7 +127,7 @@ read_rest bs more t bounded has behind few =
     rest_fault bs more t bounded has behind ∙ extra_fault-none (bs ++ more) (omega (arith, length-append bs more, has.taken, bounded.taken)) in
     read_late bs more t t.least h has.read sound (λ le. absurd (omega (arith, length-append bs more, late_end bs t has.read h, has.taken)))
 
--- what is wrong with a word behind the info page that is whole now
+-- what is wrong with a word after the info page that is whole now
 pub word_told : (bs : List ℕ) (b v : ℕ) (t : Taking) → 4096 ≤ length bs → Completes bs b v t →
     first_fault (bs ++ b ∷ []) ≡ fault_at (t.taken - 8) (kind_of_word t.image_pages ((t.taken - 8 - 4096) / 8) t.least v)
 word_told bs b v t h done =

@@ -1,4 +1,4 @@
--- The first fault of a stream, as bytes come behind it.
+-- The first fault of a stream, as bytes come after it.
 use Rattle.std.proofs.Common.{◌≡◌, ◌≢◌, ℕ, ◌+◌, ◌*◌, ◌%◌, ◌<◌, ◌≤◌, ◌⊎◌, zero, suc, Bool, true, false, cond, eqb, ltb, leb, ◌&&◌, List, [], ◌∷◌, ◌++◌, length, take, drop, min, Option, Some, None, refl, sym, ap, ap₂, ◌∙◌, subst, inl, inr, arith, add-one, length-append, length-drop}
 use Rattle.std.proofs.lemmas.List.{take-append-le, drop-append-le}
 use Rattle.std.proofs.lemmas.Bool.{cases_lt, cases_Bool, cond-true, cond-false, lt-ltb, le-ltb, ltb-true, ltb-false, leb-true, eqb-true, and_parts}
@@ -9,7 +9,7 @@ use Rattle.stream_check.specs.declared.fault.StreamFault.{StreamFault}
 use Rattle.stream_check.specs.declared.fault.Kind.TheVariants.{Extra}
 use Rattle.stream_check.specs.Grammar.{image_pages, all_pages, place, number, words, fault, are_counts, counts_fault, least_number, kind_of_word, fault_at, word_fault, extra_fault, or_else, first_below, first_fault}
 
--- Numbers stay where bytes come behind them.
+-- Numbers stay where bytes come after them.
 
 pub number_at-append : (n k : ℕ) (bs more : List ℕ) → k + n ≤ length bs → number_at n (bs ++ more) k ≡ number_at n bs k
 number_at-append n k bs more h =
@@ -112,7 +112,7 @@ sound_from bs h none =
       within = extra_fault-within bs inner.1;
     }
 
--- What comes behind a sound stream.
+-- What comes after a sound stream.
 
 pub counts_fault-append : (bs more : List ℕ) → 4096 ≤ length bs → counts_fault (image_pages (bs ++ more)) (all_pages (bs ++ more)) ≡ counts_fault (image_pages bs) (all_pages bs)
 counts_fault-append bs more h = ap₂ counts_fault (image_pages-append bs more (omega arith)) (all_pages-append bs more (omega arith))
@@ -186,7 +186,7 @@ first_fault-word bs b h none early whole =
     ∙ ap₂ or_else (ap (first_below (word_fault bs')) one ∙ first_below-suc (word_fault bs') (words bs) before) (within_numbers bs b h none early)
     ∙ or_else-nil (word_fault bs' (words bs)) None refl
 
--- Bytes behind the words that are tested: only their count matters.
+-- Bytes after the words that are tested: only their count matters.
 pub first_fault-rest : (bs more : List ℕ) → 4096 ≤ length bs → first_fault bs ≡ None → place (image_pages bs + 1) ≤ length bs → first_fault (bs ++ more) ≡ extra_fault (bs ++ more)
 first_fault-rest bs more h none behind =
     let s = sound_from bs h none in

@@ -18,10 +18,12 @@ HasWord bs j = place j + 8 ≤ length bs
 -- A fault of this kind lies at this place. Short is no fault of the bytes so far: more may come.
 abbrev pub HasFault : List ℕ → Kind → ℕ → Type 0
 HasFault bs Counts at = (at ≡ 416) × (4096 ≤ length bs) × (IsTrue (are_counts (image_pages bs) (all_pages bs)) → ⊥)
-HasFault bs Pfn at = HasCounts bs × ((j : ℕ) × (at ≡ place j) × HasWord bs j × (j < image_pages bs) × (65536 ≤ number bs j))
+HasFault bs Pfn at =
+    HasCounts bs × ((j : ℕ) × (at ≡ place j) × HasWord bs j × (j < image_pages bs) × (65536 ≤ number bs j))
 HasFault bs Order at = HasCounts bs × ((j : ℕ) × (at ≡ place (suc j)) × HasWord bs (suc j) × (suc j < image_pages bs)
     × (number bs (suc j) < 65536) × (number bs (suc j) ≤ number bs j))
-HasFault bs End at = HasCounts bs × (at ≡ place (image_pages bs)) × HasWord bs (image_pages bs) × (image_pages bs % 512 ≢ 0)
+HasFault bs End at =
+    HasCounts bs × (at ≡ place (image_pages bs)) × HasWord bs (image_pages bs) × (image_pages bs % 512 ≢ 0)
     × (number bs (image_pages bs) ≢ end_value)
 HasFault bs Extra at = HasCounts bs × (at ≡ 4096 * all_pages bs) × (at < length bs)
 HasFault bs Short at = ⊥
@@ -35,6 +37,7 @@ pub record IsFirst (bs : List ℕ) (fault : StreamFault) : Type 0 where
 abbrev pub HasNoFault : List ℕ → Type 0
 HasNoFault bs = (kind : Kind) (at : ℕ) → HasFault bs kind at → ⊥
 
--- the first fault stays the first, whatever comes behind
+-- the first fault stays the first, whatever comes after
 abbrev pub StaysFirst : List ℕ → Type 0
-StaysFirst bs = (fault : StreamFault) (more : List ℕ) → first_fault bs ≡ Some fault → first_fault (bs ++ more) ≡ Some fault
+StaysFirst bs =
+    (fault : StreamFault) (more : List ℕ) → first_fault bs ≡ Some fault → first_fault (bs ++ more) ≡ Some fault

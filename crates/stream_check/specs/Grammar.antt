@@ -1,6 +1,7 @@
--- The grammar of an image as a stream of bytes: the info page, the pages of frame numbers, and the saved pages in the order of
--- their frames, with nothing else (what /dev/snapshot hands out, kernel/power/user.c and snapshot.c).
-use Rattle.std.specs.Prelude.{ℕ, zero, suc, ◌+◌, ◌-◌, ◌*◌, ◌/◌, ◌%◌, ◌==◌, ◌&&◌, ◌||◌, Bool, nat_lt, nat_le, List, length, min, Option, Some, None, if◌then◌else◌}
+-- The grammar of an image as a stream of bytes: the info page, the pages of frame numbers, and the saved pages in the
+-- order of their frames, with nothing else (what /dev/snapshot hands out, kernel/power/user.c and snapshot.c).
+use Rattle.std.specs.Prelude.{ℕ, zero, suc, ◌+◌, ◌-◌, ◌*◌, ◌/◌, ◌%◌, ◌==◌, ◌&&◌, ◌||◌, Bool, nat_lt, nat_le, List}
+use Rattle.std.specs.Prelude.{length, min, Option, Some, None, if◌then◌else◌}
 use Rattle.definitions.specs.Bytes.{number_at}
 use Rattle.definitions.specs.NumberPages.{meta_of, end_value}
 use Rattle.stream_check.specs.declared.fault.Kind.{Kind}
@@ -14,7 +15,8 @@ image_pages bs = number_at 8 bs 416
 abbrev pub all_pages : List ℕ → ℕ
 all_pages bs = number_at 8 bs 424
 
--- word j behind the info page, and the place of its first byte: first the frame numbers, then what follows the last of them
+-- word j after the info page, and the place of its first byte: first the frame numbers, then what follows the last of
+-- them
 abbrev pub place : ℕ → ℕ
 place j = 4096 + 8 * j
 
@@ -58,7 +60,7 @@ fault_at at (Some kind) = Some (fault kind at)
 abbrev pub word_fault : List ℕ → ℕ → Option StreamFault
 word_fault bs j = fault_at (place j) (kind_of_word (image_pages bs) j (least_number bs j) (number bs j))
 
--- a byte behind the last page
+-- a byte after the last page
 abbrev pub extra_fault : List ℕ → Option StreamFault
 extra_fault bs = if nat_lt (4096 * all_pages bs) (length bs) then Some (fault Extra (4096 * all_pages bs)) else None
 
@@ -71,7 +73,8 @@ abbrev pub first_below : {A : Type 0} → (ℕ → Option A) → ℕ → Option 
 first_below f zero = None
 first_below f (suc n) = or_else (first_below f n) (f n)
 
--- The first fault of the bytes so far: the counts as soon as the info page is whole, a word as soon as its eight bytes are there.
+-- The first fault of the bytes so far: the counts as soon as the info page is whole, a word as soon as its eight bytes
+-- are there.
 unfoldable pub first_fault : List ℕ → Option StreamFault
 first_fault bs =
     if nat_lt (length bs) 4096 then None

@@ -1,5 +1,6 @@
 -- How far a stream is taken.
-use Rattle.std.specs.Prelude.{◌≡◌, ◌≤◌, ◌<◌, ℕ, ◌+◌, ◌-◌, ◌*◌, ◌%◌, List, ◌∷◌, [], ◌++◌, None, nat_lt, slice_index, length, if◌then◌else◌}
+use Rattle.std.specs.Prelude.{◌≡◌, ◌≤◌, ◌<◌, ℕ, ◌+◌, ◌-◌, ◌*◌, ◌%◌, List, ◌∷◌, [], ◌++◌, None, nat_lt, slice_index}
+use Rattle.std.specs.Prelude.{length, if◌then◌else◌}
 use Rattle.definitions.specs.Bytes.{number_at}
 use Rattle.stream_check.specs.declared.taking.Taking.{Taking}
 use Rattle.stream_check.specs.Grammar.{image_pages, all_pages, place, words, least_number, first_fault}
@@ -19,8 +20,8 @@ pub record AreBounded (t : Taking) : Type 0 where
   pub image_pages : 4096 < t.numbers_end → t.image_pages ≤ 65536
   pub pages : 4096 < t.numbers_end → t.pages ≤ 65665
 
--- What is kept of these bytes, in which no fault was found: the two counts, where the words that are tested end and the stream
--- itself, and the least number that the next one may be.
+-- What is kept of these bytes, in which no fault was found: the two counts, where the words that are tested end and the
+-- stream itself, and the least number that the next one may be.
 pub record HasRead (bs : List ℕ) (t : Taking) : Type 0 where
   pub sound : first_fault bs ≡ None
   pub image_count : 424 ≤ length bs → t.image_pages ≡ image_pages bs

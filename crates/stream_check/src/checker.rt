@@ -1,11 +1,12 @@
-ghost use Rattle.std.specs.Prelude.{◌≡◌, ℕ, ◌+◌, ◌<◌, ◌≤◌, ◌↔◌, ◌++◌, [], List, Some, None, Err, IsOk, IfOk, OnOk, OnErr, length, nat_lt, if◌then◌else◌};
+ghost use Rattle.std.specs.Prelude.{◌≡◌, ℕ, ◌+◌, ◌<◌, ◌≤◌, ◌↔◌, ◌++◌, [], List, Some, None, Err, IsOk, IfOk, OnOk};
+ghost use Rattle.std.specs.Prelude.{OnErr, length, nat_lt, if◌then◌else◌};
 
 use crate::taking::{PAGE, Taking};
 use crate::{Kind, StreamFault};
 use std::marker::Model;
 
-/// A stream that is tested as it comes. A contract sees what is kept of the bytes that were taken, and speaks of the bytes by
-/// `HasTaken`.
+/// A stream that is tested as it comes. A contract sees what is kept of the bytes that were taken, and speaks of the
+/// bytes by `HasTaken`.
 #[derive(Drop)]
 pub struct Checker {
     taking: Taking,
@@ -45,7 +46,8 @@ impl Checker {
 
     /// The info page's `image_pages` and `pages`, once that page is whole.
     pub fn counts(&self) -> Option<(u32, u32)>
-        ensures { (bs : List ℕ) → HasTaken bs self.now → result ≡ (if nat_lt (length bs) 4096 then None else Some (image_pages bs, all_pages bs)) }
+        ensures { (bs : List ℕ) → HasTaken bs self.now →
+            result ≡ (if nat_lt (length bs) 4096 then None else Some (image_pages bs, all_pages bs)) }
     {
         if self.taking.numbers_end == PAGE {
             return None;
@@ -53,8 +55,8 @@ impl Checker {
         Some((self.taking.image_pages as u32, self.taking.pages as u32))
     }
 
-    /// Takes the next piece of the stream, of any length, and refuses it with the first fault of all bytes so far. An `Err` leaves
-    /// the piece untaken.
+    /// Takes the next piece of the stream, of any length, and refuses it with the first fault of all bytes so far. An
+    /// `Err` leaves the piece untaken.
     pub fn take(&mut self, piece: &[u8]) -> Result<(), StreamFault>
         ensures ok { (bs : List ℕ) → HasTaken bs self.old → IsOk result ↔ (first_fault (bs ++ piece.now) ≡ None) }
         ensures fault { (bs : List ℕ) → HasTaken bs self.old → (fault : StreamFault) →

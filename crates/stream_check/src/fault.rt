@@ -22,7 +22,7 @@ pub enum Kind {
 #[error("stream {kind:?} byte {at}")]
 pub struct StreamFault {
     pub kind: Kind,
-    /// The byte at which it lies: that of the field `image_pages`, of the word at fault, or the one too many; for `Short` how many
-    /// bytes there are.
+    /// The byte at which it lies: that of the field `image_pages`, of the word at fault, or the one too many; for
+    /// `Short` how many bytes there are.
     pub at: u64,
 }

@@ -1,5 +1,7 @@
-ghost use Rattle.std.specs.Prelude.{◌≡◌, ℕ, ◌+◌, ◌-◌, ◌*◌, ◌/◌, ◌<◌, ◌≤◌, ◌↔◌, ◌++◌, ◌∷◌, [], List, Some, None, Err, IsOk, IfOk, nat_lt, if◌then◌else◌};
-ghost use Rattle.stream_check.specs.Grammar.{place, first_fault, counts_fault, fault_at, kind_of_word, kind_of_number, kind_of_end};
+ghost use Rattle.std.specs.Prelude.{◌≡◌, ℕ, ◌+◌, ◌-◌, ◌*◌, ◌/◌, ◌<◌, ◌≤◌, ◌↔◌, ◌++◌, ◌∷◌, [], List, Some, None, Err};
+ghost use Rattle.std.specs.Prelude.{IsOk, IfOk, nat_lt, if◌then◌else◌};
+ghost use Rattle.stream_check.specs.Grammar.{place, first_fault, counts_fault, fault_at, kind_of_word, kind_of_number};
+ghost use Rattle.stream_check.specs.Grammar.{kind_of_end};
 ghost use Rattle.stream_check.specs.Taken.{AreBounded, HasRead, HasTaken, Completes};
 ghost use Rattle.stream_check.specs.declared.fault.StreamFault.{StreamFault};
 
@@ -109,7 +111,8 @@ impl Taking {
         requires tested { self.taken ≤ self.numbers_end }
         ensures fault { (bs : List ℕ) (b : ℕ) → Completes bs b v self → (fault : StreamFault) →
             (result ≡ Err fault) ↔ (first_fault (bs ++ b ∷ []) ≡ Some fault) }
-        ensures read { (bs : List ℕ) (b : ℕ) → Completes bs b v self → IfOk result (λ next. HasRead (bs ++ b ∷ []) next) }
+        ensures read { (bs : List ℕ) (b : ℕ) → Completes bs b v self →
+            IfOk result (λ next. HasRead (bs ++ b ∷ []) next) }
         ensures taken { IfOk result (λ next. next.taken ≡ self.taken) }
         ensures bounded { IfOk result (λ next. AreBounded next) }
     {
@@ -136,8 +139,12 @@ impl Taking {
     fn with_counts(self) -> Result<Taking, StreamFault>
         requires bounded { AreBounded self }
         requires info { self.taken ≡ 4096 }
-        ensures fault { (fault : StreamFault) → (result ≡ Err fault) ↔ (counts_fault self.image_pages self.pages ≡ Some fault) }
-        ensures next { IfOk result (λ next. next ≡ record self { numbers_end = place (self.image_pages + 1); end = 4096 * self.pages }) }
+        ensures fault { (fault : StreamFault) →
+            (result ≡ Err fault) ↔ (counts_fault self.image_pages self.pages ≡ Some fault) }
+        ensures next { IfOk result (λ next. next ≡ record self {
+          numbers_end = place (self.image_pages + 1);
+          end = 4096 * self.pages;
+        }) }
         ensures bounded { IfOk result (λ next. AreBounded next) }
     {
         let n = self.image_pages;
@@ -158,12 +165,17 @@ impl Taking {
         })
     }
 
-    /// Tests the word at this place behind the info page.
+    /// Tests the word at this place after the info page.
     fn with_number(self, at: u64, v: u64) -> Result<Taking, StreamFault>
         requires bounded { AreBounded self }
         requires behind { 4096 ≤ at }
-        ensures fault { (fault : StreamFault) → (result ≡ Err fault) ↔ (fault_at at (kind_of_word self.image_pages ((at - 4096) / 8) self.least v) ≡ Some fault) }
-        ensures next { IfOk result (λ next. next ≡ record self { least = (if nat_lt ((at - 4096) / 8) self.image_pages then v + 1 else self.least) }) }
+        ensures fault { (fault : StreamFault) →
+            (result ≡ Err fault) ↔ (fault_at at (kind_of_word self.image_pages ((at - 4096) / 8) self.least v) ≡ Some
+            fault) }
+        ensures next { IfOk result (λ next. next ≡ record self {
+          least = (if nat_lt ((at - 4096) / 8) self.image_pages
+              then v + 1 else self.least);
+        }) }
         ensures bounded { IfOk result (λ next. AreBounded next) }
     {
         let j = (at - PAGE) / WORD;
@@ -178,7 +190,7 @@ impl Taking {
         })
     }
 
-    /// Takes bytes behind the words that are tested, of which only the count matters.
+    /// Takes bytes after the words that are tested, of which only the count matters.
     fn with_rest(self, rest: &[u8]) -> Result<Taking, StreamFault>
         requires bounded { AreBounded self }
         requires behind { self.numbers_end ≤ self.taken }

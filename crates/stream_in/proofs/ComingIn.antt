@@ -67,7 +67,7 @@ whole_for area free bs s into whole =
       usable = into.usable;
     }
 
--- the writes are of blocks behind the header's
+-- the writes are of blocks after the header's
 block_some : (area : Area) (free bs : List ℕ) (blocks k : ℕ) (page : List ℕ) → IsWholeFor area free bs blocks → k < all_pages bs + maps_of (all_pages bs) → 0 < (laid_write (first_blocks area) free (all_pages bs) page k).0
 block_some area free bs blocks k page stream lt =
     let n = all_pages bs in

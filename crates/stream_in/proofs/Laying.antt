@@ -80,7 +80,7 @@ pub is_map : (count k : ℕ) → Follows k (count + maps_of count) → is_map_wr
 is_map count k f = ⊎_elim (λ (e : k % 512 ≡ 511). or_left (eqb (k % 512) 511) (eqb (k + 1) (count + maps_of count)) (eq-eqb (k % 512) 511 e))
     (λ (e : k + 1 ≡ count + maps_of count). or_right (eqb (k % 512) 511) (eqb (k + 1) (count + maps_of count)) (eq-eqb (k + 1) (count + maps_of count) e)) f.map
 
--- behind a put that a map follows
+-- after a put that a map follows
 pub record IsBehindPut (free : List ℕ) (w : Writing) (blocks : ℕ) : Type 0 where
   pub of : AreOfMap w.extents free
   pub below : BlocksBelow w.extents free (writes_of w.info) blocks

@@ -1,4 +1,4 @@
--- A page and the maps behind it, put by put.
+-- A page and the maps after it, put by put.
 use Rattle.std.proofs.Common.{◌≡◌, ◌≢◌, ◌⊎◌, ℕ, ◌+◌, ◌/◌, ◌%◌, ◌<◌, true, false, eqb, ◌||◌, List, refl, sym, ap, ◌∙◌, subst, inl, inr, ⊎_elim, arith}
 use Rattle.std.proofs.lemmas.Bool.{cases_eq, cond-true, cond-false, eq-eqb, ne_eqb, eqb-true, eqb-false, or_cases, or_parts, both_ways}
 use Rattle.plain_machine.specs.Image.{maps_of}

@@ -152,7 +152,7 @@ told_writes_then extents other free n m m' k k' a b c same is is' le le' before 
     let R : ℕ → Type 0 = λ j. Changes (WritesAtRest extents free m j) b c in
     changes_then (WritesAtRest extents free n m) (WritesAtRest extents free m k) (WritesAtRest extents free n k) a b c (λ x y z h i. writes_then extents free n m k x y z le le' h i) before (subst R is' (subst Q is (subst P same after)))
 
--- behind all that was written nothing is
+-- after all that was written nothing is
 pub stops_still : (extents : List (ℕ × ℕ × ℕ)) (free : List ℕ) (n m : ℕ) (x y : Content) → WritesAtRest extents free n m x y → StopsAtRest extents free n x y
 stops_still extents free n m x y before = elim (cases_lt m 4096) [
   | inl lt ↦ inl (before.early lt)

@@ -226,7 +226,7 @@ piece_rest bs piece end = ap (λ p. bs ++ p) (sym (take-append-drop end piece)) 
 pub length-part : (bs piece : List ℕ) (end : ℕ) → end ≤ length piece → length (bs ++ take end piece) ≡ length bs + end
 length-part bs piece end le = length-append bs (take end piece) ∙ ap (λ n. length bs + n) (length-take-le end piece le)
 
--- what was too few stays too few, whatever comes behind
+-- what was too few stays too few, whatever comes after
 pub too_few_more : (free bs more : List ℕ) (told need : ℕ) → HasTooFewFor free bs told need → HasTooFewFor free (bs ++ more) told need
 too_few_more free bs more told need h =
     let whole = h.whole in

@@ -91,7 +91,7 @@ left_over page Gone a b c same either gone unsure =
 left_over page Unsure a b c same either gone unsure =
     changes_then (SameOutside 0) (SameOutside 0) (SameOutside 0) a b c same_twice same (unsure refl)
 
--- The header block that is read behind a sync.
+-- The header block that is read after a sync.
 
 pub first_block-some : (blocks : ℕ) (v : DiskImage) → 0 < blocks → first_block blocks v ≡ block v 0
 first_block-some blocks v some = cond-false (eqb blocks 0) zero_page (block v 0) (ne_eqb blocks 0 (λ e. omega arith))
@@ -101,7 +101,7 @@ header_read blocks page a b some synced read =
     changes_to (λ held. page ≡ block (as_it_reads held) 0) (λ held. page ≡ first_block blocks (as_it_reads held)) Syncs a b
     (λ x y s e. e ∙ first_block-some blocks (as_it_reads y) some ∙ ap (λ v. block v 0) (reads_synced x y s)) synced read
 
--- A mark behind a sync.
+-- A mark after a sync.
 
 -- the header block of an area without an image
 abbrev pub IsHeader : List ℕ → Content → Type 0

@@ -1,4 +1,4 @@
--- What a stream of bytes is on a disk when it has come in: the pages of an image, behind a marked header block.
+-- What a stream of bytes is on a disk when it has come in: the pages of an image, after a marked header block.
 use Rattle.std.specs.Prelude.{◌≡◌, ℕ, ◌+◌, List, [], ◌∷◌, ◌++◌, All, map, None, Ok}
 use Rattle.std.specs.List.{concat, range_with_len}
 use Rattle.page_core.specs.declared.format.Format.TheVariants.{Plain}
@@ -18,8 +18,9 @@ use Rattle.stream_in.specs.Written.{page_at, AreWritten}
 abbrev pub first_blocks : Area → List (ℕ × ℕ × ℕ)
 first_blocks area = (0, area.last + 1, 0) ∷ []
 
--- The chain from the first map that the header names is these blocks, for as many pages as the stream says that it has. They read as
--- the stream's pages, so one after another as its bytes (get_swap_reader and swap_read_page, kernel/power/swap.c).
+-- The chain from the first map that the header names is these blocks, for as many pages as the stream says that it has.
+-- They read as the stream's pages, so one after another as its bytes (get_swap_reader and swap_read_page,
+-- kernel/power/swap.c).
 pub record HasChain (h : Hardware) (bs : List ℕ) (v : disk.DiskImage) (blocks : List ℕ) : Type 0 where
   pub chain_is : chain h v (image_of (header_of h v)) (all_pages bs) ≡ Ok blocks
   pub pages : map (disk.block v) blocks ≡ map (page_at bs) (range_with_len 0 (all_pages bs))
@@ -50,8 +51,10 @@ pub record IsReadyFor (area : Area) (free bs : List ℕ) (v : disk.DiskImage) : 
 
 -- where it was ready for some bytes, it is for more
 abbrev pub StaysReady : Area → List ℕ → List ℕ → List ℕ → disk.Content → disk.Content → Type 0
-StaysReady area free bs more old new = IsReadyFor area free bs (disk.as_it_reads old) → IsReadyFor area free (bs ++ more) (disk.as_it_reads new)
+StaysReady area free bs more old new =
+    IsReadyFor area free bs (disk.as_it_reads old) → IsReadyFor area free (bs ++ more) (disk.as_it_reads new)
 
 -- where the disk was ready for it, the stream has come in, in each image that a cut may leave
 abbrev pub ComesIn : Area → List ℕ → List ℕ → disk.Content → disk.Content → Type 0
-ComesIn area free bs old new = IsReadyFor area free bs (disk.as_it_reads old) → (v : disk.DiskImage) → disk.IsImage new v → HasComeIn area bs v
+ComesIn area free bs old new =
+    IsReadyFor area free bs (disk.as_it_reads old) → (v : disk.DiskImage) → disk.IsImage new v → HasComeIn area bs v

@@ -16,7 +16,8 @@ pub record HasHeader (page : List ℕ) (old new : Content) : Type 0 where
   pub others : (b : ℕ) → 0 < b → block (as_it_reads new) b ≡ block (as_it_reads old) b
   pub size : length new ≡ length old
 
--- It has one image, which is marked: block 0, which was that of an area without an image, says that the first map lies there.
+-- It has one image, which is marked: block 0, which was that of an area without an image, says that the first map lies
+-- there.
 pub record Marks (first : ℕ) (old new : Content) : Type 0 where
   pub area : kind_fault (area_kind (block (as_it_reads old) 0)) ≡ None
   pub marked : HasHeader (marked (block (as_it_reads old) 0) first 2 0) old new

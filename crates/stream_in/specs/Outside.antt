@@ -18,8 +18,8 @@ abbrev pub IsAtRest : Bool → Content → Content → Type 0
 IsAtRest true old new = Syncs old new
 IsAtRest false old new = new ≡ old
 
--- A page is put: the first one to a disk that has one image, so that no cut turns what was read of the header block into what was there
--- before; a later one to the disk as it is.
+-- A page is put: the first one to a disk that has one image, so that no cut turns what was read of the header block
+-- into what was there before; a later one to the disk as it is.
 abbrev pub PutsAtRest : List (ℕ × ℕ × ℕ) → List ℕ → Option Writing → Content → Content → Type 0
 PutsAtRest extents free None old new = KeepsOutside extents free (settled (as_it_reads old)) new
 PutsAtRest extents free (Some w) old new = KeepsOutside extents free old new
@@ -28,8 +28,8 @@ PutsAtRest extents free (Some w) old new = KeepsOutside extents free old new
 abbrev pub FailsAtRest : List (ℕ × ℕ × ℕ) → List ℕ → Option Writing → Content → Content → Type 0
 FailsAtRest extents free w old new = (new ≡ old) ⊎ PutsAtRest extents free w old new
 
--- What the writes of a stream leave, of which so many bytes had come before: those of its first page, which is whole with 4096, are made to
--- a disk that has one image.
+-- What the writes of a stream leave, of which so many bytes had come before: those of its first page, which is whole
+-- with 4096, are made to a disk that has one image.
 pub record KeepsAtRest (extents : List (ℕ × ℕ × ℕ)) (free : List ℕ) (taken : ℕ) (old new : Content) : Type 0 where
   pub first : taken < 4096 → KeepsOutside extents free (settled (as_it_reads old)) new
   pub later : 4096 ≤ taken → KeepsOutside extents free old new

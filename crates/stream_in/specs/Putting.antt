@@ -1,6 +1,7 @@
--- How far the pages of a stream are written. A page is written as it is full, with the map that it fills, and behind the last page
--- the last map.
-use Rattle.std.specs.Prelude.{◌≡◌, ◌<◌, ◌≤◌, ◌==◌, ℕ, ◌+◌, ◌/◌, ◌%◌, ◌^◌, ◌||◌, Bool, false, IsTrue, List, length, Option, Some, None, ⊤, if◌then◌else◌}
+-- How far the pages of a stream are written. A page is written as it is full, with the map that it fills, and after
+-- the last page the last map.
+use Rattle.std.specs.Prelude.{◌≡◌, ◌<◌, ◌≤◌, ◌==◌, ℕ, ◌+◌, ◌/◌, ◌%◌, ◌^◌, ◌||◌, Bool, false, IsTrue, List, length}
+use Rattle.std.specs.Prelude.{Option, Some, None, ⊤, if◌then◌else◌}
 use Rattle.swap_slots.specs.Table.{free_in}
 use Rattle.swap_slots.specs.declared.table.SlotTable.{SlotTable}
 use Rattle.plain_machine.specs.Laid.{page_of_write, is_map_write, laid_block}
@@ -26,8 +27,10 @@ pub record IsPagePut (free : List ℕ) (frames : List (List ℕ)) (old new : Wri
 abbrev pub HasCounts : List ℕ → Type 0
 HasCounts page = IsTrue (are_counts (image_pages page) (all_pages page))
 
--- A page can be written. It is the first one, and these slots are free, whose blocks the disk has and a 32-bit number can name.
-pub record CanBegin (free : List ℕ) (frames : List (List ℕ)) (table : SlotTable) (extents : List (ℕ × ℕ × ℕ)) (blocks : ℕ) (page : List ℕ) : Type 0 where
+-- A page can be written. It is the first one, and these slots are free, whose blocks the disk has and a 32-bit number
+-- can name.
+pub record CanBegin (free : List ℕ) (frames : List (List ℕ)) (table : SlotTable) (extents : List (ℕ × ℕ
+    × ℕ)) (blocks : ℕ) (page : List ℕ) : Type 0 where
   pub counts : HasCounts page
   pub is_free : free_in frames table ≡ free
   pub few : length free < 2 ^ 32
@@ -35,7 +38,8 @@ pub record CanBegin (free : List ℕ) (frames : List (List ℕ)) (table : SlotTa
   pub named : BlocksBelow extents free (length free) (2 ^ 32)
 
 -- Or it is a later one, and these slots were free at the first.
-pub record CanGoOn (free : List ℕ) (frames : List (List ℕ)) (table : SlotTable) (extents : List (ℕ × ℕ × ℕ)) (blocks : ℕ) (w : Writing) : Type 0 where
+pub record CanGoOn (free : List ℕ) (frames : List (List ℕ)) (table : SlotTable) (extents : List (ℕ × ℕ
+    × ℕ)) (blocks : ℕ) (w : Writing) : Type 0 where
   pub writing : IsWriting free frames w
   pub table_is : w.table ≡ table
   pub extents_are : w.extents ≡ extents
@@ -69,7 +73,8 @@ Suffice free page None = all_pages page + 1026 ≤ length free
 Suffice free page (Some w) = ⊤
 
 -- The page is written.
-pub record HasPut (free : List ℕ) (frames : List (List ℕ)) (table : SlotTable) (extents : List (ℕ × ℕ × ℕ)) (page : List ℕ) (old : Option Writing) (new : Writing) : Type 0 where
+pub record HasPut (free : List ℕ) (frames : List (List ℕ)) (table : SlotTable) (extents : List (ℕ × ℕ
+    × ℕ)) (page : List ℕ) (old : Option Writing) (new : Writing) : Type 0 where
   pub pages : new.info.pages ≡ pages_in page old
   pub written : new.written ≡ writes_after (pages_in page old) (pages_written old + 1)
   pub going : new.written < writes_of new.info → IsWriting free frames new
@@ -85,7 +90,8 @@ pub record HasTooFew (free : List ℕ) (page : List ℕ) (old : Option Writing) 
   pub fewer : told < need
 
 -- The writer is at a page: its own, or one that has just begun.
-pub record IsAtPage (free : List ℕ) (frames : List (List ℕ)) (table : SlotTable) (extents : List (ℕ × ℕ × ℕ)) (blocks : ℕ) (page : List ℕ) (old : Option Writing) (w : Writing) : Type 0 where
+pub record IsAtPage (free : List ℕ) (frames : List (List ℕ)) (table : SlotTable) (extents : List (ℕ × ℕ
+    × ℕ)) (blocks : ℕ) (page : List ℕ) (old : Option Writing) (w : Writing) : Type 0 where
   pub writing : IsWriting free frames w
   pub at_page : is_map_write w.info.pages w.written ≡ false
   pub on_disk : BlocksBelow w.extents free (writes_of w.info) blocks

@@ -1,5 +1,6 @@
 -- A session, and the bytes that it has taken.
-use Rattle.std.specs.Prelude.{◌≡◌, ◌⊎◌, ◌≤◌, ◌<◌, ℕ, ◌+◌, ◌-◌, ◌*◌, ◌/◌, ◌%◌, ◌^◌, List, [], ◌∷◌, length, slice_index, Option, Some, None}
+use Rattle.std.specs.Prelude.{◌≡◌, ◌⊎◌, ◌≤◌, ◌<◌, ℕ, ◌+◌, ◌-◌, ◌*◌, ◌/◌, ◌%◌, ◌^◌, List, [], ◌∷◌, length, slice_index}
+use Rattle.std.specs.Prelude.{Option, Some, None}
 use Rattle.swap_slots.specs.Table.{LiesIn, Matches, free_in}
 use Rattle.swap_slots.specs.declared.table.SlotTable.{SlotTable}
 use Rattle.plain_machine.specs.Laid.{laid_block}
@@ -15,7 +16,8 @@ use Rattle.stream_in.specs.declared.stop.InStop.{InStop}
 
 -- the bytes of the page that has begun
 abbrev pub HasPage : List ℕ → List ℕ → Type 0
-HasPage bs page = (i : ℕ) → i < length bs % 4096 → slice_index page i ≡ slice_index bs (length bs - length bs % 4096 + i)
+HasPage bs page =
+    (i : ℕ) → i < length bs % 4096 → slice_index page i ≡ slice_index bs (length bs - length bs % 4096 + i)
 
 -- The info page isn't whole, and these slots are free.
 pub record IsUnbegun (free bs : List ℕ) (frames : List (List ℕ)) (table : SlotTable) : Type 0 where
@@ -23,7 +25,8 @@ pub record IsUnbegun (free bs : List ℕ) (frames : List (List ℕ)) (table : Sl
   pub is_free : free_in frames table ≡ free
 
 -- The pages that are whole are written, with the maps that they fill, to these slots, which suffice.
-pub record IsBegun (free bs : List ℕ) (frames : List (List ℕ)) (table : SlotTable) (extents : List (ℕ × ℕ × ℕ)) (w : Writing) : Type 0 where
+pub record IsBegun (free bs : List ℕ) (frames : List (List ℕ)) (table : SlotTable) (extents : List (ℕ × ℕ
+    × ℕ)) (w : Writing) : Type 0 where
   pub late : 4096 ≤ length bs
   pub room : all_pages bs + 1026 ≤ length free
   pub pages : w.info.pages ≡ all_pages bs
@@ -37,7 +40,8 @@ abbrev pub IsOutput : List ℕ → List ℕ → List (List ℕ) → SlotTable �
 IsOutput free bs frames table extents None = IsUnbegun free bs frames table
 IsOutput free bs frames table extents (Some w) = IsBegun free bs frames table extents w
 
--- A session that isn't stopped has taken just these bytes, in which no fault was found. These slots were free when it was opened.
+-- A session that isn't stopped has taken just these bytes, in which no fault was found. These slots were free when it
+-- was opened.
 pub record IsFed (free bs : List ℕ) (s : StreamIn) : Type 0 where
   pub taken : HasTaken bs s.checker
   pub going : s.stop ≡ None
@@ -59,7 +63,8 @@ IsStopped s = (why : InStop) × (s.stop ≡ Some why)
 abbrev pub IsSession : StreamIn → Type 0
 IsSession s = IsStopped s ⊎ IsGoing s
 
--- A session that was just opened over an area: it has taken no byte, slot s lies on block s, and the area's slots are free.
+-- A session that was just opened over an area: it has taken no byte, slot s lies on block s, and the area's slots are
+-- free.
 pub record IsOpened (area : Area) (blocks : ℕ) (s : StreamIn) : Type 0 where
   pub fed : (free : List ℕ) × AreUsable area free × AreOfMap s.map free × IsFed free [] s
   pub map_is : s.map ≡ (0, area.last + 1, 0) ∷ []

@@ -3,7 +3,8 @@ use Rattle.std.specs.Prelude.{◌≡◌, ⊤}
 use Rattle.plain_machine.specs.declared.reply.Left.TheVariants.{Same}
 use Rattle.plain_machine.specs.declared.no_swap.NoSwap.{NoSwap}
 use Rattle.stream_in.specs.declared.stop.InStop.{InStop}
-use Rattle.stream_in.specs.declared.stop.InStop.TheVariants.{NoMemory, NoSlots, Stream, ReadFault, WriteFault, SyncFault}
+use Rattle.stream_in.specs.declared.stop.InStop.TheVariants.{NoMemory, NoSlots, Stream, ReadFault, WriteFault}
+use Rattle.stream_in.specs.declared.stop.InStop.TheVariants.{SyncFault}
 use Rattle.stream_in.specs.declared.stop.InStop.TheVariants as stop
 
 -- a call of the disk failed

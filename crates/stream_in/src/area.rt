@@ -9,8 +9,8 @@ use sig_header::{Area, AreaKind};
 /// A slot table has at most this many slots.
 pub(crate) const MOST_SLOTS: u32 = 131_072;
 
-/// The area of a header block, where it is a version 1 area whose slots are the first blocks of a disk of so many, and whose
-/// slots a table can hold.
+/// The area of a header block, where it is a version 1 area whose slots are the first blocks of a disk of so many, and
+/// whose slots a table can hold.
 pub(crate) fn usable(kind: AreaKind, blocks: u32) -> Result<Area, NoSwap>
     ensures { MatchResult result
         (λ area. (kind ≡ area_kind.Swap area) × (open_fault blocks kind ≡ None))

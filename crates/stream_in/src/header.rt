@@ -4,7 +4,8 @@ ghost use Rattle.definitions.specs.SwapHeader.{taken_back};
 ghost use Rattle.sig_header.specs.AreaKind.{area_kind};
 ghost use Rattle.plain_machine.specs.UsableArea.{kind_fault};
 ghost use Rattle.stream_in.specs.Area.{first_block};
-ghost use Rattle.stream_in.specs.Moments.{AddsNoImage, TriesMark, ElapsesAlike, LiesOver, ElapsesTrying, ElapsesOverMark};
+ghost use Rattle.stream_in.specs.Moments.{AddsNoImage, TriesMark, ElapsesAlike, LiesOver, ElapsesTrying};
+ghost use Rattle.stream_in.specs.Moments.{ElapsesOverMark};
 ghost use Rattle.stream_in.specs.Marking.{HasHeader, Marks, LeavesAt, LeavesMark};
 ghost use Rattle.stream_in.specs.declared.stop.InStop.TheVariants as stop;
 ghost use Rattle.plain_machine.specs.declared.reply.Left.TheVariants as left;
@@ -19,7 +20,8 @@ use sig_header::{AreaKind, SF_NOCOMPRESS_MODE, mark, take_back};
 
 /// The header block, which is zeros on a disk without blocks.
 pub(crate) fn read_header<D: Disk>(disk: &mut D) -> Result<Page, InStop>
-    ensures header { IfOk result (λ page. IfSome (D.content disk.old) (λ held. page ≡ first_block (D.block_count disk.old) (as_it_reads held))) }
+    ensures header { IfOk result (λ page. IfSome (D.content disk.old)
+        (λ held. page ≡ first_block (D.block_count disk.old) (as_it_reads held))) }
     ensures refused { IfErr result (λ why. why ≡ stop.ReadFault left.Same) }
     ensures content { D.content disk.new ≡ D.content disk.old }
     ensures cause { IfErr result (λ why. HasRisen (D.faults disk.old) (D.faults disk.new)) }
@@ -57,7 +59,8 @@ pub(crate) fn mark_image<D: Disk>(disk: &mut D, first: u32) -> Result<(), InStop
     ensures telling { D.tells_moments disk.new ≡ D.tells_moments disk.old }
     ensures tried { IfSome (D.content disk.old) (λ held. IfSome (D.content disk.new) (TriesMark first held)) }
     ensures time { IsTrue (D.tells_moments disk.old) → IfSome (D.content disk.old) (λ held.
-        ElapsesOverMark first (D.moment disk.old) (D.moment disk.new) (D.left_since disk.old) (D.left_since disk.new) held) }
+        ElapsesOverMark first (D.moment disk.old) (D.moment disk.new) (D.left_since disk.old) (D.left_since disk.new)
+        held) }
 {
     let header = header_to_mark(disk)?;
     let marked = mark(&header, u64::from(first), SF_NOCOMPRESS_MODE, 0);
@@ -99,7 +102,8 @@ fn header_to_mark<D: Disk>(disk: &mut D) -> Result<Page, InStop>
 fn write_mark<D: Disk>(disk: &mut D, marked: &Page) -> Result<(), InStop>
     requires { 0 < D.block_count disk.old }
     ensures marked { OnOk result (Changes (HasHeader marked.now) (D.content disk.old) (D.content disk.new)) }
-    ensures leaves { IfErr result (λ why. Changes (LeavesMark marked.now why) (D.content disk.old) (D.content disk.new)) }
+    ensures leaves { IfErr result (λ why. Changes (LeavesMark marked.now why) (D.content disk.old)
+        (D.content disk.new)) }
     ensures stops { IfErr result (λ why. IsOfHeader why) }
     ensures no_swap { IfErr result (λ why. IfNoSwap why (λ reason. ⊥)) }
     ensures cause { IfErr result (λ why. IsDiskStop why → HasRisen (D.faults disk.old) (D.faults disk.new)) }
@@ -108,9 +112,12 @@ fn write_mark<D: Disk>(disk: &mut D, marked: &Page) -> Result<(), InStop>
     ensures orders { D.orders disk.new ≡ D.orders disk.old }
     ensures blocks { D.block_count disk.new ≡ D.block_count disk.old }
     ensures telling { D.tells_moments disk.new ≡ D.tells_moments disk.old }
-    ensures lies { (u : DiskImage) → IfSome (D.content disk.old) (LiesOver marked.now u) → IfSome (D.content disk.new) (LiesOver marked.now u) }
-    ensures time { IsTrue (D.tells_moments disk.old) → (u : DiskImage) → IfSome (D.content disk.old) (LiesOver marked.now u) →
-        ElapsesTrying marked.now u (D.moment disk.old) (D.moment disk.new) (D.left_since disk.old) (D.left_since disk.new) }
+    ensures lies { (u : DiskImage) → IfSome (D.content disk.old) (LiesOver marked.now u) →
+        IfSome (D.content disk.new) (LiesOver marked.now u) }
+    ensures time { IsTrue (D.tells_moments disk.old) → (u : DiskImage) →
+        IfSome (D.content disk.old) (LiesOver marked.now u) →
+        ElapsesTrying marked.now u (D.moment disk.old) (D.moment disk.new) (D.left_since disk.old)
+        (D.left_since disk.new) }
 {
     let _ = marked.as_bytes();
     match disk.write(0, marked) {
@@ -127,16 +134,20 @@ fn write_mark<D: Disk>(disk: &mut D, marked: &Page) -> Result<(), InStop>
 fn undo<D: Disk>(disk: &mut D, marked: &Page) -> Left
     requires { 0 < D.block_count disk.old }
     ensures left { (result ≡ left.Gone) ⊎ (result ≡ left.Unsure) }
-    ensures gone { result ≡ left.Gone → Changes (HasHeader (taken_back marked.now)) (D.content disk.old) (D.content disk.new) }
+    ensures gone { result ≡ left.Gone →
+        Changes (HasHeader (taken_back marked.now)) (D.content disk.old) (D.content disk.new) }
     ensures unsure { result ≡ left.Unsure → Changes (SameOutside 0) (D.content disk.old) (D.content disk.new) }
     ensures calls { D.calls disk.new ≤ D.calls disk.old + 2 }
     ensures faults { D.faults disk.old ≤ D.faults disk.new }
     ensures orders { D.orders disk.new ≡ D.orders disk.old }
     ensures blocks { D.block_count disk.new ≡ D.block_count disk.old }
     ensures telling { D.tells_moments disk.new ≡ D.tells_moments disk.old }
-    ensures lies { (u : DiskImage) → IfSome (D.content disk.old) (LiesOver marked.now u) → IfSome (D.content disk.new) (LiesOver marked.now u) }
-    ensures time { IsTrue (D.tells_moments disk.old) → (u : DiskImage) → IfSome (D.content disk.old) (LiesOver marked.now u) →
-        ElapsesTrying marked.now u (D.moment disk.old) (D.moment disk.new) (D.left_since disk.old) (D.left_since disk.new) }
+    ensures lies { (u : DiskImage) → IfSome (D.content disk.old) (LiesOver marked.now u) →
+        IfSome (D.content disk.new) (LiesOver marked.now u) }
+    ensures time { IsTrue (D.tells_moments disk.old) → (u : DiskImage) →
+        IfSome (D.content disk.old) (LiesOver marked.now u) →
+        ElapsesTrying marked.now u (D.moment disk.old) (D.moment disk.new) (D.left_since disk.old)
+        (D.left_since disk.new) }
 {
     let back = take_back(marked);
     let _ = back.as_bytes();

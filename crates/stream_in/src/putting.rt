@@ -1,4 +1,5 @@
-ghost use Rattle.std.specs.Prelude.{◌≡◌, ◌⊎◌, ℕ, ◌+◌, ◌<◌, ◌≤◌, ◌^◌, List, Err, IfOk, IfErr, OnOk, OnErr, IsTrue, false, length};
+ghost use Rattle.std.specs.Prelude.{◌≡◌, ◌⊎◌, ℕ, ◌+◌, ◌<◌, ◌≤◌, ◌^◌, List, Err, IfOk, IfErr, OnOk, OnErr, IsTrue};
+ghost use Rattle.std.specs.Prelude.{false, length};
 ghost use Rattle.definitions.specs.Disk.{HasRisen, Changes};
 ghost use Rattle.stream_in.specs.Outside.{FailsAtRest, IsAtRest, KeepsOutside, PutsAtRest};
 ghost use Rattle.stream_in.specs.Moments.{ElapsesAlike, ElapsesOutside};
@@ -8,7 +9,8 @@ ghost use Rattle.swap_slots.specs.Table.{LiesIn, Matches};
 ghost use Rattle.image_write.specs.Answers.{Succeeds};
 ghost use Rattle.image_write.specs.Writing.{IsReady, IsWriting, BlocksBelow, writes_of};
 ghost use Rattle.stream_in.specs.Written.{AreOfMap, MakesMore};
-ghost use Rattle.stream_in.specs.Putting.{is_map_next, IsPagePut, HasCounts, CanPut, HasPut, IsAtPage, Suffice, HasTooFew, pages_in, pages_written, writes_made};
+ghost use Rattle.stream_in.specs.Putting.{is_map_next, IsPagePut, HasCounts, CanPut, HasPut, IsAtPage, Suffice};
+ghost use Rattle.stream_in.specs.Putting.{HasTooFew, pages_in, pages_written, writes_made};
 ghost use Rattle.stream_check.specs.Grammar.{all_pages};
 ghost use Rattle.definitions.specs.InfoPage.{info_of};
 ghost use Rattle.swap_slots.specs.Table.{free_in};
@@ -27,8 +29,8 @@ use swap_slots::{FileMap, FreeRuns, SlotTable};
 /// So many slots more than the image has pages must be free.
 const SPARE_SLOTS: u32 = 1026;
 
-/// Writes a page that is full, and the maps that follow it. At the first one the writer begins, and the disk is synced before anything
-/// is written.
+/// Writes a page that is full, and the maps that follow it. At the first one the writer begins, and the disk is synced
+/// before anything is written.
 pub(crate) fn put_full<D: Disk>(
     writer: Option<Writer>,
     frames: &mut Frames,
@@ -44,20 +46,28 @@ pub(crate) fn put_full<D: Disk>(
 
     ensures put { (free : List ℕ) → CanPut free frames.old table.now map.now (D.block_count disk.old) page.now writer →
         IfOk result (λ next. HasPut free frames.new table.now map.now page.now writer next) }
-    ensures enough { (free : List ℕ) → CanPut free frames.old table.now map.now (D.block_count disk.old) page.now writer →
+    ensures enough { (free : List ℕ) →
+        CanPut free frames.old table.now map.now (D.block_count disk.old) page.now writer →
         IfOk result (λ next. Suffice free page.now writer) }
-    ensures too_few { (free : List ℕ) → CanPut free frames.old table.now map.now (D.block_count disk.old) page.now writer →
+    ensures too_few { (free : List ℕ) →
+        CanPut free frames.old table.now map.now (D.block_count disk.old) page.now writer →
         (told need : ℕ) → result ≡ Err (stop.NoSlots told need) → HasTooFew free page.now writer told need }
     ensures stops { IfErr result (λ why. IsOfPage why) }
-    ensures done { (free : List ℕ) (pages : ℕ → List ℕ) → CanPut free frames.old table.now map.now (D.block_count disk.old) page.now writer
+    ensures done { (free : List ℕ) (pages : ℕ → List ℕ) →
+        CanPut free frames.old table.now map.now (D.block_count disk.old) page.now writer
         → AreOfMap map.now free → page.now ≡ pages (pages_written writer)
-        → IfOk result (λ next. Changes (MakesMore map.now free (pages_in page.now writer) pages (writes_made writer) next.written) (D.content disk.old) (D.content disk.new)) }
-    ensures outside { (free : List ℕ) → CanPut free frames.old table.now map.now (D.block_count disk.old) page.now writer →
+        → IfOk result (λ next. Changes (MakesMore map.now free (pages_in page.now writer) pages (writes_made writer)
+        next.written) (D.content disk.old) (D.content disk.new)) }
+    ensures outside { (free : List ℕ) →
+        CanPut free frames.old table.now map.now (D.block_count disk.old) page.now writer →
         IfOk result (λ next. Changes (PutsAtRest map.now free writer) (D.content disk.old) (D.content disk.new)) }
-    ensures stopped { (free : List ℕ) → CanPut free frames.old table.now map.now (D.block_count disk.old) page.now writer →
+    ensures stopped { (free : List ℕ) →
+        CanPut free frames.old table.now map.now (D.block_count disk.old) page.now writer →
         IfErr result (λ why. Changes (FailsAtRest map.now free writer) (D.content disk.old) (D.content disk.new)) }
-    ensures time { IsTrue (D.tells_moments disk.old) → (free : List ℕ) → CanPut free frames.old table.now map.now (D.block_count disk.old) page.now writer →
-        ElapsesOutside map.now free (D.moment disk.old) (D.moment disk.new) (D.left_since disk.old) (D.left_since disk.new) }
+    ensures time { IsTrue (D.tells_moments disk.old) → (free : List ℕ) →
+        CanPut free frames.old table.now map.now (D.block_count disk.old) page.now writer →
+        ElapsesOutside map.now free (D.moment disk.old) (D.moment disk.new) (D.left_since disk.old)
+        (D.left_since disk.new) }
 
     ensures cause { IfErr result (λ why. IsDiskStop why → HasRisen (D.faults disk.old) (D.faults disk.new)) }
     ensures faults { D.faults disk.old ≤ D.faults disk.new }
@@ -146,7 +156,8 @@ fn begin(
     requires table { LiesIn frames.old table.now }
     requires matches { Matches frames.old table.now runs.old }
     requires counts { HasCounts page.now }
-    requires named { BlocksBelow map.now (free_in frames.old table.now) (length (free_in frames.old table.now)) (2 ^ 32) }
+    requires named { BlocksBelow map.now (free_in frames.old table.now) (length (free_in frames.old table.now))
+        (2 ^ 32) }
 
     ensures writing { IfOk result (λ writer. IsWriting (free_in frames.old table.now) frames.new writer) }
     ensures info { IfOk result (λ writer. writer.info ≡ info_of page.now) }
@@ -154,7 +165,8 @@ fn begin(
     ensures extents { IfOk result (λ writer. writer.extents ≡ map.now) }
     ensures written { IfOk result (λ writer. writer.written ≡ 0) }
     ensures enough { IfOk result (λ writer. all_pages page.now + 1026 ≤ length (free_in frames.old table.now)) }
-    ensures too_few { IfErr result (λ why. why ≡ stop.NoSlots (length (free_in frames.old table.now)) (all_pages page.now + 1026)) }
+    ensures too_few { IfErr result (λ why. why ≡ stop.NoSlots (length (free_in frames.old table.now))
+        (all_pages page.now + 1026)) }
     ensures fewer { IfErr result (λ why. length (free_in frames.old table.now) < all_pages page.now + 1026) }
 
     ensures len { length frames.new ≡ length frames.old }
@@ -170,7 +182,7 @@ fn begin(
     Ok(Writer::begin(frames, runs, table, map, &info))
 }
 
-/// Writes the next page of the stream, the map that it fills, and the last map behind the last page.
+/// Writes the next page of the stream, the map that it fills, and the last map after the last page.
 fn put_page<D: Disk>(
     writer: &mut Writer,
     frames: &mut Frames,
@@ -183,15 +195,19 @@ fn put_page<D: Disk>(
     requires writing { IsReady (D.block_count disk.old) frames.old writer.old }
     requires page { is_map_write writer.old.info.pages writer.old.written ≡ false }
 
-    ensures put { (free : List ℕ) → IsWriting free frames.old writer.old → Succeeds result → IsPagePut free frames.new writer.old writer.new }
-    ensures done { (free : List ℕ) (pages : ℕ → List ℕ) → IsWriting free frames.old writer.old → AreOfMap writer.old.extents free
+    ensures put { (free : List ℕ) → IsWriting free frames.old writer.old → Succeeds result →
+        IsPagePut free frames.new writer.old writer.new }
+    ensures done { (free : List ℕ) (pages : ℕ → List ℕ) → IsWriting free frames.old writer.old →
+        AreOfMap writer.old.extents free
         → BlocksBelow writer.old.extents free (writes_of writer.old.info) (D.block_count disk.old)
         → page.now ≡ pages (page_of_write writer.old.written) → Succeeds result
-        → Changes (MakesMore writer.old.extents free writer.old.info.pages pages writer.old.written writer.new.written) (D.content disk.old) (D.content disk.new) }
+        → Changes (MakesMore writer.old.extents free writer.old.info.pages pages writer.old.written writer.new.written)
+        (D.content disk.old) (D.content disk.new) }
     ensures outside { (free : List ℕ) → IsWriting free frames.old writer.old →
         Changes (KeepsOutside writer.old.extents free) (D.content disk.old) (D.content disk.new) }
     ensures time { IsTrue (D.tells_moments disk.old) → (free : List ℕ) → IsWriting free frames.old writer.old →
-        ElapsesOutside writer.old.extents free (D.moment disk.old) (D.moment disk.new) (D.left_since disk.old) (D.left_since disk.new) }
+        ElapsesOutside writer.old.extents free (D.moment disk.old) (D.moment disk.new) (D.left_since disk.old)
+        (D.left_since disk.new) }
 
     ensures cause { result ≡ WriteStep.Fault → HasRisen (D.faults disk.old) (D.faults disk.new) }
     ensures faults { D.faults disk.old ≤ D.faults disk.new }

@@ -1,4 +1,5 @@
-ghost use Rattle.std.specs.Prelude.{◌≡◌, ◌↔◌, ◌≤◌, ◌<◌, ℕ, ◌+◌, ◌-◌, ◌*◌, ◌/◌, ◌%◌, ◌++◌, ◌∷◌, List, [], Option, Some, None, Err, IsSome, IsTrue, IfOk, IfErr, IfSome, OnOk, OnErr, length, replicate};
+ghost use Rattle.std.specs.Prelude.{◌≡◌, ◌↔◌, ◌≤◌, ◌<◌, ℕ, ◌+◌, ◌-◌, ◌*◌, ◌/◌, ◌%◌, ◌++◌, ◌∷◌, List, [], Option, Some};
+ghost use Rattle.std.specs.Prelude.{None, Err, IsSome, IsTrue, IfOk, IfErr, IfSome, OnOk, OnErr, length, replicate};
 ghost use Rattle.definitions.specs.Disk.{HasRisen, Changes, as_it_reads, block};
 ghost use Rattle.sig_header.specs.AreaKind.{area_kind};
 ghost use Rattle.plain_machine.specs.UsableArea.{kind_fault};
@@ -9,7 +10,8 @@ ghost use Rattle.sig_header.specs.declared.area.Area.{Area as AreaValue};
 ghost use Rattle.sig_header.specs.declared.area.AreaKind.TheVariants as kind;
 ghost use Rattle.definitions.specs.Slots.{IsFileMap};
 ghost use Rattle.stream_in.specs.Outside.{StopsAtRest, WritesAtRest};
-ghost use Rattle.stream_in.specs.Moments.{AddsNoHeader, ElapsesAlike, ElapsesOutside, ElapsesOverMark, MarksWhole, LeavesWhole};
+ghost use Rattle.stream_in.specs.Moments.{AddsNoHeader, ElapsesAlike, ElapsesOutside, ElapsesOverMark, MarksWhole};
+ghost use Rattle.stream_in.specs.Moments.{LeavesWhole};
 ghost use Rattle.stream_in.specs.Written.{AreOfMap, WritesOn};
 ghost use Rattle.stream_in.specs.Marking.{Marks, LeavesAt};
 ghost use Rattle.stream_in.specs.Holding.{IsReadyFor, StaysReady, ComesIn};
@@ -35,8 +37,9 @@ const PAGE: usize = 4096;
 /// The page frames of the slot table.
 const TABLE_FRAMES: u32 = 128;
 
-/// An image that comes in: a stream of bytes whose pages are written into the swap area at the disk's first blocks, as they are
-/// full. It takes all its memory when it is opened. The slots that are free are told by a slot table of its own.
+/// An image that comes in: a stream of bytes whose pages are written into the swap area at the disk's first blocks, as
+/// they are full. It takes all its memory when it is opened. The slots that are free are told by a slot table of its
+/// own.
 #[derive(Drop)]
 pub struct StreamIn {
     frames: Frames,
@@ -63,14 +66,18 @@ impl StreamIn {
 
     /// Reads the header block of the disk's area, which must be a version 1 area without an image.
     pub fn open<D: Disk>(alloc: Global, disk: &mut D) -> Result<StreamIn, InStop>
-        ensures opened { IfOk result (λ s. (area : AreaValue) × IsOpened area (D.block_count disk.old) s × IfSome (D.content disk.old)
+        ensures opened { IfOk result (λ s. (area : AreaValue) × IsOpened area (D.block_count disk.old) s
+            × IfSome (D.content disk.old)
             (λ held. area_kind (first_block (D.block_count disk.old) (as_it_reads held)) ≡ kind.Swap area)) }
-        ensures ready { IfOk result (λ s. (area : AreaValue) × (free : List ℕ) × TakesInto area free [] s × IfSome (D.content disk.old)
+        ensures ready { IfOk result (λ s. (area : AreaValue) × (free : List ℕ) × TakesInto area free [] s
+            × IfSome (D.content disk.old)
             (λ held. IsReadyFor area free [] (as_it_reads held))) }
         ensures usable { IfOk result (λ s. IfSome (D.content disk.old)
-            (λ held. open_fault (D.block_count disk.old) (area_kind (first_block (D.block_count disk.old) (as_it_reads held))) ≡ None)) }
+            (λ held. open_fault (D.block_count disk.old)
+            (area_kind (first_block (D.block_count disk.old) (as_it_reads held))) ≡ None)) }
         ensures no_swap { IfErr result (λ why. IfNoSwap why (λ reason. IfSome (D.content disk.old)
-            (λ held. open_fault (D.block_count disk.old) (area_kind (first_block (D.block_count disk.old) (as_it_reads held))) ≡ Some reason))) }
+            (λ held. open_fault (D.block_count disk.old)
+            (area_kind (first_block (D.block_count disk.old) (as_it_reads held))) ≡ Some reason))) }
         ensures stops { IfErr result (λ why. IsOfOpen why) }
         ensures untouched { result ≡ Err stop.NoMemory → disk.new ≡ disk.old }
         ensures session { IfOk result (λ s. IsSession s) }
@@ -129,15 +136,17 @@ impl StreamIn {
         self.blocks
     }
 
-    /// Takes the next piece of the stream, of any length: each page is written as it is full. A session that was stopped answers
-    /// its stop again and makes no call of the disk.
+    /// Takes the next piece of the stream, of any length: each page is written as it is full. A session that was
+    /// stopped answers its stop again and makes no call of the disk.
     pub fn feed<D: Disk>(&mut self, disk: &mut D, piece: &[u8]) -> Result<(), InStop>
         requires session { IsSession self.old }
         requires blocks { D.block_count disk.old ≡ self.old.blocks }
 
-        ensures again { (why : InStop) → self.old.stop ≡ Some why → (result ≡ Err why) × (self.new ≡ self.old) × (disk.new ≡ disk.old) }
+        ensures again { (why : InStop) → self.old.stop ≡ Some why → (result ≡ Err why) × (self.new ≡ self.old)
+            × (disk.new ≡ disk.old) }
 
-        ensures taken { (free bs : List ℕ) → IsFed free bs self.old → OnOk result (IsFed free (bs ++ piece.now) self.new) }
+        ensures taken { (free bs : List ℕ) → IsFed free bs self.old →
+            OnOk result (IsFed free (bs ++ piece.now) self.new) }
         ensures stream { (free bs : List ℕ) → IsFed free bs self.old → (fault : StreamFault) →
             result ≡ Err (stop.Stream fault) → first_fault (bs ++ piece.now) ≡ Some fault }
         ensures too_few { (free bs : List ℕ) → IsFed free bs self.old → (told need : ℕ) →
@@ -145,23 +154,29 @@ impl StreamIn {
         ensures stops { IsGoing self.old → IfErr result (λ why. IsOfFeed why) }
         ensures done { (free bs : List ℕ) → IsFed free bs self.old → AreOfMap self.old.map free →
             OnOk result (Changes (WritesOn self.old.map free bs piece.now) (D.content disk.old) (D.content disk.new)) }
-        ensures into { (area : AreaValue) (free bs : List ℕ) → TakesInto area free bs self.old → OnOk result (TakesInto area free (bs ++ piece.now) self.new) }
+        ensures into { (area : AreaValue) (free bs : List ℕ) → TakesInto area free bs self.old →
+            OnOk result (TakesInto area free (bs ++ piece.now) self.new) }
         ensures ready { (area : AreaValue) (free bs : List ℕ) → TakesInto area free bs self.old →
             OnOk result (Changes (StaysReady area free bs piece.now) (D.content disk.old) (D.content disk.new)) }
         ensures outside { (free bs : List ℕ) → IsFed free bs self.old →
-            OnOk result (Changes (WritesAtRest self.old.map free (length bs) (length (bs ++ piece.now))) (D.content disk.old) (D.content disk.new)) }
+            OnOk result (Changes (WritesAtRest self.old.map free (length bs) (length (bs
+            ++ piece.now))) (D.content disk.old) (D.content disk.new)) }
         ensures stopped { (free bs : List ℕ) → IsFed free bs self.old →
-            OnErr result (Changes (StopsAtRest self.old.map free (length bs)) (D.content disk.old) (D.content disk.new)) }
+            OnErr result (Changes (StopsAtRest self.old.map free (length bs)) (D.content disk.old)
+            (D.content disk.new)) }
         ensures time { IsTrue (D.tells_moments disk.old) → (free bs : List ℕ) → IsFed free bs self.old →
-            ElapsesOutside self.old.map free (D.moment disk.old) (D.moment disk.new) (D.left_since disk.old) (D.left_since disk.new) }
-        ensures header { IsTrue (D.tells_moments disk.old) → (area : AreaValue) (free bs : List ℕ) → TakesInto area free bs self.old →
+            ElapsesOutside self.old.map free (D.moment disk.old) (D.moment disk.new) (D.left_since disk.old)
+            (D.left_since disk.new) }
+        ensures header { IsTrue (D.tells_moments disk.old) → (area : AreaValue) (free bs : List ℕ) →
+            TakesInto area free bs self.old →
             AddsNoHeader (D.moment disk.old) (D.left_since disk.old) (D.left_since disk.new) }
         ensures kept { IfErr result (λ why. self.new.stop ≡ Some why) }
         ensures session { IsSession self.new }
         ensures same { self.new.blocks ≡ self.old.blocks }
         ensures map { self.new.map ≡ self.old.map }
 
-        ensures cause { IsGoing self.old → IfErr result (λ why. IsDiskStop why → HasRisen (D.faults disk.old) (D.faults disk.new)) }
+        ensures cause { IsGoing self.old →
+            IfErr result (λ why. IsDiskStop why → HasRisen (D.faults disk.old) (D.faults disk.new)) }
         ensures faults { D.faults disk.old ≤ D.faults disk.new }
         ensures calls { (free bs : List ℕ) → IsFed free bs self.old →
             D.calls disk.new ≤ D.calls disk.old + 3 * (length (bs ++ piece.now) / 4096 - length bs / 4096) }
@@ -194,7 +209,8 @@ impl StreamIn {
         requires some { 0 < length part.now }
         requires blocks { D.block_count disk.old ≡ self.old.blocks }
 
-        ensures taken { (free bs : List ℕ) → IsFed free bs self.old → OnOk result (IsFed free (bs ++ part.now) self.new) }
+        ensures taken { (free bs : List ℕ) → IsFed free bs self.old →
+            OnOk result (IsFed free (bs ++ part.now) self.new) }
         ensures stream { (free bs : List ℕ) → IsFed free bs self.old → (fault : StreamFault) →
             result ≡ Err (stop.Stream fault) → first_fault (bs ++ part.now) ≡ Some fault }
         ensures too_few { (free bs : List ℕ) → IsFed free bs self.old → (told need : ℕ) →
@@ -203,11 +219,14 @@ impl StreamIn {
         ensures done { (free bs : List ℕ) → IsFed free bs self.old → AreOfMap self.old.map free →
             OnOk result (Changes (WritesOn self.old.map free bs part.now) (D.content disk.old) (D.content disk.new)) }
         ensures outside { (free bs : List ℕ) → IsFed free bs self.old →
-            OnOk result (Changes (WritesAtRest self.old.map free (length bs) (length (bs ++ part.now))) (D.content disk.old) (D.content disk.new)) }
+            OnOk result (Changes (WritesAtRest self.old.map free (length bs) (length (bs
+            ++ part.now))) (D.content disk.old) (D.content disk.new)) }
         ensures stopped { (free bs : List ℕ) → IsFed free bs self.old →
-            OnErr result (Changes (StopsAtRest self.old.map free (length bs)) (D.content disk.old) (D.content disk.new)) }
+            OnErr result (Changes (StopsAtRest self.old.map free (length bs)) (D.content disk.old)
+            (D.content disk.new)) }
         ensures time { IsTrue (D.tells_moments disk.old) → (free bs : List ℕ) → IsFed free bs self.old →
-            ElapsesOutside self.old.map free (D.moment disk.old) (D.moment disk.new) (D.left_since disk.old) (D.left_since disk.new) }
+            ElapsesOutside self.old.map free (D.moment disk.old) (D.moment disk.new) (D.left_since disk.old)
+            (D.left_since disk.new) }
         ensures same { self.new.blocks ≡ self.old.blocks }
         ensures map { self.new.map ≡ self.old.map }
 
@@ -255,21 +274,27 @@ impl StreamIn {
             OnOk result (Changes (ComesIn area free bs) (D.content disk.old) (D.content disk.new)) }
         ensures whole { (area : AreaValue) (free bs : List ℕ) → TakesInto area free bs self →
             IfSome (D.content disk.old) (λ held. IfSome (D.content disk.new) (LeavesWhole area free bs held)) }
-        ensures leaves { IsGoing self → IfErr result (λ why. Changes (LeavesAt why) (D.content disk.old) (D.content disk.new)) }
+        ensures leaves { IsGoing self →
+            IfErr result (λ why. Changes (LeavesAt why) (D.content disk.old) (D.content disk.new)) }
         ensures stops { IsGoing self → IfErr result (λ why. IsOfFinish why) }
         ensures no_swap { IsGoing self → IfErr result (λ why. IfNoSwap why (λ reason. IfSome (D.content disk.old)
             (λ held. kind_fault (area_kind (block (as_it_reads held) 0)) ≡ Some reason))) }
 
-        ensures cause { IsGoing self → IfErr result (λ why. IsDiskStop why → HasRisen (D.faults disk.old) (D.faults disk.new)) }
+        ensures cause { IsGoing self →
+            IfErr result (λ why. IsDiskStop why → HasRisen (D.faults disk.old) (D.faults disk.new)) }
         ensures faults { D.faults disk.old ≤ D.faults disk.new }
         ensures calls { D.calls disk.new ≤ D.calls disk.old + 6 }
         ensures orders { D.orders disk.new ≡ D.orders disk.old }
         ensures blocks { D.block_count disk.new ≡ D.block_count disk.old }
         ensures telling { D.tells_moments disk.new ≡ D.tells_moments disk.old }
-        ensures time { IsTrue (D.tells_moments disk.old) → (free bs : List ℕ) → IsFed free bs self → IfSome (D.content disk.old) (λ held.
-            ElapsesOverMark (laid_block self.map free 0) (D.moment disk.old) (D.moment disk.new) (D.left_since disk.old) (D.left_since disk.new) held) }
-        ensures cut { IsTrue (D.tells_moments disk.old) → (area : AreaValue) (free bs : List ℕ) → TakesInto area free bs self →
-            IfSome (D.content disk.old) (MarksWhole area free bs (D.moment disk.old) (D.left_since disk.old) (D.left_since disk.new)) }
+        ensures time { IsTrue (D.tells_moments disk.old) → (free bs : List ℕ) → IsFed free bs self →
+            IfSome (D.content disk.old) (λ held.
+            ElapsesOverMark (laid_block self.map free 0) (D.moment disk.old) (D.moment disk.new) (D.left_since disk.old)
+            (D.left_since disk.new) held) }
+        ensures cut { IsTrue (D.tells_moments disk.old) → (area : AreaValue) (free bs : List ℕ) →
+            TakesInto area free bs self →
+            IfSome (D.content disk.old) (MarksWhole area free bs (D.moment disk.old) (D.left_since disk.old)
+            (D.left_since disk.new)) }
     {
         if let Some(stop) = self.stop {
             return Err(stop);

@@ -1,4 +1,4 @@
--- What is kept of a stream: its pages, and what is left behind its cursor.
+-- What is kept of a stream: its pages, and what is left after its cursor.
 use Rattle.std.proofs.Common.{◌≡◌, ◌≤◌, ◌<◌, ◌⊎◌, inl, inr, ℕ, ◌+◌, ◌-◌, List, [], length, get_or, map, sym, ap, ◌∙◌, subst, ⊎_elim, arith}
 use Rattle.std.proofs.lemmas.Bool.{cases_lt}
 use Rattle.std.proofs.lemmas.List.{get_or-map, length-map}
@@ -61,7 +61,7 @@ module _ (s : Inside) (kept : IsKept s) where
       IsPart (get_or pages s.cursor.page []) s.cursor new before after count
   data_part new before after count le lt part = subst (λ (p : List ℕ). IsPart p s.cursor new before after count) (sym (data_page le lt)) part
 
-  -- what is kept of it behind a part of a page
+  -- what is kept of it after a part of a page
 
   within : s.cursor.page < heads + length members → s.cursor.page < length pages
   within lt = let size = length_pages in omega arith

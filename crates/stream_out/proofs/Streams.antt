@@ -1,4 +1,4 @@
--- What is left of a stream behind a cursor, and the pages of a stream by their number.
+-- What is left of a stream after a cursor, and the pages of a stream by their number.
 use Rattle.std.proofs.Common.{◌≡◌, ◌≤◌, ◌<◌, inl, inr, ℕ, ◌+◌, ◌-◌, List, [], ◌∷◌, ◌++◌, length, get_or, map, filter, not, take, drop, suc, refl, sym, ap, ap₂, ◌∙◌, arith, length-append}
 use Rattle.std.proofs.lemmas.Bool.{cases_lt}
 use Rattle.std.proofs.lemmas.List.{drop_more, drop_all, drop-drop, drop-append-le, take-append-le, get_or_append_left, get_or-append-add, length-map, length-drop}
@@ -28,7 +28,7 @@ left_here : (pages : List (List ℕ)) (c : Cursor) → c.page < length pages →
 unfolding left_behind
 left_here pages c lt = ap (λ (xss : List (List ℕ)). drop c.at (concat xss)) (drop_more pages c.page [] lt)
 
--- those of the page, and those of the pages behind it
+-- those of the page, and those of the pages after it
 left_in_page : (pages : List (List ℕ)) (c : Cursor) → c.page < length pages → c.at ≤ length (get_or pages c.page []) → left_behind pages c ≡ drop c.at (get_or pages c.page []) ++ concat (drop (c.page + 1) pages)
 left_in_page pages c lt le = left_here pages c lt ∙ drop-append-le c.at (get_or pages c.page []) (concat (drop (c.page + 1) pages)) le
 

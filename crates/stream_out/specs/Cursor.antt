@@ -3,12 +3,12 @@ use Rattle.std.specs.Prelude.{◌≡◌, ◌≤◌, ◌<◌, ℕ, ◌+◌, List,
 use Rattle.std.specs.List.{concat}
 use Rattle.stream_out.specs.declared.cursor.Cursor.{Cursor}
 
--- the bytes that are left of these pages behind a cursor
+-- the bytes that are left of these pages after a cursor
 unfoldable pub left_behind : List (List ℕ) → Cursor → List ℕ
 left_behind pages cursor = drop cursor.at (concat (drop cursor.page pages))
 
--- So many bytes of a page are handed out into a piece. The cursor stands behind them, or with the page's last byte before the
--- first one of the next page.
+-- So many bytes of a page are handed out into a piece. The cursor stands after them, or with the page's last byte
+-- before the first one of the next page.
 pub record IsPart (page : List ℕ) (old new : Cursor) (before after : List ℕ) (count : ℕ) : Type 0 where
   pub whole : length page ≡ 4096
   pub fit : count ≤ length before

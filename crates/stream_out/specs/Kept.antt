@@ -18,6 +18,8 @@ pub record IsKept (s : Inside) : Type 0 where
   pub page : s.cursor.page ≤ meta_of (length s.saveable.now.members) + 1 + length s.saveable.now.members
   pub at : s.cursor.at < 4096
   -- the page frames of the data pages before the cursor's page lie below `from`, and the others don't
-  pub from : count_below s.saveable.now.members s.cursor.from ≡ s.cursor.page - (meta_of (length s.saveable.now.members) + 1)
+  pub from : count_below s.saveable.now.members s.cursor.from ≡ s.cursor.page -
+      (meta_of (length s.saveable.now.members) + 1)
   -- a head page of which a part is handed out is kept
-  pub head : 0 < s.cursor.at → s.cursor.page ≤ meta_of (length s.saveable.now.members) → IsHead s.hw.now s.saveable.now.members s.cursor.page s.head
+  pub head : 0 < s.cursor.at → s.cursor.page ≤ meta_of (length s.saveable.now.members) →
+      IsHead s.hw.now s.saveable.now.members s.cursor.page s.head

@@ -61,7 +61,9 @@ pub fn hand_out_head(
     requires page { cursor.old.page ≤ meta_of (length saveable.now.members) }
     requires made { 0 < cursor.old.at → IsHead hw.now saveable.now.members cursor.old.page head.old }
     requires some { 0 < length into.old }
-    ensures part { (saved : List (List ℕ)) → IsPart (slice_index_or (stream_over hw.now saveable.now.members saved) cursor.old.page []) cursor.old cursor.new into.old into.new result }
+    ensures part { (saved : List (List ℕ)) →
+        IsPart (slice_index_or (stream_over hw.now saveable.now.members saved) cursor.old.page []) cursor.old cursor.new
+        into.old into.new result }
     ensures made { 0 < cursor.new.at → IsHead hw.now saveable.now.members cursor.new.page head.new }
     ensures from { cursor.new.from ≡ cursor.old.from }
 {
@@ -88,7 +90,8 @@ pub fn hand_out_data(
     requires more { count_below saveable.now.members cursor.old.from < length saveable.now.members }
     requires within { All (λ p. p < length frames.now) saveable.now.members }
     requires some { 0 < length into.old }
-    ensures part { IsPart (frame frames.now (slice_index saveable.now.members (count_below saveable.now.members cursor.old.from)))
+    ensures part { IsPart (frame frames.now
+        (slice_index saveable.now.members (count_below saveable.now.members cursor.old.from)))
         cursor.old cursor.new into.old into.new result }
     ensures from { count_below saveable.now.members cursor.new.from
         ≡ count_below saveable.now.members cursor.old.from + (cursor.new.page - cursor.old.page) }

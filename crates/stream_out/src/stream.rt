@@ -38,8 +38,8 @@ impl<'a> Model for StreamOut<'a> {
 }
 
 impl<'a> StreamOut<'a> {
-    /// The stream of the image of this memory in the plain format: its saveable page frames, which are those of the set.
-    /// Refused where a task has a slot.
+    /// The stream of the image of this memory in the plain format: its saveable page frames, which are those of the
+    /// set. Refused where a task has a slot.
     pub fn begin(
         frames: &'a Frames,
         hw: &'a Hardware,

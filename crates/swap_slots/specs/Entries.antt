@@ -1,5 +1,5 @@
--- What the words of a slot table mean: 0 where the slot is free, the number of the task that has it, 65536 where the image has it,
--- and 131072 where it is bad.
+-- What the words of a slot table mean: 0 where the slot is free, the number of the task that has it, 65536 where the
+-- image has it, and 131072 where it is bad.
 use Rattle.std.specs.Prelude.{◌==◌, ℕ, if◌then◌else◌}
 use Rattle.swap_slots.specs.declared.entry.SlotEntry.{SlotEntry}
 use Rattle.swap_slots.specs.declared.entry.SlotEntry.TheVariants.{Free, Task, Image, Bad}

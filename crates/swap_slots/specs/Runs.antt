@@ -11,7 +11,7 @@ pub record SlotRuns : Type 0 where
 unfoldable pub from_slot : ℕ → List ℕ → List ℕ
 from_slot p slots = filter (λ s. nat_le p s) slots
 
--- the first run of the slots from p on, behind which the others lie
+-- the first run of the slots from p on, after which the others lie
 pub record IsFirstRun (slots : List ℕ) (p room : ℕ) (run : ℕ × ℕ) : Type 0 where
   pub within : run.0 + run.1 ≤ room
   pub splits : runs_of (from_slot p slots) ≡ run ∷ runs_of (from_slot (run.0 + run.1) slots)

@@ -33,8 +33,8 @@ impl SlotEntry {
         }
     }
 
-    /// The entry with this word. A word that is none of the others counts as a task's number: a table with a word that no slot
-    /// may have is refused before a machine runs.
+    /// The entry with this word. A word that is none of the others counts as a task's number: a table with a word that
+    /// no slot may have is refused before a machine runs.
     #[tactic(auto, unfolding(crate::specs::Entries::entry_of_word))]
     pub(crate) fn of(word: u32) -> SlotEntry
         ensures { result ≡ entry_of_word word }

@@ -1,5 +1,6 @@
 ghost use Rattle.std.specs.Prelude.{◌≡◌, ℕ, ◌+◌, ◌-◌, ◌<◌, ◌≤◌, ◌↔◌, IsTrue, IsOk, IsNone, IfOk, IfSome, List, length};
-ghost use Rattle.definitions.specs.Slots.{block_of, extent_at, slots_before, slots_of, LieApart, IsInOrder, IsFileMap, IsExtentFault};
+ghost use Rattle.definitions.specs.Slots.{block_of, extent_at, slots_before, slots_of, LieApart, IsInOrder, IsFileMap};
+ghost use Rattle.definitions.specs.Slots.{IsExtentFault};
 ghost use Rattle.swap_slots.specs.Extents.{Follows};
 
 use std::marker::Model;
@@ -7,8 +8,8 @@ use std::marker::Model;
 /// At most this many extents.
 const MOST_EXTENTS: usize = 64;
 
-/// Where the slots of a swap area lie on the blocks of the device: extents (first slot, length, first block) in ascending
-/// order (struct swap_extent, include/linux/swap.h). A contract sees the list of them.
+/// Where the slots of a swap area lie on the blocks of the device: extents (first slot, length, first block) in
+/// ascending order (struct swap_extent, include/linux/swap.h). A contract sees the list of them.
 #[derive(Clone, Copy)]
 pub struct FileMap {
     extents: [(u32, u32, u32); MOST_EXTENTS],
@@ -32,8 +33,8 @@ impl Model for FileMap {
 }
 
 impl FileMap {
-    /// The file map of these extents, where they are in order and cover just so many slots. Else the index of the first that
-    /// is at fault: 0 where they are too few or too many, the one after the last where they don't cover the slots.
+    /// The file map of these extents, where they are in order and cover just so many slots. Else the index of the first
+    /// that is at fault: 0 where they are too few or too many, the one after the last where they don't cover the slots.
     pub fn of(extents: &[(u32, u32, u32)], slots: u32) -> Result<FileMap, u32>
         ensures ok { IsOk result ↔ IsFileMap extents.now slots }
         ensures map { IfOk result (λ map. map ≡ extents.now) }
@@ -103,7 +104,7 @@ fn is_in_order(extents: &[(u32, u32, u32)], i: usize, end: u64) -> bool
     follows(extent, end) && lies_apart(&extents[..i], extent)
 }
 
-/// Whether an extent that begins at slot `end` may stand behind those before it, but for their blocks.
+/// Whether an extent that begins at slot `end` may stand after those before it, but for their blocks.
 fn follows(extent: (u32, u32, u32), end: u64) -> bool
     ensures { IsTrue result ↔ Follows end extent }
 {

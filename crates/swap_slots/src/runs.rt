@@ -1,4 +1,5 @@
-ghost use Rattle.std.specs.Prelude.{◌≡◌, ℕ, ◌+◌, ◌<◌, ◌≤◌, ◌↔◌, [], List, IsTrue, IfOk, MatchOption, Contains, length, replicate, slice_get};
+ghost use Rattle.std.specs.Prelude.{◌≡◌, ℕ, ◌+◌, ◌<◌, ◌≤◌, ◌↔◌, [], List, IsTrue, IfOk, MatchOption, Contains, length};
+ghost use Rattle.std.specs.Prelude.{replicate, slice_get};
 ghost use Rattle.definitions.specs.Zones.{numbers};
 ghost use Rattle.definitions.specs.Slots.{runs_of, free_runs};
 ghost use Rattle.definitions.specs.Tables.{HasTable};
@@ -125,7 +126,8 @@ impl FreeRuns {
     /// The first run of the free slots from `from` on.
     fn run_from(&self, from: u32) -> Option<(u32, u32)>
         requires { from ≤ self.now.room }
-        ensures { let slots = numbers self.now.runs in MatchOption result (from_slot from slots ≡ []) (IsFirstRun slots from self.now.room) }
+        ensures { let slots = numbers self.now.runs in MatchOption result (from_slot from slots ≡ [])
+            (IsFirstRun slots from self.now.room) }
     {
         let start = self.next_free(from);
         if start == self.room {

@@ -6,8 +6,8 @@ ghost use Rattle.swap_slots.specs.Entries.{word_of, entry_of_word};
 use crate::{FreeRuns, SlotEntry};
 use frame_arena::Frames;
 
-/// The table of the slots of a swap area in page frames: a word of 4 bytes for each slot's entry, which is 0 where the slot is free,
-/// the number of the task that has it, 65536 where the image has it, and 131072 where it is bad.
+/// The table of the slots of a swap area in page frames: a word of 4 bytes for each slot's entry, which is 0 where the
+/// slot is free, the number of the task that has it, 65536 where the image has it, and 131072 where it is bad.
 #[derive(Clone, Copy, Debug, PartialEq, Eq)]
 pub struct SlotTable {
     /// The first page frame.

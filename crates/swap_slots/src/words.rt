@@ -47,7 +47,8 @@ pub fn is_clear_word(words: &[u64], w: usize) -> bool
 /// The first bit from word `from` on that is 1. Words without one are skipped whole.
 pub fn first_bit(words: &[u64], from: usize) -> Option<usize>
     requires { 64 * length words.now < 2 ^ 64 }
-    ensures { MatchOption result (AllClear words.now (64 * from) (64 * length words.now)) (IsFirstBit words.now (64 * from)) }
+    ensures { MatchOption result (AllClear words.now (64 * from) (64 * length words.now))
+        (IsFirstBit words.now (64 * from)) }
 {
     for w in from..words.len() {
         if words[w] != 0 {

@@ -16,7 +16,8 @@ use swsusp_cli::{Choice, run, swap_name};
 /// The status of a file that can't be opened, which no run answers.
 const NOT_OPENED: u8 = 7;
 
-/// How many bytes of standard input are asked for at once: a record of a dump costs a sixteenth of a call of the system.
+/// How many bytes of standard input are asked for at once: a record of a dump costs a sixteenth of a call of the
+/// system.
 const INPUT_PIECE: usize = 65_536;
 
 /// How many bytes of a restored dump are handed to standard output at once.
@@ -38,8 +39,8 @@ fn main(rt: HostRuntime) -> ExitCode {
     }
 }
 
-/// Runs over the swap file. A terminal as the output of `resume` is refused before the file is opened, since a resume gives
-/// the image up.
+/// Runs over the swap file. A terminal as the output of `resume` is refused before the file is opened, since a resume
+/// gives the image up.
 fn run_over_file(rt: &HostRuntime, words: &[String], path: &str) -> ExitCode {
     let _held = match hold(rt) {
         Ok(held) => held,
@@ -83,8 +84,8 @@ fn is_command(words: &[String], name: &str) -> bool {
     }
 }
 
-/// Runs over a disk, with the standard streams. What was printed is synced before the run ends well: after a resume it is the only
-/// copy of a machine.
+/// Runs over a disk, with the standard streams. What was printed is synced before the run ends well: after a resume it
+/// is the only copy of a machine.
 fn run_over<D: Disk>(rt: &HostRuntime, words: &[String], disk: &mut D) -> ExitCode {
     let Ok(reader) = BufReader::with_capacity(rt.alloc(), INPUT_PIECE, rt.stdin()) else {
         return no_memory(rt);

@@ -110,7 +110,7 @@ pub enough : (free bs : List ℕ) (frames : List (List ℕ)) (table : SlotTable)
 enough free bs frames table extents None out late = let early = out.early in absurd (omega arith)
 enough free bs frames table extents (Some w) out late = out.room
 
--- The mark, behind all that was written.
+-- The mark, after all that was written.
 
 same_number : (n : ℕ) → eqb n n ≡ true
 same_number n = elim (eqb_tells n n) [

@@ -1,4 +1,4 @@
--- Texts that are printed, and what is behind them.
+-- Texts that are printed, and what is after them.
 use Rattle.std.proofs.Common.{zero, suc, ◌≢◌, inl, inr, ◌≤◌, ℕ, List, [], Option, Some, None, Result, Ok, Err, OnOk, OnErr, subst, arith, append-nil}
 use Rattle.definitions.specs.Streams.{Takes, TakesAll, TakesFront}
 use Rattle.byte_streams.specs.Flushed.{IsFlushed}
@@ -25,7 +25,7 @@ pub tried : {A E : Type 0} (r : Result A E) (text : List ℕ) (old new : SinkVie
 tried (Ok x) text old new printed failed = inl printed
 tried (Err e) text old new printed failed = inr failed
 
--- a text was taken whole, and the end behind it is printed, or fails
+-- a text was taken whole, and the end after it is printed, or fails
 pub printed_then : (text : List ℕ) (old mid new : SinkView) → TakesAll text old.taken mid.taken → IsPrinted [] mid new → IsPrinted text old new
 printed_then text old mid new whole end = record {
   whole = subst (λ (t : List ℕ). TakesAll t old.taken new.taken) (append-nil text) (taken_more text [] old.taken mid.taken new.taken whole end.whole);
@@ -43,7 +43,7 @@ no_bytes (suc k) text old new le taken = absurd (omega arith)
 whole_then : (text : List ℕ) (old mid new : Option (List ℕ)) → TakesAll text old mid → TakesFront [] mid new → TakesAll text old new
 whole_then text old mid new whole end = subst (λ (t : List ℕ). TakesAll t old new) (append-nil text) (taken_more text [] old mid new whole (no_bytes end.0 [] mid new end.1 end.2))
 
--- a flush that fails behind a text leaves the text
+-- a flush that fails after a text leaves the text
 pub whole_still : (text : List ℕ) (old mid new : SinkView) → TakesAll text old.taken mid.taken → FailsToPrint [] mid new → TakesAll text old.taken new.taken
 whole_still text old mid new whole end = whole_then text old.taken mid.taken new.taken whole end.front
 

@@ -16,8 +16,8 @@ use Rattle.command_kit.specs.declared.status.Status.TheVariants.{Done}
 abbrev pub summary_told : ℕ → List Reply → RunResult
 summary_told number replies = record { status = Done; out = summary number (tally_of replies); note = [] }
 
--- All events were played, and the line is that of a run of the plain machine, as in a replay. None of its replies tells of a call of the
--- disk that failed at its own event, where the disk's count didn't rise.
+-- All events were played, and the line is that of a run of the plain machine, as in a replay. None of its replies tells
+-- of a call of the disk that failed at its own event, where the disk's count didn't rise.
 pub record IsSummed (number : ℕ) (x x' : View) (status : Status) : Type 0 where
   pub roomy : LieBelow drill_hardware x.disk.blocks
   pub replies : List Reply
@@ -29,5 +29,6 @@ pub record IsSummed (number : ℕ) (x x' : View) (status : Status) : Type 0 wher
 pub data IsDrilled (number : ℕ) (x x' : View) (status : Status) : Type 0 where
   out_of_memory : IsOutOfMemory x x' status → IsDrilled number x x' status
   too_small : IsTooSmall x x' status (drill_script number) → IsDrilled number x x' status
-  unformatted : (call : Unformatted) → IsUnformatted x x' status (drill_script number) call → IsDrilled number x x' status
+  unformatted : (call : Unformatted) → IsUnformatted x x' status (drill_script number) call →
+      IsDrilled number x x' status
   summed : IsSummed number x x' status → IsDrilled number x x' status

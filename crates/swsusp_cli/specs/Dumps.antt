@@ -1,5 +1,6 @@
 -- How `hibernate` may end: it reads a dump, and its machine answers.
-use Rattle.std.specs.Prelude.{◌≡◌, ◌≤◌, ◌+◌, ℕ, List, [], ◌++◌, codes, decimal, Bool, true, false, if◌then◌else◌, Option, Some, Ok, Err}
+use Rattle.std.specs.Prelude.{◌≡◌, ◌≤◌, ◌+◌, ℕ, List, [], ◌++◌, codes, decimal, Bool, true, false, if◌then◌else◌}
+use Rattle.std.specs.Prelude.{Option, Some, Ok, Err}
 use Rattle.page_core.specs.declared.format.Format.{Format}
 use Rattle.definitions.specs.Disk as disk
 use Rattle.definitions.specs.Streams.{IsUsedUp}
@@ -54,8 +55,8 @@ pub record IsDump (x x' : View) (dump : DumpValue) : Type 0 where
   pub says : (bytes : List ℕ) → x.left ≡ Some bytes → dump_of bytes ≡ Ok dump
   pub over : IsUsedUp x'.left
 
--- What is told at the end: the line of the last reply, on out after a hibernation that ended well, else on note. The status says
--- whether it was refused, or a call of the disk failed.
+-- What is told at the end: the line of the last reply, on out after a hibernation that ended well, else on note. The
+-- status says whether it was refused, or a call of the disk failed.
 
 abbrev pub is_hibernated : Reply → Bool
 is_hibernated (reply.Hibernated n) = true
@@ -65,15 +66,18 @@ abbrev pub stopped_told : Ended → RunResult
 stopped_told ended = record { status = if ended.failed then Device else Refused; out = []; note = line_of ended.reply }
 
 abbrev pub hibernation_told : Ended → RunResult
-hibernation_told ended = if is_hibernated ended.reply then record { status = Done; out = line_of ended.reply; note = [] } else stopped_told ended
+hibernation_told ended =
+    if is_hibernated ended.reply then record { status = Done; out = line_of ended.reply; note = [] }
+    else stopped_told ended
 
--- The machine of the dump has hibernated, or has answered why it doesn't; cached page frames were dropped before where a size was asked
--- for. What it did over the disk is a run, of which this is the last reply.
+-- The machine of the dump has hibernated, or has answered why it doesn't; cached page frames were dropped before where
+-- a size was asked for. What it did over the disk is a run, of which this is the last reply.
 pub record HasAnswered {X : Type 0} (D : Ghosts X) (before after : X) (f : Format) (size : Option ℕ) (x x' : View)
     (status : Status) (dump : DumpValue) (ended : Ended) : Type 0 where
   pub dump_is : IsDump x x' dump
   pub told : Tells (hibernation_told ended) status x x'
-  pub ends : (v : disk.DiskImage) → x.disk.content ≡ Some (disk.settled v) → (Marked dump.hw v → HasOriginal dump.hw v) →
+  pub ends : (v : disk.DiskImage) → x.disk.content ≡ Some (disk.settled v) →
+      (Marked dump.hw v → HasOriginal dump.hw v) →
       HasHibernated dump.hw (machine_to_save dump.hw dump.memory size v) f v ended x'.disk.content
   pub shown : WorldView
   pub ran : RanAs (IsHibernation f size ended.reply) D dump.hw dump.memory shown before after
@@ -88,8 +92,11 @@ pub data Hibernates {X : Type 0} (D : Ghosts X) (before after : X) (f : Format) 
   answered : (dump : DumpValue) (ended : Ended) → HasAnswered D before after f size x x' status dump ended →
       Hibernates D before after f size x x' status
 
--- A crash since the command began leaves no image that is marked and doesn't hold the image of the dump that was read, over a disk that had
--- one image, which wasn't marked. `left` is what the input had, `told` what the disk held, and `since` what a crash may leave.
-pub record SavesInside (f : Format) (size : Option ℕ) (left : Option (List ℕ)) (told : Option disk.Content) (since : disk.DiskImage → Type 0) : Type 0 where
-  pub leaves : (bytes : List ℕ) (dump : DumpValue) (v w : disk.DiskImage) → left ≡ Some bytes → dump_of bytes ≡ Ok dump → told ≡ Some (disk.settled v) → (Marked dump.hw v → ⊥) →
+-- A crash since the command began leaves no image that is marked and doesn't hold the image of the dump that was read,
+-- over a disk that had one image, which wasn't marked. `left` is what the input had, `told` what the disk held, and
+-- `since` what a crash may leave.
+pub record SavesInside (f : Format) (size : Option ℕ) (left : Option (List ℕ)) (told : Option disk.Content)
+    (since : disk.DiskImage → Type 0) : Type 0 where
+  pub leaves : (bytes : List ℕ) (dump : DumpValue) (v w : disk.DiskImage) → left ≡ Some bytes →
+      dump_of bytes ≡ Ok dump → told ≡ Some (disk.settled v) → (Marked dump.hw v → ⊥) →
       since w → IsUnmarkedOrHolds dump.hw (image_to_save dump.hw (machine_to_save dump.hw dump.memory size v) f) w

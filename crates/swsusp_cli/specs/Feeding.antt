@@ -21,8 +21,8 @@ use Rattle.swsusp_cli.specs.Called.{IsCalled}
 use Rattle.swsusp_cli.specs.declared.importing.ImportStop.{ImportStop}
 use Rattle.swsusp_cli.specs.declared.importing.ImportStop.TheVariants.{Source, Session}
 
--- The disk reads as the whole pages of these bytes were written, the first of them when it had one image, and the blocks of no free slot
--- are as they were then.
+-- The disk reads as the whole pages of these bytes were written, the first of them when it had one image, and the
+-- blocks of no free slot are as they were then.
 pub record Holds (extents : List (ℕ × ℕ × ℕ)) (free bs : List ℕ) (old new : Content) : Type 0 where
   pub outside : WritesAtRest extents free 0 (length bs) old new
   pub written : AreWritten extents free bs (as_it_reads new)
@@ -47,7 +47,8 @@ IsStopFor free bs (stop.WriteFault left) = left ≡ Same
 IsStopFor free bs (stop.SyncFault left) = left ≡ Same
 
 -- It has stopped with the last of these bytes.
-pub record HasStopped (free bs : List ℕ) (why : InStop) (s : StreamIn) (left left' : Option (List ℕ)) (d d' : DiskView) : Type 0 where
+pub record HasStopped (free bs : List ℕ) (why : InStop) (s : StreamIn) (left left' : Option (List ℕ))
+    (d d' : DiskView) : Type 0 where
   pub why_is : IsStopFor free bs why
   pub handed : HandsOut (length bs) bs left left'
   pub few : length bs ≤ most_bytes + 1
@@ -65,18 +66,21 @@ IsOfSource Source = ⊤
 IsOfSource (Session why) = ⊥
 
 -- The input came to its end; or it failed; or the session stopped.
-abbrev pub Feeds : List ℕ → StreamIn → StreamIn → Option (List ℕ) → Option (List ℕ) → DiskView → DiskView → Result (Unit {0}) ImportStop → Type 0
+abbrev pub Feeds : List ℕ → StreamIn → StreamIn → Option (List ℕ) → Option (List ℕ) → DiskView → DiskView →
+    Result (Unit {0}) ImportStop → Type 0
 Feeds free s s' left left' d d' (Ok u) = (bs : List ℕ) × HasFed free bs s s' left left' d d' × IsUsedUp left'
 Feeds free s s' left left' d d' (Err Source) = (bs : List ℕ) × HasFed free bs s s' left left' d d'
 Feeds free s s' left left' d d' (Err (Session why)) = (bs : List ℕ) × HasStopped free bs why s left left' d d'
 
--- Each header block that a crash since a moment before may leave it might have left before, and the clock hasn't fallen.
+-- Each header block that a crash since a moment before may leave it might have left before, and the clock hasn't
+-- fallen.
 pub record KeepsHeaders (before now : ℕ) (past since : ℕ → DiskImage → Type 0) : Type 0 where
   pub later : before ≤ now
   pub adds_none : AddsNoHeader before past since
 
 -- The input came to its end, and a disk that was ready for a stream of this area is ready for what was read.
-pub record TakesToEnd (area : Area) (free : List ℕ) (s' : StreamIn) (left left' : Option (List ℕ)) (old new : Option Content) : Type 0 where
+pub record TakesToEnd (area : Area) (free : List ℕ) (s' : StreamIn) (left left' : Option (List ℕ))
+    (old new : Option Content) : Type 0 where
   pub bs : List ℕ
   pub handed : HandsOut (length bs) bs left left'
   pub over : IsUsedUp left'

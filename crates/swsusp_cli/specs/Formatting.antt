@@ -21,7 +21,7 @@ pub record IsNeeded (h : Hardware) (need : ℕ) : Type 0 where
 abbrev pub Formats : Hardware → ℕ → List ℕ → Content → Content → Type 0
 Formats h last bad old new = (mid : Content) × Writes (block_of_slot h 0) (area_page last bad) old mid × Syncs mid new
 
--- a call failed: the write, which may have done a part of its work, or the sync behind it
+-- a call failed: the write, which may have done a part of its work, or the sync after it
 abbrev pub FailsToFormat : Hardware → ℕ → List ℕ → Unformatted → Content → Content → Type 0
 FailsToFormat h last bad Write old new = FailsToWrite (block_of_slot h 0) (area_page last bad) old new
 FailsToFormat h last bad Sync old new = Writes (block_of_slot h 0) (area_page last bad) old new

@@ -1,5 +1,6 @@
 -- How `import` may end: the area is opened, the input's bytes go into it as they are read, and it is marked.
-use Rattle.std.specs.Prelude.{◌≡◌, ◌≤◌, ◌<◌, ◌⊎◌, ℕ, ◌+◌, ◌*◌, ◌/◌, List, [], ◌∷◌, ◌++◌, length, codes, decimal, Option, Some, None, Result, Ok, Err, IfSome, Contains}
+use Rattle.std.specs.Prelude.{◌≡◌, ◌≤◌, ◌<◌, ◌⊎◌, ℕ, ◌+◌, ◌*◌, ◌/◌, List, [], ◌∷◌, ◌++◌, length, codes, decimal, Option}
+use Rattle.std.specs.Prelude.{Some, None, Result, Ok, Err, IfSome, Contains}
 use Rattle.definitions.specs.Disk.{Changes, Content, HasRisen, DiskImage, IsImage, as_it_reads, block, sector, settled}
 use Rattle.definitions.specs.Streams.{HandsOut, IsUsedUp}
 use Rattle.definitions.specs.SwapHeader.{marked}
@@ -73,31 +74,33 @@ whole_map area = (0, area.last + 1, 0) ∷ []
 abbrev pub IsUsable : Area → ℕ → Type 0
 IsUsable area s = (s ≤ area.last) × (Contains (bad_slots_of area) s → ⊥)
 
--- each sector of block 0, and of each other block that no slot of the area lies on that it can give, is as before, whatever a crash may
--- leave of it
+-- each sector of block 0, and of each other block that no slot of the area lies on that it can give, is as before,
+-- whatever a crash may leave of it
 pub record KeepsUnusable (area : Area) (old new : Content) : Type 0 where
   pub size : length new ≡ length old
   pub sectors : (b j : ℕ) → j < 8 → (IsUsable area b → ⊥) → sector new (8 * b + j) ≡ sector old (8 * b + j)
 
--- The disk is as before. Or it had one image before the first block was written, the one that it read as, and each of those sectors is as it
--- was then: so in every image block 0 is what was read of it.
+-- The disk is as before. Or it had one image before the first block was written, the one that it read as, and each of
+-- those sectors is as it was then: so in every image block 0 is what was read of it.
 abbrev pub LeavesUnusable : Area → Content → Content → Type 0
 LeavesUnusable area old new = (new ≡ old) ⊎ KeepsUnusable area (settled (as_it_reads old)) new
 
--- and the whole pages of these bytes, with the maps that they fill, read as they were written, to the lowest of the free slots
+-- and the whole pages of these bytes, with the maps that they fill, read as they were written, to the lowest of the
+-- free slots
 pub record HasWritten (area : Area) (free bs : List ℕ) (old new : Content) : Type 0 where
   pub leaves : LeavesUnusable area old new
   pub written : AreWritten (whole_map area) free bs (as_it_reads new)
 
--- The disk has one image. Block 0 is that of before, marked with the flags 2 and the block of the first map, which is the lowest free
--- slot's; the pages of the stream and the maps read as they are laid, so that for each machine whose swap area lies so the chain from
--- there is the stream, byte for byte, and the disk holds the image that it is of; and each block of no slot that the area can give
--- reads as before.
+-- The disk has one image. Block 0 is that of before, marked with the flags 2 and the block of the first map, which is
+-- the lowest free slot's; the pages of the stream and the maps read as they are laid, so that for each machine whose
+-- swap area lies so the chain from there is the stream, byte for byte, and the disk holds the image that it is of; and
+-- each block of no slot that the area can give reads as before.
 pub record Stores (area : Area) (free bs : List ℕ) (old new : Content) : Type 0 where
   pub size : length new ≡ length old
   pub one_image : new ≡ settled (as_it_reads new)
   pub header : block (as_it_reads new) 0 ≡ marked (block (as_it_reads old) 0) (laid_block (whole_map area) free 0) 2 0
-  pub laid : ReadAsMade (whole_map area) free (all_pages bs) (page_at bs) (all_pages bs + maps_of (all_pages bs)) (as_it_reads new)
+  pub laid : ReadAsMade (whole_map area) free (all_pages bs) (page_at bs) (all_pages bs + maps_of (all_pages bs))
+      (as_it_reads new)
   pub comes_in : (v : DiskImage) → IsImage new v → HasComeIn area bs v
   pub others : (b : ℕ) → 0 < b → (IsUsable area b → ⊥) → block (as_it_reads new) b ≡ block (as_it_reads old) b
 
@@ -111,7 +114,7 @@ pub record IsArea (d : DiskView) (area : Area) (free : List ℕ) : Type 0 where
   pub room : IfSome d.content (λ held. open_fault d.blocks (kind.Swap area) ≡ None)
   pub slots : AreUsable area free
 
--- The bytes that were read, one behind the longest stream at most.
+-- The bytes that were read, one after the longest stream at most.
 pub record AreRead (bs : List ℕ) (left left' : Option (List ℕ)) : Type 0 where
   pub handed : HandsOut (length bs) bs left left'
   pub few : length bs ≤ most_bytes + 1
@@ -122,13 +125,15 @@ IsStream bs = (first_fault bs ≡ None) × (short_fault bs ≡ None)
 
 -- the first fault of the bytes so far, or they are all that there is and no whole stream
 abbrev pub HasStreamFault : List ℕ → StreamFault → Option (List ℕ) → Type 0
-HasStreamFault bs fault left' = (first_fault bs ≡ Some fault) ⊎ ((first_fault bs ≡ None) × (short_fault bs ≡ Some fault) × IsUsedUp left')
+HasStreamFault bs fault left' =
+    (first_fault bs ≡ Some fault) ⊎ ((first_fault bs ≡ None) × (short_fault bs ≡ Some fault) × IsUsedUp left')
 
--- What was done. The disk is called once to open the area, three times at most for each page that is read whole, and six times at
--- most to mark it.
+-- What was done. The disk is called once to open the area, three times at most for each page that is read whole, and
+-- six times at most to mark it.
 
 -- the whole stream was read, the slots suffice, and its image is on the disk
-pub record IsImported (n : ℕ) (area : Area) (free bs : List ℕ) (left left' : Option (List ℕ)) (d d' : DiskView) : Type 0 where
+pub record IsImported (n : ℕ) (area : Area) (free bs : List ℕ) (left left' : Option (List ℕ))
+    (d d' : DiskView) : Type 0 where
   pub area_is : IsArea d area free
   pub bytes : AreRead bs left left'
   pub over : IsUsedUp left'
@@ -144,7 +149,8 @@ IsUntouched left left' d d' = (left' ≡ left) × (d' ≡ d)
 
 -- block 0 isn't the header of an area that can be used, and no byte was read
 pub record HasNoArea (why : NoSwap) (left left' : Option (List ℕ)) (d d' : DiskView) : Type 0 where
-  pub says : IfSome d.content (λ held. open_fault d.blocks (area_kind (first_block d.blocks (as_it_reads held))) ≡ Some why)
+  pub says : IfSome d.content (λ held. open_fault d.blocks (area_kind (first_block d.blocks (as_it_reads held))) ≡ Some
+      why)
   pub unread : left' ≡ left
   pub content : d'.content ≡ d.content
   pub called : IsCalled 1 d d'
@@ -159,7 +165,8 @@ pub record HasNoMore (left left' : Option (List ℕ)) (d d' : DiskView) : Type 0
   pub called : IsCalled (7 + 3 * (length bs / 4096)) d d'
 
 -- fewer slots are free than the image may need
-pub record HasTooFewSlots (told need : ℕ) (area : Area) (free bs : List ℕ) (left left' : Option (List ℕ)) (d d' : DiskView) : Type 0 where
+pub record HasTooFewSlots (told need : ℕ) (area : Area) (free bs : List ℕ) (left left' : Option (List ℕ))
+    (d d' : DiskView) : Type 0 where
   pub area_is : IsArea d area free
   pub bytes : AreRead bs left left'
   pub too_few : HasTooFewFor free bs told need
@@ -167,14 +174,15 @@ pub record HasTooFewSlots (told need : ℕ) (area : Area) (free bs : List ℕ) (
   pub called : IsCalled (1 + 3 * (length bs / 4096)) d d'
 
 -- the input is no stream
-pub record IsNoStream (fault : StreamFault) (area : Area) (free bs : List ℕ) (left left' : Option (List ℕ)) (d d' : DiskView) : Type 0 where
+pub record IsNoStream (fault : StreamFault) (area : Area) (free bs : List ℕ) (left left' : Option (List ℕ))
+    (d d' : DiskView) : Type 0 where
   pub area_is : IsArea d area free
   pub bytes : AreRead bs left left'
   pub says : HasStreamFault bs fault left'
   pub content : Changes (LeavesUnusable area) d.content d'.content
   pub called : IsCalled (1 + 3 * (length bs / 4096)) d d'
 
--- the source failed behind these bytes, in which no fault is
+-- the source failed after these bytes, in which no fault is
 pub record IsCutOff (area : Area) (free bs : List ℕ) (left left' : Option (List ℕ)) (d d' : DiskView) : Type 0 where
   pub area_is : IsArea d area free
   pub bytes : AreRead bs left left'
@@ -198,7 +206,8 @@ pub record IsUnwritten (area : Area) (free bs : List ℕ) (left left' : Option (
   pub risen : HasRisen d.faults d'.faults
 
 -- the whole stream was written, and a call failed by which the area was to be marked
-pub record IsUnmarked (why : InStop) (area : Area) (free bs : List ℕ) (left left' : Option (List ℕ)) (d d' : DiskView) : Type 0 where
+pub record IsUnmarked (why : InStop) (area : Area) (free bs : List ℕ) (left left' : Option (List ℕ))
+    (d d' : DiskView) : Type 0 where
   pub area_is : IsArea d area free
   pub bytes : AreRead bs left left'
   pub over : IsUsedUp left'
@@ -217,10 +226,13 @@ Ends left left' d d' (Ok n) = OfSome (λ area free bs. IsImported n area free bs
 Ends left left' d d' (Err Source) = OfSome (λ area free bs. IsCutOff area free bs left left' d d')
 Ends left left' d d' (Err (Session stop.NoMemory)) = IsUntouched left left' d d'
 Ends left left' d d' (Err (Session (stop.NoSwap why))) = HasNoArea why left left' d d' ⊎ HasNoMore left left' d d'
-Ends left left' d d' (Err (Session (stop.NoSlots told need))) = OfSome (λ area free bs. HasTooFewSlots told need area free bs left left' d d')
-Ends left left' d d' (Err (Session (stop.Stream fault))) = OfSome (λ area free bs. IsNoStream fault area free bs left left' d d')
+Ends left left' d d' (Err (Session (stop.NoSlots told need))) =
+    OfSome (λ area free bs. HasTooFewSlots told need area free bs left left' d d')
+Ends left left' d d' (Err (Session (stop.Stream fault))) =
+    OfSome (λ area free bs. IsNoStream fault area free bs left left' d d')
 Ends left left' d d' (Err (Session (stop.ReadFault what))) =
-    ((what ≡ Same) × IsUnopened left left' d d') ⊎ OfSome (λ area free bs. IsUnmarked (stop.ReadFault what) area free bs left left' d d')
+    ((what ≡ Same) × IsUnopened left left' d d')
+    ⊎ OfSome (λ area free bs. IsUnmarked (stop.ReadFault what) area free bs left left' d d')
 Ends left left' d d' (Err (Session (stop.WriteFault what))) =
     ((what ≡ Same) × OfSome (λ area free bs. IsUnwritten area free bs left left' d d'))
     ⊎ OfSome (λ area free bs. IsUnmarked (stop.WriteFault what) area free bs left left' d d')
@@ -238,6 +250,8 @@ pub record IsUnread (x x' : View) (status : Status) : Type 0 where
 
 -- One of these, by what the outside told before an import and after it.
 pub data Imports (x x' : View) (status : Status) : Type 0 where
-  imported : (n : ℕ) → Ends x.left x'.left x.disk x'.disk (Ok n) → Tells (imported_told n) status x x' → Imports x x' status
-  stopped : (why : InStop) → Ends x.left x'.left x.disk x'.disk (Err (Session why)) → Tells (stop_told why) status x x' → Imports x x' status
+  imported : (n : ℕ) → Ends x.left x'.left x.disk x'.disk (Ok n) → Tells (imported_told n) status x x' →
+      Imports x x' status
+  stopped : (why : InStop) → Ends x.left x'.left x.disk x'.disk (Err (Session why)) →
+      Tells (stop_told why) status x x' → Imports x x' status
   unread : IsUnread x x' status → Imports x x' status

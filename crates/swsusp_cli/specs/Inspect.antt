@@ -33,7 +33,8 @@ refused why = record { status = Refused; out = []; note = line (no_swap_text why
 
 -- an area without an image, or an image, is a line on out; anything else is refused
 abbrev pub inspected : AreaKind → RunResult
-inspected (Swap area) = record { status = Done; out = line (area_text area.last area.count ++ codes " image none"); note = [] }
+inspected (Swap area) =
+    record { status = Done; out = line (area_text area.last area.count ++ codes " image none"); note = [] }
 inspected (Image mark) = record { status = Done; out = line (image_text mark); note = [] }
 inspected Old = refused no_swap.Old
 inspected (Other sig) = refused (no_swap.Signature sig)

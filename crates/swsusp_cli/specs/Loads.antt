@@ -35,20 +35,22 @@ written_told h m = record { status = Done; out = dump_bytes h m; note = [] }
 abbrev pub resume_told : Hardware → Memory → Ended → RunResult
 resume_told h m ended = if is_resumed ended.reply then written_told h m else stopped_told ended
 
--- The image was resumed into the machine of the dump, which then has this memory, or it has answered why not. What it did over the
--- disk is a run, of which this is the last reply.
+-- The image was resumed into the machine of the dump, which then has this memory, or it has answered why not. What it
+-- did over the disk is a run, of which this is the last reply.
 pub record HasLoaded {X : Type 0} (D : Ghosts X) (before after : X) (check : IdentCheck) (x x' : View) (status : Status)
     (dump : DumpValue) (ended : Ended) : Type 0 where
   pub dump_is : IsDump x x' dump
   pub shown : WorldView
   pub told : Tells (resume_told dump.hw shown.frames ended) status x x'
-  pub ends : (v : disk.DiskImage) → x.disk.content ≡ Some (disk.settled v) → (Marked dump.hw v → HasOriginal dump.hw v) →
+  pub ends : (v : disk.DiskImage) → x.disk.content ≡ Some (disk.settled v) →
+      (Marked dump.hw v → HasOriginal dump.hw v) →
       HasResumed dump.hw dump.memory check v shown.frames ended x'.disk.content
   pub ran : RanAs (IsResumption check ended.reply) D dump.hw dump.memory shown before after
   pub orders : x'.disk.orders ≡ x.disk.orders
 
 -- One of these, by what the outside told before a resume and after it.
-pub data Resumes {X : Type 0} (D : Ghosts X) (before after : X) (check : IdentCheck) (x x' : View) (status : Status) : Type 0 where
+pub data Resumes {X : Type 0} (D : Ghosts X) (before after : X) (check : IdentCheck) (x x' : View)
+    (status : Status) : Type 0 where
   no_dump : (fault : DumpFault) → IsNoDump x x' status fault → Resumes D before after check x x' status
   out_of_memory : IsOutOfMemory x x' status → Resumes D before after check x x' status
   unread : IsUnread x x' status → Resumes D before after check x x' status
@@ -56,6 +58,8 @@ pub data Resumes {X : Type 0} (D : Ghosts X) (before after : X) (check : IdentCh
       Resumes D before after check x x' status
 
 -- A crash since the command began leaves the disk as it was, but for block(0), which is as it was or taken back.
-pub record LoadsInside (left : Option (List ℕ)) (told : Option disk.Content) (since : disk.DiskImage → Type 0) : Type 0 where
-  pub leaves : (bytes : List ℕ) (dump : DumpValue) (v w : disk.DiskImage) → left ≡ Some bytes → dump_of bytes ≡ Ok dump → told ≡ Some (disk.settled v) → (Marked dump.hw v → HasOriginal dump.hw v) →
+pub record LoadsInside (left : Option (List ℕ)) (told : Option disk.Content) (since : disk.DiskImage →
+    Type 0) : Type 0 where
+  pub leaves : (bytes : List ℕ) (dump : DumpValue) (v w : disk.DiskImage) → left ≡ Some bytes →
+      dump_of bytes ≡ Ok dump → told ≡ Some (disk.settled v) → (Marked dump.hw v → HasOriginal dump.hw v) →
       since w → IsTakenBack dump.hw v w

@@ -82,13 +82,15 @@ pub record IsPlayed (x x' : View) (status : Status) (script : ScriptValue) : Typ
   pub prints : Prints script x x'
   pub note : IsPrinted [] x.note x'.note
 
--- Out failed: it took a front of the lines of a run over first events, and the fault is noted. Or all is printed, and note failed.
+-- Out failed: it took a front of the lines of a run over first events, and the fault is noted. Or all is printed, and
+-- note failed.
 pub record IsCutOff (x x' : View) (status : Status) (script : ScriptValue) : Type 0 where
   pub script_is : IsScript x x' script
   pub roomy : LieBelow script.hardware x.disk.blocks
   pub status_is : status ≡ Stream
   pub prints : PrintsFront script x x'
-  pub whose : disk.HasRisen x.out.faults x'.out.faults ⊎ (Prints script x x' × disk.HasRisen x.note.faults x'.note.faults)
+  pub whose : disk.HasRisen x.out.faults x'.out.faults
+      ⊎ (Prints script x x' × disk.HasRisen x.note.faults x'.note.faults)
   pub note : IsTried sink_note x.note x'.note
 
 -- One of these, by what the outside told before a replay and after it.
@@ -97,6 +99,7 @@ pub data IsReplayed (x x' : View) (status : Status) : Type 0 where
   out_of_memory : IsOutOfMemory x x' status → IsReplayed x x' status
   unread : IsUnread x x' status → IsReplayed x x' status
   too_small : (script : ScriptValue) → IsScript x x' script → IsTooSmall x x' status script → IsReplayed x x' status
-  unformatted : (script : ScriptValue) (call : Unformatted) → IsScript x x' script → IsUnformatted x x' status script call → IsReplayed x x' status
+  unformatted : (script : ScriptValue) (call : Unformatted) → IsScript x x' script →
+      IsUnformatted x x' status script call → IsReplayed x x' status
   played : (script : ScriptValue) → IsPlayed x x' status script → IsReplayed x x' status
   cut_off : (script : ScriptValue) → IsCutOff x x' status script → IsReplayed x x' status

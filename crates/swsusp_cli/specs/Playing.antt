@@ -13,9 +13,10 @@ use Rattle.swsusp_cli.specs.Replay.{IsNoSlot, orders_by}
 use Rattle.world_runs.specs.Counts.{AreCounted, steps_of}
 use Rattle.command_kit.specs.View.{DiskView}
 
--- From the state a and the content c the events gave these replies and ended in b and c', for which the world stands. The area
--- on the disk and the blocks on which no slot lies stayed, and b is a state of a replay.
-pub record Played (old new : World) (events : List Event) (now : Option disk.Content) (c c' : disk.Content) (a b : State) (replies : List Reply) : Type 0 where
+-- From the state a and the content c the events gave these replies and ended in b and c', for which the world stands.
+-- The area on the disk and the blocks on which no slot lies stayed, and b is a state of a replay.
+pub record Played (old new : World) (events : List Event) (now : Option disk.Content) (c c' : disk.Content)
+    (a b : State) (replies : List Reply) : Type 0 where
   pub told : now ≡ Some c'
   pub area : IsSameArea (hardware_of old) (disk.as_it_reads c) (disk.as_it_reads c')
   pub run : Run (hardware_of old) (disk.as_it_reads c) a events replies b
@@ -23,9 +24,11 @@ pub record Played (old new : World) (events : List Event) (now : Option disk.Con
   pub of_replay : IsOfReplay b
   pub unwritten : 0 < (hardware_of old).slots → (b : ℕ) → IsNoSlot (hardware_of old) b → LeavesBlock b c c'
 
--- Each event gave a reply, each step made at most one call of the disk, the cuts alone restarted it and the arms alone armed it, its
--- count of faults allows for the replies, and they are a run from every content and state of a replay that the world stood for.
-pub record HasPlayed (old new : World) (events : List Event) (replies : List Reply) (before now : DiskView) : Type 0 where
+-- Each event gave a reply, each step made at most one call of the disk, the cuts alone restarted it and the arms alone
+-- armed it, its count of faults allows for the replies, and they are a run from every content and state of a replay
+-- that the world stood for.
+pub record HasPlayed (old new : World) (events : List Event) (replies : List Reply)
+    (before now : DiskView) : Type 0 where
   pub size : length replies ≡ length events
   pub calls : now.calls ≤ before.calls + steps_of events
   pub orders : now.orders ≡ orders_by events before.orders

@@ -7,5 +7,6 @@ use Rattle.swsusp_cli.specs.declared.stop.Stop.{Stop}
 
 -- what was left, where it is told, is this script, and is read to its end; or it is none
 abbrev pub IsReadied : Option (List ℕ) → Option (List ℕ) → Result ScriptValue Stop → Type 0
-IsReadied before after (Ok script) = ((bytes : List ℕ) → before ≡ Some bytes → script_of bytes ≡ Ok script) × IsUsedUp after
+IsReadied before after (Ok script) =
+    ((bytes : List ℕ) → before ≡ Some bytes → script_of bytes ≡ Ok script) × IsUsedUp after
 IsReadied before after (Err stop) = LacksScript before stop

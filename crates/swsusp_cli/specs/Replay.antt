@@ -1,5 +1,6 @@
 -- What `replay` does: it prints a run of the plain machine.
-use Rattle.std.specs.Prelude.{zero, suc, ◌≡◌, ◌≢◌, ◌⊎◌, ◌≤◌, ◌<◌, ℕ, ◌+◌, List, [], ◌∷◌, ◌++◌, length, take, filter, Bool, true, false, codes, decimal, Option, Some, None}
+use Rattle.std.specs.Prelude.{zero, suc, ◌≡◌, ◌≢◌, ◌⊎◌, ◌≤◌, ◌<◌, ℕ, ◌+◌, List, [], ◌∷◌, ◌++◌, length, take, filter}
+use Rattle.std.specs.Prelude.{Bool, true, false, codes, decimal, Option, Some, None}
 use Rattle.definitions.specs.Disk as disk
 use Rattle.definitions.specs.Streams.{TakesAll, TakesFront}
 use Rattle.plain_machine.specs.Machine.{Hardware, block_of_slot}
@@ -41,12 +42,13 @@ orders_by events orders = raised_times (length (filter is_order events)) orders
 abbrev pub IsNoSlot : Hardware → ℕ → Type 0
 IsNoSlot h b = (s : ℕ) → s < h.slots → block_of_slot h s ≢ b
 
--- Over a disk that held c the script's area was formatted, and the replies are a run of the plain machine over these events, which
--- begins off with nothing held. A hibernation stands before each resume and between any two of them, each resume restores what was there at
--- the last one, and a machine that is woken and the image that it left never both go on. What is shown of the world, and what the disk
--- holds, stand for the state that the run ends in. Blocks on which no slot lies have kept their bytes in every image of the
--- disk.
-pub record IsRun (x x' : DiskView) (script : ScriptValue) (events : List Event) (replies : List Reply) (c : disk.Content) : Type 0 where
+-- Over a disk that held c the script's area was formatted, and the replies are a run of the plain machine over these
+-- events, which begins off with nothing held. A hibernation stands before each resume and between any two of them, each
+-- resume restores what was there at the last one, and a machine that is woken and the image that it left never both go
+-- on. What is shown of the world, and what the disk holds, stand for the state that the run ends in. Blocks on which no
+-- slot lies have kept their bytes in every image of the disk.
+pub record IsRun (x x' : DiskView) (script : ScriptValue) (events : List Event) (replies : List Reply)
+    (c : disk.Content) : Type 0 where
   pub formatted : disk.Content
   pub formats : Formats script.hardware script.last script.bad c formatted
   pub end : State
@@ -60,28 +62,35 @@ pub record IsRun (x x' : DiskView) (script : ScriptValue) (events : List Event) 
   pub stands : Stands script.hardware shown held end
   pub unwritten : (b : ℕ) → IsNoSlot script.hardware b → LeavesBlock b c held
 
--- Each event gave a reply, each step made at most one call of the disk after the formatting's two, the cuts
--- alone restarted it and the arms alone armed it, its count of faults allows for the replies, and where it tells its content the replies are a run.
-pub record AreReplies (x x' : DiskView) (script : ScriptValue) (events : List Event) (replies : List Reply) : Type 0 where
+-- Each event gave a reply, each step made at most one call of the disk after the formatting's two, the cuts alone
+-- restarted it and the arms alone armed it, its count of faults allows for the replies, and where it tells its content
+-- the replies are a run.
+pub record AreReplies (x x' : DiskView) (script : ScriptValue) (events : List Event)
+    (replies : List Reply) : Type 0 where
   pub size : length replies ≡ length events
   pub calls : x'.calls ≤ x.calls + 2 + steps_of events
   pub orders : x'.orders ≡ orders_by events x.orders
   pub faults : AreCounted replies x.faults x'.faults
   pub run : (c : disk.Content) → x.content ≡ Some c → IsRun x x' script events replies c
 
--- Out took the lines of these replies, or those of all but the last and a front of that one's: nothing is played once out has failed.
+-- Out took the lines of these replies, or those of all but the last and a front of that one's: nothing is played once
+-- out has failed.
 abbrev pub TakesToLast : List Reply → Option (List ℕ) → Option (List ℕ) → Type 0
 TakesToLast replies old new =
     TakesAll (text_of replies) old new
-    ⊎ ((rs : List Reply) × (r : Reply) × (replies ≡ rs ++ r ∷ []) × (mid : Option (List ℕ)) × TakesAll (text_of rs) old mid × TakesFront (line_of r) mid new)
+    ⊎ ((rs : List Reply) × (r : Reply) × (replies ≡ rs ++ r ∷ []) × (mid : Option (List ℕ))
+    × TakesAll (text_of rs) old mid × TakesFront (line_of r) mid new)
 
 -- Out took the lines of the replies to all events; it took those of the replies to some first events, up to the last.
 abbrev pub Prints : ScriptValue → View → View → Type 0
-Prints script x x' = (replies : List Reply) × AreReplies x.disk x'.disk script script.events replies × IsPrinted (text_of replies) x.out x'.out
+Prints script x x' =
+    (replies : List Reply) × AreReplies x.disk x'.disk script script.events replies
+    × IsPrinted (text_of replies) x.out x'.out
 
 abbrev pub PrintsFront : ScriptValue → View → View → Type 0
 PrintsFront script x x' =
-    (k : ℕ) × (replies : List Reply) × AreReplies x.disk x'.disk script (take k script.events) replies × TakesToLast replies x.out.taken x'.out.taken
+    (k : ℕ) × (replies : List Reply) × AreReplies x.disk x'.disk script (take k script.events) replies
+    × TakesToLast replies x.out.taken x'.out.taken
 
 -- Notes.
 

@@ -25,7 +25,8 @@ pub record HasNoMemory (d d' : DiskView) (told : RunResult) : Type 0 where
 -- what is told of block N of a disk of so many blocks, or that it couldn't be read
 abbrev pub IsInspected : ℕ → ℕ → Option Content → ℕ → ℕ → RunResult → Type 0
 IsInspected offset blocks content before after told =
-    ((page : List ℕ) × IfSome content (λ held. page ≡ header_page offset blocks held) × (told ≡ inspected (area_kind page)))
+    ((page : List ℕ) × IfSome content (λ held. page ≡ header_page offset blocks held)
+    × (told ≡ inspected (area_kind page)))
     ⊎ ((told ≡ unread) × HasRisen before after)
 
 -- block N is read, if the disk has it, and is told of

@@ -21,7 +21,8 @@ use world_core::World;
 
 /// Reads a dump to its end.
 pub fn dump_of_input<I: Source>(alloc: Global, input: &mut I) -> Result<Dump, Stop>
-    ensures dump { IfOk result (λ d. (bytes : List ℕ) → I.remaining input.old ≡ Some bytes → dump_of bytes ≡ Ok (record { hw = d.hw; memory = d.frames })) }
+    ensures dump { IfOk result (λ d. (bytes : List ℕ) → I.remaining input.old ≡ Some bytes →
+        dump_of bytes ≡ Ok (record { hw = d.hw; memory = d.frames })) }
     ensures end { IsOk result → IsUsedUp (I.remaining input.new) }
     ensures fits { IfOk result (λ d. Fits d.hw d.frames) }
     ensures lacks { IfErr result (LacksDump (I.remaining input.old)) }

@@ -15,8 +15,8 @@ use script::line_of;
 use sector_disk::Disk;
 use std::alloc::Global;
 
-/// Reads a dump to its end, and lets its machine hibernate; before, its cached page frames are dropped until so many saveable ones are left,
-/// where a size is asked for.
+/// Reads a dump to its end, and lets its machine hibernate; before, its cached page frames are dropped until so many
+/// saveable ones are left, where a size is asked for.
 #[inline(never)]
 pub fn hibernate_dump<I: Source, O: Sink, N: Sink, D: Disk>(
     alloc: Global,
@@ -35,7 +35,9 @@ pub fn hibernate_dump<I: Source, O: Sink, N: Sink, D: Disk>(
     ensures device { result ≡ Status.Device → HasRisen (D.faults disk.old) (D.faults disk.new) }
     ensures words { result ≢ Status.Words }
     ensures few_calls { D.calls disk.new ≤ D.calls disk.old + 100002 }
-    ensures inside { IsTrue (D.tells_moments disk.old) → SavesInside format size (I.remaining input.old) (D.content disk.old) (D.left_since disk.new (D.moment disk.old)) }
+    ensures inside { IsTrue (D.tells_moments disk.old) →
+        SavesInside format size (I.remaining input.old) (D.content disk.old)
+        (D.left_since disk.new (D.moment disk.old)) }
 {
     let dump = match dump_of_input(alloc, input) {
         Ok(dump) => dump,

@@ -1,4 +1,5 @@
-ghost use Rattle.std.specs.Prelude.{◌≡◌, ◌≢◌, ◌⊎◌, ◌≤◌, ◌<◌, ◌++◌, List, ℕ, [], IfOk, IfErr, IsTrue, OnErr, OnOk, length, vec_len};
+ghost use Rattle.std.specs.Prelude.{◌≡◌, ◌≢◌, ◌⊎◌, ◌≤◌, ◌<◌, ◌++◌, List, ℕ, [], IfOk, IfErr, IsTrue, OnErr, OnOk};
+ghost use Rattle.std.specs.Prelude.{length, vec_len};
 ghost use Rattle.definitions.specs.Disk.{HasRisen};
 ghost use Rattle.definitions.specs.Streams.{HandsOut, IsUsedUp};
 ghost use Rattle.plain_machine.specs.Replies.{line_of};
@@ -28,7 +29,8 @@ use thiserror::Error;
 /// How many bytes of the stream are read at a time.
 const PIECE: usize = 65536;
 
-/// How many bytes the longest stream has: the pages of 65,536 page frames, 128 pages of their numbers, and the info page.
+/// How many bytes the longest stream has: the pages of 65,536 page frames, 128 pages of their numbers, and the info
+/// page.
 const MOST_BYTES: usize = 4096 * 65665;
 
 /// Why no image was imported.
@@ -133,10 +135,12 @@ fn feed_input<I: Source, D: Disk>(
         (disk_view D.Disk disk.new) result }
     ensures device { IfErr result (λ stop. IsOfDisk stop → HasRisen (D.faults disk.old) (D.faults disk.new)) }
     ensures source { IfErr result (λ stop. IsOfSource stop → HasRisen (I.faults input.old) (I.faults input.new)) }
-    ensures headers { IsTrue (D.tells_moments disk.old) → (area : Area) (free : List ℕ) → TakesInto area free [] session.old →
+    ensures headers { IsTrue (D.tells_moments disk.old) → (area : Area) (free : List ℕ) →
+        TakesInto area free [] session.old →
         KeepsHeaders (D.moment disk.old) (D.moment disk.new) (D.left_since disk.old) (D.left_since disk.new) }
     ensures ready { (area : Area) (free : List ℕ) → TakesInto area free [] session.old → OnOk result
-        (TakesToEnd area free session.new (I.remaining input.old) (I.remaining input.new) (D.content disk.old) (D.content disk.new)) }
+        (TakesToEnd area free session.new (I.remaining input.old) (I.remaining input.new) (D.content disk.old)
+        (D.content disk.new)) }
     ensures telling { D.tells_moments disk.new ≡ D.tells_moments disk.old }
 {
     let mut taken = 0;

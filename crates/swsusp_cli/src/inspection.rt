@@ -13,10 +13,11 @@ use script::put_no_swap;
 use sector_disk::Disk;
 use sig_header::{AreaKind, Mark};
 
-/// Reads a block, and tells what it says as the header of an area. One that isn't below the disk's blocks counts as zeros, and isn't
-/// read.
+/// Reads a block, and tells what it says as the header of an area. One that isn't below the disk's blocks counts as
+/// zeros, and isn't read.
 pub fn inspect<D: Disk>(disk: &mut D, offset: u32) -> Answer
-    ensures answer { IsInspected offset (D.block_count disk.old) (D.content disk.old) (D.faults disk.old) (D.faults disk.new) (told_by result) }
+    ensures answer { IsInspected offset (D.block_count disk.old) (D.content disk.old) (D.faults disk.old)
+        (D.faults disk.new) (told_by result) }
     ensures status { result.status ≢ Status.Stream }
     ensures device { result.status ≡ Status.Device → HasRisen (D.faults disk.old) (D.faults disk.new) }
     ensures content { D.content disk.new ≡ D.content disk.old }

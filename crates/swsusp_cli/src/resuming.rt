@@ -19,7 +19,8 @@ use plain_machine::{IdentCheck, Reply};
 use sector_disk::Disk;
 use std::alloc::Global;
 
-/// Reads a loader's dump to its end, resumes the image on the disk into its machine, and writes the dump of what was restored.
+/// Reads a loader's dump to its end, resumes the image on the disk into its machine, and writes the dump of what was
+/// restored.
 #[inline(never)]
 pub fn resume_dump<I: Source, O: Sink, N: Sink, D: Disk>(
     alloc: Global,
@@ -37,7 +38,8 @@ pub fn resume_dump<I: Source, O: Sink, N: Sink, D: Disk>(
     ensures device { result ≡ Status.Device → HasRisen (D.faults disk.old) (D.faults disk.new) }
     ensures words { result ≢ Status.Words }
     ensures few_calls { D.calls disk.new ≤ D.calls disk.old + 100002 }
-    ensures inside { IsTrue (D.tells_moments disk.old) → LoadsInside (I.remaining input.old) (D.content disk.old) (D.left_since disk.new (D.moment disk.old)) }
+    ensures inside { IsTrue (D.tells_moments disk.old) →
+        LoadsInside (I.remaining input.old) (D.content disk.old) (D.left_since disk.new (D.moment disk.old)) }
 {
     let dump = match dump_of_input(alloc, input) {
         Ok(dump) => dump,
@@ -77,7 +79,8 @@ fn tell_end<O: Sink, N: Sink>(
     tell_dump(hw, frames, out, note)
 }
 
-/// Prints the dump of a machine, and nothing as a note. Where a sink fails the status is `Stream`, and `sink fault` is tried as a note.
+/// Prints the dump of a machine, and nothing as a note. Where a sink fails the status is `Stream`, and `sink fault` is
+/// tried as a note.
 pub fn tell_dump<O: Sink, N: Sink>(
     hw: &Hardware,
     frames: &Frames,

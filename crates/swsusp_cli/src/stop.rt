@@ -38,7 +38,8 @@ impl Stop {
             (sink_view N.Sink note.old)
             (sink_view N.Sink note.new) }
         ensures stream { result ≡ Status.Stream →
-            (self ≡ stop.Source) ⊎ HasRisen (O.faults out.old) (O.faults out.new) ⊎ HasRisen (N.faults note.old) (N.faults note.new) }
+            (self ≡ stop.Source) ⊎ HasRisen (O.faults out.old) (O.faults out.new)
+            ⊎ HasRisen (N.faults note.old) (N.faults note.new) }
         ensures device { result ≢ Status.Device }
         ensures words { result ≢ Status.Words }
     {

@@ -33,7 +33,8 @@ image_size_rule = record (new_rule (codes "image-size")) {
 }
 
 abbrev pub hibernate_app : App
-hibernate_app = with_rule (with_rule (with_rule (new_app (codes "hibernate")) skip_zeros_rule) image_size_rule) swap_rule
+hibernate_app =
+    with_rule (with_rule (with_rule (new_app (codes "hibernate")) skip_zeros_rule) image_size_rule) swap_rule
 
 abbrev pub any_kernel_rule : Rule
 any_kernel_rule = record (new_rule (codes "any-kernel")) { long = Some (codes "any-kernel"); action = Some SetTrue }
@@ -71,7 +72,8 @@ swsusp_app =
     (with_subcommand
     (with_subcommand
     (with_subcommand
-    (with_subcommand (with_subcommand program_app inspect_app.top) hibernate_app.top) resume_app.top) replay_app.top) drill_app.top) export_app.top)
+    (with_subcommand (with_subcommand program_app inspect_app.top) hibernate_app.top) resume_app.top) replay_app.top)
+    drill_app.top) export_app.top)
     import_app.top
 
 -- clap reads of the command what the definition says

@@ -2,7 +2,8 @@
 use Rattle.std.specs.Prelude.{◌≤◌, ⊤}
 use Rattle.swsusp_words.specs.Words.{Asked, inspect, hibernate, resume, replay, drill, export, import}
 use Rattle.swsusp_words.specs.declared.command.Command.{Command}
-use Rattle.swsusp_words.specs.declared.command.Command.TheVariants.{Inspect, Hibernate, Resume, Replay, Drill, Export, Import}
+use Rattle.swsusp_words.specs.declared.command.Command.TheVariants.{Inspect, Hibernate, Resume, Replay, Drill, Export}
+use Rattle.swsusp_words.specs.declared.command.Command.TheVariants.{Import}
 
 abbrev pub asked_by : Command → Asked
 asked_by (Inspect offset swap) = inspect offset swap.now

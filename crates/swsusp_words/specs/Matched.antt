@@ -1,5 +1,6 @@
 -- What a command's matches ask for.
-use Rattle.std.specs.Prelude.{◌≡◌, ℕ, ◌^◌, ◌&&◌, List, Bool, true, false, Option, Some, None, option_map, option_and_then, nat_lt, codes, if◌then◌else◌}
+use Rattle.std.specs.Prelude.{◌≡◌, ℕ, ◌^◌, ◌&&◌, List, Bool, true, false, Option, Some, None, option_map}
+use Rattle.std.specs.Prelude.{option_and_then, nat_lt, codes, if◌then◌else◌}
 use Rattle.std.specs.Str.{bytes_eq}
 use Rattle.std.specs.Str.Parse.{digits_value, without_leading_plus}
 use Rattle.clap.specs.Words.{Row, Text, first_of, one_of}
@@ -25,7 +26,8 @@ number_at bits id rows = option_and_then (parsed bits) (one_of id rows)
 -- `get_flag`, of a text that is `true` or `false`
 abbrev pub flag_of : Option Text → Option Bool
 flag_of None = Some false
-flag_of (Some text) = if bytes_eq text (codes "true") then Some true else if bytes_eq text (codes "false") then Some false else None
+flag_of (Some text) =
+    if bytes_eq text (codes "true") then Some true else if bytes_eq text (codes "false") then Some false else None
 
 abbrev pub flag_at : Text → List Row → Option Bool
 flag_at id rows = flag_of (one_of id rows)
@@ -34,7 +36,9 @@ abbrev pub swap_in : List Row → Option Text
 swap_in rows = first_of (codes "swap") rows
 
 abbrev pub inspect_in : List Row → Option Asked
-inspect_in rows = option_and_then (λ swap. option_map (λ offset. inspect offset swap) (number_at 32 (codes "offset") rows)) (swap_in rows)
+inspect_in rows =
+    option_and_then (λ swap. option_map (λ offset. inspect offset swap) (number_at 32 (codes "offset") rows))
+    (swap_in rows)
 
 abbrev pub format_by : Bool → Format
 format_by false = Plain
@@ -50,7 +54,9 @@ check_by false = Compare
 check_by true = Skip
 
 abbrev pub resume_in : List Row → Option Asked
-resume_in rows = option_and_then (λ swap. option_map (λ any. resume (check_by any) swap) (flag_at (codes "any-kernel") rows)) (swap_in rows)
+resume_in rows =
+    option_and_then (λ swap. option_map (λ any. resume (check_by any) swap) (flag_at (codes "any-kernel") rows))
+    (swap_in rows)
 
 abbrev pub drill_in : List Row → Option Asked
 drill_in rows = option_map (λ number. drill number) (number_at 32 (codes "number") rows)

@@ -26,7 +26,8 @@ IsSized SkipZeros number swap words =
 -- the words after the program's name are this command's
 abbrev pub IsSpelled : Asked → List (List ℕ) → Type 0
 IsSpelled (inspect offset swap) words =
-    ((offset ≡ 0) × (words ≡ codes "inspect" ∷ swap ∷ [])) ⊎ (words ≡ codes "inspect" ∷ codes "--offset" ∷ decimal offset ∷ swap ∷ [])
+    ((offset ≡ 0) × (words ≡ codes "inspect" ∷ swap ∷ []))
+    ⊎ (words ≡ codes "inspect" ∷ codes "--offset" ∷ decimal offset ∷ swap ∷ [])
 IsSpelled (hibernate Plain None swap) words = words ≡ codes "hibernate" ∷ swap ∷ []
 IsSpelled (hibernate SkipZeros None swap) words = words ≡ codes "hibernate" ∷ codes "--skip-zeros" ∷ swap ∷ []
 IsSpelled (hibernate format (Some size) swap) words = IsSized format (decimal size) swap words

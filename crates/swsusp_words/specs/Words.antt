@@ -1,5 +1,6 @@
 -- The command line of `swsusp`: which lists of words are plain, and what they ask for.
-use Rattle.std.specs.Prelude.{ℕ, ◌^◌, ◌==◌, ◌&&◌, List, [], ◌∷◌, Bool, false, nat_eq, nat_lt, not, codes, Option, Some, None, length, option_map, if◌then◌else◌}
+use Rattle.std.specs.Prelude.{ℕ, ◌^◌, ◌==◌, ◌&&◌, List, [], ◌∷◌, Bool, false, nat_eq, nat_lt, not, codes, Option, Some}
+use Rattle.std.specs.Prelude.{None, length, option_map, if◌then◌else◌}
 use Rattle.std.specs.Cmp.Lexicographic.{pointwise}
 use Rattle.page_core.specs.declared.format.Format.{Format}
 use Rattle.page_core.specs.declared.format.Format.TheVariants.{Plain, SkipZeros}
@@ -37,7 +38,8 @@ is_decimal word = nat_lt 0 (length word) && list_all is_ascii_digit word
 -- the number below a limit that a word of decimal digits without a leading zero is
 unfoldable pub plain_number : ℕ → List ℕ → Option ℕ
 plain_number limit word =
-    if not (has_leading_zero word) && is_decimal word && nat_lt (digits_value 10 word) limit then Some (digits_value 10 word) else None
+    if not (has_leading_zero word) && is_decimal word && nat_lt (digits_value 10 word) limit
+    then Some (digits_value 10 word) else None
 
 -- replay
 abbrev pub replay_of : List (List ℕ) → Option Asked
@@ -66,7 +68,8 @@ inspect_of [] = None
 inspect_of (swap ∷ []) = if is_path swap then Some (inspect 0 swap) else None
 inspect_of (option ∷ number ∷ []) = None
 inspect_of (option ∷ number ∷ swap ∷ []) =
-    if pointwise nat_eq option (codes "--offset") && is_path swap then option_map (λ offset. inspect offset swap) (plain_number (2 ^ 32) number) else None
+    if pointwise nat_eq option (codes "--offset") && is_path swap
+    then option_map (λ offset. inspect offset swap) (plain_number (2 ^ 32) number) else None
 inspect_of (option ∷ number ∷ swap ∷ more ∷ words) = None
 
 -- this, where the word names a file
@@ -77,22 +80,26 @@ over_file swap asked = if is_path swap then Some asked else None
 abbrev pub with_option : List ℕ → List ℕ → Option Asked → Option Asked
 with_option word option asked = if pointwise nat_eq word option then asked else None
 
--- this, with the size that a plain number of 64 bits is, where the word behind it names a file
+-- this, with the size that a plain number of 64 bits is, where the word after it names a file
 abbrev pub sized : List ℕ → List ℕ → (ℕ → Asked) → Option Asked
 sized number swap asked = if is_path swap then option_map asked (plain_number (2 ^ 64) number) else None
 
 -- --skip-zeros --image-size N, or the other way round
 abbrev pub both_options : List ℕ → List ℕ → List ℕ → List ℕ → Option Asked
 both_options a b c swap =
-    if pointwise nat_eq a (codes "--skip-zeros") then with_option b (codes "--image-size") (sized c swap (λ want. hibernate SkipZeros (Some want) swap))
-    else with_option c (codes "--skip-zeros") (with_option a (codes "--image-size") (sized b swap (λ want. hibernate SkipZeros (Some want) swap)))
+    if pointwise nat_eq a (codes "--skip-zeros")
+    then with_option b (codes "--image-size") (sized c swap (λ want. hibernate SkipZeros (Some want) swap))
+    else with_option c (codes "--skip-zeros")
+    (with_option a (codes "--image-size") (sized b swap (λ want. hibernate SkipZeros (Some want) swap)))
 
 -- hibernate [--skip-zeros] [--image-size N] SWAP, the options in either order
 abbrev pub hibernate_of : List (List ℕ) → Option Asked
 hibernate_of [] = None
 hibernate_of (swap ∷ []) = over_file swap (hibernate Plain None swap)
-hibernate_of (option ∷ swap ∷ []) = with_option option (codes "--skip-zeros") (over_file swap (hibernate SkipZeros None swap))
-hibernate_of (option ∷ number ∷ swap ∷ []) = with_option option (codes "--image-size") (sized number swap (λ want. hibernate Plain (Some want) swap))
+hibernate_of (option ∷ swap ∷ []) =
+    with_option option (codes "--skip-zeros") (over_file swap (hibernate SkipZeros None swap))
+hibernate_of (option ∷ number ∷ swap ∷ []) =
+    with_option option (codes "--image-size") (sized number swap (λ want. hibernate Plain (Some want) swap))
 hibernate_of (a ∷ b ∷ c ∷ swap ∷ []) = both_options a b c swap
 hibernate_of (a ∷ b ∷ c ∷ d ∷ more ∷ words) = None
 

@@ -1,6 +1,7 @@
 ghost use Rattle.std.specs.Prelude.{◌≡◌, false, IfOk};
 ghost use Rattle.clap.specs.Words.{new_app, rule_of};
-ghost use Rattle.swsusp_words.specs.App.{IsApp, drill_app, export_app, hibernate_app, import_app, inspect_app, replay_app, resume_app, swap_rule, swsusp_app};
+ghost use Rattle.swsusp_words.specs.App.{IsApp, drill_app, export_app, hibernate_app, import_app, inspect_app};
+ghost use Rattle.swsusp_words.specs.App.{replay_app, resume_app, swap_rule, swsusp_app};
 
 use crate::details;
 use clap::{Arg, ArgAction, Command, value_parser};

@@ -1,6 +1,7 @@
 ghost use Rattle.std.specs.Prelude.{◌≡◌};
 ghost use Rattle.clap.specs.Words.{found_of, rows_of, subcommand_rows_of};
-ghost use Rattle.swsusp_words.specs.Matched.{AnswersTo, asked_in, check_by, drill_in, format_by, hibernate_in, import_in, inspect_in, matched_by, resume_in};
+ghost use Rattle.swsusp_words.specs.Matched.{AnswersTo, asked_in, check_by, drill_in, format_by, hibernate_in};
+ghost use Rattle.swsusp_words.specs.Matched.{import_in, inspect_in, matched_by, resume_in};
 
 use crate::command::Command;
 use clap::ArgMatches;

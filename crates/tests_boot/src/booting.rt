@@ -7,8 +7,8 @@ use sig_header::{area_page, mark};
 /// The state fits a caller's buffer of 16 KiB.
 const _: () = prove!(size_of::<Resume>() <= 16384);
 
-/// The area of the image: its header in block 0, the map in block 1, the info page in block 2, the numbers of page frames 3 and
-/// 9 in block 3 and their pages in blocks 4 and 5, whose bytes are all 7 and all 8.
+/// The area of the image: its header in block 0, the map in block 1, the info page in block 2, the numbers of page
+/// frames 3 and 9 in block 3 and their pages in blocks 4 and 5, whose bytes are all 7 and all 8.
 fn image() -> [Page; 6] {
     let mut map = Page::zero();
     map.set_word(0, 2);
@@ -115,7 +115,7 @@ fn each_page_is_handed_out_once(rt: HostRuntime) {
     );
 }
 
-/// Which of two boots got pages, of which the first is broken off behind so many calls.
+/// Which of two boots got pages, of which the first is broken off after so many calls.
 fn pages_of_two(most: u32) -> (bool, bool) {
     let mut disk = image();
     let first = boot(&mut disk, most, NO_FAILURE);

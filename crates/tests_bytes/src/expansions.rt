@@ -16,8 +16,8 @@ fn assert_expands(rt: &impl Abort, input: &[u8], wanted: &[u8])
     assert!(rt; output[wanted.len()..].iter().all(|byte| *byte == 0xaa));
 }
 
-// Literals; a text as lzo1x_1_compress makes it; behind one literal 0 0 0 0 D D S S: two bytes; 0 1 L D D D S S and 1 L L D D D S S, with
-// literals behind them; 0 0 1 L L L L L: seven bytes of the last three.
+// Literals; a text as lzo1x_1_compress makes it; after one literal 0 0 0 0 D D S S: two bytes; 0 1 L D D D S S and 1 L
+// L D D D S S, with literals after them; 0 0 1 L L L L L: seven bytes of the last three.
 #[test]
 fn each_short_instruction(rt: HostRuntime) {
     assert_expands(&rt, b"\x11\0\0", b"");
@@ -52,9 +52,9 @@ fn far(alloc: std::alloc::Global, zeros: usize, rest: &[u8]) -> Result<Vec<u8>, 
     Ok(input)
 }
 
-// A zero byte is 255 more. 0 0 0 0 D D S S behind four literals: three bytes from 2051 before the end. 0 0 1 L L L L L with all bits D set:
-// 16384 before the end, which no end marker is. 0 0 0 1 H L L L: lengths of 5 in the bits and of 266 behind them, from 16,391 and 32,837
-// before the end.
+// A zero byte is 255 more. 0 0 0 0 D D S S after four literals: three bytes from 2051 before the end. 0 0 1 L L L L L
+// with all bits D set: 16384 before the end, which no end marker is. 0 0 0 1 H L L L: lengths of 5 in the bits and of
+// 266 after them, from 16,391 and 32,837 before the end.
 #[test]
 fn each_instruction_from_afar(rt: HostRuntime) -> Result<(), Fail> {
     let alloc = rt.alloc();
@@ -121,8 +121,9 @@ const NOTHING: &[u8; 8] = b"\xaa\xaa\xaa\xaa\xaa\xaa\xaa\xaa";
 
 const LITERALS: &[u8; 8] = b"abc\xaa\xaa\xaa\xaa\xaa";
 
-// An input that ends in literals, in an instruction and in a length of zero bytes; an output without room; a match from before the begin.
-// 0x12 says a length of 4 at the distance that ends the stream. lzorle1x_1_compress writes 17 and 1 first.
+// An input that ends in literals, in an instruction and in a length of zero bytes; an output without room; a match from
+// before the begin. 0x12 says a length of 4 at the distance that ends the stream. lzorle1x_1_compress writes 17 and 1
+// first.
 #[test]
 fn each_fault(rt: HostRuntime) {
     assert_fails(&rt, b"\x14ab", Kind::InputTooShort, 0, NOTHING);

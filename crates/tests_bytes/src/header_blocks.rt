@@ -3,8 +3,8 @@ ghost use Rattle.std.specs.Prelude.{◌≤◌};
 use page_core::Page;
 use sig_header::{Area, AreaFault, AreaKind, area_page, mark, take_back};
 
-/// The last 40 bytes of a header block that was marked with the first map in block 1, SF_NOCOMPRESS_MODE and, behind a hardware signature
-/// of 7, SF_HW_SIG.
+/// The last 40 bytes of a header block that was marked with the first map in block 1, SF_NOCOMPRESS_MODE and, after a
+/// hardware signature of 7, SF_HW_SIG.
 const MARKED: [u8; 40] = *b"\x07\0\0\0\0\0\0\0\x01\0\0\0\0\0\0\0\x0a\0\0\0SWAPSPACE2S1SUSPEND\0";
 
 #[test]

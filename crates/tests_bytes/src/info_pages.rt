@@ -47,7 +47,8 @@ fn the_first_image_is_written(rt: HostRuntime) {
     assert_eq!(rt; decode(&page), first_image());
 }
 
-// The nodename is compared by no resume. Of several fields that differ the version code comes first, then the names in this order.
+// The nodename is compared by no resume. Of several fields that differ the version code comes first, then the names in
+// this order.
 #[test]
 fn the_first_field_that_differs(rt: HostRuntime) {
     let own = first_image().ident;

@@ -1,6 +1,7 @@
 use swap_map::{ChainFault, MapReader, MapWriter};
 
-// The 511 entries of an image whose first map is block 1, and the next map behind them (struct swap_map_page, kernel/power/swap.c).
+// The 511 entries of an image whose first map is block 1, and the next map after them (struct swap_map_page,
+// kernel/power/swap.c).
 #[test]
 fn the_last_entry_fills_the_map(rt: HostRuntime) {
     let mut writer = MapWriter::begin();

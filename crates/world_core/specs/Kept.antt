@@ -8,12 +8,14 @@ use Rattle.hib_core.specs.Ready.{CanStep, IsBusy}
 use Rattle.resume_core.specs.Ready as resumption
 use Rattle.sleep_core.specs.Waking.{is_over}
 use Rattle.world_core.specs.declared.world.Core.{Core}
-use Rattle.world_core.specs.declared.world.Core.TheVariants.{Off, Running, BootBegun, BootSynced, Hibernating, Asleep, Waking, Loading}
+use Rattle.world_core.specs.declared.world.Core.TheVariants.{Off, Running, BootBegun, BootSynced, Hibernating, Asleep}
+use Rattle.world_core.specs.declared.world.Core.TheVariants.{Waking, Loading}
 use Rattle.world_core.specs.declared.world.World.TheInside.{Inside}
 use Rattle.world_core.specs.World.{World}
 
 abbrev pub kept_world : Inside → World
-kept_world a = record { machine = a.machine; frames = a.frames; hib = a.hib; load = a.load; waker = a.waker; core = a.core }
+kept_world a =
+    record { machine = a.machine; frames = a.frames; hib = a.hib; load = a.load; waker = a.waker; core = a.core }
 
 -- a machine that runs, hibernates, settles, sleeps or wakes has its area
 abbrev pub IsUp : Core → Type 0
@@ -43,9 +45,10 @@ IsDown Asleep = ⊤
 IsDown Waking = ⊤
 IsDown _ = ⊥
 
--- Memory has the machine's page frames, and hibernation and resume are over its zones, with room for its slots. A machine that runs,
--- hibernates, settles, sleeps or wakes can run, and where an image is held, perhaps too, or it sleeps or wakes, the header block is one of
--- the disk's. A hibernation, a settling, a waking or a resume can make its next step.
+-- Memory has the machine's page frames, and hibernation and resume are over its zones, with room for its slots. A
+-- machine that runs, hibernates, settles, sleeps or wakes can run, and where an image is held, perhaps too, or it
+-- sleeps or wakes, the header block is one of the disk's. A hibernation, a settling, a waking or a resume can make its
+-- next step.
 pub record IsKept (a : Inside) : Type 0 where
   pub size : length a.frames ≡ top a.machine.hw.zones
   pub zones : a.hib.snapshot.zones ≡ a.machine.hw.zones

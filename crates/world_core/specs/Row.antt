@@ -32,7 +32,8 @@ abbrev pub Simulates : Event → World → World → Reply → disk.Content → 
 Simulates e old new r c c' = rows.Simulates (hardware_of old) (StandsFor old) (StandsFor new) e r c c'
 
 abbrev pub SimulatesWhereTold : Event → World → World → Reply → Option disk.Content → Option disk.Content → Type 0
-SimulatesWhereTold e old new r before now = rows.SimulatesWhereTold (hardware_of old) (StandsFor old) (StandsFor new) e r before now
+SimulatesWhereTold e old new r before now =
+    rows.SimulatesWhereTold (hardware_of old) (StandsFor old) (StandsFor new) e r before now
 
 abbrev pub IsStep : Event → Type 0
 IsStep (event.Step x) = ⊤
@@ -59,13 +60,15 @@ blocks_after (event.Boot from) (reply.More k of) disk_blocks kept = disk_blocks
 blocks_after (event.Resume loader check) (reply.Loading k) disk_blocks kept = disk_blocks
 blocks_after _ _ disk_blocks kept = kept
 
--- A resume that ends has left just Restored, free page frames too, after either loader; and a machine that runs has the area of the
--- header block, bad slots included.
+-- A resume that ends has left just Restored, free page frames too, after either loader; and a machine that runs has the
+-- area of the header block, bad slots included.
 abbrev pub Restores : Event → World → World → Reply → Option disk.Content → Option disk.Content → Type 0
 Restores (event.Step actor.Core) old new (reply.Resumed n) before now =
     (c : disk.Content) → before ≡ Some c → (load : Load) (k : ℕ) → StandsFor old c (loading load k) →
     (c' : disk.Content) × (now ≡ Some c')
-    × ((b : State) × Step (hardware_of old) (disk.as_it_reads c) (loading load k) (event.Step actor.Core) (reply.Resumed n) b × HasResumed new.machine new.frames c' load b)
+    × ((b : State)
+    × Step (hardware_of old) (disk.as_it_reads c) (loading load k) (event.Step actor.Core) (reply.Resumed n) b
+    × HasResumed new.machine new.frames c' load b)
 Restores _ old new _ before now = ⊤
 
 -- what the last step of a boot says of an image on the disk v, unless the disk failed
@@ -74,8 +77,8 @@ BootsMark h (reply.Booted image) v = (image ≡ true) ↔ Marked h v
 BootsMark h (reply.ReadFault left) v = ⊤
 BootsMark h _ v = ⊥
 
--- There exactly when: a boot that ends says that an image is there just where block(0) of the disk v is marked, and so does the second
--- step of a resume.
+-- There exactly when: a boot that ends says that an image is there just where block(0) of the disk v is marked, and so
+-- does the second step of a resume.
 pub record TellsMark (w : World) (r : Reply) (v : disk.DiskImage) : Type 0 where
   pub boots : (from : BootFrom) → w.core ≡ BootSynced from → BootsMark (hardware_of w) r v
   pub finds : w.core ≡ Loading → w.load.stage ≡ stage.Find → FindsMark (hardware_of w) r v
@@ -88,8 +91,9 @@ TellsImage _ w r told = ⊤
 abbrev pub IsCalled : Event → Reply → ℕ → ℕ → Type 0
 IsCalled e r before now = (now ≡ before) ⊎ (IsStep e × (r ≢ reply.Idle) × (now ≡ disk.raised before))
 
--- An event that this world refuses. What begins an operation is refused by every reply but the count of its steps, a step by `idle`,
--- and what a task asks where the machine doesn't run, or by a reply that refuses it. A cut and an arm are never refused.
+-- An event that this world refuses. What begins an operation is refused by every reply but the count of its steps, a
+-- step by `idle`, and what a task asks where the machine doesn't run, or by a reply that refuses it. A cut and an arm
+-- are never refused.
 abbrev pub IsRefused : Event → World → Reply → Type 0
 IsRefused (event.Boot from) w r = IsRefusedWith r
 IsRefused (event.Hibernate format) w r = IsRefusedWith r
@@ -103,32 +107,37 @@ IsRefused (event.Task t o) w r = (w.core ≢ Running) ⊎ IsRefusal r
 IsRefused (event.Cut pick) w r = ⊥
 IsRefused (event.Arm first count pick) w r = ⊥
 
--- It changes nothing, whatever the disk tells: neither the machine with its numbers, nor what it is at, nor a page frame, free ones too.
+-- It changes nothing, whatever the disk tells: neither the machine with its numbers, nor what it is at, nor a page
+-- frame, free ones too.
 pub record ChangesNothing (old new : World) : Type 0 where
   pub machine : new.machine ≡ old.machine
   pub frames : new.frames ≡ old.frames
   pub core : new.core ≡ old.core
 
--- A step of a resume that neither goes on nor ends it, since the image was refused or a call failed, leaves the machine off.
+-- A step of a resume that neither goes on nor ends it, since the image was refused or a call failed, leaves the machine
+-- off.
 abbrev pub StopsOff : Event → World → Reply → World → Type 0
-StopsOff (event.Step actor.Core) old r new = old.core ≡ Loading → ((k : ℕ) → r ≢ reply.Loading k) → ((n : ℕ) → r ≢ reply.Resumed n) → IsOff new
+StopsOff (event.Step actor.Core) old r new =
+    old.core ≡ Loading → ((k : ℕ) → r ≢ reply.Loading k) → ((n : ℕ) → r ≢ reply.Resumed n) → IsOff new
 StopsOff _ old r new = ⊤
 
--- What a step of a hibernation or a settling leaves of the page frames: those that aren't free stay, the slot table included but for the
--- image's slots. Where it ends with nothing held these are given back, and where an image may be there all is as it was.
+-- What a step of a hibernation or a settling leaves of the page frames: those that aren't free stay, the slot table
+-- included but for the image's slots. Where it ends with nothing held these are given back, and where an image may be
+-- there all is as it was.
 pub record KeepsMemory (old new : World) (r : Reply) : Type 0 where
   pub used : KeepsUsed (hardware_of old) old.frames new.frames
   pub given : change_of r old.hib.stage ≡ gives → seen_frames (hardware_of old) new.frames ≡ new.frames
   pub unsure : change_of r old.hib.stage ≡ stays → new.frames ≡ old.frames
 
--- A shrinking has made just the dropped page frames free, and tells how many they are, and how many saveable ones are left.
+-- A shrinking has made just the dropped page frames free, and tells how many they are, and how many saveable ones are
+-- left.
 pub record HasDropped (h : Hardware) (want : ℕ) (old : Memory) (dropped left : ℕ) (new : Memory) : Type 0 where
   pub frames : new ≡ drop_memory h old want
   pub dropped_is : dropped ≡ length (dropped_by h old want)
   pub left_is : left ≡ length (saveable h new)
 
--- What a step of a waking leaves of the page frames, whatever the disk tells: once the machine runs the image's slots are given back, and
--- before all is as it was.
+-- What a step of a waking leaves of the page frames, whatever the disk tells: once the machine runs the image's slots
+-- are given back, and before all is as it was.
 abbrev pub WakesWith : World → World → Reply → Type 0
 WakesWith old new reply.Woken = new.frames ≡ seen_frames (hardware_of old) old.frames
 WakesWith old new _ = new.frames ≡ old.frames
@@ -138,6 +147,8 @@ abbrev pub LeavesMemory : Event → World → Reply → World → Type 0
 LeavesMemory (event.Hibernate format) old r new = KeepsUsed (hardware_of old) old.frames new.frames
 LeavesMemory (event.Suspend format) old r new = KeepsUsed (hardware_of old) old.frames new.frames
 LeavesMemory event.Settle old r new = KeepsUsed (hardware_of old) old.frames new.frames
-LeavesMemory (event.Shrink want) old (reply.Shrunk dropped left) new = HasDropped (hardware_of old) want old.frames dropped left new.frames
-LeavesMemory (event.Step actor.Core) old r new = (old.core ≡ Hibernating → KeepsMemory old new r) × (old.core ≡ Waking → WakesWith old new r)
+LeavesMemory (event.Shrink want) old (reply.Shrunk dropped left) new =
+    HasDropped (hardware_of old) want old.frames dropped left new.frames
+LeavesMemory (event.Step actor.Core) old r new =
+    (old.core ≡ Hibernating → KeepsMemory old new r) × (old.core ≡ Waking → WakesWith old new r)
 LeavesMemory _ old r new = ⊤

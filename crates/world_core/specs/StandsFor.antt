@@ -7,7 +7,8 @@ use Rattle.plain_machine.specs.Chain.{Marked}
 use Rattle.plain_machine.specs.Premises.{HasOriginal}
 use Rattle.plain_machine.specs.State.{State, off, nothing, sure, other}
 use Rattle.machine.specs.Flights.{flights_in}
-use Rattle.plain_machine.specs.Shows.{WorldView, Activity, rests, runs, boots, hibernates, undoes, settles, wakes, sleeps, loads}
+use Rattle.plain_machine.specs.Shows.{WorldView, Activity, rests, runs, boots, hibernates, undoes, settles, wakes}
+use Rattle.plain_machine.specs.Shows.{sleeps, loads}
 use Rattle.plain_machine.specs.Stands.{Stands}
 use Rattle.plain_machine.specs.declared.event.IdentCheck.{IdentCheck}
 use Rattle.plain_machine.specs.declared.event.Loader.{Loader}
@@ -28,7 +29,8 @@ use Rattle.resume_core.specs.declared.load.Load.{Load}
 use Rattle.sleep_core.specs.Waking as waking
 use Rattle.sleep_core.specs.declared.waker.Waker.{Waker}
 use Rattle.world_core.specs.declared.world.Core.{Core}
-use Rattle.world_core.specs.declared.world.Core.TheVariants.{Off, Running, BootBegun, BootSynced, Hibernating, Asleep, Waking, Loading}
+use Rattle.world_core.specs.declared.world.Core.TheVariants.{Off, Running, BootBegun, BootSynced, Hibernating, Asleep}
+use Rattle.world_core.specs.declared.world.Core.TheVariants.{Waking, Loading}
 use Rattle.world_core.specs.World.{World}
 
 abbrev pub hardware_of : World → Hardware
@@ -119,8 +121,8 @@ loaded_of Asleep frames load = []
 loaded_of Waking frames load = []
 loaded_of Loading frames load = zip load.waiting.originals (waiting_pages frames load.waiting)
 
--- What is shown between two calls of the disk: a hibernation keeps a block and has copies, a settling or a waking keeps one, a resume keeps one
--- and has a loader, a check and loaded pages.
+-- What is shown between two calls of the disk: a hibernation keeps a block and has copies, a settling or a waking keeps
+-- one, a resume keeps one and has a loader, a check and loaded pages.
 abbrev pub shown_at : Core → Machine → Memory → Hib → Load → Waker → WorldView
 shown_at core machine frames hib load waker = record {
   activity = activity_of core hib load waker;
@@ -138,8 +140,8 @@ shown_at core machine frames hib load waker = record {
 abbrev pub shown : World → WorldView
 shown w = shown_at w.core w.machine w.frames w.hib w.load w.waker
 
--- A world and its disk stand for a state. Where the world hibernates, its numbers and sets are those of the state's image; where it
--- resumes, its resume is the state's.
+-- A world and its disk stand for a state. Where the world hibernates, its numbers and sets are those of the state's
+-- image; where it resumes, its resume is the state's.
 pub record StandsFor (w : World) (c : disk.Content) (a : State) : Type 0 where
   pub stands : Stands (hardware_of w) (shown w) c a
   pub image : IsOfState (hardware_of w) w.frames w.hib a
@@ -180,11 +182,12 @@ abbrev pub KeepsMemory : Hardware → Memory → Bool → Option Memory → Type
 KeepsMemory h frames keeps None = keeps ≡ false
 KeepsMemory h frames keeps (Some m) = (keeps ≡ true) × (frames ≡ m) × Fits h m
 
--- A new world is off, and memory is a dump's or nothing. Over a disk with one image it stands for a machine with nothing held where that
--- isn't marked, else with another's image, if taking the mark back leaves none.
+-- A new world is off, and memory is a dump's or nothing. Over a disk with one image it stands for a machine with
+-- nothing held where that isn't marked, else with another's image, if taking the mark back leaves none.
 pub record IsNew (h : Hardware) (kept : Option Memory) (w : World) : Type 0 where
   pub hardware : hardware_of w ≡ h
   pub at_rest : IsOff w
   pub blocks : blocks_of w ≡ 0
   pub unmarked : (v : disk.DiskImage) → (Marked h v → ⊥) → StandsFor w (disk.settled v) (off nothing kept)
-  pub marked : (v : disk.DiskImage) → Marked h v → HasOriginal h v → StandsFor w (disk.settled v) (off (sure other) kept)
+  pub marked : (v : disk.DiskImage) → Marked h v → HasOriginal h v →
+      StandsFor w (disk.settled v) (off (sure other) kept)

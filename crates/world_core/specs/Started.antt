@@ -1,5 +1,6 @@
 -- The end of a boot.
-use Rattle.std.specs.Prelude.{◌≡◌, ℕ, Bool, nat_lt, if◌then◌else◌, List, Option, Some, None, Result, MatchResult, replicate}
+use Rattle.std.specs.Prelude.{◌≡◌, ℕ, Bool, nat_lt, if◌then◌else◌, List, Option, Some, None, Result, MatchResult}
+use Rattle.std.specs.Prelude.{replicate}
 use Rattle.std.specs.List.{range_with_len}
 use Rattle.definitions.specs.Bytes.{zero_page}
 use Rattle.definitions.specs.Disk as disk
@@ -40,11 +41,13 @@ abbrev pub memory_at_start : BootFrom → Hardware → Result Area NoSwap → Me
 memory_at_start Fresh h area m = with_each_entry (slot_of_area area) (range_with_len 0 h.slots) h.slot_table m
 memory_at_start Kept h area m = m
 
--- A world runs as a header block says: its area and held are those of the block, and no task has an unfinished operation.
+-- A world runs as a header block says: its area and held are those of the block, and no task has an unfinished
+-- operation.
 pub record IsStarted (from : BootFrom) (old new : World) (header : List ℕ) (image : Bool) : Type 0 where
   pub marked : image ≡ is_image (area_kind header)
   pub area : MatchResult new.machine.area
-      (λ area. (area_kind_of header ≡ Swap area) × (fault_at_start from (hardware_of old) (blocks_of old) old.frames (area_kind_of header) ≡ None))
+      (λ area. (area_kind_of header ≡ Swap area)
+      × (fault_at_start from (hardware_of old) (blocks_of old) old.frames (area_kind_of header) ≡ None))
       (λ why. fault_at_start from (hardware_of old) (blocks_of old) old.frames (area_kind_of header) ≡ Some why)
   pub frames : new.frames ≡ memory_at_start from (hardware_of old) new.machine.area old.frames
   pub held : new.machine.held ≡ (if image then Yes else No)

@@ -1,4 +1,5 @@
-ghost use Rattle.std.specs.Prelude.{◌≡◌, ◌≢◌, ◌⊎◌, ◌<◌, ◌≤◌, ◌↔◌, true, false, length, Some, None, Ok, Err, IsTrue, IfOk, IfErr, OnOk, OnErr, IfSome, MatchResult};
+ghost use Rattle.std.specs.Prelude.{◌≡◌, ◌≢◌, ◌⊎◌, ◌<◌, ◌≤◌, ◌↔◌, true, false, length, Some, None, Ok, Err, IsTrue};
+ghost use Rattle.std.specs.Prelude.{IfOk, IfErr, OnOk, OnErr, IfSome, MatchResult};
 ghost use Rattle.definitions.specs.Bytes.{zero_page};
 ghost use Rattle.definitions.specs.Disk.{HasRisen, raised, as_it_reads, Changes, Elapses};
 ghost use Rattle.definitions.specs.Zones.{top};
@@ -22,7 +23,8 @@ use plain_machine::{BootFrom, Held, Left, NoSwap, Reply};
 use sector_disk::Disk;
 use sig_header::{Area, AreaKind, take_back};
 
-// Booting: fresh memory at once, then a sync, then a read of the header block (own; Linux has its memory from the firmware).
+// Booting: fresh memory at once, then a sync, then a read of the header block (own; Linux has its memory from the
+// firmware).
 impl World {
     ghost use Rattle.definitions.specs.Disk.{Content};
     ghost use Rattle.plain_machine.specs.declared.event.Event.TheVariants as event;
@@ -30,7 +32,8 @@ impl World {
     ghost use Rattle.world_core.specs.declared.world.Core.TheVariants as core;
     ghost use Rattle.world_core.specs.StandsFor.{hardware_of, blocks_of, keeps_dump, IsOff, IsBusyIn};
     ghost use Rattle.plain_machine.specs.declared.reply.Reply.TheVariants as reply;
-    ghost use Rattle.world_core.specs.Row.{SimulatesWhereTold, Simulates, IsCalled, IsRefused, ChangesNothing, Restores, TellsImage, blocks_after};
+    ghost use Rattle.world_core.specs.Row.{SimulatesWhereTold, Simulates, IsCalled, IsRefused, ChangesNothing};
+    ghost use Rattle.world_core.specs.Row.{Restores, TellsImage, blocks_after};
     ghost use Rattle.protocol_laws.specs.Rows.{IsNewFault};
     ghost use Rattle.world_core.specs.Started.{IsStarted};
 
@@ -39,7 +42,8 @@ impl World {
         ensures row { (c : Content) → Simulates (event.Boot from) self.old self.new result c c }
         ensures cause { IsNewFault result → ⊥ }
         ensures hardware { hardware_of self.new ≡ hardware_of self.old }
-        ensures blocks { ((self.new.core ≡ self.old.core) × (blocks_of self.new ≡ blocks_of self.old)) ⊎ (blocks_of self.new ≡ blocks) }
+        ensures blocks { ((self.new.core ≡ self.old.core) × (blocks_of self.new ≡ blocks_of self.old))
+            ⊎ (blocks_of self.new ≡ blocks) }
         ensures kept { blocks_of self.new ≡ blocks_after (event.Boot from) result blocks (blocks_of self.old) }
         ensures refused { IsRefused (event.Boot from) self.old result → ChangesNothing self.old self.new }
     {
@@ -81,8 +85,10 @@ impl World {
     /// The first step of a boot: after it the disk has one content.
     pub(crate) fn sync_for_boot<D: Disk>(&mut self, disk: &mut D, from: BootFrom) -> Reply
         requires begun { self.old.core ≡ core.BootBegun from }
-        ensures row { SimulatesWhereTold (event.Step actor.Core) self.old self.new result (D.content disk.old) (D.content disk.new) }
-        ensures restored { Restores (event.Step actor.Core) self.old self.new result (D.content disk.old) (D.content disk.new) }
+        ensures row { SimulatesWhereTold (event.Step actor.Core) self.old self.new result (D.content disk.old)
+            (D.content disk.new) }
+        ensures restored { Restores (event.Step actor.Core) self.old self.new result (D.content disk.old)
+            (D.content disk.new) }
         ensures image { TellsImage (event.Step actor.Core) self.old result (D.content disk.old) }
         ensures works { result ≢ reply.Idle }
         ensures called { Called D.Disk (IsCalled (event.Step actor.Core) result) (IsNewFault result) disk.old disk.new }
@@ -105,8 +111,10 @@ impl World {
     pub(crate) fn finish_boot<D: Disk>(&mut self, disk: &mut D, from: BootFrom) -> Reply
         requires synced { self.old.core ≡ core.BootSynced from }
         requires blocks { D.block_count disk.old ≡ blocks_of self.old }
-        ensures row { SimulatesWhereTold (event.Step actor.Core) self.old self.new result (D.content disk.old) (D.content disk.new) }
-        ensures restored { Restores (event.Step actor.Core) self.old self.new result (D.content disk.old) (D.content disk.new) }
+        ensures row { SimulatesWhereTold (event.Step actor.Core) self.old self.new result (D.content disk.old)
+            (D.content disk.new) }
+        ensures restored { Restores (event.Step actor.Core) self.old self.new result (D.content disk.old)
+            (D.content disk.new) }
         ensures image { TellsImage (event.Step actor.Core) self.old result (D.content disk.old) }
         ensures works { result ≢ reply.Idle }
         ensures called { Called D.Disk (IsCalled (event.Step actor.Core) result) (IsNewFault result) disk.old disk.new }
@@ -129,7 +137,8 @@ impl World {
     /// Runs, as the header block says. Whether it is marked.
     fn start(&mut self, header: &Page, from: BootFrom) -> bool
         requires synced { self.old.core ≡ core.BootSynced from }
-        requires on_disk { is_image (area_kind header.now) ≡ true → block_of_slot (hardware_of self.old) 0 < blocks_of self.old }
+        requires on_disk { is_image (area_kind header.now) ≡ true →
+            block_of_slot (hardware_of self.old) 0 < blocks_of self.old }
         ensures started { IsStarted from self.old self.new header.now result }
     {
         let hw = self.machine.hw;
@@ -203,7 +212,8 @@ fn with_bad_slots(
 ) -> Result<Area, NoSwap>
     requires { length frames.now ≡ top hw.now.zones }
     ensures ok { IfOk result (λ a. (area ≡ Ok a) × (has_bad_slots_of hw.now frames.now a ≡ true)) }
-    ensures refused { IfErr result (λ why. (area ≡ Err why) ⊎ ((a : AreaValue) × (area ≡ Ok a) × (has_bad_slots_of hw.now frames.now a ≡ false) × (why ≡ NoSwap.BadSet))) }
+    ensures refused { IfErr result (λ why. (area ≡ Err why)
+        ⊎ ((a : AreaValue) × (area ≡ Ok a) × (has_bad_slots_of hw.now frames.now a ≡ false) × (why ≡ NoSwap.BadSet))) }
 {
     let area = area?;
     if has_bad_slots(frames, hw, &area) {
@@ -224,7 +234,8 @@ fn is_image(kind: &AreaKind) -> bool
 fn read_header<D: Disk>(disk: &mut D, block: u64, into: &mut Page) -> Result<(), Failed>
     requires { into.old ≡ zero_page }
     ensures beyond { D.block_count disk.old ≤ block → into.new ≡ zero_page }
-    ensures header { OnOk result (IfSome (D.content disk.old) (λ held. into.new ≡ header_at block (D.block_count disk.old) (as_it_reads held))) }
+    ensures header { OnOk result (IfSome (D.content disk.old)
+        (λ held. into.new ≡ header_at block (D.block_count disk.old) (as_it_reads held))) }
     ensures content { D.content disk.new ≡ D.content disk.old }
     ensures cause { OnErr result (HasRisen (D.faults disk.old) (D.faults disk.new)) }
     ensures faults { D.faults disk.old ≤ D.faults disk.new }

@@ -8,7 +8,8 @@ use hib_core::Job;
 use plain_machine::Reply;
 use sector_disk::Disk;
 
-// A hibernation, a suspend or a settling: its begin and its steps (hibernate, kernel/power/hibernate.c; swsusp_unmark, kernel/power/swap.c).
+// A hibernation, a suspend or a settling: its begin and its steps (hibernate, kernel/power/hibernate.c; swsusp_unmark,
+// kernel/power/swap.c).
 impl World {
     ghost use Rattle.definitions.specs.Disk.{Content};
     ghost use Rattle.plain_machine.specs.declared.event.Event.TheVariants as event;
@@ -17,7 +18,8 @@ impl World {
     ghost use Rattle.hib_core.specs.Row.{event_of};
     ghost use Rattle.world_core.specs.declared.world.Core.TheVariants as core;
     ghost use Rattle.world_core.specs.StandsFor.{hardware_of, blocks_of, IsOff};
-    ghost use Rattle.world_core.specs.Row.{SimulatesWhereTold, Simulates, IsCalled, IsRefused, ChangesNothing, Restores, TellsImage, KeepsMemory};
+    ghost use Rattle.world_core.specs.Row.{SimulatesWhereTold, Simulates, IsCalled, IsRefused, ChangesNothing};
+    ghost use Rattle.world_core.specs.Row.{Restores, TellsImage, KeepsMemory};
     ghost use Rattle.hib_core.specs.Leaving.{KeepsUsed};
     ghost use Rattle.plain_machine.specs.declared.reply.Reply.TheVariants as reply;
 
@@ -66,8 +68,10 @@ impl World {
     pub(crate) fn step_hibernation<D: Disk>(&mut self, disk: &mut D) -> Reply
         requires hibernates { self.old.core ≡ core.Hibernating }
         requires blocks { D.block_count disk.old ≡ blocks_of self.old }
-        ensures row { SimulatesWhereTold (event.Step actor.Core) self.old self.new result (D.content disk.old) (D.content disk.new) }
-        ensures restored { Restores (event.Step actor.Core) self.old self.new result (D.content disk.old) (D.content disk.new) }
+        ensures row { SimulatesWhereTold (event.Step actor.Core) self.old self.new result (D.content disk.old)
+            (D.content disk.new) }
+        ensures restored { Restores (event.Step actor.Core) self.old self.new result (D.content disk.old)
+            (D.content disk.new) }
         ensures image { TellsImage (event.Step actor.Core) self.old result (D.content disk.old) }
         ensures works { result ≢ reply.Idle }
         ensures called { Called D.Disk (IsCalled (event.Step actor.Core) result) (IsNewFault result) disk.old disk.new }

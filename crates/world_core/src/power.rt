@@ -13,9 +13,11 @@ impl World {
     ghost use Rattle.world_core.specs.StandsFor.{hardware_of, blocks_of, IsOff, keeps_dump};
     ghost use Rattle.world_core.specs.Row.{SimulatesWhereTold};
 
-    /// The power is cut: the disk is left with one of its images, and memory is gone, but for a dump's that is kept. Never refused.
+    /// The power is cut: the disk is left with one of its images, and memory is gone, but for a dump's that is kept.
+    /// Never refused.
     pub(crate) fn cut<D: Disk>(&mut self, disk: &mut D, pick: u64) -> Reply
-        ensures row { SimulatesWhereTold (event.Cut pick) self.old self.new result (D.content disk.old) (D.content disk.new) }
+        ensures row { SimulatesWhereTold (event.Cut pick) self.old self.new result (D.content disk.old)
+            (D.content disk.new) }
         ensures cause { IsNewFault result → ⊥ }
         ensures faults { D.faults disk.old ≤ D.faults disk.new }
         ensures calls { D.calls disk.new ≡ D.calls disk.old }
@@ -35,7 +37,8 @@ impl World {
 
     /// Calls of the disk are to fail. Nothing else changes. Never refused.
     pub(crate) fn arm<D: Disk>(&self, disk: &mut D, first: u32, count: u32, pick: u64) -> Reply
-        ensures row { SimulatesWhereTold (event.Arm first count pick) self.now self.now result (D.content disk.old) (D.content disk.new) }
+        ensures row { SimulatesWhereTold (event.Arm first count pick) self.now self.now result (D.content disk.old)
+            (D.content disk.new) }
         ensures cause { IsNewFault result → ⊥ }
         ensures faults { D.faults disk.old ≤ D.faults disk.new }
         ensures calls { D.calls disk.new ≡ D.calls disk.old }

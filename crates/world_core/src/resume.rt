@@ -17,15 +17,18 @@ impl World {
     ghost use Rattle.world_core.specs.declared.world.Core.TheVariants as core;
     ghost use Rattle.world_core.specs.StandsFor.{hardware_of, blocks_of, IsOff, keeps_dump};
     ghost use Rattle.plain_machine.specs.declared.reply.Reply.TheVariants as reply;
-    ghost use Rattle.world_core.specs.Row.{SimulatesWhereTold, Simulates, IsCalled, IsRefused, ChangesNothing, Restores, TellsImage, blocks_after};
+    ghost use Rattle.world_core.specs.Row.{SimulatesWhereTold, Simulates, IsCalled, IsRefused, ChangesNothing};
+    ghost use Rattle.world_core.specs.Row.{Restores, TellsImage, blocks_after};
 
     /// Begins a resume, on a disk of so many blocks, if the machine is off. A dump's loader is the memory that is kept.
     pub(crate) fn resume(&mut self, blocks: u32, loader: Loader, check: IdentCheck) -> Reply
         ensures row { (c : Content) → Simulates (event.Resume loader check) self.old self.new result c c }
         ensures cause { IsNewFault result → ⊥ }
         ensures hardware { hardware_of self.new ≡ hardware_of self.old }
-        ensures blocks { ((self.new.core ≡ self.old.core) × (blocks_of self.new ≡ blocks_of self.old)) ⊎ (blocks_of self.new ≡ blocks) }
-        ensures kept { blocks_of self.new ≡ blocks_after (event.Resume loader check) result blocks (blocks_of self.old) }
+        ensures blocks { ((self.new.core ≡ self.old.core) × (blocks_of self.new ≡ blocks_of self.old))
+            ⊎ (blocks_of self.new ≡ blocks) }
+        ensures kept { blocks_of self.new ≡ blocks_after (event.Resume loader check) result blocks
+            (blocks_of self.old) }
         ensures refused { IsRefused (event.Resume loader check) self.old result → ChangesNothing self.old self.new }
     {
         if !self.is_off() {
@@ -59,8 +62,10 @@ impl World {
     pub(crate) fn step_resume<D: Disk>(&mut self, disk: &mut D) -> Reply
         requires resumes { self.old.core ≡ core.Loading }
         requires blocks { D.block_count disk.old ≡ blocks_of self.old }
-        ensures row { SimulatesWhereTold (event.Step actor.Core) self.old self.new result (D.content disk.old) (D.content disk.new) }
-        ensures restored { Restores (event.Step actor.Core) self.old self.new result (D.content disk.old) (D.content disk.new) }
+        ensures row { SimulatesWhereTold (event.Step actor.Core) self.old self.new result (D.content disk.old)
+            (D.content disk.new) }
+        ensures restored { Restores (event.Step actor.Core) self.old self.new result (D.content disk.old)
+            (D.content disk.new) }
         ensures image { TellsImage (event.Step actor.Core) self.old result (D.content disk.old) }
         ensures works { result ≢ reply.Idle }
         ensures stopped { ((k : ℕ) → result ≢ reply.Loading k) → ((n : ℕ) → result ≢ reply.Resumed n) → IsOff self.new }
@@ -86,7 +91,8 @@ fn asks_dump(loader: &Loader) -> bool
 /// What the machine is at after this reply to the begin or a step of a resume with this loader.
 fn core_after(reply: &Reply, loader: &Loader) -> Core
     ensures is { result ≡ core_resumed loader.now reply.now }
-    ensures off { ((k : ℕ) → reply.now ≢ Reply.Loading k) → ((n : ℕ) → reply.now ≢ Reply.Resumed n) → is_off result ≡ true }
+    ensures off { ((k : ℕ) → reply.now ≢ Reply.Loading k) → ((n : ℕ) → reply.now ≢ Reply.Resumed n) →
+        is_off result ≡ true }
 {
     match (reply, loader) {
         (Reply::Loading { .. }, _) => Core::Loading,

@@ -15,8 +15,8 @@ use reclaim::shrink;
 /// A page frame of a table has so many entries of 4 bytes.
 const ENTRIES: u32 = 1024;
 
-// Dropping cached page frames, so that an image becomes as small as is wanted (own policy; in Linux hibernate_preallocate_memory,
-// kernel/power/snapshot.c).
+// Dropping cached page frames, so that an image becomes as small as is wanted (own policy; in Linux
+// hibernate_preallocate_memory, kernel/power/snapshot.c).
 impl World {
     ghost use Rattle.definitions.specs.Disk.{Content};
     ghost use Rattle.plain_machine.specs.declared.event.Event.TheVariants as event;

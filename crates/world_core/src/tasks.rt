@@ -8,7 +8,8 @@ use crate::world::Core;
 use plain_machine::{Reply, TaskOp};
 use sector_disk::Disk;
 
-// What tasks do while the machine runs (own; in Linux the page allocator, and swap_writepage and swap_readpage, mm/page_io.c).
+// What tasks do while the machine runs (own; in Linux the page allocator, and swap_writepage and swap_readpage,
+// mm/page_io.c).
 impl World {
     ghost use Rattle.plain_machine.specs.Fitting.{IsTask, IsFittingOp};
     ghost use Rattle.definitions.specs.Disk.{Content};
@@ -17,7 +18,8 @@ impl World {
     ghost use Rattle.machine.specs.Flights.{flights_in};
     ghost use Rattle.world_core.specs.declared.world.Core.TheVariants as core;
     ghost use Rattle.world_core.specs.StandsFor.{hardware_of, blocks_of, IsOff, IsBusyIn};
-    ghost use Rattle.world_core.specs.Row.{SimulatesWhereTold, Simulates, IsCalled, IsRefused, ChangesNothing, StopsOff, Restores, TellsImage};
+    ghost use Rattle.world_core.specs.Row.{SimulatesWhereTold, Simulates, IsCalled, IsRefused, ChangesNothing};
+    ghost use Rattle.world_core.specs.Row.{StopsOff, Restores, TellsImage};
 
     /// What a task asks for: it is refused where the machine doesn't run.
     pub(crate) fn task(&mut self, t: u32, op: TaskOp) -> Reply
@@ -63,10 +65,13 @@ impl World {
     pub(crate) fn step_task<D: Disk>(&mut self, disk: &mut D, t: u32) -> Reply
         requires task { IsTask t }
         requires blocks { IsOff self.old ⊎ (D.block_count disk.old ≡ blocks_of self.old) }
-        ensures row { SimulatesWhereTold (event.Step (actor.Task t)) self.old self.new result (D.content disk.old) (D.content disk.new) }
-        ensures restored { Restores (event.Step (actor.Task t)) self.old self.new result (D.content disk.old) (D.content disk.new) }
+        ensures row { SimulatesWhereTold (event.Step (actor.Task t)) self.old self.new result (D.content disk.old)
+            (D.content disk.new) }
+        ensures restored { Restores (event.Step (actor.Task t)) self.old self.new result (D.content disk.old)
+            (D.content disk.new) }
         ensures image { TellsImage (event.Step (actor.Task t)) self.old result (D.content disk.old) }
-        ensures called { Called D.Disk (IsCalled (event.Step (actor.Task t)) result) (IsNewFault result) disk.old disk.new }
+        ensures called { Called D.Disk (IsCalled (event.Step (actor.Task t)) result) (IsNewFault result) disk.old
+            disk.new }
         ensures hardware { hardware_of self.new ≡ hardware_of self.old }
         ensures blocks { blocks_of self.new ≡ blocks_of self.old }
         ensures off { IsOff self.old → IsOff self.new }
@@ -95,8 +100,10 @@ impl World {
         requires running { self.old.core ≡ core.Running }
         requires flies { IsSome (flights_in self.old.machine.flights t) }
         requires blocks { D.block_count disk.old ≡ blocks_of self.old }
-        ensures row { SimulatesWhereTold (event.Step (actor.Task t)) self.old self.new result (D.content disk.old) (D.content disk.new) }
-        ensures called { Called D.Disk (IsCalled (event.Step (actor.Task t)) result) (IsNewFault result) disk.old disk.new }
+        ensures row { SimulatesWhereTold (event.Step (actor.Task t)) self.old self.new result (D.content disk.old)
+            (D.content disk.new) }
+        ensures called { Called D.Disk (IsCalled (event.Step (actor.Task t)) result) (IsNewFault result) disk.old
+            disk.new }
         ensures hardware { hardware_of self.new ≡ hardware_of self.old }
         ensures blocks { blocks_of self.new ≡ blocks_of self.old }
         ensures core { self.new.core ≡ self.old.core }

@@ -14,8 +14,8 @@ use sector_disk::Disk;
 use sleep_core::Waker;
 use swap_slots::FreeRuns;
 
-// Waking after a suspend to both: the mark of the image is taken back before the machine runs (swsusp_unmark, kernel/power/swap.c, after
-// the sleep in hibernate of kernel/power/hibernate.c).
+// Waking after a suspend to both: the mark of the image is taken back before the machine runs (swsusp_unmark,
+// kernel/power/swap.c, after the sleep in hibernate of kernel/power/hibernate.c).
 impl World {
     ghost use Rattle.definitions.specs.Disk.{Content};
     ghost use Rattle.plain_machine.specs.declared.event.Event.TheVariants as event;
@@ -24,7 +24,8 @@ impl World {
     ghost use Rattle.protocol_laws.specs.Rows.{IsNewFault};
     ghost use Rattle.world_core.specs.declared.world.Core.TheVariants as core;
     ghost use Rattle.world_core.specs.StandsFor.{hardware_of, blocks_of, IsOff};
-    ghost use Rattle.world_core.specs.Row.{SimulatesWhereTold, Simulates, IsCalled, IsRefused, ChangesNothing, Restores, TellsImage, WakesWith};
+    ghost use Rattle.world_core.specs.Row.{SimulatesWhereTold, Simulates, IsCalled, IsRefused, ChangesNothing};
+    ghost use Rattle.world_core.specs.Row.{Restores, TellsImage, WakesWith};
 
     /// Begins to wake, if the machine is asleep.
     pub(crate) fn wake(&mut self) -> Reply
@@ -57,8 +58,10 @@ impl World {
     pub(crate) fn step_wake<D: Disk>(&mut self, disk: &mut D) -> Reply
         requires wakes { self.old.core ≡ core.Waking }
         requires blocks { D.block_count disk.old ≡ blocks_of self.old }
-        ensures row { SimulatesWhereTold (event.Step actor.Core) self.old self.new result (D.content disk.old) (D.content disk.new) }
-        ensures restored { Restores (event.Step actor.Core) self.old self.new result (D.content disk.old) (D.content disk.new) }
+        ensures row { SimulatesWhereTold (event.Step actor.Core) self.old self.new result (D.content disk.old)
+            (D.content disk.new) }
+        ensures restored { Restores (event.Step actor.Core) self.old self.new result (D.content disk.old)
+            (D.content disk.new) }
         ensures image { TellsImage (event.Step actor.Core) self.old result (D.content disk.old) }
         ensures works { result ≢ reply.Idle }
         ensures called { Called D.Disk (IsCalled (event.Step actor.Core) result) (IsNewFault result) disk.old disk.new }
@@ -77,7 +80,8 @@ impl World {
     }
 }
 
-/// What a step of waking leaves of the machine by its reply: once it runs it holds nothing, and the image's slots are given back.
+/// What a step of waking leaves of the machine by its reply: once it runs it holds nothing, and the image's slots are
+/// given back.
 fn leave(machine: &mut Machine, frames: &mut Frames, runs: &mut FreeRuns, reply: &Reply)
     requires table { LiesIn frames.old (slot_table_of machine.old.hw) }
     requires matches { Matches frames.old (slot_table_of machine.old.hw) runs.old }

@@ -1,4 +1,5 @@
-ghost use Rattle.std.specs.Prelude.{◌≡◌, ◌≢◌, ◌↔◌, ◌⊎◌, ◌≤◌, true, length, Option, Some, None, IfOk, IfSome, IsNone, IsSome, IsTrue};
+ghost use Rattle.std.specs.Prelude.{◌≡◌, ◌≢◌, ◌↔◌, ◌⊎◌, ◌≤◌, true, length, Option, Some, None, IfOk, IfSome, IsNone};
+ghost use Rattle.std.specs.Prelude.{IsSome, IsTrue};
 ghost use Rattle.definitions.specs.Zones.{top};
 ghost use Rattle.plain_machine.specs.Machine.{Memory, Fits};
 ghost use Rattle.machine.specs.Running.{AreReserved};
@@ -17,7 +18,8 @@ use std::alloc::Global;
 use std::marker::Model;
 use swap_slots::FreeRuns;
 
-/// A simulated machine: what it is at, its page frames, its hibernation, its waking and its resume. It takes all its memory when it is created.
+/// A simulated machine: what it is at, its page frames, its hibernation, its waking and its resume. It takes all its
+/// memory when it is created.
 #[derive(Drop)]
 pub struct World {
     pub(crate) machine: Machine,
@@ -69,7 +71,8 @@ impl World {
     ghost use Rattle.plain_machine.specs.Shows.{activity_in, runs, seen_frames};
     ghost use Rattle.world_core.specs.declared.world.Core.TheVariants as core;
     ghost use Rattle.world_core.specs.StandsFor.{StandsFor, hardware_of, blocks_of, IsOff, IsNew, KeepsMemory};
-    ghost use Rattle.world_core.specs.Row.{SimulatesWhereTold, IsCalled, IsNoCut, IsRefused, ChangesNothing, StopsOff, LeavesMemory, RestartsAt, orders_after, blocks_after, Restores, TellsImage};
+    ghost use Rattle.world_core.specs.Row.{SimulatesWhereTold, IsCalled, IsNoCut, IsRefused, ChangesNothing, StopsOff};
+    ghost use Rattle.world_core.specs.Row.{LeavesMemory, RestartsAt, orders_after, blocks_after, Restores, TellsImage};
 
     /// A machine that is off, with page frames of zeros.
     pub fn create(alloc: Global, hw: Hardware) -> Result<World, NoMemory>
@@ -97,7 +100,8 @@ impl World {
     ) -> Result<World, NoMemory>
         requires size { length frames ≡ top hw.zones }
         requires tables { keeps_dump ≡ true → AreReserved hw frames }
-        ensures new { IfOk result (λ w. (kept : Option Memory) → KeepsMemory hw frames keeps_dump kept → IsNew hw kept w) }
+        ensures new { IfOk result (λ w. (kept : Option Memory) → KeepsMemory hw frames keeps_dump kept →
+            IsNew hw kept w) }
         ensures frames { IfOk result (λ w. w.frames ≡ frames) }
     {
         let runs = FreeRuns::create(alloc, hw.slots())?;
@@ -161,9 +165,11 @@ impl World {
         ensures orders { D.orders disk.new ≡ orders_after event (D.orders disk.old) }
         ensures cut { RestartsAt event (D.content disk.old) (D.content disk.new) }
         ensures telling { D.tells_moments disk.new ≡ D.tells_moments disk.old }
-        ensures inside { IsNoCut event → IsTrue (D.tells_moments disk.old) → (v : DiskImage) → D.left_since disk.new (D.moment disk.old) v →
+        ensures inside { IsNoCut event → IsTrue (D.tells_moments disk.old) → (v : DiskImage) →
+            D.left_since disk.new (D.moment disk.old) v →
             Changes (λ old new. IsMixture old new v) (D.content disk.old) (D.content disk.new) }
-        ensures time { IsNoCut event → IsTrue (D.tells_moments disk.old) → Changes (Elapses (D.moment disk.old) (D.moment disk.new)
+        ensures time { IsNoCut event → IsTrue (D.tells_moments disk.old) →
+            Changes (Elapses (D.moment disk.old) (D.moment disk.new)
             (D.left_since disk.old) (D.left_since disk.new)) (D.content disk.old) (D.content disk.new) }
         ensures hardware { hardware_of self.new ≡ hardware_of self.old }
         ensures blocks { IsOff self.new ⊎ (D.block_count disk.new ≡ blocks_of self.new) }
@@ -191,8 +197,10 @@ impl World {
     fn step_of<D: Disk>(&mut self, disk: &mut D, actor: Actor) -> Reply
         requires actor { IsFittingActor actor }
         requires blocks { IsOff self.old ⊎ (D.block_count disk.old ≡ blocks_of self.old) }
-        ensures row { SimulatesWhereTold (event.Step actor) self.old self.new result (D.content disk.old) (D.content disk.new) }
-        ensures restored { Restores (event.Step actor) self.old self.new result (D.content disk.old) (D.content disk.new) }
+        ensures row { SimulatesWhereTold (event.Step actor) self.old self.new result (D.content disk.old)
+            (D.content disk.new) }
+        ensures restored { Restores (event.Step actor) self.old self.new result (D.content disk.old)
+            (D.content disk.new) }
         ensures image { TellsImage (event.Step actor) self.old result (D.content disk.old) }
         ensures called { Called D.Disk (IsCalled (event.Step actor) result) (IsNewFault result) disk.old disk.new }
         ensures hardware { hardware_of self.new ≡ hardware_of self.old }
@@ -210,8 +218,10 @@ impl World {
 
     fn step<D: Disk>(&mut self, disk: &mut D) -> Reply
         requires blocks { IsOff self.old ⊎ (D.block_count disk.old ≡ blocks_of self.old) }
-        ensures row { SimulatesWhereTold (event.Step actor.Core) self.old self.new result (D.content disk.old) (D.content disk.new) }
-        ensures restored { Restores (event.Step actor.Core) self.old self.new result (D.content disk.old) (D.content disk.new) }
+        ensures row { SimulatesWhereTold (event.Step actor.Core) self.old self.new result (D.content disk.old)
+            (D.content disk.new) }
+        ensures restored { Restores (event.Step actor.Core) self.old self.new result (D.content disk.old)
+            (D.content disk.new) }
         ensures image { TellsImage (event.Step actor.Core) self.old result (D.content disk.old) }
         ensures called { Called D.Disk (IsCalled (event.Step actor.Core) result) (IsNewFault result) disk.old disk.new }
         ensures hardware { hardware_of self.new ≡ hardware_of self.old }

@@ -14,8 +14,9 @@ is_step _ = false
 abbrev pub steps_of : List Event → ℕ
 steps_of events = length (filter is_step events)
 
--- The disk's count of faults goes from `low` to `high` without falling, and rises at each reply that tells of a call that failed at
--- its event: such replies are at most as many as it rose by, its last value aside.
+-- The disk's count of faults goes from `low` to `high` without falling, and rises at each reply that tells of a call
+-- that failed at its event: such replies are at most as many as it rose by, its last value aside.
 abbrev pub AreCounted : List Reply → ℕ → ℕ → Type 0
 AreCounted [] low high = low ≤ high
-AreCounted (r ∷ replies) low high = (mid : ℕ) × (low ≤ mid) × (IsNewFault r → HasRisen low mid) × AreCounted replies mid high
+AreCounted (r ∷ replies) low high =
+    (mid : ℕ) × (low ≤ mid) × (IsNewFault r → HasRisen low mid) × AreCounted replies mid high

@@ -1,4 +1,5 @@
--- A machine's run over a disk: its events, each with its reply, and what there is between them. It has no counterpart in Linux.
+-- A machine's run over a disk: its events, each with its reply, and what there is between them. It has no counterpart
+-- in Linux.
 use Rattle.std.specs.Prelude.{◌≡◌, ◌⊎◌, ℕ, List, [], ◌∷◌, Contains, ⊤}
 use Rattle.definitions.specs.Disk as disk
 use Rattle.plain_machine.specs.Machine.{Hardware}
@@ -14,15 +15,17 @@ use Rattle.plain_machine.specs.declared.reply.Reply.TheVariants as reply
 use Rattle.protocol_laws.specs.Rows.{IsSameArea, LeavesBlock, LeavesHeader, LeavesImage, blocks_at}
 use Rattle.resume_core.specs.Restored.{restored_by}
 
--- What there is between two events: the state of the plain machine, what is shown of the world, and what the disk holds.
+-- What there is between two events: the state of the plain machine, what is shown of the world, and what the disk
+-- holds.
 pub record Situation : Type 0 where
   pub state : State
   pub shown : WorldView
   pub content : disk.Content
 
--- The plain machine gives this reply to the event, over the disk as it reads then, and what is there after it stands for the state that it
--- goes on to. The area on the disk stays, no other block is written than the event may write, a hibernation that has ended has left its
--- image, and block(0) is left so. Where a resume has ended the page frames are those that it restores.
+-- The plain machine gives this reply to the event, over the disk as it reads then, and what is there after it stands
+-- for the state that it goes on to. The area on the disk stays, no other block is written than the event may write, a
+-- hibernation that has ended has left its image, and block(0) is left so. Where a resume has ended the page frames are
+-- those that it restores.
 pub record Turn (h : Hardware) (e : Event) (r : Reply) (p q : Situation) : Type 0 where
   pub step : Step h (disk.as_it_reads p.content) p.state e r q.state
   pub stands : Stands h q.shown q.content q.state
@@ -44,7 +47,8 @@ abbrev pub end_of : Situation → List Situation → Situation
 end_of p [] = p
 end_of p (q ∷ after) = end_of q after
 
--- A crash inside one of the events may leave this image: it has each sector from what the disk held before the event or after it.
+-- A crash inside one of the events may leave this image: it has each sector from what the disk held before the event or
+-- after it.
 abbrev pub IsLeftInside : Situation → List Situation → disk.DiskImage → Type 0
 IsLeftInside p [] w = ⊥
 IsLeftInside p (q ∷ after) w = disk.IsMixture p.content q.content w ⊎ IsLeftInside q after w

@@ -1,2 +1,3 @@
-//! Runs of a world over a disk: its events, each with its reply, and what there is between them. Definitions and laws, and no code.
+//! Runs of a world over a disk: its events, each with its reply, and what there is between them. Definitions and laws,
+//! and no code.
 #![tactic(auto)]

@@ -19,7 +19,8 @@ Refuses zones NoZone = zones ≡ []
 Refuses zones TooMany = 16 < length zones
 Refuses zones (Empty at) = IsFirst zones at × ((zone_at zones at).1 ≡ 0)
 Refuses zones (TooLarge at) = IsFirst zones at × (0 < (zone_at zones at).1) × (65536 < zone_end (zone_at zones at))
-Refuses zones (Overlap at) = IsFirst zones at × IsZone (zone_at zones at) × (0 < at) × ((zone_at zones at).0 < zone_end (zone_at zones (at - 1)))
+Refuses zones (Overlap at) =
+    IsFirst zones at × IsZone (zone_at zones at) × (0 < at) × ((zone_at zones at).0 < zone_end (zone_at zones (at - 1)))
 
 -- zone `at`, where the zones before it are in order and end at `above`, has this fault
 abbrev pub HasFault : ℕ → ℕ × ℕ → ℕ → ZoneFault → Type 0

@@ -1,4 +1,4 @@
--- Pages are compared before and behind the sector.
+-- Pages are compared before and after the sector.
 use Rattle.std.proofs.Common.{◌+◌, ◌*◌, ◌∙◌, sym}
 use Rattle.std.proofs.lemmas.Bool.{false≢true}
 use Rattle.image_laws.proofs.ImageBlocks.{torn_is_either, stays_either, cut_is_either, agree_by_parts, front_compared, back_compared}

@@ -2,7 +2,7 @@ use Rattle.std.proofs.Common.{◌≡◌, ◌+◌, ◌-◌, ◌++◌, List, ℕ, 
 use Rattle.std.proofs.lemmas.List.{take_all, take-append-le, take-append-drop, drop-drop}
 use Rattle.byte_streams.proofs.memory.MemSourceSource.read.Goals as goal
 
--- what is left is the piece that is copied and what is left behind it
+-- what is left is the piece that is copied and what is left after it
 piece_first : (at k m : ℕ) (items piece rest : List ℕ) → piece ≡ take m (drop at items) → m ≡ k → length piece ≡ k → drop at items ≡ take k (piece ++ rest) ++ drop (at + k) items
 piece_first at k m items piece rest copied same size =
     sym (take-append-drop k (drop at items))

@@ -5,7 +5,7 @@ use Rattle.stream_check.specs.Grammar.{fault_at, kind_of_word, kind_of_number, k
 use Rattle.stream_check.proofs.Told.{refused, passed, none_from, some_from}
 use Rattle.stream_check.proofs.taking.Taking.with_number.Goals as goal
 
--- a word behind the numbers, and a number
+-- a word after the numbers, and a number
 behind : (n j least v at : ℕ) → n ≤ j → fault_at at (kind_of_word n j least v) ≡ fault_at at (kind_of_end n v)
 behind n j least v at h = ap (fault_at at) (cond-false (ltb j n) (kind_of_number least v) (kind_of_end n v) (le-ltb j n h))
 

@@ -4,7 +4,7 @@ use Rattle.definitions.specs.Slots.{runs_of}
 use Rattle.swap_slots.specs.Runs.{from_slot}
 use Rattle.swap_slots.proofs.runs.FreeRuns.run.Given as goal
 
--- `run` is the run with the counter's number, and the others are those of the slots behind it
+-- `run` is the run with the counter's number, and the others are those of the slots after it
 abbrev pub invariant-loop : goal.invariant-loop
 invariant-loop l = record {
   within : l.run.0 + l.run.1 ≤ l.self.room;
