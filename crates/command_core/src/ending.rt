@@ -15,7 +15,7 @@ use world_core::World;
 pub(crate) const MOST_STEPS: u32 = 66_000;
 
 /// How an operation has ended.
-#[derive(Clone, Copy, Debug, PartialEq, Eq)]
+#[derive(Clone, Copy)]
 pub struct Ended {
     /// The last reply.
     pub reply: Reply,

@@ -14,7 +14,7 @@ use machine::Dump;
 use saveable::{View, saveable};
 
 /// In what two dumps differ first.
-#[derive(Clone, Copy, Debug, PartialEq, Eq)]
+#[derive(Clone, Copy)]
 pub enum Difference {
     Hardware,
     /// This page frame is saveable in one of them alone.

@@ -2,7 +2,7 @@ use fact_lines::Name;
 use page_core::Format;
 
 /// What a line says of a machine and its memory.
-#[derive(Clone, Copy, Debug, PartialEq, Eq)]
+#[derive(Clone, Copy)]
 pub enum Fact {
     /// How many slots there are.
     Slots(u32),

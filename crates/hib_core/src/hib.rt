@@ -14,7 +14,7 @@ use std::alloc::Global;
 use swap_slots::FreeRuns;
 
 /// What is begun.
-#[derive(Clone, Copy, Debug, PartialEq, Eq)]
+#[derive(Clone, Copy)]
 pub enum Job {
     /// Memory is saved, and the machine switched off.
     Hibernate(Format),

@@ -31,7 +31,7 @@ const MAP_ENTRIES: u32 = 511;
 const PAGE_NUMBERS: u32 = 512;
 
 /// What a step of a reader answers.
-#[derive(Clone, Copy, Debug, PartialEq, Eq)]
+#[derive(Clone, Copy)]
 pub enum ReadStep {
     /// A map, the info page or a number page was read. So many steps were made.
     More { k: u32 },

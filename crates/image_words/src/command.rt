@@ -22,7 +22,7 @@ pub enum Form {
 }
 
 /// What the program is asked to do with the image of a swap area.
-#[derive(Clone, Copy, Debug, PartialEq, Eq)]
+#[derive(Clone, Copy)]
 pub enum Command<'a> {
     /// Tells what is wrong with it.
     Check {

@@ -5,7 +5,7 @@ use plain_machine::IdentCheck;
 use std::alloc::Global;
 
 /// What the program is asked to do.
-#[derive(Clone, Copy, Debug, PartialEq, Eq)]
+#[derive(Clone, Copy)]
 pub enum Command<'a> {
     /// Plays a script, and writes the memory of the machine that runs at its end as a dump.
     Make,

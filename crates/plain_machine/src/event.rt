@@ -1,7 +1,7 @@
 use page_core::Format;
 
 /// What happens to the machine. One event of the core is one step: it makes at most one call of the disk.
-#[derive(Clone, Copy, Debug, PartialEq, Eq)]
+#[derive(Clone, Copy)]
 pub enum Event {
     /// The machine is switched on.
     Boot(BootFrom),
@@ -28,7 +28,7 @@ pub enum Event {
 }
 
 /// What a task asks for. A page frame is named by its number.
-#[derive(Clone, Copy, Debug, PartialEq, Eq)]
+#[derive(Clone, Copy)]
 pub enum TaskOp {
     /// A free page frame, zeroed.
     Claim(u32),

@@ -2,7 +2,7 @@ use crate::no_swap::NoSwap;
 use definitions::Field;
 
 /// What the machine answers to an event.
-#[derive(Clone, Copy, Debug, PartialEq, Eq)]
+#[derive(Clone, Copy)]
 pub enum Reply {
     /// A claim, release, store, cache or arm was done.
     Done,

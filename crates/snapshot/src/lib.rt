@@ -22,7 +22,7 @@ use std::marker::Model;
 use zones::Zones;
 
 /// How many pages an image has: all `n` that it saves, and the `d` of them with a data page.
-#[derive(Clone, Copy, Debug, PartialEq, Eq)]
+#[derive(Clone, Copy)]
 pub struct Counts {
     pub n: u32,
     pub d: u32,

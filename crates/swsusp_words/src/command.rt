@@ -6,7 +6,7 @@ use plain_machine::IdentCheck;
 use std::alloc::Global;
 
 /// What the program is asked to do.
-#[derive(Clone, Copy, Debug, PartialEq, Eq)]
+#[derive(Clone, Copy)]
 pub enum Command<'a> {
     /// Tells what a block says of the swap area whose header it is.
     Inspect {
