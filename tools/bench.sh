@@ -1,8 +1,9 @@
 #!/bin/sh
 # Takes the time of a hibernation and of a resume of 32,000 page frames, on a machine with 65,536 of them and 131,072 slots, over
 # files, beside a copy of as many bytes that is synced (with python3), and the greatest memory of each, and so for an export and an
-# import of the image as a stream; and of `swsusp_image check` and `stream` beside a reading and a copy of the saved dump. Each of the
-# four is measured beside a C program that does the same work (tools/bench.c, where there is a cc), and so is a script's cycle: what both
+# import of the image as a stream; and of `swsusp_image check` and `stream` beside a reading and a copy of the saved dump; and of `swsusp_image page` over
+# a compressed image beside a C program that expands it by liblzo2 (tools/bench_lzo.c, where that library is there). Each of the
+# first four is measured beside a C program that does the same work (tools/bench.c, where there is a cc), and so is a script's cycle: what both
 # leave must be the same, byte for byte. The system calls of the four are counted, where there is an strace. Then counts the
 # instructions of the built program by valgrind's callgrind: of an empty script, of a line that claims a page frame, of
 # a line that shows a word, of that line's parse alone, and of a hibernation and a resume of 1,500 page frames; and takes the time of a
@@ -133,6 +134,27 @@ calls resumed "$room/loader" "$room/restored" "$program" resume "$room/area"
 calls exported "$room/saved" "$room/stream" "$program" export
 calls imported "$room/stream" /dev/null "$program" import "$room/area"
 rm -f "$room/area" "$room/area_c" "$room/saved" "$room/loader" "$room/restored" "$room/stream" "$room/copy"
+
+# A compressed image of as many page frames, which hold the program's own bytes: `page` reads it whole and expands each unit once, and so
+# does the C program, by the safe decompressor of liblzo2.
+if command -v cc >/dev/null && cc -O2 -Wall -Wextra -Werror -std=c11 -D_DEFAULT_SOURCE -o "$room/bench_lzo" "$top/tools/bench_lzo.c" -llzo2 2>/dev/null; then
+    sh "$top/tools/make_area.sh" "$room/area" 131071
+    python3 "$top/tools/make_dump.py" saved 31808 131072 "$program" | "$program" hibernate "$room/area" >"$room/line" || exit 1
+    "$room/bench_lzo" pack "$room/area" "$room/packed" || exit 1
+    rm -f "$room/area"
+    own=$(measure /dev/null "$room/page" "$image" page "$room/packed" 1024)
+    c=$(measure /dev/null "$room/copy" "$room/bench_lzo" page "$room/packed" 1024)
+    copy=$(measure /dev/null /dev/null cat "$room/packed")
+    beside "a page of a compressed image of $(($(wc -c <"$room/packed"))) bytes" "$own" "$copy"
+    against "$own" "$c" "$room/page" "$room/copy"
+    own=$(measure /dev/null "$room/line" "$image" check "$room/packed")
+    beside "compressed and checked, $(cat "$room/line")" "$own" "$copy"
+    own=$(measure /dev/null "$room/stream" "$image" stream "$room/packed")
+    beside "compressed and streamed, $(($(wc -c <"$room/stream"))) bytes" "$own" "$copy"
+    rm -f "$room/packed" "$room/page" "$room/stream" "$room/copy"
+else
+    echo "not measured beside liblzo2: no cc or no liblzo2 is there"
+fi
 
 if ! command -v valgrind >/dev/null; then
     echo "not counted: valgrind isn't there"

@@ -2,8 +2,8 @@
  *
  * bench_lzo pack PLAIN NEW [KIND]: writes the image of the area PLAIN compressed into the file NEW, as save_image_lzo of the kernel
  * does (kernel/power/swap.c): by lzo1x_1_compress, which the kernel takes, or where KIND is 999 by lzo1x_999_compress.
- * bench_lzo check AREA: reads such an image, expands each unit once by lzo1x_decompress_safe and compares the checksum.
- * bench_lzo expand AREA ROUNDS: reads its units, and prints the seconds that their expansion takes, the least of so many rounds.
+ * bench_lzo page AREA P: reads such an image, expands each unit once by lzo1x_decompress_safe, compares the checksum, and writes the
+ * page of page frame P, as `swsusp_image page` does.
  * The input must be in order: nothing else is looked for.
  */
 #include <fcntl.h>
@@ -12,7 +12,6 @@
 #include <stdio.h>
 #include <stdlib.h>
 #include <string.h>
-#include <time.h>
 #include <unistd.h>
 
 enum { PAGE = 4096, ENTRIES = 511, UNIT = 32 * PAGE, MOST = UNIT + UNIT / 16 + 64 + 3 + 2, BLOCKS = 8 + MOST + PAGE };
@@ -160,53 +159,36 @@ static uint64_t read_unit(const struct chain *c, uint64_t *at, unsigned char *pa
     return length;
 }
 
-static void check(const char *path)
+/* Reads the whole image, and writes the page of a page frame of it: the words of the number pages stand in its first units. */
+static void page(const char *path, uint64_t frame)
 {
     struct chain c = chain_of(path);
-    unsigned char *unit = room(1, UNIT), *packed = room(1, BLOCKS), info[PAGE];
-    uint64_t at = 1, pages, units = 0;
+    unsigned char *unit = room(1, UNIT), *packed = room(1, BLOCKS), info[PAGE], found[PAGE];
+    uint64_t at = 1, pages, saved, numbers, place = 0, wanted_at = UINT64_MAX;
     uint32_t crc = 0, wanted;
+    int is_found = 0;
     read_block(c.file, c.blocks[0], info);
+    memcpy(&saved, info + 416, 8);
+    numbers = saved / 512 + 1;
     for (pages = pages_of(info); pages;) {
         uint64_t now = pages < 32 ? pages : 32, length = read_unit(&c, &at, packed);
         lzo_uint size = UNIT;
         need(lzo1x_decompress_safe(packed + 8, length, unit, &size, NULL) == LZO_E_OK && size == PAGE * now, "unit");
         crc = crc_of(crc, unit, size);
+        for (uint64_t i = 0; i < now; i++, place++) {
+            for (uint64_t k = 0; place < numbers && k < 512 && 512 * place + k < saved; k++)
+                if (memcmp(unit + PAGE * i + 8 * k, &frame, 8) == 0)
+                    wanted_at = numbers + 512 * place + k;
+            if (place == wanted_at) {
+                memcpy(found, unit + PAGE * i, PAGE);
+                is_found = 1;
+            }
+        }
         pages -= now;
-        units++;
     }
     memcpy(&wanted, c.header + 4060, 4);
     need(crc == wanted, "checksum");
-    printf("whole\n");
-}
-
-static double seconds(void)
-{
-    struct timespec now;
-    clock_gettime(CLOCK_MONOTONIC, &now);
-    return (double)now.tv_sec + (double)now.tv_nsec / 1e9;
-}
-
-static void expand(const char *path, int rounds)
-{
-    struct chain c = chain_of(path);
-    unsigned char *unit = room(1, UNIT), *packed = room(1, BLOCKS), info[PAGE];
-    double least = 0;
-    read_block(c.file, c.blocks[0], info);
-    for (int round = 0; round < rounds; round++) {
-        double took = 0;
-        uint64_t at = 1;
-        for (uint64_t pages = pages_of(info); pages;) {
-            uint64_t now = pages < 32 ? pages : 32, length = read_unit(&c, &at, packed);
-            lzo_uint size = UNIT;
-            double begin = seconds();
-            need(lzo1x_decompress_safe(packed + 8, length, unit, &size, NULL) == LZO_E_OK, "unit");
-            took += seconds() - begin;
-            pages -= now;
-        }
-        least = round == 0 || took < least ? took : least;
-    }
-    printf("%.3f\n", least);
+    need(is_found && fwrite(found, 1, PAGE, stdout) == PAGE, "no page");
 }
 
 int main(int count, char **words)
@@ -214,11 +196,9 @@ int main(int count, char **words)
     need(lzo_init() == LZO_E_OK, "liblzo2");
     if (count >= 4 && strcmp(words[1], "pack") == 0)
         pack(words[2], words[3], count > 4 && strcmp(words[4], "999") == 0);
-    else if (count == 3 && strcmp(words[1], "check") == 0)
-        check(words[2]);
-    else if (count == 4 && strcmp(words[1], "expand") == 0)
-        expand(words[2], atoi(words[3]));
+    else if (count == 4 && strcmp(words[1], "page") == 0)
+        page(words[2], strtoull(words[3], NULL, 10));
     else
-        need(0, "pack PLAIN NEW [999], check AREA or expand AREA ROUNDS");
+        need(0, "pack PLAIN NEW [999] or page AREA P");
     return 0;
 }

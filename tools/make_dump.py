@@ -1,10 +1,10 @@
 #!/usr/bin/env python3
-"""make_dump.py KIND [PAGES [SLOTS]]: writes a memory dump to standard output, by the table of docs/FORMATS.md.
+"""make_dump.py KIND [PAGES [SLOTS [FILE]]]: writes a memory dump to standard output, by the table of docs/FORMATS.md.
 
 KIND saved is a machine that can hibernate: page frame 10 is task 3's, and begins with 77. With PAGES as many page frames more, from
-1024 on, are task 3's, each filled with a byte that isn't zero. KIND loader is one that an image of it can be resumed into: its page
+1024 on, are task 3's, each filled with a byte that isn't zero, or with the next page of the bytes of FILE, over and over. KIND loader is one that an image of it can be resumed into: its page
 frames 0 to 999 are in use, and page frame 50 is filled with nines. Both have the same hardware: without PAGES 2,048 page frames and
-1,600 slots, with PAGES 65,536 page frames and 131,072 slots, or SLOTS.
+1,600 slots, with PAGES 65,536 page frames and 131,072 slots, or SLOTS where that isn't 0.
 """
 import struct
 import sys
@@ -17,7 +17,9 @@ def put(entries):
     return struct.pack("<%dI" % len(entries), *entries)
 
 
-def main(kind, pages=0, slots=None):
+def main(kind, pages=0, slots=0, file=None):
+    content = open(file, "rb").read() if file else b""
+    whole = len(content) // 4096
     frames = 65536 if pages else 2048
     slots = slots or (131072 if pages else 1600)
     slot_table = frames // 1024
@@ -29,7 +31,8 @@ def main(kind, pages=0, slots=None):
         entries[10] = 0 if 10 < tables else TASK_3
         for p in range(1024, 1024 + pages):
             entries[p] = TASK_3
-            memory[p] = bytes([1 + p % 255]) * 4096
+            at = 4096 * (p % whole) if whole else 0
+            memory[p] = content[at : at + 4096] if whole else bytes([1 + p % 255]) * 4096
         if 10 >= tables:
             memory[10] = struct.pack("<Q", 77).ljust(4096, b"\0")
     elif tables <= 50:
@@ -50,4 +53,4 @@ def main(kind, pages=0, slots=None):
 
 if len(sys.argv) < 2 or sys.argv[1] not in ("saved", "loader"):
     sys.exit(__doc__)
-main(sys.argv[1], *[int(word) for word in sys.argv[2:4]])
+main(sys.argv[1], *[int(word) for word in sys.argv[2:4]], *sys.argv[4:5])
