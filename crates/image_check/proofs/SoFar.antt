@@ -1,5 +1,5 @@
 -- A loop that has come to the end of a history.
-use Rattle.std.proofs.Common.{◌≡◌, ℕ, ◌≤◌, ◌||◌, List, [], ◌∷◌, Bool, true, false, Option, None, Some, subst, ◌∙◌, refl, inl, inr, arith}
+use Rattle.std.proofs.Common.{◌≡◌, ℕ, ◌≤◌, ◌||◌, List, [], ◌∷◌, Bool, true, false, Option, subst, ◌∙◌, refl, inl, inr, arith}
 use Rattle.std.proofs.lemmas.Bool.{cases_lt}
 use Rattle.page_core.specs.declared.format.Format.{Format}
 use Rattle.definitions.specs.Disk.{Content, HasRisen}
@@ -26,13 +26,13 @@ pub record SoFar (l : Limits) (first : ℕ) (content : Option Content) (before n
   pub unread : has_unread history ≡ true → HasRisen before now
   pub tells : Tells (history_findings format history) start told
 
-pub so_far_start : (first : ℕ) (content : Option Content) (before : ℕ) (format : Format) (start : Told) (w : Walker) (p : Progress) → Follows first w [] → p.counts ≡ None → p.previous ≡ None → p.counted ≡ Some 0 → SoFar w.limits first content before before format start start w p
-so_far_start first content before format start w p f cs pr co = record {
+pub so_far_start : (first : ℕ) (content : Option Content) (before : ℕ) (format : Format) (start : Told) (w : Walker) (p : Progress) → Follows first w [] → Knows p [] → SoFar w.limits first content before before format start start w p
+so_far_start first content before format start w p f knows = record {
   history = [];
   limits = refl;
   rises = omega arith;
   follows = f;
-  knows = record { counts = cs; previous = pr; counted = co };
+  knows = knows;
   pages = tt;
   unread = λ e. absurd (false_true e);
   tells = tells_none start;

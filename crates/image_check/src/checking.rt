@@ -123,9 +123,9 @@ fn check_names<D: Disk, R: Report>(
     report: &mut R,
 )
     requires blocks { D.block_count disk.old ≡ walker.old.limits.blocks }
-    requires start { Follows walker.old.next walker.old [] }
+    requires start { Follows walker.old.walk.next walker.old [] }
     ensures told { (found : List Finding) ×
-        (FindsNames walker.old.limits walker.old.next (D.content disk.old) (D.faults disk.old) (D.faults disk.new)
+        (FindsNames walker.old.limits walker.old.walk.next (D.content disk.old) (D.faults disk.old) (D.faults disk.new)
         format found
         × Tells found (R.told report.old) (R.told report.new)) }
     ensures content { D.content disk.new ≡ D.content disk.old }
@@ -134,11 +134,7 @@ fn check_names<D: Disk, R: Report>(
     ensures blocks { D.block_count disk.new ≡ D.block_count disk.old }
 {
     let mut page = Page::zero();
-    let mut progress = Progress {
-        counts: None,
-        previous: None,
-        counted: Some(0),
-    };
+    let mut progress = Progress::start();
     while let Some(visit) = walker.step(disk, &mut page) {
         check_name(report, format, &mut progress, &visit, &page);
     }

@@ -77,7 +77,7 @@ fn limits_by(blocks: u32, header: u32, kind: AreaKind) -> Limits
 }
 
 /// Each block of the file.
-fn any_block(blocks: u32, header: u32) -> Limits
+pub fn any_block(blocks: u32, header: u32) -> Limits
     ensures { result ≡ any_block blocks header }
 {
     Limits {

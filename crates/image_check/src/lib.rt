@@ -14,7 +14,7 @@ mod text;
 pub use checking::{Outcome, check, format_of, mark_in};
 pub use entries::check_name;
 pub use finding::{Counts, Finding, Place};
-pub use header::{check_header, is_compressed, limits_of};
+pub use header::{any_block, check_header, is_compressed, limits_of};
 pub use info::{check_info, counts_in};
 pub use progress::Progress;
 pub use report::{Printer, Report};

@@ -10,3 +10,19 @@ pub struct Progress {
     /// How many numbers of the number pages have a data page, so far; not known once one of these pages wasn't read.
     pub counted: Option<u64>,
 }
+
+impl Progress {
+    ghost use Rattle.image_check.specs.Knows.{Knows};
+    ghost use Rattle.std.specs.Prelude.{[]};
+
+    /// Before the first name.
+    pub fn start() -> Progress
+        ensures { Knows result [] }
+    {
+        Progress {
+            counts: None,
+            previous: None,
+            counted: Some(0),
+        }
+    }
+}

@@ -1,6 +1,6 @@
 -- A chain has no more maps than the disk has blocks, since each has a block of its own.
 use Rattle.std.proofs.Common.{◌≡◌, ℕ, ◌<◌, ◌||◌, ◌⊎◌, inl, inr, zero, suc, Bool, true, false, List, [], ◌∷◌, length, eqb, Option, Some, None, Ok, Err, ltb, leb, refl, arith, cond}
-use Rattle.std.proofs.lemmas.Bool.{cases_lt, leb-false, eqb-true}
+use Rattle.std.proofs.lemmas.Bool.{cases_lt, leb-false, eqb-true, or_parts}
 use Rattle.std.proofs.lemmas.Map.Steps.{length-le_from_distinct_below}
 use Rattle.std.specs.List.{list_any, IsDistinct, AllByRecursion}
 use Rattle.image_walk.specs.Names.{Name, map_at, page_at, maps_in, is_over, is_named, is_bad, fault_of, IsAnswer, IsReading}
@@ -37,11 +37,11 @@ not_zero : (b : ℕ) → eqb b 0 ≡ false → 0 < b
 not_zero zero e = cc
 not_zero (suc b) e = omega arith
 
--- a block without a fault is one of the disk, and wasn't named before
-fault_none : (l : Limits) (h : List Name) (b : ℕ) → fault_of l h b ≡ None → (b < l.blocks) × (is_named b h ≡ false) × (0 < b)
+-- a block without a fault is one of the disk, not the header's, and wasn't named before
+pub fault_none : (l : Limits) (h : List Name) (b : ℕ) → fault_of l h b ≡ None → (b < l.blocks) × (is_named b h ≡ false) × (0 < b) × (eqb b l.header ≡ false)
 fault_none l h b e =
     let (some, inside, fresh) = none_of (eqb b 0) (leb l.blocks b) (ltb l.last b) (is_bad l b) (eqb b l.header || is_named b h) fault.Zero (fault.BeyondFile b) (fault.BeyondLast b) (fault.Bad b) (fault.Again b) e in
-    (leb-false l.blocks b inside, or_right (eqb b l.header) (is_named b h) fresh, not_zero b some)
+    (leb-false l.blocks b inside, (or_parts (eqb b l.header) (is_named b h) fresh).1, not_zero b some, (or_parts (eqb b l.header) (is_named b h) fresh).0)
 
 no_fault : (fault : Option BlockFault) (b : ℕ) (page : List ℕ) → IsAnswer fault b (Ok page) → fault ≡ None
 no_fault None b page answer = refl

@@ -1,4 +1,5 @@
 pub mod Bits
 pub mod FewMaps
-pub mod MapStep
+pub mod Taking
+pub mod Stepping
 pub mod Reserve

@@ -1,31 +1,61 @@
--- What a walker keeps of a history, and what a step of it shows.
-use Rattle.std.specs.Prelude.{◌≡◌, ℕ, ◌+◌, ◌*◌, ◌-◌, ◌<◌, true, List, ◌∷◌, Option}
+-- What a walk keeps of a history, and what a step of it shows.
+use Rattle.std.specs.Prelude.{◌≡◌, ℕ, ◌+◌, ◌*◌, ◌-◌, ◌<◌, nat_lt, min, true, List, ◌∷◌, Option, Some, None, Result, Ok}
+use Rattle.std.specs.Prelude.{Err}
+use Rattle.std.specs.Prelude.{if◌then◌else◌}
 use Rattle.definitions.specs.Disk.{Content, HasRisen}
+use Rattle.definitions.specs.SwapMap.{map_entry, map_link}
 use Rattle.image_walk.specs.Taken.{IsTaken}
 use Rattle.image_walk.specs.Names.{Name, map_at, page_at, seen, block_of, answer_of, maps_in, newest_map, newest_page}
 use Rattle.image_walk.specs.Names.{left_in, next_map, is_over, is_unread, IsNext, IsReading, IsReadFrom}
 use Rattle.image_walk.specs.declared.limits.Limits.{Limits}
+use Rattle.image_walk.specs.declared.visit.BlockFault.{BlockFault}
+use Rattle.image_walk.specs.declared.visit.BlockFault.TheVariants as fault
 use Rattle.image_walk.specs.declared.visit.Visit.{Visit}
 use Rattle.image_walk.specs.declared.visit.Visit.TheVariants as visit
+use Rattle.image_walk.specs.declared.walk.Named.{Named}
+use Rattle.image_walk.specs.declared.walk.Walk.{Walk}
 use Rattle.image_walk.specs.declared.walker.Walker.{Walker}
 
--- the walker has come to the end of the history
-pub record Follows (first : ℕ) (w : Walker) (h : List Name) : Type 0 where
-  pub reading : IsReading w.limits first h
-  pub taken : IsTaken w.limits w.named.words.items h
-  pub maps : w.maps ≡ maps_in h
-  pub at : w.at ≡ newest_map h
-  pub page : 0 < w.left → w.map ≡ newest_page h
-  pub left : w.left ≡ left_in h
-  pub next : w.next ≡ next_map first h
-  pub over : w.over ≡ is_over h
+-- the walk has come to the end of the history, and the set has the blocks that may not be named again
+pub record Stands (l : Limits) (first : ℕ) (k : Walk) (words : List ℕ) (h : List Name) : Type 0 where
+  pub reading : IsReading l first h
+  pub taken : IsTaken l words h
+  pub maps : k.maps ≡ maps_in h
+  pub at : k.at ≡ newest_map h
+  pub page : k.entry < 511 → k.map ≡ newest_page h
+  pub left : 511 - k.entry ≡ left_in h
+  pub next : k.next ≡ next_map first h
+  pub over : k.over ≡ is_over h
 
--- the limits, what was named, and the newest map's number and block are as before
-pub record IsSamePlace (old new : Walker) : Type 0 where
-  pub limits : new.limits ≡ old.limits
-  pub named : new.named.words.items ≡ old.named.words.items
-  pub maps : new.maps ≡ old.maps
-  pub at : new.at ≡ old.at
+-- the walker has come to the end of the history
+abbrev pub Follows : ℕ → Walker → List Name → Type 0
+Follows first w h = Stands w.limits first w.walk w.named.items h
+
+-- the block that is named next: by an entry of the newest map, or else by its link, unless the chain has ended
+abbrev pub block_asked : Walk → Option ℕ
+block_asked k =
+    if nat_lt k.entry 511 then Some (map_entry k.map k.entry)
+    else if k.over then None
+    else Some k.next
+
+-- a block without a fault is one of the disk's, and no fault is that of a read
+pub record IsAsked (blocks : ℕ) (n : Named) : Type 0 where
+  pub inside : n.fault ≡ None → n.block < blocks
+  pub other : (b : ℕ) → n.fault ≡ Some (fault.Unread b) → ⊥
+
+-- after a map that was read come its entries; after one that wasn't, nothing
+abbrev pub opened : List ℕ → Walk → Walk
+opened page k = record k { map = page; entry = 0; next = map_link page }
+
+abbrev pub closed : Walk → Walk
+closed k = record k { next = 0; over = true }
+
+abbrev pub named_map : ℕ → Walk → Walk
+named_map b k = record k { maps = min (k.maps + 1) 4294967295; at = b }
+
+abbrev pub after_map : ℕ → Result (Unit {0}) BlockFault → List ℕ → Walk → Walk
+after_map b (Ok done) page k = opened page (named_map b k)
+after_map b (Err why) page k = closed (named_map b k)
 
 -- the name that a step shows, with the page that it read
 abbrev pub name_of : Visit → List ℕ → Name
@@ -46,8 +76,25 @@ pub record IsSeen (l : Limits) (first : ℕ) (content : Option Content) (before 
   pub unread : is_unread (answer_of x) ≡ true → HasRisen before now
 
 -- how many names there may be yet
+abbrev pub walk_left : Limits → Walk → ℕ
+walk_left l k = 512 * (l.blocks + 1 - k.maps) + (511 - k.entry)
+
 abbrev pub names_left : Walker → ℕ
-names_left w = 512 * (w.limits.blocks + 1 - w.maps) + w.left
+names_left w = walk_left w.limits w.walk
+
+-- how many names there may be yet without one that is read
+abbrev pub unread_left : Walk → ℕ
+unread_left k = (511 - k.entry) + (if k.over then 0 else 1)
+
+-- a walk takes the next name, which is that of a block, and what came of it
+pub record Takes (l : Limits) (first : ℕ) (h : List Name) (b : ℕ) (told : Result (Unit {0}) BlockFault) (old new : Walk)
+    (words : List ℕ) (v : Visit) (page : List ℕ) : Type 0 where
+  pub next : IsNext l first h (name_of v page)
+  pub block : block_of (name_of v page) ≡ b
+  pub answer : answer_of (name_of v page) ≡ seen told page
+  pub place : IsPlaced h v
+  pub stands : Stands l first new words (name_of v page ∷ h)
+  pub fewer : walk_left l new < walk_left l old
 
 -- a step shows the next name in its place, and the walker follows it
 pub record StepsTo (first : ℕ) (content : Option Content) (before now : ℕ) (h : List Name) (old new : Walker)

@@ -5,9 +5,12 @@
 mod block_set;
 mod limits;
 mod looking;
+mod naming;
 mod visit;
+mod walk;
 mod walker;
 
 pub use limits::Limits;
 pub use visit::{BlockFault, Visit};
-pub use walker::Walker;
+pub use walk::{Named, Walk};
+pub use walker::{Walker, words_for};

@@ -28,7 +28,7 @@ returns-clause-told g c =
     c.in_ok-walker.ensures.limits ∙ c.limits_of-limits.ensures ∙ ap (λ (n : ℕ). limits_of n header (area_kind (taken_back page))) c.blocks-blocks.ensures in
     let begun : Tells first old then =
     subst (λ (n : ℕ). Tells (header_findings n header mark.flags page) old then) c.blocks-blocks.ensures c.check_header.ensures in
-    let next : walker.next ≡ mark.first = c.in_ok-walker.ensures.start.next in
+    let next : walker.walk.next ≡ mark.first = c.in_ok-walker.ensures.start.next in
     elim c.if-not-is_compressed.branch [
       | then-not-is_compressed w ↦
           let told = w.check_names.ensures.told in
@@ -37,7 +37,7 @@ returns-clause-told g c =
           let names : FindsNames limits mark.first content before now (format_of mark.flags) told.0 =
           subst (λ (f : Format). FindsNames limits mark.first content before now f told.0) w.format_of.ensures
           (subst (λ (n : ℕ). FindsNames limits n content before now w.format_of.result told.0) next
-          (subst (λ (l : Limits). FindsNames l walker.next content before now w.format_of.result told.0) same told.1.0)) in (
+          (subst (λ (l : Limits). FindsNames l walker.walk.next content before now w.format_of.result told.0) same told.1.0)) in (
             first ++ told.0,
             (
               subst (λ (d : _). FindsImage content blocks header before (g.D.Disk.faults d) mark page (first ++ told.0)) (sym w.disk-is)

@@ -9,7 +9,7 @@ pub loop-visit-preserved : goal.loop-visit-preserved
 loop-visit-preserved g c =
     let i = c.loop-visit.invariant in
     let s = i.so_far in
-    let first = c.args.walker.now.next in
+    let first = c.args.walker.now.walk.next in
     let before = g.D.Disk.faults c.args.disk.now in
     let then = g.D.Disk.faults c.loop-visit.disk in
     let now = g.D.Disk.faults c.step.new.disk in

@@ -1,4 +1,4 @@
-use Rattle.std.proofs.Common.{sym, subst, ap, ◌∙◌, Option, ℕ, Ok, List}
+use Rattle.std.proofs.Common.{subst, ap, ◌∙◌, Option, ℕ, Ok}
 use Rattle.image_check.specs.Entries.{data_after, data_fault, data_findings, read_findings}
 use Rattle.image_check.specs.Told.{Tells, list_of}
 use Rattle.image_check.specs.declared.finding.Finding.{Finding}
