@@ -3,14 +3,15 @@ ghost use Rattle.definitions.specs.Disk.{HasRisen};
 ghost use Rattle.command_kit.specs.View.{sink_view};
 ghost use Rattle.overlay_disk.specs.DiskState.{IsSame};
 ghost use Rattle.expanded_disk.specs.Keeps.{HasIndex};
-ghost use Rattle.expanded_cli.specs.Checks.{ChecksAny, ChecksExpanded};
+ghost use Rattle.expanded_cli.specs.Checks.{ChecksAny, ChecksExpanded, PrintsCheckAny, PrintsCheckExpanded};
 
 use crate::expanding::Compressed;
 use byte_streams::Sink;
 use command_kit::{Status, no_memory};
 use expanded_disk::ExpandedDisk;
 use image_check::Printer;
-use image_cli::sum_up;
+use image_cli::{sum_up, sum_up_json};
+use image_json::Findings;
 use image_units::{Opened, Source, Walks, open};
 use overlay_disk::{Lent, Original};
 use page_core::NoMemory;
@@ -91,6 +92,81 @@ fn check_expanded<B: Walks + Drop, K: Original, O: Sink, N: Sink>(
         }
         Err((source, NoMemory)) => {
             let status = no_memory().tell(&mut out.sink, note);
+            (source.into_below(), status)
+        }
+    }
+}
+
+/// Prints the same as one JSON object, in a line, as `image_cli::check_json` does. The disk is only read.
+pub fn check_json<D: Disk, O: Sink, N: Sink>(
+    alloc: Global,
+    disk: &mut D,
+    header: u32,
+    out: &mut O,
+    note: &mut N,
+) -> Status
+    ensures outcome { PrintsCheckAny (D.content disk.old) (D.block_count disk.old) header
+        (D.faults disk.old) (D.faults disk.new) result
+        (sink_view O.Sink out.old)
+        (sink_view O.Sink out.new)
+        (sink_view N.Sink note.old)
+        (sink_view N.Sink note.new) }
+    ensures stream { result ≡ Status.Stream →
+        HasRisen (O.faults out.old) (O.faults out.new) ⊎ HasRisen (N.faults note.old) (N.faults note.new) }
+    ensures device { result ≢ Status.Device }
+    ensures words { result ≢ Status.Words }
+    ensures content { D.content disk.new ≡ D.content disk.old }
+    ensures faults { D.faults disk.old ≤ D.faults disk.new }
+    ensures orders { D.orders disk.new ≡ D.orders disk.old }
+    ensures blocks { D.block_count disk.new ≡ D.block_count disk.old }
+{
+    let mut findings = Findings::new(alloc);
+    match open(alloc, disk, header, &mut findings) {
+        Ok(Opened::Plain) => image_cli::check_json(alloc, disk, header, out, note),
+        Ok(Opened::Refused) => sum_up_json(alloc, &findings, out, note),
+        Ok(Opened::Whole(index)) => {
+            let below = Lent { disk };
+            let image = Compressed { header, index };
+            let over = check_expanded_json::<Lent<'_, D>, Brand, O, N>(
+                alloc, below, image, out, note,
+            );
+            over.1
+        }
+        Err(NoMemory) => no_memory().tell(out, note),
+    }
+}
+
+/// Checks the plain image that a compressed one expands to, over a disk that is given back, and prints an object.
+fn check_expanded_json<B: Walks + Drop, K: Original, O: Sink, N: Sink>(
+    alloc: Global,
+    below: B,
+    image: Compressed,
+    out: &mut O,
+    note: &mut N,
+) -> (B, Status)
+    requires original { B.state below ≡ K.state }
+    requires indexed { HasIndex K.state.content K.state.blocks image.header image.index }
+    ensures outcome { PrintsCheckExpanded K.state.content image.header image.index
+        K.state.faults (B.state result.0).faults result.1
+        (sink_view O.Sink out.old)
+        (sink_view O.Sink out.new)
+        (sink_view N.Sink note.old)
+        (sink_view N.Sink note.new) }
+    ensures stream { result.1 ≡ Status.Stream →
+        HasRisen (O.faults out.old) (O.faults out.new) ⊎ HasRisen (N.faults note.old) (N.faults note.new) }
+    ensures device { result.1 ≢ Status.Device }
+    ensures words { result.1 ≢ Status.Words }
+    ensures same { IsSame K.state (B.state result.0) }
+    ensures faults { K.state.faults ≤ (B.state result.0).faults }
+{
+    let source = Source::<B, K>::over(below);
+    match ExpandedDisk::over(alloc, source, image.index, image.header) {
+        Ok(mut disk) => {
+            let status = image_cli::check_json(alloc, &mut disk, 0, out, note);
+            (disk.into_source().into_below(), status)
+        }
+        Err((source, NoMemory)) => {
+            let status = no_memory().tell(out, note);
             (source.into_below(), status)
         }
     }

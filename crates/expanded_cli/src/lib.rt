@@ -7,6 +7,6 @@ mod coring;
 mod expanding;
 mod streaming;
 
-pub use checking::check;
+pub use checking::{check, check_json};
 pub use coring::core;
 pub use streaming::{page, stream};

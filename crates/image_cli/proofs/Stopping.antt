@@ -1,5 +1,5 @@
 -- Why a core file isn't whole.
-use Rattle.std.proofs.Common.{◌≡◌, ℕ, ◌≤◌, Option, ap, subst, inl, inr, arith}
+use Rattle.std.proofs.Common.{◌≡◌, ℕ, ◌≤◌, Option, ap, subst, inl, inr}
 use Rattle.definitions.specs.Disk.{Content, HasRisen}
 use Rattle.command_kit.specs.View.{SinkView}
 use Rattle.command_kit.specs.declared.status.Status.{Status}

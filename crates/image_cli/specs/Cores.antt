@@ -1,5 +1,5 @@
 -- What `core` writes and notes.
-use Rattle.std.specs.Prelude.{◌≡◌, ℕ, ◌≤◌, List, [], Option, codes}
+use Rattle.std.specs.Prelude.{◌≡◌, ℕ, ◌≤◌, [], Option, codes}
 use Rattle.definitions.specs.Disk.{Content}
 use Rattle.command_kit.specs.Answer.{RunResult, line, memory_told}
 use Rattle.command_kit.specs.Told.{IsTold, IsTried, sink_note}

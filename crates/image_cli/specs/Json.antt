@@ -1,5 +1,6 @@
 -- What `show --json` and `check --json` print.
-use Rattle.std.specs.Prelude.{ℕ, ◌⊎◌, Bool, true, false, List, [], Option}
+use Rattle.std.specs.Prelude.{ℕ, ◌⊎◌, Bool, true, false, List, [], Option, Result, Ok, Err, string_bytes}
+use Rattle.page_core.specs.declared.NoMemory.{NoMemory}
 use Rattle.definitions.specs.Disk.{Content}
 use Rattle.command_kit.specs.Answer.{RunResult, memory_told}
 use Rattle.command_kit.specs.Told.{IsTold}
@@ -11,6 +12,7 @@ use Rattle.image_check.specs.declared.finding.Finding.{Finding}
 use Rattle.image_facts.specs.declared.fact.Fact.{Fact}
 use Rattle.image_json.specs.Findings.{found_line, found_whole}
 use Rattle.image_json.specs.Objects.{object_line}
+use Rattle.image_json.specs.declared.checking.Checked.{Checked}
 use Rattle.image_show.specs.Shown.{Shows}
 use Rattle.image_show.specs.declared.shown.Shown.{Shown}
 use Rattle.image_cli.specs.Shows.{status_shown}
@@ -34,6 +36,17 @@ status_whole false = Refused
 -- the object of these findings, in a line
 abbrev pub check_told : Option (List Finding) → RunResult
 check_told found = record { status = status_whole (found_whole found); out = found_line found; note = [] }
+
+-- the same of what a check gives, or that memory was refused
+abbrev pub told_of_checked : Result Checked NoMemory → RunResult
+told_of_checked (Ok checked) =
+    record { status = status_whole checked.whole; out = string_bytes checked.line; note = [] }
+told_of_checked (Err why) = memory_told
+
+-- just the object of these findings is told, or that memory was refused
+abbrev pub TellsCheck : Option (List Finding) → Status → (out out' note note' : SinkView) → Type 0
+TellsCheck found status out out' note note' =
+    IsTold memory_told status out out' note note' ⊎ IsTold (check_told found) status out out' note note'
 
 -- just what is wrong with the image of the area is told, or that memory was refused
 abbrev pub PrintsCheck : Option Content → (blocks header before now : ℕ) → Status

@@ -1,17 +1,20 @@
-ghost use Rattle.std.specs.Prelude.{◌≡◌, ◌≢◌, ◌⊎◌, ◌≤◌, List, [], false, length, min};
+ghost use Rattle.std.specs.Prelude.{◌≡◌, ◌≢◌, ◌⊎◌, ◌≤◌, List, [], Some, false, length, min};
 ghost use Rattle.definitions.specs.Disk.{HasRisen, last_count};
 ghost use Rattle.command_kit.specs.AnswerOf.{told_by};
 ghost use Rattle.command_kit.specs.Told.{IsTold};
 ghost use Rattle.command_kit.specs.View.{SinkView, sink_view};
+ghost use Rattle.image_check.specs.Told.{Tells};
 ghost use Rattle.image_check.specs.declared.finding.Finding.{Finding};
+ghost use Rattle.image_json.specs.Findings.{untold};
 ghost use Rattle.image_cli.specs.Checks.{Checks, findings_told, last_line, status_of};
-ghost use Rattle.image_cli.specs.Json.{PrintsCheck, status_whole};
+ghost use Rattle.image_cli.specs.Json.{PrintsCheck, TellsCheck, status_whole, told_of_checked};
 ghost use Rattle.image_cli.specs.Printed.{IsSoFar, printer_view};
 
 use crate::showing::cut_short;
 use byte_streams::{Line, Sink};
 use command_kit::{Answer, Status, no_memory, tell};
-use image_check::{Outcome, Printer};
+use image_check::{Outcome, Printer, Report};
+use image_json::{Checked, Findings};
 use page_core::NoMemory;
 use sector_disk::Disk;
 use std::alloc::Global;
@@ -74,7 +77,47 @@ pub fn check_json<D: Disk, O: Sink, N: Sink>(
     ensures orders { D.orders disk.new ≡ D.orders disk.old }
     ensures blocks { D.block_count disk.new ≡ D.block_count disk.old }
 {
-    match image_json::check(alloc, disk, header) {
+    tell_checked(&image_json::check(alloc, disk, header), out, note)
+}
+
+/// Ends such a check whose findings were kept.
+pub fn sum_up_json<O: Sink, N: Sink>(
+    alloc: Global,
+    findings: &Findings,
+    out: &mut O,
+    note: &mut N,
+) -> Status
+    ensures told { (found : List Finding) → Tells found untold (⟦<Findings as Report>⟧.told findings.now) →
+        TellsCheck (Some found) result
+        (sink_view O.Sink out.old)
+        (sink_view O.Sink out.new)
+        (sink_view N.Sink note.old)
+        (sink_view N.Sink note.new) }
+    ensures stream { result ≡ Status.Stream →
+        HasRisen (O.faults out.old) (O.faults out.new) ⊎ HasRisen (N.faults note.old) (N.faults note.new) }
+    ensures device { result ≢ Status.Device }
+    ensures words { result ≢ Status.Words }
+{
+    tell_checked(&image_json::sum_up(alloc, findings), out, note)
+}
+
+/// Prints the object of what a check has found, or that memory was refused.
+fn tell_checked<O: Sink, N: Sink>(
+    checked: &Result<Checked, NoMemory>,
+    out: &mut O,
+    note: &mut N,
+) -> Status
+    ensures told { IsTold (told_of_checked checked.now) result
+        (sink_view O.Sink out.old)
+        (sink_view O.Sink out.new)
+        (sink_view N.Sink note.old)
+        (sink_view N.Sink note.new) }
+    ensures stream { result ≡ Status.Stream →
+        HasRisen (O.faults out.old) (O.faults out.new) ⊎ HasRisen (N.faults note.old) (N.faults note.new) }
+    ensures device { result ≢ Status.Device }
+    ensures words { result ≢ Status.Words }
+{
+    match checked {
         Ok(checked) => {
             let status = status_whole(checked.whole);
             tell(status, checked.line.as_bytes(), b"", out, note)

@@ -8,7 +8,7 @@ mod discarding;
 mod showing;
 mod streaming;
 
-pub use checking::{check, check_json, sum_up};
+pub use checking::{check, check_json, sum_up, sum_up_json};
 pub use coring::core;
 pub use differing::{Wanted, differ};
 pub use discarding::discard;

@@ -1,13 +1,12 @@
 -- What is printed of facts one after another is the text of their object.
-use Rattle.std.proofs.Common.{◌≡◌, ℕ, Bool, true, false, cond, List, [], ◌∷◌, ◌++◌, Option, Some, None, is_some, refl, sym, ap, ◌∙◌, append_assoc, append-nil, codes}
-use Rattle.std.specs.Prelude.{if◌then◌else◌}
+use Rattle.std.proofs.Common.{◌≡◌, ℕ, Bool, true, false, cond, List, [], ◌∷◌, ◌++◌, Option, Some, None, is_some, refl, sym, ap, ◌∙◌, append_assoc, codes}
 use Rattle.json.specs.Print.{quoted}
-use Rattle.serde_json.specs.Data.{Data, Items}
+use Rattle.serde_json.specs.Data.{Data}
 use Rattle.serde_json.specs.View.{items_of}
 use Rattle.serde_json.specs.Written.{comma_if, compact_text, items_text, members_text}
 use Rattle.image_facts.specs.declared.fact.Fact.{Fact}
 use Rattle.image_show.specs.Forms.{kept_after, pieces}
-use Rattle.image_json.specs.Objects.{alone, grouped, members_of, object_line, with_fact, Group}
+use Rattle.image_json.specs.Objects.{grouped, members_of, object_line, with_fact, Group}
 use Rattle.image_json.specs.Pieces.{closing, members, piece}
 use Rattle.image_json.specs.Values.{array_of, is_same, key_of, value_of}
 use Rattle.image_json.specs.declared.array.Array.{Array}

@@ -1,5 +1,5 @@
 -- Findings that are kept, and the object of those that were told.
-use Rattle.std.proofs.Common.{Result, Ok, Err, IfOk, suc, ◌≡◌, ℕ, ◌+◌, ◌≤◌, ◌==◌, ◌||◌, Bool, true, false, cond, List, [], ◌∷◌, ◌++◌, map, length, take, min, Option, Some, None, refl, sym, ap, ap₂, ◌∙◌, inl, inr, append-nil, arith, codes}
+use Rattle.std.proofs.Common.{Result, Ok, Err, IfOk, suc, ◌≡◌, ℕ, ◌+◌, ◌≤◌, ◌==◌, ◌||◌, Bool, true, false, cond, List, [], ◌∷◌, ◌++◌, map, length, min, Option, Some, None, refl, sym, ap, ap₂, subst, ◌∙◌, inl, inr, append-nil, arith, codes}
 use Rattle.std.proofs.lemmas.Grind.{flat_map-append}
 use Rattle.std.proofs.lemmas.List.{take_all}
 use Rattle.definitions.specs.Disk.{last_count}
@@ -14,7 +14,7 @@ use Rattle.image_check.specs.Told.{Told, Tells}
 use Rattle.image_check.specs.declared.checking.Outcome.{Outcome}
 use Rattle.image_check.specs.declared.checking.Outcome.TheVariants.{NoImage, Checked}
 use Rattle.image_check.specs.declared.finding.Finding.{Finding}
-use Rattle.image_json.specs.Findings.{check_line, check_object, found_line, found_whole, is_whole, text_value, texts_of}
+use Rattle.image_json.specs.Findings.{check_line, check_object, is_whole, text_value, texts_of, untold}
 use Rattle.image_json.proofs.OneLine.{same_findings}
 
 -- what is told of findings that are kept
@@ -92,15 +92,19 @@ pub none_found : (found : Option (List Finding)) (old new : Told) (outcome : Out
 none_found None old new outcome e t = refl
 none_found (Some found) old new outcome e t = let g : NoImage ≡ Checked = sym e ∙ t.0 in cc
 
--- those that are kept have the object of those that were found
-pub all_found : (found : Option (List Finding)) (kept : List Finding) (old new : Told) (outcome : Outcome) → outcome ≡ Checked → TellsFound found old new outcome
-    → old.text ≡ Some [] → new.text ≡ Some (lines_of kept) → new.failed ≡ false
-    → (check_line true kept ≡ found_line found) × (is_whole true kept ≡ found_whole found)
-all_found None kept old new outcome e t empty text sound = let g : Checked ≡ NoImage = sym e ∙ t.0 in cc
-all_found (Some found) kept old new outcome e t empty text sound =
-    let lines = taken_is (lines_of found) (lines_of kept) old.text new.text (t.1.whole sound).1 empty text in
+-- those that are kept have the object of those that were told
+pub all_kept : (found kept : List Finding) (new : Told) → Tells found untold new → new.text ≡ Some (lines_of kept) → new.failed ≡ false
+    → (check_line true kept ≡ check_line true found) × (is_whole true kept ≡ is_whole true found)
+all_kept found kept new t text sound =
+    let lines = taken_is (lines_of found) (lines_of kept) (Some []) new.text (t.whole sound).1 refl text in
     let same = same_findings kept found (sym lines) in
     (same_line kept found same, same_whole kept found same)
+
+-- what was told of an image that was checked
+pub some_told : (found : Option (List Finding)) (old new : Told) (outcome : Outcome) → outcome ≡ Checked → old ≡ untold → TellsFound found old new outcome
+    → (all : List Finding) × ((found ≡ Some all) × Tells all untold new)
+some_told None old new outcome e begun t = let g : Checked ≡ NoImage = sym e ∙ t.0 in cc
+some_told (Some found) old new outcome e begun t = (found, (refl, subst (λ (x : Told). Tells found x new) begun t.1))
 
 -- what two facts of an answer give
 pub both_ok : {T E : Type 0} (r : Result T E) (P Q R : T → Type 0) → ((x : T) → P x → Q x → R x) → IfOk r P → IfOk r Q → IfOk r R

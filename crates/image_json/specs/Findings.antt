@@ -5,8 +5,13 @@ use Rattle.serde_json.specs.Data.{Data, array, boolean, object, string, member, 
 use Rattle.serde_json.specs.View.{items_of}
 use Rattle.serde_json.specs.Written.{compact_text}
 use Rattle.image_check.specs.Lines.{finding_text}
+use Rattle.image_check.specs.Told.{Told}
 use Rattle.image_check.specs.declared.finding.Finding.{Finding}
 use Rattle.image_json.specs.Values.{characters}
+
+-- what is told of findings that are kept, of which there is none yet
+abbrev pub untold : Told
+untold = record { text = Some []; count = 0; failed = false; faults = 0 }
 
 abbrev pub text_value : List ℕ → Data
 text_value text = string (characters text)

@@ -1,12 +1,13 @@
-ghost use Rattle.std.specs.Prelude.{◌≡◌, ◌≤◌, List, Option, IfOk, string_bytes};
+ghost use Rattle.std.specs.Prelude.{◌≡◌, ◌≤◌, List, Option, Some, IfOk, string_bytes};
 ghost use Rattle.serde_json.specs.View.{view};
 ghost use Rattle.image_check.specs.Checked.{Finds};
+ghost use Rattle.image_check.specs.Told.{Tells};
 ghost use Rattle.image_check.specs.declared.finding.Finding.{Finding};
-ghost use Rattle.image_json.specs.Findings.{check_line, check_object, found_line, found_whole, is_whole};
+ghost use Rattle.image_json.specs.Findings.{check_line, check_object, found_line, found_whole, is_whole, untold};
 
 use crate::findings::Findings;
 use crate::found_texts::text_values;
-use image_check::{Finding, Outcome};
+use image_check::{Finding, Outcome, Report};
 use page_core::NoMemory;
 use sector_disk::Disk;
 use serde_json::{Value, json};
@@ -36,9 +37,20 @@ pub fn check<D: Disk>(alloc: Global, disk: &mut D, header: u32) -> Result<Checke
     let mut findings = Findings::new(alloc);
     match image_check::check(alloc, disk, header, &mut findings)? {
         Outcome::NoImage => ended(alloc, false, &[]),
-        Outcome::Checked if findings.refused => Err(NoMemory),
-        Outcome::Checked => ended(alloc, true, findings.kept.as_slice()),
+        Outcome::Checked => sum_up(alloc, &findings),
     }
+}
+
+/// What is wrong with an image, by the findings that were kept of it.
+pub fn sum_up(alloc: Global, findings: &Findings) -> Result<Checked, NoMemory>
+    ensures { (found : List Finding) → Tells found untold (⟦<Findings as Report>⟧.told findings.now) →
+        IfOk result (λ checked. (string_bytes checked.line ≡ found_line (Some found))
+        × (checked.whole ≡ found_whole (Some found))) }
+{
+    if findings.refused {
+        return Err(NoMemory);
+    }
+    ended(alloc, true, findings.kept.as_slice())
 }
 
 /// The line of what was found.

@@ -1,12 +1,13 @@
 ghost use Rattle.std.specs.Prelude.{◌≡◌, [], false, Some, if◌then◌else◌};
 ghost use Rattle.image_check.specs.Lines.{lines_of};
+ghost use Rattle.image_json.specs.Findings.{untold};
 
 use image_check::{Finding, Report};
 use std::alloc::Global;
 
 /// Keeps findings in memory, in the order in which they are told. Once memory was refused no more are kept.
 #[derive(Drop)]
-pub(crate) struct Findings {
+pub struct Findings {
     pub(crate) kept: Vec<Finding>,
     count: u64,
     /// Memory was refused.
@@ -14,10 +15,9 @@ pub(crate) struct Findings {
 }
 
 impl Findings {
-    pub(crate) fn new(alloc: Global) -> Findings
-        ensures kept { result.kept.items ≡ [] }
-        ensures count { result.count ≡ 0 }
-        ensures refused { result.refused ≡ false }
+    /// Keeps nothing yet.
+    pub fn new(alloc: Global) -> Findings
+        ensures { ⟦<Findings as Report>⟧.told result ≡ untold }
     {
         Findings {
             kept: Vec::new(alloc),

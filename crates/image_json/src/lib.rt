@@ -10,5 +10,6 @@ mod pieces;
 mod showing;
 mod values;
 
-pub use checking::{Checked, check};
+pub use checking::{Checked, check, sum_up};
+pub use findings::Findings;
 pub use showing::show;

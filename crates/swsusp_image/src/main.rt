@@ -3,10 +3,10 @@
 
 use byte_streams::StdSink;
 use command_kit::{Status, print, tell};
-use expanded_cli::{check, core, page, stream};
+use expanded_cli::{check, check_json, core, page, stream};
 use file_disk::FileDisk;
 use image_check::Printer;
-use image_cli::{Wanted, check_json, differ, discard, show, show_json};
+use image_cli::{Wanted, differ, discard, show, show_json};
 use image_differ::Side;
 use image_machine::Layout;
 use image_machine_cli::{loader, machine};

@@ -1,10 +1,9 @@
-use Rattle.std.proofs.Common.{◌≡◌, ◌∙◌, ℕ, List, [], ap, subst, inl, inr}
+use Rattle.std.proofs.Common.{◌≡◌, ◌∙◌, ℕ, List, [], subst, inl, inr}
 use Rattle.command_kit.specs.Answer.{RunResult}
 use Rattle.command_kit.specs.Told.{IsTold}
 use Rattle.command_kit.specs.View.{sink_view}
 use Rattle.command_kit.specs.declared.status.Status.{Status}
 use Rattle.image_json.specs.Objects.{object_line}
-use Rattle.image_cli.specs.Shows.{status_shown}
 use Rattle.image_cli.proofs.showing.show_json.Goals as goal
 
 abbrev ends_with : Status → List ℕ → RunResult
