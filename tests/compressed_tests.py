@@ -12,7 +12,7 @@ import compressed
 import lzo1x
 from compressed import EACH_KIND, UNIT, Compressed, Unread, crafted, pages_of, twin
 from harness import check, check_refused, check_same, programs, run
-from image_tests import Built, check_findings, paged, ran_over, streamed
+from image_tests import Built, changed, check_findings, compared, paged, ran_over, streamed
 from inputs import PAGE, Machine
 from inputs import area as fresh_area
 from lzo1x import Match
@@ -77,6 +77,62 @@ def test_a_damaged_image_gives_no_page_and_no_core():
         check_refused(ran, line)
         check_same("the area", after, before)
         check_refused(paged(built, 0)[0], line)
+
+
+# What is changed of a plain image of 600 page frames before it is compressed, and the lines that tell it.
+DIFFERENCES = [
+    (lambda built: built.put(2, 130 + 5, b".1"), ["identity release"]),
+    (lambda built: built.put(2, 400, struct.pack("<Q", 2**40)), ["memory size 65536 1099511627776"]),
+    (lambda built: built.put(5, 0, b"\0"), ["page 0"]),
+    (lambda built: (built.put(6 + 599, 4095, b"\0"), built.put(5 + 300, 2000, b"\0")), ["page 300", "page 599"]),
+    (lambda built: built.put_word(4, 87, 700), ["frame 599 first alone", "frame 700 second alone"]),
+]
+
+
+def test_an_image_is_compared_with_one_that_may_be_compressed():
+    """A side's image may be compressed or not, and where its area lies says nothing."""
+    plain = Built(600)
+    for one, other in [(twin(plain), plain), (plain, twin(plain)), (twin(plain), twin(plain, bad=(1, 2, 3), first=4, flags=0))]:
+        check(compared(one, other), 0, b"same\n")
+    check(compared(twin(plain, header=77, first=3), Built(600, header=77, first=9), "--offset", "77"), 0, b"same\n")
+    for change, lines in DIFFERENCES:
+        other, text = changed(change), "".join(f"{line}\n" for line in lines).encode()
+        for images in [(twin(plain), other), (plain, twin(other)), (twin(plain), twin(other))]:
+            check(compared(*images), 1, text)
+            check(compared(*images, "--first"), 1, f"{lines[0]}\n".encode())
+        check(compared(twin(other), other), 0, b"same\n")
+
+
+def test_flags_of_compressed_images_are_compared_as_those_of_plain_ones():
+    """Flag 1 says that the kernel was to be suspended by its platform; whether the image is compressed and has a checksum, 4, is no difference."""
+    for flags in [0, 4]:
+        check(compared(twin(Built(20), flags=flags), Built(20)), 0, b"same\n")
+        check(compared(twin(Built(20), flags=1 + flags), Built(20)), 1, b"header flags 3 2\n")
+        check(compared(Built(20), twin(Built(20), flags=8 + flags)), 1, b"header flags 2 10\n")
+
+
+def test_a_damaged_compressed_image_is_not_compared():
+    """What is wrong with it is told before either is compared."""
+    torn, other = twin(Built(600)), changed(lambda built: built.put(5, 0, b"\0"))
+    torn.put_length(3, 0)
+    found = f"{torn.place(3)}: length 0\n"
+    for fine in [other, twin(other)]:
+        check(compared(torn, fine), 1, note=f"{found}first: the image has findings\n")
+        check(compared(fine, torn), 1, note=f"{found}second: the image has findings\n")
+    check(compared(torn, torn), 1, note=f"{found}first: the image has findings\n")
+    none = changed(lambda built: built.put(0, 4086, b"SWAPSPACE2"))
+    for name, images in [("first", (none, twin(other))), ("second", (twin(other), none))]:
+        check(compared(*images), 1, note=f"{name}: no image\n")
+
+
+def test_what_is_wrong_inside_the_units_of_a_side():
+    """The plain image that it expands to ends the comparison, as one that was written so."""
+    torn = changed(lambda built: built.put_word(4, 87, 511))
+    for fine in [Built(600), twin(Built(600))]:
+        for images in [(torn, fine), (fine, torn)]:
+            wanted = compared(*(Built(600) if it is fine else torn for it in images))
+            check_same("status", wanted[0], 1)
+            check_same("the comparison", compared(*(twin(torn) if it is torn else it for it in images)), wanted)
 
 
 def test_images_of_each_size():

@@ -391,12 +391,24 @@ def test_a_compressed_image_is_carried_over():
     with area("compressed") as (file, image), fresh_area(image.last) as new:
         stream = looked(file, "stream")[1]
         check_line(ran_over(new, stream, "swsusp", "import"), f"imported {image.image_pages}")
-        check(looked(new, "stream"), 0, stream)
+        check_line(looked(file, "differ", new.path), "same")
         dump = looked(new, "loader")[1]
         check_line(looked(file, "discard"), "discarded")
         check_refused(resume(file, dump), "no image")
         check_line(check_image(new, dump), f"resumed {image.image_pages}")
         check_pages(resume(new, dump), image, image.contents())
+
+
+def test_a_carried_image_is_the_same():
+    """What another image differs in from it, it differs in from its copy too."""
+    with area("x86_64_compressed") as (file, image), fresh_area(image.last) as new:
+        check_line(ran_over(new, image.stream, "swsusp", "import"), f"imported {image.image_pages}")
+        for first, second in [(file, new), (new, file), (file, file)]:
+            check_line(looked(first, "differ", second.path), "same")
+        with area("x86_64") as (plain, _):
+            told = looked(file, "differ", plain.path)
+            check_same("the lines of differences", told, looked(new, "differ", plain.path))
+            check_same("the status", told[0], 1)
 
 
 def test_a_damaged_byte_of_a_compressed_image():

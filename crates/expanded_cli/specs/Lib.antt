@@ -1,3 +1,4 @@
 pub mod Checks
+pub mod Differs
 pub mod Runs
 pub mod Streams

@@ -1,3 +1,4 @@
+use image_differ::Side;
 use image_units::Index;
 
 /// A compressed image that is whole.
@@ -5,5 +6,12 @@ use image_units::Index;
 pub(crate) struct Compressed {
     /// The block of the header.
     pub header: u32,
+    pub index: Index,
+}
+
+/// A side whose image is compressed, and whole.
+#[derive(Drop)]
+pub(crate) struct Whole<D, R> {
+    pub side: Side<D, R>,
     pub index: Index,
 }

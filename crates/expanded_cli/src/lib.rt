@@ -4,9 +4,12 @@
 
 mod checking;
 mod coring;
+mod differing;
 mod expanding;
+mod owned;
 mod streaming;
 
 pub use checking::{check, check_json};
 pub use coring::core;
+pub use differing::differ;
 pub use streaming::{page, stream};

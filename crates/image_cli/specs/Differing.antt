@@ -9,11 +9,11 @@ use Rattle.image_cli.specs.Differs.{AreFirst, EndsAfter}
 use Rattle.image_cli.specs.declared.differing.Ended.{Ended}
 
 -- the lines of all differences that were told were printed
-abbrev pub Finishes : Bool → (a a' b b' : SideView) → ℕ → (old new : Option (List ℕ)) → Ended → Type 0
-Finishes first_only a a' b b' header old new ended =
-    (ds : List Difference) × (EndsAfter first_only a a' b b' header ds ended × TakesAll (lines_of ds) old new)
+abbrev pub Finishes : Bool → (a a' b b' : SideView) → (old new : Option (List ℕ)) → Ended → Type 0
+Finishes first_only a a' b b' old new ended =
+    (ds : List Difference) × (EndsAfter first_only a a' b b' ds ended × TakesAll (lines_of ds) old new)
 
 -- the output failed within them
-abbrev pub FailsWithin : (a a' b b' : SideView) → ℕ → (old new : Option (List ℕ)) → Type 0
-FailsWithin a a' b b' header old new =
-    (ds : List Difference) × (AreFirst a b header ds × AreUntold a a' b b' × TakesFront (lines_of ds) old new)
+abbrev pub FailsWithin : (a a' b b' : SideView) → (old new : Option (List ℕ)) → Type 0
+FailsWithin a a' b b' old new =
+    (ds : List Difference) × (AreFirst a b ds × AreUntold a a' b b' × TakesFront (lines_of ds) old new)

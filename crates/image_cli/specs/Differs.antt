@@ -48,25 +48,25 @@ abbrev pub end_of : ℕ → Ended
 end_of count = if count == 0 then ended.Same else ended.Different
 
 -- these are the first differences of the two images
-abbrev pub AreFirst : (a b : SideView) → ℕ → List Difference → Type 0
-AreFirst a b header ds = (c : Comparison) × HasCompared a b header c ds
+abbrev pub AreFirst : (a b : SideView) → List Difference → Type 0
+AreFirst a b ds = (c : Comparison) × HasCompared a b c ds
 
 -- all are told, or, where that is asked for, the first alone
-abbrev pub AreDifferent : Bool → (a a' b b' : SideView) → ℕ → List Difference → Type 0
-AreDifferent first_only a a' b b' header ds =
-    ((first_only ≡ false) × (ds ≢ []) × AreCompared a a' b b' header ds)
-    ⊎ ((first_only ≡ true) × (length ds ≡ 1) × AreFirst a b header ds)
+abbrev pub AreDifferent : Bool → (a a' b b' : SideView) → List Difference → Type 0
+AreDifferent first_only a a' b b' ds =
+    ((first_only ≡ false) × (ds ≢ []) × AreCompared a a' b b' ds)
+    ⊎ ((first_only ≡ true) × (length ds ≡ 1) × AreFirst a b ds)
 
 -- how the comparison ended after these differences
-abbrev pub EndsAfter : Bool → (a a' b b' : SideView) → ℕ → List Difference → Ended → Type 0
-EndsAfter first_only a a' b b' header ds ended.Same =
-    AreUntold a a' b b' × (ds ≡ []) × AreCompared a a' b b' header ds
-EndsAfter first_only a a' b b' header ds ended.Different =
-    AreUntold a a' b b' × AreDifferent first_only a a' b b' header ds
-EndsAfter first_only a a' b b' header ds (ended.Refused First) =
-    (b'.told ≡ b.told) × AreFirst a b header ds × IsWrong header a a'
-EndsAfter first_only a a' b b' header ds (ended.Refused Second) =
-    (a'.told ≡ a.told) × AreFirst a b header ds × IsWrong header b b'
+abbrev pub EndsAfter : Bool → (a a' b b' : SideView) → List Difference → Ended → Type 0
+EndsAfter first_only a a' b b' ds ended.Same =
+    AreUntold a a' b b' × (ds ≡ []) × AreCompared a a' b b' ds
+EndsAfter first_only a a' b b' ds ended.Different =
+    AreUntold a a' b b' × AreDifferent first_only a a' b b' ds
+EndsAfter first_only a a' b b' ds (ended.Refused First) =
+    (b'.told ≡ b.told) × AreFirst a b ds × IsWrong a a'
+EndsAfter first_only a a' b b' ds (ended.Refused Second) =
+    (a'.told ≡ a.told) × AreFirst a b ds × IsWrong b b'
 
 -- the output failed within these lines, and that is noted
 pub record IsCutShort (ds : List Difference) (status : Status) (out out' note note' : SinkView) : Type 0 where
@@ -75,19 +75,19 @@ pub record IsCutShort (ds : List Difference) (status : Status) (out out' note no
   pub noted : IsTried sink_note note note'
 
 -- just the differences of two images that are open are told, or the output failed on the way
-abbrev pub Compares : Bool → (a a' b b' : SideView) → ℕ → Status → (out out' note note' : SinkView) → Type 0
-Compares first_only a a' b b' header status out out' note note' =
-    ((ds : List Difference) × ((end : Ended) × (EndsAfter first_only a a' b b' header ds end
+abbrev pub Compares : Bool → (a a' b b' : SideView) → Status → (out out' note note' : SinkView) → Type 0
+Compares first_only a a' b b' status out out' note note' =
+    ((ds : List Difference) × ((end : Ended) × (EndsAfter first_only a a' b b' ds end
     × IsTold (ended_told ds end) status out out' note note')))
-    ⊎ ((ds : List Difference) × (AreFirst a b header ds × AreUntold a a' b b'
+    ⊎ ((ds : List Difference) × (AreFirst a b ds × AreUntold a a' b b'
     × IsCutShort ds status out out' note note'))
 
-abbrev pub IsUnopened : (a a' b b' : SideView) → ℕ → Opened → Type 0
-IsUnopened a a' b b' header o = Opens a a' b b' header o × ((c : Comparison) → o ≡ opened.Open c → ⊥)
+abbrev pub IsUnopened : (a a' b b' : SideView) → Opened → Type 0
+IsUnopened a a' b b' o = Opens a a' b b' o × ((c : Comparison) → o ≡ opened.Open c → ⊥)
 
 -- so, or why the images aren't compared is told, or that memory was refused
-abbrev pub Differs : Bool → (a a' b b' : SideView) → ℕ → Status → (out out' note note' : SinkView) → Type 0
-Differs first_only a a' b b' header status out out' note note' =
+abbrev pub Differs : Bool → (a a' b b' : SideView) → Status → (out out' note note' : SinkView) → Type 0
+Differs first_only a a' b b' status out out' note note' =
     (AreUntold a a' b b' × IsTold memory_told status out out' note note')
-    ⊎ ((o : Opened) × (IsUnopened a a' b b' header o × IsTold (unopened_told o) status out out' note note'))
-    ⊎ Compares first_only a a' b b' header status out out' note note'
+    ⊎ ((o : Opened) × (IsUnopened a a' b b' o × IsTold (unopened_told o) status out out' note note'))
+    ⊎ Compares first_only a a' b b' status out out' note note'

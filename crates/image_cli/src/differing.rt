@@ -1,28 +1,21 @@
-ghost use Rattle.std.specs.Prelude.{◌≡◌, ◌≢◌, ◌⊎◌, ◌≤◌, ℕ, IfOk, OnErr, [], length};
+ghost use Rattle.std.specs.Prelude.{◌≡◌, ◌≢◌, ◌⊎◌, ◌≤◌, IfOk, OnErr, [], length};
 ghost use Rattle.definitions.specs.Disk.{HasRisen};
+ghost use Rattle.command_kit.specs.AnswerOf.{told_by};
 ghost use Rattle.command_kit.specs.View.{sink_view};
 ghost use Rattle.image_differ.specs.Compares.{HasCompared};
 ghost use Rattle.image_differ.specs.Sides.{OnlyReads, side_view};
+ghost use Rattle.image_differ.specs.declared.comparison.Opened.TheVariants as opened;
 ghost use Rattle.image_cli.specs.Differing.{FailsWithin, Finishes};
-ghost use Rattle.image_cli.specs.Differs.{Compares, Differs, end_of, has_findings, note_of, refused_note, which_text};
+ghost use Rattle.image_cli.specs.Differs.{Compares, Differs, end_of, note_of, refused_note, unopened_told, which_text};
 
 use crate::showing::cut_short;
 use byte_streams::{Line, Sink, put_all};
-use command_kit::{Status, no_memory, tell};
+use command_kit::{Answer, Status, no_memory, tell};
 use image_check::Report;
 use image_differ::{Comparison, Next, Opened, Side, Which, line_of};
 use page_core::{Failed, NoMemory};
 use sector_disk::Disk;
 use std::alloc::Global;
-
-/// Which differences of two images are asked for.
-#[derive(Clone, Copy, Debug, PartialEq, Eq)]
-pub struct Wanted {
-    /// The block of the header in both areas.
-    pub header: u32,
-    /// Whether the first difference alone is wanted.
-    pub first_only: bool,
-}
 
 /// How a comparison ended.
 #[derive(Clone, Copy, Debug, PartialEq, Eq)]
@@ -34,19 +27,20 @@ enum Ended {
 }
 
 /// Prints where the images of two areas differ, a line for each difference: in their marks, in what their info pages
-/// say, and in their saved page frames, in ascending order; or `same`. The status is `Done` just where they are the
-/// same. What is wrong with an image ends the comparison, and is noted. Both disks are only read.
+/// say, and in their saved page frames, in ascending order; or `same`; or the first difference alone, where that is
+/// wanted. The status is `Done` just where they are the same. What is wrong with an image ends the comparison, and is
+/// noted. Both disks are only read.
 pub fn differ<D: Disk, E: Disk, R: Report, Q: Report, O: Sink, N: Sink>(
     alloc: Global,
     first: &mut Side<D, R>,
     second: &mut Side<E, Q>,
-    wanted: Wanted,
+    first_only: bool,
     out: &mut O,
     note: &mut N,
 ) -> Status
-    ensures outcome { Differs wanted.first_only
+    ensures outcome { Differs first_only
         (side_view D.Disk R.Report first.old) (side_view D.Disk R.Report first.new)
-        (side_view E.Disk Q.Report second.old) (side_view E.Disk Q.Report second.new) wanted.header result
+        (side_view E.Disk Q.Report second.old) (side_view E.Disk Q.Report second.new) result
         (sink_view O.Sink out.old)
         (sink_view O.Sink out.new)
         (sink_view N.Sink note.old)
@@ -58,12 +52,12 @@ pub fn differ<D: Disk, E: Disk, R: Report, Q: Report, O: Sink, N: Sink>(
     ensures first { OnlyReads (side_view D.Disk R.Report first.old) (side_view D.Disk R.Report first.new) }
     ensures second { OnlyReads (side_view E.Disk Q.Report second.old) (side_view E.Disk Q.Report second.new) }
 {
-    match Comparison::open(alloc, first, second, wanted.header) {
+    match Comparison::open(alloc, first, second) {
         Ok(Opened::Open(mut comparison)) => compare(
             &mut comparison,
             first,
             second,
-            wanted.first_only,
+            first_only,
             out,
             note,
         ),
@@ -81,14 +75,11 @@ fn compare<D: Disk, E: Disk, R: Report, Q: Report, O: Sink, N: Sink>(
     out: &mut O,
     note: &mut N,
 ) -> Status
-    requires { (header : ℕ) × HasCompared (side_view D.Disk R.Report first.old) (side_view E.Disk Q.Report second.old)
-        header comparison.old [] }
-    ensures outcome { (header : ℕ) →
-        HasCompared (side_view D.Disk R.Report first.old) (side_view E.Disk Q.Report second.old)
-        header comparison.old [] →
-        Compares first_only
+    requires { HasCompared (side_view D.Disk R.Report first.old) (side_view E.Disk Q.Report second.old)
+        comparison.old [] }
+    ensures outcome { Compares first_only
         (side_view D.Disk R.Report first.old) (side_view D.Disk R.Report first.new)
-        (side_view E.Disk Q.Report second.old) (side_view E.Disk Q.Report second.new) header result
+        (side_view E.Disk Q.Report second.old) (side_view E.Disk Q.Report second.new) result
         (sink_view O.Sink out.old)
         (sink_view O.Sink out.new)
         (sink_view N.Sink note.old)
@@ -103,10 +94,7 @@ fn compare<D: Disk, E: Disk, R: Report, Q: Report, O: Sink, N: Sink>(
     match tell_differences(comparison, first, second, first_only, out) {
         Ok(Ended::Same) => tell(Status::Done, b"same\n", b"", out, note),
         Ok(Ended::Different) => tell(Status::Refused, b"", b"", out, note),
-        Ok(Ended::Refused(which)) => {
-            let noted = refused_note(which, b"the image has findings");
-            tell(Status::Refused, b"", noted.as_bytes(), out, note)
-        }
+        Ok(Ended::Refused(which)) => has_findings(which).tell(out, note),
         Err(Failed) => cut_short(note),
     }
 }
@@ -119,21 +107,15 @@ fn tell_differences<D: Disk, E: Disk, R: Report, Q: Report, O: Sink>(
     first_only: bool,
     out: &mut O,
 ) -> Result<Ended, Failed>
-    requires { (header : ℕ) × HasCompared (side_view D.Disk R.Report first.old) (side_view E.Disk Q.Report second.old)
-        header comparison.old [] }
-    ensures ends { (header : ℕ) →
-        HasCompared (side_view D.Disk R.Report first.old) (side_view E.Disk Q.Report second.old)
-        header comparison.old [] →
-        IfOk result (Finishes first_only
+    requires { HasCompared (side_view D.Disk R.Report first.old) (side_view E.Disk Q.Report second.old)
+        comparison.old [] }
+    ensures ends { IfOk result (Finishes first_only
         (side_view D.Disk R.Report first.old) (side_view D.Disk R.Report first.new)
-        (side_view E.Disk Q.Report second.old) (side_view E.Disk Q.Report second.new) header
+        (side_view E.Disk Q.Report second.old) (side_view E.Disk Q.Report second.new)
         (O.taken out.old) (O.taken out.new)) }
-    ensures fails { (header : ℕ) →
-        HasCompared (side_view D.Disk R.Report first.old) (side_view E.Disk Q.Report second.old)
-        header comparison.old [] →
-        OnErr result (FailsWithin
+    ensures fails { OnErr result (FailsWithin
         (side_view D.Disk R.Report first.old) (side_view D.Disk R.Report first.new)
-        (side_view E.Disk Q.Report second.old) (side_view E.Disk Q.Report second.new) header
+        (side_view E.Disk Q.Report second.old) (side_view E.Disk Q.Report second.new)
         (O.taken out.old) (O.taken out.new)) }
     ensures cause { OnErr result (HasRisen (O.faults out.old) (O.faults out.new)) }
     ensures counted { O.faults out.old ≤ O.faults out.new }
@@ -164,6 +146,18 @@ fn end_of(count: u64) -> Ended
         Ended::Same
     } else {
         Ended::Different
+    }
+}
+
+/// Nothing more is printed of two images, since one of them has findings.
+pub fn has_findings(which: Which) -> Answer
+    ensures told { told_by result ≡ unopened_told (opened.Refused which) }
+    ensures status { result.status ≡ Status.Refused }
+{
+    Answer {
+        status: Status::Refused,
+        out: Line::new(),
+        note: refused_note(which, b"the image has findings"),
     }
 }
 

@@ -10,7 +10,7 @@ mod streaming;
 
 pub use checking::{check, check_json, sum_up, sum_up_json};
 pub use coring::core;
-pub use differing::{Wanted, differ};
+pub use differing::{differ, has_findings};
 pub use discarding::discard;
 pub use showing::{show, show_json};
 pub use streaming::{page, stream};

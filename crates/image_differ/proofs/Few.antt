@@ -42,6 +42,6 @@ unfolding frame_differences
 few_frames a b n =
     omega (arith, few_mapped (λ (p : ℕ). difference_at p (page_of p a) (page_of p b)) (λ p. one_at p (page_of p a) (page_of p b)) (range_with_len 0 n), length-range_with_len 0 n)
 
-pub few_told : (a b : SideView) (header : ℕ) (c : Comparison) (told : List Difference) → HasCompared a b header c told → length told ≤ 4503599627370506
-few_told a b header c told h =
+pub few_told : (a b : SideView) (c : Comparison) (told : List Difference) → HasCompared a b c told → length told ≤ 4503599627370506
+few_told a b c told h =
     omega (arith, ap length h.is, length-append (heading_differences c.one c.two c.parts) (frame_differences h.first_frames h.second_frames h.bound), few_heads c.one c.two c.parts, few_frames h.first_frames h.second_frames h.bound, h.parts, h.small)

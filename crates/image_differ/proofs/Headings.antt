@@ -23,8 +23,8 @@ abbrev pub with_parts : Comparison → ℕ → Comparison
 with_parts c parts = record { one = c.one; two = c.two; parts = parts; first = c.first; second = c.second }
 
 -- no page frame is compared before all parts are
-pub part_told : (a b : SideView) (header : ℕ) (c : Comparison) (told : List Difference) (parts : ℕ) (d : Option Difference) → HasCompared a b header c told → heading_differences c.one c.two parts ≡ heading_differences c.one c.two c.parts ++ list_of d → parts ≤ 10 → c.parts ≤ parts → (c.parts ≡ 10 → d ≡ None) → HasCompared a b header (with_parts c parts) (told ++ list_of d)
-part_told a b header c told parts d h more few on last = record {
+pub part_told : (a b : SideView) (c : Comparison) (told : List Difference) (parts : ℕ) (d : Option Difference) → HasCompared a b c told → heading_differences c.one c.two parts ≡ heading_differences c.one c.two c.parts ++ list_of d → parts ≤ 10 → c.parts ≤ parts → (c.parts ≡ 10 → d ≡ None) → HasCompared a b (with_parts c parts) (told ++ list_of d)
+part_told a b c told parts d h more few on last = record {
   first_heading = h.first_heading;
   second_heading = h.second_heading;
   first_frames = h.first_frames;
@@ -54,7 +54,7 @@ part_told a b header c told parts d h more few on last = record {
   ];
 }
 
-pub no_part_told : (a b : SideView) (header : ℕ) (c : Comparison) (told : List Difference) (parts : ℕ) → HasCompared a b header c told → heading_differences c.one c.two parts ≡ heading_differences c.one c.two c.parts ++ [] → parts ≤ 10 → c.parts ≤ parts → HasCompared a b header (with_parts c parts) told
-no_part_told a b header c told parts h more few on =
-    subst (λ (t : List Difference). HasCompared a b header (with_parts c parts) t) (append-nil told)
-    (part_told a b header c told parts None h more few on (λ e. refl))
+pub no_part_told : (a b : SideView) (c : Comparison) (told : List Difference) (parts : ℕ) → HasCompared a b c told → heading_differences c.one c.two parts ≡ heading_differences c.one c.two c.parts ++ [] → parts ≤ 10 → c.parts ≤ parts → HasCompared a b (with_parts c parts) told
+no_part_told a b c told parts h more few on =
+    subst (λ (t : List Difference). HasCompared a b (with_parts c parts) t) (append-nil told)
+    (part_told a b c told parts None h more few on (λ e. refl))

@@ -11,8 +11,8 @@ use Rattle.image_differ.specs.declared.reading.Reading.{Reading}
 use Rattle.image_differ.proofs.Headings.{heading_none}
 use Rattle.image_differ.proofs.Listing.{differences_none}
 
-pub both_opened : (a b : SideView) (header : ℕ) (one two : Heading) (p q : Reading) → IsHeading a header p.frames.numbers.info one → IsHeading b header q.frames.numbers.info two → IsReading a header p [] 0 → IsReading b header q [] 0 → HasCompared a b header (record { one = one; two = two; parts = 0; first = p; second = q }) []
-both_opened a b header one two p q first second i j = record {
+pub both_opened : (a b : SideView) (one two : Heading) (p q : Reading) → IsHeading a p.frames.numbers.info one → IsHeading b q.frames.numbers.info two → IsReading a p [] 0 → IsReading b q [] 0 → HasCompared a b (record { one = one; two = two; parts = 0; first = p; second = q }) []
+both_opened a b one two p q first second i j = record {
   first_heading = first;
   second_heading = second;
   first_frames = [];

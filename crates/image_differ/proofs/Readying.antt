@@ -19,11 +19,11 @@ use Rattle.image_differ.specs.declared.reading.Place.{Place}
 use Rattle.image_differ.specs.declared.reading.Place.TheVariants.{Unread, At, Ended}
 use Rattle.image_differ.specs.declared.reading.Reading.{Reading}
 
-pub ready_before : (v : SideView) (header : ℕ) (r : Reading) (given : List SavedFrame) (bound : ℕ) → IsReading v header r given bound → (r.place ≡ Unread → ⊥) → IsReady v header given bound r r
-ready_before v header r given bound i read = record {
+pub ready_before : (v : SideView) (r : Reading) (given : List SavedFrame) (bound : ℕ) → IsReading v r given bound → (r.place ≡ Unread → ⊥) → IsReady v given bound r r
+ready_before v r given bound i read = record {
   more = [];
   from = All-nil (λ (g : SavedFrame). bound ≤ g.number);
-  reading = subst (λ (x : List SavedFrame). IsReading v header r x bound) (sym (append-nil given)) i;
+  reading = subst (λ (x : List SavedFrame). IsReading v r x bound) (sym (append-nil given)) i;
   read = read;
   info = refl;
   left = omega arith;
@@ -36,12 +36,12 @@ ended_unread : Ended ≡ Unread → ⊥
 ended_unread e = cc
 
 -- a page frame that comes next
-pub ready_at : (v : SideView) (header : ℕ) (r : Reading) (given : List SavedFrame) (bound : ℕ) (q : Frames) (number : ℕ) (page : List ℕ) → IsReading v header r given bound → r.place ≡ Unread → IsNextFrame v.content v.blocks header given q (frame_of number page) → q.numbers.info ≡ r.frames.numbers.info → IsReady v header given bound r (record { frames = q; place = At number; page = page })
-ready_at v header r given bound q number page i at f same =
-    let (stands, used) = subst (IsPlace v header r given bound) at i.place in
+pub ready_at : (v : SideView) (r : Reading) (given : List SavedFrame) (bound : ℕ) (q : Frames) (number : ℕ) (page : List ℕ) → IsReading v r given bound → r.place ≡ Unread → IsNextFrame v.content v.blocks v.header given q (frame_of number page) → q.numbers.info ≡ r.frames.numbers.info → IsReady v given bound r (record { frames = q; place = At number; page = page })
+ready_at v r given bound q number page i at f same =
+    let (stands, used) = subst (IsPlace v r given bound) at i.place in
     let le : bound ≤ number = used.least number f.above in
-    let was = given_size v.content v.blocks header r.frames given stands in
-    let now = given_size v.content v.blocks header q (given ++ frame_of number page ∷ []) f.stands in
+    let was = given_size v.content v.blocks v.header r.frames given stands in
+    let now = given_size v.content v.blocks v.header q (given ++ frame_of number page ∷ []) f.stands in
     let size = length-append given (frame_of number page ∷ []) in
     let count : q.numbers.count ≡ r.frames.numbers.count = sym f.stands.numbered.count ∙ ap (λ (p : List ℕ). (counts_in p).image_pages) same ∙ stands.numbered.count in
     let few = f.stands.numbered.few in
@@ -68,8 +68,8 @@ not_both : (t : Bool) → t ≡ false → t ≡ true → ⊥
 not_both t e f = cc
 
 -- so it doesn't matter which calls of the disk failed
-pub all_since : (v : SideView) (header before now : ℕ) (info : List ℕ) (given : List SavedFrame) → AreAllGiven v.content v.blocks header before now info given → AreAll v header info given
-all_since v header before now info given a = λ earlier later.
+pub all_since : (v : SideView) (before now : ℕ) (info : List ℕ) (given : List SavedFrame) → AreAllGiven v.content v.blocks v.header before now info given → AreAll v info given
+all_since v before now info given a = λ earlier later.
     let e = a.ended in
     record {
       pages = a.pages;
@@ -98,13 +98,13 @@ all_since v header before now info given a = λ earlier later.
     }
 
 -- the end of the page frames
-pub ready_end : (v : SideView) (header : ℕ) (r : Reading) (given : List SavedFrame) (bound : ℕ) (q : Frames) (page : List ℕ) → IsReading v header r given bound → r.place ≡ Unread → AreAll v header q.numbers.info given → q.numbers.info ≡ r.frames.numbers.info → IsReady v header given bound r (record { frames = q; place = Ended; page = page })
-ready_end v header r given bound q page i at all same =
-    let (stands, used) = subst (IsPlace v header r given bound) at i.place in
+pub ready_end : (v : SideView) (r : Reading) (given : List SavedFrame) (bound : ℕ) (q : Frames) (page : List ℕ) → IsReading v r given bound → r.place ≡ Unread → AreAll v q.numbers.info given → q.numbers.info ≡ r.frames.numbers.info → IsReady v given bound r (record { frames = q; place = Ended; page = page })
+ready_end v r given bound q page i at all same =
+    let (stands, used) = subst (IsPlace v r given bound) at i.place in
     record {
       more = [];
       from = All-nil (λ (g : SavedFrame). bound ≤ g.number);
-      reading = subst (λ (x : List SavedFrame). IsReading v header (record { frames = q; place = Ended; page = page }) x bound) (sym (append-nil given))
+      reading = subst (λ (x : List SavedFrame). IsReading v (record { frames = q; place = Ended; page = page }) x bound) (sym (append-nil given))
           (record { place = (used.below, all) });
       read = ended_unread;
       info = same;

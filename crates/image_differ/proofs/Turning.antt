@@ -87,21 +87,21 @@ end_turn Ended (At q) e read other = cc
 end_turn Ended Ended e read other = (refl, refl)
 
 -- both images are at their next page frames, or at their ends
-pub record AreReady (a b : SideView) (header : ℕ) (one two : Heading) (p q : Reading) (told : List Difference) : Type 0 where
-  pub first_heading : IsHeading a header p.frames.numbers.info one
-  pub second_heading : IsHeading b header q.frames.numbers.info two
+pub record AreReady (a b : SideView) (one two : Heading) (p q : Reading) (told : List Difference) : Type 0 where
+  pub first_heading : IsHeading a p.frames.numbers.info one
+  pub second_heading : IsHeading b q.frames.numbers.info two
   pub first_frames : List SavedFrame
   pub second_frames : List SavedFrame
   pub bound : ℕ
-  pub first : IsReading a header p first_frames bound
-  pub second : IsReading b header q second_frames bound
+  pub first : IsReading a p first_frames bound
+  pub second : IsReading b q second_frames bound
   pub small : bound ≤ no_frame
   pub is : told ≡ heading_differences one two 10 ++ frame_differences first_frames second_frames bound
 
-pub are_ready : (a b : SideView) (header : ℕ) (c : Comparison) (told : List Difference) (s : HasCompared a b header c told) (p q : Reading) → c.parts ≡ 10 → IsReady a header s.first_frames s.bound c.first p → IsReady b header s.second_frames s.bound c.second q → AreReady a b header c.one c.two p q told
-are_ready a b header c told s p q parts f g = record {
-  first_heading = subst (λ (i : List ℕ). IsHeading a header i c.one) (sym f.info) s.first_heading;
-  second_heading = subst (λ (i : List ℕ). IsHeading b header i c.two) (sym g.info) s.second_heading;
+pub are_ready : (a b : SideView) (c : Comparison) (told : List Difference) (s : HasCompared a b c told) (p q : Reading) → c.parts ≡ 10 → IsReady a s.first_frames s.bound c.first p → IsReady b s.second_frames s.bound c.second q → AreReady a b c.one c.two p q told
+are_ready a b c told s p q parts f g = record {
+  first_heading = subst (λ (i : List ℕ). IsHeading a i c.one) (sym f.info) s.first_heading;
+  second_heading = subst (λ (i : List ℕ). IsHeading b i c.two) (sym g.info) s.second_heading;
   first_frames = s.first_frames ++ f.more;
   second_frames = s.second_frames ++ g.more;
   bound = s.bound;
@@ -118,28 +118,28 @@ are_ready a b header c told s p q parts f g = record {
 abbrev pub compared : Reading → Reading
 compared r = record { frames = r.frames; place = Unread; page = r.page }
 
-head_of : (v : SideView) (header : ℕ) (r : Reading) (given : List SavedFrame) (bound p : ℕ) → IsReading v header r given bound → r.place ≡ At p → IsHead given bound p r.page
-head_of v header r given bound p i e = (subst (IsPlace v header r given bound) e i.place).1
+head_of : (v : SideView) (r : Reading) (given : List SavedFrame) (bound p : ℕ) → IsReading v r given bound → r.place ≡ At p → IsHead given bound p r.page
+head_of v r given bound p i e = (subst (IsPlace v r given bound) e i.place).1
 
-given_of : (v : SideView) (header : ℕ) (r : Reading) (given : List SavedFrame) (bound p : ℕ) → IsReading v header r given bound → r.place ≡ At p → HasGiven v.content v.blocks header r.frames given
-given_of v header r given bound p i e = (subst (IsPlace v header r given bound) e i.place).0
+given_of : (v : SideView) (r : Reading) (given : List SavedFrame) (bound p : ℕ) → IsReading v r given bound → r.place ≡ At p → HasGiven v.content v.blocks v.header r.frames given
+given_of v r given bound p i e = (subst (IsPlace v r given bound) e i.place).0
 
-compared_reading : (v : SideView) (header : ℕ) (r : Reading) (given : List SavedFrame) (bound p : ℕ) → IsReading v header r given bound → r.place ≡ At p → IsReading v header (compared r) given (p + 1)
-compared_reading v header r given bound p i e = record {
+compared_reading : (v : SideView) (r : Reading) (given : List SavedFrame) (bound p : ℕ) → IsReading v r given bound → r.place ≡ At p → IsReading v (compared r) given (p + 1)
+compared_reading v r given bound p i e = record {
   place = (
-    given_of v header r given bound p i e,
+    given_of v r given bound p i e,
     record {
-      below = head_below given bound p r.page (head_of v header r given bound p i e);
-      least = λ n below. head_least given bound p n r.page (head_of v header r given bound p i e) below;
+      below = head_below given bound p r.page (head_of v r given bound p i e);
+      least = λ n below. head_least given bound p n r.page (head_of v r given bound p i e) below;
     },
   );
 }
 
-later_place : (v : SideView) (header : ℕ) (r : Reading) (given : List SavedFrame) (bound p : ℕ) (place : Place) → bound ≤ p → IsPlace v header r given bound place → IsLater p place → IsPlace v header r given (p + 1) place × IsGap given bound (p + 1)
-later_place v header r given bound p Unread le i later = absurd later
-later_place v header r given bound p (At q) le (h, head) later =
+later_place : (v : SideView) (r : Reading) (given : List SavedFrame) (bound p : ℕ) (place : Place) → bound ≤ p → IsPlace v r given bound place → IsLater p place → IsPlace v r given (p + 1) place × IsGap given bound (p + 1)
+later_place v r given bound p Unread le i later = absurd later
+later_place v r given bound p (At q) le (h, head) later =
     ((h, head_further given bound (p + 1) q r.page head (omega arith) (omega arith)), head_gap given bound (p + 1) q r.page head (omega arith))
-later_place v header r given bound p Ended le (below, all) later =
+later_place v r given bound p Ended le (below, all) later =
     ((below_further given bound (p + 1) below (omega arith), all), below_gap given bound (p + 1) below)
 
 one_more : (heads xs ys : List Difference) (told : List Difference) (d : Difference) → told ≡ heads ++ xs → ys ≡ xs ++ d ∷ [] → told ++ d ∷ [] ≡ heads ++ ys
@@ -148,17 +148,17 @@ one_more heads xs ys told d e f = ap (λ (zs : List Difference). zs ++ d ∷ [])
 abbrev pub at_frames : Heading → Heading → Reading → Reading → Comparison
 at_frames one two p q = record { one = one; two = two; parts = 10; first = p; second = q }
 
-pub step_first : (a b : SideView) (header x : ℕ) (one two : Heading) (p q : Reading) (told : List Difference) → AreReady a b header one two p q told → p.place ≡ At x → IsLater x q.place → HasCompared a b header (at_frames one two (compared p) q) (told ++ difference.FirstAlone x ∷ [])
-step_first a b header x one two p q told r at later =
-    let head = head_of a header p r.first_frames r.bound x r.first at in
-    let other = later_place b header q r.second_frames r.bound x q.place head.above r.second.place later in
+pub step_first : (a b : SideView) (x : ℕ) (one two : Heading) (p q : Reading) (told : List Difference) → AreReady a b one two p q told → p.place ≡ At x → IsLater x q.place → HasCompared a b (at_frames one two (compared p) q) (told ++ difference.FirstAlone x ∷ [])
+step_first a b x one two p q told r at later =
+    let head = head_of a p r.first_frames r.bound x r.first at in
+    let other = later_place b q r.second_frames r.bound x q.place head.above r.second.place later in
     record {
       first_heading = r.first_heading;
       second_heading = r.second_heading;
       first_frames = r.first_frames;
       second_frames = r.second_frames;
       bound = x + 1;
-      first = compared_reading a header p r.first_frames r.bound x r.first at;
+      first = compared_reading a p r.first_frames r.bound x r.first at;
       second = record { place = other.0 };
       small = omega (arith, head.small);
       parts = omega arith;
@@ -171,10 +171,10 @@ step_first a b header x one two p q told r at later =
           (other.1 x head.above (omega arith)));
     }
 
-pub step_second : (a b : SideView) (header x : ℕ) (one two : Heading) (p q : Reading) (told : List Difference) → AreReady a b header one two p q told → q.place ≡ At x → IsLater x p.place → HasCompared a b header (at_frames one two p (compared q)) (told ++ difference.SecondAlone x ∷ [])
-step_second a b header x one two p q told r at later =
-    let head = head_of b header q r.second_frames r.bound x r.second at in
-    let other = later_place a header p r.first_frames r.bound x p.place head.above r.first.place later in
+pub step_second : (a b : SideView) (x : ℕ) (one two : Heading) (p q : Reading) (told : List Difference) → AreReady a b one two p q told → q.place ≡ At x → IsLater x p.place → HasCompared a b (at_frames one two p (compared q)) (told ++ difference.SecondAlone x ∷ [])
+step_second a b x one two p q told r at later =
+    let head = head_of b q r.second_frames r.bound x r.second at in
+    let other = later_place a p r.first_frames r.bound x p.place head.above r.first.place later in
     record {
       first_heading = r.first_heading;
       second_heading = r.second_heading;
@@ -182,7 +182,7 @@ step_second a b header x one two p q told r at later =
       second_frames = r.second_frames;
       bound = x + 1;
       first = record { place = other.0 };
-      second = compared_reading b header q r.second_frames r.bound x r.second at;
+      second = compared_reading b q r.second_frames r.bound x r.second at;
       small = omega (arith, head.small);
       parts = omega arith;
       order = λ lt. absurd (omega arith);
@@ -203,10 +203,10 @@ page_differs : (p : ℕ) (t : Bool) → cond t [] (difference.Page p ∷ []) ≡
 page_differs p true = refl
 page_differs p false = refl
 
-pub step_both : (a b : SideView) (header x : ℕ) (one two : Heading) (p q : Reading) (told : List Difference) (t : Bool) → AreReady a b header one two p q told → p.place ≡ At x → q.place ≡ At x → pointwise nat_eq p.page q.page ≡ t → HasCompared a b header (at_frames one two (compared p) (compared q)) (told ++ page_difference x t)
-step_both a b header x one two p q told t r at other is =
-    let head = head_of a header p r.first_frames r.bound x r.first at in
-    let second = head_of b header q r.second_frames r.bound x r.second other in
+pub step_both : (a b : SideView) (x : ℕ) (one two : Heading) (p q : Reading) (told : List Difference) (t : Bool) → AreReady a b one two p q told → p.place ≡ At x → q.place ≡ At x → pointwise nat_eq p.page q.page ≡ t → HasCompared a b (at_frames one two (compared p) (compared q)) (told ++ page_difference x t)
+step_both a b x one two p q told t r at other is =
+    let head = head_of a p r.first_frames r.bound x r.first at in
+    let second = head_of b q r.second_frames r.bound x r.second other in
     let next = differences_next r.first_frames r.second_frames r.bound x (Some p.page) (Some q.page) head.above
     (head_gap r.first_frames r.bound x x p.page head (omega arith))
     (head_gap r.second_frames r.bound x x q.page second (omega arith))
@@ -218,8 +218,8 @@ step_both a b header x one two p q told t r at other is =
       first_frames = r.first_frames;
       second_frames = r.second_frames;
       bound = x + 1;
-      first = compared_reading a header p r.first_frames r.bound x r.first at;
-      second = compared_reading b header q r.second_frames r.bound x r.second other;
+      first = compared_reading a p r.first_frames r.bound x r.first at;
+      second = compared_reading b q r.second_frames r.bound x r.second other;
       small = omega (arith, head.small);
       parts = omega arith;
       order = λ lt. absurd (omega arith);
@@ -232,9 +232,9 @@ step_both a b header x one two p q told t r at other is =
     }
 
 -- so many parts are compared, which are all
-pub all_parts : (a b : SideView) (header parts : ℕ) (one two : Heading) (p q : Reading) (told : List Difference) → parts ≡ 10 → HasCompared a b header (at_frames one two p q) told → HasCompared a b header (record { one = one; two = two; parts = parts; first = p; second = q }) told
-all_parts a b header parts one two p q told e h =
-    subst (λ (k : ℕ). HasCompared a b header (record { one = one; two = two; parts = k; first = p; second = q }) told) (sym e) h
+pub all_parts : (a b : SideView) (parts : ℕ) (one two : Heading) (p q : Reading) (told : List Difference) → parts ≡ 10 → HasCompared a b (at_frames one two p q) told → HasCompared a b (record { one = one; two = two; parts = parts; first = p; second = q }) told
+all_parts a b parts one two p q told e h =
+    subst (λ (k : ℕ). HasCompared a b (record { one = one; two = two; parts = k; first = p; second = q }) told) (sym e) h
 
 pub fewer_left : (r : Reading) (p : ℕ) → r.place ≡ At p → frames_left (compared r) < frames_left r
 fewer_left r p e = subst (λ (x : Place). frames_left (compared r) < left_at r.frames x) (sym e) (omega arith)
@@ -247,10 +247,10 @@ fewer_both c p q x at other f g =
       sum_less : (s t u v m n : ℕ) → s < u → t < v → u ≤ m → v ≤ n → s + t < m + n
       sum_less s t u v m n i j k l = omega arith
 
-pub step_end : (a a' b b' : SideView) (header : ℕ) (one two : Heading) (p q : Reading) (told : List Difference) → AreReady a b header one two p q told → p.place ≡ Ended → q.place ≡ Ended → AreCompared a a' b b' header told
-step_end a a' b b' header one two p q told r at other =
-    let first = subst (IsPlace a header p r.first_frames r.bound) at r.first.place in
-    let second = subst (IsPlace b header q r.second_frames r.bound) other r.second.place in
+pub step_end : (a a' b b' : SideView) (one two : Heading) (p q : Reading) (told : List Difference) → AreReady a b one two p q told → p.place ≡ Ended → q.place ≡ Ended → AreCompared a a' b b' told
+step_end a a' b b' one two p q told r at other =
+    let first = subst (IsPlace a p r.first_frames r.bound) at r.first.place in
+    let second = subst (IsPlace b q r.second_frames r.bound) other r.second.place in
     record {
       first = record { heading = one; frames = r.first_frames };
       second = record { heading = two; frames = r.second_frames };

@@ -21,8 +21,8 @@ abbrev pub AreFrom : ℕ → List SavedFrame → Type 0
 AreFrom bound given = All (λ (g : SavedFrame). bound ≤ g.number) given
 
 -- all page frames of the image were given, and nothing is wrong with it
-abbrev pub AreAll : SideView → ℕ → List ℕ → List SavedFrame → Type 0
-AreAll v header info given = (before now : ℕ) → AreAllGiven v.content v.blocks header before now info given
+abbrev pub AreAll : SideView → List ℕ → List SavedFrame → Type 0
+AreAll v info given = (before now : ℕ) → AreAllGiven v.content v.blocks v.header before now info given
 
 -- all are compared: the bound is just above the newest
 pub record IsUsed (given : List SavedFrame) (bound : ℕ) : Type 0 where
@@ -38,15 +38,15 @@ pub record IsHead (given : List SavedFrame) (bound p : ℕ) (page : List ℕ) : 
   pub small : p < no_frame
 
 -- these page frames were given of the image, and those below the bound are compared
-abbrev pub IsPlace : SideView → ℕ → Reading → List SavedFrame → ℕ → Place → Type 0
-IsPlace v header r given bound Unread =
-    HasGiven v.content v.blocks header r.frames given × IsUsed given bound
-IsPlace v header r given bound (At p) =
-    HasGiven v.content v.blocks header r.frames given × IsHead given bound p r.page
-IsPlace v header r given bound Ended = AreBelow bound given × AreAll v header r.frames.numbers.info given
+abbrev pub IsPlace : SideView → Reading → List SavedFrame → ℕ → Place → Type 0
+IsPlace v r given bound Unread =
+    HasGiven v.content v.blocks v.header r.frames given × IsUsed given bound
+IsPlace v r given bound (At p) =
+    HasGiven v.content v.blocks v.header r.frames given × IsHead given bound p r.page
+IsPlace v r given bound Ended = AreBelow bound given × AreAll v r.frames.numbers.info given
 
-pub record IsReading (v : SideView) (header : ℕ) (r : Reading) (given : List SavedFrame) (bound : ℕ) : Type 0 where
-  pub place : IsPlace v header r given bound r.place
+pub record IsReading (v : SideView) (r : Reading) (given : List SavedFrame) (bound : ℕ) : Type 0 where
+  pub place : IsPlace v r given bound r.place
 
 -- how many page frames aren't compared
 abbrev pub left_at : Frames → Place → ℕ
@@ -58,18 +58,18 @@ abbrev pub frames_left : Reading → ℕ
 frames_left r = left_at r.frames r.place
 
 -- the next page frame that isn't compared was read, if there is one
-pub record IsReady (v : SideView) (header : ℕ) (given : List SavedFrame) (bound : ℕ) (old new : Reading) : Type 0 where
+pub record IsReady (v : SideView) (given : List SavedFrame) (bound : ℕ) (old new : Reading) : Type 0 where
   pub more : List SavedFrame
   pub from : AreFrom bound more
-  pub reading : IsReading v header new (given ++ more) bound
+  pub reading : IsReading v new (given ++ more) bound
   pub read : new.place ≡ Unread → ⊥
   pub info : new.frames.numbers.info ≡ old.frames.numbers.info
   pub left : frames_left new ≤ frames_left old
 
-abbrev pub Readies : ℕ → (old new : SideView) → List SavedFrame → ℕ → (p q : Reading) → Bool → Type 0
-Readies header old new given bound p q true = (new.told ≡ old.told) × IsReady old header given bound p q
-Readies header old new given bound p q false =
-    (pages : List (List ℕ)) × IsRefused old.content old.blocks header old.faults new.faults old.told new.told pages
+abbrev pub Readies : (old new : SideView) → List SavedFrame → ℕ → (p q : Reading) → Bool → Type 0
+Readies old new given bound p q true = (new.told ≡ old.told) × IsReady old given bound p q
+Readies old new given bound p q false =
+    (pages : List (List ℕ)) × IsRefused old.content old.blocks old.header old.faults new.faults old.told new.told pages
 
 -- the lower page frame is compared next, or both are where they are the same
 abbrev pub turn_of : Place → Place → Turn

@@ -1,4 +1,4 @@
--- A disk with an image, and who is told of it, at a moment.
+-- A disk with an image, the block of its header, and who is told of it, at a moment.
 use Rattle.std.specs.Prelude.{◌≡◌, ℕ, ◌≤◌, Option}
 use Rattle.definitions.specs.Disk.{Content}
 use Rattle.image_check.specs.Told.{Told}
@@ -11,6 +11,7 @@ pub record SideView : Type 0 where
   pub blocks : ℕ
   pub faults : ℕ
   pub orders : ℕ
+  pub header : ℕ
   pub told : Told
 
 abbrev pub side_view : {D R : Type 0} → disk.Ghosts D → report.Ghosts R → Side D R → SideView
@@ -19,12 +20,14 @@ side_view of_disk of_report s = record {
   blocks = of_disk.block_count s.disk;
   faults = of_disk.faults s.disk;
   orders = of_disk.orders s.disk;
+  header = s.header;
   told = of_report.told s.report;
 }
 
--- the disk holds what it held, and faults don't fall
+-- the disk holds what it held, the header lies in the same block, and faults don't fall
 pub record OnlyReads (old new : SideView) : Type 0 where
   pub content : new.content ≡ old.content
   pub blocks : new.blocks ≡ old.blocks
   pub faults : old.faults ≤ new.faults
   pub orders : new.orders ≡ old.orders
+  pub header : new.header ≡ old.header

@@ -1,4 +1,4 @@
-ghost use Rattle.std.specs.Prelude.{◌≡◌, ℕ, [], IfOk, OnErr};
+ghost use Rattle.std.specs.Prelude.{◌≡◌, [], IfOk, OnErr};
 ghost use Rattle.image_frames.specs.Given.{HasGiven};
 ghost use Rattle.image_differ.specs.Compares.{Begins};
 ghost use Rattle.image_differ.specs.Marks.{IsMarkedBy, Marks};
@@ -35,19 +35,18 @@ pub(crate) enum Marked {
 pub(crate) fn begin<D: Disk, R: Report>(
     alloc: Global,
     side: &mut Side<D, R>,
-    header: u32,
 ) -> Result<Begun, NoMemory>
-    ensures begins { IfOk result (Begins header
+    ensures begins { IfOk result (Begins
         (side_view D.Disk R.Report side.old) (side_view D.Disk R.Report side.new)) }
     ensures untold { OnErr result (R.told side.new.report ≡ R.told side.old.report) }
     ensures kept { OnlyReads (side_view D.Disk R.Report side.old) (side_view D.Disk R.Report side.new) }
 {
-    let mark = match mark_of(side, header) {
+    let mark = match mark_of(side) {
         Marked::NoImage => return Ok(Begun::NoImage),
         Marked::Refused => return Ok(Begun::Refused),
         Marked::Mark(mark) => mark,
     };
-    match Frames::open(alloc, &mut side.disk, header, &mut side.report)? {
+    match Frames::open(alloc, &mut side.disk, side.header, &mut side.report)? {
         Opened::NoImage => Ok(Begun::NoImage),
         Opened::Refused => Ok(Begun::Refused),
         Opened::Open(frames) => Ok(opened(mark, frames)),
@@ -56,8 +55,8 @@ pub(crate) fn begin<D: Disk, R: Report>(
 
 /// An image of which no page frame was read.
 fn opened(mark: Mark, frames: Frames) -> Begun
-    ensures { (old new : SideView) (header : ℕ) → new.told ≡ old.told → IsMarkedBy old header mark →
-        HasGiven old.content old.blocks header frames [] → Begins header old new result }
+    ensures { (old new : SideView) → new.told ≡ old.told → IsMarkedBy old mark →
+        HasGiven old.content old.blocks old.header frames [] → Begins old new result }
 {
     let heading = Heading {
         flags: mark.flags,
@@ -73,11 +72,12 @@ fn opened(mark: Mark, frames: Frames) -> Begun
 }
 
 /// The mark in the header block.
-fn mark_of<D: Disk, R: Report>(side: &mut Side<D, R>, header: u32) -> Marked
-    ensures marks { Marks header
+fn mark_of<D: Disk, R: Report>(side: &mut Side<D, R>) -> Marked
+    ensures marks { Marks
         (side_view D.Disk R.Report side.old) (side_view D.Disk R.Report side.new) result }
     ensures kept { OnlyReads (side_view D.Disk R.Report side.old) (side_view D.Disk R.Report side.new) }
 {
+    let header = side.header;
     if header >= side.disk.blocks() {
         return Marked::NoImage;
     }

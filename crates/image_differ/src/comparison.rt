@@ -43,33 +43,32 @@ pub enum Next {
 }
 
 impl Comparison {
-    ghost use Rattle.std.specs.Prelude.{◌≡◌, ◌≤◌, ◌++◌, ℕ, List, IfOk, OnErr};
+    ghost use Rattle.std.specs.Prelude.{◌≡◌, ◌≤◌, ◌++◌, List, IfOk, OnErr};
     ghost use Rattle.image_differ.specs.Compares.{AreUntold, HasCompared, Opens, Says, Steps};
     ghost use Rattle.image_differ.specs.Sides.{OnlyReads, side_view};
     ghost use Rattle.image_differ.specs.declared.difference.Difference.{Difference};
 
-    /// Opens the images of two areas, whose headers lie in a block of the same number.
+    /// Opens the images of two areas.
     pub fn open<D: Disk, E: Disk, R: Report, Q: Report>(
         alloc: Global,
         first: &mut Side<D, R>,
         second: &mut Side<E, Q>,
-        header: u32,
     ) -> Result<Opened, NoMemory>
         ensures opened { IfOk result (Opens
             (side_view D.Disk R.Report first.old) (side_view D.Disk R.Report first.new)
-            (side_view E.Disk Q.Report second.old) (side_view E.Disk Q.Report second.new) header) }
+            (side_view E.Disk Q.Report second.old) (side_view E.Disk Q.Report second.new)) }
         ensures untold { OnErr result (AreUntold
             (side_view D.Disk R.Report first.old) (side_view D.Disk R.Report first.new)
             (side_view E.Disk Q.Report second.old) (side_view E.Disk Q.Report second.new)) }
         ensures first { OnlyReads (side_view D.Disk R.Report first.old) (side_view D.Disk R.Report first.new) }
         ensures second { OnlyReads (side_view E.Disk Q.Report second.old) (side_view E.Disk Q.Report second.new) }
     {
-        let (one, first) = match begin(alloc, first, header)? {
+        let (one, first) = match begin(alloc, first)? {
             Begun::NoImage => return Ok(Opened::NoImage(Which::First)),
             Begun::Refused => return Ok(Opened::Refused(Which::First)),
             Begun::Open(heading, reading) => (heading, reading),
         };
-        match begin(alloc, second, header)? {
+        match begin(alloc, second)? {
             Begun::NoImage => Ok(Opened::NoImage(Which::Second)),
             Begun::Refused => Ok(Opened::Refused(Which::Second)),
             Begun::Open(two, second) => Ok(Opened::Open(Comparison {
@@ -89,14 +88,12 @@ impl Comparison {
         first: &mut Side<D, R>,
         second: &mut Side<E, Q>,
     ) -> Next
-        requires { (header : ℕ) × ((told : List Difference) ×
-            HasCompared (side_view D.Disk R.Report first.old) (side_view E.Disk Q.Report second.old)
-            header self.old told) }
-        ensures says { (header : ℕ) (told : List Difference) →
-            HasCompared (side_view D.Disk R.Report first.old) (side_view E.Disk Q.Report second.old)
-            header self.old told →
+        requires { (told : List Difference) ×
+            HasCompared (side_view D.Disk R.Report first.old) (side_view E.Disk Q.Report second.old) self.old told }
+        ensures says { (told : List Difference) →
+            HasCompared (side_view D.Disk R.Report first.old) (side_view E.Disk Q.Report second.old) self.old told →
             Says (side_view D.Disk R.Report first.old) (side_view D.Disk R.Report first.new)
-            (side_view E.Disk Q.Report second.old) (side_view E.Disk Q.Report second.new) header told self.new result }
+            (side_view E.Disk Q.Report second.old) (side_view E.Disk Q.Report second.new) told self.new result }
         ensures first { OnlyReads (side_view D.Disk R.Report first.old) (side_view D.Disk R.Report first.new) }
         ensures second { OnlyReads (side_view E.Disk Q.Report second.old) (side_view E.Disk Q.Report second.new) }
     {
@@ -116,16 +113,14 @@ impl Comparison {
         first: &mut Side<D, R>,
         second: &mut Side<E, Q>,
     ) -> Option<Next>
-        requires compared { (header : ℕ) × ((told : List Difference) ×
-            HasCompared (side_view D.Disk R.Report first.old) (side_view E.Disk Q.Report second.old)
-            header self.old told) }
+        requires compared { (told : List Difference) ×
+            HasCompared (side_view D.Disk R.Report first.old) (side_view E.Disk Q.Report second.old) self.old told }
         requires parts { self.old.parts ≡ 10 }
-        ensures steps { (header : ℕ) (told : List Difference) →
-            HasCompared (side_view D.Disk R.Report first.old) (side_view E.Disk Q.Report second.old)
-            header self.old told →
+        ensures steps { (told : List Difference) →
+            HasCompared (side_view D.Disk R.Report first.old) (side_view E.Disk Q.Report second.old) self.old told →
             Steps (side_view D.Disk R.Report first.old) (side_view D.Disk R.Report first.new)
             (side_view E.Disk Q.Report second.old) (side_view E.Disk Q.Report second.new)
-            header told self.old self.new result }
+            told self.old self.new result }
         ensures parts { self.new.parts ≡ 10 }
         ensures first { OnlyReads (side_view D.Disk R.Report first.old) (side_view D.Disk R.Report first.new) }
         ensures second { OnlyReads (side_view E.Disk Q.Report second.old) (side_view E.Disk Q.Report second.new) }

@@ -35,11 +35,11 @@ impl Reading {
 
     /// Goes on to the next page frame that isn't compared, and answers whether nothing was wrong.
     pub fn ready<D: Disk, R: Report>(&mut self, side: &mut Side<D, R>) -> bool
-        requires { (header : ℕ) × ((given : List SavedFrame) × ((bound : ℕ) ×
-            IsReading (side_view D.Disk R.Report side.old) header self.old given bound)) }
-        ensures readies { (header : ℕ) (given : List SavedFrame) (bound : ℕ) →
-            IsReading (side_view D.Disk R.Report side.old) header self.old given bound →
-            Readies header (side_view D.Disk R.Report side.old) (side_view D.Disk R.Report side.new)
+        requires { (given : List SavedFrame) × ((bound : ℕ) ×
+            IsReading (side_view D.Disk R.Report side.old) self.old given bound) }
+        ensures readies { (given : List SavedFrame) (bound : ℕ) →
+            IsReading (side_view D.Disk R.Report side.old) self.old given bound →
+            Readies (side_view D.Disk R.Report side.old) (side_view D.Disk R.Report side.new)
             given bound self.old self.new result }
         ensures kept { OnlyReads (side_view D.Disk R.Report side.old) (side_view D.Disk R.Report side.new) }
     {

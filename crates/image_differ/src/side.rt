@@ -1,8 +1,10 @@
-/// A disk with an image, and who is told what is wrong with that.
+/// A disk with an image, and who is told what is wrong with it.
 #[derive(Drop)]
 pub struct Side<D, R> {
     pub disk: D,
     pub report: R,
+    /// The block of the image's header.
+    pub header: u32,
 }
 
 /// One of two images.

@@ -3,10 +3,10 @@
 
 use byte_streams::StdSink;
 use command_kit::{Status, print, tell};
-use expanded_cli::{check, check_json, core, page, stream};
+use expanded_cli::{check, check_json, core, differ, page, stream};
 use file_disk::FileDisk;
 use image_check::Printer;
-use image_cli::{Wanted, differ, discard, show, show_json};
+use image_cli::{discard, show, show_json};
 use image_differ::Side;
 use image_machine::Layout;
 use image_machine_cli::{loader, machine};
@@ -155,29 +155,20 @@ fn compare_images(
         Ok(opened) => opened,
         Err(error) => return not_opened(rt, other, &error),
     };
-    let mut first = Side {
+    let first = Side {
         disk,
         report: Printer::new(StdSink::new(rt.stderr())),
+        header: area.offset,
     };
-    let mut second = Side {
+    let second = Side {
         disk: other_disk,
         report: Printer::new(StdSink::new(rt.stderr())),
-    };
-    let wanted = Wanted {
         header: area.offset,
-        first_only,
     };
     let mut out = StdSink::new(rt.stdout());
     let mut note = StdSink::new(rt.stderr());
-    let status = differ(
-        rt.alloc(),
-        &mut first,
-        &mut second,
-        wanted,
-        &mut out,
-        &mut note,
-    );
-    finished(rt, status)
+    let over = differ(rt.alloc(), first, second, first_only, &mut out, &mut note);
+    finished(rt, over.2)
 }
 
 /// Writes the dump of a loader for the image of an area, or of the machine that it saved. Why there is none is noted.

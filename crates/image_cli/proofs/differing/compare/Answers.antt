@@ -1,4 +1,5 @@
-use Rattle.std.proofs.Common.{List, ℕ, [], subst, ◌∙◌, inl, inr}
+use Rattle.std.proofs.Common.{[], subst, inl, inr}
+use Rattle.command_kit.specs.Answer.{RunResult}
 use Rattle.command_kit.specs.Told.{IsTold}
 use Rattle.command_kit.specs.View.{sink_view}
 use Rattle.image_differ.specs.Lines.{lines_of}
@@ -7,18 +8,18 @@ use Rattle.image_cli.specs.Differing.{Finishes}
 use Rattle.image_cli.specs.Differs.{has_findings, refused_note}
 use Rattle.image_cli.specs.declared.differing.Ended.TheVariants as ended
 use Rattle.image_cli.proofs.Summing.{told_after}
-use Rattle.image_cli.proofs.Telling.{refused_with, told_lines}
+use Rattle.image_cli.proofs.Telling.{told_lines}
 use Rattle.image_cli.proofs.differing.compare.Goals as goal
 
 pub returns-in-Ok-Same-clause-outcome : goal.returns-in-Ok-Same-clause-outcome
-returns-in-Ok-Same-clause-outcome g c = λ header start.
+returns-in-Ok-Same-clause-outcome g c =
     let a = side_view g.D.Disk g.R.Report c.args.first.now in
     let a' = side_view g.D.Disk g.R.Report c.tell_differences.new.first in
     let b = side_view g.E.Disk g.Q.Report c.args.second.now in
     let b' = side_view g.E.Disk g.Q.Report c.tell_differences.new.second in
     let old = sink_view g.O.Sink c.args.out.now in
     let mid = sink_view g.O.Sink c.tell_differences.new.out in
-    let finished = subst (Finishes c.args.first_only a a' b b' header old.taken mid.taken) c.in-Ok-Same.field-0-is (c.in-Ok-Same.ensures.ends header start) in
+    let finished = subst (Finishes c.args.first_only a a' b b' old.taken mid.taken) c.in-Ok-Same.field-0-is (c.in-Ok-Same.ensures.ends) in
     inl (
       finished.0,
       (
@@ -31,14 +32,14 @@ returns-in-Ok-Same-clause-outcome g c = λ header start.
     )
 
 pub returns-in-Ok-Different-clause-outcome : goal.returns-in-Ok-Different-clause-outcome
-returns-in-Ok-Different-clause-outcome g c = λ header start.
+returns-in-Ok-Different-clause-outcome g c =
     let a = side_view g.D.Disk g.R.Report c.args.first.now in
     let a' = side_view g.D.Disk g.R.Report c.tell_differences.new.first in
     let b = side_view g.E.Disk g.Q.Report c.args.second.now in
     let b' = side_view g.E.Disk g.Q.Report c.tell_differences.new.second in
     let old = sink_view g.O.Sink c.args.out.now in
     let mid = sink_view g.O.Sink c.tell_differences.new.out in
-    let finished = subst (Finishes c.args.first_only a a' b b' header old.taken mid.taken) c.in-Ok-Different.field-0-is (c.in-Ok-Different.ensures.ends header start) in
+    let finished = subst (Finishes c.args.first_only a a' b b' old.taken mid.taken) c.in-Ok-Different.field-0-is (c.in-Ok-Different.ensures.ends) in
     inl (
       finished.0,
       (
@@ -51,7 +52,7 @@ returns-in-Ok-Different-clause-outcome g c = λ header start.
     )
 
 pub returns-in-Ok-Refused-clause-outcome : goal.returns-in-Ok-Refused-clause-outcome
-returns-in-Ok-Refused-clause-outcome g c = λ header start.
+returns-in-Ok-Refused-clause-outcome g c =
     let a = side_view g.D.Disk g.R.Report c.args.first.now in
     let a' = side_view g.D.Disk g.R.Report c.tell_differences.new.first in
     let b = side_view g.E.Disk g.Q.Report c.args.second.now in
@@ -62,8 +63,8 @@ returns-in-Ok-Refused-clause-outcome g c = λ header start.
     let note = sink_view g.N.Sink c.args.note.now in
     let noted = sink_view g.N.Sink c.tell-in-Ok-Refused.new.note in
     let which = c.in-Ok-Refused.which in
-    let finished = subst (Finishes c.args.first_only a a' b b' header old.taken mid.taken) c.in-Ok-Refused.field-0-is (c.in-Ok-Refused.ensures.ends header start) in
-    let told = subst (λ (t : List ℕ). IsTold (refused_with t) c.tell-in-Ok-Refused.result mid new note noted) (c.as_bytes.ensures.bytes ∙ c.refused_note-noted.ensures) c.tell-in-Ok-Refused.ensures.told in
+    let finished = subst (Finishes c.args.first_only a a' b b' old.taken mid.taken) c.in-Ok-Refused.field-0-is (c.in-Ok-Refused.ensures.ends) in
+    let told = subst (λ (r : RunResult). IsTold r c.tell-in-Ok-Refused.result mid new note noted) c.has_findings.ensures.told c.tell-in-Ok-Refused.ensures.told in
     inl (
       finished.0,
       (
@@ -76,8 +77,8 @@ returns-in-Ok-Refused-clause-outcome g c = λ header start.
     )
 
 pub returns-in-Err-clause-outcome : goal.returns-in-Err-clause-outcome
-returns-in-Err-clause-outcome g c = λ header start.
-    let failed = c.in-Err.ensures.fails header start in
+returns-in-Err-clause-outcome g c =
+    let failed = c.in-Err.ensures.fails in
     inr (
       failed.0,
       (

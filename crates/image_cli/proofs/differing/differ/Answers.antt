@@ -4,7 +4,7 @@ use Rattle.command_kit.specs.Told.{IsTold}
 use Rattle.command_kit.specs.View.{sink_view}
 use Rattle.image_differ.specs.Compares.{Opens}
 use Rattle.image_differ.specs.Sides.{side_view}
-use Rattle.image_differ.proofs.Sides.{compared_since}
+use Rattle.image_differ.proofs.Sides.{compared_after}
 use Rattle.image_cli.proofs.Telling.{compares_since}
 use Rattle.image_cli.proofs.differing.differ.Goals as goal
 
@@ -14,10 +14,10 @@ compare-requires g c =
     let x = side_view g.D.Disk g.R.Report c.open.new.first in
     let b = side_view g.E.Disk g.Q.Report c.args.second.now in
     let y = side_view g.E.Disk g.Q.Report c.open.new.second in
-    let opened = subst (Opens a x b y c.args.wanted.header) c.in-Ok-Open.field-0-is c.in-Ok-Open.ensures.opened in
+    let opened = subst (Opens a x b y) c.in-Ok-Open.field-0-is c.in-Ok-Open.ensures.opened in
     let f = c.open.ensures.first in
     let e = c.open.ensures.second in
-    (c.args.wanted.header, compared_since a x b y c.args.wanted.header c.in-Ok-Open.comparison [] (sym f.content) (sym f.blocks) (sym e.content) (sym e.blocks) opened.1)
+    compared_after a x b y c.in-Ok-Open.comparison [] f e opened.1
 
 pub returns-in-Ok-Open-clause-outcome : goal.returns-in-Ok-Open-clause-outcome
 returns-in-Ok-Open-clause-outcome g c =
@@ -25,14 +25,12 @@ returns-in-Ok-Open-clause-outcome g c =
     let x = side_view g.D.Disk g.R.Report c.open.new.first in
     let b = side_view g.E.Disk g.Q.Report c.args.second.now in
     let y = side_view g.E.Disk g.Q.Report c.open.new.second in
-    let header = c.args.wanted.header in
-    let opened = subst (Opens a x b y header) c.in-Ok-Open.field-0-is c.in-Ok-Open.ensures.opened in
+    let opened = subst (Opens a x b y) c.in-Ok-Open.field-0-is c.in-Ok-Open.ensures.opened in
     let f = c.open.ensures.first in
     let e = c.open.ensures.second in
-    let start = compared_since a x b y header c.in-Ok-Open.comparison [] (sym f.content) (sym f.blocks) (sym e.content) (sym e.blocks) opened.1 in
-    inr (inr (compares_since c.args.wanted.first_only a x (side_view g.D.Disk g.R.Report c.compare.new.first) b y (side_view g.E.Disk g.Q.Report c.compare.new.second) header c.in-Ok-Open.comparison c.compare.result
+    inr (inr (compares_since c.args.first_only a x (side_view g.D.Disk g.R.Report c.compare.new.first) b y (side_view g.E.Disk g.Q.Report c.compare.new.second) c.in-Ok-Open.comparison c.compare.result
     (sink_view g.O.Sink c.args.out.now) (sink_view g.O.Sink c.compare.new.out) (sink_view g.N.Sink c.args.note.now) (sink_view g.N.Sink c.compare.new.note)
-    f e opened.0.0 opened.0.1 (c.compare.ensures.outcome header start)))
+    f e opened.0.0 opened.0.1 c.compare.ensures.outcome))
 
 pub returns-in-Err-clause-outcome : goal.returns-in-Err-clause-outcome
 returns-in-Err-clause-outcome g c =
