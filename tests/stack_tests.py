@@ -14,7 +14,7 @@ STACK = 256 * KIB
 # These keep lists of facts in their frames, each with room for 630 bad pages.
 SHOW_STACK = 320 * KIB
 CORE_STACK = 640 * KIB
-DIFFER_STACK = 1024 * KIB
+DIFFER_STACK = 1152 * KIB
 # The disk that expands a compressed image keeps its header block and its info page in its frame.
 COMPRESSED_STACK = 384 * KIB
 SCRIPT = (pathlib.Path(__file__).resolve().parent.parent / "examples" / "machine.txt").read_bytes()
@@ -39,6 +39,7 @@ def test_each_command_runs_in_its_stack():
         within("swsusp_image", "stream", compressed.name, stack=COMPRESSED_STACK)
         within("swsusp_image", "page", compressed.name, 0, stack=COMPRESSED_STACK)
         within("swsusp_image", "core", compressed.name, stack=CORE_STACK)
+        within("swsusp_image", "differ", compressed.name, compressed.name, stack=DIFFER_STACK)
     with area() as swap, tempfile.NamedTemporaryFile() as dump:
         dump.write(saved)
         dump.flush()
