@@ -8,6 +8,6 @@ mod loader;
 mod made;
 mod saved_machine;
 
-pub use loader::loader_of;
-pub use made::Made;
-pub use saved_machine::machine_of;
+pub use loader::{loader_from, loader_of};
+pub use made::{Asked, Made};
+pub use saved_machine::{machine_from, machine_of};

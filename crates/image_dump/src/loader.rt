@@ -1,15 +1,14 @@
-ghost use Rattle.std.specs.Prelude.{◌≡◌, ◌≤◌, ℕ, [], IfOk, OnErr};
+ghost use Rattle.std.specs.Prelude.{◌≡◌, ◌≤◌, [], Option, IfOk, OnErr};
 ghost use Rattle.definitions.specs.Disk.{Content};
-ghost use Rattle.image_frames.specs.Numbered.{HasNumbered};
 ghost use Rattle.image_machine.specs.Plans.{IsPlan};
 ghost use Rattle.image_dump.specs.Headings.{IsHeadingOf};
-ghost use Rattle.image_dump.specs.Makes.{Makes};
+ghost use Rattle.image_dump.specs.Makes.{Makes, MakesFrom};
 
 use crate::adding::{Added, add_all};
 use crate::begun::{Begun, begin};
-use crate::made::Made;
+use crate::made::{Asked, Made};
 use image_check::Report;
-use image_frames::Numbers;
+use image_frames::{Numbers, OpenedNumbers};
 use image_machine::{Layout, Plan, Stop};
 use page_core::NoMemory;
 use sector_disk::Disk;
@@ -17,7 +16,7 @@ use std::alloc::Global;
 
 /// Makes the dump of a loader into which the image of an area can be resumed: a machine that has just booted, of
 /// which no page frame that the image saves is a table's. Of the image its header block, its info page and its number
-/// pages are read.
+/// pages are read, the first two twice, so that a limit which they pass is told before a number is read.
 pub fn loader_of<D: Disk, R: Report>(
     alloc: Global,
     disk: &mut D,
@@ -32,14 +31,38 @@ pub fn loader_of<D: Disk, R: Report>(
     ensures orders { D.orders disk.new ≡ D.orders disk.old }
     ensures blocks { D.block_count disk.new ≡ D.block_count disk.old }
 {
-    let (heading, numbers) = match begin(alloc, disk, layout.offset, report)? {
+    let heading = match begin(alloc, disk, layout.offset, report)? {
         Begun::NoImage => return Ok(Made::NoImage),
         Begun::Refused => return Ok(Made::Refused),
         Begun::NoArea => return Ok(Made::NoArea),
-        Begun::Open(heading, numbers) => (heading, numbers),
+        Begun::Open(heading, _) => heading,
     };
-    match Plan::of(alloc, &heading, *layout) {
-        Ok(plan) => follow(alloc, plan, numbers, disk, report),
+    let asked = Asked {
+        heading,
+        layout: *layout,
+    };
+    loader_from(alloc, &asked, disk, layout.offset, report)
+}
+
+/// The same, of an image of which the heading was read. Its numbers are read by the header block of any disk.
+pub fn loader_from<D: Disk, R: Report>(
+    alloc: Global,
+    asked: &Asked<'_>,
+    disk: &mut D,
+    header: u32,
+    report: &mut R,
+) -> Result<Made, NoMemory>
+    ensures made { (area : Option Content) → IsHeadingOf area asked.now.layout.offset asked.now.heading →
+        IfOk result (MakesFrom area (D.content disk.old) (D.block_count disk.old) header
+        (D.faults disk.old) (D.faults disk.new) (R.told report.old) (R.told report.new) asked.now.layout) }
+    ensures untold { OnErr result (R.told report.new ≡ R.told report.old) }
+    ensures content { D.content disk.new ≡ D.content disk.old }
+    ensures faults { D.faults disk.old ≤ D.faults disk.new }
+    ensures orders { D.orders disk.new ≡ D.orders disk.old }
+    ensures blocks { D.block_count disk.new ≡ D.block_count disk.old }
+{
+    match Plan::of(alloc, &asked.heading, asked.layout) {
+        Ok(plan) => follow(alloc, plan, disk, header, report),
         Err(Stop::Limit(limit)) => Ok(Made::Limit(limit)),
         Err(Stop::Memory) => Err(NoMemory),
     }
@@ -50,15 +73,14 @@ pub fn loader_of<D: Disk, R: Report>(
 fn follow<D: Disk, R: Report>(
     alloc: Global,
     mut plan: Plan<'_>,
-    mut numbers: Numbers,
     disk: &mut D,
+    header: u32,
     report: &mut R,
 ) -> Result<Made, NoMemory>
     requires plan { IsPlan plan }
     requires none { plan.saved.members ≡ [] }
-    requires numbered { HasNumbered (D.content disk.old) (D.block_count disk.old) plan.layout.offset numbers [] }
-    requires heading { IsHeadingOf (D.content disk.old) plan.layout.offset plan.heading }
-    ensures made { IfOk result (Makes (D.content disk.old) (D.block_count disk.old)
+    ensures made { (area : Option Content) → IsHeadingOf area plan.entry.layout.offset plan.entry.heading →
+        IfOk result (MakesFrom area (D.content disk.old) (D.block_count disk.old) header
         (D.faults disk.old) (D.faults disk.new) (R.told report.old) (R.told report.new) plan.entry.layout) }
     ensures untold { OnErr result (R.told report.new ≡ R.told report.old) }
     ensures content { D.content disk.new ≡ D.content disk.old }
@@ -66,6 +88,11 @@ fn follow<D: Disk, R: Report>(
     ensures orders { D.orders disk.new ≡ D.orders disk.old }
     ensures blocks { D.block_count disk.new ≡ D.block_count disk.old }
 {
+    let mut numbers = match Numbers::open(alloc, disk, header, report)? {
+        OpenedNumbers::NoImage => return Ok(Made::NoImage),
+        OpenedNumbers::Refused => return Ok(Made::Refused),
+        OpenedNumbers::Open(numbers) => numbers,
+    };
     match add_all(&mut plan, &mut numbers, disk, report) {
         Added::All => {}
         Added::Refused => return Ok(Made::Refused),

@@ -1,5 +1,12 @@
-use image_machine::Limit;
+use image_machine::{Heading, Layout, Limit};
 use machine::Dump;
+
+/// A machine that is asked for: what its image says of it, and where its area lies.
+#[derive(Clone, Copy)]
+pub struct Asked<'a> {
+    pub heading: Heading,
+    pub layout: Layout<'a>,
+}
 
 /// What was made of an image.
 #[derive(Drop)]

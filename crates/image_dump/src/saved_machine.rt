@@ -1,12 +1,13 @@
-ghost use Rattle.std.specs.Prelude.{◌≡◌, ◌≤◌, [], IfOk, OnErr};
+ghost use Rattle.std.specs.Prelude.{◌≡◌, ◌≤◌, [], Option, IfOk, OnErr};
+ghost use Rattle.definitions.specs.Disk.{Content};
 ghost use Rattle.image_machine.specs.Filled.{IsFilled};
 ghost use Rattle.image_dump.specs.Headings.{IsHeadingOf};
-ghost use Rattle.image_dump.specs.Makes.{MakesMachine};
+ghost use Rattle.image_dump.specs.Makes.{MakesMachine, MakesMachineFrom};
 
 use crate::adding::Added;
 use crate::begun::{Begun, begin};
 use crate::laying::lay_all;
-use crate::made::Made;
+use crate::made::{Asked, Made};
 use image_check::Report;
 use image_frames::{Frames, Opened};
 use image_machine::{FilledPlan, Layout, Stop};
@@ -39,8 +40,33 @@ pub fn machine_of<D: Disk, R: Report>(
         Begun::NoArea => return Ok(Made::NoArea),
         Begun::Open(heading, _) => heading,
     };
-    match FilledPlan::of(alloc, &heading, *layout) {
-        Ok(filled) => fill(alloc, filled, tables, disk, report),
+    let asked = Asked {
+        heading,
+        layout: *layout,
+    };
+    machine_from(alloc, &asked, tables, disk, layout.offset, report)
+}
+
+/// The same, of an image of which the heading was read. Its page frames are read by the header block of any disk.
+pub fn machine_from<D: Disk, R: Report>(
+    alloc: Global,
+    asked: &Asked<'_>,
+    tables: Option<(u32, u32)>,
+    disk: &mut D,
+    header: u32,
+    report: &mut R,
+) -> Result<Made, NoMemory>
+    ensures made { (area : Option Content) → IsHeadingOf area asked.now.layout.offset asked.now.heading →
+        IfOk result (MakesMachineFrom area (D.content disk.old) (D.block_count disk.old) header
+        (D.faults disk.old) (D.faults disk.new) (R.told report.old) (R.told report.new) asked.now.layout tables) }
+    ensures untold { OnErr result (R.told report.new ≡ R.told report.old) }
+    ensures content { D.content disk.new ≡ D.content disk.old }
+    ensures faults { D.faults disk.old ≤ D.faults disk.new }
+    ensures orders { D.orders disk.new ≡ D.orders disk.old }
+    ensures blocks { D.block_count disk.new ≡ D.block_count disk.old }
+{
+    match FilledPlan::of(alloc, &asked.heading, asked.layout) {
+        Ok(filled) => fill(alloc, filled, tables, disk, header, report),
         Err(Stop::Limit(limit)) => Ok(Made::Limit(limit)),
         Err(Stop::Memory) => Err(NoMemory),
     }
@@ -53,11 +79,13 @@ fn fill<D: Disk, R: Report>(
     mut filled: FilledPlan<'_>,
     tables: Option<(u32, u32)>,
     disk: &mut D,
+    header: u32,
     report: &mut R,
 ) -> Result<Made, NoMemory>
     requires filled { IsFilled filled [] }
-    requires heading { IsHeadingOf (D.content disk.old) filled.plan.layout.offset filled.plan.heading }
-    ensures made { IfOk result (MakesMachine (D.content disk.old) (D.block_count disk.old)
+    ensures made { (area : Option Content) →
+        IsHeadingOf area filled.entry.plan.layout.offset filled.entry.plan.heading →
+        IfOk result (MakesMachineFrom area (D.content disk.old) (D.block_count disk.old) header
         (D.faults disk.old) (D.faults disk.new) (R.told report.old) (R.told report.new)
         filled.entry.plan.layout tables) }
     ensures untold { OnErr result (R.told report.new ≡ R.told report.old) }
@@ -66,7 +94,7 @@ fn fill<D: Disk, R: Report>(
     ensures orders { D.orders disk.new ≡ D.orders disk.old }
     ensures blocks { D.block_count disk.new ≡ D.block_count disk.old }
 {
-    let mut frames = match Frames::open(alloc, disk, filled.plan.layout.offset, report)? {
+    let mut frames = match Frames::open(alloc, disk, header, report)? {
         Opened::NoImage => return Ok(Made::NoImage),
         Opened::Refused => return Ok(Made::Refused),
         Opened::Open(frames) => frames,

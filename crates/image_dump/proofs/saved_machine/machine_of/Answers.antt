@@ -1,19 +1,17 @@
-use Rattle.std.proofs.Common.{ℕ, Option, subst, sym, ◌∙◌}
+use Rattle.std.proofs.Common.{Option, subst}
 use Rattle.definitions.specs.Disk.{Content}
-use Rattle.image_machine.specs.Limits.{StopsAtOnce}
-use Rattle.image_machine.specs.declared.heading.Layout.{Layout}
 use Rattle.image_dump.specs.Begins.{Begins}
-use Rattle.image_dump.specs.Headings.{IsHeadingOf}
-use Rattle.image_dump.specs.Makes.{HasMachineLimit, IsMachineOf, passed_at_once}
+use Rattle.image_dump.specs.Headings.{HasNoArea}
+use Rattle.image_dump.specs.Makes.{HasMachineLimit, IsMachineFrom}
 use Rattle.image_dump.proofs.Making.{if_made_since}
 use Rattle.image_dump.proofs.saved_machine.machine_of.Goals as goal
 
-pub returns-in-Ok-clause-made : goal.returns-in-Ok-clause-made
-returns-in-Ok-clause-made g c =
+pub returns-clause-made : goal.returns-clause-made
+returns-clause-made g c =
+    let content = g.D.Disk.content c.args.disk.now in
+    let layout = c.args.layout.now in
+    let tables = c.args.tables in
     let begins = subst (Begins (g.D.Disk.content c.args.disk.now) (g.D.Disk.block_count c.args.disk.now) c.args.layout.now.offset (g.D.Disk.faults c.args.disk.now) (g.D.Disk.faults c.begin.new.disk) (g.R.Report.told c.args.report.now) (g.R.Report.told c.begin.new.report)) c.in-Open.is c.in_ok-begin.ensures.begins in
-    if_made_since (λ (x : Option Content) (l : Layout). HasMachineLimit x l c.args.tables) (λ (x : Option Content) (l : Layout). IsMachineOf x l c.args.tables) (g.D.Disk.content c.begin.new.disk) (g.D.Disk.content c.args.disk.now) (g.D.Disk.block_count c.begin.new.disk) (g.D.Disk.block_count c.args.disk.now) (g.D.Disk.faults c.args.disk.now) (g.D.Disk.faults c.begin.new.disk) (g.D.Disk.faults c.fill.new.disk) (g.R.Report.told c.args.report.now) (g.R.Report.told c.begin.new.report) (g.R.Report.told c.fill.new.report) c.in-Ok.filled.plan.layout c.args.layout.now c.fill.result c.begin.ensures.content c.begin.ensures.blocks begins.0 c.in-Ok.ensures.layout c.begin.ensures.faults c.fill.ensures.made
-
-pub returns-in-Err-Limit-clause-made : goal.returns-in-Err-Limit-clause-made
-returns-in-Err-Limit-clause-made g c =
-    let begins = subst (Begins (g.D.Disk.content c.args.disk.now) (g.D.Disk.block_count c.args.disk.now) c.args.layout.now.offset (g.D.Disk.faults c.args.disk.now) (g.D.Disk.faults c.begin.new.disk) (g.R.Report.told c.args.report.now) (g.R.Report.told c.begin.new.report)) c.in-Open.is c.in_ok-begin.ensures.begins in
-    (begins.0, passed_at_once c.in-Open.heading begins.1 (rw c.in-Err-Limit.field-0-is (subst (StopsAtOnce c.in-Open.heading c.args.layout.now) c.in-Err-Limit.field-0-is c.in-Err-Limit.ensures.stopped)))
+    if_made_since (HasNoArea content layout.offset) (λ (x : Option Content). HasMachineLimit content x layout.offset layout tables) (λ (x : Option Content). IsMachineFrom content x layout.offset layout tables)
+    (g.D.Disk.content c.begin.new.disk) content (g.D.Disk.block_count c.begin.new.disk) (g.D.Disk.block_count c.args.disk.now) layout.offset (g.D.Disk.faults c.args.disk.now) (g.D.Disk.faults c.begin.new.disk) (g.D.Disk.faults c.machine_from.new.disk) (g.R.Report.told c.args.report.now) (g.R.Report.told c.begin.new.report) (g.R.Report.told c.machine_from.new.report) c.machine_from.result
+    c.begin.ensures.content c.begin.ensures.blocks begins.0 c.begin.ensures.faults (c.machine_from.ensures.made content begins.1)

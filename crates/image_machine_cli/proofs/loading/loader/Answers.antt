@@ -3,6 +3,7 @@ use Rattle.command_kit.specs.Answer.{RunResult}
 use Rattle.command_kit.specs.Told.{IsTold}
 use Rattle.command_kit.specs.View.{sink_view}
 use Rattle.image_check.specs.Told.{Told}
+use Rattle.image_dump.specs.Headings.{HasNoArea}
 use Rattle.image_dump.specs.Makes.{HasLimit, IsLoaderOf}
 use Rattle.image_machine_cli.specs.Loads.{made, no_memory, printer_view}
 use Rattle.image_machine_cli.proofs.Noting.{later, made_counted, same_faults}
@@ -26,7 +27,7 @@ returns-in-Ok-clause-stream g c = λ e.
     let mid = printer_view g.N.Sink c.loader_of.new.report in
     let content = g.D.Disk.content c.args.disk.now in
     let layout = c.args.layout.now in
-    let counted = made_counted (HasLimit content layout) (IsLoaderOf content layout) content (g.D.Disk.block_count c.args.disk.now) layout.offset (g.D.Disk.faults c.args.disk.now) (g.D.Disk.faults c.loader_of.new.disk) old mid c.in-Ok.made c.in-Ok.ensures.made in
+    let counted = made_counted (HasNoArea content layout.offset) (HasLimit content content layout.offset layout) (IsLoaderOf content layout) content (g.D.Disk.block_count c.args.disk.now) layout.offset (g.D.Disk.faults c.args.disk.now) (g.D.Disk.faults c.loader_of.new.disk) old mid c.in-Ok.made c.in-Ok.ensures.made in
     elim (c.tell_made.ensures.stream e) [
       | inl risen ↦ inl risen
       | inr risen ↦ inr (later old.faults mid.faults (g.N.Sink.faults c.tell_made.new.note) counted risen)
