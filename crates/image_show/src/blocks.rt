@@ -22,13 +22,13 @@ pub(crate) fn print_blocks<D: Disk, F: Form>(
     reading: &mut Reading,
 ) -> Result<(), Failed>
     requires blocks { D.block_count disk.old ≡ reading.old.walker.limits.blocks }
-    requires start { Reads reading.old.walker.next reading.old [] }
+    requires start { Reads reading.old.walker.walk.next reading.old [] }
     ensures whole { OnOk result ((facts : List OneFact)
-        × (ShowsBlocks true reading.old.walker.limits reading.old.walker.next
+        × (ShowsBlocks true reading.old.walker.limits reading.old.walker.walk.next
         (D.content disk.old) (D.faults disk.old) (D.faults disk.new) facts
         × Puts F.style facts (F.written form.old) (F.written form.new))) }
     ensures front { OnErr result ((whole : Bool) × ((facts : List OneFact)
-        × (ShowsBlocks whole reading.old.walker.limits reading.old.walker.next
+        × (ShowsBlocks whole reading.old.walker.limits reading.old.walker.walk.next
         (D.content disk.old) (D.faults disk.old) (D.faults disk.new) facts
         × PutsFront F.style facts (F.written form.old) (F.written form.new)))) }
     ensures counted { F.faults form.old ≤ F.faults form.new }

@@ -35,13 +35,13 @@ pub(crate) fn print_frames<D: Disk, F: Form>(
     format: Format,
 ) -> Result<(), Failed>
     requires blocks { D.block_count disk.old ≡ reading.old.walker.limits.blocks }
-    requires start { Reads reading.old.walker.next reading.old [] }
+    requires start { Reads reading.old.walker.walk.next reading.old [] }
     ensures whole { OnOk result ((facts : List OneFact)
-        × (ShowsFrames true reading.old.walker.limits reading.old.walker.next
+        × (ShowsFrames true reading.old.walker.limits reading.old.walker.walk.next
         (D.content disk.old) (D.faults disk.old) (D.faults disk.new) format facts
         × Puts F.style facts (F.written form.old) (F.written form.new))) }
     ensures front { OnErr result ((whole : Bool) × ((facts : List OneFact)
-        × (ShowsFrames whole reading.old.walker.limits reading.old.walker.next
+        × (ShowsFrames whole reading.old.walker.limits reading.old.walker.walk.next
         (D.content disk.old) (D.faults disk.old) (D.faults disk.new) format facts
         × PutsFront F.style facts (F.written form.old) (F.written form.new)))) }
     ensures counted { F.faults form.old ≤ F.faults form.new }

@@ -81,14 +81,16 @@ fn print_image<D: Disk, F: Form>(
 ) -> Result<(), Failed>
     requires blocks { D.block_count disk.old ≡ once.old.walker.limits.blocks }
     requires same { again.old.walker.limits ≡ once.old.walker.limits }
-    requires same_first { again.old.walker.next ≡ once.old.walker.next }
-    requires start { Reads once.old.walker.next once.old [] }
-    requires start_again { Reads again.old.walker.next again.old [] }
-    ensures shown { OnOk result ((image : List OneFact) × (ShowsImage true once.old.walker.limits once.old.walker.next
+    requires same_first { again.old.walker.walk.next ≡ once.old.walker.walk.next }
+    requires start { Reads once.old.walker.walk.next once.old [] }
+    requires start_again { Reads again.old.walker.walk.next again.old [] }
+    ensures shown { OnOk result ((image : List OneFact)
+        × (ShowsImage true once.old.walker.limits once.old.walker.walk.next
         (D.content disk.old) (D.faults disk.old) (D.faults disk.new) format image
         × Puts F.style (header_facts (D.block_count disk.old) page.now ++ image)
         (F.written form.old) (F.written form.new))) }
-    ensures front { OnErr result ((image : List OneFact) × (ShowsImage false once.old.walker.limits once.old.walker.next
+    ensures front { OnErr result ((image : List OneFact)
+        × (ShowsImage false once.old.walker.limits once.old.walker.walk.next
         (D.content disk.old) (D.faults disk.old) (D.faults disk.new) format image
         × PutsFront F.style (header_facts (D.block_count disk.old) page.now ++ image)
         (F.written form.old) (F.written form.new))) }

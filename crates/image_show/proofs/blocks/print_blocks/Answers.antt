@@ -14,7 +14,7 @@ pub loop-part-init : goal.loop-part-init
 loop-part-init g c = record {
   so_far =
       let few : c.args.reading.now.walker.limits.blocks < 4294967296 = search rules in
-      blocks_start g.F.Form.style c.args.reading.now.walker.next (g.D.Disk.content c.args.disk.now) (g.D.Disk.faults c.args.disk.now) (g.F.Form.written c.args.form.now) c.args.reading.now c.new-runs.result.last few
+      blocks_start g.F.Form.style c.args.reading.now.walker.walk.next (g.D.Disk.content c.args.disk.now) (g.D.Disk.faults c.args.disk.now) (g.F.Form.written c.args.form.now) c.args.reading.now c.new-runs.result.last few
       c.requires.start c.new-runs.ensures.start;
   blocks = c.requires.blocks;
   content = refl;
@@ -27,7 +27,7 @@ pub loop-part-preserved : goal.loop-part-preserved
 loop-part-preserved g c =
     let i = c.loop-part.invariant in
     let b = i.so_far in
-    let first = c.args.reading.now.walker.next in
+    let first = c.args.reading.now.walker.walk.next in
     let content = g.D.Disk.content c.args.disk.now in
     let then = g.D.Disk.faults c.loop-part.disk in
     let now = g.D.Disk.faults c.next.new.disk in
@@ -53,7 +53,7 @@ pub returns-in_err-print_part-clause-front : goal.returns-in_err-print_part-clau
 returns-in_err-print_part-clause-front g c =
     let i = c.loop-part.invariant in
     let b = i.so_far in
-    let first = c.args.reading.now.walker.next in
+    let first = c.args.reading.now.walker.walk.next in
     let content = g.D.Disk.content c.args.disk.now in
     let then = g.D.Disk.faults c.loop-part.disk in
     let now = g.D.Disk.faults c.next.new.disk in
@@ -74,7 +74,7 @@ pub returns-clause-whole : goal.returns-clause-whole
 returns-clause-whole g c =
     let i = c.loop-part.invariant in
     let b = i.so_far in
-    let first = c.args.reading.now.walker.next in
+    let first = c.args.reading.now.walker.walk.next in
     let content = g.D.Disk.content c.args.disk.now in
     let then = g.D.Disk.faults c.loop-part.disk in
     let now = g.D.Disk.faults c.next.new.disk in
@@ -91,7 +91,7 @@ pub returns-clause-front : goal.returns-clause-front
 returns-clause-front g c =
     let i = c.loop-part.invariant in
     let b = i.so_far in
-    let first = c.args.reading.now.walker.next in
+    let first = c.args.reading.now.walker.walk.next in
     let content = g.D.Disk.content c.args.disk.now in
     let then = g.D.Disk.faults c.loop-part.disk in
     let now = g.D.Disk.faults c.next.new.disk in

@@ -5,7 +5,7 @@ use Rattle.image_show.proofs.blocks.print_blocks.Given as goal
 
 abbrev pub invariant-loop-part : goal.invariant-loop-part
 invariant-loop-part g l = record {
-  so_far : BlocksSoFar g.F.Form.style l.initial.reading.walker.limits l.initial.reading.walker.next (g.D.Disk.content l.initial.disk) (g.D.Disk.faults l.initial.disk) (g.D.Disk.faults l.disk) (g.F.Form.written l.initial.form) (g.F.Form.written l.form) l.reading l.runs.last l.maps;
+  so_far : BlocksSoFar g.F.Form.style l.initial.reading.walker.limits l.initial.reading.walker.walk.next (g.D.Disk.content l.initial.disk) (g.D.Disk.faults l.initial.disk) (g.D.Disk.faults l.disk) (g.F.Form.written l.initial.form) (g.F.Form.written l.form) l.reading l.runs.last l.maps;
   blocks : g.D.Disk.block_count l.disk ≡ l.reading.walker.limits.blocks;
   content : g.D.Disk.content l.disk ≡ g.D.Disk.content l.initial.disk;
   orders : g.D.Disk.orders l.disk ≡ g.D.Disk.orders l.initial.disk;

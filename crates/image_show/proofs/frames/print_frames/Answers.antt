@@ -12,7 +12,7 @@ use Rattle.image_show.proofs.frames.print_frames.Goals as goal
 
 pub loop-part-init : goal.loop-part-init
 loop-part-init g c = record {
-  so_far = frames_start g.F.Form.style c.args.reading.now.walker.next (g.D.Disk.content c.args.disk.now) (g.D.Disk.faults c.args.disk.now) c.args.format (g.F.Form.written c.args.form.now) c.args.reading.now c.new-runs.result.last
+  so_far = frames_start g.F.Form.style c.args.reading.now.walker.walk.next (g.D.Disk.content c.args.disk.now) (g.D.Disk.faults c.args.disk.now) c.args.format (g.F.Form.written c.args.form.now) c.args.reading.now c.new-runs.result.last
       c.requires.start c.new-runs.ensures.start c.new-runs.ensures.count;
   blocks = c.requires.blocks;
   content = refl;
@@ -25,7 +25,7 @@ pub loop-part-preserved : goal.loop-part-preserved
 loop-part-preserved g c =
     let i = c.loop-part.invariant in
     let b = i.so_far in
-    let first = c.args.reading.now.walker.next in
+    let first = c.args.reading.now.walker.walk.next in
     let content = g.D.Disk.content c.args.disk.now in
     let then = g.D.Disk.faults c.loop-part.disk in
     let now = g.D.Disk.faults c.next_part.new.disk in
@@ -57,7 +57,7 @@ pub returns-in_err-print_numbers-clause-front : goal.returns-in_err-print_number
 returns-in_err-print_numbers-clause-front g c =
     let i = c.loop-part.invariant in
     let b = i.so_far in
-    let first = c.args.reading.now.walker.next in
+    let first = c.args.reading.now.walker.walk.next in
     let content = g.D.Disk.content c.args.disk.now in
     let then = g.D.Disk.faults c.loop-part.disk in
     let now = g.D.Disk.faults c.next_part.new.disk in
@@ -78,7 +78,7 @@ pub returns-clause-whole : goal.returns-clause-whole
 returns-clause-whole g c =
     let i = c.loop-part.invariant in
     let b = i.so_far in
-    let first = c.args.reading.now.walker.next in
+    let first = c.args.reading.now.walker.walk.next in
     let content = g.D.Disk.content c.args.disk.now in
     let then = g.D.Disk.faults c.loop-part.disk in
     let now = g.D.Disk.faults c.next_part.new.disk in
@@ -95,7 +95,7 @@ pub returns-clause-front : goal.returns-clause-front
 returns-clause-front g c =
     let i = c.loop-part.invariant in
     let b = i.so_far in
-    let first = c.args.reading.now.walker.next in
+    let first = c.args.reading.now.walker.walk.next in
     let content = g.D.Disk.content c.args.disk.now in
     let then = g.D.Disk.faults c.loop-part.disk in
     let now = g.D.Disk.faults c.next_part.new.disk in

@@ -17,7 +17,7 @@ returns-in_err-print_header-clause-front g c =
     on_any_err c.from_residual.result (
       [],
       (
-        image_none c.args.once.now.walker.limits c.args.once.now.walker.next (g.D.Disk.content c.args.disk.now) (g.D.Disk.faults c.args.disk.now) (g.D.Disk.faults c.args.disk.now) c.args.format,
+        image_none c.args.once.now.walker.limits c.args.once.now.walker.walk.next (g.D.Disk.content c.args.disk.now) (g.D.Disk.faults c.args.disk.now) (g.D.Disk.faults c.args.disk.now) c.args.format,
         front_first g.F.Form.style header [] (g.F.Form.written c.args.form.now) (g.F.Form.written c.print_header.new.form) front,
       ),
     )
@@ -31,7 +31,7 @@ returns-in_err-print_blocks-clause-front g c =
     subst (λ n. Puts g.F.Form.style (header_facts n c.args.page.now) old mid) c.blocks-2.ensures c.in_ok-print_header.ensures.whole in
     let new = g.F.Form.written c.print_blocks.new.form in
     let l = c.args.once.now.walker.limits in
-    let first = c.args.once.now.walker.next in
+    let first = c.args.once.now.walker.walk.next in
     let content = g.D.Disk.content c.args.disk.now in
     let before = g.D.Disk.faults c.args.disk.now in
     let now = g.D.Disk.faults c.print_blocks.new.disk in
@@ -55,7 +55,7 @@ returns-clause-shown g c =
     let then_taken = g.F.Form.written c.print_blocks.new.form in
     let new = g.F.Form.written c.print_frames.new.form in
     let l = c.args.once.now.walker.limits in
-    let first = c.args.once.now.walker.next in
+    let first = c.args.once.now.walker.walk.next in
     let content = g.D.Disk.content c.args.disk.now in
     let before = g.D.Disk.faults c.args.disk.now in
     let then = g.D.Disk.faults c.print_blocks.new.disk in
@@ -63,8 +63,8 @@ returns-clause-shown g c =
     let (blocks, (shows, takes)) = c.in_ok-print_blocks.ensures.whole in
     on_ok_then c.print_frames.result
     (λ frames.
-    let same_limits : ShowsFrames true l c.args.again.now.walker.next (g.D.Disk.content c.print_blocks.new.disk) then now c.args.format frames.0 =
-    subst (λ (x : Limits). ShowsFrames true x c.args.again.now.walker.next (g.D.Disk.content c.print_blocks.new.disk) then now c.args.format frames.0) c.requires.same frames.1.0 in
+    let same_limits : ShowsFrames true l c.args.again.now.walker.walk.next (g.D.Disk.content c.print_blocks.new.disk) then now c.args.format frames.0 =
+    subst (λ (x : Limits). ShowsFrames true x c.args.again.now.walker.walk.next (g.D.Disk.content c.print_blocks.new.disk) then now c.args.format frames.0) c.requires.same frames.1.0 in
     let same_first : ShowsFrames true l first (g.D.Disk.content c.print_blocks.new.disk) then now c.args.format frames.0 =
     subst (λ n. ShowsFrames true l n (g.D.Disk.content c.print_blocks.new.disk) then now c.args.format frames.0) c.requires.same_first same_limits in
     let same_content : ShowsFrames true l first content then now c.args.format frames.0 =
@@ -89,7 +89,7 @@ returns-clause-front g c =
     let then_taken = g.F.Form.written c.print_blocks.new.form in
     let new = g.F.Form.written c.print_frames.new.form in
     let l = c.args.once.now.walker.limits in
-    let first = c.args.once.now.walker.next in
+    let first = c.args.once.now.walker.walk.next in
     let content = g.D.Disk.content c.args.disk.now in
     let before = g.D.Disk.faults c.args.disk.now in
     let then = g.D.Disk.faults c.print_blocks.new.disk in
@@ -99,8 +99,8 @@ returns-clause-front g c =
     (λ frames.
     let whole : Bool = frames.0 in
     let says : List Fact = frames.1.0 in
-    let same_limits : ShowsFrames whole l c.args.again.now.walker.next (g.D.Disk.content c.print_blocks.new.disk) then now c.args.format says =
-    subst (λ (x : Limits). ShowsFrames whole x c.args.again.now.walker.next (g.D.Disk.content c.print_blocks.new.disk) then now c.args.format says) c.requires.same frames.1.1.0 in
+    let same_limits : ShowsFrames whole l c.args.again.now.walker.walk.next (g.D.Disk.content c.print_blocks.new.disk) then now c.args.format says =
+    subst (λ (x : Limits). ShowsFrames whole x c.args.again.now.walker.walk.next (g.D.Disk.content c.print_blocks.new.disk) then now c.args.format says) c.requires.same frames.1.1.0 in
     let same_first : ShowsFrames whole l first (g.D.Disk.content c.print_blocks.new.disk) then now c.args.format says =
     subst (λ n. ShowsFrames whole l n (g.D.Disk.content c.print_blocks.new.disk) then now c.args.format says) c.requires.same_first same_limits in
     let same_content : ShowsFrames whole l first content then now c.args.format says =
