@@ -12,6 +12,7 @@ from compressed import Compressed, twin
 from harness import check_same, programs, run
 from image_tests import Built, ran_over
 from linux_tests import PLAIN, area
+from lzo1x import compress, store
 
 # Up to here a double holds each whole number.
 MOST = 2**53
@@ -86,6 +87,36 @@ def test_show_of_bad_pages_runs_and_flags():
         {"memory_pages": 65536, "image_pages": 1018, "stream_pages": 1021},
         {"block_run": [[1, 2], [4, 1], [6, 1020]], "maps": 2, "frame_run": [[0, 1000], [1001, 18]]},
     )
+
+
+def test_show_of_compressed_images():
+    """The blocks are those of the area, the page frames and the counts those of the image."""
+    built = twin(Built(8))
+    mark = {"first_map": 1, "flags": 4, "flag": ["crc32"], "hw_sig": 0, "crc32": built.checksum}
+    check_same("the chain", (built.maps, built.places), ([1], [2, 3]))
+    check_shown(built, {"blocks": 13}, AREA, mark, GENERIC, {**COUNTS, "block_run": [[1, 3]]})
+    # The info page, three units of 33 pages and one of one: bad pages part their blocks.
+    built = twin(Built(120), packed=lambda k, unit: store(unit) if k < 3 else compress(unit), bad=(40, 70), first=30, flags=1)
+    check_same("the chain", (built.maps, built.places), ([30], [*range(31, 40), *range(41, 70), *range(71, 71 + 63)]))
+    check_shown(
+        built,
+        {"blocks": built.count},
+        {"image": True, "area": "swap", "last_page": built.last, "bad_pages": 2, "bad_page": [40, 70], "uuid": AREA["uuid"]},
+        {"first_map": 30, "flags": 1, "flag": ["platform_mode"], "hw_sig": 0, "crc32": 0},
+        GENERIC,
+        {"memory_pages": 65536, "image_pages": 120, "stream_pages": 122, "block_run": [[30, 10], [41, 29], [71, 63]], "maps": 1, "frame_run": [[0, 120]]},
+    )
+
+
+def test_show_of_damaged_compressed_images():
+    """What the header block says, alone."""
+    built = twin(Built(8))
+    mark = {"first_map": 1, "flags": 4, "flag": ["crc32"], "hw_sig": 0, "crc32": built.checksum}
+    built.put_length(0, 0)
+    check_shown(built, {"blocks": 13}, AREA, mark)
+    built = twin(Built(8))
+    built.put(0, 4060, struct.pack("<I", built.checksum ^ 1))
+    check_shown(built, {"blocks": 13}, AREA, {**mark, "crc32": built.checksum ^ 1})
 
 
 def test_show_without_an_image():

@@ -276,7 +276,7 @@ def facts_of(image):
 
 def kernel_facts(name, image):
     """What it says of the kernel that wrote the image."""
-    if name == "x86_64":
+    if name.startswith("x86_64"):
         words = reader.numbers(image.info)
         keys = ["jump_address", "jump_address_physical", "cr3", "memory_map_checksum"]
         return {"header": ["x86-64"], **{key: [f"0x{words[at]:016x}"] for key, at in zip(keys, [0, 1, 2, 4])}}
@@ -289,7 +289,7 @@ def kernel_facts(name, image):
 def image_facts(name, image):
     """What it says of the image, in the kernel's numbers and in the order of a resume's reads."""
     copied, = logged(name, r"Need to copy (\d+) pages")
-    saving, = logged(name, r"Saving image data pages \((\d+) pages\)")
+    saving, = logged(name, r"[Ss]aving image data (?:pages )?\((\d+) pages\)")
     parts = [[b, *image.chain[k * 511 : (k + 1) * 511]] for k, b in enumerate(image.maps)]
     return {
         "memory_pages": [str(image.physpages)], "image_pages": [str(copied)], "stream_pages": [str(saving + 1)], "maps": [str(len(parts))],
@@ -308,9 +308,7 @@ def test_what_show_prints():
             for line in out.decode().splitlines():
                 key, _, value = line.partition(" ")
                 found.setdefault(key, []).append(value)
-            wanted = facts_of(image)
-            if image.plain:
-                wanted |= {**kernel_facts(name, image), **image_facts(name, image)}
+            wanted = {**facts_of(image), **kernel_facts(name, image), **image_facts(name, image)}
             for key in {*wanted, *found}:
                 check_same(f"{name}: {key} {found.get(key)} for {wanted.get(key)}", found.get(key), wanted.get(key))
             check_same(f"{name}: the area", file.bytes(), before)

@@ -12,7 +12,7 @@ from inputs import Machine, area
 KIB = 1024
 STACK = 256 * KIB
 # These keep lists of facts in their frames, each with room for 630 bad pages.
-SHOW_STACK = 320 * KIB
+SHOW_STACK = 640 * KIB
 CORE_STACK = 640 * KIB
 DIFFER_STACK = 1152 * KIB
 # The disk that expands a compressed image keeps its header block and its info page in its frame.
@@ -36,6 +36,7 @@ def test_each_command_runs_in_its_stack():
     with tempfile.NamedTemporaryFile() as compressed:
         twin(Built(40)).write(compressed.name)
         within("swsusp_image", "check", compressed.name)
+        within("swsusp_image", "show", compressed.name, stack=SHOW_STACK)
         within("swsusp_image", "stream", compressed.name, stack=COMPRESSED_STACK)
         within("swsusp_image", "page", compressed.name, 0, stack=COMPRESSED_STACK)
         within("swsusp_image", "core", compressed.name, stack=CORE_STACK)

@@ -9,11 +9,11 @@ use Rattle.command_kit.specs.declared.status.Status.{Status}
 use Rattle.command_kit.specs.declared.status.Status.TheVariants.{Done, Refused}
 use Rattle.image_check.specs.Checked.{Finds}
 use Rattle.image_check.specs.declared.finding.Finding.{Finding}
+use Rattle.expanded_show.specs.Shown.{ShowsAll}
 use Rattle.image_facts.specs.declared.fact.Fact.{Fact}
 use Rattle.image_json.specs.Findings.{found_line, found_whole}
 use Rattle.image_json.specs.Objects.{object_line}
 use Rattle.image_json.specs.declared.checking.Checked.{Checked}
-use Rattle.image_show.specs.Shown.{Shows}
 use Rattle.image_show.specs.declared.shown.Shown.{Shown}
 use Rattle.image_cli.specs.Shows.{status_shown}
 
@@ -26,7 +26,7 @@ abbrev pub PrintsObject : Option Content → (blocks header before now : ℕ) �
     → (out out' note note' : SinkView) → Type 0
 PrintsObject content blocks header before now status out out' note note' =
     IsTold memory_told status out out' note note'
-    ⊎ ((facts : List Fact) × ((shown : Shown) × (Shows content blocks header before now facts shown
+    ⊎ ((facts : List Fact) × ((shown : Shown) × (ShowsAll content blocks header before now facts shown
     × IsTold (object_told facts shown) status out out' note note')))
 
 abbrev pub status_whole : Bool → Status

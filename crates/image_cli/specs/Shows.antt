@@ -6,8 +6,8 @@ use Rattle.command_kit.specs.Told.{FailsToPrint, IsTold, IsTried, sink_note}
 use Rattle.command_kit.specs.View.{SinkView}
 use Rattle.command_kit.specs.declared.status.Status.{Status}
 use Rattle.command_kit.specs.declared.status.Status.TheVariants.{Done, Refused, Stream}
+use Rattle.expanded_show.specs.Shown.{ShowsAll, ShowsNoMore}
 use Rattle.image_facts.specs.declared.fact.Fact.{Fact}
-use Rattle.image_show.specs.Shown.{Shows, ShowsFront}
 use Rattle.image_show.specs.Texts.{text_of}
 use Rattle.image_show.specs.declared.shown.Shown.{Shown}
 use Rattle.image_show.specs.declared.shown.Shown.TheVariants.{Area, NoHeader}
@@ -31,7 +31,7 @@ abbrev pub PrintsFacts : Option Content → (blocks header before now : ℕ) →
     → (out out' note note' : SinkView) → Type 0
 PrintsFacts content blocks header before now status out out' note note' =
     IsTold memory_told status out out' note note'
-    ⊎ (((facts : List Fact) × ((shown : Shown) × (Shows content blocks header before now facts shown
+    ⊎ (((facts : List Fact) × ((shown : Shown) × (ShowsAll content blocks header before now facts shown
     × IsTold (facts_told facts shown) status out out' note note')))
-    ⊎ ((facts : List Fact) × (ShowsFront content blocks header before now facts
+    ⊎ ((facts : List Fact) × (ShowsNoMore content blocks header before now facts
     × IsCutShort facts status out out' note note')))

@@ -13,7 +13,7 @@ use sector_disk::Disk;
 use std::alloc::Global;
 
 /// Prints what is written in the area whose header lies in a block, a fact a line. The status is `Done` where there
-/// is such a block and it was read, whatever it says. The disk is only read.
+/// is such a block and it was read, whatever it says. A compressed image is read whole first. The disk is only read.
 pub fn show<D: Disk, O: Sink, N: Sink>(
     alloc: Global,
     disk: &mut D,
@@ -36,7 +36,7 @@ pub fn show<D: Disk, O: Sink, N: Sink>(
     ensures orders { D.orders disk.new ≡ D.orders disk.old }
     ensures blocks { D.block_count disk.new ≡ D.block_count disk.old }
 {
-    match image_show::show(alloc, disk, header, out) {
+    match expanded_show::show(alloc, disk, header, out) {
         Ok(shown) => tell(status_shown(shown), b"", b"", out, note),
         Err(Fault::NoMemory) => no_memory().tell(out, note),
         Err(Fault::Write) => cut_short(note),

@@ -1,6 +1,6 @@
 ghost use Rattle.std.specs.Prelude.{◌≡◌, ◌≤◌, List, IfOk, string_bytes};
 ghost use Rattle.image_facts.specs.declared.fact.Fact.{Fact as OneFact};
-ghost use Rattle.image_show.specs.Shown.{Shows};
+ghost use Rattle.expanded_show.specs.Shown.{ShowsAll};
 ghost use Rattle.image_json.specs.Objects.{object_line};
 
 use crate::members::Members;
@@ -10,10 +10,10 @@ use sector_disk::Disk;
 use std::alloc::Global;
 
 /// What is written in the area whose header lies in a block, as one object in a line whose members are the facts of
-/// `image_show::show`. It takes memory for the line.
+/// `expanded_show::show`. It takes memory for the line.
 pub fn show<D: Disk>(alloc: Global, disk: &mut D, header: u32) -> Result<(Shown, String), NoMemory>
     ensures shown { IfOk result (λ shown. (facts : List OneFact)
-        × (Shows (D.content disk.old) (D.block_count disk.old) header
+        × (ShowsAll (D.content disk.old) (D.block_count disk.old) header
         (D.faults disk.old) (D.faults disk.new) facts shown.0
         × (string_bytes shown.1 ≡ object_line facts))) }
     ensures content { D.content disk.new ≡ D.content disk.old }
@@ -22,7 +22,7 @@ pub fn show<D: Disk>(alloc: Global, disk: &mut D, header: u32) -> Result<(Shown,
     ensures blocks { D.block_count disk.new ≡ D.block_count disk.old }
 {
     let mut members = Members::new(alloc);
-    let Ok(shown) = image_show::show(alloc, disk, header, &mut members) else {
+    let Ok(shown) = expanded_show::show(alloc, disk, header, &mut members) else {
         return Err(NoMemory);
     };
     match members.ended() {

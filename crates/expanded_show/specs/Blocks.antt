@@ -1,0 +1,53 @@
+-- The blocks that a compressed image takes in its area, in the order of its chain (save_image_lzo, swap_write_page,
+-- kernel/power/swap.c).
+use Rattle.std.specs.Prelude.{◌≡◌, ℕ, zero, suc, ◌+◌, ◌-◌, ◌*◌, ◌/◌, ◌<◌, ◌≤◌, List, [], ◌∷◌, ◌++◌, map, min}
+use Rattle.std.specs.Prelude.{Option, IfSome, IsSome}
+use Rattle.std.specs.List.{range_with_len}
+use Rattle.definitions.specs.Disk.{Content, DiskImage, HasRisen, as_it_reads, block}
+use Rattle.definitions.specs.Slots.{runs_of}
+use Rattle.definitions.specs.SwapMap.{map_entry}
+use Rattle.plain_machine.specs.Chain.{map_block}
+use Rattle.image_facts.specs.Runs.{IsUpTo}
+use Rattle.image_facts.specs.Told.{block_run}
+use Rattle.image_facts.specs.declared.fact.Fact.{Fact}
+use Rattle.image_facts.specs.declared.fact.Fact.TheVariants as fact
+use Rattle.image_units.specs.Names.{chain_of}
+use Rattle.image_units.specs.Units.{start_of, units_of}
+use Rattle.image_units.specs.declared.index.Index.{Index}
+use Rattle.expanded_show.specs.declared.gathered.Gathered.{Gathered}
+
+-- the block of a map that reads so, and those that its first entries name
+abbrev pub named_by : (at : ℕ) → (page : List ℕ) → (entries : ℕ) → List ℕ
+named_by at page entries = at ∷ map (map_entry page) (range_with_len 0 entries)
+
+-- the blocks of the first maps of a chain with so many pages: each map, and then the pages that it names
+unfoldable pub chain_blocks : DiskImage → (first count maps : ℕ) → List ℕ
+chain_blocks v first count zero = []
+chain_blocks v first count (suc m) =
+    chain_blocks v first count m
+    ++ named_by (map_block v first m) (block v (map_block v first m)) (min 511 (count - 511 * m))
+
+-- how many pages the chain of a whole image has: the info page, and those that its units take
+abbrev pub chain_length : DiskImage → Index → ℕ
+chain_length v index = start_of (chain_of v index.first) (units_of index.pages)
+
+-- a disk that tells what it holds has failed in a call; one that tells none may also hold no longer what it held
+abbrev pub FailsToRead : Option Content → (before now : ℕ) → Type 0
+FailsToRead content before now = IsSome content → HasRisen before now
+
+-- The blocks are told in runs, and then how many maps there are: all that the pages of the chain need, or those before
+-- the first that can't be read any more.
+pub record AreBlockFacts (content : Option Content) (before now : ℕ) (index : Index) (facts : List Fact) : Type 0 where
+  pub maps : ℕ
+  pub blocks : List ℕ
+  pub unread : IfSome content (λ held. 511 * maps < chain_length (as_it_reads held) index → HasRisen before now)
+  pub are : IfSome content (λ held.
+      (maps ≤ (chain_length (as_it_reads held) index + 510) / 511)
+      × (blocks ≡ chain_blocks (as_it_reads held) index.first (chain_length (as_it_reads held) index) maps))
+  pub says : facts ≡ map block_run (runs_of blocks) ++ fact.Maps maps ∷ []
+
+-- what was put together of these blocks
+pub record HasGathered (numbers : List ℕ) (g : Gathered) : Type 0 where
+  pub ended : List (ℕ × ℕ)
+  pub runs : IsUpTo numbers g.runs.last ended
+  pub facts : g.facts.items ≡ map block_run ended
