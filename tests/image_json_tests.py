@@ -89,12 +89,20 @@ def test_show_of_bad_pages_runs_and_flags():
     )
 
 
+def counted(**facts):
+    """The counts with these facts, in the order in which they are told."""
+    order = ["memory_pages", "image_pages", "stream_pages", "block_run", "maps", "units", "compressed_bytes", "expanded_bytes", "frame_run"]
+    return {key: {**COUNTS, **facts}[key] for key in order}
+
+
 def test_show_of_compressed_images():
     """The blocks are those of the area, the page frames and the counts those of the image."""
     built = twin(Built(8))
     mark = {"first_map": 1, "flags": 4, "flag": ["crc32"], "hw_sig": 0, "crc32": built.checksum}
     check_same("the chain", (built.maps, built.places), ([1], [2, 3]))
-    check_shown(built, {"blocks": 13}, AREA, mark, GENERIC, {**COUNTS, "block_run": [[1, 3]]})
+    # One unit of one page, which expands to the number page and 8 others.
+    units = {"units": 1, "compressed_bytes": 4096, "expanded_bytes": 9 * 4096}
+    check_shown(built, {"blocks": 13}, AREA, mark, GENERIC, counted(block_run=[[1, 3]], **units))
     # The info page, three units of 33 pages and one of one: bad pages part their blocks.
     built = twin(Built(120), packed=lambda k, unit: store(unit) if k < 3 else compress(unit), bad=(40, 70), first=30, flags=1)
     check_same("the chain", (built.maps, built.places), ([30], [*range(31, 40), *range(41, 70), *range(71, 71 + 63)]))
@@ -104,7 +112,8 @@ def test_show_of_compressed_images():
         {"image": True, "area": "swap", "last_page": built.last, "bad_pages": 2, "bad_page": [40, 70], "uuid": AREA["uuid"]},
         {"first_map": 30, "flags": 1, "flag": ["platform_mode"], "hw_sig": 0, "crc32": 0},
         GENERIC,
-        {"memory_pages": 65536, "image_pages": 120, "stream_pages": 122, "block_run": [[30, 10], [41, 29], [71, 63]], "maps": 1, "frame_run": [[0, 120]]},
+        counted(image_pages=120, stream_pages=122, block_run=[[30, 10], [41, 29], [71, 63]], units=4, compressed_bytes=100 * 4096,
+                expanded_bytes=121 * 4096, frame_run=[[0, 120]]),
     )
 
 

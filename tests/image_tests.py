@@ -499,6 +499,12 @@ def test_show_goes_as_far_as_the_bytes_allow():
     )
 
 
+def units_of(image):
+    """What is told of the units of a real kernel's image: of 32 pages each, in all pages of its chain but the info page."""
+    pages = image.pages - 1
+    return [str(n) for n in [-(-pages // 32), 4096 * (len(image.chain) - 1), 4096 * pages]]
+
+
 def test_show_of_real_kernels_images():
     """The kernel logs how many page frames it copied; all else is read by the laboratory's own reader."""
     for name in [*PLAIN, "compressed"]:
@@ -513,6 +519,8 @@ def test_show_of_real_kernels_images():
             check_same(f"{name}: header", values["header"], "x86-64" if name == "x86_64" else "generic")
             frames = [tuple(map(int, value.split())) for key, value in facts if key == b"frame_run"]
             check_same(f"{name}: page frames", tuple(p for start, count in frames for p in range(start, start + count)), image.listed)
+            units = [values.get(key) for key in ["units", "compressed_bytes", "expanded_bytes"]]
+            check_same(f"{name}: units", units, units_of(image) if name == "compressed" else [None] * 3)
             blocks = [tuple(map(int, value.split())) for key, value in facts if key == b"block_run"]
             check_same(f"{name}: blocks", sorted(b for at, n in blocks for b in range(at, at + n)), sorted([*image.maps, *image.chain]))
 

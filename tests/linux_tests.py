@@ -291,7 +291,9 @@ def image_facts(name, image):
     copied, = logged(name, r"Need to copy (\d+) pages")
     saving, = logged(name, r"[Ss]aving image data (?:pages )?\((\d+) pages\)")
     parts = [[b, *image.chain[k * 511 : (k + 1) * 511]] for k, b in enumerate(image.maps)]
+    counts = {"units": -(-saving // 32), "compressed_bytes": PAGE * (len(image.chain) - 1), "expanded_bytes": PAGE * saving}
     return {
+        **({} if image.plain else {key: [str(n)] for key, n in counts.items()}),
         "memory_pages": [str(image.physpages)], "image_pages": [str(copied)], "stream_pages": [str(saving + 1)], "maps": [str(len(parts))],
         "block_run": [f"{first} {count}" for first, count in reader.runs(sum(parts, []))],
         "frame_run": [f"{first} {count}" for first, count in reader.runs(image.listed)],

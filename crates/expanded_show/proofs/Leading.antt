@@ -8,7 +8,7 @@ use Rattle.image_units.specs.declared.index.Index.{Index}
 use Rattle.expanded_disk.specs.Keeps.{FailsWith, HasIndex}
 use Rattle.expanded_disk.specs.Laid.{blocks_for, expanded}
 use Rattle.expanded_disk.proofs.Loads.{for_some}
-use Rattle.expanded_show.specs.Blocks.{AreBlockFacts}
+use Rattle.expanded_show.specs.Blocks.{AreAreaFacts}
 use Rattle.expanded_show.specs.Standing.{standing}
 use Rattle.expanded_show.specs.Shown.{IsNotWhole, ShowsAny, ShowsExpanded, as_it_lies, whole}
 
@@ -23,12 +23,12 @@ shows_lying Plain content mid blocks size header before then now facts same size
 
 pub shows_whole : (Plain : Showing) (content then_held mid_held : Option Content) (blocks then_size mid_size header before then mid now : ℕ) (index : Index) (area facts : List Fact) →
     then_held ≡ content → mid_held ≡ then_held → then_size ≡ blocks → mid_size ≡ then_size → before ≤ then → then ≤ mid →
-    IfSome content (λ held. IsIndexed blocks (as_it_reads held) header index) → AreBlockFacts then_held then mid index area →
+    IfSome content (λ held. IsIndexed blocks (as_it_reads held) header index) → AreAreaFacts then_held then mid index area →
     ShowsExpanded Plain mid_held mid_size header index area mid now facts → ShowsAny Plain content blocks header before now facts
 shows_whole Plain content then_held mid_held blocks then_size mid_size header before then mid now index area facts same held_same size_is mid_is le more indexed lies shows =
     let one : ShowsExpanded Plain content mid_size header index area mid now facts =
     subst (λ (x : Option Content). ShowsExpanded Plain x mid_size header index area mid now facts) (held_same ∙ same) shows in
-    whole index area then mid le indexed (subst (λ (x : Option Content). AreBlockFacts x then mid index area) same lies) more
+    whole index area then mid le indexed (subst (λ (x : Option Content). AreAreaFacts x then mid index area) same lies) more
     (subst (λ (n : ℕ). ShowsExpanded Plain content n header index area mid now facts) (mid_is ∙ size_is) one)
 
 -- what was opened is the index

@@ -1,7 +1,7 @@
 -- The blocks that a compressed image takes in its area, in the order of its chain (save_image_lzo, swap_write_page,
 -- kernel/power/swap.c).
 use Rattle.std.specs.Prelude.{◌≡◌, ℕ, zero, suc, ◌+◌, ◌-◌, ◌*◌, ◌/◌, ◌<◌, ◌≤◌, List, [], ◌∷◌, ◌++◌, map, min}
-use Rattle.std.specs.Prelude.{Option, IfSome, IsSome}
+use Rattle.std.specs.Prelude.{Option, IfSome, IsSome, slice_index}
 use Rattle.std.specs.List.{range_with_len}
 use Rattle.definitions.specs.Disk.{Content, DiskImage, HasRisen, as_it_reads, block}
 use Rattle.definitions.specs.Slots.{runs_of}
@@ -45,6 +45,21 @@ pub record AreBlockFacts (content : Option Content) (before now : ℕ) (index : 
       (maps ≤ (chain_length (as_it_reads held) index + 510) / 511)
       × (blocks ≡ chain_blocks (as_it_reads held) index.first (chain_length (as_it_reads held) index) maps))
   pub says : facts ≡ map block_run (runs_of blocks) ++ fact.Maps maps ∷ []
+
+-- How many units an image has, how many bytes the pages of the chain have that these take, and how many those that they
+-- expand to: all but the info page.
+abbrev pub unit_facts : Index → List Fact
+unit_facts index =
+    fact.Units (units_of index.pages)
+    ∷ fact.CompressedBytes (4096 * (slice_index index.starts.items (units_of index.pages) - 1))
+    ∷ fact.ExpandedBytes (4096 * (index.pages - 1))
+    ∷ []
+
+-- where a whole image lies, and then what its units take
+pub record AreAreaFacts (content : Option Content) (before now : ℕ) (index : Index) (facts : List Fact) : Type 0 where
+  pub blocks : List Fact
+  pub lies : AreBlockFacts content before now index blocks
+  pub says : facts ≡ blocks ++ unit_facts index
 
 -- what was put together of these blocks
 pub record HasGathered (numbers : List ℕ) (g : Gathered) : Type 0 where

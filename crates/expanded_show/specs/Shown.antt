@@ -11,7 +11,7 @@ use Rattle.image_units.specs.Opens.{IsPlain, IsWrong}
 use Rattle.image_units.specs.declared.index.Index.{Index}
 use Rattle.expanded_disk.specs.Keeps.{FailsWith}
 use Rattle.expanded_disk.specs.Laid.{blocks_for, expanded}
-use Rattle.expanded_show.specs.Blocks.{AreBlockFacts}
+use Rattle.expanded_show.specs.Blocks.{AreAreaFacts}
 use Rattle.expanded_show.specs.Standing.{standing}
 
 -- the image isn't compressed, or something is wrong with it
@@ -38,7 +38,7 @@ pub data ShowsAny (ShowsPlain : Option Content → (blocks header before now : �
       ShowsPlain content blocks header then now facts → ShowsAny ShowsPlain content blocks header before now facts
   whole : (index : Index) (area : List Fact) (then mid : ℕ) → before ≤ then →
       IfSome content (λ held. IsIndexed blocks (as_it_reads held) header index) →
-      AreBlockFacts content then mid index area → then ≤ mid →
+      AreAreaFacts content then mid index area → then ≤ mid →
       ShowsExpanded ShowsPlain content blocks header index area mid now facts →
       ShowsAny ShowsPlain content blocks header before now facts
 

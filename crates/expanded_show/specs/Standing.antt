@@ -41,6 +41,9 @@ topic_of (fact.ImagePages n) = Image
 topic_of (fact.StreamPages n) = Image
 topic_of (fact.BlockRun start count) = Place
 topic_of (fact.Maps n) = Maps
+topic_of (fact.Units n) = Place
+topic_of (fact.CompressedBytes n) = Place
+topic_of (fact.ExpandedBytes n) = Place
 topic_of (fact.FrameRun start count) = Image
 
 -- The facts of the area's header block stand for the first one, and where its image lies for the last of the blocks.

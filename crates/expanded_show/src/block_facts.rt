@@ -1,13 +1,14 @@
 //! Where a compressed image lies in its area.
-ghost use Rattle.std.specs.Prelude.{◌≡◌, ◌+◌, ◌-◌, ◌*◌, ◌^◌, ◌<◌, ◌≤◌, IfOk, IfSome, OnErr, length, min, slice_index};
+ghost use Rattle.std.specs.Prelude.{◌≡◌, ◌+◌, ◌-◌, ◌*◌, ◌^◌, ◌<◌, ◌≤◌, IfOk, IfSome, OnErr, OnOk, length, min};
+ghost use Rattle.std.specs.Prelude.{◌++◌, slice_index};
 ghost use Rattle.std.specs.Option.{ForSome};
 ghost use Rattle.definitions.specs.Disk.{as_it_reads, block};
 ghost use Rattle.plain_machine.specs.Chain.{map_block};
 ghost use Rattle.image_units.specs.Index.{IsIndexOf};
 ghost use Rattle.image_units.specs.Units.{units_of};
-ghost use Rattle.expanded_show.specs.Blocks.{AreBlockFacts, FailsToRead, chain_length};
+ghost use Rattle.expanded_show.specs.Blocks.{AreAreaFacts, AreBlockFacts, FailsToRead, chain_length, unit_facts};
 
-use crate::gathered::Gathered;
+use crate::gathered::{Gathered, push};
 use image_facts::Fact;
 use image_units::{Index, units_of};
 use page_core::{Failed, NoMemory, Page};
@@ -17,8 +18,11 @@ use std::alloc::Global;
 /// How many entries a map page has (MAP_PAGE_ENTRIES).
 const ENTRIES: u64 = 511;
 
+/// How many bytes a page has.
+const PAGE: u64 = 4096;
+
 /// The runs of the blocks that a compressed image takes, and how many maps it has. It reads its maps once more.
-pub(crate) fn block_facts<D: Disk>(
+fn block_facts<D: Disk>(
     alloc: Global,
     disk: &mut D,
     index: &Index,
@@ -45,11 +49,44 @@ pub(crate) fn block_facts<D: Disk>(
     gathered.ended(maps)
 }
 
+/// The same, and then how many units it has, how many bytes the pages have that they take, and how many those that
+/// they expand to.
+pub(crate) fn area_facts<D: Disk>(
+    alloc: Global,
+    disk: &mut D,
+    index: &Index,
+) -> Result<Vec<Fact>, NoMemory>
+    requires indexed { ForSome (D.content disk.old) (λ held.
+        IsIndexOf (D.block_count disk.old) (as_it_reads held) index.now.first index.now.header index.now) }
+    ensures facts { IfOk result (λ facts.
+        AreAreaFacts (D.content disk.old) (D.faults disk.old) (D.faults disk.new) index.now facts.items) }
+    ensures content { D.content disk.new ≡ D.content disk.old }
+    ensures faults { D.faults disk.old ≤ D.faults disk.new }
+    ensures orders { D.orders disk.new ≡ D.orders disk.old }
+    ensures blocks { D.block_count disk.new ≡ D.block_count disk.old }
+{
+    let mut facts = block_facts(alloc, disk, index)?;
+    add_unit_facts(&mut facts, index)?;
+    Ok(facts)
+}
+
+/// Adds what the units of an image take.
+fn add_unit_facts(facts: &mut Vec<Fact>, index: &Index) -> Result<(), NoMemory>
+    ensures { OnOk result (facts.new.items ≡ facts.old.items ++ unit_facts index.now) }
+{
+    let packed = page_count(index).saturating_sub(1);
+    let expanded = index.pages.saturating_sub(1);
+    push(facts, Fact::Units(units_of(index.pages)))?;
+    push(facts, Fact::CompressedBytes(PAGE * packed))?;
+    push(facts, Fact::ExpandedBytes(PAGE * expanded))
+}
+
 /// How many pages the chain of an image has.
 fn page_count(index: &Index) -> u64
     ensures few { result < 2 ^ 32 }
     ensures count { length index.now.starts.items ≡ units_of index.now.pages + 1 →
         result ≡ slice_index index.now.starts.items (units_of index.now.pages) }
+    ensures last { result ≡ slice_index index.now.starts.items (units_of index.now.pages) }
 {
     let last = units_of(index.pages) as usize;
     if last >= index.starts.len() {

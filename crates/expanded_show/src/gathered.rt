@@ -74,7 +74,8 @@ impl Gathered {
     }
 }
 
-fn push(facts: &mut Vec<Fact>, fact: Fact) -> Result<(), NoMemory>
+/// Adds a fact.
+pub(crate) fn push(facts: &mut Vec<Fact>, fact: Fact) -> Result<(), NoMemory>
     ensures { OnOk result (facts.new.items ≡ facts.old.items ++ fact ∷ []) }
 {
     facts.push(fact).map_err(|_| NoMemory)

@@ -10,7 +10,7 @@ ghost use Rattle.expanded_show.specs.Shown.{ShowsAll, ShowsExpanded, ShowsNoMore
 ghost use Rattle.expanded_show.specs.Standing.{standing};
 
 use crate::area_facts::AreaFacts;
-use crate::block_facts::block_facts;
+use crate::block_facts::area_facts;
 use crate::image_form::{ImageForm, LentForm};
 use byte_streams::MemSink;
 use expanded_disk::ExpandedDisk;
@@ -30,7 +30,7 @@ struct Compressed {
     /// The block of the header.
     header: u32,
     index: Index,
-    /// Where it lies in its area.
+    /// Where it lies in its area, and what its units take.
     blocks: Vec<Fact>,
 }
 
@@ -67,7 +67,7 @@ pub fn show<D: Disk, F: Form>(
         Ok(Opened::Plain) => image_show::show(alloc, disk, header, form),
         Ok(Opened::Refused) => image_show::show(alloc, disk, header, form),
         Ok(Opened::Whole(index)) => {
-            let Ok(blocks) = block_facts(alloc, disk, &index) else {
+            let Ok(blocks) = area_facts(alloc, disk, &index) else {
                 return Err(Fault::NoMemory);
             };
             let below = Lent { disk };

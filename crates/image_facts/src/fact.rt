@@ -87,6 +87,11 @@ pub enum Fact {
     BlockRun(u64, u64),
     /// How many maps were read.
     Maps(u64),
+    /// How many units a compressed image has, how many bytes the pages have that they take, and how many those that they
+    /// expand to.
+    Units(u64),
+    CompressedBytes(u64),
+    ExpandedBytes(u64),
     /// Page frames in a row: the first, and how many they are.
     FrameRun(u64, u64),
 }

@@ -63,6 +63,9 @@ value_by (fact.ImagePages n) text = number_value n
 value_by (fact.StreamPages n) text = number_value n
 value_by (fact.BlockRun start count) text = run_value start count
 value_by (fact.Maps n) text = number_value n
+value_by (fact.Units n) text = number_value n
+value_by (fact.CompressedBytes n) text = number_value n
+value_by (fact.ExpandedBytes n) text = number_value n
 value_by (fact.FrameRun start count) text = run_value start count
 
 abbrev pub key_of : Fact → List ℕ
@@ -106,6 +109,9 @@ array_of (fact.ImagePages n) = None
 array_of (fact.StreamPages n) = None
 array_of (fact.BlockRun start count) = Some BlockRuns
 array_of (fact.Maps n) = None
+array_of (fact.Units n) = None
+array_of (fact.CompressedBytes n) = None
+array_of (fact.ExpandedBytes n) = None
 array_of (fact.FrameRun start count) = Some FrameRuns
 
 -- the place of an array among the four

@@ -31,7 +31,10 @@ pub(crate) fn value_text(alloc: Global, fact: &Fact, text: &[u8]) -> Result<Stri
         | Fact::MemoryPages(n)
         | Fact::ImagePages(n)
         | Fact::StreamPages(n)
-        | Fact::Maps(n) => number_text(alloc, n),
+        | Fact::Maps(n)
+        | Fact::Units(n)
+        | Fact::CompressedBytes(n)
+        | Fact::ExpandedBytes(n) => number_text(alloc, n),
         Fact::BlockRun(start, count) | Fact::FrameRun(start, count) => {
             run_text(alloc, start, count)
         }

@@ -75,6 +75,9 @@ fact_text (fact.ImagePages n) = numbers_text (codes "image_pages") (n ∷ [])
 fact_text (fact.StreamPages n) = numbers_text (codes "stream_pages") (n ∷ [])
 fact_text (fact.BlockRun start count) = numbers_text (codes "block_run") (start ∷ count ∷ [])
 fact_text (fact.Maps n) = numbers_text (codes "maps") (n ∷ [])
+fact_text (fact.Units n) = numbers_text (codes "units") (n ∷ [])
+fact_text (fact.CompressedBytes n) = numbers_text (codes "compressed_bytes") (n ∷ [])
+fact_text (fact.ExpandedBytes n) = numbers_text (codes "expanded_bytes") (n ∷ [])
 fact_text (fact.FrameRun start count) = numbers_text (codes "frame_run") (start ∷ count ∷ [])
 
 abbrev pub line_text : Fact → List ℕ

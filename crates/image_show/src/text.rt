@@ -70,6 +70,9 @@ fn put_fact(line: &mut Line, fact: &Fact)
         Fact::StreamPages(n) => put_numbers(line, b"stream_pages", &[n]),
         Fact::BlockRun(start, count) => put_numbers(line, b"block_run", &[start, count]),
         Fact::Maps(n) => put_numbers(line, b"maps", &[n]),
+        Fact::Units(n) => put_numbers(line, b"units", &[n]),
+        Fact::CompressedBytes(n) => put_numbers(line, b"compressed_bytes", &[n]),
+        Fact::ExpandedBytes(n) => put_numbers(line, b"expanded_bytes", &[n]),
         Fact::FrameRun(start, count) => put_numbers(line, b"frame_run", &[start, count]),
     }
 }

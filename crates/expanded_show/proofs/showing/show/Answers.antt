@@ -11,8 +11,8 @@ show_below-over-requires-clause-indexed g c =
     let content = g.D.Disk.content c.args.disk.now in
     let blocks = g.D.Disk.block_count c.args.disk.now in
     let opens = subst (OpensUnits content blocks c.args.header (g.D.Disk.faults c.args.disk.now) (g.D.Disk.faults c.open.new.disk) _ _) c.in-Ok-Whole.field-0-is c.in-Ok-Whole.ensures.opened in
-    index_at content (g.D.Disk.content c.block_facts.new.disk) blocks (g.D.Disk.block_count c.block_facts.new.disk) c.args.header c.in-Ok-Whole.index
-    (c.block_facts.ensures.content ∙ c.open.ensures.content) (c.block_facts.ensures.blocks ∙ c.open.ensures.blocks) opens.1
+    index_at content (g.D.Disk.content c.area_facts.new.disk) blocks (g.D.Disk.block_count c.area_facts.new.disk) c.args.header c.in-Ok-Whole.index
+    (c.area_facts.ensures.content ∙ c.open.ensures.content) (c.area_facts.ensures.blocks ∙ c.open.ensures.blocks) opens.1
 
 pub returns-in-Ok-Plain-clause-shown : goal.returns-in-Ok-Plain-clause-shown
 returns-in-Ok-Plain-clause-shown g c =
@@ -95,8 +95,8 @@ returns-in-Ok-Whole-clause-shown g c =
       s.0,
       (
         subst (λ d. ShowsAll content blocks c.args.header before (g.D.Disk.faults d) s.0 shown) (sym given)
-            (shows_whole (λ c n h b f fs. Shows c n h b f fs shown) content (g.D.Disk.content c.open.new.disk) (g.D.Disk.content c.block_facts.new.disk) blocks (g.D.Disk.block_count c.open.new.disk) (g.D.Disk.block_count c.block_facts.new.disk) c.args.header before then (g.D.Disk.faults c.block_facts.new.disk) (g.D.Disk.faults c.show_below-over.result.0.disk.now) c.in-Ok-Whole.index c.in-Ok.blocks.items s.0
-            c.open.ensures.content c.block_facts.ensures.content c.open.ensures.blocks c.block_facts.ensures.blocks c.open.ensures.faults c.block_facts.ensures.faults opens.1 c.in-Ok.ensures.facts s.1.0),
+            (shows_whole (λ c n h b f fs. Shows c n h b f fs shown) content (g.D.Disk.content c.open.new.disk) (g.D.Disk.content c.area_facts.new.disk) blocks (g.D.Disk.block_count c.open.new.disk) (g.D.Disk.block_count c.area_facts.new.disk) c.args.header before then (g.D.Disk.faults c.area_facts.new.disk) (g.D.Disk.faults c.show_below-over.result.0.disk.now) c.in-Ok-Whole.index c.in-Ok.blocks.items s.0
+            c.open.ensures.content c.area_facts.ensures.content c.open.ensures.blocks c.area_facts.ensures.blocks c.open.ensures.faults c.area_facts.ensures.faults opens.1 c.in-Ok.ensures.facts s.1.0),
         s.1.1,
       ),
     ))
@@ -114,8 +114,8 @@ returns-in-Ok-Whole-clause-front g c = λ e.
       s.0,
       (
         subst (λ d. ShowsNoMore content blocks c.args.header before (g.D.Disk.faults d) s.0) (sym given)
-            (shows_whole ShowsFront content (g.D.Disk.content c.open.new.disk) (g.D.Disk.content c.block_facts.new.disk) blocks (g.D.Disk.block_count c.open.new.disk) (g.D.Disk.block_count c.block_facts.new.disk) c.args.header before then (g.D.Disk.faults c.block_facts.new.disk) (g.D.Disk.faults c.show_below-over.result.0.disk.now) c.in-Ok-Whole.index c.in-Ok.blocks.items s.0
-            c.open.ensures.content c.block_facts.ensures.content c.open.ensures.blocks c.block_facts.ensures.blocks c.open.ensures.faults c.block_facts.ensures.faults opens.1 c.in-Ok.ensures.facts s.1.0),
+            (shows_whole ShowsFront content (g.D.Disk.content c.open.new.disk) (g.D.Disk.content c.area_facts.new.disk) blocks (g.D.Disk.block_count c.open.new.disk) (g.D.Disk.block_count c.area_facts.new.disk) c.args.header before then (g.D.Disk.faults c.area_facts.new.disk) (g.D.Disk.faults c.show_below-over.result.0.disk.now) c.in-Ok-Whole.index c.in-Ok.blocks.items s.0
+            c.open.ensures.content c.area_facts.ensures.content c.open.ensures.blocks c.area_facts.ensures.blocks c.open.ensures.faults c.area_facts.ensures.faults opens.1 c.in-Ok.ensures.facts s.1.0),
         s.1.1,
       ),
     )
