@@ -22,11 +22,7 @@ const ENTRIES: u64 = 511;
 const PAGE: u64 = 4096;
 
 /// The runs of the blocks that a compressed image takes, and how many maps it has. It reads its maps once more.
-fn block_facts<D: Disk>(
-    alloc: Global,
-    disk: &mut D,
-    index: &Index,
-) -> Result<Vec<Fact>, NoMemory>
+fn block_facts<D: Disk>(alloc: Global, disk: &mut D, index: &Index) -> Result<Vec<Fact>, NoMemory>
     requires indexed { ForSome (D.content disk.old) (λ held.
         IsIndexOf (D.block_count disk.old) (as_it_reads held) index.now.first index.now.header index.now) }
     ensures facts { IfOk result (λ facts.

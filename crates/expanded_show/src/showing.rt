@@ -84,6 +84,7 @@ pub fn show<D: Disk, F: Form>(
 }
 
 /// Prints what a whole compressed image is, over a disk that is given back.
+#[inline(never)]
 fn show_below<B: Walks + Drop, K: Original, F: Form>(
     alloc: Global,
     below: B,
