@@ -2,8 +2,9 @@
  * libswsusp: the image of a hibernated Linux, for a boot loader or an initramfs.
  *
  * The library makes no call of its own and takes no memory: it says which call of the disk comes next, and is told how
- * that went. All it keeps lies in the caller's struct swsusp_resume or struct swsusp_discard, which may lie anywhere,
- * be copied and be moved. Two threads may not use one such struct at once. libswsusp(3) has a page for each function.
+ * that went. All it keeps lies in the caller's struct swsusp_resume, struct swsusp_discard or struct swsusp_check, which
+ * may lie anywhere, be copied and be moved. Two threads may not use one such struct at once. libswsusp(3) has a page for
+ * each function.
  *
  * Each pointer must hold what it says, and no two of a call may overlap; none may be NULL. Every other argument is
  * tested, and refused with a code.
@@ -21,6 +22,12 @@ extern "C" {
 /* Blocks of the disk, page frames and the caller's buffer have so many bytes. */
 #define SWSUSP_PAGE 4096
 
+/* How many words of 64 bits a check of a disk of so many blocks is lent. */
+#define SWSUSP_WORDS(blocks) ((size_t)(blocks) / 64 + 1)
+
+/* How many findings of one call are kept. */
+#define SWSUSP_FINDINGS 1100
+
 /* What the functions return. Unless it is SWSUSP_OK, nothing was changed. */
 enum {
     SWSUSP_OK = 0,
@@ -29,7 +36,8 @@ enum {
     SWSUSP_BAD_MEMORY = 3,   /* a range of page frames is empty, or begins before the end of the one before it */
     SWSUSP_BAD_PRESENT = 4,  /* there are no page frames, or 2^52 and more */
     SWSUSP_BAD_HEADER = 5,   /* the header's block isn't one of the disk's */
-    SWSUSP_BAD_IDENTITY = 6  /* none of SWSUSP_ANY_KERNEL, SWSUSP_SAME_KERNEL and SWSUSP_SAME_ARCHITECTURE */
+    SWSUSP_BAD_IDENTITY = 6, /* none of SWSUSP_ANY_KERNEL, SWSUSP_SAME_KERNEL and SWSUSP_SAME_ARCHITECTURE */
+    SWSUSP_BAD_WORDS = 7     /* fewer words are lent than SWSUSP_WORDS says */
 };
 
 /* What comes next: the kind of a call. */
@@ -166,6 +174,100 @@ struct swsusp_header {
     uint32_t number;
 };
 
+/* A check of an image. Its fields are the library's. */
+struct swsusp_check {
+    uint64_t at;
+    uint64_t next;
+    uint64_t entry;
+    uint64_t image_pages;
+    uint64_t pages;
+    uint64_t previous;
+    uint64_t counted;
+    uint32_t stage;
+    uint32_t block;
+    uint32_t blocks;
+    uint32_t header;
+    uint32_t last;
+    uint32_t skips_zeros;
+    uint32_t maps;
+    uint32_t over;
+    uint32_t has_counts;
+    uint32_t has_previous;
+    uint32_t has_counted;
+    uint32_t bad[630];
+    uint8_t map[SWSUSP_PAGE];
+};
+
+/*
+ * What is wrong with an image: the kind of a finding. Maps and number pages count from 1, entries of a map and words of a
+ * number page from 0. `fault` is 0 where nothing else is said of it.
+ */
+enum {
+    SWSUSP_FOUND_HEADER_UNREAD = 1,      /* block `first`, the header's, can't be read */
+    SWSUSP_FOUND_ORIGINAL_SIGNATURE = 2, /* the original signature is no swap area's */
+    SWSUSP_FOUND_AREA = 3,               /* taken back, the area couldn't be used: `fault`, one of SWSUSP_FAULT_VERSION
+                                            to SWSUSP_FAULT_BAD_ENTRY, with the number `first` */
+    SWSUSP_FOUND_LAST_PAGE = 4,          /* the last page is `first`, but the disk has `second` blocks */
+    SWSUSP_FOUND_COMPRESSED = 5,         /* flags `first`: a compressed image, whose pages aren't read */
+    SWSUSP_FOUND_MAP = 6,                /* map `map` lies in a block at `fault`, block `first` */
+    SWSUSP_FOUND_ENDS = 7,               /* map `map` is the last one, but the image has `first` pages */
+    SWSUSP_FOUND_AFTER_MAPS = 8,         /* map `map` in block `first` comes after the last one */
+    SWSUSP_FOUND_ENTRY = 9,              /* `entry` of map `map`, in block `at`, names a block at `fault`, block `first` */
+    SWSUSP_FOUND_AFTER_PAGES = 10,       /* `entry` of map `map`, in block `at`, names block `first` after the last page */
+    SWSUSP_FOUND_NO_END = 11,            /* name `first` of the info page, from 0, has no end */
+    SWSUSP_FOUND_MAGIC = 12,             /* the info page has an architecture's header, but with magic `first` */
+    SWSUSP_FOUND_COUNTS = 13,            /* the info page says image_pages `first`, but pages `second` */
+    SWSUSP_FOUND_SIZE = 14,              /* the info page says size `first`, but pages `second` */
+    SWSUSP_FOUND_NUMBER = 15,            /* number page `first`, word `second`: `third` is no page frame */
+    SWSUSP_FOUND_ORDER = 16,             /* number page `first`, word `second`: `third` comes after `fourth` */
+    SWSUSP_FOUND_END = 17,               /* number page `first`, word `second`: `third` after the last number */
+    SWSUSP_FOUND_DATA_PAGES = 18,        /* the numbers have `first` data pages, but pages are `second` */
+    /* Of a compressed image's units, which this check doesn't read: */
+    SWSUSP_FOUND_UNIT_LENGTH = 19,       /* unit `first`, at `entry` of map `map` in block `at`, has length `second` */
+    SWSUSP_FOUND_UNIT_STREAM = 20,       /* unit `first`, byte `second`: the stream has `fault` */
+    SWSUSP_FOUND_UNIT_SIZE = 21,         /* unit `first` has `second` bytes, but `third` are wanted */
+    SWSUSP_FOUND_CHECKSUM = 22           /* the header's checksum is `first`, that of the units `second` */
+};
+
+/* Why a block that is named can't be a page of the image: `fault` of SWSUSP_FOUND_MAP and SWSUSP_FOUND_ENTRY. */
+enum {
+    SWSUSP_BLOCK_ZERO = 1,        /* block 0: none is named */
+    SWSUSP_BLOCK_BEYOND_FILE = 2, /* beyond the disk */
+    SWSUSP_BLOCK_BEYOND_LAST = 3, /* beyond the last page of the area */
+    SWSUSP_BLOCK_BAD = 4,         /* a bad page of the area */
+    SWSUSP_BLOCK_AGAIN = 5,       /* named already, or the header block */
+    SWSUSP_BLOCK_UNREAD = 6       /* it can't be read */
+};
+
+/* What is wrong with a unit's stream: `fault` of SWSUSP_FOUND_UNIT_STREAM. */
+enum {
+    SWSUSP_STREAM_VERSIONED = 1,
+    SWSUSP_STREAM_INPUT_TOO_SHORT = 2,
+    SWSUSP_STREAM_OUTPUT_TOO_LONG = 3,
+    SWSUSP_STREAM_BEFORE_BEGIN = 4,
+    SWSUSP_STREAM_BAD_END = 5,
+    SWSUSP_STREAM_BEHIND_END = 6
+};
+
+/* A finding. Numbers that its kind doesn't name are 0. */
+struct swsusp_finding {
+    uint32_t kind;
+    uint32_t fault;
+    uint32_t map;
+    uint32_t entry;
+    uint64_t at;
+    uint64_t first;
+    uint64_t second;
+    uint64_t third;
+    uint64_t fourth;
+};
+
+/* The findings of one call: how many there were, and the first of them, of which no more are kept than there is room. */
+struct swsusp_findings {
+    uint64_t count;
+    struct swsusp_finding found[SWSUSP_FINDINGS];
+};
+
 /* A compiler that lays a struct out otherwise than the library is refused. */
 #if defined(__cplusplus)
 #define SWSUSP_SIZE(name, size) static_assert(sizeof(struct name) == (size), #name)
@@ -178,6 +280,9 @@ SWSUSP_SIZE(swsusp_machine, 816);
 SWSUSP_SIZE(swsusp_resume, 8312);
 SWSUSP_SIZE(swsusp_discard, 24);
 SWSUSP_SIZE(swsusp_header, 40);
+SWSUSP_SIZE(swsusp_check, 6720);
+SWSUSP_SIZE(swsusp_finding, 56);
+SWSUSP_SIZE(swsusp_findings, 61608);
 
 /*
  * Begins a resume: writes all of *resume, whatever was there. The first call is SWSUSP_SYNC.
@@ -242,6 +347,44 @@ uint32_t swsusp_discard_fail(struct swsusp_discard *discard);
  * Returns SWSUSP_OK; or SWSUSP_BAD_PAGE, and then nothing was changed.
  */
 uint32_t swsusp_inspect(const uint8_t *page, size_t size, struct swsusp_header *header);
+
+/*
+ * Begins a check of the image whose header is in block `header` of a disk of `blocks` blocks: writes all of *check. It
+ * reads the blocks that swsusp_image(8) `check` reads without a dump, each once, and finds the same.
+ *
+ * `words` has `room` words, at least SWSUSP_WORDS(blocks), whatever they hold. The same words are lent to each call, and
+ * nobody else writes them until the check is over.
+ *
+ * Returns SWSUSP_OK; or SWSUSP_BAD_WORDS, and then nothing was changed.
+ */
+uint32_t swsusp_check_begin(struct swsusp_check *check, uint32_t blocks, uint32_t header, const uint64_t *words, size_t room);
+
+/*
+ * Gives in *call the block that is to be read (SWSUSP_READ), or how the check ended: SWSUSP_DONE, or SWSUSP_REFUSED with
+ * SWSUSP_NO_IMAGE where the header block has no mark of an image or isn't on the disk. It changes nothing else.
+ *
+ * Returns SWSUSP_OK; or SWSUSP_BAD_STATE, and then nothing was changed.
+ */
+uint32_t swsusp_check_next(const struct swsusp_check *check, struct swsusp_call *call);
+
+/*
+ * Tells that the pending read was made, into the buffer `page`, and writes to *findings what was found by it. What all
+ * answers and failures of a check find, one after another, is what is wrong with the image. After the end nothing is
+ * found, and *check stays.
+ *
+ * Returns SWSUSP_OK, after the end too; or SWSUSP_BAD_PAGE, SWSUSP_BAD_WORDS or SWSUSP_BAD_STATE, the first that fits in
+ * this order, and then nothing was changed.
+ */
+uint32_t swsusp_check_answer(struct swsusp_check *check, uint64_t *words, size_t room, const uint8_t *page, size_t size,
+                             struct swsusp_findings *findings);
+
+/*
+ * Tells that the pending read failed, which is a finding, and writes to *findings what was found by that. The check goes
+ * on. After the end nothing is found, and *check stays.
+ *
+ * Returns SWSUSP_OK, after the end too; or SWSUSP_BAD_WORDS or else SWSUSP_BAD_STATE, and then nothing was changed.
+ */
+uint32_t swsusp_check_fail(struct swsusp_check *check, uint64_t *words, size_t room, struct swsusp_findings *findings);
 
 #ifdef __cplusplus
 }

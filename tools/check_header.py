@@ -24,7 +24,7 @@ def c_type(rattle):
     """The type of an element, and the lengths of the arrays around it, the outermost first."""
     lengths = []
     while rattle.startswith("["):
-        rattle, length = re.fullmatch(r"\[(.*); (\d+)\]", rattle).groups()
+        rattle, length = re.fullmatch(r"\[(.*); (\w+)\]", rattle).groups()
         lengths.append(length)
     return TYPES.get(rattle) or "struct " + c_name(rattle), lengths
 
@@ -40,8 +40,22 @@ def c_structs(text):
     structs = {}
     for name, body in re.findall(r"^struct (\w+) \{\n(.*?)\n\};", text, re.S | re.M):
         fields = re.findall(r"^ +((?:struct )?\w+) (\w+)((?:\[\w+\])*);", body, re.M)
-        structs[name] = [(field, kind, re.findall(r"\[(\w+)\]", lengths.replace("SWSUSP_PAGE", "4096"))) for kind, field, lengths in fields]
+        structs[name] = [(field, kind, re.findall(r"\[(\w+)\]", lengths)) for kind, field, lengths in fields]
     return structs
+
+
+def written_out(structs, constants):
+    """The structs with the lengths of their arrays as numbers."""
+    return {
+        name: [(field, kind, [int(constants.get(length, length)) for length in lengths]) for field, kind, lengths in fields]
+        for name, fields in structs.items()
+    }
+
+
+def variant_codes(source, kind, prefix, number):
+    """The numbers that the variants of an enum stand for, by their names in the header."""
+    form = r"\b%s::(\w+)(?:\s*\{[^}]*\}|\([^)]*\))? => %s(\d+)" % (kind, number)
+    return {prefix + c_name(name).upper(): int(n) for name, n in re.findall(form, source)}
 
 
 def main():
@@ -56,16 +70,22 @@ def main():
     for name, n in variants:
         word = "ARCHITECTURE_MISMATCH" if name == "Architecture" else c_name(name).upper()
         codes["SWSUSP_" + word] = int(n)
+    codes.update(variant_codes(source, "Finding", "SWSUSP_FOUND_", r"(?:\{\s*let[^;]*;\s*)?(?:four|at_place)\(\s*"))
+    codes.update(variant_codes(source, "BlockFault", "SWSUSP_BLOCK_", r"\("))
+    codes.update(variant_codes(source, "AreaFault", "SWSUSP_FAULT_", r"\("))
+    codes.update(variant_codes(source, "Kind", "SWSUSP_STREAM_", ""))
     told = {name: int(n) for name, n in re.findall(r"(SWSUSP_\w+) = (\d+)", header)}
+    ours = dict(re.findall(r"const (\w+): usize = (\d+);", source))
+    theirs = dict(re.findall(r"#define (SWSUSP_\w+) (\d+)", header))
     wanted = [
-        ("structs", rattle_structs(source + ranges), c_structs(header)),
+        ("structs", written_out(rattle_structs(source + ranges), ours), written_out(c_structs(header), theirs)),
         ("sizes", sizes, asserted),
         ("codes", codes, {name: told.get(name) for name in codes}),
         ("functions", set(re.findall(r'pub extern "C" fn (\w+)', source)), set(re.findall(r"^(?:void|uint32_t) (\w+)\(", header, re.M))),
     ]
-    differ = [(what, ours, theirs) for what, ours, theirs in wanted if ours != theirs]
-    for what, ours, theirs in differ:
-        print("%s differ\n  swsusp_c:  %s\n  swsusp.h:  %s" % (what, ours, theirs))
+    differ = [(what, crate, declared) for what, crate, declared in wanted if crate != declared]
+    for what, crate, declared in differ:
+        print("%s differ\n  swsusp_c:  %s\n  swsusp.h:  %s" % (what, crate, declared))
     if set(sizes) != set(c_structs(header)):
         print("a struct without its size: %s" % sorted(set(c_structs(header)) ^ set(sizes)))
         differ.append("sizes")

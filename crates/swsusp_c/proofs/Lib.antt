@@ -1,2 +1,4 @@
 pub mod Same
 pub mod Faults
+pub mod Checks
+pub mod Numbers

@@ -15,7 +15,7 @@ pub some_is : {A : Type 0} (x y : A) → Some x ≡ Some y → x ≡ y
 unfolding value_or
 some_is x y e = ap (value_or x) e
 
-last_back : (o : Option ℕ) → last_by (has_of o) (number_of o) ≡ o
+pub last_back : (o : Option ℕ) → last_by (has_of o) (number_of o) ≡ o
 last_back None = refl
 last_back (Some n) = refl
 

@@ -1,4 +1,5 @@
 pub mod Calls
+pub mod Checks
 pub mod Stages
 pub mod State
 pub mod Told
@@ -6,3 +7,4 @@ pub mod Codes
 pub mod Turns
 pub mod Steps
 pub mod Facts
+pub mod Findings

@@ -15,6 +15,8 @@ pub(crate) const BAD_HEADER: u32 = 5;
 
 pub(crate) const BAD_IDENTITY: u32 = 6;
 
+pub(crate) const BAD_WORDS: u32 = 7;
+
 /// The kinds of a call.
 pub(crate) const SYNC: u32 = 1;
 

@@ -85,7 +85,7 @@ fn facts_of(kind: AreaKind) -> SwsuspHeader
 }
 
 /// A fault's number, and the number that it names.
-fn fault_of(why: AreaFault) -> (u32, u32)
+pub(crate) fn fault_of(why: AreaFault) -> (u32, u32)
     ensures { result ≡ fault_of why }
 {
     match why {

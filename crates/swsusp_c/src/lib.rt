@@ -1,12 +1,15 @@
-//! A resume, the end of an image and the facts of its header for programs in C, over `boot_resume`, `boot_discard` and
-//! `sig_header`: numbers, byte pointers and the caller's buffers. include/swsusp.h declares what is exported. Each
-//! argument is tested here.
+//! A resume, the end of an image, a check of it and the facts of its header for programs in C, over `boot_resume`,
+//! `boot_discard`, `boot_check` and `sig_header`: numbers, byte pointers and what the caller lends. include/swsusp.h
+//! declares what is exported. Each argument is tested here.
 #![tactic(auto)]
 
 mod calls;
+mod check;
 mod codes;
 mod discard;
+mod findings;
 mod inspect;
+mod kept;
 mod machine;
 mod resume;
 mod stages;
@@ -14,11 +17,14 @@ mod state;
 
 use boot_resume::FrameRange;
 pub use calls::SwsuspCall;
+pub use check::{swsusp_check_answer, swsusp_check_begin, swsusp_check_fail, swsusp_check_next};
 pub use discard::{
     SwsuspDiscard, swsusp_discard_answer, swsusp_discard_begin, swsusp_discard_fail,
     swsusp_discard_next,
 };
+pub use findings::{SwsuspFinding, SwsuspFindings};
 pub use inspect::{SwsuspHeader, swsusp_inspect};
+pub use kept::SwsuspCheck;
 pub use machine::SwsuspMachine;
 pub use resume::{
     swsusp_resume_answer, swsusp_resume_begin, swsusp_resume_fail, swsusp_resume_next,
@@ -38,3 +44,9 @@ const _: () = prove!(size_of::<SwsuspResume>() == 8312);
 const _: () = prove!(size_of::<SwsuspDiscard>() == 24);
 
 const _: () = prove!(size_of::<SwsuspHeader>() == 40);
+
+const _: () = prove!(size_of::<SwsuspCheck>() == 6720);
+
+const _: () = prove!(size_of::<SwsuspFinding>() == 56);
+
+const _: () = prove!(size_of::<SwsuspFindings>() == 61608);

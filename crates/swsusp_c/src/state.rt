@@ -62,7 +62,7 @@ pub(crate) fn state_of(resume: &Resume) -> SwsuspResume
     }
 }
 
-fn has_of(last: Option<u64>) -> u32
+pub(crate) fn has_of(last: Option<u64>) -> u32
     ensures { result ≡ has_of last }
 {
     match last {
@@ -71,7 +71,7 @@ fn has_of(last: Option<u64>) -> u32
     }
 }
 
-fn number_of(last: Option<u64>) -> u64
+pub(crate) fn number_of(last: Option<u64>) -> u64
     ensures { result ≡ number_of last }
 {
     match last {
@@ -80,7 +80,7 @@ fn number_of(last: Option<u64>) -> u64
     }
 }
 
-fn last_by(has_last: u32, last: u64) -> Option<u64>
+pub(crate) fn last_by(has_last: u32, last: u64) -> Option<u64>
     ensures { result ≡ last_by has_last last }
 {
     if has_last == 0 { None } else { Some(last) }
