@@ -2,9 +2,9 @@
  * libswsusp: the image of a hibernated Linux, for a boot loader or an initramfs.
  *
  * The library makes no call of its own and takes no memory: it says which call of the disk comes next, and is told how
- * that went. All it keeps lies in the caller's struct swsusp_resume, struct swsusp_discard or struct swsusp_check, which
- * may lie anywhere, be copied and be moved. Two threads may not use one such struct at once. libswsusp(3) has a page for
- * each function.
+ * that went. All it keeps lies in the caller's struct swsusp_resume, struct swsusp_discard or struct swsusp_check,
+ * which may lie anywhere, be copied and be moved. Two threads may not use one such struct at once. libswsusp(3)
+ * describes each function.
  *
  * Each pointer must hold what it says, and no two of a call may overlap; none may be NULL. Every other argument is
  * tested, and refused with a code.
@@ -199,8 +199,8 @@ struct swsusp_check {
 };
 
 /*
- * What is wrong with an image: the kind of a finding. Maps and number pages count from 1, entries of a map and words of a
- * number page from 0. `fault` is 0 where nothing else is said of it.
+ * What is wrong with an image: the kind of a finding. Maps, number pages and units count from 1, entries of a map and
+ * words of a number page from 0.
  */
 enum {
     SWSUSP_FOUND_HEADER_UNREAD = 1,      /* block `first`, the header's, can't be read */
@@ -209,11 +209,11 @@ enum {
                                             to SWSUSP_FAULT_BAD_ENTRY, with the number `first` */
     SWSUSP_FOUND_LAST_PAGE = 4,          /* the last page is `first`, but the disk has `second` blocks */
     SWSUSP_FOUND_COMPRESSED = 5,         /* flags `first`: a compressed image, whose pages aren't read */
-    SWSUSP_FOUND_MAP = 6,                /* map `map` lies in a block at `fault`, block `first` */
+    SWSUSP_FOUND_MAP = 6,                /* map `map` lies in block `first` with `fault` */
     SWSUSP_FOUND_ENDS = 7,               /* map `map` is the last one, but the image has `first` pages */
     SWSUSP_FOUND_AFTER_MAPS = 8,         /* map `map` in block `first` comes after the last one */
-    SWSUSP_FOUND_ENTRY = 9,              /* `entry` of map `map`, in block `at`, names a block at `fault`, block `first` */
-    SWSUSP_FOUND_AFTER_PAGES = 10,       /* `entry` of map `map`, in block `at`, names block `first` after the last page */
+    SWSUSP_FOUND_ENTRY = 9,              /* `entry` of map `map`, in block `at`, names block `first` with `fault` */
+    SWSUSP_FOUND_AFTER_PAGES = 10,       /* `entry` of map `map`, in block `at`: block `first` after the last page */
     SWSUSP_FOUND_NO_END = 11,            /* name `first` of the info page, from 0, has no end */
     SWSUSP_FOUND_MAGIC = 12,             /* the info page has an architecture's header, but with magic `first` */
     SWSUSP_FOUND_COUNTS = 13,            /* the info page says image_pages `first`, but pages `second` */
@@ -262,7 +262,7 @@ struct swsusp_finding {
     uint64_t fourth;
 };
 
-/* The findings of one call: how many there were, and the first of them, of which no more are kept than there is room. */
+/* The findings of one call: how many there were, and the first of them, as many as there is room for. */
 struct swsusp_findings {
     uint64_t count;
     struct swsusp_finding found[SWSUSP_FINDINGS];
@@ -352,16 +352,17 @@ uint32_t swsusp_inspect(const uint8_t *page, size_t size, struct swsusp_header *
  * Begins a check of the image whose header is in block `header` of a disk of `blocks` blocks: writes all of *check. It
  * reads the blocks that swsusp_image(8) `check` reads without a dump, each once, and finds the same.
  *
- * `words` has `room` words, at least SWSUSP_WORDS(blocks), whatever they hold. The same words are lent to each call, and
- * nobody else writes them until the check is over.
+ * `words` has `room` words, at least SWSUSP_WORDS(blocks), whatever they hold. The same words are lent to each call,
+ * and nobody else writes them until the check is over.
  *
  * Returns SWSUSP_OK; or SWSUSP_BAD_WORDS, and then nothing was changed.
  */
-uint32_t swsusp_check_begin(struct swsusp_check *check, uint32_t blocks, uint32_t header, const uint64_t *words, size_t room);
+uint32_t swsusp_check_begin(struct swsusp_check *check, uint32_t blocks, uint32_t header, const uint64_t *words,
+                            size_t room);
 
 /*
- * Gives in *call the block that is to be read (SWSUSP_READ), or how the check ended: SWSUSP_DONE, or SWSUSP_REFUSED with
- * SWSUSP_NO_IMAGE where the header block has no mark of an image or isn't on the disk. It changes nothing else.
+ * Gives in *call the block that is to be read (SWSUSP_READ), or how the check ended: SWSUSP_DONE, or SWSUSP_REFUSED
+ * with SWSUSP_NO_IMAGE where the header block has no mark of an image or isn't on the disk. It changes nothing else.
  *
  * Returns SWSUSP_OK; or SWSUSP_BAD_STATE, and then nothing was changed.
  */
@@ -372,15 +373,15 @@ uint32_t swsusp_check_next(const struct swsusp_check *check, struct swsusp_call 
  * answers and failures of a check find, one after another, is what is wrong with the image. After the end nothing is
  * found, and *check stays.
  *
- * Returns SWSUSP_OK, after the end too; or SWSUSP_BAD_PAGE, SWSUSP_BAD_WORDS or SWSUSP_BAD_STATE, the first that fits in
- * this order, and then nothing was changed.
+ * Returns SWSUSP_OK, after the end too; or SWSUSP_BAD_PAGE, SWSUSP_BAD_WORDS or SWSUSP_BAD_STATE, the first that fits
+ * in this order, and then nothing was changed.
  */
 uint32_t swsusp_check_answer(struct swsusp_check *check, uint64_t *words, size_t room, const uint8_t *page, size_t size,
                              struct swsusp_findings *findings);
 
 /*
- * Tells that the pending read failed, which is a finding, and writes to *findings what was found by that. The check goes
- * on. After the end nothing is found, and *check stays.
+ * Tells that the pending read failed, which is a finding, and writes to *findings what was found by that. The check
+ * goes on. After the end nothing is found, and *check stays.
  *
  * Returns SWSUSP_OK, after the end too; or SWSUSP_BAD_WORDS or else SWSUSP_BAD_STATE, and then nothing was changed.
  */

@@ -1,6 +1,6 @@
 -- The state of a check, as C keeps it, and what the functions do to it: what `Check` does.
-use Rattle.std.specs.Prelude.{◌≡◌, ℕ, ◌/◌, ◌+◌, ◌==◌, ◌++◌, ◌∷◌, Bool, true, false, List, [], length, Option, Some, None, Ok}
-use Rattle.std.specs.Prelude.{if◌then◌else◌, is_some, nat_lt, not}
+use Rattle.std.specs.Prelude.{◌≡◌, ℕ, ◌/◌, ◌+◌, ◌==◌, ◌++◌, ◌∷◌, Bool, true, false, List, [], length, Option, Some}
+use Rattle.std.specs.Prelude.{None, Ok, if◌then◌else◌, is_some, nat_lt, not}
 use Rattle.definitions.specs.Disk.{Content}
 use Rattle.page_core.specs.declared.format.Format.{Format}
 use Rattle.page_core.specs.declared.format.Format.TheVariants.{Plain, SkipZeros}

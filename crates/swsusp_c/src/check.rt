@@ -50,7 +50,7 @@ pub extern "C" fn swsusp_check_next(state: &SwsuspCheck, call: &mut SwsuspCall) 
 }
 
 /// Tells that the pending read was made, and writes what was found by it. `page` is the caller's buffer of 4096 bytes,
-/// and `words` what was lent to `swsusp_check_begin`. After the end nothing changes.
+/// and `words` what was lent to `swsusp_check_begin`. After the end nothing is found.
 ///
 /// It returns `OK`; or `BAD_PAGE`, `BAD_WORDS` or `BAD_STATE`, the first of them in this order, and then nothing was
 /// changed.
@@ -87,7 +87,7 @@ pub extern "C" fn swsusp_check_answer(
     OK
 }
 
-/// Tells that the pending read failed, and writes what was found by that. After the end nothing changes.
+/// Tells that the pending read failed, and writes what was found by that. After the end nothing is found.
 ///
 /// It returns `OK`; or `BAD_WORDS` or `BAD_STATE`, the first of them in this order, and then nothing was changed.
 #[unsafe(no_mangle)]
