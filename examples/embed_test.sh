@@ -1,7 +1,8 @@
 #!/bin/sh
-# embed_test.sh [LIBRARY [SWSUSP]]: resumes images by examples/boot.c over the static library LIBRARY (without the word the one that `rt lib` left
-# in crates/swsusp_c/out), of an area that the program SWSUSP hibernated into. Compares each page with the image's bytes, breaks the resume off
-# before each call and boots again, fails each call in turn, and does so under valgrind and the sanitizers too, where they are there. tests/border.c
+# embed_test.sh [LIBRARY [SWSUSP [SWSUSP_IMAGE]]]: resumes images by examples/boot.c over the static library LIBRARY (without the word the one that
+# `rt lib` left in crates/swsusp_c/out), of an area that the program SWSUSP hibernated into. Compares each page with the image's bytes, breaks the
+# resume off before each call and boots again, fails each call in turn, and does so under valgrind and the sanitizers too, where they are there. Checks
+# these images and damaged copies of them by examples/check.c, and compares what that prints with what the program SWSUSP_IMAGE does. tests/border.c
 # tries wrong arguments, an area's facts and the end of an image, tests/stack.c how much stack a call takes. The library may call nothing but memcpy
 # and its like, and has less than 100 KiB of text.
 set -eu
@@ -13,21 +14,25 @@ if [ ! -x "$swsusp" ]; then
     swsusp=$top/out/unproved/swsusp
     [ -x "$swsusp" ] || sh "$top/tools/unproved.sh" swsusp "$swsusp"
 fi
+swsusp_image=${3:-$top/crates/swsusp_image/out/swsusp_image}
+if [ ! -x "$swsusp_image" ]; then
+    swsusp_image=$top/out/unproved/swsusp_image
+    [ -x "$swsusp_image" ] || sh "$top/tools/unproved.sh" swsusp_image "$swsusp_image"
+fi
 room=$(mktemp -d)
 trap 'trap "" PIPE HUP INT TERM; rm -rf "$room"' EXIT
 trap 'exit 1' PIPE HUP INT TERM
 cc=${CC:-cc}
 flags="-Wall -Wextra -Werror -std=c11 -I$top/include"
 
-# shellcheck disable=SC2086
-$cc $flags -O2 -o "$room/boot" "$top/examples/boot.c" "$library"
-# shellcheck disable=SC2086
-if $cc $flags -g -fsanitize=address,undefined -fno-sanitize-recover=all -o "$room/checked" "$top/examples/boot.c" "$library" 2> "$room/log"; then
-    checked=$room/checked
-else
-    echo "embed_test.sh: no sanitizers" >&2
-    checked=
-fi
+sanitizers="-g -fsanitize=address,undefined -fno-sanitize-recover=all"
+for program in boot check; do
+    # shellcheck disable=SC2086
+    $cc $flags -O2 -o "$room/$program" "$top/examples/$program.c" "$library"
+    # shellcheck disable=SC2086
+    $cc $flags $sanitizers -o "$room/checked_$program" "$top/examples/$program.c" "$library" 2> "$room/log" || rm -f "$room/checked_$program"
+done
+[ -x "$room/checked_boot" ] || echo "embed_test.sh: no sanitizers" >&2
 valgrind=$(command -v valgrind || true)
 # shellcheck disable=SC2086
 $cc $flags -O2 -o "$room/border" "$top/tests/border.c" "$library"
@@ -52,17 +57,24 @@ if nm -u "$library" 2> /dev/null | grep -E '^ +U ' | grep -vE ' (memcpy|memmove|
     exit 1
 fi
 
-BOOT=$room/boot CHECKED=$checked VALGRIND=$valgrind python3 - "$room" <<'EOF'
+SWSUSP_IMAGE=$swsusp_image VALGRIND=$valgrind python3 - "$room" <<'EOF'
 import os
+import random
 import shutil
 import struct
 import subprocess
 import sys
 
 ROOM = sys.argv[1]
-BOOT = [os.environ["BOOT"]]
-CHECKED = [os.environ["CHECKED"]] if os.environ["CHECKED"] else None
-VALGRIND = [os.environ["VALGRIND"], "-q", "--error-exitcode=99"] + BOOT if os.environ["VALGRIND"] else None
+BOOT = [os.path.join(ROOM, "boot")]
+CHECK = [os.path.join(ROOM, "check")]
+# How both programs are started under the sanitizers and under valgrind.
+WATCHED = {}
+if os.path.exists(os.path.join(ROOM, "checked_boot")):
+    WATCHED["sanitizers"] = [os.path.join(ROOM, "checked_boot")], [os.path.join(ROOM, "checked_check")]
+if os.environ["VALGRIND"]:
+    VALGRIND = [os.environ["VALGRIND"], "-q", "--error-exitcode=99"]
+    WATCHED["valgrind"] = VALGRIND + BOOT, VALGRIND + CHECK
 PAGE = 4096
 DONE, REFUSED, FAILED = 5, 6, 7
 NO_IMAGE, NO_CHAIN, BAD_BLOCK, MEMORY_SIZE = 1, 4, 5, 9
@@ -70,6 +82,17 @@ NO_IMAGE, NO_CHAIN, BAD_BLOCK, MEMORY_SIZE = 1, 4, 5, 9
 MARK, COUNTS = 4064, 400
 SKIPS_ZEROS = 256
 SAME, UNSURE, GONE = 1, 2, 3
+
+
+def chain(blocks):
+    """The blocks of the maps, and those that their entries name, in order."""
+    maps, pages, at = [], [], struct.unpack_from("<Q", blocks, MARK)[0]
+    while at:
+        words = struct.unpack_from("<512Q", blocks, PAGE * at)
+        maps.append(at)
+        pages += [word for word in words[:511] if word]
+        at = words[511]
+    return maps, pages
 
 
 def image(name):
@@ -85,13 +108,8 @@ def image(name):
 
     head = block(0)
     assert head[4086:] == b"S1SUSPEND\0"
-    first, flags = struct.unpack_from("<QI", head, MARK)
-    stream = []
-    at = first
-    while at:
-        entries = words(block(at))
-        stream += [block(entry) for entry in entries[:511] if entry]
-        at = entries[511]
+    flags = struct.unpack_from("<I", head, MARK + 8)[0]
+    stream = [block(number) for number in chain(blocks)[1]]
     physpages, _, saved, pages = struct.unpack_from("<4Q", stream[0], COUNTS)
     assert pages == len(stream)
     numbers = -(-saved // 512)
@@ -192,19 +210,120 @@ def damaged(name):
         assert memory == bytes(len(memory))
 
 
+def check(name, *words, by=CHECK):
+    """What check.c prints of an area."""
+    ran = subprocess.run(
+        by + [os.path.join(ROOM, name)] + [str(word) for word in words],
+        stdout=subprocess.PIPE, stderr=subprocess.PIPE, text=True,
+    )
+    assert ran.stderr == "", ran.stderr
+    return ran.returncode, ran.stdout
+
+
+def same_findings(name, by=CHECK):
+    """check.c finds what `swsusp_image check` does: the lines, but for the last one, which has their number."""
+    ran = subprocess.run(
+        [os.environ["SWSUSP_IMAGE"], "check", os.path.join(ROOM, name)],
+        stdout=subprocess.PIPE, stderr=subprocess.PIPE, text=True,
+    )
+    assert ran.stderr == "" and ran.returncode in (0, 1), ran
+    lines = ran.stdout.splitlines(True)
+    found = [] if lines[-1] == "whole\n" else lines if lines[-1] == "no image\n" else lines[:-1]
+    assert (ran.returncode == 0) == (found == []), ran.stdout
+    status, text = check(name, by=by)
+    assert (status, text) == (int(found != []), "".join(found)), (name, ran.stdout, text)
+    return found
+
+
+def edited(name, edits):
+    """A copy with other numbers of 8 bytes at these offsets."""
+    with open(os.path.join(ROOM, name), "rb") as file:
+        blocks = bytearray(file.read())
+    for at, number in edits:
+        struct.pack_into("<Q", blocks, at, number)
+    with open(os.path.join(ROOM, "area"), "wb") as file:
+        file.write(blocks)
+    return blocks
+
+
+def is_compressed(blocks):
+    """Whether the header is marked without SF_NOCOMPRESS_MODE: then check.c reads no more than the header block."""
+    return blocks[4086:4096] == b"S1SUSPEND\0" and not struct.unpack_from("<I", blocks, MARK + 8)[0] & 2
+
+
+def damage(name, rounds, by=CHECK):
+    """Random numbers at random places: how many findings there were."""
+    draw = random.Random(name)
+    maps, pages = chain(edited(name, []))
+    numbers = [0, 1, 2**52, 2**63, 2**64 - 1] + maps + pages[:6]
+
+    def edit():
+        block = draw.choice([0] + maps + pages[:6])
+        word = draw.choice((draw.randrange(16), draw.randrange(512), 511))
+        within = draw.choice((MARK, MARK + 8, 4076, 1024, 1028)) if block == 0 else 8 * word
+        return PAGE * block + within, draw.choice(numbers + [draw.randrange(5000), draw.getrandbits(64)])
+
+    total = 0
+    for _ in range(rounds):
+        if is_compressed(edited(name, [edit() for _ in range(draw.randrange(1, 5))])):
+            status, text = check("area", by=by)
+            assert status == 1 and text.endswith(", a compressed image, which can't be read yet\n"), text
+            total += len(text.splitlines())
+        else:
+            total += len(same_findings("area", by))
+    return total
+
+
+def most_at_once():
+    """A number page whose every word is wrong, before the rest of a map that names no block of the disk."""
+    maps, pages = chain(edited("large", []))
+    edits = [(PAGE * pages[2] + 8 * i, 2**64 - 1 - i) for i in range(512)]
+    edits += [(PAGE * maps[0] + 8 * i, 10**6 + i) for i in range(3, 511)]
+    edited("large", edits)
+    found = same_findings("area")
+    assert len(found) > 1000, len(found)
+    return len(found)
+
+
+def unread(name, by, steps):
+    """Each read fails in turn, and is a finding with its block; broken off before each, what was printed is a front of all."""
+    (at,), pages = chain(edited(name, []))
+    edited(name, [(PAGE * at + 8 * 5, 10**6)])
+    everything = check("area")[1]
+    assert everything.endswith("block 1000000 is beyond the file\n"), everything
+    reads = [0, at] + pages[:5] + pages[6:]
+    for fail in range(0, len(reads) + 1, steps):
+        status, text = check("area", fail, by=by)
+        found = [line for line in text.splitlines() if line.endswith("can't be read")]
+        assert status == 1 and len(found) == len(reads[fail : fail + 1]), (fail, text)
+        for line, block in zip(found, reads[fail:]):
+            assert "block %d%s can't" % (block, ":" if fail == 0 else "") in line, (fail, text)
+        status, text = check("area", 2**63, fail, by=by)
+        assert status == (3 if fail < len(reads) else 1) and everything.startswith(text), (fail, text)
+    return len(reads)
+
+
 for area in ("small", "large", "zeros"):
     whole(area)
     damaged(area)
+for area in ("small", "large", "zeros"):
+    fresh(area)
+    assert same_findings("area") == [], area
+    print("%s: %d findings in damaged copies" % (area, damage(area, 100)))
+for area in ("small", "zeros"):
+    print("%s: each of %d reads fails" % (area, unread(area, CHECK, 1)))
+print("large: %d findings, most of them at once" % most_at_once())
 for area in ("small", "zeros"):
     calls = broken_off(area, BOOT, 1)
     failed(area, BOOT, 1)
     print("%s: %d calls" % (area, calls))
-for by, what in ((CHECKED, "sanitizers"), (VALGRIND, "valgrind")):
-    if by:
-        whole("small", by)
-        whole("zeros", by)
-        broken_off("small", by, 5)
-        failed("small", by, 5)
-        print(what)
+for what, (boots, checks) in WATCHED.items():
+    whole("small", boots)
+    whole("zeros", boots)
+    broken_off("small", boots, 5)
+    failed("small", boots, 5)
+    unread("small", checks, 5)
+    damage("large", 5, checks)
+    print(what)
 EOF
 echo "embed_test.sh: passed"

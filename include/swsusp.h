@@ -350,7 +350,8 @@ uint32_t swsusp_inspect(const uint8_t *page, size_t size, struct swsusp_header *
 
 /*
  * Begins a check of the image whose header is in block `header` of a disk of `blocks` blocks: writes all of *check. It
- * reads the blocks that swsusp_image(8) `check` reads without a dump, each once, and finds the same.
+ * reads the blocks that swsusp_image(8) `check` reads, each once, and finds the same; but of a compressed image it
+ * reads the header block alone, and finds that it is compressed.
  *
  * `words` has `room` words, at least SWSUSP_WORDS(blocks), whatever they hold. The same words are lent to each call,
  * and nobody else writes them until the check is over.

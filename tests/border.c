@@ -1,4 +1,4 @@
-/* What boot.c doesn't call: the codes of wrong arguments, the facts of a header block, and the end of an image. */
+/* What boot.c and check.c don't call: the codes of wrong arguments, a header block's facts, and the end of an image. */
 #include <assert.h>
 #include <stdio.h>
 #include <string.h>
@@ -70,6 +70,55 @@ static void after_end(void)
     assert(memcmp(&resume, &before, sizeof resume) == 0 && memcmp(page, kept, sizeof page) == 0);
 }
 
+/* So of a check. */
+static void check_border(void)
+{
+    static struct swsusp_findings findings, found;
+    struct swsusp_check check, before;
+    uint64_t words[2] = {1, 2};
+    struct swsusp_call call = {0, 0, 0, 7};
+
+    memset(&check, 7, sizeof check);
+    before = check;
+    assert(swsusp_check_begin(&check, 64, 3, words, 1) == SWSUSP_BAD_WORDS);
+    assert(swsusp_check_begin(&check, UINT32_MAX, 3, words, 2) == SWSUSP_BAD_WORDS);
+    assert(swsusp_check_begin(&check, 0, 3, words, 0) == SWSUSP_BAD_WORDS);
+    assert(memcmp(&check, &before, sizeof check) == 0);
+    assert(SWSUSP_WORDS(63) == 1 && SWSUSP_WORDS(64) == 2 && SWSUSP_WORDS(UINT32_MAX) == 67108864);
+    assert(swsusp_check_begin(&check, 64, 3, words, 2) == SWSUSP_OK);
+    before = check;
+    memset(&findings, 7, sizeof findings);
+    found = findings;
+    assert(swsusp_check_answer(&check, words, 1, page, SWSUSP_PAGE - 1, &findings) == SWSUSP_BAD_PAGE);
+    assert(swsusp_check_answer(&check, words, 1, page, sizeof page, &findings) == SWSUSP_BAD_WORDS);
+    assert(swsusp_check_fail(&check, words, 1, &findings) == SWSUSP_BAD_WORDS);
+    for (check.stage = 0; check.stage < 6; check.stage += 5) {
+        assert(swsusp_check_next(&check, &call) == SWSUSP_BAD_STATE);
+        assert(swsusp_check_answer(&check, words, 2, page, sizeof page, &findings) == SWSUSP_BAD_STATE);
+        assert(swsusp_check_fail(&check, words, 2, &findings) == SWSUSP_BAD_STATE);
+    }
+    check.stage = before.stage;
+    assert(memcmp(&check, &before, sizeof check) == 0 && memcmp(&findings, &found, sizeof found) == 0);
+    assert(words[0] == 1 && words[1] == 2 && call.kind == 0 && call.second == 7);
+
+    assert(swsusp_check_next(&check, &call) == SWSUSP_OK && call.kind == SWSUSP_READ && call.first == 3);
+    assert(swsusp_check_fail(&check, words, 2, &findings) == SWSUSP_OK && findings.count == 1);
+    assert(findings.found[0].kind == SWSUSP_FOUND_HEADER_UNREAD && findings.found[0].first == 3);
+    assert(memcmp(&findings.found[1], &found.found[1], sizeof found - 64) == 0);
+    assert(swsusp_check_next(&check, &call) == SWSUSP_OK && call.kind == SWSUSP_DONE);
+    before = check;
+    assert(swsusp_check_fail(&check, words, 2, &findings) == SWSUSP_OK && findings.count == 0);
+    assert(swsusp_check_answer(&check, words, 2, page, sizeof page, &findings) == SWSUSP_OK && findings.count == 0);
+    assert(memcmp(&check, &before, sizeof check) == 0);
+    assert(swsusp_check_begin(&check, 64, 64, words, 2) == SWSUSP_OK && swsusp_check_next(&check, &call) == SWSUSP_OK);
+    assert(call.kind == SWSUSP_REFUSED && call.reason == SWSUSP_NO_IMAGE);
+    /* Numbers that the library never wrote are read without an access outside what is lent. */
+    memset(&check, 0xff, sizeof check);
+    check.blocks = 64;
+    for (check.stage = 1; check.stage < 5; check.stage++)
+        assert(swsusp_check_answer(&check, words, 2, page, sizeof page, &findings) == SWSUSP_OK);
+}
+
 /* The kind of the header block of the file. */
 static uint32_t kind(FILE *file)
 {
@@ -116,6 +165,7 @@ int main(int argc, char **argv)
 
     assert(file != NULL);
     border();
+    check_border();
     after_end();
     assert(swsusp_discard_answer(&bad, page, sizeof page) == SWSUSP_BAD_STATE);
     assert(swsusp_discard_fail(&bad) == SWSUSP_BAD_STATE);

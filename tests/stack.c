@@ -22,6 +22,9 @@ static struct swsusp_machine machine;
 static struct swsusp_range range;
 static struct swsusp_call call;
 static struct swsusp_header header;
+static struct swsusp_check checking;
+static struct swsusp_findings findings;
+static uint64_t words[1024];
 static uint32_t code;
 
 static void resume_begin(void) { swsusp_resume_begin(&resume); }
@@ -32,6 +35,10 @@ static void discard_begin(void) { swsusp_discard_begin(&discarding, 0); }
 static void discard_next(void) { swsusp_discard_next(&discarding, &call); }
 static void discard_answer(void) { code = swsusp_discard_answer(&discarding, page, sizeof page); }
 static void discard_fail(void) { code = swsusp_discard_fail(&discarding); }
+static void check_begin(void) { code = swsusp_check_begin(&checking, (uint32_t)machine.blocks, 0, words, 1024); }
+static void check_next(void) { code = swsusp_check_next(&checking, &call); }
+static void check_answer(void) { code = swsusp_check_answer(&checking, words, 1024, page, sizeof page, &findings); }
+static void check_fail(void) { code = swsusp_check_fail(&checking, words, 1024, &findings); }
 static void inspect(void) { code = swsusp_inspect(page, sizeof page, &header); }
 static void nothing(void) { }
 
@@ -85,6 +92,29 @@ static size_t discard_answers(FILE *file)
     return most;
 }
 
+static size_t check_answers(FILE *file)
+{
+    size_t most = 0;
+
+    for (check_begin(); check_next(), call.kind < SWSUSP_DONE; most = most_of(most, taken(check_answer)))
+        read_block(file, call.first);
+    assert(call.kind == SWSUSP_DONE);
+    return most;
+}
+
+/* The most that a failure takes, of the header's read or a later one. */
+static size_t check_failures(FILE *file)
+{
+    size_t most;
+
+    check_begin();
+    most = taken(check_fail);
+    check_begin();
+    read_block(file, 0);
+    check_answer();
+    return most_of(most, taken(check_fail));
+}
+
 static int told(const char *name, size_t bytes)
 {
     printf("%-16s %zu\n", name, bytes);
@@ -110,6 +140,10 @@ int main(int argc, char **argv)
     deep |= told("discard_answer", discard_answers(file));
     discard_begin();
     deep |= told("discard_fail", taken(discard_fail));
+    deep |= told("check_begin", taken(check_begin));
+    deep |= told("check_next", taken(check_next));
+    deep |= told("check_answer", check_answers(file));
+    deep |= told("check_fail", check_failures(file));
     read_block(file, 0);
     deep |= told("inspect", taken(inspect));
     return deep || fclose(file) != 0;
