@@ -12,9 +12,10 @@ from inputs import Machine, area
 KIB = 1024
 STACK = 256 * KIB
 # These keep lists of facts in their frames, each with room for 630 bad pages.
-SHOW_STACK = 640 * KIB
-CORE_STACK = 640 * KIB
-DIFFER_STACK = 1152 * KIB
+SHOW_STACK = 512 * KIB
+CORE_STACK = 896 * KIB
+DIFFER_STACK = 1024 * KIB
+MACHINE_STACK = 448 * KIB
 # The disk that expands a compressed image keeps its header block and its info page in its frame.
 COMPRESSED_STACK = 384 * KIB
 SCRIPT = (pathlib.Path(__file__).resolve().parent.parent / "examples" / "machine.txt").read_bytes()
@@ -53,6 +54,7 @@ def test_each_command_runs_in_its_stack():
         within("swsusp_image", "stream", swap.path)
         within("swsusp_image", "page", swap.path, 0)
         within("swsusp_image", "loader", swap.path)
+        within("swsusp_image", "machine", swap.path, stack=MACHINE_STACK)
         within("swsusp_image", "core", swap.path, stack=CORE_STACK)
         within("swsusp_image", "differ", swap.path, swap.path, stack=DIFFER_STACK)
         within("swsusp", "resume", swap.path, stdin=loader)

@@ -58,22 +58,17 @@ Example: swsusp_image discard /dev/sda2";
 pub(crate) const LOADER: &str =
     "It only reads SWAP, and writes the dump of a machine into which `swsusp resume` can resume the image: one that has just
 booted, with the identity that the image has. Without --zone it has the page frames from 0 on, as many as the image's
-machine; `--zone START COUNT` stands once for each zone. Without --extent the slots of the area lie on the blocks from 0
-    on;
-`--extent START LENGTH BLOCK` stands once for each extent. A machine has at most 65536 page frames and 131072
-    slots: where
+machine; `--zone START COUNT` stands once for each zone. Without --extent the slots of the area lie on the blocks from 0 on;
+`--extent START LENGTH BLOCK` stands once for each extent. A machine has at most 65536 page frames and 131072 slots: where
 there is none for the image, the note says why, and the status is 1.
 
 Example: swsusp_image loader --zone 1 158 --zone 256 32510 /dev/sda2 > loader.dump";
 
 pub(crate) const MACHINE: &str =
     "It only reads SWAP, and writes the dump of the machine that the image saved: the saved page frames are in use and have their
-pages, all others are free, and `swsusp hibernate` hibernates it again. Its zones and extents are those of `loader`. A
-    machine
-of `swsusp hibernate` has its tables in its image: `--tables F S` names their first page frames, and the dump is
-    then the
-machine with the slots of its tasks. Without it the dump has new tables, in which no task has a page frame or a slot.
-    Where
+pages, all others are free, and `swsusp hibernate` hibernates it again. Its zones and extents are those of `loader`. A machine
+of `swsusp hibernate` has its tables in its image: `--tables F S` names their first page frames, and the dump is then the
+machine with the slots of its tasks. Without it the dump has new tables, in which no task has a page frame or a slot. Where
 there is no such machine the note says why, and the status is 1.
 
 Example: swsusp_image machine --tables 1 3 before.img | swsusp hibernate after.img";

@@ -61,8 +61,7 @@ pub(crate) const LEGEND: &[u8] = b"<path fill='#fff' d='M0 0h720v58h-720z'/>
 <use href='#memory-runs' transform='translate(134 -112)scale(1 .67)'/><text x='154' y='34'>runs</text>
 <use href='#memory-saves' transform='translate(190 -112)scale(1 .67)'/><text x='210' y='34'>is saved</text>
 <use href='#memory-loads' transform='translate(268 -112)scale(1 .67)'/><text x='288' y='34'>is loaded</text>
-<use href='#memory-undoes' transform='translate(350 -112)scale(1 .67)'/><text x='370' y='34'>a mark is taken back, and
-    it runs on</text>
+<use href='#memory-undoes' transform='translate(350 -112)scale(1 .67)'/><text x='370' y='34'>a mark is taken back, and it runs on</text>
 <use href='#memory-sleeps' transform='translate(576 -118)scale(1 .67)'/><text x='596' y='34'>sleeps</text>
 <text class='lane' x='6' y='53'>disk calls</text>
 <use href='#write' x='72' y='-213'/><text x='92' y='53'>page written</text>
