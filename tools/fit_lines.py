@@ -78,18 +78,34 @@ def broken(line, rest):
     return [*lines, line]
 
 
+def texts_in(lines):
+    """Of each line whether it begins inside a text of several lines, or a text begins in it that goes on in the next."""
+    inside, found = False, []
+    for line in lines:
+        was, code = inside, re.sub(r"\\\\.|'.'", "", line)
+        if not was and COMMENT.match(line):
+            found.append(False)
+            continue
+        inside ^= code.count('"') % 2 == 1
+        found.append(was or inside)
+    return found
+
+
 def fitted(path):
     lines, made, at = path.read_text().split("\n"), [], 0
+    inside = texts_in(lines)
     while at < len(lines):
         line = lines[at]
         indent = len(line) - len(line.lstrip())
-        if COMMENT.match(line):
+        if COMMENT.match(line) and not inside[at]:
             new, end = filled(lines, at)
             end = max(end, at + 1)
             made += new if any(len(old) > WIDTH for old in lines[at:end]) and new else lines[at:end]
             at = end
             continue
-        if len(line) > WIDTH and USE.match(line):
+        if inside[at]:
+            made.append(line)
+        elif len(line) > WIDTH and USE.match(line):
             made += split(USE.match(line))
         elif len(line) > WIDTH:
             deeper = indent == 0 or path.suffix == ".rt" or re.match(r"\s*(?!let )(pub )?[\w'-]+( [^=]*)? [:=] ", line)
