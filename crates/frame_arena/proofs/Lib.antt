@@ -1,5 +1,2 @@
-mod Places
-mod Sharing
-mod Layouts
-mod BlockSteps
 mod Whole
+mod Places

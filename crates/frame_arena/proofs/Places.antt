@@ -1,174 +1,265 @@
--- Places side by side in memory. Assumes `Logic`.
---     value_out, value_in, tells      a value in its place, and its one machine value
---     cut, glue                       a row of places is two rows
---     items_out, items_in             the items of a block are taken out of its places, and put back
---     item_out, item_in               one item is taken out of its place, and put back
---     items_seen                      the same of items behind a `&`
---     of_room, to_room, emptied       room for an array is a row of empty places, and items can be forgotten
-use mathlib.Core.Path.{◌≡◌, refl, sym, ap, ◌∙◌}
-use Prim.Native.Nat.{ℕ, zero, suc, ◌+◌, ◌*◌, ◌<◌, ◌≤◌}
-use native.Mathlib.Omega.{arith}
-use native.Mathlib.Nat.{zero-mul, suc-mul}
-use mathlib.Core.List.{List, [], ◌∷◌, ◌++◌, map}
-use lib.ListN.{length, take, drop, set, get_or, replicate, take-append-drop, length-take}
-use lib.Seq.{drop-cons, set_split}
-use seplogic.Ra.Ura.{Ura}
-use base.Fraction.{full_share}
-use mir.Syntax.{Ty, ty_array}
-use mir.Val.{Val}
-use base.Logic.{ent, sep, emp, ex, guard, id⊢, mono_r}
-use base.Fml.{Fml, Lft, ftrue, fsep, fat, froom}
-use types.Logic.{Logic, sem}
-use types.SemTy.{cells}
-use types.Kit.{Item, Goal, Seq, ‵, some, given, learn, ◌⊛◌, ◌$◌, ◌∵◌, !, qed, by, move, keep, drop as skip, use1, use2, pick, split, check, show, frame, fsplit, fjoin, rewrite, done}
-use denote.RattleType.{RattleType}
-use denote.Laws.{Typed, Is, shows}
-use denote.Param.{param, layout}
-use denote.Param.Laws.{Laws, param_laws}
-use denote.Memory.{part_at, mem}
-use denote.Slice.{elements_shared}
-use denote.Steps.{nothing, peeks}
-use borrow.Table.OneValue.{part_in, part_out}
-use Rattle.std.specs.Prelude.{Option, Some, None}
-use Rattle.std.specs.Mem.{type_size}
-use Rattle.std.proofs.mem.Param.{El, R, el_x, elτ}
-use Rattle.std.proofs.RcSteps.{Good}
-use Rattle.std.proofs.lemmas.List.{length-map}
-use Rattle.frame_arena.specs.Block.{places, place, row, place_lent, row_lent}
+-- Page frames whose pages lie in places: what is seen of them after each write, and that what holds of the places stays.
+use Rattle.std.proofs.Common.{◌≡◌, ◌≢◌, ◌<◌, ◌≤◌, ◌+◌, ◌^◌, ℕ, zero, suc, not, eqb, cond, List, [], ◌∷◌, ◌++◌, length, take, get_or, set, replicate, refl, sym, ap, subst, ◌∙◌, inl, inr, arith}
+use Rattle.std.proofs.lemmas.List.{ext_get_or, get_or-map, get_or_default, length-map, length-set, get_or-set_same, get_or-set_other, set-get_or, get_or_append_left, get_or_push, length-append, get_or-replicate, length-replicate, get_or-take, length-take-le}
+use Rattle.std.proofs.lemmas.List.Sums.{sum_by-set, get_or-le-sum_by, count_by-le-length}
+use Rattle.std.proofs.lemmas.Bool.{cases_eq}
+use Rattle.std.proofs.lemmas.Bool.Decides.{nat_tests}
+use Rattle.std.specs.List.{All, sum_by}
+use Rattle.definitions.specs.Bytes.{IsPage, zero_page}
+use Rattle.definitions.specs.Tables.{frame, with_frame}
+use Rattle.frame_arena.specs.Whole.{whole}
+use Rattle.frame_arena.specs.Places.{page_in, contents, own_count, AreKept}
+use Rattle.frame_arena.proofs.Whole.{whole_of_page, page_of_whole, whole_of_zeros}
 
-module _ (E : El) where
-  abbrev pub sz : ℕ
-  sz = type_size (R E)
+-- What is seen of the page frames.
 
-  abbrev pub Place : Type 0
-  Place = Option (el_x E)
+pub length-contents : (places : List ℕ) (pages : List (List ℕ)) → length (contents places pages) ≡ length places
+unfolding contents
+length-contents places pages = length-map places (page_in pages)
 
-module _ (i : ℕ) (Y : RattleType) (L : Laws Y) {M : Type 1} {𝓤 : Ura M} (𝓛 : Logic 𝓤) where
-  open 𝓛 use {H}
+pub frame-contents : (places : List ℕ) (pages : List (List ℕ)) (p : ℕ) → p < length places → frame (contents places pages) p ≡ page_in pages (get_or places p 0)
+unfolding contents
+frame-contents places pages p lt = get_or-map (page_in pages) places p 0 [] lt
 
-  pub value_out : (x : Y.Denot) (b o : ℕ) → ent 𝓤 (sem 𝓛 (part_at (param i Y) full_share x b o)) (ex 𝓤 (λ (v : Val). guard 𝓤 (Good (layout Y) v) (sep 𝓤 (H.at full_share (layout Y) b o v) (sem 𝓛 (Y.own_val x (v ∷ []))))))
-  value_out x b o = qed 𝓛 (‵ (part_at (param i Y) full_share x b o) ∷ []) ∵
-      use1 𝓛 (some (λ (v : Val). ‵ (fat full_share (layout Y) b o v) ⊛ ‵ (Y.own_val x (v ∷ [])))) (part_out 𝓛 (param i Y) refl full_share x b o) $ pick ! (λ v. split ! $ move ! (1 ∷ []) $
-      peeks ! (param i Y) (Is (param i Y)) (shows 𝓛 (param i Y)) x (v ∷ []) (λ p.
-      show ! (λ (w : Val). guard 𝓤 (Good (layout Y) w) (sep 𝓤 (H.at full_share (layout Y) b o w) (sem 𝓛 (Y.own_val x (w ∷ []))))) v $ check ! (((param_laws i Y L).lawful 𝓛).typed x (v ∷ []) p).0 $ move ! (1 ∷ 0 ∷ []) $ done !))
+pub contents_pages : (places : List ℕ) (pages : List (List ℕ)) → All IsPage (contents places pages)
+unfolding contents
+contents_pages places pages k d lt =
+    let inside : k < length places = subst (λ (n : ℕ). k < n) (length-map places (page_in pages)) lt in
+    subst IsPage (sym (get_or-map (page_in pages) places k 0 d inside)) (page_of_whole (get_or pages (get_or places k 0) []))
 
-  pub value_in : (x : Y.Denot) (b o : ℕ) (v : Val) → ent 𝓤 (sep 𝓤 (H.at full_share (layout Y) b o v) (sem 𝓛 (Y.own_val x (v ∷ [])))) (sem 𝓛 (part_at (param i Y) full_share x b o))
-  value_in x b o v = part_in 𝓛 (param i Y) refl full_share x b o v
+-- Two that have the same in each page frame are the same.
+same_contents : (frames others : List (List ℕ)) (n : ℕ) → length frames ≡ n → length others ≡ n → ((p : ℕ) → p < n → frame frames p ≡ frame others p) → frames ≡ others
+same_contents frames others n size same each = ext_get_or [] frames others (size ∙ sym same) (λ p lt. each p (subst (λ (m : ℕ). p < m) size lt))
 
-alone : (τ : Ty) (vs : List Val) → Typed (τ ∷ []) vs → (v : Val) × ((vs ≡ v ∷ []) × Good τ v)
-alone τ [] t = absurd t
-alone τ (v ∷ []) t = (v, (refl, t.0))
-alone τ (v ∷ w ∷ vs) t = absurd t.1
+-- how much a page frame counts among those with a page of their own
+mark : ℕ → ℕ
+mark place = cond (not (eqb place 0)) 1 0
 
-module _ (Y : RattleType) (L : Laws Y) {M : Type 1} {𝓤 : Ura M} {𝓛 : Logic 𝓤} {K : Type 0} {Γ : List (Item 𝓤)} {G : Goal 𝓤 𝓛.H} where
-  -- what is owned of a value is one machine value, of its type
-  pub tells : K → (x : Y.Denot) (vs : List Val) → ((v : Val) → vs ≡ v ∷ [] → Good (layout Y) v → Seq K 𝓛 (‵ (Y.own_val x (v ∷ [])) ∷ Γ) G) → Seq K 𝓛 (‵ (Y.own_val x vs) ∷ Γ) G
-  tells t x vs k =
-      peeks t (param 0 Y) (Is (param 0 Y)) (shows 𝓛 (param 0 Y)) x vs (λ is.
-      let one = alone (layout Y) vs (((param_laws 0 Y L).lawful 𝓛).typed x vs is) in
-      rewrite t 0 (λ (us : List Val). ‵ (Y.own_val x us)) one.1.0 refl $ k one.0 one.1.0 one.1.1)
+mark_own : (place : ℕ) → place ≢ 0 → mark place ≡ 1
+unfolding mark
+mark_own place is = grind (arith, nat_tests)
 
--- an item is written into the first empty place
-pub pushed : {X : Type 0} (xs : List X) (x : X) (cs : List (Option X)) → map Some xs ++ (Some x ∷ cs) ≡ map Some (xs ++ x ∷ []) ++ cs
-pushed [] x cs = refl
-pushed (y ∷ ys) x cs = ap (λ (l : List _). Some y ∷ l) (pushed ys x cs)
+mark_zero : mark 0 ≡ 0
+unfolding mark
+mark_zero = refl
 
--- an item stands in its place
-pub placed : {X : Type 0} (xs : List X) (rest : List (Option X)) (i : ℕ) → i < length xs → (x : X) × ((get_or (map Some xs ++ rest) i None ≡ Some x) × (x ≡ get_or xs i x))
-placed [] rest i lt = absurd (omega arith)
-placed (x ∷ xs) rest zero lt = (x, (refl, refl))
-placed (x ∷ xs) rest (suc i) lt = placed xs rest i (omega arith)
+mark_none : (place : ℕ) → mark place ≤ 0 → place ≡ 0
+unfolding mark
+mark_none place le = grind (arith, nat_tests)
 
--- an item is written over
-pub replaced : {X : Type 0} (xs : List X) (rest : List (Option X)) (i : ℕ) (w : X) → i < length xs → set (map Some xs ++ rest) i (Some w) ≡ map Some (set xs i w) ++ rest
-replaced [] rest i w lt = absurd (omega arith)
-replaced (x ∷ xs) rest zero w lt = refl
-replaced (x ∷ xs) rest (suc i) w lt = ap (λ (l : List _). Some x ∷ l) (replaced xs rest i w (omega arith))
+marks : (places : List ℕ) → own_count places ≡ sum_by mark places
+unfolding mark
+marks places = refl
 
-module _ (E : El) {M : Type 1} {𝓤 : Ura M} (𝓛 : Logic 𝓤) (b : ℕ) where
-  open 𝓛 use {H}
+none_own : (n : ℕ) → own_count (replicate n 0) ≡ 0
+none_own zero = refl
+none_own (suc n) = none_own n
 
-  abbrev s : ℕ
-  s = sz E
+module _ (places : List ℕ) (pages : List (List ℕ)) (capacity : ℕ) (kept : AreKept places pages capacity) where
+  some : 0 < length pages
+  some = let counted = kept.counted in omega arith
 
-  abbrev Row : ℕ → List (Place E) → Fml
-  Row = row (R E) b
+  page_in-zero : page_in pages 0 ≡ zero_page
+  page_in-zero = ap whole kept.zeros ∙ whole_of_zeros
 
-  pub cut : (xs ys : List (Place E)) (o at : ℕ) → at ≡ length xs * s + o → ent 𝓤 (sem 𝓛 (Row o (xs ++ ys))) (sep 𝓤 (sem 𝓛 (Row o xs)) (sem 𝓛 (Row at ys)))
-  cut [] ys o at e = qed 𝓛 (‵ (Row o ys) ∷ []) ∵ rewrite ! 0 (λ (k : ℕ). ‵ (Row k ys)) {x = at} (omega (arith, zero-mul s)) refl $ nothing ! $ done !
-  cut (x ∷ xs) ys o at e = let more : at ≡ suc (length xs) * s + o = e in qed 𝓛 (‵ (Row o (x ∷ xs ++ ys)) ∷ []) ∵ fsplit ! $ move ! (1 ∷ []) $
-      use1 𝓛 (‵ (Row (o + s) xs) ⊛ ‵ (Row at ys)) (cut xs ys (o + s) at (omega (arith, suc-mul (length xs) s))) $ split ! $ move ! (2 ∷ 0 ∷ []) $ fjoin ! $ done !
+  -- a page frame in place 0 is seen as zeros
+  pub untouched : (p : ℕ) → p < length places → get_or places p 0 ≡ 0 → frame (contents places pages) p ≡ zero_page
+  untouched p lt at = frame-contents places pages p lt ∙ ap (page_in pages) at ∙ page_in-zero
 
-  pub glue : (xs ys : List (Place E)) (o at : ℕ) → at ≡ length xs * s + o → ent 𝓤 (sep 𝓤 (sem 𝓛 (Row o xs)) (sem 𝓛 (Row at ys))) (sem 𝓛 (Row o (xs ++ ys)))
-  glue [] ys o at e = qed 𝓛 (‵ ftrue ∷ ‵ (Row at ys) ∷ []) ∵ skip ! $ rewrite ! 0 (λ (k : ℕ). ‵ (Row k ys)) {x = o} (omega (arith, zero-mul s)) refl $ done !
-  glue (x ∷ xs) ys o at e = let more : at ≡ suc (length xs) * s + o = e in qed 𝓛 (‵ (Row o (x ∷ xs)) ∷ ‵ (Row at ys) ∷ []) ∵ fsplit ! $ move ! (1 ∷ 2 ∷ []) $
-      use2 𝓛 (‵ (Row (o + s) (xs ++ ys))) (glue xs ys (o + s) at (omega (arith, suc-mul (length xs) s))) $ move ! (1 ∷ 0 ∷ []) $ fjoin ! $ done !
+  -- there is room for the page of a page frame in place 0
+  pub room_for_one : (p : ℕ) → p < length places → get_or places p 0 ≡ 0 → length pages < capacity
+  room_for_one p lt at =
+      let counted = kept.counted in
+      let room = kept.room in
+      let more : sum_by mark (set places p 1) + mark (get_or places p 0) ≡ sum_by mark places + mark 1 = sum_by-set mark places p 1 0 lt in
+      let all : own_count (set places p 1) ≤ length (set places p 1) = count_by-le-length (λ (place : ℕ). not (eqb place 0)) (set places p 1) in
+      let size : length (set places p 1) ≡ length places = length-set places p 1 in
+      let none : mark (get_or places p 0) ≡ 0 = ap mark at ∙ mark_zero in
+      let one : mark 1 ≡ 1 = mark_own 1 (λ (is : 1 ≡ 0). cc) in
+      let same = marks places in
+      let then_same = marks (set places p 1) in
+      omega arith
 
-  module _ (o : ℕ) (cs : List (Place E)) (i : ℕ) where
-    -- the places but for the i-th
-    abbrev pub Besides : Fml
-    Besides = fsep (Row o (take i cs)) (Row (i * s + o + s) (drop (suc i) cs))
+  -- so the place that it gets fits a number of the table
+  pub few_pages : (p : ℕ) → p < length places → get_or places p 0 ≡ 0 → length pages < 2 ^ 32
+  few_pages p lt at =
+      let below = room_for_one p lt at in
+      let room = kept.room in
+      let few = kept.few in
+      omega arith
 
-    before : i ≤ length cs → i * s + o ≡ length (take i cs) * s + o
-    before le = let long : i ≡ length (take i cs) = omega (arith, length-take i cs) in ap (λ k. k * s + o) long
+  -- where no page is added to that of zeros, each page frame is in place 0
+  pub none_written : length pages ≡ 1 → places ≡ replicate (length places) 0
+  none_written one =
+      let counted = kept.counted in
+      let same = marks places in
+      ext_get_or 0 places (replicate (length places) 0) (sym (length-replicate (length places) 0)) (λ p lt.
+      let few = get_or-le-sum_by mark places p 0 lt in
+      mark_none (get_or places p 0) (omega arith) ∙ sym (get_or-replicate (length places) p 0 0 lt))
 
-    pub item_out : i < length cs → ent 𝓤 (sem 𝓛 (Row o cs)) (sep 𝓤 (sem 𝓛 (place (R E) b (i * s + o) (get_or cs i None))) (sem 𝓛 Besides))
-    item_out lt = qed 𝓛 (‵ (Row o cs) ∷ []) ∵
-        rewrite ! 0 (λ (l : List (Place E)). ‵ (Row o l)) (sym (take-append-drop i cs) ∙ ap (λ l. take i cs ++ l) (drop-cons cs i None lt)) refl $
-        use1 𝓛 (‵ (Row o (take i cs)) ⊛ ‵ (Row (i * s + o) (get_or cs i None ∷ drop (suc i) cs))) (cut (take i cs) (get_or cs i None ∷ drop (suc i) cs) o (i * s + o) (before (omega arith))) $
-        split ! $ move ! (1 ∷ []) $ fsplit ! $ move ! (2 ∷ 1 ∷ []) $ fjoin ! $ move ! (1 ∷ []) $ done !
+  -- The page of a page frame is written over in its own place.
 
-    pub item_in : i < length cs → (c : Place E) → ent 𝓤 (sep 𝓤 (sem 𝓛 (place (R E) b (i * s + o) c)) (sem 𝓛 Besides)) (sem 𝓛 (Row o (set cs i c)))
-    item_in lt c = qed 𝓛 (‵ (place (R E) b (i * s + o) c) ∷ ‵ Besides ∷ []) ∵ move ! (1 ∷ []) $ fsplit ! $ move ! (2 ∷ 1 ∷ []) $ fjoin ! $ move ! (1 ∷ 0 ∷ []) $
-        use2 𝓛 (‵ (Row o (take i cs ++ c ∷ drop (suc i) cs))) (glue (take i cs) (c ∷ drop (suc i) cs) o (i * s + o) (before (omega arith))) $
-        rewrite ! 0 (λ (l : List (Place E)). ‵ (Row o l)) (sym (set_split cs i c lt)) refl $ done !
+  other_place : (p q : ℕ) → p < length places → q < length places → get_or places p 0 ≢ 0 → q ≢ p → get_or places q 0 ≢ get_or places p 0
+  other_place p q lt below own apart same = apart (sym (kept.apart p q lt below (sym same) own))
 
-  pub to_cells : (xs : List (el_x E)) (o : ℕ) → ent 𝓤 (sem 𝓛 (Row o (map Some xs))) (sem 𝓛 (cells (mem (R E)) xs b o))
-  to_cells [] o = id⊢ 𝓤 (emp 𝓤)
-  to_cells (x ∷ xs) o = mono_r 𝓤 (sem 𝓛 (part_at (R E) full_share x b o)) (to_cells xs (o + s))
+  pub contents_written : (p : ℕ) (page : List ℕ) → p < length places → get_or places p 0 ≢ 0
+      → contents places (set pages (get_or places p 0) page) ≡ with_frame (contents places pages) p (whole page)
+  contents_written p page lt own =
+      let k = get_or places p 0 in
+      let now = contents places (set pages k page) in
+      let then = with_frame (contents places pages) p (whole page) in
+      same_contents now then (length places) (length-contents places (set pages k page)) (length-set (contents places pages) p (whole page) ∙ length-contents places pages) (λ q below.
+      elim (cases_eq q p) [
+        | inl same ↦ frame-contents places (set pages k page) q below
+            ∙ ap (λ (n : ℕ). page_in (set pages k page) (get_or places n 0)) same
+            ∙ ap whole (get_or-set_same pages k page [] (kept.inside p lt))
+            ∙ sym (get_or-set_same (contents places pages) p (whole page) [] (subst (λ (n : ℕ). p < n) (sym (length-contents places pages)) lt))
+            ∙ ap (frame then) (sym same)
+        | inr apart ↦ frame-contents places (set pages k page) q below
+            ∙ ap whole (get_or-set_other pages k (get_or places q 0) page [] (other_place p q lt below own apart))
+            ∙ sym (frame-contents places pages q below)
+            ∙ sym (get_or-set_other (contents places pages) p q (whole page) [] apart)
+      ])
 
-  pub of_cells : (xs : List (el_x E)) (o : ℕ) → ent 𝓤 (sem 𝓛 (cells (mem (R E)) xs b o)) (sem 𝓛 (Row o (map Some xs)))
-  of_cells [] o = id⊢ 𝓤 (emp 𝓤)
-  of_cells (x ∷ xs) o = mono_r 𝓤 (sem 𝓛 (part_at (R E) full_share x b o)) (of_cells xs (o + s))
+  -- A page is added for a page frame in place 0.
 
-  -- the empty places after n items
-  abbrev pub Room : ℕ → ℕ → ℕ → Fml
-  Room o n room = Row (n * s + o) (replicate room None)
+  pub contents_added : (p : ℕ) (page : List ℕ) → p < length places
+      → contents (set places p (length pages)) (pages ++ page ∷ []) ≡ with_frame (contents places pages) p (whole page)
+  contents_added p page lt =
+      let moved = set places p (length pages) in
+      let more = pages ++ page ∷ [] in
+      let now = contents moved more in
+      let then = with_frame (contents places pages) p (whole page) in
+      let size : length moved ≡ length places = length-set places p (length pages) in
+      same_contents now then (length places) (length-contents moved more ∙ size) (length-set (contents places pages) p (whole page) ∙ length-contents places pages) (λ q below.
+      let seen : frame now q ≡ page_in more (get_or moved q 0) = frame-contents moved more q (subst (λ (n : ℕ). q < n) (sym size) below) in
+      elim (cases_eq q p) [
+        | inl same ↦ seen
+            ∙ ap (λ (n : ℕ). page_in more (get_or moved n 0)) same
+            ∙ ap (page_in more) (get_or-set_same places p (length pages) 0 lt)
+            ∙ ap whole (get_or_push pages page [] (length pages) refl)
+            ∙ sym (get_or-set_same (contents places pages) p (whole page) [] (subst (λ (n : ℕ). p < n) (sym (length-contents places pages)) lt))
+            ∙ ap (frame then) (sym same)
+        | inr apart ↦ seen
+            ∙ ap (page_in more) (get_or-set_other places p q (length pages) 0 apart)
+            ∙ ap whole (get_or_append_left pages (page ∷ []) [] (get_or places q 0) (kept.inside q below))
+            ∙ sym (frame-contents places pages q below)
+            ∙ sym (get_or-set_other (contents places pages) p q (whole page) [] apart)
+      ])
 
-  pub items_out : (xs : List (el_x E)) (room o : ℕ) → ent 𝓤 (sem 𝓛 (Row o (places xs room))) (sep 𝓤 (sem 𝓛 (cells (mem (R E)) xs b o)) (sem 𝓛 (Room o (length xs) room)))
-  items_out xs room o = qed 𝓛 (‵ (Row o (places xs room)) ∷ []) ∵
-      use1 𝓛 (‵ (Row o (map Some xs)) ⊛ ‵ (Room o (length xs) room)) (cut (map Some xs) (replicate room None) o (length xs * s + o) (ap (λ (k : ℕ). k * s + o) (sym (length-map xs Some)))) $ split ! $
-      use1 𝓛 (‵ (cells (mem (R E)) xs b o)) (to_cells xs o) $ done !
+  -- the page that is added is one of zeros, as was seen before
+  pub contents_same : (p : ℕ) → p < length places → get_or places p 0 ≡ 0 → contents (set places p (length pages)) (pages ++ zero_page ∷ []) ≡ contents places pages
+  contents_same p lt at =
+      contents_added p zero_page lt ∙ ap (with_frame (contents places pages) p) (whole_of_zeros ∙ sym (untouched p lt at)) ∙ set-get_or (contents places pages) p []
 
-  pub items_in : (xs : List (el_x E)) (n room o : ℕ) → length xs ≡ n → ent 𝓤 (sep 𝓤 (sem 𝓛 (cells (mem (R E)) xs b o)) (sem 𝓛 (Room o n room))) (sem 𝓛 (Row o (places xs room)))
-  items_in xs n room o long = qed 𝓛 (‵ (cells (mem (R E)) xs b o) ∷ ‵ (Room o n room) ∷ []) ∵
-      use1 𝓛 (‵ (Row o (map Some xs))) (of_cells xs o) $ by ! (glue (map Some xs) (replicate room None) o (n * s + o) (ap (λ (k : ℕ). k * s + o) (sym long ∙ sym (length-map xs Some))))
+  counted_added : (p : ℕ) (page : List ℕ) → p < length places → get_or places p 0 ≡ 0 → length (pages ++ page ∷ []) ≡ 1 + own_count (set places p (length pages))
+  counted_added p page lt at =
+      let counted = kept.counted in
+      let new = length pages in
+      let more : length (pages ++ page ∷ []) ≡ new + 1 = length-append pages (page ∷ []) in
+      let set_one : sum_by mark (set places p new) + mark (get_or places p 0) ≡ sum_by mark places + mark new = sum_by-set mark places p new 0 lt in
+      let none : mark (get_or places p 0) ≡ 0 = ap mark at ∙ mark_zero in
+      let one : mark new ≡ 1 = mark_own new (λ (is : new ≡ 0). omega arith) in
+      let same = marks places in
+      let then_same = marks (set places p new) in
+      omega arith
 
-  pub of_room : (n o : ℕ) → ent 𝓤 (H.room (ty_array (elτ E) n) b o) (sem 𝓛 (Row o (replicate n None)))
-  of_room zero o = qed 𝓛 (‵ (froom (ty_array (elτ E) 0) b o) ∷ []) ∵ keep ! [] $ done !
-  of_room (suc n) o = qed 𝓛 (‵ (froom (ty_array (elτ E) (suc n)) b o) ∷ []) ∵
-      use1 𝓛 (‵ (froom (elτ E) b o) ⊛ ‵ (froom (ty_array (elτ E) n) b (o + s))) (𝓛.laws.room_uncons (elτ E) n b o) $ split ! $
-      use1 𝓛 (‵ (place (R E) b o None)) (𝓛.laws.room-raw (elτ E) b o) $ frame ! $ by ! (of_room n (o + s))
+  pub kept_added : (p : ℕ) (page : List ℕ) → p < length places → get_or places p 0 ≡ 0 → AreKept (set places p (length pages)) (pages ++ page ∷ []) capacity
+  kept_added p page lt at =
+      let new = length pages in
+      let moved = set places p new in
+      let size : length moved ≡ length places = length-set places p new in
+      let more : length (pages ++ page ∷ []) ≡ new + 1 = length-append pages (page ∷ []) in
+      let here : get_or moved p 0 ≡ new = get_or-set_same places p new 0 lt in
+      let there : (q : ℕ) → q ≢ p → get_or moved q 0 ≡ get_or places q 0 = λ q apart. get_or-set_other places p q new 0 apart in
+      let below : (q : ℕ) → q < length moved → q < length places = λ q lt. subst (λ (n : ℕ). q < n) size lt in
+      record {
+        few = subst (λ (n : ℕ). n < 2 ^ 32) (sym size) kept.few;
+        zeros = get_or_append_left pages (page ∷ []) [] 0 some ∙ kept.zeros;
+        inside = λ q lt. elim (cases_eq q p) [
+          | inl same ↦ (let at = ap (λ (n : ℕ). get_or moved n 0) same ∙ here in omega arith)
+          | inr apart ↦ (let at = there q apart in let old = kept.inside q (below q lt) in omega arith)
+        ];
+        apart = λ q r lt less same own. elim (cases_eq q p) [
+          | inl first ↦ elim (cases_eq r p) [
+            | inl second ↦ first ∙ sym second
+            | inr apart ↦
+                (let at = ap (λ (n : ℕ). get_or moved n 0) first ∙ here in let old = there r apart in let under = kept.inside r (below r less) in absurd (omega arith))
+          ]
+          | inr apart ↦ elim (cases_eq r p) [
+            | inl second ↦
+                (let at = ap (λ (n : ℕ). get_or moved n 0) second ∙ here in let old = there q apart in let under = kept.inside q (below q lt) in absurd (omega arith))
+            | inr differs ↦ kept.apart q r (below q lt) (below r less) (sym (there q apart) ∙ same ∙ there r differs) (λ (is : get_or places q 0 ≡ 0). own (there q apart ∙ is))
+          ]
+        ];
+        counted = counted_added p page lt at;
+        room = kept.room ∙ ap (λ (n : ℕ). 1 + n) (sym size);
+      }
 
-  pub to_room : (n o : ℕ) → ent 𝓤 (sem 𝓛 (Row o (replicate n None))) (H.room (ty_array (elτ E) n) b o)
-  to_room zero o = 𝓛.laws.room_nil (elτ E) b o
-  to_room (suc n) o = qed 𝓛 (‵ (place (R E) b o None) ∷ ‵ (Row (o + s) (replicate n None)) ∷ []) ∵
-      use1 𝓛 (‵ (froom (elτ E) b o)) (𝓛.laws.raw-room (elτ E) b o) $ move ! (1 ∷ []) $
-      use1 𝓛 (‵ (froom (ty_array (elτ E) n) b (o + s))) (to_room n (o + s)) $ move ! (1 ∷ []) $ by ! (𝓛.laws.room_cons (elτ E) n b o)
+-- Each page frame is in place 0.
 
-  -- the items are forgotten
-  pub emptied : (cs : List (Place E)) (o : ℕ) → ent 𝓤 (sem 𝓛 (Row o cs)) (sem 𝓛 (Row o (replicate (length cs) None)))
-  emptied [] o = id⊢ 𝓤 (emp 𝓤)
-  emptied (None ∷ cs) o = mono_r 𝓤 (sem 𝓛 (place (R E) b o None)) (emptied cs (o + s))
-  emptied (Some x ∷ cs) o = qed 𝓛 (‵ (part_at (R E) full_share x b o) ∷ ‵ (Row (o + s) cs) ∷ []) ∵
-      use1 𝓛 (some (λ (v : Val). given (Good (elτ E) v) (‵ (fat full_share (elτ E) b o v) ⊛ ‵ (E.row.own_val x (v ∷ []))))) (value_out 0 E.row E.laws 𝓛 x b o) $ pick ! (λ v. learn ! (λ good. split ! $
-      use1 𝓛 (‵ (froom (elτ E) b o)) (𝓛.laws.at_room (elτ E) b o v) $ use1 𝓛 (‵ (place (R E) b o None)) (𝓛.laws.room-raw (elτ E) b o) $ move ! (2 ∷ []) $
-      use1 𝓛 (‵ (Row (o + s) (replicate (length cs) None))) (emptied cs (o + s)) $ move ! (1 ∷ 0 ∷ []) $ fjoin ! $ keep ! (0 ∷ []) $ done !))
+pub contents_zeros : (n : ℕ) (pages : List (List ℕ)) → get_or pages 0 [] ≡ zero_page → contents (replicate n 0) pages ≡ replicate n zero_page
+contents_zeros n pages zeros =
+    let places : List ℕ = replicate n 0 in
+    let size : length places ≡ n = length-replicate n 0 in
+    same_contents (contents places pages) (replicate n zero_page) n (length-contents places pages ∙ size) (length-replicate n zero_page) (λ p lt.
+    frame-contents places pages p (subst (λ (m : ℕ). p < m) (sym size) lt)
+    ∙ ap (page_in pages) (get_or-replicate n p 0 0 lt) ∙ ap whole zeros ∙ whole_of_zeros ∙ sym (get_or-replicate n p zero_page [] lt))
 
-  module _ (κ : Lft) where
-    abbrev Seen : ℕ → List (Place E) → Fml
-    Seen o cs = row_lent (R E) b o cs κ
+pub kept_zeros : (n : ℕ) (pages : List (List ℕ)) (capacity : ℕ) → n < 2 ^ 32 → get_or pages 0 [] ≡ zero_page → length pages ≡ 1 → capacity ≡ 1 + n → AreKept (replicate n 0) pages capacity
+kept_zeros n pages capacity few zeros one room =
+    let places : List ℕ = replicate n 0 in
+    let size : length places ≡ n = length-replicate n 0 in
+    let at : (p : ℕ) → p < length places → get_or places p 0 ≡ 0 = λ p lt. get_or-replicate n p 0 0 (subst (λ (m : ℕ). p < m) size lt) in
+    record {
+      few = subst (λ (m : ℕ). m < 2 ^ 32) (sym size) few;
+      zeros = zeros;
+      inside = λ p lt. let zero = at p lt in omega arith;
+      apart = λ p q lt below same own. absurd (own (at p lt));
+      counted = one ∙ ap (λ (m : ℕ). 1 + m) (sym (none_own n));
+      room = room ∙ ap (λ (m : ℕ). 1 + m) (sym size);
+    }
 
-    pub items_seen : (xs : List (el_x E)) (rest : List (Place E)) (o : ℕ) → ent 𝓤 (sem 𝓛 (Seen o (map Some xs ++ rest))) (sem 𝓛 (elements_shared (R E) xs b o κ))
-    items_seen [] rest o = qed 𝓛 (‵ (Seen o rest) ∷ []) ∵ keep ! [] $ done !
-    items_seen (x ∷ xs) rest o = mono_r 𝓤 (sem 𝓛 (place_lent (R E) b o (Some x) κ)) (items_seen xs rest (o + s))
+-- Page frame p of the page frames that are seen, in a place that was read.
+module _ (places : List ℕ) (pages : List (List ℕ)) (capacity : ℕ) (kept : AreKept places pages capacity) (frames : List (List ℕ)) (seen : contents places pages ≡ frames) (p : ℕ) (lt : p < length frames) where
+  pub within : p < length places
+  within = subst (λ (n : ℕ). p < n) (ap length (sym seen) ∙ length-contents places pages) lt
+
+  module _ (place : ℕ) (at : place ≡ get_or places p place) where
+    pub place_of : get_or places p 0 ≡ place
+    place_of = get_or_default places p 0 place within ∙ sym at
+
+    pub place_inside : place < length pages
+    place_inside = subst (λ (k : ℕ). k < length pages) place_of (kept.inside p within)
+
+    pub page_of : (page : List ℕ) → page ≡ get_or pages place page → IsPage page → page ≡ frame frames p
+    page_of page is whole_page =
+        sym (whole_of_page page whole_page) ∙ ap whole (is ∙ get_or_default pages place page [] place_inside) ∙ ap (page_in pages) (sym place_of)
+        ∙ sym (frame-contents places pages p within) ∙ ap (λ (all : List (List ℕ)). frame all p) seen
+
+    pub zeros_of : place ≡ 0 → frame frames p ≡ zero_page
+    zeros_of none = ap (λ (all : List (List ℕ)). frame all p) (sym seen) ∙ untouched places pages capacity kept p within (place_of ∙ none)
+
+    pub lent_over : (page : List ℕ) → place ≢ 0 → contents places (set pages place page) ≡ with_frame frames p (whole page)
+    lent_over page own =
+        ap (λ (k : ℕ). contents places (set pages k page)) (sym place_of)
+        ∙ contents_written places pages capacity kept p page within (λ (is : get_or places p 0 ≡ 0). own (sym place_of ∙ is))
+        ∙ ap (λ (all : List (List ℕ)). with_frame all p (whole page)) seen
+
+    pub written_over : (page : List ℕ) → place ≢ 0 → IsPage page → contents places (set pages place page) ≡ with_frame frames p page
+    written_over page own whole_page = lent_over page own ∙ ap (with_frame frames p) (whole_of_page page whole_page)
+
+-- all but the page of zeros are forgotten
+module _ (places : List ℕ) (pages : List (List ℕ)) (capacity : ℕ) (kept : AreKept places pages capacity) where
+  first_left : get_or (take 1 pages) 0 [] ≡ zero_page
+  first_left = get_or-take 1 pages 0 [] (omega arith) ∙ kept.zeros
+
+  pub kept_forgotten : AreKept (replicate (length places) 0) (take 1 pages) capacity
+  kept_forgotten = let counted = kept.counted in kept_zeros (length places) (take 1 pages) capacity kept.few first_left (length-take-le 1 pages (omega arith)) kept.room
+
+  pub contents_forgotten : contents (replicate (length places) 0) (take 1 pages) ≡ replicate (length places) zero_page
+  contents_forgotten = contents_zeros (length places) (take 1 pages) first_left
+
+-- what has been there is written anew
+pub same_frame : (frames : List (List ℕ)) (p : ℕ) (page : List ℕ) → frame frames p ≡ page → frames ≡ with_frame frames p page
+same_frame frames p page is = sym (set-get_or frames p []) ∙ ap (with_frame frames p) is

@@ -1,5 +1,3 @@
-pub mod Block
-pub mod BlockLends
-pub mod Leases
 pub mod Lends
+pub mod Places
 pub mod Whole

@@ -1,49 +1,36 @@
-ghost use Rattle.std.specs.Prelude.{◌≡◌, ℕ, ◌+◌, ◌*◌, ◌<◌, ◌≤◌, List, [], length, replicate, IfOk, All};
+ghost use Rattle.std.specs.Prelude.{◌≡◌, ◌≢◌, ℕ, ◌+◌, ◌*◌, ◌^◌, ◌<◌, ◌≤◌, List, length, replicate, ◌∷◌, ◌++◌, []};
+ghost use Rattle.std.specs.Prelude.{slice_index, vec_len, vec_capacity, IfOk, IsTrue, All};
 ghost use Rattle.std.specs.Borrow.{sem};
 ghost use Rattle.definitions.specs.Bytes.{IsPage, word, with_word, number_at, with_number, zero_page, filled_page};
 ghost use Rattle.definitions.specs.Tables.{frame, with_frame, run_at, with_run};
+ghost use Rattle.frame_arena.specs.Places.{contents, AreKept};
 
-use crate::block::{Block, Lease};
 use page_core::{NoMemory, Page};
 use std::alloc::Global;
 use std::marker::Model;
 
-/// The page frames of a machine, by their numbers from 0 on: one block of memory, taken once and freed once.
+/// The page frames of a machine, by their numbers from 0 on. All memory that they can need is taken when they are made,
+/// and none of it is touched before its page frame is written: until then that costs an entry of a table.
+#[derive(Drop)]
 pub struct Frames {
-    pages: Block<Page>,
-    lease: Lease<Page, Global>,
-    alloc: Global,
-    /// Whether nothing was written since the page frames were made.
-    untouched: bool,
+    /// Of each page frame the place of its page in `pages`: 0 as long as nothing was written to it.
+    places: Vec<u32>,
+    /// The page of zeros, and then the pages of the page frames that were written, in the order of their first writes.
+    pages: Vec<Page>,
 }
 
 impl Model for Frames {
-    ghost use Rattle.std.specs.Prelude.{◌≡◌, List, ℕ, ◌<◌, ◌^◌, length, map, replicate, IsTrue};
-    ghost use Rattle.definitions.specs.Bytes.{zero_page};
-    ghost use Rattle.frame_arena.specs.Leases.{IsFull, IsLeaseOf};
-    ghost use Rattle.frame_arena.specs.Whole.{whole};
+    ghost use Rattle.std.specs.Prelude.{List, ℕ, vec_capacity};
+    ghost use Rattle.frame_arena.specs.Places.{contents, AreKept};
 
     ghost Value = { List (List ℕ) };
 
-    ghost view = { λ f. map whole f.pages.items };
+    ghost view = { λ f. contents f.places.items f.pages.items };
 
-    ghost invariant = { λ f. (length f.pages.items < 2 ^ 32) × IsFull f.pages × IsLeaseOf f.lease f.pages f.alloc
-        × (IsTrue f.untouched → f.pages.items ≡ replicate (length f.pages.items) zero_page) };
+    ghost invariant = { λ f. AreKept f.places.items f.pages.items (vec_capacity f.pages) };
 }
 
-impl Drop for Frames {
-    fn drop(self) {
-        let Frames {
-            pages,
-            lease,
-            alloc,
-            untouched: _,
-        } = self;
-        lease.give_back(&alloc, pages);
-    }
-}
-
-#[tactic(auto, using(crate::proofs::Whole::whole_of_page, crate::proofs::Whole::seen_pages, crate::proofs::Whole::seen_zeros), unfolding(definitions::specs::Bytes::zero_page, definitions::specs::Bytes::with_bytes, definitions::specs::Bytes::number_at, definitions::specs::Bytes::with_number))]
+#[tactic(auto, using(crate::proofs::Whole::whole_of_page), unfolding(definitions::specs::Bytes::zero_page, definitions::specs::Bytes::with_bytes, definitions::specs::Bytes::number_at, definitions::specs::Bytes::with_number))]
 impl Frames {
     ghost use Rattle.frame_arena.specs.Lends.{LendsPage};
 
@@ -51,18 +38,14 @@ impl Frames {
     pub fn create(alloc: Global, n: u32) -> Result<Frames, NoMemory>
         ensures { IfOk result (λ frames. frames ≡ replicate n zero_page) }
     {
-        match Lease::take(&alloc, n as usize) {
-            Ok((mut pages, lease)) => {
-                push_zeros(&mut pages, n);
-                Ok(Frames {
-                    pages,
-                    lease,
-                    alloc,
-                    untouched: true,
-                })
-            }
-            Err(_) => Err(NoMemory),
-        }
+        let Ok(places) = Vec::from_elem(alloc, 0, n as usize) else {
+            return Err(NoMemory);
+        };
+        let Ok(mut pages) = Vec::with_capacity(alloc, n as usize + 1) else {
+            return Err(NoMemory);
+        };
+        pages.push_reserved(Page::zero());
+        Ok(Frames { places, pages })
     }
 
     /// The number of page frames.
@@ -70,7 +53,7 @@ impl Frames {
         ensures len { result ≡ length self.now }
         ensures pages { All IsPage self.now }
     {
-        self.pages.items().len() as u32
+        self.places.len() as u32
     }
 
     /// The content of page frame `p`.
@@ -79,7 +62,8 @@ impl Frames {
         ensures content { result.now ≡ frame self.now p }
         ensures page { IsPage result.now }
     {
-        let page = &self.pages.items()[p as usize];
+        let place = self.places[p as usize];
+        let page = &self.pages[place as usize];
         // So it is known to be whole.
         let _ = page.as_bytes();
         page
@@ -91,8 +75,8 @@ impl Frames {
         ensures* writes_back { sem 𝓛 (LendsPage self.entry p result) }
         ensures value { result.now ≡ frame self.old p }
     {
-        self.untouched = false;
-        let page = self.pages.item_mut(p as usize);
+        let place = own_place(&mut self.places, &mut self.pages, p);
+        let page = &mut self.pages[place as usize];
         // So it is known to be whole.
         let _ = page.as_bytes();
         page
@@ -120,9 +104,23 @@ impl Frames {
         requires to_in_range { to < length self.old }
         ensures { self.new ≡ with_frame self.old to (frame self.old from) }
     {
-        self.untouched = false;
-        let page = Page::from_bytes(self.page(from).as_bytes());
-        *self.pages.item_mut(to as usize) = page;
+        if self.is_untouched(from) {
+            self.zero(to);
+            return;
+        }
+        let target = own_place(&mut self.places, &mut self.pages, to);
+        let source = self.places[from as usize];
+        // Nothing lies between these two, so that the page is copied once.
+        let page = Page::from_bytes(self.pages[source as usize].as_bytes());
+        self.pages[target as usize] = page;
+    }
+
+    // Whether nothing was written to page frame `p`.
+    fn is_untouched(&self, p: u32) -> bool
+        requires { p < length self.now }
+        ensures { IsTrue result → frame self.now p ≡ zero_page }
+    {
+        self.places[p as usize] == 0
     }
 
     /// Copies the `n` page frames from `from` on into those from `to` on. The two runs may overlap.
@@ -132,9 +130,14 @@ impl Frames {
         ensures copied { self.new ≡ with_run self.old to (run_at n self.old from) }
         ensures len { length self.new ≡ length self.old }
     {
-        self.untouched = false;
-        let pages = self.pages.items_mut();
-        copy_pages(pages, from as usize, to as usize, n as usize);
+        // So there are known to be fewer than 2 ^ 32.
+        let _ = self.len();
+        // From the end where no source is written before it is read.
+        if to < from {
+            copy_forward(self, from, to, n);
+        } else {
+            copy_backward(self, from, to, n);
+        }
     }
 
     /// The 8-byte number at 8i of page frame `p`.
@@ -178,18 +181,22 @@ impl Frames {
         requires { p < length self.old }
         ensures { self.new ≡ with_frame self.old p zero_page }
     {
-        *self.page_mut(p) = Page::zero();
+        let place = self.places[p as usize];
+        if place == 0 {
+            return;
+        }
+        self.pages[place as usize] = Page::zero();
     }
 
     /// Sets each byte of every page frame to zero. New page frames are zeros already.
     pub fn zero_all(&mut self)
         ensures { self.new ≡ replicate (length self.old) zero_page }
     {
-        if self.untouched {
+        if self.pages.len() == 1 {
             return;
         }
-        let pages = self.pages.items_mut();
-        zero_pages(pages);
+        self.places.fill(0);
+        self.pages.truncate(1);
     }
 
     /// Sets each byte of page frame `p` to `byte`.
@@ -201,59 +208,58 @@ impl Frames {
     }
 }
 
-// Fills the `n` empty places of a block with pages of zeros.
-fn push_zeros(pages: &mut Block<Page>, n: u32)
-    requires none { pages.old.items ≡ [] }
-    requires room { pages.old.room ≡ n }
-    ensures items { pages.new.items ≡ replicate n zero_page }
-    ensures full { pages.new.room ≡ 0 }
-    ensures in_place { pages.new.first ≡ pages.old.first }
+// The place of page frame `p`'s own page. One of zeros is added where it has none.
+fn own_place(places: &mut Vec<u32>, pages: &mut Vec<Page>, p: u32) -> u32
+    requires kept { AreKept places.old.items pages.old.items (vec_capacity pages.old) }
+    requires in_range { p < length places.old.items }
+    ensures kept { AreKept places.new.items pages.new.items (vec_capacity pages.new) }
+    ensures contents { contents places.new.items pages.new.items ≡ contents places.old.items pages.old.items }
+    ensures place { slice_index places.new.items p ≡ result }
+    ensures own { result ≢ 0 }
 {
-    for _ in 0..n {
-        pages.push(Page::zero());
+    let place = places[p as usize];
+    if place != 0 {
+        return place;
     }
+    let added = pages.len() as u32;
+    places[p as usize] = added;
+    push_zeros(pages);
+    added
 }
 
-// Sets each byte of each of the pages to zero.
-fn zero_pages(pages: &mut [Page])
-    ensures { pages.new ≡ replicate (length pages.old) zero_page }
+// Adds a page of zeros, where there is room. It stands apart so that its callers have no page on their stacks.
+#[cold]
+#[inline(never)]
+fn push_zeros(pages: &mut Vec<Page>)
+    requires { vec_len pages.old < vec_capacity pages.old }
+    ensures pages { pages.new.items ≡ pages.old.items ++ zero_page ∷ [] }
+    ensures capacity { vec_capacity pages.new ≡ vec_capacity pages.old }
 {
-    for p in 0..pages.len() {
-        pages[p] = Page::zero();
-    }
+    pages.push_reserved(Page::zero());
 }
 
-// Copies the run from the end where no source is written before it is read.
-fn copy_pages(pages: &mut [Page], from: usize, to: usize, n: usize)
-    requires from_in_range { from + n ≤ length pages.old }
-    requires to_in_range { to + n ≤ length pages.old }
-    ensures { pages.new ≡ with_run pages.old to (run_at n pages.old from) }
-{
-    if to < from {
-        copy_forward(pages, from, to, n);
-    } else {
-        copy_backward(pages, from, to, n);
-    }
-}
-
-// From the first page of the run to its last.
-fn copy_forward(pages: &mut [Page], from: usize, to: usize, n: usize)
-    requires from_in_range { from + n ≤ length pages.old }
+// Copies a run from its first page frame to its last.
+fn copy_forward(frames: &mut Frames, from: u32, to: u32, n: u32)
+    requires from_in_range { from + n ≤ length frames.old }
     requires downwards { to < from }
-    ensures { pages.new ≡ with_run pages.old to (run_at n pages.old from) }
+    requires few { length frames.old < 2 ^ 32 }
+    ensures copied { frames.new ≡ with_run frames.old to (run_at n frames.old from) }
+    ensures len { length frames.new ≡ length frames.old }
 {
     for i in 0..n {
-        pages[to + i] = Page::from_bytes(pages[from + i].as_bytes());
+        frames.copy(from + i, to + i);
     }
 }
 
-// From the last page of the run to its first.
-fn copy_backward(pages: &mut [Page], from: usize, to: usize, n: usize)
-    requires to_in_range { to + n ≤ length pages.old }
+// Copies a run from its last page frame to its first.
+fn copy_backward(frames: &mut Frames, from: u32, to: u32, n: u32)
+    requires to_in_range { to + n ≤ length frames.old }
     requires upwards { from ≤ to }
-    ensures { pages.new ≡ with_run pages.old to (run_at n pages.old from) }
+    requires few { length frames.old < 2 ^ 32 }
+    ensures copied { frames.new ≡ with_run frames.old to (run_at n frames.old from) }
+    ensures len { length frames.new ≡ length frames.old }
 {
     for i in (0..n).rev() {
-        pages[to + i] = Page::from_bytes(pages[from + i].as_bytes());
+        frames.copy(from + i, to + i);
     }
 }

@@ -1,7 +1,6 @@
 //! The memory of the simulated machine: page frames of 4096 bytes each.
 #![tactic(auto)]
 
-mod block;
 mod frames;
 
 pub use frames::Frames;

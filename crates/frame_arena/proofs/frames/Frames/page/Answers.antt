@@ -1,9 +1,22 @@
-use Rattle.std.proofs.Common.{◌∙◌, ℕ, List, get_or, ap}
-use Rattle.frame_arena.proofs.Whole.{seen_at}
+use Rattle.std.proofs.Common.{◌<◌, ℕ, sym, subst}
+use Rattle.frame_arena.proofs.Places.{within, place_inside, page_of}
 use Rattle.frame_arena.proofs.frames.Frames.page.Goals as goal
+
+pub index-place-requires : goal.index-place-requires
+index-place-requires c =
+    let places = c.self.inside.places in
+    let pages = c.self.inside.pages in
+    subst (λ (n : ℕ). c.args.p < n) (sym places.ok.0) (within places.items pages.items pages.cap c.self.invariant c.args.self.now c.self.view_is c.args.p c.requires)
+
+pub index-page-requires : goal.index-page-requires
+index-page-requires c =
+    let places = c.self.inside.places in
+    let pages = c.self.inside.pages in
+    let place = c.index-place.result.now in
+    subst (λ (n : ℕ). place < n) (sym pages.ok.0) (place_inside places.items pages.items pages.cap c.self.invariant c.args.self.now c.self.view_is c.args.p c.requires place c.index-place.ensures)
 
 pub returns-clause-content : goal.returns-clause-content
 returns-clause-content c =
-    let p = c.args.p in
-    let page = c.index-items-p.result in
-    seen_at c.self.inside.pages.items c.args.self.now p page c.self.view_is c.requires (c.index-items-p.is ∙ ap (λ (pages : List (List ℕ)). get_or pages p page) c.items.ensures) c.as_bytes.ensures.page
+    let places = c.self.inside.places in
+    let pages = c.self.inside.pages in
+    page_of places.items pages.items pages.cap c.self.invariant c.args.self.now c.self.view_is c.args.p c.requires c.index-place.result.now c.index-place.ensures c.index-page.result.now c.index-page.ensures c.as_bytes.ensures.page

@@ -1,14 +1,28 @@
-use Rattle.std.proofs.Common.{refl, ◌∙◌, ℕ, List, ap}
-use Rattle.definitions.specs.Tables.{with_frame}
-use Rattle.frame_arena.specs.Whole.{whole}
-use Rattle.frame_arena.proofs.Whole.{seen_at, seen_set}
+use Rattle.std.proofs.Common.{sym, refl, ◌∙◌}
+use Rattle.std.proofs.lemmas.List.{get_or_default}
+use Rattle.frame_arena.proofs.Places.{within, page_of, lent_over}
 use Rattle.frame_arena.proofs.frames.Frames.page_mut.Goals as goal
+
+pub own_place-place-requires-clause-in_range : goal.own_place-place-requires-clause-in_range
+own_place-place-requires-clause-in_range c =
+    let places = c.self.inside.places in
+    let pages = c.self.inside.pages in
+    within places.items pages.items pages.cap c.self.invariant c.args.self.now c.self.view_is c.args.p c.requires
 
 pub returns : goal.returns
 returns c =
     let p = c.args.p in
-    let places = c.self.inside.pages.items in
-    let page = c.item_mut-page.result.now in (
-      (refl, λ last. seen_set places p last ∙ ap (λ (frames : List (List ℕ)). with_frame frames p (whole last)) c.self.view_is),
-      record { writes_back = tt; value = seen_at places c.args.self.now p page c.self.view_is c.requires c.item_mut-page.ensures.value c.as_bytes.ensures.page },
+    let places = c.own_place-place.new.places in
+    let pages = c.own_place-place.new.pages in
+    let place = c.own_place-place.result in
+    let kept = c.own_place-place.ensures.kept in
+    let seen = c.own_place-place.ensures.contents ∙ c.self.view_is in
+    let lt = within places.items pages.items pages.cap kept c.args.self.now seen p c.requires in
+    let at = sym c.own_place-place.ensures.place ∙ get_or_default places.items p 0 place lt in
+    let page = c.index_mut-page.result.now in (
+      (refl, λ last. lent_over places.items pages.items pages.cap kept c.args.self.now seen p c.requires place at last c.own_place-place.ensures.own),
+      record {
+        writes_back = tt;
+        value = page_of places.items pages.items pages.cap kept c.args.self.now seen p c.requires place at page c.index_mut-page.ensures.value c.as_bytes.ensures.page;
+      },
     )
