@@ -1,5 +1,5 @@
 -- Laws of what calls of a disk leave.
-use Rattle.std.proofs.Common.{◌≡◌, ◌≤◌, ℕ, refl, arith}
+use Rattle.std.proofs.Common.{◌≤◌, ℕ, refl, arith}
 use Rattle.sector_disk.specs.Called.{Called}
 use Rattle.sector_disk.specs.declared.disk.Disk.{Ghosts}
 use Rattle.sector_disk.proofs.Time.{still}

@@ -1,10 +1,10 @@
 -- What the calls of a disk in memory make of its content.
-use Rattle.std.proofs.Common.{◌≡◌, ℕ, Result, Ok, Err, OnOk, OnErr, ◌+◌, ◌-◌, ◌*◌, ◌<◌, ◌≤◌, ◌⊎◌, Bool, true, false, cond, min, max, Contains, List, [], ◌∷◌, length, get_or, take, drop, refl, sym, ap, ◌∙◌, inl, inr, subst, arith}
+use Rattle.std.proofs.Common.{◌≡◌, ℕ, Result, Ok, Err, OnOk, OnErr, ◌+◌, ◌*◌, ◌<◌, ◌≤◌, ◌⊎◌, Bool, true, false, cond, Contains, List, [], ◌∷◌, length, get_or, take, drop, refl, sym, ap, ◌∙◌, inl, inr, subst, arith}
 use Rattle.std.specs.List.{concat}
 use Rattle.std.proofs.lemmas.List.{get_or_past}
 use Rattle.std.proofs.lemmas.Bool.{cases_lt}
 use Rattle.definitions.specs.Disk.{no_sector, sector, DiskImage, as_it_reads, settled, block, SameOutside, TakesBytes, Writes, FailsToWrite, Restarts, Syncs, sector_bytes}
-use Rattle.sector_disk.specs.Sectors.{candidates_of, content_of, picks, IsPicked, TakesPage, TakesPicked, SameOutsideBlock, SameOutsideRange}
+use Rattle.sector_disk.specs.Sectors.{candidates_of, content_of, picks, IsPicked, TakesPage, TakesPicked, SameOutsideBlock}
 use Rattle.sector_disk.specs.ContentLaws.{candidates_of-are, candidates_of-live, candidates_of-durable, candidates_of-same, length-content_of, get_or-content_of}
 
 pub as_it_reads-content_of : (durable live : DiskImage) → length durable ≡ length live → as_it_reads (content_of durable live) ≡ live
@@ -101,20 +101,6 @@ restarts durable old new pick n picked = (
   content_of-settled new,
 )
 
--- the sectors that may differ after a write
-pub same_outside_more : (low high b : ℕ) (durable old new : DiskImage) → SameOutsideRange low high durable old → SameOutsideBlock b old new → SameOutsideRange (min low (8 * b)) (max high (8 * b + 8)) durable new
-same_outside_more low high b durable old new outside others = record {
-  below = λ s lt. outside.below s (omega arith) ∙ sym (others.below s (omega arith));
-  above = λ s ge. outside.above s (omega arith) ∙ sym (others.above s (omega arith));
-}
-
-pub block_is : (durable live part : DiskImage) (b : ℕ) → length durable ≡ length live → part ≡ take (8 * b + 8 - 8 * b) (drop (8 * b) live) → concat part ≡ block (as_it_reads (content_of durable live)) b
-block_is durable live part b n e =
-    let width : 8 * b + 8 - 8 * b ≡ 8 = omega arith in
-    ap concat (e ∙ ap (λ k. take k (drop (8 * b) live)) width) ∙ sym (block-content_of durable live b n)
-
--- The same, where a slice was lent: `seen` is what it held, and `kept` is what the vector holds then.
-
 pub on_ok : {T E P : Type 0} (r : Result T E) → P → OnOk r P
 on_ok (Ok v) p = p
 on_ok (Err e) p = tt
@@ -123,24 +109,12 @@ pub on_err : {T E P : Type 0} (r : Result T E) → P → OnErr r P
 on_err (Ok v) p = tt
 on_err (Err e) p = p
 
-pub writes_lent : (durable old seen new kept : DiskImage) (b : ℕ) (page : List ℕ) → seen ≡ old → kept ≡ new → length durable ≡ length old → 8 * b + 8 ≤ length old → SameOutsideBlock b seen new → TakesPage b page new →
-    Writes b page (content_of durable old) (content_of durable kept)
-writes_lent durable old seen new kept b page e k n le others within =
-    subst (λ (xs : DiskImage). Writes b page (content_of durable old) (content_of durable xs)) (sym k) (writes durable old new b page n le (subst (λ (xs : DiskImage). SameOutsideBlock b xs new) e others) within)
-
-pub fails_to_write_lent : (durable old seen new kept : DiskImage) (b pick : ℕ) (page : List ℕ) → seen ≡ old → kept ≡ new → length durable ≡ length old → 8 * b + 8 ≤ length old → SameOutsideBlock b seen new → TakesPicked pick b page seen new →
-    FailsToWrite b page (content_of durable old) (content_of durable kept)
-fails_to_write_lent durable old seen new kept b pick page e k n le others within =
-    subst (λ (xs : DiskImage). FailsToWrite b page (content_of durable old) (content_of durable xs)) (sym k)
-    (fails_to_write durable old new b pick page n le (subst (λ (xs : DiskImage). SameOutsideBlock b xs new) e others) (subst (λ (xs : DiskImage). TakesPicked pick b page xs new) e within))
-
-pub syncs_lent : (durable live kept : DiskImage) → length durable ≡ length live → kept ≡ live → Syncs (content_of durable live) (content_of kept live)
-syncs_lent durable live kept n k =
+-- the same of what is kept
+pub syncs_kept : (durable live kept : DiskImage) → length durable ≡ length live → kept ≡ live → Syncs (content_of durable live) (content_of kept live)
+syncs_kept durable live kept n k =
     ap (λ (xs : DiskImage). content_of xs live) k ∙ content_of-settled live ∙ ap settled (sym (as_it_reads-content_of durable live n))
 
-pub restarts_lent : (durable old seen_durable seen_live new kept_durable kept_live : DiskImage) (pick : ℕ) → seen_durable ≡ durable → seen_live ≡ old → kept_durable ≡ new → kept_live ≡ new → length durable ≡ length old → IsPicked pick seen_durable seen_live new →
-    Restarts (content_of durable old) (content_of kept_durable kept_live)
-restarts_lent durable old seen_durable seen_live new kept_durable kept_live pick ed eo kd kl n picked =
+pub restarts_kept : (durable old new kept_durable kept_live : DiskImage) (pick : ℕ) → kept_durable ≡ new → kept_live ≡ new → length durable ≡ length old → IsPicked pick durable old new → Restarts (content_of durable old) (content_of kept_durable kept_live)
+restarts_kept durable old new kept_durable kept_live pick kd kl n picked =
     subst (λ (xs : DiskImage). Restarts (content_of durable old) (content_of xs kept_live)) (sym kd)
-    (subst (λ (xs : DiskImage). Restarts (content_of durable old) (content_of new xs)) (sym kl)
-    (restarts durable old new pick n (subst (λ (xs : DiskImage). IsPicked pick xs old new) ed (subst (λ (xs : DiskImage). IsPicked pick seen_durable xs new) eo picked))))
+    (subst (λ (xs : DiskImage). Restarts (content_of durable old) (content_of new xs)) (sym kl) (restarts durable old new pick n picked))

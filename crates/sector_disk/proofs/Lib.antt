@@ -1,4 +1,5 @@
 pub mod SectorLaws
+pub mod Padded
 pub mod Contents
 pub mod Recordings
 pub mod Time

@@ -1,11 +1,28 @@
--- What `content_of` says of each sector.
-use Rattle.std.proofs.Common.{◌≡◌, ℕ, ◌*◌, ◌<◌, ◌⊎◌, zero, suc, Bool, true, false, cond, List, [], ◌∷◌, length, get_or}
-use Rattle.std.proofs.Common.{Contains, refl, sym, ap, ◌∙◌, inl, inr, subst, arith}
+-- What `padded` and `content_of` say of each sector.
+use Rattle.std.proofs.Common.{◌≡◌, ℕ, ◌-◌, ◌*◌, ◌<◌, ◌≤◌, ◌⊎◌, zero, suc, Bool, true, false, cond, List, [], ◌∷◌}
+use Rattle.std.proofs.Common.{length, get_or, replicate, All, Contains, refl, sym, ap, ◌∙◌, inl, inr, subst, arith}
 use Rattle.std.proofs.lemmas.Slice.Eq.{bytes_eq-Decides}
-use Rattle.std.proofs.lemmas.List.{get_or_default}
+use Rattle.std.proofs.lemmas.List.{get_or_default, length-replicate, length-append}
+use Rattle.std.proofs.lemmas.List.Elements.{All-append, All-replicate}
 use Rattle.std.specs.Str.{bytes_eq}
 use Rattle.definitions.specs.Disk.{Sector, DiskImage, IsSector, IsContent}
-use Rattle.sector_disk.specs.Sectors.{candidates_of, content_of, AreSectors}
+use Rattle.sector_disk.specs.Sectors.{zero_sector, padded, candidates_of, content_of, AreSectors}
+
+-- so many sectors of 512 bytes, where those that are kept are such
+pub length-padded : (count : ℕ) (kept : DiskImage) → length kept ≤ count → length (padded count kept) ≡ count
+unfolding padded
+length-padded count kept le =
+    length-append kept (replicate (count - length kept) zero_sector)
+    ∙ omega (arith, length-replicate (count - length kept) zero_sector)
+
+pub padded_whole : (count : ℕ) (kept : DiskImage) → length kept ≤ count →
+    All (λ bytes. length bytes ≡ 512) kept → AreSectors count (padded count kept)
+unfolding padded
+padded_whole count kept le whole = record {
+  size = length-padded count kept le;
+  whole = All-append (λ bytes. length bytes ≡ 512) kept (replicate (count - length kept) zero_sector) whole
+      (All-replicate (λ bytes. length bytes ≡ 512) (count - length kept) zero_sector (length-replicate {A = ℕ} 512 0));
+}
 
 -- one or two candidates
 of_one : (l x : List ℕ) → Contains (l ∷ []) x → x ≡ l
@@ -91,3 +108,12 @@ content_of-is blocks durable live hd hl = record {
       (sym (get_or-content_of durable live k e below_durable below))
       (is_sector (get_or durable k []) (get_or live k []) (hd.whole k [] below_durable) (hl.whole k [] below));
 }
+
+-- the content of a disk of so many blocks that keeps their first sectors
+pub content_of_padded : (blocks : ℕ) (durable live : DiskImage) → length durable ≡ length live →
+    length live ≤ 8 * blocks → All (λ bytes. length bytes ≡ 512) durable → All (λ bytes. length bytes ≡ 512) live →
+    IsContent blocks (content_of (padded (8 * blocks) durable) (padded (8 * blocks) live))
+content_of_padded blocks durable live same le hd hl =
+    content_of-is blocks (padded (8 * blocks) durable) (padded (8 * blocks) live)
+    (padded_whole (8 * blocks) durable (omega arith) hd)
+    (padded_whole (8 * blocks) live le hl)

@@ -3,6 +3,7 @@ use Rattle.std.specs.Prelude.{◌≡◌, ℕ, ◌+◌, ◌*◌, ◌<◌, ◌≤�
 use Rattle.definitions.specs.Disk.{Content, DiskImage, raised}
 use Rattle.sector_disk.specs.Calls.{IsDue}
 use Rattle.sector_disk.specs.Recorded.{held_after, WasLeft}
+use Rattle.sector_disk.specs.Sectors.{padded}
 use Rattle.sector_disk.specs.declared.log_disk.LogDisk.{LogDisk}
 use Rattle.sector_disk.specs.declared.recorded.Recorded.{Recorded}
 
@@ -40,11 +41,11 @@ IsFull d = room d ≤ length (recorded d)
 
 -- the sectors as the last sync or restart left them
 abbrev pub durable_sectors : LogDisk → DiskImage
-durable_sectors d = d.disk.durable.items
+durable_sectors d = padded (8 * d.disk.blocks) d.disk.durable.items
 
 -- the sectors as a read gives them
 abbrev pub live_sectors : LogDisk → DiskImage
-live_sectors d = d.disk.live.items
+live_sectors d = padded (8 * d.disk.blocks) d.disk.live.items
 
 -- what it tells of its content
 abbrev pub content : LogDisk → Content

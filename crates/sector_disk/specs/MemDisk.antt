@@ -2,7 +2,7 @@
 use Rattle.std.specs.Prelude.{◌≡◌, ℕ, ◌+◌, ◌*◌, ◌<◌, ◌≤◌, ◌↔◌, replicate, Result, IsErr, OnOk, OnErr}
 use Rattle.definitions.specs.Disk.{Content, DiskImage, raised}
 use Rattle.sector_disk.specs.Calls.{IsDue}
-use Rattle.sector_disk.specs.Sectors.{content_of}
+use Rattle.sector_disk.specs.Sectors.{content_of, padded}
 use Rattle.sector_disk.specs.declared.mem_disk.MemDisk.{MemDisk}
 
 -- how many blocks it has
@@ -23,11 +23,11 @@ order_count d = d.orders
 
 -- the sectors as the last sync or restart left them
 abbrev pub durable_sectors : MemDisk → DiskImage
-durable_sectors d = d.durable.items
+durable_sectors d = padded (8 * d.blocks) d.durable.items
 
 -- the sectors as a read gives them
 abbrev pub live_sectors : MemDisk → DiskImage
-live_sectors d = d.live.items
+live_sectors d = padded (8 * d.blocks) d.live.items
 
 -- what it tells of its content
 abbrev pub content : MemDisk → Content

@@ -1,9 +1,17 @@
 -- What a disk in memory keeps: for each sector its durable bytes and its live ones.
-use Rattle.std.specs.Prelude.{◌≡◌, ℕ, ◌+◌, ◌*◌, ◌%◌, ◌<◌, ◌≤◌, Bool, ◌==◌, if◌then◌else◌, List, [], ◌∷◌, length, All}
-use Rattle.std.specs.Prelude.{slice_index_or}
+use Rattle.std.specs.Prelude.{◌≡◌, ℕ, ◌+◌, ◌-◌, ◌*◌, ◌%◌, ◌<◌, ◌≤◌, Bool, ◌==◌, if◌then◌else◌, List, [], ◌∷◌, ◌++◌}
+use Rattle.std.specs.Prelude.{length, replicate, All, slice_index_or}
 use Rattle.std.specs.Int.{bit_at}
 use Rattle.std.specs.Str.{bytes_eq}
 use Rattle.definitions.specs.Disk.{Content, DiskImage, sector_bytes}
+
+-- the sector of zeros
+abbrev pub zero_sector : List ℕ
+zero_sector = replicate 512 0
+
+-- so many sectors, of which these are the first and the others are zeros
+unfoldable pub padded : ℕ → DiskImage → DiskImage
+padded count kept = kept ++ replicate (count - length kept) zero_sector
 
 -- a power cut leaves the durable bytes of a sector or its live ones, which may be the same
 unfoldable pub candidates_of : List ℕ → List ℕ → List (List ℕ)

@@ -1,10 +1,11 @@
 ghost use Rattle.std.specs.Prelude.{◌≡◌, ◌*◌, ◌≤◌, All, IfOk, vec_len, vec_capacity};
 ghost use Rattle.definitions.specs.Disk.{as_it_reads};
+ghost use Rattle.sector_disk.specs.MemDisk.{durable_sectors as durable_sectors_of, live_sectors as live_sectors_of};
 ghost use Rattle.sector_disk.specs.Sectors.{AreSectors};
 ghost use Rattle.sector_disk.specs.Recorded.{held_after, as_synced, page_size, blocks_needed};
 
 use crate::recorded::Recorded;
-use crate::sectors::{SECTORS_IN_BLOCK, Sector, zero_sectors};
+use crate::sectors::{SECTORS_IN_BLOCK, Sector, fill_up, room_for};
 use crate::{Disk, MemDisk};
 use page_core::{Failed, NoMemory, Page};
 use std::alloc::Global;
@@ -28,8 +29,8 @@ pub struct LogDisk {
     ghost start_whole: { AreSectors (8 * disk.blocks) start.items },
     ghost pages_whole: { All (λ r. page_size r ≡ 4096) log.items },
     ghost blocks_inside: { All (λ r. blocks_needed r ≤ disk.blocks) log.items },
-    pub ghost live: { disk.live.items ≡ as_it_reads (held_after start.items log.items) },
-    pub ghost synced: { disk.durable.items ≡ as_synced (held_after start.items log.items) },
+    pub ghost live: { live_sectors_of disk ≡ as_it_reads (held_after start.items log.items) },
+    pub ghost synced: { durable_sectors_of disk ≡ as_synced (held_after start.items log.items) },
     ghost within: { vec_len log ≤ room },
     ghost capacity: { room ≤ vec_capacity log },
 }
@@ -48,7 +49,9 @@ impl LogDisk {
         ensures { IfOk result (IsNew blocks calls) }
     {
         let disk = MemDisk::create(alloc, blocks)?;
-        let start = zero_sectors(alloc, SECTORS_IN_BLOCK * blocks as usize)?;
+        let count = SECTORS_IN_BLOCK * blocks as usize;
+        let mut start = room_for(alloc, count)?;
+        fill_up(&mut start, count);
         let log = Vec::with_capacity(alloc, calls as usize).map_err(|_| NoMemory)?;
         Ok(LogDisk {
             disk,
@@ -222,7 +225,7 @@ impl Disk for LogDisk {
         ensures ordered { IsOrdered self.old self.new }
     {
         self.disk.restart(pick);
-        self.start.copy_from_slice(self.disk.live());
+        self.disk.copy_live(&mut self.start);
         self.log.clear();
     }
 

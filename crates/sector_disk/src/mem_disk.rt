@@ -1,23 +1,27 @@
-ghost use Rattle.std.specs.Prelude.{◌*◌, ◌≤◌, IfOk};
+ghost use Rattle.std.specs.Prelude.{◌≡◌, ◌*◌, ◌%◌, ◌≤◌, length, All, IfOk, vec_capacity};
 ghost use Rattle.sector_disk.specs.Sectors.{AreSectors, SameOutsideRange};
 
 use crate::Disk;
 use crate::calls::Calls;
 use crate::recorded::{Recorded, redo_all};
 use crate::sectors::{
-    SECTORS_IN_BLOCK, Sector, read_block, restart_sectors, sync_sectors, write_block, write_picked,
-    zero_sectors,
+    SECTORS_IN_BLOCK, Sector, ZEROS, copy_first, fill_up, read_block, restart_sectors, room_for,
+    sync_sectors, write_block, write_picked,
 };
 use page_core::{Failed, NoMemory, Page};
 use std::alloc::Global;
 
-/// A disk in memory. It keeps for each sector the durable bytes, which the last sync left, and the live ones.
+/// A disk in memory. It has for each sector the durable bytes, which the last sync left, and the live ones.
 /// A restart takes of each sector the one or the other, as its pick says.
+///
+/// It begins as zeros, and keeps the blocks up to the last one that was written: memory for all is taken when it is
+/// made, and what lies behind that block isn't touched.
 ///
 /// It tells its content and no moments.
 #[derive(Drop)]
 pub struct MemDisk {
     blocks: u32,
+    // The first sectors, as many of both. The others are zeros in both.
     durable: Vec<Sector>,
     live: Vec<Sector>,
     // The sectors that may differ: the first that was written since the last sync, and the end of the last.
@@ -25,14 +29,18 @@ pub struct MemDisk {
     high: usize,
     calls: Calls,
     orders: u64,
-    ghost durable_whole: { AreSectors (8 * blocks) durable.items },
-    ghost live_whole: { AreSectors (8 * blocks) live.items },
+    ghost same_length: { length durable.items ≡ length live.items },
+    ghost whole_blocks: { length live.items % 8 ≡ 0 },
+    ghost within: { length live.items ≤ 8 * blocks },
+    ghost durable_whole: { All (λ bytes. length bytes ≡ 512) durable.items },
+    ghost live_whole: { All (λ bytes. length bytes ≡ 512) live.items },
+    ghost durable_room: { 8 * blocks ≤ vec_capacity durable },
+    ghost live_room: { 8 * blocks ≤ vec_capacity live },
     ghost synced: { SameOutsideRange low high durable.items live.items },
-    ghost ends: { high ≤ 8 * blocks },
+    ghost ends: { high ≤ length live.items },
 }
 
 impl MemDisk {
-    ghost use Rattle.std.specs.Prelude.{◌≡◌, All};
     ghost use Rattle.sector_disk.specs.Recorded.{AreKept, held_after, page_size, blocks_needed};
     ghost use Rattle.sector_disk.specs.MemDisk.{IsNew, IsRefused, block_count, armed_pick, durable_sectors};
     ghost use Rattle.sector_disk.specs.MemDisk.{live_sectors};
@@ -42,13 +50,13 @@ impl MemDisk {
         ensures { IfOk result (IsNew blocks) }
     {
         let count = SECTORS_IN_BLOCK * blocks as usize;
-        let durable = zero_sectors(alloc, count)?;
-        let live = zero_sectors(alloc, count)?;
+        let durable = room_for(alloc, count)?;
+        let live = room_for(alloc, count)?;
         Ok(MemDisk {
             blocks,
             durable,
             live,
-            low: count,
+            low: usize::MAX,
             high: 0,
             calls: Calls::none(),
             orders: 0,
@@ -79,6 +87,7 @@ impl MemDisk {
         ensures orders { self.new.orders ≡ self.old.orders }
         ensures blocks { block_count self.new ≡ block_count self.old }
     {
+        self.keep_up_to(SECTORS_IN_BLOCK * self.blocks as usize);
         self.durable.copy_from_slice(start);
         self.live.copy_from_slice(start);
         redo_all(log, &mut self.durable, &mut self.live);
@@ -86,12 +95,30 @@ impl MemDisk {
         self.high = self.live.len();
     }
 
-    /// The sectors as a read gives them.
-    pub(crate) fn live(&self) -> &[Sector]
-        ensures sectors { result.now ≡ live_sectors self.now }
-        ensures whole { AreSectors (8 * block_count self.now) result.now }
+    /// Copies the sectors as a read gives them.
+    pub(crate) fn copy_live(&self, into: &mut [Sector])
+        requires { length into.old ≡ 8 * block_count self.now }
+        ensures sectors { into.new ≡ live_sectors self.now }
+        ensures whole { AreSectors (8 * block_count self.now) into.new }
     {
-        self.live.as_slice()
+        copy_first(&self.live, into);
+    }
+
+    /// Keeps so many sectors at least. Those that it didn't keep so far are zeros.
+    fn keep_up_to(&mut self, end: usize)
+        requires inside { end ≤ 8 * block_count self.old }
+        requires whole { end % 8 ≡ 0 }
+        ensures kept { end ≤ length self.new.live.items }
+        ensures durable { durable_sectors self.new ≡ durable_sectors self.old }
+        ensures live { live_sectors self.new ≡ live_sectors self.old }
+        ensures calls { self.new.calls ≡ self.old.calls }
+        ensures orders { orders_got self.new ≡ orders_got self.old }
+        ensures blocks { block_count self.new ≡ block_count self.old }
+    {
+        if self.live.len() < end {
+            fill_up(&mut self.durable, end);
+            fill_up(&mut self.live, end);
+        }
     }
 }
 
@@ -101,8 +128,8 @@ impl Disk for MemDisk {
     ghost use Rattle.sector_disk.specs.MemDisk.{block_count, content, durable_sectors, live_sectors, IsArmed};
     ghost use Rattle.sector_disk.specs.MemDisk.{armed_pick, KeepsArmed, IsCalled, IsOrdered};
     ghost use Rattle.std.proofs.lemmas.Bool.{false≢true};
-    ghost use Rattle.sector_disk.specs.Sectors.{content_of, IsPicked, TakesPicked};
-    ghost use Rattle.sector_disk.specs.ContentLaws.{content_of-is};
+    ghost use Rattle.sector_disk.specs.Sectors.{IsPicked, TakesPicked};
+    ghost use Rattle.sector_disk.specs.ContentLaws.{content_of_padded};
 
     ghost block_count = { λ d. d.blocks };
 
@@ -112,7 +139,7 @@ impl Disk for MemDisk {
 
     ghost orders = { λ d. d.orders };
 
-    ghost content = { λ d. Some (content_of d.durable.items d.live.items) };
+    ghost content = { λ d. Some (content d) };
 
     ghost tells_moments = { λ _. false };
 
@@ -120,7 +147,8 @@ impl Disk for MemDisk {
 
     ghost left_since = { λ _ _ _. ⊥ };
 
-    ghost well_formed = { λ d. content_of-is d.blocks d.durable.items d.live.items d.durable_whole d.live_whole };
+    ghost well_formed = { λ d. content_of_padded d.blocks d.durable.items d.live.items d.same_length d.within
+        d.durable_whole d.live_whole };
 
     ghost tells_content = { λ d tells. absurd (false≢true tells) };
 
@@ -141,7 +169,11 @@ impl Disk for MemDisk {
     {
         self.calls.take_turn()?;
         let first = SECTORS_IN_BLOCK * b as usize;
-        read_block(&self.live[first..first + SECTORS_IN_BLOCK], into);
+        if first < self.live.len() {
+            read_block(&self.live[first..first + SECTORS_IN_BLOCK], into);
+        } else {
+            read_block(&ZEROS, into);
+        }
         Ok(())
     }
 
@@ -155,6 +187,7 @@ impl Disk for MemDisk {
         ensures called { IsCalled self.old self.new result }
     {
         let b = b as usize;
+        self.keep_up_to(SECTORS_IN_BLOCK * b + SECTORS_IN_BLOCK);
         self.low = self.low.min(SECTORS_IN_BLOCK * b);
         self.high = self.high.max(SECTORS_IN_BLOCK * b + SECTORS_IN_BLOCK);
         let answer = self.calls.take_turn();
@@ -174,7 +207,7 @@ impl Disk for MemDisk {
     {
         self.calls.take_turn()?;
         sync_sectors(&mut self.durable, &self.live, self.low, self.high);
-        self.low = self.live.len();
+        self.low = usize::MAX;
         self.high = 0;
         Ok(())
     }
@@ -187,7 +220,7 @@ impl Disk for MemDisk {
         ensures ordered { IsOrdered self.old self.new }
     {
         restart_sectors(&mut self.durable, &mut self.live, self.low, self.high, pick);
-        self.low = self.live.len();
+        self.low = usize::MAX;
         self.high = 0;
         self.orders = self.orders.saturating_add(1);
     }

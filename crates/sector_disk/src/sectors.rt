@@ -1,9 +1,10 @@
 //! The sectors of a disk in memory.
-ghost use Rattle.std.specs.Prelude.{◌≡◌, ◌+◌, ◌*◌, ◌^◌, ◌<◌, ◌≤◌, length, replicate, IfOk, All};
+ghost use Rattle.std.specs.Prelude.{◌≡◌, ◌+◌, ◌-◌, ◌*◌, ◌^◌, ◌<◌, ◌≤◌, [], ◌++◌, length, replicate, IfOk, All};
+ghost use Rattle.std.specs.Prelude.{vec_len, vec_capacity};
 ghost use Rattle.std.specs.List.{concat};
 ghost use Rattle.std.specs.Simd.{first_chunks};
 ghost use Rattle.sector_disk.specs.Sectors.{IsPicked, IsPickedFrom, TakesPicked, TakesPage, SameOutsideBlock};
-ghost use Rattle.sector_disk.specs.Sectors.{SameOutsideRange};
+ghost use Rattle.sector_disk.specs.Sectors.{SameOutsideRange, padded};
 
 use page_core::{NoMemory, Page};
 use std::alloc::Global;
@@ -14,14 +15,39 @@ pub const SECTOR_SIZE: usize = 512;
 
 pub const SECTORS_IN_BLOCK: usize = 8;
 
-/// So many sectors of zeros.
-pub fn zero_sectors(alloc: Global, count: usize) -> Result<Vec<Sector>, NoMemory>
-    ensures { IfOk result (λ sectors. sectors.items ≡ replicate count (replicate 512 0)) }
+/// The sectors of a block of zeros.
+pub const ZEROS: [Sector; SECTORS_IN_BLOCK] = [[0; SECTOR_SIZE]; SECTORS_IN_BLOCK];
+
+/// Room for so many sectors. It takes their memory, and doesn't touch it.
+pub fn room_for(alloc: Global, count: usize) -> Result<Vec<Sector>, NoMemory>
+    ensures empty { IfOk result (λ sectors. sectors.items ≡ []) }
+    ensures room { IfOk result (λ sectors. count ≤ vec_capacity sectors) }
 {
-    let mut sectors = Vec::new(alloc);
-    match sectors.resize(count, [0; SECTOR_SIZE]) {
-        Ok(()) => Ok(sectors),
-        Err(_) => Err(NoMemory),
+    Vec::with_capacity(alloc, count).map_err(|_| NoMemory)
+}
+
+/// Adds sectors of zeros up to so many. There is room for them.
+pub fn fill_up(sectors: &mut Vec<Sector>, end: usize)
+    requires more { vec_len sectors.old ≤ end }
+    requires room { end ≤ vec_capacity sectors.old }
+    ensures filled { sectors.new.items ≡ sectors.old.items ++
+        replicate (end - length sectors.old.items) (replicate 512 0) }
+    ensures room { vec_capacity sectors.old ≤ vec_capacity sectors.new }
+{
+    match sectors.resize(end, [0; SECTOR_SIZE]) {
+        Ok(()) => {}
+        Err(_) => unreachable!(),
+    }
+}
+
+/// Copies the first sectors, and fills the others with zeros.
+pub fn copy_first(from: &[Sector], into: &mut [Sector])
+    requires { length from.now ≤ length into.old }
+    ensures { into.new ≡ padded (length into.old) from.now }
+{
+    into[..from.len()].copy_from_slice(from);
+    for s in from.len()..into.len() {
+        into[s] = [0; SECTOR_SIZE];
     }
 }
 

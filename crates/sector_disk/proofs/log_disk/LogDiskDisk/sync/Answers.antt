@@ -1,4 +1,5 @@
 use Rattle.std.proofs.Common.{◌∙◌, sym, ap, refl, arith}
+use Rattle.sector_disk.specs.MemDisk.{live_sectors}
 use Rattle.definitions.specs.Disk.{as_it_reads}
 use Rattle.sector_disk.specs.Recorded.{as_synced}
 use Rattle.sector_disk.proofs.Recordings.{live_sync, held_failed_sync, synced_sync, whole_push, blocks_push, time_recorded}
@@ -8,12 +9,12 @@ use Rattle.sector_disk.proofs.log_disk.LogDiskDisk.sync.Goals as goal
 pub invariant_of-self-clause-live : goal.invariant_of-self-clause-live
 invariant_of-self-clause-live c =
     let d = c.args.self.now in
-    c.in-Ok.ensures.live ∙ live_sync d.start.items d.log.items c.push_reserved.new.self.items d.disk.live.items c.push_reserved.ensures.items d.live
+    c.in-Ok.ensures.live ∙ live_sync d.start.items d.log.items c.push_reserved.new.self.items (live_sectors d.disk) c.push_reserved.ensures.items d.live
 
 pub invariant_of-self-clause-synced : goal.invariant_of-self-clause-synced
 invariant_of-self-clause-synced c =
     let d = c.args.self.now in
-    c.in-Ok.ensures.durable ∙ synced_sync d.start.items d.log.items c.push_reserved.new.self.items d.disk.live.items c.push_reserved.ensures.items d.live
+    c.in-Ok.ensures.durable ∙ synced_sync d.start.items d.log.items c.push_reserved.new.self.items (live_sectors d.disk) c.push_reserved.ensures.items d.live
 
 pub returns-in-Ok-clause-time : goal.returns-in-Ok-clause-time
 returns-in-Ok-clause-time c =

@@ -1,4 +1,6 @@
-use Rattle.std.proofs.Common.{◌∙◌, sym, arith}
+use Rattle.std.proofs.Common.{◌∙◌, arith}
+use Rattle.sector_disk.specs.MemDisk.{durable_sectors, live_sectors}
+use Rattle.sector_disk.proofs.Padded.{same_size}
 use Rattle.sector_disk.specs.RecordedLaws.{held_whole}
 use Rattle.sector_disk.specs.Recorded.{held_after}
 use Rattle.sector_disk.proofs.Contents.{on_ok, on_err}
@@ -25,8 +27,8 @@ invariant_of-self-clause-live c =
     let le = block_inside d.disk.blocks c.args.b (held_after d.start.items d.log.items) whole c.requires in
     let entry = write_of d.log.items c.push_reserved.new.self.items c.args.b c.from_bytes-page.result c.args.from.now c.push_reserved.ensures.items (c.from_bytes-page.ensures.bytes ∙ c.as_bytes.ensures.bytes) in
     let kept = c.write-answer.new.self in
-    live_write d.start.items d.log.items c.push_reserved.new.self.items c.args.b c.args.from.now d.disk.durable.items d.disk.live.items kept.durable.items kept.live.items entry
-    (d.disk.durable_whole.size ∙ sym d.disk.live_whole.size) (kept.durable_whole.size ∙ sym kept.live_whole.size) le d.live c.in-Ok.ensures.written
+    live_write d.start.items d.log.items c.push_reserved.new.self.items c.args.b c.args.from.now (durable_sectors d.disk) (live_sectors d.disk) (durable_sectors kept) (live_sectors kept) entry
+    (same_size d.disk) (same_size kept) le d.live c.in-Ok.ensures.written
 
 pub invariant_of-self-clause-synced : goal.invariant_of-self-clause-synced
 invariant_of-self-clause-synced c =
@@ -34,7 +36,7 @@ invariant_of-self-clause-synced c =
     let whole = held_whole d.disk.blocks d.start.items d.log.items d.start_whole d.pages_whole in
     let le = block_inside d.disk.blocks c.args.b (held_after d.start.items d.log.items) whole c.requires in
     let entry = write_of d.log.items c.push_reserved.new.self.items c.args.b c.from_bytes-page.result c.args.from.now c.push_reserved.ensures.items (c.from_bytes-page.ensures.bytes ∙ c.as_bytes.ensures.bytes) in
-    synced_write d.disk.blocks d.start.items d.log.items c.push_reserved.new.self.items c.args.b c.args.from.now d.disk.durable.items c.write-answer.new.self.durable.items entry whole le d.synced c.write-answer.ensures.durable
+    synced_write d.disk.blocks d.start.items d.log.items c.push_reserved.new.self.items c.args.b c.args.from.now (durable_sectors d.disk) (durable_sectors c.write-answer.new.self) entry whole le d.synced c.write-answer.ensures.durable
 
 pub returns-in-Ok-clause-written : goal.returns-in-Ok-clause-written
 returns-in-Ok-clause-written c =
@@ -69,8 +71,8 @@ invariant_of-self-in-Err-clause-live c =
     let le = block_inside d.disk.blocks c.args.b (held_after d.start.items d.log.items) whole c.requires in
     let entry = failed_write_of d.log.items c.push_reserved-in-Err.new.self.items c.args.b c.from_bytes-page.result c.args.from.now c.armed_pick-pick.result d.disk.calls.pick c.push_reserved-in-Err.ensures.items (c.from_bytes-page.ensures.bytes ∙ c.as_bytes.ensures.bytes) (c.armed_pick-pick.ensures ∙ c.write-answer.ensures.called.pick) in
     let kept = c.write-answer.new.self in
-    live_failed_write d.start.items d.log.items c.push_reserved-in-Err.new.self.items c.args.b c.args.from.now d.disk.calls.pick d.disk.durable.items d.disk.live.items kept.durable.items kept.live.items entry
-    (d.disk.durable_whole.size ∙ sym d.disk.live_whole.size) (kept.durable_whole.size ∙ sym kept.live_whole.size) le d.live c.in-Err.ensures.failed c.in-Err.ensures.picked
+    live_failed_write d.start.items d.log.items c.push_reserved-in-Err.new.self.items c.args.b c.args.from.now d.disk.calls.pick (durable_sectors d.disk) (live_sectors d.disk) (durable_sectors kept) (live_sectors kept) entry
+    (same_size d.disk) (same_size kept) le d.live c.in-Err.ensures.failed c.in-Err.ensures.picked
 
 pub invariant_of-self-in-Err-clause-synced : goal.invariant_of-self-in-Err-clause-synced
 invariant_of-self-in-Err-clause-synced c =
@@ -78,7 +80,7 @@ invariant_of-self-in-Err-clause-synced c =
     let whole = held_whole d.disk.blocks d.start.items d.log.items d.start_whole d.pages_whole in
     let le = block_inside d.disk.blocks c.args.b (held_after d.start.items d.log.items) whole c.requires in
     let entry = failed_write_of d.log.items c.push_reserved-in-Err.new.self.items c.args.b c.from_bytes-page.result c.args.from.now c.armed_pick-pick.result d.disk.calls.pick c.push_reserved-in-Err.ensures.items (c.from_bytes-page.ensures.bytes ∙ c.as_bytes.ensures.bytes) (c.armed_pick-pick.ensures ∙ c.write-answer.ensures.called.pick) in
-    synced_failed_write d.disk.blocks d.start.items d.log.items c.push_reserved-in-Err.new.self.items c.args.b c.args.from.now d.disk.calls.pick d.disk.durable.items c.write-answer.new.self.durable.items entry whole le d.synced c.write-answer.ensures.durable
+    synced_failed_write d.disk.blocks d.start.items d.log.items c.push_reserved-in-Err.new.self.items c.args.b c.args.from.now d.disk.calls.pick (durable_sectors d.disk) (durable_sectors c.write-answer.new.self) entry whole le d.synced c.write-answer.ensures.durable
 
 pub returns-in-Err-clause-failed : goal.returns-in-Err-clause-failed
 returns-in-Err-clause-failed c =
