@@ -12,9 +12,9 @@ misplaced floor index [] = None
 misplaced floor index (r ∷ rs) =
     if nat_le floor r.start && nat_lt r.start r.end then misplaced r.end (index + 1) rs else Some index
 
-abbrev pub IsFault : List FrameRange → (present blocks header : ℕ) → MachineFault → Type 0
-IsFault memory present blocks header (Memory index) = misplaced 0 0 memory ≡ Some index
-IsFault memory present blocks header (Present said) =
+abbrev pub IsMachineFault : List FrameRange → (present blocks header : ℕ) → MachineFault → Type 0
+IsMachineFault memory present blocks header (Memory index) = misplaced 0 0 memory ≡ Some index
+IsMachineFault memory present blocks header (Present said) =
     AreApart memory × ((said ≡ present) × ((present ≡ 0) ⊎ (2 ^ 52 ≤ present)))
-IsFault memory present blocks header (Header said) =
+IsMachineFault memory present blocks header (Header said) =
     AreApart memory × ((0 < present) × ((present < 2 ^ 52) × ((said ≡ header) × (blocks ≤ header))))

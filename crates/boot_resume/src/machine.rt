@@ -65,7 +65,7 @@ impl<'a> Model for Machine<'a> {
 impl<'a> Machine<'a> {
     ghost use Rattle.std.specs.Prelude.{◌≡◌, ◌<◌, ◌≤◌, ◌^◌, ◌↔◌, IsOk, IfErr, IfOk, IsTrue};
     ghost use Rattle.boot_resume.specs.Facts.{compared_by, facts};
-    ghost use Rattle.boot_resume.specs.Ranges.{IsFault};
+    ghost use Rattle.boot_resume.specs.Ranges.{IsMachineFault};
     ghost use Rattle.boot_resume.specs.Memory.{AreApart, block_fault, is_memory, Names};
 
     /// `memory` are the ranges of page frames that are memory, ascending and apart; `present` says how many page frames
@@ -81,7 +81,7 @@ impl<'a> Machine<'a> {
         header: u64,
     ) -> Result<Machine<'a>, MachineFault>
         ensures ok { IsOk result ↔ (AreApart memory.now × (0 < present) × (present < 2 ^ 52) × (header < blocks)) }
-        ensures fault { IfErr result (IsFault memory.now present blocks header) }
+        ensures fault { IfErr result (IsMachineFault memory.now present blocks header) }
         ensures machine { IfOk result (λ m. m ≡
             facts memory.now present (compared_by identity.entry) hardware_signature blocks header) }
     {

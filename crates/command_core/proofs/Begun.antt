@@ -17,13 +17,13 @@ use Rattle.plain_machine.specs.declared.event.Event.{Event}
 use Rattle.plain_machine.specs.declared.event.Event.TheVariants as event
 use Rattle.plain_machine.specs.declared.reply.Reply.{Reply}
 use Rattle.plain_machine.specs.declared.reply.Reply.TheVariants as reply
-use Rattle.protocol_laws.specs.Rows.{LeavesBlock, IsNewFault, blocks_written, out_block}
+use Rattle.protocol_laws.specs.Rows.{LeavesBlock, TellsNewFault, blocks_written, out_block}
 use Rattle.protocol_laws.proofs.Unwritten.{block_same}
 use Rattle.world_core.specs.Row.{SimulatesWhereTold, Restores}
-use Rattle.world_core.specs.StandsFor.{StandsFor, IsNew, hardware_of}
+use Rattle.world_core.specs.StandsFor.{StandsFor, IsNewWorld, hardware_of}
 use Rattle.world_core.specs.World.{World}
 use Rattle.command_core.specs.Answers.{EndsInFault, goes_on, held_at_first, is_booted, machine_of_dump, machine_to_save}
-use Rattle.command_core.specs.Parts.{IsUp}
+use Rattle.command_core.specs.Parts.{RunsUnchanged}
 use Rattle.command_core.specs.Turns.{Point, IsTurn}
 use Rattle.command_core.proofs.Booting.{boot_begins, boot_syncs, boot_ends, shrinks}
 use Rattle.command_core.proofs.Leaving.{leaves_then}
@@ -31,11 +31,11 @@ use Rattle.command_core.proofs.Points.{Turned, turned, reads_same}
 
 -- A new machine stands for one that is off, with another's image where the disk is marked.
 
-stands_by : (h : Hardware) (m : Memory) (w : World) (v : disk.DiskImage) (marked : Bool) → is_marked_disk h v ≡ marked → IsNew h (Some m) w → (Marked h v → HasOriginal h v) → StandsFor w (disk.settled v) (off (cond marked (sure other) nothing) (Some m))
+stands_by : (h : Hardware) (m : Memory) (w : World) (v : disk.DiskImage) (marked : Bool) → is_marked_disk h v ≡ marked → IsNewWorld h (Some m) w → (Marked h v → HasOriginal h v) → StandsFor w (disk.settled v) (off (cond marked (sure other) nothing) (Some m))
 stands_by h m w v true e new original = let is : Marked h v = same_text (sig_of (header_of h v)) image_signature (sym e) in new.marked v is (original is)
 stands_by h m w v false e new original = new.unmarked v (other_text (sig_of (header_of h v)) image_signature (sym e))
 
-pub new_stands : (h : Hardware) (m : Memory) (w : World) (v : disk.DiskImage) → IsNew h (Some m) w → (Marked h v → HasOriginal h v) → StandsFor w (disk.settled v) (off (held_at_first h v) (Some m))
+pub new_stands : (h : Hardware) (m : Memory) (w : World) (v : disk.DiskImage) → IsNewWorld h (Some m) w → (Marked h v → HasOriginal h v) → StandsFor w (disk.settled v) (off (held_at_first h v) (Some m))
 new_stands h m w v = stands_by h m w v (is_marked_disk h v) refl
 
 -- Over the disk v, which begins with one image, nothing was written so far.
@@ -116,9 +116,9 @@ pub record FailsAt (v : disk.DiskImage) (r : Reply) (now : Option disk.Content) 
   pub told : now ≡ Some content
   pub unwritten : (b : ℕ) → LeavesBlock b (disk.settled v) content
   pub fault : EndsInFault r
-  pub new_fault : IsNewFault r
+  pub new_fault : TellsNewFault r
 
-pub boots_first : (w w' : World) (v : disk.DiskImage) (r : Reply) (blocks blocks' : ℕ) (before now : Option disk.Content) → before ≡ Some (disk.settled v) → IsNew (hardware_of w) (Some w.frames) w → (Marked (hardware_of w) v → HasOriginal (hardware_of w) v) → IfSome before (disk.IsContent blocks) → hardware_of w' ≡ hardware_of w →
+pub boots_first : (w w' : World) (v : disk.DiskImage) (r : Reply) (blocks blocks' : ℕ) (before now : Option disk.Content) → before ≡ Some (disk.settled v) → IsNewWorld (hardware_of w) (Some w.frames) w → (Marked (hardware_of w) v → HasOriginal (hardware_of w) v) → IfSome before (disk.IsContent blocks) → hardware_of w' ≡ hardware_of w →
     SimulatesWhereTold (event.Boot Kept) w w' r before now → Restores (event.Boot Kept) w w' r before now → IfSome now (disk.IsContent blocks') → BootsAt (hardware_of w) w.frames v 0 w' now
 boots_first w w' v r blocks blocks' before now told new original whole hw row restores whole' =
     let h = hardware_of w in
@@ -155,12 +155,12 @@ boots_second h m v w w' r blocks before now at is hw row restores whole =
       | inl goes ↦ inl (ap goes_on (sym turn.reply_is ∙ goes.0), record { point = turn.new; failed = turn.failed_is; untouched = untouched; state = goes.1; told = turn.told; stands = turn.stands })
       | inr fault ↦ (
           let same = sym turn.reply_is ∙ fault in
-          inr (ap goes_on same, record { content = turn.new.content; told = turn.told; unwritten = untouched.unwritten; fault = subst EndsInFault (sym same) tt; new_fault = subst IsNewFault (sym same) tt })
+          inr (ap goes_on same, record { content = turn.new.content; told = turn.told; unwritten = untouched.unwritten; fault = subst EndsInFault (sym same) tt; new_fault = subst TellsNewFault (sym same) tt })
           )
     ]
 
 pub boots_third : (h : Hardware) (m : Memory) (v : disk.DiskImage) (w w' : World) (r : Reply) (first blocks : ℕ) (before now : Option disk.Content) → disk.IsContent first (disk.settled v) → BootsAt h m v 1 w before → hardware_of w ≡ h → hardware_of w' ≡ hardware_of w →
-    SimulatesWhereTold (event.Step actor.Core) w w' r before now → Restores (event.Step actor.Core) w w' r before now → IfSome now (disk.IsContent blocks) → ((is_booted r ≡ true) × IsUp h (machine_of_dump h m v) v w' now) ⊎ ((is_booted r ≡ false) × FailsAt v r now)
+    SimulatesWhereTold (event.Step actor.Core) w w' r before now → Restores (event.Step actor.Core) w w' r before now → IfSome now (disk.IsContent blocks) → ((is_booted r ≡ true) × RunsUnchanged h (machine_of_dump h m v) v w' now) ⊎ ((is_booted r ≡ false) × FailsAt v r now)
 boots_third h m v w w' r first blocks before now whole at is hw row restores whole' =
     let turn = boot_turn h m v 1 w w' r blocks before now at is hw row restores whole' in
     let held = held_at_first h v in
@@ -185,13 +185,13 @@ boots_third h m v w w' r first blocks before now whole at is hw row restores who
       )
       | inr fault ↦ (
           let same_reply = sym turn.reply_is ∙ fault in
-          inr (ap is_booted same_reply, record { content = turn.new.content; told = turn.told; unwritten = untouched.unwritten; fault = subst EndsInFault (sym same_reply) tt; new_fault = subst IsNewFault (sym same_reply) tt })
+          inr (ap is_booted same_reply, record { content = turn.new.content; told = turn.told; unwritten = untouched.unwritten; fault = subst EndsInFault (sym same_reply) tt; new_fault = subst TellsNewFault (sym same_reply) tt })
           )
     ]
 
 -- Cached page frames are dropped of a machine that has booted, over the same disk.
-pub up_shrunk : (h : Hardware) (m : Memory) (v : disk.DiskImage) (want : ℕ) (w w' : World) (r : Reply) (blocks : ℕ) (before now : Option disk.Content) → IsUp h (machine_of_dump h m v) v w before → hardware_of w ≡ h → hardware_of w' ≡ hardware_of w →
-    SimulatesWhereTold (event.Shrink want) w w' r before now → Restores (event.Shrink want) w w' r before now → IfSome now (disk.IsContent blocks) → IsUp h (machine_to_save h m (Some want) v) v w' now
+pub up_shrunk : (h : Hardware) (m : Memory) (v : disk.DiskImage) (want : ℕ) (w w' : World) (r : Reply) (blocks : ℕ) (before now : Option disk.Content) → RunsUnchanged h (machine_of_dump h m v) v w before → hardware_of w ≡ h → hardware_of w' ≡ hardware_of w →
+    SimulatesWhereTold (event.Shrink want) w w' r before now → Restores (event.Shrink want) w w' r before now → IfSome now (disk.IsContent blocks) → RunsUnchanged h (machine_to_save h m (Some want) v) v w' now
 up_shrunk h m v want w w' r blocks before now up hw same row restores whole =
     let a = machine_of_dump h m v in
     let p : Point = record { reply = reply.Idle; failed = true; state = on a; content = up.content; frames = w.frames } in

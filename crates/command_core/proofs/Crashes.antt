@@ -14,7 +14,7 @@ use Rattle.plain_machine.specs.Image.{Image, hibernate_steps}
 use Rattle.plain_machine.specs.Machine.{Hardware, Memory, block_of_slot}
 use Rattle.plain_machine.specs.Refusals.{refusal}
 use Rattle.plain_machine.specs.Shows.{WorldView}
-use Rattle.plain_machine.specs.Stands.{Stands, EachImage, IsHeader, IsHeld, IsTakenBack}
+use Rattle.plain_machine.specs.Stands.{Stands, EachImage, IsHeader, IsHeld, IsSameOrTakenBack}
 use Rattle.plain_machine.specs.Calls.{HibernationCall, writes_page, syncs_pages, reads_header, writes_mark, syncs_mark, hibernation_call, load_call}
 use Rattle.plain_machine.proofs.Calls.{IsAt as IsCallAt, is_at, call_marks}
 use Rattle.plain_machine.specs.State.{State, off, on, booting, hibernating, undoing, settling, waking, loading, asleep, Running, held_in, nothing, maybe, own}
@@ -256,7 +256,7 @@ taken_steps h m check v blocks (suc n) start end first untouched at (mid, are, g
     taken_turn h m check v blocks n mid end first there (taken_steps h m check v blocks n start mid first untouched at are) (goes_state h m check v n mid.reply mid.state mid.failed there.at goes).0 turn
 
 -- A crash inside a step of a resume leaves the disk as it was, but for block(0), which is as it was or taken back.
-pub resumes_inside : (h : Hardware) (m : Memory) (check : IdentCheck) (v w : disk.DiskImage) (blocks : ℕ) (start : Point) → disk.IsContent blocks (disk.settled v) → IsUntouched v start → LoadsAt h m check v 0 start.reply start.state start.failed → IsLeftInside h start w → IsTakenBack h v w
+pub resumes_inside : (h : Hardware) (m : Memory) (check : IdentCheck) (v w : disk.DiskImage) (blocks : ℕ) (start : Point) → disk.IsContent blocks (disk.settled v) → IsUntouched v start → LoadsAt h m check v 0 start.reply start.state start.failed → IsLeftInside h start w → IsSameOrTakenBack h v w
 resumes_inside h m check v w blocks start first untouched at is =
     let before = taken_steps h m check v blocks is.steps start is.before first untouched at is.are in
     let after = taken_steps h m check v blocks (suc is.steps) start is.after first untouched at (is.before, is.are, is.goes, is.turn) in

@@ -18,7 +18,7 @@ use Rattle.plain_machine.specs.declared.reply.Reply.TheVariants as reply
 use Rattle.plain_machine.specs.declared.reply.UndoCall.{UndoCall}
 use Rattle.plain_machine.specs.declared.reply.UndoCall.TheVariants as undo
 use Rattle.plain_machine.proofs.PastEnd.{hibernate-past}
-use Rattle.protocol_laws.specs.Rows.{IsNewFault}
+use Rattle.protocol_laws.specs.Rows.{TellsNewFault}
 use Rattle.command_core.specs.Turns.{Point, AreSteps}
 use Rattle.command_core.specs.Answers.{goes_on}
 
@@ -34,7 +34,7 @@ IsAt i a n _ b failed = ⊥
 
 -- each outcome of one more step, where a call that failed is noticed
 abbrev LeadsOn : Image → Running → ℕ → Bool → Outcome → Type 0
-LeadsOn i a n failed outcome = (now : Bool) → (IsNewFault outcome.0 → now ≡ true) → (failed ≡ true → now ≡ true) → IsAt i a (n + 1) outcome.0 outcome.1 now
+LeadsOn i a n failed outcome = (now : Bool) → (TellsNewFault outcome.0 → now ≡ true) → (failed ≡ true → now ≡ true) → IsAt i a (n + 1) outcome.0 outcome.1 now
 
 write_leads : (i : Image) (a : Running) (n : ℕ) (failed : Bool) (call : Option HibernationCall) → n < hibernate_steps i → AllByRecursion (LeadsOn i a n failed) (hibernation_outcomes false i a n call)
 write_leads i a n failed None before = tt
@@ -81,7 +81,7 @@ leads_by : (i : Image) (a : Running) (n : ℕ) (failed : Bool) (os : List Outcom
 leads_by i a n failed os r b all is = All-contains (LeadsOn i a n failed) os (r, b) (All-from_recursion (LeadsOn i a n failed) os all) is
 
 -- one more step
-pub step_more : (h : Hardware) (v : disk.DiskImage) (i : Image) (a : Running) (n : ℕ) (r r' : Reply) (b b' : State) (failed now : Bool) → IsAt i a n r b failed → goes_on r ≡ true → Step h v b (event.Step actor.Core) r' b' → (IsNewFault r' → now ≡ true) → (failed ≡ true → now ≡ true) → IsAt i a (n + 1) r' b' now
+pub step_more : (h : Hardware) (v : disk.DiskImage) (i : Image) (a : Running) (n : ℕ) (r r' : Reply) (b b' : State) (failed now : Bool) → IsAt i a n r b failed → goes_on r ≡ true → Step h v b (event.Step actor.Core) r' b' → (TellsNewFault r' → now ≡ true) → (failed ≡ true → now ≡ true) → IsAt i a (n + 1) r' b' now
 step_more h v i a n (reply.More k of) r' b b' failed now at goes step new old =
     let is = hibernating_step h v i a n r' b' (subst (λ (s : State). Step h v s (event.Step actor.Core) r' b') at step) in
     leads_by i a n failed (hibernate_step false i a n) r' b' (write_leads i a n failed (hibernation_call i n) (before_end i a n (r', b') is)) is now new old

@@ -21,11 +21,11 @@ use Rattle.plain_machine.specs.declared.reply.Reply.TheVariants as reply
 use Rattle.plain_machine.specs.Refusals.{refusal}
 use Rattle.plain_machine.specs.Step.{Step, outcomes}
 use Rattle.protocol_laws.proofs.WrittenWhileHeld.{header_of_load}
-use Rattle.protocol_laws.specs.Rows.{LeavesBlock, blocks_written, IsNewFault}
+use Rattle.protocol_laws.specs.Rows.{LeavesBlock, blocks_written, TellsNewFault}
 use Rattle.world_core.specs.StandsFor.{StandsFor, hardware_of}
 use Rattle.world_core.specs.World.{World}
 use Rattle.command_core.specs.Answers.{EndsInFault, goes_on, held_at_first}
-use Rattle.command_core.specs.Resumption.{IsLast, LeavesMark, HasResumed}
+use Rattle.command_core.specs.Resumption.{IsLast, MayLeaveMark, HasResumed}
 use Rattle.command_core.specs.Turns.{Point, IsTurn, AreSteps, HasGone}
 use Rattle.command_core.specs.declared.ending.Ended.{Ended}
 use Rattle.command_core.proofs.Begun.{IsUntouched, untouched_then, reads_first}
@@ -189,7 +189,7 @@ restored_last h m check v blocks (suc n) saved start end whole is at (mid, are, 
 
 -- What is left on the disk.
 
-fault_leaves : (r : Reply) (b : State) → EndsInFault r → FaultLeaves r b → LeavesMark r ⊎ (b ≡ off nothing None)
+fault_leaves : (r : Reply) (b : State) → EndsInFault r → FaultLeaves r b → MayLeaveMark r ⊎ (b ≡ off nothing None)
 fault_leaves (reply.ReadFault Same) b is leaves = inl tt
 fault_leaves (reply.ReadFault Gone) b is leaves = inr leaves
 fault_leaves (reply.ReadFault Unsure) b is leaves = inl tt
@@ -201,18 +201,18 @@ fault_leaves (reply.SyncFault Gone) b is leaves = inr leaves
 fault_leaves (reply.SyncFault Unsure) b is leaves = inl tt
 fault_leaves _ b is leaves = absurd is
 
-off_or_left : (r : Reply) (b : State) → LeavesOff r b → LeavesMark r ⊎ (b ≡ off nothing None)
+off_or_left : (r : Reply) (b : State) → LeavesOff r b → MayLeaveMark r ⊎ (b ≡ off nothing None)
 off_or_left (reply.Compressed flags) b is = inl tt
 off_or_left r b is = inr is
 
 unmarked_off : (h : Hardware) (world : World) (c : disk.Content) (b : State) → StandsFor world c b → b ≡ off nothing None → EachImage c (λ w. Marked (hardware_of world) w → ⊥)
 unmarked_off h world c b stands is = (subst (StandsFor world c) is stands).stands.parts.held
 
-unmarked_or_left : (h : Hardware) (world : World) (c : disk.Content) (r : Reply) (b : State) → hardware_of world ≡ h → StandsFor world c b → LeavesMark r ⊎ (b ≡ off nothing None) → LeavesMark r ⊎ EachImage c (λ w. Marked h w → ⊥)
+unmarked_or_left : (h : Hardware) (world : World) (c : disk.Content) (r : Reply) (b : State) → hardware_of world ≡ h → StandsFor world c b → MayLeaveMark r ⊎ (b ≡ off nothing None) → MayLeaveMark r ⊎ EachImage c (λ w. Marked h w → ⊥)
 unmarked_or_left h world c r b hw stands (inl left) = inl left
 unmarked_or_left h world c r b hw stands (inr off') = inr (subst (λ (g : Hardware). EachImage c (λ w. Marked g w → ⊥)) hw (unmarked_off h world c b stands off'))
 
-gone_at : (h : Hardware) (m : Memory) (check : IdentCheck) (v : disk.DiskImage) (world : World) (c : disk.Content) (r : Reply) (b : State) (failed : Bool) → hardware_of world ≡ h → StandsFor world c b → EndsAs h m check v r b failed → LeavesMark r ⊎ EachImage c (λ w. Marked h w → ⊥)
+gone_at : (h : Hardware) (m : Memory) (check : IdentCheck) (v : disk.DiskImage) (world : World) (c : disk.Content) (r : Reply) (b : State) (failed : Bool) → hardware_of world ≡ h → StandsFor world c b → EndsAs h m check v r b failed → MayLeaveMark r ⊎ EachImage c (λ w. Marked h w → ⊥)
 gone_at h m check v world c r b failed hw stands (inl fault) = unmarked_or_left h world c r b hw stands (fault_leaves r b fault.0 fault.2)
 gone_at h m check v world c r b failed hw stands (inr is) = unmarked_or_left h world c r b hw stands (off_or_left r b is.1)
 
@@ -225,7 +225,7 @@ over_at_last steps r (inl over) few = over
 over_at_last steps r (inr most) few = absurd (omega arith)
 
 -- A call that failed shows in the reply, since no step comes after it.
-new_fault : (h : Hardware) (m : Memory) (check : IdentCheck) (v : disk.DiskImage) (n : ℕ) (r : Reply) (b : State) (failed : Bool) → IsAt h m check v n r b failed → IsNewFault r → EndsInFault r
+new_fault : (h : Hardware) (m : Memory) (check : IdentCheck) (v : disk.DiskImage) (n : ℕ) (r : Reply) (b : State) (failed : Bool) → IsAt h m check v n r b failed → TellsNewFault r → EndsInFault r
 new_fault h m check v n (reply.ReadFault left) b failed at is = tt
 new_fault h m check v n (reply.WriteFault left) b failed at is = tt
 new_fault h m check v n (reply.SyncFault left) b failed at is = tt

@@ -14,10 +14,10 @@ use Rattle.plain_machine.specs.declared.event.Event.{Event}
 use Rattle.plain_machine.specs.declared.event.Event.TheVariants as event
 use Rattle.plain_machine.specs.declared.reply.Reply.{Reply}
 use Rattle.plain_machine.specs.declared.reply.Reply.TheVariants as reply
-use Rattle.protocol_laws.specs.Rows.{LeavesBlock, IsNewFault}
+use Rattle.protocol_laws.specs.Rows.{LeavesBlock, TellsNewFault}
 use Rattle.protocol_laws.proofs.WrittenWhileHeld.{at_written}
 use Rattle.resume_core.specs.Restored.{restored_by}
-use Rattle.world_core.specs.Row.{SimulatesWhereTold, Restores, IsCalled}
+use Rattle.world_core.specs.Row.{SimulatesWhereTold, Restores, CallsAtMostOnce}
 use Rattle.world_core.specs.StandsFor.{StandsFor, hardware_of, shown}
 use Rattle.world_core.specs.World.{World}
 use Rattle.command_core.specs.Turns.{Point, IsTurn, AreSteps, HaveMade, Elapsed}
@@ -61,7 +61,7 @@ restored_here h e old new r before now c load k n hw told restores step resumed 
     subst (λ (g : Hardware). new.frames ≡ restored_by g load) hw ended.2.2.memory
 
 turned_here : (e : Event) (point : Point) (old new : World) (r : Reply) (failed : Bool) (blocks : ℕ) (before now : Option disk.Content) → before ≡ Some point.content → StandsFor old point.content point.state → hardware_of new ≡ hardware_of old →
-    SimulatesWhereTold e old new r before now → Restores e old new r before now → IfSome now (disk.IsContent blocks) → (IsNewFault r → failed ≡ true) → (point.failed ≡ true → failed ≡ true) → (failed ≡ true → (point.failed ≡ true) ⊎ IsNewFault r) → Turned (hardware_of old) e point new r failed now
+    SimulatesWhereTold e old new r before now → Restores e old new r before now → IfSome now (disk.IsContent blocks) → (TellsNewFault r → failed ≡ true) → (point.failed ≡ true → failed ≡ true) → (failed ≡ true → (point.failed ≡ true) ⊎ TellsNewFault r) → Turned (hardware_of old) e point new r failed now
 turned_here e point old new r failed blocks before now told stands hw row restores whole noticed noted no_other =
     let turn = row point.content told in
     let goes = turn.2 point.state stands in
@@ -89,14 +89,14 @@ turned_here e point old new r failed blocks before now told stands hw row restor
     }
 
 pub turned : (h : Hardware) (e : Event) (point : Point) (old new : World) (r : Reply) (failed : Bool) (blocks : ℕ) (before now : Option disk.Content) → hardware_of old ≡ h → before ≡ Some point.content → StandsFor old point.content point.state → hardware_of new ≡ hardware_of old →
-    SimulatesWhereTold e old new r before now → Restores e old new r before now → IfSome now (disk.IsContent blocks) → (IsNewFault r → failed ≡ true) → (point.failed ≡ true → failed ≡ true) → (failed ≡ true → (point.failed ≡ true) ⊎ IsNewFault r) → Turned h e point new r failed now
+    SimulatesWhereTold e old new r before now → Restores e old new r before now → IfSome now (disk.IsContent blocks) → (TellsNewFault r → failed ≡ true) → (point.failed ≡ true → failed ≡ true) → (failed ≡ true → (point.failed ≡ true) ⊎ TellsNewFault r) → Turned h e point new r failed now
 turned h e point old new r failed blocks before now is told stands hw row restores whole noticed noted no_other =
     subst (λ (g : Hardware). Turned g e point new r failed now) is (turned_here e point old new r failed blocks before now told stands hw row restores whole noticed noted no_other)
 
 -- Steps, and one more.
 
-earlier_or : (r' : Reply) (failed failed' : Bool) (p : Point) → p.failed ≡ failed → (failed' ≡ true → (failed ≡ true) ⊎ IsNewFault r') → failed' ≡ true → (p.failed ≡ true) ⊎ IsNewFault r'
-earlier_or r' failed failed' p is no_other now = subst (λ (b : Bool). (b ≡ true) ⊎ IsNewFault r') (sym is) (no_other now)
+earlier_or : (r' : Reply) (failed failed' : Bool) (p : Point) → p.failed ≡ failed → (failed' ≡ true → (failed ≡ true) ⊎ TellsNewFault r') → failed' ≡ true → (p.failed ≡ true) ⊎ TellsNewFault r'
+earlier_or r' failed failed' p is no_other now = subst (λ (b : Bool). (b ≡ true) ⊎ TellsNewFault r') (sym is) (no_other now)
 
 pub made_first : (h : Hardware) (world : World) (r : Reply) (a : State) (c : disk.Content) (now : Option disk.Content) → now ≡ Some c → StandsFor world c a →
     HaveMade h world (record { reply = r; failed = false; state = a; content = c; frames = world.frames }) 0 r false now
@@ -111,7 +111,7 @@ made_first h world r a c now told stands = record {
 }
 
 pub made_more : (h : Hardware) (start : Point) (old new : World) (n : ℕ) (r r' : Reply) (failed failed' : Bool) (blocks : ℕ) (before now : Option disk.Content) → hardware_of old ≡ h → HaveMade h old start n r failed before → goes_on r ≡ true → hardware_of new ≡ hardware_of old →
-    SimulatesWhereTold (event.Step actor.Core) old new r' before now → Restores (event.Step actor.Core) old new r' before now → IfSome now (disk.IsContent blocks) → (IsNewFault r' → failed' ≡ true) → (failed ≡ true → failed' ≡ true) → (failed' ≡ true → (failed ≡ true) ⊎ IsNewFault r') → HaveMade h new start (n + 1) r' failed' now
+    SimulatesWhereTold (event.Step actor.Core) old new r' before now → Restores (event.Step actor.Core) old new r' before now → IfSome now (disk.IsContent blocks) → (TellsNewFault r' → failed' ≡ true) → (failed ≡ true → failed' ≡ true) → (failed' ≡ true → (failed ≡ true) ⊎ TellsNewFault r') → HaveMade h new start (n + 1) r' failed' now
 made_more h start old new n r r' failed failed' blocks before now is made goes hw row restores whole noticed noted no_other =
     let turn = turned h (event.Step actor.Core) made.end old new r' failed' blocks before now is made.told made.stands hw row restores whole noticed (λ e. noted (sym made.failed_is ∙ e)) (earlier_or r' failed failed' made.end made.failed_is no_other) in
     record {
@@ -133,7 +133,7 @@ pub elapsed_first : (h : Hardware) (start : Point) (m : ℕ) (past : ℕ → dis
 elapsed_first h start m past = record { later = omega arith; nothing_else = λ t w le left. inl left }
 
 pub elapsed_more : (h : Hardware) (start : Point) (old new : World) (n : ℕ) (r r' : Reply) (failed failed' : Bool) (blocks : ℕ) (before now : Option disk.Content) (m0 m m' : ℕ) (first past since : ℕ → disk.DiskImage → Type 0) → hardware_of old ≡ h → HaveMade h old start n r failed before → goes_on r ≡ true → hardware_of new ≡ hardware_of old →
-    SimulatesWhereTold (event.Step actor.Core) old new r' before now → Restores (event.Step actor.Core) old new r' before now → IfSome now (disk.IsContent blocks) → (IsNewFault r' → failed' ≡ true) → (failed ≡ true → failed' ≡ true) → (failed' ≡ true → (failed ≡ true) ⊎ IsNewFault r') →
+    SimulatesWhereTold (event.Step actor.Core) old new r' before now → Restores (event.Step actor.Core) old new r' before now → IfSome now (disk.IsContent blocks) → (TellsNewFault r' → failed' ≡ true) → (failed ≡ true → failed' ≡ true) → (failed' ≡ true → (failed ≡ true) ⊎ TellsNewFault r') →
     Elapsed h start m0 m first past → disk.Changes (disk.Elapses m m' past since) before now → Elapsed h start m0 m' first since
 elapsed_more h start old new n r r' failed failed' blocks before now m0 m m' first past since is made goes hw row restores whole noticed noted no_other so_far changes =
     let turn = turned h (event.Step actor.Core) made.end old new r' failed' blocks before now is made.told made.stands hw row restores whole noticed (λ e. noted (sym made.failed_is ∙ e)) (earlier_or r' failed failed' made.end made.failed_is no_other) in

@@ -18,7 +18,7 @@ use Rattle.plain_machine.specs.declared.event.Loader.TheVariants.{Table}
 use Rattle.plain_machine.specs.declared.reply.Left.TheVariants.{Gone}
 use Rattle.plain_machine.specs.declared.reply.Reply.{Reply}
 use Rattle.plain_machine.specs.declared.reply.Reply.TheVariants as reply
-use Rattle.protocol_laws.specs.Rows.{IsNewFault}
+use Rattle.protocol_laws.specs.Rows.{TellsNewFault}
 use Rattle.command_core.specs.Answers.{EndsInFault, goes_on, held_at_first}
 use Rattle.command_core.proofs.Traces.{counted_at, trace_counts}
 use Rattle.protocol_laws.specs.TraceAt.{reply_at}
@@ -70,7 +70,7 @@ IsAt h m check v (suc n) r b failed = (EndsInFault r × (failed ≡ true) × Fau
 
 -- each outcome of one more step, where a call that failed is noticed
 abbrev LeadsOn : Hardware → Memory → IdentCheck → disk.DiskImage → ℕ → Outcome → Type 0
-LeadsOn h m check v n outcome = (now : Bool) → (IsNewFault outcome.0 → now ≡ true) → IsAt h m check v (suc n) outcome.0 outcome.1 now
+LeadsOn h m check v n outcome = (now : Bool) → (TellsNewFault outcome.0 → now ≡ true) → IsAt h m check v (suc n) outcome.0 outcome.1 now
 
 AllLead : Hardware → Memory → IdentCheck → disk.DiskImage → ℕ → List Outcome → Type 0
 AllLead h m check v n os = AllByRecursion (LeadsOn h m check v n) os
@@ -190,7 +190,7 @@ step_by h m check v w (suc zero) r b same step =
 step_by h m check v w (suc (suc n)) r b same step =
     leads_by h m check v (suc (suc n)) (load_step h w (found h m check v) (suc (suc n))) r b (later_leads h m check v w n) (loading_step h w (found h m check v) (suc (suc n)) r b step)
 
-pub step_more : (h : Hardware) (m : Memory) (check : IdentCheck) (v w : disk.DiskImage) (n : ℕ) (r r' : Reply) (b b' : State) (failed now : Bool) → IsAt h m check v n r b failed → goes_on r ≡ true → (n ≡ 1 → w ≡ v) → Step h w b (event.Step actor.Core) r' b' → (IsNewFault r' → now ≡ true) → IsAt h m check v (suc n) r' b' now
+pub step_more : (h : Hardware) (m : Memory) (check : IdentCheck) (v w : disk.DiskImage) (n : ℕ) (r r' : Reply) (b b' : State) (failed now : Bool) → IsAt h m check v n r b failed → goes_on r ≡ true → (n ≡ 1 → w ≡ v) → Step h w b (event.Step actor.Core) r' b' → (TellsNewFault r' → now ≡ true) → IsAt h m check v (suc n) r' b' now
 step_more h m check v w n (reply.Loading k) r' b b' failed now at goes same step new =
     step_by h m check v w n r' b' same (subst (λ (s : State). Step h w s (event.Step actor.Core) r' b') at.0 step) now new
 step_more h m check v w n (reply.More k of) r' b b' failed now at goes same step new = absurd at

@@ -16,7 +16,7 @@ use Rattle.plain_machine.specs.declared.event.IdentCheck.{IdentCheck}
 use Rattle.plain_machine.specs.declared.event.Loader.TheVariants.{Table}
 use Rattle.plain_machine.specs.declared.reply.Reply.{Reply}
 use Rattle.sector_disk.specs.declared.disk.Disk.{Ghosts}
-use Rattle.world_core.specs.StandsFor.{IsNew, hardware_of, shown}
+use Rattle.world_core.specs.StandsFor.{IsNewWorld, hardware_of, shown}
 use Rattle.world_core.specs.World.{World}
 use Rattle.world_runs.specs.Played.{Played, situation_of}
 use Rattle.world_runs.specs.Turns.{Situation}
@@ -129,7 +129,7 @@ starts_shrunk D old mid new want r x y z (events, replies, ready, booted) one = 
 only_this : (c : Option disk.Content) (v w : disk.DiskImage) → c ≡ Some (disk.settled v) → IfSome c (λ held. disk.IsImage held w) → disk.IsImage (disk.settled v) w
 only_this c v w told is = subst (λ (o : Option disk.Content). IfSome o (λ held. disk.IsImage held w)) told is
 
-pub ran : {X : Type 0} (D : Ghosts X) (old new : World) (events : List Event) (replies : List Reply) (x y : X) → IsNew (hardware_of old) (Some old.frames) old →
+pub ran : {X : Type 0} (D : Ghosts X) (old new : World) (events : List Event) (replies : List Reply) (x y : X) → IsNewWorld (hardware_of old) (Some old.frames) old →
     ((v w : disk.DiskImage) → D.content x ≡ Some (disk.settled v) → IsTrue (D.tells_moments x) → D.left_since x (D.moment x) w → w ≡ v) →
     Played D old new events replies x y → Ran D (hardware_of old) old.frames events replies (shown new) x y
 ran D old new events replies x y fresh only played = record {

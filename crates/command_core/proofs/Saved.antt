@@ -25,7 +25,7 @@ use Rattle.plain_machine.specs.declared.reply.UndoCall.TheVariants as undo
 use Rattle.plain_machine.specs.declared.event.Actor.TheVariants as actor
 use Rattle.plain_machine.specs.Step.{Step, Outcome, undo_step}
 use Rattle.image_laws.proofs.Decoding.{few_saveable}
-use Rattle.protocol_laws.specs.Rows.{LeavesBlock, blocks_written, IsNewFault}
+use Rattle.protocol_laws.specs.Rows.{LeavesBlock, blocks_written, TellsNewFault}
 use Rattle.protocol_laws.proofs.Unwritten.{step_in_laid}
 use Rattle.protocol_laws.proofs.WrittenWhileHeld.{header_alone}
 use Rattle.world_core.specs.StandsFor.{StandsFor, hardware_of}
@@ -142,7 +142,7 @@ IsUndo _ = ⊥
 abbrev ShowsFault : Reply → Type 0
 ShowsFault r = EndsInFault r ⊎ IsUndo r
 
-new_shows : (r : Reply) → IsNewFault r → ShowsFault r
+new_shows : (r : Reply) → TellsNewFault r → ShowsFault r
 new_shows (reply.ReadFault left) is = inl tt
 new_shows (reply.WriteFault left) is = inl tt
 new_shows (reply.SyncFault left) is = inl tt

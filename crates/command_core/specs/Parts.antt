@@ -16,7 +16,7 @@ use Rattle.command_core.specs.Runs.{AreStepped, FailsToBoot, IsReady, core_steps
 use Rattle.command_core.specs.declared.ending.Ended.{Ended}
 
 -- The machine runs as this state says, over the disk v, which is as it was.
-pub record IsUp (h : Hardware) (a : Running) (v : disk.DiskImage) (world : World)
+pub record RunsUnchanged (h : Hardware) (a : Running) (v : disk.DiskImage) (world : World)
     (now : Option disk.Content) : Type 0 where
   pub content : disk.Content
   pub told : now ≡ Some content
@@ -37,7 +37,7 @@ pub record HasFailedEarly (v : disk.DiskImage) (ended : Ended) (now : Option dis
 -- one of the two
 abbrev pub IsUpOrFails : Hardware → Running → disk.DiskImage → World → Result (Unit {0}) Ended → Option disk.Content →
     Type 0
-IsUpOrFails h a v world (Ok done) now = IsUp h a v world now
+IsUpOrFails h a v world (Ok done) now = RunsUnchanged h a v world now
 IsUpOrFails h a v world (Err ended) now = HasFailedEarly v ended now
 
 -- a boot, then a boot with what is dropped, and the steps of an operation

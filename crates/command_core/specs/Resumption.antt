@@ -20,12 +20,12 @@ IsLast replies r = (front : List Reply) × (replies ≡ front ++ r ∷ [])
 
 -- The replies after which an image that was there may still be: it is compressed, or a call failed before one of the
 -- disk made certain that it is gone.
-abbrev pub LeavesMark : Reply → Type 0
-LeavesMark (reply.Compressed flags) = ⊤
-LeavesMark (reply.ReadFault Gone) = ⊥
-LeavesMark (reply.WriteFault Gone) = ⊥
-LeavesMark (reply.SyncFault Gone) = ⊥
-LeavesMark r = EndsInFault r
+abbrev pub MayLeaveMark : Reply → Type 0
+MayLeaveMark (reply.Compressed flags) = ⊤
+MayLeaveMark (reply.ReadFault Gone) = ⊥
+MayLeaveMark (reply.WriteFault Gone) = ⊥
+MayLeaveMark (reply.SyncFault Gone) = ⊥
+MayLeaveMark r = EndsInFault r
 
 -- What the machine answers at the end over the disk v: the last reply of its trace, unless a call of the disk has
 -- failed. Where that is Resumed, the page frames are those that are restored. Then, after each refusal but that of a
@@ -39,6 +39,6 @@ pub record HasResumed (h : Hardware) (m : Memory) (check : IdentCheck) (v : disk
       ⊎ (EndsInFault ended.reply × (ended.failed ≡ true))
   pub over : goes_on ended.reply ≡ false
   pub restored : (n : ℕ) → ended.reply ≡ reply.Resumed n → frames ≡ restored_in h m v Table
-  pub gone : LeavesMark ended.reply ⊎ EachImage content (λ w. Marked h w → ⊥)
+  pub gone : MayLeaveMark ended.reply ⊎ EachImage content (λ w. Marked h w → ⊥)
   pub unwritten : (b : ℕ) → b ≢ block_of_slot h 0 → LeavesBlock b (disk.settled v) content
   pub untouched : (r : Reply) → header_cause h v ≡ Some r → (b : ℕ) → LeavesBlock b (disk.settled v) content

@@ -11,7 +11,7 @@ use Rattle.plain_machine.specs.declared.event.Event.{Event}
 use Rattle.plain_machine.specs.declared.event.Event.TheVariants as event
 use Rattle.plain_machine.specs.declared.reply.Reply.{Reply}
 use Rattle.plain_machine.specs.declared.reply.Reply.TheVariants as reply
-use Rattle.protocol_laws.specs.Rows.{IsSameArea, LeavesBlock, LeavesHeader, blocks_written, IsNewFault}
+use Rattle.protocol_laws.specs.Rows.{IsSameArea, LeavesBlock, LeavesHeader, blocks_written, TellsNewFault}
 use Rattle.resume_core.specs.Restored.{restored_by}
 use Rattle.world_core.specs.StandsFor.{StandsFor}
 use Rattle.world_core.specs.World.{World}
@@ -42,9 +42,9 @@ pub record IsTurn (h : Hardware) (e : Event) (old new : Point) : Type 0 where
   pub stands : StandsAt h new
   pub blocks : ℕ
   pub whole : disk.IsContent blocks new.content
-  pub noticed : IsNewFault new.reply → new.failed ≡ true
+  pub noticed : TellsNewFault new.reply → new.failed ≡ true
   pub noted : old.failed ≡ true → new.failed ≡ true
-  pub no_other : new.failed ≡ true → (old.failed ≡ true) ⊎ IsNewFault new.reply
+  pub no_other : new.failed ≡ true → (old.failed ≡ true) ⊎ TellsNewFault new.reply
   pub restored : (load : Load) (k n : ℕ) → e ≡ event.Step actor.Core → old.state ≡ loading load k →
       new.reply ≡ reply.Resumed n → new.frames ≡ restored_by h load
 

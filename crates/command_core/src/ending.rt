@@ -1,7 +1,7 @@
 ghost use Rattle.std.specs.Prelude.{◌≡◌, ◌⊎◌, ◌≤◌, ◌<◌, ◌+◌, ◌↔◌, ℕ, true, false, IsTrue, Some};
 ghost use Rattle.definitions.specs.Disk.{Content, HasRisen};
 ghost use Rattle.plain_machine.specs.State.{State};
-ghost use Rattle.protocol_laws.specs.Rows.{IsNewFault};
+ghost use Rattle.protocol_laws.specs.Rows.{TellsNewFault};
 ghost use Rattle.world_core.specs.StandsFor.{IsOff, StandsFor, blocks_of, hardware_of};
 ghost use Rattle.command_core.specs.Answers.{goes_on};
 ghost use Rattle.command_core.specs.Parts.{Finishes};
@@ -27,7 +27,7 @@ impl Ended {
     /// The operation has ended with the reply of the only event that could fail.
     pub(crate) fn after(reply: Reply) -> Ended
         ensures reply { result.reply ≡ reply }
-        ensures failed { IsTrue result.failed ↔ IsNewFault reply }
+        ensures failed { IsTrue result.failed ↔ TellsNewFault reply }
     {
         Ended {
             reply,
@@ -86,7 +86,7 @@ pub(crate) fn goes_on(reply: &Reply) -> bool
 
 /// Whether a reply says that the call of the disk at its event has failed.
 pub(crate) fn is_new_fault(reply: &Reply) -> bool
-    ensures { IsTrue result ↔ IsNewFault reply.now }
+    ensures { IsTrue result ↔ TellsNewFault reply.now }
 {
     match *reply {
         Reply::ReadFault { .. } => true,

@@ -3,7 +3,7 @@ ghost use Rattle.definitions.specs.Disk.{DiskImage, HasRisen, settled};
 ghost use Rattle.plain_machine.specs.Chain.{Marked};
 ghost use Rattle.plain_machine.specs.Machine.{IsHardware};
 ghost use Rattle.plain_machine.specs.Premises.{HasOriginal};
-ghost use Rattle.world_core.specs.StandsFor.{IsNew, IsOff, blocks_of, hardware_of, shown};
+ghost use Rattle.world_core.specs.StandsFor.{IsNewWorld, IsOff, blocks_of, hardware_of, shown};
 ghost use Rattle.command_core.specs.Runs.{IsHibernation, RanAs};
 ghost use Rattle.command_core.specs.Answers.{image_to_save, is_booted, machine_of_dump, machine_to_save};
 ghost use Rattle.command_core.specs.Parts.{Boots, IsUpOrFails, Starts};
@@ -25,7 +25,7 @@ pub fn hibernate<D: Disk>(
     size: Option<u64>,
 ) -> Ended
     requires hardware { IsHardware (hardware_of world.old) }
-    requires new { IsNew (hardware_of world.old) (Some world.old.frames) world.old }
+    requires new { IsNewWorld (hardware_of world.old) (Some world.old.frames) world.old }
     ensures hibernated { (v : DiskImage) → D.content disk.old ≡ Some (settled v) →
         (Marked (hardware_of world.old) v → HasOriginal (hardware_of world.old) v) →
         HasHibernated (hardware_of world.old) (machine_to_save (hardware_of world.old) world.old.frames size v) format v
@@ -53,7 +53,7 @@ pub fn hibernate<D: Disk>(
 /// Boots the machine, and drops cached page frames where a size is asked for; or tells the call of the disk that
 /// failed.
 fn start<D: Disk>(world: &mut World, disk: &mut D, size: Option<u64>) -> Result<(), Ended>
-    requires new { IsNew (hardware_of world.old) (Some world.old.frames) world.old }
+    requires new { IsNewWorld (hardware_of world.old) (Some world.old.frames) world.old }
     ensures up { (v : DiskImage) → D.content disk.old ≡ Some (settled v) →
         (Marked (hardware_of world.old) v → HasOriginal (hardware_of world.old) v) →
         IsUpOrFails (hardware_of world.old) (machine_to_save (hardware_of world.old) world.old.frames size v) v
@@ -81,7 +81,7 @@ fn start<D: Disk>(world: &mut World, disk: &mut D, size: Option<u64>) -> Result<
 
 /// Boots the machine, or tells the call of the disk that failed.
 fn boot<D: Disk>(world: &mut World, disk: &mut D) -> Result<(), Ended>
-    requires new { IsNew (hardware_of world.old) (Some world.old.frames) world.old }
+    requires new { IsNewWorld (hardware_of world.old) (Some world.old.frames) world.old }
     ensures booted { (v : DiskImage) → D.content disk.old ≡ Some (settled v) →
         (Marked (hardware_of world.old) v → HasOriginal (hardware_of world.old) v) →
         IsUpOrFails (hardware_of world.old) (machine_of_dump (hardware_of world.old) world.old.frames v) v world.new

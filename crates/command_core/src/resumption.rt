@@ -3,8 +3,8 @@ ghost use Rattle.definitions.specs.Disk.{DiskImage, HasRisen, settled};
 ghost use Rattle.plain_machine.specs.Chain.{Marked};
 ghost use Rattle.plain_machine.specs.Machine.{IsHardware};
 ghost use Rattle.plain_machine.specs.Premises.{HasOriginal};
-ghost use Rattle.plain_machine.specs.Stands.{IsTakenBack};
-ghost use Rattle.world_core.specs.StandsFor.{IsNew, hardware_of, shown};
+ghost use Rattle.plain_machine.specs.Stands.{IsSameOrTakenBack};
+ghost use Rattle.world_core.specs.StandsFor.{IsNewWorld, hardware_of, shown};
 ghost use Rattle.command_core.specs.Resumption.{HasResumed};
 ghost use Rattle.command_core.specs.Runs.{IsResumption, RanAs};
 
@@ -18,13 +18,13 @@ use world_core::World;
 /// that was saved.
 pub fn resume<D: Disk>(world: &mut World, disk: &mut D, check: IdentCheck) -> Ended
     requires hardware { IsHardware (hardware_of world.old) }
-    requires new { IsNew (hardware_of world.old) (Some world.old.frames) world.old }
+    requires new { IsNewWorld (hardware_of world.old) (Some world.old.frames) world.old }
     ensures resumed { (v : DiskImage) → D.content disk.old ≡ Some (settled v) →
         (Marked (hardware_of world.old) v → HasOriginal (hardware_of world.old) v) →
         HasResumed (hardware_of world.old) world.old.frames check v world.new.frames result (D.content disk.new) }
     ensures inside { IsTrue (D.tells_moments disk.old) → (v : DiskImage) → D.content disk.old ≡ Some (settled v) →
         (Marked (hardware_of world.old) v → HasOriginal (hardware_of world.old) v) →
-        (w : DiskImage) → D.left_since disk.new (D.moment disk.old) w → IsTakenBack (hardware_of world.old) v w }
+        (w : DiskImage) → D.left_since disk.new (D.moment disk.old) w → IsSameOrTakenBack (hardware_of world.old) v w }
     ensures ran { RanAs (IsResumption check result.reply) D.Disk (hardware_of world.old) world.old.frames
         (shown world.new) disk.old disk.new }
     ensures hardware { hardware_of world.new ≡ hardware_of world.old }

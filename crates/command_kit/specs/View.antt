@@ -4,14 +4,16 @@ use Rattle.definitions.specs.Disk.{Content}
 use Rattle.byte_streams.specs.declared.sink.Sink as sink
 use Rattle.byte_streams.specs.declared.source.Source as source
 use Rattle.sector_disk.specs.declared.disk.Disk as disk
+use Rattle.sector_disk.specs.declared.orders.Order.{Order}
 
--- a disk: its number of blocks, its content, and how many calls failed, were made, and were restarts or arms
+-- a disk: its number of blocks, its content, how many calls failed and were made, and the restarts and arms that it was
+-- asked for
 pub record DiskView : Type 0 where
   pub blocks : ℕ
   pub content : Option Content
   pub faults : ℕ
   pub calls : ℕ
-  pub orders : ℕ
+  pub orders : List Order
 
 abbrev pub disk_view : {D : Type 0} → disk.Ghosts D → D → DiskView
 disk_view told d =

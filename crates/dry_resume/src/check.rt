@@ -3,7 +3,7 @@ ghost use Rattle.definitions.specs.Disk.{Content, HasRisen, as_it_reads};
 ghost use Rattle.plain_machine.specs.Chain.{Marked};
 ghost use Rattle.plain_machine.specs.Machine.{IsHardware};
 ghost use Rattle.plain_machine.specs.Premises.{HasOriginal};
-ghost use Rattle.world_core.specs.StandsFor.{IsNew, hardware_of};
+ghost use Rattle.world_core.specs.StandsFor.{IsNewWorld, hardware_of};
 ghost use Rattle.overlay_disk.specs.DiskState.{IsSame};
 ghost use Rattle.dry_resume.specs.Foretold.{Foretells};
 
@@ -23,7 +23,7 @@ pub fn would_resume<D: Disk>(
     check: IdentCheck,
 ) -> Result<Ended, NoMemory>
     requires hardware { IsHardware (hardware_of world.old) }
-    requires new { IsNew (hardware_of world.old) (Some world.old.frames) world.old }
+    requires new { IsNewWorld (hardware_of world.old) (Some world.old.frames) world.old }
     ensures resumed { (c : Content) → D.content disk.old ≡ Some c →
         (Marked (hardware_of world.old) (as_it_reads c) → HasOriginal (hardware_of world.old) (as_it_reads c)) →
         IfOk result (Foretells (hardware_of world.old) world.old.frames check (as_it_reads c) world.new.frames) }
@@ -50,7 +50,7 @@ fn resume_over<B: ReadOnly + Drop, K: Original>(
     check: IdentCheck,
 ) -> (B, Result<Ended, NoMemory>)
     requires hardware { IsHardware (hardware_of world.old) }
-    requires new { IsNew (hardware_of world.old) (Some world.old.frames) world.old }
+    requires new { IsNewWorld (hardware_of world.old) (Some world.old.frames) world.old }
     requires original { B.state below ≡ K.state }
     ensures resumed { (c : Content) → K.state.content ≡ Some c →
         (Marked (hardware_of world.old) (as_it_reads c) → HasOriginal (hardware_of world.old) (as_it_reads c)) →

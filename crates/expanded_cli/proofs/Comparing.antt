@@ -1,5 +1,5 @@
 -- From two images that are compared to two that may each be compressed.
-use Rattle.std.proofs.Common.{◌≡◌, ℕ, Bool, Option, ap₂, sym, subst, ◌∙◌}
+use Rattle.std.proofs.Common.{◌≡◌, ℕ, Bool, List, Option, ap₂, sym, subst, ◌∙◌}
 use Rattle.definitions.specs.Disk.{Content}
 use Rattle.command_kit.specs.View.{SinkView}
 use Rattle.command_kit.specs.declared.status.Status.{Status}
@@ -7,13 +7,14 @@ use Rattle.image_check.specs.Told.{Told}
 use Rattle.image_cli.specs.Differs.{Differs}
 use Rattle.image_differ.specs.Sides.{OnlyReads, SideView}
 use Rattle.expanded_cli.specs.Differs.{DiffersFrom, DiffersOver, DiffersSecond, LacksMemory, read_as}
+use Rattle.sector_disk.specs.declared.orders.Order.{Order}
 use Rattle.expanded_cli.proofs.Running.{Alike}
 
 -- a side after its disk was read
 read_view : (v w : SideView) → OnlyReads v w → w ≡ read_as v.content v.blocks v.header w.faults v.orders w.told
 read_view v w f =
     ap₂ (λ (x : Option Content) (y : ℕ). record { content = x; blocks = y; faults = w.faults; orders = w.orders; header = w.header; told = w.told }) f.content f.blocks
-    ∙ ap₂ (λ (x y : ℕ). record { content = v.content; blocks = v.blocks; faults = w.faults; orders = y; header = x; told = w.told }) f.header f.orders
+    ∙ ap₂ (λ (x : ℕ) (y : List Order). record { content = v.content; blocks = v.blocks; faults = w.faults; orders = y; header = x; told = w.told }) f.header f.orders
 
 pub from_read : (first_only : Bool) (a a' v w : SideView) (status : Status) (out out' note note' : SinkView) → OnlyReads v w → Differs first_only a a' v w status out out' note note' → DiffersFrom first_only a a' v.told w.told status out out' note note' v.content v.blocks v.header v.faults w.faults
 from_read first_only a a' v w status out out' note note' f h =

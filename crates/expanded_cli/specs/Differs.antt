@@ -12,10 +12,11 @@ use Rattle.image_differ.specs.Sides.{SideView}
 use Rattle.image_differ.specs.declared.comparison.Opened.TheVariants as opened
 use Rattle.image_differ.specs.declared.side.Which.{Which}
 use Rattle.image_differ.specs.declared.side.Which.TheVariants.{First, Second}
+use Rattle.sector_disk.specs.declared.orders.Order.{Order}
 use Rattle.expanded_cli.specs.Runs.{RunsAny}
 
 -- a side whose disk holds this, and whose header lies in this block
-abbrev pub read_as : Option Content → (blocks header faults orders : ℕ) → Told → SideView
+abbrev pub read_as : Option Content → (blocks header faults : ℕ) → List Order → Told → SideView
 read_as content blocks header faults orders told = record {
   content = content;
   blocks = blocks;
@@ -37,12 +38,12 @@ abbrev pub LacksMemory : (told told' other other' : Told) → Status → (out ou
 LacksMemory told told' other other' status out out' note note' =
     (told' ≡ told) × (other' ≡ other) × IsTold memory_told status out out' note note'
 
--- The first image is compared with the second one, or with the plain image that this expands to. A disk's count of
--- restarts and arms says nothing of an image.
+-- The first image is compared with the second one, or with the plain image that this expands to. What a disk
+-- was asked for beside its reads says nothing of an image.
 abbrev pub DiffersFrom : Bool → (a a' : SideView) → (told told' : Told) → Status →
     (out out' note note' : SinkView) → Option Content → (blocks header before now : ℕ) → Type 0
 DiffersFrom first_only a a' told told' status out out' note note' c n h b f =
-    (orders : ℕ) × Differs first_only a a' (read_as c n h b orders told) (read_as c n h f orders told')
+    (orders : List Order) × Differs first_only a a' (read_as c n h b orders told) (read_as c n h f orders told')
     status out out' note note'
 
 abbrev pub DiffersSecond : Bool → (a a' b b' : SideView) → Status → (out out' note note' : SinkView) → Type 0
@@ -57,7 +58,7 @@ DiffersSecond first_only a a' b b' status out out' note note' =
 abbrev pub DiffersOver : Bool → (told told' : Told) → (b b' : SideView) → Status →
     (out out' note note' : SinkView) → Option Content → (blocks header before now : ℕ) → Type 0
 DiffersOver first_only told told' b b' status out out' note note' c n h t f =
-    (orders : ℕ) × DiffersSecond first_only (read_as c n h t orders told) (read_as c n h f orders told') b b'
+    (orders : List Order) × DiffersSecond first_only (read_as c n h t orders told) (read_as c n h f orders told') b b'
     status out out' note note'
 
 abbrev pub DiffersAny : Bool → (a a' b b' : SideView) → Status → (out out' note note' : SinkView) → Type 0

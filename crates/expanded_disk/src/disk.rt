@@ -1,4 +1,4 @@
-ghost use Rattle.std.specs.Prelude.{◌≡◌, ◌<◌, ◌≤◌, false, IsNone};
+ghost use Rattle.std.specs.Prelude.{◌≡◌, ◌<◌, ◌≤◌, [], false, IsNone};
 ghost use Rattle.std.specs.Option.{ForSome};
 ghost use Rattle.std.proofs.Props.{props};
 ghost use Rattle.expanded_disk.specs.Keeps.{FailsBelow, HasIndex, IsKept};
@@ -12,7 +12,7 @@ use crate::refused::Refused;
 use image_units::{Index, Source, Unit, Walks};
 use overlay_disk::Original;
 use page_core::{Failed, NoMemory, Page};
-use sector_disk::Disk;
+use sector_disk::{Disk, Order, Orders};
 use std::alloc::Global;
 
 /// A disk whose blocks read as the plain image of a compressed one: the header in block 0, and then its chain. It keeps
@@ -20,7 +20,7 @@ use std::alloc::Global;
 ///
 /// Each write is refused, and counts as a fault. The first one shows in the content that it tells, and from then on
 /// each read and sync fails, until a restart: so whoever leaves the content and restarts nothing has written nothing.
-/// Else a sync, a restart and an arm do nothing but count.
+/// Else a sync, a restart and an arm change nothing.
 ///
 /// It tells its content where the disk below does, and no moments.
 #[derive(Drop)]
@@ -32,13 +32,13 @@ pub struct ExpandedDisk<B: Walks, K: Original> {
     kept: Kept,
     calls: u64,
     faults: u64,
-    orders: u64,
+    orders: Orders,
     /// The first write that was refused, until a restart.
     refused: Option<Refused>,
     ghost indexed: { HasIndex K.state.content K.state.blocks at index } by { Prim.hlevel (props, Agrees-prop) },
     ghost unit_kept: { IsKept K.state.content index.first index.pages kept.number kept.unit.bytes.items },
     ghost inside: { ForSome refused (λ r. r.block < blocks_for index.pages) },
-    ghost cause: { 0 < faults → orders ≡ 0 → IsNone refused →
+    ghost cause: { 0 < faults → orders.list ≡ [] → IsNone refused →
         FailsBelow K.state.content K.state.faults (B.state source.below).faults },
 }
 
@@ -60,7 +60,7 @@ impl<B: Walks, K: Original> ExpandedDisk<B, K> {
         ensures blocks { IfOk result (λ e.
             ⟦<ExpandedDisk<B, K> as Disk>⟧.block_count e ≡ blocks_for index.pages) }
         ensures faults { IfOk result (λ e. ⟦<ExpandedDisk<B, K> as Disk>⟧.faults e ≡ 0) }
-        ensures orders { IfOk result (λ e. ⟦<ExpandedDisk<B, K> as Disk>⟧.orders e ≡ 0) }
+        ensures orders { IfOk result (λ e. ⟦<ExpandedDisk<B, K> as Disk>⟧.orders e ≡ []) }
     {
         let unit = match Unit::new(alloc) {
             Ok(unit) => unit,
@@ -73,7 +73,7 @@ impl<B: Walks, K: Original> ExpandedDisk<B, K> {
             kept: Kept { unit, number: None },
             calls: 0,
             faults: 0,
-            orders: 0,
+            orders: Orders::new(),
             refused: None,
         })
     }
@@ -83,7 +83,7 @@ impl<B: Walks, K: Original> ExpandedDisk<B, K> {
     pub fn into_source(self) -> Source<B, K>
         ensures cause { (header : ℕ) →
             ⟦<ExpandedDisk<B, K> as Disk>⟧.content self ≡ expanded header K.state.content →
-            ⟦<ExpandedDisk<B, K> as Disk>⟧.orders self ≡ 0 →
+            ⟦<ExpandedDisk<B, K> as Disk>⟧.orders self ≡ [] →
             FailsWith K.state.content K.state.faults (B.state result.below).faults
             (⟦<ExpandedDisk<B, K> as Disk>⟧.faults self) }
     {
@@ -103,7 +103,7 @@ impl<B: Walks, K: Original> Disk for ExpandedDisk<B, K> {
 
     ghost calls = { λ e. e.calls };
 
-    ghost orders = { λ e. e.orders };
+    ghost orders = { λ e. e.orders.list };
 
     ghost content = { λ e. marred e.refused (expanded e.at K.state.content) };
 
@@ -171,12 +171,12 @@ impl<B: Walks, K: Original> Disk for ExpandedDisk<B, K> {
         Ok(())
     }
 
-    fn restart(&mut self, _pick: u64) {
+    fn restart(&mut self, pick: u64) {
         self.refused = None;
-        self.orders = self.orders.saturating_add(1);
+        self.orders = self.orders.and(&Order::Restart { pick });
     }
 
-    fn arm(&mut self, _first: u32, _count: u32, _pick: u64) {
-        self.orders = self.orders.saturating_add(1);
+    fn arm(&mut self, first: u32, count: u32, pick: u64) {
+        self.orders = self.orders.and(&Order::Arm { first, count, pick });
     }
 }

@@ -1,12 +1,12 @@
 ghost use Rattle.std.specs.Prelude.{◌≡◌, ◌≤◌, ◌↔◌, ◌*◌, ◌/◌, IfOk, IfSome, IsOk, OnOk, OnErr, length, min};
 ghost use Rattle.definitions.specs.Disk.{raised, HasRisen};
 ghost use Rattle.std.specs.Fd.{file_raw_fd};
-ghost use Rattle.file_disk.specs.FileDisk.{IsNew, IsNoStream};
+ghost use Rattle.file_disk.specs.FileDisk.{IsNewFileDisk, IsNoStream};
 
 use crate::in_use::is_in_use;
 use crate::lock::{lock_exclusive, lock_shared};
 use page_core::{Failed, Page};
-use sector_disk::Disk;
+use sector_disk::{Disk, Order, Orders};
 use sig_header::AreaKind;
 use std::fs::{File, Metadata, OpenFile, OpenOptions};
 use std::io::{self, ErrorKind, Seek, SeekFrom};
@@ -24,14 +24,14 @@ const LAST_STREAM: i32 = 2;
 /// It is locked as long as it is kept (flock(2)): for itself alone where it may be written, else beside other readers.
 ///
 /// It tells neither content nor moments: what a file does at a power cut is not known here. A restart and an arm
-/// do nothing but count.
+/// change nothing.
 #[derive(Drop)]
 pub struct FileDisk<F> {
     file: F,
     blocks: u32,
     calls: u64,
     faults: u64,
-    orders: u64,
+    orders: Orders,
     /// Whether the next block that is read is the first one, of a disk that may be written.
     is_cached: bool,
 }
@@ -52,7 +52,7 @@ impl FileDisk<File> {
         rt: &R,
         path: &str,
     ) -> io::Result<FileDisk<File>>
-        ensures new { IfOk result IsNew }
+        ensures new { IfOk result IsNewFileDisk }
         ensures no_stream { IfOk result (λ disk. IsNoStream (file_raw_fd disk.file)) }
     {
         let found = kind_at(rt, path)?;
@@ -67,7 +67,7 @@ impl FileDisk<File> {
     /// Opens a file or a block device for reading alone: each write fails. One that somebody else has locked for
     /// himself alone is refused, and so is, before it is opened, what is neither a file nor a block device.
     pub fn open_read_only<R: Files<File = File>>(rt: &R, path: &str) -> io::Result<FileDisk<File>>
-        ensures new { IfOk result IsNew }
+        ensures new { IfOk result IsNewFileDisk }
         ensures no_stream { IfOk result (λ disk. IsNoStream (file_raw_fd disk.file)) }
     {
         let found = kind_at(rt, path)?;
@@ -81,7 +81,7 @@ impl<F: FileExt + Seek + OpenFile + AsRawFd + Drop> FileDisk<F> {
     /// A disk over an open file, which must be the one that was found at its path, and no standard stream: what the
     /// program prints must not reach the disk. Of a device the system tells the length at its end alone.
     pub(crate) fn over(mut file: F, found: &Metadata, access: Access) -> io::Result<FileDisk<F>>
-        ensures new { IfOk result IsNew }
+        ensures new { IfOk result IsNewFileDisk }
         ensures no_stream { IfOk result (λ disk. IfSome (F.raw_fd disk.file) IsNoStream) }
         ensures blocks { IfSome (F.stream_position file) (λ _. IfSome (F.stream_bytes file) (λ bytes.
             IfOk result (λ disk. disk.blocks ≡ min (length bytes / 4096) 4294967295))) }
@@ -99,7 +99,7 @@ impl<F: FileExt + Seek + OpenFile + AsRawFd + Drop> FileDisk<F> {
             blocks: u32::try_from(blocks).unwrap_or(u32::MAX),
             calls: 0,
             faults: 0,
-            orders: 0,
+            orders: Orders::new(),
             is_cached: access == Access::ReadAndWrite,
         })
     }
@@ -112,7 +112,7 @@ impl<F: FileExt + Seek + OpenFile + AsRawFd + Drop> FileDisk<F> {
     fn read_block(&mut self, b: u32, into: &mut [u8; 4096]) -> io::Result<()>
         ensures calls { self.new.calls ≡ self.old.calls }
         ensures faults { self.new.faults ≡ self.old.faults }
-        ensures orders { self.new.orders ≡ self.old.orders }
+        ensures orders { self.new.orders.list ≡ self.old.orders.list }
         ensures blocks { self.new.blocks ≡ self.old.blocks }
     {
         self.file.read_exact_at(into, offset_of(b))?;
@@ -133,7 +133,7 @@ impl<F: FileExt + Seek + OpenFile + AsRawFd + Drop> FileDisk<F> {
         ensures same { IsOk result ↔ IsOk answer }
         ensures no_fault { OnOk result (self.new.faults ≡ self.old.faults) }
         ensures cause { OnErr result (HasRisen self.old.faults self.new.faults) }
-        ensures orders { self.new.orders ≡ self.old.orders }
+        ensures orders { self.new.orders.list ≡ self.old.orders.list }
         ensures blocks { self.new.blocks ≡ self.old.blocks }
     {
         self.calls = self.calls.saturating_add(1);
@@ -191,7 +191,7 @@ impl<F: FileExt + Seek + OpenFile + AsRawFd + Drop> Disk for FileDisk<F> {
 
     ghost calls = { λ d. d.calls };
 
-    ghost orders = { λ d. d.orders };
+    ghost orders = { λ d. d.orders.list };
 
     ghost content = { λ _. None };
 
@@ -230,11 +230,11 @@ impl<F: FileExt + Seek + OpenFile + AsRawFd + Drop> Disk for FileDisk<F> {
         self.count(answer)
     }
 
-    fn restart(&mut self, _pick: u64) {
-        self.orders = self.orders.saturating_add(1);
+    fn restart(&mut self, pick: u64) {
+        self.orders = self.orders.and(&Order::Restart { pick });
     }
 
-    fn arm(&mut self, _first: u32, _count: u32, _pick: u64) {
-        self.orders = self.orders.saturating_add(1);
+    fn arm(&mut self, first: u32, count: u32, pick: u64) {
+        self.orders = self.orders.and(&Order::Arm { first, count, pick });
     }
 }

@@ -41,7 +41,7 @@ use Rattle.machine.specs.Flights.{flights_in}
 use Rattle.machine.specs.Running.{reason_of, slot_table_of}
 use Rattle.hib_core.specs.Hibernation.{running_by, shown_by, suspends_at, activity_at}
 use Rattle.hib_core.specs.Ready.{CanStep, CanWrite, CanMake}
-use Rattle.hib_core.specs.Row.{StandsFor, IsOf, IsBegun, event_of, saving, IsSavingOf, IsStageOf}
+use Rattle.hib_core.specs.Row.{HibernationStandsFor, IsOf, IsBegun, event_of, saving, IsSavingOf, IsStageOf}
 use Rattle.hib_core.specs.declared.hib.Ending.{Ending}
 use Rattle.hib_core.specs.declared.hib.Ending.TheVariants as ending
 use Rattle.hib_core.specs.declared.hib.Hib.{Hib}
@@ -96,7 +96,7 @@ refused_row machine frames hib last f r c refused idle s stands =
       s,
       record {
         step = subst (λ (t : State). Step machine.hw (disk.as_it_reads c) t (event_of (saving last f)) r t) (sym at.1) (refused_step machine.hw (disk.as_it_reads c) (on a) (event_of (saving last f)) r why);
-        stands = subst (StandsFor machine frames hib c) (sym at.1) (record { stands = idle_stands machine frames hib c a idle here; image = tt });
+        stands = subst (HibernationStandsFor machine frames hib c) (sym at.1) (record { stands = idle_stands machine frames hib c a idle here; image = tt });
         area = same_area machine.hw (disk.as_it_reads c);
         unwritten = λ b not. block_same b _;
         leaves = subst (λ (t : State). LeavesImage machine.hw (event_of (saving last f)) r t c) (sym at.1) (leaves_refused machine.hw (event_of (saving last f)) r (on a) c why);

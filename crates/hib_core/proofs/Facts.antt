@@ -16,7 +16,7 @@ use Rattle.protocol_laws.specs.Steps.{IsOverDisk}
 use Rattle.machine.specs.declared.machine.Machine.{Machine}
 use Rattle.hib_core.specs.Hibernation.{activity_of}
 use Rattle.hib_core.specs.Ready.{CanStep, CanMake}
-use Rattle.hib_core.specs.Row.{StandsFor, IsOf, IsStageOf, IsSavingOf, Simulates}
+use Rattle.hib_core.specs.Row.{HibernationStandsFor, IsOf, IsStageOf, IsSavingOf, Simulates}
 use Rattle.hib_core.specs.declared.hib.Hib.{Hib}
 use Rattle.hib_core.specs.declared.hib.Saving.{Saving}
 use Rattle.hib_core.specs.declared.hib.Stage.{Stage}
@@ -44,29 +44,29 @@ is_over machine frames runs hib c a i can whole of = record {
 
 -- rows of a hibernation, and of an undo
 pub row_at_hibernation : (machine : Machine) (frames : Memory) (hib : Hib) (machine' : Machine) (frames' : Memory) (hib' : Hib) (e : Event) (r : Reply) (c c' : disk.Content) (suspends : Bool) (k : ℕ) → activity_of hib ≡ hibernates suspends k →
-    ((i : Image) (a : Running) → StandsFor machine frames hib c (hibernating suspends i a k) → (b : State) × rows.StepsTo machine.hw (StandsFor machine' frames' hib') e r c c' (hibernating suspends i a k) b) →
+    ((i : Image) (a : Running) → HibernationStandsFor machine frames hib c (hibernating suspends i a k) → (b : State) × rows.StepsTo machine.hw (HibernationStandsFor machine' frames' hib') e r c c' (hibernating suspends i a k) b) →
     Simulates machine frames hib machine' frames' hib' e r c c'
 row_at_hibernation machine frames hib machine' frames' hib' e r c c' suspends k is goes s stands =
     let at = at_hibernation s suspends k (sym is ∙ stands.stands.activity) in
-    subst (λ (t : State). (b : State) × rows.StepsTo machine.hw (StandsFor machine' frames' hib') e r c c' t b) (sym at.2)
-    (goes at.0 at.1 (subst (StandsFor machine frames hib c) at.2 stands))
+    subst (λ (t : State). (b : State) × rows.StepsTo machine.hw (HibernationStandsFor machine' frames' hib') e r c c' t b) (sym at.2)
+    (goes at.0 at.1 (subst (HibernationStandsFor machine frames hib c) at.2 stands))
 
 pub row_at_undo : (machine : Machine) (frames : Memory) (hib : Hib) (machine' : Machine) (frames' : Memory) (hib' : Hib) (e : Event) (r : Reply) (c c' : disk.Content) (call : UndoCall) (k : ℕ) → activity_of hib ≡ undoes call k →
-    ((i : Image) (a : Running) → StandsFor machine frames hib c (undoing i call a k) → (b : State) × rows.StepsTo machine.hw (StandsFor machine' frames' hib') e r c c' (undoing i call a k) b) →
+    ((i : Image) (a : Running) → HibernationStandsFor machine frames hib c (undoing i call a k) → (b : State) × rows.StepsTo machine.hw (HibernationStandsFor machine' frames' hib') e r c c' (undoing i call a k) b) →
     Simulates machine frames hib machine' frames' hib' e r c c'
 row_at_undo machine frames hib machine' frames' hib' e r c c' call k is goes s stands =
     let at = at_undo s call k (sym is ∙ stands.stands.activity) in
-    subst (λ (t : State). (b : State) × rows.StepsTo machine.hw (StandsFor machine' frames' hib') e r c c' t b) (sym at.2)
-    (goes at.0 at.1 (subst (StandsFor machine frames hib c) at.2 stands))
+    subst (λ (t : State). (b : State) × rows.StepsTo machine.hw (HibernationStandsFor machine' frames' hib') e r c c' t b) (sym at.2)
+    (goes at.0 at.1 (subst (HibernationStandsFor machine frames hib c) at.2 stands))
 
 -- rows of a settling
 pub row_at_settling : (machine : Machine) (frames : Memory) (hib : Hib) (machine' : Machine) (frames' : Memory) (hib' : Hib) (e : Event) (r : Reply) (c c' : disk.Content) (k : ℕ) → activity_of hib ≡ settles k →
-    ((a : Running) → StandsFor machine frames hib c (settling a k) → (b : State) × rows.StepsTo machine.hw (StandsFor machine' frames' hib') e r c c' (settling a k) b) →
+    ((a : Running) → HibernationStandsFor machine frames hib c (settling a k) → (b : State) × rows.StepsTo machine.hw (HibernationStandsFor machine' frames' hib') e r c c' (settling a k) b) →
     Simulates machine frames hib machine' frames' hib' e r c c'
 row_at_settling machine frames hib machine' frames' hib' e r c c' k is goes s stands =
     let at = at_settling s k (sym is ∙ stands.stands.activity) in
-    subst (λ (t : State). (b : State) × rows.StepsTo machine.hw (StandsFor machine' frames' hib') e r c c' t b) (sym at.1)
-    (goes at.0 (subst (StandsFor machine frames hib c) at.1 stands))
+    subst (λ (t : State). (b : State) × rows.StepsTo machine.hw (HibernationStandsFor machine' frames' hib') e r c c' t b) (sym at.1)
+    (goes at.0 (subst (HibernationStandsFor machine frames hib c) at.1 stands))
 
 -- what is known at the step that is next, of the image and of what the step needs
 pub numbers_at : (h : Hardware) (frames : Memory) (hib : Hib) (a : Running) (i : Image) (s : Stage) → hib.stage ≡ s → IsOf h frames hib a i → IsStageOf s h frames a i

@@ -24,7 +24,7 @@ use Rattle.protocol_laws.proofs.Ending.{ends_asleep, end_leaves, ends, end_fails
 use Rattle.machine.specs.declared.machine.Machine.{Machine}
 use Rattle.hib_core.specs.Hibernation.{shown_by, suspends_at, activity_at, activity_of, header_at}
 use Rattle.hib_core.specs.Ready.{CanStep}
-use Rattle.hib_core.specs.Row.{StandsFor, IsOf, Simulates, IsSavingOf}
+use Rattle.hib_core.specs.Row.{HibernationStandsFor, IsOf, Simulates, IsSavingOf}
 use Rattle.hib_core.specs.declared.hib.Ending.{Ending}
 use Rattle.hib_core.specs.declared.hib.Ending.TheVariants as ending
 use Rattle.hib_core.specs.declared.hib.Hib.{Hib}
@@ -51,7 +51,7 @@ mark_is machine frames hib saving header a i at of =
 
 -- the write of the mark leaves the area, failed or not
 mark_keeps : (machine : Machine) (frames : Memory) (runs : SlotRuns) (hib : Hib) (saving : Saving) (header : List ℕ) (c c' : disk.Content) (i : Image) (a : Running) → CanStep machine frames runs hib → hib.stage ≡ stage.Mark saving header → disk.IsContent machine.blocks c → saving.done + 2 ≡ hibernate_steps i →
-    StandsFor machine frames hib c (hibernating (suspends_at saving.ending) i a saving.done) → Tries (block_of_slot machine.hw 0) (mark_of machine hib saving header) c c' → IsSameArea machine.hw (disk.as_it_reads c) (disk.as_it_reads c')
+    HibernationStandsFor machine frames hib c (hibernating (suspends_at saving.ending) i a saving.done) → Tries (block_of_slot machine.hw 0) (mark_of machine hib saving header) c c' → IsSameArea machine.hw (disk.as_it_reads c) (disk.as_it_reads c')
 mark_keeps machine frames runs hib saving header c c' i a can at whole place s tries =
     let before = marks_unmarked machine.hw (shown_by machine frames hib) c machine.blocks (suspends_at saving.ending) i a saving.done whole s.stands place in
     kept_by_mark machine.hw machine.blocks saving.first (mark_flags hib.snapshot.format) machine.hw.hw_sig c c' whole can.header before.1

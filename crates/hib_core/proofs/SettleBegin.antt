@@ -20,7 +20,7 @@ use Rattle.machine.specs.declared.machine.Machine.{Machine}
 use Rattle.hib_core.specs.Begin.{busy_of}
 use Rattle.hib_core.specs.Hibernation.{running_by, shown_by}
 use Rattle.hib_core.specs.Ready.{CanBegin, CanStep}
-use Rattle.hib_core.specs.Row.{StandsFor, IsBegun}
+use Rattle.hib_core.specs.Row.{HibernationStandsFor, IsBegun}
 use Rattle.hib_core.specs.declared.hib.Hib.{Hib}
 use Rattle.hib_core.specs.declared.hib.Job.TheVariants as job
 use Rattle.hib_core.specs.declared.hib.Stage.TheVariants as stage
@@ -63,7 +63,7 @@ refused_settle_row machine frames hib r c refused s stands =
       record {
         step = subst (λ (t : State). Step machine.hw (disk.as_it_reads c) t event.Settle r t) (sym at.1)
             (refused_step machine.hw (disk.as_it_reads c) (on a) event.Settle r (refused a here));
-        stands = subst (StandsFor machine frames new c) (sym at.1) (record { stands = idle_stands machine frames new c a refl here; image = tt });
+        stands = subst (HibernationStandsFor machine frames new c) (sym at.1) (record { stands = idle_stands machine frames new c a refl here; image = tt });
         area = same_area machine.hw (disk.as_it_reads c);
         unwritten = λ b not_in. block_same b _;
         leaves = tt;

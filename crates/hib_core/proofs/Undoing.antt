@@ -31,7 +31,7 @@ use Rattle.machine.specs.Running.{reason_of}
 use Rattle.machine.specs.declared.flight.Flight.{Flight}
 use Rattle.hib_core.specs.Hibernation.{shown_by, activity_at, header_at}
 use Rattle.hib_core.specs.Ready.{CanStep}
-use Rattle.hib_core.specs.Row.{StandsFor, Simulates}
+use Rattle.hib_core.specs.Row.{HibernationStandsFor, Simulates}
 use Rattle.hib_core.specs.declared.hib.Hib.{Hib}
 use Rattle.hib_core.specs.declared.hib.Stage.TheVariants as stage
 use Rattle.hib_core.proofs.Facts.{is_over, row_at_undo, still_of}
@@ -50,7 +50,7 @@ certain machine = record machine { held = No }
 
 -- the write of the header block taken back leaves the area, failed or not
 back_keeps : (machine : Machine) (frames : Memory) (runs : SlotRuns) (hib : Hib) (c c' : disk.Content) (i : Image) (call : UndoCall) (a : Running) → CanStep machine frames runs hib → disk.IsContent machine.blocks c → IsPage (taken_back (header_at hib.stage)) →
-    StandsFor machine frames hib c (undoing i call a 0) → Tries (block_of_slot machine.hw 0) (taken_back (header_at hib.stage)) c c' → IsSameArea machine.hw (disk.as_it_reads c) (disk.as_it_reads c')
+    HibernationStandsFor machine frames hib c (undoing i call a 0) → Tries (block_of_slot machine.hw 0) (taken_back (header_at hib.stage)) c c' → IsSameArea machine.hw (disk.as_it_reads c) (disk.as_it_reads c')
 back_keeps machine frames runs hib c c' i call a can whole page s tries =
     let mark = s.stands.parts.before in
     kept_by_header machine.hw machine.blocks (taken_back (header_at hib.stage)) c c' whole can.header page mark.unmarked mark.area tries

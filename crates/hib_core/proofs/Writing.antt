@@ -28,7 +28,7 @@ use Rattle.machine.specs.Running.{reason_of, slot_table_of}
 use Rattle.hib_core.specs.Hibernation.{shown_by, suspends_at, activity_at, activity_saving}
 use Rattle.hib_core.specs.Ready.{CanStep, CanWrite}
 use Rattle.hib_core.specs.Writes.{Writes}
-use Rattle.hib_core.specs.Row.{StandsFor, IsOf, Simulates, IsSavingOf, IsStageOf}
+use Rattle.hib_core.specs.Row.{HibernationStandsFor, IsOf, Simulates, IsSavingOf, IsStageOf}
 use Rattle.hib_core.specs.declared.hib.Hib.{Hib}
 use Rattle.hib_core.specs.declared.hib.Stage.{Stage}
 use Rattle.hib_core.specs.declared.hib.Stage.TheVariants as stage
@@ -55,7 +55,7 @@ writer_of machine frames hib saving w i a at of =
 
 -- what it writes is the write of the next step
 wrote : (R : ℕ × List ℕ → disk.Content → disk.Content → Type 0) (machine : Machine) (frames frames' : Memory) (hib : Hib) (saving : Saving) (c c' : disk.Content) (i : Image) (a : Running) (w : Writing) → hib.stage ≡ stage.Write saving w → HasWritten R frames frames' hib.snapshot w c c' →
-    StandsFor machine frames hib c (hibernating (suspends_at saving.ending) i a saving.done) → R (write_of_step machine.hw a i saving.done) c c'
+    HibernationStandsFor machine frames hib c (hibernating (suspends_at saving.ending) i a saving.done) → R (write_of_step machine.hw a i saving.done) c c'
 wrote R machine frames frames' hib saving c c' i a w at written s =
     let of = s.image in
     let writer = writer_of machine frames hib saving w i a at s.image in
@@ -73,7 +73,7 @@ took machine frames frames' hib saving i a w R c c' writer written =
 
 -- what is shown afterwards, at any stage
 shows_after : (R : ℕ × List ℕ → disk.Content → disk.Content → Type 0) (machine : Machine) (frames frames' : Memory) (runs : SlotRuns) (hib hib' : Hib) (saving : Saving) (c c' : disk.Content) (i : Image) (a : Running) (w : Writing) → CanStep machine frames runs hib → All IsPage frames →
-    hib.stage ≡ stage.Write saving w → hib'.snapshot ≡ hib.snapshot → HasWritten R frames frames' hib.snapshot w c c' → StandsFor machine frames hib c (hibernating (suspends_at saving.ending) i a saving.done) → ShowsCopies machine.hw (shown_by machine frames' hib') a i
+    hib.stage ≡ stage.Write saving w → hib'.snapshot ≡ hib.snapshot → HasWritten R frames frames' hib.snapshot w c c' → HibernationStandsFor machine frames hib c (hibernating (suspends_at saving.ending) i a saving.done) → ShowsCopies machine.hw (shown_by machine frames' hib') a i
 shows_after R machine frames frames' runs hib hib' saving c c' i a w can pages at same written s =
     let writer = writer_of machine frames hib saving w i a at s.image in
     shows_still machine.hw a i saving.done w (shown_by machine frames hib) (shown_by machine frames' hib') can.hardware s.stands.parts.accepted writer (record { pages = pages; table = can.table }) s.image.apart

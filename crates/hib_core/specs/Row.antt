@@ -62,7 +62,8 @@ IsOfState h frames hib (loading load k) = ⊤
 IsOfState h frames hib (asleep i held a) = ⊤
 
 -- what a machine shows while it hibernates or settles, and its disk, stand for a state, whose image it is at
-pub record StandsFor (machine : Machine) (frames : Memory) (hib : Hib) (c : disk.Content) (a : State) : Type 0 where
+pub record HibernationStandsFor (machine : Machine) (frames : Memory) (hib : Hib) (c : disk.Content)
+    (a : State) : Type 0 where
   pub stands : Stands machine.hw (shown_by machine frames hib) c a
   pub image : IsOfState machine.hw frames hib a
 
@@ -70,12 +71,14 @@ pub record StandsFor (machine : Machine) (frames : Memory) (hib : Hib) (c : disk
 abbrev pub Simulates : Machine → Memory → Hib → Machine → Memory → Hib → Event → Reply → disk.Content → disk.Content →
     Type 0
 Simulates machine frames hib machine' frames' hib' e r c c' =
-    rows.Simulates machine.hw (StandsFor machine frames hib) (StandsFor machine' frames' hib') e r c c'
+    rows.Simulates machine.hw (HibernationStandsFor machine frames hib)
+    (HibernationStandsFor machine' frames' hib') e r c c'
 
 abbrev pub SimulatesWhereTold : Machine → Memory → Hib → Machine → Memory → Hib → Event → Reply → Option disk.Content →
     Option disk.Content → Type 0
 SimulatesWhereTold machine frames hib machine' frames' hib' e r before now =
-    rows.SimulatesWhereTold machine.hw (StandsFor machine frames hib) (StandsFor machine' frames' hib') e r before now
+    rows.SimulatesWhereTold machine.hw (HibernationStandsFor machine frames hib)
+    (HibernationStandsFor machine' frames' hib') e r before now
 
 -- the job that saves memory and ends so
 abbrev pub saving : Ending → Format → Job
@@ -92,4 +95,4 @@ event_of job.Settle = event.Settle
 abbrev pub IsBegun : Machine → Memory → Memory → Hib → Job → Reply → disk.Content → Type 0
 IsBegun machine frames frames' hib' asked r c =
     rows.Simulates machine.hw (λ held s. Stands machine.hw (running_by machine frames) held s)
-    (StandsFor machine frames' hib') (event_of asked) r c c
+    (HibernationStandsFor machine frames' hib') (event_of asked) r c c

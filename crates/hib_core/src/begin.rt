@@ -9,7 +9,7 @@ ghost use Rattle.hib_core.specs.Begin.{pages_of, steps_of, info_of};
 ghost use Rattle.plain_machine.specs.Machine.{IsOfTable};
 ghost use Rattle.hib_core.specs.Hibernation.{under_way, runs_on};
 ghost use Rattle.plain_machine.specs.declared.reply.Reply.TheVariants as reply;
-ghost use Rattle.protocol_laws.specs.Rows.{IsNewFault};
+ghost use Rattle.protocol_laws.specs.Rows.{TellsNewFault};
 ghost use Rattle.machine.specs.Running.{slot_table_of};
 ghost use Rattle.swap_slots.specs.Table.{LiesIn, Matches};
 
@@ -55,7 +55,7 @@ impl Hib {
         ensures size { length frames.new ≡ length frames.old }
         ensures zones { self.new.snapshot.zones ≡ self.old.snapshot.zones }
         ensures matches { Matches frames.new (slot_table_of machine.old.hw) runs.new }
-        ensures no_fault { IsNewFault result → ⊥ }
+        ensures no_fault { TellsNewFault result → ⊥ }
         ensures refused { IsRefusedWith result → LeavesFrames frames.old frames.new result }
         ensures memory { LeavesAtBegin job machine.old.hw frames.old frames.new ⊎ (frames.new ≡ frames.old) }
     {
@@ -88,7 +88,7 @@ impl Hib {
         ensures size { length frames.new ≡ length frames.old }
         ensures zones { self.new.snapshot.zones ≡ self.old.snapshot.zones }
         ensures matches { Matches frames.new (slot_table_of machine.now.hw) runs.new }
-        ensures no_fault { IsNewFault result → ⊥ }
+        ensures no_fault { TellsNewFault result → ⊥ }
         ensures refused { IsRefusedWith result → LeavesFrames frames.old frames.new result }
         ensures memory { BeginsImage machine.now.hw frames.old frames.new ⊎ (frames.new ≡ frames.old) }
     {
@@ -113,7 +113,7 @@ impl Hib {
         requires ready { CanBegin machine.now frames.now runs.now self.old }
         ensures refused { IfErr result (λ r. IsRefused machine.now frames.now format r) }
         ensures stays { IfErr result (λ r. phase_told r ≡ runs_on) }
-        ensures no_fault { IfErr result (λ r. IsNewFault r → ⊥) }
+        ensures no_fault { IfErr result (λ r. TellsNewFault r → ⊥) }
         ensures counted { IfOk result (λ counts. IsCounted machine.now frames.now self.new counts) }
         ensures format { IfOk result (λ counts. self.new.snapshot.format ≡ format) }
         ensures hib { self.new ≡ record self.old { snapshot = self.new.snapshot } }

@@ -108,7 +108,7 @@ impl Saving {
 impl Hib {
     ghost use Rattle.plain_machine.specs.declared.event.Event.TheVariants as event;
     ghost use Rattle.plain_machine.specs.declared.event.Actor.TheVariants as actor;
-    ghost use Rattle.protocol_laws.specs.Rows.{IsNewFault, is_idle};
+    ghost use Rattle.protocol_laws.specs.Rows.{TellsNewFault, is_idle};
     ghost use Rattle.hib_core.specs.Hibernation.{phase_of, phase_told};
     ghost use Rattle.hib_core.specs.Ready.{CanStep, IsBusy, IsSameMachine};
     ghost use Rattle.hib_core.specs.Leaving.{Leaves, change_of};
@@ -144,7 +144,7 @@ impl Hib {
         ensures ready { CanStep machine.new frames.new runs.new self.new }
         ensures machine { IsSameMachine machine.old machine.new }
         ensures memory { Leaves (change_of result self.old.stage) machine.old.hw frames.old frames.new }
-        ensures called { Called D.Disk OneCall (IsNewFault result) disk.old disk.new }
+        ensures called { Called D.Disk OneCall (TellsNewFault result) disk.old disk.new }
     {
         match self.stage {
             Stage::Write(..) => self.write_next(machine, frames, runs, disk),

@@ -1,5 +1,5 @@
 ghost use Rattle.std.specs.Prelude.{◌≡◌, false, ℕ, List, ◌+◌, ◌<◌};
-ghost use Rattle.protocol_laws.specs.Rows.{IsNewFault, is_idle};
+ghost use Rattle.protocol_laws.specs.Rows.{TellsNewFault, is_idle};
 ghost use Rattle.plain_machine.specs.declared.reply.Reply.TheVariants as reply;
 ghost use Rattle.plain_machine.specs.Mark.{mark_flags};
 ghost use Rattle.sector_disk.specs.Called.{Called, OneCall};
@@ -45,7 +45,7 @@ impl Hib {
         ensures works { is_idle result ≡ false }
         ensures ready { CanStep machine.now frames.now runs.now self.new }
         ensures memory { Leaves (change_of result self.old.stage) machine.now.hw frames.now frames.now }
-        ensures called { Called D.Disk OneCall (IsNewFault result) disk.old disk.new }
+        ensures called { Called D.Disk OneCall (TellsNewFault result) disk.old disk.new }
     {
         let Stage::Mark(saving, header) = &self.stage else {
             unreachable!()
@@ -81,7 +81,7 @@ impl Hib {
         ensures works { is_idle result ≡ false }
         ensures ready { CanStep machine.now frames.now runs.now self.new }
         ensures memory { Leaves (change_of result self.old.stage) machine.now.hw frames.now frames.now }
-        ensures called { Called D.Disk OneCall (IsNewFault result) disk.old disk.new }
+        ensures called { Called D.Disk OneCall (TellsNewFault result) disk.old disk.new }
     {
         let Stage::End(saving, header) = replace(&mut self.stage, Stage::Idle) else {
             unreachable!()

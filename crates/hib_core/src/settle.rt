@@ -2,7 +2,7 @@ ghost use Rattle.std.specs.Prelude.{◌≡◌, false, ℕ, List, ◌⊎◌, nat_
 ghost use Rattle.std.specs.Cmp.Lexicographic.{pointwise};
 ghost use Rattle.definitions.specs.Disk.{Content};
 ghost use Rattle.definitions.specs.SwapHeader.{sig_of, image_signature};
-ghost use Rattle.protocol_laws.specs.Rows.{IsNewFault, is_idle};
+ghost use Rattle.protocol_laws.specs.Rows.{TellsNewFault, is_idle};
 ghost use Rattle.protocol_laws.specs.Settling.{unmarked_block};
 ghost use Rattle.hib_core.specs.Hibernation.{perhaps_held, under_way, runs_on};
 ghost use Rattle.sector_disk.specs.Called.{Called, OneCall};
@@ -41,7 +41,7 @@ impl Hib {
         ensures begun { (phase_told result ≡ under_way) ⊎ (phase_told result ≡ runs_on) }
         ensures ready { IsBusy self.new → CanStep machine.now frames.now runs.now self.new }
         ensures zones { self.new.snapshot.zones ≡ self.old.snapshot.zones }
-        ensures no_fault { IsNewFault result → ⊥ }
+        ensures no_fault { TellsNewFault result → ⊥ }
         ensures refused { IsRefusedWith result → LeavesFrames frames.now frames.now result }
     {
         // Only what is read is known to have the size of its type.
@@ -77,7 +77,7 @@ impl Hib {
         ensures works { is_idle result ≡ false }
         ensures ready { CanStep machine.now frames.now runs.now self.new }
         ensures memory { Leaves (change_of result self.old.stage) machine.now.hw frames.now frames.now }
-        ensures called { Called D.Disk OneCall (IsNewFault result) disk.old disk.new }
+        ensures called { Called D.Disk OneCall (TellsNewFault result) disk.old disk.new }
     {
         let block = machine.hw.extents().block(0);
         let mut header = Page::zero();
@@ -112,7 +112,7 @@ impl Hib {
         ensures ready { CanStep machine.new frames.now runs.now self.new }
         ensures memory { Leaves (change_of result self.old.stage) machine.old.hw frames.now frames.now }
         ensures machine { IsSameMachine machine.old machine.new }
-        ensures called { Called D.Disk OneCall (IsNewFault result) disk.old disk.new }
+        ensures called { Called D.Disk OneCall (TellsNewFault result) disk.old disk.new }
     {
         let Stage::SettleWrite(header) = &mut self.stage else {
             unreachable!()
@@ -151,7 +151,7 @@ impl Hib {
         ensures ready { CanStep machine.new frames.new runs.new self.new }
         ensures memory { Leaves (change_of result self.old.stage) machine.old.hw frames.old frames.new }
         ensures machine { IsSameMachine machine.old machine.new }
-        ensures called { Called D.Disk OneCall (IsNewFault result) disk.old disk.new }
+        ensures called { Called D.Disk OneCall (TellsNewFault result) disk.old disk.new }
     {
         match disk.sync() {
             Ok(()) => {

@@ -1,5 +1,5 @@
 ghost use Rattle.std.specs.Prelude.{◌≡◌, false, ℕ, List, ◌<◌};
-ghost use Rattle.protocol_laws.specs.Rows.{IsNewFault, is_idle};
+ghost use Rattle.protocol_laws.specs.Rows.{TellsNewFault, is_idle};
 ghost use Rattle.plain_machine.specs.Step.{undone_fault};
 ghost use Rattle.plain_machine.specs.declared.held.Held.TheVariants.{Perhaps};
 ghost use Rattle.plain_machine.specs.declared.reply.Left.TheVariants.{Unsure};
@@ -45,7 +45,7 @@ impl Hib {
         ensures ready { CanStep machine.new frames.now runs.now self.new }
         ensures memory { Leaves (change_of result self.old.stage) machine.old.hw frames.now frames.now }
         ensures machine { IsSameMachine machine.old machine.new }
-        ensures called { Called D.Disk OneCall (IsNewFault result) disk.old disk.new }
+        ensures called { Called D.Disk OneCall (TellsNewFault result) disk.old disk.new }
     {
         let Stage::TakeBack(call, header) = &self.stage else {
             unreachable!()
@@ -84,7 +84,7 @@ impl Hib {
         ensures ready { CanStep machine.new frames.new runs.new self.new }
         ensures memory { Leaves (change_of result self.old.stage) machine.old.hw frames.old frames.new }
         ensures machine { IsSameMachine machine.old machine.new }
-        ensures called { Called D.Disk OneCall (IsNewFault result) disk.old disk.new }
+        ensures called { Called D.Disk OneCall (TellsNewFault result) disk.old disk.new }
     {
         match disk.sync() {
             Ok(()) => {

@@ -1,6 +1,6 @@
 ghost use Rattle.std.specs.Prelude.{◌≡◌, false, ℕ, List, ◌+◌, ◌<◌, All, length};
 ghost use Rattle.definitions.specs.Bytes.{IsPage};
-ghost use Rattle.protocol_laws.specs.Rows.{IsNewFault, is_idle};
+ghost use Rattle.protocol_laws.specs.Rows.{TellsNewFault, is_idle};
 ghost use Rattle.plain_machine.specs.Shows.{seen_frames};
 ghost use Rattle.plain_machine.specs.declared.reply.Reply.TheVariants as reply;
 ghost use Rattle.swap_slots.specs.Table.{LiesIn, Matches};
@@ -55,7 +55,7 @@ impl Hib {
         ensures works { is_idle result ≡ false }
         ensures ready { CanStep machine.now frames.new runs.new self.new }
         ensures memory { Leaves (change_of result self.old.stage) machine.now.hw frames.old frames.new }
-        ensures called { Called D.Disk OneCall (IsNewFault result) disk.old disk.new }
+        ensures called { Called D.Disk OneCall (TellsNewFault result) disk.old disk.new }
     {
         let Stage::Write(saving, writer) = &mut self.stage else {
             unreachable!()
@@ -96,7 +96,7 @@ impl Hib {
         ensures works { is_idle result ≡ false }
         ensures ready { CanStep machine.now frames.new runs.new self.new }
         ensures memory { Leaves (change_of result self.old.stage) machine.now.hw frames.old frames.new }
-        ensures called { Called D.Disk OneCall (IsNewFault result) disk.old disk.new }
+        ensures called { Called D.Disk OneCall (TellsNewFault result) disk.old disk.new }
     {
         match disk.sync() {
             Ok(()) => {
@@ -130,7 +130,7 @@ impl Hib {
         ensures works { is_idle result ≡ false }
         ensures ready { CanStep machine.now frames.new runs.new self.new }
         ensures memory { Leaves (change_of result self.old.stage) machine.now.hw frames.old frames.new }
-        ensures called { Called D.Disk OneCall (IsNewFault result) disk.old disk.new }
+        ensures called { Called D.Disk OneCall (TellsNewFault result) disk.old disk.new }
     {
         let block = machine.hw.extents().block(0);
         let mut header = Page::zero();

@@ -1,16 +1,17 @@
 -- A disk with an image, the block of its header, and who is told of it, at a moment.
-use Rattle.std.specs.Prelude.{◌≡◌, ℕ, ◌≤◌, Option}
+use Rattle.std.specs.Prelude.{◌≡◌, ℕ, ◌≤◌, List, Option}
 use Rattle.definitions.specs.Disk.{Content}
 use Rattle.image_check.specs.Told.{Told}
 use Rattle.image_check.specs.declared.report.Report as report
 use Rattle.image_differ.specs.declared.side.Side.{Side}
 use Rattle.sector_disk.specs.declared.disk.Disk as disk
+use Rattle.sector_disk.specs.declared.orders.Order.{Order}
 
 pub record SideView : Type 0 where
   pub content : Option Content
   pub blocks : ℕ
   pub faults : ℕ
-  pub orders : ℕ
+  pub orders : List Order
   pub header : ℕ
   pub told : Told
 

@@ -6,7 +6,7 @@ ghost use Rattle.definitions.specs.Tables.{frame, with_entry};
 ghost use Rattle.definitions.specs.Zones.{numbers, top};
 ghost use Rattle.swap_slots.specs.Entries.{word_of};
 ghost use Rattle.swap_slots.specs.Table.{LiesIn, Matches, free_in};
-ghost use Rattle.plain_machine.specs.Faults.{IsFault};
+ghost use Rattle.plain_machine.specs.Faults.{TellsFailedCall};
 ghost use Rattle.plain_machine.specs.Fitting.{IsTask};
 ghost use Rattle.plain_machine.specs.Machine.{block_of_slot, raw_slot_entry, IsOfTable, IsHardware};
 ghost use Rattle.plain_machine.specs.declared.event.TaskOp.TheVariants as op;
@@ -55,7 +55,7 @@ impl Machine {
         ensures machine { self.new ≡ record self.old { flights = slice_set self.old.flights (t - 1) Flight.Nothing } }
         ensures len { length frames.new ≡ length frames.old }
         ensures room { runs.new.room ≡ runs.old.room }
-        ensures called { Called D.Disk OneCall (IsFault result) disk.old disk.new }
+        ensures called { Called D.Disk OneCall (TellsFailedCall result) disk.old disk.new }
     {
         let reply = self.end_flight(frames, runs, disk, t);
         self.set_flight(t, Flight::Nothing);
@@ -80,7 +80,7 @@ impl Machine {
         ensures matches { Matches frames.new (slot_table_of self.now.hw) runs.new }
         ensures len { length frames.new ≡ length frames.old }
         ensures room { runs.new.room ≡ runs.old.room }
-        ensures called { Called D.Disk OneCall (IsFault result) disk.old disk.new }
+        ensures called { Called D.Disk OneCall (TellsFailedCall result) disk.old disk.new }
     {
         match self.flight(t) {
             Flight::Out { slot, p } => {
@@ -106,7 +106,7 @@ impl Machine {
         requires idle { flights_in self.old.flights t ≡ None }
         ensures row { SimulatesRequest self.old frames.old t (op.Out p) self.new frames.new result }
         ensures ready { CanRun self.new frames.new runs.new }
-        ensures no_fault { IsFault result → ⊥ }
+        ensures no_fault { TellsFailedCall result → ⊥ }
         ensures machine { self.new ≡ record self.old { flights = self.new.flights } }
         ensures refused { IsRefusal result → (frames.new ≡ frames.old) × (self.new ≡ self.old) }
         ensures len { length frames.new ≡ length frames.old }
@@ -141,7 +141,7 @@ impl Machine {
         requires idle { flights_in self.old.flights t ≡ None }
         ensures row { SimulatesRequest self.old frames.now t (op.TakeIn slot p) self.new frames.now result }
         ensures ready { CanRun self.new frames.now runs.now }
-        ensures no_fault { IsFault result → ⊥ }
+        ensures no_fault { TellsFailedCall result → ⊥ }
         ensures machine { self.new ≡ record self.old { flights = self.new.flights } }
         ensures refused { IsRefusal result → self.new ≡ self.old }
     {
@@ -237,7 +237,7 @@ fn end_out<D: Disk>(
     ensures matches { Matches frames.new (slot_table_of hw.now) runs.new }
     ensures len { length frames.new ≡ length frames.old }
     ensures room { runs.new.room ≡ runs.old.room }
-    ensures called { Called D.Disk OneCall (IsFault result) disk.old disk.new }
+    ensures called { Called D.Disk OneCall (TellsFailedCall result) disk.old disk.new }
 {
     // Each page frame has 4096 bytes, so that an entry that is set leaves the others.
     let _ = frames.len();
@@ -274,7 +274,7 @@ fn end_in<D: Disk>(
     ensures len { length frames.new ≡ length frames.old }
     ensures room { runs.new.room ≡ runs.old.room }
     ensures content { D.content disk.new ≡ D.content disk.old }
-    ensures called { Called D.Disk OneCall (IsFault result) disk.old disk.new }
+    ensures called { Called D.Disk OneCall (TellsFailedCall result) disk.old disk.new }
 {
     // Each page frame has 4096 bytes, so that an entry that is set leaves the others.
     let _ = frames.len();

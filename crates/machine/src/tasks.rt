@@ -2,7 +2,7 @@ ghost use Rattle.std.specs.Prelude.{◌≡◌, ℕ, ◌<◌, ◌==◌, Contains,
 ghost use Rattle.definitions.specs.Bytes.{IsPage};
 ghost use Rattle.definitions.specs.Zones.{numbers, top};
 ghost use Rattle.definitions.specs.Tables.{owner_of};
-ghost use Rattle.plain_machine.specs.Faults.{IsFault};
+ghost use Rattle.plain_machine.specs.Faults.{TellsFailedCall};
 ghost use Rattle.plain_machine.specs.Fitting.{IsFittingOp, IsTask};
 ghost use Rattle.plain_machine.specs.declared.event.TaskOp.TheVariants as op;
 ghost use Rattle.plain_machine.specs.Machine.{frame_entry, is_valid, IsHardware};
@@ -28,7 +28,7 @@ impl Machine {
         requires ready { CanRun self.old frames.old runs.old }
         ensures row { SimulatesRequest self.old frames.old t op self.new frames.new result }
         ensures ready { CanRun self.new frames.new runs.new }
-        ensures no_fault { IsFault result → ⊥ }
+        ensures no_fault { TellsFailedCall result → ⊥ }
         ensures machine { self.new ≡ record self.old { flights = self.new.flights } }
         ensures refused { IsRefusal result → (frames.new ≡ frames.old) × (self.new ≡ self.old) }
         ensures len { length frames.new ≡ length frames.old }
@@ -57,7 +57,7 @@ fn claim(frames: &mut Frames, hw: &Hardware, t: u32, p: u32) -> Reply
     ensures row { HasFrameRow hw.now t (op.Claim p) frames.old frames.new result }
     ensures own { ChangesOwn hw.now t frames.old frames.new }
     ensures hardware { IsHardware hw.now }
-    ensures no_fault { IsFault result → ⊥ }
+    ensures no_fault { TellsFailedCall result → ⊥ }
     ensures refused { IsRefusal result → frames.new ≡ frames.old }
     ensures len { length frames.new ≡ length frames.old }
 {
@@ -79,7 +79,7 @@ fn release(frames: &mut Frames, hw: &Hardware, t: u32, p: u32) -> Reply
     ensures row { HasFrameRow hw.now t (op.Release p) frames.old frames.new result }
     ensures own { ChangesOwn hw.now t frames.old frames.new }
     ensures hardware { IsHardware hw.now }
-    ensures no_fault { IsFault result → ⊥ }
+    ensures no_fault { TellsFailedCall result → ⊥ }
     ensures refused { IsRefusal result → frames.new ≡ frames.old }
     ensures len { length frames.new ≡ length frames.old }
 {
@@ -98,7 +98,7 @@ fn store(frames: &mut Frames, hw: &Hardware, t: u32, p: u32, k: u32, v: u64) -> 
     ensures row { HasFrameRow hw.now t (op.Store p k v) frames.old frames.new result }
     ensures own { ChangesOwn hw.now t frames.old frames.new }
     ensures hardware { IsHardware hw.now }
-    ensures no_fault { IsFault result → ⊥ }
+    ensures no_fault { TellsFailedCall result → ⊥ }
     ensures refused { IsRefusal result → frames.new ≡ frames.old }
     ensures len { length frames.new ≡ length frames.old }
 {
@@ -117,7 +117,7 @@ fn show(frames: &mut Frames, hw: &Hardware, t: u32, p: u32, k: u32) -> Reply
     ensures row { HasFrameRow hw.now t (op.Show p k) frames.old frames.new result }
     ensures own { ChangesOwn hw.now t frames.old frames.new }
     ensures hardware { IsHardware hw.now }
-    ensures no_fault { IsFault result → ⊥ }
+    ensures no_fault { TellsFailedCall result → ⊥ }
     ensures refused { IsRefusal result → frames.new ≡ frames.old }
     ensures len { length frames.new ≡ length frames.old }
 {
@@ -136,7 +136,7 @@ fn cache(frames: &mut Frames, hw: &Hardware, t: u32, p: u32) -> Reply
     ensures row { HasFrameRow hw.now t (op.Cache p) frames.old frames.new result }
     ensures own { ChangesOwn hw.now t frames.old frames.new }
     ensures hardware { IsHardware hw.now }
-    ensures no_fault { IsFault result → ⊥ }
+    ensures no_fault { TellsFailedCall result → ⊥ }
     ensures refused { IsRefusal result → frames.new ≡ frames.old }
     ensures len { length frames.new ≡ length frames.old }
 {
@@ -163,7 +163,7 @@ fn is_free(frames: &Frames, hw: &Hardware, p: u32) -> bool
 pub(crate) fn not_own(frames: &Frames, hw: &Hardware, t: u32, p: u32) -> Option<Reply>
     requires frames { length frames.now ≡ top hw.now.zones }
     ensures refusal { result ≡ own_refusal hw.now frames.now t p }
-    ensures no_fault { IfSome result (λ r. IsFault r → ⊥) }
+    ensures no_fault { IfSome result (λ r. TellsFailedCall r → ⊥) }
     ensures valid { IsNone result → Contains (numbers hw.now.zones) p }
     ensures owned { IsNone result → owner_of (frame_entry hw.now frames.now p) ≡ t }
     ensures hardware { IsHardware hw.now }

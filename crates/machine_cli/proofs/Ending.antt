@@ -8,7 +8,7 @@ use Rattle.plain_machine.specs.State.{State, Running, on}
 use Rattle.plain_machine.specs.declared.reply.Reply.{Reply}
 use Rattle.script.specs.Grammar.{ScriptValue}
 use Rattle.world_core.specs.declared.world.Core.TheVariants.{Running as Runs}
-use Rattle.world_core.specs.StandsFor.{StandsFor, IsNew, hardware_of}
+use Rattle.world_core.specs.StandsFor.{StandsFor, IsNewWorld, hardware_of}
 use Rattle.world_core.specs.World.{World}
 use Rattle.world_core.proofs.Cases.{activity_by, activity_for, at_run}
 use Rattle.world_core.proofs.TaskRows.{on_parts}
@@ -36,7 +36,7 @@ runs_not w c end idle stands a e = idle c end stands (ap activity_in e)
 -- Events that were played over a machine that was set up end in what the world stands for.
 pub has_played : (x x' : View) (script : ScriptValue) (old new : World) (replies : List Reply) (between : DiskView) (says : IsScript x x' script)
     (whole : IfSome x.disk.content (disk.IsContent x.disk.blocks)) (whole_between : IfSome between.content (disk.IsContent between.blocks))
-    (set : IsSetUp script x.disk between) (fresh : IsNew script.hardware None old) (few : length script.bad ≤ 630) (was_played : HasPlayed old new script.events replies between x'.disk)
+    (set : IsSetUp script x.disk between) (fresh : IsNewWorld script.hardware None old) (few : length script.bad ≤ 630) (was_played : HasPlayed old new script.events replies between x'.disk)
     (hw : hardware_of new ≡ hardware_of old) →
     (Ends : State → Type 0) → ((c : disk.Content) (end : State) → StandsFor new c end → Ends end) → HasPlayedTo x x' script Ends
 has_played x x' script old new replies between says whole whole_between set fresh few was_played hw Ends ends =

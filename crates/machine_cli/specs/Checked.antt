@@ -13,7 +13,7 @@ use Rattle.plain_machine.specs.declared.event.IdentCheck.{IdentCheck}
 use Rattle.command_kit.specs.Answer.{RunResult, memory_told}
 use Rattle.swsusp_cli.specs.Dumps.{IsDump, IsNoDump, stopped_told}
 use Rattle.swsusp_cli.specs.Loads.{is_resumed}
-use Rattle.swsusp_cli.specs.Outcome.{IsOutOfMemory, IsUnread, Tells}
+use Rattle.swsusp_cli.specs.Outcome.{IsOutOfMemory, FailsAtSource, Tells}
 use Rattle.command_kit.specs.View.{DiskView, View}
 use Rattle.command_kit.specs.declared.status.Status.{Status}
 use Rattle.command_kit.specs.declared.status.Status.TheVariants.{Done}
@@ -49,6 +49,6 @@ pub record IsShort (x x' : View) (status : Status) : Type 0 where
 pub data Checks (check : IdentCheck) (x x' : View) (status : Status) : Type 0 where
   no_dump : (fault : DumpFault) → IsNoDump x x' status fault → Checks check x x' status
   out_of_memory : IsShort x x' status → Checks check x x' status
-  unread : IsUnread x x' status → Checks check x x' status
+  unread : FailsAtSource x x' status → Checks check x x' status
   foretold : (dump : DumpValue) (memory : Memory) (ended : Ended) → IsForetold check x x' status dump memory ended →
       Checks check x x' status

@@ -8,7 +8,7 @@ use Rattle.script.specs.Grammar.{ScriptValue}
 use Rattle.script.specs.declared.fault.ScriptFault.{ScriptFault}
 use Rattle.run_picture.specs.Picture.{picture, pictured}
 use Rattle.swsusp_cli.specs.Formatting.{LieBelow}
-use Rattle.swsusp_cli.specs.Outcome.{IsNoScript, IsOutOfMemory, IsScript, IsTooSmall, IsUnformatted, IsUnread}
+use Rattle.swsusp_cli.specs.Outcome.{IsNoScript, IsOutOfMemory, IsScript, IsTooSmall, IsUnformatted, FailsAtSource}
 use Rattle.swsusp_cli.specs.Replay.{AreReplies}
 use Rattle.swsusp_cli.specs.declared.formatting.Unformatted.{Unformatted}
 use Rattle.command_kit.specs.Told.{IsPrinted, IsTried, sink_note}
@@ -37,7 +37,7 @@ pub record IsWhole (x x' : View) (status : Status) (script : ScriptValue) : Type
 
 -- Out failed: it took a front of the picture of a run over first events, and the fault is noted. Or all is printed, and
 -- note failed.
-pub record IsCutOff (x x' : View) (status : Status) (script : ScriptValue) : Type 0 where
+pub record IsDrawnInPart (x x' : View) (status : Status) (script : ScriptValue) : Type 0 where
   pub script_is : IsScript x x' script
   pub roomy : LieBelow script.hardware x.disk.blocks
   pub status_is : status ≡ Stream
@@ -49,9 +49,9 @@ pub record IsCutOff (x x' : View) (status : Status) (script : ScriptValue) : Typ
 pub data IsDrawn (x x' : View) (status : Status) : Type 0 where
   no_script : (fault : ScriptFault) → IsNoScript x x' status fault → IsDrawn x x' status
   out_of_memory : IsOutOfMemory x x' status → IsDrawn x x' status
-  unread : IsUnread x x' status → IsDrawn x x' status
+  unread : FailsAtSource x x' status → IsDrawn x x' status
   too_small : (script : ScriptValue) → IsScript x x' script → IsTooSmall x x' status script → IsDrawn x x' status
   unformatted : (script : ScriptValue) (call : Unformatted) → IsScript x x' script
       → IsUnformatted x x' status script call → IsDrawn x x' status
   drawn : (script : ScriptValue) → IsWhole x x' status script → IsDrawn x x' status
-  cut_off : (script : ScriptValue) → IsCutOff x x' status script → IsDrawn x x' status
+  cut_off : (script : ScriptValue) → IsDrawnInPart x x' status script → IsDrawn x x' status

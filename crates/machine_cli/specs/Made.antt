@@ -9,7 +9,7 @@ use Rattle.script.specs.declared.fault.ScriptFault.{ScriptFault}
 use Rattle.command_kit.specs.Answer.{RunResult, line}
 use Rattle.swsusp_cli.specs.Formatting.{LieBelow}
 use Rattle.swsusp_cli.specs.Loads.{written_told}
-use Rattle.swsusp_cli.specs.Outcome.{IsNoScript, IsOutOfMemory, IsScript, IsTooSmall, IsUnformatted, IsUnread, Tells}
+use Rattle.swsusp_cli.specs.Outcome.{IsNoScript, IsOutOfMemory, IsScript, IsTooSmall, IsUnformatted, FailsAtSource, Tells}
 use Rattle.swsusp_cli.specs.Replay.{AreReplies, IsRun}
 use Rattle.command_kit.specs.View.{View}
 use Rattle.swsusp_cli.specs.declared.formatting.Unformatted.{Unformatted}
@@ -41,7 +41,7 @@ pub record HasPlayedTo (x x' : View) (script : ScriptValue) (Ends : State → Ty
 pub data IsMade (x x' : View) (status : Status) : Type 0 where
   no_script : (fault : ScriptFault) → IsNoScript x x' status fault → IsMade x x' status
   out_of_memory : IsOutOfMemory x x' status → IsMade x x' status
-  unread : IsUnread x x' status → IsMade x x' status
+  unread : FailsAtSource x x' status → IsMade x x' status
   too_small : (script : ScriptValue) → IsScript x x' script → IsTooSmall x x' status script → IsMade x x' status
   unformatted : (script : ScriptValue) (call : Unformatted) → IsScript x x' script →
       IsUnformatted x x' status script call → IsMade x x' status

@@ -1,16 +1,17 @@
 -- What a disk is at a moment.
-use Rattle.std.specs.Prelude.{◌≡◌, ◌≢◌, ◌<◌, ℕ, Option}
+use Rattle.std.specs.Prelude.{◌≡◌, ◌≢◌, ◌<◌, ℕ, List, Option}
 use Rattle.definitions.specs.Disk.{Content, last_count}
+use Rattle.sector_disk.specs.declared.orders.Order.{Order}
 
--- which disk it is, its number of blocks, its content where it tells that, and how many calls failed, were made, and
--- were restarts or arms
+-- which disk it is, its number of blocks, its content where it tells that, how many calls failed and were made, and the
+-- restarts and arms that it was asked for
 pub record DiskState : Type 0 where
   pub which : ℕ
   pub blocks : ℕ
   pub content : Option Content
   pub faults : ℕ
   pub calls : ℕ
-  pub orders : ℕ
+  pub orders : List Order
 
 -- It is the same disk, and holds the same: no write, no sync, no restart and no arm was made in between.
 pub record IsSame (old new : DiskState) : Type 0 where

@@ -1,4 +1,4 @@
-ghost use Rattle.std.specs.Prelude.{None};
+ghost use Rattle.std.specs.Prelude.{None, []};
 ghost use Rattle.overlay_disk.specs.DiskState.{DiskState};
 
 use std::marker::Brand;
@@ -9,5 +9,5 @@ pub trait Original {
 }
 
 impl Original for Brand {
-    ghost state = { record { which = 0; blocks = 0; content = None; faults = 0; calls = 0; orders = 0 } };
+    ghost state = { record { which = 0; blocks = 0; content = None; faults = 0; calls = 0; orders = [] } };
 }

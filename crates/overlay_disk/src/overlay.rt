@@ -6,12 +6,12 @@ use crate::kept::Kept;
 use crate::room::{has_room, page_of};
 use crate::{Original, ReadOnly};
 use page_core::{Failed, NoMemory, Page};
-use sector_disk::Disk;
+use sector_disk::{Disk, Order, Orders};
 use std::marker::PhantomData;
 
 /// A disk over one that is only read. It has memory for one block, the first that is written: a write of any other
 /// fails, and counts as a fault. A block that was written is read from memory, each other from below. A sync, a restart
-/// and an arm do nothing but count.
+/// and an arm change nothing.
 ///
 /// It tells its content where the disk below does, and no moments.
 #[derive(Drop)]
@@ -20,7 +20,7 @@ pub struct Overlay<B: ReadOnly, K: Original> {
     kept: Option<Kept>,
     calls: u64,
     faults: u64,
-    orders: u64,
+    orders: Orders,
     refused: bool,
     original: PhantomData<K>,
     ghost inside: { ForSome kept (λ k. k.block < K.state.blocks) },
@@ -49,7 +49,7 @@ impl<B: ReadOnly, K: Original> Overlay<B, K> {
             kept: None,
             calls: 0,
             faults: 0,
-            orders: 0,
+            orders: Orders::new(),
             refused: false,
             original: PhantomData,
         }
@@ -84,7 +84,7 @@ impl<B: ReadOnly, K: Original> Disk for Overlay<B, K> {
 
     ghost calls = { λ o. o.calls };
 
-    ghost orders = { λ o. o.orders };
+    ghost orders = { λ o. o.orders.list };
 
     ghost content = { λ o. content_over o.kept (B.state o.below).content };
 
@@ -139,11 +139,11 @@ impl<B: ReadOnly, K: Original> Disk for Overlay<B, K> {
         Ok(())
     }
 
-    fn restart(&mut self, _pick: u64) {
-        self.orders = self.orders.saturating_add(1);
+    fn restart(&mut self, pick: u64) {
+        self.orders = self.orders.and(&Order::Restart { pick });
     }
 
-    fn arm(&mut self, _first: u32, _count: u32, _pick: u64) {
-        self.orders = self.orders.saturating_add(1);
+    fn arm(&mut self, first: u32, count: u32, pick: u64) {
+        self.orders = self.orders.and(&Order::Arm { first, count, pick });
     }
 }

@@ -3,9 +3,9 @@ use Rattle.std.specs.Prelude.{⊤}
 use Rattle.plain_machine.specs.declared.reply.Reply.{Reply}
 use Rattle.plain_machine.specs.declared.reply.Reply.TheVariants as reply
 
-abbrev pub IsFault : Reply → Type 0
-IsFault (reply.ReadFault left) = ⊤
-IsFault (reply.WriteFault left) = ⊤
-IsFault (reply.SyncFault left) = ⊤
-IsFault (reply.Undo call k) = ⊤
-IsFault _ = ⊥
+abbrev pub TellsFailedCall : Reply → Type 0
+TellsFailedCall (reply.ReadFault left) = ⊤
+TellsFailedCall (reply.WriteFault left) = ⊤
+TellsFailedCall (reply.SyncFault left) = ⊤
+TellsFailedCall (reply.Undo call k) = ⊤
+TellsFailedCall _ = ⊥

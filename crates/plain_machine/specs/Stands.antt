@@ -185,7 +185,7 @@ pub record IsWritten (h : Hardware) (shown : WorldView) (c : disk.Content) (i : 
 -- 5. Loading.
 
 -- w is the disk v, but for block(0), which is as it was or taken back
-pub record IsTakenBack (h : Hardware) (v w : disk.DiskImage) : Type 0 where
+pub record IsSameOrTakenBack (h : Hardware) (v w : disk.DiskImage) : Type 0 where
   pub size : length w ≡ length v
   pub others : (b : ℕ) → b < blocks_of v → b ≢ block_of_slot h 0 → disk.block w b ≡ disk.block v b
   pub header : (header_of h w ≡ header_of h v) ⊎ (header_of h w ≡ taken_back (header_of h v))
@@ -228,8 +228,8 @@ pub record IsLoading (h : Hardware) (shown : WorldView) (c : disk.Content) (load
   pub fits : FitsLoader h load
   pub found : 2 ≤ k → IsFound load.found
   pub own : (i : Image) → load.found ≡ found_own i → (v : disk.DiskImage) × Holds h v i × IsOwn h v i
-      × EachImage c (IsTakenBack h v)
-  pub others : (v : disk.DiskImage) → load.found ≡ found_other v → EachImage c (IsTakenBack h v)
+      × EachImage c (IsSameOrTakenBack h v)
+  pub others : (v : disk.DiskImage) → load.found ≡ found_other v → EachImage c (IsSameOrTakenBack h v)
   pub taken_back : 4 ≤ k → EachImage c (λ v. Marked h v → ⊥)
 
 -- 6. Between two calls: a restart or a sync has left one image, and the block that is kept is the disk's, or the

@@ -6,7 +6,7 @@ use Rattle.definitions.proofs.DiskLaws.{as_it_reads-settled, IsImage-after_sync,
 use Rattle.plain_machine.specs.Machine.{Hardware}
 use Rattle.plain_machine.specs.Chain.{header_of, Marked, Holds}
 use Rattle.plain_machine.specs.Image.{Image}
-use Rattle.plain_machine.specs.Stands.{IsHeld, IsOwn, IsTakenBack, HasOneImage}
+use Rattle.plain_machine.specs.Stands.{IsHeld, IsOwn, IsSameOrTakenBack, HasOneImage}
 use Rattle.plain_machine.specs.State.{Held, nothing, sure, maybe, own, other, Found, not_yet, found_own, found_other}
 use Rattle.protocol_laws.specs.Resuming.{IsHeldOwn, FindsNone, FindsOwn, LoadBegins, LoadSyncs}
 use Rattle.protocol_laws.proofs.Same.{header_kept, by_sync}
@@ -119,7 +119,7 @@ own_there h c held i v (inr is) there in' marked =
     let it = subst (IsHeld h c) is there v in' in
     (elim it.0 [ inl never ↦ absurd (never marked) | inr holds ↦ holds ], it.1)
 
-pub itself : (h : Hardware) (v w : disk.DiskImage) → w ≡ v → IsTakenBack h v w
+pub itself : (h : Hardware) (v w : disk.DiskImage) → w ≡ v → IsSameOrTakenBack h v w
 itself h v w e = record { size = ap length e; others = λ b lt apart. ap (λ (u : disk.DiskImage). disk.block u b) e; header = inl (ap (header_of h) e) }
 
 pub finds_own : FindsOwn

@@ -10,7 +10,7 @@ use Rattle.definitions.proofs.PageBytes.{get_or-zero_page}
 use Rattle.plain_machine.specs.Machine.{Hardware, block_of_slot}
 use Rattle.plain_machine.specs.Chain.{header_of, blocks_of, Marked}
 use Rattle.plain_machine.specs.Shows.{WorldView}
-use Rattle.plain_machine.specs.Stands.{IsHeader, IsTakenBack, AgreeOnArea, HasOneImage}
+use Rattle.plain_machine.specs.Stands.{IsHeader, IsSameOrTakenBack, AgreeOnArea, HasOneImage}
 use Rattle.plain_machine.specs.UsableArea.{area_block}
 use Rattle.plain_machine.proofs.DiskBlocks.{block-written}
 use Rattle.image_laws.specs.ImageBlocks.{Tries}
@@ -99,7 +99,7 @@ area_back h shown c blocks v before (back w in_w same taken) =
     let header = header_back h shown c blocks v w before in_w same taken in
     area_block-unmarked h v (λ m. before.back_unmarked (subst IsMarked header m)) ∙ header
 
-pub taken_from : (h : Hardware) (shown : WorldView) (c : disk.Content) (blocks : ℕ) (v : disk.DiskImage) → IsBefore h shown c blocks → TornBack h shown c v → IsTakenBack h (disk.as_it_reads c) v
+pub taken_from : (h : Hardware) (shown : WorldView) (c : disk.Content) (blocks : ℕ) (v : disk.DiskImage) → IsBefore h shown c blocks → TornBack h shown c v → IsSameOrTakenBack h (disk.as_it_reads c) v
 taken_from h shown c blocks v before (still was) =
     let e = before.one v (disk.as_it_reads c) was (IsImage-as_it_reads blocks c before.content) in
     record { size = ap length e; others = λ b lt apart. ap (λ (u : disk.DiskImage). disk.block u b) e; header = inl (ap (header_of h) e) }
@@ -121,7 +121,7 @@ still_header h shown c c' blocks before after tries =
       one = λ v in'. let e = page v in' ∙ sym (page (disk.as_it_reads c') (IsImage-as_it_reads blocks c' after)) in subst (AgreeOnArea (area_block h v)) e (record { front = refl; signature = refl });
     }
 
-pub each_taken_back : (h : Hardware) (shown : WorldView) (c c' : disk.Content) (blocks : ℕ) (v : disk.DiskImage) → IsBefore h shown c blocks → Tries (block_of_slot h 0) (taken_back shown.header) c c' → disk.IsImage c' v → IsTakenBack h (disk.as_it_reads c) v
+pub each_taken_back : (h : Hardware) (shown : WorldView) (c c' : disk.Content) (blocks : ℕ) (v : disk.DiskImage) → IsBefore h shown c blocks → Tries (block_of_slot h 0) (taken_back shown.header) c c' → disk.IsImage c' v → IsSameOrTakenBack h (disk.as_it_reads c) v
 each_taken_back h shown c c' blocks v before tries in' = taken_from h shown c blocks v before (torn_back h shown c c' blocks v before tries in')
 
 pub reads_unmarked : (h : Hardware) (shown : WorldView) (c c' : disk.Content) (blocks : ℕ) → IsBefore h shown c blocks → disk.IsContent blocks c' → disk.Writes (block_of_slot h 0) (taken_back shown.header) c c' → Marked h (disk.as_it_reads c') → ⊥

@@ -11,7 +11,7 @@ use Rattle.definitions.proofs.DiskLaws.{IsImage-as_it_reads, length-as_it_reads,
 use Rattle.plain_machine.specs.Machine.{Hardware, block_of_slot}
 use Rattle.plain_machine.specs.Chain.{header_of, blocks_of, Marked, Holds}
 use Rattle.plain_machine.specs.Image.{Image}
-use Rattle.plain_machine.specs.Stands.{EachImage, IsHeader, HasOneImage, IsTakenBack}
+use Rattle.plain_machine.specs.Stands.{EachImage, IsHeader, HasOneImage, IsSameOrTakenBack}
 use Rattle.plain_machine.specs.UsableArea.{area_block}
 use Rattle.image_laws.proofs.ImageBlocks.{changed_image, candidate_of_image, sector_of_block, long, same_sector, either_whole, taken_back_within, length-taken_back}
 use Rattle.image_write.proofs.Heads.{length-concat}
@@ -317,7 +317,7 @@ undo_inside h blocks c c' i w is adds held marked =
 -- A disk whose every image is v, but for block(0), which is as it was or taken back.
 
 abbrev pub AreTakenBack : Hardware → disk.DiskImage → disk.Content → Type 0
-AreTakenBack h v c = EachImage c (IsTakenBack h v)
+AreTakenBack h v c = EachImage c (IsSameOrTakenBack h v)
 
 -- a sector of another block
 taken_sector : (h : Hardware) (blocks : ℕ) (c : disk.Content) (v : disk.DiskImage) (b j : ℕ) (x : List ℕ) → disk.IsContent blocks c → disk.IsContent blocks (disk.settled v) → AreTakenBack h v c → b < blocks → b ≢ block_of_slot h 0 → j < 8 → Contains (disk.sector c (8 * b + j)).candidates x → x ≡ get_or v (8 * b + j) []
@@ -347,7 +347,7 @@ off_disk : (h : Hardware) (v w : disk.DiskImage) → blocks_of v ≤ block_of_sl
 off_disk h v w past size = no_header h w (omega arith) ∙ sym (no_header h v past)
 
 -- Inside a call between two such disks a crash leaves such an image.
-pub taken_inside : (h : Hardware) (blocks : ℕ) (c c' : disk.Content) (v w : disk.DiskImage) → disk.IsContent blocks c → disk.IsContent blocks c' → disk.IsContent blocks (disk.settled v) → AreTakenBack h v c → AreTakenBack h v c' → disk.IsMixture c c' w → IsTakenBack h v w
+pub taken_inside : (h : Hardware) (blocks : ℕ) (c c' : disk.Content) (v w : disk.DiskImage) → disk.IsContent blocks c → disk.IsContent blocks c' → disk.IsContent blocks (disk.settled v) → AreTakenBack h v c → AreTakenBack h v c' → disk.IsMixture c c' w → IsSameOrTakenBack h v w
 taken_inside h blocks c c' v w whole after first all all' mixed =
     let n = whole.size in
     let m = first.size in
@@ -380,7 +380,7 @@ taken_inside h blocks c c' v w whole after first all all' mixed =
     }
 
 -- the image itself
-pub taken_itself : (h : Hardware) (v w : disk.DiskImage) → w ≡ v → IsTakenBack h v w
+pub taken_itself : (h : Hardware) (v w : disk.DiskImage) → w ≡ v → IsSameOrTakenBack h v w
 taken_itself h v w e = record { size = ap length e; others = λ b lt apart. ap (λ (u : disk.DiskImage). block u b) e; header = inl (ap (header_of h) e) }
 
 -- After a call over a disk whose every image is v, by which block(0) alone is written, and taken back at most.

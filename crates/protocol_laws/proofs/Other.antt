@@ -10,7 +10,7 @@ use Rattle.definitions.proofs.DiskLaws.{IsImage-as_it_reads}
 use Rattle.plain_machine.specs.Machine.{Hardware}
 use Rattle.plain_machine.specs.Chain.{header_of, Marked}
 use Rattle.plain_machine.specs.Shows.{WorldView}
-use Rattle.plain_machine.specs.Stands.{Stands, IsHeld, IsTakenBack}
+use Rattle.plain_machine.specs.Stands.{Stands, IsHeld, IsSameOrTakenBack}
 use Rattle.plain_machine.specs.State.{loading, sure, other, Load, Found, not_yet, found_own, found_other}
 use Rattle.image_laws.proofs.ImageBlocks.{length-taken_back}
 use Rattle.protocol_laws.specs.ResumingOther.{with_found_other, BackSyncOtherFails, BackSyncsOther, FindsOther, ReadsPageOther, StopsAtOther, TakeBackOtherFails, TakesBackOther}
@@ -46,7 +46,7 @@ finds_other h shown shown' c blocks load whole stands held marked header shows =
           fits = stands.parts.resume.fits;
           found = λ le. tt;
           own = λ i e. absurd (own_isn't_other i v (sym e));
-          others = λ u e w in'. subst (λ (x : disk.DiskImage). IsTakenBack h x w) (same_other v u e) (itself h v w (one w v in' here));
+          others = λ u e w in'. subst (λ (x : disk.DiskImage). IsSameOrTakenBack h x w) (same_other v u e) (itself h v w (one w v in' here));
           taken_back = λ le. absurd (omega arith);
         };
         before = record { one = one; header = header };
@@ -114,7 +114,7 @@ back_twice page whole =
     ])
 
 -- so what is taken back from a disk that is v, or v taken back, is v or v taken back
-back_again : (h : Hardware) (v w u : disk.DiskImage) → IsPage (header_of h w) → IsTakenBack h v w → IsTakenBack h w u → IsTakenBack h v u
+back_again : (h : Hardware) (v w u : disk.DiskImage) → IsPage (header_of h w) → IsSameOrTakenBack h v w → IsSameOrTakenBack h w u → IsSameOrTakenBack h v u
 back_again h v w u page first second =
     let size = first.size in
     record {
@@ -147,7 +147,7 @@ takes_other_back h shown shown' c c' blocks load v hw whole after stands writes 
           fits = stands.parts.resume.fits;
           found = λ le. tt;
           own = λ i e. absurd (own_isn't_other i v (sym e));
-          others = λ x e u in'. subst (λ (y : disk.DiskImage). IsTakenBack h y u) (same_other v x e) (back_again h v w u page found (each_taken_back h shown c c' blocks u before (inl writes) in'));
+          others = λ x e u in'. subst (λ (y : disk.DiskImage). IsSameOrTakenBack h y u) (same_other v x e) (back_again h v w u page found (each_taken_back h shown c c' blocks u before (inl writes) in'));
           taken_back = λ le. absurd (omega arith);
         };
         before = reads_unmarked h shown c c' blocks before after writes;

@@ -13,7 +13,7 @@ use Rattle.plain_machine.specs.Machine.{Hardware, Memory, IsHardware, Fits, bloc
 use Rattle.plain_machine.specs.Chain.{blocks_of, Marked}
 use Rattle.plain_machine.specs.Image.{Image, image_of_memory}
 use Rattle.plain_machine.specs.Loader.{restored}
-use Rattle.plain_machine.specs.Stands.{IsHeld, IsTakenBack}
+use Rattle.plain_machine.specs.Stands.{IsHeld, IsSameOrTakenBack}
 use Rattle.plain_machine.specs.Step.{no_flights}
 use Rattle.plain_machine.specs.UsableArea.{area_block}
 use Rattle.plain_machine.specs.declared.event.Loader.{Loader}
@@ -55,7 +55,7 @@ restored_slots h dump m loader i hw fits is s lt =
 
 -- The area is the one that the image was made in.
 
-pub area_taken_back : (h : Hardware) (v w : disk.DiskImage) → Marked h v → (Marked h w → ⊥) → IsTakenBack h v w → area_block h w ≡ area_block h v
+pub area_taken_back : (h : Hardware) (v w : disk.DiskImage) → Marked h v → (Marked h w → ⊥) → IsSameOrTakenBack h v w → area_block h w ≡ area_block h v
 area_taken_back h v w marked unmarked taken = elim taken.header [
   | inl same ↦ absurd (unmarked (subst IsMarked (sym same) marked))
   | inr back ↦ area_block-unmarked h w unmarked ∙ back ∙ sym (area_block-marked h v marked)

@@ -8,7 +8,7 @@ use Rattle.plain_machine.specs.Machine.{Hardware, Memory, block_of_slot}
 use Rattle.plain_machine.specs.Chain.{blocks_of, Marked, Holds}
 use Rattle.plain_machine.specs.Image.{Image}
 use Rattle.plain_machine.specs.Shows.{WorldView}
-use Rattle.plain_machine.specs.Stands.{Stands, IsBeforeLoad, IsHeader, IsHeld, IsOwn, FitsArea, IsTakenBack}
+use Rattle.plain_machine.specs.Stands.{Stands, IsBeforeLoad, IsHeader, IsHeld, IsOwn, FitsArea, IsSameOrTakenBack}
 use Rattle.plain_machine.specs.State.{loading, nothing, sure, maybe, own, Load, held_while_loading, held_loading}
 use Rattle.plain_machine.proofs.Calls.{load_call-late}
 use Rattle.plain_machine.specs.UsableArea.{area_block, area_fault, bad_set_fault, kind_or_fit_fault}
@@ -106,8 +106,8 @@ unmarked_synced h shown shown' c c' blocks load whole stands syncs shows =
           shows = shows.shows;
           fits = was.fits;
           found = λ le. was.found (omega arith);
-          own = λ j e. let o = was.own j e in (o.0, o.1, o.2, λ w in'. subst (IsTakenBack h o.0) (sym (is w in')) (o.3 (disk.as_it_reads c) here));
-          others = λ v e w in'. subst (IsTakenBack h v) (sym (is w in')) (was.others v e (disk.as_it_reads c) here);
+          own = λ j e. let o = was.own j e in (o.0, o.1, o.2, λ w in'. subst (IsSameOrTakenBack h o.0) (sym (is w in')) (o.3 (disk.as_it_reads c) here));
+          others = λ v e w in'. subst (IsSameOrTakenBack h v) (sym (is w in')) (was.others v e (disk.as_it_reads c) here);
           taken_back = λ le. none;
         };
         before = tt;

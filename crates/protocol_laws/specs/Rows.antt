@@ -145,11 +145,11 @@ is_idle _ = false
 
 -- A reply that tells of a call of the disk that failed at this event. An undo's end tells of the one that the undo
 -- began with.
-abbrev pub IsNewFault : Reply → Type 0
-IsNewFault (reply.ReadFault left) = ⊤
-IsNewFault (reply.WriteFault Gone) = ⊥
-IsNewFault (reply.WriteFault left) = ⊤
-IsNewFault (reply.SyncFault Gone) = ⊥
-IsNewFault (reply.SyncFault left) = ⊤
-IsNewFault (reply.Undo call zero) = ⊤
-IsNewFault _ = ⊥
+abbrev pub TellsNewFault : Reply → Type 0
+TellsNewFault (reply.ReadFault left) = ⊤
+TellsNewFault (reply.WriteFault Gone) = ⊥
+TellsNewFault (reply.WriteFault left) = ⊤
+TellsNewFault (reply.SyncFault Gone) = ⊥
+TellsNewFault (reply.SyncFault left) = ⊤
+TellsNewFault (reply.Undo call zero) = ⊤
+TellsNewFault _ = ⊥

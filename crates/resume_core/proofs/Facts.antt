@@ -22,7 +22,7 @@ use Rattle.protocol_laws.specs.Loads.{ShowsLoad}
 use Rattle.protocol_laws.specs.Rows as rows
 use Rattle.machine.specs.declared.machine.Machine.{Machine}
 use Rattle.resume_core.specs.Loading.{shown_by, activity_of}
-use Rattle.resume_core.specs.Row.{StandsFor, StandsAfter, HasEnded, HasLoader, IsOfState, Simulates, NoneWaits}
+use Rattle.resume_core.specs.Row.{ResumeStandsFor, StandsAfter, HasEnded, HasLoader, IsOfState, Simulates, NoneWaits}
 use Rattle.resume_core.specs.declared.load.Load.{Load}
 use Rattle.protocol_laws.proofs.LoadRows.{shows_none_read}
 use Rattle.resume_core.proofs.Cases.{at_load}
@@ -35,12 +35,12 @@ row_of machine frames load machine' frames' load' end r told c c' same reply row
 
 -- the rows of a resume
 pub row_at_load : (machine : Machine) (frames : Memory) (load : Load) (machine' : Machine) (frames' : Memory) (load' : Load) (e : Event) (r : Reply) (c c' : disk.Content) (k : ℕ) → activity_of load ≡ loads k →
-    ((l : Resume) → StandsFor machine frames load c (loading l k) → (b : State) × rows.StepsTo machine.hw (StandsAfter machine' frames' load' r (loading l k)) e r c c' (loading l k) b) →
+    ((l : Resume) → ResumeStandsFor machine frames load c (loading l k) → (b : State) × rows.StepsTo machine.hw (StandsAfter machine' frames' load' r (loading l k)) e r c c' (loading l k) b) →
     Simulates machine frames load machine' frames' load' e r c c'
 row_at_load machine frames load machine' frames' load' e r c c' k is goes s stands =
     let at = at_load s k (sym is ∙ stands.stands.activity) in
     subst (λ (t : State). (b : State) × rows.StepsTo machine.hw (StandsAfter machine' frames' load' r t) e r c c' t b) (sym at.1)
-    (goes at.0 (subst (StandsFor machine frames load c) at.1 stands))
+    (goes at.0 (subst (ResumeStandsFor machine frames load c) at.1 stands))
 
 -- a step that goes on to a state whose resume it is at
 pub leads : (machine : Machine) (frames : Memory) (load : Load) (r : Reply) (c c' : disk.Content) (a b : State) → HasEnded machine frames c' r a b → Goes machine.hw (shown_by machine frames load) r c c' a b → IsOfState machine frames load c' b →
@@ -63,13 +63,13 @@ asked_of load = (load.loader, load.check)
 abbrev pub asked_by : Resume → Asked
 asked_by l = (l.loader, l.check)
 
-pub load_told : (machine : Machine) (frames : Memory) (load : Load) (c : disk.Content) (l : Resume) (k : ℕ) → StandsFor machine frames load c (loading l k) → asked_of load ≡ asked_by l
+pub load_told : (machine : Machine) (frames : Memory) (load : Load) (c : disk.Content) (l : Resume) (k : ℕ) → ResumeStandsFor machine frames load c (loading l k) → asked_of load ≡ asked_by l
 load_told machine frames load c l k s = same_Some (asked_of load) (asked_by l) s.stands.parts.resume.shows.told
 
 pub told_by : (load : Load) (l : Resume) {h : Hardware} → HasLoader h load l → Some (asked_of load) ≡ Some (asked_by l)
 told_by load l has = ap₂ (λ (x : Loader) (y : IdentCheck). Some (x, y)) has.loader has.check
 
-pub loader_of : (machine : Machine) (frames : Memory) (load : Load) (c : disk.Content) (l : Resume) (k : ℕ) → StandsFor machine frames load c (loading l k) → HasLoader machine.hw load l
+pub loader_of : (machine : Machine) (frames : Memory) (load : Load) (c : disk.Content) (l : Resume) (k : ℕ) → ResumeStandsFor machine frames load c (loading l k) → HasLoader machine.hw load l
 loader_of machine frames load c l k s =
     let told = load_told machine frames load c l k s in
     record { loader = ap (λ (t : Asked). t.0) told; free = s.resume.free; check = ap (λ (t : Asked). t.1) told }
@@ -78,7 +78,7 @@ pub same_loader : (h : Hardware) (load load' : Load) (l : Resume) → load'.wait
 same_loader h load load' l free same check has = record { loader = same ∙ has.loader; free = free ∙ has.free; check = check ∙ has.check }
 
 -- up to the info page nothing is shown of the pages
-pub shows_none : (machine : Machine) (frames : Memory) (load load' : Load) (c : disk.Content) (l l' : Resume) (j k : ℕ) → StandsFor machine frames load c (loading l j) → l'.loader ≡ l.loader → l'.dump ≡ l.dump → activity_of load' ≡ loads k → asked_of load' ≡ asked_by l' → k < 7 → NoneWaits load' →
+pub shows_none : (machine : Machine) (frames : Memory) (load load' : Load) (c : disk.Content) (l l' : Resume) (j k : ℕ) → ResumeStandsFor machine frames load c (loading l j) → l'.loader ≡ l.loader → l'.dump ≡ l.dump → activity_of load' ≡ loads k → asked_of load' ≡ asked_by l' → k < 7 → NoneWaits load' →
     ShowsLoad machine.hw (shown_by machine frames load') l' k
 shows_none machine frames load load' c l l' j k s loader dump activity told few none =
     let kept = s.stands.parts.resume.shows.kept in

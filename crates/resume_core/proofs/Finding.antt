@@ -22,7 +22,7 @@ use Rattle.protocol_laws.specs.LoadRows.{with_finding}
 use Rattle.machine.specs.declared.machine.Machine.{Machine}
 use Rattle.resume_core.specs.Header.{header_fault}
 use Rattle.resume_core.specs.Loading.{shown_by, activity_at, FindsMark}
-use Rattle.resume_core.specs.Row.{StandsFor, Simulates, KnowsAt, swap_area}
+use Rattle.resume_core.specs.Row.{ResumeStandsFor, Simulates, KnowsAt, swap_area}
 use Rattle.resume_core.specs.declared.load.Load.{Load}
 use Rattle.resume_core.specs.declared.load.Stage.{Stage}
 use Rattle.resume_core.specs.declared.load.Stage.TheVariants as stage
@@ -33,7 +33,7 @@ use Rattle.resume_core.proofs.Facts.{row_at_load, leads, shows_none, count_of, l
 abbrev pub stopped : Load → Load
 stopped load = record load { stage = stage.Rest }
 
-pub knows_at : (machine : Machine) (frames : Memory) (load : Load) (c : disk.Content) (l : Resume) (k : ℕ) (at : Stage) → load.stage ≡ at → StandsFor machine frames load c (loading l k) → KnowsAt at machine frames load c l k
+pub knows_at : (machine : Machine) (frames : Memory) (load : Load) (c : disk.Content) (l : Resume) (k : ℕ) (at : Stage) → load.stage ≡ at → ResumeStandsFor machine frames load c (loading l k) → KnowsAt at machine frames load c l k
 knows_at machine frames load c l k at is s = subst (λ (t : Stage). KnowsAt t machine frames load c l k) is s.resume.knows
 
 pub activity_is : (load : Load) (at : Stage) → load.stage ≡ at → activity_at load.stage ≡ activity_at at

@@ -28,7 +28,7 @@ use Rattle.machine.specs.declared.machine.Machine.{Machine}
 use Rattle.swap_slots.specs.Runs.{SlotRuns}
 use Rattle.resume_core.specs.Loading.{shown_by, activity_of}
 use Rattle.resume_core.specs.Ready.{CanStep, CanMake, CanRead}
-use Rattle.resume_core.specs.Row.{StandsFor, StandsAfter, HasFound, HasReader, Simulates, ListsOn, LeadsOn}
+use Rattle.resume_core.specs.Row.{ResumeStandsFor, StandsAfter, HasFound, HasReader, Simulates, ListsOn, LeadsOn}
 use Rattle.resume_core.specs.declared.load.Load.{Load}
 use Rattle.resume_core.specs.declared.load.OpenChain.{OpenChain}
 use Rattle.resume_core.specs.declared.load.Stage.{Stage}
@@ -52,7 +52,7 @@ use Rattle.resume_core.proofs.OwnImage.{none_read_yet, other_pages}
 
 -- a resume that reads blocks of the chain, by the state that it stands for
 abbrev pub IsAtRead : Machine → Memory → Load → OpenChain → disk.Content → Type 0
-IsAtRead machine frames load chain c = (l : Resume) → StandsFor machine frames load c (loading l chain.done) → (v : disk.DiskImage) × IsBeforeRead machine.hw (shown_by machine frames load) c l v chain.done
+IsAtRead machine frames load chain c = (l : Resume) → ResumeStandsFor machine frames load c (loading l chain.done) → (v : disk.DiskImage) × IsBeforeRead machine.hw (shown_by machine frames load) c l v chain.done
 
 pub at_list : (machine : Machine) (frames : Memory) (load : Load) (chain : OpenChain) (c : disk.Content) → IsHardware machine.hw → load.stage ≡ stage.List chain → 4 ≤ chain.done → IsAtRead machine frames load chain c
 at_list machine frames load chain c hw at late l s =

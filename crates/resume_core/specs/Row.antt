@@ -129,7 +129,8 @@ IsOfState machine frames load c (waking i held a k) = ⊤
 IsOfState machine frames load c (asleep i held a) = ⊤
 
 -- what a machine shows while it resumes, and its disk, stand for a state, whose resume it is at
-pub record StandsFor (machine : Machine) (frames : Memory) (load : Load) (c : disk.Content) (a : State) : Type 0 where
+pub record ResumeStandsFor (machine : Machine) (frames : Memory) (load : Load) (c : disk.Content)
+    (a : State) : Type 0 where
   pub stands : Stands machine.hw (shown_by machine frames load) c a
   pub resume : IsOfState machine frames load c a
 
@@ -149,12 +150,13 @@ RunsOverArea machine c (asleep i held a) = ⊤
 
 -- A resume that has ended leaves just Restored, free page frames too, after either loader; and after a scripted one the
 -- area that the header block says.
-pub record HasResumed (machine : Machine) (frames : Memory) (c : disk.Content) (l : Resume) (b : State) : Type 0 where
+pub record LeavesRestored (machine : Machine) (frames : Memory) (c : disk.Content) (l : Resume)
+    (b : State) : Type 0 where
   pub memory : frames ≡ restored_by machine.hw l
   pub area : RunsOverArea machine c b
 
 abbrev pub HasEnded : Machine → Memory → disk.Content → Reply → State → State → Type 0
-HasEnded machine frames c (reply.Resumed n) (loading l k) b = HasResumed machine frames c l b
+HasEnded machine frames c (reply.Resumed n) (loading l k) b = LeavesRestored machine frames c l b
 HasEnded machine frames c _ a b = ⊤
 
 -- What a machine shows after this reply to a step of a resume, from state a, and its disk, stand for a state; where the
@@ -173,7 +175,7 @@ GoesOn machine frames load e r c c' a b = rows.StepsTo machine.hw (StandsAfter m
 abbrev pub Simulates : Machine → Memory → Load → Machine → Memory → Load → Event → Reply → disk.Content →
     disk.Content → Type 0
 Simulates machine frames load machine' frames' load' e r c c' =
-    (a : State) → StandsFor machine frames load c a → (b : State)
+    (a : State) → ResumeStandsFor machine frames load c a → (b : State)
     × rows.StepsTo machine.hw (StandsAfter machine' frames' load' r a) e r c c' a b
 
 abbrev pub SimulatesWhereTold : Machine → Memory → Load → Machine → Memory → Load → Event → Reply →

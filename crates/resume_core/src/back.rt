@@ -6,7 +6,7 @@ ghost use Rattle.plain_machine.specs.Shows.{rests};
 ghost use Rattle.plain_machine.specs.declared.event.Loader.{Loader};
 ghost use Rattle.resume_core.specs.Header.{Opens, signature_fault};
 ghost use Rattle.resume_core.specs.Loading.{activity_told};
-ghost use Rattle.protocol_laws.specs.Rows.{IsNewFault, is_idle};
+ghost use Rattle.protocol_laws.specs.Rows.{TellsNewFault, is_idle};
 ghost use Rattle.sector_disk.specs.Called.{Called, AtMostOneCall};
 
 use crate::Load;
@@ -46,7 +46,7 @@ impl Load {
         ensures loader { self.new.loader ≡ self.old.loader }
         ensures works { is_idle result ≡ false }
         ensures ready { CanStep machine.now frames.now runs.now self.new }
-        ensures called { Called D.Disk AtMostOneCall (IsNewFault result) disk.old disk.new }
+        ensures called { Called D.Disk AtMostOneCall (TellsNewFault result) disk.old disk.new }
     {
         match replace(&mut self.stage, Stage::Rest) {
             Stage::TakeBack(found) => {
@@ -80,7 +80,7 @@ impl Load {
         ensures loader { self.new.loader ≡ self.old.loader }
         ensures works { is_idle result ≡ false }
         ensures ready { CanStep machine.now frames.now runs.now self.new }
-        ensures called { Called D.Disk AtMostOneCall (IsNewFault result) disk.old disk.new }
+        ensures called { Called D.Disk AtMostOneCall (TellsNewFault result) disk.old disk.new }
     {
         match disk.sync() {
             Ok(()) => {}
@@ -108,7 +108,7 @@ fn reader_of(hw: &Hardware, blocks: u32, mark: &Mark) -> Result<Reader, Reply>
     ensures opens { Opens hw.now blocks mark.now result }
     ensures ready { IfOk result (λ r. IsReady r [] []) }
     ensures blocks { IfOk result (λ r. r.blocks ≡ blocks) }
-    ensures stops { IfErr result (λ why. IsNewFault why → ⊥) }
+    ensures stops { IfErr result (λ why. TellsNewFault why → ⊥) }
     ensures rests { IfErr result (λ why. (loader : Loader) → activity_told loader why ≡ rests) }
     ensures works { IfErr result (λ why. is_idle why ≡ false) }
 {

@@ -6,7 +6,7 @@ ghost use Rattle.memory_bitmap.specs.FrameSet.{IsFrameSet};
 ghost use Rattle.plain_machine.specs.Machine.{IsHardware, unused};
 ghost use Rattle.plain_machine.specs.Loader.{left_free, loader_frame, is_in_ranges, is_in_regions};
 ghost use Rattle.plain_machine.specs.declared.event.Loader.TheVariants as loader;
-ghost use Rattle.protocol_laws.specs.Rows.{IsNewFault};
+ghost use Rattle.protocol_laws.specs.Rows.{TellsNewFault};
 
 use crate::Load;
 use crate::load::Stage;
@@ -44,7 +44,7 @@ impl Load {
         ensures ready { (runs : SlotRuns) → machine.now.hw.slots ≤ runs.room →
             CanStep machine.now frames.new runs self.new }
         ensures begun { result ≡ reply.Loading 0 }
-        ensures no_fault { IsNewFault result → ⊥ }
+        ensures no_fault { TellsNewFault result → ⊥ }
     {
         // Only what is read is known to have the size of its type.
         let _blocks = machine.blocks;

@@ -9,7 +9,7 @@ ghost use Rattle.plain_machine.specs.Trace.{tables_cause};
 ghost use Rattle.plain_machine.specs.UsableArea.{fit_fault};
 ghost use Rattle.plain_machine.specs.declared.reply.Reply.TheVariants as reply;
 ghost use Rattle.machine.specs.Running.{AreReserved};
-ghost use Rattle.protocol_laws.specs.Rows.{IsNewFault, is_idle};
+ghost use Rattle.protocol_laws.specs.Rows.{TellsNewFault, is_idle};
 
 use crate::Load;
 use crate::load::Stage;
@@ -46,7 +46,7 @@ impl Load {
         ensures works { is_idle result ≡ false }
         ensures ready { CanStep machine.new frames.new runs.new self.new }
         ensures machine { IsSameMachine machine.old machine.new }
-        ensures no_fault { IsNewFault result → ⊥ }
+        ensures no_fault { TellsNewFault result → ⊥ }
     {
         let saved = self.saved();
         self.waiting.finish(frames, &self.zeros);

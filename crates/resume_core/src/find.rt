@@ -5,7 +5,7 @@ ghost use Rattle.plain_machine.specs.declared.event.Loader.{Loader};
 ghost use Rattle.resume_core.specs.Header.{header_fault, mark_in};
 ghost use Rattle.resume_core.specs.Loading.{activity_told};
 ghost use Rattle.definitions.specs.Disk.{Content, as_it_reads};
-ghost use Rattle.protocol_laws.specs.Rows.{IsNewFault, is_idle};
+ghost use Rattle.protocol_laws.specs.Rows.{TellsNewFault, is_idle};
 ghost use Rattle.sector_disk.specs.Called.{Called, AtMostOneCall};
 
 use crate::Load;
@@ -44,7 +44,7 @@ impl Load {
         ensures loader { self.new.loader ≡ self.old.loader }
         ensures works { is_idle result ≡ false }
         ensures ready { CanStep machine.now frames.now runs.now self.new }
-        ensures called { Called D.Disk AtMostOneCall (IsNewFault result) disk.old disk.new }
+        ensures called { Called D.Disk AtMostOneCall (TellsNewFault result) disk.old disk.new }
     {
         match disk.sync() {
             Ok(()) => {
@@ -74,7 +74,7 @@ impl Load {
         ensures loader { self.new.loader ≡ self.old.loader }
         ensures works { is_idle result ≡ false }
         ensures ready { CanStep machine.now frames.now runs.now self.new }
-        ensures called { Called D.Disk AtMostOneCall (IsNewFault result) disk.old disk.new }
+        ensures called { Called D.Disk AtMostOneCall (TellsNewFault result) disk.old disk.new }
     {
         let block = machine.hw.extents().block(0);
         if block >= u64::from(machine.blocks) {
@@ -107,7 +107,7 @@ impl Load {
 /// The mark of an image that can be read, or why there is none.
 fn found(header: &Page) -> Result<Mark, Reply>
     ensures found { IfOk result (λ mark. (header_fault header.now ≡ None) × (mark ≡ mark_of header.now)) }
-    ensures stops { IfErr result (λ why. IsNewFault why → ⊥) }
+    ensures stops { IfErr result (λ why. TellsNewFault why → ⊥) }
     ensures rests { IfErr result (λ why. (loader : Loader) → activity_told loader why ≡ rests) }
     ensures works { IfErr result (λ why. is_idle why ≡ false) }
     ensures none { IfErr result (λ why. header_fault header.now ≡ Some why) }

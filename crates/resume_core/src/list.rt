@@ -6,7 +6,7 @@ ghost use Rattle.image_read.specs.Stream.{HasReadPlaces};
 ghost use Rattle.image_read.specs.declared.reader.ReadStep.TheVariants as read_step;
 ghost use Rattle.page_restore.specs.Waiting.{with_data};
 ghost use Rattle.plain_machine.specs.Shows.{rests};
-ghost use Rattle.protocol_laws.specs.Rows.{IsNewFault, is_idle};
+ghost use Rattle.protocol_laws.specs.Rows.{TellsNewFault, is_idle};
 ghost use Rattle.sector_disk.specs.Called.{Called, AtMostOneCall};
 
 use crate::Load;
@@ -50,7 +50,7 @@ impl Load {
         ensures works { is_idle result ≡ false }
         ensures ready { CanStep machine.new frames.new runs.new self.new }
         ensures machine { IsSameMachine machine.old machine.new }
-        ensures called { Called D.Disk AtMostOneCall (IsNewFault result) disk.old disk.new }
+        ensures called { Called D.Disk AtMostOneCall (TellsNewFault result) disk.old disk.new }
     {
         match &mut self.stage {
             Stage::List(chain) => match chain.read_block(
@@ -81,7 +81,7 @@ impl Load {
             (length (with_data self.old.origs.members self.old.zeros.members)) cause }
         ensures load { self.new ≡ record self.old { stage = stage.Rest; waiting = self.new.waiting } }
         ensures same_zones { self.new.waiting.zones ≡ self.old.waiting.zones }
-        ensures no_fault { IsNewFault result → ⊥ }
+        ensures no_fault { TellsNewFault result → ⊥ }
         ensures rests { activity_told self.old.loader result ≡ rests }
         ensures works { is_idle result ≡ false }
     {
@@ -105,7 +105,7 @@ impl Load {
         ensures works { is_idle result ≡ false }
         ensures ready { CanStep machine.new frames.new runs.new self.new }
         ensures machine { IsSameMachine machine.old machine.new }
-        ensures no_fault { IsNewFault result → ⊥ }
+        ensures no_fault { TellsNewFault result → ⊥ }
     {
         match &mut self.stage {
             Stage::List(chain) => match chain.reader.listed() {
@@ -132,7 +132,7 @@ impl Load {
         ensures works { is_idle result ≡ false }
         ensures ready { CanStep machine.new frames.new runs.new self.new }
         ensures machine { IsSameMachine machine.old machine.new }
-        ensures no_fault { IsNewFault result → ⊥ }
+        ensures no_fault { TellsNewFault result → ⊥ }
     {
         match self.plan() {
             Ok(()) => {}
@@ -152,7 +152,7 @@ impl Load {
         requires { self.old.origs.zones ≡ self.old.waiting.zones }
         ensures refused { IfErr result (λ why. room_refusal (length self.old.waiting.free)
             (length (with_data self.old.origs.members self.old.zeros.members)) ≡ Some why) }
-        ensures no_fault { IfErr result (λ why. IsNewFault why → ⊥) }
+        ensures no_fault { IfErr result (λ why. TellsNewFault why → ⊥) }
         ensures rests { IfErr result (λ why. activity_told self.old.loader why ≡ rests) }
         ensures works { IfErr result (λ why. is_idle why ≡ false) }
         ensures room { OnOk result (room_refusal (length self.old.waiting.free)

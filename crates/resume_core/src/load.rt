@@ -1,6 +1,6 @@
 ghost use Rattle.std.specs.Prelude.{◌≡◌, ◌<◌, false, IfOk};
 ghost use Rattle.definitions.specs.Disk.{Content, as_it_reads};
-ghost use Rattle.protocol_laws.specs.Rows.{IsNewFault, is_idle};
+ghost use Rattle.protocol_laws.specs.Rows.{TellsNewFault, is_idle};
 ghost use Rattle.resume_core.specs.Loading.{IsIdle};
 ghost use Rattle.sector_disk.specs.Called.{Called, AtMostOneCall};
 
@@ -118,7 +118,7 @@ impl Load {
         ensures works { is_idle result ≡ false }
         ensures ready { CanStep machine.new frames.new runs.new self.new }
         ensures machine { IsSameMachine machine.old machine.new }
-        ensures called { Called D.Disk AtMostOneCall (IsNewFault result) disk.old disk.new }
+        ensures called { Called D.Disk AtMostOneCall (TellsNewFault result) disk.old disk.new }
     {
         match &self.stage {
             Stage::Sync => self.sync_first(machine, frames, runs, disk),

@@ -4,7 +4,7 @@ ghost use Rattle.definitions.specs.Zones.{top};
 ghost use Rattle.image_read.specs.Answers.{Reads, Answers, GoesOn};
 ghost use Rattle.image_read.specs.Stream.{HasReadPlaces};
 ghost use Rattle.image_read.specs.declared.reader.ReadStep.TheVariants as read_step;
-ghost use Rattle.protocol_laws.specs.Rows.{IsNewFault, is_idle};
+ghost use Rattle.protocol_laws.specs.Rows.{TellsNewFault, is_idle};
 ghost use Rattle.sector_disk.specs.Called.{Called, AtMostOneCall};
 
 use crate::Load;
@@ -47,7 +47,7 @@ impl Load {
         ensures works { is_idle result ≡ false }
         ensures ready { CanStep machine.new frames.new runs.new self.new }
         ensures machine { IsSameMachine machine.old machine.new }
-        ensures called { Called D.Disk AtMostOneCall (IsNewFault result) disk.old disk.new }
+        ensures called { Called D.Disk AtMostOneCall (TellsNewFault result) disk.old disk.new }
     {
         match &mut self.stage {
             Stage::Read(chain) => match chain.read_in_place(
@@ -88,7 +88,7 @@ impl Load {
         ensures works { is_idle result ≡ false }
         ensures ready { CanStep machine.new frames.new runs.new self.new }
         ensures machine { IsSameMachine machine.old machine.new }
-        ensures no_fault { IsNewFault result → ⊥ }
+        ensures no_fault { TellsNewFault result → ⊥ }
     {
         match &mut self.stage {
             Stage::Read(chain) => {

@@ -4,3 +4,4 @@ pub mod Contents
 pub mod Recordings
 pub mod Time
 pub mod Called
+mod Walks

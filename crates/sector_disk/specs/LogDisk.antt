@@ -1,10 +1,12 @@
 -- What contracts say of a disk in memory that records its calls, beside what it tells as a disk.
-use Rattle.std.specs.Prelude.{◌≡◌, ℕ, ◌+◌, ◌*◌, ◌<◌, ◌≤◌, ◌↔◌, List, [], length, replicate, Result, OnOk, OnErr}
+use Rattle.std.specs.Prelude.{◌≡◌, ℕ, ◌+◌, ◌*◌, ◌<◌, ◌≤◌, ◌↔◌, List, [], ◌∷◌, ◌++◌, length, replicate, Result, OnOk}
+use Rattle.std.specs.Prelude.{OnErr}
 use Rattle.definitions.specs.Disk.{Content, DiskImage, raised}
 use Rattle.sector_disk.specs.Calls.{IsDue}
 use Rattle.sector_disk.specs.Recorded.{held_after, WasLeft}
 use Rattle.sector_disk.specs.Sectors.{padded}
 use Rattle.sector_disk.specs.declared.log_disk.LogDisk.{LogDisk}
+use Rattle.sector_disk.specs.declared.orders.Order.{Order}
 use Rattle.sector_disk.specs.declared.recorded.Recorded.{Recorded}
 
 -- how many blocks it has
@@ -19,9 +21,9 @@ fault_count d = d.disk.calls.faults
 abbrev pub call_count : LogDisk → ℕ
 call_count d = d.disk.calls.made
 
--- how many restarts and arms there were
-abbrev pub order_count : LogDisk → ℕ
-order_count d = d.disk.orders
+-- the restarts and arms that it was asked for
+abbrev pub orders_got : LogDisk → List Order
+orders_got d = d.disk.orders.list
 
 -- the sectors as the last restart left them
 abbrev pub first_sectors : LogDisk → DiskImage
@@ -75,7 +77,7 @@ pub record IsCalled {T E : Type 0} (old new : LogDisk) (result : Result T E) : T
   pub fault : OnErr result (fault_count new ≡ raised (fault_count old))
   pub no_fault : OnOk result (fault_count new ≡ fault_count old)
   pub calls : call_count new ≡ raised (call_count old)
-  pub orders : order_count new ≡ order_count old
+  pub orders : orders_got new ≡ orders_got old
   pub blocks : block_count new ≡ block_count old
   pub first : first_sectors new ≡ first_sectors old
   pub room_is : room new ≡ room old
@@ -93,9 +95,9 @@ pub record KeepsArmed (old new : LogDisk) : Type 0 where
   pub calls : (k : ℕ) → IsArmed new k ↔ IsArmed old k
   pub pick : armed_pick new ≡ armed_pick old
 
--- a restart or an arm: it alone is counted
-pub record IsOrdered (old new : LogDisk) : Type 0 where
-  pub orders : order_count new ≡ raised (order_count old)
+-- A restart or an arm: the disk was asked for it, and nothing is counted.
+pub record IsOrdered (order : Order) (old new : LogDisk) : Type 0 where
+  pub orders : orders_got new ≡ orders_got old ++ order ∷ []
   pub calls : call_count new ≡ call_count old
   pub faults : fault_count new ≡ fault_count old
   pub blocks : block_count new ≡ block_count old
@@ -111,5 +113,5 @@ pub record IsNew (blocks calls : ℕ) (d : LogDisk) : Type 0 where
   pub room_is : room d ≡ calls
   pub no_calls : call_count d ≡ 0
   pub faults : fault_count d ≡ 0
-  pub orders : order_count d ≡ 0
+  pub orders : orders_got d ≡ []
   pub unarmed : (k : ℕ) → IsArmed d k → ⊥

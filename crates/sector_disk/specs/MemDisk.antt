@@ -1,9 +1,11 @@
 -- What contracts say of a disk in memory, beside what it tells as a disk.
-use Rattle.std.specs.Prelude.{◌≡◌, ℕ, ◌+◌, ◌*◌, ◌<◌, ◌≤◌, ◌↔◌, replicate, Result, IsErr, OnOk, OnErr}
+use Rattle.std.specs.Prelude.{◌≡◌, ℕ, ◌+◌, ◌*◌, ◌<◌, ◌≤◌, ◌↔◌, List, [], ◌∷◌, ◌++◌, replicate, Result, IsErr, OnOk}
+use Rattle.std.specs.Prelude.{OnErr}
 use Rattle.definitions.specs.Disk.{Content, DiskImage, raised}
 use Rattle.sector_disk.specs.Calls.{IsDue}
 use Rattle.sector_disk.specs.Sectors.{content_of, padded}
 use Rattle.sector_disk.specs.declared.mem_disk.MemDisk.{MemDisk}
+use Rattle.sector_disk.specs.declared.orders.Order.{Order}
 
 -- how many blocks it has
 abbrev pub block_count : MemDisk → ℕ
@@ -17,9 +19,9 @@ fault_count d = d.calls.faults
 abbrev pub call_count : MemDisk → ℕ
 call_count d = d.calls.made
 
--- how many restarts and arms there were
-abbrev pub order_count : MemDisk → ℕ
-order_count d = d.orders
+-- the restarts and arms that it was asked for
+abbrev pub orders_got : MemDisk → List Order
+orders_got d = d.orders.list
 
 -- the sectors as the last sync or restart left them
 abbrev pub durable_sectors : MemDisk → DiskImage
@@ -50,7 +52,7 @@ pub record IsCalled {T E : Type 0} (old new : MemDisk) (result : Result T E) : T
   pub fault : OnErr result (fault_count new ≡ raised (fault_count old))
   pub no_fault : OnOk result (fault_count new ≡ fault_count old)
   pub calls : call_count new ≡ raised (call_count old)
-  pub orders : order_count new ≡ order_count old
+  pub orders : orders_got new ≡ orders_got old
   pub blocks : block_count new ≡ block_count old
 
 -- A read, a write or a sync that fails, whether or not it is armed: it is a fault, the armed calls are one nearer, and
@@ -61,7 +63,7 @@ pub record IsRefused (old new : MemDisk) : Type 0 where
   pub faults : fault_count old ≤ fault_count new
   pub fault : fault_count new ≡ raised (fault_count old)
   pub calls : call_count new ≡ raised (call_count old)
-  pub orders : order_count new ≡ order_count old
+  pub orders : orders_got new ≡ orders_got old
   pub blocks : block_count new ≡ block_count old
   pub durable : durable_sectors new ≡ durable_sectors old
   pub live : live_sectors new ≡ live_sectors old
@@ -71,9 +73,9 @@ pub record KeepsArmed (old new : MemDisk) : Type 0 where
   pub calls : (k : ℕ) → IsArmed new k ↔ IsArmed old k
   pub pick : armed_pick new ≡ armed_pick old
 
--- a restart or an arm: it alone is counted
-pub record IsOrdered (old new : MemDisk) : Type 0 where
-  pub orders : order_count new ≡ raised (order_count old)
+-- A restart or an arm: the disk was asked for it, and nothing is counted.
+pub record IsOrdered (order : Order) (old new : MemDisk) : Type 0 where
+  pub orders : orders_got new ≡ orders_got old ++ order ∷ []
   pub calls : call_count new ≡ call_count old
   pub faults : fault_count new ≡ fault_count old
   pub blocks : block_count new ≡ block_count old
@@ -85,5 +87,5 @@ pub record IsNew (blocks : ℕ) (d : MemDisk) : Type 0 where
   pub live : live_sectors d ≡ replicate (8 * blocks) (replicate 512 0)
   pub calls : call_count d ≡ 0
   pub faults : fault_count d ≡ 0
-  pub orders : order_count d ≡ 0
+  pub orders : orders_got d ≡ []
   pub unarmed : (k : ℕ) → IsArmed d k → ⊥

@@ -1,6 +1,9 @@
-ghost use Rattle.std.specs.Prelude.{◌≡◌, ℕ, ◌<◌, ◌≤◌, Bool, IsTrue, Option, IsSome, IfSome, OnOk, OnErr};
+ghost use Rattle.std.specs.Prelude.{◌≡◌, ℕ, ◌<◌, ◌≤◌, Bool, List, [], ◌∷◌, ◌++◌, IsTrue, Option, IsSome, IfSome};
+ghost use Rattle.std.specs.Prelude.{OnOk, OnErr};
 ghost use Rattle.definitions.specs.Disk.{Content, DiskImage, IsContent, IsImage, as_it_reads, block, Writes};
 ghost use Rattle.definitions.specs.Disk.{FailsToWrite, Syncs, Restarts, Changes, Elapses, raised, HasRisen};
+ghost use Rattle.sector_disk.specs.declared.orders.Order.{Order};
+ghost use Rattle.sector_disk.specs.declared.orders.Order.TheVariants as order;
 
 use page_core::{Failed, Page};
 
@@ -22,8 +25,8 @@ pub trait Disk {
     /// How many reads, writes and syncs there were.
     ghost calls: { Self → ℕ };
 
-    /// How many restarts and arms there were.
-    ghost orders: { Self → ℕ };
+    /// The restarts and arms that the disk was asked for, in their order.
+    ghost orders: { Self → List Order };
 
     /// What the disk holds, where it tells that.
     ghost content: { Self → Option Content };
@@ -99,7 +102,7 @@ pub trait Disk {
 
         ensures faults { faults self.old ≤ faults self.new }
         ensures calls { calls self.new ≡ calls self.old }
-        ensures orders { orders self.new ≡ raised (orders self.old) }
+        ensures orders { orders self.new ≡ orders self.old ++ order.Restart pick ∷ [] }
         ensures blocks { block_count self.new ≡ block_count self.old }
         ensures telling { tells_moments self.new ≡ tells_moments self.old }
         ensures time { IsTrue (tells_moments self.old) → moment self.new ≡ 0 };
@@ -111,7 +114,7 @@ pub trait Disk {
 
         ensures faults { faults self.old ≤ faults self.new }
         ensures calls { calls self.new ≡ calls self.old }
-        ensures orders { orders self.new ≡ raised (orders self.old) }
+        ensures orders { orders self.new ≡ orders self.old ++ order.Arm first count pick ∷ [] }
         ensures blocks { block_count self.new ≡ block_count self.old }
         ensures telling { tells_moments self.new ≡ tells_moments self.old }
         ensures time { IsTrue (tells_moments self.old) → Changes (Elapses (moment self.old) (moment self.new)

@@ -5,6 +5,7 @@ mod calls;
 mod disk;
 mod log_disk;
 mod mem_disk;
+mod orders;
 mod recorded;
 mod sectors;
 #[cfg(test)]
@@ -13,3 +14,4 @@ mod tests;
 pub use disk::Disk;
 pub use log_disk::LogDisk;
 pub use mem_disk::MemDisk;
+pub use orders::{Order, Orders};

@@ -43,6 +43,7 @@ impl LogDisk {
     ghost use Rattle.sector_disk.specs.LogDisk.{IsNew, IsFull, content, moment, left_since, first_sectors, recorded};
     ghost use Rattle.sector_disk.specs.LogDisk.{durable_sectors, live_sectors, KeepsArmed, IsOrdered, IsCalled};
     ghost use Rattle.sector_disk.specs.LogDisk.{LeavesAll};
+    ghost use Rattle.sector_disk.specs.declared.orders.Order.TheVariants as order;
 
     /// A disk of zeros, with room for so many recorded calls.
     pub fn create(alloc: Global, blocks: u32, calls: u32) -> Result<LogDisk, NoMemory>
@@ -74,7 +75,7 @@ impl LogDisk {
         ensures first { first_sectors self.new ≡ live_sectors self.new }
         ensures recorded { recorded self.new ≡ [] }
         ensures armed { KeepsArmed self.old self.new }
-        ensures ordered { IsOrdered self.old self.new }
+        ensures ordered { IsOrdered (order.Restart pick) self.old self.new }
     {
         self.log.truncate(calls as usize);
         self.disk.replay(&self.start, &self.log);
@@ -118,6 +119,7 @@ impl Disk for LogDisk {
     ghost use Rattle.sector_disk.specs.Recorded.{WasLeft};
     ghost use Rattle.sector_disk.specs.RecordedLaws.{held_whole, WasLeft-now, WasLeft-only};
     ghost use Rattle.sector_disk.specs.Sectors.{IsPicked, TakesPicked};
+    ghost use Rattle.sector_disk.specs.declared.orders.Order.TheVariants as order;
     ghost use Rattle.sector_disk.specs.declared.recorded.Recorded.TheVariants as call;
 
     ghost block_count = { λ d. d.disk.blocks };
@@ -126,7 +128,7 @@ impl Disk for LogDisk {
 
     ghost calls = { λ d. d.disk.calls.made };
 
-    ghost orders = { λ d. d.disk.orders };
+    ghost orders = { λ d. d.disk.orders.list };
 
     ghost content = { λ d. Some (held_after d.start.items d.log.items) };
 
@@ -222,7 +224,7 @@ impl Disk for LogDisk {
         ensures first { first_sectors self.new ≡ live_sectors self.new }
         ensures recorded { recorded self.new ≡ [] }
         ensures armed { KeepsArmed self.old self.new }
-        ensures ordered { IsOrdered self.old self.new }
+        ensures ordered { IsOrdered (order.Restart pick) self.old self.new }
     {
         self.disk.restart(pick);
         self.disk.copy_live(&mut self.start);
@@ -233,7 +235,7 @@ impl Disk for LogDisk {
         ensures armed { (k : ℕ) → 0 < k → (IsArmed self.new k ↔ ((first ≤ k) × (k < first + count))) }
         ensures pick { armed_pick self.new ≡ pick }
         ensures leaves { LeavesAll self.old self.new }
-        ensures ordered { IsOrdered self.old self.new }
+        ensures ordered { IsOrdered (order.Arm first count pick) self.old self.new }
     {
         self.disk.arm(first, count, pick);
     }

@@ -3,6 +3,7 @@ ghost use Rattle.sector_disk.specs.Sectors.{AreSectors, SameOutsideRange};
 
 use crate::Disk;
 use crate::calls::Calls;
+use crate::orders::{Order, Orders};
 use crate::recorded::{Recorded, redo_all};
 use crate::sectors::{
     SECTORS_IN_BLOCK, Sector, ZEROS, copy_first, fill_up, read_block, restart_sectors, room_for,
@@ -28,7 +29,7 @@ pub struct MemDisk {
     low: usize,
     high: usize,
     calls: Calls,
-    orders: u64,
+    orders: Orders,
     ghost same_length: { length durable.items ≡ length live.items },
     ghost whole_blocks: { length live.items % 8 ≡ 0 },
     ghost within: { length live.items ≤ 8 * blocks },
@@ -59,7 +60,7 @@ impl MemDisk {
             low: usize::MAX,
             high: 0,
             calls: Calls::none(),
-            orders: 0,
+            orders: Orders::new(),
         })
     }
 
@@ -130,6 +131,7 @@ impl Disk for MemDisk {
     ghost use Rattle.std.proofs.lemmas.Bool.{false≢true};
     ghost use Rattle.sector_disk.specs.Sectors.{IsPicked, TakesPicked};
     ghost use Rattle.sector_disk.specs.ContentLaws.{content_of_padded};
+    ghost use Rattle.sector_disk.specs.declared.orders.Order.TheVariants as order;
 
     ghost block_count = { λ d. d.blocks };
 
@@ -137,7 +139,7 @@ impl Disk for MemDisk {
 
     ghost calls = { λ d. d.calls.made };
 
-    ghost orders = { λ d. d.orders };
+    ghost orders = { λ d. d.orders.list };
 
     ghost content = { λ d. Some (content d) };
 
@@ -217,12 +219,12 @@ impl Disk for MemDisk {
         ensures picked { IsPicked pick (durable_sectors self.old) (live_sectors self.old) (live_sectors self.new) }
         ensures durable { durable_sectors self.new ≡ live_sectors self.new }
         ensures armed { KeepsArmed self.old self.new }
-        ensures ordered { IsOrdered self.old self.new }
+        ensures ordered { IsOrdered (order.Restart pick) self.old self.new }
     {
         restart_sectors(&mut self.durable, &mut self.live, self.low, self.high, pick);
         self.low = usize::MAX;
         self.high = 0;
-        self.orders = self.orders.saturating_add(1);
+        self.orders = self.orders.and(&Order::Restart { pick });
     }
 
     fn arm(&mut self, first: u32, count: u32, pick: u64)
@@ -230,9 +232,9 @@ impl Disk for MemDisk {
         ensures pick { armed_pick self.new ≡ pick }
         ensures durable { durable_sectors self.new ≡ durable_sectors self.old }
         ensures live { live_sectors self.new ≡ live_sectors self.old }
-        ensures ordered { IsOrdered self.old self.new }
+        ensures ordered { IsOrdered (order.Arm first count pick) self.old self.new }
     {
         self.calls.arm(first, count, pick);
-        self.orders = self.orders.saturating_add(1);
+        self.orders = self.orders.and(&Order::Arm { first, count, pick });
     }
 }

@@ -26,7 +26,7 @@ use Rattle.protocol_laws.proofs.Waking.{wake_begins, wake_reads, wake_read_fails
 use Rattle.machine.specs.Flights.{flights_in}
 use Rattle.machine.specs.Running.{reason_of}
 use Rattle.machine.specs.declared.machine.Machine.{Machine}
-use Rattle.sleep_core.specs.Row.{StandsFor, Sleeps, Runs, IsBegun}
+use Rattle.sleep_core.specs.Row.{WakingStandsFor, Sleeps, Runs, IsBegun}
 use Rattle.sleep_core.specs.Waking.{steps_before, shown_by, asleep_by, running_by, header_at}
 use Rattle.sleep_core.specs.declared.waker.Stage.{Stage}
 use Rattle.sleep_core.specs.declared.waker.Stage.TheVariants as stage
@@ -38,7 +38,7 @@ use Rattle.protocol_laws.proofs.Same.{same_area}
 
 -- The row of a step, to what stands after it.
 abbrev pub IsStepRow : Machine → Memory → Waker → rows.StandsBy → Reply → disk.Content → disk.Content → Type 0
-IsStepRow machine frames waker new r c c' = rows.Simulates machine.hw (StandsFor machine frames waker) new (event.Step actor.Core) r c c'
+IsStepRow machine frames waker new r c c' = rows.Simulates machine.hw (WakingStandsFor machine frames waker) new (event.Step actor.Core) r c c'
 
 -- it is that of the machine and the page frames that the caller leaves
 pub as_left : (machine : Machine) (frames : Memory) (waker : Waker) (new : Machine → Memory → rows.StandsBy) (last machine' : Machine) (left frames' : Memory) (r : Reply) (c c' : disk.Content) → machine' ≡ last → frames' ≡ left →
@@ -48,12 +48,12 @@ as_left machine frames waker new last machine' left frames' r c c' same kept row
     (subst (λ (m : Memory). IsStepRow machine frames waker (new last m) r c c') (sym kept) row)
 
 row_at : (machine : Machine) (frames : Memory) (waker : Waker) (new : rows.StandsBy) (r : Reply) (c c' : disk.Content) (now : Stage) → waker.stage ≡ now →
-    ((i : Image) (held : Held) (a : Running) → StandsFor machine frames waker c (waking i held a (steps_before now)) → (b : State) × rows.StepsTo machine.hw new (event.Step actor.Core) r c c' (waking i held a (steps_before now)) b) →
+    ((i : Image) (held : Held) (a : Running) → WakingStandsFor machine frames waker c (waking i held a (steps_before now)) → (b : State) × rows.StepsTo machine.hw new (event.Step actor.Core) r c c' (waking i held a (steps_before now)) b) →
     IsStepRow machine frames waker new r c c'
 row_at machine frames waker new r c c' now at goes s stands =
     let it = at_waking s (steps_before now) (sym (ap (λ (t : Stage). wakes (steps_before t)) at) ∙ stands.activity) in
     subst (λ (t : State). (b : State) × rows.StepsTo machine.hw new (event.Step actor.Core) r c c' t b) (sym it.3)
-    (goes it.0 it.1 it.2 (subst (StandsFor machine frames waker c) it.3 stands))
+    (goes it.0 it.1 it.2 (subst (WakingStandsFor machine frames waker c) it.3 stands))
 
 -- Wake.
 pub begun_row : (waker : Waker) → waker.stage ≡ stage.Read → IsBegun waker
@@ -77,10 +77,10 @@ begun_row waker at machine frames c s stands =
 
 -- The read.
 pub read_row : (machine : Machine) (frames : Memory) (waker : Waker) (header : List ℕ) (c : disk.Content) → waker.stage ≡ stage.Read → header ≡ header_of machine.hw (disk.as_it_reads c) →
-    IsStepRow machine frames waker (StandsFor machine frames (record waker { stage = stage.Write header })) (reply.More 1 3) c c
+    IsStepRow machine frames waker (WakingStandsFor machine frames (record waker { stage = stage.Write header })) (reply.More 1 3) c c
 read_row machine frames waker header c at read =
     let new = record waker { stage = stage.Write header } in
-    row_at machine frames waker (StandsFor machine frames new) (reply.More 1 3) c c stage.Read at
+    row_at machine frames waker (WakingStandsFor machine frames new) (reply.More 1 3) c c stage.Read at
     (λ i held a stands. (
       waking i held a 1,
       record {
@@ -112,11 +112,11 @@ read_failed_row machine frames waker c at =
 
 -- The write.
 pub write_row : (machine : Machine) (frames : Memory) (waker : Waker) (header : List ℕ) (c c' : disk.Content) → IsOnDisk machine.hw machine.blocks c → waker.stage ≡ stage.Write header → disk.IsContent machine.blocks c' →
-    disk.Writes (block_of_slot machine.hw 0) (unmarked_block header) c c' → IsStepRow machine frames waker (StandsFor machine frames (record waker { stage = stage.Sync })) (reply.More 2 3) c c'
+    disk.Writes (block_of_slot machine.hw 0) (unmarked_block header) c c' → IsStepRow machine frames waker (WakingStandsFor machine frames (record waker { stage = stage.Sync })) (reply.More 2 3) c c'
 write_row machine frames waker header c c' over at whole wrote =
     let new = record waker { stage = stage.Sync } in
     let writes = subst (λ (p : List ℕ). disk.Writes (block_of_slot machine.hw 0) (unmarked_block p) c c') (sym (ap header_at at)) wrote in
-    row_at machine frames waker (StandsFor machine frames new) (reply.More 2 3) c c' (stage.Write header) at
+    row_at machine frames waker (WakingStandsFor machine frames new) (reply.More 2 3) c c' (stage.Write header) at
     (λ i held a stands. (
       waking i held a 2,
       record {

@@ -18,8 +18,8 @@ use Rattle.sleep_core.specs.Waking.{shown_by, asleep_by, running_by}
 use Rattle.sleep_core.specs.declared.waker.Waker.{Waker}
 
 -- A machine that wakes, sleeps or runs, and its disk, stand for a state.
-abbrev pub StandsFor : Machine → Memory → Waker → disk.Content → State → Type 0
-StandsFor machine frames waker c a = Stands machine.hw (shown_by machine frames waker) c a
+abbrev pub WakingStandsFor : Machine → Memory → Waker → disk.Content → State → Type 0
+WakingStandsFor machine frames waker c a = Stands machine.hw (shown_by machine frames waker) c a
 
 abbrev pub Sleeps : Machine → Memory → disk.Content → State → Type 0
 Sleeps machine frames c a = Stands machine.hw (asleep_by machine frames) c a
@@ -29,7 +29,7 @@ Runs machine frames c a = Stands machine.hw (running_by machine frames) c a
 
 -- what stands after a step, by its reply
 abbrev pub StandsAfter : Reply → Machine → Memory → Waker → disk.Content → State → Type 0
-StandsAfter (reply.More k of) machine frames waker = StandsFor machine frames waker
+StandsAfter (reply.More k of) machine frames waker = WakingStandsFor machine frames waker
 StandsAfter reply.Woken machine frames waker = Runs machine frames
 StandsAfter _ machine frames waker = Sleeps machine frames
 
@@ -45,11 +45,12 @@ abbrev pub SimulatesWhereTold : Machine → Waker → Waker → Reply → Option
 SimulatesWhereTold machine waker waker' r before now =
     (frames : Memory) → IsMemoryOf machine.hw frames → (machine' : Machine) (frames' : Memory) →
     IsLeft r machine frames machine' frames' →
-    rows.SimulatesWhereTold machine.hw (StandsFor machine frames waker) (StandsAfter r machine' frames' waker')
+    rows.SimulatesWhereTold machine.hw (WakingStandsFor machine frames waker) (StandsAfter r machine' frames' waker')
     (event.Step actor.Core) r before now
 
 -- the row of Wake, whose event calls no disk
 abbrev pub IsBegun : Waker → Type 0
 IsBegun waker =
     (machine : Machine) (frames : Memory) (c : disk.Content) →
-    rows.Simulates machine.hw (Sleeps machine frames) (StandsFor machine frames waker) event.Wake (reply.More 0 3) c c
+    rows.Simulates machine.hw (Sleeps machine frames) (WakingStandsFor machine frames waker) event.Wake (reply.More 0 3)
+    c c

@@ -2,7 +2,7 @@ ghost use Rattle.std.specs.Prelude.{◌≡◌, false, ℕ, List, ◌<◌, nat_eq
 ghost use Rattle.std.specs.Cmp.Lexicographic.{pointwise};
 ghost use Rattle.definitions.specs.SwapHeader.{sig_of, image_signature};
 ghost use Rattle.plain_machine.specs.Machine.{IsHardware, block_of_slot};
-ghost use Rattle.protocol_laws.specs.Rows.{IsNewFault};
+ghost use Rattle.protocol_laws.specs.Rows.{TellsNewFault};
 ghost use Rattle.protocol_laws.specs.Settling.{unmarked_block};
 ghost use Rattle.sleep_core.specs.Waking.{is_over, is_last, IsReplyAt};
 ghost use Rattle.sleep_core.specs.Row.{SimulatesWhereTold, IsBegun};
@@ -58,7 +58,7 @@ impl Waker {
             (D.content disk.new) }
         ensures reply { IsReplyAt self.old.stage result }
         ensures finished { is_over self.new ≡ is_last result }
-        ensures called { Called D.Disk OneCall (IsNewFault result) disk.old disk.new }
+        ensures called { Called D.Disk OneCall (TellsNewFault result) disk.old disk.new }
     {
         match self.stage {
             Stage::Read => self.read_header(machine, disk),
@@ -77,7 +77,7 @@ impl Waker {
             (D.content disk.new) }
         ensures reply { IsReplyAt stage.Read result }
         ensures finished { is_over self.new ≡ is_last result }
-        ensures called { Called D.Disk OneCall (IsNewFault result) disk.old disk.new }
+        ensures called { Called D.Disk OneCall (TellsNewFault result) disk.old disk.new }
     {
         // Only what is read is known to have the size of its type.
         let _blocks = machine.blocks;
@@ -106,7 +106,7 @@ impl Waker {
             (D.content disk.new) }
         ensures reply { IsReplyAt self.old.stage result }
         ensures finished { is_over self.new ≡ is_last result }
-        ensures called { Called D.Disk OneCall (IsNewFault result) disk.old disk.new }
+        ensures called { Called D.Disk OneCall (TellsNewFault result) disk.old disk.new }
     {
         let _blocks = machine.blocks;
         let Stage::Write(header) = &mut self.stage else {
@@ -135,7 +135,7 @@ impl Waker {
             (D.content disk.new) }
         ensures reply { IsReplyAt stage.Sync result }
         ensures finished { is_over self.new ≡ is_last result }
-        ensures called { Called D.Disk OneCall (IsNewFault result) disk.old disk.new }
+        ensures called { Called D.Disk OneCall (TellsNewFault result) disk.old disk.new }
     {
         self.stage = Stage::Over;
         match disk.sync() {

@@ -16,7 +16,7 @@ use Rattle.protocol_laws.proofs.Signatures.{marked_false}
 use Rattle.plain_machine.specs.declared.reply.Left.{Left}
 use Rattle.plain_machine.specs.declared.reply.Left.TheVariants.{Same, Gone, Unsure}
 use Rattle.stream_in.specs.Area.{first_block}
-use Rattle.stream_in.specs.Marking.{HasHeader, Marks, Leaves, LeavesAt, LeavesOver, LeavesMark}
+use Rattle.stream_in.specs.Marking.{HasHeader, Marks, Leaves, LeavesAt, LeavesOver, FailsToMark}
 use Rattle.stream_in.specs.declared.stop.InStop.{InStop}
 use Rattle.stream_in.specs.declared.stop.InStop.TheVariants as stop
 use Rattle.stream_in.proofs.Contents.{changes_then, changes_from, changes_to}
@@ -137,7 +137,7 @@ leaves_over page over Gone x y z none agree synced h = record {
 }
 leaves_over page over Unsure x y z none agree synced h = subst (λ (c : Content). SameOutside 0 c z) synced h
 
-leaves_mark : (page over : List ℕ) (why : InStop) (x y z : Content) → kind_fault (area_kind page) ≡ None → AgreeBut 4056 4086 (taken_back over) page → Syncs x y → LeavesMark over why y z → LeavesAt why x z
+leaves_mark : (page over : List ℕ) (why : InStop) (x y z : Content) → kind_fault (area_kind page) ≡ None → AgreeBut 4056 4086 (taken_back over) page → Syncs x y → FailsToMark over why y z → LeavesAt why x z
 leaves_mark page over (stop.WriteFault left) x y z none agree synced h = leaves_over page over left x y z none agree synced h
 leaves_mark page over (stop.SyncFault left) x y z none agree synced h = leaves_over page over left x y z none agree synced h
 leaves_mark page over (stop.ReadFault left) x y z none agree synced h = absurd h
@@ -146,6 +146,6 @@ leaves_mark page over stop.NoMemory x y z none agree synced h = absurd h
 leaves_mark page over (stop.NoSlots free need) x y z none agree synced h = absurd h
 leaves_mark page over (stop.Stream fault) x y z none agree synced h = absurd h
 
-pub told_leaves : (page over : List ℕ) (why : InStop) (a b c : Option Content) → kind_fault (area_kind page) ≡ None → AgreeBut 4056 4086 (taken_back over) page → Changes Syncs a b → Changes (LeavesMark over why) b c → Changes (LeavesAt why) a c
+pub told_leaves : (page over : List ℕ) (why : InStop) (a b c : Option Content) → kind_fault (area_kind page) ≡ None → AgreeBut 4056 4086 (taken_back over) page → Changes Syncs a b → Changes (FailsToMark over why) b c → Changes (LeavesAt why) a c
 told_leaves page over why a b c none agree synced h =
-    changes_then Syncs (LeavesMark over why) (LeavesAt why) a b c (λ x y z s l. leaves_mark page over why x y z none agree s l) synced h
+    changes_then Syncs (FailsToMark over why) (LeavesAt why) a b c (λ x y z s l. leaves_mark page over why x y z none agree s l) synced h

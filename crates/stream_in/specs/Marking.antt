@@ -58,11 +58,11 @@ LeavesOver page Same old new = ⊥
 LeavesOver page Gone old new = HasHeader (taken_back page) old new
 LeavesOver page Unsure old new = SameOutside 0 old new
 
-abbrev pub LeavesMark : List ℕ → InStop → Content → Content → Type 0
-LeavesMark page (stop.WriteFault left) old new = LeavesOver page left old new
-LeavesMark page (stop.SyncFault left) old new = LeavesOver page left old new
-LeavesMark page (stop.ReadFault left) old new = ⊥
-LeavesMark page (stop.NoSwap why) old new = ⊥
-LeavesMark page stop.NoMemory old new = ⊥
-LeavesMark page (stop.NoSlots free need) old new = ⊥
-LeavesMark page (stop.Stream fault) old new = ⊥
+abbrev pub FailsToMark : List ℕ → InStop → Content → Content → Type 0
+FailsToMark page (stop.WriteFault left) old new = LeavesOver page left old new
+FailsToMark page (stop.SyncFault left) old new = LeavesOver page left old new
+FailsToMark page (stop.ReadFault left) old new = ⊥
+FailsToMark page (stop.NoSwap why) old new = ⊥
+FailsToMark page stop.NoMemory old new = ⊥
+FailsToMark page (stop.NoSlots free need) old new = ⊥
+FailsToMark page (stop.Stream fault) old new = ⊥

@@ -6,7 +6,7 @@ ghost use Rattle.plain_machine.specs.UsableArea.{kind_fault};
 ghost use Rattle.stream_in.specs.Area.{first_block};
 ghost use Rattle.stream_in.specs.Moments.{AddsNoImage, TriesMark, ElapsesAlike, LiesOver, ElapsesTrying};
 ghost use Rattle.stream_in.specs.Moments.{ElapsesOverMark};
-ghost use Rattle.stream_in.specs.Marking.{HasHeader, Marks, LeavesAt, LeavesMark};
+ghost use Rattle.stream_in.specs.Marking.{HasHeader, Marks, LeavesAt, FailsToMark};
 ghost use Rattle.stream_in.specs.declared.stop.InStop.TheVariants as stop;
 ghost use Rattle.plain_machine.specs.declared.reply.Left.TheVariants as left;
 ghost use Rattle.stream_in.specs.Stops.{IsDiskStop, IsOfHeader, IfNoSwap};
@@ -102,7 +102,7 @@ fn header_to_mark<D: Disk>(disk: &mut D) -> Result<Page, InStop>
 fn write_mark<D: Disk>(disk: &mut D, marked: &Page) -> Result<(), InStop>
     requires { 0 < D.block_count disk.old }
     ensures marked { OnOk result (Changes (HasHeader marked.now) (D.content disk.old) (D.content disk.new)) }
-    ensures leaves { IfErr result (λ why. Changes (LeavesMark marked.now why) (D.content disk.old)
+    ensures leaves { IfErr result (λ why. Changes (FailsToMark marked.now why) (D.content disk.old)
         (D.content disk.new)) }
     ensures stops { IfErr result (λ why. IsOfHeader why) }
     ensures no_swap { IfErr result (λ why. IfNoSwap why (λ reason. ⊥)) }

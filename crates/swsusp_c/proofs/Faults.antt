@@ -3,7 +3,7 @@ use Rattle.std.proofs.Common.{◌≡◌, ℕ, ◌+◌, ◌^◌, ◌<◌, ◌≤�
 use Rattle.std.proofs.lemmas.Bool.{false≢true, eq-eqb, ne_eqb, le-leb, lt-leb, lt-ltb}
 use Rattle.std.specs.Prelude.{nat_le, nat_lt, is_some}
 use Rattle.boot_resume.specs.Memory.{AreApart, AreBehind}
-use Rattle.boot_resume.specs.Ranges.{IsFault, misplaced}
+use Rattle.boot_resume.specs.Ranges.{IsMachineFault, misplaced}
 use Rattle.boot_resume.specs.declared.machine.FrameRange.{FrameRange}
 use Rattle.boot_resume.specs.declared.machine.MachineFault.{MachineFault}
 use Rattle.boot_resume.specs.declared.machine.MachineFault.TheVariants.{Memory, Present, Header}
@@ -63,7 +63,7 @@ module _ (told : SwsuspMachine) (memory : List FrameRange) (few : told.identity 
   after_present : AreApart memory → 0 < told.present → told.present < 2 ^ 52 → machine_code told memory ≡ header_code told.blocks told.header
   after_present apart some less = after_memory apart ∙ next_code (present_code told.present) (header_code told.blocks told.header) (present_right told.present some less)
 
-  pub fault_told : (why : MachineFault) → IsFault memory told.present told.blocks told.header why → fault_code why ≡ machine_code told memory
+  pub fault_told : (why : MachineFault) → IsMachineFault memory told.present told.blocks told.header why → fault_code why ≡ machine_code told memory
   fault_told (Memory index) fault =
       sym (after_identity ∙ ap (λ o. or_code (code_where (is_some o) 3) (or_code (present_code told.present) (header_code told.blocks told.header))) fault)
   fault_told (Present n) fault =

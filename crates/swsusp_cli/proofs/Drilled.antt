@@ -3,7 +3,7 @@ use Rattle.std.proofs.Common.{zero, suc, ◌≡◌, ◌≢◌, inl, inr, ◌≤�
 use Rattle.std.proofs.lemmas.Bool.{cases_lt}
 use Rattle.definitions.specs.Disk as disk
 use Rattle.plain_machine.specs.declared.reply.Reply.{Reply}
-use Rattle.protocol_laws.specs.Rows.{IsNewFault}
+use Rattle.protocol_laws.specs.Rows.{TellsNewFault}
 use Rattle.script.specs.Drill.{drill_events, drill_script}
 use Rattle.command_kit.specs.Answer.{memory_told}
 use Rattle.swsusp_cli.specs.Drills.{IsDrilled, out_of_memory, too_small, unformatted, summed, summary_told}
@@ -33,10 +33,10 @@ all_cons P r rs p ps zero d lt = p
 all_cons P r rs p ps (suc k) d lt = ps k d (omega arith)
 
 -- where the count didn't rise no reply tells of a call that failed
-pub none_failed : (rs : List Reply) (low high : ℕ) → AreCounted rs low high → (disk.HasRisen low high → ⊥) → All (λ r. IsNewFault r → ⊥) rs
+pub none_failed : (rs : List Reply) (low high : ℕ) → AreCounted rs low high → (disk.HasRisen low high → ⊥) → All (λ r. TellsNewFault r → ⊥) rs
 none_failed [] low high le not = λ k d lt. absurd (omega arith)
 none_failed (r ∷ rs) low high (m, le, f, rest) not =
-    all_cons (λ q. IsNewFault q → ⊥) r rs (λ fault. not (risen_later low m high le (counted_later rs m high rest) (f fault))) (none_failed rs m high rest (λ risen. not (risen_earlier low m high le risen)))
+    all_cons (λ q. TellsNewFault q → ⊥) r rs (λ fault. not (risen_later low m high le (counted_later rs m high rest) (f fault))) (none_failed rs m high rest (λ risen. not (risen_earlier low m high le risen)))
 
 abbrev number_in : Option Asked → ℕ
 number_in (Some (drill number)) = number

@@ -10,7 +10,7 @@ use Rattle.dump_file.specs.Dump.{DumpValue, dump_of}
 use Rattle.plain_machine.specs.Chain.{Marked}
 use Rattle.plain_machine.specs.Machine.{Hardware, Memory}
 use Rattle.plain_machine.specs.Premises.{HasOriginal}
-use Rattle.plain_machine.specs.Stands.{IsTakenBack}
+use Rattle.plain_machine.specs.Stands.{IsSameOrTakenBack}
 use Rattle.plain_machine.specs.declared.event.IdentCheck.{IdentCheck}
 use Rattle.plain_machine.specs.Shows.{WorldView}
 use Rattle.plain_machine.specs.declared.event.Event.{Event}
@@ -68,9 +68,9 @@ saves_as f size left told since d h m read hw memory inside = record {
 }
 
 pub loads_as : (left : Option (List ℕ)) (told : Option disk.Content) (since : disk.DiskImage → Type 0) (d : DumpValue) (h : Hardware) → ((bytes : List ℕ) → left ≡ Some bytes → dump_of bytes ≡ Ok d) → h ≡ d.hw →
-    ((v : disk.DiskImage) → told ≡ Some (disk.settled v) → Original h v → (w : disk.DiskImage) → since w → IsTakenBack h v w) → LoadsInside left told since
+    ((v : disk.DiskImage) → told ≡ Some (disk.settled v) → Original h v → (w : disk.DiskImage) → since w → IsSameOrTakenBack h v w) → LoadsInside left told since
 loads_as left told since d h read hw inside = record {
   leaves = λ bytes dump v w is says at original gone.
       let same : d ≡ dump = same_Some d dump (ap result_ok (sym (read bytes is) ∙ says)) in
-      subst (λ (g : Hardware). Original g v → IsTakenBack g v w) (hw ∙ ap (λ (x : DumpValue). x.hw) same) (λ has. inside v at has w gone) original;
+      subst (λ (g : Hardware). Original g v → IsSameOrTakenBack g v w) (hw ∙ ap (λ (x : DumpValue). x.hw) same) (λ has. inside v at has w gone) original;
 }

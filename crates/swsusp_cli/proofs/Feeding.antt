@@ -14,8 +14,8 @@ use Rattle.stream_in.specs.declared.stop.InStop.{InStop}
 use Rattle.stream_in.specs.declared.stop.InStop.TheVariants as stop
 use Rattle.stream_check.specs.declared.fault.StreamFault.{StreamFault}
 use Rattle.stream_in.proofs.Rests.{stops_then, unwritten, writes_then}
-use Rattle.swsusp_cli.specs.Called.{IsCalled}
-use Rattle.swsusp_cli.specs.Feeding.{Holds, IsStopFor}
+use Rattle.swsusp_cli.specs.Called.{IsCalledAtMost}
+use Rattle.swsusp_cli.specs.Feeding.{HoldsFed, IsStopFor}
 use Rattle.command_kit.specs.View.{DiskView}
 
 -- No stream without a fault is longer than the longest.
@@ -46,11 +46,11 @@ same_left bs old mid new e h = subst (λ (o : Option (List ℕ)). HandsOut (leng
 
 -- What the disk holds of them.
 
-pub holds_none : (extents : List (ℕ × ℕ × ℕ)) (free : List ℕ) (x : Content) → Holds extents free [] x x
+pub holds_none : (extents : List (ℕ × ℕ × ℕ)) (free : List ℕ) (x : Content) → HoldsFed extents free [] x x
 holds_none extents free x = record { outside = unwritten extents free 0 0 x (λ le. absurd (omega arith)); written = λ late. absurd (omega arith) }
 
-pub holds_more : (extents extents' : List (ℕ × ℕ × ℕ)) (free bs part : List ℕ) (a b c : Option Content) → extents' ≡ extents → Changes (Holds extents free bs) a b → Changes (WritesOn extents' free bs part) b c →
-    Changes (WritesAtRest extents' free (length bs) (length (bs ++ part))) b c → Changes (Holds extents free (bs ++ part)) a c
+pub holds_more : (extents extents' : List (ℕ × ℕ × ℕ)) (free bs part : List ℕ) (a b c : Option Content) → extents' ≡ extents → Changes (HoldsFed extents free bs) a b → Changes (WritesOn extents' free bs part) b c →
+    Changes (WritesAtRest extents' free (length bs) (length (bs ++ part))) b c → Changes (HoldsFed extents free (bs ++ part)) a c
 holds_more extents extents' free bs part None None None e h i j = tt
 holds_more extents extents' free bs part None None (Some z) e h i j = absurd i
 holds_more extents extents' free bs part None (Some y) c e h i j = absurd h
@@ -62,7 +62,7 @@ holds_more extents extents' free bs part (Some x) (Some y) (Some z) e h i j =
     record { outside = writes_then extents free 0 (length bs) (length (bs ++ part)) x y z (omega arith) (omega (arith, length-append bs part)) h.outside k; written = w h.written }
 
 -- or it stops there
-pub keeps_more : (extents extents' : List (ℕ × ℕ × ℕ)) (free bs : List ℕ) (a b c : Option Content) → extents' ≡ extents → Changes (Holds extents free bs) a b → Changes (StopsAtRest extents' free (length bs)) b c → Changes (StopsAtRest extents free 0) a c
+pub keeps_more : (extents extents' : List (ℕ × ℕ × ℕ)) (free bs : List ℕ) (a b c : Option Content) → extents' ≡ extents → Changes (HoldsFed extents free bs) a b → Changes (StopsAtRest extents' free (length bs)) b c → Changes (StopsAtRest extents free 0) a c
 keeps_more extents extents' free bs None None None e h j = tt
 keeps_more extents extents' free bs None None (Some z) e h j = absurd j
 keeps_more extents extents' free bs None (Some y) c e h j = absurd h
@@ -74,11 +74,11 @@ keeps_more extents extents' free bs (Some x) (Some y) (Some z) e h j =
 
 -- How often it was called.
 
-pub called_none : (d : DiskView) → IsCalled 0 d d
+pub called_none : (d : DiskView) → IsCalledAtMost 0 d d
 called_none d = record { calls = omega arith; faults = omega arith; orders = refl; blocks = refl }
 
-pub called_more : (bs part : List ℕ) (d e f : DiskView) → IsCalled (3 * (length bs / 4096)) d e → f.calls ≤ e.calls + 3 * (length (bs ++ part) / 4096 - length bs / 4096) → e.faults ≤ f.faults → f.orders ≡ e.orders → f.blocks ≡ e.blocks →
-    IsCalled (3 * (length (bs ++ part) / 4096)) d f
+pub called_more : (bs part : List ℕ) (d e f : DiskView) → IsCalledAtMost (3 * (length bs / 4096)) d e → f.calls ≤ e.calls + 3 * (length (bs ++ part) / 4096 - length bs / 4096) → e.faults ≤ f.faults → f.orders ≡ e.orders → f.blocks ≡ e.blocks →
+    IsCalledAtMost (3 * (length (bs ++ part) / 4096)) d f
 called_more bs part d e f h calls faults orders blocks =
     let size = length-append bs part in
     let more : length bs / 4096 ≤ length (bs ++ part) / 4096 = omega arith in

@@ -33,8 +33,8 @@ use Rattle.stream_in.specs.declared.stop.InStop.{InStop}
 use Rattle.stream_in.specs.declared.stop.InStop.TheVariants as stop
 use Rattle.stream_in.proofs.Contents.{changes_then, changes_as}
 use Rattle.stream_in.proofs.Undoing.{first_block-some}
-use Rattle.swsusp_cli.specs.Called.{IsCalled}
-use Rattle.swsusp_cli.specs.Feeding.{Feeds, Holds, HasFed, HasStopped, IsStopFor}
+use Rattle.swsusp_cli.specs.Called.{IsCalledAtMost}
+use Rattle.swsusp_cli.specs.Feeding.{Feeds, HoldsFed, HasFed, HasStopped, IsStopFor}
 use Rattle.swsusp_cli.specs.Imports.{Ends, HasWritten, IsArea, AreRead, IsUnmarked, IsUsable, KeepsUnusable, LeavesUnusable, MarksNot, OfSome, Stores, whole_map}
 use Rattle.command_kit.specs.View.{DiskView}
 use Rattle.swsusp_cli.specs.declared.importing.ImportStop.{ImportStop}
@@ -77,10 +77,10 @@ size_kept area old new (inl same) = ap length same
 size_kept area old new (inr keeps) = keeps.size ∙ length-settled (as_it_reads old) ∙ length-as_it_reads old
 
 -- what the writes of these bytes leave
-holds_unusable : (area : Area) (free bs : List ℕ) (old new : Content) → AreUsable area free → Holds (whole_map area) free bs old new → LeavesUnusable area old new
+holds_unusable : (area : Area) (free bs : List ℕ) (old new : Content) → AreUsable area free → HoldsFed (whole_map area) free bs old new → LeavesUnusable area old new
 holds_unusable area free bs old new slots holds = leaves_unusable area free old new slots (stops_still (whole_map area) free 0 (length bs) old new holds.outside)
 
-pub has_written : (area : Area) (free bs : List ℕ) (old new : Content) → AreUsable area free → Holds (whole_map area) free bs old new → HasWritten area free bs old new
+pub has_written : (area : Area) (free bs : List ℕ) (old new : Content) → AreUsable area free → HoldsFed (whole_map area) free bs old new → HasWritten area free bs old new
 has_written area free bs old new slots holds = record { leaves = holds_unusable area free bs old new slots holds; written = holds.written }
 
 -- A whole stream.
@@ -122,7 +122,7 @@ same_number n = elim (eqb_tells n n) [
 abbrev IsHeaderOf : Area → ℕ → Content → Type 0
 IsHeaderOf area blocks held = area_kind (first_block blocks (as_it_reads held)) ≡ kind.Swap area
 
-stores : (area : Area) (free bs : List ℕ) (blocks : ℕ) (x y z : Content) → 0 < blocks → AreUsable area free → IsWhole bs → all_pages bs + 1026 ≤ length free → Holds (whole_map area) free bs x y × IsHeaderOf area blocks x →
+stores : (area : Area) (free bs : List ℕ) (blocks : ℕ) (x y z : Content) → 0 < blocks → AreUsable area free → IsWhole bs → all_pages bs + 1026 ≤ length free → HoldsFed (whole_map area) free bs x y × IsHeaderOf area blocks x →
     Marks (laid_block (whole_map area) free 0) y z × ComesIn area free bs y z → Stores area free bs x z
 stores area free bs blocks x y z some slots whole room (holds, header) (marks, comes) =
     let pages = all_pages bs in
@@ -171,7 +171,7 @@ changes_of P K (Some x) (Some y) p k = (p, k)
 
 -- How often the disk is called.
 
-called_then : (k m n : ℕ) (d e f : DiskView) → IsCalled k d e → IsCalled m e f → k + m ≤ n → IsCalled n d f
+called_then : (k m n : ℕ) (d e f : DiskView) → IsCalledAtMost k d e → IsCalledAtMost m e f → k + m ≤ n → IsCalledAtMost n d f
 called_then k m n d e f h i le =
     let a = h.calls in
     let b = i.calls in
@@ -186,7 +186,7 @@ pub record HasOpened (area : Area) (free : List ℕ) (s : StreamIn) (d e : DiskV
   pub map_is : s.map ≡ whole_map area
   pub blocks_are : s.blocks ≡ d.blocks
   pub content : e.content ≡ d.content
-  pub called : IsCalled 1 d e
+  pub called : IsCalledAtMost 1 d e
 
 room_of : (area : Area) (blocks : ℕ) (o : Option Content) → IfSome o (λ held. area_kind (first_block blocks (as_it_reads held)) ≡ kind.Swap area) → IfSome o (λ held. open_fault blocks (area_kind (first_block blocks (as_it_reads held))) ≡ None) →
     IfSome o (λ held. open_fault blocks (kind.Swap area) ≡ None)
@@ -194,7 +194,7 @@ room_of area blocks None is usable = tt
 room_of area blocks (Some held) is usable = ap (open_fault blocks) (sym is) ∙ usable
 
 pub has_opened : (area : Area) (s : StreamIn) (d e : DiskView) → (is : IsOpened area d.blocks s) → IfSome d.content (λ held. area_kind (first_block d.blocks (as_it_reads held)) ≡ kind.Swap area) →
-    IfSome d.content (λ held. open_fault d.blocks (area_kind (first_block d.blocks (as_it_reads held))) ≡ None) → e.content ≡ d.content → IsCalled 1 d e → HasOpened area is.fed.0 s d e
+    IfSome d.content (λ held. open_fault d.blocks (area_kind (first_block d.blocks (as_it_reads held))) ≡ None) → e.content ≡ d.content → IsCalledAtMost 1 d e → HasOpened area is.fed.0 s d e
 has_opened area s d e is kind_is usable content called = record {
   area_is = record { kind_is = kind_is; room = room_of area d.blocks d.content kind_is usable; slots = is.fed.1 };
   map_is = is.map_is;
@@ -203,9 +203,9 @@ has_opened area s d e is kind_is usable content called = record {
   called = called;
 }
 
-holds_of : (area : Area) (free bs : List ℕ) (s : StreamIn) (a b c : Option Content) → s.map ≡ whole_map area → b ≡ a → Changes (Holds s.map free bs) b c → Changes (Holds (whole_map area) free bs) a c
+holds_of : (area : Area) (free bs : List ℕ) (s : StreamIn) (a b c : Option Content) → s.map ≡ whole_map area → b ≡ a → Changes (HoldsFed s.map free bs) b c → Changes (HoldsFed (whole_map area) free bs) a c
 holds_of area free bs s a b c map_is same h =
-    subst (λ (m : List (ℕ × ℕ × ℕ)). Changes (Holds m free bs) a c) map_is (subst (λ (o : Option Content). Changes (Holds s.map free bs) o c) same h)
+    subst (λ (m : List (ℕ × ℕ × ℕ)). Changes (HoldsFed m free bs) a c) map_is (subst (λ (o : Option Content). Changes (HoldsFed s.map free bs) o c) same h)
 
 keeps_of : (area : Area) (free : List ℕ) (s : StreamIn) (a b c : Option Content) → s.map ≡ whole_map area → b ≡ a → Changes (StopsAtRest s.map free 0) b c → Changes (StopsAtRest (whole_map area) free 0) a c
 keeps_of area free s a b c map_is same h =
@@ -225,7 +225,7 @@ ends_cut_off area free bs s s' left left' d e f opened fed = (
     area_is = opened.area_is;
     bytes = fed_read free bs s s' left left' e f fed;
     sound = fed.fed.taken.read.sound;
-    content = changes_as (Holds (whole_map area) free bs) (HasWritten area free bs) d.content f.content (λ x y. has_written area free bs x y opened.area_is.slots)
+    content = changes_as (HoldsFed (whole_map area) free bs) (HasWritten area free bs) d.content f.content (λ x y. has_written area free bs x y opened.area_is.slots)
         (holds_of area free bs s d.content e.content f.content opened.map_is opened.content fed.content);
     called = called_then 1 (3 * (length bs / 4096)) (1 + 3 * (length bs / 4096)) d e f opened.called fed.called (omega arith);
   },
@@ -241,7 +241,7 @@ ends_stopped area free bs why s left left' d e f opened stopped = by_why why sto
   content = changes_as (StopsAtRest (whole_map area) free 0) (LeavesUnusable area) d.content f.content (λ x y. leaves_unusable area free x y opened.area_is.slots)
       (keeps_of area free s d.content e.content f.content opened.map_is opened.content stopped.content)
 
-  called : IsCalled (1 + 3 * (length bs / 4096)) d f
+  called : IsCalledAtMost (1 + 3 * (length bs / 4096)) d f
   called = called_then 1 (3 * (length bs / 4096)) (1 + 3 * (length bs / 4096)) d e f opened.called stopped.called (omega arith)
 
   by_why : (why : InStop) → IsStopFor free bs why → (IsDiskStop why → HasRisen e.faults f.faults) → Ends left left' d f (Err (Session why))
@@ -267,7 +267,7 @@ not_short bs r n None is short e = refl
 not_short bs r n (Some fault) is short e = let not = (short fault).1 e in cc
 
 pub ends_imported : (area : Area) (free bs : List ℕ) (s s' : StreamIn) (r : Result ℕ InStop) (n : ℕ) (left left' : Option (List ℕ)) (d e f g : DiskView) → HasOpened area free s d e → HasFed free bs s s' left left' e f → IsUsedUp left' →
-    r ≡ Ok n → n ≡ image_pages bs → ((fault : StreamFault) → (r ≡ Err (stop.Stream fault)) ↔ (short_fault bs ≡ Some fault)) → Changes (Marks (laid_block s'.map free 0)) f.content g.content → Changes (ComesIn area free bs) f.content g.content → IsCalled 6 f g →
+    r ≡ Ok n → n ≡ image_pages bs → ((fault : StreamFault) → (r ≡ Err (stop.Stream fault)) ↔ (short_fault bs ≡ Some fault)) → Changes (Marks (laid_block s'.map free 0)) f.content g.content → Changes (ComesIn area free bs) f.content g.content → IsCalledAtMost 6 f g →
     Ends left left' d g (Ok n)
 ends_imported area free bs s s' r n left left' d e f g opened fed over is pages short marks comes called =
     let sound = fed.fed.taken.read.sound in
@@ -290,9 +290,9 @@ ends_imported area free bs s s' r n left left' d e f g opened fed over is pages 
         stream = (sound, none);
         pages = pages;
         enough = room;
-        content = changes_then (λ x y. Holds (whole_map area) free bs x y × IsHeaderOf area d.blocks x) (λ y z. Marks (laid_block (whole_map area) free 0) y z × ComesIn area free bs y z) (Stores area free bs) d.content f.content g.content
+        content = changes_then (λ x y. HoldsFed (whole_map area) free bs x y × IsHeaderOf area d.blocks x) (λ y z. Marks (laid_block (whole_map area) free 0) y z × ComesIn area free bs y z) (Stores area free bs) d.content f.content g.content
             (λ x y z. stores area free bs d.blocks x y z some opened.area_is.slots whole room)
-            (changes_of (Holds (whole_map area) free bs) (IsHeaderOf area d.blocks) d.content f.content holds opened.area_is.kind_is)
+            (changes_of (HoldsFed (whole_map area) free bs) (IsHeaderOf area d.blocks) d.content f.content holds opened.area_is.kind_is)
             (changes_both (Marks (laid_block (whole_map area) free 0)) (ComesIn area free bs) f.content g.content marks_of comes);
         called = called_then (1 + 3 * (length bs / 4096)) 6 (7 + 3 * (length bs / 4096)) d f g
             (called_then 1 (3 * (length bs / 4096)) (1 + 3 * (length bs / 4096)) d e f opened.called fed.called (omega arith)) called (omega arith);
@@ -301,7 +301,7 @@ ends_imported area free bs s s' r n left left' d e f g opened fed over is pages 
 
 -- The area wasn't opened.
 pub ends_unopened : (why : InStop) (left left' : Option (List ℕ)) (d e : DiskView) → IsOfOpen why → IfNoSwap why (λ reason. IfSome d.content (λ held. open_fault d.blocks (area_kind (first_block d.blocks (as_it_reads held))) ≡ Some reason)) →
-    (why ≡ stop.NoMemory → e ≡ d) → left' ≡ left → e.content ≡ d.content → IsCalled 1 d e → (IsDiskStop why → HasRisen d.faults e.faults) → Ends left left' d e (Err (Session why))
+    (why ≡ stop.NoMemory → e ≡ d) → left' ≡ left → e.content ≡ d.content → IsCalledAtMost 1 d e → (IsDiskStop why → HasRisen d.faults e.faults) → Ends left left' d e (Err (Session why))
 ends_unopened stop.NoMemory left left' d e of says untouched unread content called risen = (unread, untouched refl)
 ends_unopened (stop.NoSwap why) left left' d e of says untouched unread content called risen = inl (record { says = says; unread = unread; content = content; called = called })
 ends_unopened (stop.NoSlots told need) left left' d e of says untouched unread content called risen = absurd of
@@ -314,7 +314,7 @@ not_short_at : (bs : List ℕ) (r : Result ℕ InStop) (why : InStop) (o : Optio
 not_short_at bs r why None is other short e = refl
 not_short_at bs r why (Some fault) is other short e = let at = (short fault).1 e in absurd (other fault (cc))
 
-untold : (area : Area) (free bs : List ℕ) (reason : NoSwap) (blocks : ℕ) (a b : Option Content) → 0 < blocks → AreUsable area free → Changes (Holds (whole_map area) free bs) a b → IfSome a (λ held. area_kind (first_block blocks (as_it_reads held)) ≡ kind.Swap area) →
+untold : (area : Area) (free bs : List ℕ) (reason : NoSwap) (blocks : ℕ) (a b : Option Content) → 0 < blocks → AreUsable area free → Changes (HoldsFed (whole_map area) free bs) a b → IfSome a (λ held. area_kind (first_block blocks (as_it_reads held)) ≡ kind.Swap area) →
     IfSome b (λ held. kind_fault (area_kind (block (as_it_reads held) 0)) ≡ Some reason) → a ≡ None
 untold area free bs reason blocks None b some slots holds is fault = refl
 untold area free bs reason blocks (Some x) None some slots holds is fault = absurd holds
@@ -324,12 +324,12 @@ untold area free bs reason blocks (Some x) (Some y) some slots holds is fault =
     let none : kind_fault (area_kind (block (as_it_reads y) 0)) ≡ None = ap (λ page. kind_fault (area_kind page)) same ∙ ap kind_fault is in
     cc
 
-marks_not : (why : InStop) (area : Area) (free bs : List ℕ) (x y z : Content) → AreUsable area free → Holds (whole_map area) free bs x y → LeavesAt why y z → MarksNot why area free bs x z
+marks_not : (why : InStop) (area : Area) (free bs : List ℕ) (x y z : Content) → AreUsable area free → HoldsFed (whole_map area) free bs x y → LeavesAt why y z → MarksNot why area free bs x z
 marks_not why area free bs x y z slots holds leaves = (y, has_written area free bs x y slots holds, leaves)
 
 pub ends_unfinished : (area : Area) (free bs : List ℕ) (s s' : StreamIn) (r : Result ℕ InStop) (why : InStop) (left left' : Option (List ℕ)) (d e f g : DiskView) → HasOpened area free s d e → HasFed free bs s s' left left' e f → IsUsedUp left' →
     r ≡ Err why → IsOfFinish why → ((fault : StreamFault) → (r ≡ Err (stop.Stream fault)) ↔ (short_fault bs ≡ Some fault)) → IfNoSwap why (λ reason. IfSome f.content (λ held. kind_fault (area_kind (block (as_it_reads held) 0)) ≡ Some reason)) →
-    ((fault : StreamFault) → r ≡ Err (stop.Stream fault) → g ≡ f) → Changes (LeavesAt why) f.content g.content → IsCalled 6 f g → (IsDiskStop why → HasRisen f.faults g.faults) → Ends left left' d g (Err (Session why))
+    ((fault : StreamFault) → r ≡ Err (stop.Stream fault) → g ≡ f) → Changes (LeavesAt why) f.content g.content → IsCalledAtMost 6 f g → (IsDiskStop why → HasRisen f.faults g.faults) → Ends left left' d g (Err (Session why))
 ends_unfinished area free bs s s' r why left left' d e f g opened fed over is of short no_swap untouched leaves called risen = by_why why is of no_swap leaves risen where
   sound : first_fault bs ≡ None
   sound = fed.fed.taken.read.sound
@@ -337,13 +337,13 @@ ends_unfinished area free bs s s' r why left left' d e f g opened fed over is of
   bytes : AreRead bs left left'
   bytes = fed_read free bs s s' left left' e f fed
 
-  holds : Changes (Holds (whole_map area) free bs) d.content f.content
+  holds : Changes (HoldsFed (whole_map area) free bs) d.content f.content
   holds = holds_of area free bs s d.content e.content f.content opened.map_is opened.content fed.content
 
-  so_far : IsCalled (1 + 3 * (length bs / 4096)) d f
+  so_far : IsCalledAtMost (1 + 3 * (length bs / 4096)) d f
   so_far = called_then 1 (3 * (length bs / 4096)) (1 + 3 * (length bs / 4096)) d e f opened.called fed.called (omega arith)
 
-  in_all : IsCalled (7 + 3 * (length bs / 4096)) d g
+  in_all : IsCalledAtMost (7 + 3 * (length bs / 4096)) d g
   in_all = called_then (1 + 3 * (length bs / 4096)) 6 (7 + 3 * (length bs / 4096)) d f g so_far called (omega arith)
 
   whole : (why : InStop) → r ≡ Err why → ((fault : StreamFault) → why ≡ stop.Stream fault → ⊥) → short_fault bs ≡ None
@@ -367,7 +367,7 @@ ends_unfinished area free bs s s' r why left left' d e f g opened fed over is of
       bytes = bytes;
       over = over;
       stream = (sound, whole why is other);
-      content = changes_then (Holds (whole_map area) free bs) (LeavesAt why) (MarksNot why area free bs) d.content f.content g.content (λ x y z. marks_not why area free bs x y z opened.area_is.slots) holds leaves;
+      content = changes_then (HoldsFed (whole_map area) free bs) (LeavesAt why) (MarksNot why area free bs) d.content f.content g.content (λ x y z. marks_not why area free bs x y z opened.area_is.slots) holds leaves;
       called = in_all;
       risen = risen_from d.faults f.faults g.faults so_far.faults risen;
     },
@@ -388,7 +388,7 @@ ends_unfinished area free bs s s' r why left left' d e f g opened fed over is of
   by_why (stop.NoSlots told need) is of no_swap leaves risen = absurd of
   by_why (stop.Stream fault) is of no_swap leaves risen =
       let same : g ≡ f = untouched fault is in
-      let content : Changes (LeavesUnusable area) d.content f.content = changes_as (Holds (whole_map area) free bs) (LeavesUnusable area) d.content f.content (λ x y h. holds_unusable area free bs x y opened.area_is.slots h) holds in (
+      let content : Changes (LeavesUnusable area) d.content f.content = changes_as (HoldsFed (whole_map area) free bs) (LeavesUnusable area) d.content f.content (λ x y h. holds_unusable area free bs x y opened.area_is.slots h) holds in (
         area,
         free,
         bs,
@@ -397,7 +397,7 @@ ends_unfinished area free bs s s' r why left left' d e f g opened fed over is of
           bytes = bytes;
           says = inr (sound, (short fault).0 is, over);
           content = subst (λ (v : DiskView). Changes (LeavesUnusable area) d.content v.content) (sym same) content;
-          called = subst (IsCalled (1 + 3 * (length bs / 4096)) d) (sym same) so_far;
+          called = subst (IsCalledAtMost (1 + 3 * (length bs / 4096)) d) (sym same) so_far;
         },
       )
   by_why (stop.ReadFault what) is of no_swap leaves risen = inr (unmarked (stop.ReadFault what) is (λ fault e. cc) leaves (risen tt))

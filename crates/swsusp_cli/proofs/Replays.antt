@@ -1,5 +1,5 @@
 -- From events played over a formatted disk to a run of the plain machine.
-use Rattle.std.proofs.Common.{◌≡◌, ◌≢◌, ◌⊎◌, inl, inr, ◌≤◌, ◌<◌, ℕ, ◌+◌, ◌*◌, List, length, take, Some, None, refl, sym, ap, ◌∙◌, subst, arith}
+use Rattle.std.proofs.Common.{◌≡◌, ◌≢◌, ◌⊎◌, inl, inr, ◌≤◌, ◌<◌, ℕ, ◌+◌, ◌*◌, List, ◌++◌, length, take, Some, None, refl, sym, ap, ◌∙◌, subst, arith}
 use Rattle.std.proofs.Math.Nat.{min-le_left, min-le_right}
 use Rattle.std.proofs.lemmas.List.{length-take, take_all}
 use Rattle.std.proofs.lemmas.List.Sums.{count_by-le-length, length-filter}
@@ -18,15 +18,16 @@ use Rattle.plain_machine.specs.declared.event.Event.{Event}
 use Rattle.plain_machine.specs.declared.reply.Reply.{Reply}
 use Rattle.protocol_laws.specs.Rows.{LeavesBlock}
 use Rattle.script.specs.Grammar.{ScriptValue}
-use Rattle.world_core.specs.StandsFor.{StandsFor, IsNew, hardware_of, shown}
+use Rattle.sector_disk.specs.declared.orders.Order.{Order}
+use Rattle.world_core.specs.StandsFor.{StandsFor, IsNewWorld, hardware_of, shown}
 use Rattle.world_core.specs.World.{World}
 use Rattle.swsusp_cli.specs.Formatting.{Formats, LieBelow, calls_until}
 use Rattle.command_kit.specs.Answer.{done}
 use Rattle.swsusp_cli.specs.Outcome.{IsScript, IsReplayed, IsTooSmall, IsUnformatted, Tells, no_script, out_of_memory, unread, too_small, unformatted, played, cut_off, small_told, unformatted_told}
 use Rattle.swsusp_cli.specs.Playing.{HasPlayed, Played}
-use Rattle.swsusp_cli.specs.Replay.{orders_by, IsRun, IsNoSlot, AreReplies, Prints}
+use Rattle.swsusp_cli.specs.Replay.{orders_of, IsRun, IsNoSlot, AreReplies, Prints}
 use Rattle.world_runs.specs.Counts.{is_step, steps_of}
-use Rattle.swsusp_cli.specs.SettingUp.{FailsToSetUp, HasTooFew, IsNotSetUp, IsSetUp, IsUnformatted as IsOfCall, unready_told}
+use Rattle.swsusp_cli.specs.SettingUp.{FailsToSetUp, HasTooFew, IsNotSetUp, IsSetUp, IsFailedCall as IsOfCall, unready_told}
 use Rattle.command_kit.specs.Told.{AreFronts, IsTold, IsTried, sink_note}
 use Rattle.command_kit.specs.View.{View, DiskView, SinkView}
 use Rattle.swsusp_cli.specs.declared.formatting.Unformatted.{Unformatted}
@@ -66,7 +67,7 @@ not_formatted x x' status script call fails told = record {
 
 -- what the events lead to, from the area as it was formatted
 played_from : (script : ScriptValue) (old new : World) (events : List Event) (replies : List Reply) (before between now : DiskView) (c : disk.Content) (told : before.content ≡ Some c) → disk.IsContent before.blocks c →
-    CanFormat script before.blocks → IsNew script.hardware None old → (formats : disk.Changes (Formats script.hardware script.last script.bad) before.content between.content) →
+    CanFormat script before.blocks → IsNewWorld script.hardware None old → (formats : disk.Changes (Formats script.hardware script.last script.bad) before.content between.content) →
     HasPlayed old new events replies between now →
     (c' : disk.Content) × (b : State) × Played old new events now.content (changed (Formats script.hardware script.last script.bad) before.content between.content c told formats).0 c' (off nothing None) b replies
 played_from script old new events replies before between now c told whole can fresh formats was_played =
@@ -81,7 +82,7 @@ played_from script old new events replies before between now c told whole can fr
     was_played.run c1 (off nothing None) formatted.1 start (tt, refl)
 
 run_formatted : (script : ScriptValue) (old new : World) (events : List Event) (replies : List Reply) (before between now : DiskView) (c : disk.Content) → before.content ≡ Some c → disk.IsContent before.blocks c →
-    IfSome between.content (disk.IsContent between.blocks) → CanFormat script before.blocks → IsNew script.hardware None old →
+    IfSome between.content (disk.IsContent between.blocks) → CanFormat script before.blocks → IsNewWorld script.hardware None old →
     disk.Changes (Formats script.hardware script.last script.bad) before.content between.content →
     HasPlayed old new events replies between now → hardware_of new ≡ hardware_of old → IsRun before now script events replies c
 run_formatted script old new events replies before between now c told whole whole_between can fresh formats was_played hw =
@@ -120,19 +121,19 @@ can_format : (script : ScriptValue) (blocks : ℕ) → IsHardware script.hardwar
 can_format script blocks hw roomy few = let some = hw.some_slots in record { some_slots = omega arith; header = roomy 0 (omega arith); few = few }
 
 pub replies_of : (script : ScriptValue) (old new : World) (events : List Event) (replies : List Reply) (before between now : DiskView) → IfSome before.content (disk.IsContent before.blocks) →
-    IfSome between.content (disk.IsContent between.blocks) → IsSetUp script before between → IsNew script.hardware None old → length script.bad ≤ 630 → HasPlayed old new events replies between now →
+    IfSome between.content (disk.IsContent between.blocks) → IsSetUp script before between → IsNewWorld script.hardware None old → length script.bad ≤ 630 → HasPlayed old new events replies between now →
     hardware_of new ≡ hardware_of old → AreReplies before now script events replies
 replies_of script old new events replies before between now whole whole_between set fresh few was_played hw = record {
   size = was_played.size;
   calls = calls_within before.calls between.calls now.calls (steps_of events) set.calls was_played.calls;
-  orders = was_played.orders ∙ ap (orders_by events) set.orders;
+  orders = was_played.orders ∙ ap (λ (l : List Order). l ++ orders_of events) set.orders;
   faults = counted_earlier replies before.faults between.faults now.faults set.faults was_played.faults;
   run = λ c told. run_formatted script old new events replies before between now c told (whole_of before.blocks before.content c told whole) whole_between (can_format script before.blocks set.hardware set.roomy few) fresh set.formats was_played hw;
 }
 
 -- the world that played stands for the state where the run ends
 pub stands_at_end : (script : ScriptValue) (old new : World) (events : List Event) (replies : List Reply) (before between now : DiskView) (whole : IfSome before.content (disk.IsContent before.blocks)) (whole_between : IfSome between.content (disk.IsContent between.blocks))
-    (set : IsSetUp script before between) (fresh : IsNew script.hardware None old) (few : length script.bad ≤ 630) (was_played : HasPlayed old new events replies between now) (hw : hardware_of new ≡ hardware_of old)
+    (set : IsSetUp script before between) (fresh : IsNewWorld script.hardware None old) (few : length script.bad ≤ 630) (was_played : HasPlayed old new events replies between now) (hw : hardware_of new ≡ hardware_of old)
     (c : disk.Content) (told : before.content ≡ Some c) →
     let run = (replies_of script old new events replies before between now whole whole_between set fresh few was_played hw).run c told in StandsFor new run.held run.end
 unfolding replies_of run_formatted

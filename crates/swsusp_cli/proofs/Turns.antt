@@ -16,14 +16,15 @@ use Rattle.plain_machine.specs.declared.event.Event.{Event}
 use Rattle.plain_machine.specs.declared.event.Event.TheVariants as event
 use Rattle.plain_machine.specs.declared.event.BootFrom.TheVariants.{Fresh}
 use Rattle.plain_machine.specs.declared.reply.Reply.{Reply}
-use Rattle.protocol_laws.specs.Rows.{IsSameArea, IsNewFault, LeavesBlock, blocks_written}
+use Rattle.protocol_laws.specs.Rows.{IsSameArea, TellsNewFault, LeavesBlock, blocks_written}
 use Rattle.protocol_laws.proofs.WrittenWhileHeld.{at_written}
 use Rattle.protocol_laws.proofs.Unwritten.{block_same}
-use Rattle.world_core.specs.Row.{SimulatesWhereTold, IsStep, IsCalled, orders_after}
+use Rattle.world_core.specs.Row.{SimulatesWhereTold, IsStep, CallsAtMostOnce, orders_after}
 use Rattle.world_core.specs.StandsFor.{hardware_of, shown}
 use Rattle.world_core.specs.World.{World}
 use Rattle.swsusp_cli.specs.Playing.{Played, HasPlayed}
-use Rattle.swsusp_cli.specs.Replay.{is_order, raised_times, orders_by}
+use Rattle.swsusp_cli.specs.Replay.{orders_of}
+use Rattle.sector_disk.specs.declared.orders.Order.{Order}
 use Rattle.world_runs.specs.Counts.{is_step, steps_of, AreCounted}
 use Rattle.world_runs.proofs.Counted.{called_one, counted_append, counted_one, counted_later, steps_append}
 use Rattle.command_kit.specs.View.{DiskView}
@@ -40,7 +41,7 @@ run_more h v a (d ∷ es) [] b e r b' run step = absurd run
 run_more h v a (d ∷ es) (q ∷ rs) b e r b' run step = (run.0, run.1, run_more h v run.0 es rs b e r b' run.2 step)
 
 -- So replies that tell of a failed call are at most as many as the count rose by, its last value aside.
-pub counted_few : (tells : Reply → Bool) → ((r : Reply) → tells r ≡ true → IsNewFault r) → (rs : List Reply) (low high : ℕ) → AreCounted rs low high → (low + length (filter tells rs) ≤ high) ⊎ (disk.last_count ≤ high)
+pub counted_few : (tells : Reply → Bool) → ((r : Reply) → tells r ≡ true → TellsNewFault r) → (rs : List Reply) (low high : ℕ) → AreCounted rs low high → (low + length (filter tells rs) ≤ high) ⊎ (disk.last_count ≤ high)
 counted_few tells only [] low high le = inl (omega arith)
 counted_few tells only (r ∷ rs) low high (m, le, f, rest) = by_test (tells r) (λ e. f (only r e)) (counted_few tells only rs m high rest) where
   later : m ≤ high
@@ -63,28 +64,33 @@ same_area_then h u v w first then = record {
   header = record { front = then.header.front ∙ first.header.front; signature = then.header.signature ∙ first.header.signature };
 }
 
--- Restarts of the disk.
+-- What the disk is asked for.
 
-one_order : (m n : ℕ) → raised_times (m + 1) n ≡ disk.raised (raised_times m n)
-one_order m n = ap (λ (k : ℕ). raised_times k n) (let s : m + 1 ≡ suc m = omega arith in s)
+-- after what was asked before
+orders_next : (e : Event) (asked : List Order) → orders_after e asked ≡ asked ++ orders_after e []
+orders_next (event.Cut pick) asked = refl
+orders_next (event.Boot from) asked = sym (append-nil asked)
+orders_next (event.Hibernate f) asked = sym (append-nil asked)
+orders_next (event.Suspend f) asked = sym (append-nil asked)
+orders_next event.Wake asked = sym (append-nil asked)
+orders_next event.Settle asked = sym (append-nil asked)
+orders_next (event.Shrink want) asked = sym (append-nil asked)
+orders_next (event.Resume l check) asked = sym (append-nil asked)
+orders_next (event.Step x) asked = sym (append-nil asked)
+orders_next (event.Task t o) asked = sym (append-nil asked)
+orders_next (event.Arm first count pick) asked = refl
 
-orders_next : (e : Event) (m n : ℕ) → raised_times (m + length (filter is_order (e ∷ []))) n ≡ orders_after e (raised_times m n)
-orders_next (event.Cut pick) m n = one_order m n
-orders_next (event.Boot from) m n = ap (λ (k : ℕ). raised_times k n) (let s : m + 0 ≡ m = omega arith in s)
-orders_next (event.Hibernate f) m n = ap (λ (k : ℕ). raised_times k n) (let s : m + 0 ≡ m = omega arith in s)
-orders_next (event.Suspend f) m n = ap (λ (k : ℕ). raised_times k n) (let s : m + 0 ≡ m = omega arith in s)
-orders_next event.Wake m n = ap (λ (k : ℕ). raised_times k n) (let s : m + 0 ≡ m = omega arith in s)
-orders_next event.Settle m n = ap (λ (k : ℕ). raised_times k n) (let s : m + 0 ≡ m = omega arith in s)
-orders_next (event.Shrink want) m n = ap (λ (k : ℕ). raised_times k n) (let s : m + 0 ≡ m = omega arith in s)
-orders_next (event.Resume l check) m n = ap (λ (k : ℕ). raised_times k n) (let s : m + 0 ≡ m = omega arith in s)
-orders_next (event.Step x) m n = ap (λ (k : ℕ). raised_times k n) (let s : m + 0 ≡ m = omega arith in s)
-orders_next (event.Task t o) m n = ap (λ (k : ℕ). raised_times k n) (let s : m + 0 ≡ m = omega arith in s)
-orders_next (event.Arm first count pick) m n = one_order m n
+orders_append : (es : List Event) (e : Event) → orders_of (es ++ e ∷ []) ≡ orders_of es ++ orders_after e []
+orders_append [] e = append-nil (orders_after e [])
+orders_append (d ∷ es) e =
+    ap (λ (l : List Order). orders_after d [] ++ l) (orders_append es e)
+    ∙ sym (append_assoc (orders_after d []) (orders_of es) (orders_after e []))
 
-orders_more : (es : List Event) (e : Event) (n : ℕ) → orders_by (es ++ e ∷ []) n ≡ orders_after e (orders_by es n)
-orders_more es e n =
-    ap (λ (k : ℕ). raised_times k n) (ap length (filter-append is_order es (e ∷ [])) ∙ length-append (filter is_order es) (filter is_order (e ∷ [])))
-    ∙ orders_next e (length (filter is_order es)) n
+orders_more : (es : List Event) (e : Event) (asked : List Order) → asked ++ orders_of (es ++ e ∷ []) ≡ orders_after e (asked ++ orders_of es)
+orders_more es e asked =
+    ap (λ (l : List Order). asked ++ l) (orders_append es e)
+    ∙ sym (append_assoc asked (orders_of es) (orders_after e []))
+    ∙ sym (orders_next e (asked ++ orders_of es))
 
 -- Played events, and one more.
 
@@ -92,7 +98,7 @@ pub played_none : (w : World) (x : DiskView) → HasPlayed w w [] [] x x
 played_none w x = record {
   size = refl;
   calls = omega arith;
-  orders = refl;
+  orders = sym (append-nil x.orders);
   faults = omega arith;
   run = λ c a told stands of. (
     c,
@@ -141,7 +147,7 @@ run_then old mid new es rs e r blocks between now c s whole so_far row hw =
 
 pub played_more : (old mid new : World) (es : List Event) (rs : List Reply) (e : Event) (r : Reply) (before between now : DiskView) →
     IfSome between.content (disk.IsContent between.blocks) → HasPlayed old mid es rs before between → SimulatesWhereTold e mid new r between.content now.content → hardware_of mid ≡ hardware_of old →
-    (IsNewFault r → disk.HasRisen between.faults now.faults) → between.faults ≤ now.faults → IsCalled e r between.calls now.calls → now.orders ≡ orders_after e between.orders →
+    (TellsNewFault r → disk.HasRisen between.faults now.faults) → between.faults ≤ now.faults → CallsAtMostOnce e r between.calls now.calls → now.orders ≡ orders_after e between.orders →
     HasPlayed old new (es ++ e ∷ []) (rs ++ r ∷ []) before now
 played_more old mid new es rs e r before between now whole played row hw fault later called after = record {
   size = length-append rs (r ∷ []) ∙ ap (λ (n : ℕ). n + 1) played.size ∙ sym (length-append es (e ∷ []));

@@ -2,7 +2,7 @@
 use Rattle.std.specs.Prelude.{ℕ, List, [], All}
 use Rattle.definitions.specs.Disk as disk
 use Rattle.plain_machine.specs.declared.reply.Reply.{Reply}
-use Rattle.protocol_laws.specs.Rows.{IsNewFault}
+use Rattle.protocol_laws.specs.Rows.{TellsNewFault}
 use Rattle.script.specs.Drill.{drill_events, drill_hardware, drill_script, summary, tally_of}
 use Rattle.command_kit.specs.Answer.{RunResult}
 use Rattle.swsusp_cli.specs.Formatting.{LieBelow}
@@ -22,7 +22,7 @@ pub record IsSummed (number : ℕ) (x x' : View) (status : Status) : Type 0 wher
   pub roomy : LieBelow drill_hardware x.disk.blocks
   pub replies : List Reply
   pub are : AreReplies x.disk x'.disk (drill_script number) (drill_events number) replies
-  pub faultless : (disk.HasRisen x.disk.faults x'.disk.faults → ⊥) → All (λ r. IsNewFault r → ⊥) replies
+  pub faultless : (disk.HasRisen x.disk.faults x'.disk.faults → ⊥) → All (λ r. TellsNewFault r → ⊥) replies
   pub told : Tells (summary_told number replies) status x x'
 
 -- One of these, by what the outside told before a drill and after it.

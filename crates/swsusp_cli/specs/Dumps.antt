@@ -20,7 +20,7 @@ use Rattle.command_core.specs.Hibernation.{HasHibernated, IsUnmarkedOrHolds}
 use Rattle.command_core.specs.Answers.{image_to_save, machine_to_save}
 use Rattle.command_core.specs.declared.ending.Ended.{Ended}
 use Rattle.command_kit.specs.Answer.{RunResult, line}
-use Rattle.swsusp_cli.specs.Outcome.{IsOutOfMemory, IsUnread, Tells}
+use Rattle.swsusp_cli.specs.Outcome.{IsOutOfMemory, FailsAtSource, Tells}
 use Rattle.command_kit.specs.View.{View}
 use Rattle.command_kit.specs.declared.status.Status.{Status}
 use Rattle.command_kit.specs.declared.status.Status.TheVariants.{Done, Refused, Input, Device}
@@ -88,7 +88,7 @@ pub data Hibernates {X : Type 0} (D : Ghosts X) (before after : X) (f : Format) 
     (status : Status) : Type 0 where
   no_dump : (fault : DumpFault) → IsNoDump x x' status fault → Hibernates D before after f size x x' status
   out_of_memory : IsOutOfMemory x x' status → Hibernates D before after f size x x' status
-  unread : IsUnread x x' status → Hibernates D before after f size x x' status
+  unread : FailsAtSource x x' status → Hibernates D before after f size x x' status
   answered : (dump : DumpValue) (ended : Ended) → HasAnswered D before after f size x x' status dump ended →
       Hibernates D before after f size x x' status
 

@@ -7,7 +7,7 @@ use Rattle.stream_out.specs.Bytes.{bytes_of, plain_image}
 use Rattle.stream_out.specs.TaskSlots.{HasNoTaskSlot, IsFirstTaskSlot}
 use Rattle.command_kit.specs.Answer.{RunResult, line}
 use Rattle.swsusp_cli.specs.Dumps.{IsDump, IsNoDump}
-use Rattle.swsusp_cli.specs.Outcome.{IsOutOfMemory, IsUnread, Tells}
+use Rattle.swsusp_cli.specs.Outcome.{IsOutOfMemory, FailsAtSource, Tells}
 use Rattle.command_kit.specs.View.{View}
 use Rattle.command_kit.specs.declared.status.Status.{Status}
 use Rattle.command_kit.specs.declared.status.Status.TheVariants.{Done, Refused}
@@ -38,6 +38,6 @@ pub record IsExported (x x' : View) (status : Status) (dump : DumpValue) : Type 
 pub data Exports (x x' : View) (status : Status) : Type 0 where
   no_dump : (fault : DumpFault) → IsNoDump x x' status fault → Exports x x' status
   out_of_memory : IsOutOfMemory x x' status → Exports x x' status
-  unread : IsUnread x x' status → Exports x x' status
+  unread : FailsAtSource x x' status → Exports x x' status
   in_use : (dump : DumpValue) (slot : ℕ) → IsInUse x x' status dump slot → Exports x x' status
   exported : (dump : DumpValue) → IsExported x x' status dump → Exports x x' status

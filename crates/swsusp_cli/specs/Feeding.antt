@@ -17,13 +17,13 @@ use Rattle.stream_in.specs.declared.session.StreamIn.{StreamIn}
 use Rattle.stream_in.specs.declared.stop.InStop.{InStop}
 use Rattle.stream_in.specs.declared.stop.InStop.TheVariants as stop
 use Rattle.command_kit.specs.View.{DiskView}
-use Rattle.swsusp_cli.specs.Called.{IsCalled}
+use Rattle.swsusp_cli.specs.Called.{IsCalledAtMost}
 use Rattle.swsusp_cli.specs.declared.importing.ImportStop.{ImportStop}
 use Rattle.swsusp_cli.specs.declared.importing.ImportStop.TheVariants.{Source, Session}
 
 -- The disk reads as the whole pages of these bytes were written, the first of them when it had one image, and the
 -- blocks of no free slot are as they were then.
-pub record Holds (extents : List (ℕ × ℕ × ℕ)) (free bs : List ℕ) (old new : Content) : Type 0 where
+pub record HoldsFed (extents : List (ℕ × ℕ × ℕ)) (free bs : List ℕ) (old new : Content) : Type 0 where
   pub outside : WritesAtRest extents free 0 (length bs) old new
   pub written : AreWritten extents free bs (as_it_reads new)
 
@@ -31,8 +31,8 @@ pub record Holds (extents : List (ℕ × ℕ × ℕ)) (free bs : List ℕ) (old 
 pub record HasFed (free bs : List ℕ) (s s' : StreamIn) (left left' : Option (List ℕ)) (d d' : DiskView) : Type 0 where
   pub fed : IsFed free bs s'
   pub handed : HandsOut (length bs) bs left left'
-  pub content : Changes (Holds s.map free bs) d.content d'.content
-  pub called : IsCalled (3 * (length bs / 4096)) d d'
+  pub content : Changes (HoldsFed s.map free bs) d.content d'.content
+  pub called : IsCalledAtMost (3 * (length bs / 4096)) d d'
   pub map : s'.map ≡ s.map
   pub blocks : s'.blocks ≡ s.blocks
 
@@ -53,7 +53,7 @@ pub record HasStopped (free bs : List ℕ) (why : InStop) (s : StreamIn) (left l
   pub handed : HandsOut (length bs) bs left left'
   pub few : length bs ≤ most_bytes + 1
   pub content : Changes (StopsAtRest s.map free 0) d.content d'.content
-  pub called : IsCalled (3 * (length bs / 4096)) d d'
+  pub called : IsCalledAtMost (3 * (length bs / 4096)) d d'
   pub risen : IsDiskStop why → HasRisen d.faults d'.faults
 
 -- the disk failed, or the source

@@ -26,7 +26,7 @@ use Rattle.stream_in.specs.Written.{AreWritten, ReadAsMade, page_at}
 use Rattle.stream_in.specs.declared.stop.InStop.{InStop}
 use Rattle.stream_in.specs.declared.stop.InStop.TheVariants as stop
 use Rattle.command_kit.specs.Answer.{RunResult, line, memory_told}
-use Rattle.swsusp_cli.specs.Called.{IsCalled}
+use Rattle.swsusp_cli.specs.Called.{IsCalledAtMost}
 use Rattle.swsusp_cli.specs.Outcome.{Tells}
 use Rattle.swsusp_cli.specs.Replay.{unread_note}
 use Rattle.command_kit.specs.Told.{IsTried}
@@ -141,7 +141,7 @@ pub record IsImported (n : ℕ) (area : Area) (free bs : List ℕ) (left left' :
   pub pages : n ≡ image_pages bs
   pub enough : all_pages bs + 1026 ≤ length free
   pub content : Changes (Stores area free bs) d.content d'.content
-  pub called : IsCalled (7 + 3 * (length bs / 4096)) d d'
+  pub called : IsCalledAtMost (7 + 3 * (length bs / 4096)) d d'
 
 -- memory was refused before the disk was called and a byte was read
 abbrev pub IsUntouched : Option (List ℕ) → Option (List ℕ) → DiskView → DiskView → Type 0
@@ -153,7 +153,7 @@ pub record HasNoArea (why : NoSwap) (left left' : Option (List ℕ)) (d d' : Dis
       why)
   pub unread : left' ≡ left
   pub content : d'.content ≡ d.content
-  pub called : IsCalled 1 d d'
+  pub called : IsCalledAtMost 1 d d'
 
 -- or it no longer is when it is to be marked, which comes of no disk that tells its content
 pub record HasNoMore (left left' : Option (List ℕ)) (d d' : DiskView) : Type 0 where
@@ -162,7 +162,7 @@ pub record HasNoMore (left left' : Option (List ℕ)) (d d' : DiskView) : Type 0
   pub over : IsUsedUp left'
   pub stream : IsStream bs
   pub untold : d.content ≡ None
-  pub called : IsCalled (7 + 3 * (length bs / 4096)) d d'
+  pub called : IsCalledAtMost (7 + 3 * (length bs / 4096)) d d'
 
 -- fewer slots are free than the image may need
 pub record HasTooFewSlots (told need : ℕ) (area : Area) (free bs : List ℕ) (left left' : Option (List ℕ))
@@ -171,7 +171,7 @@ pub record HasTooFewSlots (told need : ℕ) (area : Area) (free bs : List ℕ) (
   pub bytes : AreRead bs left left'
   pub too_few : HasTooFewFor free bs told need
   pub content : Changes (LeavesUnusable area) d.content d'.content
-  pub called : IsCalled (1 + 3 * (length bs / 4096)) d d'
+  pub called : IsCalledAtMost (1 + 3 * (length bs / 4096)) d d'
 
 -- the input is no stream
 pub record IsNoStream (fault : StreamFault) (area : Area) (free bs : List ℕ) (left left' : Option (List ℕ))
@@ -180,21 +180,21 @@ pub record IsNoStream (fault : StreamFault) (area : Area) (free bs : List ℕ) (
   pub bytes : AreRead bs left left'
   pub says : HasStreamFault bs fault left'
   pub content : Changes (LeavesUnusable area) d.content d'.content
-  pub called : IsCalled (1 + 3 * (length bs / 4096)) d d'
+  pub called : IsCalledAtMost (1 + 3 * (length bs / 4096)) d d'
 
 -- the source failed after these bytes, in which no fault is
-pub record IsCutOff (area : Area) (free bs : List ℕ) (left left' : Option (List ℕ)) (d d' : DiskView) : Type 0 where
+pub record FailsAfter (area : Area) (free bs : List ℕ) (left left' : Option (List ℕ)) (d d' : DiskView) : Type 0 where
   pub area_is : IsArea d area free
   pub bytes : AreRead bs left left'
   pub sound : first_fault bs ≡ None
   pub content : Changes (HasWritten area free bs) d.content d'.content
-  pub called : IsCalled (1 + 3 * (length bs / 4096)) d d'
+  pub called : IsCalledAtMost (1 + 3 * (length bs / 4096)) d d'
 
 -- the header block couldn't be read, and no byte was read
 pub record IsUnopened (left left' : Option (List ℕ)) (d d' : DiskView) : Type 0 where
   pub unread : left' ≡ left
   pub content : d'.content ≡ d.content
-  pub called : IsCalled 1 d d'
+  pub called : IsCalledAtMost 1 d d'
   pub risen : HasRisen d.faults d'.faults
 
 -- the disk couldn't be synced before the first page, or a page or a map couldn't be written
@@ -202,7 +202,7 @@ pub record IsUnwritten (area : Area) (free bs : List ℕ) (left left' : Option (
   pub area_is : IsArea d area free
   pub bytes : AreRead bs left left'
   pub content : Changes (LeavesUnusable area) d.content d'.content
-  pub called : IsCalled (1 + 3 * (length bs / 4096)) d d'
+  pub called : IsCalledAtMost (1 + 3 * (length bs / 4096)) d d'
   pub risen : HasRisen d.faults d'.faults
 
 -- the whole stream was written, and a call failed by which the area was to be marked
@@ -213,7 +213,7 @@ pub record IsUnmarked (why : InStop) (area : Area) (free bs : List ℕ) (left le
   pub over : IsUsedUp left'
   pub stream : IsStream bs
   pub content : Changes (MarksNot why area free bs) d.content d'.content
-  pub called : IsCalled (7 + 3 * (length bs / 4096)) d d'
+  pub called : IsCalledAtMost (7 + 3 * (length bs / 4096)) d d'
   pub risen : HasRisen d.faults d'.faults
 
 -- of some area, its slots and bytes that were read
@@ -223,7 +223,7 @@ OfSome P = (area : Area) × (free : List ℕ) × (bs : List ℕ) × P area free 
 -- by what an import ends with
 abbrev pub Ends : Option (List ℕ) → Option (List ℕ) → DiskView → DiskView → Result ℕ ImportStop → Type 0
 Ends left left' d d' (Ok n) = OfSome (λ area free bs. IsImported n area free bs left left' d d')
-Ends left left' d d' (Err Source) = OfSome (λ area free bs. IsCutOff area free bs left left' d d')
+Ends left left' d d' (Err Source) = OfSome (λ area free bs. FailsAfter area free bs left left' d d')
 Ends left left' d d' (Err (Session stop.NoMemory)) = IsUntouched left left' d d'
 Ends left left' d d' (Err (Session (stop.NoSwap why))) = HasNoArea why left left' d d' ⊎ HasNoMore left left' d d'
 Ends left left' d d' (Err (Session (stop.NoSlots told need))) =
@@ -241,7 +241,7 @@ Ends left left' d d' (Err (Session (stop.SyncFault what))) =
     ⊎ OfSome (λ area free bs. IsUnmarked (stop.SyncFault what) area free bs left left' d d')
 
 -- the source failed: that is noted, and out is as before
-pub record IsUnread (x x' : View) (status : Status) : Type 0 where
+pub record ImportFailsAtSource (x x' : View) (status : Status) : Type 0 where
   pub ends : Ends x.left x'.left x.disk x'.disk (Err Source)
   pub status_is : status ≡ Stream
   pub risen : HasRisen x.read_faults x'.read_faults
@@ -254,4 +254,4 @@ pub data Imports (x x' : View) (status : Status) : Type 0 where
       Imports x x' status
   stopped : (why : InStop) → Ends x.left x'.left x.disk x'.disk (Err (Session why)) →
       Tells (stop_told why) status x x' → Imports x x' status
-  unread : IsUnread x x' status → Imports x x' status
+  unread : ImportFailsAtSource x x' status → Imports x x' status

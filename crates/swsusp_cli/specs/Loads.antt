@@ -7,7 +7,7 @@ use Rattle.dump_file.specs.declared.dump.DumpFault.{DumpFault}
 use Rattle.plain_machine.specs.Chain.{Marked}
 use Rattle.plain_machine.specs.Machine.{Hardware, Memory}
 use Rattle.plain_machine.specs.Premises.{HasOriginal}
-use Rattle.plain_machine.specs.Stands.{IsTakenBack}
+use Rattle.plain_machine.specs.Stands.{IsSameOrTakenBack}
 use Rattle.plain_machine.specs.declared.event.IdentCheck.{IdentCheck}
 use Rattle.plain_machine.specs.declared.reply.Reply.{Reply}
 use Rattle.plain_machine.specs.declared.reply.Reply.TheVariants as reply
@@ -18,7 +18,7 @@ use Rattle.command_core.specs.Resumption.{HasResumed}
 use Rattle.command_core.specs.declared.ending.Ended.{Ended}
 use Rattle.command_kit.specs.Answer.{RunResult}
 use Rattle.swsusp_cli.specs.Dumps.{IsDump, IsNoDump, stopped_told}
-use Rattle.swsusp_cli.specs.Outcome.{IsOutOfMemory, IsUnread, Tells}
+use Rattle.swsusp_cli.specs.Outcome.{IsOutOfMemory, FailsAtSource, Tells}
 use Rattle.command_kit.specs.View.{View}
 use Rattle.command_kit.specs.declared.status.Status.{Status}
 use Rattle.command_kit.specs.declared.status.Status.TheVariants.{Done}
@@ -53,7 +53,7 @@ pub data Resumes {X : Type 0} (D : Ghosts X) (before after : X) (check : IdentCh
     (status : Status) : Type 0 where
   no_dump : (fault : DumpFault) → IsNoDump x x' status fault → Resumes D before after check x x' status
   out_of_memory : IsOutOfMemory x x' status → Resumes D before after check x x' status
-  unread : IsUnread x x' status → Resumes D before after check x x' status
+  unread : FailsAtSource x x' status → Resumes D before after check x x' status
   answered : (dump : DumpValue) (ended : Ended) → HasLoaded D before after check x x' status dump ended →
       Resumes D before after check x x' status
 
@@ -62,4 +62,4 @@ pub record LoadsInside (left : Option (List ℕ)) (told : Option disk.Content) (
     Type 0) : Type 0 where
   pub leaves : (bytes : List ℕ) (dump : DumpValue) (v w : disk.DiskImage) → left ≡ Some bytes →
       dump_of bytes ≡ Ok dump → told ≡ Some (disk.settled v) → (Marked dump.hw v → HasOriginal dump.hw v) →
-      since w → IsTakenBack dump.hw v w
+      since w → IsSameOrTakenBack dump.hw v w

@@ -50,7 +50,7 @@ pub record IsOutOfMemory (x x' : View) (status : Status) : Type 0 where
   pub untouched : x'.disk ≡ x.disk
 
 -- the source failed: that is noted, out is as before, and the disk isn't called
-pub record IsUnread (x x' : View) (status : Status) : Type 0 where
+pub record FailsAtSource (x x' : View) (status : Status) : Type 0 where
   pub status_is : status ≡ Stream
   pub risen : disk.HasRisen x.read_faults x'.read_faults
   pub out : x'.out ≡ x.out
@@ -84,7 +84,7 @@ pub record IsPlayed (x x' : View) (status : Status) (script : ScriptValue) : Typ
 
 -- Out failed: it took a front of the lines of a run over first events, and the fault is noted. Or all is printed, and
 -- note failed.
-pub record IsCutOff (x x' : View) (status : Status) (script : ScriptValue) : Type 0 where
+pub record IsPrintedInPart (x x' : View) (status : Status) (script : ScriptValue) : Type 0 where
   pub script_is : IsScript x x' script
   pub roomy : LieBelow script.hardware x.disk.blocks
   pub status_is : status ≡ Stream
@@ -97,9 +97,9 @@ pub record IsCutOff (x x' : View) (status : Status) (script : ScriptValue) : Typ
 pub data IsReplayed (x x' : View) (status : Status) : Type 0 where
   no_script : (fault : ScriptFault) → IsNoScript x x' status fault → IsReplayed x x' status
   out_of_memory : IsOutOfMemory x x' status → IsReplayed x x' status
-  unread : IsUnread x x' status → IsReplayed x x' status
+  unread : FailsAtSource x x' status → IsReplayed x x' status
   too_small : (script : ScriptValue) → IsScript x x' script → IsTooSmall x x' status script → IsReplayed x x' status
   unformatted : (script : ScriptValue) (call : Unformatted) → IsScript x x' script →
       IsUnformatted x x' status script call → IsReplayed x x' status
   played : (script : ScriptValue) → IsPlayed x x' status script → IsReplayed x x' status
-  cut_off : (script : ScriptValue) → IsCutOff x x' status script → IsReplayed x x' status
+  cut_off : (script : ScriptValue) → IsPrintedInPart x x' status script → IsReplayed x x' status

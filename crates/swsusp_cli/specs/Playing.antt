@@ -1,5 +1,5 @@
 -- Events played one after another.
-use Rattle.std.specs.Prelude.{◌≡◌, ◌≤◌, ◌<◌, ℕ, ◌+◌, List, length, Option, Some}
+use Rattle.std.specs.Prelude.{◌≡◌, ◌≤◌, ◌<◌, ℕ, ◌+◌, List, ◌++◌, length, Option, Some}
 use Rattle.definitions.specs.Disk as disk
 use Rattle.plain_machine.specs.State.{State}
 use Rattle.plain_machine.specs.Step.{Run}
@@ -9,7 +9,7 @@ use Rattle.protocol_laws.specs.Replays.{IsOfReplay}
 use Rattle.protocol_laws.specs.Rows.{IsSameArea, LeavesBlock}
 use Rattle.world_core.specs.StandsFor.{StandsFor, hardware_of}
 use Rattle.world_core.specs.World.{World}
-use Rattle.swsusp_cli.specs.Replay.{IsNoSlot, orders_by}
+use Rattle.swsusp_cli.specs.Replay.{IsNoSlot, orders_of}
 use Rattle.world_runs.specs.Counts.{AreCounted, steps_of}
 use Rattle.command_kit.specs.View.{DiskView}
 
@@ -24,14 +24,14 @@ pub record Played (old new : World) (events : List Event) (now : Option disk.Con
   pub of_replay : IsOfReplay b
   pub unwritten : 0 < (hardware_of old).slots → (b : ℕ) → IsNoSlot (hardware_of old) b → LeavesBlock b c c'
 
--- Each event gave a reply, each step made at most one call of the disk, the cuts alone restarted it and the arms alone
--- armed it, its count of faults allows for the replies, and they are a run from every content and state of a replay
--- that the world stood for.
+-- Each event gave a reply, each step made at most one call of the disk, which was asked for just what the events ask for,
+-- its count of faults allows for the replies, and they are a run from every content and state of a replay that the world
+-- stood for.
 pub record HasPlayed (old new : World) (events : List Event) (replies : List Reply)
     (before now : DiskView) : Type 0 where
   pub size : length replies ≡ length events
   pub calls : now.calls ≤ before.calls + steps_of events
-  pub orders : now.orders ≡ orders_by events before.orders
+  pub orders : now.orders ≡ before.orders ++ orders_of events
   pub faults : AreCounted replies before.faults now.faults
   pub run : (c : disk.Content) (a : State) → before.content ≡ Some c → StandsFor old c a → IsOfReplay a →
       (c' : disk.Content) × (b : State) × Played old new events now.content c c' a b replies

@@ -1,6 +1,6 @@
 -- What `replay` does: it prints a run of the plain machine.
-use Rattle.std.specs.Prelude.{zero, suc, ◌≡◌, ◌≢◌, ◌⊎◌, ◌≤◌, ◌<◌, ℕ, ◌+◌, List, [], ◌∷◌, ◌++◌, length, take, filter}
-use Rattle.std.specs.Prelude.{Bool, true, false, codes, decimal, Option, Some, None}
+use Rattle.std.specs.Prelude.{◌≡◌, ◌≢◌, ◌⊎◌, ◌≤◌, ◌<◌, ℕ, ◌+◌, List, [], ◌∷◌, ◌++◌, length, take, codes, decimal}
+use Rattle.std.specs.Prelude.{Option, Some, None}
 use Rattle.definitions.specs.Disk as disk
 use Rattle.definitions.specs.Streams.{TakesAll, TakesFront}
 use Rattle.plain_machine.specs.Machine.{Hardware, block_of_slot}
@@ -10,10 +10,11 @@ use Rattle.plain_machine.specs.Stands.{Stands}
 use Rattle.plain_machine.specs.State.{State, off, nothing}
 use Rattle.plain_machine.specs.Step.{Run}
 use Rattle.plain_machine.specs.declared.event.Event.{Event}
-use Rattle.plain_machine.specs.declared.event.Event.TheVariants as event
 use Rattle.plain_machine.specs.declared.reply.Reply.{Reply}
-use Rattle.protocol_laws.specs.Rows.{IsNewFault, LeavesBlock}
+use Rattle.protocol_laws.specs.Rows.{TellsNewFault, LeavesBlock}
 use Rattle.run_laws.specs.Copies.{AllRestore}
+use Rattle.sector_disk.specs.declared.orders.Order.{Order}
+use Rattle.world_core.specs.Row.{orders_after}
 use Rattle.world_runs.specs.Counts.{AreCounted, steps_of}
 use Rattle.run_laws.specs.Resumes.{AreResumedOnce}
 use Rattle.run_laws.specs.Sleeps.{NeverBothGoOn}
@@ -25,18 +26,11 @@ use Rattle.swsusp_cli.specs.Formatting.{Formats}
 use Rattle.command_kit.specs.Told.{IsPrinted}
 use Rattle.command_kit.specs.View.{View, DiskView}
 
--- each cut restarts the disk, and each arm arms it; the count of both stays at its last value
-abbrev pub is_order : Event → Bool
-is_order (event.Cut pick) = true
-is_order (event.Arm first count pick) = true
-is_order _ = false
-
-abbrev pub raised_times : ℕ → ℕ → ℕ
-raised_times zero orders = orders
-raised_times (suc k) orders = disk.raised (raised_times k orders)
-
-abbrev pub orders_by : List Event → ℕ → ℕ
-orders_by events orders = raised_times (length (filter is_order events)) orders
+-- What these events ask the disk for, beside its reads, writes and syncs: each cut a restart, and each arm that calls
+-- fail, with the event's own numbers.
+abbrev pub orders_of : List Event → List Order
+orders_of [] = []
+orders_of (e ∷ events) = orders_after e [] ++ orders_of events
 
 -- no slot of the area lies on this block
 abbrev pub IsNoSlot : Hardware → ℕ → Type 0
@@ -62,14 +56,14 @@ pub record IsRun (x x' : DiskView) (script : ScriptValue) (events : List Event) 
   pub stands : Stands script.hardware shown held end
   pub unwritten : (b : ℕ) → IsNoSlot script.hardware b → LeavesBlock b c held
 
--- Each event gave a reply, each step made at most one call of the disk after the formatting's two, the cuts alone
--- restarted it and the arms alone armed it, its count of faults allows for the replies, and where it tells its content
--- the replies are a run.
+-- Each event gave a reply, each step made at most one call of the disk after the formatting's two, the disk was asked for
+-- just what its events ask for, its count of faults allows for the replies, and where it tells its content the replies
+-- are a run.
 pub record AreReplies (x x' : DiskView) (script : ScriptValue) (events : List Event)
     (replies : List Reply) : Type 0 where
   pub size : length replies ≡ length events
   pub calls : x'.calls ≤ x.calls + 2 + steps_of events
-  pub orders : x'.orders ≡ orders_by events x.orders
+  pub orders : x'.orders ≡ x.orders ++ orders_of events
   pub faults : AreCounted replies x.faults x'.faults
   pub run : (c : disk.Content) → x.content ≡ Some c → IsRun x x' script events replies c
 

@@ -44,6 +44,6 @@ abbrev pub unready_told : Unready → RunResult
 unready_told (Small blocks need) = small_told blocks need
 unready_told (NotFormatted call) = unformatted_told call
 
-abbrev pub IsUnformatted : Unready → Type 0
-IsUnformatted (Small blocks need) = ⊥
-IsUnformatted (NotFormatted call) = ⊤
+abbrev pub IsFailedCall : Unready → Type 0
+IsFailedCall (Small blocks need) = ⊥
+IsFailedCall (NotFormatted call) = ⊤

@@ -3,7 +3,7 @@ ghost use Rattle.definitions.specs.Disk.{HasRisen};
 ghost use Rattle.definitions.specs.Streams.{IsUsedUp};
 ghost use Rattle.dump_file.specs.Dump.{dump_of};
 ghost use Rattle.plain_machine.specs.Machine.{Fits, IsHardware};
-ghost use Rattle.world_core.specs.StandsFor.{IsNew, hardware_of};
+ghost use Rattle.world_core.specs.StandsFor.{IsNewWorld, hardware_of};
 ghost use Rattle.command_kit.specs.AnswerOf.{told_by};
 ghost use Rattle.swsusp_cli.specs.Dumps.{dump_told, kind_text, stopped_told};
 ghost use Rattle.swsusp_cli.specs.Stops.{LacksDump};
@@ -38,7 +38,7 @@ pub fn machine_of(alloc: Global, dump: Dump) -> Result<World, NoMemory>
     ensures hardware { IfOk result (λ world. IsHardware (hardware_of world)) }
     ensures is { IfOk result (λ world. hardware_of world ≡ dump.hw) }
     ensures frames { IfOk result (λ world. world.frames ≡ dump.frames) }
-    ensures new { IfOk result (λ world. IsNew (hardware_of world) (Some world.frames) world) }
+    ensures new { IfOk result (λ world. IsNewWorld (hardware_of world) (Some world.frames) world) }
 {
     let _ = dump.hw.zones();
     World::from_dump(alloc, dump)

@@ -34,14 +34,14 @@ impl From<Unformatted> for Unready {
 impl Unready {
     ghost use Rattle.std.specs.Prelude.{◌≡◌, ◌≢◌};
     ghost use Rattle.command_kit.specs.AnswerOf.{told_by};
-    ghost use Rattle.swsusp_cli.specs.SettingUp.{IsUnformatted, unready_told};
+    ghost use Rattle.swsusp_cli.specs.SettingUp.{IsFailedCall, unready_told};
 
     /// What is told of it.
     pub fn answer(self) -> Answer
         ensures told { told_by result ≡ unready_told self }
         ensures stream { result.status ≢ Status.Stream }
         ensures words { result.status ≢ Status.Words }
-        ensures device { result.status ≡ Status.Device → IsUnformatted self }
+        ensures device { result.status ≡ Status.Device → IsFailedCall self }
     {
         match self {
             Unready::Small { blocks, need } => too_small(blocks, need),

@@ -152,13 +152,13 @@ shown_running w e = ap (λ (core : Core). shown_at core w.machine w.frames w.hib
 shown_hibernating : (w : World) → w.core ≡ Hibernating → shown w ≡ hibernation.shown_by w.machine w.frames w.hib
 shown_hibernating w e = ap (λ (core : Core). shown_at core w.machine w.frames w.hib w.load w.waker) e
 
-hibernation_stands : (w : World) (c : disk.Content) (a : State) → w.core ≡ Hibernating → StandsFor w c a → hib_row.StandsFor w.machine w.frames w.hib c a
+hibernation_stands : (w : World) (c : disk.Content) (a : State) → w.core ≡ Hibernating → StandsFor w c a → hib_row.HibernationStandsFor w.machine w.frames w.hib c a
 hibernation_stands w c a core stands = record {
   stands = subst (λ (s : WorldView). Stands (hardware_of w) s c a) (shown_hibernating w core) stands.stands;
   image = stands.image;
 }
 
-still_hibernating : (w : World) (c : disk.Content) (a : State) → w.core ≡ Hibernating → hib_row.StandsFor w.machine w.frames w.hib c a → resume_row.IsOfState w.machine w.frames w.load c a → StandsFor w c a
+still_hibernating : (w : World) (c : disk.Content) (a : State) → w.core ≡ Hibernating → hib_row.HibernationStandsFor w.machine w.frames w.hib c a → resume_row.IsOfState w.machine w.frames w.load c a → StandsFor w c a
 still_hibernating w c a core stands resume = record {
   stands = subst (λ (s : WorldView). Stands (hardware_of w) s c a) (sym (shown_hibernating w core)) stands.stands;
   image = stands.image;
@@ -239,7 +239,7 @@ then_asleep w c activity header copies resume loaded i held a core stands =
     }
 
 -- the states of a hibernation are those of the world that is at what it is at
-world_stands : (w : World) (c : disk.Content) (b : State) → w.core ≡ core_at (hibernation.activity_of w.hib) → hib_row.StandsFor w.machine w.frames w.hib c b → StandsFor w c b
+world_stands : (w : World) (c : disk.Content) (b : State) → w.core ≡ core_at (hibernation.activity_of w.hib) → hib_row.HibernationStandsFor w.machine w.frames w.hib c b → StandsFor w c b
 world_stands w c (off held kept) core stands = then_off w c (hibernation.activity_of w.hib) (hibernation.header_at w.hib.stage) w.hib.snapshot.copies None [] held kept (core ∙ ap core_at stands.stands.activity) stands.stands
 world_stands w c (on a) core stands = then_running w c (hibernation.activity_of w.hib) (hibernation.header_at w.hib.stage) w.hib.snapshot.copies None [] a (core ∙ ap core_at stands.stands.activity) stands.stands
 world_stands w c (hibernating suspends i a k) core stands = still_hibernating w c (hibernating suspends i a k) (core ∙ ap core_at stands.stands.activity) stands tt
@@ -259,7 +259,7 @@ row_of_begin old new asked r c core core' machine told row a stands =
       goes.0,
       record {
         step = goes.1.step;
-        stands = world_stands new c goes.0 (core_by_told new.hib r new.core core' told) (subst (λ (m : Machine). hib_row.StandsFor m new.frames new.hib c goes.0) (sym machine) goes.1.stands);
+        stands = world_stands new c goes.0 (core_by_told new.hib r new.core core' told) (subst (λ (m : Machine). hib_row.HibernationStandsFor m new.frames new.hib c goes.0) (sym machine) goes.1.stands);
         area = goes.1.area;
         unwritten = goes.1.unwritten;
         leaves = goes.1.leaves;

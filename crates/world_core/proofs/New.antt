@@ -20,7 +20,7 @@ use Rattle.plain_machine.specs.State.{off, Held, nothing, sure, other}
 use Rattle.plain_machine.specs.Stands.{Stands, IsHeld, AgreeOnArea}
 use Rattle.plain_machine.specs.declared.no_swap.NoSwap.{NoSwap}
 use Rattle.world_core.specs.World.{World}
-use Rattle.world_core.specs.StandsFor.{StandsFor, IsNew, IsOff, KeepsMemory, hardware_of, keeps_dump, shown, blocks_of}
+use Rattle.world_core.specs.StandsFor.{StandsFor, IsNewWorld, IsOff, IsKeptDump, hardware_of, keeps_dump, shown, blocks_of}
 use Rattle.world_core.specs.Started.{IsStarted, area_kind_of, fault_at_start}
 use Rattle.world_core.proofs.Cases.{rests_by}
 use Rattle.world_core.proofs.Ending.{Ends}
@@ -40,9 +40,9 @@ area_block_unmarked h v un =
 pub record IsKeeping (w : World) (h : Hardware) (kept : Option Memory) : Type 0 where
   pub hardware : hardware_of w ≡ h
   pub is_off : IsOff w
-  pub memory : KeepsMemory h w.frames (keeps_dump w.core) kept
+  pub memory : IsKeptDump h w.frames (keeps_dump w.core) kept
 
-shows_kept : (w : World) (h : Hardware) (kept : Option Memory) → KeepsMemory h w.frames (keeps_dump w.core) kept → ShowsKept h (shown w) kept
+shows_kept : (w : World) (h : Hardware) (kept : Option Memory) → IsKeptDump h w.frames (keeps_dump w.core) kept → ShowsKept h (shown w) kept
 shows_kept w h None keeps = keeps
 shows_kept w h (Some m) keeps = keeps
 
@@ -105,6 +105,6 @@ ends_of_started from old new header image v count is started =
     }
 
 -- a world that was made, with what is kept
-pub new_of : {E : Type 0} (h : Hardware) (frames : Memory) (keeps : Bool) (kept : Option Memory) (made : Result World E) → IfOk made (λ w. (k : Option Memory) → KeepsMemory h frames keeps k → IsNew h k w) → KeepsMemory h frames keeps kept → IfOk made (IsNew h kept)
+pub new_of : {E : Type 0} (h : Hardware) (frames : Memory) (keeps : Bool) (kept : Option Memory) (made : Result World E) → IfOk made (λ w. (k : Option Memory) → IsKeptDump h frames keeps k → IsNewWorld h k w) → IsKeptDump h frames keeps kept → IfOk made (IsNewWorld h kept)
 new_of h frames keeps kept (Ok w) is memory = is kept memory
 new_of h frames keeps kept (Err e) is memory = tt

@@ -159,16 +159,16 @@ loading_is w = ap (with_reason w) (reason_same w.machine.area)
 shown_at_load : (w : World) → w.core ≡ Loading → shown w ≡ shown_loading w
 shown_at_load w e = ap (λ (core : Core). shown_at core w.machine w.frames w.hib w.load w.waker) e
 
-resume_stands : (w : World) (c : disk.Content) (a : State) → w.core ≡ Loading → StandsFor w c a → resume_row.StandsFor w.machine w.frames w.load c a
+resume_stands : (w : World) (c : disk.Content) (a : State) → w.core ≡ Loading → StandsFor w c a → resume_row.ResumeStandsFor w.machine w.frames w.load c a
 resume_stands w c a core stands = record {
   stands = subst (λ (s : WorldView). Stands (hardware_of w) s c a) (shown_at_load w core ∙ sym (loading_is w)) stands.stands;
   resume = stands.resume;
 }
 
-as_shown : (w : World) (c : disk.Content) (a : State) → resume_row.StandsFor w.machine w.frames w.load c a → Stands (hardware_of w) (shown_loading w) c a
+as_shown : (w : World) (c : disk.Content) (a : State) → resume_row.ResumeStandsFor w.machine w.frames w.load c a → Stands (hardware_of w) (shown_loading w) c a
 as_shown w c a stands = subst (λ (s : WorldView). Stands (hardware_of w) s c a) (loading_is w) stands.stands
 
-still_loading : (w : World) (c : disk.Content) (load : Resume) (k : ℕ) → w.core ≡ Loading → resume_row.StandsFor w.machine w.frames w.load c (loading load k) → StandsFor w c (loading load k)
+still_loading : (w : World) (c : disk.Content) (load : Resume) (k : ℕ) → w.core ≡ Loading → resume_row.ResumeStandsFor w.machine w.frames w.load c (loading load k) → StandsFor w c (loading load k)
 still_loading w c load k core stands = record {
   stands = subst (λ (s : WorldView). Stands (hardware_of w) s c (loading load k)) (sym (shown_at_load w core)) (as_shown w c (loading load k) stands);
   image = tt;
@@ -176,11 +176,11 @@ still_loading w c load k core stands = record {
 }
 
 -- what stands for a state after a step
-standing : (machine : Machine) (frames : Memory) (load : Load) (r : Reply) (a : State) (c : disk.Content) (b : State) → resume_row.StandsAfter machine frames load r a c b → resume_row.StandsFor machine frames load c b
+standing : (machine : Machine) (frames : Memory) (load : Load) (r : Reply) (a : State) (c : disk.Content) (b : State) → resume_row.StandsAfter machine frames load r a c b → resume_row.ResumeStandsFor machine frames load c b
 standing machine frames load r a c b after = record { stands = after.stands; resume = after.resume }
 
 -- the states of a resume are those of the world that is at what it is at
-world_stands : (w : World) (c : disk.Content) (b : State) → w.core ≡ core_at (resumption.activity_of w.load) → resume_row.StandsFor w.machine w.frames w.load c b → StandsFor w c b
+world_stands : (w : World) (c : disk.Content) (b : State) → w.core ≡ core_at (resumption.activity_of w.load) → resume_row.ResumeStandsFor w.machine w.frames w.load c b → StandsFor w c b
 world_stands w c (off held kept) core stands =
     then_off w c (resumption.activity_of w.load) (resumption.header_at w.load.stage) [] (Some (w.load.loader, w.load.check)) (zip w.load.waiting.originals (waiting_pages w.frames w.load.waiting)) held kept (core ∙ ap core_at stands.stands.activity) (as_shown w c (off held kept) stands)
 world_stands w c (on a) core stands =

@@ -89,7 +89,7 @@ stands_by w c (waking i held a k) of stands = record { stands = stands; image = 
 stands_by w c (loading load k) of stands = absurd (false≢true of)
 stands_by w c (asleep i held a) of stands = record { stands = stands; image = tt; resume = tt }
 
-waking_stands : (w : World) (c : disk.Content) (b : State) → w.core ≡ Waking → sleep_row.StandsFor w.machine w.frames w.waker c b → StandsFor w c b
+waking_stands : (w : World) (c : disk.Content) (b : State) → w.core ≡ Waking → sleep_row.WakingStandsFor w.machine w.frames w.waker c b → StandsFor w c b
 waking_stands w c b core stands = stands_by w c b (sym (ap is_of_waking stands.activity)) (subst (λ (s : WorldView). Stands (hardware_of w) s c b) (sym (shown_waking w core)) stands)
 
 asleep_stands : (w : World) (c : disk.Content) (b : State) → w.core ≡ Asleep → sleep_row.Sleeps w.machine w.frames c b → StandsFor w c b
@@ -112,7 +112,7 @@ row_of_wake old new c core core' machine frames row a stands =
       record {
         step = goes.1.step;
         stands = waking_stands new c goes.0 core'
-            (subst (λ (m : Machine). sleep_row.StandsFor m new.frames new.waker c goes.0) (sym machine) (subst (λ (m : Memory). sleep_row.StandsFor old.machine m new.waker c goes.0) (sym frames) goes.1.stands));
+            (subst (λ (m : Machine). sleep_row.WakingStandsFor m new.frames new.waker c goes.0) (sym machine) (subst (λ (m : Memory). sleep_row.WakingStandsFor old.machine m new.waker c goes.0) (sym frames) goes.1.stands));
         area = goes.1.area;
         unwritten = goes.1.unwritten;
         leaves = goes.1.leaves;

@@ -1,5 +1,5 @@
 -- What an event makes of a world and its disk.
-use Rattle.std.specs.Prelude.{◌≡◌, ◌≢◌, ◌⊎◌, ◌↔◌, ℕ, true, length, Option, Some, ⊤}
+use Rattle.std.specs.Prelude.{◌≡◌, ◌≢◌, ◌⊎◌, ◌↔◌, ℕ, true, List, [], ◌∷◌, ◌++◌, length, Option, Some, ⊤}
 use Rattle.definitions.specs.Disk as disk
 use Rattle.plain_machine.specs.Machine.{Hardware, Memory, saveable}
 use Rattle.plain_machine.specs.Chain.{Marked}
@@ -9,13 +9,15 @@ use Rattle.plain_machine.specs.State.{State, loading, Load}
 use Rattle.plain_machine.specs.Step.{Step, drop_memory, dropped_by}
 use Rattle.plain_machine.specs.declared.event.Actor.TheVariants as actor
 use Rattle.resume_core.specs.Loading.{FindsMark}
-use Rattle.resume_core.specs.Row.{HasResumed}
+use Rattle.resume_core.specs.Row.{LeavesRestored}
 use Rattle.resume_core.specs.declared.load.Stage.TheVariants as stage
 use Rattle.plain_machine.specs.declared.event.Event.{Event}
 use Rattle.plain_machine.specs.declared.event.Event.TheVariants as event
 use Rattle.plain_machine.specs.declared.reply.Reply.{Reply}
 use Rattle.plain_machine.specs.declared.reply.Reply.TheVariants as reply
 use Rattle.protocol_laws.specs.Rows as rows
+use Rattle.sector_disk.specs.declared.orders.Order.{Order}
+use Rattle.sector_disk.specs.declared.orders.Order.TheVariants as order
 use Rattle.world_core.specs.declared.world.Core.TheVariants.{BootSynced, Hibernating, Loading, Running, Waking}
 use Rattle.world_core.specs.World.{World}
 use Rattle.machine.specs.TaskRow.{IsRefusal}
@@ -43,10 +45,10 @@ abbrev pub IsNoCut : Event → Type 0
 IsNoCut (event.Cut pick) = ⊥
 IsNoCut _ = ⊤
 
--- the disk is restarted by a cut alone, and armed by an arm alone
-abbrev pub orders_after : Event → ℕ → ℕ
-orders_after (event.Cut pick) orders = disk.raised orders
-orders_after (event.Arm first count pick) orders = disk.raised orders
+-- A cut alone asks the disk for a restart, and an arm alone that calls fail, each with the event's own numbers.
+abbrev pub orders_after : Event → List Order → List Order
+orders_after (event.Cut pick) orders = orders ++ order.Restart pick ∷ []
+orders_after (event.Arm first count pick) orders = orders ++ order.Arm first count pick ∷ []
 orders_after _ orders = orders
 
 -- a cut leaves one of the disk's images
@@ -68,7 +70,7 @@ Restores (event.Step actor.Core) old new (reply.Resumed n) before now =
     (c' : disk.Content) × (now ≡ Some c')
     × ((b : State)
     × Step (hardware_of old) (disk.as_it_reads c) (loading load k) (event.Step actor.Core) (reply.Resumed n) b
-    × HasResumed new.machine new.frames c' load b)
+    × LeavesRestored new.machine new.frames c' load b)
 Restores _ old new _ before now = ⊤
 
 -- what the last step of a boot says of an image on the disk v, unless the disk failed
@@ -88,8 +90,8 @@ TellsImage (event.Step actor.Core) w r told = (c : disk.Content) → told ≡ So
 TellsImage _ w r told = ⊤
 
 -- at most one call of the disk, and only in a step that an actor had to make
-abbrev pub IsCalled : Event → Reply → ℕ → ℕ → Type 0
-IsCalled e r before now = (now ≡ before) ⊎ (IsStep e × (r ≢ reply.Idle) × (now ≡ disk.raised before))
+abbrev pub CallsAtMostOnce : Event → Reply → ℕ → ℕ → Type 0
+CallsAtMostOnce e r before now = (now ≡ before) ⊎ (IsStep e × (r ≢ reply.Idle) × (now ≡ disk.raised before))
 
 -- An event that this world refuses. What begins an operation is refused by every reply but the count of its steps, a
 -- step by `idle`, and what a task asks where the machine doesn't run, or by a reply that refuses it. A cut and an arm
@@ -124,7 +126,7 @@ StopsOff _ old r new = ⊤
 -- What a step of a hibernation or a settling leaves of the page frames: those that aren't free stay, the slot table
 -- included but for the image's slots. Where it ends with nothing held these are given back, and where an image may be
 -- there all is as it was.
-pub record KeepsMemory (old new : World) (r : Reply) : Type 0 where
+pub record KeepsUsedFrames (old new : World) (r : Reply) : Type 0 where
   pub used : KeepsUsed (hardware_of old) old.frames new.frames
   pub given : change_of r old.hib.stage ≡ gives → seen_frames (hardware_of old) new.frames ≡ new.frames
   pub unsure : change_of r old.hib.stage ≡ stays → new.frames ≡ old.frames
@@ -150,5 +152,5 @@ LeavesMemory event.Settle old r new = KeepsUsed (hardware_of old) old.frames new
 LeavesMemory (event.Shrink want) old (reply.Shrunk dropped left) new =
     HasDropped (hardware_of old) want old.frames dropped left new.frames
 LeavesMemory (event.Step actor.Core) old r new =
-    (old.core ≡ Hibernating → KeepsMemory old new r) × (old.core ≡ Waking → WakesWith old new r)
+    (old.core ≡ Hibernating → KeepsUsedFrames old new r) × (old.core ≡ Waking → WakesWith old new r)
 LeavesMemory _ old r new = ⊤

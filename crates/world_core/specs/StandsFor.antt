@@ -178,13 +178,13 @@ abbrev pub core_resumed : Loader → Reply → Core
 core_resumed loader r = core_at (resumption.activity_told loader r)
 
 -- memory is a dump's and fits, or nothing is kept
-abbrev pub KeepsMemory : Hardware → Memory → Bool → Option Memory → Type 0
-KeepsMemory h frames keeps None = keeps ≡ false
-KeepsMemory h frames keeps (Some m) = (keeps ≡ true) × (frames ≡ m) × Fits h m
+abbrev pub IsKeptDump : Hardware → Memory → Bool → Option Memory → Type 0
+IsKeptDump h frames keeps None = keeps ≡ false
+IsKeptDump h frames keeps (Some m) = (keeps ≡ true) × (frames ≡ m) × Fits h m
 
 -- A new world is off, and memory is a dump's or nothing. Over a disk with one image it stands for a machine with
 -- nothing held where that isn't marked, else with another's image, if taking the mark back leaves none.
-pub record IsNew (h : Hardware) (kept : Option Memory) (w : World) : Type 0 where
+pub record IsNewWorld (h : Hardware) (kept : Option Memory) (w : World) : Type 0 where
   pub hardware : hardware_of w ≡ h
   pub at_rest : IsOff w
   pub blocks : blocks_of w ≡ 0

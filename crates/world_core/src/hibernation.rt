@@ -14,19 +14,19 @@ impl World {
     ghost use Rattle.definitions.specs.Disk.{Content};
     ghost use Rattle.plain_machine.specs.declared.event.Event.TheVariants as event;
     ghost use Rattle.plain_machine.specs.declared.event.Actor.TheVariants as actor;
-    ghost use Rattle.protocol_laws.specs.Rows.{IsNewFault};
+    ghost use Rattle.protocol_laws.specs.Rows.{TellsNewFault};
     ghost use Rattle.hib_core.specs.Row.{event_of};
     ghost use Rattle.world_core.specs.declared.world.Core.TheVariants as core;
     ghost use Rattle.world_core.specs.StandsFor.{hardware_of, blocks_of, IsOff};
-    ghost use Rattle.world_core.specs.Row.{SimulatesWhereTold, Simulates, IsCalled, IsRefused, ChangesNothing};
-    ghost use Rattle.world_core.specs.Row.{Restores, TellsImage, KeepsMemory};
+    ghost use Rattle.world_core.specs.Row.{SimulatesWhereTold, Simulates, CallsAtMostOnce, IsRefused, ChangesNothing};
+    ghost use Rattle.world_core.specs.Row.{Restores, TellsImage, KeepsUsedFrames};
     ghost use Rattle.hib_core.specs.Leaving.{KeepsUsed};
     ghost use Rattle.plain_machine.specs.declared.reply.Reply.TheVariants as reply;
 
     /// Begins a hibernation or a settling, if the machine runs.
     pub(crate) fn begin(&mut self, job: Job) -> Reply
         ensures row { (c : Content) → Simulates (event_of job) self.old self.new result c c }
-        ensures cause { IsNewFault result → ⊥ }
+        ensures cause { TellsNewFault result → ⊥ }
         ensures hardware { hardware_of self.new ≡ hardware_of self.old }
         ensures blocks { blocks_of self.new ≡ blocks_of self.old }
         ensures off { IsOff self.old → IsOff self.new }
@@ -49,7 +49,7 @@ impl World {
     fn begin_job(&mut self, job: Job) -> Reply
         requires running { self.old.core ≡ core.Running }
         ensures row { (c : Content) → Simulates (event_of job) self.old self.new result c c }
-        ensures cause { IsNewFault result → ⊥ }
+        ensures cause { TellsNewFault result → ⊥ }
         ensures hardware { hardware_of self.new ≡ hardware_of self.old }
         ensures blocks { blocks_of self.new ≡ blocks_of self.old }
         ensures refused { IsRefused (event_of job) self.old result → ChangesNothing self.old self.new }
@@ -74,10 +74,11 @@ impl World {
             (D.content disk.new) }
         ensures image { TellsImage (event.Step actor.Core) self.old result (D.content disk.old) }
         ensures works { result ≢ reply.Idle }
-        ensures called { Called D.Disk (IsCalled (event.Step actor.Core) result) (IsNewFault result) disk.old disk.new }
+        ensures called { Called D.Disk (CallsAtMostOnce (event.Step actor.Core) result) (TellsNewFault result)
+            disk.old disk.new }
         ensures hardware { hardware_of self.new ≡ hardware_of self.old }
         ensures blocks { blocks_of self.new ≡ blocks_of self.old }
-        ensures memory { KeepsMemory self.old self.new result }
+        ensures memory { KeepsUsedFrames self.old self.new result }
     {
         // Each page frame has 4096 bytes.
         let _ = self.frames.len();

@@ -1,5 +1,5 @@
-ghost use Rattle.std.specs.Prelude.{◌≡◌, ℕ, ◌≤◌, IsTrue};
-ghost use Rattle.definitions.specs.Disk.{raised, Changes, Elapses, Restarts};
+ghost use Rattle.std.specs.Prelude.{◌≡◌, ℕ, ◌≤◌, [], ◌∷◌, ◌++◌, IsTrue};
+ghost use Rattle.definitions.specs.Disk.{Changes, Elapses, Restarts};
 
 use crate::World;
 use crate::world::Core;
@@ -9,7 +9,8 @@ use sector_disk::Disk;
 // A power cut, and faults of the disk (own).
 impl World {
     ghost use Rattle.plain_machine.specs.declared.event.Event.TheVariants as event;
-    ghost use Rattle.protocol_laws.specs.Rows.{IsNewFault};
+    ghost use Rattle.protocol_laws.specs.Rows.{TellsNewFault};
+    ghost use Rattle.sector_disk.specs.declared.orders.Order.TheVariants as order;
     ghost use Rattle.world_core.specs.StandsFor.{hardware_of, blocks_of, IsOff, keeps_dump};
     ghost use Rattle.world_core.specs.Row.{SimulatesWhereTold};
 
@@ -18,10 +19,10 @@ impl World {
     pub(crate) fn cut<D: Disk>(&mut self, disk: &mut D, pick: u64) -> Reply
         ensures row { SimulatesWhereTold (event.Cut pick) self.old self.new result (D.content disk.old)
             (D.content disk.new) }
-        ensures cause { IsNewFault result → ⊥ }
+        ensures cause { TellsNewFault result → ⊥ }
         ensures faults { D.faults disk.old ≤ D.faults disk.new }
         ensures calls { D.calls disk.new ≡ D.calls disk.old }
-        ensures orders { D.orders disk.new ≡ raised (D.orders disk.old) }
+        ensures orders { D.orders disk.new ≡ D.orders disk.old ++ order.Restart pick ∷ [] }
         ensures telling { D.tells_moments disk.new ≡ D.tells_moments disk.old }
         ensures hardware { hardware_of self.new ≡ hardware_of self.old }
         ensures blocks { blocks_of self.new ≡ blocks_of self.old }
@@ -39,10 +40,10 @@ impl World {
     pub(crate) fn arm<D: Disk>(&self, disk: &mut D, first: u32, count: u32, pick: u64) -> Reply
         ensures row { SimulatesWhereTold (event.Arm first count pick) self.now self.now result (D.content disk.old)
             (D.content disk.new) }
-        ensures cause { IsNewFault result → ⊥ }
+        ensures cause { TellsNewFault result → ⊥ }
         ensures faults { D.faults disk.old ≤ D.faults disk.new }
         ensures calls { D.calls disk.new ≡ D.calls disk.old }
-        ensures orders { D.orders disk.new ≡ raised (D.orders disk.old) }
+        ensures orders { D.orders disk.new ≡ D.orders disk.old ++ order.Arm first count pick ∷ [] }
         ensures blocks { D.block_count disk.new ≡ D.block_count disk.old }
         ensures telling { D.tells_moments disk.new ≡ D.tells_moments disk.old }
         ensures time { IsTrue (D.tells_moments disk.old) → Changes (Elapses (D.moment disk.old) (D.moment disk.new)

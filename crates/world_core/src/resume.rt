@@ -13,17 +13,17 @@ impl World {
     ghost use Rattle.definitions.specs.Disk.{Content};
     ghost use Rattle.plain_machine.specs.declared.event.Event.TheVariants as event;
     ghost use Rattle.plain_machine.specs.declared.event.Actor.TheVariants as actor;
-    ghost use Rattle.protocol_laws.specs.Rows.{IsNewFault};
+    ghost use Rattle.protocol_laws.specs.Rows.{TellsNewFault};
     ghost use Rattle.world_core.specs.declared.world.Core.TheVariants as core;
     ghost use Rattle.world_core.specs.StandsFor.{hardware_of, blocks_of, IsOff, keeps_dump};
     ghost use Rattle.plain_machine.specs.declared.reply.Reply.TheVariants as reply;
-    ghost use Rattle.world_core.specs.Row.{SimulatesWhereTold, Simulates, IsCalled, IsRefused, ChangesNothing};
+    ghost use Rattle.world_core.specs.Row.{SimulatesWhereTold, Simulates, CallsAtMostOnce, IsRefused, ChangesNothing};
     ghost use Rattle.world_core.specs.Row.{Restores, TellsImage, blocks_after};
 
     /// Begins a resume, on a disk of so many blocks, if the machine is off. A dump's loader is the memory that is kept.
     pub(crate) fn resume(&mut self, blocks: u32, loader: Loader, check: IdentCheck) -> Reply
         ensures row { (c : Content) → Simulates (event.Resume loader check) self.old self.new result c c }
-        ensures cause { IsNewFault result → ⊥ }
+        ensures cause { TellsNewFault result → ⊥ }
         ensures hardware { hardware_of self.new ≡ hardware_of self.old }
         ensures blocks { ((self.new.core ≡ self.old.core) × (blocks_of self.new ≡ blocks_of self.old))
             ⊎ (blocks_of self.new ≡ blocks) }
@@ -45,7 +45,7 @@ impl World {
         requires off { IsOff self.old }
         requires dump { asks_dump_to_load loader ≡ true → keeps_dump self.old.core ≡ true }
         ensures row { (c : Content) → Simulates (event.Resume loader check) self.old self.new result c c }
-        ensures cause { IsNewFault result → ⊥ }
+        ensures cause { TellsNewFault result → ⊥ }
         ensures hardware { hardware_of self.new ≡ hardware_of self.old }
         ensures blocks { blocks_of self.new ≡ blocks }
         ensures reply { result ≡ reply.Loading 0 }
@@ -69,7 +69,8 @@ impl World {
         ensures image { TellsImage (event.Step actor.Core) self.old result (D.content disk.old) }
         ensures works { result ≢ reply.Idle }
         ensures stopped { ((k : ℕ) → result ≢ reply.Loading k) → ((n : ℕ) → result ≢ reply.Resumed n) → IsOff self.new }
-        ensures called { Called D.Disk (IsCalled (event.Step actor.Core) result) (IsNewFault result) disk.old disk.new }
+        ensures called { Called D.Disk (CallsAtMostOnce (event.Step actor.Core) result) (TellsNewFault result)
+            disk.old disk.new }
         ensures hardware { hardware_of self.new ≡ hardware_of self.old }
         ensures blocks { blocks_of self.new ≡ blocks_of self.old }
     {

@@ -3,7 +3,7 @@ ghost use Rattle.definitions.specs.Bytes.{IsPage};
 ghost use Rattle.definitions.specs.Zones.{top};
 ghost use Rattle.plain_machine.specs.Machine.{IsHardware, saveable};
 ghost use Rattle.plain_machine.specs.Step.{drop_memory, dropped_by};
-ghost use Rattle.protocol_laws.specs.Rows.{IsNewFault};
+ghost use Rattle.protocol_laws.specs.Rows.{TellsNewFault};
 
 use crate::World;
 use crate::world::Core;
@@ -27,7 +27,7 @@ impl World {
     /// Drops cached page frames until so many saveable ones are left, if the machine runs.
     pub(crate) fn shrink(&mut self, want: u64) -> Reply
         ensures row { (c : Content) → Simulates (event.Shrink want) self.old self.new result c c }
-        ensures cause { IsNewFault result → ⊥ }
+        ensures cause { TellsNewFault result → ⊥ }
         ensures hardware { hardware_of self.new ≡ hardware_of self.old }
         ensures blocks { blocks_of self.new ≡ blocks_of self.old }
         ensures core { self.new.core ≡ self.old.core }
@@ -50,7 +50,7 @@ impl World {
     fn drop_cached(&mut self, want: u64) -> Reply
         requires running { self.old.core ≡ core.Running }
         ensures row { (c : Content) → Simulates (event.Shrink want) self.old self.new result c c }
-        ensures cause { IsNewFault result → ⊥ }
+        ensures cause { TellsNewFault result → ⊥ }
         ensures hardware { hardware_of self.new ≡ hardware_of self.old }
         ensures blocks { blocks_of self.new ≡ blocks_of self.old }
         ensures core { self.new.core ≡ self.old.core }

@@ -1,6 +1,6 @@
 ghost use Rattle.std.specs.Prelude.{◌≡◌, ◌≢◌, ◌⊎◌, ◌↔◌, IsSome, IsTrue};
 ghost use Rattle.plain_machine.specs.declared.reply.Reply.TheVariants as reply;
-ghost use Rattle.protocol_laws.specs.Rows.{IsNewFault};
+ghost use Rattle.protocol_laws.specs.Rows.{TellsNewFault};
 ghost use Rattle.sector_disk.specs.Called.{Called};
 
 use crate::World;
@@ -18,7 +18,7 @@ impl World {
     ghost use Rattle.machine.specs.Flights.{flights_in};
     ghost use Rattle.world_core.specs.declared.world.Core.TheVariants as core;
     ghost use Rattle.world_core.specs.StandsFor.{hardware_of, blocks_of, IsOff, IsBusyIn};
-    ghost use Rattle.world_core.specs.Row.{SimulatesWhereTold, Simulates, IsCalled, IsRefused, ChangesNothing};
+    ghost use Rattle.world_core.specs.Row.{SimulatesWhereTold, Simulates, CallsAtMostOnce, IsRefused, ChangesNothing};
     ghost use Rattle.world_core.specs.Row.{StopsOff, Restores, TellsImage};
 
     /// What a task asks for: it is refused where the machine doesn't run.
@@ -26,7 +26,7 @@ impl World {
         requires task { IsTask t }
         requires op { IsFittingOp op }
         ensures row { (c : Content) → Simulates (event.Task t op) self.old self.new result c c }
-        ensures cause { IsNewFault result → ⊥ }
+        ensures cause { TellsNewFault result → ⊥ }
         ensures hardware { hardware_of self.new ≡ hardware_of self.old }
         ensures blocks { blocks_of self.new ≡ blocks_of self.old }
         ensures core { self.new.core ≡ self.old.core }
@@ -50,7 +50,7 @@ impl World {
         requires task { IsTask t }
         requires op { IsFittingOp op }
         ensures row { (c : Content) → Simulates (event.Task t op) self.old self.new result c c }
-        ensures cause { IsNewFault result → ⊥ }
+        ensures cause { TellsNewFault result → ⊥ }
         ensures hardware { hardware_of self.new ≡ hardware_of self.old }
         ensures blocks { blocks_of self.new ≡ blocks_of self.old }
         ensures core { self.new.core ≡ self.old.core }
@@ -70,8 +70,8 @@ impl World {
         ensures restored { Restores (event.Step (actor.Task t)) self.old self.new result (D.content disk.old)
             (D.content disk.new) }
         ensures image { TellsImage (event.Step (actor.Task t)) self.old result (D.content disk.old) }
-        ensures called { Called D.Disk (IsCalled (event.Step (actor.Task t)) result) (IsNewFault result) disk.old
-            disk.new }
+        ensures called { Called D.Disk (CallsAtMostOnce (event.Step (actor.Task t)) result) (TellsNewFault result)
+            disk.old disk.new }
         ensures hardware { hardware_of self.new ≡ hardware_of self.old }
         ensures blocks { blocks_of self.new ≡ blocks_of self.old }
         ensures off { IsOff self.old → IsOff self.new }
@@ -102,8 +102,8 @@ impl World {
         requires blocks { D.block_count disk.old ≡ blocks_of self.old }
         ensures row { SimulatesWhereTold (event.Step (actor.Task t)) self.old self.new result (D.content disk.old)
             (D.content disk.new) }
-        ensures called { Called D.Disk (IsCalled (event.Step (actor.Task t)) result) (IsNewFault result) disk.old
-            disk.new }
+        ensures called { Called D.Disk (CallsAtMostOnce (event.Step (actor.Task t)) result) (TellsNewFault result)
+            disk.old disk.new }
         ensures hardware { hardware_of self.new ≡ hardware_of self.old }
         ensures blocks { blocks_of self.new ≡ blocks_of self.old }
         ensures core { self.new.core ≡ self.old.core }

@@ -21,16 +21,16 @@ impl World {
     ghost use Rattle.plain_machine.specs.declared.event.Event.TheVariants as event;
     ghost use Rattle.plain_machine.specs.declared.event.Actor.TheVariants as actor;
     ghost use Rattle.plain_machine.specs.declared.reply.Reply.TheVariants as reply;
-    ghost use Rattle.protocol_laws.specs.Rows.{IsNewFault};
+    ghost use Rattle.protocol_laws.specs.Rows.{TellsNewFault};
     ghost use Rattle.world_core.specs.declared.world.Core.TheVariants as core;
     ghost use Rattle.world_core.specs.StandsFor.{hardware_of, blocks_of, IsOff};
-    ghost use Rattle.world_core.specs.Row.{SimulatesWhereTold, Simulates, IsCalled, IsRefused, ChangesNothing};
+    ghost use Rattle.world_core.specs.Row.{SimulatesWhereTold, Simulates, CallsAtMostOnce, IsRefused, ChangesNothing};
     ghost use Rattle.world_core.specs.Row.{Restores, TellsImage, WakesWith};
 
     /// Begins to wake, if the machine is asleep.
     pub(crate) fn wake(&mut self) -> Reply
         ensures row { (c : Content) → Simulates event.Wake self.old self.new result c c }
-        ensures cause { IsNewFault result → ⊥ }
+        ensures cause { TellsNewFault result → ⊥ }
         ensures hardware { hardware_of self.new ≡ hardware_of self.old }
         ensures blocks { blocks_of self.new ≡ blocks_of self.old }
         ensures off { IsOff self.old → IsOff self.new }
@@ -64,7 +64,8 @@ impl World {
             (D.content disk.new) }
         ensures image { TellsImage (event.Step actor.Core) self.old result (D.content disk.old) }
         ensures works { result ≢ reply.Idle }
-        ensures called { Called D.Disk (IsCalled (event.Step actor.Core) result) (IsNewFault result) disk.old disk.new }
+        ensures called { Called D.Disk (CallsAtMostOnce (event.Step actor.Core) result) (TellsNewFault result)
+            disk.old disk.new }
         ensures hardware { hardware_of self.new ≡ hardware_of self.old }
         ensures blocks { blocks_of self.new ≡ blocks_of self.old }
         ensures memory { WakesWith self.old self.new result }

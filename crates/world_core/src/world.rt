@@ -3,7 +3,7 @@ ghost use Rattle.std.specs.Prelude.{IsSome, IsTrue};
 ghost use Rattle.definitions.specs.Zones.{top};
 ghost use Rattle.plain_machine.specs.Machine.{Memory, Fits};
 ghost use Rattle.machine.specs.Running.{AreReserved};
-ghost use Rattle.protocol_laws.specs.Rows.{IsNewFault};
+ghost use Rattle.protocol_laws.specs.Rows.{TellsNewFault};
 ghost use Rattle.sector_disk.specs.Called.{Called};
 
 use frame_arena::Frames;
@@ -70,13 +70,14 @@ impl World {
     ghost use Rattle.plain_machine.specs.State.{State};
     ghost use Rattle.plain_machine.specs.Shows.{activity_in, runs, seen_frames};
     ghost use Rattle.world_core.specs.declared.world.Core.TheVariants as core;
-    ghost use Rattle.world_core.specs.StandsFor.{StandsFor, hardware_of, blocks_of, IsOff, IsNew, KeepsMemory};
-    ghost use Rattle.world_core.specs.Row.{SimulatesWhereTold, IsCalled, IsNoCut, IsRefused, ChangesNothing, StopsOff};
+    ghost use Rattle.world_core.specs.StandsFor.{StandsFor, hardware_of, blocks_of, IsOff, IsNewWorld, IsKeptDump};
+    ghost use Rattle.world_core.specs.Row.{SimulatesWhereTold, CallsAtMostOnce, IsNoCut, IsRefused, ChangesNothing};
+    ghost use Rattle.world_core.specs.Row.{StopsOff};
     ghost use Rattle.world_core.specs.Row.{LeavesMemory, RestartsAt, orders_after, blocks_after, Restores, TellsImage};
 
     /// A machine that is off, with page frames of zeros.
     pub fn create(alloc: Global, hw: Hardware) -> Result<World, NoMemory>
-        ensures { IfOk result (IsNew hw None) }
+        ensures { IfOk result (IsNewWorld hw None) }
     {
         let frames = Frames::create(alloc, hw.zones().top())?;
         World::over(alloc, hw, frames, false)
@@ -85,7 +86,7 @@ impl World {
     /// A machine that is off, and keeps the dump's memory until a boot or a resume is accepted.
     pub fn from_dump(alloc: Global, dump: Dump) -> Result<World, NoMemory>
         requires { Fits dump.hw dump.frames }
-        ensures new { IfOk result (IsNew dump.hw (Some dump.frames)) }
+        ensures new { IfOk result (IsNewWorld dump.hw (Some dump.frames)) }
         ensures frames { IfOk result (λ w. w.frames ≡ dump.frames) }
     {
         World::over(alloc, dump.hw, dump.frames, true)
@@ -100,8 +101,8 @@ impl World {
     ) -> Result<World, NoMemory>
         requires size { length frames ≡ top hw.zones }
         requires tables { keeps_dump ≡ true → AreReserved hw frames }
-        ensures new { IfOk result (λ w. (kept : Option Memory) → KeepsMemory hw frames keeps_dump kept →
-            IsNew hw kept w) }
+        ensures new { IfOk result (λ w. (kept : Option Memory) → IsKeptDump hw frames keeps_dump kept →
+            IsNewWorld hw kept w) }
         ensures frames { IfOk result (λ w. w.frames ≡ frames) }
     {
         let runs = FreeRuns::create(alloc, hw.slots())?;
@@ -159,9 +160,9 @@ impl World {
         ensures row { SimulatesWhereTold event self.old self.new result (D.content disk.old) (D.content disk.new) }
         ensures restored { Restores event self.old self.new result (D.content disk.old) (D.content disk.new) }
         ensures image { TellsImage event self.old result (D.content disk.old) }
-        ensures cause { IsNewFault result → HasRisen (D.faults disk.old) (D.faults disk.new) }
+        ensures cause { TellsNewFault result → HasRisen (D.faults disk.old) (D.faults disk.new) }
         ensures faults { D.faults disk.old ≤ D.faults disk.new }
-        ensures calls { IsCalled event result (D.calls disk.old) (D.calls disk.new) }
+        ensures calls { CallsAtMostOnce event result (D.calls disk.old) (D.calls disk.new) }
         ensures orders { D.orders disk.new ≡ orders_after event (D.orders disk.old) }
         ensures cut { RestartsAt event (D.content disk.old) (D.content disk.new) }
         ensures telling { D.tells_moments disk.new ≡ D.tells_moments disk.old }
@@ -202,7 +203,8 @@ impl World {
         ensures restored { Restores (event.Step actor) self.old self.new result (D.content disk.old)
             (D.content disk.new) }
         ensures image { TellsImage (event.Step actor) self.old result (D.content disk.old) }
-        ensures called { Called D.Disk (IsCalled (event.Step actor) result) (IsNewFault result) disk.old disk.new }
+        ensures called { Called D.Disk (CallsAtMostOnce (event.Step actor) result) (TellsNewFault result)
+            disk.old disk.new }
         ensures hardware { hardware_of self.new ≡ hardware_of self.old }
         ensures blocks { blocks_of self.new ≡ blocks_of self.old }
         ensures off { IsOff self.old → IsOff self.new }
@@ -223,7 +225,8 @@ impl World {
         ensures restored { Restores (event.Step actor.Core) self.old self.new result (D.content disk.old)
             (D.content disk.new) }
         ensures image { TellsImage (event.Step actor.Core) self.old result (D.content disk.old) }
-        ensures called { Called D.Disk (IsCalled (event.Step actor.Core) result) (IsNewFault result) disk.old disk.new }
+        ensures called { Called D.Disk (CallsAtMostOnce (event.Step actor.Core) result) (TellsNewFault result)
+            disk.old disk.new }
         ensures hardware { hardware_of self.new ≡ hardware_of self.old }
         ensures blocks { blocks_of self.new ≡ blocks_of self.old }
         ensures off { IsOff self.old → IsOff self.new }

@@ -6,8 +6,8 @@ use Rattle.definitions.specs.Disk as disk
 use Rattle.plain_machine.specs.declared.event.Event.{Event}
 use Rattle.plain_machine.specs.declared.event.Event.TheVariants as event
 use Rattle.plain_machine.specs.declared.reply.Reply.{Reply}
-use Rattle.protocol_laws.specs.Rows.{IsNewFault}
-use Rattle.world_core.specs.Row.{IsStep, IsCalled}
+use Rattle.protocol_laws.specs.Rows.{TellsNewFault}
+use Rattle.world_core.specs.Row.{IsStep, CallsAtMostOnce}
 use Rattle.world_runs.specs.Counts.{is_step, steps_of, AreCounted}
 
 -- Faults.
@@ -25,7 +25,7 @@ pub counted_later : (rs : List Reply) (low high : ℕ) → AreCounted rs low hig
 counted_later [] low high le = le
 counted_later (r ∷ rs) low high (m, le, f, rest) = let later = counted_later rs m high rest in omega arith
 
-pub counted_one : (r : Reply) (low high : ℕ) → low ≤ high → (IsNewFault r → disk.HasRisen low high) → AreCounted (r ∷ []) low high
+pub counted_one : (r : Reply) (low high : ℕ) → low ≤ high → (TellsNewFault r → disk.HasRisen low high) → AreCounted (r ∷ []) low high
 counted_one r low high le risen = (high, le, risen, omega arith)
 
 pub counted_append : (rs qs : List Reply) (low mid high : ℕ) → AreCounted rs low mid → AreCounted qs mid high → AreCounted (rs ++ qs) low high
@@ -50,7 +50,7 @@ one_step (event.Task u o) s = absurd s
 one_step (event.Cut pick) s = absurd s
 one_step (event.Arm first count pick) s = absurd s
 
-pub called_one : (e : Event) (r : Reply) (before now : ℕ) → IsCalled e r before now → now ≤ before + steps_of (e ∷ [])
+pub called_one : (e : Event) (r : Reply) (before now : ℕ) → CallsAtMostOnce e r before now → now ≤ before + steps_of (e ∷ [])
 called_one e r before now (inl same) = omega arith
 called_one e r before now (inr called) =
     let one = one_step e called.0 in

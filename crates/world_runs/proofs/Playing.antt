@@ -10,10 +10,10 @@ use Rattle.plain_machine.specs.declared.event.Event.{Event}
 use Rattle.plain_machine.specs.declared.event.Event.TheVariants as event
 use Rattle.plain_machine.specs.declared.reply.Reply.{Reply}
 use Rattle.plain_machine.specs.declared.reply.Reply.TheVariants as reply
-use Rattle.protocol_laws.specs.Rows.{IsNewFault}
+use Rattle.protocol_laws.specs.Rows.{TellsNewFault}
 use Rattle.resume_core.specs.Restored.{restored_by}
 use Rattle.sector_disk.specs.declared.disk.Disk.{Ghosts}
-use Rattle.world_core.specs.Row.{SimulatesWhereTold, Restores, IsCalled, IsNoCut}
+use Rattle.world_core.specs.Row.{SimulatesWhereTold, Restores, CallsAtMostOnce, IsNoCut}
 use Rattle.world_core.specs.StandsFor.{StandsFor, hardware_of, shown}
 use Rattle.world_core.specs.World.{World}
 use Rattle.world_runs.specs.Counts.{steps_of}
@@ -71,7 +71,7 @@ restored_here h e old new r before now c load k n hw told restores step resumed 
 pub played_one : {X : Type 0} (D : Ghosts X) (old new : World) (e : Event) (r : Reply) (x y : X) →
     IsNoCut e → hardware_of new ≡ hardware_of old →
     SimulatesWhereTold e old new r (D.content x) (D.content y) → Restores e old new r (D.content x) (D.content y) →
-    (IsNewFault r → disk.HasRisen (D.faults x) (D.faults y)) → D.faults x ≤ D.faults y → IsCalled e r (D.calls x) (D.calls y) →
+    (TellsNewFault r → disk.HasRisen (D.faults x) (D.faults y)) → D.faults x ≤ D.faults y → CallsAtMostOnce e r (D.calls x) (D.calls y) →
     D.tells_moments y ≡ D.tells_moments x →
     (IsNoCut e → IsTrue (D.tells_moments x) →
     disk.Changes (disk.Elapses (D.moment x) (D.moment y) (D.left_since x) (D.left_since y)) (D.content x) (D.content y)) →

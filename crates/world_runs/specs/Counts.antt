@@ -4,7 +4,7 @@ use Rattle.definitions.specs.Disk.{HasRisen}
 use Rattle.plain_machine.specs.declared.event.Event.{Event}
 use Rattle.plain_machine.specs.declared.event.Event.TheVariants as event
 use Rattle.plain_machine.specs.declared.reply.Reply.{Reply}
-use Rattle.protocol_laws.specs.Rows.{IsNewFault}
+use Rattle.protocol_laws.specs.Rows.{TellsNewFault}
 
 -- how many events are steps, each of which may call the disk once
 abbrev pub is_step : Event → Bool
@@ -19,4 +19,4 @@ steps_of events = length (filter is_step events)
 abbrev pub AreCounted : List Reply → ℕ → ℕ → Type 0
 AreCounted [] low high = low ≤ high
 AreCounted (r ∷ replies) low high =
-    (mid : ℕ) × (low ≤ mid) × (IsNewFault r → HasRisen low mid) × AreCounted replies mid high
+    (mid : ℕ) × (low ≤ mid) × (TellsNewFault r → HasRisen low mid) × AreCounted replies mid high

@@ -3,7 +3,7 @@ use Rattle.std.specs.Prelude.{IsTrue}
 use Rattle.std.proofs.lemmas.Bool.{false≢true}
 use Rattle.plain_machine.specs.declared.event.Actor.TheVariants as actor
 use Rattle.plain_machine.specs.declared.event.Event.TheVariants as event
-use Rattle.protocol_laws.specs.Rows.{IsNewFault}
+use Rattle.protocol_laws.specs.Rows.{TellsNewFault}
 use Rattle.world_core.specs.StandsFor.{hardware_of}
 use Rattle.world_runs.proofs.Playing.{played_one}
 use Rattle.command_core.proofs.Points.{made_first, made_more, elapsed_first, elapsed_more, risen_then}
@@ -31,7 +31,7 @@ loop-made-preserved g c =
     let row = c.event-reply.ensures in
     let r = c.event-reply.result in
     let failed = c.if-failed.failed in
-    let noticed : IsNewFault r → failed ≡ true = elim c.if-failed.branch [
+    let noticed : TellsNewFault r → failed ≡ true = elim c.if-failed.branch [
       | then-failed w ↦ λ is. w.failed-is ∙ w.if-failed.true
       | else-failed w ↦ λ is. w.failed-is ∙ w.is_new_fault-failed.ensures.1 is
     ] in
@@ -39,7 +39,7 @@ loop-made-preserved g c =
       | then-failed w ↦ λ is. w.failed-is ∙ w.if-failed.true
       | else-failed w ↦ λ is. absurd (false≢true (sym w.if-failed.false ∙ is))
     ] in
-    let either : failed ≡ true → (c.loop-made.failed ≡ true) ⊎ IsNewFault r = elim c.if-failed.branch [
+    let either : failed ≡ true → (c.loop-made.failed ≡ true) ⊎ TellsNewFault r = elim c.if-failed.branch [
       | then-failed w ↦ λ is. inl w.if-failed.true
       | else-failed w ↦ λ is. inr (w.is_new_fault-failed.ensures.0 (sym w.failed-is ∙ is))
     ] in
@@ -53,7 +53,7 @@ loop-made-preserved g c =
           (g.met.D.Disk.well_formed c.event-reply.new.disk) noticed noted either;
       hardware = row.hardware ∙ inv.hardware;
       blocks = row.blocks;
-      cause = λ is. risen_then (c.loop-made.failed ≡ true) (IsNewFault r) (g.D.Disk.faults c.args.disk.now) (g.D.Disk.faults c.loop-made.disk) (g.D.Disk.faults c.event-reply.new.disk) so_far later inv.cause row.cause (either is);
+      cause = λ is. risen_then (c.loop-made.failed ≡ true) (TellsNewFault r) (g.D.Disk.faults c.args.disk.now) (g.D.Disk.faults c.loop-made.disk) (g.D.Disk.faults c.event-reply.new.disk) so_far later inv.cause row.cause (either is);
       faults = omega arith;
       ran = finishes_more g.D.Disk c.args.world.now c.loop-made.world c.event-reply.new.self c.args.begun c.loop-made.reply r c.loop-made.made c.args.disk.now c.loop-made.disk c.event-reply.new.disk inv.ran
           (let lt = c.loop-made-test.true in omega arith)

@@ -3,7 +3,7 @@ use Rattle.definitions.specs.Disk as disk
 use Rattle.plain_machine.specs.Machine.{Hardware, Memory}
 use Rattle.plain_machine.specs.Shows.{seen_frames}
 use Rattle.plain_machine.specs.declared.event.Event.{Event}
-use Rattle.world_core.specs.StandsFor.{IsNew, StandsFor}
+use Rattle.world_core.specs.StandsFor.{IsNewWorld, StandsFor}
 use Rattle.world_core.specs.World.{World}
 use Rattle.command_kit.specs.Answer.{RunResult}
 use Rattle.swsusp_cli.specs.Loads.{written_told}
@@ -47,7 +47,7 @@ returns-in-Some-clause-outcome g c =
     let between : DiskView = record { blocks = g.D.Disk.block_count c.set_up.new.disk; content = g.D.Disk.content c.set_up.new.disk; faults = g.D.Disk.faults c.set_up.new.disk; calls = g.D.Disk.calls c.set_up.new.disk; orders = g.D.Disk.orders c.set_up.new.disk } in
     let now : DiskView = record { blocks = g.D.Disk.block_count c.play_through.new.disk; content = g.D.Disk.content c.play_through.new.disk; faults = g.D.Disk.faults c.play_through.new.disk; calls = g.D.Disk.calls c.play_through.new.disk; orders = g.D.Disk.orders c.play_through.new.disk } in
     let script = c.in-Ok.script in
-    let fresh = subst (λ (h : Hardware). IsNew h None c.in-Ok-create.world) c.hardware.ensures c.in-Ok-create.ensures in
+    let fresh = subst (λ (h : Hardware). IsNewWorld h None c.in-Ok-create.world) c.hardware.ensures c.in-Ok-create.ensures in
     let rs = c.play_through.ensures.played.0 in
     let was = subst (λ (events : List Event). HasPlayed c.in-Ok-create.world c.play_through.new.world events rs between now) c.events.ensures c.play_through.ensures.played.1 in
     let played = has_played _ _ script c.in-Ok-create.world c.play_through.new.world rs between (record { says = c.in-Ok.ensures.ready.0; over = c.in-Ok.ensures.ready.1; few = c.in-Ok.ensures.few })
@@ -66,7 +66,7 @@ returns-clause-outcome g c =
     let between : DiskView = record { blocks = g.D.Disk.block_count c.set_up.new.disk; content = g.D.Disk.content c.set_up.new.disk; faults = g.D.Disk.faults c.set_up.new.disk; calls = g.D.Disk.calls c.set_up.new.disk; orders = g.D.Disk.orders c.set_up.new.disk } in
     let now : DiskView = record { blocks = g.D.Disk.block_count c.play_through.new.disk; content = g.D.Disk.content c.play_through.new.disk; faults = g.D.Disk.faults c.play_through.new.disk; calls = g.D.Disk.calls c.play_through.new.disk; orders = g.D.Disk.orders c.play_through.new.disk } in
     let script = c.in-Ok.script in
-    let fresh = subst (λ (h : Hardware). IsNew h None c.in-Ok-create.world) c.hardware.ensures c.in-Ok-create.ensures in
+    let fresh = subst (λ (h : Hardware). IsNewWorld h None c.in-Ok-create.world) c.hardware.ensures c.in-Ok-create.ensures in
     let rs = c.play_through.ensures.played.0 in
     let was = subst (λ (events : List Event). HasPlayed c.in-Ok-create.world c.play_through.new.world events rs between now) c.events.ensures c.play_through.ensures.played.1 in
     let played = has_played _ _ script c.in-Ok-create.world c.play_through.new.world rs between (record { says = c.in-Ok.ensures.ready.0; over = c.in-Ok.ensures.ready.1; few = c.in-Ok.ensures.few })

@@ -1,7 +1,7 @@
 use Rattle.std.proofs.Common.{◌≡◌, IsTrue, sym, ap, subst, ◌∙◌}
 use Rattle.definitions.specs.Disk.{Changes}
 use Rattle.definitions.specs.SwapHeader.{marked}
-use Rattle.stream_in.specs.Marking.{HasHeader, Marks, LeavesAt, LeavesMark}
+use Rattle.stream_in.specs.Marking.{HasHeader, Marks, LeavesAt, FailsToMark}
 use Rattle.stream_in.proofs.Contents.{on_ok, if_err}
 use Rattle.stream_in.proofs.Undoing.{told_marks, told_leaves}
 use Rattle.stream_in.proofs.Trying.{told_marking, told_alike_mark, told_tries, told_tries_none}
@@ -25,7 +25,7 @@ returns-clause-leaves g c =
     let a = g.D.Disk.content c.args.disk.now in
     let b = g.D.Disk.content c.header_to_mark.new.disk in
     let d = g.D.Disk.content c.write_mark.new.disk in
-    if_err c.write_mark.result (λ why. Changes (LeavesMark over why) b d) (λ why. Changes (LeavesAt why) a d)
+    if_err c.write_mark.result (λ why. Changes (FailsToMark over why) b d) (λ why. Changes (LeavesAt why) a d)
     (λ why h. told_leaves page over why a b d c.in_ok-header.ensures.area c.mark-marked.ensures.undone c.in_ok-header.ensures.synced h)
     c.write_mark.ensures.leaves
 

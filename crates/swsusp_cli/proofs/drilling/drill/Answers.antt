@@ -1,7 +1,7 @@
 use Rattle.std.proofs.Common.{◌≡◌, ◌≤◌, List, [], None, length, refl, ◌∙◌, subst, ap}
 use Rattle.plain_machine.specs.Machine.{Hardware}
 use Rattle.plain_machine.specs.declared.event.Event.{Event}
-use Rattle.world_core.specs.StandsFor.{IsNew}
+use Rattle.world_core.specs.StandsFor.{IsNewWorld}
 use Rattle.script.specs.Drill.{drill_script, summary}
 use Rattle.script.specs.Grammar.{ScriptValue}
 use Rattle.script.specs.declared.tally.Tally.{Tally}
@@ -39,7 +39,7 @@ returns-clause-outcome g c = λ left read_faults.
     let between : DiskView = record { blocks = g.D.Disk.block_count c.set_up.new.disk; content = g.D.Disk.content c.set_up.new.disk; faults = g.D.Disk.faults c.set_up.new.disk; calls = g.D.Disk.calls c.set_up.new.disk; orders = g.D.Disk.orders c.set_up.new.disk } in
     let now : DiskView = record { blocks = g.D.Disk.block_count c.play_through-tally.new.disk; content = g.D.Disk.content c.play_through-tally.new.disk; faults = g.D.Disk.faults c.play_through-tally.new.disk; calls = g.D.Disk.calls c.play_through-tally.new.disk; orders = g.D.Disk.orders c.play_through-tally.new.disk } in
     let set = subst (λ (s : ScriptValue). IsSetUp s before between) script_is c.in-Ok-set_up.ensures.outcome in
-    let new = subst (λ (s : ScriptValue). IsNew s.hardware None c.in-Ok-create.world) script_is (subst (λ (h : Hardware). IsNew h None c.in-Ok-create.world) c.hardware.ensures c.in-Ok-create.ensures) in
+    let new = subst (λ (s : ScriptValue). IsNewWorld s.hardware None c.in-Ok-create.world) script_is (subst (λ (h : Hardware). IsNewWorld h None c.in-Ok-create.world) c.hardware.ensures c.in-Ok-create.ensures) in
     let rs = c.play_through-tally.ensures.played.0 in
     let was = subst (λ (events : List Event). HasPlayed c.in-Ok-create.world c.play_through-tally.new.world events rs between now) (c.events.ensures ∙ ap (λ (s : ScriptValue). s.events) script_is) c.play_through-tally.ensures.played.1 in
     let few = subst (λ (s : ScriptValue). length s.bad ≤ 630) script_is c.in-Ok.ensures.few_bad in

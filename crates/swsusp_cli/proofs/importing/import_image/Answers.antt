@@ -9,7 +9,7 @@ use Rattle.stream_check.specs.declared.fault.StreamFault.{StreamFault}
 use Rattle.stream_in.specs.Session.{IsGoing, TakesInto}
 use Rattle.stream_in.specs.Written.{AreOfMap}
 use Rattle.stream_in.specs.declared.stop.InStop.TheVariants as stop
-use Rattle.swsusp_cli.specs.Called.{IsCalled}
+use Rattle.swsusp_cli.specs.Called.{IsCalledAtMost}
 use Rattle.swsusp_cli.specs.Imports.{Ends}
 use Rattle.swsusp_cli.specs.declared.importing.ImportStop.{ImportStop}
 use Rattle.command_kit.specs.View.{DiskView}
@@ -28,7 +28,7 @@ returns-in_err-feed_input-clause-ends g c =
     let is = c.in_ok-session.ensures.opened.1 in
     let s = c.in_ok-session.session in
     let free = is.fed.0 in
-    let called : IsCalled 1 d e = record { calls = c.open.ensures.calls; faults = c.open.ensures.faults; orders = c.open.ensures.orders; blocks = c.open.ensures.blocks } in
+    let called : IsCalledAtMost 1 d e = record { calls = c.open.ensures.calls; faults = c.open.ensures.faults; orders = c.open.ensures.orders; blocks = c.open.ensures.blocks } in
     let opened = has_opened area s d e is c.in_ok-session.ensures.opened.2 c.in_ok-session.ensures.usable c.open.ensures.content called in
     let p = err_from_is_err_and c.from_residual-in_err-feed_input.result c.from_residual-in_err-feed_input.ensures.1 in
     subst (λ (r : Result ℕ ImportStop). Ends left left' d f r) (sym (p.1 ∙ ap Err p.2))
@@ -45,11 +45,11 @@ returns-clause-ends g c =
     let is = c.in_ok-session.ensures.opened.1 in
     let s = c.in_ok-session.session in
     let free = is.fed.0 in
-    let called : IsCalled 1 d e = record { calls = c.open.ensures.calls; faults = c.open.ensures.faults; orders = c.open.ensures.orders; blocks = c.open.ensures.blocks } in
+    let called : IsCalledAtMost 1 d e = record { calls = c.open.ensures.calls; faults = c.open.ensures.faults; orders = c.open.ensures.orders; blocks = c.open.ensures.blocks } in
     let opened = has_opened area s d e is c.in_ok-session.ensures.opened.2 c.in_ok-session.ensures.usable c.open.ensures.content called in
     let g' : DiskView = record { blocks = g.D.Disk.block_count c.finish.new.disk; content = g.D.Disk.content c.finish.new.disk; faults = g.D.Disk.faults c.finish.new.disk; calls = g.D.Disk.calls c.finish.new.disk; orders = g.D.Disk.orders c.finish.new.disk } in
     let fed = c.in_ok-feed_input.ensures.feeds free is.fed.3 is.fed.2 in
-    let last : IsCalled 6 f g' = record { calls = c.finish.ensures.calls; faults = c.finish.ensures.faults; orders = c.finish.ensures.orders; blocks = c.finish.ensures.blocks } in
+    let last : IsCalledAtMost 6 f g' = record { calls = c.finish.ensures.calls; faults = c.finish.ensures.faults; orders = c.finish.ensures.orders; blocks = c.finish.ensures.blocks } in
     let takes : TakesInto area free fed.0 c.feed_input.new.session = record {
       fed = fed.1.fed;
       map_is = fed.1.map ∙ is.map_is;
@@ -70,11 +70,11 @@ returns-in_err-finish-clause-ends g c =
     let is = c.in_ok-session.ensures.opened.1 in
     let s = c.in_ok-session.session in
     let free = is.fed.0 in
-    let called : IsCalled 1 d e = record { calls = c.open.ensures.calls; faults = c.open.ensures.faults; orders = c.open.ensures.orders; blocks = c.open.ensures.blocks } in
+    let called : IsCalledAtMost 1 d e = record { calls = c.open.ensures.calls; faults = c.open.ensures.faults; orders = c.open.ensures.orders; blocks = c.open.ensures.blocks } in
     let opened = has_opened area s d e is c.in_ok-session.ensures.opened.2 c.in_ok-session.ensures.usable c.open.ensures.content called in
     let g' : DiskView = record { blocks = g.D.Disk.block_count c.finish.new.disk; content = g.D.Disk.content c.finish.new.disk; faults = g.D.Disk.faults c.finish.new.disk; calls = g.D.Disk.calls c.finish.new.disk; orders = g.D.Disk.orders c.finish.new.disk } in
     let fed = c.in_ok-feed_input.ensures.feeds free is.fed.3 is.fed.2 in
-    let last : IsCalled 6 f g' = record { calls = c.finish.ensures.calls; faults = c.finish.ensures.faults; orders = c.finish.ensures.orders; blocks = c.finish.ensures.blocks } in
+    let last : IsCalledAtMost 6 f g' = record { calls = c.finish.ensures.calls; faults = c.finish.ensures.faults; orders = c.finish.ensures.orders; blocks = c.finish.ensures.blocks } in
     let going : IsGoing c.feed_input.new.session = (free, fed.0, fed.1.fed) in
     let untouched : (fault : StreamFault) → c.finish.result ≡ Err (stop.Stream fault) → g' ≡ f = λ fault is. let same = c.finish.ensures.untouched fault is in cc in
     let p = err_from_is_err_and c.from_residual-in_err-finish.result c.from_residual-in_err-finish.ensures.1 in

@@ -1,7 +1,7 @@
 use Rattle.std.proofs.Common.{inl, inr, List, None, refl, subst, take, Err, ap}
 use Rattle.plain_machine.specs.Machine.{Hardware}
 use Rattle.plain_machine.specs.declared.event.Event.{Event}
-use Rattle.world_core.specs.StandsFor.{IsNew}
+use Rattle.world_core.specs.StandsFor.{IsNewWorld}
 use Rattle.command_kit.specs.Answer.{RunResult}
 use Rattle.swsusp_cli.specs.Outcome.{cut_off, no_script, out_of_memory, unread}
 use Rattle.swsusp_cli.specs.Playing.{HasPlayed}
@@ -41,7 +41,7 @@ returns-in-Ok-play-clause-outcome g c =
     let note : SinkView = record { taken = g.N.Sink.taken c.args.note.now; flushed = g.N.Sink.flushed c.args.note.now; faults = g.N.Sink.faults c.args.note.now } in
     let script = c.in-Ok.script in
     let set = c.in-Ok-set_up.ensures.outcome in
-    let new = subst (λ (h : Hardware). IsNew h None c.in-Ok-create.world) c.hardware.ensures c.in-Ok-create.ensures in
+    let new = subst (λ (h : Hardware). IsNewWorld h None c.in-Ok-create.world) c.hardware.ensures c.in-Ok-create.ensures in
     let before : DiskView = record { blocks = g.D.Disk.block_count c.args.disk.now; content = g.D.Disk.content c.args.disk.now; faults = g.D.Disk.faults c.args.disk.now; calls = g.D.Disk.calls c.args.disk.now; orders = g.D.Disk.orders c.args.disk.now } in
     let between : DiskView = record { blocks = g.D.Disk.block_count c.set_up.new.disk; content = g.D.Disk.content c.set_up.new.disk; faults = g.D.Disk.faults c.set_up.new.disk; calls = g.D.Disk.calls c.set_up.new.disk; orders = g.D.Disk.orders c.set_up.new.disk } in
     let now : DiskView = record { blocks = g.D.Disk.block_count c.play.new.disk; content = g.D.Disk.content c.play.new.disk; faults = g.D.Disk.faults c.play.new.disk; calls = g.D.Disk.calls c.play.new.disk; orders = g.D.Disk.orders c.play.new.disk } in
@@ -56,7 +56,7 @@ pub returns-clause-outcome : goal.returns-clause-outcome
 returns-clause-outcome g c =
     let script = c.in-Ok.script in
     let set = c.in-Ok-set_up.ensures.outcome in
-    let new = subst (λ (h : Hardware). IsNew h None c.in-Ok-create.world) c.hardware.ensures c.in-Ok-create.ensures in
+    let new = subst (λ (h : Hardware). IsNewWorld h None c.in-Ok-create.world) c.hardware.ensures c.in-Ok-create.ensures in
     let before : DiskView = record { blocks = g.D.Disk.block_count c.args.disk.now; content = g.D.Disk.content c.args.disk.now; faults = g.D.Disk.faults c.args.disk.now; calls = g.D.Disk.calls c.args.disk.now; orders = g.D.Disk.orders c.args.disk.now } in
     let between : DiskView = record { blocks = g.D.Disk.block_count c.set_up.new.disk; content = g.D.Disk.content c.set_up.new.disk; faults = g.D.Disk.faults c.set_up.new.disk; calls = g.D.Disk.calls c.set_up.new.disk; orders = g.D.Disk.orders c.set_up.new.disk } in
     let now : DiskView = record { blocks = g.D.Disk.block_count c.play.new.disk; content = g.D.Disk.content c.play.new.disk; faults = g.D.Disk.faults c.play.new.disk; calls = g.D.Disk.calls c.play.new.disk; orders = g.D.Disk.orders c.play.new.disk } in

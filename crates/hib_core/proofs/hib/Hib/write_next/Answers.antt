@@ -2,7 +2,7 @@ use Rattle.std.proofs.Common.{◌≡◌, ◌<◌, ◌+◌, ap, ◌∙◌, subst,
 use Rattle.image_write.specs.Writing.{Makes, FailsToMake}
 use Rattle.image_write.specs.declared.write_step.WriteStep.TheVariants as answer
 use Rattle.plain_machine.specs.declared.reply.Reply.TheVariants as reply
-use Rattle.protocol_laws.specs.Rows.{IsNewFault}
+use Rattle.protocol_laws.specs.Rows.{TellsNewFault}
 use Rattle.swap_slots.specs.Table.{Matches}
 use Rattle.swap_slots.specs.declared.table.SlotTable.{SlotTable}
 use Rattle.sector_disk.specs.Called.{OneCall}
@@ -113,10 +113,10 @@ returns-in-Fault-clause-memory g c =
 
 pub returns-in-More-clause-called : goal.returns-in-More-clause-called
 returns-in-More-clause-called g c =
-    fails_as g.D.Disk OneCall (c.write_step.result ≡ answer.Fault) (IsNewFault c.more.result) c.args.disk.now c.write_step.new.disk
-    (λ fault. absurd (subst IsNewFault c.more.ensures fault)) c.write_step.ensures.called
+    fails_as g.D.Disk OneCall (c.write_step.result ≡ answer.Fault) (TellsNewFault c.more.result) c.args.disk.now c.write_step.new.disk
+    (λ fault. absurd (subst TellsNewFault c.more.ensures fault)) c.write_step.ensures.called
 
 pub returns-in-Done-clause-called : goal.returns-in-Done-clause-called
 returns-in-Done-clause-called g c =
-    fails_as g.D.Disk OneCall (c.write_step.result ≡ answer.Fault) (IsNewFault c.more-in-Done.result) c.args.disk.now c.write_step.new.disk
-    (λ fault. absurd (subst IsNewFault c.more-in-Done.ensures fault)) c.write_step.ensures.called
+    fails_as g.D.Disk OneCall (c.write_step.result ≡ answer.Fault) (TellsNewFault c.more-in-Done.result) c.args.disk.now c.write_step.new.disk
+    (λ fault. absurd (subst TellsNewFault c.more-in-Done.ensures fault)) c.write_step.ensures.called

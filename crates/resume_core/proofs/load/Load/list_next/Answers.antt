@@ -3,7 +3,7 @@ use Rattle.plain_machine.specs.declared.reply.Reply.TheVariants as reply
 use Rattle.plain_machine.specs.declared.reply.Left.TheVariants.{Gone}
 use Rattle.image_read.specs.Answers.{Reads}
 use Rattle.image_read.specs.declared.reader.ReadStep.TheVariants as read_step
-use Rattle.protocol_laws.specs.Rows.{IsNewFault}
+use Rattle.protocol_laws.specs.Rows.{TellsNewFault}
 use Rattle.sector_disk.specs.Called.{AtMostOneCall}
 use Rattle.sector_disk.proofs.Called.{fails_as}
 use Rattle.page_restore.specs.Waiting.{with_data}
@@ -53,6 +53,6 @@ returns-in-More g c = record {
   works = c.list_on.ensures.works;
   ready = c.list_on.ensures.ready;
   machine = c.list_on.ensures.machine;
-  called = fails_as g.D.Disk AtMostOneCall (c.read_block.result ≡ read_step.Fault) (IsNewFault c.list_on.result) c.args.disk.now c.read_block.new.disk
+  called = fails_as g.D.Disk AtMostOneCall (c.read_block.result ≡ read_step.Fault) (TellsNewFault c.list_on.result) c.args.disk.now c.read_block.new.disk
       (λ fault. absurd (c.list_on.ensures.no_fault fault)) c.read_block.ensures.called;
 }

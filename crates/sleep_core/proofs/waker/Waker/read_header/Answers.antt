@@ -1,6 +1,6 @@
 use Rattle.std.proofs.Common.{◌≡◌, ◌<◌, List, ℕ, sym, ap, ◌∙◌, subst}
 use Rattle.definitions.specs.Slots.{block_of}
-use Rattle.sleep_core.specs.Row.{StandsFor, Sleeps}
+use Rattle.sleep_core.specs.Row.{WakingStandsFor, Sleeps}
 use Rattle.sleep_core.specs.declared.waker.Stage.TheVariants as stage
 use Rattle.sleep_core.proofs.Rows.{as_left, read_row, read_failed_row}
 use Rattle.sleep_core.proofs.waker.Waker.read_header.Goals as goal
@@ -16,7 +16,7 @@ returns-in-Ok-clause-row g c = λ frames memory machine' frames' left k told.
     let read = header_read machine.hw c.block-block.result machine.blocks c.read.new.into k (g.D.Disk.content c.args.disk.now) whole block_is below told c.in-Ok.ensures.bytes in (
       k,
       c.read.ensures.content ∙ told,
-      as_left machine frames waker (λ m f. StandsFor m f (record waker { stage = stage.Write c.read.new.into })) machine machine' frames frames' _ k k left.0 left.1 (read_row machine frames waker c.read.new.into k c.requires.at read),
+      as_left machine frames waker (λ m f. WakingStandsFor m f (record waker { stage = stage.Write c.read.new.into })) machine machine' frames frames' _ k k left.0 left.1 (read_row machine frames waker c.read.new.into k c.requires.at read),
     )
 
 pub returns-in-Err-clause-row : goal.returns-in-Err-clause-row

@@ -2,7 +2,7 @@ use Rattle.std.proofs.Common.{◌≡◌, ℕ, List, ap, ◌∙◌}
 use Rattle.definitions.specs.Disk as disk
 use Rattle.definitions.specs.Slots.{block_of}
 use Rattle.protocol_laws.specs.Settling.{IsOnDisk, unmarked_block}
-use Rattle.sleep_core.specs.Row.{StandsFor, Sleeps}
+use Rattle.sleep_core.specs.Row.{WakingStandsFor, Sleeps}
 use Rattle.sleep_core.specs.declared.waker.Stage.TheVariants as stage
 use Rattle.sleep_core.proofs.Rows.{as_left, write_row, write_failed_row}
 use Rattle.sleep_core.proofs.waker.Waker.write_back.Goals as goal
@@ -21,7 +21,7 @@ returns-in-Ok-clause-row g c = λ frames memory machine' frames' left k told.
     let over : IsOnDisk machine.hw machine.blocks k = record { hardware = c.requires.hardware; content = whole; header = c.requires.header } in (
       after.0,
       after.1,
-      as_left machine frames waker (λ m f. StandsFor m f (record waker { stage = stage.Sync })) machine machine' frames frames' _ k after.0 left.0 left.1
+      as_left machine frames waker (λ m f. WakingStandsFor m f (record waker { stage = stage.Sync })) machine machine' frames frames' _ k after.0 left.0 left.1
           (write_row machine frames waker c.in-Write.header k after.0 over c.in-Write.is whole' writes),
     )
 

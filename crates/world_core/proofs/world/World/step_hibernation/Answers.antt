@@ -6,10 +6,10 @@ use Rattle.plain_machine.specs.declared.event.Actor.TheVariants as actor
 use Rattle.plain_machine.specs.Machine.{Hardware}
 use Rattle.world_core.specs.World.{World}
 use Rattle.world_core.specs.Kept.{kept_world}
-use Rattle.protocol_laws.specs.Rows.{IsNewFault}
+use Rattle.protocol_laws.specs.Rows.{TellsNewFault}
 use Rattle.sector_disk.specs.Called.{OneCall}
 use Rattle.sector_disk.proofs.Called.{called_as}
-use Rattle.world_core.specs.Row.{SimulatesWhereTold, IsCalled, Restores, KeepsMemory}
+use Rattle.world_core.specs.Row.{SimulatesWhereTold, CallsAtMostOnce, Restores, KeepsUsedFrames}
 use Rattle.hib_core.specs.Leaving.{change_of}
 use Rattle.hib_core.proofs.BeginTables.{slot_table_lies}
 use Rattle.hib_core.proofs.Keeping.{step_keeps, given_back, stayed}
@@ -56,7 +56,7 @@ returns-clause-restored g c =
 
 pub returns-clause-called : goal.returns-clause-called
 returns-clause-called g c =
-    called_as g.D.Disk OneCall (IsCalled (event.Step actor.Core) c.step-reply.result) (IsNewFault c.step-reply.result) c.args.disk.now c.step-reply.new.disk
+    called_as g.D.Disk OneCall (CallsAtMostOnce (event.Step actor.Core) c.step-reply.result) (TellsNewFault c.step-reply.result) c.args.disk.now c.step-reply.new.disk
     (λ one. inr (tt, (λ e. false≢true (sym c.step-reply.ensures.works ∙ ap is_idle e)), one)) c.step-reply.ensures.called
 
 pub returns-clause-memory : goal.returns-clause-memory
@@ -66,9 +66,9 @@ returns-clause-memory g c =
     let h = c.self.inside.machine.hw in
     let change = change_of c.step-reply.result c.self.inside.hib.stage in
     let memory : IsMemoryOf h c.self.inside.frames = record { pages = c.len.ensures.pages; table = slot_table_lies h c.self.inside.frames (c.self.invariant.busy core).0.hardware c.self.invariant.size } in
-    let keeps : KeepsMemory (kept_world c.self.inside) new c.step-reply.result = record {
+    let keeps : KeepsUsedFrames (kept_world c.self.inside) new c.step-reply.result = record {
       used = step_keeps h change c.self.inside.frames c.step-reply.new.frames memory c.step-reply.ensures.memory;
       given = λ e. given_back h change c.self.inside.frames c.step-reply.new.frames memory c.step-reply.ensures.memory e;
       unsure = λ e. stayed h change c.self.inside.frames c.step-reply.new.frames c.step-reply.ensures.memory e;
     } in
-    subst (λ (old : World). KeepsMemory old new c.step-reply.result) c.self.view_is keeps
+    subst (λ (old : World). KeepsUsedFrames old new c.step-reply.result) c.self.view_is keeps

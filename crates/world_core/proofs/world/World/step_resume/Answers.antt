@@ -8,10 +8,10 @@ use Rattle.plain_machine.specs.declared.event.Loader.{Loader}
 use Rattle.world_core.specs.StandsFor.{core_resumed}
 use Rattle.world_core.specs.World.{World}
 use Rattle.world_core.specs.Kept.{IsDown, kept_world}
-use Rattle.protocol_laws.specs.Rows.{IsNewFault}
+use Rattle.protocol_laws.specs.Rows.{TellsNewFault}
 use Rattle.sector_disk.specs.Called.{AtMostOneCall}
 use Rattle.sector_disk.proofs.Called.{called_as}
-use Rattle.world_core.specs.Row.{SimulatesWhereTold, IsCalled, Restores}
+use Rattle.world_core.specs.Row.{SimulatesWhereTold, CallsAtMostOnce, Restores}
 use Rattle.world_core.proofs.Readiness.{can_run-resumed, no_tables_after}
 use Rattle.world_core.proofs.Resuming.{IsAfter, row_of_step, awake_after, busy_after, idle_after, runs_after, restores_at}
 use Rattle.world_core.proofs.world.World.step_resume.Goals as goal
@@ -51,5 +51,5 @@ returns-clause-restored g c =
 
 pub returns-clause-called : goal.returns-clause-called
 returns-clause-called g c =
-    called_as g.D.Disk AtMostOneCall (IsCalled (event.Step actor.Core) c.step-reply.result) (IsNewFault c.step-reply.result) c.args.disk.now c.step-reply.new.disk
+    called_as g.D.Disk AtMostOneCall (CallsAtMostOnce (event.Step actor.Core) c.step-reply.result) (TellsNewFault c.step-reply.result) c.args.disk.now c.step-reply.new.disk
     (λ made. ⊎_elim (λ same. inl same) (λ one. inr (tt, (λ e. false≢true (sym c.step-reply.ensures.works ∙ ap is_idle e)), one)) made) c.step-reply.ensures.called

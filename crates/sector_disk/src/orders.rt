@@ -1,0 +1,43 @@
+//! What a disk was asked for beside its reads, writes and syncs. Only proofs read it: it takes no memory, and its calls
+//! do nothing when they run.
+ghost use Rattle.std.specs.Prelude.{◌≡◌, List, [], ◌∷◌, ◌++◌};
+ghost use base.Fml.{ftrue};
+ghost use Rattle.sector_disk.specs.declared.orders.Order.{Order};
+
+use std::marker::Model;
+
+/// What a disk is asked for between its calls.
+#[derive(Clone, Copy)]
+pub enum Order {
+    /// A power cut, after which the image that `pick` chooses is the only one.
+    Restart { pick: u64 },
+    /// That the calls number `first` to `first + count - 1` from then fail. `pick` chooses what a write that fails so
+    /// leaves.
+    Arm { first: u32, count: u32, pick: u64 },
+}
+
+/// The orders that a disk has got, in their order.
+#[derive(Drop)]
+pub struct Orders {
+    pub ghost list: { List Order },
+}
+
+impl Model for Orders {
+    ghost also_owns = { λ _. ftrue };
+}
+
+impl Orders {
+    /// None yet.
+    pub fn new() -> Orders
+        ensures { result.list ≡ [] }
+    {
+        Orders {}
+    }
+
+    /// These, and one more.
+    pub fn and(&self, _order: &Order) -> Orders
+        ensures { result.list ≡ self.now.list ++ _order.now ∷ [] }
+    {
+        Orders {}
+    }
+}
