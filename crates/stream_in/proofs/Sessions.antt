@@ -1,5 +1,5 @@
 -- A session as bytes of one page come.
-use Rattle.std.proofs.Common.{◌≡◌, ℕ, ◌+◌, ◌-◌, ◌/◌, ◌%◌, ◌<◌, ◌≤◌, ◌^◌, eqb, List, ◌++◌, length, take, drop, get_or, Option, Some, None, refl, sym, ap, ap₂, ◌∙◌, inl, inr, arith, length-append, append_assoc, zero-add}
+use Rattle.std.proofs.Common.{◌≡◌, ℕ, ◌+◌, ◌-◌, ◌/◌, ◌%◌, ◌<◌, ◌≤◌, ◌^◌, eqb, List, ◌++◌, length, take, drop, get_or, Option, Some, None, refl, sym, ap, ap₂, subst, ◌∙◌, inl, inr, arith, length-append, append_assoc, zero-add}
 use Rattle.std.proofs.Math.Seq.{take-add}
 use Rattle.std.proofs.lemmas.List.{take-append-le, take-append-drop, length-take-le, get_or-take, get_or_append_left, get_or-append_right, take_all}
 use Rattle.std.proofs.lemmas.Bool.{cases_lt, cond-false, ne_eqb, or_from}
@@ -9,11 +9,13 @@ use Rattle.plain_machine.specs.Image.{maps_of}
 use Rattle.plain_machine.specs.Laid.{page_of_write}
 use Rattle.image_write.specs.Writing.{Writing, BlocksBelow}
 use Rattle.stream_check.specs.Grammar.{image_pages, all_pages, are_counts, first_fault}
-use Rattle.stream_check.proofs.Steps.{IsSound, sound_from, counts_none, all_pages-append}
+use Rattle.stream_check.proofs.Steps.{IsSound, sound_from, counts_none, all_pages-append, first_fault-early}
+use Rattle.stream_check.specs.declared.fault.StreamFault.{StreamFault}
+use Rattle.std.proofs.lemmas.Option.{none-some}
 use Rattle.stream_in.specs.Putting.{CanPut, HasPut, HasTooFew, Suffice}
 use Rattle.stream_in.specs.Written.{writes_after}
 use Rattle.stream_in.specs.Session.{HasPage, IsBegun, IsOutput}
-use Rattle.stream_in.specs.Area.{HasTooFewFor}
+use Rattle.stream_in.specs.Area.{HasTooFewFor, SufficeFor}
 
 -- The page with more of its bytes.
 pub page_part : (bs part page x post : List ℕ) (begun : ℕ) → begun ≡ length bs % 4096 → begun ≤ length page → x ≡ part → HasPage bs page → (i : ℕ) → i < begun + length part →
@@ -241,3 +243,29 @@ too_few_more free bs more told need h =
 -- the pages that are made full
 pub pages_more : (size at end : ℕ) → at ≤ end → (size + at) / 4096 - size / 4096 + ((size + at) % 4096 + (end - at)) / 4096 ≡ (size + end) / 4096 - size / 4096
 pages_more size at end le = omega arith
+
+-- Which slots suffice.
+
+-- the bytes that a session has taken
+pub fed_suffice : (free bs : List ℕ) (frames : List (List ℕ)) (table : SlotTable) (extents : List (ℕ × ℕ × ℕ)) (w : Option Writing) → IsOutput free bs frames table extents w → SufficeFor free bs
+fed_suffice free bs frames table extents None output whole sound = absurd (let early = output.early in omega (arith, early, whole))
+fed_suffice free bs frames table extents (Some w) output whole sound = output.room
+
+-- and bytes of one page after them, in which there is a fault
+pub part_suffice : (free bs part : List ℕ) (fault : StreamFault) (frames : List (List ℕ)) (table : SlotTable) (extents : List (ℕ × ℕ × ℕ)) (w : Option Writing) → IsOutput free bs frames table extents w →
+    length bs % 4096 + length part ≤ 4096 → first_fault (bs ++ part) ≡ Some fault → SufficeFor free (bs ++ part)
+part_suffice free bs part fault frames table extents None output within found whole sound =
+    let early = output.early in
+    let all : take 4096 (bs ++ part) ≡ bs ++ part = take_all 4096 (bs ++ part) (omega (arith, early, within, length-append bs part)) in
+    absurd (none-some fault (sym (sym (ap first_fault all) ∙ sound) ∙ found))
+part_suffice free bs part fault frames table extents (Some w) output within found whole sound =
+    let late = output.late in
+    let room = output.room in
+    subst (λ (n : ℕ). n + 1026 ≤ length free) (sym (all_pages-append bs part (omega (arith, late)))) room
+
+-- and more bytes, whatever they are, after a fault
+pub suffice_more : (free bs more : List ℕ) (fault : StreamFault) → first_fault bs ≡ Some fault → SufficeFor free bs → SufficeFor free (bs ++ more)
+suffice_more free bs more fault found enough whole sound =
+    let late : 4096 ≤ length bs = elim (cases_lt (length bs) 4096) [ inl lt ↦ absurd (none-some fault (sym (first_fault-early bs lt) ∙ found)) | inr le ↦ le ] in
+    subst (λ (n : ℕ). n + 1026 ≤ length free) (sym (all_pages-append bs more (omega (arith, late))))
+    (enough late (sym (ap first_fault (take-append-le 4096 bs more late)) ∙ sound))

@@ -49,3 +49,8 @@ pub record HasTooFewFor (free bs : List ℕ) (told need : ℕ) : Type 0 where
   pub told_free : told ≡ length free
   pub told_need : need ≡ all_pages bs + 1026
   pub fewer : told < need
+
+-- As many slots are free as the image may need, once the info page of these bytes is whole and without a fault: so no
+-- other fault is told where they are too few.
+abbrev pub SufficeFor : (free bs : List ℕ) → Type 0
+SufficeFor free bs = 4096 ≤ length bs → first_fault (take 4096 bs) ≡ None → all_pages bs + 1026 ≤ length free

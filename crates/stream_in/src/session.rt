@@ -59,7 +59,7 @@ impl StreamIn {
     ghost use Rattle.stream_check.specs.Grammar.{first_fault, short_fault, image_pages};
     ghost use Rattle.stream_check.specs.declared.fault.StreamFault.{StreamFault};
     ghost use Rattle.stream_in.specs.Stops.{IsDiskStop, IsOfOpen, IsOfFeed, IsOfFinish, IfNoSwap};
-    ghost use Rattle.stream_in.specs.Area.{HasTooFewFor};
+    ghost use Rattle.stream_in.specs.Area.{HasTooFewFor, SufficeFor};
     ghost use Rattle.stream_in.specs.Session.{IsOpened, IsFed, IsGoing, IsSession, TakesInto};
     ghost use Rattle.stream_in.specs.declared.stop.InStop.{InStop};
     ghost use Rattle.stream_in.specs.declared.stop.InStop.TheVariants as stop;
@@ -149,6 +149,8 @@ impl StreamIn {
             OnOk result (IsFed free (bs ++ piece.now) self.new) }
         ensures stream { (free bs : List ℕ) → IsFed free bs self.old → (fault : StreamFault) →
             result ≡ Err (stop.Stream fault) → first_fault (bs ++ piece.now) ≡ Some fault }
+        ensures suffice { (free bs : List ℕ) → IsFed free bs self.old → (fault : StreamFault) →
+            result ≡ Err (stop.Stream fault) → SufficeFor free (bs ++ piece.now) }
         ensures too_few { (free bs : List ℕ) → IsFed free bs self.old → (told need : ℕ) →
             result ≡ Err (stop.NoSlots told need) → HasTooFewFor free (bs ++ piece.now) told need }
         ensures stops { IsGoing self.old → IfErr result (λ why. IsOfFeed why) }
@@ -213,6 +215,8 @@ impl StreamIn {
             OnOk result (IsFed free (bs ++ part.now) self.new) }
         ensures stream { (free bs : List ℕ) → IsFed free bs self.old → (fault : StreamFault) →
             result ≡ Err (stop.Stream fault) → first_fault (bs ++ part.now) ≡ Some fault }
+        ensures suffice { (free bs : List ℕ) → IsFed free bs self.old → (fault : StreamFault) →
+            result ≡ Err (stop.Stream fault) → SufficeFor free (bs ++ part.now) }
         ensures too_few { (free bs : List ℕ) → IsFed free bs self.old → (told need : ℕ) →
             result ≡ Err (stop.NoSlots told need) → HasTooFewFor free (bs ++ part.now) told need }
         ensures stops { IfErr result (λ why. IsOfFeed why) }

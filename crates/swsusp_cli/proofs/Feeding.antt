@@ -7,7 +7,7 @@ use Rattle.definitions.specs.Streams.{HandsOut}
 use Rattle.stream_check.specs.Grammar.{first_fault}
 use Rattle.stream_check.proofs.Steps.{sound_from}
 use Rattle.stream_in.specs.Outside.{StopsAtRest, WritesAtRest}
-use Rattle.stream_in.specs.Area.{HasTooFewFor}
+use Rattle.stream_in.specs.Area.{HasTooFewFor, SufficeFor}
 use Rattle.stream_in.specs.Stops.{IsOfFeed}
 use Rattle.stream_in.specs.Written.{WritesOn}
 use Rattle.stream_in.specs.declared.stop.InStop.{InStop}
@@ -89,14 +89,15 @@ called_more bs part d e f h calls faults orders blocks =
 -- Why it stops.
 
 pub stop_for : {A : Type 0} (free bs : List ℕ) (why : InStop) (r : Result A InStop) → r ≡ Err why → IsOfFeed why → ((fault : StreamFault) → r ≡ Err (stop.Stream fault) → first_fault bs ≡ Some fault) →
+    ((fault : StreamFault) → r ≡ Err (stop.Stream fault) → SufficeFor free bs) →
     ((told need : ℕ) → r ≡ Err (stop.NoSlots told need) → HasTooFewFor free bs told need) → IsStopFor free bs why
-stop_for free bs stop.NoMemory r is of stream few = of
-stop_for free bs (stop.NoSwap why) r is of stream few = of
-stop_for free bs (stop.NoSlots told need) r is of stream few = few told need is
-stop_for free bs (stop.Stream fault) r is of stream few = stream fault is
-stop_for free bs (stop.ReadFault left) r is of stream few = of
-stop_for free bs (stop.WriteFault left) r is of stream few = of
-stop_for free bs (stop.SyncFault left) r is of stream few = of
+stop_for free bs stop.NoMemory r is of stream suffice few = of
+stop_for free bs (stop.NoSwap why) r is of stream suffice few = of
+stop_for free bs (stop.NoSlots told need) r is of stream suffice few = few told need is
+stop_for free bs (stop.Stream fault) r is of stream suffice few = (stream fault is, suffice fault is)
+stop_for free bs (stop.ReadFault left) r is of stream suffice few = of
+stop_for free bs (stop.WriteFault left) r is of stream suffice few = of
+stop_for free bs (stop.SyncFault left) r is of stream suffice few = of
 
 -- a rise is one since an earlier moment
 pub risen_from : (before mid now : ℕ) → before ≤ mid → HasRisen mid now → HasRisen before now

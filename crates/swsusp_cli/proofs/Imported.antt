@@ -248,7 +248,7 @@ ends_stopped area free bs why s left left' d e f opened stopped = by_why why sto
   by_why stop.NoMemory is risen = absurd is
   by_why (stop.NoSwap why) is risen = absurd is
   by_why (stop.NoSlots told need) is risen = (area, free, bs, record { area_is = opened.area_is; bytes = bytes; too_few = is; content = content; called = called })
-  by_why (stop.Stream fault) is risen = (area, free, bs, record { area_is = opened.area_is; bytes = bytes; says = inl is; content = content; called = called })
+  by_why (stop.Stream fault) is risen = (area, free, bs, record { area_is = opened.area_is; bytes = bytes; says = inl is.0; suffice = is.1; content = content; called = called })
   by_why (stop.ReadFault what) is risen = absurd is
   by_why (stop.WriteFault what) is risen =
       inl (is, (area, free, bs, record { area_is = opened.area_is; bytes = bytes; content = content; called = called; risen = risen_from d.faults e.faults f.faults opened.called.faults (risen tt) }))
@@ -396,6 +396,7 @@ ends_unfinished area free bs s s' r why left left' d e f g opened fed over is of
           area_is = opened.area_is;
           bytes = bytes;
           says = inr (sound, (short fault).0 is, over);
+          suffice = λ late _. enough free bs s'.frames s'.table s'.map s'.writer fed.fed.output late;
           content = subst (λ (v : DiskView). Changes (LeavesUnusable area) d.content v.content) (sym same) content;
           called = subst (IsCalledAtMost (1 + 3 * (length bs / 4096)) d) (sym same) so_far;
         },

@@ -10,7 +10,7 @@ use Rattle.stream_in.specs.Holding.{StaysReady}
 use Rattle.stream_in.specs.Moments.{AddsNoHeader}
 use Rattle.stream_in.specs.Outside.{StopsAtRest, WritesAtRest}
 use Rattle.stream_in.specs.Session.{IsFed, TakesInto}
-use Rattle.stream_in.specs.Area.{HasTooFewFor}
+use Rattle.stream_in.specs.Area.{HasTooFewFor, SufficeFor}
 use Rattle.stream_in.specs.Stops.{IsDiskStop}
 use Rattle.stream_in.specs.Written.{AreWritten}
 use Rattle.stream_in.specs.declared.session.StreamIn.{StreamIn}
@@ -41,7 +41,7 @@ abbrev pub IsStopFor : List ℕ → List ℕ → InStop → Type 0
 IsStopFor free bs stop.NoMemory = ⊥
 IsStopFor free bs (stop.NoSwap why) = ⊥
 IsStopFor free bs (stop.NoSlots told need) = HasTooFewFor free bs told need
-IsStopFor free bs (stop.Stream fault) = first_fault bs ≡ Some fault
+IsStopFor free bs (stop.Stream fault) = (first_fault bs ≡ Some fault) × SufficeFor free bs
 IsStopFor free bs (stop.ReadFault left) = ⊥
 IsStopFor free bs (stop.WriteFault left) = left ≡ Same
 IsStopFor free bs (stop.SyncFault left) = left ≡ Same

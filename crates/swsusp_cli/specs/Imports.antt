@@ -19,7 +19,7 @@ use Rattle.stream_check.specs.Taken.{most_bytes}
 use Rattle.stream_check.specs.declared.fault.Kind.{Kind}
 use Rattle.stream_check.specs.declared.fault.Kind.TheVariants as fault
 use Rattle.stream_check.specs.declared.fault.StreamFault.{StreamFault}
-use Rattle.stream_in.specs.Area.{AreUsable, first_block, open_fault, HasTooFewFor}
+use Rattle.stream_in.specs.Area.{AreUsable, first_block, open_fault, HasTooFewFor, SufficeFor}
 use Rattle.stream_in.specs.Holding.{HasComeIn}
 use Rattle.stream_in.specs.Marking.{LeavesAt}
 use Rattle.stream_in.specs.Written.{AreWritten, ReadAsMade, page_at}
@@ -173,12 +173,13 @@ pub record HasTooFewSlots (told need : ℕ) (area : Area) (free bs : List ℕ) (
   pub content : Changes (LeavesUnusable area) d.content d'.content
   pub called : IsCalledAtMost (1 + 3 * (length bs / 4096)) d d'
 
--- the input is no stream
+-- the input is no stream, and the slots don't stand in its way
 pub record IsNoStream (fault : StreamFault) (area : Area) (free bs : List ℕ) (left left' : Option (List ℕ))
     (d d' : DiskView) : Type 0 where
   pub area_is : IsArea d area free
   pub bytes : AreRead bs left left'
   pub says : HasStreamFault bs fault left'
+  pub suffice : SufficeFor free bs
   pub content : Changes (LeavesUnusable area) d.content d'.content
   pub called : IsCalledAtMost (1 + 3 * (length bs / 4096)) d d'
 

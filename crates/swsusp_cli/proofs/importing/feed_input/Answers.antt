@@ -86,7 +86,7 @@ returns-in_err-feed-clause-feeds g c free begun of =
     subst (λ (r : Result (Unit {0}) ImportStop). Feeds free c.args.session.now c.feed.new.self (g.I.Source.remaining c.args.input.now) (g.I.Source.remaining c.read_piece.new.input) d f r) (sym (p.1 ∙ ap Err p.2)) (
       bs ++ part,
       record {
-        why_is = stop_for free (bs ++ part) c.in_err-feed.field-0.0 c.feed.result c.in_err-feed.was (c.in_err-feed.ensures.stops (going.0, bs, going.1)) (c.feed.ensures.stream free bs was.fed) (c.feed.ensures.too_few free bs was.fed);
+        why_is = stop_for free (bs ++ part) c.in_err-feed.field-0.0 c.feed.result c.in_err-feed.was (c.in_err-feed.ensures.stops (going.0, bs, going.1)) (c.feed.ensures.stream free bs was.fed) (c.feed.ensures.suffice free bs was.fed) (c.feed.ensures.too_few free bs was.fed);
         handed = handed_more bs part read count (g.I.Source.remaining c.args.input.now) (g.I.Source.remaining c.pieces.input) (g.I.Source.remaining c.read_piece.new.input) refl was.handed c.in-Ok.ensures.bytes;
         few = omega arith;
         content = keeps_more c.args.session.now.map c.pieces.session.map free bs first mid last was.map was.content (c.in_err-feed.ensures.stopped free bs was.fed);

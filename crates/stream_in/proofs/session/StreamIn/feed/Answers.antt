@@ -3,7 +3,7 @@ use Rattle.std.proofs.lemmas.List.{length-take-le, take_all}
 use Rattle.stream_check.specs.Grammar.{first_fault}
 use Rattle.stream_check.proofs.Steps.{first_fault-stays}
 use Rattle.stream_in.specs.Session.{IsGoing, IsFed}
-use Rattle.stream_in.specs.Area.{HasTooFewFor}
+use Rattle.stream_in.specs.Area.{HasTooFewFor, SufficeFor}
 use Rattle.definitions.specs.Disk.{Changes, DiskImage}
 use Rattle.stream_in.specs.Written.{AreOfMap, WritesOn}
 use Rattle.stream_in.proofs.Pages.{on_none, on_then}
@@ -12,7 +12,7 @@ use Rattle.stream_in.proofs.Rests.{told_nothing, told_stops_then, told_writes_th
 use Rattle.stream_in.specs.Moments.{ElapsesOutside}
 use Rattle.stream_in.proofs.Moments.{outside_none, outside_then, outside_same}
 use Rattle.stream_in.proofs.Ready.{told_ready, no_header}
-use Rattle.stream_in.proofs.Sessions.{piece_part, piece_rest, length-part, too_few_more, pages_more}
+use Rattle.stream_in.proofs.Sessions.{piece_part, piece_rest, length-part, suffice_more, too_few_more, pages_more}
 use Rattle.stream_in.proofs.session.StreamIn.feed.Goals as goal
 
 -- how many calls there are
@@ -76,6 +76,21 @@ returns-in-Err-clause-stream g c = λ free bs fed fault is.
     let found = c.take.ensures.stream free (bs ++ take at piece) (c.loop-at.invariant.fed free bs fed) fault (c.in-Err.is ∙ is) in
     let here : first_fault (bs ++ take end piece) ≡ Some fault = ap first_fault (sym (piece_part bs piece at end some within)) ∙ found in
     ap first_fault (piece_rest bs piece end) ∙ first_fault-stays (bs ++ take end piece) (drop end piece) fault here
+
+pub returns-in-Err-clause-suffice : goal.returns-in-Err-clause-suffice
+returns-in-Err-clause-suffice g c = λ free bs fed fault is.
+    let piece = c.args.piece.now in
+    let at = c.loop-at.at in
+    let end = c.end_of_page-end.result in
+    let some : at ≤ end = omega (arith, c.end_of_page-end.ensures.some) in
+    let within : end ≤ length piece = c.end_of_page-end.ensures.within in
+    let here = c.loop-at.invariant.fed free bs fed in
+    let joined : bs ++ take at piece ++ take (end - at) (drop at piece) ≡ bs ++ take end piece = piece_part bs piece at end some within in
+    let found = c.take.ensures.stream free (bs ++ take at piece) here fault (c.in-Err.is ∙ is) in
+    let enough = c.take.ensures.suffice free (bs ++ take at piece) here fault (c.in-Err.is ∙ is) in
+    let P : List ℕ → Type 0 = λ l. SufficeFor free l in
+    subst P (sym (piece_rest bs piece end)) (suffice_more free (bs ++ take end piece) (drop end piece) fault
+    (ap first_fault (sym joined) ∙ found) (subst P joined enough))
 
 pub returns-in-Err-clause-too_few : goal.returns-in-Err-clause-too_few
 returns-in-Err-clause-too_few g c = λ free bs fed told need is.

@@ -14,7 +14,7 @@ use Rattle.stream_in.proofs.Pages.{written_part, next_page, page_count, written_
 use Rattle.stream_in.specs.Outside.{FailsAtRest, PutsAtRest}
 use Rattle.stream_in.proofs.Rests.{told_full, told_no_stop, told_part, told_stop}
 use Rattle.stream_in.proofs.Moments.{outside_none}
-use Rattle.stream_in.proofs.Sessions.{IsFull, full_page, page_open, page_closed, output_open, can_put, has_output, too_few}
+use Rattle.stream_in.proofs.Sessions.{IsFull, full_page, page_open, page_closed, output_open, can_put, has_output, part_suffice, too_few}
 use Rattle.stream_in.proofs.session.StreamIn.take.Goals as goal
 
 -- A session has taken one list of bytes, so begun is the length of what is in the page.
@@ -27,6 +27,15 @@ returns-in_err-take-clause-stream g c = λ free bs fed fault is.
     let told : stop.Stream c.in_err-take.field-0.0 ≡ stop.Stream fault = err_same c.from_residual.result _ _ (p.1 ∙ ap Err p.2) is in
     let same : c.in_err-take.field-0.0 ≡ fault = cc in
     (c.take.ensures.fault bs fed.taken fault).0 (c.in_err-take.was ∙ ap Err same)
+
+pub returns-in_err-take-clause-suffice : goal.returns-in_err-take-clause-suffice
+returns-in_err-take-clause-suffice g c = λ free bs fed fault is.
+    let p = err_from_is_err_and c.from_residual.result c.from_residual.ensures.1 in
+    let told : stop.Stream c.in_err-take.field-0.0 ≡ stop.Stream fault = err_same c.from_residual.result _ _ (p.1 ∙ ap Err p.2) is in
+    let same : c.in_err-take.field-0.0 ≡ fault = cc in
+    let begun : c.args.begun ≡ length bs % 4096 = began c.args.self.now c.args.begun c.requires.session free bs fed in
+    part_suffice free bs c.args.part.now fault c.args.self.now.frames c.args.self.now.table c.args.self.now.map c.args.self.now.writer fed.output (omega arith)
+    ((c.take.ensures.fault bs fed.taken fault).0 (c.in_err-take.was ∙ ap Err same))
 
 pub returns-then-end-lt-PAGE-clause-taken : goal.returns-then-end-lt-PAGE-clause-taken
 returns-then-end-lt-PAGE-clause-taken g c = λ free bs fed.
