@@ -246,12 +246,7 @@ pages_more size at end le = omega arith
 
 -- Which slots suffice.
 
--- the bytes that a session has taken
-pub fed_suffice : (free bs : List ℕ) (frames : List (List ℕ)) (table : SlotTable) (extents : List (ℕ × ℕ × ℕ)) (w : Option Writing) → IsOutput free bs frames table extents w → SufficeFor free bs
-fed_suffice free bs frames table extents None output whole sound = absurd (let early = output.early in omega (arith, early, whole))
-fed_suffice free bs frames table extents (Some w) output whole sound = output.room
-
--- and bytes of one page after them, in which there is a fault
+-- the bytes that a session has taken and those of one page after them, in which there is a fault
 pub part_suffice : (free bs part : List ℕ) (fault : StreamFault) (frames : List (List ℕ)) (table : SlotTable) (extents : List (ℕ × ℕ × ℕ)) (w : Option Writing) → IsOutput free bs frames table extents w →
     length bs % 4096 + length part ≤ 4096 → first_fault (bs ++ part) ≡ Some fault → SufficeFor free (bs ++ part)
 part_suffice free bs part fault frames table extents None output within found whole sound =

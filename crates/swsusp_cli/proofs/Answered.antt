@@ -1,7 +1,6 @@
--- What a run tells that makes no machine, by what its words ask for.
+-- Memory that was refused before the disk was called.
 use Rattle.std.proofs.Common.{◌≡◌, inl, inr, ℕ, refl, sym, subst, Option, Some, None, List}
 use Rattle.command_kit.specs.Answer.{RunResult, memory_told, unparsed}
-use Rattle.swsusp_cli.specs.Run.{IsAnswer, IsInspection, NoMachine}
 use Rattle.swsusp_cli.specs.Drills as drills
 use Rattle.swsusp_cli.specs.Drills.{IsDrilled}
 use Rattle.swsusp_cli.specs.Dumps as dumps
@@ -21,24 +20,6 @@ use Rattle.page_core.specs.declared.format.Format.{Format}
 use Rattle.plain_machine.specs.declared.event.IdentCheck.{IdentCheck}
 use Rattle.stream_in.specs.declared.stop.InStop.TheVariants as stop
 use Rattle.swsusp_words.specs.Words.{Asked, inspect, hibernate, resume, replay, drill, export, import}
-
-pub refused_as : (asked : Option Asked) (d d' : DiskView) (text : List ℕ) → asked ≡ None → d'.calls ≡ d.calls → IsAnswer asked d d' (unparsed text)
-refused_as asked d d' text e calls =
-    subst (λ (o : Option Asked). IsAnswer o d d' (unparsed text)) (sym e) (inl (record { text = text; told_is = refl; calls = calls }))
-
-pub inspected_as : (asked : Option Asked) (offset : ℕ) (swap : List ℕ) (d d' : DiskView) (told : RunResult) → asked ≡ Some (inspect offset swap)
-    → IsInspection offset d d' told → IsAnswer asked d d' told
-inspected_as asked offset swap d d' told e h = subst (λ (o : Option Asked). IsAnswer o d d' told) (sym e) (inl h)
-
-pub memory_as : (asked : Option Asked) (d d' : DiskView) → NoMachine asked → d'.calls ≡ d.calls → IsAnswer asked d d' memory_told
-memory_as None d d' none calls = inr (record { told_is = refl; calls = calls })
-memory_as (Some (inspect offset swap)) d d' none calls = inr (record { told_is = refl; calls = calls })
-memory_as (Some replay) d d' none calls = none
-memory_as (Some (drill number)) d d' none calls = none
-memory_as (Some (hibernate format size swap)) d d' none calls = none
-memory_as (Some (resume check swap)) d d' none calls = none
-memory_as (Some export) d d' none calls = none
-memory_as (Some (import swap)) d d' none calls = none
 
 -- memory was refused before the disk was called, which each command may end with
 module _ (x x' : View) (status : Status) (told : Tells memory_told status x x') (untouched : x'.disk ≡ x.disk) where

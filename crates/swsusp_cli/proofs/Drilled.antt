@@ -17,7 +17,7 @@ use Rattle.swsusp_cli.specs.declared.setting_up.Unready.TheVariants.{Small, Unfo
 use Rattle.command_kit.specs.declared.status.Status.{Status}
 use Rattle.command_kit.specs.declared.status.Status.TheVariants.{Stream}
 use Rattle.swsusp_cli.proofs.Prints.{AreFlushed, told_flushed}
-use Rattle.swsusp_cli.proofs.Replays.{calls_untouched, not_formatted, small_disk, steps_few, until_few}
+use Rattle.swsusp_cli.proofs.Replays.{not_formatted, small_disk}
 use Rattle.world_runs.proofs.Counted.{counted_later, risen_earlier}
 
 pub drill_not_set_up : (number : ℕ) (x x' : View) (status : Status) (why : Unready) → IsNotSetUp (drill_script number) x.disk x'.disk why → Tells (unready_told why) status x x' → IsDrilled number x x' status
@@ -45,16 +45,6 @@ number_in _ = 0
 -- what is told of the number that is asked for
 pub drilled_as : (n m : ℕ) (x x' : View) (status : Status) → Some (drill n) ≡ Some (drill m) → IsDrilled n x x' status → IsDrilled m x x' status
 drilled_as n m x x' status same is = subst (λ (k : ℕ). IsDrilled k x x' status) (ap number_in same) is
-
--- a drill makes at most two calls of the disk and one for each event
-pub drill_few_calls : (number : ℕ) (x x' : View) (status : Status) → length (drill_events number) ≤ 100000 → IsDrilled number x x' status → x'.disk.calls ≤ x.disk.calls + 100002
-drill_few_calls number x x' status few (out_of_memory is) = calls_untouched x x' is.untouched
-drill_few_calls number x x' status few (too_small is) = calls_untouched x x' is.untouched
-drill_few_calls number x x' status few (unformatted call is) = until_few call x.disk.calls x'.disk.calls is.calls
-drill_few_calls number x x' status few (summed is) =
-    let steps = steps_few (drill_events number) 100000 few in
-    let calls = is.are.calls in
-    omega arith
 
 pub drill_flushed : (number : ℕ) (x x' : View) (status : Status) → IsDrilled number x x' status → status ≢ Stream → AreFlushed x'.out x'.note
 drill_flushed number x x' status (out_of_memory is) well = told_flushed memory_told status x.out x'.out x.note x'.note is.told well

@@ -13,3 +13,5 @@ pub mod Streaming
 pub mod Turns
 pub mod Drilled
 pub mod Dumped
+pub mod Promised
+pub mod Laws

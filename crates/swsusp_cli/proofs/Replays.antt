@@ -36,9 +36,6 @@ use Rattle.swsusp_cli.specs.declared.setting_up.Unready.{Unready}
 use Rattle.swsusp_cli.specs.declared.setting_up.Unready.TheVariants.{Small, Unformatted as NotFormatted}
 use Rattle.command_kit.specs.declared.status.Status.{Status}
 use Rattle.command_kit.specs.declared.status.Status.TheVariants.{Stream, Device}
-use Rattle.run_laws.proofs.AtomicCopy.{all_restore}
-use Rattle.run_laws.proofs.Once.{resumed_once}
-use Rattle.run_laws.proofs.Sleeps.{never_both}
 use Rattle.command_core.proofs.Leaving.{leaves_then}
 use Rattle.swsusp_cli.proofs.Formatted.{CanFormat, formatted_unmarked, formats_leaves, formats_size}
 use Rattle.swsusp_cli.proofs.Prints.{printed_then, whole_still, fails_early}
@@ -100,9 +97,6 @@ run_formatted script old new events replies before between now c told whole whol
       formats = formatted.2;
       end = end.1;
       run = run;
-      once = resumed_once h (disk.as_it_reads c1) None events replies end.1 run;
-      sleeps = never_both h (disk.as_it_reads c1) None events replies end.1 run;
-      restores = all_restore h (disk.as_it_reads c1) None events replies end.1 run;
       shown = shown new;
       held = end.0;
       told = was.told;
@@ -165,32 +159,6 @@ not_set_up x x' status script (NotFormatted call) is fails told = unformatted sc
 -- there are at most as many steps as events
 pub steps_few : (events : List Event) (n : ℕ) → length events ≤ n → steps_of events ≤ n
 steps_few events n few = let count = length-filter is_step events in let part = count_by-le-length is_step events in omega arith
-
-first_few : (k : ℕ) (events : List Event) (n : ℕ) → length events ≤ n → steps_of (take k events) ≤ n
-first_few k events n few = steps_few (take k events) n (let part = length-take k events in let least = min-le_right k (length events) in omega arith)
-
-pub calls_untouched : (x x' : View) → x'.disk ≡ x.disk → x'.disk.calls ≤ x.disk.calls + 100002
-calls_untouched x x' same = let e = ap (λ (d : DiskView). d.calls) same in omega arith
-
-pub until_few : (call : Unformatted) (before after : ℕ) → after ≡ calls_until call before → after ≤ before + 100002
-until_few Write before after is = omega (arith, min-le_left (before + 1) disk.last_count)
-until_few Sync before after is = omega (arith, min-le_left (before + 1) disk.last_count, min-le_left (disk.raised before + 1) disk.last_count)
-
--- a replay makes at most two calls of the disk and one for each event that a script may have
-pub few_calls : (x x' : View) (status : Status) → IsReplayed x x' status → x'.disk.calls ≤ x.disk.calls + 100002
-few_calls x x' status (no_script fault is) = calls_untouched x x' is.untouched
-few_calls x x' status (out_of_memory is) = calls_untouched x x' is.untouched
-few_calls x x' status (unread is) = calls_untouched x x' is.untouched
-few_calls x x' status (too_small script of is) = calls_untouched x x' is.untouched
-few_calls x x' status (unformatted script call of is) = until_few call x.disk.calls x'.disk.calls is.calls
-few_calls x x' status (played script is) =
-    let few = steps_few script.events 100000 is.script_is.few in
-    let calls = is.prints.1.calls in
-    omega arith
-few_calls x x' status (cut_off script is) =
-    let few = first_few is.prints.0 script.events 100000 is.script_is.few in
-    let calls = is.prints.2.calls in
-    omega arith
 
 -- All events were played, and the ends of the texts are printed, or a sink fails there.
 pub played_whole : (x x' : View) (status : Status) (script : ScriptValue) (mid : SinkView) (replies : List Reply) → IsScript x x' script → LieBelow script.hardware x.disk.blocks → AreReplies x.disk x'.disk script script.events replies →

@@ -19,7 +19,8 @@ use Rattle.plain_machine.specs.declared.reply.Reply.{Reply}
 use Rattle.protocol_laws.specs.Rows.{IsSameArea, TellsNewFault, LeavesBlock, blocks_written}
 use Rattle.protocol_laws.proofs.WrittenWhileHeld.{at_written}
 use Rattle.protocol_laws.proofs.Unwritten.{block_same}
-use Rattle.world_core.specs.Row.{SimulatesWhereTold, IsStep, CallsAtMostOnce, orders_after}
+use Rattle.world_core.specs.Row.{SimulatesWhereTold, IsStep, CallsAtMostOnce}
+use Rattle.world_core.specs.Orders.{orders_after}
 use Rattle.world_core.specs.StandsFor.{hardware_of, shown}
 use Rattle.world_core.specs.World.{World}
 use Rattle.swsusp_cli.specs.Playing.{Played, HasPlayed}

@@ -17,3 +17,4 @@ pub mod Replay
 pub mod Run
 pub mod SettingUp
 pub mod Stops
+pub mod Theorem

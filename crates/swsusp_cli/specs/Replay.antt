@@ -12,12 +12,9 @@ use Rattle.plain_machine.specs.Step.{Run}
 use Rattle.plain_machine.specs.declared.event.Event.{Event}
 use Rattle.plain_machine.specs.declared.reply.Reply.{Reply}
 use Rattle.protocol_laws.specs.Rows.{TellsNewFault, LeavesBlock}
-use Rattle.run_laws.specs.Copies.{AllRestore}
 use Rattle.sector_disk.specs.declared.orders.Order.{Order}
-use Rattle.world_core.specs.Row.{orders_after}
+use Rattle.world_core.specs.Orders.{orders_after}
 use Rattle.world_runs.specs.Counts.{AreCounted, steps_of}
-use Rattle.run_laws.specs.Resumes.{AreResumedOnce}
-use Rattle.run_laws.specs.Sleeps.{NeverBothGoOn}
 use Rattle.script.specs.Grammar.{ScriptValue}
 use Rattle.script.specs.Kinds.{kind_name}
 use Rattle.script.specs.declared.fault.ScriptFault.{ScriptFault}
@@ -37,19 +34,14 @@ abbrev pub IsNoSlot : Hardware → ℕ → Type 0
 IsNoSlot h b = (s : ℕ) → s < h.slots → block_of_slot h s ≢ b
 
 -- Over a disk that held c the script's area was formatted, and the replies are a run of the plain machine over these
--- events, which begins off with nothing held. A hibernation stands before each resume and between any two of them, each
--- resume restores what was there at the last one, and a machine that is woken and the image that it left never both go
--- on. What is shown of the world, and what the disk holds, stand for the state that the run ends in. Blocks on which no
--- slot lies have kept their bytes in every image of the disk.
+-- events, which begins off with nothing held. What is shown of the world, and what the disk holds, stand for the state
+-- that the run ends in. Blocks on which no slot lies have kept their bytes in every image of the disk.
 pub record IsRun (x x' : DiskView) (script : ScriptValue) (events : List Event) (replies : List Reply)
     (c : disk.Content) : Type 0 where
   pub formatted : disk.Content
   pub formats : Formats script.hardware script.last script.bad c formatted
   pub end : State
   pub run : Run script.hardware (disk.as_it_reads formatted) (off nothing None) events replies end
-  pub once : AreResumedOnce events replies
-  pub sleeps : NeverBothGoOn script.hardware (disk.as_it_reads formatted) (off nothing None) events replies end
-  pub restores : AllRestore script.hardware (disk.as_it_reads formatted) (off nothing None) events replies end
   pub shown : WorldView
   pub held : disk.Content
   pub told : x'.content ≡ Some held

@@ -48,7 +48,6 @@ pub fn drill<O: Sink, N: Sink, D: Disk>(
         HasRisen (O.faults out.old) (O.faults out.new) ⊎ HasRisen (N.faults note.old) (N.faults note.new) }
     ensures device { result ≡ Status.Device → HasRisen (D.faults disk.old) (D.faults disk.new) }
     ensures words { result ≢ Status.Words }
-    ensures few_calls { D.calls disk.new ≤ D.calls disk.old + 100002 }
 {
     let script = match generate(alloc, number) {
         Ok(script) => script,

@@ -19,6 +19,7 @@ pub fn inspect<D: Disk>(disk: &mut D, offset: u32) -> Answer
     ensures answer { IsInspected offset (D.block_count disk.old) (D.content disk.old) (D.faults disk.old)
         (D.faults disk.new) (told_by result) }
     ensures status { result.status ≢ Status.Stream }
+    ensures words { result.status ≢ Status.Words }
     ensures device { result.status ≡ Status.Device → HasRisen (D.faults disk.old) (D.faults disk.new) }
     ensures content { D.content disk.new ≡ D.content disk.old }
     ensures calls { D.calls disk.new ≡ calls_for offset (D.block_count disk.old) (D.calls disk.old) }
@@ -36,6 +37,7 @@ pub fn inspect<D: Disk>(disk: &mut D, offset: u32) -> Answer
 fn unread() -> Answer
     ensures told { told_by result ≡ unread }
     ensures status { result.status ≢ Status.Stream }
+    ensures words { result.status ≢ Status.Words }
 {
     let mut note = Line::new();
     note.put(b"read fault same\n");
@@ -49,6 +51,7 @@ fn unread() -> Answer
 fn told_of(kind: &AreaKind) -> Answer
     ensures told { told_by result ≡ inspected kind.now }
     ensures status { result.status ≢ Status.Stream }
+    ensures words { result.status ≢ Status.Words }
 {
     match kind {
         AreaKind::Swap(area) => done(area_line(area.last, area.count)),
@@ -62,6 +65,7 @@ fn told_of(kind: &AreaKind) -> Answer
 fn done(out: Line) -> Answer
     ensures told { told_by result ≡ record { status = Status.Done; out = out; note = [] } }
     ensures status { result.status ≢ Status.Stream }
+    ensures words { result.status ≢ Status.Words }
 {
     Answer {
         status: Status::Done,
@@ -73,6 +77,7 @@ fn done(out: Line) -> Answer
 fn refused(why: NoSwap) -> Answer
     ensures told { told_by result ≡ refused why }
     ensures status { result.status ≢ Status.Stream }
+    ensures words { result.status ≢ Status.Words }
 {
     let mut note = Line::new();
     put_no_swap(&mut note, &why);

@@ -37,7 +37,6 @@ pub fn resume_dump<I: Source, O: Sink, N: Sink, D: Disk>(
         ⊎ HasRisen (O.faults out.old) (O.faults out.new) ⊎ HasRisen (N.faults note.old) (N.faults note.new) }
     ensures device { result ≡ Status.Device → HasRisen (D.faults disk.old) (D.faults disk.new) }
     ensures words { result ≢ Status.Words }
-    ensures few_calls { D.calls disk.new ≤ D.calls disk.old + 100002 }
     ensures inside { IsTrue (D.tells_moments disk.old) →
         LoadsInside (I.remaining input.old) (D.content disk.old) (D.left_since disk.new (D.moment disk.old)) }
 {

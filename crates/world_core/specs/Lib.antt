@@ -1,4 +1,5 @@
 pub mod Kept
+pub mod Orders
 pub mod Row
 pub mod StandsFor
 pub mod Started

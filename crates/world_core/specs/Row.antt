@@ -1,5 +1,5 @@
 -- What an event makes of a world and its disk.
-use Rattle.std.specs.Prelude.{◌≡◌, ◌≢◌, ◌⊎◌, ◌↔◌, ℕ, true, List, [], ◌∷◌, ◌++◌, length, Option, Some, ⊤}
+use Rattle.std.specs.Prelude.{◌≡◌, ◌≢◌, ◌⊎◌, ◌↔◌, ℕ, true, length, Option, Some, ⊤}
 use Rattle.definitions.specs.Disk as disk
 use Rattle.plain_machine.specs.Machine.{Hardware, Memory, saveable}
 use Rattle.plain_machine.specs.Chain.{Marked}
@@ -16,8 +16,6 @@ use Rattle.plain_machine.specs.declared.event.Event.TheVariants as event
 use Rattle.plain_machine.specs.declared.reply.Reply.{Reply}
 use Rattle.plain_machine.specs.declared.reply.Reply.TheVariants as reply
 use Rattle.protocol_laws.specs.Rows as rows
-use Rattle.sector_disk.specs.declared.orders.Order.{Order}
-use Rattle.sector_disk.specs.declared.orders.Order.TheVariants as order
 use Rattle.world_core.specs.declared.world.Core.TheVariants.{BootSynced, Hibernating, Loading, Running, Waking}
 use Rattle.world_core.specs.World.{World}
 use Rattle.machine.specs.TaskRow.{IsRefusal}
@@ -44,12 +42,6 @@ IsStep _ = ⊥
 abbrev pub IsNoCut : Event → Type 0
 IsNoCut (event.Cut pick) = ⊥
 IsNoCut _ = ⊤
-
--- A cut alone asks the disk for a restart, and an arm alone that calls fail, each with the event's own numbers.
-abbrev pub orders_after : Event → List Order → List Order
-orders_after (event.Cut pick) orders = orders ++ order.Restart pick ∷ []
-orders_after (event.Arm first count pick) orders = orders ++ order.Arm first count pick ∷ []
-orders_after _ orders = orders
 
 -- a cut leaves one of the disk's images
 abbrev pub RestartsAt : Event → Option disk.Content → Option disk.Content → Type 0

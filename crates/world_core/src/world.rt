@@ -73,7 +73,8 @@ impl World {
     ghost use Rattle.world_core.specs.StandsFor.{StandsFor, hardware_of, blocks_of, IsOff, IsNewWorld, IsKeptDump};
     ghost use Rattle.world_core.specs.Row.{SimulatesWhereTold, CallsAtMostOnce, IsNoCut, IsRefused, ChangesNothing};
     ghost use Rattle.world_core.specs.Row.{StopsOff};
-    ghost use Rattle.world_core.specs.Row.{LeavesMemory, RestartsAt, orders_after, blocks_after, Restores, TellsImage};
+    ghost use Rattle.world_core.specs.Row.{LeavesMemory, RestartsAt, blocks_after, Restores, TellsImage};
+    ghost use Rattle.world_core.specs.Orders.{orders_after};
 
     /// A machine that is off, with page frames of zeros.
     pub fn create(alloc: Global, hw: Hardware) -> Result<World, NoMemory>

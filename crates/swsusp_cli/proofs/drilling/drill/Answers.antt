@@ -13,7 +13,7 @@ use Rattle.swsusp_cli.specs.SettingUp.{IsNotSetUp, IsSetUp}
 use Rattle.command_kit.specs.Told.{IsTold}
 use Rattle.command_kit.specs.View.{DiskView, SinkView}
 use Rattle.command_kit.specs.declared.status.Status.TheVariants.{Done}
-use Rattle.swsusp_cli.proofs.Drilled.{drill_few_calls, drill_not_set_up, none_failed}
+use Rattle.swsusp_cli.proofs.Drilled.{drill_not_set_up, none_failed}
 use Rattle.swsusp_cli.proofs.Replays.{replies_of, risen_of, told_status}
 use Rattle.swsusp_cli.proofs.drilling.drill.Goals as goal
 
@@ -75,10 +75,6 @@ returns-in-Err-create-clause-outcome g c = λ left read_faults.
       told = subst (λ (t : RunResult). IsTold t tell.result out (record { taken = g.O.Sink.taken tell.new.out; flushed = g.O.Sink.flushed tell.new.out; faults = g.O.Sink.faults tell.new.out }) note (record { taken = g.N.Sink.taken tell.new.note; flushed = g.N.Sink.flushed tell.new.note; faults = g.N.Sink.faults tell.new.note })) c.no_memory-in-Err-create.ensures.told tell.ensures.told;
       untouched = refl {a = before};
     })
-
-pub returns-clause-few_calls : goal.returns-clause-few_calls
-returns-clause-few_calls g c =
-    drill_few_calls c.args.number _ _ c.tell-2.result (subst (λ (s : ScriptValue). length s.events ≤ 100000) c.in-Ok.ensures.script c.in-Ok.ensures.few_events) (returns-clause-outcome g c None 0)
 
 pub returns-in-Err-set_up-clause-device : goal.returns-in-Err-set_up-clause-device
 returns-in-Err-set_up-clause-device g c = λ device.

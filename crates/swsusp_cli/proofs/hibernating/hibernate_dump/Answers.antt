@@ -6,7 +6,6 @@ use Rattle.command_kit.specs.Told.{IsTold}
 use Rattle.command_kit.specs.View.{DiskView, SinkView}
 use Rattle.world_core.specs.StandsFor.{shown}
 use Rattle.command_core.specs.Runs.{IsHibernation}
-use Rattle.command_core.proofs.Runs.{hibernation_few}
 use Rattle.swsusp_cli.proofs.Dumped.{hibernated_as, saves_as, saves_untouched, ran_as}
 use Rattle.swsusp_cli.proofs.Inputs.{without_dump}
 use Rattle.swsusp_cli.proofs.hibernating.hibernate_dump.Goals as goal
@@ -53,10 +52,3 @@ returns-clause-inside g c = λ tells.
     let made = c.in-Ok-machine_of.ensures in
     saves_as c.args.format c.args.size (g.I.Source.remaining c.args.input.now) (g.D.Disk.content c.args.disk.now) (g.D.Disk.left_since c.hibernate-ended.new.disk (g.D.Disk.moment c.args.disk.now))
     (record { hw = c.in-Ok.dump.hw; memory = c.in-Ok.dump.frames }) _ _ (λ bytes left. c.in-Ok.ensures.dump bytes left) made.is made.frames (λ v told never w left. c.hibernate-ended.ensures.inside tells v told never w left)
-
-pub returns-clause-few_calls : goal.returns-clause-few_calls
-returns-clause-few_calls g c =
-    let ran = c.hibernate-ended.ensures.ran in
-    let few = hibernation_few c.args.format c.args.size c.hibernate-ended.result.reply ran.0 ran.1 ran.2 in
-    let calls = ran.3.calls in
-    omega arith

@@ -7,7 +7,6 @@ use Rattle.command_kit.specs.View.{DiskView, SinkView}
 use Rattle.plain_machine.specs.Machine.{Memory}
 use Rattle.world_core.specs.StandsFor.{shown}
 use Rattle.command_core.specs.Runs.{IsResumption}
-use Rattle.command_core.proofs.Runs.{resumption_few}
 use Rattle.swsusp_cli.specs.Loads.{resume_told}
 use Rattle.swsusp_cli.proofs.Dumped.{resumed_as, loads_as, loads_untouched, ran_as}
 use Rattle.swsusp_cli.proofs.Inputs.{without_dump}
@@ -58,10 +57,3 @@ pub returns-clause-inside : goal.returns-clause-inside
 returns-clause-inside g c = λ tells.
     loads_as (g.I.Source.remaining c.args.input.now) (g.D.Disk.content c.args.disk.now) (g.D.Disk.left_since c.resume-ended.new.disk (g.D.Disk.moment c.args.disk.now))
     (record { hw = c.in-Ok.dump.hw; memory = c.in-Ok.dump.frames }) _ (λ bytes left. c.in-Ok.ensures.dump bytes left) c.in-Ok-machine_of.ensures.is (λ v told original w left. c.resume-ended.ensures.inside tells v told original w left)
-
-pub returns-clause-few_calls : goal.returns-clause-few_calls
-returns-clause-few_calls g c =
-    let ran = c.resume-ended.ensures.ran in
-    let few = resumption_few c.args.check c.resume-ended.result.reply ran.0 ran.1 ran.2 in
-    let calls = ran.3.calls in
-    omega arith

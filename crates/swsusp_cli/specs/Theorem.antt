@@ -1,0 +1,56 @@
+-- The theorem: what the program does, whatever its words, its input, its disk and its sinks are. It is the one clause of
+-- `run` (src/top.rt). What follows of it, as that an image is resumed at most once, is proved in proofs/Laws.antt.
+use Rattle.std.specs.Prelude.{◌≡◌, ◌≢◌, ◌⊎◌, List, ℕ, Option, Some, None, IsTrue, ⊤}
+use Rattle.definitions.specs.Disk.{HasRisen}
+use Rattle.byte_streams.specs.Flushed.{IsFlushed}
+use Rattle.command_kit.specs.View.{View}
+use Rattle.command_kit.specs.declared.status.Status.{Status}
+use Rattle.command_kit.specs.declared.status.Status.TheVariants as status
+use Rattle.sector_disk.specs.declared.disk.Disk.{Ghosts}
+use Rattle.swsusp_cli.specs.Crashes.{ImportsInside}
+use Rattle.swsusp_cli.specs.Drills.{IsDrilled}
+use Rattle.swsusp_cli.specs.Dumps.{Hibernates, SavesInside}
+use Rattle.swsusp_cli.specs.Exports.{Exports}
+use Rattle.swsusp_cli.specs.Imports.{Imports}
+use Rattle.swsusp_cli.specs.Loads.{LoadsInside, Resumes}
+use Rattle.swsusp_cli.specs.Outcome.{IsReplayed}
+use Rattle.swsusp_cli.specs.Reading.{HandsOutAtMost}
+use Rattle.swsusp_cli.specs.Run.{Inspects, Refuses}
+use Rattle.swsusp_words.specs.Words.{Asked, command_of, inspect, hibernate, resume, replay, drill, export, import}
+
+-- What is done and told, by what the words ask for and what the outside told before and after. Nothing is read but a
+-- script, at most to one byte past the largest, a dump or a stream.
+abbrev pub Does : {X : Type 0} → Ghosts X → (before after : X) → (x x' : View) → Status → Option Asked → Type 0
+Does D before after x x' ends None = Refuses x x' ends × (x'.left ≡ x.left)
+Does D before after x x' ends (Some (inspect offset swap)) = Inspects offset x x' ends × (x'.left ≡ x.left)
+Does D before after x x' ends (Some replay) = IsReplayed x x' ends × HandsOutAtMost 1048577 x.left x'.left
+Does D before after x x' ends (Some (drill number)) = IsDrilled number x x' ends × (x'.left ≡ x.left)
+Does D before after x x' ends (Some (hibernate format size swap)) = Hibernates D before after format size x x' ends
+Does D before after x x' ends (Some (resume check swap)) = Resumes D before after check x x' ends
+Does D before after x x' ends (Some export) = Exports x x' ends
+Does D before after x x' ends (Some (import swap)) = Imports x x' ends
+
+-- What a crash at some moment since the command began may leave, over a disk that tells moments.
+abbrev pub IsSafe : {X : Type 0} → Ghosts X → (before after : X) → (x x' : View) → Option Asked → Type 0
+IsSafe D before after x x' (Some (hibernate format size swap)) =
+    SavesInside format size x.left x.disk.content (D.left_since after (D.moment before))
+IsSafe D before after x x' (Some (resume check swap)) =
+    LoadsInside x.left x.disk.content (D.left_since after (D.moment before))
+IsSafe D before after x x' (Some (import swap)) =
+    ImportsInside x.left x'.left (D.moment before) (D.moment after) (D.left_since before) (D.left_since after)
+IsSafe D before after x x' _ = ⊤
+
+-- Each status that reports a failure has its cause, and with any other than a stream's all that was taken is flushed.
+pub record HasCause (asked : Option Asked) (x x' : View) (ends : Status) : Type 0 where
+  pub words : ends ≡ status.Words → asked ≡ None
+  pub stream : ends ≡ status.Stream → HasRisen x.read_faults x'.read_faults ⊎ HasRisen x.out.faults x'.out.faults
+      ⊎ HasRisen x.note.faults x'.note.faults
+  pub flushed : ends ≢ status.Stream → IsFlushed x'.out.taken x'.out.flushed × IsFlushed x'.note.taken x'.note.flushed
+  pub device : ends ≡ status.Device → HasRisen x.disk.faults x'.disk.faults
+
+-- The program over words, of which the first is its name, and a disk before and after.
+pub record Promise {X : Type 0} (D : Ghosts X) (words : List (List ℕ)) (before after : X) (x x' : View)
+    (ends : Status) : Type 0 where
+  pub does : Does D before after x x' ends (command_of words)
+  pub safe : IsTrue (D.tells_moments before) → IsSafe D before after x x' (command_of words)
+  pub cause : HasCause (command_of words) x x' ends
