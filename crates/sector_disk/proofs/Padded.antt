@@ -206,8 +206,3 @@ is_padded count kept image n le first zeros =
 -- as many sectors are durable as live
 pub same_size : (d : MemDisk) → length (durable_sectors d) ≡ length (live_sectors d)
 same_size d = length-padded (8 * d.blocks) d.durable.items (omega (arith, d.same_length, d.within)) ∙ sym (length-padded (8 * d.blocks) d.live.items d.within)
-
--- zeros put into room for them
-pub filled_none : (count : ℕ) (kept new : DiskImage) → kept ≡ [] → new ≡ kept ++ replicate (count - length kept) zero_sector → new ≡ replicate count zero_sector
-unfolding padded
-filled_none count kept new e f = f ∙ padded_none count kept e

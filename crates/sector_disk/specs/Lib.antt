@@ -5,4 +5,3 @@ pub mod Called
 pub mod MemDisk
 pub mod Recorded
 pub mod RecordedLaws
-pub mod LogDisk

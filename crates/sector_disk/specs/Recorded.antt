@@ -1,8 +1,8 @@
--- What a disk holds that began with one image, and what a power cut might have left of it, by its recorded calls.
-use Rattle.std.specs.Prelude.{◌≡◌, ℕ, ◌+◌, ◌-◌, ◌*◌, ◌≤◌, Bool, true, ◌&&◌, nat_le, nat_lt, if◌then◌else◌, List, []}
-use Rattle.std.specs.Prelude.{◌∷◌, length, map, take, slice_index_or}
+-- What a disk holds that began with one image, by its recorded calls.
+use Rattle.std.specs.Prelude.{◌≡◌, ℕ, ◌+◌, ◌-◌, ◌*◌, Bool, true, ◌&&◌, nat_le, nat_lt, if◌then◌else◌, List, []}
+use Rattle.std.specs.Prelude.{◌∷◌, length, map, slice_index_or}
 use Rattle.std.specs.List.{fold, range_with_len}
-use Rattle.definitions.specs.Disk.{Sector, Content, DiskImage, sector, as_it_reads, settled, sector_bytes, IsMixture}
+use Rattle.definitions.specs.Disk.{Sector, Content, DiskImage, sector, as_it_reads, settled, sector_bytes}
 use Rattle.sector_disk.specs.Sectors.{picks}
 use Rattle.sector_disk.specs.declared.recorded.Recorded.{Recorded}
 use Rattle.sector_disk.specs.declared.recorded.Recorded.TheVariants.{Write, FailedWrite, Sync, FailedSync}
@@ -34,16 +34,6 @@ after c FailedSync = c
 -- the content after these calls, of a disk that began with this image: every candidate since the last sync
 abbrev pub held_after : DiskImage → List Recorded → Content
 held_after start log = fold after (settled start) log
-
--- the content after the first k of these calls, or after all where there are fewer
-abbrev pub held_at : DiskImage → List Recorded → ℕ → Content
-held_at start log k = held_after start (take k log)
-
--- A power cut after k of these calls, at moment t or later, might have left this image. It came before the next call or
--- inside it, which may have done its work for some sectors.
-abbrev pub WasLeft : DiskImage → List Recorded → ℕ → DiskImage → Type 0
-WasLeft start log t v =
-    (k : ℕ) × (t ≤ k) × (k ≤ length log) × IsMixture (held_at start log k) (held_at start log (k + 1)) v
 
 -- the image as the last sync or restart left it: of each sector the oldest candidate
 abbrev pub as_synced : Content → DiskImage

@@ -1,9 +1,8 @@
--- What recorded calls make of a disk's content, and what a power cut might have left.
+-- What recorded calls make of a disk's content.
 use Rattle.std.proofs.Common.{◌≡◌, ℕ, ◌+◌, ◌-◌, ◌*◌, ◌<◌, ◌≤◌, ◌⊎◌, zero, suc, Bool, true, false, cond, ◌&&◌, nat_le}
 use Rattle.std.proofs.Common.{nat_lt, All, List, [], ◌∷◌, ◌++◌, length, drop, get_or, Contains, refl, sym, ap, ◌∙◌, inl}
 use Rattle.std.proofs.Common.{inr, subst, arith}
 use Rattle.std.proofs.lemmas.List.{length-take-le, length-map, length-drop, get_or-map, get_or_default, get_or_past}
-use Rattle.std.proofs.lemmas.List.{take_all, take-append-le}
 use Rattle.std.proofs.lemmas.List.FromFn.{length-map-range_with_len, get_or-map-range_with_len}
 use Rattle.std.proofs.lemmas.List.Sums.{fold_push}
 use Rattle.std.proofs.lemmas.Bool.{cases_lt, lt-ltb, le-ltb, le-leb, lt-leb, and_left, and_right, and_from, and_parts}
@@ -11,10 +10,10 @@ use Rattle.std.proofs.lemmas.Bool.{leb-true, ltb-true, cond_both}
 use Rattle.std.proofs.lemmas.List.Elements.{All-head, All-tail}
 use Rattle.std.specs.List.{fold}
 use Rattle.definitions.specs.Disk.{Sector, Content, DiskImage, no_sector, sector, as_it_reads, settled, sector_bytes}
-use Rattle.definitions.specs.Disk.{IsSector, IsContent, IsImage, IsMixture, SameOutside, TakesBytes, Writes}
+use Rattle.definitions.specs.Disk.{IsSector, IsContent, SameOutside, TakesBytes, Writes}
 use Rattle.definitions.specs.Disk.{FailsToWrite}
 use Rattle.definitions.proofs.DiskLaws.{length-settled, length-as_it_reads}
-use Rattle.sector_disk.specs.Recorded.{lies_in, with_live, sector_after, written, after, held_after, held_at, WasLeft}
+use Rattle.sector_disk.specs.Recorded.{lies_in, with_live, sector_after, written, after, held_after}
 use Rattle.sector_disk.specs.Recorded.{as_synced, page_size}
 use Rattle.sector_disk.specs.Sectors.{picks, AreSectors}
 use Rattle.sector_disk.specs.declared.recorded.Recorded.{Recorded}
@@ -229,7 +228,7 @@ pub held_whole : (blocks : ℕ) (start : DiskImage) (log : List Recorded) → Ar
 held_whole blocks start log whole sizes =
     IsContent-fold blocks (settled start) log sizes (IsContent-settled blocks start whole)
 
--- Moments.
+-- One more call.
 
 pub length-after : (c : Content) (r : Recorded) → length (after c r) ≡ length c
 length-after c (Write b page) = length-written (λ s. true) b page c
@@ -240,49 +239,3 @@ length-after c FailedSync = refl
 pub held_after-push : (start : DiskImage) (log : List Recorded) (r : Recorded) →
     held_after start (log ++ r ∷ []) ≡ after (held_after start log) r
 held_after-push start log r = fold_push after (settled start) log r
-
-pub held_at-all : (start : DiskImage) (log : List Recorded) (k : ℕ) → length log ≤ k →
-    held_at start log k ≡ held_after start log
-held_at-all start log k le = ap (held_after start) (take_all k log le)
-
-pub held_at-earlier : (start : DiskImage) (log : List Recorded) (r : Recorded) (k : ℕ) → k ≤ length log →
-    held_at start (log ++ r ∷ []) k ≡ held_at start log k
-held_at-earlier start log r k le = ap (held_after start) (take-append-le k log (r ∷ []) le)
-
-IsMixture-image : (c : Content) (v : DiskImage) → IsImage c v → IsMixture c c v
-IsMixture-image c v image =
-    record { size = image.size; each = λ s lt. inl (image.chosen s (omega (arith, image.size))) }
-
-pub IsImage-mixture : (c : Content) (v : DiskImage) → IsMixture c c v → IsImage c v
-IsImage-mixture c v mixed =
-    record {
-      size = mixed.size;
-      chosen = λ s lt. elim (mixed.each s (omega (arith, mixed.size))) [ inl h ↦ h | inr h ↦ h ];
-    }
-
-pub along : (c d e f : Content) (v : DiskImage) → c ≡ e → d ≡ f → IsMixture c d v → IsMixture e f v
-along c d e f v p q mixed =
-    subst (λ (x : Content). IsMixture e x v) q (subst (λ (x : Content). IsMixture x d v) p mixed)
-
--- this moment is one of those since an earlier one
-pub WasLeft-now : (start : DiskImage) (log : List Recorded) (t : ℕ) (v : DiskImage) → t ≤ length log →
-    IsImage (held_after start log) v → WasLeft start log t v
-WasLeft-now start log t v le image =
-    let all : held_after start log ≡ held_at start log (length log) =
-    sym (held_at-all start log (length log) (omega arith)) in
-    let more : held_after start log ≡ held_at start log (length log + 1) =
-    sym (held_at-all start log (length log + 1) (omega arith)) in (
-      length log,
-      le,
-      omega arith,
-      along (held_after start log) (held_after start log) (held_at start log (length log))
-          (held_at start log (length log + 1)) v all more (IsMixture-image (held_after start log) v image),
-    )
-
--- since this moment there is no other
-pub WasLeft-only : (start : DiskImage) (log : List Recorded) (v : DiskImage) → WasLeft start log (length log) v →
-    IsImage (held_after start log) v
-WasLeft-only start log v (k, low, high, mixed) =
-    IsImage-mixture (held_after start log) v
-    (along (held_at start log k) (held_at start log (k + 1)) (held_after start log) (held_after start log) v
-    (held_at-all start log k low) (held_at-all start log (k + 1) (omega arith)) mixed)

@@ -1,17 +1,15 @@
-//! Disks of blocks: the trait, a disk in memory and one that records its calls.
+//! Disks of blocks: the trait, a disk in memory, and what a recorded call makes of one.
 #![tactic(auto)]
 
 mod calls;
 mod disk;
-mod log_disk;
 mod mem_disk;
 mod orders;
 mod recorded;
 mod sectors;
-#[cfg(test)]
-mod tests;
 
 pub use disk::Disk;
-pub use log_disk::LogDisk;
 pub use mem_disk::MemDisk;
 pub use orders::{Order, Orders};
+pub use recorded::Recorded;
+pub use sectors::{SECTOR_SIZE, SECTORS_IN_BLOCK, Sector};

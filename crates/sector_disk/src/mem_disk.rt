@@ -43,8 +43,8 @@ pub struct MemDisk {
 
 impl MemDisk {
     ghost use Rattle.sector_disk.specs.Recorded.{AreKept, held_after, page_size, blocks_needed};
-    ghost use Rattle.sector_disk.specs.MemDisk.{IsNew, IsRefused, block_count, armed_pick, durable_sectors};
-    ghost use Rattle.sector_disk.specs.MemDisk.{live_sectors};
+    ghost use Rattle.sector_disk.specs.MemDisk.{IsNew, IsRefused, KeepsArmed, block_count, call_count, fault_count};
+    ghost use Rattle.sector_disk.specs.MemDisk.{orders_got, armed_pick, durable_sectors, live_sectors};
 
     /// A disk of zeros.
     pub fn create(alloc: Global, blocks: u32) -> Result<MemDisk, NoMemory>
@@ -64,28 +64,32 @@ impl MemDisk {
         })
     }
 
-    /// Counts a call that fails, whether or not it is armed.
-    pub(crate) fn refuse(&mut self)
-        ensures { IsRefused self.old self.new }
+    /// Counts a read, a write or a sync that fails, whether or not it is armed, and leaves every sector. So a disk over
+    /// this one tells that it can't serve a call.
+    pub fn refuse(&mut self)
+        ensures refused { IsRefused self.old self.new }
     {
         self.calls.lose_turn();
     }
 
     /// The pick of the sectors that a write takes where it fails.
-    pub(crate) fn armed_pick(&self) -> u64
-        ensures { result ≡ armed_pick self.now }
+    pub fn armed_pick(&self) -> u64
+        ensures pick { result ≡ armed_pick self.now }
     {
         self.calls.pick
     }
 
-    /// Has the sectors that a disk has which began with these ones, after these calls. Nothing is counted.
-    pub(crate) fn replay(&mut self, start: &[Sector], log: &[Recorded])
+    /// Takes the sectors that a disk has which began with these ones, after these calls. Nothing is counted, and the
+    /// same calls stay armed.
+    pub fn replay(&mut self, start: &[Sector], log: &[Recorded])
         requires start { AreSectors (8 * block_count self.old) start.now }
         requires inside { All (λ r. blocks_needed r ≤ block_count self.old) log.now }
         requires pages { All (λ r. page_size r ≡ 4096) log.now }
         ensures kept { AreKept (held_after start.now log.now) (durable_sectors self.new) (live_sectors self.new) }
-        ensures calls { self.new.calls ≡ self.old.calls }
-        ensures orders { self.new.orders ≡ self.old.orders }
+        ensures armed { KeepsArmed self.old self.new }
+        ensures calls { call_count self.new ≡ call_count self.old }
+        ensures faults { fault_count self.new ≡ fault_count self.old }
+        ensures orders { orders_got self.new ≡ orders_got self.old }
         ensures blocks { block_count self.new ≡ block_count self.old }
     {
         self.keep_up_to(SECTORS_IN_BLOCK * self.blocks as usize);
@@ -97,8 +101,8 @@ impl MemDisk {
     }
 
     /// Copies the sectors as a read gives them.
-    pub(crate) fn copy_live(&self, into: &mut [Sector])
-        requires { length into.old ≡ 8 * block_count self.now }
+    pub fn copy_live(&self, into: &mut [Sector])
+        requires size { length into.old ≡ 8 * block_count self.now }
         ensures sectors { into.new ≡ live_sectors self.now }
         ensures whole { AreSectors (8 * block_count self.now) into.new }
     {

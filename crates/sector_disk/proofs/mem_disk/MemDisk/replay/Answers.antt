@@ -1,7 +1,9 @@
-use Rattle.std.proofs.Common.{◌∙◌, length, ap, arith}
+use Rattle.std.proofs.Common.{◌∙◌, length, ap, arith, ◌↔◌, sym, subst}
 use Rattle.std.proofs.lemmas.List.{with_items_is}
 use Rattle.sector_disk.proofs.Recordings.{kept_lent, durable_kept_whole, live_kept_whole, outside_nothing}
 use Rattle.sector_disk.proofs.Padded.{all_kept_of}
+use Rattle.sector_disk.specs.Calls.{IsDue}
+use Rattle.sector_disk.specs.declared.calls.Calls.{Calls}
 use Rattle.sector_disk.proofs.mem_disk.MemDisk.replay.Goals as goal
 
 pub returns-clause-kept : goal.returns-clause-kept
@@ -54,3 +56,15 @@ invariant_of-self-clause-within c =
 pub invariant_of-self-clause-ends : goal.invariant_of-self-clause-ends
 invariant_of-self-clause-ends c =
     omega (arith, c.len-self.ensures, ap length (with_items_is c.copy_from_slice-2.new.self c.redo_all.new.live (omega arith)))
+
+pub returns-clause-armed : goal.returns-clause-armed
+returns-clause-armed c = record {
+  calls = λ k. subst (λ (x : Calls). IsDue x k ↔ IsDue c.args.self.now.calls k) (sym c.keep_up_to.ensures.calls) (λ h. h, λ h. h);
+  pick = ap (λ (x : Calls). x.pick) c.keep_up_to.ensures.calls;
+}
+
+pub returns-clause-calls : goal.returns-clause-calls
+returns-clause-calls c = ap (λ (x : Calls). x.made) c.keep_up_to.ensures.calls
+
+pub returns-clause-faults : goal.returns-clause-faults
+returns-clause-faults c = ap (λ (x : Calls). x.faults) c.keep_up_to.ensures.calls

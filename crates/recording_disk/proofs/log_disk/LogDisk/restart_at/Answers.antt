@@ -1,11 +1,9 @@
-use Rattle.std.proofs.Common.{◌∙◌, ◌↔◌, List, ap, subst}
+use Rattle.std.proofs.Common.{◌∙◌, List, subst}
 use Rattle.definitions.specs.Disk.{IsImage}
-use Rattle.sector_disk.specs.Calls.{IsDue}
 use Rattle.sector_disk.specs.Recorded.{held_after}
-use Rattle.sector_disk.specs.declared.calls.Calls.{Calls}
 use Rattle.sector_disk.specs.declared.recorded.Recorded.{Recorded}
-use Rattle.sector_disk.proofs.Recordings.{WasLeft-at}
-use Rattle.sector_disk.proofs.log_disk.LogDisk.restart_at.Goals as goal
+use Rattle.recording_disk.proofs.Recordings.{WasLeft-at}
+use Rattle.recording_disk.proofs.log_disk.LogDisk.restart_at.Goals as goal
 
 pub returns-clause-past : goal.returns-clause-past
 returns-clause-past c = λ le.
@@ -15,6 +13,6 @@ returns-clause-past c = λ le.
 
 pub returns-clause-armed : goal.returns-clause-armed
 returns-clause-armed c = record {
-  calls = λ k. subst (λ (x : Calls). IsDue c.restart.new.self.disk.calls k ↔ IsDue x k) c.replay.ensures.calls (c.restart.ensures.armed.calls k);
-  pick = c.restart.ensures.armed.pick ∙ ap (λ (x : Calls). x.pick) c.replay.ensures.calls;
+  calls = λ k. (λ h. (c.replay.ensures.armed.calls k).0 ((c.restart.ensures.armed.calls k).0 h), λ h. (c.restart.ensures.armed.calls k).1 ((c.replay.ensures.armed.calls k).1 h));
+  pick = c.restart.ensures.armed.pick ∙ c.replay.ensures.armed.pick;
 }

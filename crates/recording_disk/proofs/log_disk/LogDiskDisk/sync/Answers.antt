@@ -2,9 +2,9 @@ use Rattle.std.proofs.Common.{◌∙◌, sym, ap, refl, arith}
 use Rattle.sector_disk.specs.MemDisk.{live_sectors}
 use Rattle.definitions.specs.Disk.{as_it_reads}
 use Rattle.sector_disk.specs.Recorded.{as_synced}
-use Rattle.sector_disk.proofs.Recordings.{live_sync, held_failed_sync, synced_sync, whole_push, blocks_push, time_recorded}
+use Rattle.recording_disk.proofs.Recordings.{live_sync, held_failed_sync, synced_sync, whole_push, blocks_push, time_recorded}
 use Rattle.sector_disk.specs.declared.recorded.Recorded.TheVariants.{Sync, FailedSync}
-use Rattle.sector_disk.proofs.log_disk.LogDiskDisk.sync.Goals as goal
+use Rattle.recording_disk.proofs.log_disk.LogDiskDisk.sync.Goals as goal
 
 pub invariant_of-self-clause-live : goal.invariant_of-self-clause-live
 invariant_of-self-clause-live c =

@@ -1,16 +1,17 @@
 ghost use Rattle.std.specs.Prelude.{◌≡◌, ◌<◌};
 
-use crate::{Disk, LogDisk, MemDisk};
+use crate::LogDisk;
 use page_core::{Failed, Page};
+use sector_disk::{Disk, MemDisk};
 use std::test::Fail;
 
-// The first bytes of the sectors of block 0, as the disk reads.
-fn first_bytes<D: Disk>(disk: &mut D) -> Result<[u8; 8], Failed>
-    requires { 0 < D.block_count disk.old }
+// The first bytes of the sectors of a block, as the disk reads.
+fn first_bytes<D: Disk>(disk: &mut D, b: u32) -> Result<[u8; 8], Failed>
+    requires { b < D.block_count disk.old }
     ensures { D.block_count disk.new ≡ D.block_count disk.old }
 {
     let mut page = Page::zero();
-    disk.read(0, &mut page)?;
+    disk.read(b, &mut page)?;
     let mut firsts = [0; 8];
     for j in 0..8 {
         firsts[j] = page.as_bytes()[512 * j];
@@ -29,10 +30,24 @@ fn a_restart_takes_the_picked_sectors(rt: HostRuntime) -> Result<(), Fail> {
         assert_eq!(rt; disk.blocks(), 2);
         disk.write(0, &Page::from_bytes(&[7; 4096]))?;
         disk.restart(pick);
-        assert_eq!(rt; first_bytes(&mut disk)?, want);
+        assert_eq!(rt; first_bytes(&mut disk, 0)?, want);
         disk.restart(0);
-        assert_eq!(rt; first_bytes(&mut disk)?, want, "after pick {pick}");
+        assert_eq!(rt; first_bytes(&mut disk, 0)?, want, "after pick {pick}");
     }
+    Ok(())
+}
+
+#[test]
+fn blocks_that_were_not_written_are_zeros(rt: HostRuntime) -> Result<(), Fail> {
+    let mut disk = MemDisk::create(rt.alloc(), 8)?;
+    assert_eq!(rt; disk.blocks(), 8);
+    assert_eq!(rt; first_bytes(&mut disk, 7)?, [0; 8]);
+    disk.write(5, &Page::from_bytes(&[7; 4096]))?;
+    assert_eq!(rt; first_bytes(&mut disk, 7)?, [0; 8]);
+    disk.restart(u64::MAX);
+    assert_eq!(rt; first_bytes(&mut disk, 4)?, [0; 8]);
+    assert_eq!(rt; first_bytes(&mut disk, 5)?, [7; 8]);
+    assert_eq!(rt; first_bytes(&mut disk, 6)?, [0; 8]);
     Ok(())
 }
 
@@ -44,7 +59,7 @@ fn an_armed_write_takes_the_picked_sectors(rt: HostRuntime) -> Result<(), Fail> 
     disk.sync()?;
     disk.restart(0);
     assert_eq!(rt; disk.write(0, &Page::from_bytes(&[7; 4096])), Err(Failed));
-    assert_eq!(rt; first_bytes(&mut disk)?, [7, 7, 0, 0, 0, 0, 0, 0]);
+    assert_eq!(rt; first_bytes(&mut disk, 0)?, [7, 7, 0, 0, 0, 0, 0, 0]);
     Ok(())
 }
 
@@ -62,9 +77,9 @@ fn a_disk_that_records_is_one_in_memory(rt: HostRuntime) -> Result<(), Fail> {
         disk.write(0, &Page::from_bytes(&[6; 4096]))?;
         disk.write(0, &Page::from_bytes(&[7; 4096]))?;
         disk.restart(pick);
-        assert_eq!(rt; first_bytes(&mut disk)?, want);
+        assert_eq!(rt; first_bytes(&mut disk, 0)?, want);
         disk.restart(0);
-        assert_eq!(rt; first_bytes(&mut disk)?, want, "after pick {pick}");
+        assert_eq!(rt; first_bytes(&mut disk, 0)?, want, "after pick {pick}");
     }
     Ok(())
 }
@@ -91,7 +106,7 @@ fn a_restart_goes_back_to_an_earlier_moment(rt: HostRuntime) -> Result<(), Fail>
         assert_eq!(rt; disk.recorded_calls(), 5);
         disk.restart_at(calls, pick);
         assert_eq!(rt; disk.recorded_calls(), 0);
-        assert_eq!(rt; first_bytes(&mut disk)?, want, "after {calls} calls");
+        assert_eq!(rt; first_bytes(&mut disk, 0)?, want, "after {calls} calls");
     }
     Ok(())
 }
@@ -107,14 +122,14 @@ fn a_call_without_room_leaves_every_sector(rt: HostRuntime) -> Result<(), Fail> 
     assert!(rt; disk.is_full());
     assert_eq!(rt; disk.write(0, &Page::from_bytes(&[7; 4096])), Err(Failed));
     assert_eq!(rt; disk.sync(), Err(Failed));
-    assert_eq!(rt; first_bytes(&mut disk)?, [5, 5, 0, 0, 0, 0, 0, 0]);
+    assert_eq!(rt; first_bytes(&mut disk, 0)?, [5, 5, 0, 0, 0, 0, 0, 0]);
 
     disk.restart(u64::MAX);
     assert!(rt; !disk.is_full());
-    assert_eq!(rt; first_bytes(&mut disk)?, [5, 5, 0, 0, 0, 0, 0, 0]);
+    assert_eq!(rt; first_bytes(&mut disk, 0)?, [5, 5, 0, 0, 0, 0, 0, 0]);
     disk.write(0, &Page::from_bytes(&[9; 4096]))?;
     disk.sync()?;
-    assert_eq!(rt; first_bytes(&mut disk)?, [9; 8]);
+    assert_eq!(rt; first_bytes(&mut disk, 0)?, [9; 8]);
     assert!(rt; disk.is_full());
     Ok(())
 }

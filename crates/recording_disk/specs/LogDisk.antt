@@ -2,28 +2,28 @@
 use Rattle.std.specs.Prelude.{◌≡◌, ℕ, ◌+◌, ◌*◌, ◌<◌, ◌≤◌, ◌↔◌, List, [], ◌∷◌, ◌++◌, length, replicate, Result, OnOk}
 use Rattle.std.specs.Prelude.{OnErr}
 use Rattle.definitions.specs.Disk.{Content, DiskImage, raised}
-use Rattle.sector_disk.specs.Calls.{IsDue}
-use Rattle.sector_disk.specs.Recorded.{held_after, WasLeft}
-use Rattle.sector_disk.specs.Sectors.{padded}
-use Rattle.sector_disk.specs.declared.log_disk.LogDisk.{LogDisk}
+use Rattle.sector_disk.specs.MemDisk as memory
+use Rattle.sector_disk.specs.Recorded.{held_after}
+use Rattle.recording_disk.specs.Moments.{WasLeft}
+use Rattle.recording_disk.specs.declared.log_disk.LogDisk.{LogDisk}
 use Rattle.sector_disk.specs.declared.orders.Order.{Order}
 use Rattle.sector_disk.specs.declared.recorded.Recorded.{Recorded}
 
 -- how many blocks it has
 abbrev pub block_count : LogDisk → ℕ
-block_count d = d.disk.blocks
+block_count d = memory.block_count d.disk
 
 -- how many calls failed
 abbrev pub fault_count : LogDisk → ℕ
-fault_count d = d.disk.calls.faults
+fault_count d = memory.fault_count d.disk
 
 -- how many reads, writes and syncs there were
 abbrev pub call_count : LogDisk → ℕ
-call_count d = d.disk.calls.made
+call_count d = memory.call_count d.disk
 
 -- the restarts and arms that it was asked for
 abbrev pub orders_got : LogDisk → List Order
-orders_got d = d.disk.orders.list
+orders_got d = memory.orders_got d.disk
 
 -- the sectors as the last restart left them
 abbrev pub first_sectors : LogDisk → DiskImage
@@ -43,11 +43,11 @@ IsFull d = room d ≤ length (recorded d)
 
 -- the sectors as the last sync or restart left them
 abbrev pub durable_sectors : LogDisk → DiskImage
-durable_sectors d = padded (8 * d.disk.blocks) d.disk.durable.items
+durable_sectors d = memory.durable_sectors d.disk
 
 -- the sectors as a read gives them
 abbrev pub live_sectors : LogDisk → DiskImage
-live_sectors d = padded (8 * d.disk.blocks) d.disk.live.items
+live_sectors d = memory.live_sectors d.disk
 
 -- what it tells of its content
 abbrev pub content : LogDisk → Content
@@ -63,14 +63,14 @@ left_since d = WasLeft (first_sectors d) (recorded d)
 
 -- the call number k from now is to fail; the next one has number 1
 abbrev pub IsArmed : LogDisk → ℕ → Type 0
-IsArmed d k = IsDue d.disk.calls k
+IsArmed d k = memory.IsArmed d.disk k
 
 -- the pick of the sectors that a write takes where it is armed
 abbrev pub armed_pick : LogDisk → ℕ
-armed_pick d = d.disk.calls.pick
+armed_pick d = memory.armed_pick d.disk
 
 -- A read, a write or a sync: the armed calls are one nearer, and a failure is a fault.
-pub record IsCalled {T E : Type 0} (old new : LogDisk) (result : Result T E) : Type 0 where
+pub record IsRecordedCall {T E : Type 0} (old new : LogDisk) (result : Result T E) : Type 0 where
   pub later : (k : ℕ) → 0 < k → IsArmed new k ↔ IsArmed old (k + 1)
   pub pick : armed_pick new ≡ armed_pick old
   pub faults : fault_count old ≤ fault_count new
@@ -104,7 +104,7 @@ pub record IsOrdered (order : Order) (old new : LogDisk) : Type 0 where
   pub room_is : room new ≡ room old
 
 -- a disk as it is made: zeros, nothing counted, nothing armed, and room for so many calls
-pub record IsNew (blocks calls : ℕ) (d : LogDisk) : Type 0 where
+pub record IsNewLogDisk (blocks calls : ℕ) (d : LogDisk) : Type 0 where
   pub blocks_are : block_count d ≡ blocks
   pub durable : durable_sectors d ≡ replicate (8 * blocks) (replicate 512 0)
   pub live : live_sectors d ≡ replicate (8 * blocks) (replicate 512 0)

@@ -1,13 +1,11 @@
-ghost use Rattle.std.specs.Prelude.{◌≡◌, ◌*◌, ◌≤◌, All, IfOk, vec_len, vec_capacity};
+ghost use Rattle.std.specs.Prelude.{◌≡◌, ◌*◌, ◌≤◌, All, IfOk, replicate, vec_len, vec_capacity};
 ghost use Rattle.definitions.specs.Disk.{as_it_reads};
-ghost use Rattle.sector_disk.specs.MemDisk.{durable_sectors as durable_sectors_of, live_sectors as live_sectors_of};
+ghost use Rattle.sector_disk.specs.MemDisk as memory;
 ghost use Rattle.sector_disk.specs.Sectors.{AreSectors};
 ghost use Rattle.sector_disk.specs.Recorded.{held_after, as_synced, page_size, blocks_needed};
 
-use crate::recorded::Recorded;
-use crate::sectors::{SECTORS_IN_BLOCK, Sector, fill_up, room_for};
-use crate::{Disk, MemDisk};
 use page_core::{Failed, NoMemory, Page};
+use sector_disk::{Disk, MemDisk, Recorded, SECTOR_SIZE, SECTORS_IN_BLOCK, Sector};
 use std::alloc::Global;
 
 /// A disk in memory that records its writes and syncs since the last restart.
@@ -26,11 +24,11 @@ pub struct LogDisk {
     start: Vec<Sector>,
     log: Vec<Recorded>,
     room: u32,
-    ghost start_whole: { AreSectors (8 * disk.blocks) start.items },
+    ghost start_whole: { AreSectors (8 * memory.block_count disk) start.items },
     ghost pages_whole: { All (λ r. page_size r ≡ 4096) log.items },
-    ghost blocks_inside: { All (λ r. blocks_needed r ≤ disk.blocks) log.items },
-    pub ghost live: { live_sectors_of disk ≡ as_it_reads (held_after start.items log.items) },
-    pub ghost synced: { durable_sectors_of disk ≡ as_synced (held_after start.items log.items) },
+    ghost blocks_inside: { All (λ r. blocks_needed r ≤ memory.block_count disk) log.items },
+    pub ghost live: { memory.live_sectors disk ≡ as_it_reads (held_after start.items log.items) },
+    pub ghost synced: { memory.durable_sectors disk ≡ as_synced (held_after start.items log.items) },
     ghost within: { vec_len log ≤ room },
     ghost capacity: { room ≤ vec_capacity log },
 }
@@ -38,21 +36,19 @@ pub struct LogDisk {
 impl LogDisk {
     ghost use Rattle.std.specs.Prelude.{IsTrue, IsErr, [], ◌↔◌};
     ghost use Rattle.definitions.specs.Disk.{DiskImage, Restarts, settled};
-    ghost use Rattle.sector_disk.specs.Recorded.{held_at};
+    ghost use Rattle.recording_disk.specs.Moments.{held_at};
     ghost use Rattle.sector_disk.specs.Sectors.{IsPicked};
-    ghost use Rattle.sector_disk.specs.LogDisk.{IsNew, IsFull, content, moment, left_since, first_sectors, recorded};
-    ghost use Rattle.sector_disk.specs.LogDisk.{durable_sectors, live_sectors, KeepsArmed, IsOrdered, IsCalled};
-    ghost use Rattle.sector_disk.specs.LogDisk.{LeavesAll};
+    ghost use Rattle.recording_disk.specs.LogDisk.{IsNewLogDisk, IsFull, content, moment, left_since, first_sectors, recorded};
+    ghost use Rattle.recording_disk.specs.LogDisk.{durable_sectors, live_sectors, KeepsArmed, IsOrdered, IsRecordedCall};
+    ghost use Rattle.recording_disk.specs.LogDisk.{LeavesAll};
     ghost use Rattle.sector_disk.specs.declared.orders.Order.TheVariants as order;
 
     /// A disk of zeros, with room for so many recorded calls.
     pub fn create(alloc: Global, blocks: u32, calls: u32) -> Result<LogDisk, NoMemory>
-        ensures { IfOk result (IsNew blocks calls) }
+        ensures { IfOk result (IsNewLogDisk blocks calls) }
     {
         let disk = MemDisk::create(alloc, blocks)?;
-        let count = SECTORS_IN_BLOCK * blocks as usize;
-        let mut start = room_for(alloc, count)?;
-        fill_up(&mut start, count);
+        let start = zero_sectors(alloc, SECTORS_IN_BLOCK * blocks as usize)?;
         let log = Vec::with_capacity(alloc, calls as usize).map_err(|_| NoMemory)?;
         Ok(LogDisk {
             disk,
@@ -102,10 +98,21 @@ impl LogDisk {
     fn refuse(&mut self) -> Result<(), Failed>
         ensures fails { IsErr result }
         ensures leaves { LeavesAll self.old self.new }
-        ensures called { IsCalled self.old self.new result }
+        ensures called { IsRecordedCall self.old self.new result }
     {
         self.disk.refuse();
         Err(Failed)
+    }
+}
+
+/// So many sectors of zeros.
+fn zero_sectors(alloc: Global, count: usize) -> Result<Vec<Sector>, NoMemory>
+    ensures { IfOk result (λ sectors. sectors.items ≡ replicate count (replicate 512 0)) }
+{
+    let mut sectors = Vec::new(alloc);
+    match sectors.resize(count, [0; SECTOR_SIZE]) {
+        Ok(()) => Ok(sectors),
+        Err(_) => Err(NoMemory),
     }
 }
 
@@ -113,22 +120,23 @@ impl Disk for LogDisk {
     ghost use Rattle.std.specs.Prelude.{ℕ, ◌+◌, ◌<◌, ◌↔◌, ◌⊎◌, [], Some, OnOk, OnErr, IsErr, true, length, refl};
     ghost use Rattle.std.specs.List.{push};
     ghost use Rattle.definitions.specs.Disk.{block, Writes, FailsToWrite, Syncs, Restarts, Elapses};
-    ghost use Rattle.sector_disk.specs.LogDisk.{block_count, content, moment, left_since, first_sectors, recorded};
-    ghost use Rattle.sector_disk.specs.LogDisk.{durable_sectors, live_sectors, IsArmed, armed_pick, KeepsArmed};
-    ghost use Rattle.sector_disk.specs.LogDisk.{IsCalled, IsOrdered, IsFull, LeavesAll};
-    ghost use Rattle.sector_disk.specs.Recorded.{WasLeft};
-    ghost use Rattle.sector_disk.specs.RecordedLaws.{held_whole, WasLeft-now, WasLeft-only};
+    ghost use Rattle.recording_disk.specs.LogDisk.{orders_got, block_count, fault_count, call_count, content, moment, left_since};
+    ghost use Rattle.recording_disk.specs.LogDisk.{first_sectors, recorded, durable_sectors, live_sectors, IsArmed, armed_pick, KeepsArmed};
+    ghost use Rattle.recording_disk.specs.LogDisk.{IsRecordedCall, IsOrdered, IsFull, LeavesAll};
+    ghost use Rattle.recording_disk.specs.Moments.{WasLeft};
+    ghost use Rattle.sector_disk.specs.RecordedLaws.{held_whole};
+    ghost use Rattle.recording_disk.specs.MomentLaws.{WasLeft-now, WasLeft-only};
     ghost use Rattle.sector_disk.specs.Sectors.{IsPicked, TakesPicked};
     ghost use Rattle.sector_disk.specs.declared.orders.Order.TheVariants as order;
     ghost use Rattle.sector_disk.specs.declared.recorded.Recorded.TheVariants as call;
 
-    ghost block_count = { λ d. d.disk.blocks };
+    ghost block_count = { λ d. block_count d };
 
-    ghost faults = { λ d. d.disk.calls.faults };
+    ghost faults = { λ d. fault_count d };
 
-    ghost calls = { λ d. d.disk.calls.made };
+    ghost calls = { λ d. call_count d };
 
-    ghost orders = { λ d. d.disk.orders.list };
+    ghost orders = { λ d. orders_got d };
 
     ghost content = { λ d. Some (held_after d.start.items d.log.items) };
 
@@ -138,7 +146,7 @@ impl Disk for LogDisk {
 
     ghost left_since = { λ d. WasLeft d.start.items d.log.items };
 
-    ghost well_formed = { λ d. held_whole d.disk.blocks d.start.items d.log.items d.start_whole d.pages_whole };
+    ghost well_formed = { λ d. held_whole (block_count d) d.start.items d.log.items d.start_whole d.pages_whole };
 
     ghost tells_content = { λ d tells. refl };
 
@@ -155,7 +163,7 @@ impl Disk for LogDisk {
         ensures bytes { OnOk result (into.new ≡ block (as_it_reads (content self.old)) b) }
         ensures fails { IsErr result ↔ IsArmed self.old 1 }
         ensures leaves { LeavesAll self.old self.new }
-        ensures called { IsCalled self.old self.new result }
+        ensures called { IsRecordedCall self.old self.new result }
     {
         self.disk.read(b, into)
     }
@@ -174,7 +182,7 @@ impl Disk for LogDisk {
             (content self.old) (content self.new) }
         ensures fails { IsErr result ↔ (IsArmed self.old 1 ⊎ IsFull self.old) }
         ensures full { IsFull self.old → LeavesAll self.old self.new }
-        ensures called { IsCalled self.old self.new result }
+        ensures called { IsRecordedCall self.old self.new result }
     {
         if self.is_full() {
             return self.refuse();
@@ -204,7 +212,7 @@ impl Disk for LogDisk {
             (content self.old) (content self.new) }
         ensures fails { IsErr result ↔ (IsArmed self.old 1 ⊎ IsFull self.old) }
         ensures full { IsFull self.old → LeavesAll self.old self.new }
-        ensures called { IsCalled self.old self.new result }
+        ensures called { IsRecordedCall self.old self.new result }
     {
         if self.is_full() {
             return self.refuse();

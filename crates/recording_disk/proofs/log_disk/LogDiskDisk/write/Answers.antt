@@ -4,9 +4,9 @@ use Rattle.sector_disk.proofs.Padded.{same_size}
 use Rattle.sector_disk.specs.RecordedLaws.{held_whole}
 use Rattle.sector_disk.specs.Recorded.{held_after}
 use Rattle.sector_disk.proofs.Contents.{on_ok, on_err}
-use Rattle.sector_disk.proofs.Recordings.{block_inside, write_of, failed_write_of, live_write, live_failed_write, synced_write, synced_failed_write, whole_push, blocks_push, content_writes, content_fails_to_write, time_recorded}
+use Rattle.recording_disk.proofs.Recordings.{block_inside, write_of, failed_write_of, live_write, live_failed_write, synced_write, synced_failed_write, whole_push, blocks_push, content_writes, content_fails_to_write, time_recorded}
 use Rattle.sector_disk.specs.declared.recorded.Recorded.TheVariants.{Write, FailedWrite}
-use Rattle.sector_disk.proofs.log_disk.LogDiskDisk.write.Goals as goal
+use Rattle.recording_disk.proofs.log_disk.LogDiskDisk.write.Goals as goal
 
 pub invariant_of-self-clause-pages_whole : goal.invariant_of-self-clause-pages_whole
 invariant_of-self-clause-pages_whole c =
@@ -55,13 +55,13 @@ returns-in-Ok-clause-time c =
 pub invariant_of-self-in-Err-clause-pages_whole : goal.invariant_of-self-in-Err-clause-pages_whole
 invariant_of-self-in-Err-clause-pages_whole c =
     let d = c.args.self.now in
-    let entry = failed_write_of d.log.items c.push_reserved-in-Err.new.self.items c.args.b c.from_bytes-page.result c.args.from.now c.armed_pick-pick.result d.disk.calls.pick c.push_reserved-in-Err.ensures.items (c.from_bytes-page.ensures.bytes ∙ c.as_bytes.ensures.bytes) (c.armed_pick-pick.ensures ∙ c.write-answer.ensures.called.pick) in
+    let entry = failed_write_of d.log.items c.push_reserved-in-Err.new.self.items c.args.b c.from_bytes-page.result c.args.from.now c.armed_pick-pick.result d.disk.calls.pick c.push_reserved-in-Err.ensures.items (c.from_bytes-page.ensures.bytes ∙ c.as_bytes.ensures.bytes) (c.armed_pick-pick.ensures.pick ∙ c.write-answer.ensures.called.pick) in
     whole_push d.log.items c.push_reserved-in-Err.new.self.items (FailedWrite c.args.b c.args.from.now d.disk.calls.pick) entry c.as_bytes.ensures.page d.pages_whole
 
 pub invariant_of-self-in-Err-clause-blocks_inside : goal.invariant_of-self-in-Err-clause-blocks_inside
 invariant_of-self-in-Err-clause-blocks_inside c =
     let d = c.args.self.now in
-    let entry = failed_write_of d.log.items c.push_reserved-in-Err.new.self.items c.args.b c.from_bytes-page.result c.args.from.now c.armed_pick-pick.result d.disk.calls.pick c.push_reserved-in-Err.ensures.items (c.from_bytes-page.ensures.bytes ∙ c.as_bytes.ensures.bytes) (c.armed_pick-pick.ensures ∙ c.write-answer.ensures.called.pick) in
+    let entry = failed_write_of d.log.items c.push_reserved-in-Err.new.self.items c.args.b c.from_bytes-page.result c.args.from.now c.armed_pick-pick.result d.disk.calls.pick c.push_reserved-in-Err.ensures.items (c.from_bytes-page.ensures.bytes ∙ c.as_bytes.ensures.bytes) (c.armed_pick-pick.ensures.pick ∙ c.write-answer.ensures.called.pick) in
     blocks_push d.disk.blocks c.write-answer.new.self.blocks d.log.items c.push_reserved-in-Err.new.self.items (FailedWrite c.args.b c.args.from.now d.disk.calls.pick) entry (omega (arith, c.requires)) d.blocks_inside c.write-answer.ensures.called.blocks
 
 pub invariant_of-self-in-Err-clause-live : goal.invariant_of-self-in-Err-clause-live
@@ -69,7 +69,7 @@ invariant_of-self-in-Err-clause-live c =
     let d = c.args.self.now in
     let whole = held_whole d.disk.blocks d.start.items d.log.items d.start_whole d.pages_whole in
     let le = block_inside d.disk.blocks c.args.b (held_after d.start.items d.log.items) whole c.requires in
-    let entry = failed_write_of d.log.items c.push_reserved-in-Err.new.self.items c.args.b c.from_bytes-page.result c.args.from.now c.armed_pick-pick.result d.disk.calls.pick c.push_reserved-in-Err.ensures.items (c.from_bytes-page.ensures.bytes ∙ c.as_bytes.ensures.bytes) (c.armed_pick-pick.ensures ∙ c.write-answer.ensures.called.pick) in
+    let entry = failed_write_of d.log.items c.push_reserved-in-Err.new.self.items c.args.b c.from_bytes-page.result c.args.from.now c.armed_pick-pick.result d.disk.calls.pick c.push_reserved-in-Err.ensures.items (c.from_bytes-page.ensures.bytes ∙ c.as_bytes.ensures.bytes) (c.armed_pick-pick.ensures.pick ∙ c.write-answer.ensures.called.pick) in
     let kept = c.write-answer.new.self in
     live_failed_write d.start.items d.log.items c.push_reserved-in-Err.new.self.items c.args.b c.args.from.now d.disk.calls.pick (durable_sectors d.disk) (live_sectors d.disk) (durable_sectors kept) (live_sectors kept) entry
     (same_size d.disk) (same_size kept) le d.live c.in-Err.ensures.failed c.in-Err.ensures.picked
@@ -79,7 +79,7 @@ invariant_of-self-in-Err-clause-synced c =
     let d = c.args.self.now in
     let whole = held_whole d.disk.blocks d.start.items d.log.items d.start_whole d.pages_whole in
     let le = block_inside d.disk.blocks c.args.b (held_after d.start.items d.log.items) whole c.requires in
-    let entry = failed_write_of d.log.items c.push_reserved-in-Err.new.self.items c.args.b c.from_bytes-page.result c.args.from.now c.armed_pick-pick.result d.disk.calls.pick c.push_reserved-in-Err.ensures.items (c.from_bytes-page.ensures.bytes ∙ c.as_bytes.ensures.bytes) (c.armed_pick-pick.ensures ∙ c.write-answer.ensures.called.pick) in
+    let entry = failed_write_of d.log.items c.push_reserved-in-Err.new.self.items c.args.b c.from_bytes-page.result c.args.from.now c.armed_pick-pick.result d.disk.calls.pick c.push_reserved-in-Err.ensures.items (c.from_bytes-page.ensures.bytes ∙ c.as_bytes.ensures.bytes) (c.armed_pick-pick.ensures.pick ∙ c.write-answer.ensures.called.pick) in
     synced_failed_write d.disk.blocks d.start.items d.log.items c.push_reserved-in-Err.new.self.items c.args.b c.args.from.now d.disk.calls.pick (durable_sectors d.disk) (durable_sectors c.write-answer.new.self) entry whole le d.synced c.write-answer.ensures.durable
 
 pub returns-in-Err-clause-failed : goal.returns-in-Err-clause-failed
@@ -87,11 +87,11 @@ returns-in-Err-clause-failed c =
     let d = c.args.self.now in
     let whole = held_whole d.disk.blocks d.start.items d.log.items d.start_whole d.pages_whole in
     let le = block_inside d.disk.blocks c.args.b (held_after d.start.items d.log.items) whole c.requires in
-    let entry = failed_write_of d.log.items c.push_reserved-in-Err.new.self.items c.args.b c.from_bytes-page.result c.args.from.now c.armed_pick-pick.result d.disk.calls.pick c.push_reserved-in-Err.ensures.items (c.from_bytes-page.ensures.bytes ∙ c.as_bytes.ensures.bytes) (c.armed_pick-pick.ensures ∙ c.write-answer.ensures.called.pick) in
+    let entry = failed_write_of d.log.items c.push_reserved-in-Err.new.self.items c.args.b c.from_bytes-page.result c.args.from.now c.armed_pick-pick.result d.disk.calls.pick c.push_reserved-in-Err.ensures.items (c.from_bytes-page.ensures.bytes ∙ c.as_bytes.ensures.bytes) (c.armed_pick-pick.ensures.pick ∙ c.write-answer.ensures.called.pick) in
     on_err c.write-answer.result (content_fails_to_write d.start.items d.log.items c.push_reserved-in-Err.new.self.items c.args.b c.args.from.now d.disk.calls.pick entry le)
 
 pub returns-in-Err-clause-time : goal.returns-in-Err-clause-time
 returns-in-Err-clause-time c =
     let d = c.args.self.now in
-    let entry = failed_write_of d.log.items c.push_reserved-in-Err.new.self.items c.args.b c.from_bytes-page.result c.args.from.now c.armed_pick-pick.result d.disk.calls.pick c.push_reserved-in-Err.ensures.items (c.from_bytes-page.ensures.bytes ∙ c.as_bytes.ensures.bytes) (c.armed_pick-pick.ensures ∙ c.write-answer.ensures.called.pick) in
+    let entry = failed_write_of d.log.items c.push_reserved-in-Err.new.self.items c.args.b c.from_bytes-page.result c.args.from.now c.armed_pick-pick.result d.disk.calls.pick c.push_reserved-in-Err.ensures.items (c.from_bytes-page.ensures.bytes ∙ c.as_bytes.ensures.bytes) (c.armed_pick-pick.ensures.pick ∙ c.write-answer.ensures.called.pick) in
     time_recorded d.start.items d.log.items c.push_reserved-in-Err.new.self.items (FailedWrite c.args.b c.args.from.now d.disk.calls.pick) entry

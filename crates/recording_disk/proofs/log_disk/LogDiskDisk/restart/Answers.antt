@@ -4,8 +4,8 @@ use Rattle.definitions.specs.Disk.{DiskImage}
 use Rattle.sector_disk.specs.MemDisk.{durable_sectors, live_sectors}
 use Rattle.sector_disk.specs.Sectors.{AreSectors, IsPicked}
 use Rattle.sector_disk.specs.RecordedLaws.{held_whole}
-use Rattle.sector_disk.proofs.Recordings.{reads_new, synced_new, content_restarts}
-use Rattle.sector_disk.proofs.log_disk.LogDiskDisk.restart.Goals as goal
+use Rattle.recording_disk.proofs.Recordings.{reads_new, synced_new, content_restarts}
+use Rattle.recording_disk.proofs.log_disk.LogDiskDisk.restart.Goals as goal
 
 pub invariant_of-self-clause-start_whole : goal.invariant_of-self-clause-start_whole
 invariant_of-self-clause-start_whole c =

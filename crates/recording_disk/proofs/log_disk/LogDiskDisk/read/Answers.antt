@@ -3,7 +3,7 @@ use Rattle.sector_disk.specs.MemDisk.{durable_sectors, live_sectors}
 use Rattle.sector_disk.proofs.Padded.{same_size}
 use Rattle.definitions.specs.Disk.{DiskImage, block}
 use Rattle.sector_disk.proofs.Contents.{as_it_reads-content_of}
-use Rattle.sector_disk.proofs.log_disk.LogDiskDisk.read.Goals as goal
+use Rattle.recording_disk.proofs.log_disk.LogDiskDisk.read.Goals as goal
 
 pub returns-clause-bytes : goal.returns-clause-bytes
 returns-clause-bytes c =

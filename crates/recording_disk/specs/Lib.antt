@@ -1,0 +1,3 @@
+pub mod Moments
+pub mod MomentLaws
+pub mod LogDisk
