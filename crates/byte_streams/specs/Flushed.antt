@@ -1,21 +1,8 @@
 -- How many of the bytes that a sink took were flushed. A meaning that isn't told is `None`.
-use Rattle.std.specs.Prelude.{◌≡◌, ◌≤◌, ℕ, List, length, Option, Some, None, ⊤}
-
--- no more were flushed than were taken
-abbrev pub IsOfTaken : Option (List ℕ) → Option ℕ → Type 0
-IsOfTaken None flushed = ⊤
-IsOfTaken (Some taken) None = ⊤
-IsOfTaken (Some taken) (Some flushed) = flushed ≤ length taken
+use Rattle.std.specs.Prelude.{◌≡◌, ℕ, List, length, Option, Some, None, ⊤}
 
 -- all that was taken was flushed
 abbrev pub IsFlushed : Option (List ℕ) → Option ℕ → Type 0
 IsFlushed None flushed = ⊤
 IsFlushed (Some taken) None = ⊤
 IsFlushed (Some taken) (Some flushed) = flushed ≡ length taken
-
--- What was flushed stays so. Whether it is told doesn't change.
-abbrev pub StaysFlushed : Option ℕ → Option ℕ → Type 0
-StaysFlushed None None = ⊤
-StaysFlushed None (Some new) = ⊥
-StaysFlushed (Some old) None = ⊥
-StaysFlushed (Some old) (Some new) = old ≤ new

@@ -1,3 +1,4 @@
 pub mod Calls
 pub mod Flushed
 pub mod Memory
+pub mod Flushes

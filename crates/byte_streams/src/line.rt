@@ -1,5 +1,5 @@
 ghost use Rattle.std.specs.Prelude.{◌≡◌, ◌+◌, ◌*◌, ◌<◌, ◌≤◌, List, ℕ, [], ◌∷◌, ◌++◌, length, decimal};
-ghost use Rattle.plain_machine.specs.Texts.{hex_text, hex_digit};
+ghost use Rattle.plain_machine.specs.Replies.{hex_text, hex_digit};
 
 use arrayvec::ArrayVec;
 use itoa::Buffer;

@@ -1,7 +1,8 @@
 ghost use Rattle.std.specs.Prelude.{◌≡◌, ◌<◌, ◌≤◌, ℕ, List, Option, length, IfOk, OnOk, OnErr};
 ghost use Rattle.definitions.specs.Disk.{HasRisen};
 ghost use Rattle.definitions.specs.Streams.{Takes};
-ghost use Rattle.byte_streams.specs.Flushed.{IsOfTaken, IsFlushed, StaysFlushed};
+ghost use Rattle.byte_streams.specs.Flushed.{IsFlushed};
+ghost use Rattle.byte_streams.specs.Flushes.{IsOfTaken, StaysFlushed};
 
 use page_core::Failed;
 

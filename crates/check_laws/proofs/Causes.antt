@@ -11,7 +11,8 @@ use Rattle.definitions.specs.Disk.{DiskImage}
 use Rattle.definitions.specs.InfoPage.{info_of}
 use Rattle.definitions.specs.NumberPages.{meta_of, end_value}
 use Rattle.definitions.specs.SwapHeader.{flags_of, hw_sig_of, sig_of, image_signature}
-use Rattle.definitions.specs.Zones.{numbers, AreZones}
+use Rattle.definitions.specs.Zones.{numbers}
+use Rattle.definitions.specs.ZoneFacts.{AreZones}
 use Rattle.definitions.specs.declared.info.Field.{Field}
 use Rattle.definitions.proofs.ZoneNumbers.{IsStrictlyIncreasing-numbers, length-numbers_front}
 use Rattle.plain_machine.specs.Chain.{first_some, header_of, map_fault, or_else}

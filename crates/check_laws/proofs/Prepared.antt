@@ -8,7 +8,8 @@ use Rattle.std.proofs.lemmas.List.FromFn.{length-range_with_len, get_or-range_wi
 use Rattle.definitions.specs.Disk.{DiskImage}
 use Rattle.definitions.specs.Slots.{block_of}
 use Rattle.definitions.specs.SwapHeader.{flags_of, hw_sig_of, last_page_of, sig_of, image_signature}
-use Rattle.plain_machine.specs.Chain.{blocks_of, block_fault, entry_block, entry_fault, header_of, is_at_fault, is_fault_of, map_block, map_fault}
+use Rattle.plain_machine.specs.Chain.{blocks_of, block_fault, entry_block, entry_fault, header_of, is_at_fault}
+use Rattle.plain_machine.specs.Chain.{is_fault_of, map_block, map_fault}
 use Rattle.plain_machine.specs.Image.{maps_read}
 use Rattle.plain_machine.specs.Loader.{left_free, need}
 use Rattle.plain_machine.specs.Machine.{Hardware, IsHardware, Memory, block_of_slot, is_valid, valid_count}

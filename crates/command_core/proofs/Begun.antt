@@ -8,7 +8,7 @@ use Rattle.definitions.specs.SwapHeader.{sig_of, image_signature}
 use Rattle.definitions.proofs.DiskLaws.{as_it_reads-settled}
 use Rattle.plain_machine.specs.Chain.{Marked, header_of, is_marked_disk, blocks_of}
 use Rattle.plain_machine.specs.Machine.{Hardware, Memory}
-use Rattle.plain_machine.specs.Premises.{HasOriginal}
+use Rattle.plain_machine.specs.UsableArea.{HasOriginal}
 use Rattle.plain_machine.specs.State.{State, Held, off, on, booting, nothing, sure, other}
 use Rattle.plain_machine.specs.Step.{Step, no_flights}
 use Rattle.plain_machine.specs.declared.event.Actor.TheVariants as actor

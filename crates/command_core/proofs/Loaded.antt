@@ -5,7 +5,7 @@ use Rattle.std.proofs.lemmas.Bool.{false≢true}
 use Rattle.std.proofs.lemmas.Option.{slice_get_within, same_Some}
 use Rattle.definitions.specs.Disk as disk
 use Rattle.definitions.specs.SwapHeader.{flags_of, sig_of, image_signature}
-use Rattle.definitions.specs.Zones.{AreZones}
+use Rattle.definitions.specs.ZoneFacts.{AreZones}
 use Rattle.plain_machine.specs.Chain.{Marked, header_of}
 use Rattle.plain_machine.specs.Machine.{Hardware, Memory, block_of_slot}
 use Rattle.plain_machine.specs.Stands.{EachImage}
@@ -25,7 +25,7 @@ use Rattle.protocol_laws.specs.Rows.{LeavesBlock, blocks_written, TellsNewFault}
 use Rattle.world_core.specs.StandsFor.{StandsFor, hardware_of}
 use Rattle.world_core.specs.World.{World}
 use Rattle.command_core.specs.Answers.{EndsInFault, goes_on, held_at_first}
-use Rattle.command_core.specs.Resumption.{IsLast, MayLeaveMark, HasResumed}
+use Rattle.command_core.specs.Answers.{IsLast, MayLeaveMark, HasResumed}
 use Rattle.command_core.specs.Turns.{Point, IsTurn, AreSteps, HasGone}
 use Rattle.command_core.specs.declared.ending.Ended.{Ended}
 use Rattle.command_core.proofs.Begun.{IsUntouched, untouched_then, reads_first}

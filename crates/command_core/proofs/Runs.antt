@@ -6,7 +6,7 @@ use Rattle.std.specs.Option.{IfSome}
 use Rattle.page_core.specs.declared.format.Format.{Format}
 use Rattle.definitions.specs.Disk as disk
 use Rattle.plain_machine.specs.Chain.{Marked}
-use Rattle.plain_machine.specs.Premises.{HasOriginal}
+use Rattle.plain_machine.specs.UsableArea.{HasOriginal}
 use Rattle.plain_machine.specs.State.{off}
 use Rattle.plain_machine.specs.declared.event.Actor.TheVariants as actor
 use Rattle.plain_machine.specs.declared.event.BootFrom.TheVariants.{Kept}
@@ -20,7 +20,7 @@ use Rattle.world_core.specs.StandsFor.{IsNewWorld, hardware_of, shown}
 use Rattle.world_core.specs.World.{World}
 use Rattle.world_runs.specs.Played.{Played, situation_of}
 use Rattle.world_runs.specs.Turns.{Situation}
-use Rattle.world_runs.specs.Counts.{steps_of}
+use Rattle.world_runs.specs.Turns.{steps_of}
 use Rattle.world_runs.proofs.Counted.{steps_append}
 use Rattle.world_runs.proofs.Playing.{played_none, played_then}
 use Rattle.command_core.specs.Answers.{goes_on, held_at_first, is_booted}

@@ -8,7 +8,7 @@ use Rattle.std.proofs.lemmas.Option.{same_Some, none-some}
 use Rattle.page_core.specs.declared.format.Format.{Format}
 use Rattle.definitions.specs.Disk as disk
 use Rattle.definitions.specs.Tables.{frame}
-use Rattle.definitions.specs.Zones.{AreZones}
+use Rattle.definitions.specs.ZoneFacts.{AreZones}
 use Rattle.plain_machine.specs.Chain.{Holds, or_else}
 use Rattle.plain_machine.specs.Image.{Image, image_of_memory, n_of, d_of, hibernate_steps, has_data}
 use Rattle.plain_machine.specs.Machine.{Hardware, Memory, block_of_slot, saveable}
@@ -30,7 +30,7 @@ use Rattle.protocol_laws.proofs.Unwritten.{step_in_laid}
 use Rattle.protocol_laws.proofs.WrittenWhileHeld.{header_alone}
 use Rattle.world_core.specs.StandsFor.{StandsFor, hardware_of}
 use Rattle.world_core.specs.World.{World}
-use Rattle.command_core.specs.Hibernation.{HasHibernated}
+use Rattle.command_core.specs.Answers.{HasHibernated}
 use Rattle.command_core.specs.Answers.{EndsInFault, goes_on, hibernation_answer, image_to_save}
 use Rattle.command_core.specs.Parts.{HasFailedEarly}
 use Rattle.command_core.specs.Turns.{Point, AreSteps, HasGone}

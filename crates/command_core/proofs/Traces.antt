@@ -6,7 +6,8 @@ use Rattle.std.proofs.lemmas.List.{take_all, get_or_past}
 use Rattle.std.proofs.lemmas.Option.{same_Some, none-some}
 use Rattle.definitions.specs.Disk as disk
 use Rattle.definitions.specs.SwapHeader.{flags_of, sig_of, image_signature}
-use Rattle.definitions.specs.Zones.{AreZones, numbers}
+use Rattle.definitions.specs.Zones.{numbers}
+use Rattle.definitions.specs.ZoneFacts.{AreZones}
 use Rattle.definitions.proofs.ZoneNumbers.{length-numbers_front}
 use Rattle.plain_machine.specs.Machine.{Hardware, Memory, valid_count}
 use Rattle.plain_machine.specs.Chain.{header_of, or_else}
@@ -18,7 +19,7 @@ use Rattle.plain_machine.specs.declared.reply.Reply.TheVariants as reply
 use Rattle.plain_machine.proofs.Traces.{replies_short, replies_end, causes_count, causes_at}
 use Rattle.image_read.proofs.Counts.{fits_in}
 use Rattle.protocol_laws.proofs.Stopping.{Stops, is_no_stop, stops_else, stops_content, stops_next, stops_taken_back}
-use Rattle.command_core.specs.Resumption.{IsLast}
+use Rattle.command_core.specs.Answers.{IsLast}
 use Rattle.command_core.specs.Answers.{goes_on}
 
 -- each reply but the last is Loading, with the numbers from k on

@@ -6,7 +6,7 @@ use Rattle.page_core.specs.declared.format.Format.{Format}
 use Rattle.definitions.specs.Disk as disk
 use Rattle.plain_machine.specs.Chain.{Marked}
 use Rattle.plain_machine.specs.Machine.{Hardware, Memory}
-use Rattle.plain_machine.specs.Premises.{HasOriginal}
+use Rattle.plain_machine.specs.UsableArea.{HasOriginal}
 use Rattle.plain_machine.specs.Shows.{WorldView}
 use Rattle.plain_machine.specs.Stands.{Stands}
 use Rattle.plain_machine.specs.State.{off}
@@ -18,7 +18,7 @@ use Rattle.plain_machine.specs.declared.event.IdentCheck.{IdentCheck}
 use Rattle.plain_machine.specs.declared.event.Loader.TheVariants.{Table}
 use Rattle.plain_machine.specs.declared.reply.Reply.{Reply}
 use Rattle.sector_disk.specs.declared.disk.Disk.{Ghosts}
-use Rattle.world_runs.specs.Counts.{AreCounted, steps_of}
+use Rattle.world_runs.specs.Turns.{AreCounted, steps_of}
 use Rattle.world_runs.specs.Turns.{AreTurns, IsLeftInside, Situation, end_of}
 use Rattle.command_core.specs.Answers.{held_at_first, is_booted, goes_on}
 

@@ -2,13 +2,13 @@ ghost use Rattle.std.specs.Prelude.{◌≡◌, ◌⊎◌, ◌≤◌, ◌+◌, Is
 ghost use Rattle.definitions.specs.Disk.{DiskImage, HasRisen, settled};
 ghost use Rattle.plain_machine.specs.Chain.{Marked};
 ghost use Rattle.plain_machine.specs.Machine.{IsHardware};
-ghost use Rattle.plain_machine.specs.Premises.{HasOriginal};
+ghost use Rattle.plain_machine.specs.UsableArea.{HasOriginal};
 ghost use Rattle.world_core.specs.StandsFor.{IsNewWorld, IsOff, blocks_of, hardware_of, shown};
 ghost use Rattle.command_core.specs.Runs.{IsHibernation, RanAs};
 ghost use Rattle.command_core.specs.Answers.{image_to_save, is_booted, machine_of_dump, machine_to_save};
 ghost use Rattle.command_core.specs.Parts.{Boots, IsUpOrFails, Starts};
 ghost use Rattle.command_core.specs.Turns.{IsStill};
-ghost use Rattle.command_core.specs.Hibernation.{HasHibernated, IsUnmarkedOrHolds};
+ghost use Rattle.command_core.specs.Answers.{HasHibernated, IsUnmarkedOrHolds};
 
 use crate::ending::{Ended, finish, goes_on};
 use page_core::Format;

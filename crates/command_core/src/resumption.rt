@@ -2,10 +2,10 @@ ghost use Rattle.std.specs.Prelude.{◌≡◌, ◌≤◌, ◌+◌, IsTrue, Some}
 ghost use Rattle.definitions.specs.Disk.{DiskImage, HasRisen, settled};
 ghost use Rattle.plain_machine.specs.Chain.{Marked};
 ghost use Rattle.plain_machine.specs.Machine.{IsHardware};
-ghost use Rattle.plain_machine.specs.Premises.{HasOriginal};
+ghost use Rattle.plain_machine.specs.UsableArea.{HasOriginal};
 ghost use Rattle.plain_machine.specs.Stands.{IsSameOrTakenBack};
 ghost use Rattle.world_core.specs.StandsFor.{IsNewWorld, hardware_of, shown};
-ghost use Rattle.command_core.specs.Resumption.{HasResumed};
+ghost use Rattle.command_core.specs.Answers.{HasResumed};
 ghost use Rattle.command_core.specs.Runs.{IsResumption, RanAs};
 
 use crate::ending::{Ended, finish};

@@ -1,5 +1,5 @@
 -- An answer as it is told.
-use Rattle.command_kit.specs.Answer.{RunResult}
+use Rattle.command_kit.specs.Told.{RunResult}
 use Rattle.command_kit.specs.declared.answer.Answer.{Answer}
 
 abbrev pub told_by : Answer → RunResult

@@ -1,4 +1,3 @@
-pub mod Answer
 pub mod AnswerOf
 pub mod ExitStatus
 pub mod Told

@@ -1,6 +1,6 @@
 ghost use Rattle.std.specs.Prelude.{◌≡◌, ◌≢◌, ◌⊎◌, ◌≤◌, length, OnOk, OnErr};
 ghost use Rattle.definitions.specs.Disk.{HasRisen};
-ghost use Rattle.command_kit.specs.Answer.{memory_told};
+ghost use Rattle.command_kit.specs.Told.{memory_told};
 ghost use Rattle.command_kit.specs.AnswerOf.{told_by};
 ghost use Rattle.command_kit.specs.Told.{IsPrinted, IsTold, FailsToPrint};
 ghost use Rattle.command_kit.specs.View.{sink_view};

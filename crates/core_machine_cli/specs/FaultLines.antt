@@ -1,6 +1,6 @@
 -- The lines that say why a core file is refused.
 use Rattle.std.specs.Prelude.{ℕ, List, ◌++◌, codes, decimal}
-use Rattle.command_kit.specs.Answer.{line}
+use Rattle.command_kit.specs.Told.{line}
 use Rattle.core_segments.specs.declared.fault.Fault.{Fault}
 use Rattle.core_segments.specs.declared.fault.Fault.TheVariants as fault
 

@@ -1,6 +1,6 @@
 -- What `from-core` prints.
 use Rattle.std.specs.Prelude.{◌≡◌, ℕ, List, Option, Some}
-use Rattle.command_kit.specs.Answer.{RunResult, memory_told}
+use Rattle.command_kit.specs.Told.{RunResult, memory_told}
 use Rattle.command_kit.specs.Told.{IsTold, IsTried}
 use Rattle.command_kit.specs.View.{SinkView}
 use Rattle.command_kit.specs.declared.status.Status.{Status}

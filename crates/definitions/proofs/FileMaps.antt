@@ -1,7 +1,8 @@
 -- Laws of file maps: which extent a slot lies in, and on which block.
 use Rattle.std.proofs.Common.{◌≡◌, ℕ, ◌+◌, ◌-◌, ◌<◌, ◌≤◌, ◌⊎◌, zero, suc, List, [], ◌∷◌, length, ltb, refl, sym, ap, ◌∙◌, subst, inl, inr, ⊎_elim, arith}
 use Rattle.std.proofs.lemmas.Bool.{cases_lt, cases_order, cond-true, cond-false, lt-ltb, le-ltb}
-use Rattle.definitions.specs.Slots.{block_of, extent_at, extent_end, slots_before, slots_of, IsInOrder, IsFileMap, LieApart, AreFew, IsExtentFault}
+use Rattle.definitions.specs.Slots.{block_of, extent_at, extent_end, slots_before, slots_of}
+use Rattle.definitions.specs.FileMaps.{IsInOrder, IsFileMap, LieApart, AreFew, IsExtentFault}
 
 -- The last extent that doesn't start above a slot tells its block.
 pub block_of-extent : (extents : List (ℕ × ℕ × ℕ)) (i s : ℕ) → i < length extents → ((j : ℕ) → j < i → (extent_at extents (suc j)).0 ≤ s) → (suc i < length extents → s < (extent_at extents (suc i)).0) → block_of extents s ≡ (extent_at extents i).2 + (s - (extent_at extents i).0)

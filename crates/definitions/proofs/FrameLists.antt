@@ -1,7 +1,8 @@
 -- Laws of memory as a list of pages.
 use Rattle.std.proofs.Common.{◌≡◌, ℕ, ◌+◌, ◌-◌, ◌<◌, ◌≤◌, suc, List, [], ◌∷◌, ◌++◌, length, take, drop, set, sym, ap, ◌∙◌, arith, refl, append_assoc, append-nil, add-zero, add-one, length-append, length-drop}
 use Rattle.std.proofs.lemmas.List.{take-append-drop, length-take-le, get_or-take, get_or-drop, get_or_append_left, get_or-append_right, take_more, drop_more, set_at}
-use Rattle.definitions.specs.Tables.{frame, run_at, with_run}
+use Rattle.definitions.specs.Tables.{frame}
+use Rattle.definitions.specs.FrameRuns.{run_at, with_run}
 
 pub length-with_run : (frames : List (List ℕ)) (p : ℕ) (pages : List (List ℕ)) → p + length pages ≤ length frames → length (with_run frames p pages) ≡ length frames
 unfolding with_run

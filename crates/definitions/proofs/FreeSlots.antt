@@ -8,7 +8,7 @@ use Rattle.std.specs.List.{All, Contains, range_with_len}
 use Rattle.std.specs.List.Sorted.{IsStrictlyIncreasing}
 use Rattle.definitions.specs.Bytes.{IsPage}
 use Rattle.definitions.specs.Tables.{frame, entry_at, with_entry, HasTable}
-use Rattle.definitions.specs.Lists.{free_slots, image_slots}
+use Rattle.definitions.specs.Tables.{free_slots, image_slots}
 use Rattle.definitions.specs.FrameSets.{inserted, removed}
 use Rattle.definitions.proofs.Ascending.{same_members}
 use Rattle.definitions.proofs.FrameSets.{Contains-filter, Contains-from_filter, Contains-inserted, Contains-inserted_itself, Contains-from_inserted, IsStrictlyIncreasing-inserted, Contains-removed, Contains-from_removed, IsStrictlyIncreasing-removed}

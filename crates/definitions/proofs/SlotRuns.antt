@@ -3,7 +3,7 @@ use Rattle.std.proofs.Common.{◌≡◌, ℕ, ◌+◌, ◌<◌, ◌≤◌, ◌�
 use Rattle.std.proofs.lemmas.Bool.{cases_eq, cond-true, cond-false, eq-eqb, ne_eqb}
 use Rattle.std.specs.List.{Contains, range_with_len}
 use Rattle.definitions.specs.Zones.{numbers}
-use Rattle.definitions.specs.Slots.{in_front, runs_of}
+use Rattle.definitions.specs.FreeRuns.{in_front, runs_of}
 use Rattle.definitions.proofs.Ascending.{Contains-head}
 
 runs_of-cons : (s : ℕ) (slots : List ℕ) → runs_of (s ∷ slots) ≡ in_front s (runs_of slots)

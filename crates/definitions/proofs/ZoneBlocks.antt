@@ -7,7 +7,8 @@ use Rattle.std.proofs.lemmas.Grind.{flat_map-append}
 use Rattle.std.proofs.lemmas.List.FromFn.{length-range_with_len, length-map-range_with_len, get_or-map-range_with_len}
 use Rattle.std.specs.List.{All, Contains, range_with_len, AllAdjacentBelow, flat_map}
 use Rattle.std.specs.List.Sorted.{IsStrictlyIncreasing}
-use Rattle.definitions.specs.Zones.{numbers, zone_end, zone_at, InZone, IsZone, LiesBelow, AreApart, AreZones, top}
+use Rattle.definitions.specs.Zones.{numbers, zone_end, zone_at, top}
+use Rattle.definitions.specs.ZoneFacts.{InZone, IsZone, LiesBelow, AreApart, AreZones}
 use Rattle.definitions.specs.FrameSets.{zone_block, zone_blocks, blocks}
 use Rattle.definitions.proofs.Ascending.{same_members}
 use Rattle.definitions.proofs.ZoneNumbers.{zone_of, Contains-numbers, Contains-range, range-bounds, AreApart-tail, numbers-append, IsStrictlyIncreasing-numbers, IsStrictlyIncreasing-range, zones_apart, count_at_most, top_at_most}

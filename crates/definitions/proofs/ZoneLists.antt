@@ -6,9 +6,10 @@ use Rattle.std.proofs.lemmas.List.Elements.{filter-append}
 use Rattle.std.proofs.lemmas.List.Kept.{IsStrictlyIncreasing-filter}
 use Rattle.std.specs.List.{Contains, range_with_len}
 use Rattle.std.specs.List.Sorted.{IsStrictlyIncreasing}
-use Rattle.definitions.specs.Zones.{numbers, zone_at, AreApart}
+use Rattle.definitions.specs.Zones.{numbers, zone_at}
+use Rattle.definitions.specs.ZoneFacts.{AreApart}
 use Rattle.definitions.specs.Tables.{entry_at, page_flags, is_saveable}
-use Rattle.definitions.specs.Lists.{saveable_frames, free_frames}
+use Rattle.definitions.specs.Tables.{saveable_frames, free_frames}
 use Rattle.definitions.proofs.FrameSets.{Contains-filter, Contains-from_filter}
 use Rattle.definitions.proofs.ZoneNumbers.{numbers-take_more, IsStrictlyIncreasing-numbers}
 

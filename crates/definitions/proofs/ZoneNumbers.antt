@@ -6,7 +6,8 @@ use Rattle.std.proofs.lemmas.List.Elements.{Contains-append_left, Contains-appen
 use Rattle.std.proofs.lemmas.List.FromFn.{length-range_with_len, get_or-range_with_len}
 use Rattle.std.specs.List.{All, Contains, range_with_len}
 use Rattle.std.specs.List.Sorted.{IsStrictlyIncreasing}
-use Rattle.definitions.specs.Zones.{numbers, zone_end, zone_at, IsZone, AreApart, AreZones, InZone, top}
+use Rattle.definitions.specs.Zones.{numbers, zone_end, zone_at, top}
+use Rattle.definitions.specs.ZoneFacts.{IsZone, AreApart, AreZones, InZone}
 use Rattle.definitions.proofs.Ascending.{IsStrictlyIncreasing-append, length-between}
 
 -- A run of numbers.

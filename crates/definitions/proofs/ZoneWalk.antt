@@ -3,7 +3,8 @@ use Rattle.std.proofs.Common.{◌≡◌, ℕ, ◌+◌, ◌<◌, ◌≤◌, List,
 use Rattle.std.proofs.lemmas.List.{take_all}
 use Rattle.std.proofs.lemmas.List.Sums.{count_by-le-length, length-filter}
 use Rattle.std.specs.List.{Contains, range_with_len}
-use Rattle.definitions.specs.Zones.{numbers, top, zone_at, zone_end, IsZone, AreZones}
+use Rattle.definitions.specs.Zones.{numbers, top, zone_at, zone_end}
+use Rattle.definitions.specs.ZoneFacts.{IsZone, AreZones}
 use Rattle.definitions.proofs.ZoneNumbers.{Contains-numbers, length-numbers_front, numbers-take_below, zone_end_at_most_top}
 use Rattle.definitions.proofs.ZoneLists.{filter-numbers_more}
 

@@ -2,7 +2,6 @@ pub mod Bytes
 pub mod Disk
 pub mod FrameSets
 pub mod InfoPage
-pub mod Lists
 pub mod Moves
 pub mod NumberPages
 pub mod Slots
@@ -11,3 +10,7 @@ pub mod SwapHeader
 pub mod SwapMap
 pub mod Tables
 pub mod Zones
+pub mod FileMaps
+pub mod FreeRuns
+pub mod ZoneFacts
+pub mod FrameRuns

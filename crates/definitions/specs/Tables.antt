@@ -1,7 +1,9 @@
 -- The tables in page frames. Memory is a list of pages, the content of each page frame by its number.
 use Rattle.std.specs.Prelude.{◌≡◌, ◌≢◌, ◌≤◌, ◌<◌, ◌⊎◌, ℕ, ◌+◌, ◌*◌, ◌/◌, ◌%◌, ◌==◌, ◌&&◌, ◌||◌, Bool, not, IsTrue, List}
-use Rattle.std.specs.Prelude.{[], ◌∷◌, ◌++◌, length, take, drop, slice_index_or, slice_set, bit_and}
+use Rattle.std.specs.Prelude.{[], ◌∷◌, length, slice_index_or, slice_set, bit_and, filter}
 use Rattle.definitions.specs.Bytes.{number_at, with_number}
+use Rattle.std.specs.List.{range_with_len}
+use Rattle.definitions.specs.Zones.{numbers}
 
 -- the content of page frame p
 abbrev pub frame : List (List ℕ) → ℕ → List ℕ
@@ -10,14 +12,6 @@ frame frames p = slice_index_or frames p []
 -- the frames with this page in page frame p
 abbrev pub with_frame : List (List ℕ) → ℕ → List ℕ → List (List ℕ)
 with_frame frames p page = slice_set frames p page
-
--- the contents of n page frames in a row from p on
-abbrev pub run_at : ℕ → List (List ℕ) → ℕ → List (List ℕ)
-run_at n frames p = take n (drop p frames)
-
--- the frames with these pages in the page frames from p on
-unfoldable pub with_run : List (List ℕ) → ℕ → List (List ℕ) → List (List ℕ)
-with_run frames p pages = take p frames ++ pages ++ drop (p + length pages) frames
 
 -- Entry k of the table of 4-byte numbers whose first page frame is `table`: 1024 of them in each frame.
 unfoldable pub entry_at : List (List ℕ) → ℕ → ℕ → ℕ
@@ -75,3 +69,21 @@ pub record IsWellFormed (entry : ℕ) : Type 0 where
   pub owner : owner_of entry ≤ 64
   pub free : IsTrue (is_free (page_flags entry)) → entry ≡ 1
   pub owned : owner_of entry ≢ 0 → (page_flags entry ≡ 0) ⊎ (page_flags entry ≡ 64)
+
+-- What the tables say: which page frames are saveable or free, and which slots are free. All ascending.
+
+-- the page frames that an image saves (saveable_page), of the zones, by the frame table
+unfoldable pub saveable_frames : List (ℕ × ℕ) → ℕ → List (List ℕ) → List ℕ
+saveable_frames zones table frames = filter (λ p. is_saveable (page_flags (entry_at frames table p))) (numbers zones)
+
+-- the page frames whose entry is FREE and nothing else
+unfoldable pub free_frames : List (ℕ × ℕ) → ℕ → List (List ℕ) → List ℕ
+free_frames zones table frames = filter (λ p. entry_at frames table p == 1) (numbers zones)
+
+-- the slots whose entry is 0, of so many, by the slot table
+unfoldable pub free_slots : ℕ → ℕ → List (List ℕ) → List ℕ
+free_slots slots table frames = filter (λ s. entry_at frames table s == 0) (range_with_len 0 slots)
+
+-- the slots of the image, whose entry is 65536
+unfoldable pub image_slots : ℕ → ℕ → List (List ℕ) → List ℕ
+image_slots slots table frames = filter (λ s. entry_at frames table s == 65536) (range_with_len 0 slots)

@@ -1,7 +1,7 @@
 -- Zones: runs of page frame numbers that the machine has, a pair (first number, count) each, in ascending order
 -- (struct zone, zone_start_pfn and spanned_pages).
-use Rattle.std.specs.Prelude.{ℕ, ◌+◌, ◌-◌, ◌<◌, ◌≤◌, List, [], ◌∷◌, ◌++◌, length, nat_le, Option, All, slice_index_or}
-use Rattle.std.specs.List.{range_with_len, find, AllAdjacentBelow}
+use Rattle.std.specs.Prelude.{ℕ, ◌+◌, ◌-◌, List, [], ◌∷◌, ◌++◌, length, nat_le, Option, slice_index_or}
+use Rattle.std.specs.List.{range_with_len, find}
 
 -- the page frame numbers that are valid (pfn_valid), ascending
 abbrev pub numbers : List (ℕ × ℕ) → List ℕ
@@ -19,31 +19,6 @@ zone_end zone = zone.0 + zone.1
 -- zone j, from 0
 abbrev pub zone_at : List (ℕ × ℕ) → ℕ → ℕ × ℕ
 zone_at zones j = slice_index_or zones j (0, 0)
-
--- a zone has a page frame, and none with a number above 65535
-abbrev pub IsZone : ℕ × ℕ → Type 0
-IsZone zone = (0 < zone.1) × (zone_end zone ≤ 65536)
-
--- the first zone lies below the second
-abbrev pub LiesBelow : ℕ × ℕ → ℕ × ℕ → Type 0
-LiesBelow a b = zone_end a ≤ b.0
-
--- each zone lies above the one before
-abbrev pub AreApart : List (ℕ × ℕ) → Type 0
-AreApart zones = AllAdjacentBelow LiesBelow zones (length zones)
-
--- the zones of a machine: 1 to 16 of them, each above the one before
-pub record AreZones (zones : List (ℕ × ℕ)) : Type 0 where
-  pub some : 0 < length zones
-  pub few : length zones ≤ 16
-  pub each : All IsZone zones
-  pub apart : AreApart zones
-
--- zone j has the number p
-pub record InZone (zones : List (ℕ × ℕ)) (p j : ℕ) : Type 0 where
-  pub within : j < length zones
-  pub from : (zone_at zones j).0 ≤ p
-  pub below : p < zone_end (zone_at zones j)
 
 -- one above the highest valid page frame number, which the last zone has (max_pfn)
 abbrev pub top : List (ℕ × ℕ) → ℕ

@@ -6,7 +6,7 @@ use Rattle.plain_machine.specs.Trace.{trace, restored_in}
 use Rattle.plain_machine.specs.declared.event.IdentCheck.{IdentCheck}
 use Rattle.plain_machine.specs.declared.event.Loader.TheVariants.{Table}
 use Rattle.plain_machine.specs.declared.reply.Reply.TheVariants as reply
-use Rattle.command_core.specs.Resumption.{IsLast}
+use Rattle.command_core.specs.Answers.{IsLast}
 use Rattle.command_core.specs.Answers.{EndsInFault}
 use Rattle.command_core.specs.declared.ending.Ended.{Ended}
 

@@ -2,7 +2,7 @@ ghost use Rattle.std.specs.Prelude.{◌≡◌, ◌≤◌, ◌+◌, IsTrue, Some,
 ghost use Rattle.definitions.specs.Disk.{Content, HasRisen, as_it_reads};
 ghost use Rattle.plain_machine.specs.Chain.{Marked};
 ghost use Rattle.plain_machine.specs.Machine.{IsHardware};
-ghost use Rattle.plain_machine.specs.Premises.{HasOriginal};
+ghost use Rattle.plain_machine.specs.UsableArea.{HasOriginal};
 ghost use Rattle.world_core.specs.StandsFor.{IsNewWorld, hardware_of};
 ghost use Rattle.overlay_disk.specs.DiskState.{IsSame};
 ghost use Rattle.dry_resume.specs.Foretold.{Foretells};

@@ -4,8 +4,9 @@ use Rattle.std.proofs.lemmas.Bool.{cases_eq, cond-true, cond-false, eq-eqb, ne_e
 use Rattle.std.proofs.lemmas.List.Elements.{All-cons, All-head, All-nil, All-same, All-tail}
 use Rattle.std.proofs.lemmas.List.Sums.{count_by-le-length, length-filter}
 use Rattle.std.specs.List.{Contains}
-use Rattle.definitions.specs.Slots.{in_front, runs_of}
-use Rattle.definitions.specs.Zones.{AreZones, numbers, top, zone_end}
+use Rattle.definitions.specs.FreeRuns.{in_front, runs_of}
+use Rattle.definitions.specs.Zones.{numbers, top, zone_end}
+use Rattle.definitions.specs.ZoneFacts.{AreZones}
 use Rattle.definitions.proofs.Ascending.{Contains-head, Contains-tail}
 use Rattle.definitions.proofs.FrameSets.{Contains-from_filter}
 use Rattle.definitions.proofs.ZoneNumbers.{below_top, count_at_most, top_at_most}

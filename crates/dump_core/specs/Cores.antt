@@ -2,7 +2,7 @@
 use Rattle.std.specs.Prelude.{ℕ, ◌||◌, Bool, not, List, [], ◌++◌, filter, map, replicate, slice_index_or}
 use Rattle.std.specs.List.{concat}
 use Rattle.definitions.specs.InfoPage.{text_of_name}
-use Rattle.definitions.specs.Slots.{runs_of}
+use Rattle.definitions.specs.FreeRuns.{runs_of}
 use Rattle.definitions.specs.Tables.{frame, is_free, page_flags}
 use Rattle.definitions.specs.Zones.{numbers}
 use Rattle.definitions.specs.declared.info.Ident.{Ident}

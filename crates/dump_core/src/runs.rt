@@ -1,5 +1,5 @@
 ghost use Rattle.std.specs.Prelude.{◌≡◌, ◌<◌, ◌^◌, ℕ, List, ◌∷◌, ◌++◌, OnOk, [], slice_get, length};
-ghost use Rattle.definitions.specs.Slots.{runs_of};
+ghost use Rattle.definitions.specs.FreeRuns.{runs_of};
 
 use page_core::NoMemory;
 

@@ -1,8 +1,9 @@
 ghost use Rattle.std.specs.Prelude.{◌≡◌, ◌<◌, ◌≤◌, ◌++◌, ℕ, List, length, filter, IfOk, OnOk};
 ghost use Rattle.std.specs.List.{Contains, range_with_len};
-ghost use Rattle.definitions.specs.Slots.{runs_of};
+ghost use Rattle.definitions.specs.FreeRuns.{runs_of};
 ghost use Rattle.definitions.specs.Tables.{frame};
-ghost use Rattle.definitions.specs.Zones.{IsZone, numbers, top, zone_end};
+ghost use Rattle.definitions.specs.Zones.{numbers, top, zone_end};
+ghost use Rattle.definitions.specs.ZoneFacts.{IsZone};
 ghost use Rattle.plain_machine.specs.Image.{is_zeros};
 ghost use Rattle.dump_core.specs.Cores.{is_told, told_runs};
 

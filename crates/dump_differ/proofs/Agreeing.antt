@@ -2,7 +2,8 @@
 use Rattle.std.proofs.Common.{◌≡◌, ℕ, ◌+◌, ◌<◌, ◌≤◌, List, Option, Some, None, IsNone, IfSome, refl, sym, ap, ◌∙◌, subst, inl, inr, arith}
 use Rattle.std.proofs.lemmas.Bool.{cases_lt}
 use Rattle.std.specs.List.{Contains}
-use Rattle.definitions.specs.Zones.{numbers, first_from, top, AreZones}
+use Rattle.definitions.specs.Zones.{numbers, first_from, top}
+use Rattle.definitions.specs.ZoneFacts.{AreZones}
 use Rattle.definitions.proofs.Ascending.{same_members}
 use Rattle.definitions.proofs.ZoneNumbers.{IsStrictlyIncreasing-numbers, below_top, top_at_most}
 use Rattle.definitions.proofs.ZoneLists.{Contains-from_saveable_frames, IsStrictlyIncreasing-saveable_frames}

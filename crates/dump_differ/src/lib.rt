@@ -6,7 +6,8 @@ mod hardware;
 
 ghost use Rattle.std.specs.Prelude.{◌≡◌, ◌<◌, ◌↔◌, length, IsNone, IfSome};
 ghost use Rattle.definitions.specs.Tables.{HasTable};
-ghost use Rattle.definitions.specs.Zones.{top, AreZones};
+ghost use Rattle.definitions.specs.Zones.{top};
+ghost use Rattle.definitions.specs.ZoneFacts.{AreZones};
 ghost use Rattle.dump_differ.specs.Differences.{AgreeAt, AgreeEverywhere, AreSame, IsDifferenceAt, IsFirst};
 
 use hardware::is_same;

@@ -2,7 +2,7 @@
 use Rattle.std.proofs.Common.{◌≡◌, ℕ, Bool, List, length, IsTrue, sym, ap, ap₂, ◌∙◌, subst, arith}
 use Rattle.std.proofs.lemmas.Bool.Decides.{same_from_decides}
 use Rattle.std.specs.List.{Contains}
-use Rattle.definitions.specs.Lists.{saveable_frames, free_frames}
+use Rattle.definitions.specs.Tables.{saveable_frames, free_frames}
 use Rattle.definitions.specs.Tables.{HasTable}
 use Rattle.definitions.specs.Zones.{numbers, top}
 use Rattle.definitions.proofs.ZoneLists.{Contains-saveable_frames, Contains-from_saveable_frames}

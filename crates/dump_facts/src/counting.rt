@@ -1,6 +1,7 @@
 ghost use Rattle.std.specs.Prelude.{◌≡◌, ℕ, ◌<◌, ◌≤◌, ◌↔◌, IsTrue, length, filter};
 ghost use Rattle.std.specs.List.{Contains, range_with_len};
-ghost use Rattle.definitions.specs.Zones.{numbers, top, IsZone, zone_end};
+ghost use Rattle.definitions.specs.Zones.{numbers, top, zone_end};
+ghost use Rattle.definitions.specs.ZoneFacts.{IsZone};
 ghost use Rattle.plain_machine.specs.Image.{is_zeros};
 ghost use Rattle.definitions.specs.Tables.{frame};
 ghost use Rattle.definitions.specs.Bytes.{zero_page};

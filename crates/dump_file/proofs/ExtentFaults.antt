@@ -3,7 +3,8 @@ use Rattle.std.proofs.Common.{◌≡◌, ℕ, ◌+◌, ◌<◌, ◌≤◌, ◌�
 use Rattle.std.proofs.lemmas.Bool.{cases_Bool, cases_eq, eq-eqb, ne_eqb}
 use Rattle.std.proofs.lemmas.Bool.Decides.{Decides-and, Decides-or, Decides-not, Decides-like, Decides-ltb, Decides-eqb}
 use Rattle.std.specs.Bool.{Decides}
-use Rattle.definitions.specs.Slots.{extent_at, slots_before, slots_of, LieApart, IsExtentFault, IsFileMap, IsInOrder}
+use Rattle.definitions.specs.Slots.{extent_at, slots_before, slots_of}
+use Rattle.definitions.specs.FileMaps.{LieApart, IsExtentFault, IsFileMap, IsInOrder}
 use Rattle.machine.specs.HardFault.{each_below, is_extent, lie_apart}
 use Rattle.machine.proofs.ListTests.{Decides-below, Decides-leb}
 use Rattle.dump_file.specs.Reading.{IsFirstNot}

@@ -3,11 +3,12 @@ use Rattle.std.proofs.Common.{◌≡◌, ℕ, ◌+◌, ◌-◌, ◌*◌, ◌<◌
 use Rattle.std.proofs.lemmas.Bool.{cases_Bool}
 use Rattle.std.proofs.lemmas.List.FromFn.{get_or-map-range_with_len, length-map-range_with_len}
 use Rattle.std.specs.List.{range_with_len}
-use Rattle.definitions.specs.Slots.{extent_end, slots_before, slots_of, IsExtentFault, IsFileMap, IsInOrder, LieApart}
+use Rattle.definitions.specs.Slots.{extent_end, slots_before, slots_of}
+use Rattle.definitions.specs.FileMaps.{IsExtentFault, IsFileMap, IsInOrder, LieApart}
 use Rattle.definitions.specs.Slots as slot
 use Rattle.machine.specs.HardFault.{is_extent}
 use Rattle.dump_file.specs.Dump.{cover_fault, extents_fault, unless, wanted}
-use Rattle.dump_file.specs.Fields.{extent_at, extent_byte, extent_count, extents, first_extent, is_second, slots}
+use Rattle.dump_file.specs.Dump.{extent_at, extent_byte, extent_count, extents, first_extent, is_second, slots}
 use Rattle.dump_file.specs.Reading.{IsFirstNot}
 use Rattle.dump_file.specs.declared.dump.DumpKind.TheVariants.{Extent}
 use Rattle.dump_file.proofs.ExtentFaults.{decides_order}

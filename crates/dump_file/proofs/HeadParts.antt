@@ -2,8 +2,9 @@
 use Rattle.std.proofs.Common.{◌≡◌, ℕ, ◌+◌, ◌≤◌, true, false, leb, List, [], length, Some, None, refl, sym, ap, ◌∙◌, inl, inr, arith}
 use Rattle.std.proofs.lemmas.Bool.{cases_Bool}
 use Rattle.std.proofs.lemmas.Option.{none-some}
-use Rattle.definitions.specs.Slots.{IsFileMap}
-use Rattle.definitions.specs.Zones.{numbers, AreZones}
+use Rattle.definitions.specs.FileMaps.{IsFileMap}
+use Rattle.definitions.specs.Zones.{numbers}
+use Rattle.definitions.specs.ZoneFacts.{AreZones}
 use Rattle.definitions.specs.declared.info.Ident.{Ident}
 use Rattle.machine.specs.HardFault.{hard_fault, has_regions, has_tables}
 use Rattle.machine.specs.declared.hardware.HardFault.{HardFault}
@@ -13,7 +14,7 @@ use Rattle.machine.proofs.PartTests.{decides_extents, decides_regions_by, decide
 use Rattle.plain_machine.specs.Chain.{or_else}
 use Rattle.plain_machine.specs.Machine.{Hardware}
 use Rattle.dump_file.specs.Dump.{count_fault, front_fault, head_fault, layout_fault, unless, wanted, zones_fault}
-use Rattle.dump_file.specs.Fields.{count_byte, extents, hardware, ident, number, record_count, slots, zones}
+use Rattle.dump_file.specs.Dump.{count_byte, extents, hardware, ident, number, record_count, slots, zones}
 use Rattle.dump_file.specs.declared.dump.DumpKind.TheVariants.{Frame, Header}
 use Rattle.dump_file.proofs.Chains.{or_else-none}
 

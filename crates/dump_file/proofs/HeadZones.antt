@@ -3,13 +3,14 @@ use Rattle.std.proofs.Common.{◌≡◌, ℕ, ◌+◌, ◌-◌, ◌<◌, ◌≤�
 use Rattle.std.proofs.lemmas.Bool.{and_from, le-leb, lt-ltb}
 use Rattle.std.proofs.lemmas.List.FromFn.{get_or-map-range_with_len, length-map-range_with_len}
 use Rattle.std.specs.List.{range_with_len}
-use Rattle.definitions.specs.Zones.{zone_at, zone_end, AreZones}
+use Rattle.definitions.specs.Zones.{zone_at, zone_end}
+use Rattle.definitions.specs.ZoneFacts.{AreZones}
 use Rattle.definitions.proofs.ZoneNumbers.{range-bounds}
 use Rattle.machine.specs.HardFault.{each_below, is_zone}
 use Rattle.machine.proofs.ListTests.{each_all}
 use Rattle.machine.proofs.PartTests.{decides_zones}
 use Rattle.dump_file.specs.Dump.{wanted, zones_fault}
-use Rattle.dump_file.specs.Fields.{hardware, zone, zone_byte, zone_count, zones}
+use Rattle.dump_file.specs.Dump.{hardware, zone, zone_byte, zone_count, zones}
 use Rattle.dump_file.specs.Reading.{IsFirstNot}
 use Rattle.dump_file.specs.declared.dump.DumpKind.TheVariants.{Zone}
 use Rattle.dump_file.proofs.Items.{items_rest, items_wrong}

@@ -2,7 +2,8 @@
 use Rattle.std.proofs.Common.{◌≡◌, ℕ, ◌+◌, ◌-◌, ◌<◌, ◌≤◌, ◌⊎◌, suc, Bool, true, false, eqb, leb, ltb, ◌&&◌, ◌||◌, List, length, refl, ap, subst, inl, inr, arith}
 use Rattle.std.proofs.lemmas.Bool.{and_from, or_from, cases_eq, le-leb, lt-ltb, eq-eqb, ne_eqb}
 use Rattle.std.proofs.lemmas.Bool.Decides.{leb_tells}
-use Rattle.definitions.specs.Zones.{zone_at, zone_end, IsZone, LiesBelow, AreZones}
+use Rattle.definitions.specs.Zones.{zone_at, zone_end}
+use Rattle.definitions.specs.ZoneFacts.{IsZone, LiesBelow, AreZones}
 use Rattle.machine.specs.HardFault.{is_zone}
 use Rattle.zones.specs.Faults.{IsFirst, Refuses}
 use Rattle.std.specs.Prelude.{IfSome, IsNone}

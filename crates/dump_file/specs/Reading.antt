@@ -6,7 +6,7 @@ use Rattle.plain_machine.specs.Machine.{Hardware}
 use Rattle.zones.specs.declared.fault.ZoneFault.{ZoneFault}
 use Rattle.zones.specs.declared.fault.ZoneFault.TheVariants.{NoZone, TooMany, Empty, TooLarge, Overlap}
 use Rattle.dump_file.specs.Dump.{head_fault}
-use Rattle.dump_file.specs.Fields as at
+use Rattle.dump_file.specs.Dump as at
 
 -- a source has handed out a whole text
 abbrev pub HandsOutAll : List ℕ → Option (List ℕ) → Option (List ℕ) → Type 0

@@ -1,10 +1,10 @@
 ghost use Rattle.std.specs.Prelude.{◌≡◌, ◌+◌, ◌≤◌, ◌||◌, None, length, take, IsTrue, IsOk, IfOk};
-ghost use Rattle.definitions.specs.Slots.{IsFileMap};
+ghost use Rattle.definitions.specs.FileMaps.{IsFileMap};
 ghost use Rattle.definitions.specs.InfoPage.{names_of};
-ghost use Rattle.definitions.specs.Zones.{AreZones};
+ghost use Rattle.definitions.specs.ZoneFacts.{AreZones};
 ghost use Rattle.machine.specs.HardFault.{has_tables};
 ghost use Rattle.dump_file.specs.Dump.{count_fault, fault_in, front_fault, head_fault, unless, wanted};
-ghost use Rattle.dump_file.specs.Fields.{extents, first_record, hardware, ident, is_first, record_count, slots, zones};
+ghost use Rattle.dump_file.specs.Dump.{extents, first_record, hardware, ident, is_first, record_count, slots, zones};
 ghost use Rattle.dump_file.specs.Reading.{IsFront};
 
 use crate::dump::{DumpFault, DumpKind};

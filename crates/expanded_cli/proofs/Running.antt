@@ -2,7 +2,7 @@
 use Rattle.std.proofs.Common.{◌≡◌, ◌⊎◌, ℕ, ◌≤◌, false, Bool, List, [], Option, IfSome, sym, ap, ap₂, subst, ◌∙◌, inl, inr, arith}
 use Rattle.definitions.specs.Disk.{Content, HasRisen, as_it_reads}
 use Rattle.definitions.specs.Streams.{TakesAll, TakesFront}
-use Rattle.command_kit.specs.Answer.{RunResult, memory_told}
+use Rattle.command_kit.specs.Told.{RunResult, memory_told}
 use Rattle.command_kit.specs.Told.{FailsToPrint, IsPrinted, IsTold, IsTried, sink_note}
 use Rattle.command_kit.specs.View.{SinkView}
 use Rattle.command_kit.specs.declared.status.Status.{Status}

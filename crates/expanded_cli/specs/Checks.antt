@@ -1,7 +1,7 @@
 -- What `check` prints of an image that may be compressed.
 use Rattle.std.specs.Prelude.{ℕ, Option, Some}
 use Rattle.definitions.specs.Disk.{Content}
-use Rattle.command_kit.specs.Answer.{memory_told}
+use Rattle.command_kit.specs.Told.{memory_told}
 use Rattle.command_kit.specs.Told.{IsTold}
 use Rattle.command_kit.specs.View.{SinkView}
 use Rattle.command_kit.specs.declared.status.Status.{Status}

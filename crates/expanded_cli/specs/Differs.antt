@@ -1,7 +1,7 @@
 -- What `differ` prints of two images that may each be compressed.
 use Rattle.std.specs.Prelude.{◌≡◌, ℕ, Bool, List, Option}
 use Rattle.definitions.specs.Disk.{Content}
-use Rattle.command_kit.specs.Answer.{memory_told}
+use Rattle.command_kit.specs.Told.{memory_told}
 use Rattle.command_kit.specs.Told.{IsTold}
 use Rattle.command_kit.specs.View.{SinkView}
 use Rattle.command_kit.specs.declared.status.Status.{Status}

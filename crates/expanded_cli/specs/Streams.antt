@@ -2,7 +2,7 @@
 -- written: the first that is wrong is noted.
 use Rattle.std.specs.Prelude.{ℕ, List, [], Option}
 use Rattle.definitions.specs.Disk.{Content}
-use Rattle.command_kit.specs.Answer.{memory_told}
+use Rattle.command_kit.specs.Told.{memory_told}
 use Rattle.command_kit.specs.Told.{IsTold}
 use Rattle.command_kit.specs.View.{SinkView}
 use Rattle.command_kit.specs.declared.status.Status.{Status}

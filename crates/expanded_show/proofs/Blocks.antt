@@ -8,7 +8,7 @@ use Rattle.std.proofs.lemmas.List.{map-append}
 use Rattle.std.proofs.lemmas.List.FromFn.{map-range_with_len_more}
 use Rattle.definitions.specs.Bytes.{word}
 use Rattle.definitions.specs.Disk.{Content, DiskImage, HasRisen, as_it_reads, block}
-use Rattle.definitions.specs.Slots.{runs_of}
+use Rattle.definitions.specs.FreeRuns.{runs_of}
 use Rattle.plain_machine.specs.Chain.{map_block}
 use Rattle.image_facts.specs.Runs.{IsUpTo, list_of}
 use Rattle.image_facts.specs.Told.{block_run}

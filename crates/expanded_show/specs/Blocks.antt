@@ -4,7 +4,7 @@ use Rattle.std.specs.Prelude.{◌≡◌, ℕ, zero, suc, ◌+◌, ◌-◌, ◌*�
 use Rattle.std.specs.Prelude.{Option, IfSome, IsSome, slice_index}
 use Rattle.std.specs.List.{range_with_len}
 use Rattle.definitions.specs.Disk.{Content, DiskImage, HasRisen, as_it_reads, block}
-use Rattle.definitions.specs.Slots.{runs_of}
+use Rattle.definitions.specs.FreeRuns.{runs_of}
 use Rattle.definitions.specs.SwapMap.{map_entry}
 use Rattle.plain_machine.specs.Chain.{map_block}
 use Rattle.image_facts.specs.Runs.{IsUpTo}

@@ -2,7 +2,7 @@
 ghost use Rattle.std.specs.Prelude.{◌≡◌, ◌+◌, ◌<◌, ◌≤◌, ◌^◌, ◌∷◌, ◌++◌, [], List, ℕ, OnOk, IfOk, map};
 ghost use Rattle.std.specs.List.{range_with_len};
 ghost use Rattle.definitions.specs.Bytes.{word};
-ghost use Rattle.definitions.specs.Slots.{runs_of};
+ghost use Rattle.definitions.specs.FreeRuns.{runs_of};
 ghost use Rattle.image_facts.specs.Runs.{count_of};
 ghost use Rattle.image_facts.specs.Told.{block_run};
 ghost use Rattle.image_facts.specs.declared.fact.Fact.TheVariants.{Maps};

@@ -3,7 +3,7 @@ use Rattle.std.specs.Prelude.{ℕ, ◌&&◌, Bool, List, ◌++◌, codes, decima
 use Rattle.std.specs.Int.{w64, to_be_bytes}
 use Rattle.std.specs.List.{flat_map, list_all}
 use Rattle.definitions.specs.InfoPage.{text_of_name}
-use Rattle.plain_machine.specs.Texts.{hex_text}
+use Rattle.plain_machine.specs.Replies.{hex_text}
 use Rattle.fact_lines.specs.declared.name.Name.{Name}
 use Rattle.fact_lines.specs.declared.name.Name.TheVariants as name
 

@@ -2,7 +2,8 @@ ghost use Rattle.std.specs.Prelude.{◌≡◌, ◌≢◌, ℕ, ◌+◌, ◌*◌,
 ghost use Rattle.std.specs.Prelude.{slice_index, vec_len, vec_capacity, IfOk, IsTrue, All};
 ghost use Rattle.std.specs.Borrow.{sem};
 ghost use Rattle.definitions.specs.Bytes.{IsPage, word, with_word, number_at, with_number, zero_page, filled_page};
-ghost use Rattle.definitions.specs.Tables.{frame, with_frame, run_at, with_run};
+ghost use Rattle.definitions.specs.Tables.{frame, with_frame};
+ghost use Rattle.definitions.specs.FrameRuns.{run_at, with_run};
 ghost use Rattle.frame_arena.specs.Places.{contents, AreKept};
 
 use page_core::{NoMemory, Page};

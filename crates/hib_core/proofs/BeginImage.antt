@@ -12,7 +12,7 @@ use Rattle.definitions.specs.Tables.{frame}
 use Rattle.definitions.specs.declared.info.Info.{Info}
 use Rattle.plain_machine.specs.Machine.{Hardware, Memory, saveable, unused_slots, valid_count}
 use Rattle.plain_machine.specs.Image.{Image, SlotPages, is_zeros, n_of, d_of, pages_of, has_data, numbers_of, without_data, image_of_memory, info_of_image, stream_of}
-use Rattle.plain_machine.specs.Laid.{laid, laid_block, is_map_write, page_of_write, page_place, map_place}
+use Rattle.plain_machine.specs.Image.{laid, laid_block, is_map_write, page_of_write, page_place, map_place}
 use Rattle.plain_machine.specs.Stands.{laid_writes, laid_blocks}
 use Rattle.plain_machine.specs.State.{Running}
 use Rattle.plain_machine.proofs.LaidChain.{map_has_write}

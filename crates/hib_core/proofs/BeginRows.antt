@@ -17,7 +17,7 @@ use Rattle.swap_slots.specs.Table.{Matches, free_in}
 use Rattle.image_write.specs.Writing.{IsWriting, AreOfImage, BlocksBelow, writes_of, Writing}
 use Rattle.plain_machine.specs.Machine.{Hardware, Memory, IsHardware, unused, unused_slots, raw_slot_entry, block_of_slot}
 use Rattle.plain_machine.specs.Image.{image_of_memory, hibernate_steps, maps_of, Image}
-use Rattle.plain_machine.specs.Laid.{laid_block}
+use Rattle.plain_machine.specs.Image.{laid_block}
 use Rattle.plain_machine.specs.Refusals.{refusal}
 use Rattle.plain_machine.specs.Shows.{RunsAs}
 use Rattle.plain_machine.specs.Stands.{Stands, laid_blocks}

@@ -4,11 +4,12 @@ use Rattle.std.specs.List.{range_with_len}
 use Rattle.std.proofs.lemmas.Bool.{false≢true}
 use Rattle.std.proofs.lemmas.List.Elements.{Contains-get_or}
 use Rattle.std.proofs.lemmas.List.Sums.{count_by-le-length, length-filter}
-use Rattle.definitions.specs.Lists.{saveable_frames, free_frames, free_slots}
+use Rattle.definitions.specs.Tables.{saveable_frames, free_frames, free_slots}
 use Rattle.definitions.specs.NumberPages.{meta_of}
-use Rattle.definitions.specs.Slots.{runs_of}
+use Rattle.definitions.specs.FreeRuns.{runs_of}
 use Rattle.definitions.specs.Tables.{frame, entry_at, page_flags, is_saveable, HasTable}
-use Rattle.definitions.specs.Zones.{numbers, top, AreZones}
+use Rattle.definitions.specs.Zones.{numbers, top}
+use Rattle.definitions.specs.ZoneFacts.{AreZones}
 use Rattle.definitions.proofs.FreeSlots.{free_slot}
 use Rattle.definitions.proofs.ZoneLists.{Contains-from_free_frames}
 use Rattle.definitions.proofs.ZoneNumbers.{below_top, count_at_most, range-bounds, top_at_most, top_is_next}

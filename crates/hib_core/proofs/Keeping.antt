@@ -3,7 +3,7 @@ use Rattle.std.proofs.Common.{◌≡◌, ◌⊎◌, ◌<◌, ◌≤◌, ◌+◌,
 use Rattle.std.specs.List.{range_with_len}
 use Rattle.std.proofs.lemmas.Bool.{cases_lt}
 use Rattle.definitions.specs.Bytes.{with_number}
-use Rattle.definitions.specs.Lists.{image_slots}
+use Rattle.definitions.specs.Tables.{image_slots}
 use Rattle.definitions.specs.Tables.{frame, entry_at, with_entry, with_entries}
 use Rattle.definitions.specs.Zones.{top}
 use Rattle.definitions.proofs.Ascending.{Contains-head, Contains-tail}

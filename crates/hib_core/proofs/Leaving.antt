@@ -3,7 +3,7 @@ use Rattle.std.proofs.Common.{◌≡◌, ℕ, ◌+◌, ◌/◌, ◌%◌, ◌<◌
 use Rattle.definitions.specs.Disk.{Content}
 use Rattle.definitions.specs.Tables.{with_entries}
 use Rattle.definitions.specs.Zones.{numbers}
-use Rattle.definitions.specs.Lists.{image_slots}
+use Rattle.definitions.specs.Tables.{image_slots}
 use Rattle.definitions.proofs.Ascending.{Contains-nil}
 use Rattle.definitions.proofs.FreeSlots.{free_slot, image_slot as named}
 use Rattle.definitions.proofs.TableEntries.{with_entries-none, frame-with_entries_other}
@@ -12,7 +12,7 @@ use Rattle.prealloc.proofs.Picks.{Contains-from_take}
 use Rattle.swap_slots.specs.Table.{free_in}
 use Rattle.swap_slots.specs.declared.table.SlotTable.{SlotTable}
 use Rattle.image_write.specs.Writing.{Writing, IsWriting, slots_of_write, taken_after}
-use Rattle.plain_machine.specs.Laid.{is_map_write}
+use Rattle.plain_machine.specs.Image.{is_map_write}
 use Rattle.plain_machine.specs.Machine.{Hardware, Memory, IsHardware, unused, frame_entry, image_slot}
 use Rattle.plain_machine.specs.Shows.{seen_frames}
 use Rattle.plain_machine.specs.Step.{undone_fault}

@@ -7,7 +7,7 @@ use Rattle.swap_slots.specs.Runs.{SlotRuns}
 use Rattle.page_core.specs.declared.format.Format.{Format}
 use Rattle.plain_machine.specs.Machine.{Memory, block_of_slot, unused_slots}
 use Rattle.plain_machine.specs.Image.{Image, hibernate_steps}
-use Rattle.plain_machine.specs.Laid.{laid_block}
+use Rattle.plain_machine.specs.Image.{laid_block}
 use Rattle.plain_machine.specs.Shows.{hibernates}
 use Rattle.plain_machine.specs.State.{off, hibernating, undoing, asleep, Running, sure, own}
 use Rattle.plain_machine.specs.Step.{Step}

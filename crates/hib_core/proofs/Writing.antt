@@ -20,7 +20,8 @@ use Rattle.plain_machine.specs.declared.reply.Reply.TheVariants as reply
 use Rattle.plain_machine.specs.declared.reply.Left.TheVariants.{Same}
 use Rattle.image_write.specs.Writing.{Writing, IsWriting, IsSameImage, Makes, FailsToMake, page_next, write_next, stream_of_sets, slots_of_write, IsReady}
 use Rattle.protocol_laws.specs.Slots.{IsMemoryOf, HasSets}
-use Rattle.protocol_laws.specs.Steps.{write_of_step, ShowsCopies}
+use Rattle.protocol_laws.specs.Steps.{ShowsCopies}
+use Rattle.protocol_laws.specs.Rows.{write_of_step}
 use Rattle.protocol_laws.specs.Writers.{IsWriterOf}
 use Rattle.machine.specs.declared.machine.Machine.{Machine}
 use Rattle.machine.specs.Flights.{flights_in}

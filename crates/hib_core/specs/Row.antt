@@ -4,7 +4,7 @@ use Rattle.page_core.specs.declared.format.Format.{Format}
 use Rattle.definitions.specs.Disk as disk
 use Rattle.plain_machine.specs.Machine.{Hardware, Memory, IsOfTable, unused_slots}
 use Rattle.plain_machine.specs.Image.{Image, n_of, numbers_of, without_data, hibernate_steps}
-use Rattle.plain_machine.specs.Laid.{laid_block}
+use Rattle.plain_machine.specs.Image.{laid_block}
 use Rattle.plain_machine.specs.State.{State, off, on, booting, hibernating, undoing, settling, waking, loading, asleep}
 use Rattle.plain_machine.specs.State.{Running}
 use Rattle.plain_machine.specs.Stands.{Stands}

@@ -1,7 +1,7 @@
 ghost use Rattle.std.specs.Prelude.{◌≡◌, ◌≤◌, ◌⊎◌, ◌<◌, ◌+◌, ◌/◌, ◌^◌, ℕ, ⊤, length, Contains, IfOk, IfErr, IfSome};
 ghost use Rattle.std.specs.Prelude.{IfNone};
 ghost use Rattle.definitions.specs.Disk.{Content};
-ghost use Rattle.definitions.specs.Lists.{saveable_frames};
+ghost use Rattle.definitions.specs.Tables.{saveable_frames};
 ghost use Rattle.definitions.specs.Tables.{HasTable};
 ghost use Rattle.definitions.specs.Zones.{top};
 ghost use Rattle.definitions.specs.NumberPages.{meta_of};

@@ -1,7 +1,7 @@
 -- The lines that are printed of findings.
 use Rattle.std.specs.Prelude.{ℕ, List, [], ◌++◌, codes, decimal, flat_map}
 use Rattle.byteorder.specs.Endian.{big_bytes}
-use Rattle.plain_machine.specs.Texts.{hex_text}
+use Rattle.plain_machine.specs.Replies.{hex_text}
 use Rattle.sig_header.specs.declared.area.AreaFault.{AreaFault}
 use Rattle.sig_header.specs.declared.area.AreaFault.TheVariants as area
 use Rattle.lzo.specs.declared.fault.Kind.{Kind}

@@ -1,7 +1,7 @@
 //! The lines that are printed of findings.
 ghost use Rattle.std.specs.Prelude.{◌≡◌, ◌+◌, ◌≤◌, ◌++◌, codes, decimal, length};
 ghost use Rattle.byteorder.specs.Endian.{big_bytes};
-ghost use Rattle.plain_machine.specs.Texts.{hex_text};
+ghost use Rattle.plain_machine.specs.Replies.{hex_text};
 ghost use Rattle.image_check.specs.Lines.{area_text, block_text, finding_text, line_of, named, place_text, word_text};
 ghost use Rattle.image_check.specs.Lines.{checksum_text, kind_text, size_text, stream_text, unit_text};
 

@@ -4,7 +4,7 @@ use Rattle.std.proofs.lemmas.Bool.{ne_eqb}
 use Rattle.std.proofs.lemmas.Grind.{flat_map-append}
 use Rattle.definitions.specs.Streams.{TakesAll, TakesFront}
 use Rattle.byte_streams.proofs.Taken.{TakesAll-both, TakesAll-none, TakesFront-second}
-use Rattle.command_kit.specs.Answer.{RunResult}
+use Rattle.command_kit.specs.Told.{RunResult}
 use Rattle.command_kit.specs.Told.{IsTold}
 use Rattle.command_kit.specs.View.{SinkView}
 use Rattle.command_kit.specs.declared.status.Status.{Status}

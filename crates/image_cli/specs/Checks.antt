@@ -1,7 +1,7 @@
 -- What `check` prints.
 use Rattle.std.specs.Prelude.{ℕ, ◌⊎◌, List, [], ◌∷◌, ◌++◌, length, min, codes, decimal, Option, Some, None}
 use Rattle.definitions.specs.Disk.{Content, last_count}
-use Rattle.command_kit.specs.Answer.{RunResult, line, memory_told}
+use Rattle.command_kit.specs.Told.{RunResult, line, memory_told}
 use Rattle.command_kit.specs.Told.{IsTold}
 use Rattle.command_kit.specs.View.{SinkView}
 use Rattle.command_kit.specs.declared.status.Status.{Status}

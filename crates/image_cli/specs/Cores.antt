@@ -1,7 +1,7 @@
 -- What `core` writes and notes.
 use Rattle.std.specs.Prelude.{◌≡◌, ℕ, ◌≤◌, [], Option, codes}
 use Rattle.definitions.specs.Disk.{Content}
-use Rattle.command_kit.specs.Answer.{RunResult, line, memory_told}
+use Rattle.command_kit.specs.Told.{RunResult, line, memory_told}
 use Rattle.command_kit.specs.Told.{IsTold, IsTried, sink_note}
 use Rattle.command_kit.specs.View.{SinkView}
 use Rattle.command_kit.specs.declared.status.Status.{Status}

@@ -1,6 +1,6 @@
 -- What `differ` prints.
 use Rattle.std.specs.Prelude.{◌≡◌, ◌≢◌, ◌⊎◌, ℕ, ◌==◌, Bool, true, false, List, [], ◌++◌, length, codes, if◌then◌else◌}
-use Rattle.command_kit.specs.Answer.{RunResult, line, memory_told}
+use Rattle.command_kit.specs.Told.{RunResult, line, memory_told}
 use Rattle.command_kit.specs.Told.{FailsToPrint, IsTold, IsTried, sink_note}
 use Rattle.command_kit.specs.View.{SinkView}
 use Rattle.command_kit.specs.declared.status.Status.{Status}

@@ -1,7 +1,7 @@
 -- What `discard` prints.
 use Rattle.std.specs.Prelude.{ℕ, [], codes, Option, Result, Ok, Err}
 use Rattle.definitions.specs.Disk.{Content}
-use Rattle.command_kit.specs.Answer.{RunResult, line}
+use Rattle.command_kit.specs.Told.{RunResult, line}
 use Rattle.command_kit.specs.Told.{IsTold}
 use Rattle.command_kit.specs.View.{SinkView}
 use Rattle.command_kit.specs.declared.status.Status.{Status}

@@ -2,7 +2,7 @@
 use Rattle.std.specs.Prelude.{ℕ, ◌⊎◌, Bool, true, false, List, [], Option, Result, Ok, Err, string_bytes}
 use Rattle.page_core.specs.declared.NoMemory.{NoMemory}
 use Rattle.definitions.specs.Disk.{Content}
-use Rattle.command_kit.specs.Answer.{RunResult, memory_told}
+use Rattle.command_kit.specs.Told.{RunResult, memory_told}
 use Rattle.command_kit.specs.Told.{IsTold}
 use Rattle.command_kit.specs.View.{SinkView}
 use Rattle.command_kit.specs.declared.status.Status.{Status}

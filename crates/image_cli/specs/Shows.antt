@@ -1,7 +1,7 @@
 -- What `show` prints.
 use Rattle.std.specs.Prelude.{◌≡◌, ℕ, ◌⊎◌, List, [], Option}
 use Rattle.definitions.specs.Disk.{Content}
-use Rattle.command_kit.specs.Answer.{RunResult, memory_told}
+use Rattle.command_kit.specs.Told.{RunResult, memory_told}
 use Rattle.command_kit.specs.Told.{FailsToPrint, IsTold, IsTried, sink_note}
 use Rattle.command_kit.specs.View.{SinkView}
 use Rattle.command_kit.specs.declared.status.Status.{Status}

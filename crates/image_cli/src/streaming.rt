@@ -1,6 +1,6 @@
 ghost use Rattle.std.specs.Prelude.{◌≡◌, ◌≢◌, ◌⊎◌, ◌≤◌, ◌++◌, codes, decimal, length};
 ghost use Rattle.definitions.specs.Disk.{HasRisen};
-ghost use Rattle.command_kit.specs.Answer.{line};
+ghost use Rattle.command_kit.specs.Told.{line};
 ghost use Rattle.command_kit.specs.AnswerOf.{told_by};
 ghost use Rattle.command_kit.specs.Told.{IsTold};
 ghost use Rattle.command_kit.specs.View.{sink_view};

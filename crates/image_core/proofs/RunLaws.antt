@@ -4,7 +4,7 @@ use Rattle.std.proofs.lemmas.Bool.{cases_eq, cond-true, cond-false, eq-eqb, ne_e
 use Rattle.std.proofs.lemmas.List.Elements.{All-cons, All-head, All-nil, All-same, All-tail}
 use Rattle.std.proofs.Math.Seq.{get_or-append_seam}
 use Rattle.std.proofs.lemmas.List.Sums.{sum_by-append, sum_by-cons}
-use Rattle.definitions.specs.Slots.{in_front, runs_of}
+use Rattle.definitions.specs.FreeRuns.{in_front, runs_of}
 use Rattle.elf_core.specs.Elf.{load_bytes, loads_bytes}
 use Rattle.image_facts.specs.Runs.{IsUpTo, list_of}
 use Rattle.image_facts.proofs.RunLaws.{up_to_first, up_to_joined, up_to_parted}

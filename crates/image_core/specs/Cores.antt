@@ -2,7 +2,7 @@
 use Rattle.std.specs.Prelude.{◌≡◌, ℕ, ◌≤◌, List, length, map, Option, None, IfSome, ⊤}
 use Rattle.page_core.specs.declared.format.Format.{Format}
 use Rattle.definitions.specs.Disk.{Content, HasRisen, as_it_reads}
-use Rattle.definitions.specs.Slots.{runs_of}
+use Rattle.definitions.specs.FreeRuns.{runs_of}
 use Rattle.definitions.specs.Streams.{TakesAll, TakesFront}
 use Rattle.image_check.specs.Told.{Told}
 use Rattle.image_pages.specs.Chain.{IsChainPage, IsWholeStream, chain_page}

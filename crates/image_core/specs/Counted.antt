@@ -1,7 +1,7 @@
 -- What a first reading of an image has counted.
 use Rattle.std.specs.Prelude.{◌≡◌, ℕ, ◌<◌, List, length, Option}
 use Rattle.definitions.specs.Disk.{Content}
-use Rattle.definitions.specs.Slots.{runs_of}
+use Rattle.definitions.specs.FreeRuns.{runs_of}
 use Rattle.image_check.specs.Info.{counts_in}
 use Rattle.image_frames.specs.SavedNumbers.{AreAllNumbers}
 use Rattle.image_frames.specs.declared.numbers.Numbers.{Numbers}

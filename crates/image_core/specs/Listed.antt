@@ -1,6 +1,6 @@
 -- Program headers of runs that are written as the numbers come.
 use Rattle.std.specs.Prelude.{◌≡◌, ℕ, ◌+◌, ◌*◌, ◌<◌, ◌^◌, List, ◌++◌, length, All, Option, sum_by}
-use Rattle.definitions.specs.Slots.{runs_of}
+use Rattle.definitions.specs.FreeRuns.{runs_of}
 use Rattle.definitions.specs.Streams.{TakesAll, TakesFront}
 use Rattle.elf_core.specs.Elf.{loads_bytes}
 use Rattle.image_core.specs.Runs.{HasEnded}

@@ -3,7 +3,7 @@ use Rattle.std.specs.Prelude.{◌≡◌, ℕ, List, length, Option}
 use Rattle.std.specs.List.{concat}
 use Rattle.page_core.specs.declared.format.Format.{Format}
 use Rattle.definitions.specs.Disk.{Content}
-use Rattle.definitions.specs.Slots.{runs_of}
+use Rattle.definitions.specs.FreeRuns.{runs_of}
 use Rattle.definitions.specs.Streams.{TakesAll}
 use Rattle.elf_core.specs.Elf.{loads_bytes, page_offset}
 use Rattle.image_pages.specs.Chain.{IsWholeStream}

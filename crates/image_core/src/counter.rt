@@ -1,5 +1,5 @@
 ghost use Rattle.std.specs.Prelude.{◌≡◌, ◌<◌, ℕ, List, [], ◌∷◌, ◌++◌, length};
-ghost use Rattle.definitions.specs.Slots.{runs_of};
+ghost use Rattle.definitions.specs.FreeRuns.{runs_of};
 ghost use Rattle.image_facts.specs.Runs.{list_of};
 ghost use Rattle.image_core.specs.Runs.{HasEnded};
 

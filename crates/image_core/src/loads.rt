@@ -1,6 +1,6 @@
 ghost use Rattle.std.specs.Prelude.{◌≡◌, ◌+◌, ◌*◌, ◌<◌, ◌≤◌, ◌^◌, ℕ, List, Option, [], ◌∷◌, ◌++◌, length, OnOk, OnErr};
 ghost use Rattle.definitions.specs.Disk.{HasRisen};
-ghost use Rattle.definitions.specs.Slots.{runs_of};
+ghost use Rattle.definitions.specs.FreeRuns.{runs_of};
 ghost use Rattle.definitions.specs.Streams.{TakesAll, TakesFront};
 ghost use Rattle.elf_core.specs.Elf.{load_bytes, loads_bytes};
 ghost use Rattle.image_core.specs.Listed.{AreListed, CanList, IsListFront};

@@ -1,6 +1,6 @@
 -- The runs of a list of numbers, as far as they are known.
 use Rattle.std.specs.Prelude.{◌≡◌, ℕ, ◌+◌, List, [], ◌∷◌, ◌++◌, Option, Some, None}
-use Rattle.definitions.specs.Slots.{runs_of}
+use Rattle.definitions.specs.FreeRuns.{runs_of}
 
 abbrev pub list_of : {A : Type 0} → Option A → List A
 list_of None = []

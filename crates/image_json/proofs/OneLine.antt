@@ -5,7 +5,7 @@ use Rattle.std.specs.Fmt.{digit_glyph, digits, digits_onto}
 use Rattle.std.proofs.lemmas.Bool.{ne_eqb}
 use Rattle.std.proofs.lemmas.List.Folds.{list_all-append}
 use Rattle.byteorder.specs.Endian.{big_bytes}
-use Rattle.plain_machine.specs.Texts.{hex_digit, hex_text}
+use Rattle.plain_machine.specs.Replies.{hex_digit, hex_text}
 use Rattle.sig_header.specs.declared.area.AreaFault.{AreaFault}
 use Rattle.sig_header.specs.declared.area.AreaFault.TheVariants as area
 use Rattle.lzo.specs.declared.fault.Kind.{Kind}

@@ -14,9 +14,10 @@ use Rattle.definitions.specs.Disk as disk
 use Rattle.definitions.specs.InfoPage.{info_of, info_page}
 use Rattle.definitions.specs.NumberPages.{meta_of, number_page, number_pages, marked_numbers, number_of_word, zero_bit}
 use Rattle.definitions.specs.SwapHeader.{flags_of}
-use Rattle.definitions.specs.Lists.{saveable_frames}
+use Rattle.definitions.specs.Tables.{saveable_frames}
 use Rattle.definitions.specs.Tables.{frame, entry_at, page_flags as flags_in, is_saveable}
-use Rattle.definitions.specs.Zones.{numbers, AreZones}
+use Rattle.definitions.specs.Zones.{numbers}
+use Rattle.definitions.specs.ZoneFacts.{AreZones}
 use Rattle.definitions.specs.declared.info.Info.{Info}
 use Rattle.definitions.proofs.InfoPages.{info_of-info_page}
 use Rattle.definitions.proofs.ZoneLists.{Contains-from_saveable_frames}

@@ -5,7 +5,8 @@ use Rattle.std.proofs.lemmas.Bool.{cases_eq, cases_lt, cond-true, cond-false, eq
 use Rattle.std.proofs.lemmas.List.{get_or-take, get_or-drop, get_or_past, length-take-le}
 use Rattle.std.proofs.lemmas.List.FromFn.{length-map-range_with_len, get_or-map-range_with_len}
 use Rattle.definitions.specs.Moves.{Move, Entry, assigned, move_into, page_from}
-use Rattle.definitions.specs.Tables.{frame, run_at, with_run}
+use Rattle.definitions.specs.Tables.{frame}
+use Rattle.definitions.specs.FrameRuns.{run_at, with_run}
 use Rattle.definitions.proofs.FrameLists.{length-with_run, frame-with_run_below, frame-with_run_within, frame-with_run_above}
 use Rattle.definitions.proofs.MoveExamples.{order_of_a_cycle, run_of_moves}
 use Rattle.image_laws.specs.Performing.{performed, Realises, RealisesMoves, RealisesSwap, RealisesRun, swap_of_two, run_of_ten, run_of}

@@ -2,7 +2,8 @@
 use Rattle.std.specs.Prelude.{◌≡◌, ◌≢◌, ℕ, ◌+◌, ◌<◌, ◌≤◌, List, [], ◌∷◌, length, map}
 use Rattle.std.specs.List.{range_with_len}
 use Rattle.definitions.specs.Moves.{Move, Entry, assigned, order_of_moves}
-use Rattle.definitions.specs.Tables.{frame, run_at, with_run}
+use Rattle.definitions.specs.Tables.{frame}
+use Rattle.definitions.specs.FrameRuns.{run_at, with_run}
 
 -- memory after these entries: each moves its run of pages, read before any of them is written
 abbrev pub performed : List (List ℕ) → List Entry → List (List ℕ)

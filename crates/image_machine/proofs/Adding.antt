@@ -3,7 +3,8 @@ use Rattle.std.proofs.Common.{◌≡◌, ◌<◌, ℕ, List, sym, ap, subst, ◌
 use Rattle.std.proofs.lemmas.List.Elements.{All-contains}
 use Rattle.std.specs.List.{Contains}
 use Rattle.definitions.specs.FrameSets.{inserted}
-use Rattle.definitions.specs.Zones.{AreZones, numbers, top}
+use Rattle.definitions.specs.Zones.{numbers, top}
+use Rattle.definitions.specs.ZoneFacts.{AreZones}
 use Rattle.definitions.proofs.ZoneNumbers.{below_top}
 use Rattle.memory_bitmap.specs.FrameSet.{FrameSet, IsFrameSet}
 use Rattle.plain_machine.specs.Machine.{Hardware}

@@ -5,7 +5,7 @@ use Rattle.std.proofs.lemmas.Bool.{and_parts, cases_lt, false≢true, leb-true, 
 use Rattle.std.specs.Prelude.{Ok, nat_le, nat_lt, ◌↔◌}
 use Rattle.std.specs.List.{Contains}
 use Rattle.definitions.specs.Bytes.{zero_page}
-use Rattle.definitions.specs.Lists.{saveable_frames}
+use Rattle.definitions.specs.Tables.{saveable_frames}
 use Rattle.definitions.specs.Tables.{entry_at, frame, is_saveable, page_flags, table_frame_count}
 use Rattle.definitions.specs.Zones.{numbers, top}
 use Rattle.definitions.proofs.FrameSets.{Contains-filter, Contains-from_filter}

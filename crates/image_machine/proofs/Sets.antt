@@ -5,7 +5,8 @@ use Rattle.std.proofs.lemmas.List.Elements.{All-contains}
 use Rattle.std.specs.List.{Contains}
 use Rattle.std.specs.List.Sorted.{IsStrictlyIncreasing}
 use Rattle.definitions.specs.FrameSets.{inserted}
-use Rattle.definitions.specs.Zones.{numbers, AreZones}
+use Rattle.definitions.specs.Zones.{numbers}
+use Rattle.definitions.specs.ZoneFacts.{AreZones}
 use Rattle.definitions.proofs.FrameSets.{Contains-from_inserted, IsStrictlyIncreasing-inserted}
 use Rattle.memory_bitmap.specs.FrameSet.{FrameSet, IsFrameSet}
 

@@ -1,6 +1,6 @@
 -- The lines that say which limit keeps an image from having a machine.
 use Rattle.std.specs.Prelude.{ℕ, List, ◌++◌, codes, decimal}
-use Rattle.command_kit.specs.Answer.{line}
+use Rattle.command_kit.specs.Told.{line}
 use Rattle.machine.specs.declared.hardware.HardFault.{HardFault}
 use Rattle.machine.specs.declared.hardware.HardFault.TheVariants as hard
 use Rattle.image_machine.specs.declared.limit.Limit.{Limit}

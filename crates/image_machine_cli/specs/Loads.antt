@@ -3,7 +3,7 @@ use Rattle.std.specs.Prelude.{◌≡◌, ℕ, ⊤, [], List, codes, length, Opti
 use Rattle.definitions.specs.Disk.{Content}
 use Rattle.definitions.specs.Zones.{top}
 use Rattle.byte_streams.specs.declared.sink.Sink as sink
-use Rattle.command_kit.specs.Answer.{RunResult, line, memory_told}
+use Rattle.command_kit.specs.Told.{RunResult, line, memory_told}
 use Rattle.command_kit.specs.Told.{IsTold}
 use Rattle.command_kit.specs.View.{SinkView}
 use Rattle.command_kit.specs.declared.status.Status.{Status}

@@ -5,7 +5,8 @@ use Rattle.definitions.specs.Disk as disk
 use Rattle.definitions.specs.SwapMap.{map_entry, map_link}
 use Rattle.swap_map.specs.MapPages.{NumberedPage}
 use Rattle.plain_machine.specs.Machine.{Hardware}
-use Rattle.plain_machine.specs.Chain.{is_fault_of, map_block, entry_block, map_fault, or_else, block_fault as block_cause}
+use Rattle.plain_machine.specs.Chain.{is_fault_of, map_block, entry_block, map_fault, or_else}
+use Rattle.plain_machine.specs.Chain.{block_fault as block_cause}
 use Rattle.plain_machine.specs.Trace.{first_map, info_in, place, place_count, place_cause, read_cause, next_cause}
 use Rattle.plain_machine.specs.declared.event.IdentCheck.{IdentCheck}
 use Rattle.plain_machine.specs.declared.reply.Reply.{Reply}

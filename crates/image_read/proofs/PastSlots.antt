@@ -1,7 +1,8 @@
 -- Slots past those that the extents cover: the last extent goes on.
 use Rattle.std.proofs.Common.{◌≡◌, ℕ, ◌+◌, ◌-◌, ◌<◌, ◌≤◌, suc, List, length, sym, ap, ◌∙◌, inl, inr, arith}
 use Rattle.std.proofs.lemmas.Bool.{cases_lt}
-use Rattle.definitions.specs.Slots.{block_of, extent_at, extent_end, slots_before, IsFileMap}
+use Rattle.definitions.specs.Slots.{block_of, extent_at, extent_end, slots_before}
+use Rattle.definitions.specs.FileMaps.{IsFileMap}
 use Rattle.definitions.proofs.FileMaps.{block_of-extent, ends_before}
 
 -- where such a slot lies

@@ -1,5 +1,6 @@
 ghost use Rattle.std.specs.Prelude.{◌≡◌, ◌≢◌, ℕ, ◌<◌, ◌≤◌, ◌↔◌, false, IsOk, IfOk, IfErr, IsTrue};
-ghost use Rattle.definitions.specs.Slots.{block_of, slots_of, IsFileMap};
+ghost use Rattle.definitions.specs.Slots.{block_of, slots_of};
+ghost use Rattle.definitions.specs.FileMaps.{IsFileMap};
 ghost use Rattle.plain_machine.specs.Chain.{is_fault_of};
 
 use crate::cause::Cause;

@@ -3,7 +3,7 @@ use Rattle.std.proofs.Common.{◌≡◌, ℕ, ◌+◌, ◌-◌, ◌<◌, ◌≤�
 use Rattle.std.proofs.lemmas.Bool.{cases_lt, le-leb}
 use Rattle.std.proofs.lemmas.List.{map-append, nil_from_length, take_at}
 use Rattle.definitions.specs.Disk.{Content}
-use Rattle.definitions.specs.Slots.{runs_of}
+use Rattle.definitions.specs.FreeRuns.{runs_of}
 use Rattle.image_walk.specs.Names.{Name, map_at, page_at, block_of, fault_of, maps_in, AreReadFrom, IsAnswer, IsReading}
 use Rattle.image_walk.specs.Walking.{IsSeen}
 use Rattle.image_walk.specs.declared.limits.Limits.{Limits}

@@ -7,7 +7,7 @@ use Rattle.std.proofs.lemmas.List.FromFn.{get_or-map-range_with_len, length-map-
 use Rattle.std.specs.List.{flat_map}
 use Rattle.definitions.specs.Bytes.{number_at, word}
 use Rattle.definitions.specs.Disk.{Content}
-use Rattle.definitions.specs.Slots.{runs_of}
+use Rattle.definitions.specs.FreeRuns.{runs_of}
 use Rattle.fact_lines.proofs.Joined.{map-take_more}
 use Rattle.page_core.specs.declared.format.Format.{Format}
 use Rattle.image_walk.specs.Names.{Name, AreReadFrom, IsReading}

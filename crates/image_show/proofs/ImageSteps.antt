@@ -3,7 +3,7 @@ use Rattle.std.proofs.Common.{◌≡◌, ℕ, ◌≤◌, List, [], ◌++◌, Boo
 use Rattle.std.proofs.lemmas.Bool.{cases_lt}
 use Rattle.page_core.specs.declared.format.Format.{Format}
 use Rattle.definitions.specs.Disk.{Content, HasRisen}
-use Rattle.definitions.specs.Slots.{runs_of}
+use Rattle.definitions.specs.FreeRuns.{runs_of}
 use Rattle.image_walk.specs.Names.{Name}
 use Rattle.image_walk.specs.declared.limits.Limits.{Limits}
 use Rattle.image_facts.specs.Told.{IsEnd}

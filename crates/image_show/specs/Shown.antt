@@ -3,7 +3,7 @@ use Rattle.std.specs.Prelude.{◌≡◌, ℕ, ◌-◌, ◌≤◌, ◌⊎◌, tru
 use Rattle.std.specs.Prelude.{Option, Some, None}
 use Rattle.page_core.specs.declared.format.Format.{Format}
 use Rattle.definitions.specs.Disk.{Content, HasRisen}
-use Rattle.definitions.specs.Slots.{runs_of}
+use Rattle.definitions.specs.FreeRuns.{runs_of}
 use Rattle.definitions.specs.SwapHeader.{taken_back}
 use Rattle.sig_header.specs.AreaKind.{area_kind}
 use Rattle.sig_header.specs.declared.area.Mark.{Mark}

@@ -3,8 +3,8 @@ use Rattle.std.specs.Prelude.{ℕ, Bool, true, false, List, [], ◌∷◌, ◌++
 use Rattle.definitions.specs.Bytes.{bytes_at}
 use Rattle.definitions.specs.InfoPage.{text_of_name}
 use Rattle.fact_lines.specs.Texts.{name_text, numbers_text, value_text, word_text}
-use Rattle.plain_machine.specs.Area.{no_swap_at}
-use Rattle.plain_machine.specs.Texts.{hex_text, why_text}
+use Rattle.plain_machine.specs.UsableArea.{no_swap_at}
+use Rattle.plain_machine.specs.Replies.{hex_text, why_text}
 use Rattle.image_facts.specs.declared.fact.Fact.{Fact}
 use Rattle.image_facts.specs.declared.fact.Fact.TheVariants as fact
 use Rattle.image_facts.specs.declared.fact.Flag.{Flag}

@@ -1,8 +1,8 @@
 ghost use Rattle.std.specs.Prelude.{◌≡◌, ◌+◌, ◌≤◌, ◌++◌, length, codes, decimal};
 ghost use Rattle.definitions.specs.InfoPage.{text_of_name};
 ghost use Rattle.fact_lines.specs.Texts.{value_text};
-ghost use Rattle.plain_machine.specs.Area.{no_swap_at};
-ghost use Rattle.plain_machine.specs.Texts.{hex_text, why_text};
+ghost use Rattle.plain_machine.specs.UsableArea.{no_swap_at};
+ghost use Rattle.plain_machine.specs.Replies.{hex_text, why_text};
 ghost use Rattle.image_show.specs.Texts.{fact_text, flag_key, header_key, image_text, kernel_text, line_text};
 ghost use Rattle.image_show.specs.Texts.{uuid_text};
 

@@ -8,14 +8,15 @@ use Rattle.std.specs.List.{All}
 use Rattle.std.specs.List.Sorted.{IsStrictlyIncreasing}
 use Rattle.definitions.specs.Bytes.{IsPage, zero_page}
 use Rattle.definitions.specs.Disk.{Content, DiskImage, as_it_reads, block, Writes}
-use Rattle.definitions.specs.Slots.{IsFileMap}
+use Rattle.definitions.specs.FileMaps.{IsFileMap}
 use Rattle.definitions.proofs.DiskLaws.{block-other}
 use Rattle.definitions.proofs.PageBytes.{length-zero_page}
 use Rattle.definitions.proofs.FileMaps.{block_of-injective}
 use Rattle.definitions.proofs.SwapMaps.{length-map_page}
 use Rattle.plain_machine.proofs.DiskBlocks.{block-written}
 use Rattle.plain_machine.specs.Image.{maps_of}
-use Rattle.plain_machine.specs.Laid.{page_place, map_place, laid_block, laid_map, laid_entries, laid, laid_write, is_map_write, page_of_write}
+use Rattle.plain_machine.specs.Image.{page_place, map_place, laid_block, laid_map, laid_entries, laid, laid_write}
+use Rattle.plain_machine.specs.Image.{is_map_write, page_of_write}
 use Rattle.image_write.proofs.Places.{page_write, last_entries, page_is_one, map_write, taken_before_page}
 use Rattle.definitions.specs.NumberPages.{meta_of, marked_numbers}
 use Rattle.definitions.specs.Tables.{frame}

@@ -12,7 +12,8 @@ use Rattle.swap_map.specs.MapPages.{MapEntries}
 use Rattle.swap_slots.specs.Table.{free_in}
 use Rattle.swap_slots.specs.declared.table.SlotTable.{SlotTable}
 use Rattle.plain_machine.specs.Image.{maps_of}
-use Rattle.plain_machine.specs.Laid.{map_place, laid_block, laid_map, laid_entries, laid_write, is_map_write, page_of_write, page_place}
+use Rattle.plain_machine.specs.Image.{map_place, laid_block, laid_map, laid_entries, laid_write, is_map_write}
+use Rattle.plain_machine.specs.Image.{page_of_write, page_place}
 use Rattle.image_write.specs.Answers.{after, Succeeds, GoesOn}
 use Rattle.image_write.specs.declared.write_step.WriteStep.{WriteStep}
 use Rattle.image_write.specs.declared.write_step.WriteStep.TheVariants.{More, Done, Fault}

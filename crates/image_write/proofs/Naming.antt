@@ -12,7 +12,7 @@ use Rattle.definitions.proofs.Ascending.{Contains-nil, Contains-head, Contains-t
 use Rattle.definitions.proofs.TableEntries.{entry_frame_within, entry_at-with_entry_other, IsPage-with_entry, HasTable-with_entry}
 use Rattle.swap_slots.specs.declared.table.SlotTable.{SlotTable}
 use Rattle.plain_machine.specs.Image.{maps_of}
-use Rattle.plain_machine.specs.Laid.{page_place, map_place, laid_block, laid, is_map_write, page_of_write}
+use Rattle.plain_machine.specs.Image.{page_place, map_place, laid_block, laid, is_map_write, page_of_write}
 use Rattle.image_write.specs.Writing.{Writing, IsWriting, slots_of_write, taken_after, writes_of}
 use Rattle.image_write.proofs.Places.{or_left, or_right, or_none, page_write, taken_before_page, map_within}
 use Rattle.image_write.proofs.Taking.{IsTable}

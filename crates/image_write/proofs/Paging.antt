@@ -11,7 +11,7 @@ use Rattle.swap_map.specs.MapPages.{MapEntries}
 use Rattle.swap_slots.specs.Runs.{SlotRuns}
 use Rattle.swap_slots.specs.Table.{Matches, free_in}
 use Rattle.swap_slots.proofs.Matching.{free_numbers}
-use Rattle.plain_machine.specs.Laid.{page_place, map_place, laid_block, laid_entries, is_map_write, page_of_write}
+use Rattle.plain_machine.specs.Image.{page_place, map_place, laid_block, laid_entries, is_map_write, page_of_write}
 use Rattle.image_write.specs.Writing.{Writing, IsWriting, HasTaken, taken_after, writes_of, slots_of_write}
 use Rattle.image_write.proofs.Places.{IsPageWrite, page_write, taken_before_page, map_within}
 use Rattle.image_write.proofs.Taking.{IsTable, next_free, some_free, taken_more}

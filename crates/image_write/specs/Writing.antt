@@ -10,8 +10,8 @@ use Rattle.swap_map.specs.MapPages.{MapEntries}
 use Rattle.swap_slots.specs.Table.{free_in}
 use Rattle.swap_slots.specs.declared.table.SlotTable.{SlotTable}
 use Rattle.plain_machine.specs.Image.{maps_of, stream_pages}
-use Rattle.plain_machine.specs.Laid.{page_place, map_place, laid_block, laid_entries, laid_map, laid_write}
-use Rattle.plain_machine.specs.Laid.{is_map_write, page_of_write}
+use Rattle.plain_machine.specs.Image.{page_place, map_place, laid_block, laid_entries, laid_map, laid_write}
+use Rattle.plain_machine.specs.Image.{is_map_write, page_of_write}
 use Rattle.image_write.specs.Copies.{with_data, data_pages, IsPassed}
 
 -- What it writes, where, and how many writes it has made: the block of the first map, the block of the map that is

@@ -10,7 +10,7 @@ ghost use Rattle.definitions.specs.Tables.{frame, with_entry, with_entries};
 ghost use Rattle.plain_machine.specs.Image.{stream_pages};
 ghost use Rattle.swap_slots.specs.Table.{LiesIn, Matches, free_in};
 ghost use Rattle.pfn_pack.specs.Places.{members_in};
-ghost use Rattle.plain_machine.specs.Laid.{laid_block, is_map_write, page_of_write, page_place};
+ghost use Rattle.plain_machine.specs.Image.{laid_block, is_map_write, page_of_write, page_place};
 ghost use Rattle.sector_disk.specs.Called.{Called, OneCall};
 
 use crate::WriteStep;

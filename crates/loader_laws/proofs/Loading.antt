@@ -13,7 +13,8 @@ use Rattle.definitions.specs.Disk.{Content, DiskImage, IsContent, as_it_reads, b
 use Rattle.definitions.specs.Bytes.{word}
 use Rattle.definitions.specs.InfoPage.{info_of, mismatch, same_name, text_of_name}
 use Rattle.definitions.specs.declared.info.Field.TheVariants.{VersionCode, Sysname, Release, Version, Machine}
-use Rattle.definitions.specs.Slots.{block_of, extent_at, IsFileMap}
+use Rattle.definitions.specs.Slots.{block_of, extent_at}
+use Rattle.definitions.specs.FileMaps.{IsFileMap}
 use Rattle.definitions.specs.SwapHeader.{flags_of, hw_sig_of, image_of}
 use Rattle.definitions.specs.Zones.{numbers}
 use Rattle.definitions.specs.declared.info.Ident.{Ident}

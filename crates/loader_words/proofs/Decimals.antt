@@ -5,7 +5,7 @@ use Rattle.std.proofs.lemmas.Option.{none-some, same_Some}
 use Rattle.std.specs.Char.{is_ascii_digit}
 use Rattle.std.specs.List.{list_all}
 use Rattle.std.specs.Str.Parse.{digits_value}
-use Rattle.script.specs.Words.{number_of}
+use Rattle.script.specs.Shapes.{number_of}
 use Rattle.swsusp_words.specs.Words.{has_leading_zero, is_decimal, plain_number}
 
 pub leading : (word : List ℕ) → has_leading_zero word ≡ true → None ≡ plain_number 4294967296 word

@@ -4,7 +4,8 @@ use Rattle.std.proofs.lemmas.Bool.{cases_lt}
 use Rattle.std.proofs.lemmas.Bool.Decides.{Decides-like, Decides-ltb, Decides-not}
 use Rattle.std.specs.Bool.{Decides}
 use Rattle.std.specs.List.{Contains, list_any, range_with_len}
-use Rattle.definitions.specs.Slots.{block_of, extent_at, IsFileMap}
+use Rattle.definitions.specs.Slots.{block_of, extent_at}
+use Rattle.definitions.specs.FileMaps.{IsFileMap}
 use Rattle.definitions.proofs.FileMaps.{HasSlot, block_of-extent, block_of-slot, ends_before, extent_of_slot, slot_below}
 use Rattle.definitions.proofs.ZoneNumbers.{Contains-range, range-bounds}
 use Rattle.machine.specs.Usable.{Passes}

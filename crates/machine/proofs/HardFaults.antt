@@ -2,8 +2,8 @@
 use Rattle.std.proofs.Common.{◌≡◌, ◌^◌, ◌<◌, ◌≤◌, ◌↔◌, Bool, true, false, not, cond, Option, Some, None, refl, sym, ap, ◌∙◌, inl, inr, arith}
 use Rattle.std.proofs.lemmas.Bool.{cases_Bool, false≢true}
 use Rattle.std.proofs.lemmas.Option.{none-some}
-use Rattle.definitions.specs.Slots.{IsFileMap}
-use Rattle.definitions.specs.Zones.{AreZones}
+use Rattle.definitions.specs.FileMaps.{IsFileMap}
+use Rattle.definitions.specs.ZoneFacts.{AreZones}
 use Rattle.plain_machine.specs.Machine.{Hardware, IsHardware, IsIdent}
 use Rattle.machine.specs.HardFault.{hard_fault, has_extents, has_regions, has_slots, has_tables, is_zones}
 use Rattle.machine.specs.declared.hardware.HardFault.{HardFault}

@@ -3,7 +3,8 @@ use Rattle.std.proofs.Common.{◌≡◌, ℕ, ◌+◌, ◌-◌, ◌<◌, ◌≤�
 use Rattle.std.proofs.lemmas.Bool.{cases_lt}
 use Rattle.std.proofs.lemmas.List.{get_or-take, length-take-le}
 use Rattle.std.specs.List.{Contains}
-use Rattle.definitions.specs.Zones.{numbers, top, AreZones}
+use Rattle.definitions.specs.Zones.{numbers, top}
+use Rattle.definitions.specs.ZoneFacts.{AreZones}
 use Rattle.definitions.proofs.ZoneNumbers.{Contains-range, range-bounds}
 use Rattle.plain_machine.specs.Machine.{Hardware, IsOfTable, IsRegion, IsTableFrame, table_len}
 use Rattle.machine.specs.HardFault.{has_slots, region_at}

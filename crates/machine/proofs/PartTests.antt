@@ -6,8 +6,10 @@ use Rattle.std.proofs.lemmas.List.{get_or_default}
 use Rattle.std.proofs.lemmas.List.Elements.{Contains-append_left, Contains-append_right, Contains-append_cases}
 use Rattle.std.specs.Bool.{Decides}
 use Rattle.std.specs.List.{All, Contains, list_all, list_any, range_with_len}
-use Rattle.definitions.specs.Zones.{numbers, top, zone_at, zone_end, IsZone, AreZones}
-use Rattle.definitions.specs.Slots.{extent_at, slots_before, slots_of, LieApart, IsFileMap}
+use Rattle.definitions.specs.Zones.{numbers, top, zone_at, zone_end}
+use Rattle.definitions.specs.ZoneFacts.{IsZone, AreZones}
+use Rattle.definitions.specs.Slots.{extent_at, slots_before, slots_of}
+use Rattle.definitions.specs.FileMaps.{LieApart, IsFileMap}
 use Rattle.definitions.proofs.ZoneNumbers.{Contains-range, range-bounds, top_is_next, below_top}
 use Rattle.plain_machine.specs.Machine.{Hardware, IsInRegion, IsOfTable, IsRegion, IsTableFrame, frame_table_frames, is_of_table, is_table_frame, is_valid, slot_table_frames, table_frames, table_len}
 use Rattle.machine.specs.HardFault.{each_below, has_extents, has_flags, has_regions, has_slots, has_tables, is_extent, is_in_region, is_region, is_region_at, is_zone, is_zones, lie_apart, region_at, region_frames}

@@ -15,7 +15,7 @@ use Rattle.plain_machine.specs.declared.no_swap.NoSwap.{NoSwap}
 use Rattle.plain_machine.specs.declared.no_swap.NoSwap.TheVariants as no_swap
 use Rattle.definitions.proofs.TableEntries.{entry_at-with_entry_other}
 use Rattle.plain_machine.specs.Machine.{Hardware, Memory, IsHardware, IsOfTable, IsTableFrame, IsSameMemory, Fits, block_of_slot, frame_entry}
-use Rattle.plain_machine.specs.Fitting.{IsTask}
+use Rattle.plain_machine.specs.Machine.{IsTask}
 use Rattle.plain_machine.specs.Shows.{seen_frames}
 use Rattle.plain_machine.specs.State as plain
 use Rattle.plain_machine.specs.Step.{with_flight}

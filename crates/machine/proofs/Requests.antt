@@ -10,7 +10,7 @@ use Rattle.definitions.proofs.ZoneNumbers.{below_top}
 use Rattle.plain_machine.specs.Machine.{Hardware, Memory, IsHardware, IsTableFrame, is_valid, is_well_formed, frame_entry}
 use Rattle.plain_machine.specs.State.{on, Running}
 use Rattle.plain_machine.specs.Chain.{or_else}
-use Rattle.plain_machine.specs.Fitting.{IsTask}
+use Rattle.plain_machine.specs.Machine.{IsTask}
 use Rattle.plain_machine.specs.Refusals.{refused_if, op_refusal}
 use Rattle.plain_machine.specs.Shows.{seen_frames}
 use Rattle.plain_machine.specs.Step.{requested}

@@ -7,8 +7,8 @@ use Rattle.std.proofs.lemmas.Grind.{same_number_lists}
 use Rattle.std.proofs.lemmas.List.{get_or-set_same, get_or-set_other, set-set}
 use Rattle.std.specs.List.{All, Contains, range_with_len}
 use Rattle.definitions.specs.Bytes.{IsPage, with_bytes, with_number}
-use Rattle.definitions.specs.Lists.{free_slots, image_slots}
-use Rattle.definitions.specs.Slots.{runs_of}
+use Rattle.definitions.specs.Tables.{free_slots, image_slots}
+use Rattle.definitions.specs.FreeRuns.{runs_of}
 use Rattle.definitions.specs.Tables.{frame, with_entry, with_entries, HasTable}
 use Rattle.definitions.specs.Zones.{numbers, top}
 use Rattle.definitions.proofs.Ascending.{Contains-head, Contains-tail}

@@ -5,7 +5,7 @@ use Rattle.std.proofs.lemmas.Option.{same_Some, none-some}
 use Rattle.std.specs.List.{All, Contains, find, range_with_len, slice_get}
 use Rattle.definitions.specs.Bytes.{IsPage, with_number}
 use Rattle.definitions.specs.Disk as disk
-use Rattle.definitions.specs.Lists.{free_slots}
+use Rattle.definitions.specs.Tables.{free_slots}
 use Rattle.definitions.specs.Tables.{frame, with_entry, page_flags, owner_of, is_saveable}
 use Rattle.definitions.specs.Zones.{top}
 use Rattle.definitions.proofs.TableEntries.{length-with_entry, IsPage-with_entry}
@@ -15,7 +15,7 @@ use Rattle.sig_header.specs.declared.area.Area.{Area}
 use Rattle.plain_machine.specs.Machine.{Hardware, Memory, IsHardware, IsSameMemory, Fits, frame_entry, raw_slot_entry, slot_entry, is_slot_entry, is_valid, is_well_formed, bad_slot}
 use Rattle.plain_machine.specs.State.{on, Running, Flight, goes_out, comes_in, Held, nothing, sure, maybe}
 use Rattle.plain_machine.specs.Chain.{or_else}
-use Rattle.plain_machine.specs.Fitting.{IsTask}
+use Rattle.plain_machine.specs.Machine.{IsTask}
 use Rattle.plain_machine.specs.Refusals.{refused_if, refusal, op_refusal, is_held, closed, free_slots_of, owns_slot}
 use Rattle.plain_machine.specs.Shows.{ShowsHeld, seen_frames}
 use Rattle.plain_machine.specs.Step.{Step, Outcome, outcomes, refused_or, requested, with_flight}

@@ -2,7 +2,8 @@
 use Rattle.std.proofs.Common.{◌≡◌, ℕ, ◌+◌, ◌<◌, ◌≤◌, List, length, ◌↔◌, sym, ap, subst, inl, inr, arith}
 use Rattle.std.proofs.lemmas.Bool.{cases_lt}
 use Rattle.std.specs.List.{Contains}
-use Rattle.definitions.specs.Zones.{numbers, zone_at, zone_end, AreZones}
+use Rattle.definitions.specs.Zones.{numbers, zone_at, zone_end}
+use Rattle.definitions.specs.ZoneFacts.{AreZones}
 use Rattle.definitions.proofs.ZoneNumbers.{Contains-numbers, zone_of, zones_apart}
 
 -- the page frames from `first` to `end` are valid, and none of the first j zones has page frame `end`

@@ -6,7 +6,7 @@ use Rattle.sig_header.specs.declared.area.Area.{Area}
 use Rattle.swap_slots.specs.Runs.{SlotRuns}
 use Rattle.swap_slots.specs.Table.{Matches}
 use Rattle.swap_slots.specs.declared.table.SlotTable.{SlotTable}
-use Rattle.plain_machine.specs.Fitting.{IsTask}
+use Rattle.plain_machine.specs.Machine.{IsTask}
 use Rattle.plain_machine.specs.Machine.{Hardware, Memory, IsTableFrame, block_of_slot, frame_entry}
 use Rattle.plain_machine.specs.State.{goes_out, comes_in}
 use Rattle.plain_machine.specs.UsableArea.{fit_fault}

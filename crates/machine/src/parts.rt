@@ -1,5 +1,6 @@
 ghost use Rattle.std.specs.Prelude.{◌≡◌, ◌⊎◌, ℕ, ◌+◌, ◌<◌, ◌≤◌, ◌↔◌, IsTrue, true, length, Contains};
-ghost use Rattle.definitions.specs.Zones.{numbers, top, zone_end, IsZone, AreZones};
+ghost use Rattle.definitions.specs.Zones.{numbers, top, zone_end};
+ghost use Rattle.definitions.specs.ZoneFacts.{IsZone, AreZones};
 ghost use Rattle.plain_machine.specs.Machine.{IsTableFrame, table_len};
 ghost use Rattle.machine.specs.HardFault.{hardware_of, has_flags, has_regions, has_slots, has_tables, is_region};
 ghost use Rattle.machine.specs.HardFault.{is_region_at, region_at};

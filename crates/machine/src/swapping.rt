@@ -7,7 +7,7 @@ ghost use Rattle.definitions.specs.Zones.{numbers, top};
 ghost use Rattle.swap_slots.specs.Entries.{word_of};
 ghost use Rattle.swap_slots.specs.Table.{LiesIn, Matches, free_in};
 ghost use Rattle.plain_machine.specs.Faults.{TellsFailedCall};
-ghost use Rattle.plain_machine.specs.Fitting.{IsTask};
+ghost use Rattle.plain_machine.specs.Machine.{IsTask};
 ghost use Rattle.plain_machine.specs.Machine.{block_of_slot, raw_slot_entry, IsOfTable, IsHardware};
 ghost use Rattle.plain_machine.specs.declared.event.TaskOp.TheVariants as op;
 ghost use Rattle.plain_machine.specs.declared.reply.Reply.TheVariants as reply;

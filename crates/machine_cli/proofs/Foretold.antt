@@ -5,7 +5,7 @@ use Rattle.command_core.specs.declared.ending.Ended.{Ended}
 use Rattle.dry_resume.specs.Foretold.{Foretells}
 use Rattle.plain_machine.specs.Chain.{Marked}
 use Rattle.plain_machine.specs.Machine.{Hardware, Memory}
-use Rattle.plain_machine.specs.Premises.{HasOriginal}
+use Rattle.plain_machine.specs.UsableArea.{HasOriginal}
 use Rattle.plain_machine.specs.declared.event.IdentCheck.{IdentCheck}
 
 -- a machine that is that of a dump foretells what the dump's would

@@ -8,7 +8,7 @@ use Rattle.plain_machine.specs.declared.reply.Reply.{Reply}
 use Rattle.byte_streams.proofs.Taken.{TakesFront-all}
 use Rattle.script.specs.Grammar.{ScriptValue}
 use Rattle.run_picture.specs.Picture.{picture, pictured}
-use Rattle.command_kit.specs.Answer.{done}
+use Rattle.command_kit.specs.Told.{done}
 use Rattle.command_kit.specs.Told.{AreFronts, IsTold, IsTried, sink_note}
 use Rattle.command_kit.specs.View.{SinkView, View}
 use Rattle.command_kit.specs.declared.status.Status.{Status}

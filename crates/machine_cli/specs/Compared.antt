@@ -7,7 +7,7 @@ use Rattle.dump_differ.specs.declared.Difference.TheVariants.{Hardware, Saveable
 use Rattle.dump_file.specs.Dump.{DumpValue, dump_of}
 use Rattle.dump_file.specs.declared.dump.DumpFault.{DumpFault}
 use Rattle.machine.specs.declared.dump.Dump.{Dump}
-use Rattle.command_kit.specs.Answer.{RunResult, line, memory_told}
+use Rattle.command_kit.specs.Told.{RunResult, line, memory_told}
 use Rattle.swsusp_cli.specs.Dumps.{dump_told}
 use Rattle.swsusp_cli.specs.Replay.{unread_note}
 use Rattle.command_kit.specs.Told.{IsTold, IsTried}

@@ -4,7 +4,7 @@ use Rattle.dump_core.specs.Cores.{core_of}
 use Rattle.dump_file.specs.Dump.{DumpValue}
 use Rattle.dump_file.specs.declared.dump.DumpFault.{DumpFault}
 use Rattle.plain_machine.specs.Machine.{Hardware, Memory}
-use Rattle.command_kit.specs.Answer.{RunResult}
+use Rattle.command_kit.specs.Told.{RunResult}
 use Rattle.swsusp_cli.specs.Dumps.{IsDump, IsNoDump}
 use Rattle.swsusp_cli.specs.Outcome.{IsOutOfMemory, FailsAtSource, Tells}
 use Rattle.command_kit.specs.View.{View}

@@ -10,7 +10,7 @@ ghost use Rattle.world_core.specs.StandsFor.{IsOff, blocks_of, hardware_of};
 ghost use Rattle.command_kit.specs.Told.{IsTried, sink_note};
 ghost use Rattle.command_kit.specs.View.{disk_view, sink_view, view};
 ghost use Rattle.swsusp_cli.specs.Playing.{HasPlayed};
-ghost use Rattle.swsusp_cli.specs.Reading.{HandsOutAtMost};
+ghost use Rattle.swsusp_cli.specs.Outcome.{HandsOutAtMost};
 ghost use Rattle.machine_cli.specs.Drawn.{IsDrawn};
 
 use byte_streams::{Line, Sink, Source};

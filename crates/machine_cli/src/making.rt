@@ -2,7 +2,7 @@ ghost use Rattle.std.specs.Prelude.{◌≡◌, ◌≢◌, ◌⊎◌, ◌≤◌, 
 ghost use Rattle.definitions.specs.Disk.{HasRisen};
 ghost use Rattle.machine_cli.specs.Made.{IsMade, idle_told};
 ghost use Rattle.command_kit.specs.AnswerOf.{told_by};
-ghost use Rattle.swsusp_cli.specs.Reading.{HandsOutAtMost};
+ghost use Rattle.swsusp_cli.specs.Outcome.{HandsOutAtMost};
 ghost use Rattle.command_kit.specs.View.{view};
 
 use byte_streams::{Line, Sink, Source};

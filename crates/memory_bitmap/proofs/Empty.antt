@@ -4,7 +4,7 @@ use Rattle.std.proofs.lemmas.Bool.{cases_lt}
 use Rattle.std.proofs.lemmas.List.{get_or_past}
 use Rattle.std.proofs.lemmas.Nat.Bits.{bit_at-zero}
 use Rattle.std.specs.List.{All, Contains}
-use Rattle.definitions.specs.Zones.{AreZones, AreApart}
+use Rattle.definitions.specs.ZoneFacts.{AreZones, AreApart}
 use Rattle.definitions.specs.FrameSets.{blocks}
 use Rattle.definitions.proofs.Ascending.{Contains-head}
 use Rattle.memory_bitmap.specs.declared.Bitmap.TheInside.{Inside}

@@ -4,7 +4,8 @@ use Rattle.std.proofs.lemmas.Bool.{cases_lt}
 use Rattle.std.proofs.lemmas.List.{get_or_past}
 use Rattle.std.proofs.lemmas.Nat.Bits.{bit_at-zero, bit_at_ones, bit_at_ones_above}
 use Rattle.std.specs.Int.{bit_at}
-use Rattle.definitions.specs.Zones.{numbers, zone_at, AreZones, AreApart}
+use Rattle.definitions.specs.Zones.{numbers, zone_at}
+use Rattle.definitions.specs.ZoneFacts.{AreZones, AreApart}
 use Rattle.definitions.specs.FrameSets.{blocks}
 use Rattle.definitions.proofs.Ascending.{same_members}
 use Rattle.definitions.proofs.ZoneBlocks.{AreApart-blocks, numbers-blocks}

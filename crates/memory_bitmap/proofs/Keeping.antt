@@ -3,7 +3,8 @@ use Rattle.std.proofs.Common.{◌≡◌, ℕ, ◌<◌, ◌≤◌, ◌↔◌, Lis
 use Rattle.std.proofs.lemmas.List.Elements.{Contains-get_or}
 use Rattle.std.proofs.lemmas.List.{get_or_read}
 use Rattle.std.specs.List.{All, Contains}
-use Rattle.definitions.specs.Zones.{numbers, AreApart}
+use Rattle.definitions.specs.Zones.{numbers}
+use Rattle.definitions.specs.ZoneFacts.{AreApart}
 use Rattle.definitions.proofs.Ascending.{length-between}
 use Rattle.definitions.proofs.ZoneNumbers.{below_top, top_at_most}
 use Rattle.definitions.proofs.ZoneBlocks.{IsBlock, All-blocks, AreApart-blocks, numbers-blocks}

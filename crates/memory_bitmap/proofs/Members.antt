@@ -6,7 +6,8 @@ use Rattle.std.proofs.lemmas.List.Sums.{position_or_len_is}
 use Rattle.std.proofs.lemmas.List.Kept.{IsStrictlyIncreasing-filter}
 use Rattle.std.specs.List.{Contains}
 use Rattle.std.specs.List.Sorted.{IsStrictlyIncreasing}
-use Rattle.definitions.specs.Zones.{numbers, zone_end, zone_at, AreApart, InZone}
+use Rattle.definitions.specs.Zones.{numbers, zone_end, zone_at}
+use Rattle.definitions.specs.ZoneFacts.{AreApart, InZone}
 use Rattle.definitions.specs.FrameSets.{inserted, removed}
 use Rattle.definitions.proofs.Ascending.{same_members}
 use Rattle.definitions.proofs.FrameSets.{Contains-filter, Contains-from_filter, Contains-inserted, Contains-inserted_itself, Contains-from_inserted, IsStrictlyIncreasing-inserted, Contains-removed, Contains-from_removed, IsStrictlyIncreasing-removed}

@@ -2,7 +2,8 @@
 use Rattle.std.proofs.Common.{◌≡◌, ℕ, ◌+◌, ◌-◌, ◌<◌, ◌≤◌, List, [], length, get_or, Some, None, sym, ap, ap₂, ◌∙◌, subst, inl, inr, arith}
 use Rattle.std.proofs.lemmas.Bool.{cases_lt, cases_eq}
 use Rattle.std.proofs.lemmas.List.{get_or_read}
-use Rattle.definitions.specs.Zones.{zone_at, zone_end, first_from, InZone}
+use Rattle.definitions.specs.Zones.{zone_at, zone_end, first_from}
+use Rattle.definitions.specs.ZoneFacts.{InZone}
 use Rattle.definitions.proofs.Ascending.{first_from-some, first_from-none}
 use Rattle.definitions.proofs.ZoneNumbers.{zones_apart}
 use Rattle.definitions.proofs.ZoneBlocks.{IsBlock}

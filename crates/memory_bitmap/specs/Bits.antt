@@ -1,7 +1,8 @@
 -- The bits of a block: 512 words of 64 bits, bit k being bit k mod 64 of word k / 64.
 use Rattle.std.specs.Prelude.{◌≡◌, ℕ, ◌/◌, ◌%◌, ◌-◌, ◌<◌, ◌≤◌, ◌↔◌, List, [], slice_index, slice_index_or}
 use Rattle.std.specs.Int.{bit_at}
-use Rattle.definitions.specs.Zones.{zone_at, InZone}
+use Rattle.definitions.specs.Zones.{zone_at}
+use Rattle.definitions.specs.ZoneFacts.{InZone}
 
 -- the block of p among blocks with these page frames, and the place of its bit there
 pub record IsPlace (runs : List (ℕ × ℕ)) (p : ℕ) (place : ℕ × ℕ) : Type 0 where

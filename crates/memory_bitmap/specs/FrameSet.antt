@@ -1,7 +1,8 @@
 -- What a bitmap is in a contract: the zones that it was made over, and the set of page frames.
 use Rattle.std.specs.Prelude.{ℕ, List, All, Contains}
 use Rattle.std.specs.List.Sorted.{IsStrictlyIncreasing}
-use Rattle.definitions.specs.Zones.{numbers, AreZones}
+use Rattle.definitions.specs.Zones.{numbers}
+use Rattle.definitions.specs.ZoneFacts.{AreZones}
 
 pub record FrameSet : Type 0 where
   pub zones : List (ℕ × ℕ)

@@ -1,7 +1,8 @@
 -- How a set of page frames is kept: for each block its page frames and its bits.
 use Rattle.std.specs.Prelude.{◌≡◌, ◌==◌, ℕ, ◌-◌, ◌<◌, Bool, List, [], length, filter, nat_lt, slice_index_or}
 use Rattle.std.specs.List.{position_or_len}
-use Rattle.definitions.specs.Zones.{numbers, zone_end, zone_at, AreZones}
+use Rattle.definitions.specs.Zones.{numbers, zone_end, zone_at}
+use Rattle.definitions.specs.ZoneFacts.{AreZones}
 use Rattle.definitions.specs.FrameSets.{blocks}
 use Rattle.memory_bitmap.specs.Bits.{bit_of}
 use Rattle.memory_bitmap.specs.FrameSet.{FrameSet}

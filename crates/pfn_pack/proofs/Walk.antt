@@ -9,7 +9,8 @@ use Rattle.std.proofs.lemmas.List.Kept.{IsStrictlyIncreasing-filter}
 use Rattle.std.specs.Int.{bit_at}
 use Rattle.std.specs.List.{Contains, range_with_len}
 use Rattle.std.specs.List.Sorted.{IsStrictlyIncreasing}
-use Rattle.definitions.specs.Zones.{numbers, zone_at, first_from, InZone}
+use Rattle.definitions.specs.Zones.{numbers, zone_at, first_from}
+use Rattle.definitions.specs.ZoneFacts.{InZone}
 use Rattle.definitions.specs.FrameSets.{HoldsBits}
 use Rattle.definitions.proofs.Ascending.{first_from-some}
 use Rattle.definitions.proofs.FrameSets.{Contains-filter, Contains-from_filter}

@@ -4,7 +4,8 @@ use Rattle.std.specs.Prelude.{nat_lt, Option, Some, None, if◌then◌else◌}
 use Rattle.std.specs.List.{list_any}
 use Rattle.std.specs.Int.{bit_at}
 use Rattle.definitions.specs.FrameSets.{blocks}
-use Rattle.definitions.specs.Zones.{zone_at, InZone}
+use Rattle.definitions.specs.Zones.{zone_at}
+use Rattle.definitions.specs.ZoneFacts.{InZone}
 use Rattle.definitions.specs.NumberPages.{zero_bit}
 use Rattle.memory_bitmap.specs.FrameSet.{FrameSet}
 

@@ -2,7 +2,7 @@
 use Rattle.std.proofs.Common.{◌≡◌, ◌+◌, true, refl}
 use Rattle.definitions.specs.NumberPages.{meta_of}
 use Rattle.plain_machine.specs.Image.{maps_of, maps_read}
-use Rattle.plain_machine.specs.Laid.{page_place, map_place, is_map_write}
+use Rattle.plain_machine.specs.Image.{page_place, map_place, is_map_write}
 use Rattle.plain_machine.specs.Loader.{need}
 
 -- 509 pages and their two others fill the first map: a second one follows, and isn't read

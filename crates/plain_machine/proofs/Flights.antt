@@ -6,7 +6,7 @@ use Rattle.std.specs.List.{Contains, find, range_with_len}
 use Rattle.std.specs.Option.{is_some}
 use Rattle.definitions.proofs.ZoneNumbers.{Contains-range}
 use Rattle.plain_machine.specs.Machine.{Hardware}
-use Rattle.plain_machine.specs.Fitting.{IsTask}
+use Rattle.plain_machine.specs.Machine.{IsTask}
 use Rattle.plain_machine.specs.Refusals.{busy, busy_reply, busy_task}
 use Rattle.plain_machine.specs.Stands.{HasFlights}
 use Rattle.plain_machine.specs.State.{Flight, goes_out, comes_in, Running}

@@ -11,8 +11,9 @@ use Rattle.std.proofs.lemmas.List.Folds.{Any-from_list_any, list_any_at}
 use Rattle.std.specs.List.{All, Contains, find, range_with_len}
 use Rattle.definitions.specs.Bytes.{IsPage, zero_page}
 use Rattle.definitions.specs.Zones.{numbers, top}
-use Rattle.definitions.specs.Tables.{frame, with_entries, HasTable, table_frame_count, is_free, is_saveable, page_flags, owner_of}
-use Rattle.definitions.specs.Lists.{image_slots}
+use Rattle.definitions.specs.Tables.{frame, with_entries, HasTable, table_frame_count, is_free, is_saveable, page_flags}
+use Rattle.definitions.specs.Tables.{owner_of}
+use Rattle.definitions.specs.Tables.{image_slots}
 use Rattle.definitions.proofs.Ascending.{Contains-head, Contains-tail}
 use Rattle.definitions.proofs.ZoneNumbers.{below_top, top_is_next, Contains-range, range-bounds}
 use Rattle.definitions.proofs.TableEntries.{with_entries-none}

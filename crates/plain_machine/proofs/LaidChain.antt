@@ -6,15 +6,18 @@ use Rattle.std.proofs.lemmas.List.Folds.{list_any_at}
 use Rattle.std.proofs.lemmas.List.FromFn.{length-map-range_with_len, get_or-map-range_with_len, length-range_with_len, get_or-range_with_len}
 use Rattle.std.specs.List.{list_any, range_with_len}
 use Rattle.definitions.specs.Disk as disk
-use Rattle.definitions.specs.Slots.{block_of, IsFileMap}
+use Rattle.definitions.specs.Slots.{block_of}
+use Rattle.definitions.specs.FileMaps.{IsFileMap}
 use Rattle.definitions.specs.SwapHeader.{last_page_of}
 use Rattle.definitions.specs.SwapMap.{map_page, map_entry, map_link}
 use Rattle.definitions.proofs.FileMaps.{extent_of_slot, block_of-slot, block_of-injective}
 use Rattle.definitions.proofs.SwapMaps.{map_entry-map_page, map_link-map_page}
 use Rattle.plain_machine.specs.Machine.{Hardware, block_of_slot}
 use Rattle.plain_machine.specs.Image.{maps_of}
-use Rattle.plain_machine.specs.Laid.{page_place, map_place, laid_block, laid_entries, laid_map, laid_write, is_map_write, page_of_write}
-use Rattle.plain_machine.specs.Chain.{header_of, blocks_of, is_at_fault, map_block, entry_block, block_fault, map_fault, entry_fault, or_else, first_some, place_fault, chain, ok_unless}
+use Rattle.plain_machine.specs.Image.{page_place, map_place, laid_block, laid_entries, laid_map, laid_write}
+use Rattle.plain_machine.specs.Image.{is_map_write, page_of_write}
+use Rattle.plain_machine.specs.Chain.{header_of, blocks_of, is_at_fault, map_block, entry_block, block_fault, map_fault}
+use Rattle.plain_machine.specs.Chain.{entry_fault, or_else, first_some, place_fault, chain, ok_unless}
 use Rattle.plain_machine.specs.declared.reply.Reply.{Reply}
 use Rattle.plain_machine.specs.declared.reply.Reply.TheVariants.{NoChain, BadBlock, ChainEnds}
 

@@ -6,7 +6,7 @@ use Rattle.std.specs.List.{All, Contains}
 use Rattle.definitions.specs.Bytes.{IsPage, number_at, with_number}
 use Rattle.definitions.specs.Zones.{numbers, top}
 use Rattle.definitions.specs.Tables.{frame, entry_at, with_entry, is_saveable, page_flags, owner_of}
-use Rattle.definitions.specs.Lists.{free_frames}
+use Rattle.definitions.specs.Tables.{free_frames}
 use Rattle.definitions.proofs.Ascending.{Contains-head, Contains-tail}
 use Rattle.definitions.proofs.TableEntries.{entry_at-with_entry_same, entry_at-with_entry_other, frame-with_entry_other, length-with_entry, IsPage-with_entry}
 use Rattle.definitions.proofs.ZoneNumbers.{below_top}

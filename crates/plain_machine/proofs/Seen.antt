@@ -6,7 +6,7 @@ use Rattle.std.specs.List.{Contains, range_with_len}
 use Rattle.definitions.specs.Bytes.{with_number}
 use Rattle.definitions.specs.Zones.{numbers}
 use Rattle.definitions.specs.Tables.{frame, with_entry, with_entries}
-use Rattle.definitions.specs.Lists.{image_slots}
+use Rattle.definitions.specs.Tables.{image_slots}
 use Rattle.definitions.proofs.Ascending.{Contains-head, Contains-tail}
 use Rattle.definitions.proofs.FreeSlots.{image_slot}
 use Rattle.definitions.proofs.ZoneNumbers.{range-bounds}

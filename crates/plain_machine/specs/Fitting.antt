@@ -9,11 +9,7 @@ use Rattle.plain_machine.specs.declared.event.Actor.TheVariants as actor
 use Rattle.plain_machine.specs.declared.event.Loader.{Loader}
 use Rattle.plain_machine.specs.declared.event.Loader.TheVariants as loader
 use Rattle.plain_machine.specs.declared.event.Ranges.{Ranges}
-
--- tasks are numbered 1 to 64
-pub record IsTask (t : ℕ) : Type 0 where
-  pub some : 1 ≤ t
-  pub few : t ≤ 64
+use Rattle.plain_machine.specs.Machine.{IsTask}
 
 -- page frame numbers are below 65536, words below 512, slots below 131072
 abbrev pub IsFittingOp : TaskOp → Type 0

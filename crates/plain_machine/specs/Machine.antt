@@ -4,10 +4,12 @@ use Rattle.std.specs.Prelude.{◌≡◌, ◌≤◌, ◌<◌, ◌⊎◌, ℕ, ◌
 use Rattle.std.specs.Prelude.{nat_le, List, ◌++◌, length, filter, Option, if◌then◌else◌, Contains, slice_index_or}
 use Rattle.std.specs.List.{list_any, range_with_len, find}
 use Rattle.definitions.specs.Bytes.{IsPage}
-use Rattle.definitions.specs.Zones.{numbers, top, AreZones}
+use Rattle.definitions.specs.Zones.{numbers, top}
+use Rattle.definitions.specs.ZoneFacts.{AreZones}
 use Rattle.definitions.specs.Tables.{frame, entry_at, page_flags, owner_of, is_free, is_saveable}
-use Rattle.definitions.specs.Slots.{block_of, IsFileMap}
-use Rattle.definitions.specs.Lists.{saveable_frames, free_frames}
+use Rattle.definitions.specs.Slots.{block_of}
+use Rattle.definitions.specs.FileMaps.{IsFileMap}
+use Rattle.definitions.specs.Tables.{saveable_frames, free_frames}
 use Rattle.definitions.specs.declared.info.Ident.{Ident}
 
 -- What a machine has and keeps: zones (start, count), the number of slots (last_page + 1), the first page frames of the
@@ -176,3 +178,8 @@ pub record IsHardware (h : Hardware) : Type 0 where
 pub record IsSameMemory (h : Hardware) (m n : Memory) : Type 0 where
   pub free : unused h n ≡ unused h m
   pub used : (p : ℕ) → Contains (numbers h.zones) p → (Contains (unused h m) p → ⊥) → frame n p ≡ frame m p
+
+-- tasks are numbered 1 to 64
+pub record IsTask (t : ℕ) : Type 0 where
+  pub some : 1 ≤ t
+  pub few : t ≤ 64

@@ -2,7 +2,7 @@
 -- It has no counterpart in Linux.
 use Rattle.std.specs.Prelude.{◌≡◌, ℕ, Bool, true, false, List, Option, Some, None, ⊤}
 use Rattle.definitions.specs.Tables.{with_entries}
-use Rattle.definitions.specs.Lists.{image_slots}
+use Rattle.definitions.specs.Tables.{image_slots}
 use Rattle.plain_machine.specs.Machine.{Hardware, Memory, IsSameMemory, Fits}
 use Rattle.plain_machine.specs.State.{State, off, on, booting, hibernating, undoing, settling, waking, loading, asleep}
 use Rattle.plain_machine.specs.State.{Running, Held, nothing, sure, maybe, Flight}

@@ -13,10 +13,10 @@ use Rattle.plain_machine.specs.Machine.{Hardware, Memory, block_of_slot, raw_slo
 use Rattle.plain_machine.specs.Machine.{image_slot, is_slot_of, is_valid, Fits, unused_slots}
 use Rattle.definitions.specs.NumberPages.{meta_of}
 use Rattle.plain_machine.specs.Image.{Image, SlotPages, n_of, with_data, maps_of, pages_of, stream_of, image_of_memory}
-use Rattle.plain_machine.specs.Laid.{laid, laid_block}
+use Rattle.plain_machine.specs.Image.{laid, laid_block}
 use Rattle.plain_machine.specs.Chain.{Holds, Marked, header_of, blocks_of}
 use Rattle.plain_machine.specs.Mark.{HasMark}
-use Rattle.plain_machine.specs.Fitting.{IsTask}
+use Rattle.plain_machine.specs.Machine.{IsTask}
 use Rattle.plain_machine.specs.Loader.{left_free, loader_frame}
 use Rattle.plain_machine.specs.UsableArea.{area_block, area_fault, bad_set_fault, dump_area_fault}
 use Rattle.plain_machine.specs.State.{State, off, on, booting, hibernating, undoing, settling, waking, loading, asleep}

@@ -5,17 +5,28 @@ use Rattle.std.specs.Prelude.{take}
 use Rattle.std.specs.List.{list_any, list_all, range_with_len}
 use Rattle.std.specs.Cmp.Lexicographic.{pointwise}
 use Rattle.definitions.specs.Disk as disk
-use Rattle.definitions.specs.SwapHeader.{image_signature, sig_of, taken_back}
+use Rattle.definitions.specs.SwapHeader.{image_signature, sig_of, taken_back, IsMarked}
 use Rattle.sig_header.specs.declared.area.Area.{Area}
 use Rattle.sig_header.specs.declared.area.AreaKind.{AreaKind}
 use Rattle.sig_header.specs.declared.area.AreaKind.TheVariants.{Image, Old, Other, BadArea, Swap}
 use Rattle.sig_header.specs.AreaKind.{area_kind}
-use Rattle.plain_machine.specs.Area.{no_swap_at}
 use Rattle.plain_machine.specs.Machine.{Hardware, Memory, block_of_slot, raw_slot_entry, bad_slot}
 use Rattle.plain_machine.specs.Chain.{header_of, blocks_of}
 use Rattle.plain_machine.specs.Loader.{has}
 use Rattle.plain_machine.specs.declared.no_swap.NoSwap.{NoSwap}
 use Rattle.plain_machine.specs.declared.no_swap.NoSwap.TheVariants as no_swap
+use Rattle.sig_header.specs.declared.area.AreaFault.{AreaFault}
+use Rattle.sig_header.specs.declared.area.AreaFault.TheVariants.{Version, BadCount, LastZero, BadEntry}
+
+-- Which swap areas can be used.
+-- In Linux: read_swap_header, mm/swapfile.c.
+
+-- the reason that a version 1 area's fault is
+abbrev pub no_swap_at : AreaFault → NoSwap
+no_swap_at (Version v) = no_swap.Version v
+no_swap_at (BadCount n) = no_swap.BadCount n
+no_swap_at LastZero = no_swap.LastZero
+no_swap_at (BadEntry slot) = no_swap.BadEntry slot
 
 -- block(0), taken back where it is marked
 abbrev pub area_block : Hardware → disk.DiskImage → List ℕ
@@ -79,3 +90,22 @@ bad_slots_in (Image mark) = []
 bad_slots_in Old = []
 bad_slots_in (Other sig) = []
 bad_slots_in (BadArea why) = []
+
+-- The premises of the headline, over what a disk tells.
+
+-- [honest disk] The disk tells its content and starts with one image: a promise takes it as a disk that is settled on
+-- it. That it keeps the rules of disks is the contract of its calls.
+
+-- [sole writer] Nobody else writes the disk: what it tells after one call it tells before the next. It stands in the
+-- program's type, which holds the disk by an exclusive reference.
+
+-- [one hardware] One hardware, with its signature, serves the whole script: `Step` and `Run` take it once.
+
+-- [telling ends] The source, out and note tell their bytes: each promise on them is for ends that do.
+
+-- [memory] The status isn't 6: `Memory` of the program's `Status`.
+
+-- [no marked original] No marked block(0) that is handed in has the signature of an image as its original signature:
+-- taken back it isn't marked.
+abbrev pub HasOriginal : Hardware → disk.DiskImage → Type 0
+HasOriginal h v = IsMarked (area_block h v) → ⊥

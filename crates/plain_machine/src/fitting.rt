@@ -65,7 +65,8 @@ impl Ranges {
 }
 
 ghost use Rattle.std.specs.Prelude.{◌<◌, ◌↔◌, ℕ, IsTrue};
-ghost use Rattle.plain_machine.specs.Fitting.{AreCalls, IsTask, IsRange};
+ghost use Rattle.plain_machine.specs.Fitting.{AreCalls, IsRange};
+ghost use Rattle.plain_machine.specs.Machine.{IsTask};
 
 fn is_range(range: &(u32, u32)) -> bool
     ensures { IsTrue result ↔ IsRange range.now }

@@ -38,7 +38,7 @@ pub enum NoSwap {
 
 impl From<AreaFault> for NoSwap {
     ghost use Rattle.std.specs.Prelude.{◌≡◌};
-    ghost use Rattle.plain_machine.specs.Area.{no_swap_at};
+    ghost use Rattle.plain_machine.specs.UsableArea.{no_swap_at};
 
     ghost from_gives = { λ why result. result ≡ no_swap_at why };
 

@@ -5,9 +5,10 @@
 ghost use Rattle.std.specs.Prelude.{◌≡◌, ℕ, ◌+◌, ◌-◌, ◌/◌, ◌<◌, ◌≤◌, ◌↔◌, ◌++◌, IsOk, IsErr, IfErr, filter, take, List};
 ghost use Rattle.std.specs.Prelude.{length};
 ghost use Rattle.std.specs.List.{Contains, range_with_len};
-ghost use Rattle.definitions.specs.Zones.{numbers, top, IsZone, zone_end};
+ghost use Rattle.definitions.specs.Zones.{numbers, top, zone_end};
+ghost use Rattle.definitions.specs.ZoneFacts.{IsZone};
 ghost use Rattle.definitions.specs.Tables.{HasTable};
-ghost use Rattle.definitions.specs.Lists.{free_frames};
+ghost use Rattle.definitions.specs.Tables.{free_frames};
 ghost use Rattle.saveable.specs.Tests.{free_by_entry};
 
 use memory_bitmap::Bitmap;

@@ -1,8 +1,8 @@
 -- Memories that are the same have the same tables.
 use Rattle.std.proofs.Common.{◌≡◌, ◌<◌, ℕ, eqb, ap, ◌∙◌, arith}
 use Rattle.std.specs.List.{range_with_len}
-use Rattle.definitions.specs.Lists.{free_slots}
-use Rattle.definitions.specs.Slots.{runs_of}
+use Rattle.definitions.specs.Tables.{free_slots}
+use Rattle.definitions.specs.FreeRuns.{runs_of}
 use Rattle.definitions.specs.Tables.{owner_of, page_flags, is_saveable}
 use Rattle.definitions.proofs.ZoneNumbers.{range-bounds}
 use Rattle.plain_machine.specs.Machine.{Hardware, Memory, raw_slot_entry, is_well_formed, is_slot_entry}

@@ -8,20 +8,20 @@ use Rattle.definitions.specs.Bytes.{IsPage}
 use Rattle.definitions.specs.Disk.{DiskImage}
 use Rattle.definitions.specs.InfoPage.{IsInfo}
 use Rattle.definitions.specs.NumberPages.{meta_of, marked_numbers}
-use Rattle.definitions.specs.Lists.{saveable_frames}
+use Rattle.definitions.specs.Tables.{saveable_frames}
 use Rattle.definitions.specs.Tables.{frame, entry_at, page_flags, is_saveable}
 use Rattle.definitions.specs.Zones.{numbers}
 use Rattle.definitions.proofs.FrameSets.{Contains-from_filter}
 use Rattle.definitions.proofs.ZoneNumbers.{below_top}
 use Rattle.plain_machine.specs.Machine.{Hardware, Memory, IsHardware, Fits, block_of_slot, saveable, unused_slots}
 use Rattle.plain_machine.specs.Image.{Image, info_of_image, n_of, d_of, pages_of, maps_of, numbers_of, without_data, with_data, has_data, stream_of, hibernate_steps}
-use Rattle.plain_machine.specs.Laid.{laid, page_of_write}
+use Rattle.plain_machine.specs.Image.{laid, page_of_write}
 use Rattle.plain_machine.specs.Stands.{IsAccepted, Reads, laid_writes}
 use Rattle.plain_machine.specs.State.{Running}
 use Rattle.image_write.proofs.Done.{AreSlots, AreDone, write_at, place_of, block_of_write, place_below}
 use Rattle.image_write.proofs.Heads.{length-stream_pages, IsPage-stream_pages}
 use Rattle.pfn_pack.proofs.Filling.{length-marked}
-use Rattle.protocol_laws.specs.Steps.{write_of_step}
+use Rattle.protocol_laws.specs.Rows.{write_of_step}
 use Rattle.protocol_laws.proofs.Places.{IsFree, free_place, unused_slots-ascend}
 
 -- The stream.

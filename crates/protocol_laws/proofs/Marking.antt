@@ -16,7 +16,7 @@ use Rattle.sig_header.specs.AreaKind.{area_kind}
 use Rattle.plain_machine.specs.Machine.{Hardware, block_of_slot, slot_entry, unused_slots}
 use Rattle.plain_machine.specs.Chain.{header_of, blocks_of, Holds, chain, map_block, entry_block}
 use Rattle.plain_machine.specs.Image.{Image, stream_of, maps_of, hibernate_steps}
-use Rattle.plain_machine.specs.Laid.{laid_entries, map_place, page_place}
+use Rattle.plain_machine.specs.Image.{laid_entries, map_place, page_place}
 use Rattle.plain_machine.specs.Shows.{WorldView}
 use Rattle.plain_machine.specs.Mark.{mark_flags, HasMark}
 use Rattle.plain_machine.proofs.BadSlots.{fits_area}

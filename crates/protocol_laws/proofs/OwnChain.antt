@@ -7,7 +7,8 @@ use Rattle.std.proofs.lemmas.List.FromFn.{length-map-range_with_len, get_or-map-
 use Rattle.definitions.specs.Disk as disk
 use Rattle.definitions.specs.SwapHeader.{flags_of, hw_sig_of, sig_of, image_signature}
 use Rattle.plain_machine.specs.Machine.{Hardware}
-use Rattle.plain_machine.specs.Chain.{header_of, Holds, chain, map_fault, entry_fault, place_fault, or_else, first_some, ok_unless, entry_block}
+use Rattle.plain_machine.specs.Chain.{header_of, Holds, chain, map_fault, entry_fault, place_fault, or_else, first_some}
+use Rattle.plain_machine.specs.Chain.{ok_unless, entry_block}
 use Rattle.plain_machine.specs.Image.{Image, pages_of, maps_read}
 use Rattle.plain_machine.specs.Stands.{IsOwn}
 use Rattle.plain_machine.specs.Trace.{is_set, first_map, header_cause, taken_back_cause, Place, map_at, page_at, place, place_cause}

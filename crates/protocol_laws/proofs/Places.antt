@@ -15,7 +15,7 @@ use Rattle.sig_header.specs.declared.area.Area.{Area}
 use Rattle.sig_header.specs.declared.area.AreaKind.{AreaKind}
 use Rattle.sig_header.specs.declared.area.AreaKind.TheVariants.{Swap, Image as Marks, Old, Other, BadArea}
 use Rattle.sig_header.specs.AreaKind.{area_kind}
-use Rattle.plain_machine.specs.Area.{no_swap_at}
+use Rattle.plain_machine.specs.UsableArea.{no_swap_at}
 use Rattle.plain_machine.specs.Machine.{Hardware, Memory, IsHardware, Fits, block_of_slot, slot_entry, raw_slot_entry, unused_slots, is_slot_entry, image_slot, bad_slot}
 use Rattle.plain_machine.specs.Chain.{blocks_of}
 use Rattle.plain_machine.specs.UsableArea.{area_block, area_fault, kind_or_fit_fault, fit_fault}

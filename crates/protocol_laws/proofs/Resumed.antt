@@ -1,7 +1,7 @@
 -- The end of a resume.
 use Rattle.std.proofs.Common.{◌≡◌, ℕ, ◌+◌, ◌/◌, ◌<◌, inl, inr, None, refl, sym, ap, ◌∙◌, subst, arith, Contains}
 use Rattle.definitions.specs.Disk as disk
-use Rattle.definitions.specs.Lists.{saveable_frames}
+use Rattle.definitions.specs.Tables.{saveable_frames}
 use Rattle.definitions.specs.SwapHeader.{IsMarked}
 use Rattle.definitions.specs.Tables.{frame, entry_at, page_flags, is_saveable}
 use Rattle.definitions.specs.Zones.{numbers}

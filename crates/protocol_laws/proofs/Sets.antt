@@ -3,7 +3,7 @@ use Rattle.std.proofs.Common.{◌≡◌, ◌≢◌, ℕ, ◌+◌, ◌/◌, ◌<�
 use Rattle.std.specs.List.{range_with_len}
 use Rattle.std.proofs.lemmas.Bool.{cases_Bool, eqb-true, cond-false, false≢true}
 use Rattle.std.proofs.lemmas.List.{length-map}
-use Rattle.definitions.specs.Lists.{saveable_frames, free_frames, free_slots}
+use Rattle.definitions.specs.Tables.{saveable_frames, free_frames, free_slots}
 use Rattle.definitions.specs.NumberPages.{meta_of, marked_numbers}
 use Rattle.definitions.specs.Tables.{frame, entry_at, page_flags, is_saveable}
 use Rattle.definitions.specs.Zones.{numbers}

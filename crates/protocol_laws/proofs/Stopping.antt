@@ -9,7 +9,8 @@ use Rattle.definitions.specs.NumberPages.{meta_of, end_value}
 use Rattle.definitions.specs.SwapHeader.{flags_of, hw_sig_of, sig_of, image_signature}
 use Rattle.definitions.specs.declared.info.Field.{Field}
 use Rattle.plain_machine.specs.Machine.{Hardware, Memory, is_valid, valid_count, tables_fault}
-use Rattle.plain_machine.specs.Chain.{header_of, or_else, first_some, is_at_fault, map_block, entry_block, block_fault, map_fault}
+use Rattle.plain_machine.specs.Chain.{header_of, or_else, first_some, is_at_fault, map_block, entry_block, block_fault}
+use Rattle.plain_machine.specs.Chain.{map_fault}
 use Rattle.plain_machine.specs.Loader.{left_free, need}
 use Rattle.plain_machine.specs.Trace.{Place, map_at, page_at, place, place_count, is_set, first_map, info_in, format_in, meta_in, d_in, number_in, number_word, are_bad_counts, identity_cause, memory_cause, counts_cause, info_cause, number_cause, end_cause, listed_cause, numbers_cause, room_cause, place_cause, read_cause, want_cause, content_cause, next_cause, header_cause, taken_back_cause, tables_cause}
 use Rattle.plain_machine.specs.UsableArea.{dump_area_fault}

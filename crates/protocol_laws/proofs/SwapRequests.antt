@@ -17,7 +17,7 @@ use Rattle.sig_header.specs.declared.area.AreaKind.{AreaKind}
 use Rattle.sig_header.specs.declared.area.AreaKind.TheVariants.{Image as Marks, Old, Other, BadArea, Swap}
 use Rattle.image_laws.proofs.NumberWords.{has_from_any}
 use Rattle.plain_machine.specs.Chain.{or_else}
-use Rattle.plain_machine.specs.Fitting.{IsTask}
+use Rattle.plain_machine.specs.Machine.{IsTask}
 use Rattle.plain_machine.specs.Loader.{has}
 use Rattle.plain_machine.specs.Machine.{Hardware, Memory, IsHardware, Fits, IsOfTable, IsTableFrame, is_valid, frame_entry, raw_slot_entry, slot_entry, image_slot, bad_slot, is_slot_entry, is_slot_of}
 use Rattle.plain_machine.specs.Refusals.{refused_if, refusal, task_refusal, op_refusal, not_owner, free_slots_of, owns_slot, closed, is_held}

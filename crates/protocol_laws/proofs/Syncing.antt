@@ -15,7 +15,7 @@ use Rattle.sig_header.specs.declared.area.AreaKind.TheVariants.{Image as Marks, 
 use Rattle.plain_machine.specs.Chain.{Marked, header_of, blocks_of}
 use Rattle.plain_machine.specs.UsableArea.{area_fault, area_block, kind_fault, kind_or_fit_fault}
 use Rattle.plain_machine.specs.Image.{Image, stream_of, hibernate_steps}
-use Rattle.plain_machine.specs.Laid.{laid}
+use Rattle.plain_machine.specs.Image.{laid}
 use Rattle.plain_machine.specs.Shows.{WorldView}
 use Rattle.plain_machine.specs.Stands.{Stands, IsBeforeCall, IsHeld, HaveSlotPages, Reads, laid_writes}
 use Rattle.plain_machine.specs.State.{hibernating, Running, nothing}

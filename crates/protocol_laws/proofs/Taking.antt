@@ -3,7 +3,7 @@ use Rattle.std.proofs.Common.{◌≡◌, ℕ, ◌+◌, ◌/◌, ◌<◌, ◌≤�
 use Rattle.byteorder.specs.Endian.{little_bytes}
 use Rattle.std.proofs.lemmas.Bool.{cases_eq, cases_lt}
 use Rattle.definitions.specs.Bytes.{IsPage}
-use Rattle.definitions.specs.Lists.{image_slots}
+use Rattle.definitions.specs.Tables.{image_slots}
 use Rattle.definitions.specs.Tables.{frame, HasTable, table_frame_count}
 use Rattle.definitions.proofs.Ascending.{Contains-nil, Contains-head, Contains-tail, Contains-cons_cases}
 use Rattle.definitions.proofs.FreeSlots.{Contains-image_slots, image_slot}

@@ -9,14 +9,14 @@ use Rattle.definitions.proofs.Ascending.{Contains-nil}
 use Rattle.definitions.proofs.DiskLaws.{IsImage-as_it_reads, IsImage-after_sync, IsImage-settled, length-as_it_reads}
 use Rattle.plain_machine.specs.Machine.{Hardware, block_of_slot, unused_slots}
 use Rattle.plain_machine.specs.Image.{Image, stream_of, hibernate_steps}
-use Rattle.plain_machine.specs.Laid.{laid}
+use Rattle.plain_machine.specs.Image.{laid}
 use Rattle.image_write.proofs.Done.{write_at}
 use Rattle.plain_machine.specs.Stands.{laid_writes, laid_blocks}
 use Rattle.plain_machine.specs.State.{Running}
 use Rattle.plain_machine.specs.Calls.{HibernationCall, writes_page, syncs_pages, reads_header, writes_mark, syncs_mark, hibernation_call}
 use Rattle.plain_machine.proofs.Calls.{IsAt, is_at, call_writes, call_marks}
 use Rattle.protocol_laws.specs.Rows.{LeavesBlock, block_of_call, block_of_step}
-use Rattle.protocol_laws.specs.Steps.{write_of_step}
+use Rattle.protocol_laws.specs.Rows.{write_of_step}
 use Rattle.protocol_laws.proofs.Laid.{count_of, count_is}
 
 pub block_same : (b : ℕ) (c : disk.Content) → LeavesBlock b c c

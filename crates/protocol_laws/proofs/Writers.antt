@@ -15,7 +15,7 @@ use Rattle.image_write.proofs.Done.{write_at, block_of_write}
 use Rattle.image_write.proofs.Places.{page_write, page_is_one}
 use Rattle.plain_machine.specs.Machine.{Hardware, Memory, IsOfTable, IsSameMemory, unused_slots, raw_slot_entry, block_of_slot}
 use Rattle.plain_machine.specs.Image.{Image, stream_of, pages_of, maps_of}
-use Rattle.plain_machine.specs.Laid.{laid, laid_block, laid_write, is_map_write, page_of_write, page_place, map_place}
+use Rattle.plain_machine.specs.Image.{laid, laid_block, laid_write, is_map_write, page_of_write, page_place, map_place}
 use Rattle.plain_machine.specs.Shows.{ShowsHeld, seen_frames}
 use Rattle.plain_machine.specs.Stands.{laid_writes, laid_blocks}
 use Rattle.plain_machine.specs.State.{Running}

@@ -15,7 +15,8 @@ use Rattle.plain_machine.specs.State.{off, on, hibernating, undoing, asleep, Run
 use Rattle.plain_machine.specs.declared.event.Event.TheVariants.{Hibernate}
 use Rattle.plain_machine.specs.declared.reply.UndoCall.TheVariants as undo
 use Rattle.protocol_laws.specs.Rows.{HasImage}
-use Rattle.protocol_laws.specs.Steps.{write_of_step, marked_header, IsOverDisk, ShowsCopies}
+use Rattle.protocol_laws.specs.Steps.{marked_header, IsOverDisk, ShowsCopies}
+use Rattle.protocol_laws.specs.Rows.{write_of_step}
 
 -- A hibernation that isn't refused has its image, its area and its slots,
 abbrev pub IsAcceptedUnlessRefused : Type 0

@@ -1,7 +1,7 @@
 -- What memories that are the same have in common besides their pages.
 use Rattle.std.specs.Prelude.{◌≡◌, ◌<◌, ℕ, All, length}
 use Rattle.definitions.specs.Bytes.{IsPage}
-use Rattle.definitions.specs.Slots.{free_runs}
+use Rattle.definitions.specs.FreeRuns.{free_runs}
 use Rattle.definitions.specs.Zones.{top}
 use Rattle.plain_machine.specs.Machine.{Hardware, Memory, IsHardware, Fits, IsSameMemory, raw_slot_entry}
 

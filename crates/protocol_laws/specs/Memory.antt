@@ -2,7 +2,7 @@
 -- it has from the page frames are those of the memory that they show (swsusp_save and alloc_swapdev_block,
 -- kernel/power/snapshot.c and swap.c).
 use Rattle.std.specs.Prelude.{◌≡◌, ◌≢◌, ◌<◌, ℕ, List, Contains, Option}
-use Rattle.definitions.specs.Lists.{free_slots}
+use Rattle.definitions.specs.Tables.{free_slots}
 use Rattle.definitions.specs.Tables.{frame}
 use Rattle.plain_machine.specs.Machine.{Hardware, Memory, IsHardware, IsSameMemory, IsOfTable, Fits, saveable, unused}
 use Rattle.plain_machine.specs.Machine.{unused_slots, raw_slot_entry, block_of_slot, image_slot}

@@ -1,7 +1,7 @@
 -- What an event makes of something that stands for a state of the plain machine over a disk: for each state that it
 -- stood for there is one that the plain machine goes on to.
 use Rattle.std.specs.Prelude.{◌≡◌, ◌⊎◌, ◌≤◌, ◌<◌, ◌+◌, ◌*◌, ◌==◌, ℕ, zero, Bool, true, false, List, [], ◌∷◌, length}
-use Rattle.std.specs.Prelude.{All, flat_map, Contains, slice_index_or, Option, Some, None, ⊤, if◌then◌else◌}
+use Rattle.std.specs.Prelude.{All, flat_map, Contains, slice_index_or, Option, Some, None, ⊤, if◌then◌else◌, map}
 use Rattle.std.specs.List.{range_with_len}
 use Rattle.definitions.specs.Disk as disk
 use Rattle.definitions.specs.SwapHeader.{taken_back}
@@ -22,7 +22,10 @@ use Rattle.plain_machine.specs.declared.event.Event.TheVariants as event
 use Rattle.plain_machine.specs.declared.reply.Reply.{Reply}
 use Rattle.plain_machine.specs.declared.reply.Reply.TheVariants as reply
 use Rattle.plain_machine.specs.declared.reply.Left.TheVariants.{Gone}
-use Rattle.protocol_laws.specs.Steps.{write_of_step}
+
+-- the write of step k + 1 of the page and map writes: a block, and what is written there
+abbrev pub write_of_step : Hardware → Running → Image → ℕ → ℕ × List ℕ
+write_of_step h a i k = slice_index_or (laid_writes h a i) k (0, [])
 
 -- Two disks have the same swap area: as many blocks, and the same header block, taken back where it is marked, but for
 -- bytes 4056 to 4085.

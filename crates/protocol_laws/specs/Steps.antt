@@ -1,5 +1,5 @@
 -- What a hibernation's calls of the disk write.
-use Rattle.std.specs.Prelude.{◌≡◌, ◌<◌, ◌^◌, ℕ, List, [], map, slice_index_or}
+use Rattle.std.specs.Prelude.{◌≡◌, ◌<◌, ◌^◌, ℕ, List, map}
 use Rattle.definitions.specs.Disk.{Content, IsContent}
 use Rattle.definitions.specs.InfoPage.{IsInfo}
 use Rattle.definitions.specs.SwapHeader.{marked}
@@ -8,12 +8,8 @@ use Rattle.plain_machine.specs.Machine.{Hardware, IsHardware}
 use Rattle.plain_machine.specs.Image.{Image, info_of_image}
 use Rattle.plain_machine.specs.Mark.{mark_flags}
 use Rattle.plain_machine.specs.Shows.{WorldView, ShowsRunning}
-use Rattle.plain_machine.specs.Stands.{NamesOnly, laid_writes, laid_blocks, first_map_block}
+use Rattle.plain_machine.specs.Stands.{NamesOnly, laid_blocks, first_map_block}
 use Rattle.plain_machine.specs.State.{Running}
-
--- the write of step k + 1 of the page and map writes: a block, and what is written there
-abbrev pub write_of_step : Hardware → Running → Image → ℕ → ℕ × List ℕ
-write_of_step h a i k = slice_index_or (laid_writes h a i) k (0, [])
 
 -- the header block with the mark of this image, whose first map lies in the least free slot
 abbrev pub marked_header : Hardware → Running → Image → List ℕ → List ℕ

@@ -9,7 +9,8 @@ use Rattle.plain_machine.specs.Image.{Image, info_of_image}
 use Rattle.plain_machine.specs.Shows.{WorldView}
 use Rattle.plain_machine.specs.Stands.{IsAccepted}
 use Rattle.plain_machine.specs.State.{Running}
-use Rattle.protocol_laws.specs.Steps.{write_of_step, ShowsCopies}
+use Rattle.protocol_laws.specs.Steps.{ShowsCopies}
+use Rattle.protocol_laws.specs.Rows.{write_of_step}
 use Rattle.protocol_laws.specs.Slots.{IsMemoryOf, HasSets}
 
 -- The writer of the image of a hibernation that has made k writes.

@@ -3,9 +3,10 @@ use Rattle.std.proofs.Common.{◌≡◌, ◌≢◌, ℕ, zero, suc, ◌+◌, ◌
 use Rattle.std.proofs.lemmas.Bool.{cases_Bool, and_parts, eqb-true}
 use Rattle.definitions.specs.Bytes.{IsPage}
 use Rattle.std.specs.List.Sorted.{IsStrictlyIncreasing}
-use Rattle.definitions.specs.Lists.{saveable_frames}
+use Rattle.definitions.specs.Tables.{saveable_frames}
 use Rattle.definitions.specs.Tables.{HasTable, entry_at, page_flags, is_saveable, with_entries}
-use Rattle.definitions.specs.Zones.{numbers, top, AreZones}
+use Rattle.definitions.specs.Zones.{numbers, top}
+use Rattle.definitions.specs.ZoneFacts.{AreZones}
 use Rattle.definitions.proofs.FrameSets.{Contains-from_filter}
 use Rattle.definitions.proofs.Ascending.{Contains-head, Contains-tail, Contains-nil, Contains-cons_cases, IsStrictlyIncreasing-tail, head_below}
 use Rattle.definitions.proofs.TableEntries.{entry_at-with_entries_other, entry_at-with_entries_same}

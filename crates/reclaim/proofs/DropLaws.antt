@@ -6,7 +6,7 @@ use Rattle.std.proofs.lemmas.List.{append-nil, take_all, take-append-le, take-ap
 use Rattle.std.proofs.lemmas.List.Elements.{Contains-append_left}
 use Rattle.std.proofs.Math.Seq.{take-append-add}
 use Rattle.definitions.specs.Bytes.{IsPage}
-use Rattle.definitions.specs.Lists.{saveable_frames}
+use Rattle.definitions.specs.Tables.{saveable_frames}
 use Rattle.definitions.specs.Tables.{HasTable, page_flags, with_entry, with_entries}
 use Rattle.definitions.proofs.Ascending.{Contains-head, Contains-tail}
 use Rattle.definitions.proofs.FrameSets.{Contains-from_filter}

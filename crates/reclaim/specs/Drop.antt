@@ -3,7 +3,7 @@
 -- (hibernate_preallocate_memory, kernel/power/snapshot.c).
 use Rattle.std.specs.Prelude.{ℕ, ◌+◌, ◌-◌, ◌==◌, ◌&&◌, Bool, not, nat_le, nat_lt, List, length, filter, take}
 use Rattle.std.specs.List.{list_any}
-use Rattle.definitions.specs.Lists.{saveable_frames}
+use Rattle.definitions.specs.Tables.{saveable_frames}
 use Rattle.definitions.specs.Tables.{entry_at, page_flags}
 use Rattle.definitions.specs.Zones.{numbers}
 

@@ -4,9 +4,10 @@
 
 ghost use Rattle.std.specs.Prelude.{◌≡◌, ℕ, ◌+◌, ◌-◌, ◌/◌, ◌<◌, ◌≤◌, ◌↔◌, ◌==◌, IsTrue, filter, take, List, length};
 ghost use Rattle.std.specs.List.{Contains, range_with_len};
-ghost use Rattle.definitions.specs.Zones.{numbers, top, IsZone, zone_end};
+ghost use Rattle.definitions.specs.Zones.{numbers, top, zone_end};
+ghost use Rattle.definitions.specs.ZoneFacts.{IsZone};
 ghost use Rattle.definitions.specs.Tables.{HasTable, entry_at, page_flags, with_entries};
-ghost use Rattle.definitions.specs.Lists.{saveable_frames};
+ghost use Rattle.definitions.specs.Tables.{saveable_frames};
 ghost use Rattle.reclaim.specs.Drop.{is_in_runs, may_drop, droppable_frames, dropped_frames};
 ghost use Rattle.saveable.specs.Tests.{saveable_by_entry};
 

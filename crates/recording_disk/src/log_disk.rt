@@ -38,8 +38,10 @@ impl LogDisk {
     ghost use Rattle.definitions.specs.Disk.{DiskImage, Restarts, settled};
     ghost use Rattle.recording_disk.specs.Moments.{held_at};
     ghost use Rattle.sector_disk.specs.Sectors.{IsPicked};
-    ghost use Rattle.recording_disk.specs.LogDisk.{IsNewLogDisk, IsFull, content, moment, left_since, first_sectors, recorded};
-    ghost use Rattle.recording_disk.specs.LogDisk.{durable_sectors, live_sectors, KeepsArmed, IsOrdered, IsRecordedCall};
+    ghost use Rattle.recording_disk.specs.LogDisk.{IsNewLogDisk, IsFull, content, moment, left_since, first_sectors};
+    ghost use Rattle.recording_disk.specs.LogDisk.{recorded};
+    ghost use Rattle.recording_disk.specs.LogDisk.{durable_sectors, live_sectors, KeepsArmed, IsOrdered};
+    ghost use Rattle.recording_disk.specs.LogDisk.{IsRecordedCall};
     ghost use Rattle.recording_disk.specs.LogDisk.{LeavesAll};
     ghost use Rattle.sector_disk.specs.declared.orders.Order.TheVariants as order;
 
@@ -120,8 +122,10 @@ impl Disk for LogDisk {
     ghost use Rattle.std.specs.Prelude.{ℕ, ◌+◌, ◌<◌, ◌↔◌, ◌⊎◌, [], Some, OnOk, OnErr, IsErr, true, length, refl};
     ghost use Rattle.std.specs.List.{push};
     ghost use Rattle.definitions.specs.Disk.{block, Writes, FailsToWrite, Syncs, Restarts, Elapses};
-    ghost use Rattle.recording_disk.specs.LogDisk.{orders_got, block_count, fault_count, call_count, content, moment, left_since};
-    ghost use Rattle.recording_disk.specs.LogDisk.{first_sectors, recorded, durable_sectors, live_sectors, IsArmed, armed_pick, KeepsArmed};
+    ghost use Rattle.recording_disk.specs.LogDisk.{orders_got, block_count, fault_count, call_count, content, moment};
+    ghost use Rattle.recording_disk.specs.LogDisk.{left_since};
+    ghost use Rattle.recording_disk.specs.LogDisk.{first_sectors, recorded, durable_sectors, live_sectors, IsArmed};
+    ghost use Rattle.recording_disk.specs.LogDisk.{armed_pick, KeepsArmed};
     ghost use Rattle.recording_disk.specs.LogDisk.{IsRecordedCall, IsOrdered, IsFull, LeavesAll};
     ghost use Rattle.recording_disk.specs.Moments.{WasLeft};
     ghost use Rattle.sector_disk.specs.RecordedLaws.{held_whole};

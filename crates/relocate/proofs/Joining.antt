@@ -3,7 +3,8 @@ use Rattle.std.proofs.Common.{◌≡◌, ◌≢◌, ℕ, ◌+◌, ◌-◌, ◌<�
 use Rattle.std.proofs.lemmas.Bool.{cases_eq, cases_lt, cases_Bool, cond-true, cond-false, eq-eqb, ne_eqb, eqb-true, eqb-false, and_parts, or_parts}
 use Rattle.std.proofs.lemmas.List.{get_or-drop, length-take-le, take_more, drop_more, get_or-set_same, get_or-set_other}
 use Rattle.definitions.specs.Moves.{Move, Entry, touches, goes_up, goes_down, joined, join_all}
-use Rattle.definitions.specs.Tables.{frame, with_frame, run_at, with_run}
+use Rattle.definitions.specs.Tables.{frame, with_frame}
+use Rattle.definitions.specs.FrameRuns.{run_at, with_run}
 use Rattle.definitions.proofs.FrameLists.{length-with_run, frame-with_run_below, frame-with_run_above, with_run_none, with_run_push, with_run_cons}
 use Rattle.relocate.specs.Performing.{performed}
 use Rattle.relocate.proofs.Emitting.{SparesAll, InOrder, LieBelow, origin, before_move}

@@ -1,7 +1,7 @@
 -- Entries of a restore list performed one after another.
 use Rattle.std.specs.Prelude.{ℕ, ◌==◌, not, filter, List, [], ◌∷◌}
 use Rattle.definitions.specs.Moves.{Move, Entry}
-use Rattle.definitions.specs.Tables.{run_at, with_run}
+use Rattle.definitions.specs.FrameRuns.{run_at, with_run}
 
 -- memory after these entries: each moves its run of pages, read before any of them is written
 abbrev pub performed : List (List ℕ) → List Entry → List (List ℕ)

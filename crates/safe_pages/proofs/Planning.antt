@@ -9,7 +9,8 @@ use Rattle.std.proofs.lemmas.Slice.Zip.{firsts-zip, seconds-zip, length-zip}
 use Rattle.std.specs.List.{Contains, IsDistinct, list_any, zip}
 use Rattle.std.specs.List.Sorted.{IsStrictlyIncreasing}
 use Rattle.definitions.specs.Moves.{Move}
-use Rattle.definitions.specs.Zones.{numbers, AreZones}
+use Rattle.definitions.specs.Zones.{numbers}
+use Rattle.definitions.specs.ZoneFacts.{AreZones}
 use Rattle.definitions.proofs.Ascending.{same_members}
 use Rattle.definitions.proofs.FrameSets.{Contains-filter, Contains-from_filter}
 use Rattle.definitions.proofs.ZoneNumbers.{IsStrictlyIncreasing-numbers}

@@ -1,6 +1,7 @@
 -- How a placement is kept: in vectors with room for every plan over its zones.
 use Rattle.std.specs.Prelude.{◌≡◌, ◌≤◌, true, length, vec_capacity}
-use Rattle.definitions.specs.Zones.{numbers, AreZones}
+use Rattle.definitions.specs.Zones.{numbers}
+use Rattle.definitions.specs.ZoneFacts.{AreZones}
 use Rattle.safe_pages.specs.Placed.{Placed, IsPlacement}
 use Rattle.safe_pages.specs.Plan.{list_frames_for}
 use Rattle.safe_pages.specs.declared.Placement.TheInside.{Inside}

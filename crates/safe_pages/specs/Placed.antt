@@ -3,7 +3,8 @@
 use Rattle.std.specs.Prelude.{◌≤◌, ◌*◌, ℕ, Bool, true, List, length, map, nat_eq, All, Contains}
 use Rattle.std.specs.List.{IsDistinct}
 use Rattle.definitions.specs.Moves.{Move}
-use Rattle.definitions.specs.Zones.{numbers, AreZones}
+use Rattle.definitions.specs.Zones.{numbers}
+use Rattle.definitions.specs.ZoneFacts.{AreZones}
 
 -- A move takes the page that waits in its source to the original that is its target. Once the placement is ready, the
 -- other fields tell it.

@@ -3,9 +3,10 @@
 
 ghost use Rattle.std.specs.Prelude.{◌≡◌, ℕ, ◌+◌, ◌/◌, ◌<◌, ◌≤◌, ◌↔◌, ◌++◌, IsTrue, filter, List, length};
 ghost use Rattle.std.specs.List.{Contains, range_with_len};
-ghost use Rattle.definitions.specs.Zones.{numbers, top, IsZone, zone_end};
+ghost use Rattle.definitions.specs.Zones.{numbers, top, zone_end};
+ghost use Rattle.definitions.specs.ZoneFacts.{IsZone};
 ghost use Rattle.definitions.specs.Tables.{HasTable, entry_at, is_saveable};
-ghost use Rattle.definitions.specs.Lists.{saveable_frames, free_frames};
+ghost use Rattle.definitions.specs.Tables.{saveable_frames, free_frames};
 ghost use Rattle.page_states.specs.Flags.{bits_of};
 ghost use Rattle.saveable.specs.Tests.{saveable_by_entry, free_by_entry};
 

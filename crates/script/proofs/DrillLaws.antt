@@ -10,7 +10,8 @@ use Rattle.std.proofs.lemmas.List.Concat.{length-flat_map}
 use Rattle.std.proofs.lemmas.List.Sums.{sum_by-le}
 use Rattle.std.proofs.lemmas.Grind.{flat_map-append}
 use Rattle.page_core.specs.declared.format.Format.TheVariants.{Plain}
-use Rattle.plain_machine.specs.Fitting.{AreRanges, IsFitting, IsFittingOp, IsRange, IsTask}
+use Rattle.plain_machine.specs.Fitting.{AreRanges, IsFitting, IsFittingOp, IsRange}
+use Rattle.plain_machine.specs.Machine.{IsTask}
 use Rattle.plain_machine.specs.Image.{maps_of, maps_read}
 use Rattle.plain_machine.specs.declared.event.Event.{Event}
 use Rattle.plain_machine.specs.declared.event.Event.TheVariants as event

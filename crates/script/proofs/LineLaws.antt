@@ -11,7 +11,7 @@ use Rattle.std.proofs.lemmas.List.Folds.{list_all-append, list_all_more}
 use Rattle.std.proofs.lemmas.List.Sums.{count_by-le-length, list_all-from_AllPass}
 use Rattle.std.proofs.lemmas.List.Splits.{slice_split-cons_no, slice_split_at, slice_split_none, length-slice_split}
 use Rattle.script.specs.Grammar.{first_line, is_printable, lines_of}
-use Rattle.script.specs.Words.{is_word, words_of}
+use Rattle.script.specs.Shapes.{is_word, words_of}
 
 -- a text has a first line
 lines_more : (text : List ℕ) → lines_of text ≡ first_line text ∷ drop 1 (lines_of text)

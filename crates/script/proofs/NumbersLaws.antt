@@ -7,7 +7,7 @@ use denote.Ref.{Bor}
 use Rattle.std.proofs.lemmas.Bool.Decides.{nat_tests}
 use Rattle.script.specs.declared.fault.FaultKind.{FaultKind}
 use Rattle.script.specs.declared.words.Span.{Span}
-use Rattle.script.specs.Words.{◌>>=◌, texts, number_in, number_of, in_span, numbers_in, all_numbers, AllWithin}
+use Rattle.script.specs.Shapes.{◌>>=◌, texts, number_in, number_of, in_span, numbers_in, all_numbers, AllWithin}
 use Rattle.script.specs.declared.fault.FaultKind.TheVariants.{Count}
 
 -- what was read before, and what is left

@@ -7,8 +7,8 @@ use Rattle.std.proofs.lemmas.Bool.Decides.{nat_tests}
 use Rattle.plain_machine.specs.declared.event.Ranges.{Ranges}
 use Rattle.script.specs.declared.fault.FaultKind.{FaultKind}
 use Rattle.script.specs.declared.fault.FaultKind.TheVariants.{Count}
-use Rattle.script.specs.Ranges.{range_in, ranges_in, ranges_of, all_ranges}
-use Rattle.script.specs.Words.{◌>>=◌, texts}
+use Rattle.script.specs.Shapes.{range_in, ranges_in, ranges_of, all_ranges}
+use Rattle.script.specs.Shapes.{◌>>=◌, texts}
 use Rattle.script.proofs.NumbersLaws.{with_front, with_front-append, drop_cons, length-texts}
 
 pub all_ranges-many : (words : List (List ℕ)) → 8 < length words → all_ranges words ≡ Err Count

@@ -17,10 +17,15 @@ use Rattle.script.specs.declared.grammar.Setting.{Setting}
 use Rattle.script.specs.declared.grammar.Setting.TheVariants.{Zone, Last, Bad, Region, Tables, Signature, Extent}
 use Rattle.script.specs.declared.grammar.LineStop.{LineStop}
 use Rattle.script.specs.declared.grammar.LineStop.TheVariants as stop
-use Rattle.script.specs.Settings.{SettingsValue, with_setting}
+use Rattle.script.specs.Settings.{SettingsValue}
+use Rattle.script.specs.Items.{with_setting}
 use Rattle.script.specs.Shapes.{Row, setting_rows, event_rows}
-use Rattle.script.specs.Words.{◌>>=◌, words_of}
-use Rattle.script.specs.Grammar.{ScriptValue, is_printable, row_of, by_rows, words_item, item_of, line_item, setting_of, all_settings, by_kind, settings_in, settings_behind, events_of, events_in, kind_by, kind_after, Stops, StopsBy, fault_at, end_fault, first_of, script_by, value_of, line_count, lines_of, script_of, stop_at}
+use Rattle.script.specs.Shapes.{◌>>=◌, words_of}
+use Rattle.script.specs.Grammar.{ScriptValue, is_printable, row_of, by_rows, words_item, item_of, line_item, setting_of}
+use Rattle.script.specs.Grammar.{all_settings, by_kind, settings_in, events_of, events_in, kind_by, kind_after}
+use Rattle.script.specs.Grammar.{fault_at, end_fault, first_of, script_by, value_of, line_count, lines_of, script_of}
+use Rattle.script.specs.Grammar.{stop_at}
+use Rattle.script.specs.Items.{settings_behind, Stops, StopsBy}
 
 -- A line after an event.
 

@@ -8,8 +8,9 @@ use Rattle.std.proofs.lemmas.Bool.Decides.{nat_tests}
 use Rattle.plain_machine.specs.Machine.{Hardware}
 use Rattle.machine.specs.HardFault.{hard_fault}
 use Rattle.machine.specs.declared.hardware.HardFault.{HardFault}
-use Rattle.script.specs.Settings.{SettingsValue, hardware_by, is_faulty, or_default, tables_by, zones_by, AreFitting}
-use Rattle.script.specs.Ident.{scripted_ident}
+use Rattle.script.specs.Settings.{SettingsValue, hardware_by, is_faulty, or_default, tables_by, zones_by}
+use Rattle.script.specs.Items.{AreFitting}
+use Rattle.script.specs.Settings.{scripted_ident}
 use Rattle.definitions.specs.declared.info.Ident.{Ident}
 
 -- parts that are those of the settings make their hardware

@@ -17,10 +17,12 @@ use Rattle.script.specs.declared.fault.FaultKind.TheVariants as kind
 use Rattle.script.specs.declared.grammar.Item.TheVariants.{Sets, Events}
 use Rattle.script.specs.declared.grammar.Setting.{Setting}
 use Rattle.script.specs.declared.words.Span.{Span}
-use Rattle.script.specs.Ranges.{all_ranges}
-use Rattle.script.specs.Words.{◌>>=◌, all_numbers, words_of}
+use Rattle.script.specs.Shapes.{all_ranges}
+use Rattle.script.specs.Shapes.{◌>>=◌, all_numbers, words_of}
 use Rattle.script.specs.Shapes.{Row, setting_rows, event_rows, core_rows, machine_rows, outside_rows, task_rows, region_row, saving_row, resume_row, step_row, with_flags, format_in, actor_in, tasks, second_word, numbers_say}
-use Rattle.script.specs.Grammar.{is_printable, row_of, by_rows, if_found, setting_in, setting_item, event_in, core_event_in, machine_event_in, outside_event_in, task_event_in, words_item, item_of, line_item}
+use Rattle.script.specs.Grammar.{is_printable, row_of, by_rows, words_item, item_of, line_item}
+use Rattle.script.specs.Items.{if_found, setting_in, setting_item, event_in, core_event_in, machine_event_in}
+use Rattle.script.specs.Items.{outside_event_in, task_event_in}
 use Rattle.script.proofs.NumbersLaws.{all_numbers-other}
 use Rattle.script.proofs.RangesLaws.{all_ranges-many}
 

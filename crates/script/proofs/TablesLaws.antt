@@ -5,7 +5,8 @@ use Rattle.std.proofs.lemmas.Bool.Decides.{nat_tests}
 use Rattle.std.specs.List.{range_with_len}
 use Rattle.definitions.specs.Zones.{numbers, first_from, top}
 use Rattle.plain_machine.specs.Machine.{table_len}
-use Rattle.script.specs.Settings.{lowest_frame, tables_in, IsZoneLine}
+use Rattle.script.specs.Settings.{lowest_frame, tables_in}
+use Rattle.script.specs.Items.{IsZoneLine}
 
 -- the lowest page frame is the first zone's first
 lowest_frame-lines : (zones : List (ℕ × ℕ)) → 1 ≤ length zones → All IsZoneLine zones → lowest_frame zones ≡ (get_or zones 0 (0, 0)).0

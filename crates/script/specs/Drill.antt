@@ -20,7 +20,7 @@ use Rattle.plain_machine.specs.declared.event.Ranges.{Ranges}
 use Rattle.plain_machine.specs.declared.reply.Reply.{Reply}
 use Rattle.plain_machine.specs.declared.reply.Reply.TheVariants as reply
 use Rattle.script.specs.Grammar.{ScriptValue}
-use Rattle.script.specs.Ident.{scripted_ident}
+use Rattle.script.specs.Settings.{scripted_ident}
 use Rattle.script.specs.declared.tally.Tally.{Tally}
 
 -- The machine: page frames 0 to 8191 with the tables in the lowest, and slots 0 to 16383, each on the block of its

@@ -1,13 +1,12 @@
 -- What a script says, or its first fault. In a line the first kind of fault that applies is named, in the order of
 -- `FaultKind`.
-use Rattle.std.specs.Prelude.{◌≡◌, ℕ, ◌+◌, ◌-◌, ◌≤◌, ◌==◌, ◌&&◌, List, [], ◌∷◌, ◌++◌, Bool, false, not, Option, Some}
-use Rattle.std.specs.Prelude.{None, Result, Ok, Err, length, nat_lt, nat_le, if◌then◌else◌, ⊤, count_by, flat_map}
-use Rattle.std.specs.Prelude.{replicate, reverse, take, slice_index, slice_index_or, unwrap_or, slice_get}
+use Rattle.std.specs.Prelude.{ℕ, ◌+◌, ◌-◌, ◌==◌, ◌&&◌, List, [], ◌∷◌, ◌++◌, Bool, false, not, Option, Some, None}
+use Rattle.std.specs.Prelude.{Result, Ok, Err, length, nat_lt, nat_le, if◌then◌else◌, count_by, flat_map, replicate}
+use Rattle.std.specs.Prelude.{reverse, take, slice_index, slice_index_or, unwrap_or, slice_get, codes}
 use Rattle.std.specs.List.{find, filter_map, list_all, range_with_len, slice_split}
 use Rattle.std.specs.Option.{option_map}
 use Rattle.std.specs.Str.{bytes_eq}
 use Rattle.plain_machine.specs.declared.event.Event.{Event}
-use Rattle.plain_machine.specs.Fitting.{IsFitting}
 use Rattle.plain_machine.specs.Machine.{Hardware}
 use Rattle.script.specs.declared.fault.FaultKind.{FaultKind}
 use Rattle.script.specs.declared.fault.FaultKind.TheVariants as kind
@@ -20,11 +19,11 @@ use Rattle.script.specs.declared.grammar.Setting.{Setting}
 use Rattle.script.specs.declared.grammar.Setting.TheVariants.{Zone, Last, Bad, Region, Tables, Signature, Extent}
 use Rattle.script.specs.declared.grammar.LineStop.{LineStop}
 use Rattle.script.specs.declared.grammar.LineStop.TheVariants as stop
-use Rattle.script.specs.Settings.{SettingsValue, hardware_by, is_faulty, with_setting, IsFittingSetting}
-use Rattle.script.specs.Shapes.{Row, setting_rows, event_rows, core_rows, machine_rows, outside_rows, task_rows}
-use Rattle.script.specs.Shapes.{IsScripted}
-use Rattle.script.specs.Words.{◌>>=◌, words_of}
+use Rattle.script.specs.Settings.{SettingsValue, hardware_by, is_faulty}
+use Rattle.script.specs.Shapes.{Row, setting_rows, event_rows, ◌>>=◌, words_of}
 use denote.Ref.{Bor}
+use Rattle.script.specs.declared.fault.FaultKind.TheVariants.{TooLong, Byte, Word, Late, Count, Number, Range, Events}
+use Rattle.script.specs.declared.fault.FaultKind.TheVariants.{Hardware}
 
 -- One line.
 
@@ -45,37 +44,6 @@ by_rows begun None None words = Err kind.Word
 unfoldable pub words_item : Bool → List ℕ → List (List ℕ) → Result Item FaultKind
 words_item begun first words = by_rows begun (row_of first event_rows) (row_of first setting_rows) words
 
--- that, where the first word is no event's
-unfoldable pub setting_item : Bool → List ℕ → List (List ℕ) → Result Item FaultKind
-setting_item begun first words = by_rows begun None (row_of first setting_rows) words
-
--- what a line is, where its first word has a row
-abbrev pub if_found : {A : Type 0} → Option (Row A) → List (List ℕ) → Result (Option A) FaultKind
-if_found None words = Ok None
-if_found (Some row) words = row.reads words >>= λ s. Ok (Some s)
-
--- the setting that a line is, where its first word is a setting's
-unfoldable pub setting_in : List ℕ → List (List ℕ) → Result (Option Setting) FaultKind
-setting_in first words = if_found (row_of first setting_rows) words
-
--- how many times which event a line is, where its first word is an event's
-unfoldable pub event_in : List ℕ → List (List ℕ) → Result (Option (ℕ × Event)) FaultKind
-event_in first words = if_found (row_of first event_rows) words
-
--- that, where it is an event of the whole machine, and where it is what a task asks for
-unfoldable pub core_event_in : List ℕ → List (List ℕ) → Result (Option (ℕ × Event)) FaultKind
-core_event_in first words = if_found (row_of first core_rows) words
-
--- of these, one of the machine, and one from outside or a step
-unfoldable pub machine_event_in : List ℕ → List (List ℕ) → Result (Option (ℕ × Event)) FaultKind
-machine_event_in first words = if_found (row_of first machine_rows) words
-
-unfoldable pub outside_event_in : List ℕ → List (List ℕ) → Result (Option (ℕ × Event)) FaultKind
-outside_event_in first words = if_found (row_of first outside_rows) words
-
-unfoldable pub task_event_in : List ℕ → List (List ℕ) → Result (Option (ℕ × Event)) FaultKind
-task_event_in first words = if_found (row_of first task_rows) words
-
 abbrev pub item_of : Bool → List (List ℕ) → Result Item FaultKind
 item_of begun [] = Ok Nothing
 item_of begun (first ∷ words) = words_item begun first words
@@ -87,17 +55,7 @@ line_item begun line =
     else if slice_index line 0 == 35 then Ok Nothing
     else item_of begun (words_of line)
 
--- the answer is that of the grammar, unless memory ran out
-abbrev pub Stops : LineStop → Result Item FaultKind → Type 0
-Stops stop.NoMemory answer = ⊤
-Stops (stop.Fault k) answer = answer ≡ Err k
-
 -- What fits.
-
-abbrev pub IsFittingItem : Item → Type 0
-IsFittingItem Nothing = ⊤
-IsFittingItem (Sets s) = IsFittingSetting s
-IsFittingItem (Events n e) = (1 ≤ n) × (n ≤ 100000) × IsFitting e × IsScripted e
 
 -- The settings of a script.
 
@@ -159,13 +117,6 @@ by_kind settings = record {
 unfoldable pub settings_in : List (List ℕ) → SettingsValue
 settings_in lines = by_kind (all_settings lines)
 
--- the settings after a line
-abbrev pub settings_behind : Result Item FaultKind → SettingsValue → SettingsValue
-settings_behind (Ok (Sets s)) settings = with_setting s settings
-settings_behind (Ok (Events n e)) settings = settings
-settings_behind (Ok Nothing) settings = settings
-settings_behind (Err k) settings = settings
-
 -- The events of a script.
 
 abbrev pub events_of : Result Item FaultKind → List Event
@@ -195,11 +146,6 @@ kind_by settings before (Ok item) =
     if too_many before (events_of (Ok item)) then Some kind.Events
     else if begins before (events_of (Ok item)) && is_faulty settings then Some kind.Hardware
     else None
-
--- a line stops by this fault, or by want of memory
-abbrev pub StopsBy : Option FaultKind → LineStop → Type 0
-StopsBy fault stop.NoMemory = ⊤
-StopsBy fault (stop.Fault k) = fault ≡ Some k
 
 abbrev pub stop_at : LineStop → ℕ → ParseStop
 stop_at stop.NoMemory line = parse_stop.NoMemory
@@ -265,3 +211,16 @@ unfoldable pub script_of : List ℕ → Result ScriptValue ScriptFault
 script_of bytes =
     if nat_lt 1048576 (length bytes) then Err (record { line = 0; kind = kind.TooLong })
     else value_of (line_count bytes + 1) (lines_of bytes)
+
+-- The names of faults, as a note prints them.
+
+abbrev pub kind_name : FaultKind → List ℕ
+kind_name TooLong = codes "TooLong"
+kind_name Byte = codes "Byte"
+kind_name Word = codes "Word"
+kind_name Late = codes "Late"
+kind_name Count = codes "Count"
+kind_name Number = codes "Number"
+kind_name Range = codes "Range"
+kind_name Events = codes "Events"
+kind_name Hardware = codes "Hardware"

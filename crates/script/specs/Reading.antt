@@ -3,7 +3,8 @@ use Rattle.std.specs.Prelude.{◌≡◌, ◌<◌, ◌≤◌, All, List, [], fals
 use Rattle.plain_machine.specs.declared.event.Event.{Event}
 use Rattle.plain_machine.specs.Fitting.{IsFitting}
 use Rattle.plain_machine.specs.Machine.{Hardware}
-use Rattle.script.specs.Settings.{SettingsValue, hardware_by, is_faulty, AreFitting}
+use Rattle.script.specs.Settings.{SettingsValue, hardware_by, is_faulty}
+use Rattle.script.specs.Items.{AreFitting}
 use Rattle.script.specs.Shapes.{IsScripted}
 
 -- the settings so far, their hardware from the first event on, and the events so far

@@ -1,13 +1,26 @@
 -- What the settings of a script describe.
-use Rattle.std.specs.Prelude.{ℕ, ◌+◌, ◌≤◌, ◌||◌, All, Bool, is_some, List, [], ◌∷◌, ◌++◌, Option, Some, length, nat_lt}
-use Rattle.std.specs.Prelude.{unwrap_or, ⊤}
+use Rattle.std.specs.Prelude.{ℕ, ◌+◌, ◌||◌, Bool, is_some, List, [], ◌∷◌, Option, length, nat_lt, unwrap_or, ◌-◌, ◌++◌}
+use Rattle.std.specs.Prelude.{replicate, codes}
 use Rattle.std.specs.List.{list_any}
 use Rattle.definitions.specs.Zones.{numbers, first_from, top}
 use Rattle.plain_machine.specs.Machine.{Hardware, table_len}
 use Rattle.machine.specs.HardFault.{hard_fault}
-use Rattle.script.specs.Ident.{scripted_ident}
-use Rattle.script.specs.declared.grammar.Setting.{Setting}
-use Rattle.script.specs.declared.grammar.Setting.TheVariants.{Zone, Last, Bad, Region, Tables, Signature, Extent}
+use Rattle.definitions.specs.declared.info.Ident.{Ident}
+
+-- The identity of scripted machines.
+
+-- a name of 65 bytes
+abbrev pub filled_name : List ℕ → List ℕ
+filled_name text = text ++ replicate (65 - length text) 0
+
+-- Linux 6.1.0
+unfoldable pub scripted_ident : Ident
+scripted_ident = record {
+  version_code = 393472;
+  names = filled_name (codes "Linux") ∷ filled_name (codes "machine") ∷ filled_name (codes "6.1.0")
+      ∷ filled_name (codes "#1")
+      ∷ filled_name (codes "plain") ∷ filled_name (codes "(none)") ∷ [];
+}
 
 -- What the lines with a setting say. Of zones, bad slots, regions and extents each line names one; there may be none.
 pub record SettingsValue : Type 0 where
@@ -56,37 +69,4 @@ hardware_by s = record {
 unfoldable pub is_faulty : SettingsValue → Bool
 is_faulty s = nat_lt 630 (length s.bad) || list_any (nat_lt s.last) s.bad || is_some (hard_fault (hardware_by s))
 
--- the settings after one more of them
-abbrev pub with_setting : Setting → SettingsValue → SettingsValue
-with_setting (Zone start count) s = record s { zones = s.zones ++ (start, count) ∷ [] }
-with_setting (Last last) s = record s { last = last }
-with_setting (Bad slot) s = record s { bad = s.bad ++ slot ∷ [] }
-with_setting (Region start count flags) s = record s { regions = s.regions ++ (start, count, flags) ∷ [] }
-with_setting (Tables f t) s = record s { tables = Some (f, t) }
-with_setting (Signature n) s = record s { hw_sig = n }
-with_setting (Extent start len block) s = record s { extents = s.extents ++ (start, len, block) ∷ [] }
-
 -- What fits.
-
--- a last page that a swap area may have
-abbrev pub IsLastPage : ℕ → Type 0
-IsLastPage last = (1 ≤ last) × (last ≤ 16383)
-
--- a zone as a line may name it
-abbrev pub IsZoneLine : ℕ × ℕ → Type 0
-IsZoneLine zone = (zone.0 ≤ 65535) × (1 ≤ zone.1) × (zone.1 ≤ 65536)
-
-abbrev pub IsFittingSetting : Setting → Type 0
-IsFittingSetting (Zone start count) = IsZoneLine (start, count)
-IsFittingSetting (Last last) = IsLastPage last
-IsFittingSetting (Bad slot) = 1 ≤ slot
-IsFittingSetting (Region start count flags) = ⊤
-IsFittingSetting (Tables f t) = ⊤
-IsFittingSetting (Signature n) = ⊤
-IsFittingSetting (Extent start len block) = ⊤
-
--- settings that lines with fitting numbers give
-pub record AreFitting (s : SettingsValue) : Type 0 where
-  pub zones : All IsZoneLine s.zones
-  pub last : IsLastPage s.last
-  pub bad : All (λ slot. 1 ≤ slot) s.bad

@@ -1,6 +1,7 @@
 -- The lines that a script may have, by their first word.
 use Rattle.std.specs.Prelude.{◌≡◌, ℕ, ◌%◌, ◌==◌, List, [], ◌∷◌, ◌++◌, codes, Result, Ok, Err, slice_index}
-use Rattle.std.specs.Prelude.{if◌then◌else◌, ⊤}
+use Rattle.std.specs.Prelude.{if◌then◌else◌, ⊤, ◌+◌, ◌-◌, Option, Some, None, length, take, drop, replicate, nat_lt}
+use Rattle.std.specs.Prelude.{◌^◌, ◌≤◌, ◌&&◌, not, Bool, filter, map}
 use Rattle.std.specs.Str.{bytes_eq}
 use Rattle.page_core.specs.declared.format.Format.{Format}
 use Rattle.page_core.specs.declared.format.Format.TheVariants.{Plain, SkipZeros}
@@ -19,8 +20,94 @@ use Rattle.script.specs.declared.fault.FaultKind.TheVariants as kind
 use Rattle.script.specs.declared.grammar.Setting.{Setting}
 use Rattle.script.specs.declared.grammar.Setting.TheVariants.{Zone, Last, Bad, Region, Tables, Signature, Extent}
 use Rattle.script.specs.declared.words.Span.{Span}
-use Rattle.script.specs.Ranges.{all_ranges}
-use Rattle.script.specs.Words.{◌>>=◌, all_numbers}
+use Rattle.std.specs.List.{position, list_all, slice_split}
+use Rattle.plain_machine.specs.declared.event.Ranges.{Ranges}
+use Rattle.script.specs.declared.fault.FaultKind.TheVariants.{Count, Number, Range}
+use Rattle.std.specs.Char.{is_ascii_digit}
+use Rattle.std.specs.Str.Parse.{digits_value}
+use denote.Ref.{Bor}
+
+-- The words of a line of a script, and the numbers that they are.
+
+-- what comes of the value, or the first fault
+infixl 10 ◌>>=◌
+abbrev pub ◌>>=◌ : {A B : Type 0} → Result A FaultKind → (A → Result B FaultKind) → Result B FaultKind
+(Ok x) >>= f = f x
+(Err kind) >>= f = Err kind
+
+-- words wherever they lie
+abbrev pub texts : List (Bor (List ℕ)) → List (List ℕ)
+texts words = map (λ word. word.now) words
+
+-- two spaces have no word between them
+abbrev pub is_word : List ℕ → Bool
+is_word part = not (length part == 0)
+
+-- what stands between spaces
+abbrev pub words_of : List ℕ → List (List ℕ)
+words_of line = filter is_word (slice_split (λ b. b == 32) line)
+
+-- the number of at most 64 bits that decimal digits are; leading zeros are allowed
+unfoldable pub number_of : List ℕ → Option ℕ
+number_of word =
+    if list_all is_ascii_digit word && nat_lt 0 (length word) && nat_lt (digits_value 10 word) (2 ^ 64)
+    then Some (digits_value 10 word) else None
+
+abbrev pub in_span : Span → Option ℕ → Result ℕ FaultKind
+in_span s None = Err Number
+in_span s (Some n) = if nat_lt n s.low then Err Range else if nat_lt s.high n then Err Range else Ok n
+
+-- a number of a span: Number comes before Range
+unfoldable pub number_in : Span → List ℕ → Result ℕ FaultKind
+number_in s word = in_span s (number_of word)
+
+-- numbers of these spans, word by word
+unfoldable pub numbers_in : List Span → List (List ℕ) → Result (List ℕ) FaultKind
+numbers_in [] words = Ok []
+numbers_in (s ∷ spans) [] = Err Count
+numbers_in (s ∷ spans) (word ∷ words) = number_in s word >>= λ n. numbers_in spans words >>= λ ns. Ok (n ∷ ns)
+
+-- as many numbers as there are spans
+unfoldable pub all_numbers : List Span → List (List ℕ) → Result (List ℕ) FaultKind
+all_numbers spans words = if length words == length spans then numbers_in spans words else Err Count
+
+-- a number for each span, and in it
+abbrev pub AllWithin : List Span → List ℕ → Type 0
+AllWithin [] [] = ⊤
+AllWithin [] (n ∷ ns) = ⊥
+AllWithin (s ∷ spans) [] = ⊥
+AllWithin (s ∷ spans) (n ∷ ns) = (s.low ≤ n) × (n ≤ s.high) × AllWithin spans ns
+
+-- Ranges of page frames, as the words after `resume` name them.
+
+-- page frames from the low end to the high one, both below 65536
+abbrev pub as_range : Option ℕ → Option ℕ → Result (ℕ × ℕ) FaultKind
+as_range None high = Err Number
+as_range (Some low) None = Err Number
+as_range (Some low) (Some high) =
+    if nat_lt high low then Err Range else if nat_lt 65535 high then Err Range else Ok (low, high)
+
+-- the numbers on both sides of a dash
+abbrev pub around : List ℕ → Option ℕ → Result (ℕ × ℕ) FaultKind
+around word None = Err Number
+around word (Some dash) = as_range (number_of (take dash word)) (number_of (drop (dash + 1) word))
+
+-- A word A-B. No number has a dash, so the first one is the only one.
+unfoldable pub range_in : List ℕ → Result (ℕ × ℕ) FaultKind
+range_in word = around word (position (λ b. b == 45) word)
+
+-- ranges, word by word
+unfoldable pub ranges_in : List (List ℕ) → Result (List (ℕ × ℕ)) FaultKind
+ranges_in [] = Ok []
+ranges_in (word ∷ words) = range_in word >>= λ range. ranges_in words >>= λ ranges. Ok (range ∷ ranges)
+
+-- a loader's ranges: those that are named, and (0, 0) in the places after them
+abbrev pub ranges_of : List (ℕ × ℕ) → Ranges
+ranges_of ranges = record { count = length ranges; list = ranges ++ replicate (8 - length ranges) (0, 0) }
+
+-- up to 8 ranges
+unfoldable pub all_ranges : List (List ℕ) → Result Ranges FaultKind
+all_ranges words = if nat_lt 8 (length words) then Err Count else (ranges_in words >>= λ ranges. Ok (ranges_of ranges))
 
 -- A line's first word, and what the words after it say.
 pub record Row (A : Type 0) : Type 0 where

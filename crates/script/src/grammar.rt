@@ -1,9 +1,11 @@
 ghost use Rattle.std.specs.Prelude.{◌≡◌, ◌<◌, ◌≤◌, IfOk, IfSome, IsOk, ◌↔◌, true, false, take, IfErr};
 ghost use Rattle.std.specs.List.{list_all};
-ghost use Rattle.script.specs.Words.{texts, words_of};
-ghost use Rattle.script.specs.Grammar.{core_event_in, event_in, machine_event_in, outside_event_in, is_printable};
-ghost use Rattle.script.specs.Grammar.{line_item, setting_in, setting_item, task_event_in, words_item, IsFittingItem};
-ghost use Rattle.script.specs.Settings.{IsFittingSetting};
+ghost use Rattle.script.specs.Shapes.{texts, words_of};
+ghost use Rattle.script.specs.Grammar.{is_printable};
+ghost use Rattle.script.specs.Items.{core_event_in, event_in, machine_event_in, outside_event_in};
+ghost use Rattle.script.specs.Grammar.{line_item, words_item};
+ghost use Rattle.script.specs.Items.{setting_in, setting_item, task_event_in, IsFittingItem};
+ghost use Rattle.script.specs.Items.{IsFittingSetting};
 ghost use Rattle.script.specs.Shapes.{actor_in, format_in, region_row, second_word};
 ghost use Rattle.plain_machine.specs.Fitting.{IsFittingActor};
 

@@ -1,5 +1,5 @@
 ghost use Rattle.std.specs.Prelude.{◌≡◌, ◌≤◌, length};
-ghost use Rattle.script.specs.Ident.{scripted_ident, filled_name};
+ghost use Rattle.script.specs.Settings.{scripted_ident, filled_name};
 
 use definitions::Ident;
 

@@ -1,7 +1,7 @@
 ghost use Rattle.std.specs.Prelude.{◌≡◌, ◌++◌, ◌∷◌, [], IfOk, IfErr, OnOk, take, drop, filter, true, false};
 ghost use Rattle.std.specs.List.{list_all};
 ghost use Rattle.script.specs.Grammar.{first_line, is_printable, lines_in, lines_of};
-ghost use Rattle.script.specs.Words.{is_word, texts, words_of};
+ghost use Rattle.script.specs.Shapes.{is_word, texts, words_of};
 
 use crate::fault::FaultKind;
 use arrayvec::ArrayVec;

@@ -1,8 +1,8 @@
 ghost use Rattle.std.specs.Prelude.{◌≡◌, ◌==◌, IfOk};
 ghost use Rattle.std.specs.List.{position};
 ghost use Rattle.plain_machine.specs.Fitting.{IsRange, AreRanges};
-ghost use Rattle.script.specs.Ranges.{all_ranges, as_range, range_in};
-ghost use Rattle.script.specs.Words.{texts};
+ghost use Rattle.script.specs.Shapes.{all_ranges, as_range, range_in};
+ghost use Rattle.script.specs.Shapes.{texts};
 
 use crate::fault::FaultKind;
 use crate::words::number_of;

@@ -2,10 +2,12 @@ ghost use Rattle.std.specs.Prelude.{◌≡◌, ◌+◌, ◌<◌, ◌≤◌, ◌�
 ghost use Rattle.std.specs.Prelude.{true, false, Ok, Err, Some, None, []};
 ghost use Rattle.plain_machine.specs.Fitting.{IsFitting};
 ghost use Rattle.script.specs.Grammar.{end_fault, events_of, first_line, kind_after, kind_by, line_count, line_item};
-ghost use Rattle.script.specs.Grammar.{lines_in, lines_of, script_by, script_of, setting_of, settings_behind, stop_at};
-ghost use Rattle.script.specs.Grammar.{IsFittingItem, StopsBy};
+ghost use Rattle.script.specs.Grammar.{lines_in, lines_of, script_by, script_of, setting_of, stop_at};
+ghost use Rattle.script.specs.Items.{settings_behind};
+ghost use Rattle.script.specs.Items.{IsFittingItem, StopsBy};
 ghost use Rattle.script.specs.Reading.{IsOfLines, IsSettled};
-ghost use Rattle.script.specs.Settings.{hardware_by, is_faulty, IsLastPage};
+ghost use Rattle.script.specs.Settings.{hardware_by, is_faulty};
+ghost use Rattle.script.specs.Items.{IsLastPage};
 ghost use Rattle.script.specs.Shapes.{IsScripted};
 ghost use Rattle.script.specs.declared.fault.ScriptFault.{ScriptFault};
 

@@ -1,7 +1,9 @@
 ghost use Rattle.std.specs.Prelude.{◌≡◌, ◌≤◌, ◌↔◌, All, IfSome, IsNone, OnOk, length, nat_lt, true, []};
 ghost use Rattle.std.specs.List.{list_any};
-ghost use Rattle.script.specs.Settings.{hardware_by, is_faulty, or_default, tables_by, tables_in, with_setting};
-ghost use Rattle.script.specs.Settings.{zones_by, AreFitting, IsFittingSetting, IsZoneLine};
+ghost use Rattle.script.specs.Settings.{hardware_by, is_faulty, or_default, tables_by, tables_in};
+ghost use Rattle.script.specs.Items.{with_setting};
+ghost use Rattle.script.specs.Settings.{zones_by};
+ghost use Rattle.script.specs.Items.{AreFitting, IsFittingSetting, IsZoneLine};
 
 use crate::grammar::Setting;
 use crate::ident::scripted_ident;

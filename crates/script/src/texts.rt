@@ -1,5 +1,5 @@
 ghost use Rattle.std.specs.Prelude.{◌≡◌, ◌+◌, ◌≤◌, ◌++◌, length, decimal};
-ghost use Rattle.plain_machine.specs.Texts.{no_swap_text};
+ghost use Rattle.plain_machine.specs.Replies.{no_swap_text};
 
 use byte_streams::Line;
 use plain_machine::NoSwap;

@@ -1,5 +1,5 @@
 ghost use Rattle.std.specs.Prelude.{◌≡◌, IfOk};
-ghost use Rattle.script.specs.Words.{all_numbers, number_in, number_of, texts, AllWithin};
+ghost use Rattle.script.specs.Shapes.{all_numbers, number_in, number_of, texts, AllWithin};
 
 use crate::fault::FaultKind;
 

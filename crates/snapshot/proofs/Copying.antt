@@ -4,9 +4,10 @@ use Rattle.std.proofs.lemmas.Bool.{false≢true}
 use Rattle.std.proofs.lemmas.List.{length-map, length-take-le, get_or-map, same_lists, take-append-drop}
 use Rattle.std.proofs.lemmas.List.Elements.{Contains-append_left, Contains-get_or}
 use Rattle.std.specs.List.{Contains}
-use Rattle.definitions.specs.Zones.{AreApart, top}
+use Rattle.definitions.specs.Zones.{top}
+use Rattle.definitions.specs.ZoneFacts.{AreApart}
 use Rattle.definitions.specs.Tables.{entry_at, page_flags, is_saveable, frame}
-use Rattle.definitions.specs.Lists.{saveable_frames, free_frames}
+use Rattle.definitions.specs.Tables.{saveable_frames, free_frames}
 use Rattle.definitions.proofs.ZoneLists.{Contains-from_saveable_frames, Contains-from_free_frames}
 use Rattle.definitions.proofs.ZoneNumbers.{below_top}
 use Rattle.atomic_copy.specs.Copies.{AreCopied, AreDisjoint}

@@ -7,7 +7,7 @@ ghost use Rattle.std.specs.Prelude.{IfErr, IfSome, IfNone, length, map, take};
 ghost use Rattle.definitions.specs.Bytes.{zero_page};
 ghost use Rattle.definitions.specs.Zones.{top};
 ghost use Rattle.definitions.specs.Tables.{frame, HasTable};
-ghost use Rattle.definitions.specs.Lists.{saveable_frames, free_frames};
+ghost use Rattle.definitions.specs.Tables.{saveable_frames, free_frames};
 ghost use Rattle.atomic_copy.specs.Copies.{AreDisjoint};
 ghost use Rattle.snapshot.specs.Taken.{zero_frames, is_zero_frame, set_over, AreFrameSets};
 

@@ -87,3 +87,7 @@ is_whole bs = nat_le 4096 (length bs) && nat_le (4096 * all_pages bs) (length bs
 
 abbrev pub short_fault : List ℕ → Option StreamFault
 short_fault bs = if is_whole bs then None else Some (fault Short (length bs))
+
+-- no stream has more bytes: the pages of 65,536 frames, 128 pages of their numbers, and the info page
+abbrev pub most_bytes : ℕ
+most_bytes = 4096 * 65665

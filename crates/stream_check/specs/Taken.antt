@@ -3,11 +3,7 @@ use Rattle.std.specs.Prelude.{◌≡◌, ◌≤◌, ◌<◌, ℕ, ◌+◌, ◌-�
 use Rattle.std.specs.Prelude.{length, if◌then◌else◌}
 use Rattle.definitions.specs.Bytes.{number_at}
 use Rattle.stream_check.specs.declared.taking.Taking.{Taking}
-use Rattle.stream_check.specs.Grammar.{image_pages, all_pages, place, words, least_number, first_fault}
-
--- no stream has more bytes: the pages of 65,536 frames, 128 pages of their numbers, and the info page
-abbrev pub most_bytes : ℕ
-most_bytes = 4096 * 65665
+use Rattle.stream_check.specs.Grammar.{image_pages, all_pages, place, words, least_number, first_fault, most_bytes}
 
 -- The numbers that are kept lie in their order, and are so small that no sum of them wraps.
 pub record AreBounded (t : Taking) : Type 0 where

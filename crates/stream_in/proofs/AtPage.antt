@@ -5,11 +5,11 @@ use Rattle.swap_slots.specs.declared.table.SlotTable.{SlotTable}
 use Rattle.swap_slots.specs.Table.{free_in}
 use Rattle.definitions.specs.InfoPage.{info_of}
 use Rattle.plain_machine.specs.Image.{maps_of}
-use Rattle.plain_machine.specs.Laid.{page_of_write, laid_block}
+use Rattle.plain_machine.specs.Image.{page_of_write, laid_block}
 use Rattle.image_write.specs.Writing.{Writing, IsWriting, writes_of}
 use Rattle.stream_check.specs.Grammar.{all_pages}
 use Rattle.stream_in.specs.Putting.{CanBegin, IsAtPage, IsPagePut, HasPut, pages_in}
-use Rattle.stream_in.specs.Written.{writes_after}
+use Rattle.stream_in.specs.Holding.{writes_after}
 use Rattle.stream_in.specs.declared.stop.InStop.{InStop}
 use Rattle.stream_in.proofs.Counts.{are_few}
 

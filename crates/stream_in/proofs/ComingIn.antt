@@ -8,7 +8,7 @@ use Rattle.definitions.proofs.DiskLaws.{IsImage-settled, IsImage-as_it_reads, le
 use Rattle.definitions.proofs.Marks.{taken_back-marked}
 use Rattle.sig_header.specs.declared.area.Area.{Area}
 use Rattle.plain_machine.specs.Image.{maps_of}
-use Rattle.plain_machine.specs.Laid.{laid_block, laid_write, page_of_write}
+use Rattle.plain_machine.specs.Image.{laid_block, laid_write, page_of_write}
 use Rattle.swap_slots.specs.declared.table.SlotTable.{SlotTable}
 use Rattle.image_write.specs.Writing.{Writing, BlocksBelow}
 use Rattle.image_write.proofs.Done.{place_of, block_of_write, place_below}
@@ -20,10 +20,10 @@ use Rattle.stream_check.specs.declared.fault.StreamFault.{StreamFault}
 use Rattle.stream_check.proofs.Steps.{sound_from}
 use Rattle.stream_in.specs.declared.session.StreamIn.{StreamIn}
 use Rattle.stream_in.specs.Holding.{first_blocks, HasComeIn, IsReadyFor, ComesIn}
-use Rattle.stream_in.specs.Marking.{Marks}
+use Rattle.stream_in.specs.Marked.{Marks}
 use Rattle.stream_in.specs.Moments.{ElapsesOverMark, IsTried, TriesMark, MarksWhole, LeavesWhole}
 use Rattle.stream_in.specs.Session.{IsOutput, TakesInto}
-use Rattle.stream_in.specs.Written.{page_at, AreOfMap, ReadAsMade, writes_after}
+use Rattle.stream_in.specs.Holding.{page_at, AreOfMap, ReadAsMade, writes_after}
 use Rattle.stream_in.proofs.Contents.{changes_from}
 use Rattle.stream_in.proofs.Undoing.{unmarked}
 use Rattle.stream_in.proofs.Holding.{IsWholeFor, not_zero, has_come_in}

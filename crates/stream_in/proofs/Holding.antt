@@ -11,7 +11,8 @@ use Rattle.page_core.specs.declared.format.Format.{Format}
 use Rattle.page_core.specs.declared.format.Format.TheVariants.{Plain, SkipZeros}
 use Rattle.definitions.specs.Bytes.{IsPage}
 use Rattle.definitions.specs.Disk as disk
-use Rattle.definitions.specs.Slots.{IsFileMap, block_of}
+use Rattle.definitions.specs.Slots.{block_of}
+use Rattle.definitions.specs.FileMaps.{IsFileMap}
 use Rattle.definitions.specs.SwapHeader.{IsMarked, marked, image_of, flags_of, last_page_of}
 use Rattle.definitions.proofs.Ascending.{Contains-head}
 use Rattle.sig_header.specs.declared.area.Area.{Area}
@@ -19,7 +20,7 @@ use Rattle.plain_machine.specs.Machine.{Hardware, block_of_slot}
 use Rattle.plain_machine.specs.Image.{Image, stream_of, pages_of, maps_of}
 use Rattle.plain_machine.specs.UsableArea.{bad_slots_of}
 use Rattle.plain_machine.specs.Chain.{header_of, blocks_of, chain, Holds}
-use Rattle.plain_machine.specs.Laid.{laid_block, laid_entries, laid_write, is_map_write, page_of_write}
+use Rattle.plain_machine.specs.Image.{laid_block, laid_entries, laid_write, is_map_write, page_of_write}
 use Rattle.plain_machine.proofs.LaidChain as laying
 use Rattle.protocol_laws.proofs.Laid.{length-stream_of}
 use Rattle.protocol_laws.proofs.Marking.{header_is}
@@ -28,7 +29,7 @@ use Rattle.image_write.specs.Writing.{BlocksBelow}
 use Rattle.stream_check.specs.Grammar.{all_pages}
 use Rattle.stream_in.specs.Area.{AreUsable}
 use Rattle.stream_in.specs.Holding.{first_blocks, HoldsStream, AreOfImage, HasComeIn}
-use Rattle.stream_in.specs.Written.{page_at, AreOfMap, ReadAsMade}
+use Rattle.stream_in.specs.Holding.{page_at, AreOfMap, ReadAsMade}
 use Rattle.stream_in.proofs.Laying.{same_write}
 
 -- The pages of a stream, one after another.

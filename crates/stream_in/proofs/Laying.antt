@@ -6,10 +6,11 @@ use Rattle.definitions.specs.Disk.{Content, Changes, IsContent, as_it_reads, blo
 use Rattle.definitions.proofs.DiskLaws.{block-other}
 use Rattle.plain_machine.proofs.DiskBlocks.{block-written}
 use Rattle.plain_machine.specs.Image.{maps_of}
-use Rattle.plain_machine.specs.Laid.{laid_block, laid_map, laid_write, is_map_write, page_of_write, page_place, map_place}
+use Rattle.plain_machine.specs.Image.{laid_block, laid_map, laid_write, is_map_write, page_of_write, page_place}
+use Rattle.plain_machine.specs.Image.{map_place}
 use Rattle.image_write.specs.Writing.{Writing, IsWriting, BlocksBelow, Makes, write_next, writes_of}
 use Rattle.image_write.proofs.Done.{AreSlots, place_of, block_of_write, place_below, blocks_apart, written_page}
-use Rattle.stream_in.specs.Written.{AreOfMap, MakesMore}
+use Rattle.stream_in.specs.Holding.{AreOfMap, MakesMore}
 use Rattle.stream_in.proofs.Contents.{changes_from, changes_then}
 use Rattle.stream_in.proofs.Puts.{Follows, IsFollowed, still_below}
 

@@ -5,7 +5,7 @@ use Rattle.std.proofs.lemmas.List.{length-replicate, get_or-replicate, get_or-dr
 use Rattle.std.proofs.lemmas.List.Elements.{All-replicate, Contains-get_or}
 use Rattle.std.proofs.lemmas.List.FromFn.{length-range_with_len}
 use Rattle.definitions.specs.Bytes.{IsPage, zero_page, number_at}
-use Rattle.definitions.specs.Lists.{free_slots}
+use Rattle.definitions.specs.Tables.{free_slots}
 use Rattle.definitions.specs.Tables.{entry_at, with_entries, HasTable}
 use Rattle.definitions.proofs.Ascending.{Contains-cons_cases}
 use Rattle.definitions.proofs.PageBytes.{length-zero_page, get_or-zero_page}
@@ -14,8 +14,8 @@ use Rattle.definitions.proofs.TableEntries.{length-with_entries, entry_at-with_e
 use Rattle.sig_header.specs.declared.area.Area.{Area}
 use Rattle.plain_machine.specs.UsableArea.{bad_slots_of}
 use Rattle.image_write.specs.Writing.{BlocksBelow}
-use Rattle.definitions.specs.Slots.{IsFileMap}
-use Rattle.stream_in.specs.Written.{AreOfMap}
+use Rattle.definitions.specs.FileMaps.{IsFileMap}
+use Rattle.stream_in.specs.Holding.{AreOfMap}
 use Rattle.stream_in.specs.Area.{AreUsable, HasBounds}
 
 zero_number : (k : ℕ) → k + 4 ≤ 4096 → number_at 4 zero_page k ≡ 0

@@ -7,13 +7,13 @@ use Rattle.definitions.specs.Disk.{Content, Changes, DiskImage, as_it_reads, blo
 use Rattle.stream_in.proofs.Contents.{changes_none, changes_then}
 use Rattle.swap_slots.specs.declared.table.SlotTable.{SlotTable}
 use Rattle.plain_machine.specs.Image.{maps_of}
-use Rattle.plain_machine.specs.Laid.{is_map_write, page_of_write}
+use Rattle.plain_machine.specs.Image.{is_map_write, page_of_write}
 use Rattle.image_write.specs.Writing.{Writing}
 use Rattle.stream_check.specs.Grammar.{all_pages, first_fault}
 use Rattle.stream_check.proofs.Steps.{all_pages-append, sound_from}
 use Rattle.stream_in.specs.Putting.{pages_in, pages_written, writes_made}
 use Rattle.stream_in.specs.Session.{IsOutput, IsBegun}
-use Rattle.stream_in.specs.Written.{ReadAsMade, MakesMore, page_at, AreWritten, WritesOn, writes_after}
+use Rattle.stream_in.specs.Holding.{ReadAsMade, MakesMore, page_at, AreWritten, WritesOn, writes_after}
 use Rattle.stream_in.proofs.Laying.{same_write}
 use Rattle.stream_in.proofs.Sessions.{IsFull, first_info, sound_full, some_written}
 

@@ -2,14 +2,14 @@
 use Rattle.std.proofs.Common.{◌≡◌, ◌≢◌, ◌⊎◌, ℕ, ◌+◌, ◌/◌, ◌%◌, ◌<◌, true, false, eqb, ◌||◌, List, refl, sym, ap, ◌∙◌, subst, inl, inr, ⊎_elim, arith}
 use Rattle.std.proofs.lemmas.Bool.{cases_eq, cond-true, cond-false, eq-eqb, ne_eqb, eqb-true, eqb-false, or_cases, or_parts, both_ways}
 use Rattle.plain_machine.specs.Image.{maps_of}
-use Rattle.plain_machine.specs.Laid.{is_map_write, page_of_write, laid_block}
+use Rattle.plain_machine.specs.Image.{is_map_write, page_of_write, laid_block}
 use Rattle.image_write.specs.Answers.{after, Succeeds, GoesOn}
 use Rattle.image_write.specs.Writing.{Writing, IsWriting, BlocksBelow, IsSameImage, writes_of}
 use Rattle.image_write.specs.declared.write_step.WriteStep.{WriteStep}
 use Rattle.image_write.specs.declared.write_step.WriteStep.TheVariants.{More, Done, Fault}
 use Rattle.image_write.proofs.Places.{page_write, page_is_one}
 use Rattle.stream_in.specs.Putting.{is_map_next, IsPagePut}
-use Rattle.stream_in.specs.Written.{writes_after}
+use Rattle.stream_in.specs.Holding.{writes_after}
 
 -- what a put of the writer says
 pub record IsPut (free : List ℕ) (frames : List (List ℕ)) (old new : Writing) (r : WriteStep) : Type 0 where

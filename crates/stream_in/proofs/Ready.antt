@@ -15,7 +15,7 @@ use Rattle.stream_in.specs.Holding.{first_blocks, IsReadyFor, StaysReady}
 use Rattle.stream_in.specs.Moments.{ElapsesOutside, AddsNoHeader}
 use Rattle.stream_in.specs.Outside.{IsBlockOf, KeepsOutside, WritesAtRest}
 use Rattle.stream_in.specs.Session.{IsOpened, TakesInto}
-use Rattle.stream_in.specs.Written.{WritesOn}
+use Rattle.stream_in.specs.Holding.{WritesOn}
 use Rattle.stream_in.proofs.Holding.{not_zero}
 use Rattle.stream_in.proofs.Rests.{ReadsKept, writes_kept}
 use Rattle.stream_in.proofs.Undoing.{first_block-some}

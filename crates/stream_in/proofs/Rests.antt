@@ -14,7 +14,7 @@ use Rattle.stream_check.specs.Grammar.{image_pages, all_pages}
 use Rattle.stream_check.proofs.Steps.{counts_from}
 use Rattle.stream_in.specs.Putting.{CanPut, is_map_next, pages_in, writes_made}
 use Rattle.stream_in.specs.Session.{IsOutput}
-use Rattle.stream_in.specs.Written.{MakesMore, ReadAsMade}
+use Rattle.stream_in.specs.Holding.{MakesMore, ReadAsMade}
 use Rattle.stream_in.proofs.Contents.{changes_as, changes_then}
 use Rattle.stream_in.proofs.Outsides.{keeps_none, keeps_then}
 

@@ -6,14 +6,14 @@ use Rattle.std.proofs.lemmas.Bool.{cases_lt, cond-false, ne_eqb, or_from}
 use Rattle.swap_slots.specs.declared.table.SlotTable.{SlotTable}
 use Rattle.definitions.proofs.PageBytes.{number_at-same, bytes_at-same}
 use Rattle.plain_machine.specs.Image.{maps_of}
-use Rattle.plain_machine.specs.Laid.{page_of_write}
+use Rattle.plain_machine.specs.Image.{page_of_write}
 use Rattle.image_write.specs.Writing.{Writing, BlocksBelow}
 use Rattle.stream_check.specs.Grammar.{image_pages, all_pages, are_counts, first_fault}
 use Rattle.stream_check.proofs.Steps.{IsSound, sound_from, counts_none, all_pages-append, first_fault-early}
 use Rattle.stream_check.specs.declared.fault.StreamFault.{StreamFault}
 use Rattle.std.proofs.lemmas.Option.{none-some}
 use Rattle.stream_in.specs.Putting.{CanPut, HasPut, HasTooFew, Suffice}
-use Rattle.stream_in.specs.Written.{writes_after}
+use Rattle.stream_in.specs.Holding.{writes_after}
 use Rattle.stream_in.specs.Session.{HasPage, IsBegun, IsOutput}
 use Rattle.stream_in.specs.Area.{HasTooFewFor, SufficeFor}
 

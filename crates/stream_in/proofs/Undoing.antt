@@ -16,7 +16,8 @@ use Rattle.protocol_laws.proofs.Signatures.{marked_false}
 use Rattle.plain_machine.specs.declared.reply.Left.{Left}
 use Rattle.plain_machine.specs.declared.reply.Left.TheVariants.{Same, Gone, Unsure}
 use Rattle.stream_in.specs.Area.{first_block}
-use Rattle.stream_in.specs.Marking.{HasHeader, Marks, Leaves, LeavesAt, LeavesOver, FailsToMark}
+use Rattle.stream_in.specs.Marking.{Leaves, LeavesAt}
+use Rattle.stream_in.specs.Marked.{HasHeader, Marks, LeavesOver, FailsToMark}
 use Rattle.stream_in.specs.declared.stop.InStop.{InStop}
 use Rattle.stream_in.specs.declared.stop.InStop.TheVariants as stop
 use Rattle.stream_in.proofs.Contents.{changes_then, changes_from, changes_to}

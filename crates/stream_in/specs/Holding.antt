@@ -1,18 +1,59 @@
 -- What a stream of bytes is on a disk when it has come in: the pages of an image, after a marked header block.
-use Rattle.std.specs.Prelude.{◌≡◌, ℕ, ◌+◌, List, [], ◌∷◌, ◌++◌, All, map, None, Ok}
+use Rattle.std.specs.Prelude.{◌≡◌, ℕ, ◌+◌, List, [], ◌∷◌, ◌++◌, All, map, None, Ok, ◌<◌, ◌≤◌, ◌==◌, ◌*◌, ◌/◌, length}
+use Rattle.std.specs.Prelude.{slice_index, if◌then◌else◌}
 use Rattle.std.specs.List.{concat, range_with_len}
 use Rattle.page_core.specs.declared.format.Format.TheVariants.{Plain}
-use Rattle.definitions.specs.Bytes.{IsPage}
+use Rattle.definitions.specs.Bytes.{IsPage, bytes_at}
 use Rattle.definitions.specs.Disk as disk
 use Rattle.definitions.specs.SwapHeader.{image_of, flags_of}
 use Rattle.sig_header.specs.AreaKind.{area_kind}
 use Rattle.sig_header.specs.declared.area.Area.{Area}
 use Rattle.sig_header.specs.declared.area.AreaKind.TheVariants as kind
 use Rattle.plain_machine.specs.Machine.{Hardware}
-use Rattle.plain_machine.specs.Image.{Image, stream_of}
+use Rattle.plain_machine.specs.Image.{Image, stream_of, maps_of, laid_write, page_of_write}
 use Rattle.plain_machine.specs.Chain.{header_of, Marked, chain, Holds}
 use Rattle.stream_check.specs.Grammar.{all_pages}
-use Rattle.stream_in.specs.Written.{page_at, AreWritten}
+use Rattle.definitions.specs.Disk.{Content, DiskImage, as_it_reads, block}
+use Rattle.definitions.specs.FileMaps.{IsFileMap}
+
+-- What the writes of a stream have left on the disk.
+
+-- the slots are those of a file map
+abbrev pub AreOfMap : List (ℕ × ℕ × ℕ) → List ℕ → Type 0
+AreOfMap extents free =
+    (slots : ℕ) × IsFileMap extents slots × ((place : ℕ) → place < length free → slice_index free place < slots)
+
+-- The first k writes of Laid of a stream of so many pages, whose page i is `pages i`, read as they were made.
+abbrev pub ReadAsMade : List (ℕ × ℕ × ℕ) → List ℕ → ℕ → (ℕ → List ℕ) → ℕ → DiskImage → Type 0
+ReadAsMade extents free count pages k v =
+    (j : ℕ) → j < k →
+    block v (laid_write extents free count (pages (page_of_write j)) j).0 ≡
+    (laid_write extents free count (pages (page_of_write j)) j).1
+
+-- where k of them did before, m of them do now
+abbrev pub MakesMore : List (ℕ × ℕ × ℕ) → List ℕ → ℕ → (ℕ → List ℕ) → ℕ → ℕ → Content → Content → Type 0
+MakesMore extents free count pages k m old new =
+    ReadAsMade extents free count pages k (as_it_reads old) → ReadAsMade extents free count pages m (as_it_reads new)
+
+-- page i of these bytes
+abbrev pub page_at : List ℕ → ℕ → List ℕ
+page_at bs i = bytes_at 4096 bs (4096 * i)
+
+-- how many writes of Laid are made when k pages of so many are written: the pages, the maps that they fill, and in the
+-- end the last map
+abbrev pub writes_after : ℕ → ℕ → ℕ
+writes_after pages k = if k == pages then pages + maps_of pages else k + k / 511
+
+-- Of the stream of these bytes the writes that its whole pages take read as they were made.
+abbrev pub AreWritten : List (ℕ × ℕ × ℕ) → List ℕ → List ℕ → DiskImage → Type 0
+AreWritten extents free bs v =
+    4096 ≤ length bs →
+    ReadAsMade extents free (all_pages bs) (page_at bs) (writes_after (all_pages bs) (length bs / 4096)) v
+
+-- with more bytes, more is written
+abbrev pub WritesOn : List (ℕ × ℕ × ℕ) → List ℕ → List ℕ → List ℕ → Content → Content → Type 0
+WritesOn extents free bs more old new =
+    AreWritten extents free bs (as_it_reads old) → AreWritten extents free (bs ++ more) (as_it_reads new)
 
 -- the extents of an area whose slots are the disk's first blocks
 abbrev pub first_blocks : Area → List (ℕ × ℕ × ℕ)

@@ -4,6 +4,6 @@ pub mod Stops
 pub mod Putting
 pub mod Session
 pub mod Outside
-pub mod Written
 pub mod Holding
 pub mod Moments
+pub mod Marked

@@ -2,7 +2,7 @@
 use Rattle.std.specs.Prelude.{◌≡◌, ◌<◌, ◌≤◌, ◌⊎◌, ℕ, ◌+◌, ◌*◌, Bool, true, false, List, length, Option, None, Some}
 use Rattle.definitions.specs.Disk.{Content, Syncs, as_it_reads, sector, settled}
 use Rattle.image_write.specs.Writing.{Writing}
-use Rattle.plain_machine.specs.Laid.{laid_block}
+use Rattle.plain_machine.specs.Image.{laid_block}
 
 -- a block of one of these slots
 abbrev pub IsBlockOf : List (ℕ × ℕ × ℕ) → List ℕ → ℕ → Type 0

@@ -4,11 +4,11 @@ use Rattle.std.specs.Prelude.{◌≡◌, ◌<◌, ◌≤◌, ◌==◌, ℕ, ◌+
 use Rattle.std.specs.Prelude.{Option, Some, None, ⊤, if◌then◌else◌}
 use Rattle.swap_slots.specs.Table.{free_in}
 use Rattle.swap_slots.specs.declared.table.SlotTable.{SlotTable}
-use Rattle.plain_machine.specs.Laid.{page_of_write, is_map_write, laid_block}
+use Rattle.plain_machine.specs.Image.{page_of_write, is_map_write, laid_block}
 use Rattle.image_write.specs.Writing.{Writing, IsWriting, IsSameImage, BlocksBelow, writes_of}
 use Rattle.image_write.specs.declared.write_step.WriteStep.{WriteStep}
 use Rattle.image_write.specs.declared.write_step.WriteStep.TheVariants.{More, Done, Fault}
-use Rattle.stream_in.specs.Written.{writes_after}
+use Rattle.stream_in.specs.Holding.{writes_after}
 use Rattle.stream_check.specs.Grammar.{image_pages, all_pages, are_counts}
 
 -- whether a map is written next

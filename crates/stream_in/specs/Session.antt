@@ -3,14 +3,14 @@ use Rattle.std.specs.Prelude.{◌≡◌, ◌⊎◌, ◌≤◌, ◌<◌, ℕ, ◌
 use Rattle.std.specs.Prelude.{Option, Some, None}
 use Rattle.swap_slots.specs.Table.{LiesIn, Matches, free_in}
 use Rattle.swap_slots.specs.declared.table.SlotTable.{SlotTable}
-use Rattle.plain_machine.specs.Laid.{laid_block}
+use Rattle.plain_machine.specs.Image.{laid_block}
 use Rattle.image_write.specs.Writing.{Writing, IsWriting, BlocksBelow}
 use Rattle.stream_check.specs.Grammar.{all_pages}
 use Rattle.stream_check.specs.Taken.{HasTaken}
 use Rattle.sig_header.specs.declared.area.Area.{Area}
 use Rattle.stream_in.specs.Area.{AreUsable}
 use Rattle.stream_in.specs.Holding.{first_blocks}
-use Rattle.stream_in.specs.Written.{AreOfMap, writes_after}
+use Rattle.stream_in.specs.Holding.{AreOfMap, writes_after}
 use Rattle.stream_in.specs.declared.session.StreamIn.{StreamIn}
 use Rattle.stream_in.specs.declared.stop.InStop.{InStop}
 

@@ -3,17 +3,18 @@ ghost use Rattle.std.specs.Prelude.{None, Err, IsSome, IsTrue, IfOk, IfErr, IfSo
 ghost use Rattle.definitions.specs.Disk.{HasRisen, Changes, as_it_reads, block};
 ghost use Rattle.sig_header.specs.AreaKind.{area_kind};
 ghost use Rattle.plain_machine.specs.UsableArea.{kind_fault};
-ghost use Rattle.plain_machine.specs.Laid.{laid_block};
+ghost use Rattle.plain_machine.specs.Image.{laid_block};
 ghost use Rattle.definitions.specs.Bytes.{zero_page};
 ghost use Rattle.stream_in.specs.Area.{first_block, open_fault, HasBounds};
 ghost use Rattle.sig_header.specs.declared.area.Area.{Area as AreaValue};
 ghost use Rattle.sig_header.specs.declared.area.AreaKind.TheVariants as kind;
-ghost use Rattle.definitions.specs.Slots.{IsFileMap};
+ghost use Rattle.definitions.specs.FileMaps.{IsFileMap};
 ghost use Rattle.stream_in.specs.Outside.{StopsAtRest, WritesAtRest};
 ghost use Rattle.stream_in.specs.Moments.{AddsNoHeader, ElapsesAlike, ElapsesOutside, ElapsesOverMark, MarksWhole};
 ghost use Rattle.stream_in.specs.Moments.{LeavesWhole};
-ghost use Rattle.stream_in.specs.Written.{AreOfMap, WritesOn};
-ghost use Rattle.stream_in.specs.Marking.{Marks, LeavesAt};
+ghost use Rattle.stream_in.specs.Holding.{AreOfMap, WritesOn};
+ghost use Rattle.stream_in.specs.Marking.{LeavesAt};
+ghost use Rattle.stream_in.specs.Marked.{Marks};
 ghost use Rattle.stream_in.specs.Holding.{IsReadyFor, StaysReady, ComesIn};
 ghost use Rattle.image_write.specs.Writing.{Writing};
 

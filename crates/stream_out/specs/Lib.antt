@@ -2,4 +2,3 @@ pub mod Bytes
 pub mod Cursor
 pub mod Kept
 pub mod Pages
-pub mod TaskSlots

@@ -1,6 +1,6 @@
 ghost use Rattle.std.specs.Prelude.{◌≡◌, length, IfSome, IsNone, ◌↔◌};
 ghost use Rattle.definitions.specs.Zones.{top};
-ghost use Rattle.stream_out.specs.TaskSlots.{HasNoTaskSlot, IsFirstTaskSlot};
+ghost use Rattle.stream_out.specs.Bytes.{HasNoTaskSlot, IsFirstTaskSlot};
 
 use frame_arena::Frames;
 use machine::{Hardware, slot_table};
@@ -34,7 +34,7 @@ pub fn first_task_slot(frames: &Frames, hw: &Hardware) -> Option<u32>
 }
 
 ghost use Rattle.std.specs.Prelude.{IsTrue};
-ghost use Rattle.stream_out.specs.TaskSlots.{IsTaskEntry};
+ghost use Rattle.stream_out.specs.Bytes.{IsTaskEntry};
 ghost use Rattle.swap_slots.specs.Entries.{word_of};
 
 /// Whether a slot is a task's.

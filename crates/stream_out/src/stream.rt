@@ -2,7 +2,7 @@ ghost use Rattle.std.specs.Prelude.{◌≡◌, ◌≤◌, ◌<◌, ◌++◌, [],
 ghost use Rattle.definitions.specs.Zones.{top};
 ghost use Rattle.stream_out.specs.Bytes.{bytes_of, plain_image};
 ghost use Rattle.stream_out.specs.Pages.{IsSaveableSet};
-ghost use Rattle.stream_out.specs.TaskSlots.{HasNoTaskSlot, IsFirstTaskSlot};
+ghost use Rattle.stream_out.specs.Bytes.{HasNoTaskSlot, IsFirstTaskSlot};
 
 use crate::SlotsInUse;
 use crate::cursor::Cursor;

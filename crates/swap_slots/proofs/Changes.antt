@@ -2,7 +2,7 @@
 use Rattle.std.proofs.Common.{◌≡◌, ℕ, ◌+◌, ◌-◌, ◌/◌, ◌^◌, ◌<◌, ◌≤◌, ◌↔◌, IsTrue, Bool, List, length, sym, ap, ◌∙◌, subst, arith}
 use mir.Val.{bool_byte}
 use Rattle.definitions.specs.Zones.{numbers}
-use Rattle.definitions.specs.Slots.{runs_of}
+use Rattle.definitions.specs.FreeRuns.{runs_of}
 use Rattle.definitions.specs.FrameSets.{inserted, removed}
 use Rattle.definitions.proofs.SlotRuns.{numbers-runs_of}
 use Rattle.swap_slots.specs.Bits.{bit_of, IsClearWord, ChangesBit}

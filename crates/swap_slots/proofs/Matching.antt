@@ -5,8 +5,8 @@ use Rattle.std.specs.List.{All, Contains, slice_get}
 use Rattle.definitions.specs.Bytes.{IsPage}
 use Rattle.definitions.specs.Zones.{numbers}
 use Rattle.definitions.specs.Tables.{entry_at, with_entry, with_entries}
-use Rattle.definitions.specs.Slots.{runs_of}
-use Rattle.definitions.specs.Lists.{image_slots}
+use Rattle.definitions.specs.FreeRuns.{runs_of}
+use Rattle.definitions.specs.Tables.{image_slots}
 use Rattle.definitions.specs.FrameSets.{inserted, removed}
 use Rattle.definitions.proofs.Ascending.{Contains-head}
 use Rattle.definitions.proofs.SlotRuns.{numbers-runs_of}

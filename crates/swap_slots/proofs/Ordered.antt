@@ -1,7 +1,8 @@
 -- Extents in order, one after another, and where a block lies in them.
 use Rattle.std.proofs.Common.{◌≡◌, ℕ, ◌+◌, ◌-◌, ◌<◌, ◌≤◌, suc, List, [], ◌∷◌, ◌++◌, length, take, set, replicate, sym, ap, ◌∙◌, subst, arith, append_assoc}
 use Rattle.std.proofs.lemmas.List.{length-take-le, get_or-take, take_more, set_at}
-use Rattle.definitions.specs.Slots.{block_of, extent_at, slots_before, LieApart, IsInOrder, IsFileMap}
+use Rattle.definitions.specs.Slots.{block_of, extent_at, slots_before}
+use Rattle.definitions.specs.FileMaps.{LieApart, IsInOrder, IsFileMap}
 use Rattle.definitions.proofs.FileMaps.{HasSlot, extent_of_slot, block_of-slot, slot_below}
 use Rattle.swap_slots.specs.Extents.{Follows}
 

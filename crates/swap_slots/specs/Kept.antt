@@ -1,7 +1,7 @@
 -- How the free slots are kept: a bit for each slot, and a bit for each word of those, 1 where the word isn't 0.
 use Rattle.std.specs.Prelude.{◌≡◌, ◌==◌, ℕ, ◌*◌, ◌/◌, ◌^◌, ◌<◌, ◌≤◌, List, length, filter}
 use Rattle.std.specs.List.{range_with_len}
-use Rattle.definitions.specs.Slots.{runs_of}
+use Rattle.definitions.specs.FreeRuns.{runs_of}
 use Rattle.swap_slots.specs.Bits.{bit_of, IsClearWord}
 use Rattle.swap_slots.specs.Runs.{SlotRuns}
 use Rattle.swap_slots.specs.declared.runs.FreeRuns.TheInside.{Inside}

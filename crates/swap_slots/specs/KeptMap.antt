@@ -2,7 +2,8 @@
 use Rattle.std.specs.Prelude.{◌≡◌, ℕ, ◌-◌, ◌^◌, ◌<◌, List, ◌++◌, length, take, drop, replicate}
 use Rattle.std.proofs.Common.{sym, ap, ap₂, ◌∙◌}
 use Rattle.std.proofs.lemmas.List.{take-append-drop}
-use Rattle.definitions.specs.Slots.{slots_of, IsFileMap}
+use Rattle.definitions.specs.Slots.{slots_of}
+use Rattle.definitions.specs.FileMaps.{IsFileMap}
 use Rattle.swap_slots.specs.declared.file_map.FileMap.TheInside.{Inside}
 
 -- the extents, as `of` took them

@@ -1,6 +1,6 @@
 -- What the free slots of a machine are in a contract.
 use Rattle.std.specs.Prelude.{◌≡◌, ◌≤◌, ℕ, ◌+◌, ◌∷◌, List, filter, nat_le}
-use Rattle.definitions.specs.Slots.{runs_of}
+use Rattle.definitions.specs.FreeRuns.{runs_of}
 
 -- the slots that it was created for, and the maximal runs of free slots, ascending: a pair (first, count) each
 pub record SlotRuns : Type 0 where

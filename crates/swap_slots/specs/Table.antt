@@ -1,7 +1,7 @@
 -- The slot table, and when runs of free slots are those of a table.
 use Rattle.std.specs.Prelude.{◌≡◌, ◌≤◌, ◌⊎◌, ℕ, List}
-use Rattle.definitions.specs.Lists.{free_slots, image_slots}
-use Rattle.definitions.specs.Slots.{free_runs}
+use Rattle.definitions.specs.Tables.{free_slots, image_slots}
+use Rattle.definitions.specs.FreeRuns.{free_runs}
 use Rattle.definitions.specs.Tables.{HasTable}
 use Rattle.swap_slots.specs.Runs.{SlotRuns}
 use Rattle.swap_slots.specs.declared.table.SlotTable.{SlotTable}

@@ -1,6 +1,7 @@
 ghost use Rattle.std.specs.Prelude.{◌≡◌, ℕ, ◌+◌, ◌-◌, ◌<◌, ◌≤◌, ◌↔◌, IsTrue, IsOk, IsNone, IfOk, IfSome, List, length};
-ghost use Rattle.definitions.specs.Slots.{block_of, extent_at, slots_before, slots_of, LieApart, IsInOrder, IsFileMap};
-ghost use Rattle.definitions.specs.Slots.{IsExtentFault};
+ghost use Rattle.definitions.specs.Slots.{block_of, extent_at, slots_before, slots_of};
+ghost use Rattle.definitions.specs.FileMaps.{LieApart, IsInOrder, IsFileMap};
+ghost use Rattle.definitions.specs.FileMaps.{IsExtentFault};
 ghost use Rattle.swap_slots.specs.Extents.{Follows};
 
 use std::marker::Model;

@@ -1,7 +1,7 @@
 ghost use Rattle.std.specs.Prelude.{◌≡◌, ℕ, ◌+◌, ◌<◌, ◌≤◌, ◌↔◌, [], List, IsTrue, IfOk, MatchOption, Contains, length};
 ghost use Rattle.std.specs.Prelude.{replicate, slice_get};
 ghost use Rattle.definitions.specs.Zones.{numbers};
-ghost use Rattle.definitions.specs.Slots.{runs_of, free_runs};
+ghost use Rattle.definitions.specs.FreeRuns.{runs_of, free_runs};
 ghost use Rattle.definitions.specs.Tables.{HasTable};
 ghost use Rattle.definitions.specs.FrameSets.{inserted, removed};
 ghost use Rattle.swap_slots.specs.Runs.{SlotRuns, from_slot, IsFirstRun};

@@ -1,6 +1,6 @@
 -- Memory that was refused before the disk was called.
 use Rattle.std.proofs.Common.{◌≡◌, inl, inr, ℕ, refl, sym, subst, Option, Some, None, List}
-use Rattle.command_kit.specs.Answer.{RunResult, memory_told, unparsed}
+use Rattle.command_kit.specs.Told.{RunResult, memory_told, unparsed}
 use Rattle.swsusp_cli.specs.Drills as drills
 use Rattle.swsusp_cli.specs.Drills.{IsDrilled}
 use Rattle.swsusp_cli.specs.Dumps as dumps

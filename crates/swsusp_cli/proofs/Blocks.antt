@@ -9,7 +9,8 @@ use Rattle.definitions.proofs.FrameSets.{Contains-from_filter}
 use Rattle.definitions.proofs.ZoneNumbers.{range-bounds}
 use Rattle.plain_machine.specs.Machine.{Hardware, Memory, block_of_slot, unused_slots, slot_entry}
 use Rattle.plain_machine.specs.Image.{Image, stream_of, maps_of}
-use Rattle.plain_machine.specs.Laid.{laid, laid_block, laid_map, laid_write, is_map_write, map_place, page_place, page_of_write}
+use Rattle.plain_machine.specs.Image.{laid, laid_block, laid_map, laid_write, is_map_write, map_place, page_place}
+use Rattle.plain_machine.specs.Image.{page_of_write}
 use Rattle.plain_machine.specs.Shows.{WorldView}
 use Rattle.plain_machine.specs.Stands.{Stands, HasFlights, laid_blocks}
 use Rattle.plain_machine.specs.State.{State, Running, Flight, goes_out, comes_in, off, on, booting, hibernating, undoing, settling, waking, loading, asleep}

@@ -8,10 +8,10 @@ use Rattle.sig_header.specs.declared.area.Area.{Area}
 use Rattle.stream_in.specs.Holding.{HasComeIn, IsReadyFor, StaysReady}
 use Rattle.stream_in.specs.Moments.{AddsNoHeader, ElapsesAlike, ElapsesOverMark, MarksWhole}
 use Rattle.stream_in.specs.Session.{TakesInto}
-use Rattle.stream_in.specs.Written.{AreOfMap}
+use Rattle.stream_in.specs.Holding.{AreOfMap}
 use Rattle.stream_in.specs.declared.session.StreamIn.{StreamIn}
 use Rattle.command_kit.specs.View.{DiskView}
-use Rattle.swsusp_cli.specs.Crashes.{HasWhole, ImportsInside}
+use Rattle.swsusp_cli.specs.Imports.{HasWhole, ImportsInside}
 use Rattle.swsusp_cli.specs.Feeding.{HasFed, KeepsHeaders, TakesToEnd}
 
 -- Header blocks, piece by piece.

@@ -5,10 +5,10 @@ use Rattle.definitions.specs.Disk as disk
 use Rattle.plain_machine.specs.declared.reply.Reply.{Reply}
 use Rattle.protocol_laws.specs.Rows.{TellsNewFault}
 use Rattle.script.specs.Drill.{drill_events, drill_script}
-use Rattle.command_kit.specs.Answer.{memory_told}
+use Rattle.command_kit.specs.Told.{memory_told}
 use Rattle.swsusp_cli.specs.Drills.{IsDrilled, out_of_memory, too_small, unformatted, summed, summary_told}
 use Rattle.swsusp_cli.specs.Outcome.{Tells, small_told, unformatted_told}
-use Rattle.world_runs.specs.Counts.{AreCounted}
+use Rattle.world_runs.specs.Turns.{AreCounted}
 use Rattle.swsusp_cli.specs.SettingUp.{IsNotSetUp, unready_told}
 use Rattle.command_kit.specs.View.{View}
 use Rattle.swsusp_words.specs.Words.{Asked, drill}

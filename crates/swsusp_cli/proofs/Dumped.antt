@@ -9,7 +9,7 @@ use Rattle.definitions.proofs.DiskLaws.{IsImage-settled}
 use Rattle.dump_file.specs.Dump.{DumpValue, dump_of}
 use Rattle.plain_machine.specs.Chain.{Marked}
 use Rattle.plain_machine.specs.Machine.{Hardware, Memory}
-use Rattle.plain_machine.specs.Premises.{HasOriginal}
+use Rattle.plain_machine.specs.UsableArea.{HasOriginal}
 use Rattle.plain_machine.specs.Stands.{IsSameOrTakenBack}
 use Rattle.plain_machine.specs.declared.event.IdentCheck.{IdentCheck}
 use Rattle.plain_machine.specs.Shows.{WorldView}
@@ -18,9 +18,9 @@ use Rattle.plain_machine.specs.declared.reply.Reply.{Reply}
 use Rattle.sector_disk.specs.declared.disk.Disk.{Ghosts}
 use Rattle.protocol_laws.proofs.Inside.{taken_itself}
 use Rattle.command_core.specs.Runs.{RanAs}
-use Rattle.command_core.specs.Hibernation.{HasHibernated, IsUnmarkedOrHolds}
+use Rattle.command_core.specs.Answers.{HasHibernated, IsUnmarkedOrHolds}
 use Rattle.command_core.specs.Answers.{image_to_save, machine_to_save}
-use Rattle.command_core.specs.Resumption.{HasResumed}
+use Rattle.command_core.specs.Answers.{HasResumed}
 use Rattle.command_core.specs.declared.ending.Ended.{Ended}
 use Rattle.swsusp_cli.specs.Dumps.{SavesInside}
 use Rattle.swsusp_cli.specs.Loads.{LoadsInside}

@@ -9,12 +9,12 @@ use Rattle.stream_check.proofs.Steps.{sound_from}
 use Rattle.stream_in.specs.Outside.{StopsAtRest, WritesAtRest}
 use Rattle.stream_in.specs.Area.{HasTooFewFor, SufficeFor}
 use Rattle.stream_in.specs.Stops.{IsOfFeed}
-use Rattle.stream_in.specs.Written.{WritesOn}
+use Rattle.stream_in.specs.Holding.{WritesOn}
 use Rattle.stream_in.specs.declared.stop.InStop.{InStop}
 use Rattle.stream_in.specs.declared.stop.InStop.TheVariants as stop
 use Rattle.stream_check.specs.declared.fault.StreamFault.{StreamFault}
 use Rattle.stream_in.proofs.Rests.{stops_then, unwritten, writes_then}
-use Rattle.swsusp_cli.specs.Called.{IsCalledAtMost}
+use Rattle.swsusp_cli.specs.Imports.{IsCalledAtMost}
 use Rattle.swsusp_cli.specs.Feeding.{HoldsFed, IsStopFor}
 use Rattle.command_kit.specs.View.{DiskView}
 

@@ -11,7 +11,7 @@ use Rattle.sig_header.specs.AreaKind.{area_kind}
 use Rattle.sig_header.specs.declared.area.Area.{Area}
 use Rattle.sig_header.specs.declared.area.AreaKind.TheVariants as kind
 use Rattle.plain_machine.specs.Image.{maps_of}
-use Rattle.plain_machine.specs.Laid.{laid_block, laid_write, page_of_write}
+use Rattle.plain_machine.specs.Image.{laid_block, laid_write, page_of_write}
 use Rattle.plain_machine.specs.UsableArea.{kind_fault}
 use Rattle.plain_machine.specs.declared.no_swap.NoSwap.{NoSwap}
 use Rattle.image_write.specs.Writing.{Writing}
@@ -22,18 +22,19 @@ use Rattle.stream_check.specs.declared.fault.StreamFault.{StreamFault}
 use Rattle.stream_check.proofs.Steps.{sound_from}
 use Rattle.stream_in.specs.Area.{AreUsable, first_block, open_fault}
 use Rattle.stream_in.specs.Holding.{ComesIn}
-use Rattle.stream_in.specs.Marking.{Marks, LeavesAt}
+use Rattle.stream_in.specs.Marking.{LeavesAt}
+use Rattle.stream_in.specs.Marked.{Marks}
 use Rattle.stream_in.specs.Outside.{IsBlockOf, KeepsOutside, StopsAtRest}
 use Rattle.stream_in.proofs.Rests.{stops_still}
 use Rattle.stream_in.specs.Session.{IsOpened, IsOutput}
 use Rattle.stream_in.specs.Stops.{IsDiskStop, IsOfOpen, IsOfFinish, IfNoSwap}
-use Rattle.stream_in.specs.Written.{page_at, writes_after}
+use Rattle.stream_in.specs.Holding.{page_at, writes_after}
 use Rattle.stream_in.specs.declared.session.StreamIn.{StreamIn}
 use Rattle.stream_in.specs.declared.stop.InStop.{InStop}
 use Rattle.stream_in.specs.declared.stop.InStop.TheVariants as stop
 use Rattle.stream_in.proofs.Contents.{changes_then, changes_as}
 use Rattle.stream_in.proofs.Undoing.{first_block-some}
-use Rattle.swsusp_cli.specs.Called.{IsCalledAtMost}
+use Rattle.swsusp_cli.specs.Imports.{IsCalledAtMost}
 use Rattle.swsusp_cli.specs.Feeding.{Feeds, HoldsFed, HasFed, HasStopped, IsStopFor}
 use Rattle.swsusp_cli.specs.Imports.{Ends, HasWritten, IsArea, AreRead, IsUnmarked, IsUsable, KeepsUnusable, LeavesUnusable, MarksNot, OfSome, Stores, whole_map}
 use Rattle.command_kit.specs.View.{DiskView}

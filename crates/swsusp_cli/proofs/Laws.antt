@@ -19,7 +19,7 @@ use Rattle.run_laws.specs.Sleeps.{NeverBothGoOn}
 use Rattle.run_laws.proofs.AtomicCopy.{all_restore}
 use Rattle.run_laws.proofs.Once.{resumed_once}
 use Rattle.run_laws.proofs.Sleeps.{never_both}
-use Rattle.world_runs.specs.Counts.{steps_of}
+use Rattle.world_runs.specs.Turns.{steps_of}
 use Rattle.command_core.proofs.Runs.{hibernation_few, resumption_few}
 use Rattle.swsusp_cli.specs.Drills as drills
 use Rattle.swsusp_cli.specs.Drills.{IsDrilled}
@@ -77,9 +77,9 @@ few_calls_of_replay x x' status (cut_off script is) =
 
 -- by a drill likewise
 pub few_calls_of_drill : (number : ℕ) (x x' : View) (status : Status) → length (drill_events number) ≤ 100000 → IsDrilled number x x' status → x'.disk.calls ≤ x.disk.calls + 100002
-few_calls_of_drill number x x' status few (out_of_memory is) = calls_untouched x x' is.untouched
-few_calls_of_drill number x x' status few (too_small is) = calls_untouched x x' is.untouched
-few_calls_of_drill number x x' status few (unformatted call is) = until_few call x.disk.calls x'.disk.calls is.calls
+few_calls_of_drill number x x' status few (drills.out_of_memory is) = calls_untouched x x' is.untouched
+few_calls_of_drill number x x' status few (drills.too_small is) = calls_untouched x x' is.untouched
+few_calls_of_drill number x x' status few (drills.unformatted call is) = until_few call x.disk.calls x'.disk.calls is.calls
 few_calls_of_drill number x x' status few (drills.summed is) =
     let steps = steps_few (drill_events number) 100000 few in
     let calls = is.are.calls in

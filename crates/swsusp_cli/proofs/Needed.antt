@@ -2,7 +2,8 @@
 use Rattle.std.proofs.Common.{◌≡◌, ◌≤◌, ◌<◌, ℕ, ◌+◌, ◌-◌, inl, inr, List, length, nat_lt, eqb, cond, Bool, true, false, Less, Equal, Greater, refl, sym, ap, ◌∙◌, arith}
 use Rattle.std.proofs.lemmas.Bool.{cases_lt, cond-true, cond-false, lt-ltb, le-ltb}
 use Rattle.std.specs.Ordering.{is_lt, nat_cmp, ord_max}
-use Rattle.definitions.specs.Slots.{extent_at, IsFileMap}
+use Rattle.definitions.specs.Slots.{extent_at}
+use Rattle.definitions.specs.FileMaps.{IsFileMap}
 use Rattle.definitions.proofs.FileMaps.{HasSlot, extent_of_slot, block_of-slot, slot_below}
 use Rattle.plain_machine.specs.Machine.{Hardware, block_of_slot}
 use Rattle.swsusp_cli.specs.Formatting.{IsNeeded}

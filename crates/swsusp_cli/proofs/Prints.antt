@@ -2,7 +2,7 @@
 use Rattle.std.proofs.Common.{zero, suc, ◌≢◌, inl, inr, ◌≤◌, ℕ, List, [], Option, Some, None, Result, Ok, Err, OnOk, OnErr, subst, arith, append-nil}
 use Rattle.definitions.specs.Streams.{Takes, TakesAll, TakesFront}
 use Rattle.byte_streams.specs.Flushed.{IsFlushed}
-use Rattle.command_kit.specs.Answer.{RunResult, memory_told}
+use Rattle.command_kit.specs.Told.{RunResult, memory_told}
 use Rattle.swsusp_cli.specs.Outcome.{IsReplayed, no_script, out_of_memory, unread, too_small, unformatted, played, cut_off, fault_told, small_told, unformatted_told}
 use Rattle.page_core.specs.declared.format.Format.{Format}
 use Rattle.plain_machine.specs.declared.event.IdentCheck.{IdentCheck}

@@ -5,13 +5,13 @@ use Rattle.definitions.specs.Disk.{DiskImage, HasRisen, IsImage}
 use Rattle.definitions.specs.Streams.{HandsOut}
 use Rattle.std.specs.Option.{IfSome}
 use Rattle.byte_streams.specs.Flushed.{IsFlushed}
-use Rattle.command_kit.specs.Answer.{RunResult, memory_told}
+use Rattle.command_kit.specs.Told.{RunResult, memory_told}
 use Rattle.command_kit.specs.View.{View}
 use Rattle.command_kit.specs.declared.status.Status.{Status}
 use Rattle.command_kit.specs.declared.status.Status.TheVariants as status
 use Rattle.sector_disk.specs.declared.disk.Disk.{Ghosts}
 use Rattle.swsusp_cli.specs.Outcome.{Tells}
-use Rattle.swsusp_cli.specs.Reading.{HandsOutAtMost}
+use Rattle.swsusp_cli.specs.Outcome.{HandsOutAtMost}
 use Rattle.swsusp_cli.specs.Theorem.{Does, HasCause, IsSafe, Promise}
 use Rattle.swsusp_words.specs.Words.{Asked, command_of, inspect, hibernate, resume, replay, drill, export, import}
 use Rattle.swsusp_cli.proofs.Answered.{memory_drills, memory_exports, memory_hibernates, memory_imports, memory_replays, memory_resumes}

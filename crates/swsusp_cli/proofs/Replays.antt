@@ -22,11 +22,11 @@ use Rattle.sector_disk.specs.declared.orders.Order.{Order}
 use Rattle.world_core.specs.StandsFor.{StandsFor, IsNewWorld, hardware_of, shown}
 use Rattle.world_core.specs.World.{World}
 use Rattle.swsusp_cli.specs.Formatting.{Formats, LieBelow, calls_until}
-use Rattle.command_kit.specs.Answer.{done}
+use Rattle.command_kit.specs.Told.{done}
 use Rattle.swsusp_cli.specs.Outcome.{IsScript, IsReplayed, IsTooSmall, IsUnformatted, Tells, no_script, out_of_memory, unread, too_small, unformatted, played, cut_off, small_told, unformatted_told}
 use Rattle.swsusp_cli.specs.Playing.{HasPlayed, Played}
 use Rattle.swsusp_cli.specs.Replay.{orders_of, IsRun, IsNoSlot, AreReplies, Prints}
-use Rattle.world_runs.specs.Counts.{is_step, steps_of}
+use Rattle.world_runs.specs.Turns.{is_step, steps_of}
 use Rattle.swsusp_cli.specs.SettingUp.{FailsToSetUp, HasTooFew, IsNotSetUp, IsSetUp, IsFailedCall as IsOfCall, unready_told}
 use Rattle.command_kit.specs.Told.{AreFronts, IsTold, IsTried, sink_note}
 use Rattle.command_kit.specs.View.{View, DiskView, SinkView}

@@ -8,7 +8,7 @@ use Rattle.definitions.specs.Streams.{IsUsedUp, HandsOut}
 use Rattle.script.specs.Grammar.{ScriptValue, script_of, value_of, line_count, lines_of}
 use Rattle.script.specs.declared.fault.FaultKind.TheVariants as kind
 use Rattle.script.specs.declared.fault.ScriptFault.{ScriptFault}
-use Rattle.swsusp_cli.specs.Reading.{IsReadAs, HandsOutAtMost}
+use Rattle.swsusp_cli.specs.Outcome.{IsReadAs, HandsOutAtMost}
 
 long_fault : (bytes : List ℕ) → 1048576 < length bytes → script_of bytes ≡ Err (record { line = 0; kind = kind.TooLong })
 unfolding script_of

@@ -26,7 +26,7 @@ use Rattle.world_core.specs.World.{World}
 use Rattle.swsusp_cli.specs.Playing.{Played, HasPlayed}
 use Rattle.swsusp_cli.specs.Replay.{orders_of}
 use Rattle.sector_disk.specs.declared.orders.Order.{Order}
-use Rattle.world_runs.specs.Counts.{is_step, steps_of, AreCounted}
+use Rattle.world_runs.specs.Turns.{is_step, steps_of, AreCounted}
 use Rattle.world_runs.proofs.Counted.{called_one, counted_append, counted_one, counted_later, steps_append}
 use Rattle.command_kit.specs.View.{DiskView}
 use Rattle.command_core.proofs.Leaving.{leaves_then}

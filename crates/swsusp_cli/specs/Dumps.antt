@@ -9,17 +9,17 @@ use Rattle.dump_file.specs.declared.dump.DumpFault.{DumpFault}
 use Rattle.dump_file.specs.declared.dump.DumpKind.{DumpKind}
 use Rattle.dump_file.specs.declared.dump.DumpKind.TheVariants as kind
 use Rattle.plain_machine.specs.Chain.{Marked}
-use Rattle.plain_machine.specs.Premises.{HasOriginal}
+use Rattle.plain_machine.specs.UsableArea.{HasOriginal}
 use Rattle.plain_machine.specs.Replies.{line_of}
 use Rattle.plain_machine.specs.declared.reply.Reply.{Reply}
 use Rattle.plain_machine.specs.declared.reply.Reply.TheVariants as reply
 use Rattle.plain_machine.specs.Shows.{WorldView}
 use Rattle.sector_disk.specs.declared.disk.Disk.{Ghosts}
 use Rattle.command_core.specs.Runs.{IsHibernation, RanAs}
-use Rattle.command_core.specs.Hibernation.{HasHibernated, IsUnmarkedOrHolds}
+use Rattle.command_core.specs.Answers.{HasHibernated, IsUnmarkedOrHolds}
 use Rattle.command_core.specs.Answers.{image_to_save, machine_to_save}
 use Rattle.command_core.specs.declared.ending.Ended.{Ended}
-use Rattle.command_kit.specs.Answer.{RunResult, line}
+use Rattle.command_kit.specs.Told.{RunResult, line}
 use Rattle.swsusp_cli.specs.Outcome.{IsOutOfMemory, FailsAtSource, Tells}
 use Rattle.command_kit.specs.View.{View}
 use Rattle.command_kit.specs.declared.status.Status.{Status}

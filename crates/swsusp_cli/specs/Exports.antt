@@ -4,8 +4,8 @@ use Rattle.dump_file.specs.Dump.{DumpValue}
 use Rattle.dump_file.specs.declared.dump.DumpFault.{DumpFault}
 use Rattle.plain_machine.specs.Machine.{Hardware, Memory}
 use Rattle.stream_out.specs.Bytes.{bytes_of, plain_image}
-use Rattle.stream_out.specs.TaskSlots.{HasNoTaskSlot, IsFirstTaskSlot}
-use Rattle.command_kit.specs.Answer.{RunResult, line}
+use Rattle.stream_out.specs.Bytes.{HasNoTaskSlot, IsFirstTaskSlot}
+use Rattle.command_kit.specs.Told.{RunResult, line}
 use Rattle.swsusp_cli.specs.Dumps.{IsDump, IsNoDump}
 use Rattle.swsusp_cli.specs.Outcome.{IsOutOfMemory, FailsAtSource, Tells}
 use Rattle.command_kit.specs.View.{View}

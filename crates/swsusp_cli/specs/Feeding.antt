@@ -4,7 +4,7 @@ use Rattle.definitions.specs.Disk.{Content, Changes, DiskImage, HasRisen, as_it_
 use Rattle.definitions.specs.Streams.{HandsOut, IsUsedUp}
 use Rattle.plain_machine.specs.declared.reply.Left.TheVariants.{Same}
 use Rattle.stream_check.specs.Grammar.{first_fault}
-use Rattle.stream_check.specs.Taken.{most_bytes}
+use Rattle.stream_check.specs.Grammar.{most_bytes}
 use Rattle.sig_header.specs.declared.area.Area.{Area}
 use Rattle.stream_in.specs.Holding.{StaysReady}
 use Rattle.stream_in.specs.Moments.{AddsNoHeader}
@@ -12,12 +12,12 @@ use Rattle.stream_in.specs.Outside.{StopsAtRest, WritesAtRest}
 use Rattle.stream_in.specs.Session.{IsFed, TakesInto}
 use Rattle.stream_in.specs.Area.{HasTooFewFor, SufficeFor}
 use Rattle.stream_in.specs.Stops.{IsDiskStop}
-use Rattle.stream_in.specs.Written.{AreWritten}
+use Rattle.stream_in.specs.Holding.{AreWritten}
 use Rattle.stream_in.specs.declared.session.StreamIn.{StreamIn}
 use Rattle.stream_in.specs.declared.stop.InStop.{InStop}
 use Rattle.stream_in.specs.declared.stop.InStop.TheVariants as stop
 use Rattle.command_kit.specs.View.{DiskView}
-use Rattle.swsusp_cli.specs.Called.{IsCalledAtMost}
+use Rattle.swsusp_cli.specs.Imports.{IsCalledAtMost}
 use Rattle.swsusp_cli.specs.declared.importing.ImportStop.{ImportStop}
 use Rattle.swsusp_cli.specs.declared.importing.ImportStop.TheVariants.{Source, Session}
 

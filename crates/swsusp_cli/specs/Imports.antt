@@ -3,30 +3,28 @@ use Rattle.std.specs.Prelude.{◌≡◌, ◌≤◌, ◌<◌, ◌⊎◌, ℕ, ◌
 use Rattle.std.specs.Prelude.{Some, None, Result, Ok, Err, IfSome, Contains}
 use Rattle.definitions.specs.Disk.{Changes, Content, HasRisen, DiskImage, IsImage, as_it_reads, block, sector, settled}
 use Rattle.definitions.specs.Streams.{HandsOut, IsUsedUp}
-use Rattle.definitions.specs.SwapHeader.{marked}
+use Rattle.definitions.specs.SwapHeader.{marked, IsMarked}
 use Rattle.sig_header.specs.AreaKind.{area_kind}
 use Rattle.sig_header.specs.declared.area.Area.{Area}
 use Rattle.sig_header.specs.declared.area.AreaKind.TheVariants as kind
 use Rattle.plain_machine.specs.Image.{maps_of}
-use Rattle.plain_machine.specs.Laid.{laid_block}
+use Rattle.plain_machine.specs.Image.{laid_block}
 use Rattle.plain_machine.specs.Replies.{line_of}
 use Rattle.plain_machine.specs.UsableArea.{bad_slots_of}
 use Rattle.plain_machine.specs.declared.no_swap.NoSwap.{NoSwap}
 use Rattle.plain_machine.specs.declared.reply.Left.TheVariants.{Same}
 use Rattle.plain_machine.specs.declared.reply.Reply.TheVariants as reply
-use Rattle.stream_check.specs.Grammar.{image_pages, all_pages, first_fault, short_fault}
-use Rattle.stream_check.specs.Taken.{most_bytes}
+use Rattle.stream_check.specs.Grammar.{image_pages, all_pages, first_fault, short_fault, most_bytes}
 use Rattle.stream_check.specs.declared.fault.Kind.{Kind}
 use Rattle.stream_check.specs.declared.fault.Kind.TheVariants as fault
 use Rattle.stream_check.specs.declared.fault.StreamFault.{StreamFault}
 use Rattle.stream_in.specs.Area.{AreUsable, first_block, open_fault, HasTooFewFor, SufficeFor}
 use Rattle.stream_in.specs.Holding.{HasComeIn}
 use Rattle.stream_in.specs.Marking.{LeavesAt}
-use Rattle.stream_in.specs.Written.{AreWritten, ReadAsMade, page_at}
+use Rattle.stream_in.specs.Holding.{AreWritten, ReadAsMade, page_at}
 use Rattle.stream_in.specs.declared.stop.InStop.{InStop}
 use Rattle.stream_in.specs.declared.stop.InStop.TheVariants as stop
-use Rattle.command_kit.specs.Answer.{RunResult, line, memory_told}
-use Rattle.swsusp_cli.specs.Called.{IsCalledAtMost}
+use Rattle.command_kit.specs.Told.{RunResult, line, memory_told}
 use Rattle.swsusp_cli.specs.Outcome.{Tells}
 use Rattle.swsusp_cli.specs.Replay.{unread_note}
 use Rattle.command_kit.specs.Told.{IsTried}
@@ -35,6 +33,15 @@ use Rattle.swsusp_cli.specs.declared.importing.ImportStop.{ImportStop}
 use Rattle.swsusp_cli.specs.declared.importing.ImportStop.TheVariants.{Source, Session}
 use Rattle.command_kit.specs.declared.status.Status.{Status}
 use Rattle.command_kit.specs.declared.status.Status.TheVariants.{Done, Refused, Input, Stream, Device}
+
+-- How often an import calls the disk.
+
+-- The disk was called so often at most, its count of failures didn't fall, and it got no orders.
+pub record IsCalledAtMost (most : ℕ) (d d' : DiskView) : Type 0 where
+  pub calls : d'.calls ≤ d.calls + most
+  pub faults : d.faults ≤ d'.faults
+  pub orders : d'.orders ≡ d.orders
+  pub blocks : d'.blocks ≡ d.blocks
 
 -- What is told.
 
@@ -256,3 +263,19 @@ pub data Imports (x x' : View) (status : Status) : Type 0 where
   stopped : (why : InStop) → Ends x.left x'.left x.disk x'.disk (Err (Session why)) →
       Tells (stop_told why) status x x' → Imports x x' status
   unread : ImportFailsAtSource x x' status → Imports x x' status
+
+-- What a crash inside an import may leave, where the disk tells moments. `past` and `since` are the images that a crash
+-- since a moment might have left, before the import and after it.
+
+-- All that the source had left was handed out, and it has come into an area of this image, after its mark.
+abbrev pub HasWhole : (left left' : Option (List ℕ)) → DiskImage → Type 0
+HasWhole left left' w =
+    (area : Area) × (bs : List ℕ) × HandsOut (length bs) bs left left' × IsUsedUp left' × HasComeIn area bs w
+
+-- The clock hasn't fallen. A marked header block that a crash may leave it might have left before the import; or the
+-- whole stream is there.
+pub record ImportsInside (left left' : Option (List ℕ)) (before now : ℕ) (past since : ℕ → DiskImage →
+    Type 0) : Type 0 where
+  pub later : before ≤ now
+  pub marks : (t : ℕ) (w : DiskImage) → t ≤ before → since t w → IsMarked (block w 0) →
+      ((u : DiskImage) × past t u × (block w 0 ≡ block u 0)) ⊎ HasWhole left left' w

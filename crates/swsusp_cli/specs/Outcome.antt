@@ -1,10 +1,10 @@
 -- How a replay may end.
-use Rattle.std.specs.Prelude.{◌≡◌, ◌⊎◌, ◌≤◌, ◌<◌, ℕ, List, [], length, Some, Ok, Err}
+use Rattle.std.specs.Prelude.{◌≡◌, ◌⊎◌, ◌≤◌, ◌<◌, ℕ, List, [], length, Some, Ok, Err, ◌++◌, Option, None}
 use Rattle.definitions.specs.Disk as disk
-use Rattle.definitions.specs.Streams.{IsUsedUp}
+use Rattle.definitions.specs.Streams.{IsUsedUp, HandsOut}
 use Rattle.script.specs.Grammar.{ScriptValue, script_of}
 use Rattle.script.specs.declared.fault.ScriptFault.{ScriptFault}
-use Rattle.command_kit.specs.Answer.{RunResult, memory_told}
+use Rattle.command_kit.specs.Told.{RunResult, memory_told}
 use Rattle.command_kit.specs.Told.{IsTold, IsTried, IsPrinted, sink_note}
 use Rattle.swsusp_cli.specs.Formatting.{FailsToFormat, IsNeeded, LieBelow, calls_until}
 use Rattle.swsusp_cli.specs.Replay.{Prints, PrintsFront, small_note, fault_note, write_note, sync_note, unread_note}
@@ -103,3 +103,16 @@ pub data IsReplayed (x x' : View) (status : Status) : Type 0 where
       IsUnformatted x x' status script call → IsReplayed x x' status
   played : (script : ScriptValue) → IsPlayed x x' status script → IsReplayed x x' status
   cut_off : (script : ScriptValue) → IsPrintedInPart x x' status script → IsReplayed x x' status
+
+-- Input read to its end, or to one byte past the largest script.
+
+-- at most so many of the bytes that were left were handed out
+abbrev pub HandsOutAtMost : ℕ → Option (List ℕ) → Option (List ℕ) → Type 0
+HandsOutAtMost most before after = (bytes : List ℕ) × (length bytes ≤ most) × HandsOut (length bytes) bytes before after
+
+-- what was left is these bytes and what is left now; nothing is, or the bytes are too many for a script
+abbrev pub IsReadAs : Option (List ℕ) → List ℕ → Option (List ℕ) → Type 0
+IsReadAs None bytes None = Unit {0}
+IsReadAs None bytes (Some new) = ⊥
+IsReadAs (Some old) bytes None = ⊥
+IsReadAs (Some old) bytes (Some new) = (old ≡ bytes ++ new) × ((new ≡ []) ⊎ (1048576 < length bytes))

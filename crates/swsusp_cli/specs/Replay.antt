@@ -14,11 +14,11 @@ use Rattle.plain_machine.specs.declared.reply.Reply.{Reply}
 use Rattle.protocol_laws.specs.Rows.{TellsNewFault, LeavesBlock}
 use Rattle.sector_disk.specs.declared.orders.Order.{Order}
 use Rattle.world_core.specs.Orders.{orders_after}
-use Rattle.world_runs.specs.Counts.{AreCounted, steps_of}
+use Rattle.world_runs.specs.Turns.{AreCounted, steps_of}
 use Rattle.script.specs.Grammar.{ScriptValue}
-use Rattle.script.specs.Kinds.{kind_name}
+use Rattle.script.specs.Grammar.{kind_name}
 use Rattle.script.specs.declared.fault.ScriptFault.{ScriptFault}
-use Rattle.command_kit.specs.Answer.{line}
+use Rattle.command_kit.specs.Told.{line}
 use Rattle.swsusp_cli.specs.Formatting.{Formats}
 use Rattle.command_kit.specs.Told.{IsPrinted}
 use Rattle.command_kit.specs.View.{View, DiskView}

@@ -1,12 +1,51 @@
 -- What is told where no machine is made: words that don't parse, and `inspect`.
-use Rattle.std.specs.Prelude.{◌≡◌, ◌⊎◌, ℕ, List, Option, IfSome, nat_lt, if◌then◌else◌}
-use Rattle.definitions.specs.Disk.{Content, HasRisen, raised}
+use Rattle.std.specs.Prelude.{◌≡◌, ◌⊎◌, ℕ, List, Option, IfSome, nat_lt, if◌then◌else◌, [], ◌++◌, codes, decimal, ◌==◌}
+use Rattle.std.specs.Prelude.{bit_and}
+use Rattle.definitions.specs.Disk.{Content, HasRisen, raised, as_it_reads, block}
 use Rattle.sig_header.specs.AreaKind.{area_kind}
-use Rattle.command_kit.specs.Answer.{RunResult, unparsed, unread}
+use Rattle.command_kit.specs.Told.{RunResult, unparsed, unread, line}
 use Rattle.command_kit.specs.View.{View}
 use Rattle.command_kit.specs.declared.status.Status.{Status}
-use Rattle.swsusp_cli.specs.Inspect.{header_page, inspected}
 use Rattle.swsusp_cli.specs.Outcome.{IsOutOfMemory, Tells}
+use Rattle.definitions.specs.Bytes.{zero_page}
+use Rattle.sig_header.specs.declared.area.Mark.{Mark}
+use Rattle.sig_header.specs.declared.area.AreaKind.{AreaKind}
+use Rattle.sig_header.specs.declared.area.AreaKind.TheVariants.{Image, Old, Other, BadArea, Swap}
+use Rattle.plain_machine.specs.UsableArea.{no_swap_at}
+use Rattle.plain_machine.specs.Replies.{no_swap_text}
+use Rattle.plain_machine.specs.declared.no_swap.NoSwap.{NoSwap}
+use Rattle.plain_machine.specs.declared.no_swap.NoSwap.TheVariants as no_swap
+use Rattle.command_kit.specs.declared.status.Status.TheVariants.{Done, Refused}
+
+-- What `inspect` says of a header block.
+
+-- a block as the disk reads; one that isn't below the disk's blocks counts as zeros
+abbrev pub header_page : ℕ → ℕ → Content → List ℕ
+header_page offset blocks content = if nat_lt offset blocks then block (as_it_reads content) offset else zero_page
+
+abbrev pub area_text : ℕ → ℕ → List ℕ
+area_text last bad = codes "area last " ++ decimal last ++ codes " bad " ++ decimal bad
+
+-- the hardware signature, where the image carries one (SF_HW_SIG)
+abbrev pub hw_text : Mark → List ℕ
+hw_text mark = if bit_and mark.flags 8 == 0 then codes "-" else decimal mark.hw_sig
+
+abbrev pub image_text : Mark → List ℕ
+image_text mark =
+    area_text mark.last mark.count ++ codes " image " ++ decimal mark.first ++ codes " flags " ++ decimal mark.flags
+    ++ codes " hw " ++ hw_text mark
+
+abbrev pub refused : NoSwap → RunResult
+refused why = record { status = Refused; out = []; note = line (no_swap_text why) }
+
+-- an area without an image, or an image, is a line on out; anything else is refused
+abbrev pub inspected : AreaKind → RunResult
+inspected (Swap area) =
+    record { status = Done; out = line (area_text area.last area.count ++ codes " image none"); note = [] }
+inspected (Image mark) = record { status = Done; out = line (image_text mark); note = [] }
+inspected Old = refused no_swap.Old
+inspected (Other sig) = refused (no_swap.Signature sig)
+inspected (BadArea why) = refused (no_swap_at why)
 
 -- how many reads, writes and syncs there were after one of a block, which isn't made where the disk has no such block
 abbrev pub calls_for : ℕ → ℕ → ℕ → ℕ

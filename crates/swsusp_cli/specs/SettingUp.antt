@@ -3,7 +3,7 @@ use Rattle.std.specs.Prelude.{◌≡◌, ◌≤◌, ◌<◌, ℕ, ⊤}
 use Rattle.definitions.specs.Disk as disk
 use Rattle.plain_machine.specs.Machine.{IsHardware}
 use Rattle.script.specs.Grammar.{ScriptValue}
-use Rattle.command_kit.specs.Answer.{RunResult}
+use Rattle.command_kit.specs.Told.{RunResult}
 use Rattle.swsusp_cli.specs.Formatting.{Formats, FailsToFormat, IsNeeded, LieBelow, calls_until}
 use Rattle.swsusp_cli.specs.Outcome.{small_told, unformatted_told}
 use Rattle.command_kit.specs.View.{DiskView}

@@ -6,7 +6,7 @@ use Rattle.dump_file.specs.declared.dump.DumpStop.TheVariants as of_dump
 use Rattle.script.specs.Grammar.{script_of}
 use Rattle.script.specs.declared.fault.ParseStop.{ParseStop}
 use Rattle.script.specs.declared.fault.ParseStop.TheVariants as of_parse
-use Rattle.command_kit.specs.Answer.{memory_told}
+use Rattle.command_kit.specs.Told.{memory_told}
 use Rattle.swsusp_cli.specs.Dumps.{dump_told}
 use Rattle.swsusp_cli.specs.Outcome.{fault_told}
 use Rattle.swsusp_cli.specs.Replay.{unread_note}

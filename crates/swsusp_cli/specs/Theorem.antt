@@ -7,14 +7,14 @@ use Rattle.command_kit.specs.View.{View}
 use Rattle.command_kit.specs.declared.status.Status.{Status}
 use Rattle.command_kit.specs.declared.status.Status.TheVariants as status
 use Rattle.sector_disk.specs.declared.disk.Disk.{Ghosts}
-use Rattle.swsusp_cli.specs.Crashes.{ImportsInside}
+use Rattle.swsusp_cli.specs.Imports.{ImportsInside}
 use Rattle.swsusp_cli.specs.Drills.{IsDrilled}
 use Rattle.swsusp_cli.specs.Dumps.{Hibernates, SavesInside}
 use Rattle.swsusp_cli.specs.Exports.{Exports}
 use Rattle.swsusp_cli.specs.Imports.{Imports}
 use Rattle.swsusp_cli.specs.Loads.{LoadsInside, Resumes}
 use Rattle.swsusp_cli.specs.Outcome.{IsReplayed}
-use Rattle.swsusp_cli.specs.Reading.{HandsOutAtMost}
+use Rattle.swsusp_cli.specs.Outcome.{HandsOutAtMost}
 use Rattle.swsusp_cli.specs.Run.{Inspects, Refuses}
 use Rattle.swsusp_words.specs.Words.{Asked, command_of, inspect, hibernate, resume, replay, drill, export, import}
 

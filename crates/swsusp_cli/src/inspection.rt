@@ -1,8 +1,8 @@
 ghost use Rattle.std.specs.Prelude.{◌≡◌, ◌≢◌, ◌+◌, ◌≤◌, ◌++◌, ◌⊎◌, [], ◌∷◌, length, codes, Some, min};
 ghost use Rattle.definitions.specs.Disk.{HasRisen};
-ghost use Rattle.command_kit.specs.Answer.{unread};
+ghost use Rattle.command_kit.specs.Told.{unread};
 ghost use Rattle.command_kit.specs.AnswerOf.{told_by};
-ghost use Rattle.swsusp_cli.specs.Inspect.{area_text, hw_text, image_text, inspected, refused};
+ghost use Rattle.swsusp_cli.specs.Run.{area_text, hw_text, image_text, inspected, refused};
 ghost use Rattle.swsusp_cli.specs.Run.{IsInspected, calls_for};
 
 use byte_streams::Line;

@@ -1,6 +1,6 @@
 ghost use Rattle.std.specs.Prelude.{◌≡◌, ◌≤◌, Err, IfOk};
 ghost use Rattle.definitions.specs.Disk.{HasRisen};
-ghost use Rattle.swsusp_cli.specs.Reading.{IsReadAs, HandsOutAtMost};
+ghost use Rattle.swsusp_cli.specs.Outcome.{IsReadAs, HandsOutAtMost};
 ghost use Rattle.swsusp_cli.specs.declared.reading.ReadStop.{ReadStop};
 
 use byte_streams::Source;

@@ -6,9 +6,9 @@ ghost use Rattle.plain_machine.specs.Fitting.{IsFitting};
 ghost use Rattle.command_kit.specs.AnswerOf.{told_by};
 ghost use Rattle.swsusp_cli.specs.Outcome.{IsReplayed, fault_told};
 ghost use Rattle.swsusp_cli.specs.Readied.{IsReadied};
-ghost use Rattle.swsusp_cli.specs.Reading.{HandsOutAtMost};
+ghost use Rattle.swsusp_cli.specs.Outcome.{HandsOutAtMost};
 ghost use Rattle.swsusp_cli.specs.Replay.{unread_note};
-ghost use Rattle.command_kit.specs.Answer.{done};
+ghost use Rattle.command_kit.specs.Told.{done};
 ghost use Rattle.command_kit.specs.Told.{IsTried, sink_note};
 ghost use Rattle.command_kit.specs.View.{sink_view, view};
 

@@ -1,6 +1,6 @@
 ghost use Rattle.std.specs.Prelude.{◌≡◌, ◌≢◌, ◌⊎◌, map, string_bytes};
 ghost use Rattle.definitions.specs.Disk.{HasRisen};
-ghost use Rattle.command_kit.specs.Answer.{memory_told, unparsed};
+ghost use Rattle.command_kit.specs.Told.{memory_told, unparsed};
 ghost use Rattle.command_kit.specs.Told.{IsTold};
 ghost use Rattle.command_kit.specs.View.{sink_view, view};
 ghost use Rattle.swsusp_cli.specs.Theorem.{Promise};

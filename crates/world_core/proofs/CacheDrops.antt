@@ -4,14 +4,14 @@ use Rattle.std.proofs.lemmas.Bool.{and_parts, both_ways, false≢true}
 use Rattle.std.proofs.lemmas.Option.{none-some}
 use Rattle.definitions.specs.Bytes.{IsPage}
 use Rattle.definitions.specs.Disk as disk
-use Rattle.definitions.specs.Lists.{saveable_frames}
+use Rattle.definitions.specs.Tables.{saveable_frames}
 use Rattle.definitions.specs.Tables.{HasTable, page_flags, owner_of, is_saveable, with_entry, with_entries}
 use Rattle.definitions.specs.Zones.{numbers, top}
 use Rattle.definitions.proofs.Ascending.{Contains-head, Contains-tail}
 use Rattle.definitions.proofs.FrameSets.{Contains-from_filter}
 use Rattle.definitions.proofs.TableEntries.{entry_at-with_entries_other, length-with_entries}
 use Rattle.definitions.proofs.ZoneNumbers.{below_top}
-use Rattle.plain_machine.specs.Fitting.{IsTask}
+use Rattle.plain_machine.specs.Machine.{IsTask}
 use Rattle.plain_machine.specs.Machine.{Hardware, Memory, IsHardware, IsTableFrame, is_of_table, is_table_frame, frame_entry, raw_slot_entry, saveable, table_len}
 use Rattle.plain_machine.specs.Refusals.{busy, busy_reply, refusal}
 use Rattle.plain_machine.specs.Stands.{HasFlights}

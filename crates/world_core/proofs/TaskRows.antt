@@ -10,7 +10,7 @@ use Rattle.definitions.specs.Tables.{frame}
 use Rattle.definitions.specs.Zones.{numbers, top}
 use Rattle.definitions.proofs.Ascending.{Contains-nil, Contains-cons_cases}
 use Rattle.definitions.proofs.ZoneNumbers.{Contains-range, below_top}
-use Rattle.plain_machine.specs.Fitting.{IsTask}
+use Rattle.plain_machine.specs.Machine.{IsTask}
 use Rattle.plain_machine.specs.Machine.{Hardware, Memory, IsHardware, Fits, raw_slot_entry, image_slot, block_of_slot}
 use Rattle.plain_machine.specs.declared.held.Held.{Held as HeldFlag}
 use Rattle.plain_machine.specs.State.{on, Running, nothing, Flight, goes_out, comes_in}

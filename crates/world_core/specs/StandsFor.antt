@@ -4,7 +4,7 @@ use Rattle.std.specs.List.{zip}
 use Rattle.definitions.specs.Disk as disk
 use Rattle.plain_machine.specs.Machine.{Hardware, Memory, Fits}
 use Rattle.plain_machine.specs.Chain.{Marked}
-use Rattle.plain_machine.specs.Premises.{HasOriginal}
+use Rattle.plain_machine.specs.UsableArea.{HasOriginal}
 use Rattle.plain_machine.specs.State.{State, off, nothing, sure, other}
 use Rattle.machine.specs.Flights.{flights_in}
 use Rattle.plain_machine.specs.Shows.{WorldView, Activity, rests, runs, boots, hibernates, undoes, settles, wakes}

@@ -11,7 +11,8 @@ use sector_disk::Disk;
 // What tasks do while the machine runs (own; in Linux the page allocator, and swap_writepage and swap_readpage,
 // mm/page_io.c).
 impl World {
-    ghost use Rattle.plain_machine.specs.Fitting.{IsTask, IsFittingOp};
+    ghost use Rattle.plain_machine.specs.Fitting.{IsFittingOp};
+    ghost use Rattle.plain_machine.specs.Machine.{IsTask};
     ghost use Rattle.definitions.specs.Disk.{Content};
     ghost use Rattle.plain_machine.specs.declared.event.Event.TheVariants as event;
     ghost use Rattle.plain_machine.specs.declared.event.Actor.TheVariants as actor;

@@ -1,6 +1,6 @@
 -- A machine's run over a disk: its events, each with its reply, and what there is between them. It has no counterpart
 -- in Linux.
-use Rattle.std.specs.Prelude.{◌≡◌, ◌⊎◌, ℕ, List, [], ◌∷◌, Contains, ⊤}
+use Rattle.std.specs.Prelude.{◌≡◌, ◌⊎◌, ℕ, List, [], ◌∷◌, Contains, ⊤, ◌≤◌, length, filter, Bool, true, false}
 use Rattle.definitions.specs.Disk as disk
 use Rattle.plain_machine.specs.Machine.{Hardware}
 use Rattle.plain_machine.specs.Shows.{WorldView}
@@ -12,8 +12,9 @@ use Rattle.plain_machine.specs.declared.event.Event.{Event}
 use Rattle.plain_machine.specs.declared.event.Event.TheVariants as event
 use Rattle.plain_machine.specs.declared.reply.Reply.{Reply}
 use Rattle.plain_machine.specs.declared.reply.Reply.TheVariants as reply
-use Rattle.protocol_laws.specs.Rows.{IsSameArea, LeavesBlock, LeavesHeader, LeavesImage, blocks_at}
+use Rattle.protocol_laws.specs.Rows.{IsSameArea, LeavesBlock, LeavesHeader, LeavesImage, blocks_at, TellsNewFault}
 use Rattle.resume_core.specs.Restored.{restored_by}
+use Rattle.definitions.specs.Disk.{HasRisen}
 
 -- What there is between two events: the state of the plain machine, what is shown of the world, and what the disk
 -- holds.
@@ -52,3 +53,20 @@ end_of p (q ∷ after) = end_of q after
 abbrev pub IsLeftInside : Situation → List Situation → disk.DiskImage → Type 0
 IsLeftInside p [] w = ⊥
 IsLeftInside p (q ∷ after) w = disk.IsMixture p.content q.content w ⊎ IsLeftInside q after w
+
+-- How often a disk is called over some events, and how often it fails. It has no counterpart in Linux.
+
+-- how many events are steps, each of which may call the disk once
+abbrev pub is_step : Event → Bool
+is_step (event.Step x) = true
+is_step _ = false
+
+abbrev pub steps_of : List Event → ℕ
+steps_of events = length (filter is_step events)
+
+-- The disk's count of faults goes from `low` to `high` without falling, and rises at each reply that tells of a call
+-- that failed at its event: such replies are at most as many as it rose by, its last value aside.
+abbrev pub AreCounted : List Reply → ℕ → ℕ → Type 0
+AreCounted [] low high = low ≤ high
+AreCounted (r ∷ replies) low high =
+    (mid : ℕ) × (low ≤ mid) × (TellsNewFault r → HasRisen low mid) × AreCounted replies mid high

@@ -1,7 +1,8 @@
 -- Which lists of pairs `of` refuses, and with which fault.
 use Rattle.std.specs.Prelude.{◌≡◌, ℕ, ◌-◌, ◌<◌, ◌≤◌, List, [], length}
 use Rattle.std.specs.List.{AllWithin, AllAdjacentBelow}
-use Rattle.definitions.specs.Zones.{zone_at, zone_end, IsZone, LiesBelow}
+use Rattle.definitions.specs.Zones.{zone_at, zone_end}
+use Rattle.definitions.specs.ZoneFacts.{IsZone, LiesBelow}
 use Rattle.zones.specs.declared.fault.ZoneFault.{ZoneFault}
 use Rattle.zones.specs.declared.fault.ZoneFault.TheVariants.{NoZone, TooMany, Empty, TooLarge, Overlap}
 

@@ -2,7 +2,7 @@
 use Rattle.std.specs.Prelude.{◌≡◌, ℕ, ◌-◌, List, ◌++◌, length, take, drop, replicate}
 use Rattle.std.proofs.Common.{sym, ap, ap₂, ◌∙◌}
 use Rattle.std.proofs.lemmas.List.{take-append-drop}
-use Rattle.definitions.specs.Zones.{AreZones}
+use Rattle.definitions.specs.ZoneFacts.{AreZones}
 use Rattle.zones.specs.declared.Zones.TheInside.{Inside}
 
 -- the zones, as `of` took them

@@ -6,7 +6,8 @@ mod fault;
 ghost use Rattle.std.specs.Prelude.{◌≡◌, ℕ, ◌+◌, ◌-◌, ◌<◌, ◌≤◌, ◌↔◌, IsTrue, IsOk, IfOk, IfErr, List, length};
 ghost use Rattle.std.specs.Prelude.{slice_get};
 ghost use Rattle.std.specs.List.{Contains};
-ghost use Rattle.definitions.specs.Zones.{numbers, first_from, top, zone_end, IsZone, AreZones};
+ghost use Rattle.definitions.specs.Zones.{numbers, first_from, top, zone_end};
+ghost use Rattle.definitions.specs.ZoneFacts.{IsZone, AreZones};
 ghost use Rattle.zones.specs.Faults.{HasFault};
 
 pub use fault::ZoneFault;

@@ -1,5 +1,5 @@
 use Rattle.std.proofs.Common.{ℕ, ◌<◌}
-use Rattle.definitions.specs.Zones.{InZone}
+use Rattle.definitions.specs.ZoneFacts.{InZone}
 use Rattle.memory_bitmap.proofs.place.Given as goal
 
 -- no block so far has the page frame

@@ -1,7 +1,7 @@
 use Rattle.std.proofs.Common.{ℕ, List, ◌++◌, length, length-append, filter, take, sym, ap, ap₂, ◌∙◌, subst, arith}
 use Rattle.std.specs.List.{Contains, range_with_len}
 use Rattle.definitions.specs.Zones.{numbers, zone_at}
-use Rattle.definitions.specs.Lists.{free_frames}
+use Rattle.definitions.specs.Tables.{free_frames}
 use Rattle.saveable.specs.Tests.{free_by_entry}
 use Rattle.definitions.proofs.FrameSets.{Contains-from_filter}
 use Rattle.prealloc.proofs.Picks.{take-append, Contains-from_take}

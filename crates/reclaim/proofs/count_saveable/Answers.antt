@@ -1,5 +1,5 @@
 use Rattle.std.proofs.Common.{◌+◌, length, ap, ◌∙◌, arith}
-use Rattle.definitions.specs.Lists.{saveable_frames}
+use Rattle.definitions.specs.Tables.{saveable_frames}
 use Rattle.definitions.specs.Zones.{zone_at}
 use Rattle.definitions.proofs.ZoneWalk.{at_zone, valid_in_zone, count_more, filter_all_zones, few_picked}
 use Rattle.saveable.specs.Tests.{saveable_by_entry}

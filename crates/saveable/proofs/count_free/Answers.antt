@@ -1,5 +1,5 @@
 use Rattle.std.proofs.Common.{◌+◌, length, ap, ◌∙◌, arith}
-use Rattle.definitions.specs.Lists.{free_frames}
+use Rattle.definitions.specs.Tables.{free_frames}
 use Rattle.definitions.specs.Zones.{zone_at}
 use Rattle.definitions.proofs.ZoneWalk.{at_zone, count_more, filter_all_zones, few_picked}
 use Rattle.saveable.specs.Tests.{free_by_entry}

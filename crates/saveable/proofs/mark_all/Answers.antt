@@ -1,7 +1,7 @@
 use Rattle.std.proofs.Common.{ℕ, List, ◌++◌, length, filter, take, sym, ap, ap₂, ◌∙◌, subst, arith}
 use Rattle.std.specs.List.{Contains, range_with_len}
 use Rattle.definitions.specs.Zones.{numbers, zone_at}
-use Rattle.definitions.specs.Lists.{saveable_frames}
+use Rattle.definitions.specs.Tables.{saveable_frames}
 use Rattle.definitions.proofs.FrameSets.{Contains-from_filter}
 use Rattle.definitions.proofs.ZoneWalk.{at_zone, valid_in_zone, below_zone, filter_one_zone_more, filter_all_zones}
 use Rattle.memory_bitmap.specs.FrameSet.{FrameSet}

@@ -1,5 +1,5 @@
 use Rattle.std.proofs.Common.{rules, arith, ◌≡◌, ◌≢◌, ◌+◌, ◌∷◌, ◌++◌, ◌∙◌, ℕ, List, [], length, refl, sym, ap, append-nil}
-use Rattle.definitions.specs.Slots.{runs_of}
+use Rattle.definitions.specs.FreeRuns.{runs_of}
 use Rattle.dump_core.proofs.Pieces.{on_ok_then}
 use Rattle.dump_core.proofs.RunLaws.{first_number, joined_number, parted_number}
 use Rattle.dump_core.proofs.runs.add_number.Goals as goal

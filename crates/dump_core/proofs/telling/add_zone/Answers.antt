@@ -1,7 +1,7 @@
 use Rattle.std.proofs.Common.{◌-◌, [], ◌∷◌, ◌++◌, ◌∙◌, List, ℕ, filter, sym, ap, append_assoc}
 use Rattle.std.specs.List.{range_with_len}
 use Rattle.std.specs.Prelude.{vec_items}
-use Rattle.definitions.specs.Slots.{runs_of}
+use Rattle.definitions.specs.FreeRuns.{runs_of}
 use Rattle.definitions.proofs.Picks.{picks_one, picks_none}
 use Rattle.dump_core.specs.Cores.{is_told}
 use Rattle.dump_core.proofs.telling.add_zone.Goals as goal

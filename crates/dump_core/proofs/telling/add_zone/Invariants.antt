@@ -1,6 +1,6 @@
 use Rattle.std.proofs.Common.{◌≡◌, ◌-◌, ◌++◌, ℕ, List, filter}
 use Rattle.std.specs.List.{range_with_len}
-use Rattle.definitions.specs.Slots.{runs_of}
+use Rattle.definitions.specs.FreeRuns.{runs_of}
 use Rattle.dump_core.specs.Cores.{is_told}
 use Rattle.dump_core.proofs.telling.add_zone.Given as goal
 

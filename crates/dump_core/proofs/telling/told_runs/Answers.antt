@@ -1,5 +1,5 @@
 use Rattle.std.proofs.Common.{◌∙◌, ap, sym, filter, take}
-use Rattle.definitions.specs.Slots.{runs_of}
+use Rattle.definitions.specs.FreeRuns.{runs_of}
 use Rattle.definitions.specs.Zones.{numbers, zone_at}
 use Rattle.definitions.proofs.SlotRuns.{runs_of-nil}
 use Rattle.definitions.proofs.ZoneWalk.{at_zone, valid_in_zone, filter_one_zone_more, filter_all_zones}

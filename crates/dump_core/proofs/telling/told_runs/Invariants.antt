@@ -1,5 +1,5 @@
 use Rattle.std.proofs.Common.{◌≡◌, take, filter}
-use Rattle.definitions.specs.Slots.{runs_of}
+use Rattle.definitions.specs.FreeRuns.{runs_of}
 use Rattle.definitions.specs.Zones.{numbers}
 use Rattle.dump_core.specs.Cores.{is_told}
 use Rattle.dump_core.proofs.telling.told_runs.Given as goal

@@ -1,5 +1,5 @@
 use Rattle.std.proofs.Common.{Some, sym, subst}
-use Rattle.command_kit.specs.Answer.{RunResult, memory_told}
+use Rattle.command_kit.specs.Told.{RunResult, memory_told}
 use Rattle.command_kit.specs.Told.{IsTold}
 use Rattle.command_kit.specs.View.{sink_view}
 use Rattle.image_check.specs.Told.{Told, Tells}

@@ -1,6 +1,7 @@
 use Rattle.std.proofs.Common.{◌≡◌, ◌+◌, ◌-◌, ◌∙◌, refl, sym, ap, length, arith, List, ℕ}
 use Rattle.std.proofs.lemmas.List.{length-set}
-use Rattle.definitions.specs.Tables.{frame, with_frame, run_at, with_run}
+use Rattle.definitions.specs.Tables.{frame, with_frame}
+use Rattle.definitions.specs.FrameRuns.{run_at, with_run}
 use Rattle.definitions.proofs.FrameLists.{with_run_none, with_run-copies_down}
 use Rattle.frame_arena.proofs.frames.copy_backward.Goals as goal
 

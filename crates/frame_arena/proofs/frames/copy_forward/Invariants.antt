@@ -1,5 +1,5 @@
 use Rattle.std.proofs.Common.{length, ◌≡◌}
-use Rattle.definitions.specs.Tables.{run_at, with_run}
+use Rattle.definitions.specs.FrameRuns.{run_at, with_run}
 use Rattle.frame_arena.proofs.frames.copy_forward.Given as goal
 
 -- the first i page frames of the run are copied

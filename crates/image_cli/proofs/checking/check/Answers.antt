@@ -1,5 +1,5 @@
 use Rattle.std.proofs.Common.{◌≡◌, ℕ, List, Bool, false, Option, Some, None, refl, ap₂, subst, ◌∙◌, inl, inr}
-use Rattle.command_kit.specs.Answer.{memory_told, RunResult}
+use Rattle.command_kit.specs.Told.{memory_told, RunResult}
 use Rattle.command_kit.specs.Told.{IsTold}
 use Rattle.command_kit.specs.View.{SinkView, sink_view}
 use Rattle.image_check.specs.Checked.{Finds}

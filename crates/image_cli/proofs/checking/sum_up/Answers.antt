@@ -1,6 +1,6 @@
 use Rattle.std.proofs.Common.{◌≡◌, ◌⊎◌, ℕ, List, [], true, false, length, min, zero-add, ap, sym, subst, ◌∙◌, inl, inr, arith}
 use Rattle.definitions.specs.Disk.{HasRisen, last_count}
-use Rattle.command_kit.specs.Answer.{RunResult}
+use Rattle.command_kit.specs.Told.{RunResult}
 use Rattle.command_kit.specs.AnswerOf.{told_by}
 use Rattle.command_kit.specs.Told.{IsTold}
 use Rattle.command_kit.specs.View.{sink_view}

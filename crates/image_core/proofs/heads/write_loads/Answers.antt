@@ -1,7 +1,7 @@
 use Rattle.std.proofs.Common.{◌≡◌, ◌≢◌, ◌≤◌, ◌<◌, ◌^◌, ◌∷◌, ◌++◌, ◌∙◌, ℕ, List, [], length, Option, Result, Err, IfErr, IfSome, inr, refl, sym, ap, subst, arith}
 use Rattle.std.proofs.lemmas.Result.{err_from_is_err_and}
 use Rattle.definitions.specs.Disk.{Content, as_it_reads}
-use Rattle.definitions.specs.Slots.{runs_of}
+use Rattle.definitions.specs.FreeRuns.{runs_of}
 use Rattle.definitions.specs.Streams.{TakesFront}
 use Rattle.elf_core.specs.Elf.{page_offset}
 use Rattle.image_pages.specs.Chain.{chain_page}

@@ -1,6 +1,6 @@
 use Rattle.std.proofs.Common.{refl, subst, Err, ap}
 use Rattle.dump_file.specs.Dump.{DumpValue}
-use Rattle.command_kit.specs.Answer.{RunResult}
+use Rattle.command_kit.specs.Told.{RunResult}
 use Rattle.command_kit.specs.Told.{IsTold}
 use Rattle.command_kit.specs.View.{SinkView}
 use Rattle.swsusp_cli.proofs.Inputs.{without_dump}

@@ -1,6 +1,6 @@
 use Rattle.std.proofs.Common.{subst}
 use Rattle.dump_file.specs.Dump.{DumpValue}
-use Rattle.command_kit.specs.Answer.{RunResult}
+use Rattle.command_kit.specs.Told.{RunResult}
 use Rattle.command_kit.specs.Told.{IsTold}
 use Rattle.command_kit.specs.View.{SinkView}
 use Rattle.machine_cli.specs.Compared.{compared}

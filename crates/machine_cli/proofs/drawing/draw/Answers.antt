@@ -4,7 +4,7 @@ use Rattle.plain_machine.specs.Machine.{Hardware}
 use Rattle.plain_machine.specs.declared.event.Event.{Event}
 use Rattle.run_picture.specs.Picture.{picture, pictured}
 use Rattle.world_core.specs.StandsFor.{IsNewWorld}
-use Rattle.command_kit.specs.Answer.{RunResult}
+use Rattle.command_kit.specs.Told.{RunResult}
 use Rattle.machine_cli.specs.Drawn.{cut_off, no_script, out_of_memory, unread}
 use Rattle.swsusp_cli.specs.Playing.{HasPlayed}
 use Rattle.command_kit.specs.Told.{IsTold}

@@ -1,5 +1,5 @@
 use Rattle.std.proofs.Common.{ℕ, List, refl, sym, ap, subst, arith}
-use Rattle.definitions.specs.Zones.{AreApart}
+use Rattle.definitions.specs.ZoneFacts.{AreApart}
 use Rattle.definitions.proofs.ZoneBlocks.{AreApart-blocks}
 use Rattle.memory_bitmap.specs.FrameSet.{FrameSet}
 use Rattle.memory_bitmap.proofs.Empty.{members_of-empty, IsKept-empty}

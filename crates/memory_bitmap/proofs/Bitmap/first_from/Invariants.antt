@@ -1,5 +1,5 @@
 use Rattle.std.proofs.Common.{◌≡◌, ℕ, ◌<◌, ◌≤◌}
-use Rattle.definitions.specs.Zones.{InZone}
+use Rattle.definitions.specs.ZoneFacts.{InZone}
 use Rattle.memory_bitmap.proofs.Members.{bit_in}
 use Rattle.memory_bitmap.proofs.Bitmap.first_from.Given as goal
 

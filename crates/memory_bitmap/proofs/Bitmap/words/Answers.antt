@@ -1,6 +1,7 @@
 use Rattle.std.proofs.Common.{◌≡◌, ℕ, ◌+◌, ◌-◌, ◌<◌, List, [], length, get_or, sym, ap, ap₂, ◌∙◌, subst, arith}
 use Rattle.std.proofs.lemmas.List.{get_or_read}
-use Rattle.definitions.specs.Zones.{zone_at, InZone}
+use Rattle.definitions.specs.Zones.{zone_at}
+use Rattle.definitions.specs.ZoneFacts.{InZone}
 use Rattle.definitions.specs.FrameSets.{blocks, HoldsBits}
 use Rattle.memory_bitmap.specs.declared.Bitmap.TheInside.{Inside}
 use Rattle.memory_bitmap.specs.Bits.{bit_of}

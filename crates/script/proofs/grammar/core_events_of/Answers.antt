@@ -1,6 +1,6 @@
 use Rattle.std.proofs.Common.{Ok, sym, ap, ◌∙◌}
 use Rattle.std.proofs.lemmas.Result.{err_from_is_err_and}
-use Rattle.script.specs.Words.{texts}
+use Rattle.script.specs.Shapes.{texts}
 use Rattle.script.proofs.Shapes.{core_event_in-fault, core_event_in-machine, core_event_in-outside}
 use Rattle.script.proofs.grammar.core_events_of.Goals as goal
 

@@ -1,6 +1,6 @@
 use Rattle.std.proofs.Common.{Ok, sym, ap, ◌∙◌}
 use Rattle.std.proofs.lemmas.Result.{err_from_is_err_and}
-use Rattle.script.specs.Words.{texts}
+use Rattle.script.specs.Shapes.{texts}
 use Rattle.script.proofs.Shapes.{event_in-core, event_in-fault, event_in-task}
 use Rattle.script.proofs.grammar.events_of.Goals as goal
 

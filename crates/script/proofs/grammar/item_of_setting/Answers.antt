@@ -4,7 +4,7 @@ use Rattle.std.proofs.lemmas.Result.{err_from_is_err_and}
 use Rattle.script.specs.declared.fault.FaultKind.{FaultKind}
 use Rattle.script.specs.declared.fault.FaultKind.TheVariants.{Late}
 use Rattle.script.specs.declared.grammar.Item.{Item}
-use Rattle.script.specs.Words.{texts}
+use Rattle.script.specs.Shapes.{texts}
 use Rattle.script.proofs.Shapes.{setting_item-setting, setting_item-fault, setting_item-word}
 use Rattle.script.proofs.grammar.item_of_setting.Goals as goal
 

@@ -2,7 +2,7 @@ use Rattle.std.proofs.Common.{rules, ◌+◌, ◌-◌, ℕ, length, take, drop, 
 use Rattle.std.specs.List.{list_all}
 use Rattle.std.proofs.lemmas.List.{take_all, length-drop}
 use Rattle.script.specs.Grammar.{is_printable, lines_of}
-use Rattle.script.specs.Words.{texts, words_of}
+use Rattle.script.specs.Shapes.{texts, words_of}
 use Rattle.script.proofs.LineLaws.{Walks, begins, goes_on, ends_word, words_so_far, lines_of-end, lines_of-last, first_is, unprintable, printable}
 use Rattle.script.proofs.lines.first_line.Goals.{then-not-is_ascii_graphic+in-32, else-not-is_ascii_graphic}
 use Rattle.script.proofs.lines.first_line.Goals as goal

@@ -1,4 +1,4 @@
-use Rattle.script.specs.Words.{texts}
+use Rattle.script.specs.Shapes.{texts}
 use Rattle.script.proofs.LineLaws.{Walks}
 use Rattle.script.proofs.lines.first_line.Given as goal
 

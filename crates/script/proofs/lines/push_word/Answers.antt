@@ -1,7 +1,7 @@
 use Rattle.std.proofs.Common.{◌≡◌, ◌≤◌, [], ◌∷◌, false, length, take, filter, arith, sym, ap, ◌∙◌, append-nil}
 use Rattle.std.proofs.lemmas.Bool.Decides.{nat_tests}
 use Rattle.std.proofs.lemmas.List.{take_all, take-append-le}
-use Rattle.script.specs.Words.{is_word, texts}
+use Rattle.script.specs.Shapes.{is_word, texts}
 use Rattle.script.proofs.NumbersLaws.{length-texts}
 use Rattle.script.proofs.lines.push_word.Goals.{else-not-is_full-via-then-not-is_full+else-not-is_empty, else-not-is_full-via-else-not-is_full}
 use Rattle.script.proofs.lines.push_word.Goals as goal

@@ -3,8 +3,8 @@ use Rattle.std.proofs.lemmas.List.{length-set}
 use Rattle.std.proofs.lemmas.List.Elements.{All-set, All-replicate}
 use Rattle.std.proofs.lemmas.Result.{err_from_is_err_and}
 use Rattle.plain_machine.specs.Fitting.{IsRange}
-use Rattle.script.specs.Ranges.{ranges_in}
-use Rattle.script.specs.Words.{texts}
+use Rattle.script.specs.Shapes.{ranges_in}
+use Rattle.script.specs.Shapes.{texts}
 use Rattle.script.proofs.NumbersLaws.{length-texts, with_front-nil}
 use Rattle.script.proofs.RangesLaws.{all_ranges-many, all_ranges-err, all_ranges-read, rest_more, with_front-more, with_front-err, with_front-all}
 use Rattle.script.proofs.ranges.ranges.Goals as goal

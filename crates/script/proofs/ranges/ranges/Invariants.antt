@@ -1,7 +1,7 @@
 use Rattle.std.proofs.Common.{◌≡◌, ◌-◌, take, drop, length, replicate, All}
 use Rattle.plain_machine.specs.Fitting.{IsRange}
-use Rattle.script.specs.Ranges.{ranges_in}
-use Rattle.script.specs.Words.{texts}
+use Rattle.script.specs.Shapes.{ranges_in}
+use Rattle.script.specs.Shapes.{texts}
 use Rattle.script.proofs.NumbersLaws.{with_front}
 use Rattle.script.proofs.ranges.ranges.Given as goal
 

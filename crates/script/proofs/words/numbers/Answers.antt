@@ -1,7 +1,7 @@
 use Rattle.std.proofs.Common.{arith, sym, ◌∙◌}
 use Rattle.std.proofs.lemmas.Result.{err_from_is_err_and}
 use Rattle.std.proofs.lemmas.List.{length-set}
-use Rattle.script.specs.Words.{texts}
+use Rattle.script.specs.Shapes.{texts}
 use Rattle.script.proofs.NumbersLaws.{length-texts, with_front-more, with_front-err, with_front-all, AllWithin-numbers_in, all_numbers-other, all_numbers-same}
 use Rattle.script.proofs.words.numbers.Goals as goal
 

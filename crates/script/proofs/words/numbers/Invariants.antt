@@ -1,5 +1,5 @@
 use Rattle.std.proofs.Common.{◌≡◌, take, drop, length}
-use Rattle.script.specs.Words.{numbers_in, texts}
+use Rattle.script.specs.Shapes.{numbers_in, texts}
 use Rattle.script.proofs.NumbersLaws.{with_front}
 use Rattle.script.proofs.words.numbers.Given as goal
 

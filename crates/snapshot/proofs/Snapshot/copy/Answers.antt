@@ -1,7 +1,7 @@
 use Rattle.std.proofs.Common.{◌≡◌, ℕ, ◌<◌, ◌≤◌, length, take, map, All, rules, sym, ap, ◌∙◌, subst}
-use Rattle.definitions.specs.Zones.{AreApart}
+use Rattle.definitions.specs.ZoneFacts.{AreApart}
 use Rattle.definitions.specs.Tables.{frame}
-use Rattle.definitions.specs.Lists.{saveable_frames, free_frames}
+use Rattle.definitions.specs.Tables.{saveable_frames, free_frames}
 use Rattle.memory_bitmap.specs.FrameSet.{FrameSet}
 use Rattle.snapshot.specs.Taken.{Taken}
 use Rattle.snapshot.proofs.Copying.{ready, pages_copied, pages_kept}

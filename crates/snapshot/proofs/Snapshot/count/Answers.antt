@@ -1,6 +1,6 @@
 use Rattle.std.proofs.Common.{◌≡◌, ℕ, List, ◌<◌, length, get_or, sym, ap, ◌∙◌, subst, arith}
-use Rattle.definitions.specs.Zones.{AreApart}
-use Rattle.definitions.specs.Lists.{saveable_frames}
+use Rattle.definitions.specs.ZoneFacts.{AreApart}
+use Rattle.definitions.specs.Tables.{saveable_frames}
 use Rattle.memory_bitmap.specs.FrameSet.{FrameSet}
 use Rattle.snapshot.specs.Taken.{Taken}
 use Rattle.snapshot.proofs.Copying.{saved_below}

@@ -1,7 +1,8 @@
 use Rattle.std.proofs.Common.{◌≡◌, IsTrue, sym, ap, subst, ◌∙◌}
 use Rattle.definitions.specs.Disk.{Changes}
 use Rattle.definitions.specs.SwapHeader.{marked}
-use Rattle.stream_in.specs.Marking.{HasHeader, Marks, LeavesAt, FailsToMark}
+use Rattle.stream_in.specs.Marking.{LeavesAt}
+use Rattle.stream_in.specs.Marked.{HasHeader, Marks, FailsToMark}
 use Rattle.stream_in.proofs.Contents.{on_ok, if_err}
 use Rattle.stream_in.proofs.Undoing.{told_marks, told_leaves}
 use Rattle.stream_in.proofs.Trying.{told_marking, told_alike_mark, told_tries, told_tries_none}

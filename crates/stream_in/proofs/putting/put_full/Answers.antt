@@ -7,7 +7,7 @@ use Rattle.stream_in.proofs.AtPage.{has_put}
 use Rattle.stream_in.proofs.Outsides.{told_same}
 use Rattle.stream_in.proofs.Rests.{told_puts, told_fails, told_unwritten, told_made, few_calls, is_first}
 use Rattle.stream_in.specs.Putting.{pages_in, writes_made}
-use Rattle.stream_in.specs.Written.{AreOfMap}
+use Rattle.stream_in.specs.Holding.{AreOfMap}
 use Rattle.stream_in.proofs.Laying.{more_same}
 use Rattle.stream_in.proofs.Moments.{alike_outside, outside_none, outside_same, outside_then}
 use Rattle.stream_in.proofs.putting.put_full.Goals as goal

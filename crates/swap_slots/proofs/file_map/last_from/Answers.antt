@@ -2,7 +2,8 @@ use Rattle.std.proofs.Common.{◌≡◌, ℕ, ◌+◌, ◌-◌, ◌<◌, ◌≤�
 use Rattle.std.proofs.lemmas.Bool.{cases_lt, leb-true, leb-false}
 use Rattle.std.proofs.lemmas.List.Sorted.{IsPartitionPoint-from_clause, IsPartitionedBy-leb, IsNonDecreasingBy-from_default}
 use Rattle.std.specs.List.Sorted.{IsNonDecreasingBy}
-use Rattle.definitions.specs.Slots.{block_of, extent_at, slots_of, IsFileMap}
+use Rattle.definitions.specs.Slots.{block_of, extent_at, slots_of}
+use Rattle.definitions.specs.FileMaps.{IsFileMap}
 use Rattle.definitions.proofs.FileMaps.{block_of-extent, ends_before}
 use Rattle.swap_slots.proofs.file_map.last_from.Goals as goal
 

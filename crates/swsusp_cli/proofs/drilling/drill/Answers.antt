@@ -5,7 +5,7 @@ use Rattle.world_core.specs.StandsFor.{IsNewWorld}
 use Rattle.script.specs.Drill.{drill_script, summary}
 use Rattle.script.specs.Grammar.{ScriptValue}
 use Rattle.script.specs.declared.tally.Tally.{Tally}
-use Rattle.command_kit.specs.Answer.{RunResult}
+use Rattle.command_kit.specs.Told.{RunResult}
 use Rattle.command_kit.specs.AnswerOf.{told_by}
 use Rattle.swsusp_cli.specs.Drills.{out_of_memory, summed, summary_told}
 use Rattle.swsusp_cli.specs.Playing.{HasPlayed}

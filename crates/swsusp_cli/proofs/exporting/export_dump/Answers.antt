@@ -1,6 +1,6 @@
 use Rattle.std.proofs.Common.{List, ℕ, [], refl, subst, Err, ap}
 use Rattle.dump_file.specs.Dump.{DumpValue}
-use Rattle.command_kit.specs.Answer.{RunResult}
+use Rattle.command_kit.specs.Told.{RunResult}
 use Rattle.swsusp_cli.specs.Exports.{no_dump, out_of_memory, unread, in_use, exported}
 use Rattle.command_kit.specs.Told.{IsTold}
 use Rattle.command_kit.specs.View.{SinkView}

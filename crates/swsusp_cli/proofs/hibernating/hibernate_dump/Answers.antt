@@ -1,6 +1,6 @@
 use Rattle.std.proofs.Common.{refl, subst, arith, Err, ap}
 use Rattle.dump_file.specs.Dump.{DumpValue}
-use Rattle.command_kit.specs.Answer.{RunResult}
+use Rattle.command_kit.specs.Told.{RunResult}
 use Rattle.swsusp_cli.specs.Dumps.{no_dump, out_of_memory, unread, answered}
 use Rattle.command_kit.specs.Told.{IsTold}
 use Rattle.command_kit.specs.View.{DiskView, SinkView}

@@ -4,7 +4,7 @@ use Rattle.std.proofs.lemmas.List.{length-take-le}
 use Rattle.std.specs.Prelude.{IfErr, IsTrue}
 use Rattle.definitions.specs.Disk.{Content, HasRisen}
 use Rattle.stream_in.specs.Session.{IsFed}
-use Rattle.stream_in.specs.Written.{AreOfMap}
+use Rattle.stream_in.specs.Holding.{AreOfMap}
 use Rattle.swsusp_cli.specs.Feeding.{Feeds, IsOfDisk}
 use Rattle.command_kit.specs.View.{DiskView}
 use Rattle.swsusp_cli.specs.declared.importing.ImportStop.{ImportStop}

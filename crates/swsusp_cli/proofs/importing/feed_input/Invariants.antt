@@ -3,7 +3,7 @@ use Rattle.definitions.specs.Disk.{Changes}
 use Rattle.sig_header.specs.declared.area.Area.{Area}
 use Rattle.stream_in.specs.Holding.{StaysReady}
 use Rattle.stream_in.specs.Session.{IsFed, TakesInto}
-use Rattle.stream_in.specs.Written.{AreOfMap}
+use Rattle.stream_in.specs.Holding.{AreOfMap}
 use Rattle.swsusp_cli.specs.Feeding.{HasFed, KeepsHeaders}
 use Rattle.swsusp_cli.proofs.importing.feed_input.Given as goal
 

@@ -2,14 +2,14 @@ use Rattle.std.proofs.Common.{◌≡◌, ℕ, List, [], Option, Result, Err, sym
 use Rattle.std.specs.Prelude.{IsTrue}
 use Rattle.std.specs.Option.{IfSome}
 use Rattle.definitions.specs.Disk.{Content, as_it_reads}
-use Rattle.plain_machine.specs.Laid.{laid_block}
+use Rattle.plain_machine.specs.Image.{laid_block}
 use Rattle.stream_in.specs.Holding.{IsReadyFor}
 use Rattle.std.proofs.lemmas.Result.{err_from_is_err_and}
 use Rattle.stream_check.specs.declared.fault.StreamFault.{StreamFault}
 use Rattle.stream_in.specs.Session.{IsGoing, TakesInto}
-use Rattle.stream_in.specs.Written.{AreOfMap}
+use Rattle.stream_in.specs.Holding.{AreOfMap}
 use Rattle.stream_in.specs.declared.stop.InStop.TheVariants as stop
-use Rattle.swsusp_cli.specs.Called.{IsCalledAtMost}
+use Rattle.swsusp_cli.specs.Imports.{IsCalledAtMost}
 use Rattle.swsusp_cli.specs.Imports.{Ends}
 use Rattle.swsusp_cli.specs.declared.importing.ImportStop.{ImportStop}
 use Rattle.command_kit.specs.View.{DiskView}

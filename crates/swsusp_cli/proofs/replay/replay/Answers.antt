@@ -2,7 +2,7 @@ use Rattle.std.proofs.Common.{inl, inr, List, None, refl, subst, take, Err, ap}
 use Rattle.plain_machine.specs.Machine.{Hardware}
 use Rattle.plain_machine.specs.declared.event.Event.{Event}
 use Rattle.world_core.specs.StandsFor.{IsNewWorld}
-use Rattle.command_kit.specs.Answer.{RunResult}
+use Rattle.command_kit.specs.Told.{RunResult}
 use Rattle.swsusp_cli.specs.Outcome.{cut_off, no_script, out_of_memory, unread}
 use Rattle.swsusp_cli.specs.Playing.{HasPlayed}
 use Rattle.command_kit.specs.Told.{IsTold}

@@ -1,5 +1,5 @@
 use Rattle.std.proofs.Common.{inl, inr, map, refl, string_bytes}
-use Rattle.command_kit.specs.Answer.{memory_told, unparsed}
+use Rattle.command_kit.specs.Told.{memory_told, unparsed}
 use Rattle.command_kit.specs.AnswerOf.{told_by}
 use Rattle.command_kit.specs.View.{View, disk_view, view}
 use Rattle.command_kit.specs.declared.status.Status.TheVariants.{Memory}

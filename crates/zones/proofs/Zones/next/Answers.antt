@@ -1,6 +1,7 @@
 use Rattle.std.proofs.Common.{◌≡◌, ℕ, ◌<◌, ◌≤◌, max, List, length, Some, None, ap, inl, inr, arith}
 use Rattle.std.proofs.lemmas.Bool.{cases_lt}
-use Rattle.definitions.specs.Zones.{numbers, first_from, zone_end, zone_at, AreZones}
+use Rattle.definitions.specs.Zones.{numbers, first_from, zone_end, zone_at}
+use Rattle.definitions.specs.ZoneFacts.{AreZones}
 use Rattle.definitions.proofs.Ascending.{first_from-some, first_from-none}
 use Rattle.definitions.proofs.ZoneNumbers.{IsStrictlyIncreasing-numbers, Contains-numbers, zone_of, zones_apart}
 use Rattle.zones.specs.Kept.{kept_zones}

@@ -5,7 +5,8 @@ use Rattle.std.proofs.lemmas.List.{get_or_default, take_more, drop-set-lt, lengt
 use Rattle.std.proofs.lemmas.List.Elements.{AllWithin-more}
 use Rattle.std.proofs.lemmas.List.Sorted.{all_adjacent_more}
 use Rattle.std.proofs.lemmas.Grind.{take-set_at}
-use Rattle.definitions.specs.Zones.{zone_at, zone_end, IsZone, LiesBelow}
+use Rattle.definitions.specs.Zones.{zone_at, zone_end}
+use Rattle.definitions.specs.ZoneFacts.{IsZone, LiesBelow}
 use Rattle.zones.proofs.Zones.of.Goals as goal
 
 each_more : (pairs : List (ℕ × ℕ)) (at : ℕ) → at < length pairs → AllWithin IsZone pairs 0 at → IsZone (zone_at pairs at) → AllWithin IsZone pairs 0 (at + 1)

@@ -1,6 +1,7 @@
 use Rattle.std.proofs.Common.{◌≡◌, ◌-◌, ◌<◌, length, take, drop, replicate}
 use Rattle.std.specs.List.{AllWithin, AllAdjacentBelow}
-use Rattle.definitions.specs.Zones.{zone_at, zone_end, IsZone, LiesBelow}
+use Rattle.definitions.specs.Zones.{zone_at, zone_end}
+use Rattle.definitions.specs.ZoneFacts.{IsZone, LiesBelow}
 use Rattle.zones.proofs.Zones.of.Given as goal
 
 abbrev pub invariant-loop-at : goal.invariant-loop-at

@@ -1,6 +1,6 @@
 use Rattle.std.proofs.Common.{◌≡◌, ◌+◌, ◌*◌, ◌++◌, take, length}
 use Rattle.arrayvec.specs.ArrayVec.{array_vec_len}
-use Rattle.plain_machine.specs.Texts.{hex_text}
+use Rattle.plain_machine.specs.Replies.{hex_text}
 use Rattle.byte_streams.proofs.line.Line.put_hex.Given as goal
 
 abbrev pub invariant-loop-b : goal.invariant-loop-b

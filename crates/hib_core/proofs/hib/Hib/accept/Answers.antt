@@ -3,7 +3,7 @@ use Rattle.std.proofs.Common.{◌≡◌, ◌≢◌, true, false, not, Result, �
 use Rattle.std.proofs.lemmas.Bool.{false≢true}
 use denote.Enum.Bare.{sameb}
 use Rattle.sig_header.specs.declared.area.Area.{Area}
-use Rattle.definitions.specs.Lists.{saveable_frames, free_frames}
+use Rattle.definitions.specs.Tables.{saveable_frames, free_frames}
 use Rattle.definitions.specs.NumberPages.{meta_of}
 use Rattle.definitions.specs.Tables.{HasTable}
 use Rattle.page_core.specs.declared.format.Format.{Format}

@@ -2,7 +2,7 @@ use Rattle.std.proofs.Common.{◌≡◌, ℕ, ◌<◌, Option, get_or, refl, sym
 use Rattle.std.specs.Option.{IsSome}
 use Rattle.std.proofs.lemmas.Option.{same_Some}
 use Rattle.definitions.specs.Slots.{block_of}
-use Rattle.plain_machine.specs.Laid.{page_place, page_of_write}
+use Rattle.plain_machine.specs.Image.{page_place, page_of_write}
 use Rattle.image_write.specs.Writing.{Writing}
 use Rattle.image_write.proofs.Paging.{slot_of_page, place_of_page}
 use Rattle.image_write.proofs.writer.Writer.next_block.Goals as goal

@@ -4,7 +4,7 @@ use Rattle.definitions.specs.NumberPages.{meta_of, marked_numbers}
 use Rattle.definitions.specs.Tables.{frame}
 use Rattle.pfn_pack.specs.Places.{members_in}
 use Rattle.pfn_pack.proofs.Filling.{length-marked}
-use Rattle.plain_machine.specs.Laid.{page_of_write}
+use Rattle.plain_machine.specs.Image.{page_of_write}
 use Rattle.image_write.specs.Copies.{IsPassed, with_data, data_pages}
 use Rattle.image_write.specs.Kept.{writing}
 use Rattle.image_write.specs.Writing.{Writing, HasReadCopies, AreOfImage, data_written, stream_of_sets}

@@ -1,6 +1,6 @@
 use Rattle.std.proofs.Common.{◌≡◌, ℕ, List, true, sym, ◌∙◌, subst}
 use Rattle.definitions.specs.Disk.{Changes, Writes, FailsToWrite}
-use Rattle.plain_machine.specs.Laid.{is_map_write}
+use Rattle.plain_machine.specs.Image.{is_map_write}
 use Rattle.image_write.proofs.Mapping.{write_of_map, frames_of_map}
 use Rattle.image_write.proofs.writer.Writer.put.Goals as goal
 

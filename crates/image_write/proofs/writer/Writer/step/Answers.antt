@@ -3,7 +3,7 @@ use Rattle.definitions.specs.Disk.{Changes, Writes, FailsToWrite}
 use Rattle.definitions.specs.NumberPages.{meta_of}
 use Rattle.definitions.specs.Tables.{frame}
 use Rattle.pfn_pack.specs.Places.{members_in}
-use Rattle.plain_machine.specs.Laid.{is_map_write, page_of_write}
+use Rattle.plain_machine.specs.Image.{is_map_write, page_of_write}
 use Rattle.image_write.specs.Copies.{IsPassed, data_pages}
 use Rattle.image_write.specs.Writing.{Writing, IsWriting, Makes, writes_of, write_next, data_written, stream_of_sets}
 use Rattle.image_write.proofs.Places.{page_write, next_page}

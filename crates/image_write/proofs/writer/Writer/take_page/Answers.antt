@@ -1,7 +1,7 @@
 use Rattle.std.proofs.Common.{◌≡◌, ℕ, ◌<◌, ◌+◌, ◌∷◌, ◌++◌, [], List, length, get_or, false, refl, sym, ap, ◌∙◌, subst, arith}
 use Rattle.definitions.specs.Slots.{block_of}
 use Rattle.definitions.specs.Tables.{with_entry, with_entries}
-use Rattle.plain_machine.specs.Laid.{is_map_write}
+use Rattle.plain_machine.specs.Image.{is_map_write}
 use Rattle.swap_slots.specs.Table.{LiesIn, free_in}
 use Rattle.image_write.specs.Kept.{writing}
 use Rattle.image_write.specs.Writing.{Writing, IsWriting, slots_of_write, taken_after}

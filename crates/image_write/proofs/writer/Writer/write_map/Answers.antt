@@ -1,6 +1,6 @@
 use Rattle.std.proofs.Common.{◌≡◌, ℕ, ◌+◌, ◌/◌, List, true, sym, ap, ◌∙◌, subst}
 use Rattle.definitions.specs.Disk.{Changes, Writes, FailsToWrite}
-use Rattle.plain_machine.specs.Laid.{is_map_write, laid_block, laid_map, map_place}
+use Rattle.plain_machine.specs.Image.{is_map_write, laid_block, laid_map, map_place}
 use Rattle.image_write.specs.Kept.{writing}
 use Rattle.image_write.specs.Answers.{after}
 use Rattle.image_write.specs.Writing.{Writing, IsWriting, writes_of}

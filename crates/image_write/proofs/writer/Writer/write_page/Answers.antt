@@ -1,5 +1,5 @@
 use Rattle.std.proofs.Common.{ℕ, ◌<◌, sym, subst, arith}
-use Rattle.plain_machine.specs.Laid.{page_place, page_of_write}
+use Rattle.plain_machine.specs.Image.{page_place, page_of_write}
 use Rattle.image_write.specs.Writing.{writes_of}
 use Rattle.image_write.proofs.Places.{page_write, taken_before_page}
 use Rattle.image_write.proofs.writer.Writer.write_page.Goals as goal

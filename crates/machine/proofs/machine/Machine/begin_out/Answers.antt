@@ -5,7 +5,7 @@ use denote.Enum.Bare.{sameb}
 use Rattle.plain_machine.specs.contracts.held.Held.{the_type}
 use Rattle.plain_machine.specs.declared.held.Held.{Held}
 use Rattle.plain_machine.specs.declared.held.Held.TheVariants.{No, Yes, Perhaps}
-use Rattle.definitions.specs.Lists.{free_slots}
+use Rattle.definitions.specs.Tables.{free_slots}
 use Rattle.plain_machine.specs.Machine.{Memory, frame_entry}
 use Rattle.plain_machine.specs.declared.event.TaskOp.TheVariants as op
 use Rattle.plain_machine.specs.declared.reply.Reply.TheVariants as reply

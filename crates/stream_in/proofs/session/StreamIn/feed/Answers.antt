@@ -5,7 +5,7 @@ use Rattle.stream_check.proofs.Steps.{first_fault-stays}
 use Rattle.stream_in.specs.Session.{IsGoing, IsFed}
 use Rattle.stream_in.specs.Area.{HasTooFewFor, SufficeFor}
 use Rattle.definitions.specs.Disk.{Changes, DiskImage}
-use Rattle.stream_in.specs.Written.{AreOfMap, WritesOn}
+use Rattle.stream_in.specs.Holding.{AreOfMap, WritesOn}
 use Rattle.stream_in.proofs.Pages.{on_none, on_then}
 use Rattle.stream_in.specs.Outside.{WritesAtRest}
 use Rattle.stream_in.proofs.Rests.{told_nothing, told_stops_then, told_writes_then}

@@ -1,6 +1,6 @@
 use Rattle.std.proofs.Common.{◌≡◌, ℕ, ◌+◌, ◌-◌, ◌*◌, ◌/◌, ◌≤◌, List, ◌++◌, IsTrue, length, take}
 use Rattle.definitions.specs.Disk.{Changes}
-use Rattle.stream_in.specs.Written.{AreOfMap, WritesOn}
+use Rattle.stream_in.specs.Holding.{AreOfMap, WritesOn}
 use Rattle.stream_in.specs.Outside.{WritesAtRest}
 use Rattle.stream_in.specs.Moments.{ElapsesOutside}
 use Rattle.stream_in.specs.Session.{IsFed, IsGoing}

@@ -1,7 +1,7 @@
 use Rattle.std.proofs.Common.{ℕ, ◌+◌, ◌≤◌, List, length, sym, ap, subst, refl, ◌∙◌, arith}
 use Rattle.std.proofs.lemmas.List.{length-replicate}
 use Rattle.definitions.specs.Bytes.{zero_page}
-use Rattle.definitions.specs.Lists.{free_slots}
+use Rattle.definitions.specs.Tables.{free_slots}
 use Rattle.definitions.specs.Tables.{with_entries}
 use Rattle.image_write.specs.Writing.{BlocksBelow}
 use Rattle.plain_machine.specs.UsableArea.{bad_slots_of}

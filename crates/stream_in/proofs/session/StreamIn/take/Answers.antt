@@ -9,7 +9,7 @@ use Rattle.stream_in.specs.Session.{IsFed}
 use Rattle.stream_in.proofs.Contents.{err_same, changes_none, changes_as, on_err_any}
 use Rattle.definitions.specs.Disk.{Changes, as_it_reads}
 use Rattle.stream_in.specs.Putting.{pages_in, pages_written, writes_made}
-use Rattle.stream_in.specs.Written.{MakesMore, WritesOn, page_at}
+use Rattle.stream_in.specs.Holding.{MakesMore, WritesOn, page_at}
 use Rattle.stream_in.proofs.Pages.{written_part, next_page, page_count, written_full, goes_on}
 use Rattle.stream_in.specs.Outside.{FailsAtRest, PutsAtRest}
 use Rattle.stream_in.proofs.Rests.{told_full, told_no_stop, told_part, told_stop}

@@ -1,5 +1,6 @@
 use Rattle.std.proofs.Common.{◌≡◌, ℕ, ◌<◌, ◌≤◌, ◌-◌, ◌*◌, ◌++◌, take, replicate}
-use Rattle.definitions.specs.Slots.{slots_before, IsInOrder}
+use Rattle.definitions.specs.Slots.{slots_before}
+use Rattle.definitions.specs.FileMaps.{IsInOrder}
 use Rattle.swap_slots.proofs.file_map.FileMap.of.Given as goal
 
 -- the extents before this one are in order and kept

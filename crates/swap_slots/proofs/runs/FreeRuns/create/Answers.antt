@@ -1,6 +1,6 @@
 use Rattle.std.proofs.Common.{ℕ, ◌∙◌, ap, arith, List, refl}
 use Rattle.definitions.proofs.SlotRuns.{runs_of-nil}
-use Rattle.definitions.specs.Slots.{runs_of}
+use Rattle.definitions.specs.FreeRuns.{runs_of}
 use Rattle.swap_slots.specs.Runs.{SlotRuns}
 use Rattle.swap_slots.specs.Kept.{members_of}
 use Rattle.swap_slots.proofs.Keeping.{kept_zeros, members_of-zeros}

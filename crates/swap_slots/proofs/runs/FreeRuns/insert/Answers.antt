@@ -1,6 +1,6 @@
 use Rattle.std.proofs.Common.{ℕ, ◌∙◌, ap, List, arith}
 use Rattle.std.proofs.lemmas.List.{with_items_is}
-use Rattle.definitions.specs.Slots.{runs_of}
+use Rattle.definitions.specs.FreeRuns.{runs_of}
 use Rattle.swap_slots.specs.Kept.{members_of}
 use Rattle.swap_slots.specs.Runs.{SlotRuns}
 use Rattle.swap_slots.proofs.Changes.{BitWritten, count_set, kept_after_set, seen_after_set}

@@ -1,7 +1,7 @@
 use Rattle.std.proofs.Common.{◌≡◌, ◌∙◌, sym, ap, refl}
 use Rattle.definitions.specs.Zones.{numbers}
-use Rattle.definitions.specs.Lists.{free_slots}
-use Rattle.definitions.specs.Slots.{runs_of}
+use Rattle.definitions.specs.Tables.{free_slots}
+use Rattle.definitions.specs.FreeRuns.{runs_of}
 use Rattle.definitions.specs.FrameSets.{inserted}
 use Rattle.definitions.proofs.SlotRuns.{runs_of-nil, numbers-runs_of}
 use Rattle.definitions.proofs.FreeSlots.{free_slots-none, free_slots-more_free, free_slots-more_taken}

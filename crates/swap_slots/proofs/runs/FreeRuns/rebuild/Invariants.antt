@@ -1,5 +1,5 @@
 use Rattle.std.proofs.Common.{◌≡◌}
-use Rattle.definitions.specs.Slots.{free_runs}
+use Rattle.definitions.specs.FreeRuns.{free_runs}
 use Rattle.swap_slots.proofs.runs.FreeRuns.rebuild.Given as goal
 
 -- the free slots below `slot`

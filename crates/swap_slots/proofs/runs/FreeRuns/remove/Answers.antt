@@ -1,6 +1,6 @@
 use Rattle.std.proofs.Common.{ℕ, ◌∙◌, ◌/◌, sym, ap, subst, List, arith}
 use Rattle.std.proofs.lemmas.List.{with_items_is}
-use Rattle.definitions.specs.Slots.{runs_of}
+use Rattle.definitions.specs.FreeRuns.{runs_of}
 use Rattle.swap_slots.specs.Bits.{IsClearWord}
 use Rattle.swap_slots.specs.Kept.{members_of}
 use Rattle.swap_slots.specs.Runs.{SlotRuns}

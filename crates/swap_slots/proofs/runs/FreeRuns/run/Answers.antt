@@ -3,7 +3,7 @@ use Rattle.std.proofs.lemmas.List.{drop-drop}
 use Rattle.std.specs.List.{slice_get}
 use Rattle.std.specs.List.Sorted.{IsStrictlyIncreasing}
 use Rattle.definitions.specs.Zones.{numbers}
-use Rattle.definitions.specs.Slots.{runs_of}
+use Rattle.definitions.specs.FreeRuns.{runs_of}
 use Rattle.definitions.proofs.SlotRuns.{runs_of-nil}
 use Rattle.swap_slots.specs.Runs.{SlotRuns, from_slot}
 use Rattle.swap_slots.specs.Kept.{kept_runs}

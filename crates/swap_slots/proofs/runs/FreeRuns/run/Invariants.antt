@@ -1,6 +1,6 @@
 use Rattle.std.proofs.Common.{◌≡◌, ◌+◌, ◌∷◌, ◌≤◌, drop}
 use Rattle.definitions.specs.Zones.{numbers}
-use Rattle.definitions.specs.Slots.{runs_of}
+use Rattle.definitions.specs.FreeRuns.{runs_of}
 use Rattle.swap_slots.specs.Runs.{from_slot}
 use Rattle.swap_slots.proofs.runs.FreeRuns.run.Given as goal
 

@@ -1,5 +1,5 @@
 use Rattle.std.proofs.Common.{◌≡◌, length}
-use Rattle.definitions.specs.Lists.{image_slots}
+use Rattle.definitions.specs.Tables.{image_slots}
 use Rattle.definitions.specs.Tables.{with_entries}
 use Rattle.swap_slots.specs.Table.{Matches}
 use Rattle.swap_slots.proofs.table.SlotTable.give_image.Given as goal

@@ -1,6 +1,6 @@
 -- What the machine that runs has: its free slots are read from the slot table, and no task has an unfinished operation.
 use Rattle.std.proofs.Common.{◌<◌, ◌≤◌, ℕ, refl, ap, sym, ◌∙◌, subst}
-use Rattle.definitions.specs.Slots.{free_runs}
+use Rattle.definitions.specs.FreeRuns.{free_runs}
 use Rattle.swap_slots.specs.Runs.{SlotRuns}
 use Rattle.swap_slots.specs.Table.{LiesIn, Matches}
 use Rattle.swap_slots.specs.declared.table.SlotTable.{SlotTable}

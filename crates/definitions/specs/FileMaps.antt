@@ -1,0 +1,36 @@
+-- The file map of a swap file: which runs of its slots lie where on the device.
+use Rattle.std.specs.Prelude.{◌≡◌, ◌⊎◌, ◌≤◌, ◌<◌, ℕ, ◌+◌, ◌-◌, List, length}
+use Rattle.definitions.specs.Slots.{extent_at, slots_before, slots_of}
+
+-- no block of one extent is one of the other's
+abbrev pub LieApart : ℕ × ℕ × ℕ → ℕ × ℕ × ℕ → Type 0
+LieApart e f = (e.2 + e.1 ≤ f.2) ⊎ (f.2 + f.1 ≤ e.2)
+
+-- Extent i begins at slot 0 or where the one before ends, has a slot, ends at a block that a 32-bit number can name,
+-- has no block of an extent before, and has block 0 for slot 0 alone, since that number means "no block" elsewhere.
+pub record IsInOrder (extents : List (ℕ × ℕ × ℕ)) (i : ℕ) : Type 0 where
+  pub start : (extent_at extents i).0 ≡ slots_before extents i
+  pub some : 1 ≤ (extent_at extents i).1
+  pub fits : (extent_at extents i).2 + (extent_at extents i).1 ≤ 4294967295
+  pub apart : (j : ℕ) → j < i → LieApart (extent_at extents j) (extent_at extents i)
+  pub header : (extent_at extents i).2 ≡ 0 → (extent_at extents i).0 ≡ 0
+
+-- 1 to 64 extents
+pub record AreFew (extents : List (ℕ × ℕ × ℕ)) : Type 0 where
+  pub some : 1 ≤ length extents
+  pub few : length extents ≤ 64
+
+-- the extents of a swap area with so many slots
+pub record IsFileMap (extents : List (ℕ × ℕ × ℕ)) (slots : ℕ) : Type 0 where
+  pub count : AreFew extents
+  pub each : (i : ℕ) → i < length extents → IsInOrder extents i
+  pub covers : slots_of extents ≡ slots
+
+-- Why extents are none: there are too few or too many (index 0), or the extent with this index is the first that is not
+-- in order, or all are and don't cover just the slots (the index after the last).
+abbrev pub IsExtentFault : List (ℕ × ℕ × ℕ) → ℕ → ℕ → Type 0
+IsExtentFault extents slots at =
+    (((length extents ≡ 0) ⊎ (64 < length extents)) × (at ≡ 0))
+    ⊎ (AreFew extents × (at < length extents) × ((i : ℕ) → i < at → IsInOrder extents i) × (IsInOrder extents at → ⊥))
+    ⊎ (AreFew extents × (at ≡ length extents) × ((i : ℕ) → i < at → IsInOrder extents i)
+    × (slots_of extents ≡ slots → ⊥))
