@@ -4,14 +4,12 @@ ghost use Rattle.definitions.specs.FreeRuns.{runs_of};
 ghost use Rattle.definitions.specs.Tables.{frame};
 ghost use Rattle.definitions.specs.Zones.{numbers, top, zone_end};
 ghost use Rattle.definitions.specs.ZoneFacts.{IsZone};
-ghost use Rattle.plain_machine.specs.Image.{is_zeros};
 ghost use Rattle.dump_core.specs.Cores.{is_told, told_runs};
 
 use crate::runs::add_number;
 use bitflags::Flags;
-use frame_arena::Frames;
 use machine::Dump;
-use page_core::{NoMemory, Page};
+use page_core::NoMemory;
 use page_states::{PageFlags, entry};
 use std::alloc::Global;
 
@@ -54,13 +52,5 @@ fn is_told(dump: &Dump, p: u32) -> bool
     // Only what is read is known to be hardware.
     let _ = dump.hw.zones();
     let (flags, _) = entry(&dump.frames, dump.hw.frame_table(), p);
-    !flags.intersects(PageFlags::FREE) || !is_zeros(&dump.frames, p)
-}
-
-/// Whether each byte of a page frame is zero.
-fn is_zeros(frames: &Frames, p: u32) -> bool
-    requires { p < length frames.now }
-    ensures { result ≡ is_zeros (frame frames.now p) }
-{
-    frames.page(p).as_bytes() == Page::zero().as_bytes()
+    !flags.intersects(PageFlags::FREE) || !dump.frames.is_zero(p)
 }

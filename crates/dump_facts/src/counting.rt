@@ -2,17 +2,13 @@ ghost use Rattle.std.specs.Prelude.{◌≡◌, ℕ, ◌<◌, ◌≤◌, ◌↔�
 ghost use Rattle.std.specs.List.{Contains, range_with_len};
 ghost use Rattle.definitions.specs.Zones.{numbers, top, zone_end};
 ghost use Rattle.definitions.specs.ZoneFacts.{IsZone};
-ghost use Rattle.plain_machine.specs.Image.{is_zeros};
 ghost use Rattle.definitions.specs.Tables.{frame};
-ghost use Rattle.definitions.specs.Bytes.{zero_page};
 ghost use Rattle.plain_machine.specs.Machine.{unused};
 ghost use Rattle.saveable.specs.Tests.{saveable_by_entry};
 ghost use Rattle.swap_slots.specs.Entries.{entry_of_word, word_of};
 ghost use Rattle.dump_facts.specs.Counts.{frames_of, is_of, seen, slots_of};
 
-use frame_arena::Frames;
 use machine::{Dump, slot_table};
-use page_core::Page;
 use page_states::entry;
 use saveable::{View, count_free, saveable};
 use swap_slots::SlotEntry;
@@ -67,7 +63,7 @@ fn is_of(dump: &Dump, kind: Kind, p: u32) -> bool
     let _ = dump.hw.zones();
     match kind {
         Kind::Saveable => is_saveable(dump, p),
-        Kind::WithData => is_saveable(dump, p) && !is_zeros(&dump.frames, p),
+        Kind::WithData => is_saveable(dump, p) && !dump.frames.is_zero(p),
         Kind::OwnedBy(task) => entry(&dump.frames, dump.hw.frame_table(), p).1 == task,
     }
 }
@@ -84,14 +80,6 @@ fn is_saveable(dump: &Dump, p: u32) -> bool
         table: dump.hw.frame_table(),
     };
     saveable(&view, p)
-}
-
-/// Whether each byte of a page frame is zero.
-fn is_zeros(frames: &Frames, p: u32) -> bool
-    requires { p < length frames.now }
-    ensures { result ≡ is_zeros (frame frames.now p) }
-{
-    frames.page(p).as_bytes() == Page::zero().as_bytes()
 }
 
 /// How many page frames are free.

@@ -1,12 +1,11 @@
 ghost use Rattle.std.specs.Prelude.{◌≡◌, ℕ, ◌+◌, ◌*◌, ◌<◌, ◌≤◌, not, IsTrue, ◌↔◌, List, [], ◌++◌, length, filter, IsOk};
 ghost use Rattle.std.specs.Prelude.{OnOk, OnErr, Some, if◌then◌else◌, All};
 ghost use Rattle.std.specs.List.{flat_map, concat, range_with_len};
-ghost use Rattle.definitions.specs.Bytes.{IsPage, zero_page};
+ghost use Rattle.definitions.specs.Bytes.{IsPage};
 ghost use Rattle.definitions.specs.Disk.{HasRisen};
 ghost use Rattle.definitions.specs.Streams.{TakesAll, TakesFront};
 ghost use Rattle.definitions.specs.Tables.{frame};
 ghost use Rattle.definitions.specs.Zones.{numbers, top};
-ghost use Rattle.plain_machine.specs.Image.{is_zeros};
 ghost use Rattle.plain_machine.specs.Machine.{Fits, IsHardware};
 ghost use Rattle.dump_file.specs.ReadBack.{ReadsBack};
 ghost use Rattle.dump_file.specs.Written.{dump_bytes, extent_bytes, front_bytes, head_bytes, is_plain, layout_bytes};
@@ -17,7 +16,7 @@ use crate::put::put_number;
 use byte_streams::{Sink, put_all};
 use frame_arena::Frames;
 use machine::Hardware;
-use page_core::{Failed, Page};
+use page_core::Failed;
 use zones::Zones;
 
 /// Writes the dump of a machine: its hardware without its regions, and a record for each valid page frame that isn't
@@ -176,10 +175,9 @@ fn count_records_of_zone(frames: &Frames, start: u32, count: u32) -> u32
     ensures counted { result ≡ length (nonzero frames.now (range_with_len start count)) }
     ensures at_most { result ≤ count }
 {
-    let zero = Page::zero();
     let mut total = 0;
     for i in 0..count {
-        if !is_zero(frames, start + i, &zero) {
+        if !frames.is_zero(start + i) {
             total += 1;
         }
     }
@@ -217,9 +215,8 @@ fn put_records_of_zone<K: Sink>(
     ensures counted { K.faults sink.old ≤ K.faults sink.new }
     ensures cause { OnErr result (HasRisen (K.faults sink.old) (K.faults sink.new)) }
 {
-    let zero = Page::zero();
     for i in 0..count {
-        if !is_zero(frames, start + i, &zero) {
+        if !frames.is_zero(start + i) {
             put_record(sink, frames, start + i)?;
         }
     }
@@ -236,13 +233,4 @@ fn put_record<K: Sink>(sink: &mut K, frames: &Frames, p: u32) -> Result<(), Fail
 {
     put_number(sink, p)?;
     put_all(sink, frames.page(p).as_bytes())
-}
-
-/// Whether each byte of page frame `p` is zero, as each of `zero` is.
-fn is_zero(frames: &Frames, p: u32, zero: &Page) -> bool
-    requires within { p < length frames.now }
-    requires zero { zero.now ≡ zero_page }
-    ensures { result ≡ is_zeros (frame frames.now p) }
-{
-    frames.page(p).as_bytes() == zero.as_bytes()
 }

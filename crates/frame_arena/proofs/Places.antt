@@ -56,7 +56,7 @@ none_own zero = refl
 none_own (suc n) = none_own n
 
 module _ (places : List ℕ) (pages : List (List ℕ)) (capacity : ℕ) (kept : AreKept places pages capacity) where
-  some : 0 < length pages
+  pub some : 0 < length pages
   some = let counted = kept.counted in omega arith
 
   page_in-zero : page_in pages 0 ≡ zero_page

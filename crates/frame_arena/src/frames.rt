@@ -1,5 +1,6 @@
 ghost use Rattle.std.specs.Prelude.{◌≡◌, ◌≢◌, ℕ, ◌+◌, ◌*◌, ◌^◌, ◌<◌, ◌≤◌, List, length, replicate, ◌∷◌, ◌++◌, []};
-ghost use Rattle.std.specs.Prelude.{slice_index, vec_len, vec_capacity, IfOk, IsTrue, All};
+ghost use Rattle.std.specs.Prelude.{slice_index, vec_len, vec_capacity, nat_eq, IfOk, IsTrue, All};
+ghost use Rattle.std.specs.Cmp.Lexicographic.{pointwise};
 ghost use Rattle.std.specs.Borrow.{sem};
 ghost use Rattle.definitions.specs.Bytes.{IsPage, word, with_word, number_at, with_number, zero_page, filled_page};
 ghost use Rattle.definitions.specs.Tables.{frame, with_frame};
@@ -114,6 +115,18 @@ impl Frames {
         // Nothing lies between these two, so that the page is copied once.
         let page = Page::from_bytes(self.pages[source as usize].as_bytes());
         self.pages[target as usize] = page;
+    }
+
+    /// Whether each byte of page frame `p` is zero. Of one to which nothing was written this is known without a look at it.
+    pub fn is_zero(&self, p: u32) -> bool
+        requires { p < length self.now }
+        ensures { result ≡ pointwise nat_eq (frame self.now p) zero_page }
+    {
+        let place = self.places[p as usize];
+        if place == 0 {
+            return true;
+        }
+        self.pages[place as usize].as_bytes() == self.pages[0].as_bytes()
     }
 
     // Whether nothing was written to page frame `p`.

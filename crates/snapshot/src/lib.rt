@@ -4,17 +4,16 @@
 
 ghost use Rattle.std.specs.Prelude.{◌≡◌, ℕ, ◌+◌, ◌-◌, ◌<◌, ◌≤◌, ◌↔◌, [], All, Contains, IsOk, IsErr, IsSome, IfOk};
 ghost use Rattle.std.specs.Prelude.{IfErr, IfSome, IfNone, length, map, take};
-ghost use Rattle.definitions.specs.Bytes.{zero_page};
 ghost use Rattle.definitions.specs.Zones.{top};
 ghost use Rattle.definitions.specs.Tables.{frame, HasTable};
 ghost use Rattle.definitions.specs.Tables.{saveable_frames, free_frames};
 ghost use Rattle.atomic_copy.specs.Copies.{AreDisjoint};
-ghost use Rattle.snapshot.specs.Taken.{zero_frames, is_zero_frame, set_over, AreFrameSets};
+ghost use Rattle.snapshot.specs.Taken.{zero_frames, set_over, AreFrameSets};
 
 use atomic_copy::copy_all;
 use frame_arena::Frames;
 use memory_bitmap::Bitmap;
-use page_core::{Format, NoMemory, Page};
+use page_core::{Format, NoMemory};
 use prealloc::{Short, enough, pick};
 use saveable::{View, count_free, mark_all};
 use std::alloc::Global;
@@ -178,19 +177,9 @@ fn mark_zeros(frames: &Frames, format: Format, origs: &Bitmap, zeros: &mut Bitma
     if format == Format::Plain {
         return;
     }
-    let zero = Page::zero();
     for p in origs.iter() {
-        if is_zero(frames, p, &zero) {
+        if frames.is_zero(p) {
             zeros.set(p);
         }
     }
-}
-
-/// Whether each byte of page frame `p` is zero, as each of `zero` is.
-fn is_zero(frames: &Frames, p: u32, zero: &Page) -> bool
-    requires within { p < length frames.now }
-    requires zero { zero.now ≡ zero_page }
-    ensures { result ≡ is_zero_frame frames.now p }
-{
-    frames.page(p).as_bytes() == zero.as_bytes()
 }

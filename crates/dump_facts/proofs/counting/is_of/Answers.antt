@@ -4,8 +4,8 @@ use Rattle.definitions.proofs.ZoneNumbers.{below_top}
 use Rattle.machine.proofs.Rows.{frame_table_fits}
 use Rattle.dump_facts.proofs.counting.is_of.Goals as goal
 
-pub is_zeros-requires : goal.is_zeros-requires
-is_zeros-requires c =
+pub is_zero-requires : goal.is_zero-requires
+is_zero-requires c =
     let low = below_top c.args.dump.now.hw.zones c.args.p c.zones.ensures.hardware.zones.apart c.requires.valid in
     omega (arith, low, c.requires.size)
 
