@@ -1,5 +1,5 @@
 -- What a plan that was given an image's numbers makes of the image.
-use Rattle.std.proofs.Common.{◌≡◌, ◌≤◌, ℕ, List, Option, Some, None, Result, Ok, Err, IfOk, inl, inr, refl, sym, ap, ap₂, subst, ◌∙◌}
+use Rattle.std.proofs.Common.{◌≡◌, ◌≤◌, ℕ, List, Option, Result, Ok, Err, IfOk, inl, inr, sym, ap₂, subst, ◌∙◌}
 use Rattle.std.specs.List.{Contains}
 use Rattle.definitions.specs.Disk.{Content}
 use Rattle.definitions.specs.Zones.{numbers}

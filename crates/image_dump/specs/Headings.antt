@@ -2,6 +2,7 @@
 use Rattle.std.specs.Prelude.{◌≡◌, ℕ, ◌/◌, ◌%◌, ◌==◌, if◌then◌else◌, List, Option, Some, None, Ok}
 use Rattle.definitions.specs.Disk.{Content}
 use Rattle.definitions.specs.InfoPage.{info_of}
+use Rattle.definitions.specs.declared.info.Info.{Info}
 use Rattle.definitions.specs.SwapHeader.{taken_back}
 use Rattle.sig_header.specs.AreaKind.{area_kind}
 use Rattle.sig_header.specs.declared.area.Area.{Area}
@@ -29,6 +30,23 @@ signature_of mark = if mark.flags / 8 % 2 == 0 then 0 else mark.hw_sig
 pub record IsMarkedBlock (content : Option Content) (header : ℕ) (page : List ℕ) (mark : Mark) : Type 0 where
   pub read : IsReadFrom content header (Ok page)
   pub marked : mark_in (area_kind page) ≡ Some mark
+
+-- The heading that a header block, without this mark, and what an info page says give.
+pub record Gives (page : List ℕ) (mark : Mark) (info : Info) (h : Heading) : Type 0 where
+  pub area : area_in (area_kind (taken_back page)) ≡ Some h.area
+  pub hw_sig : h.hw_sig ≡ signature_of mark
+  pub ident : h.ident ≡ info.ident
+  pub physpages : h.physpages ≡ info.physpages
+
+-- there is none where the block isn't that of a version 1 area
+abbrev pub IsHeadingBy : List ℕ → Mark → Info → Option Heading → Type 0
+IsHeadingBy page mark info None = area_in (area_kind (taken_back page)) ≡ None
+IsHeadingBy page mark info (Some h) = Gives page mark info h
+
+-- the header block has no mark
+abbrev pub HasNoMark : Option Content → (header : ℕ) → Type 0
+HasNoMark content header =
+    (page : List ℕ) × (IsReadFrom content header (Ok page) × (mark_in (area_kind page) ≡ None))
 
 -- The heading is that of the header block, without the mark, and of the info page.
 pub record IsHeadingOf (content : Option Content) (header : ℕ) (h : Heading) : Type 0 where

@@ -1,5 +1,6 @@
 pub mod Adds
 pub mod Begins
 pub mod Headings
+pub mod Heads
 pub mod Lays
 pub mod Makes

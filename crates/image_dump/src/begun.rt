@@ -1,19 +1,17 @@
-ghost use Rattle.std.specs.Prelude.{◌≡◌, ◌≤◌, ℕ, List, [], IfOk, OnErr, None, Some};
+ghost use Rattle.std.specs.Prelude.{◌≡◌, ◌≤◌, ℕ, [], Option, IfOk, OnErr};
 ghost use Rattle.definitions.specs.Disk.{Content};
-ghost use Rattle.definitions.specs.SwapHeader.{taken_back};
 ghost use Rattle.image_frames.specs.Numbered.{HasNumbered};
 ghost use Rattle.image_check.specs.Told.{Told};
 ghost use Rattle.image_dump.specs.Begins.{Begins, Marks};
-ghost use Rattle.image_dump.specs.Headings.{IsMarkedBlock, area_in, signature_of};
-ghost use Rattle.sig_header.specs.AreaKind.{area_kind};
-ghost use Rattle.std.specs.Prelude.{Option};
+ghost use Rattle.image_dump.specs.Headings.{IsMarkedBlock};
 
+use crate::headed::heading_of;
 use image_check::{Finding, Report, mark_in};
 use image_frames::{Numbers, OpenedNumbers};
 use image_machine::Heading;
 use page_core::{NoMemory, Page};
 use sector_disk::Disk;
-use sig_header::{Area, AreaKind, Mark, SF_HW_SIG, take_back};
+use sig_header::{AreaKind, Mark};
 use std::alloc::Global;
 
 /// What there is of an image.
@@ -71,39 +69,9 @@ fn opened(block: &Page, mark: &Mark, numbers: Numbers) -> Begun
         IsMarkedBlock content header block.now mark.now → HasNumbered content blocks header numbers [] →
         Begins content blocks header before now told then result }
 {
-    let info = numbers.info();
-    match area_in(AreaKind::read(&take_back(block))) {
-        Some(area) => Begun::Open(
-            Heading {
-                ident: info.ident,
-                physpages: info.physpages,
-                area,
-                hw_sig: signature_of(mark),
-            },
-            numbers,
-        ),
+    match heading_of(block, mark, &numbers.info()) {
+        Some(heading) => Begun::Open(heading, numbers),
         None => Begun::NoArea,
-    }
-}
-
-/// The version 1 area that a header block describes.
-fn area_in(kind: AreaKind) -> Option<Area>
-    ensures { result ≡ area_in kind }
-{
-    match kind {
-        AreaKind::Swap(area) => Some(area),
-        _ => None,
-    }
-}
-
-/// The hardware signature of a mark, which counts where its flag is set.
-fn signature_of(mark: &Mark) -> u32
-    ensures { result ≡ signature_of mark.now }
-{
-    if mark.flags / SF_HW_SIG % 2 == 0 {
-        0
-    } else {
-        mark.hw_sig
     }
 }
 

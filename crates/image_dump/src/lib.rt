@@ -3,11 +3,13 @@
 
 mod adding;
 mod begun;
+mod headed;
 mod laying;
 mod loader;
 mod made;
 mod saved_machine;
 
+pub use headed::{Headed, heading_in};
 pub use loader::{loader_from, loader_of};
 pub use made::{Asked, Made};
 pub use saved_machine::{machine_from, machine_of};

@@ -1,4 +1,4 @@
-use Rattle.std.proofs.Common.{◌≡◌, ◌<◌, ℕ, List, [], ◌∷◌, ◌++◌, Option, sym, subst, ◌∙◌, arith}
+use Rattle.std.proofs.Common.{ℕ, List, [], ◌∷◌, ◌++◌, Option, sym, subst, ◌∙◌, arith}
 use Rattle.std.specs.List.{Contains}
 use Rattle.definitions.specs.Disk.{Content}
 use Rattle.definitions.specs.Zones.{numbers}

@@ -1,4 +1,4 @@
-use Rattle.std.proofs.Common.{ℕ, Option, [], sym, subst, ◌∙◌}
+use Rattle.std.proofs.Common.{[], subst, ◌∙◌}
 use Rattle.image_frames.specs.Opens.{OpensNumbers}
 use Rattle.image_dump.proofs.Since.{numbered_since}
 use Rattle.image_dump.proofs.begun.begin.Goals as goal

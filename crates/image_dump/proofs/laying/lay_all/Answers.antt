@@ -1,8 +1,8 @@
-use Rattle.std.proofs.Common.{◌≡◌, ◌<◌, ℕ, List, [], ◌∷◌, ◌++◌, Option, refl, sym, subst, ◌∙◌, arith}
+use Rattle.std.proofs.Common.{ℕ, List, [], ◌∷◌, ◌++◌, Option, refl, sym, subst, ◌∙◌, arith}
 use Rattle.std.specs.List.{Contains}
 use Rattle.definitions.specs.Disk.{Content}
 use Rattle.definitions.specs.Zones.{numbers}
-use Rattle.image_frames.specs.Given.{HasGiven, frame_of}
+use Rattle.image_frames.specs.Given.{frame_of}
 use Rattle.image_frames.specs.SavedFrames.{AreAllSaved, AreFirstSaved}
 use Rattle.image_machine.specs.Filled.{IsFilled}
 use Rattle.image_saved.proofs.Since.{refused_since}

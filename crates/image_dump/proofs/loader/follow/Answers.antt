@@ -1,4 +1,4 @@
-use Rattle.std.proofs.Common.{ℕ, Option, [], inr, sym, subst, ◌∙◌}
+use Rattle.std.proofs.Common.{Option, [], inr, sym, subst, ◌∙◌}
 use Rattle.definitions.specs.Disk.{Content}
 use Rattle.image_frames.specs.Opens.{OpensNumbers}
 use Rattle.image_frames.specs.SavedNumbers.{AreAllNumbers}
