@@ -1,4 +1,5 @@
-"""Compressed images: `check`, `stream`, `page` and `core` say of one what they say of the plain image of the same memory, and it is carried over into that.
+"""Compressed images: `check`, `stream`, `page`, `core`, `loader` and `machine` say of one what they say of the plain image of the same memory, and it is
+carried over into that.
 
 The images are written by compressed.py, and what is wrong with a damaged one is told by its reader, or written down here.
 """
@@ -77,6 +78,51 @@ def test_a_damaged_image_gives_no_page_and_no_core():
         check_refused(ran, line)
         check_same("the area", after, before)
         check_refused(paged(built, 0)[0], line)
+
+
+# How the commands that write dumps are asked, with and without what no image says.
+DUMPS = [["loader"], ["machine"], ["machine", "--zone", "0", "65536"]]
+
+
+def dumped(built, command):
+    """What a command that writes a dump says of an image, which it leaves as it was."""
+    ran, before, after = ran_over(built, command[0], *command[1:])
+    check_same("the area", after, before)
+    return ran
+
+
+def test_dumps_are_those_of_the_plain_twin():
+    """Of an area of the same size with the same bad slots, whose signature counts in both where flag 8 is set."""
+    for saved, bad, flags in [(8, (), 4), (40, (1500,), 12), (600, (1, 2, 3, 700), 0)]:
+        plain = Built(saved, last=1500, bad=bad, first=4, flags=flags & ~4 | 2)
+        built = twin(plain, bad=bad, first=4, flags=flags)
+        for it in [plain, built]:
+            it.put(0, 4056, struct.pack("<I", 77))
+        for command in DUMPS:
+            wanted = dumped(plain, command)
+            check_same("status and note", (wanted[0], wanted[2]), (0, ""))
+            check(dumped(built, command), 0, wanted[1])
+
+
+def test_a_damaged_image_gives_no_dump():
+    """The first that is wrong with the units is noted; what is wrong inside them, as of the plain image."""
+    built = twin(Built(600))
+    built.put_length(3, 0)
+    plain = changed(lambda it: it.put_word(4, 87, 511))
+    torn = twin(plain)
+    for command in DUMPS:
+        check_refused(dumped(built, command), f"{built.place(3)}: length 0")
+        wanted = dumped(plain, command)
+        check_same("the status", wanted[0], 1)
+        check_same("a damaged image", dumped(torn, command), wanted)
+
+
+def test_limits_of_dumps():
+    """By what its info page and its numbers say."""
+    less, more = (twin(changed(lambda it: it.put(it.places[0], 400, struct.pack("<Q", pages)), 8)) for pages in [2048, 65537])
+    for command in [["loader"], ["machine"]]:
+        check_refused(dumped(more, command), "limit page frames 65536: memory pages 65537")
+        check_refused(dumped(less, [*command, "--zone", "0", "3", "--zone", "4", "2045"]), "page frame 3 lies in no zone")
 
 
 # What is changed of a plain image of 600 page frames before it is compressed, and the lines that tell it.
@@ -188,7 +234,7 @@ def hibernated(area, dump, **settings):
 
 
 def test_a_compressed_image_is_carried_over():
-    """Stream, compare, discard the old one, resume the new one."""
+    """Stream, compare, discard the old one, resume the new one. The dumps of each are those of the image that was compressed."""
     machine = Machine()
     loader = machine.loader(1000)
     with fresh_area() as plain, fresh_area() as new, tempfile.TemporaryDirectory() as room:
@@ -198,6 +244,11 @@ def test_a_compressed_image_is_carried_over():
         check(ran, 0, run("swsusp", "export", stdin=machine.saved())[1])
         check(run("swsusp", "import", new.path, stdin=ran[1]), 0, b"imported 5\n")
         check(run("swsusp_image", "stream", new.path), 0, ran[1])
+        for command in [["loader"], ["machine"], ["machine", "--tables", 0, 2]]:
+            dump = run("swsusp_image", *command, plain.path)
+            check_same("the status and the note of a dump", (dump[0], dump[2]), (0, ""))
+            for path in [old, new.path]:
+                check(run("swsusp_image", *command, path), 0, dump[1])
         check(run("swsusp_image", "discard", old), 0, b"discarded\n")
         check_refused(run("swsusp", "resume", old, stdin=loader), "no image")
         first = run("swsusp", "resume", plain.path, stdin=loader)

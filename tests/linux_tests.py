@@ -387,16 +387,36 @@ def test_a_compressed_image_is_still_refused_by_a_resume():
 
 
 def test_a_compressed_image_is_carried_over():
-    """As README says: stream, compare, discard the old one, resume the new one."""
+    """As README says: stream, compare, discard the old one, resume the new one, by the loader of either."""
     with area("compressed") as (file, image), fresh_area(image.last) as new:
         stream = looked(file, "stream")[1]
         check_line(ran_over(new, stream, "swsusp", "import"), f"imported {image.image_pages}")
         check_line(looked(file, "differ", new.path), "same")
-        dump = looked(new, "loader")[1]
+        status, dump, note = looked(file, "loader")
+        check_same("the status and the note of a loader", (status, note), (0, ""))
+        check(looked(new, "loader"), 0, dump)
         check_line(looked(file, "discard"), "discarded")
         check_refused(resume(file, dump), "no image")
         check_line(check_image(new, dump), f"resumed {image.image_pages}")
         check_pages(resume(new, dump), image, image.contents())
+
+
+def test_a_compressed_image_is_hibernated_again():
+    """Its machine goes through the engine, which writes a plain image of the same page frames and of new tables."""
+    with area("compressed") as (file, image), fresh_area(image.last) as new:
+        before, dump = file.bytes(), looked(file, "machine")
+        check_same("the status and the note of a machine", (dump[0], dump[2]), (0, ""))
+        check_same("the area", file.bytes(), before)
+        status, _, note = ran_over(new, dump[1], "swsusp", "hibernate")
+        check_same("the status and the note of a hibernation", (status, note), (0, ""))
+        status, out, note = looked(file, "differ", new.path)
+        check_same("the status and the note of a comparison", (status, note), (1, ""))
+        lines = out.decode().splitlines()
+        alone = [int(line.split()[1]) for line in lines]
+        check_same("the differences", lines, [f"frame {p} second alone" for p in alone])
+        check_same("page frames that the image saves", {*alone} & {*image.listed}, set())
+        restored = resume(new, looked(new, "loader")[1])
+        check_pages(restored, image, image.contents())
 
 
 def test_a_carried_image_is_the_same():

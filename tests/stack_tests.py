@@ -15,7 +15,8 @@ STACK = 256 * KIB
 SHOW_STACK = 512 * KIB
 CORE_STACK = 896 * KIB
 DIFFER_STACK = 1024 * KIB
-MACHINE_STACK = 448 * KIB
+# These keep what an image says of its area, with its bad pages, in several frames.
+DUMP_STACK = 512 * KIB
 # The disk that expands a compressed image keeps its header block and its info page in its frame.
 COMPRESSED_STACK = 384 * KIB
 SCRIPT = (pathlib.Path(__file__).resolve().parent.parent / "examples" / "machine.txt").read_bytes()
@@ -41,6 +42,8 @@ def test_each_command_runs_in_its_stack():
         within("swsusp_image", "stream", compressed.name, stack=COMPRESSED_STACK)
         within("swsusp_image", "page", compressed.name, 0, stack=COMPRESSED_STACK)
         within("swsusp_image", "core", compressed.name, stack=CORE_STACK)
+        within("swsusp_image", "loader", compressed.name, stack=DUMP_STACK)
+        within("swsusp_image", "machine", compressed.name, stack=DUMP_STACK)
         within("swsusp_image", "differ", compressed.name, compressed.name, stack=DIFFER_STACK)
     with area() as swap, tempfile.NamedTemporaryFile() as dump:
         dump.write(saved)
@@ -53,8 +56,8 @@ def test_each_command_runs_in_its_stack():
         within("swsusp_image", "show", swap.path, stack=SHOW_STACK)
         within("swsusp_image", "stream", swap.path)
         within("swsusp_image", "page", swap.path, 0)
-        within("swsusp_image", "loader", swap.path)
-        within("swsusp_image", "machine", swap.path, stack=MACHINE_STACK)
+        within("swsusp_image", "loader", swap.path, stack=DUMP_STACK)
+        within("swsusp_image", "machine", swap.path, stack=DUMP_STACK)
         within("swsusp_image", "core", swap.path, stack=CORE_STACK)
         within("swsusp_image", "differ", swap.path, swap.path, stack=DIFFER_STACK)
         within("swsusp", "resume", swap.path, stdin=loader)

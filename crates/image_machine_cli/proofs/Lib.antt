@@ -1,1 +1,2 @@
+pub mod AnyImage
 pub mod Noting

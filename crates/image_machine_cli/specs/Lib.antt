@@ -1,2 +1,3 @@
 pub mod LimitLines
 pub mod Loads
+pub mod Makes

@@ -2,25 +2,24 @@
 use Rattle.std.specs.Prelude.{◌≡◌, ℕ, ⊤, [], List, codes, length, Option}
 use Rattle.definitions.specs.Disk.{Content}
 use Rattle.definitions.specs.Zones.{top}
-use Rattle.byte_streams.specs.declared.sink.Sink as sink
 use Rattle.command_kit.specs.Told.{RunResult, line, memory_told}
 use Rattle.command_kit.specs.Told.{IsTold}
 use Rattle.command_kit.specs.View.{SinkView}
 use Rattle.command_kit.specs.declared.status.Status.{Status}
 use Rattle.command_kit.specs.declared.status.Status.TheVariants as status
 use Rattle.image_check.specs.Told.{Told}
-use Rattle.image_check.specs.declared.report.Printer.{Printer}
+use Rattle.image_cli.specs.Notes.{IsNoted}
 use Rattle.image_machine.specs.declared.heading.Layout.{Layout}
-use Rattle.image_dump.specs.Makes.{Makes, MakesMachine}
+use Rattle.image_units.specs.declared.index.Index.{Index}
+use Rattle.expanded_cli.specs.Runs.{RunsAny, RunsExpanded}
+use Rattle.expanded_cli.specs.Streams.{NotesFindings, NotesMemory}
 use Rattle.image_dump.specs.declared.made.Made.{Made}
 use Rattle.image_dump.specs.declared.made.Made.TheVariants.{NoImage, Refused, NoArea, Limit, Dump}
 use Rattle.swsusp_cli.specs.Loads.{written_told}
 use Rattle.image_machine_cli.specs.LimitLines.{limit_line}
-
--- what a printer was told of
-abbrev pub printer_view : {N : Type 0} → sink.Ghosts N → Printer N → Told
-printer_view told p =
-    record { text = told.taken p.sink; count = p.count; failed = p.failed; faults = told.faults p.sink }
+use Rattle.image_machine_cli.specs.Makes.{MakesWanted}
+use Rattle.image_machine_cli.specs.declared.wanted.Wanted.{Wanted}
+use Rattle.image_machine_cli.specs.declared.wanted.Wanted.TheVariants.{Loader, Saved}
 
 -- nothing on out, and this as the note
 abbrev pub refused : List ℕ → RunResult
@@ -42,12 +41,7 @@ HasFrames NoArea = ⊤
 HasFrames (Limit limit) = ⊤
 HasFrames (Dump dump) = length dump.frames ≡ top dump.hw.zones
 
--- Findings may be told first; then the note stands so.
-pub record IsNoted (told : Told) (note : SinkView) : Type 0 where
-  pub text : note.taken ≡ told.text
-  pub faults : note.faults ≡ told.faults
-
--- What was made of the image is told, or that memory was refused.
+-- What was made of the image is told, or that memory was refused. Findings may be noted first.
 pub data TellsMade (makes : Told → Made → Type 0) (told : Told) (status : Status)
     (out out' note' : SinkView) : Type 0 where
   made : (what : Made) (then : Told) (note : SinkView) → makes then what → IsNoted then note →
@@ -55,15 +49,38 @@ pub data TellsMade (makes : Told → Made → Type 0) (told : Told) (status : St
   no_memory : (note : SinkView) → IsNoted told note → IsTold memory_told status out out' note note' →
       TellsMade makes told status out out' note'
 
+-- The dump of the machine that is wanted, with the heading of an area and the page frames that are read by a header
+-- block.
+abbrev pub GivesFrom : Wanted → (area content : Option Content) → (blocks header before now : ℕ) → Told → Layout →
+    Status → (out out' note' : SinkView) → Type 0
+GivesFrom wanted area content blocks header before now told layout status out out' note' =
+    TellsMade (λ then what. MakesWanted wanted area content blocks header before now told then layout what)
+    told status out out' note'
+
+-- The heading is that of the area, whether the image is compressed or not. The page frames of a compressed one are
+-- those of the plain image that it expands to; where something is wrong with it just that is noted.
+abbrev pub GivesDump : Wanted → Option Content → (blocks before now : ℕ) → Told → Layout → Status →
+    (out out' note' : SinkView) → Type 0
+GivesDump wanted content blocks before now told layout status out out' note' =
+    RunsAny (λ c n h b f. GivesFrom wanted content c n h b f told layout status out out' note')
+    (λ found. NotesFindings found told status out out' note') (NotesMemory told status out out' note')
+    content blocks layout.offset before now
+
+-- a compressed one alone
+abbrev pub GivesExpanded : Wanted → Option Content → Index → (before now : ℕ) → Told → Layout → Status →
+    (out out' note' : SinkView) → Type 0
+GivesExpanded wanted content index before now told layout status out out' note' =
+    RunsExpanded (λ c n h b f. GivesFrom wanted content c n h b f told layout status out out' note')
+    (NotesMemory told status out out' note') content layout.offset index before now
+
 -- The dump of a loader.
 abbrev pub Loads : Option Content → (blocks before now : ℕ) → Told → Layout → Status →
     (out out' note' : SinkView) → Type 0
 Loads content blocks before now told layout status out out' note' =
-    TellsMade (λ then what. Makes content blocks before now told then layout what) told status out out' note'
+    GivesDump Loader content blocks before now told layout status out out' note'
 
 -- The dump of the machine that was saved.
 abbrev pub GivesMachine : Option Content → (blocks before now : ℕ) → Told → Layout → Option (ℕ × ℕ) → Status →
     (out out' note' : SinkView) → Type 0
 GivesMachine content blocks before now told layout tables status out out' note' =
-    TellsMade (λ then what. MakesMachine content blocks before now told then layout tables what)
-    told status out out' note'
+    GivesDump (Saved tables) content blocks before now told layout status out out' note'

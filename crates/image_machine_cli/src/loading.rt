@@ -1,22 +1,27 @@
 ghost use Rattle.std.specs.Prelude.{◌≡◌, ◌≢◌, ◌⊎◌, ◌≤◌};
 ghost use Rattle.definitions.specs.Disk.{HasRisen};
-ghost use Rattle.command_kit.specs.Told.{IsTold};
 ghost use Rattle.command_kit.specs.View.{sink_view};
-ghost use Rattle.image_machine_cli.specs.Loads.{GivesMachine, HasFrames, Loads, made_told, printer_view};
+ghost use Rattle.image_cli.specs.Printed.{printer_view};
+ghost use Rattle.image_machine_cli.specs.Loads.{GivesDump, GivesMachine, Loads};
 
-use crate::limits::limit_line;
+use crate::dumping::{Whole, dump_expanded, dump_plain};
+use crate::telling::tell_made;
+use crate::wanted::Wanted;
 use byte_streams::Sink;
-use command_kit::{Status, no_memory, tell};
+use command_kit::{Status, no_memory};
 use image_check::Printer;
-use image_dump::{Made, loader_of, machine_of};
+use image_dump::{Asked, Headed, Made, heading_in};
 use image_machine::Layout;
+use image_units::{Opened, open};
+use overlay_disk::Lent;
 use page_core::NoMemory;
 use sector_disk::Disk;
 use std::alloc::Global;
-use swsusp_cli::tell_dump;
+use std::marker::Brand;
 
 /// Prints the dump of a loader into which the image of an area can be resumed. Where there is none the note says why:
-/// what is wrong with the image, or which limit is passed. The disk is only read.
+/// what is wrong with the image, or which limit is passed. A compressed image is read whole first. The disk is only
+/// read.
 #[inline(never)]
 pub fn loader<D: Disk, O: Sink, N: Sink>(
     alloc: Global,
@@ -39,15 +44,12 @@ pub fn loader<D: Disk, O: Sink, N: Sink>(
     ensures orders { D.orders disk.new ≡ D.orders disk.old }
     ensures blocks { D.block_count disk.new ≡ D.block_count disk.old }
 {
-    match loader_of(alloc, disk, layout, note) {
-        Ok(made) => tell_made(&made, out, &mut note.sink),
-        Err(NoMemory) => no_memory().tell(out, &mut note.sink),
-    }
+    dump(alloc, disk, layout, Wanted::Loader, out, note)
 }
 
 /// Prints the dump of the machine that the image of an area saved. Its tables are in the image, from these page
 /// frames on, or else it is given new ones. Where there is no such machine the note says why: what is wrong with the
-/// image, or which limit is passed. The disk is only read.
+/// image, or which limit is passed. A compressed image is read whole first. The disk is only read.
 #[inline(never)]
 pub fn machine<D: Disk, O: Sink, N: Sink>(
     alloc: Global,
@@ -71,36 +73,56 @@ pub fn machine<D: Disk, O: Sink, N: Sink>(
     ensures orders { D.orders disk.new ≡ D.orders disk.old }
     ensures blocks { D.block_count disk.new ≡ D.block_count disk.old }
 {
-    match machine_of(alloc, disk, layout, tables, note) {
-        Ok(made) => tell_made(&made, out, &mut note.sink),
-        Err(NoMemory) => no_memory().tell(out, &mut note.sink),
-    }
+    dump(alloc, disk, layout, Wanted::Saved(tables), out, note)
 }
 
-/// Tells what was made of an image.
-fn tell_made<O: Sink, N: Sink>(made: &Made, out: &mut O, note: &mut N) -> Status
-    requires frames { HasFrames made.now }
-    ensures told { IsTold (made_told made.now) result
+/// Prints the dump of the machine that is wanted. Of a compressed image the heading is that of the area, and the page
+/// frames are those of the plain image that it expands to.
+fn dump<D: Disk, O: Sink, N: Sink>(
+    alloc: Global,
+    disk: &mut D,
+    layout: &Layout<'_>,
+    wanted: Wanted,
+    out: &mut O,
+    note: &mut Printer<N>,
+) -> Status
+    ensures outcome { GivesDump wanted (D.content disk.old) (D.block_count disk.old)
+        (D.faults disk.old) (D.faults disk.new) (printer_view N.Sink note.old) layout.now result
         (sink_view O.Sink out.old)
         (sink_view O.Sink out.new)
-        (sink_view N.Sink note.old)
-        (sink_view N.Sink note.new) }
+        (sink_view N.Sink note.new.sink) }
     ensures stream { result ≡ Status.Stream →
-        HasRisen (O.faults out.old) (O.faults out.new) ⊎ HasRisen (N.faults note.old) (N.faults note.new) }
+        HasRisen (O.faults out.old) (O.faults out.new) ⊎ HasRisen (N.faults note.old.sink) (N.faults note.new.sink) }
     ensures device { result ≢ Status.Device }
     ensures words { result ≢ Status.Words }
+    ensures content { D.content disk.new ≡ D.content disk.old }
+    ensures faults { D.faults disk.old ≤ D.faults disk.new }
+    ensures orders { D.orders disk.new ≡ D.orders disk.old }
+    ensures blocks { D.block_count disk.new ≡ D.block_count disk.old }
 {
-    match made {
-        Made::Dump(dump) => tell_dump(&dump.hw, &dump.frames, out, note),
-        Made::NoImage => tell(Status::Refused, b"", b"no image\n", out, note),
-        Made::Refused => tell(Status::Refused, b"", b"", out, note),
-        Made::NoArea => tell(Status::Refused, b"", b"no version 1 area\n", out, note),
-        Made::Limit(limit) => tell(
-            Status::Refused,
-            b"",
-            limit_line(limit).as_bytes(),
-            out,
-            note,
-        ),
+    match open(alloc, disk, layout.offset, note) {
+        Ok(Opened::Plain) => dump_plain(alloc, disk, layout, wanted, out, note),
+        Ok(Opened::Refused) => tell_made(&Made::Refused, out, &mut note.sink),
+        Ok(Opened::Whole(index)) => match heading_in(&index.header, &index.info) {
+            Headed::NoImage => tell_made(&Made::NoImage, out, &mut note.sink),
+            Headed::NoArea => tell_made(&Made::NoArea, out, &mut note.sink),
+            Headed::Heading(heading) => {
+                let below = Lent { disk };
+                let asked = Asked {
+                    heading,
+                    layout: *layout,
+                };
+                let image = Whole {
+                    index,
+                    asked,
+                    wanted,
+                };
+                let over = dump_expanded::<Lent<'_, D>, Brand, O, N>(
+                    alloc, below, image, out, note,
+                );
+                over.1
+            }
+        },
+        Err(NoMemory) => no_memory().tell(out, &mut note.sink),
     }
 }

@@ -3,7 +3,7 @@ use Rattle.command_kit.specs.Told.{IsTold}
 use Rattle.command_kit.specs.View.{sink_view}
 use Rattle.image_dump.specs.declared.made.Made.{Made}
 use Rattle.image_machine_cli.specs.Loads.{made_told}
-use Rattle.image_machine_cli.proofs.loading.tell_made.Goals as goal
+use Rattle.image_machine_cli.proofs.telling.tell_made.Goals as goal
 
 pub returns-in-NoArea-clause-told : goal.returns-in-NoArea-clause-told
 returns-in-NoArea-clause-told g c =

@@ -1,0 +1,40 @@
+use Rattle.std.proofs.Common.{◌∙◌, sym, refl, subst}
+use Rattle.command_kit.specs.Told.{RunResult}
+use Rattle.command_kit.specs.Told.{IsTold}
+use Rattle.command_kit.specs.View.{sink_view}
+use Rattle.image_cli.specs.Printed.{printer_view}
+use Rattle.expanded_disk.specs.Keeps.{FailsWith}
+use Rattle.expanded_cli.specs.Runs.{lacks}
+use Rattle.expanded_cli.specs.Streams.{NotesMemory}
+use Rattle.expanded_cli.proofs.Running.{over_expanded}
+use Rattle.image_machine_cli.specs.Loads.{GivesFrom}
+use Rattle.image_machine_cli.proofs.dumping.dump_expanded.Goals as goal
+
+pub dump_from-status-requires : goal.dump_from-status-requires
+dump_from-status-requires g c = record { headed = (g.K.Original.state.content, c.requires.headed) }
+
+pub returns-in-Ok-clause-outcome : goal.returns-in-Ok-clause-outcome
+returns-in-Ok-clause-outcome g c =
+    let state = g.K.Original.state in
+    let layout = c.args.image.asked.layout in
+    let told = printer_view g.N.Sink c.args.note.now in
+    let out = sink_view g.O.Sink c.args.out.now in
+    let last = sink_view g.O.Sink c.dump_from-status.new.out in
+    let noted = sink_view g.N.Sink c.dump_from-status.new.note.sink in
+    let status = c.dump_from-status.result in
+    over_expanded (λ x n h b f. GivesFrom c.args.image.wanted state.content x n h b f told layout status out last noted) (NotesMemory told status out last noted)
+    state.content _ layout.offset _ _ _ state.faults (g.B.ReadOnly.state c.into_below.result).faults c.args.image.index
+    c.in-Ok.ensures.content c.in-Ok.ensures.blocks c.in-Ok.ensures.faults
+    (subst (λ below. FailsWith state.content state.faults (g.B.ReadOnly.state below).faults c.dump_from-status.new.disk.faults) (sym c.into_below.ensures.below)
+    (c.into_source.ensures.cause layout.offset (c.dump_from-status.ensures.content ∙ c.in-Ok.ensures.content) (c.dump_from-status.ensures.orders ∙ c.in-Ok.ensures.orders)))
+    (c.dump_from-status.ensures.outcome state.content c.requires.headed)
+
+pub returns-in-Err-clause-outcome : goal.returns-in-Err-clause-outcome
+returns-in-Err-clause-outcome g c =
+    let noted = sink_view g.N.Sink c.args.note.now.sink in
+    lacks (record {
+      noted = noted;
+      is_noted = record { text = refl; faults = refl };
+      ends = subst (λ (r : RunResult). IsTold r c.tell-status.result (sink_view g.O.Sink c.args.out.now) (sink_view g.O.Sink c.tell-status.new.out) noted (sink_view g.N.Sink c.tell-status.new.note))
+          c.no_memory.ensures.told c.tell-status.ensures.told;
+    })
