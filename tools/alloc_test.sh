@@ -1,5 +1,5 @@
 #!/bin/sh
-# Refuses each growth of memory in turn, one a run, in each command of the three built programs: the status is 6, the note `no memory`,
+# Refuses each growth of memory in turn, one a run, in each command of the three built programs, those over images also over a compressed one: the status is 6, the note `no memory`,
 # nothing is printed, and every byte of the disk is as before. After the last growth the command does what it does with ample memory,
 # and so it does without the room that is asked for beforehand for its list of words, before the command begins. The programs
 # are the three words, or those in crates/*/out, which `rt run` and `rt ci` leave. They are run with a library that is loaded
@@ -119,6 +119,7 @@ cp "$room/area" "$room/image"
 cp "$room/area" "$room/skipped"
 "$swsusp" hibernate --skip-zeros "$room/skipped" <"$room/saved" >"$room/line" || exit 1
 "$swsusp" export <"$room/saved" >"$room/stream" || exit 1
+PYTHONPATH=$top/tests python3 -c 'import sys; from compressed import twin; from image_tests import Built; twin(Built(40)).write(sys.argv[1])' "$room/compressed" || exit 1
 : >"$room/nothing"
 
 program=$swsusp
@@ -150,6 +151,12 @@ each "differ" "$room/image" "$room/nothing" differ "$room/disk" "$room/image"
 each "loader" "$room/image" "$room/nothing" loader "$room/disk"
 each "machine" "$room/image" "$room/nothing" machine "$room/disk"
 each "discard" "$room/image" "$room/nothing" discard "$room/disk"
+for command in show "show --json" check "check --json" stream core loader machine; do
+    # shellcheck disable=SC2086
+    each "$command of a compressed image" "$room/compressed" "$room/nothing" $command "$room/disk"
+done
+each "page of a compressed image" "$room/compressed" "$room/nothing" page "$room/disk" 0
+each "differ of compressed images" "$room/compressed" "$room/nothing" differ "$room/disk" "$room/compressed"
 
 program=$machine
 each "show a dump" "$room/area" "$room/saved" show
