@@ -22,7 +22,7 @@ use Rattle.protocol_laws.proofs.Unwritten.{block_same}
 use Rattle.world_core.specs.Row.{SimulatesWhereTold, Restores}
 use Rattle.world_core.specs.StandsFor.{StandsFor, IsNewWorld, hardware_of}
 use Rattle.world_core.specs.World.{World}
-use Rattle.command_core.specs.Answers.{EndsInFault, goes_on, held_at_first, is_booted, machine_of_dump, machine_to_save}
+use Rattle.command_core.specs.Runs.{EndsInFault, goes_on, held_at_first, is_booted, machine_of_dump, machine_to_save}
 use Rattle.command_core.specs.Parts.{RunsUnchanged}
 use Rattle.command_core.specs.Turns.{Point, IsTurn}
 use Rattle.command_core.proofs.Booting.{boot_begins, boot_syncs, boot_ends, shrinks}

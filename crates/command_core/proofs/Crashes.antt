@@ -29,7 +29,7 @@ use Rattle.protocol_laws.proofs.Back.{held_before, held_behind, before_mark}
 use Rattle.protocol_laws.proofs.Unwritten.{mark_at, none_past}
 use Rattle.protocol_laws.proofs.Inside.{left_candidate, image_left, images_left, mark_inside, undo_inside, none_marked, AreTakenBack, taken_inside, taken_itself, taken_after}
 use Rattle.command_core.specs.Turns.{Point, StandsAt, IsTurn, AreSteps, IsLeftInside, IsStill}
-use Rattle.command_core.specs.Answers.{goes_on}
+use Rattle.command_core.specs.Runs.{goes_on}
 use Rattle.command_core.proofs.Begun.{IsUntouched}
 use Rattle.command_core.proofs.Hibernating.{IsAt, after_steps, hibernating_step, before_end}
 use Rattle.command_core.proofs.Loaded.{early_writes, goes_state, after_steps as loaded_after, IsAfter, header_alone as load_writes}

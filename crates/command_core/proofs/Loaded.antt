@@ -24,8 +24,8 @@ use Rattle.protocol_laws.proofs.WrittenWhileHeld.{header_of_load}
 use Rattle.protocol_laws.specs.Rows.{LeavesBlock, blocks_written, TellsNewFault}
 use Rattle.world_core.specs.StandsFor.{StandsFor, hardware_of}
 use Rattle.world_core.specs.World.{World}
-use Rattle.command_core.specs.Answers.{EndsInFault, goes_on, held_at_first}
-use Rattle.command_core.specs.Answers.{IsLast, MayLeaveMark, HasResumed}
+use Rattle.command_core.specs.Runs.{EndsInFault, goes_on, held_at_first}
+use Rattle.command_core.specs.Runs.{IsLast, MayLeaveMark, HasResumed}
 use Rattle.command_core.specs.Turns.{Point, IsTurn, AreSteps, HasGone}
 use Rattle.command_core.specs.declared.ending.Ended.{Ended}
 use Rattle.command_core.proofs.Begun.{IsUntouched, untouched_then, reads_first}

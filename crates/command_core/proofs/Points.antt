@@ -21,7 +21,7 @@ use Rattle.world_core.specs.Row.{SimulatesWhereTold, Restores, CallsAtMostOnce}
 use Rattle.world_core.specs.StandsFor.{StandsFor, hardware_of, shown}
 use Rattle.world_core.specs.World.{World}
 use Rattle.command_core.specs.Turns.{Point, IsTurn, AreSteps, HaveMade, Elapsed}
-use Rattle.command_core.specs.Answers.{goes_on}
+use Rattle.command_core.specs.Runs.{goes_on}
 
 -- Where no block is written, the one image stays.
 

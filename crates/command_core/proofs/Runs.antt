@@ -23,7 +23,7 @@ use Rattle.world_runs.specs.Turns.{Situation}
 use Rattle.world_runs.specs.Turns.{steps_of}
 use Rattle.world_runs.proofs.Counted.{steps_append}
 use Rattle.world_runs.proofs.Playing.{played_none, played_then}
-use Rattle.command_core.specs.Answers.{goes_on, held_at_first, is_booted}
+use Rattle.command_core.specs.Runs.{goes_on, held_at_first, is_booted}
 use Rattle.command_core.specs.Parts.{Boots, Finishes, Starts}
 use Rattle.command_core.specs.Runs.{AreStepped, GoOn, IsAsked, IsHibernation, IsReady, IsResumption, Ran, RanAs, RunsOver, boot_events, core_steps, last_reply, shrink_events}
 use Rattle.command_core.specs.declared.ending.Ended.{Ended}

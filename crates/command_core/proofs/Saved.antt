@@ -30,8 +30,8 @@ use Rattle.protocol_laws.proofs.Unwritten.{step_in_laid}
 use Rattle.protocol_laws.proofs.WrittenWhileHeld.{header_alone}
 use Rattle.world_core.specs.StandsFor.{StandsFor, hardware_of}
 use Rattle.world_core.specs.World.{World}
-use Rattle.command_core.specs.Answers.{HasHibernated}
-use Rattle.command_core.specs.Answers.{EndsInFault, goes_on, hibernation_answer, image_to_save}
+use Rattle.command_core.specs.Runs.{HasHibernated}
+use Rattle.command_core.specs.Runs.{EndsInFault, goes_on, hibernation_answer, image_to_save}
 use Rattle.command_core.specs.Parts.{HasFailedEarly}
 use Rattle.command_core.specs.Turns.{Point, AreSteps, HasGone}
 use Rattle.command_core.specs.declared.ending.Ended.{Ended}

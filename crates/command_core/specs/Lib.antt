@@ -1,4 +1,3 @@
-pub mod Answers
 pub mod Turns
 pub mod Runs
 pub mod Parts

@@ -11,7 +11,7 @@ use Rattle.protocol_laws.specs.Rows.{LeavesBlock}
 use Rattle.world_core.specs.StandsFor.{StandsFor}
 use Rattle.world_core.specs.World.{World}
 use Rattle.world_runs.specs.Played.{Played}
-use Rattle.command_core.specs.Answers.{EndsInFault}
+use Rattle.command_core.specs.Runs.{EndsInFault}
 use Rattle.command_core.specs.Runs.{AreStepped, FailsToBoot, IsReady, core_steps}
 use Rattle.command_core.specs.declared.ending.Ended.{Ended}
 

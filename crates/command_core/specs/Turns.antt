@@ -15,7 +15,7 @@ use Rattle.protocol_laws.specs.Rows.{IsSameArea, LeavesBlock, LeavesHeader, bloc
 use Rattle.resume_core.specs.Restored.{restored_by}
 use Rattle.world_core.specs.StandsFor.{StandsFor}
 use Rattle.world_core.specs.World.{World}
-use Rattle.command_core.specs.Answers.{goes_on}
+use Rattle.command_core.specs.Runs.{goes_on}
 use Rattle.command_core.specs.declared.ending.Ended.{Ended}
 
 -- After an event: the reply, whether a call of the disk has failed so far, the state of the plain machine, what the

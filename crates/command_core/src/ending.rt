@@ -3,7 +3,7 @@ ghost use Rattle.definitions.specs.Disk.{Content, HasRisen};
 ghost use Rattle.plain_machine.specs.State.{State};
 ghost use Rattle.protocol_laws.specs.Rows.{TellsNewFault};
 ghost use Rattle.world_core.specs.StandsFor.{IsOff, StandsFor, blocks_of, hardware_of};
-ghost use Rattle.command_core.specs.Answers.{goes_on};
+ghost use Rattle.command_core.specs.Runs.{goes_on};
 ghost use Rattle.command_core.specs.Parts.{Finishes};
 ghost use Rattle.command_core.specs.Turns.{HasGone, Elapsed};
 

@@ -5,10 +5,10 @@ ghost use Rattle.plain_machine.specs.Machine.{IsHardware};
 ghost use Rattle.plain_machine.specs.UsableArea.{HasOriginal};
 ghost use Rattle.world_core.specs.StandsFor.{IsNewWorld, IsOff, blocks_of, hardware_of, shown};
 ghost use Rattle.command_core.specs.Runs.{IsHibernation, RanAs};
-ghost use Rattle.command_core.specs.Answers.{image_to_save, is_booted, machine_of_dump, machine_to_save};
+ghost use Rattle.command_core.specs.Runs.{image_to_save, is_booted, machine_of_dump, machine_to_save};
 ghost use Rattle.command_core.specs.Parts.{Boots, IsUpOrFails, Starts};
 ghost use Rattle.command_core.specs.Turns.{IsStill};
-ghost use Rattle.command_core.specs.Answers.{HasHibernated, IsUnmarkedOrHolds};
+ghost use Rattle.command_core.specs.Runs.{HasHibernated, IsUnmarkedOrHolds};
 
 use crate::ending::{Ended, finish, goes_on};
 use page_core::Format;

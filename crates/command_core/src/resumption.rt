@@ -5,7 +5,7 @@ ghost use Rattle.plain_machine.specs.Machine.{IsHardware};
 ghost use Rattle.plain_machine.specs.UsableArea.{HasOriginal};
 ghost use Rattle.plain_machine.specs.Stands.{IsSameOrTakenBack};
 ghost use Rattle.world_core.specs.StandsFor.{IsNewWorld, hardware_of, shown};
-ghost use Rattle.command_core.specs.Answers.{HasResumed};
+ghost use Rattle.command_core.specs.Runs.{HasResumed};
 ghost use Rattle.command_core.specs.Runs.{IsResumption, RanAs};
 
 use crate::ending::{Ended, finish};

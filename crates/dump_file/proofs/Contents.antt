@@ -12,7 +12,7 @@ use Rattle.machine.proofs.TableFaults.{find-none}
 use Rattle.definitions.specs.Bytes.{zero_page}
 use Rattle.definitions.specs.Tables.{with_frame}
 use Rattle.dump_file.specs.Dump.{frame_before, is_above, record_fault}
-use Rattle.dump_file.specs.Dump.{content, contents, page_of, record_byte, record_frame, record_page}
+use Rattle.dump_file.specs.Fields.{content, contents, page_of, record_byte, record_frame, record_page}
 use Rattle.dump_file.proofs.RecordFaults.{is_in_order}
 use Rattle.dump_file.proofs.ZoneRecords.{range-append}
 

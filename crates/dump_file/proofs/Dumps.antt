@@ -6,7 +6,7 @@ use Rattle.definitions.specs.Streams.{IsUsedUp}
 use Rattle.definitions.specs.Zones.{top}
 use Rattle.plain_machine.specs.Machine.{Hardware, Memory}
 use Rattle.dump_file.specs.Dump.{body_fault, dump_fault, dump_of, dump_unless, head_fault, DumpValue}
-use Rattle.dump_file.specs.Dump.{contents, first_record, hardware, memory, record_count}
+use Rattle.dump_file.specs.Fields.{contents, first_record, hardware, memory, record_count}
 use Rattle.dump_file.specs.Reading.{IsHeader, IsReadTo}
 use Rattle.dump_file.specs.declared.dump.DumpFault.{DumpFault}
 use Rattle.dump_file.proofs.Chains.{or_else-none, or_else-some}

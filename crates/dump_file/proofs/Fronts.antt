@@ -15,10 +15,13 @@ use Rattle.definitions.proofs.PageBytes.{number_at-same}
 use Rattle.machine.specs.HardFault.{has_tables, is_extent, is_zone}
 use Rattle.plain_machine.specs.Chain.{first_some, or_else}
 use Rattle.plain_machine.specs.Machine.{Hardware}
-use Rattle.dump_file.specs.Dump.{count_fault, cover_fault, extent_count_fault, extent_fault, extents_fault, front_fault, head_fault, layout_fault, map_fault, offset_fault, unless, wanted, zone_fault, zones_fault}
-use Rattle.dump_file.specs.Dump.{count_byte, extent_at, extent_byte, extent_count, extents, first_extent, first_record}
-use Rattle.dump_file.specs.Dump.{hardware, ident, is_first, is_second, map_byte, number, record_count, slots, zone}
-use Rattle.dump_file.specs.Dump.{zone_byte, zone_count, zones}
+use Rattle.dump_file.specs.Dump.{count_fault, cover_fault, extent_count_fault, extent_fault, extents_fault, front_fault}
+use Rattle.dump_file.specs.Dump.{head_fault, layout_fault, map_fault, offset_fault, unless, wanted, zone_fault}
+use Rattle.dump_file.specs.Dump.{zones_fault}
+use Rattle.dump_file.specs.Fields.{count_byte, extent_at, extent_byte, extent_count, extents, first_extent}
+use Rattle.dump_file.specs.Fields.{first_record}
+use Rattle.dump_file.specs.Fields.{hardware, ident, is_first, is_second, map_byte, number, record_count, slots, zone}
+use Rattle.dump_file.specs.Fields.{zone_byte, zone_count, zones}
 use Rattle.dump_file.specs.Reading.{head_len, IsHeader}
 use Rattle.dump_file.specs.Written.{first_mark, second_mark}
 use Rattle.dump_file.specs.declared.dump.DumpFault.{DumpFault}

@@ -8,7 +8,7 @@ use Rattle.definitions.specs.FileMaps.{IsExtentFault, IsFileMap, IsInOrder, LieA
 use Rattle.definitions.specs.Slots as slot
 use Rattle.machine.specs.HardFault.{is_extent}
 use Rattle.dump_file.specs.Dump.{cover_fault, extents_fault, unless, wanted}
-use Rattle.dump_file.specs.Dump.{extent_at, extent_byte, extent_count, extents, first_extent, is_second, slots}
+use Rattle.dump_file.specs.Fields.{extent_at, extent_byte, extent_count, extents, first_extent, is_second, slots}
 use Rattle.dump_file.specs.Reading.{IsFirstNot}
 use Rattle.dump_file.specs.declared.dump.DumpKind.TheVariants.{Extent}
 use Rattle.dump_file.proofs.ExtentFaults.{decides_order}

@@ -14,7 +14,7 @@ use Rattle.machine.proofs.PartTests.{decides_extents, decides_regions_by, decide
 use Rattle.plain_machine.specs.Chain.{or_else}
 use Rattle.plain_machine.specs.Machine.{Hardware}
 use Rattle.dump_file.specs.Dump.{count_fault, front_fault, head_fault, layout_fault, unless, wanted, zones_fault}
-use Rattle.dump_file.specs.Dump.{count_byte, extents, hardware, ident, number, record_count, slots, zones}
+use Rattle.dump_file.specs.Fields.{count_byte, extents, hardware, ident, number, record_count, slots, zones}
 use Rattle.dump_file.specs.declared.dump.DumpKind.TheVariants.{Frame, Header}
 use Rattle.dump_file.proofs.Chains.{or_else-none}
 

@@ -10,7 +10,7 @@ use Rattle.machine.specs.HardFault.{each_below, is_zone}
 use Rattle.machine.proofs.ListTests.{each_all}
 use Rattle.machine.proofs.PartTests.{decides_zones}
 use Rattle.dump_file.specs.Dump.{wanted, zones_fault}
-use Rattle.dump_file.specs.Dump.{hardware, zone, zone_byte, zone_count, zones}
+use Rattle.dump_file.specs.Fields.{hardware, zone, zone_byte, zone_count, zones}
 use Rattle.dump_file.specs.Reading.{IsFirstNot}
 use Rattle.dump_file.specs.declared.dump.DumpKind.TheVariants.{Zone}
 use Rattle.dump_file.proofs.Items.{items_rest, items_wrong}

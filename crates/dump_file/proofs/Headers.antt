@@ -4,7 +4,7 @@ use Rattle.std.proofs.lemmas.List.{drop_all, length-take-le, take-append-drop}
 use Rattle.definitions.specs.Streams.{HandsOut, IsUsedUp}
 use Rattle.plain_machine.specs.Machine.{Hardware}
 use Rattle.dump_file.specs.Dump.{head_fault}
-use Rattle.dump_file.specs.Dump.{first_record, hardware, record_count}
+use Rattle.dump_file.specs.Fields.{first_record, hardware, record_count}
 use Rattle.dump_file.specs.Reading.{head_len, IsHeader, IsReadTo}
 use Rattle.dump_file.specs.declared.dump.DumpFault.{DumpFault}
 use Rattle.dump_file.proofs.Fronts.{sound-from, sound_len, whole_fault, whole_header}

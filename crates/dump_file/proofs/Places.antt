@@ -5,7 +5,7 @@ use Rattle.std.specs.List.{flat_map}
 use Rattle.byteorder.specs.Endian.{little_number}
 use Rattle.byteorder.specs.Numbers.{little_number-reads_back}
 use Rattle.definitions.specs.Bytes.{bytes_at, number_at}
-use Rattle.dump_file.specs.Dump.{number}
+use Rattle.dump_file.specs.Fields.{number}
 use Rattle.dump_file.specs.Written.{number_bytes}
 
 -- at byte k of the text stands this piece, and then the rest

@@ -7,7 +7,7 @@ use Rattle.std.specs.List.{Contains}
 use Rattle.definitions.specs.Zones.{numbers}
 use Rattle.plain_machine.specs.Loader.{has}
 use Rattle.dump_file.specs.Dump.{fault_of_record, is_above, unless, wanted}
-use Rattle.dump_file.specs.Dump.{number}
+use Rattle.dump_file.specs.Fields.{number}
 use Rattle.dump_file.specs.declared.dump.DumpFault.{DumpFault}
 use Rattle.dump_file.specs.declared.dump.DumpKind.TheVariants.{Frame, Order}
 use Rattle.dump_file.proofs.Chains.{or_else-some, or_else-none, none-first, none-second, unless-true, unless-false, unless-none}

@@ -20,10 +20,12 @@ use Rattle.plain_machine.specs.Chain.{or_else}
 use Rattle.plain_machine.specs.Image.{is_zeros}
 use Rattle.plain_machine.specs.Machine.{frame_entry, frame_table_frames, is_slot_entry, is_table_at_fault, is_well_formed, raw_slot_entry, slot_table_frames, table_len, tables_fault, Fits, Hardware, IsHardware, IsTableFrame, Memory}
 use Rattle.plain_machine.proofs.SameMemory.{entry-same, of_frame_table, of_slot_table, table_frame_valid}
-use Rattle.dump_file.specs.Dump.{body_fault, cover_fault, end_fault, extent_count_fault, extent_fault, extents_fault, front_fault, head_fault, layout_fault, map_fault, records_fault, table_fault, unless, wanted, zone_fault, zones_fault}
-use Rattle.dump_file.specs.Dump.{contents, count_byte, extent_byte, extent_count, extents, first_record, hardware}
-use Rattle.dump_file.specs.Dump.{is_first, is_second, map_byte, number, record_byte, record_count, slots, zone_byte}
-use Rattle.dump_file.specs.Dump.{zone_count, zones}
+use Rattle.dump_file.specs.Dump.{body_fault, cover_fault, end_fault, extent_count_fault, extent_fault, extents_fault}
+use Rattle.dump_file.specs.Dump.{front_fault, head_fault, layout_fault, map_fault, records_fault, table_fault, unless}
+use Rattle.dump_file.specs.Dump.{wanted, zone_fault, zones_fault}
+use Rattle.dump_file.specs.Fields.{contents, count_byte, extent_byte, extent_count, extents, first_record, hardware}
+use Rattle.dump_file.specs.Fields.{is_first, is_second, map_byte, number, record_byte, record_count, slots, zone_byte}
+use Rattle.dump_file.specs.Fields.{zone_count, zones}
 use Rattle.dump_file.specs.ReadBack.{carried_frame, carried_memory, ReadsBack}
 use Rattle.dump_file.specs.Written.{dump_bytes, front_bytes, head_bytes, is_plain, layout_bytes, number_bytes, records_bytes}
 use Rattle.dump_file.specs.declared.dump.DumpKind.TheVariants.{Extent, Extra, Frame, Header, Magic, Zone}

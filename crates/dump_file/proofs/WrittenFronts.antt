@@ -10,7 +10,7 @@ use Rattle.definitions.specs.Bytes.{bytes_at}
 use Rattle.definitions.specs.InfoPage.{names_of}
 use Rattle.definitions.specs.declared.info.Ident.{Ident}
 use Rattle.plain_machine.specs.Machine.{Hardware, IsIdent}
-use Rattle.dump_file.specs.Dump.{ident, is_first, is_second}
+use Rattle.dump_file.specs.Fields.{ident, is_first, is_second}
 use Rattle.dump_file.specs.Written.{first_mark, front_bytes, is_plain, number_bytes, second_mark}
 use Rattle.dump_file.proofs.Numbers.{length-number_bytes}
 use Rattle.dump_file.proofs.Places.{bytes_stand, first_stands, length-pieces, number_stands, piece_stands, second_stands, StandsAt}

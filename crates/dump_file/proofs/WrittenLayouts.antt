@@ -8,8 +8,8 @@ use Rattle.definitions.specs.Slots as slot
 use Rattle.definitions.specs.ZoneFacts.{AreZones}
 use Rattle.definitions.proofs.FileMaps.{slot_below}
 use Rattle.plain_machine.specs.Machine.{Hardware, IsHardware}
-use Rattle.dump_file.specs.Dump.{count_byte, extent_at, extent_byte, extent_count, extents, first_extent, is_second}
-use Rattle.dump_file.specs.Dump.{map_byte, number, slots, zone, zone_byte, zone_count, zones}
+use Rattle.dump_file.specs.Fields.{count_byte, extent_at, extent_byte, extent_count, extents, first_extent, is_second}
+use Rattle.dump_file.specs.Fields.{map_byte, number, slots, zone, zone_byte, zone_count, zones}
 use Rattle.dump_file.specs.Written.{extent_bytes, is_plain, is_plain_map, layout_bytes, map_bytes, number_bytes, zone_bytes}
 use Rattle.dump_file.proofs.HeadExtents.{extents_are}
 use Rattle.dump_file.proofs.Numbers.{length-number_bytes}

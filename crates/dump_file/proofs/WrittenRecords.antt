@@ -22,7 +22,7 @@ use Rattle.machine.proofs.Rows.{any_Contains, any_true, valid_true}
 use Rattle.plain_machine.specs.Image.{is_zeros}
 use Rattle.plain_machine.specs.Machine.{is_valid, Hardware, Memory}
 use Rattle.dump_file.specs.Dump.{frame_before, is_above, record_fault, records_fault}
-use Rattle.dump_file.specs.Dump.{content, contents, page_of, record_byte, record_frame, record_page}
+use Rattle.dump_file.specs.Fields.{content, contents, page_of, record_byte, record_frame, record_page}
 use Rattle.dump_file.specs.ReadBack.{carried_frame, carried_memory}
 use Rattle.dump_file.specs.Written.{nonzero, number_bytes, record_bytes, records_bytes}
 use Rattle.dump_file.proofs.Chains.{first-none, wanted-there}

@@ -2,3 +2,4 @@ pub mod Dump
 pub mod ReadBack
 pub mod Reading
 pub mod Written
+pub mod Fields

@@ -7,6 +7,7 @@ use Rattle.zones.specs.declared.fault.ZoneFault.{ZoneFault}
 use Rattle.zones.specs.declared.fault.ZoneFault.TheVariants.{NoZone, TooMany, Empty, TooLarge, Overlap}
 use Rattle.dump_file.specs.Dump.{head_fault}
 use Rattle.dump_file.specs.Dump as at
+use Rattle.dump_file.specs.Fields as at_fields
 
 -- a source has handed out a whole text
 abbrev pub HandsOutAll : List ℕ → Option (List ℕ) → Option (List ℕ) → Type 0
@@ -22,19 +23,19 @@ pub record IsReadTo (bytes : List ℕ) (k : ℕ) (left : Option (List ℕ)) : Ty
 unfoldable pub head_len : List ℕ → ℕ
 head_len bytes =
     if nat_lt (length bytes) 424 then 424
-    else (if nat_lt 16 (at.zone_count bytes) then 424
-    else (if not (at.is_second bytes) then at.map_byte bytes + 4
-    else (if nat_lt (length bytes) (at.map_byte bytes + 8) then at.map_byte bytes + 8
-    else (if nat_lt 64 (at.extent_count bytes) then at.map_byte bytes + 8
-    else at.extent_byte bytes (at.extent_count bytes) + 4))))
+    else (if nat_lt 16 (at_fields.zone_count bytes) then 424
+    else (if not (at_fields.is_second bytes) then at_fields.map_byte bytes + 4
+    else (if nat_lt (length bytes) (at_fields.map_byte bytes + 8) then at_fields.map_byte bytes + 8
+    else (if nat_lt 64 (at_fields.extent_count bytes) then at_fields.map_byte bytes + 8
+    else at_fields.extent_byte bytes (at_fields.extent_count bytes) + 4))))
 
 -- the fields of a dump's front that bound what follows it, where they are without fault
 pub record IsFront (bytes : List ℕ) : Type 0 where
   pub long : 424 ≤ length bytes
-  pub some_slots : 2 ≤ at.slots bytes
-  pub few_slots : at.slots bytes ≤ 131072
-  pub some_zones : 1 ≤ at.zone_count bytes
-  pub few_zones : at.zone_count bytes ≤ 16
+  pub some_slots : 2 ≤ at_fields.slots bytes
+  pub few_slots : at_fields.slots bytes ≤ 131072
+  pub some_zones : 1 ≤ at_fields.zone_count bytes
+  pub few_zones : at_fields.zone_count bytes ≤ 16
 
 -- of the first n places that at which a test fails first
 pub record IsFirstNot (test : ℕ → Bool) (n at : ℕ) : Type 0 where
@@ -46,9 +47,9 @@ pub record IsFirstNot (test : ℕ → Bool) (n at : ℕ) : Type 0 where
 -- there are
 pub record IsHeader (bytes : List ℕ) (hw : Hardware) (first count : ℕ) : Type 0 where
   pub no_fault : head_fault bytes ≡ None
-  pub hw_is : hw ≡ at.hardware bytes
-  pub first_is : first ≡ at.first_record bytes
-  pub count_is : count ≡ at.record_count bytes
+  pub hw_is : hw ≡ at_fields.hardware bytes
+  pub first_is : first ≡ at_fields.first_record bytes
+  pub count_is : count ≡ at_fields.record_count bytes
 
 -- the zone that a fault names
 abbrev pub place_of : ZoneFault → Option ℕ

@@ -6,8 +6,8 @@ ghost use Rattle.definitions.specs.FileMaps.{IsFileMap};
 ghost use Rattle.machine.specs.HardFault.{is_extent};
 ghost use Rattle.plain_machine.specs.Chain.{or_else};
 ghost use Rattle.dump_file.specs.Dump.{cover_fault, extents_fault, fault_in, layout_fault, map_fault};
-ghost use Rattle.dump_file.specs.Dump.{count_byte, extent_at, extent_count, extents, first_extent, is_second};
-ghost use Rattle.dump_file.specs.Dump.{map_byte, slots};
+ghost use Rattle.dump_file.specs.Fields.{count_byte, extent_at, extent_count, extents, first_extent, is_second};
+ghost use Rattle.dump_file.specs.Fields.{map_byte, slots};
 ghost use Rattle.dump_file.specs.Reading.{IsFirstNot, IsFront};
 
 use crate::dump::{DumpFault, DumpKind};

@@ -3,7 +3,7 @@ ghost use Rattle.definitions.specs.Bytes.{bytes_at};
 ghost use Rattle.definitions.specs.Disk.{HasRisen};
 ghost use Rattle.definitions.specs.Streams.{HandsOut, IsUsedUp};
 ghost use Rattle.dump_file.specs.Dump.{wanted};
-ghost use Rattle.dump_file.specs.Dump.{number};
+ghost use Rattle.dump_file.specs.Fields.{number};
 ghost use Rattle.dump_file.specs.Reading.{IsReadTo};
 
 use crate::dump::{DumpFault, DumpKind, DumpStop};

@@ -1,7 +1,7 @@
 ghost use Rattle.std.specs.Prelude.{◌≡◌, ◌⊎◌, ◌+◌, ◌*◌, ◌≤◌, ◌<◌, ◌↔◌, IsTrue, length, take, IfOk, OnErr};
 ghost use Rattle.definitions.specs.Disk.{HasRisen};
 ghost use Rattle.definitions.specs.Streams.{HandsOut, IsUsedUp};
-ghost use Rattle.dump_file.specs.Dump.{is_second, number};
+ghost use Rattle.dump_file.specs.Fields.{is_second, number};
 ghost use Rattle.dump_file.specs.Reading.{head_len};
 
 use crate::head::MOST_BYTES;

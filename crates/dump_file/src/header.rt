@@ -4,7 +4,7 @@ ghost use Rattle.definitions.specs.InfoPage.{names_of};
 ghost use Rattle.definitions.specs.ZoneFacts.{AreZones};
 ghost use Rattle.machine.specs.HardFault.{has_tables};
 ghost use Rattle.dump_file.specs.Dump.{count_fault, fault_in, front_fault, head_fault, unless, wanted};
-ghost use Rattle.dump_file.specs.Dump.{extents, first_record, hardware, ident, is_first, record_count, slots, zones};
+ghost use Rattle.dump_file.specs.Fields.{extents, first_record, hardware, ident, is_first, record_count, slots, zones};
 ghost use Rattle.dump_file.specs.Reading.{IsFront};
 
 use crate::dump::{DumpFault, DumpKind};

@@ -5,7 +5,7 @@ ghost use Rattle.definitions.specs.Streams.{IsUsedUp};
 ghost use Rattle.definitions.specs.Zones.{top};
 ghost use Rattle.plain_machine.specs.Machine.{Fits};
 ghost use Rattle.dump_file.specs.Dump.{body_fault, dump_of, head_fault};
-ghost use Rattle.dump_file.specs.Dump.{contents, hardware, first_record, record_count};
+ghost use Rattle.dump_file.specs.Fields.{contents, hardware, first_record, record_count};
 ghost use Rattle.dump_file.specs.Reading.{IsHeader, IsReadTo};
 
 use crate::dump::{DumpFault, DumpKind, DumpStop};

@@ -7,7 +7,7 @@ ghost use Rattle.definitions.specs.Streams.{HandsOut, IsUsedUp};
 ghost use Rattle.definitions.specs.Tables.{with_frame};
 ghost use Rattle.definitions.specs.Zones.{numbers, top};
 ghost use Rattle.dump_file.specs.Dump.{fault_of_record, is_above, records_fault};
-ghost use Rattle.dump_file.specs.Dump.{contents, number, record_byte};
+ghost use Rattle.dump_file.specs.Fields.{contents, number, record_byte};
 ghost use Rattle.dump_file.specs.Reading.{IsReadTo};
 
 use crate::dump::{DumpFault, DumpKind, DumpStop};

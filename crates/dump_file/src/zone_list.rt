@@ -3,7 +3,7 @@ ghost use Rattle.std.specs.List.{range_with_len};
 ghost use Rattle.definitions.specs.ZoneFacts.{AreZones};
 ghost use Rattle.machine.specs.HardFault.{is_zone};
 ghost use Rattle.dump_file.specs.Dump.{fault_in, zones_fault};
-ghost use Rattle.dump_file.specs.Dump.{zone, zone_byte, zone_count, zones};
+ghost use Rattle.dump_file.specs.Fields.{zone, zone_byte, zone_count, zones};
 ghost use Rattle.dump_file.specs.Reading.{IsFirstNot, IsFront, place_of};
 
 use crate::dump::{DumpFault, DumpKind};

@@ -12,7 +12,7 @@ use Rattle.command_kit.specs.Told.{done}
 use Rattle.command_kit.specs.Told.{AreFronts, IsTold, IsTried, sink_note}
 use Rattle.command_kit.specs.View.{SinkView, View}
 use Rattle.command_kit.specs.declared.status.Status.{Status}
-use Rattle.swsusp_cli.specs.Formatting.{LieBelow}
+use Rattle.swsusp_cli.specs.Replay.{LieBelow}
 use Rattle.swsusp_cli.specs.Outcome.{IsScript, Tells}
 use Rattle.swsusp_cli.specs.Replay.{AreReplies}
 use Rattle.swsusp_cli.specs.SettingUp.{IsNotSetUp, unready_told}

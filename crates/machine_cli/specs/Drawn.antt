@@ -7,7 +7,7 @@ use Rattle.plain_machine.specs.declared.reply.Reply.{Reply}
 use Rattle.script.specs.Grammar.{ScriptValue}
 use Rattle.script.specs.declared.fault.ScriptFault.{ScriptFault}
 use Rattle.run_picture.specs.Picture.{picture, pictured}
-use Rattle.swsusp_cli.specs.Formatting.{LieBelow}
+use Rattle.swsusp_cli.specs.Replay.{LieBelow}
 use Rattle.swsusp_cli.specs.Outcome.{IsNoScript, IsOutOfMemory, IsScript, IsTooSmall, IsUnformatted, FailsAtSource}
 use Rattle.swsusp_cli.specs.Replay.{AreReplies}
 use Rattle.swsusp_cli.specs.declared.formatting.Unformatted.{Unformatted}

@@ -7,7 +7,7 @@ use Rattle.plain_machine.specs.declared.reply.Reply.{Reply}
 use Rattle.script.specs.Grammar.{ScriptValue}
 use Rattle.script.specs.declared.fault.ScriptFault.{ScriptFault}
 use Rattle.command_kit.specs.Told.{RunResult, line}
-use Rattle.swsusp_cli.specs.Formatting.{LieBelow}
+use Rattle.swsusp_cli.specs.Replay.{LieBelow}
 use Rattle.swsusp_cli.specs.Loads.{written_told}
 use Rattle.swsusp_cli.specs.Outcome.{IsNoScript, IsOutOfMemory, IsScript, IsTooSmall, IsUnformatted, FailsAtSource, Tells}
 use Rattle.swsusp_cli.specs.Replay.{AreReplies, IsRun}

@@ -2,7 +2,7 @@
 -- `FaultKind`.
 use Rattle.std.specs.Prelude.{ℕ, ◌+◌, ◌-◌, ◌==◌, ◌&&◌, List, [], ◌∷◌, ◌++◌, Bool, false, not, Option, Some, None}
 use Rattle.std.specs.Prelude.{Result, Ok, Err, length, nat_lt, nat_le, if◌then◌else◌, count_by, flat_map, replicate}
-use Rattle.std.specs.Prelude.{reverse, take, slice_index, slice_index_or, unwrap_or, slice_get, codes}
+use Rattle.std.specs.Prelude.{reverse, take, slice_index, slice_index_or, unwrap_or, slice_get}
 use Rattle.std.specs.List.{find, filter_map, list_all, range_with_len, slice_split}
 use Rattle.std.specs.Option.{option_map}
 use Rattle.std.specs.Str.{bytes_eq}
@@ -22,8 +22,6 @@ use Rattle.script.specs.declared.grammar.LineStop.TheVariants as stop
 use Rattle.script.specs.Settings.{SettingsValue, hardware_by, is_faulty}
 use Rattle.script.specs.Shapes.{Row, setting_rows, event_rows, ◌>>=◌, words_of}
 use denote.Ref.{Bor}
-use Rattle.script.specs.declared.fault.FaultKind.TheVariants.{TooLong, Byte, Word, Late, Count, Number, Range, Events}
-use Rattle.script.specs.declared.fault.FaultKind.TheVariants.{Hardware}
 
 -- One line.
 
@@ -213,14 +211,3 @@ script_of bytes =
     else value_of (line_count bytes + 1) (lines_of bytes)
 
 -- The names of faults, as a note prints them.
-
-abbrev pub kind_name : FaultKind → List ℕ
-kind_name TooLong = codes "TooLong"
-kind_name Byte = codes "Byte"
-kind_name Word = codes "Word"
-kind_name Late = codes "Late"
-kind_name Count = codes "Count"
-kind_name Number = codes "Number"
-kind_name Range = codes "Range"
-kind_name Events = codes "Events"
-kind_name Hardware = codes "Hardware"

@@ -4,3 +4,4 @@ pub mod Reading
 pub mod Settings
 pub mod Shapes
 pub mod Items
+pub mod Kinds

@@ -1,5 +1,5 @@
 ghost use Rattle.std.specs.Prelude.{◌≡◌};
-ghost use Rattle.script.specs.Grammar.{kind_name};
+ghost use Rattle.script.specs.Kinds.{kind_name};
 
 use thiserror::Error;
 

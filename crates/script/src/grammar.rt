@@ -257,7 +257,7 @@ fn item_of_setting(first: &[u8], rest: &[&[u8]], begun: bool) -> Result<Item, Fa
 }
 
 /// The setting that a line is, where its first word is a setting's.
-#[tactic(auto, unfolding(crate::specs::Grammar::setting_in))]
+#[tactic(auto, unfolding(crate::specs::Items::setting_in))]
 fn setting_of(first: &[u8], rest: &[&[u8]]) -> Result<Option<Setting>, FaultKind>
     ensures says { result ≡ setting_in first.now (texts rest.now) }
     ensures fits { IfOk result (λ setting. IfSome setting IsFittingSetting) }
@@ -315,7 +315,7 @@ fn core_events_of(first: &[u8], rest: &[&[u8]]) -> Result<Option<(u32, Event)>, 
 }
 
 /// What the machine as a whole is to do.
-#[tactic(auto, unfolding(crate::specs::Grammar::machine_event_in))]
+#[tactic(auto, unfolding(crate::specs::Items::machine_event_in))]
 fn machine_events_of(first: &[u8], rest: &[&[u8]]) -> Result<Option<(u32, Event)>, FaultKind>
     ensures says { result ≡ machine_event_in first.now (texts rest.now) }
     ensures fits { IfOk result (λ events. IfSome events (λ e. IsFittingItem (Item.Events e.0 e.1))) }
@@ -348,7 +348,7 @@ fn machine_events_of(first: &[u8], rest: &[&[u8]]) -> Result<Option<(u32, Event)
 }
 
 /// What happens to it from outside, and its steps and those of tasks.
-#[tactic(auto, unfolding(crate::specs::Grammar::outside_event_in))]
+#[tactic(auto, unfolding(crate::specs::Items::outside_event_in))]
 fn outside_events_of(first: &[u8], rest: &[&[u8]]) -> Result<Option<(u32, Event)>, FaultKind>
     ensures says { result ≡ outside_event_in first.now (texts rest.now) }
     ensures fits { IfOk result (λ events. IfSome events (λ e. IsFittingItem (Item.Events e.0 e.1))) }
@@ -373,7 +373,7 @@ fn outside_events_of(first: &[u8], rest: &[&[u8]]) -> Result<Option<(u32, Event)
 }
 
 /// What a task asks for, where that is the line.
-#[tactic(auto, unfolding(crate::specs::Grammar::task_event_in))]
+#[tactic(auto, unfolding(crate::specs::Items::task_event_in))]
 fn task_event_of(first: &[u8], rest: &[&[u8]]) -> Result<Option<(u32, Event)>, FaultKind>
     ensures says { result ≡ task_event_in first.now (texts rest.now) }
     ensures fits { IfOk result (λ events. IfSome events (λ e. IsFittingItem (Item.Events e.0 e.1))) }

@@ -4,7 +4,7 @@ ghost use Rattle.script.specs.Settings.{scripted_ident, filled_name};
 use definitions::Ident;
 
 /// The identity of scripted machines: Linux 6.1.0 on `plain`.
-#[tactic(auto, unfolding(crate::specs::Ident::scripted_ident))]
+#[tactic(auto, unfolding(crate::specs::Settings::scripted_ident))]
 pub fn scripted_ident() -> Ident
     ensures { result ≡ scripted_ident }
 {

@@ -33,7 +33,7 @@ pub fn ranges(words: &[&[u8]]) -> Result<Ranges, FaultKind>
 }
 
 /// A range of page frames: its ends, and a dash between them.
-#[tactic(auto, unfolding(crate::specs::Ranges::range_in))]
+#[tactic(auto, unfolding(crate::specs::Shapes::range_in))]
 fn range(word: &[u8]) -> Result<(u32, u32), FaultKind>
     ensures range { result ≡ range_in word.now }
     ensures fits { IfOk result IsRange }

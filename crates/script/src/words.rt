@@ -29,7 +29,7 @@ pub fn number_of(word: &[u8]) -> Option<u64>
 }
 
 /// A number of this span.
-#[tactic(auto, unfolding(crate::specs::Words::number_in))]
+#[tactic(auto, unfolding(crate::specs::Shapes::number_in))]
 fn number_in(word: &[u8], span: Span) -> Result<u64, FaultKind>
     ensures { result ≡ number_in span word.now }
 {

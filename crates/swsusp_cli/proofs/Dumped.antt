@@ -18,9 +18,9 @@ use Rattle.plain_machine.specs.declared.reply.Reply.{Reply}
 use Rattle.sector_disk.specs.declared.disk.Disk.{Ghosts}
 use Rattle.protocol_laws.proofs.Inside.{taken_itself}
 use Rattle.command_core.specs.Runs.{RanAs}
-use Rattle.command_core.specs.Answers.{HasHibernated, IsUnmarkedOrHolds}
-use Rattle.command_core.specs.Answers.{image_to_save, machine_to_save}
-use Rattle.command_core.specs.Answers.{HasResumed}
+use Rattle.command_core.specs.Runs.{HasHibernated, IsUnmarkedOrHolds}
+use Rattle.command_core.specs.Runs.{image_to_save, machine_to_save}
+use Rattle.command_core.specs.Runs.{HasResumed}
 use Rattle.command_core.specs.declared.ending.Ended.{Ended}
 use Rattle.swsusp_cli.specs.Dumps.{SavesInside}
 use Rattle.swsusp_cli.specs.Loads.{LoadsInside}

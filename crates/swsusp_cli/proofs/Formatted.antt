@@ -10,7 +10,7 @@ use Rattle.plain_machine.specs.Machine.{Hardware, block_of_slot}
 use Rattle.plain_machine.proofs.DiskBlocks.{block-written, IsPage-area_page, area_page-unmarked}
 use Rattle.protocol_laws.specs.Rows.{LeavesBlock}
 use Rattle.script.specs.Grammar.{ScriptValue}
-use Rattle.swsusp_cli.specs.Formatting.{Formats}
+use Rattle.swsusp_cli.specs.Replay.{Formats}
 
 -- what a script's machine has, so that its area can be formatted on a disk of so many blocks
 pub record CanFormat (script : ScriptValue) (blocks : ℕ) : Type 0 where

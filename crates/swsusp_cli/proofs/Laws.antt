@@ -24,7 +24,7 @@ use Rattle.command_core.proofs.Runs.{hibernation_few, resumption_few}
 use Rattle.swsusp_cli.specs.Drills as drills
 use Rattle.swsusp_cli.specs.Drills.{IsDrilled}
 use Rattle.swsusp_cli.specs.Dumps.{HasAnswered}
-use Rattle.swsusp_cli.specs.Formatting.{calls_until}
+use Rattle.swsusp_cli.specs.Replay.{calls_until}
 use Rattle.swsusp_cli.specs.Loads.{HasLoaded}
 use Rattle.swsusp_cli.specs.Outcome.{IsReplayed, no_script, out_of_memory, unread, too_small, unformatted, played, cut_off}
 use Rattle.swsusp_cli.specs.Replay.{IsRun}

@@ -6,7 +6,7 @@ use Rattle.definitions.specs.Slots.{extent_at}
 use Rattle.definitions.specs.FileMaps.{IsFileMap}
 use Rattle.definitions.proofs.FileMaps.{HasSlot, extent_of_slot, block_of-slot, slot_below}
 use Rattle.plain_machine.specs.Machine.{Hardware, block_of_slot}
-use Rattle.swsusp_cli.specs.Formatting.{IsNeeded}
+use Rattle.swsusp_cli.specs.Replay.{IsNeeded}
 
 -- the block after an extent
 abbrev pub blocks_end : ℕ × ℕ × ℕ → ℕ

@@ -21,7 +21,7 @@ use Rattle.script.specs.Grammar.{ScriptValue}
 use Rattle.sector_disk.specs.declared.orders.Order.{Order}
 use Rattle.world_core.specs.StandsFor.{StandsFor, IsNewWorld, hardware_of, shown}
 use Rattle.world_core.specs.World.{World}
-use Rattle.swsusp_cli.specs.Formatting.{Formats, LieBelow, calls_until}
+use Rattle.swsusp_cli.specs.Replay.{Formats, LieBelow, calls_until}
 use Rattle.command_kit.specs.Told.{done}
 use Rattle.swsusp_cli.specs.Outcome.{IsScript, IsReplayed, IsTooSmall, IsUnformatted, Tells, no_script, out_of_memory, unread, too_small, unformatted, played, cut_off, small_told, unformatted_told}
 use Rattle.swsusp_cli.specs.Playing.{HasPlayed, Played}

@@ -5,7 +5,7 @@ use Rattle.plain_machine.specs.declared.reply.Reply.{Reply}
 use Rattle.protocol_laws.specs.Rows.{TellsNewFault}
 use Rattle.script.specs.Drill.{drill_events, drill_hardware, drill_script, summary, tally_of}
 use Rattle.command_kit.specs.Told.{RunResult}
-use Rattle.swsusp_cli.specs.Formatting.{LieBelow}
+use Rattle.swsusp_cli.specs.Replay.{LieBelow}
 use Rattle.swsusp_cli.specs.Outcome.{IsOutOfMemory, IsTooSmall, IsUnformatted, Tells}
 use Rattle.swsusp_cli.specs.Replay.{AreReplies}
 use Rattle.command_kit.specs.View.{View}

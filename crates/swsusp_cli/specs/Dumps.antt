@@ -16,8 +16,8 @@ use Rattle.plain_machine.specs.declared.reply.Reply.TheVariants as reply
 use Rattle.plain_machine.specs.Shows.{WorldView}
 use Rattle.sector_disk.specs.declared.disk.Disk.{Ghosts}
 use Rattle.command_core.specs.Runs.{IsHibernation, RanAs}
-use Rattle.command_core.specs.Answers.{HasHibernated, IsUnmarkedOrHolds}
-use Rattle.command_core.specs.Answers.{image_to_save, machine_to_save}
+use Rattle.command_core.specs.Runs.{HasHibernated, IsUnmarkedOrHolds}
+use Rattle.command_core.specs.Runs.{image_to_save, machine_to_save}
 use Rattle.command_core.specs.declared.ending.Ended.{Ended}
 use Rattle.command_kit.specs.Told.{RunResult, line}
 use Rattle.swsusp_cli.specs.Outcome.{IsOutOfMemory, FailsAtSource, Tells}

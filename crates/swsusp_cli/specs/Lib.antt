@@ -3,7 +3,6 @@ pub mod Drills
 pub mod Dumps
 pub mod Exports
 pub mod Feeding
-pub mod Formatting
 pub mod Imports
 pub mod Loads
 pub mod Outcome

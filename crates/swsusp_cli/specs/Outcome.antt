@@ -6,7 +6,7 @@ use Rattle.script.specs.Grammar.{ScriptValue, script_of}
 use Rattle.script.specs.declared.fault.ScriptFault.{ScriptFault}
 use Rattle.command_kit.specs.Told.{RunResult, memory_told}
 use Rattle.command_kit.specs.Told.{IsTold, IsTried, IsPrinted, sink_note}
-use Rattle.swsusp_cli.specs.Formatting.{FailsToFormat, IsNeeded, LieBelow, calls_until}
+use Rattle.swsusp_cli.specs.Replay.{FailsToFormat, IsNeeded, LieBelow, calls_until}
 use Rattle.swsusp_cli.specs.Replay.{Prints, PrintsFront, small_note, fault_note, write_note, sync_note, unread_note}
 use Rattle.command_kit.specs.View.{View}
 use Rattle.swsusp_cli.specs.declared.formatting.Unformatted.{Unformatted}

@@ -16,12 +16,41 @@ use Rattle.sector_disk.specs.declared.orders.Order.{Order}
 use Rattle.world_core.specs.Orders.{orders_after}
 use Rattle.world_runs.specs.Turns.{AreCounted, steps_of}
 use Rattle.script.specs.Grammar.{ScriptValue}
-use Rattle.script.specs.Grammar.{kind_name}
+use Rattle.script.specs.Kinds.{kind_name}
 use Rattle.script.specs.declared.fault.ScriptFault.{ScriptFault}
-use Rattle.command_kit.specs.Told.{line}
-use Rattle.swsusp_cli.specs.Formatting.{Formats}
-use Rattle.command_kit.specs.Told.{IsPrinted}
+use Rattle.command_kit.specs.Told.{line, IsPrinted}
 use Rattle.command_kit.specs.View.{View, DiskView}
+use Rattle.definitions.specs.Disk.{Content, Writes, FailsToWrite, Syncs, raised}
+use Rattle.definitions.specs.SwapHeader.{area_page}
+use Rattle.swsusp_cli.specs.declared.formatting.Unformatted.{Unformatted}
+use Rattle.swsusp_cli.specs.declared.formatting.Unformatted.TheVariants.{Write, Sync}
+
+-- The formatting of an area at the block of its first slot.
+
+-- each slot lies on a block of a disk of so many
+abbrev pub LieBelow : Hardware → ℕ → Type 0
+LieBelow h blocks = (s : ℕ) → s < h.slots → block_of_slot h s < blocks
+
+-- A disk needs so many blocks: the greatest on which a slot lies, and one more.
+pub record IsNeeded (h : Hardware) (need : ℕ) : Type 0 where
+  pub enough : LieBelow h need
+  pub furthest : ℕ
+  pub is_slot : furthest < h.slots
+  pub last : block_of_slot h furthest + 1 ≡ need
+
+-- the header block of a fresh area, with its last page and its bad pages, is written at block(0), and synced
+abbrev pub Formats : Hardware → ℕ → List ℕ → Content → Content → Type 0
+Formats h last bad old new = (mid : Content) × Writes (block_of_slot h 0) (area_page last bad) old mid × Syncs mid new
+
+-- a call failed: the write, which may have done a part of its work, or the sync after it
+abbrev pub FailsToFormat : Hardware → ℕ → List ℕ → Unformatted → Content → Content → Type 0
+FailsToFormat h last bad Write old new = FailsToWrite (block_of_slot h 0) (area_page last bad) old new
+FailsToFormat h last bad Sync old new = Writes (block_of_slot h 0) (area_page last bad) old new
+
+-- the count of calls, up to the one that failed
+abbrev pub calls_until : Unformatted → ℕ → ℕ
+calls_until Write calls = raised calls
+calls_until Sync calls = raised (raised calls)
 
 -- What these events ask the disk for, beside its reads, writes and syncs: each cut a restart, and each arm that calls
 -- fail, with the event's own numbers.

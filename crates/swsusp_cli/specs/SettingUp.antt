@@ -4,7 +4,7 @@ use Rattle.definitions.specs.Disk as disk
 use Rattle.plain_machine.specs.Machine.{IsHardware}
 use Rattle.script.specs.Grammar.{ScriptValue}
 use Rattle.command_kit.specs.Told.{RunResult}
-use Rattle.swsusp_cli.specs.Formatting.{Formats, FailsToFormat, IsNeeded, LieBelow, calls_until}
+use Rattle.swsusp_cli.specs.Replay.{Formats, FailsToFormat, IsNeeded, LieBelow, calls_until}
 use Rattle.swsusp_cli.specs.Outcome.{small_told, unformatted_told}
 use Rattle.command_kit.specs.View.{DiskView}
 use Rattle.swsusp_cli.specs.declared.formatting.Unformatted.{Unformatted}

@@ -1,7 +1,7 @@
 ghost use Rattle.std.specs.Prelude.{◌≡◌, ◌+◌, ◌<◌, ◌≤◌, IsErr, MatchResult, length};
 ghost use Rattle.definitions.specs.Disk.{Changes, HasRisen, raised};
 ghost use Rattle.plain_machine.specs.Machine.{IsHardware, block_of_slot};
-ghost use Rattle.swsusp_cli.specs.Formatting.{Formats, FailsToFormat, IsNeeded, calls_until};
+ghost use Rattle.swsusp_cli.specs.Replay.{Formats, FailsToFormat, IsNeeded, calls_until};
 
 use machine::Hardware;
 use page_core::Failed;

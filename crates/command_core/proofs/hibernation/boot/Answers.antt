@@ -5,7 +5,7 @@ use Rattle.definitions.specs.Disk as disk
 use Rattle.plain_machine.specs.State.{off}
 use Rattle.plain_machine.specs.declared.reply.Reply.TheVariants as reply
 use Rattle.world_core.specs.StandsFor.{hardware_of}
-use Rattle.command_core.specs.Answers.{EndsInFault, held_at_first}
+use Rattle.command_core.specs.Runs.{EndsInFault, held_at_first}
 use Rattle.command_core.specs.Turns.{Point}
 use Rattle.command_core.proofs.Crashes.{still_first, still_untouched}
 use Rattle.command_core.proofs.Begun.{told_whole, untouched_first, boots_first, boots_second, boots_third}

@@ -10,8 +10,8 @@ use Rattle.plain_machine.specs.declared.event.Event.TheVariants as event
 use Rattle.plain_machine.specs.declared.reply.Reply.{Reply}
 use Rattle.plain_machine.specs.declared.reply.Reply.TheVariants as reply
 use Rattle.world_core.specs.StandsFor.{hardware_of, shown}
-use Rattle.command_core.specs.Answers.{IsUnmarkedOrHolds}
-use Rattle.command_core.specs.Answers.{image_to_save, machine_to_save}
+use Rattle.command_core.specs.Runs.{IsUnmarkedOrHolds}
+use Rattle.command_core.specs.Runs.{image_to_save, machine_to_save}
 use Rattle.command_core.specs.Turns.{Point, StandsAt, HasGone, IsLeftInside}
 use Rattle.command_core.proofs.Begun.{told_whole, untouched_then, untouched_at, save_writes}
 use Rattle.command_core.proofs.Booting.{hibernation_begins}

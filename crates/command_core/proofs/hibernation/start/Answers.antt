@@ -4,7 +4,7 @@ use Rattle.definitions.specs.Disk as disk
 use Rattle.plain_machine.specs.State.{on}
 use Rattle.plain_machine.specs.declared.reply.Reply.TheVariants as reply
 use Rattle.world_core.specs.StandsFor.{hardware_of}
-use Rattle.command_core.specs.Answers.{machine_of_dump, machine_to_save}
+use Rattle.command_core.specs.Runs.{machine_of_dump, machine_to_save}
 use Rattle.command_core.specs.Parts.{RunsUnchanged, Starts}
 use Rattle.command_core.specs.Turns.{Point}
 use Rattle.command_core.proofs.Begun.{told_whole, up_shrunk}

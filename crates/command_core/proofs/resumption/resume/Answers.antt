@@ -8,7 +8,7 @@ use Rattle.plain_machine.specs.declared.event.Event.TheVariants as event
 use Rattle.plain_machine.specs.declared.event.Loader.TheVariants.{Table}
 use Rattle.plain_machine.specs.declared.reply.Reply.TheVariants as reply
 use Rattle.world_core.specs.StandsFor.{hardware_of}
-use Rattle.command_core.specs.Answers.{held_at_first}
+use Rattle.command_core.specs.Runs.{held_at_first}
 use Rattle.command_core.specs.Turns.{Point, HasGone, IsLeftInside}
 use Rattle.command_core.proofs.Begun.{new_stands, told_whole, untouched_first, untouched_then, untouched_at, off_writes}
 use Rattle.protocol_laws.proofs.Inside.{taken_itself}

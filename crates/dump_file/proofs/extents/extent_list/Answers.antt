@@ -1,7 +1,7 @@
 use Rattle.std.proofs.Common.{◌≡◌, ℕ, ◌+◌, ◌*◌, List, take, Some, None, refl, sym, ap, ◌∙◌, arith}
 use Rattle.std.proofs.lemmas.Result.{err_from_is_err_and}
 use Rattle.dump_file.specs.Dump.{cover_fault, extents_fault, fault_in, wanted}
-use Rattle.dump_file.specs.Dump.{extent_byte, extent_count, first_extent}
+use Rattle.dump_file.specs.Fields.{extent_byte, extent_count, first_extent}
 use Rattle.dump_file.specs.declared.dump.DumpKind.TheVariants.{Extent}
 use Rattle.dump_file.proofs.Chains.{or_else-none, or_else-some}
 use Rattle.dump_file.proofs.HeadExtents.{cover_is, front_list, rest_of_extents, whole_list, wrong_extent_is}

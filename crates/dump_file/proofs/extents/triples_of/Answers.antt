@@ -2,7 +2,7 @@ use Rattle.std.proofs.Common.{◌≡◌, ℕ, ◌+◌, ◌*◌, ◌∷◌, [], �
 use Rattle.std.proofs.lemmas.List.{length-set, take_more_set}
 use Rattle.std.proofs.lemmas.List.FromFn.{map-range_with_len_more}
 use Rattle.std.specs.List.{range_with_len}
-use Rattle.dump_file.specs.Dump.{number, extent_at}
+use Rattle.dump_file.specs.Fields.{number, extent_at}
 use Rattle.dump_file.proofs.extents.triples_of.Goals as goal
 
 pub loop-i-preserved : goal.loop-i-preserved

@@ -1,6 +1,6 @@
 use Rattle.std.proofs.Common.{◌≡◌, length, map, take}
 use Rattle.std.specs.List.{range_with_len}
-use Rattle.dump_file.specs.Dump.{extent_at}
+use Rattle.dump_file.specs.Fields.{extent_at}
 use Rattle.dump_file.proofs.extents.triples_of.Given as goal
 
 abbrev pub invariant-loop-i : goal.invariant-loop-i

@@ -1,6 +1,6 @@
 use Rattle.std.proofs.Common.{◌≡◌, Some, None, refl, sym, ap, ◌∙◌}
 use Rattle.machine.specs.HardFault.{hard_fault, has_tables}
-use Rattle.dump_file.specs.Dump.{hardware}
+use Rattle.dump_file.specs.Fields.{hardware}
 use Rattle.dump_file.specs.declared.dump.DumpKind.TheVariants.{Header}
 use Rattle.dump_file.proofs.Chains.{unless-false, unless-true}
 use Rattle.dump_file.proofs.HeadParts.{but_tables, hardware_is, tables_fit, tables_wrong}

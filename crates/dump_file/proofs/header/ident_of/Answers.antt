@@ -2,7 +2,7 @@ use Rattle.std.proofs.Common.{ℕ, List, ◌∙◌, ap}
 use Rattle.std.proofs.lemmas.List.{take_rest}
 use Rattle.definitions.specs.InfoPage.{names_of}
 use Rattle.definitions.specs.declared.info.Ident.{Ident}
-use Rattle.dump_file.specs.Dump.{number}
+use Rattle.dump_file.specs.Fields.{number}
 use Rattle.dump_file.proofs.header.ident_of.Goals as goal
 
 pub returns : goal.returns

@@ -6,7 +6,7 @@ use Rattle.definitions.specs.Zones.{numbers}
 use Rattle.definitions.proofs.ZoneNumbers.{below_top}
 use Rattle.plain_machine.specs.Loader.{has}
 use Rattle.dump_file.specs.Dump.{is_above, wanted}
-use Rattle.dump_file.specs.Dump.{number}
+use Rattle.dump_file.specs.Fields.{number}
 use Rattle.dump_file.specs.declared.dump.DumpKind.TheVariants.{Frame, Order}
 use Rattle.dump_file.proofs.Chains.{named, passed}
 use Rattle.dump_file.proofs.RecordFaults.{no_number, no_frame, no_order, no_page, no_fault, valid-false, valid-true}

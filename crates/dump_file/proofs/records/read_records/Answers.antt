@@ -5,7 +5,7 @@ use Rattle.definitions.specs.Bytes.{bytes_at}
 use Rattle.definitions.specs.Tables.{with_frame}
 use Rattle.definitions.specs.Zones.{top}
 use Rattle.dump_file.specs.Dump.{fault_of_record, frame_before, record_fault, records_fault}
-use Rattle.dump_file.specs.Dump.{contents, number, record_byte, record_frame}
+use Rattle.dump_file.specs.Fields.{contents, number, record_byte, record_frame}
 use Rattle.dump_file.specs.Reading.{IsReadTo}
 use Rattle.dump_file.specs.declared.dump.DumpFault.{DumpFault}
 use Rattle.dump_file.proofs.Chains.{first-at, first-none, passed}

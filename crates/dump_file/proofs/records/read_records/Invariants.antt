@@ -1,7 +1,7 @@
 use Rattle.std.proofs.Common.{◌≡◌, ◌≤◌, ◌<◌, List, ℕ, None, length}
 use Rattle.definitions.specs.Zones.{top}
 use Rattle.dump_file.specs.Dump.{frame_before, record_fault}
-use Rattle.dump_file.specs.Dump.{contents, record_byte}
+use Rattle.dump_file.specs.Fields.{contents, record_byte}
 use Rattle.dump_file.specs.Reading.{IsReadTo}
 use Rattle.dump_file.proofs.records.read_records.Given as goal
 

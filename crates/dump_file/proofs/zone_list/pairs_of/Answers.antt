@@ -2,7 +2,7 @@ use Rattle.std.proofs.Common.{◌≡◌, ℕ, ◌+◌, ◌∷◌, [], ◌++◌, 
 use Rattle.std.proofs.lemmas.List.{length-set, take_more_set}
 use Rattle.std.proofs.lemmas.List.FromFn.{map-range_with_len_more}
 use Rattle.std.specs.List.{range_with_len}
-use Rattle.dump_file.specs.Dump.{number, zone, zone_byte}
+use Rattle.dump_file.specs.Fields.{number, zone, zone_byte}
 use Rattle.dump_file.proofs.zone_list.pairs_of.Goals as goal
 
 pub loop-j-preserved : goal.loop-j-preserved

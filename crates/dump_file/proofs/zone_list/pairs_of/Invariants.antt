@@ -1,6 +1,6 @@
 use Rattle.std.proofs.Common.{◌≡◌, length, map, take}
 use Rattle.std.specs.List.{range_with_len}
-use Rattle.dump_file.specs.Dump.{zone}
+use Rattle.dump_file.specs.Fields.{zone}
 use Rattle.dump_file.proofs.zone_list.pairs_of.Given as goal
 
 abbrev pub invariant-loop-j : goal.invariant-loop-j

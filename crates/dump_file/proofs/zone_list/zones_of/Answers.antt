@@ -2,7 +2,7 @@ use Rattle.std.proofs.Common.{◌≡◌, ℕ, take, map, Some, refl, sym, ap, �
 use Rattle.std.proofs.lemmas.Result.{err_from_is_err_and}
 use Rattle.std.specs.List.{range_with_len}
 use Rattle.dump_file.specs.Dump.{fault_in, wanted}
-use Rattle.dump_file.specs.Dump.{zone, zone_byte, zone_count}
+use Rattle.dump_file.specs.Fields.{zone, zone_byte, zone_count}
 use Rattle.dump_file.proofs.HeadZones.{wrong_zone_is, rest_of_zones, zones_are}
 use Rattle.dump_file.proofs.zone_list.zones_of.Goals as goal
 

@@ -4,7 +4,7 @@ use Rattle.std.proofs.lemmas.Result.{err_from_is_err_and}
 use Rattle.definitions.specs.Disk as disk
 use Rattle.plain_machine.specs.Machine.{Hardware, IsHardware, block_of_slot}
 use Rattle.script.specs.Grammar.{ScriptValue}
-use Rattle.swsusp_cli.specs.Formatting.{Formats, FailsToFormat, IsNeeded, LieBelow}
+use Rattle.swsusp_cli.specs.Replay.{Formats, FailsToFormat, IsNeeded, LieBelow}
 use Rattle.swsusp_cli.specs.SettingUp.{FailsToSetUp, IsNotSetUp, IsSetUp}
 use Rattle.command_kit.specs.View.{DiskView}
 use Rattle.swsusp_cli.specs.declared.setting_up.Unready.{Unready}
