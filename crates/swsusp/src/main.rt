@@ -16,11 +16,14 @@ use swsusp_cli::{Choice, run, swap_name};
 /// The status of a file that can't be opened, which no run answers.
 const NOT_OPENED: u8 = 7;
 
-/// How many bytes of standard input are asked for at once: a record of a dump costs a sixteenth of a call of the
+/// How many bytes of a dump or a stream are asked for at once: a record of a dump costs a sixteenth of a call of the
 /// system.
 const INPUT_PIECE: usize = 65_536;
 
-/// How many bytes of a restored dump are handed to standard output at once.
+/// How many bytes of a script are asked for at once. Most scripts are short, and each byte of the room costs time.
+const SCRIPT_PIECE: usize = 4096;
+
+/// How many bytes of a restored dump or of an exported image are handed to standard output at once.
 const OUTPUT_PIECE: usize = 65_536;
 
 fn main(rt: HostRuntime) -> ExitCode {
@@ -87,16 +90,10 @@ fn is_command(words: &[String], name: &str) -> bool {
 /// Runs over a disk, with the standard streams. What was printed is synced before the run ends well: after a resume it
 /// is the only copy of a machine.
 fn run_over<D: Disk>(rt: &HostRuntime, words: &[String], disk: &mut D) -> ExitCode {
-    let Ok(reader) = BufReader::with_capacity(rt.alloc(), INPUT_PIECE, rt.stdin()) else {
+    let Ok(reader) = BufReader::with_capacity(rt.alloc(), input_piece(words), rt.stdin()) else {
         return no_memory(rt);
     };
-    // The replies of a replay are handed on one by one, each before the next event.
-    let piece = if is_command(words, "resume") {
-        OUTPUT_PIECE
-    } else {
-        0
-    };
-    let Ok(writer) = BufWriter::with_capacity(rt.alloc(), piece, rt.stdout()) else {
+    let Ok(writer) = BufWriter::with_capacity(rt.alloc(), output_piece(words), rt.stdout()) else {
         return no_memory(rt);
     };
     let mut input = StdSource::new(reader);
@@ -107,6 +104,25 @@ fn run_over<D: Disk>(rt: &HostRuntime, words: &[String], disk: &mut D) -> ExitCo
         return sink_fault(rt);
     }
     ExitCode::from(status.code())
+}
+
+/// How many bytes of standard input are asked for at once.
+fn input_piece(words: &[String]) -> usize {
+    if is_command(words, "replay") {
+        SCRIPT_PIECE
+    } else {
+        INPUT_PIECE
+    }
+}
+
+/// How many bytes are handed to standard output at once. The replies of a replay are handed on one by one, each before
+/// the next event.
+fn output_piece(words: &[String]) -> usize {
+    if is_command(words, "resume") || is_command(words, "export") {
+        OUTPUT_PIECE
+    } else {
+        0
+    }
 }
 
 /// Ends outside a run, with a note.
