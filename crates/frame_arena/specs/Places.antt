@@ -1,7 +1,7 @@
 -- Page frames whose pages lie in places: what is seen of them, and what holds of the places.
-use Rattle.std.specs.Prelude.{◌≡◌, ◌≢◌, ◌<◌, ◌+◌, ◌^◌, ◌==◌, ℕ, not, List, [], length, map, slice_index, slice_index_or}
+use Rattle.std.specs.Prelude.{◌≡◌, ◌<◌, ◌≤◌, ◌+◌, ◌^◌, ℕ, zero, suc, List, [], length, map, slice_index, slice_index_or, nat_le}
 use Rattle.std.specs.List.{count_by}
-use Rattle.definitions.specs.Bytes.{zero_page}
+use Rattle.definitions.specs.Bytes.{zero_page, filled_page}
 use Rattle.frame_arena.specs.Whole.{whole}
 
 -- the page in a place
@@ -12,17 +12,22 @@ page_in pages place = whole (slice_index_or pages place [])
 unfoldable pub contents : List ℕ → List (List ℕ) → List (List ℕ)
 contents places pages = map (page_in pages) places
 
+-- the page in place 0 or 1, which any number of page frames may share
+unfoldable pub shared_page : ℕ → List ℕ
+shared_page zero = zero_page
+shared_page (suc place) = filled_page 165
+
 -- how many page frames have a page of their own
 abbrev pub own_count : List ℕ → ℕ
-own_count places = count_by (λ place. not (place == 0)) places
+own_count places = count_by (nat_le 2) places
 
--- Place 0 has the page of zeros. Each page frame has it, or a place of its own; there are no more pages than these
--- need, and room for as many as all page frames could need.
+-- Places 0 and 1 have the pages that are shared. Each page frame has one of these, or a place of its own; there are no
+-- more pages than these need, and room for as many as all page frames could need.
 pub record AreKept (places : List ℕ) (pages : List (List ℕ)) (capacity : ℕ) : Type 0 where
-  pub few : length places < 2 ^ 32
-  pub zeros : slice_index_or pages 0 [] ≡ zero_page
+  pub few : 2 + length places < 2 ^ 32
+  pub shared : (place : ℕ) → place < 2 → slice_index_or pages place [] ≡ shared_page place
   pub inside : (p : ℕ) → p < length places → slice_index places p < length pages
   pub apart : (p q : ℕ) → p < length places → q < length places → slice_index places p ≡ slice_index places q →
-      slice_index places p ≢ 0 → p ≡ q
-  pub counted : length pages ≡ 1 + own_count places
-  pub room : capacity ≡ 1 + length places
+      2 ≤ slice_index places p → p ≡ q
+  pub counted : length pages ≡ 2 + own_count places
+  pub room : capacity ≡ 2 + length places

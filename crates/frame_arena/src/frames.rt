@@ -1,23 +1,37 @@
-ghost use Rattle.std.specs.Prelude.{◌≡◌, ◌≢◌, ℕ, ◌+◌, ◌*◌, ◌^◌, ◌<◌, ◌≤◌, List, length, replicate, ◌∷◌, ◌++◌, []};
+ghost use Rattle.std.specs.Prelude.{◌≡◌, ℕ, ◌+◌, ◌*◌, ◌^◌, ◌<◌, ◌≤◌, List, length, replicate, ◌∷◌, ◌++◌, []};
 ghost use Rattle.std.specs.Prelude.{slice_index, vec_len, vec_capacity, nat_eq, IfOk, IsTrue, All};
 ghost use Rattle.std.specs.Cmp.Lexicographic.{pointwise};
 ghost use Rattle.std.specs.Borrow.{sem};
 ghost use Rattle.definitions.specs.Bytes.{IsPage, word, with_word, number_at, with_number, zero_page, filled_page};
 ghost use Rattle.definitions.specs.Tables.{frame, with_frame};
 ghost use Rattle.definitions.specs.FrameRuns.{run_at, with_run};
-ghost use Rattle.frame_arena.specs.Places.{contents, AreKept};
+ghost use Rattle.frame_arena.specs.Places.{contents, shared_page, AreKept};
 
 use page_core::{NoMemory, Page};
 use std::alloc::Global;
 use std::marker::Model;
 
+/// The byte with which the kernel of a resume finds the memory filled that no image may touch.
+pub const FILLER: u8 = 165;
+
+/// The place of the page of zeros.
+const ZEROS: u32 = 0;
+
+/// The place of the page of which each byte is `FILLER`.
+const FILLED: u32 = 1;
+
+/// How many pages, the first ones, any number of page frames may share.
+const SHARED: u32 = 2;
+
 /// The page frames of a machine, by their numbers from 0 on. All memory that they can need is taken when they are made,
-/// and none of it is touched before its page frame is written: until then that costs an entry of a table.
+/// and none of it is touched before a byte of its page frame is written: until then, and while it is set to zeros or to
+/// `FILLER` as a whole, a page frame costs an entry of a table.
 #[derive(Drop)]
 pub struct Frames {
-    /// Of each page frame the place of its page in `pages`: 0 as long as nothing was written to it.
+    /// Of each page frame the place of its page in `pages`.
     places: Vec<u32>,
-    /// The page of zeros, and then the pages of the page frames that were written, in the order of their first writes.
+    /// The pages that are shared, and then the pages of the page frames that were written, in the order of their first
+    /// writes.
     pages: Vec<Page>,
 }
 
@@ -40,13 +54,17 @@ impl Frames {
     pub fn create(alloc: Global, n: u32) -> Result<Frames, NoMemory>
         ensures { IfOk result (λ frames. frames ≡ replicate n zero_page) }
     {
-        let Ok(places) = Vec::from_elem(alloc, 0, n as usize) else {
+        let Some(room) = n.checked_add(SHARED) else {
             return Err(NoMemory);
         };
-        let Ok(mut pages) = Vec::with_capacity(alloc, n as usize + 1) else {
+        let Ok(places) = Vec::from_elem(alloc, ZEROS, n as usize) else {
+            return Err(NoMemory);
+        };
+        let Ok(mut pages) = Vec::with_capacity(alloc, room as usize) else {
             return Err(NoMemory);
         };
         pages.push_reserved(Page::zero());
+        pages.push_reserved(Page::filled(FILLER));
         Ok(Frames { places, pages })
     }
 
@@ -106,8 +124,9 @@ impl Frames {
         requires to_in_range { to < length self.old }
         ensures { self.new ≡ with_frame self.old to (frame self.old from) }
     {
-        if self.is_untouched(from) {
-            self.zero(to);
+        let shared = self.places[from as usize];
+        if shared < SHARED {
+            self.share(to, shared);
             return;
         }
         let target = own_place(&mut self.places, &mut self.pages, to);
@@ -117,24 +136,17 @@ impl Frames {
         self.pages[target as usize] = page;
     }
 
-    /// Whether each byte of page frame `p` is zero. Of one to which nothing was written this is known without a look at it.
+    /// Whether each byte of page frame `p` is zero. Of one that shares the page of zeros this is known without a look at
+    /// it.
     pub fn is_zero(&self, p: u32) -> bool
         requires { p < length self.now }
         ensures { result ≡ pointwise nat_eq (frame self.now p) zero_page }
     {
         let place = self.places[p as usize];
-        if place == 0 {
+        if place == ZEROS {
             return true;
         }
-        self.pages[place as usize].as_bytes() == self.pages[0].as_bytes()
-    }
-
-    // Whether nothing was written to page frame `p`.
-    fn is_untouched(&self, p: u32) -> bool
-        requires { p < length self.now }
-        ensures { IsTrue result → frame self.now p ≡ zero_page }
-    {
-        self.places[p as usize] == 0
+        self.pages[place as usize].as_bytes() == self.pages[ZEROS as usize].as_bytes()
     }
 
     /// Copies the `n` page frames from `from` on into those from `to` on. The two runs may overlap.
@@ -195,22 +207,15 @@ impl Frames {
         requires { p < length self.old }
         ensures { self.new ≡ with_frame self.old p zero_page }
     {
-        let place = self.places[p as usize];
-        if place == 0 {
-            return;
-        }
-        self.pages[place as usize] = Page::zero();
+        self.share(p, ZEROS);
     }
 
     /// Sets each byte of every page frame to zero. New page frames are zeros already.
     pub fn zero_all(&mut self)
         ensures { self.new ≡ replicate (length self.old) zero_page }
     {
-        if self.pages.len() == 1 {
-            return;
-        }
-        self.places.fill(0);
-        self.pages.truncate(1);
+        self.places.fill(ZEROS);
+        self.pages.truncate(SHARED as usize);
     }
 
     /// Sets each byte of page frame `p` to `byte`.
@@ -218,38 +223,60 @@ impl Frames {
         requires { p < length self.old }
         ensures { self.new ≡ with_frame self.old p (filled_page byte) }
     {
-        *self.page_mut(p) = Page::filled(byte);
+        if byte == FILLER {
+            self.share(p, FILLED);
+        } else {
+            *self.page_mut(p) = Page::filled(byte);
+        }
+    }
+
+    // Gives page frame `p` the content of the shared page in place `shared`.
+    fn share(&mut self, p: u32, shared: u32)
+        requires in_range { p < length self.old }
+        requires shared { shared < 2 }
+        ensures { self.new ≡ with_frame self.old p (shared_page shared) }
+    {
+        let place = self.places[p as usize];
+        if place < SHARED {
+            self.places[p as usize] = shared;
+            return;
+        }
+        let page = Page::from_bytes(self.pages[shared as usize].as_bytes());
+        self.pages[place as usize] = page;
     }
 }
 
-// The place of page frame `p`'s own page. One of zeros is added where it has none.
+// The place of page frame `p`'s own page. A copy of the one that it shares is added where it has none.
 fn own_place(places: &mut Vec<u32>, pages: &mut Vec<Page>, p: u32) -> u32
     requires kept { AreKept places.old.items pages.old.items (vec_capacity pages.old) }
     requires in_range { p < length places.old.items }
     ensures kept { AreKept places.new.items pages.new.items (vec_capacity pages.new) }
     ensures contents { contents places.new.items pages.new.items ≡ contents places.old.items pages.old.items }
     ensures place { slice_index places.new.items p ≡ result }
-    ensures own { result ≢ 0 }
+    ensures own { 2 ≤ result }
 {
     let place = places[p as usize];
-    if place != 0 {
+    if place >= SHARED {
         return place;
     }
     let added = pages.len() as u32;
     places[p as usize] = added;
-    push_zeros(pages);
+    push_copy(pages, place);
     added
 }
 
-// Adds a page of zeros, where there is room. It stands apart so that its callers have no page on their stacks.
+// Adds a copy of the page in a place, where there is room. It stands apart so that its callers have no page on their
+// stacks.
 #[cold]
 #[inline(never)]
-fn push_zeros(pages: &mut Vec<Page>)
-    requires { vec_len pages.old < vec_capacity pages.old }
-    ensures pages { pages.new.items ≡ pages.old.items ++ zero_page ∷ [] }
+fn push_copy(pages: &mut Vec<Page>, place: u32)
+    requires in_range { place < length pages.old.items }
+    requires room { vec_len pages.old < vec_capacity pages.old }
+    ensures pages { pages.new.items ≡ pages.old.items ++ frame pages.old.items place ∷ [] }
     ensures capacity { vec_capacity pages.new ≡ vec_capacity pages.old }
 {
-    pages.push_reserved(Page::zero());
+    let page = Page::from_bytes(pages[place as usize].as_bytes());
+    pages.push_reserved(page);
 }
 
 // Copies a run from its first page frame to its last.

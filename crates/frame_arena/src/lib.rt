@@ -3,4 +3,4 @@
 
 mod frames;
 
-pub use frames::Frames;
+pub use frames::{FILLER, Frames};

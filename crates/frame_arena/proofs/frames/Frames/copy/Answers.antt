@@ -1,8 +1,20 @@
-use Rattle.std.proofs.Common.{◌<◌, ◌∙◌, ℕ, sym, ap, subst}
+use Rattle.std.proofs.Common.{◌<◌, ◌∙◌, ℕ, sym, ap, subst, arith}
 use Rattle.std.proofs.lemmas.List.{get_or_default}
 use Rattle.definitions.specs.Tables.{with_frame}
-use Rattle.frame_arena.proofs.Places.{within, place_inside, page_of, written_over}
+use Rattle.frame_arena.proofs.Places.{within, place_inside, page_of, shared_of, written_over}
 use Rattle.frame_arena.proofs.frames.Frames.copy.Goals as goal
+
+pub index-shared-requires : goal.index-shared-requires
+index-shared-requires c =
+    let places = c.self.inside.places in
+    subst (λ (n : ℕ). c.args.from < n) (sym places.ok.0) (within places.items c.self.inside.pages.items c.self.inside.pages.cap c.self.invariant c.args.self.now c.self.view_is c.args.from c.requires.from_in_range)
+
+pub returns-then-shared-lt-SHARED : goal.returns-then-shared-lt-SHARED
+returns-then-shared-lt-SHARED c =
+    let places = c.self.inside.places in
+    let pages = c.self.inside.pages in
+    let shared = c.index-shared.result.now in
+    c.share.ensures ∙ ap (with_frame c.args.self.now c.args.to) (sym (shared_of places.items pages.items pages.cap c.self.invariant c.args.self.now c.self.view_is c.args.from c.requires.from_in_range shared c.index-shared.ensures (omega arith)))
 
 pub own_place-target-requires-clause-in_range : goal.own_place-target-requires-clause-in_range
 own_place-target-requires-clause-in_range c =

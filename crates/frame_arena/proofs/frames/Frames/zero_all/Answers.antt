@@ -1,22 +1,12 @@
 use Rattle.std.proofs.Common.{◌≡◌, ℕ, List, length, replicate, sym, ap, ap₂, ◌∙◌}
 use Rattle.definitions.specs.Bytes.{zero_page}
 use Rattle.frame_arena.specs.Places.{contents}
-use Rattle.frame_arena.proofs.Places.{length-contents, contents_zeros, none_written, kept_forgotten, contents_forgotten}
+use Rattle.frame_arena.proofs.Places.{length-contents, kept_forgotten, contents_forgotten}
 use Rattle.frame_arena.proofs.frames.Frames.zero_all.Goals as goal
 
 -- each number of the table is set to zero
 zeros : (places filled : List ℕ) (len : ℕ) → len ≡ length places → filled ≡ replicate len 0 → filled ≡ replicate (length places) 0
 zeros places filled len size is = is ∙ ap (λ (n : ℕ). replicate n 0) size
-
-pub returns-then-len-eq1 : goal.returns-then-len-eq1
-returns-then-len-eq1 c =
-    let places = c.self.inside.places in
-    let pages = c.self.inside.pages in
-    let size = sym (length-contents places.items pages.items) ∙ ap length c.self.view_is in
-    sym c.self.view_is
-    ∙ ap (λ (all : List ℕ). contents all pages.items) (none_written places.items pages.items pages.cap c.self.invariant (sym pages.ok.0 ∙ sym c.len.ensures ∙ c.if-len-eq1.true))
-    ∙ contents_zeros (length places.items) pages.items c.self.invariant.zeros
-    ∙ ap (λ (n : ℕ). replicate n zero_page) size
 
 pub invariant_of-self : goal.invariant_of-self
 invariant_of-self c =
