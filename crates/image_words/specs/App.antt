@@ -83,20 +83,24 @@ abbrev pub program_app : App
 program_app =
     on_top (λ top. record top { has_version = true; subcommand_required = true }) (new_app (codes "swsusp_image"))
 
-abbrev pub image_app : App
-image_app =
+-- with the commands that tell what an area holds
+abbrev pub with_tellers : App → App
+with_tellers app = with_subcommand (with_subcommand app (formed_app (codes "check")).top) (formed_app (codes "show")).top
+
+-- with those that write what an image holds
+abbrev pub with_writers : App → App
+with_writers app =
     with_subcommand
-    (with_subcommand
-    (with_subcommand
-    (with_subcommand
-    (with_subcommand
-    (with_subcommand
-    (with_subcommand
-    (with_subcommand (with_subcommand program_app (formed_app (codes "check")).top) (formed_app (codes "show")).top)
-    (area_app (codes "stream")).top)
-    page_app.top)
-    (area_app (codes "core")).top)
-    differ_app.top)
-    (area_app (codes "discard")).top)
-    loader_app.top)
-    machine_app.top
+    (with_subcommand (with_subcommand app (area_app (codes "stream")).top) page_app.top)
+    (area_app (codes "core")).top
+
+-- with those that compare images and give them up
+abbrev pub with_enders : App → App
+with_enders app = with_subcommand (with_subcommand app differ_app.top) (area_app (codes "discard")).top
+
+-- with those that make dumps
+abbrev pub with_makers : App → App
+with_makers app = with_subcommand (with_subcommand app loader_app.top) machine_app.top
+
+abbrev pub image_app : App
+image_app = with_makers (with_enders (with_writers (with_tellers program_app)))

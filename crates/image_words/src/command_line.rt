@@ -1,8 +1,9 @@
-ghost use Rattle.std.specs.Prelude.{IfOk};
-ghost use Rattle.clap.specs.Words.{new_app};
-ghost use Rattle.swsusp_words.specs.App.{IsApp};
+ghost use Rattle.std.specs.Prelude.{◌≡◌, false, IfOk};
+ghost use Rattle.clap.specs.Words.{App, new_app, rule_of};
+ghost use Rattle.swsusp_words.specs.App.{IsApp, offset_rule, swap_rule};
 ghost use Rattle.image_words.specs.App.{area_app, differ_app, dump_app, formed_app, image_app};
 ghost use Rattle.image_words.specs.App.{loader_app, machine_app, page_app};
+ghost use Rattle.image_words.specs.App.{extent_rule, with_enders, with_makers, with_tellers, with_writers, zone_rule};
 
 use crate::details;
 use clap::{Arg, ArgAction, Command, value_parser};
@@ -12,48 +13,80 @@ use std::alloc::{AllocError, Global};
 pub(crate) fn command_line<'a>(alloc: Global) -> Result<Command<'a>, AllocError>
     ensures { IfOk result (IsApp image_app) }
 {
-    named(
+    let program = named(
         alloc,
         "swsusp_image",
         "Looks into hibernation images in swap areas, moves them and gives them up",
         details::PROGRAM,
     )
     .version("0.2.0")
-    .subcommand_required(true)
-    .subcommand(in_form(
-        alloc,
-        "check",
-        "Tells what is wrong with the image of a swap area",
-        details::CHECK,
-    )?)?
-    .subcommand(in_form(
-        alloc,
-        "show",
-        "Prints what is written in a swap area, a fact a line",
-        details::SHOW,
-    )?)?
-    .subcommand(over_area(
-        alloc,
-        "stream",
-        "Writes the image of a swap area as a stream of bytes",
-        details::STREAM,
-    )?)?
-    .subcommand(page(alloc)?)?
-    .subcommand(over_area(
-        alloc,
-        "core",
-        "Writes the image of a swap area as an ELF core file of its machine's memory",
-        details::CORE,
-    )?)?
-    .subcommand(comparison(alloc)?)?
-    .subcommand(over_area(
-        alloc,
-        "discard",
-        "Takes the mark of an image back",
-        details::DISCARD,
-    )?)?
-    .subcommand(loader(alloc)?)?
-    .subcommand(machine(alloc)?)
+    .subcommand_required(true);
+    let telling = with_tellers(alloc, program)?;
+    let writing = with_writers(alloc, telling)?;
+    let ending = with_enders(alloc, writing)?;
+    with_makers(alloc, ending)
+}
+
+/// The program with the commands that tell what an area holds.
+fn with_tellers<'a>(alloc: Global, program: Command<'a>) -> Result<Command<'a>, AllocError>
+    ensures { (app : App) → IsApp app program.entry → IfOk result (IsApp (with_tellers app)) }
+{
+    program
+        .subcommand(in_form(
+            alloc,
+            "check",
+            "Tells what is wrong with the image of a swap area",
+            details::CHECK,
+        )?)?
+        .subcommand(in_form(
+            alloc,
+            "show",
+            "Prints what is written in a swap area, a fact a line",
+            details::SHOW,
+        )?)
+}
+
+/// The program with those that write what an image holds.
+fn with_writers<'a>(alloc: Global, program: Command<'a>) -> Result<Command<'a>, AllocError>
+    ensures { (app : App) → IsApp app program.entry → IfOk result (IsApp (with_writers app)) }
+{
+    program
+        .subcommand(over_area(
+            alloc,
+            "stream",
+            "Writes the image of a swap area as a stream of bytes",
+            details::STREAM,
+        )?)?
+        .subcommand(page(alloc)?)?
+        .subcommand(over_area(
+            alloc,
+            "core",
+            "Writes the image of a swap area as an ELF core file of its machine's memory",
+            details::CORE,
+        )?)
+}
+
+/// The program with those that compare images and give them up.
+fn with_enders<'a>(alloc: Global, program: Command<'a>) -> Result<Command<'a>, AllocError>
+    ensures { (app : App) → IsApp app program.entry → IfOk result (IsApp (with_enders app)) }
+{
+    program
+        .subcommand(comparison(alloc)?)?
+        .subcommand(over_area(
+            alloc,
+            "discard",
+            "Takes the mark of an image back",
+            details::DISCARD,
+        )?)
+}
+
+/// The program with those that make dumps.
+fn with_makers<'a>(alloc: Global, program: Command<'a>) -> Result<Command<'a>, AllocError>
+    ensures { (app : App) → IsApp app program.entry → IfOk result (IsApp (with_makers app)) }
+{
+    program
+        .subcommand(loader(alloc)?)?
+        .subcommand(machine(alloc)?)
 }
 
 /// A command with its name, what it does, and the rest of its help.
@@ -61,6 +94,28 @@ fn named<'a>(alloc: Global, name: &'a str, about: &'a str, details: &'a str) -> 
     ensures { IsApp (new_app name.entry.now) result }
 {
     Command::new(alloc, name).about(about).after_help(details)
+}
+
+fn offset_argument<'a>(alloc: Global) -> Arg<'a>
+    ensures rule { rule_of result ≡ offset_rule }
+    ensures own { result.global ≡ false }
+{
+    Arg::new(alloc, "offset")
+        .long("offset")
+        .value_name("N")
+        .value_parser(value_parser!(u32))
+        .default_value("0")
+        .help("The block of the area's header")
+}
+
+fn swap_argument<'a>(alloc: Global) -> Arg<'a>
+    ensures rule { rule_of result ≡ swap_rule }
+    ensures own { result.global ≡ false }
+{
+    Arg::new(alloc, "swap")
+        .value_name("SWAP")
+        .required(true)
+        .help("A swap file or a block device")
 }
 
 /// Such a command, with a swap area.
@@ -72,17 +127,9 @@ fn over_area<'a>(
 ) -> Result<Command<'a>, AllocError>
     ensures { IfOk result (IsApp (area_app name.entry.now)) }
 {
-    let offset = Arg::new(alloc, "offset")
-        .long("offset")
-        .value_name("N")
-        .value_parser(value_parser!(u32))
-        .default_value("0")
-        .help("The block of the area's header");
-    let swap = Arg::new(alloc, "swap")
-        .value_name("SWAP")
-        .required(true)
-        .help("A swap file or a block device");
-    named(alloc, name, about, details).arg(offset)?.arg(swap)
+    named(alloc, name, about, details)
+        .arg(offset_argument(alloc))?
+        .arg(swap_argument(alloc))
 }
 
 /// Such a command, which prints in lines or as JSON.
@@ -169,6 +216,32 @@ fn machine<'a>(alloc: Global) -> Result<Command<'a>, AllocError>
     .arg(tables)
 }
 
+fn zone_argument<'a>(alloc: Global) -> Arg<'a>
+    ensures rule { rule_of result ≡ zone_rule }
+    ensures own { result.global ≡ false }
+{
+    Arg::new(alloc, "zone")
+        .long("zone")
+        .action(ArgAction::Append)
+        .num_args(2)
+        .value_names(&["START", "COUNT"])
+        .value_parser(value_parser!(u32))
+        .help("A zone of page frames, one of up to 16")
+}
+
+fn extent_argument<'a>(alloc: Global) -> Arg<'a>
+    ensures rule { rule_of result ≡ extent_rule }
+    ensures own { result.global ≡ false }
+{
+    Arg::new(alloc, "extent")
+        .long("extent")
+        .action(ArgAction::Append)
+        .num_args(3)
+        .value_names(&["START", "LENGTH", "BLOCK"])
+        .value_parser(value_parser!(u32))
+        .help("An extent of the area, one of up to 64")
+}
+
 /// A command whose options say where page frames and slots lie, and may be repeated.
 fn over_layout<'a>(
     alloc: Global,
@@ -178,21 +251,7 @@ fn over_layout<'a>(
 ) -> Result<Command<'a>, AllocError>
     ensures { IfOk result (IsApp (dump_app name.entry.now)) }
 {
-    let zone = Arg::new(alloc, "zone")
-        .long("zone")
-        .action(ArgAction::Append)
-        .num_args(2)
-        .value_names(&["START", "COUNT"])
-        .value_parser(value_parser!(u32))
-        .help("A zone of page frames, one of up to 16");
-    let extent = Arg::new(alloc, "extent")
-        .long("extent")
-        .action(ArgAction::Append)
-        .num_args(3)
-        .value_names(&["START", "LENGTH", "BLOCK"])
-        .value_parser(value_parser!(u32))
-        .help("An extent of the area, one of up to 64");
     over_area(alloc, name, about, details)?
-        .arg(zone)?
-        .arg(extent)
+        .arg(zone_argument(alloc))?
+        .arg(extent_argument(alloc))
 }
