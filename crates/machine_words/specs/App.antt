@@ -53,16 +53,18 @@ abbrev pub program_app : App
 program_app =
     on_top (λ top. record top { has_version = true; subcommand_required = true }) (new_app (codes "swsusp_machine"))
 
-abbrev pub with_dumps : App
-with_dumps =
-    with_subcommand
-    (with_subcommand
-    (with_subcommand (with_subcommand (with_subcommand program_app make_app.top) draw_app.top) loader_app.top)
-    core_app.top)
-    from_core_app.top
+-- with the commands that play a script
+abbrev pub with_players : App → App
+with_players app = with_subcommand (with_subcommand app make_app.top) draw_app.top
+
+-- with those that write a memory in another form
+abbrev pub with_writers : App → App
+with_writers app =
+    with_subcommand (with_subcommand (with_subcommand app loader_app.top) core_app.top) from_core_app.top
+
+-- with those that tell of memories
+abbrev pub with_tellers : App → App
+with_tellers app = with_subcommand (with_subcommand (with_subcommand app show_app.top) differ_app.top) check_app.top
 
 abbrev pub machine_app : App
-machine_app =
-    with_subcommand
-    (with_subcommand (with_subcommand with_dumps show_app.top) differ_app.top)
-    check_app.top
+machine_app = with_tellers (with_writers (with_players program_app))

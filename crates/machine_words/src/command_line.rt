@@ -1,8 +1,8 @@
 ghost use Rattle.std.specs.Prelude.{IfOk};
-ghost use Rattle.clap.specs.Words.{new_app};
+ghost use Rattle.clap.specs.Words.{App, new_app};
 ghost use Rattle.swsusp_words.specs.App.{IsApp};
 ghost use Rattle.machine_words.specs.App.{check_app, core_app, differ_app, draw_app, from_core_app, loader_app};
-ghost use Rattle.machine_words.specs.App.{machine_app, make_app, show_app};
+ghost use Rattle.machine_words.specs.App.{machine_app, make_app, show_app, with_players, with_tellers, with_writers};
 
 use crate::details;
 use clap::{Arg, ArgAction, Command, value_parser};
@@ -12,22 +12,46 @@ use std::alloc::{AllocError, Global};
 pub(crate) fn command_line<'a>(alloc: Global) -> Result<Command<'a>, AllocError>
     ensures { IfOk result (IsApp machine_app) }
 {
-    named(
+    let program = named(
         alloc,
         "swsusp_machine",
         "Makes machines to try swsusp on, in memory dumps, and compares them",
         details::PROGRAM,
     )
     .version("0.2.0")
-    .subcommand_required(true)
-    .subcommand(making(alloc))?
-    .subcommand(drawing(alloc))?
-    .subcommand(loading(alloc))?
-    .subcommand(coring(alloc))?
-    .subcommand(reading(alloc)?)?
-    .subcommand(showing(alloc))?
-    .subcommand(comparison(alloc)?)?
-    .subcommand(trial(alloc)?)
+    .subcommand_required(true);
+    let playing = with_players(alloc, program)?;
+    let writing = with_writers(alloc, playing)?;
+    with_tellers(alloc, writing)
+}
+
+/// The program with the commands that play a script.
+fn with_players<'a>(alloc: Global, program: Command<'a>) -> Result<Command<'a>, AllocError>
+    ensures { (app : App) → IsApp app program.entry → IfOk result (IsApp (with_players app)) }
+{
+    program
+        .subcommand(making(alloc))?
+        .subcommand(drawing(alloc))
+}
+
+/// The program with those that write a memory in another form.
+fn with_writers<'a>(alloc: Global, program: Command<'a>) -> Result<Command<'a>, AllocError>
+    ensures { (app : App) → IsApp app program.entry → IfOk result (IsApp (with_writers app)) }
+{
+    program
+        .subcommand(loading(alloc))?
+        .subcommand(coring(alloc))?
+        .subcommand(reading(alloc)?)
+}
+
+/// The program with those that tell of memories.
+fn with_tellers<'a>(alloc: Global, program: Command<'a>) -> Result<Command<'a>, AllocError>
+    ensures { (app : App) → IsApp app program.entry → IfOk result (IsApp (with_tellers app)) }
+{
+    program
+        .subcommand(showing(alloc))?
+        .subcommand(comparison(alloc)?)?
+        .subcommand(trial(alloc)?)
 }
 
 /// A command with its name, what it does, and the rest of its help.
