@@ -65,16 +65,21 @@ import_app = with_rule (new_app (codes "import")) swap_rule
 abbrev pub program_app : App
 program_app = on_top (λ top. record top { has_version = true; subcommand_required = true }) (new_app (codes "swsusp"))
 
+-- with the commands over a swap area
+abbrev pub with_areas : App → App
+with_areas app =
+    with_subcommand (with_subcommand (with_subcommand app inspect_app.top) hibernate_app.top) resume_app.top
+
+-- with those that play a run
+abbrev pub with_players : App → App
+with_players app = with_subcommand (with_subcommand app replay_app.top) drill_app.top
+
+-- with those over a stream
+abbrev pub with_streams : App → App
+with_streams app = with_subcommand (with_subcommand app export_app.top) import_app.top
+
 abbrev pub swsusp_app : App
-swsusp_app =
-    with_subcommand
-    (with_subcommand
-    (with_subcommand
-    (with_subcommand
-    (with_subcommand
-    (with_subcommand (with_subcommand program_app inspect_app.top) hibernate_app.top) resume_app.top) replay_app.top)
-    drill_app.top) export_app.top)
-    import_app.top
+swsusp_app = with_streams (with_players (with_areas program_app))
 
 -- clap reads of the command what the definition says
 abbrev pub IsApp : App → Command → Type 0

@@ -1,7 +1,7 @@
 ghost use Rattle.std.specs.Prelude.{◌≡◌, false, IfOk};
-ghost use Rattle.clap.specs.Words.{new_app, rule_of};
+ghost use Rattle.clap.specs.Words.{App, new_app, rule_of};
 ghost use Rattle.swsusp_words.specs.App.{IsApp, drill_app, export_app, hibernate_app, import_app, inspect_app};
-ghost use Rattle.swsusp_words.specs.App.{replay_app, resume_app, swap_rule, swsusp_app};
+ghost use Rattle.swsusp_words.specs.App.{replay_app, resume_app, swap_rule, swsusp_app, with_areas, with_players, with_streams};
 
 use crate::details;
 use clap::{Arg, ArgAction, Command, value_parser};
@@ -11,21 +11,45 @@ use std::alloc::{AllocError, Global};
 pub(crate) fn command_line<'a>(alloc: Global) -> Result<Command<'a>, AllocError>
     ensures { IfOk result (IsApp swsusp_app) }
 {
-    named(
+    let program = named(
         alloc,
         "swsusp",
         "Writes, checks and resumes hibernation images in swap areas",
         details::PROGRAM,
     )
     .version("0.2.0")
-    .subcommand_required(true)
-    .subcommand(inspection(alloc)?)?
-    .subcommand(hibernation(alloc)?)?
-    .subcommand(resumption(alloc)?)?
-    .subcommand(replaying(alloc))?
-    .subcommand(drill(alloc)?)?
-    .subcommand(export(alloc))?
-    .subcommand(importation(alloc)?)
+    .subcommand_required(true);
+    let areas = with_areas(alloc, program)?;
+    let playing = with_players(alloc, areas)?;
+    with_streams(alloc, playing)
+}
+
+/// The program with the commands over a swap area.
+fn with_areas<'a>(alloc: Global, program: Command<'a>) -> Result<Command<'a>, AllocError>
+    ensures { (app : App) → IsApp app program.entry → IfOk result (IsApp (with_areas app)) }
+{
+    program
+        .subcommand(inspection(alloc)?)?
+        .subcommand(hibernation(alloc)?)?
+        .subcommand(resumption(alloc)?)
+}
+
+/// The program with those that play a run.
+fn with_players<'a>(alloc: Global, program: Command<'a>) -> Result<Command<'a>, AllocError>
+    ensures { (app : App) → IsApp app program.entry → IfOk result (IsApp (with_players app)) }
+{
+    program
+        .subcommand(replaying(alloc))?
+        .subcommand(drill(alloc)?)
+}
+
+/// The program with those over a stream.
+fn with_streams<'a>(alloc: Global, program: Command<'a>) -> Result<Command<'a>, AllocError>
+    ensures { (app : App) → IsApp app program.entry → IfOk result (IsApp (with_streams app)) }
+{
+    program
+        .subcommand(export(alloc))?
+        .subcommand(importation(alloc)?)
 }
 
 /// A command with its name, what it does, and the rest of its help.
