@@ -85,7 +85,8 @@ program_app =
 
 -- with the commands that tell what an area holds
 abbrev pub with_tellers : App → App
-with_tellers app = with_subcommand (with_subcommand app (formed_app (codes "check")).top) (formed_app (codes "show")).top
+with_tellers app =
+    with_subcommand (with_subcommand app (formed_app (codes "check")).top) (formed_app (codes "show")).top
 
 -- with those that write what an image holds
 abbrev pub with_writers : App → App
