@@ -174,22 +174,22 @@ fn a_header_that_is_read_is_brought_to_the_disk(rt: HostRuntime) -> Result<(), F
     let image = signed(b"S1SUSPEND\0");
     let other = signed(b"SWAPSPACE3");
     let both = Access::ReadAndWrite;
-    assert_eq!(rt; reads_of(&rt, path, &area, both, true)?, (true, true, 1, 1));
-    assert_eq!(rt;
+    let told = [
+        reads_of(&rt, path, &area, both, true)?,
         reads_of(&rt, path, &image, both, true)?,
-        (true, true, 1, 1)
-    );
-    assert_eq!(rt;
         reads_of(&rt, path, &other, both, true)?,
-        (true, true, 0, 0)
-    );
-    assert_eq!(rt;
         reads_of(&rt, path, &area, both, false)?,
-        (false, false, 2, 2)
-    );
-    assert_eq!(rt;
         reads_of(&rt, path, &area, Access::Read, true)?,
-        (true, true, 0, 0)
+    ];
+    assert_eq!(rt;
+        told,
+        [
+            (true, true, 1, 1),
+            (true, true, 1, 1),
+            (true, true, 0, 0),
+            (false, false, 2, 2),
+            (true, true, 0, 0)
+        ]
     );
     let mut block = [0; 4096];
     File::open(&rt, path)?.read_exact_at(&mut block, 0)?;
@@ -322,39 +322,30 @@ fn numbers_of_devices(rt: HostRuntime) -> Result<(), Fail> {
 #[test]
 fn lines_of_proc(rt: HostRuntime) -> Result<(), Fail> {
     let root = "36 35 98:0 /mnt1 /mnt2 rw,noatime master:1 - ext3 /dev/root rw,errors=continue";
-    assert_eq!(rt;
-        mounted(root),
-        Some((
-            Device {
-                major: 98,
-                minor: 0
-            },
-            "/dev/root"
-        ))
-    );
     let plain = "22 27 0:21 / /proc rw,relatime - proc proc rw";
+    let cut_off = "22 27 0:21 / /proc rw,relatime";
+    let disk = Device {
+        major: 98,
+        minor: 0,
+    };
+    let no_disk = Device {
+        major: 0,
+        minor: 21,
+    };
     assert_eq!(rt;
-        mounted(plain),
-        Some((
-            Device {
-                major: 0,
-                minor: 21
-            },
-            "proc"
-        ))
+        [mounted(root), mounted(plain), mounted(cut_off)],
+        [Some((disk, "/dev/root")), Some((no_disk, "proc")), None]
     );
-    assert_eq!(rt; mounted("22 27 0:21 / /proc rw,relatime"), None);
+    let head = "Filename\t\t\t\tType\t\tSize\t\tUsed\t\tPriority";
+    let partition = "/dev/dm-0   partition\t67108860\t0\t-2";
+    let file = "/my\\040file   file\t67108860\t0\t-2";
     assert_eq!(rt;
-        swap_area("Filename\t\t\t\tType\t\tSize\t\tUsed\t\tPriority"),
-        None
-    );
-    assert_eq!(rt;
-        swap_area("/dev/dm-0   partition\t67108860\t0\t-2"),
-        Some(SwapArea::Device("/dev/dm-0"))
-    );
-    assert_eq!(rt;
-        swap_area("/my\\040file   file\t67108860\t0\t-2"),
-        Some(SwapArea::File("/my\\040file"))
+        [swap_area(head), swap_area(partition), swap_area(file)],
+        [
+            None,
+            Some(SwapArea::Device("/dev/dm-0")),
+            Some(SwapArea::File("/my\\040file"))
+        ]
     );
     Ok(())
 }
