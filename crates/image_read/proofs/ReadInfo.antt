@@ -22,7 +22,7 @@ use Rattle.image_read.specs.Reading.{Reading}
 use Rattle.image_read.specs.Faults.{info_fault, identity_fault, size_fault, counts_fault, field_fault}
 use Rattle.image_read.specs.Taking.{with_info}
 use Rattle.image_read.specs.Answers.{Compares}
-use Rattle.image_read.specs.Stream.{HasReadPlaces, place_block, pages_read, numbers_read, frames_in, marked_in, last_number, told, frame_after, step_cause}
+use Rattle.image_read.specs.Stream.{HasReadPlaces, place_block, pages_read, numbers_read, frames_in, marked_in, last_number, told, frame_after}
 use Rattle.image_read.specs.declared.cause.Cause.TheVariants.{MemorySize, BadCounts}
 use Rattle.image_read.proofs.Over.{as_reply, as_reply-or_else, as_reply-cond}
 use Rattle.image_read.proofs.Counts.{info_sound, good_counts}

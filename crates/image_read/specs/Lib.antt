@@ -6,3 +6,4 @@ pub mod Faults
 pub mod Taking
 pub mod Stream
 pub mod Answers
+pub mod Stays

@@ -7,4 +7,4 @@ mod cause;
 mod reader;
 
 pub use cause::Cause;
-pub use reader::{ReadStep, Reader};
+pub use reader::{Expected, ReadStep, Reader};

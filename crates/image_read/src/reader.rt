@@ -2,12 +2,13 @@ ghost use Rattle.std.specs.Prelude.{◌≡◌, ℕ, ◌+◌, ◌-◌, ◌<◌, �
 ghost use Rattle.std.specs.Prelude.{IfErr, IfSome, OnOk, OnErr, MatchResult, IsTrue, List, Option};
 ghost use Rattle.std.specs.Option.{option_copied};
 ghost use Rattle.definitions.specs.Zones.{numbers, first_from};
-ghost use Rattle.definitions.specs.Disk.{DiskImage, block, Changes, Elapses, raised, HasRisen};
+ghost use Rattle.definitions.specs.Disk.{DiskImage, block, raised};
 ghost use Rattle.definitions.specs.InfoPage.{info_of};
 ghost use Rattle.plain_machine.specs.Machine.{Hardware};
 ghost use Rattle.plain_machine.specs.declared.event.IdentCheck.{IdentCheck};
 ghost use Rattle.plain_machine.specs.Trace.{first_map, info_in, place, place_count};
 ghost use Rattle.plain_machine.specs.Chain.{map_fault};
+ghost use Rattle.sector_disk.specs.Called.{Called, AtMostOneCall};
 
 use crate::area::Area;
 use crate::cause::Cause;
@@ -21,7 +22,7 @@ use swap_map::{ChainFault, MapReader};
 use swap_slots::FileMap;
 use zones::Zones;
 
-/// So many blocks of the chain are a map and the pages that its entries name.
+/// How many blocks of the chain are a map and the pages that its entries name.
 const MAP_PLACES: u32 = 512;
 
 /// How many entries a map has.
@@ -30,10 +31,17 @@ const MAP_ENTRIES: u32 = 511;
 /// How many numbers fill a number page.
 const PAGE_NUMBERS: u32 = 512;
 
+/// What an image must be of: this machine, by its zones, and by its identity where that is compared.
+#[derive(Clone, Copy)]
+pub struct Expected<'a> {
+    pub zones: &'a Zones,
+    pub ident: Option<&'a Ident>,
+}
+
 /// What a step of a reader answers.
 #[derive(Clone, Copy)]
 pub enum ReadStep {
-    /// A map, the info page or a number page was read. So many steps were made.
+    /// A map, the info page or a number page was read. `k` steps were made.
     More { k: u32 },
     /// The saved page of this page frame was read.
     Page { pfn: u32 },
@@ -88,6 +96,7 @@ impl Reader {
     ghost use Rattle.image_read.specs.Taking.{numbers_fault};
     ghost use Rattle.image_read.specs.Stream.{IsAreaOf, HasReadPlaces, place_block};
     ghost use Rattle.image_read.specs.Answers.{Compares, Reads, Gives, Answers, GoesOn};
+    ghost use Rattle.image_read.specs.Stays.{StaysOver, IsUntouched};
     ghost use Rattle.image_read.specs.declared.cause.Cause.{Cause};
 
     /// Begins with the fields of the header block: `first` is the block of the first map, `last` the last slot. The
@@ -152,50 +161,36 @@ impl Reader {
     }
 
     /// Reads the next block. A number page's page frames go into `origs`, and those without a data page into `zeros`
-    /// too. A data page is in `page` then. With `ident` the image's identity is compared. Where the wanted next block
-    /// is refused and `listed` tells a count, the sets hold all the page frames of the image, so room for its pages can
-    /// be planned.
+    /// too. A data page is in `page` then. Where the wanted next block is refused and `listed` tells a count, the sets
+    /// hold all the page frames of the image, so room for its pages can be planned.
     pub fn step<D: Disk>(
         &mut self,
         disk: &mut D,
-        zones: &Zones,
-        ident: Option<&Ident>,
+        expected: &Expected,
         origs: &mut Bitmap,
         zeros: &mut Bitmap,
         page: &mut Page,
     ) -> ReadStep
         requires ready { IsReady self.old origs.old.members zeros.old.members }
         requires blocks { self.old.blocks ≤ D.block_count disk.old }
-        requires zones { origs.old.zones ≡ zones.now }
-        requires same_zones { zeros.old.zones ≡ zones.now }
+        requires zones { origs.old.zones ≡ expected.now.zones.now }
+        requires same_zones { zeros.old.zones ≡ expected.now.zones.now }
 
         // The answer, over a disk that tells its content.
         ensures answers { (h : Hardware) (v : DiskImage) (check : IdentCheck) (t : ℕ) →
             HasReadPlaces h v check self.old t origs.old.members zeros.old.members → Reads h v (D.content disk.old) →
-            zones.now ≡ h.zones → Compares h check (option_copied ident.entry) →
+            expected.now.zones.now ≡ h.zones → Compares h check (option_copied expected.now.ident) →
             Answers h v check t result self.old self.new origs.new.members zeros.new.members page.new }
 
         // Over every disk.
         ensures done { (result ≡ ReadStep.Done) ↔ HasReadAll self.old }
-        ensures same { HasReadAll self.old → self.new ≡ self.old }
-        ensures same_page { HasReadAll self.old → page.new ≡ page.old }
-        ensures same_origs { HasReadAll self.old → origs.new ≡ origs.old }
-        ensures same_zeros { HasReadAll self.old → zeros.new ≡ zeros.old }
-        ensures fault { result ≡ ReadStep.Fault → HasRisen (D.faults disk.old) (D.faults disk.new) }
+        ensures untouched { HasReadAll self.old → IsUntouched self.old self.new origs.old origs.new zeros.old zeros.new
+            page.old page.new disk.old disk.new }
         ensures goes_on { GoesOn result self.new origs.new.members zeros.new.members }
-        ensures same_blocks { self.new.blocks ≡ self.old.blocks }
-        ensures zones { origs.new.zones ≡ origs.old.zones }
-        ensures same_zones { zeros.new.zones ≡ zeros.old.zones }
-
-        ensures unread { HasReadAll self.old → disk.new ≡ disk.old }
+        ensures stays { StaysOver self.old self.new origs.old origs.new zeros.old zeros.new }
         ensures read { (HasReadAll self.old → ⊥) → D.calls disk.new ≡ raised (D.calls disk.old) }
+        ensures called { Called D.Disk AtMostOneCall (result ≡ ReadStep.Fault) disk.old disk.new }
         ensures content { D.content disk.new ≡ D.content disk.old }
-        ensures faults { D.faults disk.old ≤ D.faults disk.new }
-        ensures orders { D.orders disk.new ≡ D.orders disk.old }
-        ensures blocks { D.block_count disk.new ≡ D.block_count disk.old }
-        ensures telling { D.tells_moments disk.new ≡ D.tells_moments disk.old }
-        ensures time { IsTrue (D.tells_moments disk.old) → Changes (Elapses (D.moment disk.old) (D.moment disk.new)
-            (D.left_since disk.old) (D.left_since disk.new)) (D.content disk.old) (D.content disk.new) }
     {
         if self.over() {
             return ReadStep::Done;
@@ -203,7 +198,7 @@ impl Reader {
         if disk.read(self.block, page).is_err() {
             return ReadStep::Fault;
         }
-        match self.take(page, zones, ident, origs, zeros) {
+        match self.take(page, expected, origs, zeros) {
             Ok(Some(pfn)) => ReadStep::Page { pfn },
             Ok(None) => ReadStep::More { k: self.steps },
             Err(cause) => ReadStep::Refused(cause),
@@ -221,26 +216,23 @@ impl Reader {
     fn take(
         &mut self,
         page: &Page,
-        zones: &Zones,
-        ident: Option<&Ident>,
+        expected: &Expected,
         origs: &mut Bitmap,
         zeros: &mut Bitmap,
     ) -> Result<Option<u32>, Cause>
         requires ready { IsReady self.old origs.old.members zeros.old.members }
         requires more { self.old.steps < place_count self.old.pages }
-        requires zones { origs.old.zones ≡ zones.now }
-        requires same_zones { zeros.old.zones ≡ zones.now }
+        requires zones { origs.old.zones ≡ expected.now.zones.now }
+        requires same_zones { zeros.old.zones ≡ expected.now.zones.now }
         ensures gives { (h : Hardware) (v : DiskImage) (check : IdentCheck) (t : ℕ) →
             HasReadPlaces h v check self.old t origs.old.members zeros.old.members →
             page.now ≡ block v (place_block h v (place t)) →
-            zones.now ≡ h.zones → Compares h check (option_copied ident.entry) →
+            expected.now.zones.now ≡ h.zones → Compares h check (option_copied expected.now.ident) →
             Gives h v check t result self.new origs.new.members zeros.new.members }
         ensures ready { IfOk result (λ frame. IsReady self.new origs.new.members zeros.new.members) }
-        ensures blocks { self.new.blocks ≡ self.old.blocks }
-        ensures zones { origs.new.zones ≡ origs.old.zones }
-        ensures same_zones { zeros.new.zones ≡ zeros.old.zones }
+        ensures stays { StaysOver self.old self.new origs.old origs.new zeros.old zeros.new }
     {
-        let pfn = self.accept(page, zones, ident, origs, zeros)?;
+        let pfn = self.accept(page, expected, origs, zeros)?;
         self.advance()?;
         Ok(pfn)
     }
@@ -249,54 +241,46 @@ impl Reader {
     fn accept(
         &mut self,
         page: &Page,
-        zones: &Zones,
-        ident: Option<&Ident>,
+        expected: &Expected,
         origs: &mut Bitmap,
         zeros: &mut Bitmap,
     ) -> Result<Option<u32>, Cause>
         requires ready { IsReady self.old origs.old.members zeros.old.members }
         requires more { self.old.steps < place_count self.old.pages }
-        requires zones { origs.old.zones ≡ zones.now }
-        requires same_zones { zeros.old.zones ≡ zones.now }
-        ensures takes { Takes (option_copied ident.entry) zones.now page.now self.old origs.old.members
-            zeros.old.members result self.new origs.new.members zeros.new.members }
+        requires zones { origs.old.zones ≡ expected.now.zones.now }
+        requires same_zones { zeros.old.zones ≡ expected.now.zones.now }
+        ensures takes { Takes (option_copied expected.now.ident) expected.now.zones.now page.now self.old
+            origs.old.members zeros.old.members result self.new origs.new.members zeros.new.members }
         ensures saved { IfOk result (λ frame. self.new.saved ≤ 65536) }
-        ensures blocks { self.new.blocks ≡ self.old.blocks }
-        ensures zones { origs.new.zones ≡ origs.old.zones }
-        ensures same_zones { zeros.new.zones ≡ zeros.old.zones }
+        ensures stays { StaysOver self.old self.new origs.old origs.new zeros.old zeros.new }
     {
         if self.steps % MAP_PLACES == 0 {
             self.map = MapReader::of(page, self.steps / MAP_PLACES + 1);
             return Ok(None);
         }
         if self.steps == 1 {
-            self.accept_info(page, zones, ident)?;
+            self.accept_info(page, expected)?;
             return Ok(None);
         }
         if self.listed.is_none() {
-            self.accept_numbers(page, zones, origs, zeros)?;
+            self.accept_numbers(page, expected.zones, origs, zeros)?;
             return Ok(None);
         }
         Ok(self.next_frame(origs, zeros))
     }
 
     /// Takes the info page.
-    fn accept_info(
-        &mut self,
-        page: &Page,
-        zones: &Zones,
-        ident: Option<&Ident>,
-    ) -> Result<(), Cause>
-        ensures ok { IsOk result ↔ (info_fault (option_copied ident.entry) (length (numbers zones.now)) self.old.format
-            (info_of page.now) ≡ None) }
-        ensures fault { IfErr result (λ cause. info_fault (option_copied ident.entry) (length (numbers zones.now))
-            self.old.format (info_of page.now) ≡ Some cause) }
+    fn accept_info(&mut self, page: &Page, expected: &Expected) -> Result<(), Cause>
+        ensures ok { IsOk result ↔ (info_fault (option_copied expected.now.ident)
+            (length (numbers expected.now.zones.now)) self.old.format (info_of page.now) ≡ None) }
+        ensures fault { IfErr result (λ cause. info_fault (option_copied expected.now.ident)
+            (length (numbers expected.now.zones.now)) self.old.format (info_of page.now) ≡ Some cause) }
         ensures info { OnOk result (self.new ≡ with_info self.old (info_of page.now)) }
         ensures saved { OnOk result (self.new.saved ≤ 65536) }
         ensures same { OnErr result (self.new ≡ self.old) }
     {
         let info = decode(page);
-        test_info(&info, zones, ident, self.format)?;
+        test_info(&info, expected, self.format)?;
         self.pages = info.pages as u32;
         self.saved = info.image_pages as u32;
         self.numbers = Unpack::begin(self.saved, self.format);
@@ -324,9 +308,7 @@ impl Reader {
         ensures zeros { OnOk result (zeros.new.members ≡ zeros.old.members
             ++ marked_in self.old.numbers page.now (wanted self.old.numbers)) }
         ensures listed { OnErr result (self.new.listed ≡ self.old.listed) }
-        ensures blocks { self.new.blocks ≡ self.old.blocks }
-        ensures zones { origs.new.zones ≡ origs.old.zones }
-        ensures same_zones { zeros.new.zones ≡ zeros.old.zones }
+        ensures stays { StaysOver self.old self.new origs.old origs.new zeros.old zeros.new }
     {
         self.numbers.feed(page, zones, origs, zeros)?;
         if origs.len() == self.saved {
@@ -424,19 +406,19 @@ fn next_with_data(origs: &Bitmap, zeros: &Bitmap, from: u32) -> Option<u32>
     None
 }
 
-/// Whether an image is of this machine, with so many page frames, and its counts fit.
+/// Whether an image is of the machine that is expected, and its counts fit.
 #[tactic(auto, unfolding(crate::specs::Faults::info_fault))]
-fn test_info(info: &Info, zones: &Zones, ident: Option<&Ident>, format: Format) -> Result<(), Cause>
-    ensures ok { IsOk result ↔ (info_fault (option_copied ident.entry) (length (numbers zones.now)) format info.now ≡
-        None) }
-    ensures fault { IfErr result (λ cause. info_fault (option_copied ident.entry) (length (numbers zones.now)) format
-        info.now ≡ Some cause) }
+fn test_info(info: &Info, expected: &Expected, format: Format) -> Result<(), Cause>
+    ensures ok { IsOk result ↔ (info_fault (option_copied expected.now.ident) (length (numbers expected.now.zones.now))
+        format info.now ≡ None) }
+    ensures fault { IfErr result (λ cause. info_fault (option_copied expected.now.ident)
+        (length (numbers expected.now.zones.now)) format info.now ≡ Some cause) }
     ensures fits { OnOk result (FitsIn 65536 info.now) }
 {
-    if let Some(ident) = ident {
+    if let Some(ident) = expected.ident {
         test_ident(info, ident)?;
     }
-    let own = zones.count();
+    let own = expected.zones.count();
     if info.physpages != u64::from(own) {
         return Err(Cause::MemorySize {
             image: info.physpages,

@@ -2,8 +2,8 @@
 use Rattle.std.proofs.Common.{◌≡◌, ◌<◌, ◌≤◌, ◌⊎◌, inl, inr, ℕ, ◌+◌, ◌-◌, ◌*◌, ◌^◌, List, [], take, Some, None, refl, sym, ap, ◌∙◌, subst, arith}
 use Rattle.std.specs.List.{zip}
 use Rattle.definitions.specs.Disk as disk
-use Rattle.image_read.specs.Answers.{Reads, Answers}
-use Rattle.image_read.specs.Reading.{Reading}
+use Rattle.image_read.specs.Answers.{Reads, Answers, GoesOn}
+use Rattle.image_read.specs.Reading.{Reading, HasReadAll, IsReady}
 use Rattle.image_read.specs.Stream as stream
 use Rattle.image_read.specs.Stream.{pages_read, told, known_pages, step_cause}
 use Rattle.image_read.specs.declared.reader.ReadStep.{ReadStep}
@@ -36,7 +36,6 @@ use Rattle.resume_core.specs.declared.load.Stage.TheVariants as stage
 use Rattle.std.proofs.lemmas.Bool.{cases_lt}
 use Rattle.image_read.proofs.Places.{two_places, some_read, none_read}
 use Rattle.image_read.proofs.Read.{known, saved_is}
-use Rattle.image_read.specs.Reading.{HasReadAll}
 use Rattle.page_restore.specs.Waiting.{Awaiting}
 use Rattle.plain_machine.specs.Machine.{IsHardware}
 use Rattle.plain_machine.specs.declared.event.IdentCheck.{IdentCheck}
@@ -174,6 +173,16 @@ not_over h v reader load t read within over =
 
 abbrev pub HasNoCause : ReadStep → Type 0
 HasNoCause result = ((k : ℕ) × (result ≡ read_step.More k)) ⊎ (((pfn : ℕ) × (result ≡ read_step.Page pfn)) ⊎ (result ≡ read_step.Done))
+
+-- the reader can go on then
+pub may_go_on : (result : ReadStep) (r : Reading) (origs zeros : List ℕ) → HasNoCause result → GoesOn result r origs zeros → IsReady r origs zeros
+may_go_on result r origs zeros none goes = elim none [
+  | inl more ↦ subst (λ (s : ReadStep). GoesOn s r origs zeros) more.1 goes
+  | inr other ↦ elim other [
+    | inl page ↦ subst (λ (s : ReadStep). GoesOn s r origs zeros) page.1 goes
+    | inr done ↦ subst (λ (s : ReadStep). GoesOn s r origs zeros) done goes
+  ]
+]
 
 -- what the reader answered for place t of the disk v, from one reading to the other
 abbrev pub AnswersFor : Hardware → disk.DiskImage → ℕ → ReadStep → OpenChain → OpenChain → Load → Load → Type 0

@@ -24,7 +24,8 @@ use Rattle.plain_machine.specs.declared.event.Actor.TheVariants as actor
 use Rattle.plain_machine.specs.declared.event.IdentCheck.{IdentCheck}
 use Rattle.protocol_laws.specs.Rows as rows
 use Rattle.swap_slots.specs.Runs.{SlotRuns}
-use Rattle.resume_core.specs.Ready.{CanStep, CanMake, CanRead}
+use Rattle.resume_core.specs.Placing.{ReadsPages, HasReadInPlace}
+use Rattle.resume_core.specs.Ready.{CanStep, CanMake, CanRead, reads_at}
 use Rattle.resume_core.specs.Row.{StandsAfter, Simulates}
 use Rattle.resume_core.specs.declared.load.Stage.{Stage}
 use Rattle.image_read.proofs.Places.{pages_left, at_map, at_page, read_at_map, read_at_page, two_places}
@@ -54,7 +55,7 @@ use Rattle.resume_core.specs.declared.load.Stage.TheVariants as stage
 use Rattle.resume_core.proofs.Facts.{stopped_early, leads, same_loader, loader_of, told_by, row_at_load}
 use Rattle.resume_core.proofs.Finding.{activity_is, knows_at}
 use Rattle.resume_core.proofs.Answering.{late_reply, no_want_before, goes_reply, room_reply, stops_reply, no_want_after, no_read_cause, all_read, more_to_read}
-use Rattle.resume_core.proofs.Listing.{AnswersFor, HasNoCause, read_on, not_over, found_in}
+use Rattle.resume_core.proofs.Listing.{AnswersFor, HasNoCause, may_go_on, read_on, not_over, found_in}
 use Rattle.resume_core.proofs.OwnImage.{pages_are, other_pages, count_is}
 use Rattle.protocol_laws.proofs.LoadRows.{read_row, read_stop_row, cause_ends}
 use Rattle.protocol_laws.proofs.LoadReplies.{gone_next}
@@ -254,6 +255,49 @@ reads_row_of machine frames load chain machine' frames' load' end r told same re
 pub read_can : (machine : Machine) (frames : Memory) (runs : SlotRuns) (load : Load) (chain : OpenChain) → load.stage ≡ stage.Read chain → CanStep machine frames runs load →
     CanRead machine.blocks chain.reader load.origs.members load.zeros.members × (4 ≤ chain.done) × (load.waiting.placement.ready ≡ true)
 read_can machine frames runs load chain at can = subst (λ (s : Stage). CanMake s machine frames runs load) at can.next
+
+-- a stage that reads has a chain whose pages have their places
+pub reads_pages : (machine : Machine) (frames : Memory) (runs : SlotRuns) (load : Load) → CanStep machine frames runs load → reads_at load.stage → ReadsPages load.stage machine load
+reads_pages machine frames runs load can at = by load.stage can.next at where
+  by : (s : Stage) → CanMake s machine frames runs load → reads_at s → ReadsPages s machine load
+  by (stage.Read chain) next at = (next.0, next.2)
+  by stage.Rest next at = absurd at
+  by stage.Runs next at = absurd at
+  by stage.Sync next at = absurd at
+  by stage.Find next at = absurd at
+  by (stage.TakeBack found) next at = absurd at
+  by (stage.SyncBack found) next at = absurd at
+  by (stage.List chain) next at = absurd at
+
+-- after a block without a cause the next step can be made, however many pages are counted
+pub can_go_on : (machine : Machine) (frames frames' : Memory) (runs : SlotRuns) (load load' : Load) (waiting : Awaiting) (content : Option disk.Content) (result : ReadStep) → CanStep machine frames runs load → HasReadInPlace machine frames load content result frames' load' → length frames' ≡ length frames →
+    load'.origs.zones ≡ load.origs.zones → load'.zeros.zones ≡ load.zeros.zones → waiting ≡ record load.waiting { loaded = waiting.loaded } → HasNoCause result → CanStep machine frames' runs (record load' { waiting = waiting })
+can_go_on machine frames frames' runs load load' waiting content result can read size origs zeros same none =
+    let over = can.over in
+    let chain' = record read.chain { reader = read.reader } in
+    let was = read_can machine frames runs load read.chain read.was can in
+    let next : CanMake (stage.Read chain') machine frames' runs (record load' { waiting = waiting }) = (
+      record { ready = may_go_on result read.reader load'.origs.members load'.zeros.members none read.goes_on; within = read.within },
+      was.1,
+      ap (λ (w : Awaiting). w.placement.ready) same ∙ was.2,
+    ) in
+    record {
+      over = record {
+        hardware = over.hardware;
+        few = over.few;
+        size = size ∙ over.size;
+        table = (let lies = over.table in omega arith);
+        room = over.room;
+        origs = origs ∙ over.origs;
+        zeros = zeros ∙ over.zeros;
+        waiting = ap (λ (w : Awaiting). w.zones) same ∙ over.waiting;
+      };
+      next = subst (λ (s : Stage). CanMake s machine frames' runs (record load' { waiting = waiting })) (sym read.stays) next;
+    }
+
+-- the resume as it reads on
+pub now_reads : (load load' : Load) (chain : OpenChain) → load' ≡ record load { stage = load'.stage; origs = load'.origs; zeros = load'.zeros; page = load'.page } → load'.stage ≡ stage.Read chain → load' ≡ record load { stage = stage.Read chain; origs = load'.origs; zeros = load'.zeros; page = load'.page }
+now_reads load load' chain is at = is ∙ ap (λ (s : Stage). record load { stage = s; origs = load'.origs; zeros = load'.zeros; page = load'.page }) at
 
 cause_stop : (x : Cause) → IsStop (reply_of x)
 cause_stop cause.NoChain = tt

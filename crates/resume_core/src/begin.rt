@@ -1,4 +1,4 @@
-ghost use Rattle.std.specs.Prelude.{◌≡◌, ◌≤◌, ◌<◌, ◌&&◌, ℕ, not, [], length, take, filter, nat_le, Contains};
+ghost use Rattle.std.specs.Prelude.{◌≡◌, ◌≤◌, ◌<◌, ◌^◌, ◌&&◌, ℕ, not, [], length, take, filter, nat_le, Contains};
 ghost use Rattle.definitions.specs.Bytes.{filled_page};
 ghost use Rattle.definitions.specs.Tables.{frame};
 ghost use Rattle.definitions.specs.Zones.{top};
@@ -46,8 +46,7 @@ impl Load {
         ensures begun { result ≡ reply.Loading 0 }
         ensures no_fault { TellsNewFault result → ⊥ }
     {
-        // Only what is read is known to have the size of its type.
-        let _blocks = machine.blocks;
+        blocks_fit(machine);
         // Until the first number page is read the set of originals has room for the page frames free to the loader.
         make_loader(frames, &mut self.origs, &machine.hw, &loader);
         self.waiting.begin(&self.origs);
@@ -58,6 +57,13 @@ impl Load {
         self.stage = Stage::Sync;
         Reply::Loading { k: 0 }
     }
+}
+
+/// The blocks of the disk have numbers of 32 bits, which is known once their count is read.
+fn blocks_fit(machine: &Machine)
+    ensures { machine.now.blocks < 2 ^ 32 }
+{
+    let _blocks = machine.blocks;
 }
 
 /// Makes the loader, and the set that of the page frames that are free to it.

@@ -1,4 +1,5 @@
-ghost use Rattle.std.specs.Prelude.{◌≡◌, false, length, Some, None, IfOk, MatchResult};
+ghost use Rattle.std.specs.Prelude.{◌≡◌, false, length, All, Some, None, IfOk, MatchResult};
+ghost use Rattle.definitions.specs.Bytes.{IsPage};
 ghost use Rattle.definitions.specs.Disk.{DiskImage};
 ghost use Rattle.definitions.specs.SwapHeader.{taken_back};
 ghost use Rattle.definitions.specs.Zones.{top};
@@ -48,10 +49,9 @@ impl Load {
         ensures machine { IsSameMachine machine.old machine.new }
         ensures no_fault { TellsNewFault result → ⊥ }
     {
-        let saved = self.saved();
+        let saved = self.origs.len();
         self.waiting.finish(frames, &self.zeros);
-        // So each page frame has 4096 bytes.
-        let _ = frames.len();
+        are_whole(frames);
         match &self.stage {
             Stage::Read(chain) => match self.loader {
                 Loader::Table => self.stop(Reply::Resumed { n: saved }),
@@ -71,13 +71,6 @@ impl Load {
             },
             _ => unreachable!(),
         }
-    }
-
-    /// How many page frames the image saves.
-    fn saved(&self) -> u32
-        ensures { result ≡ length self.now.origs.members }
-    {
-        self.origs.len()
     }
 }
 
@@ -103,4 +96,11 @@ fn restored_area(hw: &Hardware, blocks: u32, frames: &Frames, header: &Page) -> 
         }
         Err(_) => Err(hw.slot_table()),
     }
+}
+
+/// Each page frame has 4096 bytes, which is known once they are counted.
+fn are_whole(frames: &Frames)
+    ensures { All IsPage frames.now }
+{
+    let _ = frames.len();
 }

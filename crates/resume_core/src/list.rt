@@ -1,9 +1,6 @@
-ghost use Rattle.std.specs.Prelude.{◌≡◌, ◌≤◌, ◌<◌, ◌+◌, ◌^◌, ℕ, false, true, length, Some, None, IsSome, IfErr, OnOk};
-ghost use Rattle.definitions.specs.Bytes.{IsPage};
-ghost use Rattle.definitions.specs.Disk.{DiskImage};
-ghost use Rattle.image_read.specs.Answers.{Reads, Answers, GoesOn};
-ghost use Rattle.image_read.specs.Stream.{HasReadPlaces};
-ghost use Rattle.image_read.specs.declared.reader.ReadStep.TheVariants as read_step;
+ghost use Rattle.std.specs.Prelude.{◌≡◌, ◌≤◌, ◌<◌, ◌+◌, ◌^◌, false, true, length, Some, None, IsSome, IfErr, OnOk};
+ghost use Rattle.std.specs.Option.{option_copied};
+ghost use Rattle.image_read.specs.Answers.{Compares};
 ghost use Rattle.page_restore.specs.Waiting.{with_data};
 ghost use Rattle.plain_machine.specs.Shows.{rests};
 ghost use Rattle.protocol_laws.specs.Rows.{TellsNewFault, is_idle};
@@ -12,10 +9,8 @@ ghost use Rattle.sector_disk.specs.Called.{Called, AtMostOneCall};
 use crate::Load;
 use crate::load::{OpenChain, Stage};
 use frame_arena::Frames;
-use image_read::{Cause, ReadStep};
+use image_read::{Cause, Expected, ReadStep};
 use machine::Machine;
-use memory_bitmap::Bitmap;
-use page_core::Page;
 use plain_machine::{IdentCheck, Left, Reply};
 use sector_disk::Disk;
 use std::mem::replace;
@@ -52,11 +47,11 @@ impl Load {
         ensures machine { IsSameMachine machine.old machine.new }
         ensures called { Called D.Disk AtMostOneCall (TellsNewFault result) disk.old disk.new }
     {
+        let expected = expected_of(machine, self.check);
         match &mut self.stage {
-            Stage::List(chain) => match chain.read_block(
-                machine,
-                self.check,
+            Stage::List(chain) => match chain.reader.step(
                 disk,
+                &expected,
                 &mut self.origs,
                 &mut self.zeros,
                 &mut self.page,
@@ -67,7 +62,10 @@ impl Load {
                     self.refuse_listing(listed, cause)
                 }
                 ReadStep::More { .. } | ReadStep::Page { .. } | ReadStep::Done => {
-                    self.list_on(machine, frames, runs)
+                    match chain.reader.listed() {
+                        None => chain.go_on(),
+                        Some(_) => self.begin_reads(machine, frames, runs),
+                    }
                 }
             },
             _ => unreachable!(),
@@ -91,28 +89,6 @@ impl Load {
         match self.plan() {
             Ok(()) => self.stop(Reply::from(cause)),
             Err(why) => self.stop(why),
-        }
-    }
-
-    /// Goes on, after the last number page with the pages.
-    fn list_on(&mut self, machine: &mut Machine, frames: &mut Frames, runs: &mut FreeRuns) -> Reply
-        requires ready { CanStep machine.old frames.old runs.old self.old }
-        requires stage { lists_at self.old.stage }
-        ensures row { (chain : OpenChain) → self.old.stage ≡ stage.List chain →
-            ListsOn machine.old frames.old self.old chain machine.new frames.new self.new result }
-        ensures activity { activity_of self.new ≡ activity_told self.old.loader result }
-        ensures loader { self.new.loader ≡ self.old.loader }
-        ensures works { is_idle result ≡ false }
-        ensures ready { CanStep machine.new frames.new runs.new self.new }
-        ensures machine { IsSameMachine machine.old machine.new }
-        ensures no_fault { TellsNewFault result → ⊥ }
-    {
-        match &mut self.stage {
-            Stage::List(chain) => match chain.reader.listed() {
-                None => chain.go_on(),
-                Some(_) => self.begin_reads(machine, frames, runs),
-            },
-            _ => unreachable!(),
         }
     }
 
@@ -176,46 +152,6 @@ impl Load {
 
 impl OpenChain {
     ghost use Rattle.plain_machine.specs.declared.reply.Reply.TheVariants as reply;
-    ghost use Rattle.resume_core.specs.Ready.{CanRead};
-
-    /// Reads the chain's next block.
-    pub(crate) fn read_block<D: Disk>(
-        &mut self,
-        machine: &Machine,
-        check: IdentCheck,
-        disk: &mut D,
-        origs: &mut Bitmap,
-        zeros: &mut Bitmap,
-        page: &mut Page,
-    ) -> ReadStep
-        requires reader { CanRead machine.now.blocks self.old.reader origs.old.members zeros.old.members }
-        requires origs { origs.old.zones ≡ machine.now.hw.zones }
-        requires zeros { zeros.old.zones ≡ machine.now.hw.zones }
-        requires blocks { D.block_count disk.old ≡ machine.now.blocks }
-        ensures answers { (v : DiskImage) (t : ℕ) →
-            HasReadPlaces machine.now.hw v check self.old.reader t origs.old.members zeros.old.members →
-            Reads machine.now.hw v (D.content disk.old) →
-            Answers machine.now.hw v check t result self.old.reader self.new.reader origs.new.members zeros.new.members
-            page.new }
-        ensures page { IsPage page.new }
-        ensures goes_on { GoesOn result self.new.reader origs.new.members zeros.new.members }
-        ensures within { self.new.reader.blocks ≤ machine.now.blocks }
-        ensures chain { self.new ≡ record self.old { reader = self.new.reader } }
-        ensures origs { origs.new.zones ≡ origs.old.zones }
-        ensures zeros { zeros.new.zones ≡ zeros.old.zones }
-        ensures called { Called D.Disk AtMostOneCall (result ≡ read_step.Fault) disk.old disk.new }
-        ensures content { D.content disk.new ≡ D.content disk.old }
-    {
-        let ident = match check {
-            IdentCheck::Compare => Some(machine.hw.ident()),
-            IdentCheck::Skip => None,
-        };
-        let zones = machine.hw.zones();
-        let step = self.reader.step(disk, zones, ident, origs, zeros, page);
-        // So it is known to be whole.
-        let _ = page.as_bytes();
-        step
-    }
 
     /// A block was read, and another one is next.
     pub(crate) fn go_on(&mut self) -> Reply
@@ -226,5 +162,19 @@ impl OpenChain {
     {
         self.done = self.done.saturating_add(1);
         Reply::Loading { k: self.done }
+    }
+}
+
+/// What an image must be of to be resumed here.
+pub(crate) fn expected_of(machine: &Machine, check: IdentCheck) -> Expected<'_>
+    ensures zones { result.zones.now ≡ machine.now.hw.zones }
+    ensures ident { Compares machine.now.hw check (option_copied result.ident) }
+{
+    Expected {
+        zones: machine.hw.zones(),
+        ident: match check {
+            IdentCheck::Compare => Some(machine.hw.ident()),
+            IdentCheck::Skip => None,
+        },
     }
 }

@@ -1,21 +1,18 @@
-ghost use Rattle.std.specs.Prelude.{◌≡◌, ◌≤◌, ◌<◌, ◌+◌, ℕ, List, false, true, length};
-ghost use Rattle.definitions.specs.Disk.{DiskImage};
-ghost use Rattle.definitions.specs.Zones.{top};
-ghost use Rattle.image_read.specs.Answers.{Reads, Answers, GoesOn};
-ghost use Rattle.image_read.specs.Stream.{HasReadPlaces};
+ghost use Rattle.std.specs.Prelude.{◌≡◌, ◌<◌, ◌+◌, false, true, length};
+ghost use Rattle.definitions.specs.Bytes.{IsPage};
 ghost use Rattle.image_read.specs.declared.reader.ReadStep.TheVariants as read_step;
 ghost use Rattle.protocol_laws.specs.Rows.{TellsNewFault, is_idle};
 ghost use Rattle.sector_disk.specs.Called.{Called, AtMostOneCall};
 
 use crate::Load;
-use crate::load::{OpenChain, Stage};
+use crate::list::expected_of;
+use crate::load::Stage;
 use frame_arena::Frames;
 use image_read::ReadStep;
 use machine::Machine;
-use memory_bitmap::Bitmap;
 use page_core::Page;
 use page_restore::Waiting;
-use plain_machine::{IdentCheck, Left, Reply};
+use plain_machine::{Left, Reply};
 use sector_disk::Disk;
 use swap_slots::FreeRuns;
 
@@ -27,6 +24,7 @@ impl Load {
     ghost use Rattle.resume_core.specs.Loading.{activity_of, activity_told};
     ghost use Rattle.resume_core.specs.Ready.{CanStep, IsSameMachine, reads_at};
     ghost use Rattle.resume_core.specs.declared.load.OpenChain.{OpenChain};
+    ghost use Rattle.resume_core.specs.Placing.{CanReadInPlace, HasReadInPlace};
     ghost use Rattle.resume_core.specs.Row.{SimulatesWhereTold, ReadsOn};
 
     /// Reads the next map or saved page.
@@ -49,24 +47,58 @@ impl Load {
         ensures machine { IsSameMachine machine.old machine.new }
         ensures called { Called D.Disk AtMostOneCall (TellsNewFault result) disk.old disk.new }
     {
+        match self.read_in_place(machine, frames, disk) {
+            ReadStep::Fault => self.stop(Reply::ReadFault { left: Left::Gone }),
+            ReadStep::Refused(cause) => self.stop(Reply::from(cause)),
+            ReadStep::Page { .. } => {
+                count_page(&mut self.waiting);
+                self.read_on(machine, frames, runs)
+            }
+            ReadStep::More { .. } | ReadStep::Done => self.read_on(machine, frames, runs),
+        }
+    }
+
+    /// Reads the chain's next block straight into the page frame where the next page waits, whatever comes: it is free
+    /// to the loader. Where all of them wait it is read into the page beside them.
+    fn read_in_place<D: Disk>(
+        &mut self,
+        machine: &Machine,
+        frames: &mut Frames,
+        disk: &mut D,
+    ) -> ReadStep
+        requires ready { CanReadInPlace machine.now frames.old self.old }
+        requires blocks { D.block_count disk.old ≡ machine.now.blocks }
+        ensures read { HasReadInPlace machine.now frames.old self.old (D.content disk.old) result frames.new self.new }
+        ensures load { self.new ≡ record self.old {
+          stage = self.new.stage;
+          origs = self.new.origs;
+          zeros = self.new.zeros;
+          page = self.new.page;
+        } }
+        ensures origs { self.new.origs.zones ≡ self.old.origs.zones }
+        ensures zeros { self.new.zeros.zones ≡ self.old.zeros.zones }
+        ensures size { length frames.new ≡ length frames.old }
+        ensures called { Called D.Disk AtMostOneCall (result ≡ read_step.Fault) disk.old disk.new }
+        ensures content { D.content disk.new ≡ D.content disk.old }
+    {
+        let expected = expected_of(machine, self.check);
         match &mut self.stage {
-            Stage::Read(chain) => match chain.read_in_place(
-                machine,
-                self.check,
-                disk,
-                &mut self.origs,
-                &mut self.zeros,
-                &self.waiting,
-                frames,
-                &mut self.page,
-            ) {
-                ReadStep::Fault => self.stop(Reply::ReadFault { left: Left::Gone }),
-                ReadStep::Refused(cause) => self.stop(Reply::from(cause)),
-                ReadStep::Page { .. } => {
-                    count_page(&mut self.waiting);
-                    self.read_on(machine, frames, runs)
+            Stage::Read(chain) => match self.waiting.next() {
+                Some(p) => {
+                    let page = frames.page_mut(p);
+                    let step = chain
+                        .reader
+                        .step(disk, &expected, &mut self.origs, &mut self.zeros, page);
+                    is_whole(page);
+                    step
                 }
-                ReadStep::More { .. } | ReadStep::Done => self.read_on(machine, frames, runs),
+                None => chain.reader.step(
+                    disk,
+                    &expected,
+                    &mut self.origs,
+                    &mut self.zeros,
+                    &mut self.page,
+                ),
             },
             _ => unreachable!(),
         }
@@ -103,54 +135,6 @@ impl Load {
     }
 }
 
-impl OpenChain {
-    ghost use Rattle.resume_core.specs.Placing.{PutsPage};
-    ghost use Rattle.resume_core.specs.Ready.{CanRead};
-
-    /// Reads the chain's next block straight into the page frame where the next page waits, whatever comes: it is free
-    /// to the loader. Where all of them wait it is read into `spare`.
-    fn read_in_place<D: Disk>(
-        &mut self,
-        machine: &Machine,
-        check: IdentCheck,
-        disk: &mut D,
-        origs: &mut Bitmap,
-        zeros: &mut Bitmap,
-        waiting: &Waiting,
-        frames: &mut Frames,
-        spare: &mut Page,
-    ) -> ReadStep
-        requires reader { CanRead machine.now.blocks self.old.reader origs.old.members zeros.old.members }
-        requires origs { origs.old.zones ≡ machine.now.hw.zones }
-        requires zeros { zeros.old.zones ≡ machine.now.hw.zones }
-        requires blocks { D.block_count disk.old ≡ machine.now.blocks }
-        requires ready { waiting.now.placement.ready ≡ true }
-        requires frames { top waiting.now.zones ≤ length frames.old }
-        ensures read { (page : List ℕ) × PutsPage waiting.now frames.old frames.new page ×
-            ((v : DiskImage) (t : ℕ) →
-            HasReadPlaces machine.now.hw v check self.old.reader t origs.old.members zeros.old.members →
-            Reads machine.now.hw v (D.content disk.old) →
-            Answers machine.now.hw v check t result self.old.reader self.new.reader origs.new.members zeros.new.members
-            page) }
-        ensures goes_on { GoesOn result self.new.reader origs.new.members zeros.new.members }
-        ensures within { self.new.reader.blocks ≤ machine.now.blocks }
-        ensures chain { self.new ≡ record self.old { reader = self.new.reader } }
-        ensures origs { origs.new.zones ≡ origs.old.zones }
-        ensures zeros { zeros.new.zones ≡ zeros.old.zones }
-        ensures size { length frames.new ≡ length frames.old }
-        ensures called { Called D.Disk AtMostOneCall (result ≡ read_step.Fault) disk.old disk.new }
-        ensures content { D.content disk.new ≡ D.content disk.old }
-    {
-        match waiting.next() {
-            Some(p) => {
-                let page = frames.page_mut(p);
-                self.read_block(machine, check, disk, origs, zeros, page)
-            }
-            None => self.read_block(machine, check, disk, origs, zeros, spare),
-        }
-    }
-}
-
 /// Counts the page that was read. There is a place for each page that the numbers name.
 fn count_page(waiting: &mut Waiting)
     requires { waiting.old.placement.ready ≡ true }
@@ -161,4 +145,11 @@ fn count_page(waiting: &mut Waiting)
     if waiting.left() > 0 {
         waiting.placed();
     }
+}
+
+/// A page has 4096 bytes, which is known once they are read.
+fn is_whole(page: &Page)
+    ensures { IsPage page.now }
+{
+    let _ = page.as_bytes();
 }

@@ -7,7 +7,7 @@ use Rattle.image_read.proofs.reader.test_info.Goals as goal
 
 pub returns-clause-fits : goal.returns-clause-fits
 returns-clause-fits c =
-    let zones = c.args.zones.now in
+    let zones = c.args.expected.now.zones.now in
     let info = c.args.info.now in
     let count = count_at_most zones c.count-own.ensures.zones in
     let top = top_at_most zones c.count-own.ensures.zones in

@@ -1,4 +1,4 @@
-use Rattle.std.proofs.Common.{◌≡◌, length, ℕ, Option, refl, sym, ap, ◌∙◌, subst}
+use Rattle.std.proofs.Common.{◌≡◌, length, ℕ, Option, IsSome, refl, sym, ap, ◌∙◌, subst}
 use Rattle.plain_machine.specs.declared.reply.Reply.TheVariants as reply
 use Rattle.plain_machine.specs.declared.reply.Left.TheVariants.{Gone}
 use Rattle.image_read.specs.Answers.{Reads}
@@ -9,10 +9,11 @@ use Rattle.sector_disk.proofs.Called.{fails_as}
 use Rattle.page_restore.specs.Waiting.{with_data}
 use Rattle.resume_core.specs.Refusals.{refusal_behind}
 use Rattle.resume_core.specs.declared.load.Load.{Load}
+use Rattle.resume_core.specs.declared.load.OpenChain.{OpenChain}
 use Rattle.resume_core.specs.declared.load.Stage.TheVariants as stage
 use Rattle.resume_core.proofs.Facts.{row_of}
 use Rattle.resume_core.proofs.Finding.{activity_is}
-use Rattle.resume_core.proofs.Listing.{read_failed_row, at_list, listed_on, list_can}
+use Rattle.resume_core.proofs.Listing.{read_failed_row, at_list, listed_on, list_can, lists_row_of, may_go_on, more_row}
 use Rattle.resume_core.proofs.Placing.{refused_list_row}
 use Rattle.resume_core.proofs.load.Load.list_next.Goals as goal
 use Rattle.protocol_laws.proofs.Told.{content_of}
@@ -20,39 +21,62 @@ use Rattle.protocol_laws.proofs.Told.{content_of}
 pub returns-in-Fault-clause-row : goal.returns-in-Fault-clause-row
 returns-in-Fault-clause-row g c = λ k told. (
   k,
-  c.read_block.ensures.content ∙ told,
+  c.step.ensures.content ∙ told,
   row_of c.args.machine.now c.args.frames.now c.args.self.now c.args.machine.now c.args.frames.now _ c.stop.new.self (reply.ReadFault Gone) c.stop.result k k c.stop.ensures.load c.stop.ensures.reply
       (read_failed_row c.args.machine.now c.args.frames.now c.args.frames.now c.args.self.now _ c.in-List.chain k (activity_is c.args.self.now (stage.List c.in-List.chain) c.in-List.is)
       (at_list c.args.machine.now c.args.frames.now c.args.self.now c.in-List.chain k c.requires.ready.over.hardware c.in-List.is (list_can c.args.machine.now c.args.frames.now c.args.runs.now c.args.self.now c.in-List.chain c.in-List.is c.requires.ready).1) refl),
 )
 
 pub returns-in-Refused-clause-row : goal.returns-in-Refused-clause-row
-returns-in-Refused-clause-row g c = λ k told. (
-  k,
-  c.read_block.ensures.content ∙ told,
-  refused_list_row c.args.machine.now c.args.frames.now c.args.self.now (record c.args.self.now { stage = stage.List c.read_block.new.self; origs = c.read_block.new.origs; zeros = c.read_block.new.zeros; page = c.read_block.new.page }) c.refuse_listing.new.self
-      c.in-List.chain c.read_block.new.self c.read_block.result c.in-Refused.cause c.refuse_listing.result k c.requires.ready.over.hardware c.in-List.is
-      (list_can c.args.machine.now c.args.frames.now c.args.runs.now c.args.self.now c.in-List.chain c.in-List.is c.requires.ready).1 refl c.in-Refused.is
-      (λ v t has reads. c.read_block.ensures.answers v t has (subst (Reads c.args.machine.now.hw v) (sym told) reads))
-      (c.refuse_listing.ensures.reply ∙ ap (λ (o : Option ℕ). refusal_behind o (length c.args.self.now.waiting.free) (length (with_data c.read_block.new.origs.members c.read_block.new.zeros.members)) c.in-Refused.cause) c.listed-listed.ensures) (ap (λ (x : Load). x.stage) c.refuse_listing.ensures.load),
-)
+returns-in-Refused-clause-row g c = λ k told.
+    let load = c.args.self.now in
+    let chain' = record c.in-List.chain { reader = c.step.new.self } in (
+      k,
+      c.step.ensures.content ∙ told,
+      refused_list_row c.args.machine.now c.args.frames.now load (record load { stage = stage.List chain'; origs = c.step.new.origs; zeros = c.step.new.zeros; page = c.step.new.page }) c.refuse_listing.new.self
+          c.in-List.chain chain' c.step.result c.in-Refused.cause c.refuse_listing.result k c.requires.ready.over.hardware c.in-List.is
+          (list_can c.args.machine.now c.args.frames.now c.args.runs.now load c.in-List.chain c.in-List.is c.requires.ready).1 refl c.in-Refused.is
+          (λ v t has reads. c.step.ensures.answers c.args.machine.now.hw v load.check t has (subst (Reads c.args.machine.now.hw v) (sym told) reads) c.expected_of-expected.ensures.zones c.expected_of-expected.ensures.ident)
+          (c.refuse_listing.ensures.reply ∙ ap (λ (o : Option ℕ). refusal_behind o (length load.waiting.free) (length (with_data c.step.new.origs.members c.step.new.zeros.members)) c.in-Refused.cause) c.listed-listed.ensures) (ap (λ (x : Load). x.stage) c.refuse_listing.ensures.load),
+    )
 
-pub returns-in-More : goal.returns-in-More
-returns-in-More g c = record {
+pub returns-in-None-clause-row : goal.returns-in-None-clause-row
+returns-in-None-clause-row g c = λ k told.
+    let whole = content_of (g.D.Disk.block_count c.args.disk.now) c.args.machine.now.blocks (g.D.Disk.content c.args.disk.now) k told c.requires.blocks (g.met.D.Disk.well_formed c.args.disk.now) in
+    let load = c.args.self.now in
+    let chain' = record c.in-List.chain { reader = c.step.new.self } in
+    let mid = record load { stage = stage.List chain'; origs = c.step.new.origs; zeros = c.step.new.zeros; page = c.step.new.page } in
+    let end = record mid { stage = stage.List c.go_on.new.self } in
+    let ready = may_go_on c.step.result c.step.new.self c.step.new.origs.members c.step.new.zeros.members c.in-More.is c.step.ensures.goes_on in (
+      k,
+      c.step.ensures.content ∙ told,
+      listed_on c.args.machine.now c.args.frames.now load mid c.in-List.chain chain' c.args.machine.now c.args.frames.now end c.step.result c.go_on.result k
+          c.requires.ready.over.hardware c.in-List.is (list_can c.args.machine.now c.args.frames.now c.args.runs.now load c.in-List.chain c.in-List.is c.requires.ready).1 refl whole refl refl c.in-More.is
+          (λ v t has reads. c.step.ensures.answers c.args.machine.now.hw v load.check t has (subst (Reads c.args.machine.now.hw v) (sym told) reads) c.expected_of-expected.ensures.zones c.expected_of-expected.ensures.ident)
+          (lists_row_of c.args.machine.now c.args.frames.now mid chain' c.args.machine.now c.args.frames.now (record mid { stage = stage.List (record chain' { done = c.go_on.new.self.done }) }) end
+          (reply.Loading c.go_on.new.self.done) c.go_on.result (ap (λ (x : OpenChain). record mid { stage = stage.List x }) c.go_on.ensures.chain) c.go_on.ensures.reply
+          (more_row c.args.machine.now c.args.frames.now mid chain' c.go_on.new.self.done ready.saved (sym c.listed.ensures ∙ c.in-None.is) c.go_on.ensures.counted)),
+    )
+
+pub returns-in-Some : goal.returns-in-Some
+returns-in-Some g c = record {
   row = λ k told.
-      let whole = content_of (g.D.Disk.block_count c.args.disk.now) c.args.machine.now.blocks (g.D.Disk.content c.args.disk.now) k told c.requires.blocks (g.met.D.Disk.well_formed c.args.disk.now) in (
+      let whole = content_of (g.D.Disk.block_count c.args.disk.now) c.args.machine.now.blocks (g.D.Disk.content c.args.disk.now) k told c.requires.blocks (g.met.D.Disk.well_formed c.args.disk.now) in
+      let load = c.args.self.now in
+      let chain' = record c.in-List.chain { reader = c.step.new.self } in
+      let mid = record load { stage = stage.List chain'; origs = c.step.new.origs; zeros = c.step.new.zeros; page = c.step.new.page } in (
         k,
-        c.read_block.ensures.content ∙ told,
-        listed_on c.args.machine.now c.args.frames.now c.args.self.now (record c.args.self.now { stage = stage.List c.read_block.new.self; origs = c.read_block.new.origs; zeros = c.read_block.new.zeros; page = c.read_block.new.page })
-            c.in-List.chain c.read_block.new.self c.list_on.new.machine c.list_on.new.frames c.list_on.new.self c.read_block.result c.list_on.result k
-            c.requires.ready.over.hardware c.in-List.is (list_can c.args.machine.now c.args.frames.now c.args.runs.now c.args.self.now c.in-List.chain c.in-List.is c.requires.ready).1 c.list_on.ensures.machine.hw whole
-            refl c.read_block.ensures.chain c.in-More.is (λ v t has reads. c.read_block.ensures.answers v t has (subst (Reads c.args.machine.now.hw v) (sym told) reads)) (c.list_on.ensures.row c.read_block.new.self refl),
+        c.step.ensures.content ∙ told,
+        listed_on c.args.machine.now c.args.frames.now load mid c.in-List.chain chain' c.begin_reads.new.machine c.begin_reads.new.frames c.begin_reads.new.self c.step.result c.begin_reads.result k
+            c.requires.ready.over.hardware c.in-List.is (list_can c.args.machine.now c.args.frames.now c.args.runs.now load c.in-List.chain c.in-List.is c.requires.ready).1 c.begin_reads.ensures.machine.hw whole refl refl c.in-More.is
+            (λ v t has reads. c.step.ensures.answers c.args.machine.now.hw v load.check t has (subst (Reads c.args.machine.now.hw v) (sym told) reads) c.expected_of-expected.ensures.zones c.expected_of-expected.ensures.ident)
+            (c.begin_reads.ensures.row chain' refl (subst IsSome (sym c.in-Some.is ∙ c.listed.ensures) refl)),
       );
-  activity = c.list_on.ensures.activity;
-  loader = c.list_on.ensures.loader;
-  works = c.list_on.ensures.works;
-  ready = c.list_on.ensures.ready;
-  machine = c.list_on.ensures.machine;
-  called = fails_as g.D.Disk AtMostOneCall (c.read_block.result ≡ read_step.Fault) (TellsNewFault c.list_on.result) c.args.disk.now c.read_block.new.disk
-      (λ fault. absurd (c.list_on.ensures.no_fault fault)) c.read_block.ensures.called;
+  activity = c.begin_reads.ensures.activity;
+  loader = c.begin_reads.ensures.loader;
+  works = c.begin_reads.ensures.works;
+  ready = c.begin_reads.ensures.ready;
+  machine = c.begin_reads.ensures.machine;
+  called = fails_as g.D.Disk AtMostOneCall (c.step.result ≡ read_step.Fault) (TellsNewFault c.begin_reads.result) c.args.disk.now c.step.new.disk
+      (λ fault. absurd (c.begin_reads.ensures.no_fault fault)) c.step.ensures.called;
 }
