@@ -165,10 +165,7 @@ impl Hardware {
         ensures names { length self.now.ident.names ≡ 6 }
         ensures each_name { All (λ name. length name ≡ 65) self.now.ident.names }
     {
-        // Only what is read is known to have the size of its type.
-        let _code = self.ident.version_code;
-        let _names = whole(&self.ident.names);
-        &self.ident
+        of_its_type(&self.ident)
     }
 
     /// The hardware signature, 0 where there is none.

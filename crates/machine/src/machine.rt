@@ -15,7 +15,7 @@ pub struct Machine {
 }
 
 impl Machine {
-    ghost use Rattle.std.specs.Prelude.{◌≡◌, Err, replicate};
+    ghost use Rattle.std.specs.Prelude.{◌≡◌, ◌<◌, ◌^◌, Err, replicate};
     ghost use Rattle.plain_machine.specs.declared.held.Held.TheVariants.{No};
 
     /// A machine that never ran.
@@ -32,5 +32,11 @@ impl Machine {
             held: Held::No,
             flights: [Flight::Nothing; 64],
         }
+    }
+    /// The blocks of the disk have numbers of 32 bits, which is known once their count is read.
+    pub fn blocks_fit(&self)
+        ensures { self.now.blocks < 2 ^ 32 }
+    {
+        let _blocks = self.blocks;
     }
 }

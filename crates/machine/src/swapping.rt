@@ -1,14 +1,15 @@
-ghost use Rattle.std.specs.Prelude.{◌≡◌, ◌-◌, ◌/◌, ◌<◌, ◌==◌, ◌&&◌, nat_lt, length, IsSome, IsTrue, IfSome, Contains};
+ghost use Rattle.std.specs.Prelude.{◌≡◌, ◌-◌, ◌/◌, ◌<◌, ◌==◌, ◌&&◌, ℕ, nat_lt, length, IsSome, IsTrue, IfSome};
 ghost use Rattle.std.specs.Prelude.{All, set, is_ok, slice_get, slice_set};
 ghost use Rattle.definitions.specs.Bytes.{IsPage};
 ghost use Rattle.definitions.specs.Disk.{Writes, block};
 ghost use Rattle.definitions.specs.Tables.{frame, with_entry};
-ghost use Rattle.definitions.specs.Zones.{numbers, top};
+ghost use Rattle.definitions.specs.Zones.{top};
 ghost use Rattle.swap_slots.specs.Entries.{word_of};
-ghost use Rattle.swap_slots.specs.Table.{LiesIn, Matches, free_in};
+ghost use Rattle.swap_slots.specs.Table.{Matches, free_in};
 ghost use Rattle.plain_machine.specs.Faults.{TellsFailedCall};
 ghost use Rattle.plain_machine.specs.Machine.{IsTask};
-ghost use Rattle.plain_machine.specs.Machine.{block_of_slot, raw_slot_entry, IsOfTable, IsHardware};
+ghost use Rattle.plain_machine.specs.Machine.{block_of_slot, raw_slot_entry, IsHardware};
+ghost use Rattle.plain_machine.specs.State.{goes_out, comes_in};
 ghost use Rattle.plain_machine.specs.declared.event.TaskOp.TheVariants as op;
 ghost use Rattle.plain_machine.specs.declared.reply.Reply.TheVariants as reply;
 ghost use Rattle.plain_machine.specs.declared.reply.Left.TheVariants.{Same};
@@ -16,7 +17,7 @@ ghost use Rattle.machine.specs.Landing.{EndsOut, EndsIn};
 ghost use Rattle.machine.specs.Running.{slot_table_of};
 ghost use Rattle.sector_disk.specs.Called.{Called, OneCall};
 
-use crate::tables::slot_table;
+use crate::tables::{are_whole, slot_table};
 use crate::tasks::not_own;
 use crate::{Flight, Hardware, Machine};
 use frame_arena::Frames;
@@ -82,14 +83,74 @@ impl Machine {
         ensures room { runs.new.room ≡ runs.old.room }
         ensures called { Called D.Disk OneCall (TellsFailedCall result) disk.old disk.new }
     {
+        are_whole(frames);
         match self.flight(t) {
-            Flight::Out { slot, p } => {
-                end_out(&self.hw, frames, runs, disk, self.block(slot), slot, p)
-            }
-            Flight::In { slot, p } => {
-                end_in(&self.hw, frames, runs, disk, self.block(slot), slot, p)
-            }
+            Flight::Out { slot, p } => self.end_out(frames, runs, disk, slot, p),
+            Flight::In { slot, p } => self.end_in(frames, runs, disk, slot, p),
             Flight::Nothing => unreachable!(),
+        }
+    }
+
+    /// Writes a page frame's page to a slot's block. Where that fails the slot is given back.
+    fn end_out<D: Disk>(
+        &self,
+        frames: &mut Frames,
+        runs: &mut FreeRuns,
+        disk: &mut D,
+        slot: u32,
+        p: u32,
+    ) -> Reply
+        requires ready { CanRun self.now frames.old runs.old }
+        requires flies { (t : ℕ) × (flights_in self.now.flights t ≡ Some (goes_out slot p)) }
+        requires blocks { D.block_count disk.old ≡ self.now.blocks }
+        ensures ends { EndsOut self.now.hw (block_of_slot self.now.hw slot) frames.old frames.new slot p result
+            (D.content disk.old) (D.content disk.new) }
+        ensures hardware { IsHardware self.now.hw }
+        ensures matches { Matches frames.new (slot_table_of self.now.hw) runs.new }
+        ensures len { length frames.new ≡ length frames.old }
+        ensures room { runs.new.room ≡ runs.old.room }
+        ensures called { Called D.Disk OneCall (TellsFailedCall result) disk.old disk.new }
+    {
+        let table = slot_table(&self.hw);
+        match disk.write(self.block(slot), frames.page(p)) {
+            Ok(()) => Reply::Written { slot },
+            Err(Failed) => {
+                table.give(frames, runs, slot);
+                Reply::WriteFault { left: Left::Same }
+            }
+        }
+    }
+
+    /// Reads a slot's block into a page frame, and gives the slot back. Where the read fails both stay.
+    fn end_in<D: Disk>(
+        &self,
+        frames: &mut Frames,
+        runs: &mut FreeRuns,
+        disk: &mut D,
+        slot: u32,
+        p: u32,
+    ) -> Reply
+        requires ready { CanRun self.now frames.old runs.old }
+        requires flies { (t : ℕ) × (flights_in self.now.flights t ≡ Some (comes_in slot p)) }
+        requires blocks { D.block_count disk.old ≡ self.now.blocks }
+        ensures ends { EndsIn self.now.hw (block_of_slot self.now.hw slot) frames.old frames.new slot p result
+            (D.content disk.old) }
+        ensures hardware { IsHardware self.now.hw }
+        ensures matches { Matches frames.new (slot_table_of self.now.hw) runs.new }
+        ensures len { length frames.new ≡ length frames.old }
+        ensures room { runs.new.room ≡ runs.old.room }
+        ensures content { D.content disk.new ≡ D.content disk.old }
+        ensures called { Called D.Disk OneCall (TellsFailedCall result) disk.old disk.new }
+    {
+        let slots = slot_table(&self.hw);
+        let mut page = Page::zero();
+        match disk.read(self.block(slot), &mut page) {
+            Ok(()) => {
+                slots.give(frames, runs, slot);
+                frames.write_bytes(p, page.as_bytes());
+                Reply::Fetched { slot }
+            }
+            Err(Failed) => Reply::ReadFault { left: Left::Same },
         }
     }
 
@@ -171,8 +232,7 @@ impl Machine {
         ensures pages { All IsPage frames.old }
         ensures hardware { IsHardware self.now.hw }
     {
-        // Each page frame has 4096 bytes, so that an entry that is set leaves the others.
-        let _ = frames.len();
+        are_whole(frames);
         let table = slot_table(&self.hw);
         match self.area {
             Ok(_) => table.take(frames, runs, SlotEntry::Task(t)),
@@ -201,8 +261,7 @@ impl Machine {
         ensures block { result ≡ block_of_slot self.now.hw slot }
         ensures hardware { IsHardware self.now.hw }
     {
-        // Only what is read is known to have the size of its type.
-        let _blocks = self.blocks;
+        self.blocks_fit();
         self.hw.extents().block(slot) as u32
     }
 
@@ -211,82 +270,7 @@ impl Machine {
         ensures set { self.new ≡ record self.old { flights = slice_set self.old.flights (t - 1) flight } }
         ensures tasks { length self.old.flights ≡ 64 }
     {
-        let _tasks = self.flights.len();
         self.flights[t as usize - 1] = flight;
-    }
-}
-
-/// Writes a page frame's page to a slot's block. Where that fails the slot is given back.
-fn end_out<D: Disk>(
-    hw: &Hardware,
-    frames: &mut Frames,
-    runs: &mut FreeRuns,
-    disk: &mut D,
-    block: u32,
-    slot: u32,
-    p: u32,
-) -> Reply
-    requires slot { slot < hw.now.slots }
-    requires frame { p < length frames.old }
-    requires table { LiesIn frames.old (slot_table_of hw.now) }
-    requires matches { Matches frames.old (slot_table_of hw.now) runs.old }
-    requires block { block < D.block_count disk.old }
-    ensures ends { EndsOut hw.now block frames.old frames.new slot p result (D.content disk.old) (D.content disk.new) }
-    ensures pages { All IsPage frames.old }
-    ensures hardware { IsHardware hw.now }
-    ensures matches { Matches frames.new (slot_table_of hw.now) runs.new }
-    ensures len { length frames.new ≡ length frames.old }
-    ensures room { runs.new.room ≡ runs.old.room }
-    ensures called { Called D.Disk OneCall (TellsFailedCall result) disk.old disk.new }
-{
-    // Each page frame has 4096 bytes, so that an entry that is set leaves the others.
-    let _ = frames.len();
-    let table = slot_table(hw);
-    match disk.write(block, frames.page(p)) {
-        Ok(()) => Reply::Written { slot },
-        Err(Failed) => {
-            table.give(frames, runs, slot);
-            Reply::WriteFault { left: Left::Same }
-        }
-    }
-}
-
-/// Reads a slot's block into a page frame, and gives the slot back. Where the read fails both stay.
-fn end_in<D: Disk>(
-    hw: &Hardware,
-    frames: &mut Frames,
-    runs: &mut FreeRuns,
-    disk: &mut D,
-    block: u32,
-    slot: u32,
-    p: u32,
-) -> Reply
-    requires slot { slot < hw.now.slots }
-    requires frame { Contains (numbers hw.now.zones) p }
-    requires apart { IsOfTable hw.now.slot_table hw.now.slots p → ⊥ }
-    requires size { length frames.old ≡ top hw.now.zones }
-    requires matches { Matches frames.old (slot_table_of hw.now) runs.old }
-    requires block { block < D.block_count disk.old }
-    ensures ends { EndsIn hw.now block frames.old frames.new slot p result (D.content disk.old) }
-    ensures pages { All IsPage frames.old }
-    ensures hardware { IsHardware hw.now }
-    ensures matches { Matches frames.new (slot_table_of hw.now) runs.new }
-    ensures len { length frames.new ≡ length frames.old }
-    ensures room { runs.new.room ≡ runs.old.room }
-    ensures content { D.content disk.new ≡ D.content disk.old }
-    ensures called { Called D.Disk OneCall (TellsFailedCall result) disk.old disk.new }
-{
-    // Each page frame has 4096 bytes, so that an entry that is set leaves the others.
-    let _ = frames.len();
-    let slots = slot_table(hw);
-    let mut page = Page::zero();
-    match disk.read(block, &mut page) {
-        Ok(()) => {
-            slots.give(frames, runs, slot);
-            frames.write_bytes(p, page.as_bytes());
-            Reply::Fetched { slot }
-        }
-        Err(Failed) => Reply::ReadFault { left: Left::Same },
     }
 }
 

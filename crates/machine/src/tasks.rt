@@ -11,6 +11,7 @@ ghost use Rattle.machine.specs.OwnFrames.{ChangesOwn};
 ghost use Rattle.machine.specs.Running.{AreReserved};
 ghost use Rattle.machine.specs.TaskRow.{HasFrameRow, IsRefusal, own_refusal};
 
+use crate::tables::are_whole;
 use crate::{Hardware, Machine};
 use bitflags::Flags;
 use frame_arena::Frames;
@@ -155,8 +156,7 @@ fn is_free(frames: &Frames, hw: &Hardware, p: u32) -> bool
     ensures test { result ≡ (frame_entry hw.now frames.now p == 1) }
     ensures pages { All IsPage frames.now }
 {
-    // Each page frame has 4096 bytes, so that an entry that is set leaves the others.
-    let _ = frames.len();
+    are_whole(frames);
     entry(frames, hw.frame_table(), p) == (PageFlags::FREE, 0)
 }
 
@@ -170,8 +170,7 @@ pub(crate) fn not_own(frames: &Frames, hw: &Hardware, t: u32, p: u32) -> Option<
     ensures hardware { IsHardware hw.now }
     ensures pages { All IsPage frames.now }
 {
-    // Each page frame has 4096 bytes, so that an entry that is set leaves the others.
-    let _ = frames.len();
+    are_whole(frames);
     if !is_valid(hw, p) {
         return Some(Reply::NoFrame);
     }
