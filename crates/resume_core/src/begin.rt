@@ -1,4 +1,4 @@
-ghost use Rattle.std.specs.Prelude.{◌≡◌, ◌≤◌, ◌<◌, ◌^◌, ◌&&◌, ℕ, not, [], length, take, filter, nat_le, Contains};
+ghost use Rattle.std.specs.Prelude.{◌≡◌, ◌≤◌, ◌<◌, ◌&&◌, ℕ, not, [], length, take, filter, nat_le, Contains};
 ghost use Rattle.definitions.specs.Bytes.{filled_page};
 ghost use Rattle.definitions.specs.Tables.{frame};
 ghost use Rattle.definitions.specs.Zones.{top};
@@ -46,7 +46,7 @@ impl Load {
         ensures begun { result ≡ reply.Loading 0 }
         ensures no_fault { TellsNewFault result → ⊥ }
     {
-        blocks_fit(machine);
+        machine.blocks_fit();
         // Until the first number page is read the set of originals has room for the page frames free to the loader.
         make_loader(frames, &mut self.origs, &machine.hw, &loader);
         self.waiting.begin(&self.origs);
@@ -57,13 +57,6 @@ impl Load {
         self.stage = Stage::Sync;
         Reply::Loading { k: 0 }
     }
-}
-
-/// The blocks of the disk have numbers of 32 bits, which is known once their count is read.
-fn blocks_fit(machine: &Machine)
-    ensures { machine.now.blocks < 2 ^ 32 }
-{
-    let _blocks = machine.blocks;
 }
 
 /// Makes the loader, and the set that of the page frames that are free to it.

@@ -1,5 +1,4 @@
-ghost use Rattle.std.specs.Prelude.{◌≡◌, false, length, All, Some, None, IfOk, MatchResult};
-ghost use Rattle.definitions.specs.Bytes.{IsPage};
+ghost use Rattle.std.specs.Prelude.{◌≡◌, false, length, Some, None, IfOk, MatchResult};
 ghost use Rattle.definitions.specs.Disk.{DiskImage};
 ghost use Rattle.definitions.specs.SwapHeader.{taken_back};
 ghost use Rattle.definitions.specs.Zones.{top};
@@ -15,7 +14,9 @@ ghost use Rattle.protocol_laws.specs.Rows.{TellsNewFault, is_idle};
 use crate::Load;
 use crate::load::Stage;
 use frame_arena::Frames;
-use machine::{Flight, Hardware, Machine, has_bad_slots, slot_table, tables_fit, usable};
+use machine::{
+    Flight, Hardware, Machine, are_whole, has_bad_slots, slot_table, tables_fit, usable,
+};
 use page_core::Page;
 use plain_machine::{Held, Loader, Reply};
 use sig_header::{Area, AreaKind, take_back};
@@ -96,11 +97,4 @@ fn restored_area(hw: &Hardware, blocks: u32, frames: &Frames, header: &Page) -> 
         }
         Err(_) => Err(hw.slot_table()),
     }
-}
-
-/// Each page frame has 4096 bytes, which is known once they are counted.
-fn are_whole(frames: &Frames)
-    ensures { All IsPage frames.now }
-{
-    let _ = frames.len();
 }
