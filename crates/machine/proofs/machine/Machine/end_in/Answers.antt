@@ -1,4 +1,4 @@
-use Rattle.std.proofs.Common.{◌<◌, set, inr, sym, subst, arith}
+use Rattle.std.proofs.Common.{ap, set, inr, sym, subst, arith}
 use Rattle.definitions.specs.Tables.{HasTable}
 use Rattle.definitions.proofs.ZoneNumbers.{below_top}
 use Rattle.plain_machine.proofs.SameMemory.{slot_entry-set_other}
@@ -24,7 +24,8 @@ read-requires g c =
 pub give-requires-clause-slot : goal.give-requires-clause-slot
 give-requires-clause-slot g c =
     let slot = (c.requires.ready.flights.ins c.requires.flies.0 c.args.slot c.args.p c.requires.flies.1).slot in
-    subst (λ (t : SlotTable). c.args.slot < t.slots) (sym c.slot_table-slots.ensures.table) slot
+    let slots = ap (λ (t : SlotTable). t.slots) c.slot_table-slots.ensures.table in
+    omega arith
 
 pub give-requires-clause-table : goal.give-requires-clause-table
 give-requires-clause-table g c =

@@ -1,4 +1,4 @@
-use Rattle.std.proofs.Common.{◌<◌, sym, subst, arith}
+use Rattle.std.proofs.Common.{ap, sym, subst, arith}
 use Rattle.definitions.specs.Tables.{HasTable}
 use Rattle.definitions.proofs.ZoneNumbers.{below_top}
 use Rattle.swap_slots.specs.declared.table.SlotTable.{SlotTable}
@@ -26,7 +26,8 @@ write-requires g c =
 pub give-requires-clause-slot : goal.give-requires-clause-slot
 give-requires-clause-slot g c =
     let slot = (c.requires.ready.flights.outs c.requires.flies.0 c.args.slot c.args.p c.requires.flies.1).slot in
-    subst (λ (t : SlotTable). c.args.slot < t.slots) (sym c.slot_table-table.ensures.table) slot
+    let slots = ap (λ (t : SlotTable). t.slots) c.slot_table-table.ensures.table in
+    omega arith
 
 pub give-requires-clause-table : goal.give-requires-clause-table
 give-requires-clause-table g c =
