@@ -1,9 +1,10 @@
 -- What a snapshot has taken (swsusp_save, kernel/power/snapshot.c): the originals and their copies, over the zones, and
 -- which originals were all zero.
-use Rattle.std.specs.Prelude.{ℕ, Bool, List, [], filter, nat_eq}
+use Rattle.std.specs.Prelude.{◌≡◌, ◌<◌, ℕ, Bool, List, [], All, filter, length, nat_eq}
 use Rattle.std.specs.Cmp.Lexicographic.{pointwise}
 use Rattle.page_core.specs.declared.format.Format.{Format}
 use Rattle.page_core.specs.declared.format.Format.TheVariants.{Plain, SkipZeros}
+use Rattle.atomic_copy.specs.Copies.{AreDisjoint}
 use Rattle.definitions.specs.Bytes.{zero_page}
 use Rattle.definitions.specs.Tables.{frame}
 use Rattle.memory_bitmap.specs.FrameSet.{FrameSet, IsFrameSet}
@@ -34,3 +35,10 @@ pub record AreFrameSets (taken : Taken) : Type 0 where
   pub originals : IsFrameSet (set_over taken.zones taken.origs)
   pub copied : IsFrameSet (set_over taken.zones taken.copies)
   pub all_zero : IsFrameSet (set_over taken.zones taken.zeros)
+
+-- What a writer of the image asks for: each original has a copy, no original is a copy, and the copies are page frames
+-- that are there.
+pub record CanBeWritten (taken : Taken) (frames : List (List ℕ)) : Type 0 where
+  pub paired : length taken.copies ≡ length taken.origs
+  pub disjoint : AreDisjoint taken.origs taken.copies
+  pub below : All (λ p. p < length frames) taken.copies

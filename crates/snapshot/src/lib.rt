@@ -7,8 +7,7 @@ ghost use Rattle.std.specs.Prelude.{IfErr, IfSome, IfNone, length, map, take};
 ghost use Rattle.definitions.specs.Zones.{top};
 ghost use Rattle.definitions.specs.Tables.{frame, HasTable};
 ghost use Rattle.definitions.specs.Tables.{saveable_frames, free_frames};
-ghost use Rattle.atomic_copy.specs.Copies.{AreDisjoint};
-ghost use Rattle.snapshot.specs.Taken.{zero_frames, set_over, AreFrameSets};
+ghost use Rattle.snapshot.specs.Taken.{zero_frames, set_over, AreFrameSets, CanBeWritten};
 
 use atomic_copy::copy_all;
 use frame_arena::Frames;
@@ -124,10 +123,7 @@ impl Snapshot {
         ensures originals { map (frame frames.new) self.old.origs ≡ map (frame frames.old) self.old.origs }
         ensures others { (p : ℕ) → (Contains self.new.copies p → ⊥) → frame frames.new p ≡ frame frames.old p }
         ensures size { length frames.new ≡ length frames.old }
-        // What a writer of the image asks for.
-        ensures paired { length self.new.copies ≡ length self.new.origs }
-        ensures apart { AreDisjoint self.new.origs self.new.copies }
-        ensures below { All (λ p. p < length frames.new) self.new.copies }
+        ensures writable { CanBeWritten self.new frames.new }
     {
         let n = self.origs.len();
         let view = View {

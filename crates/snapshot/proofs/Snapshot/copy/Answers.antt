@@ -49,7 +49,9 @@ returns c =
       originals = subst (λ (t : Taken). map (frame new) t.origs ≡ map (frame frames) t.origs) c.self.view_is (pages_kept origs copies frames new ready_is.disjoint c.copy_all.ensures);
       others = c.copy_all.ensures.others;
       size = c.copy_all.ensures.size;
-      paired = sym ready_is.equal;
-      apart = ready_is.disjoint;
-      below = subst (λ (size : ℕ). All (λ p. p < size) copies) (sym c.copy_all.ensures.size) ready_is.copies_within;
+      writable = record {
+        paired = sym ready_is.equal;
+        disjoint = ready_is.disjoint;
+        below = subst (λ (size : ℕ). All (λ p. p < size) copies) (sym c.copy_all.ensures.size) ready_is.copies_within;
+      };
     }
